@@ -1,0 +1,65 @@
+-- The bits and octets of an address whose bits are the w highest of a number of 128 bits.
+use Rattle.std.proofs.Common.{◌≡◌, ℕ, ◌+◌, ◌-◌, ◌*◌, ◌^◌, ◌/◌, ◌%◌, ◌<◌, ◌≤◌, ◌==◌, Some, bit_and, take, drop, length, List, [], ◌∷◌, get_or, refl, ap, ◌∙◌, arith}
+use Rattle.std.specs.Prelude.{slice_get}
+use Rattle.std.proofs.lemmas.Nat.{shr-shr, and_mask}
+use Rattle.std.proofs.lemmas.Nat.Bits.{shr_and_one}
+use Rattle.std.proofs.lemmas.List.{append-nil}
+use Rattle.ip_prefix.specs.declared.addr.Family.{Family}
+use Rattle.ip_prefix.specs.declared.addr.Family.TheVariants.{V4, V6}
+use Rattle.ip_prefix.specs.Address.{bit_count, octet_count}
+use Rattle.ip_prefix.specs.Bits.{number_of, bits_of, bits_of_octets}
+use Rattle.ip_prefix.specs.BitLemmas.{number_of-bits_of}
+use Rattle.ip_prefix.proofs.BitLists.{drop-bits_of, take-bits_of, slice_get-bits_of, bits_of-append}
+
+-- no family has more than 128 bits
+pub bit_count_le : (family : Family) → bit_count family ≤ 128
+bit_count_le V4 = omega arith
+bit_count_le V6 = omega arith
+
+-- the octets of an address are all of its bits
+pub octets_fill : (family : Family) → 8 * octet_count family ≡ bit_count family
+octets_fill V4 = refl
+octets_fill V6 = refl
+
+-- a bit of the w highest ones is found by a shift
+pub bit_of_highest : (w i n : ℕ) → w ≤ 128 → i < w
+    → slice_get (bits_of w (n / 2 ^ (128 - w))) i ≡ Some (bit_and (n / 2 ^ (127 - i)) 1 == 1)
+bit_of_highest w i n w_le i_in =
+    let s : (128 - w) + (w - 1 - i) ≡ 127 - i = omega arith in
+    rw (slice_get-bits_of w (n / 2 ^ (128 - w)) i i_in, shr-shr n (128 - w) (w - 1 - i), s, shr_and_one n (127 - i))
+
+-- eight bits with r below them spell the number shifted by r, modulo 2 ^ 8
+octet_above : (i r n : ℕ) → number_of (take 8 (drop i (bits_of (i + (8 + r)) n))) ≡ n / 2 ^ r % 2 ^ 8
+octet_above i r n =
+    rw (drop-bits_of i (8 + r) n, take-bits_of 8 r n) (number_of-bits_of 8 (n / 2 ^ r))
+
+-- an octet of the w highest bits is found by a shift
+pub octet_of_highest : (w i n : ℕ) → w ≤ 128 → 8 * i + 8 ≤ w
+    → number_of (take 8 (drop (8 * i) (bits_of w (n / 2 ^ (128 - w))))) ≡ n / 2 ^ (120 - 8 * i) % 2 ^ 8
+octet_of_highest w i n w_le i_in =
+    let r : ℕ = w - (8 * i + 8) in
+    let e : w ≡ 8 * i + (8 + r) = omega arith in
+    let s : (128 - w) + r ≡ 120 - 8 * i = omega arith in
+    ap (λ k. number_of (take 8 (drop (8 * i) (bits_of k (n / 2 ^ (128 - w)))))) e
+    ∙ octet_above (8 * i) r (n / 2 ^ (128 - w))
+    ∙ ap (λ q. q % 2 ^ 8) (shr-shr n (128 - w) r)
+    ∙ ap (λ k. n / 2 ^ k % 2 ^ 8) s
+
+-- the bits of a number of four octets, the first of them the highest
+bits_of_four : (a b c d : ℕ) → b < 256 → c < 256 → d < 256
+    → bits_of 32 (a * 16777216 + b * 65536 + c * 256 + d) ≡ bits_of_octets (a ∷ b ∷ c ∷ d ∷ [])
+bits_of_four a b c d b_in c_in d_in =
+    let e : a * 16777216 + b * 65536 + c * 256 + d ≡ a * 2 ^ 24 + (b * 2 ^ 16 + (c * 2 ^ 8 + d)) = omega arith in
+    let low_24 : b * 2 ^ 16 + (c * 2 ^ 8 + d) < 2 ^ 24 = omega arith in
+    let low_16 : c * 2 ^ 8 + d < 2 ^ 16 = omega arith in
+    rw (e, bits_of-append 8 24 a _ low_24, bits_of-append 8 16 b _ low_16, bits_of-append 8 8 c d d_in, append-nil (bits_of 8 d))
+
+-- the bits of that number, read from a list of four octets
+pub bits_of_be : (octets : List ℕ) → length octets ≡ 4 → ((i : ℕ) → get_or octets i 0 < 256)
+    → bits_of 32 (get_or octets 0 0 * 16777216 + get_or octets 1 0 * 65536 + get_or octets 2 0 * 256 + get_or octets 3 0) ≡ bits_of_octets octets
+bits_of_be (a ∷ b ∷ c ∷ d ∷ []) e h = bits_of_four a b c d (h 1) (h 2) (h 3)
+bits_of_be _ e h = absurd (omega arith)
+
+-- the mask 255 leaves the lowest eight bits
+pub low_octet : (n : ℕ) → bit_and n 255 ≡ n % 2 ^ 8
+low_octet n = and_mask n 8

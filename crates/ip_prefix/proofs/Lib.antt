@@ -1,0 +1,4 @@
+pub mod BitLists
+pub mod Dots
+pub mod Highest
+pub mod Kept

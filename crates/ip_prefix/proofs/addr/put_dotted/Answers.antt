@@ -1,0 +1,13 @@
+-- The first octet has room, since it has at most three digits; the rest is what the four writes ensure.
+use Rattle.std.proofs.Common.{rules, arith}
+use Rattle.std.proofs.lemmas.Fmt.{length-decimal-le}
+use Rattle.std.proofs.lemmas.Grind.{common_steps}
+use Rattle.ip_prefix.specs.Text.{dotted}
+use Rattle.ip_prefix.proofs.addr.put_dotted.Goals as goal
+
+pub write_digits-start-requires : goal.write_digits-start-requires
+write_digits-start-requires c = search (rules, length-decimal-le 3)
+
+pub returns-clause-appended : goal.returns-clause-appended
+unfolding dotted
+returns-clause-appended c = grind (arith, common_steps)

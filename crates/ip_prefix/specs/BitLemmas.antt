@@ -1,0 +1,26 @@
+-- The number that bits spell is the number that they are the bits of.
+use Rattle.std.specs.Prelude.{◌≡◌, ℕ, zero, suc, ◌+◌, ◌^◌, ◌%◌, ◌<◌, length, ◌==◌, refl}
+use Rattle.std.proofs.Common.{◌∙◌, sym, ap, arith}
+use Rattle.std.proofs.lemmas.Nat.{mod-pow-add}
+use Rattle.std.proofs.lemmas.Nat.Bits.{bit_at-lt}
+use Rattle.ip_prefix.specs.Bits.{worth, number_of, bits_of}
+
+-- there are as many bits as are named
+pub length-bits_of : (k n : ℕ) → length (bits_of k n) ≡ k
+unfolding bits_of
+length-bits_of zero n = refl
+length-bits_of (suc k) n = ap suc (length-bits_of k n)
+
+-- a bit is worth what it is as a number
+worth_of_digit : (digit : ℕ) → digit < 2 → worth (digit == 1) ≡ digit
+worth_of_digit zero h = refl
+worth_of_digit (suc zero) h = refl
+worth_of_digit (suc (suc digit)) h = absurd (omega arith)
+
+-- the lowest k bits of n spell n modulo 2 ^ k
+pub number_of-bits_of : (k n : ℕ) → number_of (bits_of k n) ≡ n % 2 ^ k
+unfolding number_of bits_of
+number_of-bits_of zero n = omega arith
+number_of-bits_of (suc k) n =
+    let e : suc k ≡ 1 + k = omega arith in
+    rw (length-bits_of k n, number_of-bits_of k n, worth_of_digit _ (bit_at-lt n k)) (sym (ap (λ j. n % 2 ^ j) e ∙ mod-pow-add n 1 k))

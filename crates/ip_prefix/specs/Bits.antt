@@ -1,0 +1,23 @@
+-- Numbers as lists of bits, the most significant bit first.
+use Rattle.std.specs.Prelude.{ℕ, zero, suc, ◌+◌, ◌*◌, ◌^◌, Bool, true, false, List, [], ◌∷◌, ◌++◌, length, ◌==◌}
+use Rattle.std.specs.Int.{bit_at}
+
+-- what a bit is worth at the lowest place
+abbrev pub worth : Bool → ℕ
+worth true = 1
+worth false = 0
+
+-- the number that the bits spell in base 2
+unfoldable pub number_of : List Bool → ℕ
+number_of [] = 0
+number_of (bit ∷ bits) = worth bit * 2 ^ length bits + number_of bits
+
+-- the lowest bits of a number, as many as are named
+unfoldable pub bits_of : ℕ → ℕ → List Bool
+bits_of zero n = []
+bits_of (suc k) n = (bit_at n k == 1) ∷ bits_of k n
+
+-- the bits of octets, eight for each
+abbrev pub bits_of_octets : List ℕ → List Bool
+bits_of_octets [] = []
+bits_of_octets (octet ∷ octets) = bits_of 8 octet ++ bits_of_octets octets

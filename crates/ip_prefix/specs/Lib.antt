@@ -1,0 +1,5 @@
+pub mod Bits
+pub mod BitLemmas
+pub mod Address
+pub mod Aligned
+pub mod Text

@@ -1,0 +1,130 @@
+//! Addresses of both families.
+
+ghost use Rattle.std.specs.Prelude.{◌≡◌, ◌+◌, ◌<◌, ◌≤◌, ◌∷◌, ◌++◌, OnOk, OnErr, Some, slice_get, length, take, drop, replicate, decimal};
+ghost use Rattle.ip_prefix.specs.declared.addr.Family.TheVariants.{V4};
+ghost use Rattle.ip_prefix.specs.Address.{octet_at, octet_count, bit_count};
+ghost use Rattle.ip_prefix.specs.Bits.{bits_of_octets};
+ghost use Rattle.ip_prefix.specs.Text.{dotted};
+
+use itoa::write_digits;
+use std::alloc::AllocError;
+use std::marker::Model;
+
+/// The two families of Internet addresses.
+#[derive(Clone, Copy, Debug, PartialEq, Eq, PartialOrd, Ord)]
+pub enum Family {
+    V4,
+    V6,
+}
+
+/// An address. It is kept as one number of 128 bits whose highest bits are those of the address,
+/// for either family, so that masks and comparisons are single operations.
+#[derive(Clone, Copy, Debug, PartialEq, Eq)]
+pub struct Addr {
+    number: u128,
+    family: Family,
+}
+
+impl Model for Addr {
+    ghost use Rattle.std.specs.Prelude.{◌*◌, ◌^◌, ◌/◌, ◌-◌};
+    ghost use Rattle.ip_prefix.specs.Address.{Address, bit_count};
+    ghost use Rattle.ip_prefix.specs.Bits.{bits_of, number_of};
+    ghost use Rattle.ip_prefix.specs.Aligned.{IsAligned, number-again};
+
+    ghost Value = { Address };
+
+    ghost view = { λ a. record {
+      family = a.family;
+      bits = bits_of (bit_count a.family) (a.number / 2 ^ (128 - bit_count a.family));
+    } };
+
+    ghost invariant = { λ a. IsAligned a.family a.number };
+
+    ghost inverse = { λ a. record {
+      number = number_of a.bits * 2 ^ (128 - bit_count a.family);
+      family = a.family;
+    } };
+
+    ghost inverse_ok = { λ a h i. record {
+      number = number-again a.family a.number h i;
+      family = a.family;
+    } };
+}
+
+impl Addr {
+    /// The IPv4 address of four octets, in the order in which they are written and sent.
+    #[inline]
+    pub fn v4(octets: [u8; 4]) -> Self
+        ensures { result ≡ record { family = Family.V4; bits = bits_of_octets octets } }
+    {
+        let number = u128::from(u32::from_be_bytes(octets)) << 96;
+        Addr {
+            number,
+            family: Family::V4,
+        }
+    }
+
+    #[inline]
+    pub fn family(&self) -> Family
+        ensures { result ≡ self.now.family }
+    {
+        self.family
+    }
+
+    /// The octet at a place, counted from 0 in the order in which they are written and sent.
+    #[inline]
+    pub fn octet(&self, place: usize) -> u8
+        requires { place < octet_count self.now.family }
+        ensures { result ≡ octet_at self.now place }
+    {
+        (self.number >> (120 - 8 * place) & 0xff) as u8
+    }
+
+    /// The bit at a place, counted from 0 at the most significant one.
+    #[inline]
+    pub fn bit(&self, place: usize) -> bool
+        requires { place < bit_count self.now.family }
+        ensures { slice_get self.now.bits place ≡ Some result }
+    {
+        self.number >> (127 - place) & 1 == 1
+    }
+
+    /// Appends the address as a person reads it. Refused for want of memory, it leaves the text
+    /// as it was.
+    pub fn put_text(&self, text: &mut Vec<u8>) -> Result<(), AllocError>
+        ensures appended { OnOk result (text.new.items ≡ text.old.items ++ dotted self.now) }
+        ensures unchanged { OnErr result (text.new.items ≡ text.old.items) }
+    {
+        match self.family {
+            Family::V4 => put_dotted(self, text),
+            Family::V6 => unreachable!(),
+        }
+    }
+}
+
+// Appends the four octets of an IPv4 address in decimal, joined by dots.
+fn put_dotted(address: &Addr, text: &mut Vec<u8>) -> Result<(), AllocError>
+    requires { address.now.family ≡ V4 }
+    ensures appended { OnOk result (text.new.items ≡ text.old.items ++ dotted address.now) }
+    ensures unchanged { OnErr result (text.new.items ≡ text.old.items) }
+{
+    let mut buffer = [b'.'; 15];
+    let third = write_octet(address.octet(3), &mut buffer, 15);
+    let second = write_octet(address.octet(2), &mut buffer, third);
+    let first = write_octet(address.octet(1), &mut buffer, second);
+    let start = write_digits(u64::from(address.octet(0)), &mut buffer, first);
+    text.extend_from_slice(&buffer[start..])
+}
+
+// Writes the octet so that it ends at `end`, in a buffer that has only dots so far before it, and
+// returns where the dot before the octet stands.
+#[inline]
+fn write_octet(octet: u8, buffer: &mut [u8], end: usize) -> usize
+    requires room { (4 ≤ end) × (end ≤ length buffer.old) }
+    requires dots { take end buffer.old ≡ replicate end 46 }
+    ensures start { (result < end) × (end ≤ result + 4) }
+    ensures written { drop result buffer.new ≡ 46 ∷ decimal octet ++ drop end buffer.old }
+    ensures dots { take result buffer.new ≡ replicate result 46 }
+{
+    write_digits(u64::from(octet), buffer, end) - 1
+}
