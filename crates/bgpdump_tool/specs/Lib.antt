@@ -1,0 +1,10 @@
+pub mod Device
+pub mod Record
+pub mod Event
+pub mod Content
+pub mod Reading
+pub mod Judging
+pub mod Splitting
+pub mod Results
+pub mod Taking
+pub mod Text

@@ -1,0 +1,57 @@
+-- What becomes of a record: an event, or the first fault that it has.
+use Rattle.std.specs.Prelude.{◌≡◌, ℕ, List, [], ◌∷◌, ◌++◌, length, Option, None}
+use Rattle.std.specs.Int.{to_be_bytes, w16}
+use Rattle.bgpdump_tool.specs.declared.fault.RecordKind.{RecordKind}
+use Rattle.bgpdump_tool.specs.declared.fault.RecordKind.TheVariants.{CutRecord, TooLong, Unsupported, Malformed}
+use Rattle.bgpdump_tool.specs.declared.stamp.Stamp.{Stamp}
+use Rattle.bgpdump_tool.specs.declared.state_change.Peer.{Peer}
+use Rattle.bgpdump_tool.specs.Record.{Record}
+use Rattle.bgpdump_tool.specs.Event.{Event, State, Bgp4mp}
+use Rattle.bgpdump_tool.specs.Content.{Content, Change, IsBody}
+
+-- what becomes of a record
+pub data Verdict : Type 0 where
+  Accepted : Event → Verdict
+  Refused : RecordKind → Verdict
+
+-- a record and what becomes of it
+pub record Frame : Type 0 where
+  pub mrt : Record
+  pub verdict : Verdict
+
+-- the peers of the last accepted peer index table, by their numbers
+abbrev pub PeerIndex : Type 0
+PeerIndex = Option (List Peer)
+
+-- the peer index after a record: as it was, since no record that is read yet brings one
+abbrev pub index_after : PeerIndex → Frame → PeerIndex
+index_after index frame = index
+
+-- the event of an accepted record
+abbrev pub event_of : Stamp → ℕ → Content → Event
+event_of stamp seconds (Change change) =
+    record { time = record { seconds = seconds; micros = None }; tag = Bgp4mp; items = State change.peer change.old change.new ∷ [] }
+
+-- the body is long enough to hold an address family, and that is the one of IPv6
+abbrev pub IsOfIPv6 : List ℕ → Type 0
+IsOfIPv6 body = (front more : List ℕ) × (length front ≡ 6) × (body ≡ front ++ (to_be_bytes w16 2 ++ more))
+
+-- the type and subtype are read, and so is the family of the addresses
+pub record IsSupported (r : Record) : Type 0 where
+  pub kind : r.kind ≡ 16
+  pub subtype : r.subtype ≡ 0
+  pub family : IsOfIPv6 r.body → ⊥
+
+-- with this peer index before it, this is what becomes of the record
+abbrev pub ReadsAs : Stamp → PeerIndex → Record → Verdict → Type 0
+ReadsAs stamp index r (Accepted event) = IsSupported r × (content : Content) × IsBody r.kind r.subtype content r.body × (event ≡ event_of stamp r.seconds content)
+ReadsAs stamp index r (Refused (Unsupported kind subtype)) = (IsSupported r → ⊥) × (kind ≡ r.kind) × (subtype ≡ r.subtype)
+ReadsAs stamp index r (Refused Malformed) = IsSupported r × ((content : Content) → IsBody r.kind r.subtype content r.body → ⊥)
+-- a whole record is neither cut nor too long
+ReadsAs stamp index r (Refused CutRecord) = ⊥
+ReadsAs stamp index r (Refused (TooLong size)) = ⊥
+
+-- what becomes of records one behind the other, with this peer index before the first
+abbrev pub Readings : Stamp → PeerIndex → List Frame → Type 0
+Readings stamp index [] = Unit {0}
+Readings stamp index (frame ∷ frames) = ReadsAs stamp index frame.mrt frame.verdict × Readings stamp (index_after index frame) frames

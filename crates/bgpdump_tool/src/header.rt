@@ -1,0 +1,33 @@
+//! The header of a record (RFC 6396, section 2).
+
+ghost use Rattle.std.specs.Prelude.{◌≡◌};
+ghost use Rattle.bgpdump_tool.specs.Record.{IsHeader, header_octets};
+
+use crate::octets::{u16_at, u32_at};
+
+/// How many octets a header has.
+pub(crate) const HEADER_SIZE: usize = 12;
+
+/// The fields of a header.
+#[derive(Clone, Copy)]
+pub(crate) struct Header {
+    /// Seconds since 1970.
+    pub(crate) seconds: u32,
+    pub(crate) kind: u16,
+    pub(crate) subtype: u16,
+    /// How many octets the body has.
+    pub(crate) size: u32,
+}
+
+/// The fields that the octets spell.
+pub(crate) fn read_header(octets: &[u8; HEADER_SIZE]) -> Header
+    ensures fits { IsHeader result.seconds result.kind result.subtype result.size }
+    ensures octets { header_octets result.seconds result.kind result.subtype result.size ≡ octets.now }
+{
+    Header {
+        seconds: u32_at(octets, 0),
+        kind: u16_at(octets, 4),
+        subtype: u16_at(octets, 6),
+        size: u32_at(octets, 8),
+    }
+}

@@ -1,0 +1,19 @@
+//! The dumps of routing tables and messages that routers write (MRT, RFC 6396), as lines.
+#![tactic(auto)]
+
+mod fill;
+mod header;
+mod input;
+mod body;
+mod fault;
+mod octets;
+mod output;
+mod reading;
+mod records;
+mod stamp;
+mod state_change;
+mod text;
+
+pub use input::{InFault, Input, ReadInput};
+pub use output::{OutFault, Output, WriteOutput, put_all};
+pub use stamp::Stamp;
