@@ -1,7 +1,11 @@
 pub mod Buffers
 pub mod ContentLaws
+pub mod Existence
 pub mod FieldLaws
 pub mod RecordLaws
 pub mod RestLaws
+pub mod SplitLaws
 pub mod StateChangeLaws
+pub mod StepLaws
 pub mod TextLaws
+pub mod WritingLaws

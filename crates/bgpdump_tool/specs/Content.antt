@@ -9,7 +9,7 @@ use Rattle.bgpdump_tool.specs.declared.state_change.StateChange.{StateChange}
 pub data Content : Type 0 where
   Change : StateChange → Content
 
--- the octets of a state change with AS numbers of two octets and IPv4 addresses (RFC 6396, section 4.4.1)
+-- the octets of a state change with AS numbers of two octets and IPv4 addresses, and any octets behind it (RFC 6396, section 4.4.1)
 pub record SpellsStateChange (change : StateChange) (octets : List ℕ) : Type 0 where
   -- these may be any octets
   pub local_as : List ℕ

@@ -8,3 +8,7 @@ pub mod Splitting
 pub mod Results
 pub mod Taking
 pub mod Text
+pub mod Run
+pub mod Status
+pub mod Step
+pub mod Whole

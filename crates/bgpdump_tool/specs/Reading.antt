@@ -5,6 +5,7 @@ use Rattle.bgpdump_tool.specs.declared.fault.RecordKind.{RecordKind}
 use Rattle.bgpdump_tool.specs.declared.fault.RecordKind.TheVariants.{CutRecord, TooLong, Unsupported, Malformed}
 use Rattle.bgpdump_tool.specs.declared.stamp.Stamp.{Stamp}
 use Rattle.bgpdump_tool.specs.declared.state_change.Peer.{Peer}
+use Rattle.bgpdump_tool.specs.declared.state_change.StateChange.{StateChange}
 use Rattle.bgpdump_tool.specs.Record.{Record}
 use Rattle.bgpdump_tool.specs.Event.{Event, State, Bgp4mp}
 use Rattle.bgpdump_tool.specs.Content.{Content, Change, IsBody}
@@ -27,16 +28,19 @@ PeerIndex = Option (List Peer)
 abbrev pub index_after : PeerIndex → Frame → PeerIndex
 index_after index frame = index
 
+-- the event of a state change
+abbrev pub state_event : ℕ → StateChange → Event
+state_event seconds change = record { time = record { seconds = seconds; micros = None }; tag = Bgp4mp; items = State change.peer change.old change.new ∷ [] }
+
 -- the event of an accepted record
 abbrev pub event_of : Stamp → ℕ → Content → Event
-event_of stamp seconds (Change change) =
-    record { time = record { seconds = seconds; micros = None }; tag = Bgp4mp; items = State change.peer change.old change.new ∷ [] }
+event_of stamp seconds (Change change) = state_event seconds change
 
 -- the body is long enough to hold an address family, and that is the one of IPv6
 abbrev pub IsOfIPv6 : List ℕ → Type 0
 IsOfIPv6 body = (front more : List ℕ) × (length front ≡ 6) × (body ≡ front ++ (to_be_bytes w16 2 ++ more))
 
--- the type and subtype are read, and so is the family of the addresses
+-- the type and subtype are read, and the addresses aren't those of IPv6
 pub record IsSupported (r : Record) : Type 0 where
   pub kind : r.kind ≡ 16
   pub subtype : r.subtype ≡ 0

@@ -1,6 +1,10 @@
 -- MRT records, and how they stand in a list of octets (RFC 6396, section 2).
-use Rattle.std.specs.Prelude.{◌≡◌, ℕ, ◌<◌, ◌≤◌, ◌^◌, List, ◌++◌, length}
+use Rattle.std.specs.Prelude.{◌≡◌, ℕ, ◌<◌, ◌≤◌, ◌^◌, List, ◌++◌, length, slice_index}
 use Rattle.std.specs.Int.{to_be_bytes, w16, w32}
+
+-- each element is an octet
+abbrev pub IsOctets : List ℕ → Type 0
+IsOctets octets = (i : ℕ) → slice_index octets i < 256
 
 -- the greatest length that a record may state
 abbrev pub longest_body : ℕ

@@ -2,9 +2,7 @@
 
 ghost use Rattle.std.specs.Prelude.{◌≡◌, ◌∷◌, ◌++◌, OnOk, decimal};
 ghost use Rattle.ip_prefix.specs.Text.{dotted};
-ghost use Rattle.bgpdump_tool.specs.declared.stamp.Stamp.{Stamp};
-ghost use Rattle.bgpdump_tool.specs.Content.{Change};
-ghost use Rattle.bgpdump_tool.specs.Reading.{event_of};
+ghost use Rattle.bgpdump_tool.specs.Reading.{state_event};
 ghost use Rattle.bgpdump_tool.specs.Text.{event_lines, kind_text, fault_report};
 
 use crate::fault::{RecordFault, RecordKind};
@@ -37,7 +35,7 @@ pub(crate) fn put_state_line(
     change: &StateChange,
     text: &mut Vec<u8>,
 ) -> Result<(), AllocError>
-    ensures { OnOk result ((stamp : Stamp) → text.new.items ≡ text.old.items ++ event_lines (event_of stamp seconds (Change change.now))) }
+    ensures { OnOk result (text.new.items ≡ text.old.items ++ event_lines (state_event seconds change.now)) }
 {
     put_labelled(b"BGP4MP|", u64::from(seconds), text)?;
     text.extend_from_slice(b"|STATE")?;

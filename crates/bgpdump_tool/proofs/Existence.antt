@@ -1,0 +1,246 @@
+-- Each list of octets splits into frames and a rest.
+use Rattle.std.proofs.Common.{◌≡◌, ℕ, zero, suc, ◌+◌, ◌≤◌, ◌<◌, ◌^◌, ◌⊎◌, inl, inr, List, [], ◌∷◌, ◌++◌, None, length, take, drop, sym, ap, ◌∙◌, subst, refl, arith}
+use Rattle.std.proofs.lemmas.Bool.{cases_lt, cases_eq}
+use Rattle.std.proofs.lemmas.List.{append_assoc, length-append, length-take-le, length-drop, get_or-take, get_or-drop, get_or_past, take-append-drop}
+use Rattle.std.proofs.lemmas.Nat.{be_bytes_2, be_bytes_4}
+use Rattle.std.specs.Int.{to_be_bytes, from_be_bytes, w16, w32}
+use Rattle.bgpdump_tool.specs.declared.fault.RecordKind.TheVariants.{Unsupported, Malformed}
+use Rattle.bgpdump_tool.specs.declared.stamp.Stamp.{Stamp}
+use Rattle.bgpdump_tool.specs.declared.state_change.StateChange.{StateChange}
+use Rattle.bgpdump_tool.specs.Content.{Change, SpellsStateChange}
+use Rattle.bgpdump_tool.specs.Record.{Record, record_of, IsOctets, IsHeader, header_octets, spelling, IsRecord, BeginsWithNone, longest_body}
+use Rattle.bgpdump_tool.specs.Reading.{Verdict, Accepted, Refused, Frame, PeerIndex, event_of, IsOfIPv6, IsSupported, ReadsAs}
+use Rattle.bgpdump_tool.specs.Splitting.{Splits, spellings}
+use Rattle.bgpdump_tool.proofs.ContentLaws.{no_content}
+use Rattle.bgpdump_tool.proofs.FieldLaws.{field_at, field_then, IsOfIPv6-field, field-IsOfIPv6, length-IsOfIPv6}
+use Rattle.bgpdump_tool.proofs.RecordLaws.{same_w16, BeginsWithNone-short, BeginsWithNone-cut, BeginsWithNone-too_long}
+use Rattle.bgpdump_tool.proofs.StateChangeLaws.{ipv4, SpellsStateChange-size, SpellsStateChange-family, SpellsStateChange-fields}
+
+-- a front of octets is octets
+IsOctets-take : (n : ℕ) (octets : List ℕ) → n ≤ length octets → IsOctets octets → IsOctets (take n octets)
+IsOctets-take n octets within small i = elim (cases_lt i n) [
+  | inl below ↦ subst (λ m. m < 256) (sym (get_or-take n octets i 0 below)) (small i)
+  | inr above ↦ subst (λ m. m < 256) (sym (get_or_past (take n octets) i 0 (omega (arith, length-take-le n octets within)))) (omega arith)
+]
+
+-- what stands behind a front of octets is octets
+IsOctets-drop : (n : ℕ) (octets : List ℕ) → IsOctets octets → IsOctets (drop n octets)
+IsOctets-drop n octets small i = subst (λ m. m < 256) (sym (get_or-drop n octets i 0)) (small (n + i))
+
+-- two octets spell a number
+record Spells16 (octets : List ℕ) : Type 0 where
+  number : ℕ
+  fits : number < 2 ^ 16
+  spelling : to_be_bytes w16 number ≡ octets
+
+-- four octets spell a number
+record Spells32 (octets : List ℕ) : Type 0 where
+  number : ℕ
+  fits : number < 2 ^ 32
+  spelling : to_be_bytes w32 number ≡ octets
+
+-- any two octets spell a number
+Spells16-octets : (octets : List ℕ) → length octets ≡ 2 → IsOctets octets → Spells16 octets
+Spells16-octets octets size small = record {
+  number = from_be_bytes w16 octets;
+  fits = omega (arith, small 0, small 1);
+  spelling = be_bytes_2 octets (from_be_bytes w16 octets) size small refl;
+}
+
+-- any four octets spell a number
+Spells32-octets : (octets : List ℕ) → length octets ≡ 4 → IsOctets octets → Spells32 octets
+Spells32-octets octets size small = record {
+  number = from_be_bytes w32 octets;
+  fits = omega (arith, small 0, small 1, small 2, small 3);
+  spelling = be_bytes_4 octets (from_be_bytes w32 octets) size small refl;
+}
+
+-- the two octets at a place spell a number
+Spells16-at : (place : ℕ) (octets : List ℕ) → place + 2 ≤ length octets → IsOctets octets → Spells16 (take 2 (drop place octets))
+Spells16-at place octets within small =
+    let behind : List ℕ = drop place octets in
+    let long : 2 ≤ length behind = omega (arith, length-drop place octets) in
+    Spells16-octets (take 2 behind) (length-take-le 2 behind long) (IsOctets-take 2 behind long (IsOctets-drop place octets small))
+
+-- the four octets at a place spell a number
+Spells32-at : (place : ℕ) (octets : List ℕ) → place + 4 ≤ length octets → IsOctets octets → Spells32 (take 4 (drop place octets))
+Spells32-at place octets within small =
+    let behind : List ℕ = drop place octets in
+    let long : 4 ≤ length behind = omega (arith, length-drop place octets) in
+    Spells32-octets (take 4 behind) (length-take-le 4 behind long) (IsOctets-take 4 behind long (IsOctets-drop place octets small))
+
+-- a header stands in front of the octets
+record BeginsWithHeader (octets : List ℕ) : Type 0 where
+  seconds : ℕ
+  kind : ℕ
+  subtype : ℕ
+  size : ℕ
+  fits : IsHeader seconds kind subtype size
+  whole : octets ≡ header_octets seconds kind subtype size ++ drop 12 octets
+
+-- one stands in front of any twelve octets
+BeginsWithHeader-long : (octets : List ℕ) → 12 ≤ length octets → IsOctets octets → BeginsWithHeader octets
+BeginsWithHeader-long octets long small =
+    let seconds = Spells32-at 0 octets (omega arith) small in
+    let kind = Spells16-at 4 octets (omega arith) small in
+    let subtype = Spells16-at 6 octets (omega arith) small in
+    let size = Spells32-at 8 octets (omega arith) small in
+    record {
+      seconds = seconds.number;
+      kind = kind.number;
+      subtype = subtype.number;
+      size = size.number;
+      fits = record { seconds_fit = seconds.fits; kind_fits = kind.fits; subtype_fits = subtype.fits; size_fits = size.fits };
+      whole =
+          field_at 0 4 octets ∙ field_then _ _ _ _ (sym seconds.spelling)
+          (field_at 4 2 octets ∙ field_then _ _ _ _ (sym kind.spelling)
+          (field_at 6 2 octets ∙ field_then _ _ _ _ (sym subtype.spelling)
+          (field_at 8 4 octets ∙ field_then _ _ _ _ (sym size.spelling) refl)));
+    }
+
+-- a record whose body is octets stands in front of the octets, and octets follow it
+record BeginsWithRecord (octets : List ℕ) : Type 0 where
+  mrt : Record
+  more : List ℕ
+  is_record : IsRecord mrt
+  body_octets : IsOctets mrt.body
+  more_octets : IsOctets more
+  whole : octets ≡ spelling mrt ++ more
+
+-- one stands in front of octets whose header states a length that they have and a record may have
+BeginsWithRecord-header : (octets : List ℕ) → IsOctets octets → (header : BeginsWithHeader octets)
+    → header.size ≤ length (drop 12 octets) → header.size ≤ longest_body → BeginsWithRecord octets
+BeginsWithRecord-header octets small header enough short =
+    let behind : List ℕ = drop 12 octets in
+    let body : List ℕ = take header.size behind in
+    let size : header.size ≡ length body = sym (length-take-le header.size behind enough) in
+    let small_behind : IsOctets behind = IsOctets-drop 12 octets small in
+    record {
+      mrt = record_of header.seconds header.kind header.subtype body;
+      more = drop header.size behind;
+      is_record = record { header = subst (IsHeader header.seconds header.kind header.subtype) size header.fits; size = omega arith };
+      body_octets = IsOctets-take header.size behind enough small_behind;
+      more_octets = IsOctets-drop header.size behind small_behind;
+      whole = header.whole
+          ∙ field_then _ _ _ _ (ap (header_octets header.seconds header.kind header.subtype) size) (sym (take-append-drop header.size behind));
+    }
+
+-- a record stands in front of octets, or none
+cases_record : (octets : List ℕ) → IsOctets octets → BeginsWithRecord octets ⊎ BeginsWithNone octets
+cases_record octets small = elim (cases_lt (length octets) 12) [
+  | inl short ↦ inr (BeginsWithNone-short octets short)
+  | inr long ↦
+      let header = BeginsWithHeader-long octets long small in
+      let s = header.seconds in
+      let k = header.kind in
+      let t = header.subtype in
+      let n = header.size in
+      let behind : List ℕ = drop 12 octets in
+      elim (cases_lt longest_body n) [
+        | inl too_long ↦ inr (subst BeginsWithNone (sym header.whole) (BeginsWithNone-too_long s k t n behind header.fits too_long))
+        | inr short ↦ elim (cases_lt (length behind) n) [
+          | inl cut ↦ inr (subst BeginsWithNone (sym header.whole) (BeginsWithNone-cut s k t n behind header.fits cut))
+          | inr enough ↦ inl (BeginsWithRecord-header octets small header enough short)
+        ]
+      ]
+]
+
+-- octets give IPv6 as their address family, or not
+cases_IPv6 : (body : List ℕ) → IsOctets body → IsOfIPv6 body ⊎ (IsOfIPv6 body → ⊥)
+cases_IPv6 body small = elim (cases_lt (length body) 8) [
+  | inl short ↦ inr (λ six. absurd (omega (arith, length-IsOfIPv6 body six)))
+  | inr long ↦
+      let family = Spells16-at 6 body long small in
+      elim (cases_eq family.number 2) [
+        | inl same ↦ inl (IsOfIPv6-field body family.number long family.spelling same)
+        | inr other ↦ inr (λ six. other (same_w16 family.number 2 family.fits (omega arith) (family.spelling ∙ field-IsOfIPv6 body six)))
+      ]
+]
+
+-- a record of octets is supported, or not
+cases_supported : (r : Record) → IsOctets r.body → IsSupported r ⊎ (IsSupported r → ⊥)
+cases_supported r small = elim (cases_eq r.kind 16) [
+  | inr other ↦ inr (λ supported. other supported.kind)
+  | inl kind ↦ elim (cases_eq r.subtype 0) [
+    | inr other ↦ inr (λ supported. other supported.subtype)
+    | inl subtype ↦ elim (cases_IPv6 r.body small) [
+      | inl six ↦ inr (λ supported. supported.family six)
+      | inr not_six ↦ inl (record { kind = kind; subtype = subtype; family = not_six })
+    ]
+  ]
+]
+
+-- octets spell a state change, or none
+cases_state_change : (body : List ℕ) → IsOctets body
+    → ((change : StateChange) × SpellsStateChange change body) ⊎ ((change : StateChange) → SpellsStateChange change body → ⊥)
+cases_state_change body small = elim (cases_lt (length body) 20) [
+  | inl short ↦ inr (λ change spelled. absurd (omega (arith, SpellsStateChange-size change body spelled)))
+  | inr long ↦
+      let family = Spells16-at 6 body (omega arith) small in
+      elim (cases_eq family.number 1) [
+        | inr other ↦ inr (λ change spelled.
+            other (same_w16 family.number 1 family.fits (omega arith) (family.spelling ∙ SpellsStateChange-family change body spelled)))
+        | inl same ↦
+            let asn = Spells16-at 0 body (omega arith) small in
+            let address = Spells32-at 8 body (omega arith) small in
+            let old = Spells16-at 16 body (omega arith) small in
+            let new = Spells16-at 18 body (omega arith) small in
+            let addr = ipv4 (to_be_bytes w32 address.number) in
+            let change : StateChange = record { peer = record { addr = addr; asn = asn.number }; old = old.number; new = new.number } in
+            inl (
+              change,
+              SpellsStateChange-fields change body family.number address.number long asn.fits asn.spelling same family.spelling
+                  address.spelling refl old.fits old.spelling new.fits new.spelling,
+            )
+      ]
+]
+
+-- each record of octets has a verdict
+ReadsAs-octets : (stamp : Stamp) (index : PeerIndex) (r : Record) → IsOctets r.body → (verdict : Verdict) × ReadsAs stamp index r verdict
+ReadsAs-octets stamp index r small = elim (cases_supported r small) [
+  | inr unsupported ↦ (Refused (Unsupported r.kind r.subtype), (unsupported, refl, refl))
+  | inl supported ↦ elim (cases_state_change r.body small) [
+    | inl spelled ↦
+        (Accepted (event_of stamp r.seconds (Change spelled.0)), (supported, Change spelled.0, (supported.kind, supported.subtype, spelled.1), refl))
+    | inr none ↦ (Refused Malformed, (supported, no_content r.kind r.subtype r.body none))
+  ]
+]
+
+-- octets that begin with no record are a rest
+Splits-rest : (stamp : Stamp) (octets : List ℕ) → BeginsWithNone octets → Splits stamp octets [] octets
+Splits-rest stamp octets none = record { whole = refl; records = tt; readings = tt; none = none }
+
+-- a record is put in front
+Splits-record : (stamp : Stamp) (frame : Frame) (octets more : List ℕ) (frames : List Frame) (rest : List ℕ) → IsRecord frame.mrt
+    → ReadsAs stamp None frame.mrt frame.verdict → octets ≡ spelling frame.mrt ++ more → Splits stamp more frames rest
+    → Splits stamp octets (frame ∷ frames) rest
+Splits-record stamp frame octets more frames rest is_record reads whole split = record {
+  whole = whole ∙ ap (λ l. spelling frame.mrt ++ l) split.whole ∙ sym (append_assoc (spelling frame.mrt) (spellings frames) rest);
+  records = (is_record, split.records);
+  readings = (reads, split.readings);
+  none = split.none;
+}
+
+-- octets of at most this length split
+octets_split_within : (most : ℕ) (stamp : Stamp) (octets : List ℕ) → length octets ≤ most → IsOctets octets
+    → (frames : List Frame) × (rest : List ℕ) × Splits stamp octets frames rest
+octets_split_within zero stamp octets within small = ([], octets, Splits-rest stamp octets (BeginsWithNone-short octets (omega arith)))
+octets_split_within (suc most) stamp octets within small = elim (cases_record octets small) [
+  | inr none ↦ ([], octets, Splits-rest stamp octets none)
+  | inl front ↦
+      let r = front.mrt in
+      let reading = ReadsAs-octets stamp None r front.body_octets in
+      let frame : Frame = record { mrt = r; verdict = reading.0 } in
+      let shorter : length front.more ≤ most = omega (
+        arith,
+        ap length front.whole,
+        length-append (spelling r) front.more,
+        length-append (header_octets r.seconds r.kind r.subtype (length r.body)) r.body,
+      ) in
+      let split = octets_split_within most stamp front.more shorter front.more_octets in
+      (frame ∷ split.0, split.1, Splits-record stamp frame octets front.more split.0 split.1 front.is_record reading.1 front.whole split.2)
+]
+
+-- octets split into frames and a rest
+pub octets_split : (stamp : Stamp) (octets : List ℕ) → IsOctets octets → (frames : List Frame) × (rest : List ℕ) × Splits stamp octets frames rest
+octets_split stamp octets small = octets_split_within (length octets) stamp octets (omega arith) small

@@ -1,0 +1,61 @@
+-- What a whole run takes from its input and writes to its outputs, where these tell their octets.
+use Rattle.std.specs.Prelude.{Bool, true, false, ◌≡◌, ◌≢◌, ℕ, List, [], ◌++◌, Option, Some}
+use Rattle.std.specs.Io.KnownBytes.{Appends}
+use Rattle.bgpdump_tool.specs.declared.outcome.Outcome.{Outcome}
+use Rattle.bgpdump_tool.specs.declared.outcome.Outcome.TheVariants.{Done, Reported, ReadFault, WriteFault, InputTooLong, ScriptTooLong, Memory}
+use Rattle.bgpdump_tool.specs.Device.{AppendsFront}
+use Rattle.bgpdump_tool.specs.Results.{Finding}
+use Rattle.bgpdump_tool.specs.Text.{dump, reports}
+
+-- what was written to the output of lines and to that of reports
+pub record Outputs : Type 0 where
+  pub out : Option (List ℕ)
+  pub err : Option (List ℕ)
+
+-- these octets were taken from the input, which has the others left
+pub record Took (old new : Option (List ℕ)) (taken after : List ℕ) : Type 0 where
+  pub before : old ≡ Some (taken ++ after)
+  pub now : new ≡ Some after
+
+-- octets that the input may hold on the whole, by those taken: these and any others behind them, but none where the end was seen
+pub record MayHold (old new : Option (List ℕ)) (octets : List ℕ) : Type 0 where
+  pub taken : List ℕ
+  pub after : List ℕ
+  pub more : List ℕ
+  pub took : Took old new taken after
+  pub whole : octets ≡ taken ++ more
+  pub end : after ≡ [] → more ≡ []
+
+-- the lines of what was found went to the one output, and the reports to the other
+abbrev pub Writes : List Finding → Outputs → Outputs → Type 0
+Writes found old new = Appends old.out new.out (dump found) × Appends old.err new.err (reports found)
+
+-- a front of the lines went to the one output, and a front of the reports to the other
+abbrev pub WritesFronts : List Finding → Outputs → Outputs → Type 0
+WritesFronts found old new = AppendsFront old.out new.out (dump found) × AppendsFront old.err new.err (reports found)
+
+-- a run over octets in which this is found ended so
+abbrev pub EndsSo : Outcome → List Finding → Outputs → Outputs → Type 0
+EndsSo Done found old new = (reports found ≡ []) × Writes found old new
+EndsSo Reported found old new = (reports found ≢ []) × Writes found old new
+EndsSo ReadFault found old new = WritesFronts found old new
+EndsSo WriteFault found old new = WritesFronts found old new
+EndsSo InputTooLong found old new = WritesFronts found old new
+EndsSo Memory found old new = WritesFronts found old new
+EndsSo ScriptTooLong found old new = ⊥
+
+-- the run ended by the input: it failed, or it was too long
+abbrev pub EndedByInput : Outcome → Type 0
+EndedByInput ReadFault = Unit {0}
+EndedByInput InputTooLong = Unit {0}
+EndedByInput Done = ⊥
+EndedByInput Reported = ⊥
+EndedByInput WriteFault = ⊥
+EndedByInput ScriptTooLong = ⊥
+EndedByInput Memory = ⊥
+
+-- how a run ends that read all, by whether an output failed at last and whether something was reported
+abbrev pub outcome_of : Bool → Bool → Outcome
+outcome_of true reported = WriteFault
+outcome_of false true = Reported
+outcome_of false false = Done
