@@ -1,9 +1,11 @@
 pub mod Buffers
 pub mod ContentLaws
+pub mod EndLaws
 pub mod Existence
 pub mod FieldLaws
 pub mod RecordLaws
 pub mod RestLaws
+pub mod RunLaws
 pub mod SplitLaws
 pub mod StateChangeLaws
 pub mod StepLaws

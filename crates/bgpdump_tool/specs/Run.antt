@@ -1,5 +1,5 @@
 -- What a whole run takes from its input and writes to its outputs, where these tell their octets.
-use Rattle.std.specs.Prelude.{Bool, true, false, ◌≡◌, ◌≢◌, ℕ, List, [], ◌++◌, Option, Some}
+use Rattle.std.specs.Prelude.{◌≡◌, ◌≢◌, ℕ, List, [], ◌++◌, Option, Some}
 use Rattle.std.specs.Io.KnownBytes.{Appends}
 use Rattle.bgpdump_tool.specs.declared.outcome.Outcome.{Outcome}
 use Rattle.bgpdump_tool.specs.declared.outcome.Outcome.TheVariants.{Done, Reported, ReadFault, WriteFault, InputTooLong, ScriptTooLong, Memory}
@@ -53,9 +53,3 @@ EndedByInput Reported = ⊥
 EndedByInput WriteFault = ⊥
 EndedByInput ScriptTooLong = ⊥
 EndedByInput Memory = ⊥
-
--- how a run ends that read all, by whether an output failed at last and whether something was reported
-abbrev pub outcome_of : Bool → Bool → Outcome
-outcome_of true reported = WriteFault
-outcome_of false true = Reported
-outcome_of false false = Done

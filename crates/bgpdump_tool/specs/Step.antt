@@ -8,7 +8,7 @@ use Rattle.bgpdump_tool.specs.declared.step.Step.{Step}
 use Rattle.bgpdump_tool.specs.Device.{AppendsFront}
 use Rattle.bgpdump_tool.specs.Record.{Record, spelling, IsRecord, BeginsWithNone}
 use Rattle.bgpdump_tool.specs.Reading.{Verdict, Accepted, Refused, Frame, ReadsAs}
-use Rattle.bgpdump_tool.specs.Results.{Finding, finding, rest_findings}
+use Rattle.bgpdump_tool.specs.Results.{Finding, Found, Bad, finding, rest_findings}
 use Rattle.bgpdump_tool.specs.Taking.{MayFollow, TakesNone}
 use Rattle.bgpdump_tool.specs.Run.{Outputs, Writes, WritesFronts}
 
@@ -33,10 +33,11 @@ abbrev pub is_refused : Verdict → Bool
 is_refused (Accepted event) = false
 is_refused (Refused kind) = true
 
--- whether anything was found
-abbrev pub is_some_found : List Finding → Bool
-is_some_found [] = false
-is_some_found (found ∷ more) = true
+-- whether a fault is among what was found
+abbrev pub is_any_bad : List Finding → Bool
+is_any_bad [] = false
+is_any_bad (Found event ∷ found) = is_any_bad found
+is_any_bad (Bad fault ∷ found) = true
 
 -- what was found was written, and the answer tells whether that is a fault
 abbrev pub PutsFound : List Finding → Bool → Outputs → Outputs → Result Bool Stop → Type 0
@@ -83,7 +84,7 @@ StepsOn stamp place place' left left' old new false reported =
     (frame : Frame) × TakesFrame stamp left left' frame × (place' ≡ place_after place frame) × (reported ≡ is_refused frame.verdict)
     × Writes (finding_at place frame ∷ []) old new
 StepsOn stamp place place' left left' old new true reported =
-    (found : List Finding) × TakesEnd place left left' found × (reported ≡ is_some_found found) × Writes found old new
+    (found : List Finding) × TakesEnd place left left' found × (reported ≡ is_any_bad found) × Writes found old new
 
 -- a step from one place to another, where room octets may be taken
 abbrev pub Steps : Stamp → Place → Place → ℕ → Option (List ℕ) → Option (List ℕ) → Outputs → Outputs → Result Step Stop → Type 0

@@ -1,19 +1,16 @@
 -- What a run takes and writes up to the end of its input or a fault.
-use Rattle.std.specs.Prelude.{◌≡◌, ℕ, Bool, true, false, List, [], ◌∷◌, ◌++◌, length, Option, Result, Ok, Err}
+use Rattle.std.specs.Prelude.{◌≡◌, ℕ, Bool, true, false, List, ◌++◌, length, Option, Result, Ok, Err}
 use Rattle.std.specs.Io.KnownBytes.{Consumes}
 use Rattle.bgpdump_tool.specs.declared.fault.Stop.{Stop}
 use Rattle.bgpdump_tool.specs.declared.fault.Stop.TheVariants.{ReadFault, WriteFault, InputTooLong, Memory}
+use Rattle.bgpdump_tool.specs.declared.outcome.Outcome.{Outcome}
+use Rattle.bgpdump_tool.specs.declared.outcome.Outcome.TheVariants as outcome
 use Rattle.bgpdump_tool.specs.declared.stamp.Stamp.{Stamp}
 use Rattle.bgpdump_tool.specs.Reading.{Frame}
 use Rattle.bgpdump_tool.specs.Splitting.{Splits}
-use Rattle.bgpdump_tool.specs.Results.{Finding, Found, Bad, findings, results}
+use Rattle.bgpdump_tool.specs.Results.{Finding, findings, results}
+use Rattle.bgpdump_tool.specs.Step.{is_any_bad}
 use Rattle.bgpdump_tool.specs.Run.{MayHold, Outputs, Writes, WritesFronts}
-
--- whether a fault is among what was found
-abbrev pub is_any_bad : List Finding → Bool
-is_any_bad [] = false
-is_any_bad (Found event ∷ found) = is_any_bad found
-is_any_bad (Bad fault ∷ found) = true
 
 -- whatever the input may hold on the whole, this is found there first
 abbrev pub AreFirst : Stamp → Option (List ℕ) → Option (List ℕ) → List Finding → Type 0
@@ -40,3 +37,16 @@ Dumps stamp limit left left' old new (Err ReadFault) = (taken : List ℕ) × Sto
 Dumps stamp limit left left' old new (Err InputTooLong) = (taken : List ℕ) × (length taken ≡ limit) × StopsBehind stamp left left' old new taken
 Dumps stamp limit left left' old new (Err WriteFault) = (found : List Finding) × AreFirst stamp left left' found × WritesFronts found old new
 Dumps stamp limit left left' old new (Err Memory) = (found : List Finding) × AreFirst stamp left left' found × WritesFronts found old new
+
+-- how a run ends that read all, by whether an output failed at last and whether something was reported
+abbrev pub outcome_of : Bool → Bool → Outcome
+outcome_of true reported = outcome.WriteFault
+outcome_of false true = outcome.Reported
+outcome_of false false = outcome.Done
+
+-- how a run ends that stopped before
+abbrev pub stopped_outcome : Stop → Outcome
+stopped_outcome ReadFault = outcome.ReadFault
+stopped_outcome WriteFault = outcome.WriteFault
+stopped_outcome InputTooLong = outcome.InputTooLong
+stopped_outcome Memory = outcome.Memory

@@ -6,10 +6,10 @@ ghost use Rattle.bgpdump_tool.specs.Device.{is_read_fault};
 ghost use Rattle.bgpdump_tool.specs.Reading.{Frame};
 ghost use Rattle.bgpdump_tool.specs.Splitting.{Splits};
 ghost use Rattle.bgpdump_tool.specs.Results.{findings, results};
-ghost use Rattle.bgpdump_tool.specs.Run.{outcome_of, MayHold, Took, Outputs, Writes, EndsSo, EndedByInput};
+ghost use Rattle.bgpdump_tool.specs.Run.{MayHold, Took, Outputs, Writes, EndsSo, EndedByInput};
 ghost use Rattle.bgpdump_tool.specs.Step.{is_write_fault};
 ghost use Rattle.std.specs.Io.KnownBytes.{Keeps};
-ghost use Rattle.bgpdump_tool.specs.Whole.{Dumps};
+ghost use Rattle.bgpdump_tool.specs.Whole.{Dumps, outcome_of, stopped_outcome};
 
 use crate::fault::Stop;
 use crate::input::Input;
@@ -59,10 +59,19 @@ pub fn run_dump<I: Input, O: Output, E: Output>(
 {
     match dump_within(alloc, input, out, err, LIMIT) {
         Ok(reported) => finish(out, err, reported),
-        Err(Stop::ReadFault) => Outcome::ReadFault,
-        Err(Stop::WriteFault) => Outcome::WriteFault,
-        Err(Stop::InputTooLong) => Outcome::InputTooLong,
-        Err(Stop::Memory) => Outcome::Memory,
+        Err(stop) => stopped(stop),
+    }
+}
+
+/// How a run ended that stopped before the end of its input.
+fn stopped(stop: Stop) -> Outcome
+    ensures { result ≡ stopped_outcome stop }
+{
+    match stop {
+        Stop::ReadFault => Outcome::ReadFault,
+        Stop::WriteFault => Outcome::WriteFault,
+        Stop::InputTooLong => Outcome::InputTooLong,
+        Stop::Memory => Outcome::Memory,
     }
 }
 
@@ -100,7 +109,7 @@ fn dump_within<I: Input, O: Output, E: Output>(
     let mut records = RecordReader::new(alloc, limit);
     let mut text = Vec::new(alloc);
     let mut reported = false;
-    loop {
+    'steps: loop {
         let step = dump_next(&mut records, &mut text, input, out, err)?;
         reported |= step.reported;
         if step.ended {
