@@ -1,5 +1,5 @@
 -- What is filled of a buffer, in several reads.
-use Rattle.std.proofs.Common.{◌≡◌, ℕ, ◌+◌, ◌-◌, ◌≤◌, ◌<◌, List, ◌++◌, Option, Ok, Err, length, take, drop, sym, ap, ◌∙◌, subst, arith, drop_at, take_at, length-take-le}
+use Rattle.std.proofs.Common.{◌≡◌, ℕ, ◌+◌, ◌-◌, ◌≤◌, List, ◌++◌, Option, Err, length, take, drop, sym, ap, ◌∙◌, subst, arith, drop_at, take_at, length-take-le}
 use Rattle.std.proofs.lemmas.List.{take-take, length-append}
 use Rattle.std.specs.Io.KnownBytes.{Consumes}
 use Rattle.std.proofs.KnownBytes.{Consumes-trans}

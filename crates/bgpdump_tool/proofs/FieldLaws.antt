@@ -1,5 +1,5 @@
 -- Octets as fields one behind the other.
-use Rattle.std.proofs.Common.{◌≡◌, ℕ, ◌+◌, ◌-◌, ◌≤◌, ◌<◌, ◌^◌, List, [], ◌∷◌, ◌++◌, length, take, drop, sym, ap, ◌∙◌, subst, refl, arith}
+use Rattle.std.proofs.Common.{◌≡◌, ℕ, ◌+◌, ◌≤◌, List, ◌++◌, length, take, drop, sym, ap, ◌∙◌, refl, arith}
 use Rattle.std.proofs.lemmas.List.{take-append-drop, drop-drop, length-take-le, length-append, drop_at}
 use Rattle.std.specs.Int.{to_be_bytes, w16}
 use Rattle.bgpdump_tool.specs.Reading.{IsOfIPv6}
@@ -14,9 +14,12 @@ field_then field front octets more e f = ap (λ l. l ++ octets) e ∙ ap (λ l. 
 
 -- a body is one of IPv6 where its address family is
 pub IsOfIPv6-field : (body : List ℕ) (family : ℕ) → 8 ≤ length body → to_be_bytes w16 family ≡ take 2 (drop 6 body) → family ≡ 2 → IsOfIPv6 body
-IsOfIPv6-field body family long spelled is_ipv6 =
-    (take 6 body, drop 8 body, length-take-le 6 body (omega arith),
-     field_at 0 6 body ∙ field_then _ _ _ _ refl (field_at 6 2 body ∙ field_then _ _ _ _ (sym spelled ∙ ap (to_be_bytes w16) is_ipv6) refl))
+IsOfIPv6-field body family long spelled is_ipv6 = (
+  take 6 body,
+  drop 8 body,
+  length-take-le 6 body (omega arith),
+  field_at 0 6 body ∙ field_then _ _ _ _ refl (field_at 6 2 body ∙ field_then _ _ _ _ (sym spelled ∙ ap (to_be_bytes w16) is_ipv6) refl),
+)
 
 -- and only there
 pub field-IsOfIPv6 : (body : List ℕ) → IsOfIPv6 body → take 2 (drop 6 body) ≡ to_be_bytes w16 2

@@ -1,5 +1,5 @@
 -- Laws of records: none begins another, so octets split into records in one way.
-use Rattle.std.proofs.Common.{◌≡◌, ℕ, ◌+◌, ◌-◌, ◌≤◌, ◌<◌, ◌^◌, List, [], ◌∷◌, ◌++◌, length, take, drop, sym, ap, ◌∙◌, subst, refl, arith, drop_at, take_at, length-append}
+use Rattle.std.proofs.Common.{◌≡◌, ℕ, ◌<◌, ◌^◌, List, ◌++◌, length, take, drop, sym, ap, ◌∙◌, refl, arith, drop_at, take_at, length-append}
 use Rattle.std.proofs.lemmas.Nat.{from_be_bytes-to_be_bytes_2, from_be_bytes-to_be_bytes_4}
 use Rattle.std.specs.Int.{to_be_bytes, from_be_bytes, w16, w32}
 use Rattle.bgpdump_tool.specs.Record.{Record, IsHeader, header_octets, spelling, IsRecord, BeginsWithNone, longest_body}
@@ -54,9 +54,10 @@ BeginsWithNone-too_long s k t n octets p long r more q e =
 
 -- bodies of one length that begin one list are equal, and so is what follows them
 pub same_parts : (a b x y : List ℕ) → length a ≡ length b → a ++ x ≡ b ++ y → (a ≡ b) × (x ≡ y)
-same_parts a b x y len e =
-    (sym (take_at a x (length a) refl) ∙ ap (take (length a)) e ∙ take_at b y (length a) (sym len),
-     sym (drop_at a x (length a) refl) ∙ ap (drop (length a)) e ∙ drop_at b y (length a) (sym len))
+same_parts a b x y len e = (
+  sym (take_at a x (length a) refl) ∙ ap (take (length a)) e ∙ take_at b y (length a) (sym len),
+  sym (drop_at a x (length a) refl) ∙ ap (drop (length a)) e ∙ drop_at b y (length a) (sym len),
+)
 
 same_record : (a b : Record) → a.seconds ≡ b.seconds → a.kind ≡ b.kind → a.subtype ≡ b.subtype → a.body ≡ b.body → a ≡ b
 same_record a b p q r s = λ i. record { seconds = p i; kind = q i; subtype = r i; body = s i }

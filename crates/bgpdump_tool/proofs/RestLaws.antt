@@ -1,5 +1,5 @@
 -- What is taken behind a header, and what is left of an input that ends there.
-use Rattle.std.proofs.Common.{◌≡◌, ℕ, ◌+◌, ◌-◌, ◌≤◌, ◌<◌, Bool, true, false, cond, List, [], ◌∷◌, ◌++◌, Option, Some, None, Ok, Err, length, take, drop, sym, ap, ◌∙◌, subst, refl, arith, length-append, append_assoc, append-nil}
+use Rattle.std.proofs.Common.{◌≡◌, ℕ, ◌+◌, ◌≤◌, ◌<◌, false, cond, List, [], ◌++◌, Option, Some, None, Ok, Err, length, sym, ap, ◌∙◌, subst, arith, length-append, append-nil}
 use Rattle.std.proofs.lemmas.Bool.{lt-ltb, le-ltb}
 use Rattle.std.proofs.lemmas.Nat.{from_be_bytes-to_be_bytes_4}
 use Rattle.std.specs.Prelude.{nat_lt}
@@ -11,7 +11,7 @@ use Rattle.bgpdump_tool.specs.declared.fault.RecordKind.{RecordKind}
 use Rattle.bgpdump_tool.specs.declared.fault.RecordKind.TheVariants.{CutRecord, TooLong}
 use Rattle.bgpdump_tool.specs.Record.{IsHeader, header_octets, BeginsWithNone, longest_body}
 use Rattle.bgpdump_tool.specs.Results.{rest_kind, stated_size}
-use Rattle.bgpdump_tool.specs.Taking.{MayFollow, TakesHeader, TakesBody, TakesRecord, TakesRest, TakesNone}
+use Rattle.bgpdump_tool.specs.Taking.{MayFollow, TakesHeader, TakesBody, TakesRecord, TakesRest}
 use Rattle.bgpdump_tool.proofs.RecordLaws.{BeginsWithNone-short, BeginsWithNone-cut, BeginsWithNone-too_long}
 
 -- nothing may follow where the end was seen
@@ -57,7 +57,7 @@ pub TakesRest-cut_body : (a b c : Option (List ℕ)) (s k t n : ℕ) (buffer : L
 TakesRest-cut_body a b c s k t n buffer room fits small header (rest, short, end, consumed) =
     let front : List ℕ = header_octets s k t n in
     TakesRest-at_end a c (front ++ rest) CutRecord (omega (arith, length-append front rest)) end (Consumes-trans a b c front rest header consumed) (BeginsWithNone-cut s k t n rest fits short)
-        (rest_kind-header s k t n rest fits ∙ ap (λ v. cond v (TooLong n) CutRecord) (le-ltb longest_body n small))
+    (rest_kind-header s k t n rest fits ∙ ap (λ v. cond v (TooLong n) CutRecord) (le-ltb longest_body n small))
 
 -- a header states too much
 pub TakesRest-too_long : (old new : Option (List ℕ)) (s k t n : ℕ) → IsHeader s k t n → longest_body < n → Consumes old new (header_octets s k t n) → TakesRest old new (TooLong n)
@@ -81,9 +81,11 @@ pub TakesRecord-stopped_body : (a b c : Option (List ℕ)) (s k t n : ℕ) (buff
     → Consumes a b (header_octets s k t n) → TakesBody b c buffer n later (Err stop) → TakesRecord a c other room (Err stop)
 TakesRecord-stopped_body a b c s k t n buffer other room later ReadFault fits split header (rest, short, consumed) =
     (header_octets s k t n ++ rest, record { consumed = Consumes-trans a b c (header_octets s k t n) rest header consumed; none = BeginsWithNone-cut s k t n rest fits short })
-TakesRecord-stopped_body a b c s k t n buffer other room later InputTooLong fits split header (rest, short, full, consumed) =
-    (header_octets s k t n ++ rest, omega (arith, length-append (header_octets s k t n) rest),
-     record { consumed = Consumes-trans a b c (header_octets s k t n) rest header consumed; none = BeginsWithNone-cut s k t n rest fits short })
+TakesRecord-stopped_body a b c s k t n buffer other room later InputTooLong fits split header (rest, short, full, consumed) = (
+  header_octets s k t n ++ rest,
+  omega (arith, length-append (header_octets s k t n) rest),
+  record { consumed = Consumes-trans a b c (header_octets s k t n) rest header consumed; none = BeginsWithNone-cut s k t n rest fits short },
+)
 TakesRecord-stopped_body a b c s k t n buffer other room later Memory fits split header (rest, consumed) =
     (header_octets s k t n ++ rest, Consumes-trans a b c (header_octets s k t n) rest header consumed)
 TakesRecord-stopped_body a b c s k t n buffer other room later WriteFault fits split header h = absurd h

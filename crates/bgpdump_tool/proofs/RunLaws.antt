@@ -1,24 +1,23 @@
 -- What a run has taken and written so far, and what it leaves at its end.
-use Rattle.std.proofs.Common.{◌≡◌, ℕ, ◌+◌, ◌<◌, Bool, true, false, ◌||◌, List, [], ◌∷◌, ◌++◌, Option, Some, None, Ok, Err, Result, length, inl, inr, sym, ap, ◌∙◌, refl, subst, arith, length-append}
-use Rattle.std.specs.List.{AllByRecursion, flat_map}
-use Rattle.std.specs.Io.KnownBytes.{Appends, Consumes, IsAtEnd}
+use Rattle.std.proofs.Common.{◌≡◌, ℕ, ◌+◌, ◌<◌, Bool, true, false, ◌||◌, List, [], ◌∷◌, ◌++◌, Option, Some, None, Ok, Err, length, inl, inr, sym, ap, ◌∙◌, refl, subst, arith, length-append}
+use Rattle.std.specs.Io.KnownBytes.{Appends, Consumes}
 use Rattle.std.proofs.lemmas.Grind.{flat_map-append}
-use Rattle.std.proofs.lemmas.List.{append_assoc, append-nil, append_cancel_left, append_cancel_right}
+use Rattle.std.proofs.lemmas.List.{append_assoc, append-nil, append_cancel_right}
 use Rattle.std.proofs.KnownBytes.{Appends-nil, Appends-trans, Consumes-nil, Consumes-trans}
 use Rattle.bgpdump_tool.specs.declared.fault.Stop.{Stop}
 use Rattle.bgpdump_tool.specs.declared.fault.Stop.TheVariants.{ReadFault, WriteFault, InputTooLong, Memory}
 use Rattle.bgpdump_tool.specs.declared.stamp.Stamp.{Stamp}
 use Rattle.bgpdump_tool.specs.Device.{AppendsFront}
-use Rattle.bgpdump_tool.specs.Record.{header_octets, spelling, IsRecord, BeginsWithNone}
-use Rattle.bgpdump_tool.specs.Reading.{Verdict, Accepted, Refused, Frame, ReadsAs, Readings, PeerIndex}
-use Rattle.bgpdump_tool.specs.Splitting.{Splits, spellings}
+use Rattle.bgpdump_tool.specs.Record.{header_octets, spelling, IsRecord}
+use Rattle.bgpdump_tool.specs.Reading.{Verdict, Accepted, Refused, Frame, ReadsAs, PeerIndex}
+use Rattle.bgpdump_tool.specs.Splitting.{spellings}
 use Rattle.bgpdump_tool.specs.Results.{Finding, Found, Bad, finding, findings, rest_findings, results}
 use Rattle.bgpdump_tool.specs.Text.{dump, reports, finding_lines, finding_report}
 use Rattle.bgpdump_tool.specs.Taking.{MayFollow, TakesNone}
 use Rattle.bgpdump_tool.specs.Run.{Outputs, MayHold, Took, Writes, WritesFronts}
 use Rattle.bgpdump_tool.specs.Step.{Place, finding_at, place_after, TakesFrame, TakesEnd, StepsOn, Steps, is_refused, is_any_bad}
 use Rattle.bgpdump_tool.specs.Whole.{AreFirst, AreAll, StopsBehind, Dumps}
-use Rattle.bgpdump_tool.proofs.SplitLaws.{AreFrames, AreFrames-split, Behind, frames_first, frames_all}
+use Rattle.bgpdump_tool.proofs.SplitLaws.{AreFrames, AreFrames-split, frames_first, frames_all}
 
 -- the place behind frames
 abbrev pub place_behind : List Frame → Place
@@ -38,7 +37,7 @@ findings-append number offset (frame ∷ frames) later =
     let number' : (number + 1) + length frames ≡ number + length (frame ∷ frames) = omega arith in
     let offset' : (offset + size) + length (spellings frames) ≡ offset + length (spellings (frame ∷ frames)) = omega (arith, length-append (spelling frame.mrt) (spellings frames)) in
     ap (λ l. finding (number + 1) offset frame.verdict ∷ l)
-      (findings-append (number + 1) (offset + size) frames later ∙ (λ i. findings (number + 1) (offset + size) frames ++ findings (number' i) (offset' i) later))
+    (findings-append (number + 1) (offset + size) frames later ∙ (λ i. findings (number + 1) (offset + size) frames ++ findings (number' i) (offset' i) later))
 
 -- what is found in one frame more
 pub findings_push : (frames : List Frame) (frame : Frame) → findings 0 0 (frames ++ frame ∷ []) ≡ findings 0 0 frames ++ finding_at (place_behind frames) frame ∷ []
@@ -46,6 +45,7 @@ findings_push frames frame = findings-append 0 0 frames (frame ∷ []) ∙ (λ i
   where
     number : (0 + length frames) + 1 ≡ length frames + 1
     number = omega arith
+
     offset : 0 + length (spellings frames) ≡ length (spellings frames)
     offset = omega arith
 
@@ -59,6 +59,7 @@ place_behind_push frames frame = λ i. record { number = number i; offset = offs
   where
     number : length frames + 1 ≡ length (frames ++ frame ∷ [])
     number = omega (arith, length-append frames (frame ∷ []))
+
     offset : length (spellings frames) + length (spelling frame.mrt) ≡ length (spellings (frames ++ frame ∷ []))
     offset = omega (arith, ap length (spellings_push frames frame), length-append (spellings frames) (spelling frame.mrt))
 
@@ -100,9 +101,10 @@ SoFar-start stamp left outputs place number offset = record {
 
 -- texts that were written one behind the other
 pub Writes-append : (found more : List Finding) (a b c : Outputs) → Writes found a b → Writes more b c → Writes (found ++ more) a c
-Writes-append found more a b c p q =
-    (subst (Appends a.out c.out) (sym (flat_map-append finding_lines found more)) (Appends-trans a.out b.out c.out (dump found) (dump more) p.0 q.0),
-     subst (Appends a.err c.err) (sym (flat_map-append finding_report found more)) (Appends-trans a.err b.err c.err (reports found) (reports more) p.1 q.1))
+Writes-append found more a b c p q = (
+  subst (Appends a.out c.out) (sym (flat_map-append finding_lines found more)) (Appends-trans a.out b.out c.out (dump found) (dump more) p.0 q.0),
+  subst (Appends a.err c.err) (sym (flat_map-append finding_report found more)) (Appends-trans a.err b.err c.err (reports found) (reports more) p.1 q.1),
+)
 
 -- a record was taken and written
 pub SoFar-record : (stamp : Stamp) (left left' left'' : Option (List ℕ)) (a b c : Outputs) (place place' : Place) (reported now : Bool) → SoFar stamp left left' a b place reported
@@ -120,10 +122,10 @@ SoFar-record stamp left left' left'' a b c place place' reported now p frame tak
       written = subst (λ f. Writes f a c) (sym (findings_push frames frame)) more;
       place_is = after ∙ ap (λ q. place_after q frame) p.place_is ∙ place_behind_push frames frame;
       reported_is =
-        (λ i. p.reported_is i || told i)
-        ∙ ap (λ b. is_any_bad (findings 0 0 frames) || b) (is_bad-finding (length frames + 1) (length (spellings frames)) frame.verdict)
-        ∙ sym (is_any_bad-append (findings 0 0 frames) (finding_at (place_behind frames) frame ∷ []))
-        ∙ ap is_any_bad (sym (findings_push frames frame));
+          (λ i. p.reported_is i || told i)
+          ∙ ap (λ b. is_any_bad (findings 0 0 frames) || b) (is_bad-finding (length frames + 1) (length (spellings frames)) frame.verdict)
+          ∙ sym (is_any_bad-append (findings 0 0 frames) (finding_at (place_behind frames) frame ∷ []))
+          ∙ ap is_any_bad (sym (findings_push frames frame));
     }
   where
     is_bad-finding : (number offset : ℕ) (verdict : Verdict) → is_refused verdict ≡ is_any_bad (finding number offset verdict ∷ [])
@@ -190,9 +192,10 @@ AppendsFront-behind a b c text more p q = record {
 
 -- fronts behind whole texts
 pub WritesFronts-behind : (found more : List Finding) (a b c : Outputs) → Writes found a b → WritesFronts more b c → WritesFronts (found ++ more) a c
-WritesFronts-behind found more a b c p q =
-    (subst (AppendsFront a.out c.out) (sym (flat_map-append finding_lines found more)) (AppendsFront-behind a.out b.out c.out (dump found) (dump more) p.0 q.0),
-     subst (AppendsFront a.err c.err) (sym (flat_map-append finding_report found more)) (AppendsFront-behind a.err b.err c.err (reports found) (reports more) p.1 q.1))
+WritesFronts-behind found more a b c p q = (
+  subst (AppendsFront a.out c.out) (sym (flat_map-append finding_lines found more)) (AppendsFront-behind a.out b.out c.out (dump found) (dump more) p.0 q.0),
+  subst (AppendsFront a.err c.err) (sym (flat_map-append finding_report found more)) (AppendsFront-behind a.err b.err c.err (reports found) (reports more) p.1 q.1),
+)
 
 -- a front of a text is one of a longer text
 AppendsFront-longer : (a b : Option (List ℕ)) (text more : List ℕ) → AppendsFront a b text → AppendsFront a b (text ++ more)
@@ -205,15 +208,17 @@ AppendsFront-longer a b text more p = record {
 
 -- fronts of the texts of what was found first are fronts of the texts of all
 pub WritesFronts-longer : (found more : List Finding) (a b : Outputs) → WritesFronts found a b → WritesFronts (found ++ more) a b
-WritesFronts-longer found more a b p =
-    (subst (AppendsFront a.out b.out) (sym (flat_map-append finding_lines found more)) (AppendsFront-longer a.out b.out (dump found) (dump more) p.0),
-     subst (AppendsFront a.err b.err) (sym (flat_map-append finding_report found more)) (AppendsFront-longer a.err b.err (reports found) (reports more) p.1))
+WritesFronts-longer found more a b p = (
+  subst (AppendsFront a.out b.out) (sym (flat_map-append finding_lines found more)) (AppendsFront-longer a.out b.out (dump found) (dump more) p.0),
+  subst (AppendsFront a.err b.err) (sym (flat_map-append finding_report found more)) (AppendsFront-longer a.err b.err (reports found) (reports more) p.1),
+)
 
 -- whole texts are fronts
 pub WritesFronts-whole : (found : List Finding) (a b : Outputs) → Writes found a b → WritesFronts found a b
-WritesFronts-whole found a b p =
-    (record { front = dump found; back = []; whole = sym (append-nil (dump found)); appended = p.0 },
-     record { front = reports found; back = []; whole = sym (append-nil (reports found)); appended = p.1 })
+WritesFronts-whole found a b p = (
+  record { front = dump found; back = []; whole = sym (append-nil (dump found)); appended = p.0 },
+  record { front = reports found; back = []; whole = sym (append-nil (reports found)); appended = p.1 },
+)
 
 -- nothing written behind whole texts
 pub Writes-kept : (found : List Finding) (a b c : Outputs) → Writes found a b → Writes [] b c → Writes found a c
@@ -252,18 +257,23 @@ pub Dumps-ended : (stamp : Stamp) (limit : ℕ) (left left' left'' : Option (Lis
     → ended ≡ true → StepsOn stamp place place' left' left'' b c ended now → Dumps stamp limit left left'' a c (Ok (reported || now))
 Dumps-ended stamp limit left left' left'' a b c place place' reported ended now p ends step =
     let (found, end, told, writes) = subst (λ e. StepsOn stamp place place' left' left'' b c e now) ends step in
-    let end' = subst (λ q. TakesEnd q left' left'' found) p.place_is end in
-    (findings 0 0 p.frames ++ found, AreAll-end stamp left left' left'' p.frames found p.are_frames p.consumed end',
-     (λ i. p.reported_is i || told i) ∙ sym (is_any_bad-append (findings 0 0 p.frames) found), Writes-append (findings 0 0 p.frames) found a b c p.written writes)
+    let end' = subst (λ q. TakesEnd q left' left'' found) p.place_is end in (
+      findings 0 0 p.frames ++ found,
+      AreAll-end stamp left left' left'' p.frames found p.are_frames p.consumed end',
+      (λ i. p.reported_is i || told i) ∙ sym (is_any_bad-append (findings 0 0 p.frames) found),
+      Writes-append (findings 0 0 p.frames) found a b c p.written writes,
+    )
 
 -- a stop ends the run
 pub Dumps-stopped : (stamp : Stamp) (limit room : ℕ) (left left' left'' : Option (List ℕ)) (a b c : Outputs) (place place' : Place) (reported : Bool) (stop : Stop) → SoFar stamp left left' a b place reported
     → place.offset + room ≡ limit → Steps stamp place place' room left' left'' b c (Err stop) → Dumps stamp limit left left'' a c (Err stop)
 Dumps-stopped stamp limit room left left' left'' a b c place place' reported ReadFault p split (rest, none, kept) =
     (spellings p.frames ++ rest, StopsBehind-none stamp left left' left'' a b c place reported rest p none kept)
-Dumps-stopped stamp limit room left left' left'' a b c place place' reported InputTooLong p split (rest, full, none, kept) =
-    (spellings p.frames ++ rest, omega (arith, length-append (spellings p.frames) rest, ap (λ q. q.offset) p.place_is),
-     StopsBehind-none stamp left left' left'' a b c place reported rest p none kept)
+Dumps-stopped stamp limit room left left' left'' a b c place place' reported InputTooLong p split (rest, full, none, kept) = (
+  spellings p.frames ++ rest,
+  omega (arith, length-append (spellings p.frames) rest, ap (λ q. q.offset) p.place_is),
+  StopsBehind-none stamp left left' left'' a b c place reported rest p none kept,
+)
 Dumps-stopped stamp limit room left left' left'' a b c place place' reported Memory p split (rest, consumed, kept) =
     let taken = Consumes-trans left left' left'' (spellings p.frames) rest p.consumed consumed in
     (findings 0 0 p.frames, AreFirst-frames stamp left left'' p.frames rest p.are_frames taken, WritesFronts-whole (findings 0 0 p.frames) a c (Writes-kept (findings 0 0 p.frames) a b c p.written kept))
@@ -274,9 +284,11 @@ Dumps-stopped stamp limit room left left' left'' a b c place place' reported Wri
     let more = subst (λ f. WritesFronts (f ∷ []) b c) at fronts in
     let all = spellings_push p.frames frame in
     let consumed = Consumes-trans left left' left'' (spellings p.frames) (spelling frame.mrt) p.consumed taken.consumed in
-    let consumed' = subst (Consumes left left'') (sym (append-nil (spellings frames) ∙ all)) consumed in
-    (findings 0 0 frames, AreFirst-frames stamp left left'' frames [] (AreFrames_push stamp None p.frames frame p.are_frames taken.is_record taken.reads) consumed',
-     subst (λ f. WritesFronts f a c) (sym (findings_push p.frames frame)) (WritesFronts-behind found (finding_at (place_behind p.frames) frame ∷ []) a b c p.written more))
+    let consumed' = subst (Consumes left left'') (sym (append-nil (spellings frames) ∙ all)) consumed in (
+      findings 0 0 frames,
+      AreFirst-frames stamp left left'' frames [] (AreFrames_push stamp None p.frames frame p.are_frames taken.is_record taken.reads) consumed',
+      subst (λ f. WritesFronts f a c) (sym (findings_push p.frames frame)) (WritesFronts-behind found (finding_at (place_behind p.frames) frame ∷ []) a b c p.written more),
+    )
 Dumps-stopped stamp limit room left left' left'' a b c place place' reported WriteFault p split (inr (found, end, fronts)) =
     let end' = subst (λ q. TakesEnd q left' left'' found) p.place_is end in
     let all = AreAll-end stamp left left' left'' p.frames found p.are_frames p.consumed end' in

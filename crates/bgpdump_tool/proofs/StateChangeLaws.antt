@@ -1,5 +1,5 @@
 -- Laws of the octets of state changes.
-use Rattle.std.proofs.Common.{◌≡◌, ℕ, ◌+◌, ◌-◌, ◌≤◌, ◌<◌, ◌^◌, List, [], ◌∷◌, ◌++◌, length, take, drop, sym, ap, ◌∙◌, subst, refl, arith, length-append, append_assoc, drop_at}
+use Rattle.std.proofs.Common.{◌≡◌, ℕ, ◌≤◌, ◌<◌, ◌^◌, List, ◌++◌, length, take, drop, sym, ap, ◌∙◌, refl, arith, length-append, append_assoc, drop_at}
 use Rattle.std.proofs.lemmas.List.{length-take-le, length-drop}
 use Rattle.std.specs.Int.{to_be_bytes, w16, w32}
 use Rattle.ip_prefix.specs.Address.{Address}
@@ -19,9 +19,18 @@ pub SpellsStateChange-size : (change : StateChange) (octets : List ℕ) → Spel
 SpellsStateChange-size change octets p =
     let old_on : List ℕ = to_be_bytes w16 change.old ++ (to_be_bytes w16 change.new ++ p.more) in
     let family_on : List ℕ = to_be_bytes w16 1 ++ (p.address ++ (p.local_address ++ old_on)) in
-    omega (arith, ap length p.whole, length-append p.local_as (p.interface ++ family_on), length-append p.interface family_on,
-        length-append p.address (p.local_address ++ old_on), length-append p.local_address old_on,
-        p.local_as_size, p.interface_size, p.address_size, p.local_address_size)
+    omega (
+      arith,
+      ap length p.whole,
+      length-append p.local_as (p.interface ++ family_on),
+      length-append p.interface family_on,
+      length-append p.address (p.local_address ++ old_on),
+      length-append p.local_address old_on,
+      p.local_as_size,
+      p.interface_size,
+      p.address_size,
+      p.local_address_size,
+    )
 
 -- its address family is that of IPv4
 pub SpellsStateChange-family : (change : StateChange) (octets : List ℕ) → SpellsStateChange change octets → take 2 (drop 6 octets) ≡ to_be_bytes w16 1
@@ -49,7 +58,7 @@ same_state_change a b octets p q =
     let old = same_parts (to_be_bytes w16 a.old) (to_be_bytes w16 b.old) _ _ refl local_address.1 in
     let new = same_parts (to_be_bytes w16 a.new) (to_be_bytes w16 b.new) _ _ refl old.1 in
     same_change a b (p.peer_address ∙ ap ipv4 address.0 ∙ sym q.peer_address) (same_w16 _ _ p.peer_as_fits q.peer_as_fits asn.0)
-        (same_w16 _ _ p.old_fits q.old_fits old.0) (same_w16 _ _ p.new_fits q.new_fits new.0)
+    (same_w16 _ _ p.old_fits q.old_fits old.0) (same_w16 _ _ p.new_fits q.new_fits new.0)
 
 -- the fields of a body as a state change
 pub SpellsStateChange-fields : (change : StateChange) (octets : List ℕ) (family address : ℕ) → 20 ≤ length octets
@@ -74,12 +83,12 @@ SpellsStateChange-fields change octets family address long asn_fits asn is_ipv4 
   old_fits = old_fits;
   new_fits = new_fits;
   whole =
-    field_at 0 2 octets ∙ field_then _ _ _ _ (sym asn)
-    (field_at 2 2 octets ∙ field_then _ _ _ _ refl
-    (field_at 4 2 octets ∙ field_then _ _ _ _ refl
-    (field_at 6 2 octets ∙ field_then _ _ _ _ (sym in_family ∙ ap (to_be_bytes w16) is_ipv4)
-    (field_at 8 4 octets ∙ field_then _ _ _ _ (sym in_address)
-    (field_at 12 4 octets ∙ field_then _ _ _ _ refl
-    (field_at 16 2 octets ∙ field_then _ _ _ _ (sym old)
-    (field_at 18 2 octets ∙ field_then _ _ _ _ (sym new) refl)))))));
+      field_at 0 2 octets ∙ field_then _ _ _ _ (sym asn)
+      (field_at 2 2 octets ∙ field_then _ _ _ _ refl
+      (field_at 4 2 octets ∙ field_then _ _ _ _ refl
+      (field_at 6 2 octets ∙ field_then _ _ _ _ (sym in_family ∙ ap (to_be_bytes w16) is_ipv4)
+      (field_at 8 4 octets ∙ field_then _ _ _ _ (sym in_address)
+      (field_at 12 4 octets ∙ field_then _ _ _ _ refl
+      (field_at 16 2 octets ∙ field_then _ _ _ _ (sym old)
+      (field_at 18 2 octets ∙ field_then _ _ _ _ (sym new) refl)))))));
 }

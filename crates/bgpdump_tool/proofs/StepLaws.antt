@@ -1,6 +1,6 @@
 -- What a step takes and writes, by what was read.
-use Rattle.std.proofs.Common.{◌≡◌, ℕ, ◌+◌, ◌<◌, Bool, true, false, List, [], ◌∷◌, ◌++◌, Option, None, Ok, Err, Result, IfOk, length, take, inl, inr, sym, ap, ◌∙◌, refl, subst, arith, length-append}
-use Rattle.std.specs.Io.KnownBytes.{Appends, Consumes, IsAtEnd}
+use Rattle.std.proofs.Common.{◌≡◌, ℕ, ◌+◌, ◌<◌, Bool, true, false, List, [], ◌∷◌, ◌++◌, Option, None, Ok, Err, Result, IfOk, length, take, inl, inr, sym, ap, refl, subst, arith, length-append}
+use Rattle.std.specs.Io.KnownBytes.{Consumes, IsAtEnd}
 use Rattle.std.proofs.KnownBytes.{Appends-nil}
 use Rattle.bgpdump_tool.specs.declared.fault.RecordFault.{RecordFault}
 use Rattle.bgpdump_tool.specs.declared.fault.RecordKind.{RecordKind}
@@ -12,9 +12,9 @@ use Rattle.bgpdump_tool.specs.declared.records.Taken.TheVariants as taken
 use Rattle.bgpdump_tool.specs.declared.step.Step.{Step}
 use Rattle.bgpdump_tool.specs.Device.{is_read_fault}
 use Rattle.bgpdump_tool.specs.Record.{Record, record_of, header_octets, spelling, IsRecord, BeginsWithNone}
-use Rattle.bgpdump_tool.specs.Reading.{Frame, Verdict, ReadsAs}
-use Rattle.bgpdump_tool.specs.Results.{Finding, Bad, rest_findings, rest_kind}
-use Rattle.bgpdump_tool.specs.Taking.{MayFollow, TakesRecord, TakesRest, CountsOn, record_in}
+use Rattle.bgpdump_tool.specs.Reading.{Verdict, ReadsAs}
+use Rattle.bgpdump_tool.specs.Results.{Bad, rest_findings, rest_kind}
+use Rattle.bgpdump_tool.specs.Taking.{TakesRecord, TakesRest, CountsOn, record_in}
 use Rattle.bgpdump_tool.specs.Text.{fault_report}
 use Rattle.bgpdump_tool.specs.Run.{Outputs, Writes}
 use Rattle.bgpdump_tool.specs.Step.{Place, place_after, Puts, TakesFrame, TakesEnd, WritesRecord, StepsOn, Steps}
@@ -105,9 +105,13 @@ pub StepsOn-record : (stamp : Stamp) (place place' : Place) (room : ℕ) (left l
     → WritesRecord stamp (record_of header.seconds header.kind header.subtype body) (place.number + 1) place.offset outputs outputs' (Ok reported)
     → StepsOn stamp place place' left left' outputs outputs' false reported
 StepsOn-record stamp place place' room left left' outputs outputs' buffer body header reported (size, is_record, consumed) counts whole (verdict, reads, (told, writes)) =
-    let reads' = subst (λ b. ReadsAs stamp None (record_of header.seconds header.kind header.subtype b) verdict) whole reads in
-    (record { mrt = record_in header buffer; verdict = verdict }, TakesFrame-record stamp left left' buffer header verdict is_record consumed reads',
-     place_after-record place place' buffer header verdict size counts, told, writes)
+    let reads' = subst (λ b. ReadsAs stamp None (record_of header.seconds header.kind header.subtype b) verdict) whole reads in (
+      record { mrt = record_in header buffer; verdict = verdict },
+      TakesFrame-record stamp left left' buffer header verdict is_record consumed reads',
+      place_after-record place place' buffer header verdict size counts,
+      told,
+      writes,
+    )
 
 -- a step over a whole record that stopped at the writing
 pub Steps-unwritten : (stamp : Stamp) (place place' : Place) (room : ℕ) (left left' : Option (List ℕ)) (outputs outputs' : Outputs) (buffer body : List ℕ) (header : Header) (stop : Stop)

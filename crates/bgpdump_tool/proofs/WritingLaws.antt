@@ -1,5 +1,5 @@
 -- What lines and reports do to two outputs.
-use Rattle.std.proofs.Common.{◌≡◌, ℕ, Bool, List, [], ◌∷◌, ◌++◌, Option, Ok, Err, sym, ap, ◌∙◌, refl, subst, append-nil}
+use Rattle.std.proofs.Common.{ℕ, Bool, List, [], ◌∷◌, Option, Err, sym, refl, subst, append-nil}
 use Rattle.std.specs.Io.KnownBytes.{Appends}
 use Rattle.std.proofs.KnownBytes.{Appends-nil}
 use Rattle.bgpdump_tool.specs.declared.fault.Stop.{Stop}
@@ -9,7 +9,7 @@ use Rattle.bgpdump_tool.specs.Event.{Event}
 use Rattle.bgpdump_tool.specs.Device.{AppendsFront}
 use Rattle.bgpdump_tool.specs.Results.{Found, Bad}
 use Rattle.bgpdump_tool.specs.Text.{event_lines, fault_report}
-use Rattle.bgpdump_tool.specs.Run.{Outputs, Writes, WritesFronts}
+use Rattle.bgpdump_tool.specs.Run.{Writes}
 use Rattle.bgpdump_tool.specs.Step.{Puts, PutsFound}
 
 -- an output that was left alone has a front of any text

@@ -1,5 +1,5 @@
 -- What a record says, once it is read: an event with its items.
-use Rattle.std.specs.Prelude.{ℕ, List, [], ◌∷◌, Option, None}
+use Rattle.std.specs.Prelude.{ℕ, List, Option}
 use Rattle.bgpdump_tool.specs.declared.state_change.Peer.{Peer}
 
 -- seconds since 1970, and the microseconds where the record has them

@@ -1,5 +1,5 @@
 -- What the reader of records takes from an input that tells its octets.
-use Rattle.std.specs.Prelude.{◌≡◌, ℕ, ◌+◌, ◌-◌, ◌<◌, ◌≤◌, Bool, true, false, List, [], ◌++◌, length, take, Option, Some, None, Result, Ok, Err}
+use Rattle.std.specs.Prelude.{◌≡◌, ℕ, ◌+◌, ◌<◌, Bool, true, false, List, [], ◌++◌, length, take, Option, Some, None, Result, Ok, Err}
 use Rattle.std.specs.Io.KnownBytes.{Consumes, IsAtEnd}
 use Rattle.bgpdump_tool.specs.declared.fault.Stop.{Stop}
 use Rattle.bgpdump_tool.specs.declared.fault.Stop.TheVariants.{ReadFault, WriteFault, InputTooLong, Memory}

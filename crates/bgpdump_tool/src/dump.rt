@@ -41,14 +41,14 @@ pub fn run_dump<I: Input, O: Output, E: Output>(
     ensures text { (octets : List ℕ) (frames : List Frame) (rest : List ℕ) →
         MayHold (I.left input.old) (I.left input.new) octets → Splits stamp octets frames rest →
         EndsSo result (results frames rest) (record { out = O.written out.old; err = E.written err.old })
-            (record { out = O.written out.new; err = E.written err.new }) }
+        (record { out = O.written out.new; err = E.written err.new }) }
 
     // A run that the input ended has written all that the records taken whole give, and no more.
     ensures whole_records { EndedByInput result →
         (taken after : List ℕ) (frames : List Frame) (rest : List ℕ) →
         Took (I.left input.old) (I.left input.new) taken after → Splits stamp taken frames rest →
         Writes (findings 0 0 frames) (record { out = O.written out.old; err = E.written err.old })
-            (record { out = O.written out.new; err = E.written err.new }) }
+        (record { out = O.written out.new; err = E.written err.new }) }
 
     // When each fault comes.
     ensures read_fault { (result ≡ Outcome.ReadFault) ↔ IsTrue (I.failed input.new) }

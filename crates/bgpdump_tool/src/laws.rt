@@ -10,12 +10,10 @@ ghost use Rattle.bgpdump_tool.specs.Splitting.{Splits};
 pub fn octets_split()
     ensures { (stamp : Stamp) (octets : List ℕ) → IsOctets octets →
         (frames : List Frame) × (rest : List ℕ) × Splits stamp octets frames rest }
-{
-}
+{}
 
 /// No list of octets splits in two ways.
 pub fn one_split()
     ensures { (stamp : Stamp) (octets : List ℕ) (frames frames' : List Frame) (rest rest' : List ℕ) →
         Splits stamp octets frames rest → Splits stamp octets frames' rest' → (frames ≡ frames') × (rest ≡ rest') }
-{
-}
+{}

@@ -46,11 +46,7 @@ fn write_line<O: Output>(
 }
 
 /// Writes the report of a fault. The text is scratch.
-fn write_report<E: Output>(
-    err: &mut E,
-    text: &mut Vec<u8>,
-    fault: RecordFault,
-) -> Result<(), Stop>
+fn write_report<E: Output>(err: &mut E, text: &mut Vec<u8>, fault: RecordFault) -> Result<(), Stop>
     ensures text { Puts (E.written err.old) (E.written err.new) (fault_report fault) result }
     ensures failed { E.failed err.new ≡ (E.failed err.old || is_write_fault result) }
 {
@@ -81,18 +77,22 @@ fn write_record<O: Output, E: Output>(
             Ok(false)
         }
         Reading::Fault(kind) => {
-            write_report(err, text, RecordFault { number, offset, kind })?;
+            write_report(
+                err,
+                text,
+                RecordFault {
+                    number,
+                    offset,
+                    kind,
+                },
+            )?;
             Ok(true)
         }
     }
 }
 
 /// Writes the report of the rest, which ends the reading. The text is scratch.
-fn write_rest<E: Output>(
-    err: &mut E,
-    text: &mut Vec<u8>,
-    fault: RecordFault,
-) -> Result<Step, Stop>
+fn write_rest<E: Output>(err: &mut E, text: &mut Vec<u8>, fault: RecordFault) -> Result<Step, Stop>
     ensures text { Puts (E.written err.old) (E.written err.new) (fault_report fault) result }
     ensures step { IfOk result (λ step. (step.ended ≡ true) × (step.reported ≡ true)) }
     ensures failed { E.failed err.new ≡ (E.failed err.old || is_write_fault result) }
@@ -133,11 +133,27 @@ pub(crate) fn dump_next<I: Input, O: Output, E: Output>(
         }
         Taken::Cut => {
             let kind = RecordKind::CutRecord;
-            write_rest(err, text, RecordFault { number, offset, kind })
+            write_rest(
+                err,
+                text,
+                RecordFault {
+                    number,
+                    offset,
+                    kind,
+                },
+            )
         }
         Taken::TooLong(size) => {
             let kind = RecordKind::TooLong(size);
-            write_rest(err, text, RecordFault { number, offset, kind })
+            write_rest(
+                err,
+                text,
+                RecordFault {
+                    number,
+                    offset,
+                    kind,
+                },
+            )
         }
         Taken::End => Ok(Step {
             reported: false,

@@ -1,4 +1,4 @@
-use Rattle.std.proofs.Common.{rules, ◌≡◌, ◌≤◌, ◌<◌, length, vec_len, take, drop, arith, length-take-le}
+use Rattle.std.proofs.Common.{rules, ◌≤◌, length, take, drop, arith, length-take-le}
 use Rattle.std.proofs.lemmas.Result.{err_from_is_err_and}
 use Rattle.bgpdump_tool.proofs.Buffers.{take_kept, Consumes-filled, FillsWithin-stopped}
 use Rattle.bgpdump_tool.proofs.body.fill_body.Goals as goal
@@ -9,7 +9,7 @@ returns-in_err-filled-clause-octets g c =
     let at = c.loop-filled.filled in
     let held : at ≤ length c.loop-filled.buffer.items = omega (arith, c.loop-filled.buffer.ok.0) in
     rw (p.1, p.2) (FillsWithin-stopped _ _ _ (take at c.loop-filled.buffer.items) (drop at c.fill_part.new.buffer.items) c.fill_part.new.buffer.items at c.next_end-end.result c.args.size c.args.room _ (length-take-le at c.loop-filled.buffer.items held)
-        (omega arith) (omega arith) (omega arith) c.loop-filled.invariant.octets c.in_err-filled.ensures.octets)
+    (omega arith) (omega arith) (omega arith) c.loop-filled.invariant.octets c.in_err-filled.ensures.octets)
 
 pub loop-filled-preserved : goal.loop-filled-preserved
 loop-filled-preserved g c =

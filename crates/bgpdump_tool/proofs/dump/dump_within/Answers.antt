@@ -1,4 +1,4 @@
-use Rattle.std.proofs.Common.{◌≡◌, ◌+◌, ◌-◌, ◌<◌, Err, false, rules, arith}
+use Rattle.std.proofs.Common.{◌≡◌, ◌+◌, ◌-◌, rules, arith}
 use Rattle.std.proofs.lemmas.Result.{err_from_is_err_and}
 use Rattle.bgpdump_tool.specs.declared.stamp.Stamp.TheVariants.{Dump}
 use Rattle.bgpdump_tool.proofs.RunLaws.{SoFar-start, SoFar-step, StepsOn_takes, Dumps-ended, Dumps-stopped}
@@ -18,32 +18,32 @@ returns-in_err-step-clause-whole g c =
     let room = c.steps.records.limit - c.steps.records.taken in
     let split : c.steps.records.taken + room ≡ c.args.limit = omega (arith, c.steps.records.within, c.steps.invariant.limit) in
     λ stamp. rw (p.1, p.2) (Dumps-stopped stamp c.args.limit room _ _ _ _
-      (record { out = g.O.Output.written c.steps.out; err = g.E.Output.written c.steps.err })
-      (record { out = g.O.Output.written c.dump_next.new.out; err = g.E.Output.written c.dump_next.new.err })
-      (record { number = c.steps.records.number; offset = c.steps.records.taken }) (record { number = c.dump_next.new.records.number; offset = c.dump_next.new.records.taken })
-      _ _ (c.steps.invariant.so_far stamp) split (c.in_err-step.ensures.step stamp))
+    (record { out = g.O.Output.written c.steps.out; err = g.E.Output.written c.steps.err })
+    (record { out = g.O.Output.written c.dump_next.new.out; err = g.E.Output.written c.dump_next.new.err })
+    (record { number = c.steps.records.number; offset = c.steps.records.taken }) (record { number = c.dump_next.new.records.number; offset = c.dump_next.new.records.taken })
+    _ _ (c.steps.invariant.so_far stamp) split (c.in_err-step.ensures.step stamp))
 
 pub returns-then-step-clause-whole : goal.returns-then-step-clause-whole
 returns-then-step-clause-whole g c = λ stamp.
     Dumps-ended stamp c.args.limit _ _ _ _
-      (record { out = g.O.Output.written c.steps.out; err = g.E.Output.written c.steps.err })
-      (record { out = g.O.Output.written c.dump_next.new.out; err = g.E.Output.written c.dump_next.new.err })
-      (record { number = c.steps.records.number; offset = c.steps.records.taken }) (record { number = c.dump_next.new.records.number; offset = c.dump_next.new.records.taken })
-      _ c.in_ok-step.step.ended _ (c.steps.invariant.so_far stamp) c.if-step.true (c.in_ok-step.ensures.step stamp)
+    (record { out = g.O.Output.written c.steps.out; err = g.E.Output.written c.steps.err })
+    (record { out = g.O.Output.written c.dump_next.new.out; err = g.E.Output.written c.dump_next.new.err })
+    (record { number = c.steps.records.number; offset = c.steps.records.taken }) (record { number = c.dump_next.new.records.number; offset = c.dump_next.new.records.taken })
+    _ c.in_ok-step.step.ended _ (c.steps.invariant.so_far stamp) c.if-step.true (c.in_ok-step.ensures.step stamp)
 
 pub steps-smaller : goal.steps-smaller
 steps-smaller g c =
     let takes = StepsOn_takes Dump _ _
-      (record { out = g.O.Output.written c.steps.out; err = g.E.Output.written c.steps.err })
-      (record { out = g.O.Output.written c.dump_next.new.out; err = g.E.Output.written c.dump_next.new.err })
-      (record { number = c.steps.records.number; offset = c.steps.records.taken }) (record { number = c.dump_next.new.records.number; offset = c.dump_next.new.records.taken })
-      c.in_ok-step.step.ended c.in_ok-step.step.reported c.if-step.false (c.in_ok-step.ensures.step Dump) in
+    (record { out = g.O.Output.written c.steps.out; err = g.E.Output.written c.steps.err })
+    (record { out = g.O.Output.written c.dump_next.new.out; err = g.E.Output.written c.dump_next.new.err })
+    (record { number = c.steps.records.number; offset = c.steps.records.taken }) (record { number = c.dump_next.new.records.number; offset = c.dump_next.new.records.taken })
+    c.in_ok-step.step.ended c.in_ok-step.step.reported c.if-step.false (c.in_ok-step.ensures.step Dump) in
     omega (arith, takes, c.dump_next.ensures.limit, c.dump_next.new.records.within)
 
 pub steps-preserved : goal.steps-preserved
 steps-preserved g c = record {
   so_far = λ stamp.
-    SoFar-step stamp _ _ _ _
+      SoFar-step stamp _ _ _ _
       (record { out = g.O.Output.written c.steps.out; err = g.E.Output.written c.steps.err })
       (record { out = g.O.Output.written c.dump_next.new.out; err = g.E.Output.written c.dump_next.new.err })
       (record { number = c.steps.records.number; offset = c.steps.records.taken }) (record { number = c.dump_next.new.records.number; offset = c.dump_next.new.records.taken })

@@ -1,5 +1,5 @@
-use Rattle.std.proofs.Common.{refl, ◌≡◌, true}
-use Rattle.bgpdump_tool.specs.Content.{Content, Change, IsBody}
+use Rattle.std.proofs.Common.{refl}
+use Rattle.bgpdump_tool.specs.Content.{Change}
 use Rattle.bgpdump_tool.proofs.ContentLaws.{no_content}
 use Rattle.bgpdump_tool.proofs.reading.read_record.Goals as goal
 

@@ -1,4 +1,4 @@
-use Rattle.std.proofs.Common.{[], Ok, Err, ◌-◌, ◌≡◌, ◌∙◌, ◌||◌, ap, sym, false, rules, refl}
+use Rattle.std.proofs.Common.{[], Ok, Err, ◌-◌, ◌∙◌, ◌||◌, ap, sym, refl}
 use Rattle.std.proofs.lemmas.Result.{err_from_is_err_and}
 use Rattle.bgpdump_tool.specs.declared.stamp.Stamp.TheVariants.{Dump}
 use Rattle.bgpdump_tool.specs.declared.fault.RecordKind.TheVariants.{CutRecord, TooLong}
@@ -11,13 +11,13 @@ returns-in_err-reported-in-Record-clause-step g c =
     let taken = rw c.in-Record.is at c.in_ok-header.ensures.octets in
     λ stamp.
     let found = WritesRecord-at stamp _ (record { number = c.args.records.now.number; offset = c.args.records.now.taken }) _ _
-        (record { out = g.O.Output.written c.args.out.now; err = g.E.Output.written c.args.err.now })
-        (record { out = g.O.Output.written c.write_record.new.out; err = g.E.Output.written c.write_record.new.err }) (Err c.in_err-reported-in-Record.field-0.0)
-        c.number-number.ensures c.offset-offset.ensures (c.in_err-reported-in-Record.ensures.found stamp) in
+    (record { out = g.O.Output.written c.args.out.now; err = g.E.Output.written c.args.err.now })
+    (record { out = g.O.Output.written c.write_record.new.out; err = g.E.Output.written c.write_record.new.err }) (Err c.in_err-reported-in-Record.field-0.0)
+    c.number-number.ensures c.offset-offset.ensures (c.in_err-reported-in-Record.ensures.found stamp) in
     rw (p.1, p.2) (Steps-unwritten stamp (record { number = c.args.records.now.number; offset = c.args.records.now.taken }) (record { number = c.next.new.self.number; offset = c.next.new.self.taken }) (c.args.records.now.limit - c.args.records.now.taken) _ _
-        (record { out = g.O.Output.written c.args.out.now; err = g.E.Output.written c.args.err.now })
-        (record { out = g.O.Output.written c.write_record.new.out; err = g.E.Output.written c.write_record.new.err })
-        c.next.new.self.body.items c.body-body.result.now c.in-Record.header _ taken c.body-body.ensures found)
+    (record { out = g.O.Output.written c.args.out.now; err = g.E.Output.written c.args.err.now })
+    (record { out = g.O.Output.written c.write_record.new.out; err = g.E.Output.written c.write_record.new.err })
+    c.next.new.self.body.items c.body-body.result.now c.in-Record.header _ taken c.body-body.ensures found)
 
 pub returns-in_err-reported-in-Record-clause-read : goal.returns-in_err-reported-in-Record-clause-read
 returns-in_err-reported-in-Record-clause-read g c =
@@ -31,13 +31,13 @@ returns-in_ok-reported-in-Record-clause-step g c =
     let counts = rw c.in-Record.is at c.in_ok-header.ensures.counts in
     λ stamp.
     let found = WritesRecord-at stamp _ (record { number = c.args.records.now.number; offset = c.args.records.now.taken }) _ _
-        (record { out = g.O.Output.written c.args.out.now; err = g.E.Output.written c.args.err.now })
-        (record { out = g.O.Output.written c.write_record.new.out; err = g.E.Output.written c.write_record.new.err }) (Ok c.in_ok-reported-in-Record.reported)
-        c.number-number.ensures c.offset-offset.ensures (c.in_ok-reported-in-Record.ensures.found stamp) in
+    (record { out = g.O.Output.written c.args.out.now; err = g.E.Output.written c.args.err.now })
+    (record { out = g.O.Output.written c.write_record.new.out; err = g.E.Output.written c.write_record.new.err }) (Ok c.in_ok-reported-in-Record.reported)
+    c.number-number.ensures c.offset-offset.ensures (c.in_ok-reported-in-Record.ensures.found stamp) in
     StepsOn-record stamp (record { number = c.args.records.now.number; offset = c.args.records.now.taken }) (record { number = c.next.new.self.number; offset = c.next.new.self.taken }) 0 _ _
-        (record { out = g.O.Output.written c.args.out.now; err = g.E.Output.written c.args.err.now })
-        (record { out = g.O.Output.written c.write_record.new.out; err = g.E.Output.written c.write_record.new.err })
-        c.next.new.self.body.items c.body-body.result.now c.in-Record.header _ taken counts c.body-body.ensures found
+    (record { out = g.O.Output.written c.args.out.now; err = g.E.Output.written c.args.err.now })
+    (record { out = g.O.Output.written c.write_record.new.out; err = g.E.Output.written c.write_record.new.err })
+    c.next.new.self.body.items c.body-body.result.now c.in-Record.header _ taken counts c.body-body.ensures found
 
 pub returns-in-Cut-clause-step : goal.returns-in-Cut-clause-step
 returns-in-Cut-clause-step g c =
