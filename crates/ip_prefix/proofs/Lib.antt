@@ -1,4 +1,5 @@
 pub mod BitLists
 pub mod Dots
 pub mod Highest
-pub mod Kept
+mod Comparing
+pub mod Masks

@@ -1,5 +1,9 @@
 pub mod Bits
-pub mod BitLemmas
 pub mod Address
+pub mod Network
+pub mod BitLemmas
 pub mod Aligned
+pub mod Masked
+pub mod OrderLaws
+pub mod Order
 pub mod Text

@@ -1,13 +1,16 @@
 //! Addresses of both families.
 
-ghost use Rattle.std.specs.Prelude.{◌≡◌, ◌+◌, ◌<◌, ◌≤◌, ◌∷◌, ◌++◌, OnOk, OnErr, Some, slice_get, length, take, drop, replicate, decimal};
+ghost use Rattle.std.specs.Prelude.{◌≡◌, ◌+◌, ◌-◌, ◌^◌, ◌/◌, ◌<◌, ◌≤◌, ◌∷◌, ◌++◌, OnOk, OnErr, Some, slice_get, length, take, drop, replicate, decimal};
 ghost use Rattle.ip_prefix.specs.declared.addr.Family.TheVariants.{V4};
 ghost use Rattle.ip_prefix.specs.Address.{octet_at, octet_count, bit_count};
-ghost use Rattle.ip_prefix.specs.Bits.{bits_of_octets};
+ghost use Rattle.ip_prefix.specs.Aligned.{IsAligned};
+ghost use Rattle.ip_prefix.specs.Bits.{bits_of, bits_of_octets};
+ghost use Rattle.ip_prefix.specs.Order.{family_cmp};
 ghost use Rattle.ip_prefix.specs.Text.{dotted};
 
 use itoa::write_digits;
 use std::alloc::AllocError;
+use std::cmp::Ordering;
 use std::marker::Model;
 
 /// The two families of Internet addresses.
@@ -19,7 +22,7 @@ pub enum Family {
 
 /// An address. It is kept as one number of 128 bits whose highest bits are those of the address,
 /// for either family, so that masks and comparisons are single operations.
-#[derive(Clone, Copy, Debug, PartialEq, Eq)]
+#[derive(Clone, Copy, Debug)]
 pub struct Addr {
     number: u128,
     family: Family,
@@ -64,6 +67,24 @@ impl Addr {
         }
     }
 
+    /// The address of this number.
+    #[inline]
+    pub(crate) fn aligned(number: u128, family: Family) -> Self
+        requires { IsAligned family number }
+        ensures { result ≡ record { family = family; bits = bits_of (bit_count family) (number / 2 ^ (128 - bit_count family)) } }
+    {
+        Addr { number, family }
+    }
+
+    /// The number that the address is kept as.
+    #[inline]
+    pub(crate) fn number(&self) -> u128
+        ensures aligned { IsAligned self.now.family result }
+        ensures bits { self.now.bits ≡ bits_of (bit_count self.now.family) (result / 2 ^ (128 - bit_count self.now.family)) }
+    {
+        self.number
+    }
+
     #[inline]
     pub fn family(&self) -> Family
         ensures { result ≡ self.now.family }
@@ -100,6 +121,72 @@ impl Addr {
             Family::V6 => unreachable!(),
         }
     }
+}
+
+impl PartialEq for Addr {
+    ghost use Rattle.std.specs.Ordering.{eq_by_cmp};
+    ghost use Rattle.std.specs.Cmp.{partial_equiv_from_equiv, eq_by_cmp_equiv};
+    ghost use Rattle.ip_prefix.specs.Order.{address_cmp};
+    ghost use Rattle.ip_prefix.specs.OrderLaws.{address_cmp_total};
+
+    ghost eq = { eq_by_cmp address_cmp };
+
+    ghost laws = { partial_equiv_from_equiv (eq_by_cmp_equiv address_cmp_total) };
+
+    #[inline]
+    fn eq(&self, other: &Addr) -> bool {
+        self.cmp(other).is_eq()
+    }
+}
+
+impl Eq for Addr {
+    ghost use Rattle.std.specs.Cmp.{eq_by_cmp_equiv};
+    ghost use Rattle.ip_prefix.specs.OrderLaws.{address_cmp_total};
+
+    ghost laws = { eq_by_cmp_equiv address_cmp_total };
+}
+
+impl PartialOrd for Addr {
+    ghost use Rattle.std.specs.Ordering.{as_partial_cmp};
+    ghost use Rattle.std.specs.Cmp.{partial_order_from_total};
+    ghost use Rattle.ip_prefix.specs.Order.{address_cmp};
+    ghost use Rattle.ip_prefix.specs.OrderLaws.{address_cmp_total};
+
+    ghost partial_cmp = { as_partial_cmp address_cmp };
+
+    ghost laws = { partial_order_from_total address_cmp_total };
+
+    #[inline]
+    fn partial_cmp(&self, other: &Addr) -> Option<Ordering> {
+        Some(self.cmp(other))
+    }
+}
+
+impl Ord for Addr {
+    ghost use Rattle.std.specs.Prelude.{refl};
+    ghost use Rattle.ip_prefix.specs.Order.{address_cmp};
+    ghost use Rattle.ip_prefix.specs.OrderLaws.{address_cmp_total};
+
+    ghost cmp = { address_cmp };
+
+    ghost total = { address_cmp_total };
+
+    ghost matches_partial_cmp = { λ x y. refl };
+
+    ghost matches_eq = { λ x y. refl };
+
+    #[inline]
+    fn cmp(&self, other: &Addr) -> Ordering {
+        compare_families(self.family, other.family).then(self.number.cmp(&other.number))
+    }
+}
+
+// The order of families, by the definition's name.
+#[inline]
+pub(crate) fn compare_families(one: Family, other: Family) -> Ordering
+    ensures { result ≡ family_cmp one other }
+{
+    one.cmp(&other)
 }
 
 // Appends the four octets of an IPv4 address in decimal, joined by dots.

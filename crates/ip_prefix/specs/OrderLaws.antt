@@ -1,0 +1,81 @@
+-- The orders of addresses and prefixes are total, and only equal ones tie.
+use Rattle.std.specs.Prelude.{◌≡◌, true, false, refl}
+use Rattle.std.specs.declared.cmp.Ordering.{Ordering}
+use Rattle.std.specs.declared.cmp.Ordering.TheVariants.{Less, Equal, Greater}
+use Rattle.std.specs.Ordering.{bool_cmp, ordering_then, ordering_reverse}
+use Rattle.std.specs.Cmp.{IsTotalOrder, bool_cmp_total, on_total, then_total}
+use Rattle.std.specs.Cmp.Lexicographic.{lists_total}
+use Rattle.std.specs.FinMap.{IsAntisymmetric, slice_cmp-IsAntisymmetric}
+use Rattle.ip_prefix.specs.declared.addr.Family.{Family}
+use Rattle.ip_prefix.specs.declared.addr.Family.TheVariants.{V4, V6}
+use Rattle.ip_prefix.specs.Order.{family_cmp, bits_cmp, address_cmp, network_cmp}
+
+-- the order of families is total
+family_cmp_total : IsTotalOrder family_cmp
+family_cmp_total = record { antisymm = antisymm; trans = trans; congr = congr }
+  where
+    antisymm : (x y : Family) → family_cmp x y ≡ ordering_reverse (family_cmp y x)
+    antisymm V4 V4 = refl
+    antisymm V4 V6 = refl
+    antisymm V6 V4 = refl
+    antisymm V6 V6 = refl
+
+    trans : (x y z : Family) → family_cmp x y ≡ Less → family_cmp y z ≡ Less → family_cmp x z ≡ Less
+    trans V4 V4 z e f = cc
+    trans V4 V6 V4 e f = cc
+    trans V4 V6 V6 e f = cc
+    trans V6 V4 z e f = cc
+    trans V6 V6 z e f = cc
+
+    congr : (x y z : Family) → family_cmp x y ≡ Equal → family_cmp x z ≡ family_cmp y z
+    congr V4 V4 z e = refl
+    congr V4 V6 z e = cc
+    congr V6 V4 z e = cc
+    congr V6 V6 z e = refl
+
+-- the order of bits is total
+bits_cmp_total : IsTotalOrder bits_cmp
+bits_cmp_total = lists_total bool_cmp_total
+
+-- the order of addresses is total
+pub address_cmp_total : IsTotalOrder address_cmp
+address_cmp_total = then_total (on_total (λ a. a.family) family_cmp_total) (on_total (λ a. a.bits) bits_cmp_total)
+
+-- the order of prefixes is total
+pub network_cmp_total : IsTotalOrder network_cmp
+network_cmp_total = then_total (on_total (λ n. n.family) family_cmp_total) (on_total (λ n. n.bits) bits_cmp_total)
+
+-- families that tie are one
+family_cmp-IsAntisymmetric : IsAntisymmetric family_cmp
+family_cmp-IsAntisymmetric V4 V4 e = refl
+family_cmp-IsAntisymmetric V4 V6 e = cc
+family_cmp-IsAntisymmetric V6 V4 e = cc
+family_cmp-IsAntisymmetric V6 V6 e = refl
+
+-- bits that tie are one
+bits_cmp-IsAntisymmetric : IsAntisymmetric bits_cmp
+bits_cmp-IsAntisymmetric = slice_cmp-IsAntisymmetric booleans
+  where
+    booleans : IsAntisymmetric bool_cmp
+    booleans true true e = refl
+    booleans true false e = cc
+    booleans false true e = cc
+    booleans false false e = refl
+
+-- both of two orders tie where the one after the other does
+both_tie : (r s : Ordering) → ordering_then r s ≡ Equal → (r ≡ Equal) × (s ≡ Equal)
+both_tie Less s e = cc
+both_tie Equal s e = (refl, e)
+both_tie Greater s e = cc
+
+-- addresses that tie are one
+pub address_cmp-IsAntisymmetric : IsAntisymmetric address_cmp
+address_cmp-IsAntisymmetric a b e =
+    let ties = both_tie (family_cmp a.family b.family) (bits_cmp a.bits b.bits) e in
+    λ i. record { family = family_cmp-IsAntisymmetric a.family b.family ties.0 i; bits = bits_cmp-IsAntisymmetric a.bits b.bits ties.1 i }
+
+-- prefixes that tie are one
+pub network_cmp-IsAntisymmetric : IsAntisymmetric network_cmp
+network_cmp-IsAntisymmetric a b e =
+    let ties = both_tie (family_cmp a.family b.family) (bits_cmp a.bits b.bits) e in
+    λ i. record { family = family_cmp-IsAntisymmetric a.family b.family ties.0 i; bits = bits_cmp-IsAntisymmetric a.bits b.bits ties.1 i }

@@ -1,0 +1,168 @@
+//! Prefixes of both families.
+
+ghost use Rattle.std.specs.Prelude.{◌≡◌, ◌<◌, ◌≤◌, ◌-◌, ◌*◌, ◌/◌, ◌^◌, MatchOption, length, take};
+ghost use Rattle.ip_prefix.specs.Address.{bit_count};
+ghost use Rattle.ip_prefix.specs.Network.{least_address};
+
+use crate::addr::{Addr, Family, compare_families};
+use std::cmp::Ordering;
+use std::marker::Model;
+
+/// A prefix: the addresses of a family that begin with some bits. It is kept as the least of them
+/// and the number of bits.
+#[derive(Clone, Copy, Debug)]
+pub struct Prefix {
+    number: u128,
+    len: u8,
+    family: Family,
+}
+
+impl Model for Prefix {
+    ghost use Rattle.std.specs.Prelude.{◌*◌, ◌^◌, ◌/◌, ◌-◌, length};
+    ghost use Rattle.ip_prefix.specs.Network.{Network};
+    ghost use Rattle.ip_prefix.specs.Bits.{bits_of, number_of};
+    ghost use Rattle.ip_prefix.specs.Masked.{IsMasked, number-masked, length-masked};
+
+    ghost Value = { Network };
+
+    ghost view = { λ p. record { family = p.family; bits = bits_of p.len (p.number / 2 ^ (128 - p.len)) } };
+
+    ghost invariant = { λ p. IsMasked p.family p.number p.len };
+
+    ghost inverse = { λ n. record {
+      number = number_of n.bits * 2 ^ (128 - length n.bits);
+      len = length n.bits;
+      family = n.family;
+    } };
+
+    ghost inverse_ok = { λ p h i. record {
+      number = number-masked p.family p.number p.len h i;
+      len = length-masked p.number p.len i;
+      family = p.family;
+    } };
+}
+
+impl Prefix {
+    /// The prefix of the address's first bits, as many as are named. There is none with more bits
+    /// than an address of the family has.
+    pub fn new(addr: Addr, len: u8) -> Option<Prefix>
+        ensures { MatchOption result (bit_count addr.family < len)
+            (λ prefix. (len ≤ bit_count addr.family) × (prefix ≡ record { family = addr.family; bits = take len addr.bits })) }
+    {
+        let family = addr.family();
+        if len > width(family) {
+            return None;
+        }
+        Some(Prefix {
+            number: highest(addr.number(), len),
+            len,
+            family,
+        })
+    }
+
+    #[inline]
+    pub fn family(&self) -> Family
+        ensures { result ≡ self.now.family }
+    {
+        self.family
+    }
+
+    /// The least address of the prefix.
+    pub fn addr(&self) -> Addr
+        ensures { result ≡ least_address self.now }
+    {
+        Addr::aligned(self.number, self.family)
+    }
+
+    /// How many bits it has.
+    #[inline]
+    pub fn len(&self) -> u8
+        ensures { result ≡ length self.now.bits }
+    {
+        self.len
+    }
+}
+
+impl PartialEq for Prefix {
+    ghost use Rattle.std.specs.Ordering.{eq_by_cmp};
+    ghost use Rattle.std.specs.Cmp.{partial_equiv_from_equiv, eq_by_cmp_equiv};
+    ghost use Rattle.ip_prefix.specs.Order.{network_cmp};
+    ghost use Rattle.ip_prefix.specs.OrderLaws.{network_cmp_total};
+
+    ghost eq = { eq_by_cmp network_cmp };
+
+    ghost laws = { partial_equiv_from_equiv (eq_by_cmp_equiv network_cmp_total) };
+
+    #[inline]
+    fn eq(&self, other: &Prefix) -> bool {
+        self.cmp(other).is_eq()
+    }
+}
+
+impl Eq for Prefix {
+    ghost use Rattle.std.specs.Cmp.{eq_by_cmp_equiv};
+    ghost use Rattle.ip_prefix.specs.OrderLaws.{network_cmp_total};
+
+    ghost laws = { eq_by_cmp_equiv network_cmp_total };
+}
+
+impl PartialOrd for Prefix {
+    ghost use Rattle.std.specs.Ordering.{as_partial_cmp};
+    ghost use Rattle.std.specs.Cmp.{partial_order_from_total};
+    ghost use Rattle.ip_prefix.specs.Order.{network_cmp};
+    ghost use Rattle.ip_prefix.specs.OrderLaws.{network_cmp_total};
+
+    ghost partial_cmp = { as_partial_cmp network_cmp };
+
+    ghost laws = { partial_order_from_total network_cmp_total };
+
+    #[inline]
+    fn partial_cmp(&self, other: &Prefix) -> Option<Ordering> {
+        Some(self.cmp(other))
+    }
+}
+
+impl Ord for Prefix {
+    ghost use Rattle.std.specs.Prelude.{refl};
+    ghost use Rattle.ip_prefix.specs.Order.{network_cmp};
+    ghost use Rattle.ip_prefix.specs.OrderLaws.{network_cmp_total};
+
+    ghost cmp = { network_cmp };
+
+    ghost total = { network_cmp_total };
+
+    ghost matches_partial_cmp = { λ x y. refl };
+
+    ghost matches_eq = { λ x y. refl };
+
+    #[inline]
+    fn cmp(&self, other: &Prefix) -> Ordering {
+        compare_families(self.family, other.family)
+            .then(self.number.cmp(&other.number))
+            .then(self.len.cmp(&other.len))
+    }
+}
+
+// How many bits an address of the family has.
+#[inline]
+fn width(family: Family) -> u8
+    ensures { result ≡ bit_count family }
+{
+    match family {
+        Family::V4 => 32,
+        Family::V6 => 128,
+    }
+}
+
+// The number with its highest bits, as many as are named, and zeros below them.
+#[inline]
+fn highest(number: u128, len: u8) -> u128
+    requires { len ≤ 128 }
+    ensures { result ≡ number / 2 ^ (128 - len) * 2 ^ (128 - len) }
+{
+    if len == 0 {
+        return 0;
+    }
+    let below = 128 - len;
+    number >> below << below
+}
