@@ -31,9 +31,10 @@ Consumes-filled a b c at n old new kept before now =
 -- a stop behind what was filled before
 pub FillsWithin-stopped : (a b c : Option (List ℕ)) (done part whole : List ℕ) (at end size room : ℕ) (stop : Stop) → length done ≡ at → at ≤ end → end ≤ size → at ≤ room
     → Consumes a b done → FillsWithin b c part (end - at) (room - at) (Err stop) → FillsWithin a c whole size room (Err stop)
-FillsWithin-stopped a b c done part whole at end size room ReadFault len ahead within in_room before (front, short, now) =
-    (done ++ front, omega (arith, length-append done front), Consumes-trans a b c done front before now)
+FillsWithin-stopped a b c done part whole at end size room ReadFault len ahead within in_room before (front, short, few, now) =
+    (done ++ front, omega (arith, length-append done front), omega (arith, length-append done front), Consumes-trans a b c done front before now)
 FillsWithin-stopped a b c done part whole at end size room InputTooLong len ahead within in_room before (front, short, full, now) =
     (done ++ front, omega (arith, length-append done front), omega (arith, length-append done front), Consumes-trans a b c done front before now)
-FillsWithin-stopped a b c done part whole at end size room Memory len ahead within in_room before (front, now) = (done ++ front, Consumes-trans a b c done front before now)
+FillsWithin-stopped a b c done part whole at end size room Memory len ahead within in_room before (front, short, few, now) =
+    (done ++ front, omega (arith, length-append done front), omega (arith, length-append done front), Consumes-trans a b c done front before now)
 FillsWithin-stopped a b c done part whole at end size room WriteFault len ahead within in_room before now = absurd now

@@ -9,7 +9,7 @@ use Rattle.bgpdump_tool.specs.declared.stamp.Stamp.{Stamp}
 use Rattle.bgpdump_tool.specs.declared.state_change.StateChange.{StateChange}
 use Rattle.bgpdump_tool.specs.Content.{Change, SpellsStateChange}
 use Rattle.bgpdump_tool.specs.Record.{Record, record_of, IsOctets, IsHeader, header_octets, spelling, IsRecord, BeginsWithNone, longest_body}
-use Rattle.bgpdump_tool.specs.Reading.{Verdict, Accepted, Refused, Frame, PeerIndex, event_of, IsOfIPv6, IsSupported, ReadsAs}
+use Rattle.bgpdump_tool.specs.Reading.{Verdict, Accepted, Refused, Frame, PeerIndex, index_after, event_of, IsOfIPv6, IsSupported, ReadsAs}
 use Rattle.bgpdump_tool.specs.Splitting.{Splits, spellings}
 use Rattle.bgpdump_tool.proofs.ContentLaws.{no_content}
 use Rattle.bgpdump_tool.proofs.FieldLaws.{field_at, field_then, IsOfIPv6-field, field-IsOfIPv6, length-IsOfIPv6}
@@ -201,20 +201,20 @@ ReadsAs-octets stamp index r small = elim (cases_supported r small) [
   | inr unsupported ↦ (Refused (Unsupported r.kind r.subtype), (unsupported, refl, refl))
   | inl supported ↦ elim (cases_state_change r.body small) [
     | inl spelled ↦
-        (Accepted (event_of stamp r.seconds (Change spelled.0)), (supported, Change spelled.0, (supported.kind, supported.subtype, spelled.1), refl))
+        (Accepted (Change None spelled.0) (event_of stamp index r (Change None spelled.0)), (supported, (supported.kind, supported.subtype, refl, spelled.1), refl))
     | inr none ↦ (Refused Malformed, (supported, no_content r.kind r.subtype r.body none))
   ]
 ]
 
 -- octets that begin with no record are a rest
-Splits-rest : (stamp : Stamp) (octets : List ℕ) → BeginsWithNone octets → Splits stamp octets [] octets
-Splits-rest stamp octets none = record { whole = refl; records = tt; readings = tt; none = none }
+Splits-rest : (stamp : Stamp) (index : PeerIndex) (octets : List ℕ) → BeginsWithNone octets → Splits stamp index octets [] octets
+Splits-rest stamp index octets none = record { whole = refl; records = tt; readings = tt; none = none }
 
 -- a record is put in front
-Splits-record : (stamp : Stamp) (frame : Frame) (octets more : List ℕ) (frames : List Frame) (rest : List ℕ) → IsRecord frame.mrt
-    → ReadsAs stamp None frame.mrt frame.verdict → octets ≡ spelling frame.mrt ++ more → Splits stamp more frames rest
-    → Splits stamp octets (frame ∷ frames) rest
-Splits-record stamp frame octets more frames rest is_record reads whole split = record {
+Splits-record : (stamp : Stamp) (index : PeerIndex) (frame : Frame) (octets more : List ℕ) (frames : List Frame) (rest : List ℕ) → IsRecord frame.mrt
+    → ReadsAs stamp index frame.mrt frame.verdict → octets ≡ spelling frame.mrt ++ more → Splits stamp (index_after index frame.verdict) more frames rest
+    → Splits stamp index octets (frame ∷ frames) rest
+Splits-record stamp index frame octets more frames rest is_record reads whole split = record {
   whole = whole ∙ ap (λ l. spelling frame.mrt ++ l) split.whole ∙ sym (append_assoc (spelling frame.mrt) (spellings frames) rest);
   records = (is_record, split.records);
   readings = (reads, split.readings);
@@ -222,14 +222,14 @@ Splits-record stamp frame octets more frames rest is_record reads whole split = 
 }
 
 -- octets of at most this length split
-octets_split_within : (most : ℕ) (stamp : Stamp) (octets : List ℕ) → length octets ≤ most → IsOctets octets
-    → (frames : List Frame) × (rest : List ℕ) × Splits stamp octets frames rest
-octets_split_within zero stamp octets within small = ([], octets, Splits-rest stamp octets (BeginsWithNone-short octets (omega arith)))
-octets_split_within (suc most) stamp octets within small = elim (cases_record octets small) [
-  | inr none ↦ ([], octets, Splits-rest stamp octets none)
+octets_split_within : (most : ℕ) (stamp : Stamp) (index : PeerIndex) (octets : List ℕ) → length octets ≤ most → IsOctets octets
+    → (frames : List Frame) × (rest : List ℕ) × Splits stamp index octets frames rest
+octets_split_within zero stamp index octets within small = ([], octets, Splits-rest stamp index octets (BeginsWithNone-short octets (omega arith)))
+octets_split_within (suc most) stamp index octets within small = elim (cases_record octets small) [
+  | inr none ↦ ([], octets, Splits-rest stamp index octets none)
   | inl front ↦
       let r = front.mrt in
-      let reading = ReadsAs-octets stamp None r front.body_octets in
+      let reading = ReadsAs-octets stamp index r front.body_octets in
       let frame : Frame = record { mrt = r; verdict = reading.0 } in
       let shorter : length front.more ≤ most = omega (
         arith,
@@ -237,10 +237,10 @@ octets_split_within (suc most) stamp octets within small = elim (cases_record oc
         length-append (spelling r) front.more,
         length-append (header_octets r.seconds r.kind r.subtype (length r.body)) r.body,
       ) in
-      let split = octets_split_within most stamp front.more shorter front.more_octets in
-      (frame ∷ split.0, split.1, Splits-record stamp frame octets front.more split.0 split.1 front.is_record reading.1 front.whole split.2)
+      let split = octets_split_within most stamp (index_after index frame.verdict) front.more shorter front.more_octets in
+      (frame ∷ split.0, split.1, Splits-record stamp index frame octets front.more split.0 split.1 front.is_record reading.1 front.whole split.2)
 ]
 
 -- octets split into frames and a rest
-pub octets_split : (stamp : Stamp) (octets : List ℕ) → IsOctets octets → (frames : List Frame) × (rest : List ℕ) × Splits stamp octets frames rest
-octets_split stamp octets small = octets_split_within (length octets) stamp octets (omega arith) small
+pub octets_split : (stamp : Stamp) (index : PeerIndex) (octets : List ℕ) → IsOctets octets → (frames : List Frame) × (rest : List ℕ) × Splits stamp index octets frames rest
+octets_split stamp index octets small = octets_split_within (length octets) stamp index octets (omega arith) small

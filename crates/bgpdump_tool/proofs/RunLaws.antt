@@ -1,5 +1,9 @@
 -- What a run has taken and written so far, and what it leaves at its end.
-use Rattle.std.proofs.Common.{◌≡◌, ℕ, ◌+◌, ◌<◌, Bool, true, false, ◌||◌, List, [], ◌∷◌, ◌++◌, Option, Some, None, Ok, Err, length, inl, inr, sym, ap, ◌∙◌, refl, subst, arith, length-append}
+use Rattle.bgpdump_tool.proofs.RestLaws.{rest_kind-short}
+use Rattle.bgpdump_tool.proofs.RecordLaws.{BeginsWithNone-short}
+use Rattle.bgpdump_tool.specs.declared.fault.RecordKind.TheVariants.{CutRecord}
+use Rattle.bgpdump_tool.specs.Tail.{IsTail}
+use Rattle.std.proofs.Common.{◌≡◌, ℕ, ◌+◌, ◌<◌, Bool, true, false, ◌||◌, List, [], ◌∷◌, ◌++◌, Option, Some, None, Ok, Err, length, inl, inr, sym, ap, ◌∙◌, refl, subst, arith, length-append, ◌≤◌}
 use Rattle.std.specs.Io.KnownBytes.{Appends, Consumes}
 use Rattle.std.proofs.lemmas.Grind.{flat_map-append}
 use Rattle.std.proofs.lemmas.List.{append_assoc, append-nil, append_cancel_right}
@@ -11,12 +15,12 @@ use Rattle.bgpdump_tool.specs.Device.{AppendsFront}
 use Rattle.bgpdump_tool.specs.Record.{header_octets, spelling, IsRecord}
 use Rattle.bgpdump_tool.specs.Reading.{Verdict, Accepted, Refused, Frame, ReadsAs, PeerIndex}
 use Rattle.bgpdump_tool.specs.Splitting.{spellings}
-use Rattle.bgpdump_tool.specs.Results.{Finding, Found, Bad, finding, findings, rest_findings, results}
+use Rattle.bgpdump_tool.specs.Results.{Finding, Found, Bad, finding, findings, rest_findings, results, rest_kind}
 use Rattle.bgpdump_tool.specs.Text.{dump, reports, finding_lines, finding_report}
 use Rattle.bgpdump_tool.specs.Taking.{MayFollow, TakesNone}
-use Rattle.bgpdump_tool.specs.Run.{Outputs, MayHold, Took, Writes, WritesFronts}
+use Rattle.bgpdump_tool.specs.Run.{Outputs, MayHold, Took, Writes, WritesFronts, IsTaken}
 use Rattle.bgpdump_tool.specs.Step.{Place, finding_at, place_after, TakesFrame, TakesEnd, StepsOn, Steps, is_refused, is_any_bad}
-use Rattle.bgpdump_tool.specs.Whole.{AreFirst, AreAll, StopsBehind, Dumps}
+use Rattle.bgpdump_tool.specs.Whole.{TakesAll, AreFirst, AreAll, StopsBehind, Dumps, StopsByInput}
 use Rattle.bgpdump_tool.proofs.SplitLaws.{AreFrames, AreFrames-split, frames_first, frames_all}
 
 -- the place behind frames
@@ -107,10 +111,10 @@ Writes-append found more a b c p q = (
 )
 
 -- a record was taken and written
-pub SoFar-record : (stamp : Stamp) (left left' left'' : Option (List ℕ)) (a b c : Outputs) (place place' : Place) (reported now : Bool) → SoFar stamp left left' a b place reported
-    → (frame : Frame) → TakesFrame stamp left' left'' frame → place' ≡ place_after place frame → now ≡ is_refused frame.verdict → Writes (finding_at place frame ∷ []) b c
+pub SoFar-record : (stamp : Stamp) (left left' left'' : Option (List ℕ)) (a b c : Outputs) (place place' : Place) (room : ℕ) (reported now : Bool) → SoFar stamp left left' a b place reported
+    → (frame : Frame) → TakesFrame stamp room left' left'' frame → place' ≡ place_after place frame → now ≡ is_refused frame.verdict → Writes (finding_at place frame ∷ []) b c
     → SoFar stamp left left'' a c place' (reported || now)
-SoFar-record stamp left left' left'' a b c place place' reported now p frame taken after told writes =
+SoFar-record stamp left left' left'' a b c place place' room reported now p frame taken after told writes =
     let frames = p.frames in
     let at : finding_at place frame ≡ finding_at (place_behind frames) frame = ap (λ q. finding_at q frame) p.place_is in
     let writes' = subst (λ f. Writes (f ∷ []) b c) at writes in
@@ -129,7 +133,7 @@ SoFar-record stamp left left' left'' a b c place place' reported now p frame tak
     }
   where
     is_bad-finding : (number offset : ℕ) (verdict : Verdict) → is_refused verdict ≡ is_any_bad (finding number offset verdict ∷ [])
-    is_bad-finding number offset (Accepted event) = refl
+    is_bad-finding number offset (Accepted content event) = refl
     is_bad-finding number offset (Refused kind) = refl
 
 -- ---- the end of a run
@@ -162,19 +166,19 @@ pub AreFirst-frames : (stamp : Stamp) (left left' : Option (List ℕ)) (frames :
 AreFirst-frames stamp left left' found rest are consumed octets frames end may_hold split =
     let held = HeldBehind-taken left left' (spellings found ++ rest) octets consumed may_hold in
     let joined : spellings found ++ (rest ++ held.more) ≡ spellings frames ++ end = sym (append_assoc (spellings found) rest held.more) ∙ sym held.whole ∙ split.whole in
-    let behind = frames_first stamp None found frames (rest ++ held.more) end are (AreFrames-split stamp octets frames end split) split.none joined in
+    let behind = frames_first stamp None found frames (rest ++ held.more) end are (AreFrames-split stamp None octets frames end split) split.none joined in
     let later = findings (0 + length found) (0 + length (spellings found)) behind.later in
     let tail = rest_findings (length frames) (length (spellings frames)) end in
     (later ++ tail, ap (λ l. findings 0 0 l ++ tail) behind.frames_are ∙ ap (λ l. l ++ tail) (findings-append 0 0 found behind.later) ∙ append_assoc (findings 0 0 found) later tail)
 
 -- frames and the rest behind them are all that the input may hold
 pub AreAll-end : (stamp : Stamp) (left left' left'' : Option (List ℕ)) (frames : List Frame) (found : List Finding) → AreFrames stamp None frames → Consumes left left' (spellings frames)
-    → TakesEnd (place_behind frames) left' left'' found → AreAll stamp left left'' (findings 0 0 frames ++ found)
-AreAll-end stamp left left' left'' done found are consumed end octets frames rest may_hold split =
+    → (room : ℕ) → TakesEnd (place_behind frames) room left' left'' found → AreAll stamp left left'' (findings 0 0 frames ++ found)
+AreAll-end stamp left left' left'' done found are consumed room end octets frames rest may_hold split =
     let taken = Consumes-trans left left' left'' (spellings done) end.rest consumed end.consumed in
     let held = HeldBehind-taken left left'' (spellings done ++ end.rest) octets taken may_hold in
     let joined : spellings done ++ (end.rest ++ held.more) ≡ spellings frames ++ rest = sym (append_assoc (spellings done) end.rest held.more) ∙ sym held.whole ∙ split.whole in
-    let all = frames_all stamp None done frames (end.rest ++ held.more) rest are (AreFrames-split stamp octets frames rest split) (end.none held.more held.follows) split.none joined in
+    let all = frames_all stamp None done frames (end.rest ++ held.more) rest are (AreFrames-split stamp None octets frames rest split) (end.none held.more held.follows) split.none joined in
     (λ i. results (all.0 i) (all.1 i)) ∙ ap (λ l. findings 0 0 done ++ l) (end.findings held.more held.follows)
 
 -- what are all are the first
@@ -225,9 +229,9 @@ pub Writes-kept : (found : List Finding) (a b c : Outputs) → Writes found a b 
 Writes-kept found a b c p q = subst (λ f. Writes f a c) (append-nil found) (Writes-append found [] a b c p q)
 
 -- a stop before a record was whole leaves the texts of the frames
-pub StopsBehind-none : (stamp : Stamp) (left left' left'' : Option (List ℕ)) (a b c : Outputs) (place : Place) (reported : Bool) (rest : List ℕ) → (p : SoFar stamp left left' a b place reported)
-    → TakesNone left' left'' rest → Writes [] b c → StopsBehind stamp left left'' a c (spellings p.frames ++ rest)
-StopsBehind-none stamp left left' left'' a b c place reported rest p none kept = record {
+pub StopsBehind-none : (stamp : Stamp) (left left' left'' : Option (List ℕ)) (a b c : Outputs) (place : Place) (room : ℕ) (reported : Bool) (rest : List ℕ) → (p : SoFar stamp left left' a b place reported)
+    → TakesNone left' left'' room rest → Writes [] b c → StopsBehind stamp left left'' a c (spellings p.frames ++ rest)
+StopsBehind-none stamp left left' left'' a b c place room reported rest p none kept = record {
   frames = p.frames;
   rest = rest;
   split = record { whole = refl; records = p.are_frames.records; readings = p.are_frames.readings; none = none.none };
@@ -238,58 +242,135 @@ StopsBehind-none stamp left left' left'' a b c place reported rest p none kept =
 -- ---- a step of a run
 
 -- a step over a record goes on
-pub SoFar-step : (stamp : Stamp) (left left' left'' : Option (List ℕ)) (a b c : Outputs) (place place' : Place) (reported ended now : Bool) → SoFar stamp left left' a b place reported
-    → ended ≡ false → StepsOn stamp place place' left' left'' b c ended now → SoFar stamp left left'' a c place' (reported || now)
-SoFar-step stamp left left' left'' a b c place place' reported ended now p goes_on step =
-    let (frame, taken, after, told, writes) = subst (λ e. StepsOn stamp place place' left' left'' b c e now) goes_on step in
-    SoFar-record stamp left left' left'' a b c place place' reported now p frame taken after told writes
+pub SoFar-step : (stamp : Stamp) (left left' left'' : Option (List ℕ)) (a b c : Outputs) (place place' : Place) (room : ℕ) (reported ended now : Bool) → SoFar stamp left left' a b place reported
+    → ended ≡ false → StepsOn stamp place place' room left' left'' b c ended now → SoFar stamp left left'' a c place' (reported || now)
+SoFar-step stamp left left' left'' a b c place place' room reported ended now p goes_on step =
+    let (frame, taken, after, told, writes) = subst (λ e. StepsOn stamp place place' room left' left'' b c e now) goes_on step in
+    SoFar-record stamp left left' left'' a b c place place' room reported now p frame taken after told writes
 
 -- and takes octets
-pub StepsOn_takes : (stamp : Stamp) (left left' : Option (List ℕ)) (a b : Outputs) (place place' : Place) (ended now : Bool) → ended ≡ false → StepsOn stamp place place' left left' a b ended now
-    → place.offset < place'.offset
-StepsOn_takes stamp left left' a b place place' ended now goes_on step =
-    let (frame, taken, after, told, writes) = subst (λ e. StepsOn stamp place place' left left' a b e now) goes_on step in
+pub StepsOn_takes : (stamp : Stamp) (left left' : Option (List ℕ)) (a b : Outputs) (place place' : Place) (room : ℕ) (ended now : Bool) → ended ≡ false
+    → StepsOn stamp place place' room left left' a b ended now → place.offset < place'.offset
+StepsOn_takes stamp left left' a b place place' room ended now goes_on step =
+    let (frame, taken, after, told, writes) = subst (λ e. StepsOn stamp place place' room left left' a b e now) goes_on step in
     let r = frame.mrt in
     omega (arith, ap (λ q. q.offset) after, length-append (header_octets r.seconds r.kind r.subtype (length r.body)) r.body)
 
 -- the step over the rest ends the run
-pub Dumps-ended : (stamp : Stamp) (limit : ℕ) (left left' left'' : Option (List ℕ)) (a b c : Outputs) (place place' : Place) (reported ended now : Bool) → SoFar stamp left left' a b place reported
-    → ended ≡ true → StepsOn stamp place place' left' left'' b c ended now → Dumps stamp limit left left'' a c (Ok (reported || now))
-Dumps-ended stamp limit left left' left'' a b c place place' reported ended now p ends step =
-    let (found, end, told, writes) = subst (λ e. StepsOn stamp place place' left' left'' b c e now) ends step in
-    let end' = subst (λ q. TakesEnd q left' left'' found) p.place_is end in (
+pub Dumps-ended : (stamp : Stamp) (limit room : ℕ) (left left' left'' : Option (List ℕ)) (a b c : Outputs) (place place' : Place) (reported ended now : Bool) → SoFar stamp left left' a b place reported
+    → ended ≡ true → StepsOn stamp place place' room left' left'' b c ended now → Dumps stamp limit left left'' a c (Ok (reported || now))
+Dumps-ended stamp limit room left left' left'' a b c place place' reported ended now p ends step =
+    let (found, end, told, writes) = subst (λ e. StepsOn stamp place place' room left' left'' b c e now) ends step in
+    let end' = subst (λ q. TakesEnd q room left' left'' found) p.place_is end in (
       findings 0 0 p.frames ++ found,
-      AreAll-end stamp left left' left'' p.frames found p.are_frames p.consumed end',
+      AreAll-end stamp left left' left'' p.frames found p.are_frames p.consumed room end',
       (λ i. p.reported_is i || told i) ∙ sym (is_any_bad-append (findings 0 0 p.frames) found),
       Writes-append (findings 0 0 p.frames) found a b c p.written writes,
     )
+
+-- fronts of the text of one frame more were written
+frame_fronts : (stamp : Stamp) (left left' left'' : Option (List ℕ)) (a b c : Outputs) (place : Place) (room : ℕ) (reported : Bool) (frame : Frame) → SoFar stamp left left' a b place reported
+    → TakesFrame stamp room left' left'' frame → WritesFronts (finding_at place frame ∷ []) b c → (found : List Finding) × AreFirst stamp left left'' found × WritesFronts found a c
+frame_fronts stamp left left' left'' a b c place room reported frame p taken fronts =
+    let frames = p.frames ++ frame ∷ [] in
+    let more = subst (λ f. WritesFronts (f ∷ []) b c) (ap (λ q. finding_at q frame) p.place_is) fronts in
+    let consumed = Consumes-trans left left' left'' (spellings p.frames) (spelling frame.mrt) p.consumed taken.consumed in
+    let consumed' = subst (Consumes left left'') (sym (append-nil (spellings frames) ∙ spellings_push p.frames frame)) consumed in (
+      findings 0 0 frames,
+      AreFirst-frames stamp left left'' frames [] (AreFrames_push stamp None p.frames frame p.are_frames taken.is_record taken.reads) consumed',
+      subst (λ f. WritesFronts f a c) (sym (findings_push p.frames frame)) (WritesFronts-behind (findings 0 0 p.frames) (finding_at (place_behind p.frames) frame ∷ []) a b c p.written more),
+    )
+
+-- fronts of the text of the rest were written
+end_fronts : (stamp : Stamp) (left left' left'' : Option (List ℕ)) (a b c : Outputs) (place : Place) (room : ℕ) (reported : Bool) (found : List Finding) → SoFar stamp left left' a b place reported
+    → TakesEnd place room left' left'' found → WritesFronts found b c → (all : List Finding) × AreFirst stamp left left'' all × WritesFronts all a c
+end_fronts stamp left left' left'' a b c place room reported found p end fronts =
+    let end' = subst (λ q. TakesEnd q room left' left'' found) p.place_is end in
+    let all = AreAll-end stamp left left' left'' p.frames found p.are_frames p.consumed room end' in
+    (findings 0 0 p.frames ++ found, AreFirst-all stamp left left'' (findings 0 0 p.frames ++ found) all, WritesFronts-behind (findings 0 0 p.frames) found a b c p.written fronts)
 
 -- a stop ends the run
 pub Dumps-stopped : (stamp : Stamp) (limit room : ℕ) (left left' left'' : Option (List ℕ)) (a b c : Outputs) (place place' : Place) (reported : Bool) (stop : Stop) → SoFar stamp left left' a b place reported
     → place.offset + room ≡ limit → Steps stamp place place' room left' left'' b c (Err stop) → Dumps stamp limit left left'' a c (Err stop)
 Dumps-stopped stamp limit room left left' left'' a b c place place' reported ReadFault p split (rest, none, kept) =
-    (spellings p.frames ++ rest, StopsBehind-none stamp left left' left'' a b c place reported rest p none kept)
+    (spellings p.frames ++ rest, StopsBehind-none stamp left left' left'' a b c place room reported rest p none kept)
 Dumps-stopped stamp limit room left left' left'' a b c place place' reported InputTooLong p split (rest, full, none, kept) = (
   spellings p.frames ++ rest,
   omega (arith, length-append (spellings p.frames) rest, ap (λ q. q.offset) p.place_is),
-  StopsBehind-none stamp left left' left'' a b c place reported rest p none kept,
+  StopsBehind-none stamp left left' left'' a b c place room reported rest p none kept,
 )
-Dumps-stopped stamp limit room left left' left'' a b c place place' reported Memory p split (rest, consumed, kept) =
-    let taken = Consumes-trans left left' left'' (spellings p.frames) rest p.consumed consumed in
+Dumps-stopped stamp limit room left left' left'' a b c place place' reported Memory p split (inl (rest, none, kept)) =
+    let taken = Consumes-trans left left' left'' (spellings p.frames) rest p.consumed none.consumed in
     (findings 0 0 p.frames, AreFirst-frames stamp left left'' p.frames rest p.are_frames taken, WritesFronts-whole (findings 0 0 p.frames) a c (Writes-kept (findings 0 0 p.frames) a b c p.written kept))
+Dumps-stopped stamp limit room left left' left'' a b c place place' reported Memory p split (inr (inl (frame, taken, fronts))) =
+    frame_fronts stamp left left' left'' a b c place room reported frame p taken fronts
+Dumps-stopped stamp limit room left left' left'' a b c place place' reported Memory p split (inr (inr (found, end, fronts))) =
+    end_fronts stamp left left' left'' a b c place room reported found p end fronts
 Dumps-stopped stamp limit room left left' left'' a b c place place' reported WriteFault p split (inl (frame, taken, fronts)) =
-    let found = findings 0 0 p.frames in
-    let frames = p.frames ++ frame ∷ [] in
-    let at = ap (λ q. finding_at q frame) p.place_is in
-    let more = subst (λ f. WritesFronts (f ∷ []) b c) at fronts in
-    let all = spellings_push p.frames frame in
-    let consumed = Consumes-trans left left' left'' (spellings p.frames) (spelling frame.mrt) p.consumed taken.consumed in
-    let consumed' = subst (Consumes left left'') (sym (append-nil (spellings frames) ∙ all)) consumed in (
-      findings 0 0 frames,
-      AreFirst-frames stamp left left'' frames [] (AreFrames_push stamp None p.frames frame p.are_frames taken.is_record taken.reads) consumed',
-      subst (λ f. WritesFronts f a c) (sym (findings_push p.frames frame)) (WritesFronts-behind found (finding_at (place_behind p.frames) frame ∷ []) a b c p.written more),
-    )
+    frame_fronts stamp left left' left'' a b c place room reported frame p taken fronts
 Dumps-stopped stamp limit room left left' left'' a b c place place' reported WriteFault p split (inr (found, end, fronts)) =
-    let end' = subst (λ q. TakesEnd q left' left'' found) p.place_is end in
-    let all = AreAll-end stamp left left' left'' p.frames found p.are_frames p.consumed end' in
-    (findings 0 0 p.frames ++ found, AreFirst-all stamp left left'' (findings 0 0 p.frames ++ found) all, WritesFronts-behind (findings 0 0 p.frames) found a b c p.written fronts)
+    end_fronts stamp left left' left'' a b c place room reported found p end fronts
+
+-- ---- what was taken
+
+-- frames and a tail behind them
+taken_tail : (stamp : Stamp) (limit room : ℕ) (ByInput : Type 0) (left left' left'' : Option (List ℕ)) (a b : Outputs) (place : Place) (reported : Bool) (rest : List ℕ) → SoFar stamp left left' a b place reported
+    → place.offset + room ≡ limit → length rest ≤ room → IsTail rest → (ByInput → rest_kind rest ≡ CutRecord) → Consumes left' left'' rest → TakesAll stamp limit ByInput left left''
+taken_tail stamp limit room ByInput left left' left'' a b place reported rest p split few tail cut consumed = (
+  spellings p.frames ++ rest,
+  Consumes-trans left left' left'' (spellings p.frames) rest p.consumed consumed,
+  record {
+    frames = p.frames;
+    rest = rest;
+    split = record { whole = refl; records = p.are_frames.records; readings = p.are_frames.readings; none = tail.none };
+    tail = tail;
+    cut = cut;
+    few = omega (arith, few, split, length-append (spellings p.frames) rest, ap (λ q. q.offset) p.place_is);
+  },
+)
+
+-- frames and one more
+taken_frame : (stamp : Stamp) (limit room : ℕ) (ByInput : Type 0) (left left' left'' : Option (List ℕ)) (a b : Outputs) (place : Place) (reported : Bool) (frame : Frame) → SoFar stamp left left' a b place reported
+    → place.offset + room ≡ limit → TakesFrame stamp room left' left'' frame → TakesAll stamp limit ByInput left left''
+taken_frame stamp limit room ByInput left left' left'' a b place reported frame p split taken =
+    let are = AreFrames_push stamp None p.frames frame p.are_frames taken.is_record taken.reads in (
+      spellings p.frames ++ spelling frame.mrt,
+      Consumes-trans left left' left'' (spellings p.frames) (spelling frame.mrt) p.consumed taken.consumed,
+      record {
+        frames = p.frames ++ frame ∷ [];
+        rest = [];
+        split = record { whole = sym (append-nil (spellings (p.frames ++ frame ∷ [])) ∙ spellings_push p.frames frame); records = are.records; readings = are.readings; none = BeginsWithNone-short [] (omega arith) };
+        tail = record { none = BeginsWithNone-short [] (omega arith); stops = inl (rest_kind-short [] (omega arith)) };
+        cut = λ _. rest_kind-short [] (omega arith);
+        few = omega (arith, taken.few, split, length-append (spellings p.frames) (spelling frame.mrt), ap (λ q. q.offset) p.place_is);
+      },
+    )
+
+-- a run that stopped
+pub TakesAll-stopped : (stamp : Stamp) (limit room : ℕ) (left left' left'' : Option (List ℕ)) (a b c : Outputs) (place place' : Place) (reported : Bool) (stop : Stop) → SoFar stamp left left' a b place reported
+    → place.offset + room ≡ limit → Steps stamp place place' room left' left'' b c (Err stop) → TakesAll stamp limit (StopsByInput {A = Bool} (Err stop)) left left''
+TakesAll-stopped stamp limit room left left' left'' a b c place place' reported ReadFault p split (rest, none, kept) =
+    taken_tail stamp limit room (Unit {0}) left left' left'' a b place reported rest p split none.few (record { none = none.none; stops = inl none.cut }) (λ _. none.cut) none.consumed
+TakesAll-stopped stamp limit room left left' left'' a b c place place' reported InputTooLong p split (rest, full, none, kept) =
+    taken_tail stamp limit room (Unit {0}) left left' left'' a b place reported rest p split none.few (record { none = none.none; stops = inl none.cut }) (λ _. none.cut) none.consumed
+TakesAll-stopped stamp limit room left left' left'' a b c place place' reported Memory p split (inl (rest, none, kept)) =
+    taken_tail stamp limit room ⊥ left left' left'' a b place reported rest p split none.few (record { none = none.none; stops = inl none.cut }) (λ _. none.cut) none.consumed
+TakesAll-stopped stamp limit room left left' left'' a b c place place' reported Memory p split (inr (inl (frame, taken, fronts))) =
+    taken_frame stamp limit room ⊥ left left' left'' a b place reported frame p split taken
+TakesAll-stopped stamp limit room left left' left'' a b c place place' reported Memory p split (inr (inr (found, end, fronts))) =
+    taken_tail stamp limit room ⊥ left left' left'' a b place reported end.rest p split end.few end.tail (λ none. absurd none) end.consumed
+TakesAll-stopped stamp limit room left left' left'' a b c place place' reported WriteFault p split (inl (frame, taken, fronts)) =
+    taken_frame stamp limit room ⊥ left left' left'' a b place reported frame p split taken
+TakesAll-stopped stamp limit room left left' left'' a b c place place' reported WriteFault p split (inr (found, end, fronts)) =
+    taken_tail stamp limit room ⊥ left left' left'' a b place reported end.rest p split end.few end.tail (λ none. absurd none) end.consumed
+
+-- a run that ended
+pub TakesAll-ended : (stamp : Stamp) (limit room : ℕ) (left left' left'' : Option (List ℕ)) (a b c : Outputs) (place place' : Place) (reported ended now : Bool) → SoFar stamp left left' a b place reported
+    → place.offset + room ≡ limit → ended ≡ true → StepsOn stamp place place' room left' left'' b c ended now → TakesAll stamp limit ⊥ left left''
+TakesAll-ended stamp limit room left left' left'' a b c place place' reported ended now p split ends step =
+    let (found, end, told, writes) = subst (λ e. StepsOn stamp place place' room left' left'' b c e now) ends step in
+    taken_tail stamp limit room ⊥ left left' left'' a b place reported end.rest p split end.few end.tail (λ none. absurd none) end.consumed
+
+-- the same under a premise that holds no more often
+pub IsTaken-weaker : (stamp : Stamp) (limit : ℕ) (P Q : Type 0) (taken : List ℕ) → (Q → P) → IsTaken stamp limit P taken → IsTaken stamp limit Q taken
+IsTaken-weaker stamp limit P Q taken f p = record { frames = p.frames; rest = p.rest; split = p.split; tail = p.tail; cut = λ q. p.cut (f q); few = p.few }

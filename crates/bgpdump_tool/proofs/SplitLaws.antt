@@ -1,5 +1,5 @@
 -- Octets split into frames in one way, and frames found in front are the first of any splitting.
-use Rattle.std.proofs.Common.{◌≡◌, ℕ, List, [], ◌∷◌, ◌++◌, None, sym, ap, ◌∙◌, refl, subst}
+use Rattle.std.proofs.Common.{◌≡◌, ℕ, List, [], ◌∷◌, ◌++◌, sym, ap, ◌∙◌, refl, subst}
 use Rattle.std.specs.List.{AllByRecursion}
 use Rattle.std.proofs.lemmas.List.{append_assoc, append-nil}
 use Rattle.bgpdump_tool.specs.declared.fault.RecordKind.TheVariants.{CutRecord, TooLong, Unsupported, Malformed}
@@ -12,12 +12,13 @@ use Rattle.bgpdump_tool.proofs.RecordLaws.{same_front}
 
 -- one thing becomes of a record
 pub same_verdict : (stamp : Stamp) (index : PeerIndex) (r : Record) (a b : Verdict) → ReadsAs stamp index r a → ReadsAs stamp index r b → a ≡ b
-same_verdict stamp index r (Accepted e) (Accepted f) (p, content, body, is_e) (q, content', body', is_f) =
-    ap Accepted (is_e ∙ ap (event_of stamp r.seconds) (same_content r.kind r.subtype r.body content content' body body') ∙ sym is_f)
-same_verdict stamp index r (Accepted e) (Refused (Unsupported k s)) (p, content, body, is_e) (unread, kind, subtype) = absurd (unread p)
-same_verdict stamp index r (Accepted e) (Refused Malformed) (p, content, body, is_e) (q, none) = absurd (none content body)
-same_verdict stamp index r (Refused (Unsupported k s)) (Accepted f) (unread, kind, subtype) (q, content, body, is_f) = absurd (unread q)
-same_verdict stamp index r (Refused Malformed) (Accepted f) (p, none) (q, content, body, is_f) = absurd (none content body)
+same_verdict stamp index r (Accepted content e) (Accepted content' f) (p, body, is_e) (q, body', is_f) =
+    let same = same_content r.kind r.subtype r.body content content' body body' in
+    λ i. Accepted (same i) ((is_e ∙ ap (event_of stamp index r) same ∙ sym is_f) i)
+same_verdict stamp index r (Accepted content e) (Refused (Unsupported k s)) (p, body, is_e) (unread, kind, subtype) = absurd (unread p)
+same_verdict stamp index r (Accepted content e) (Refused Malformed) (p, body, is_e) (q, none) = absurd (none content body)
+same_verdict stamp index r (Refused (Unsupported k s)) (Accepted content f) (unread, kind, subtype) (q, body, is_f) = absurd (unread q)
+same_verdict stamp index r (Refused Malformed) (Accepted content f) (p, none) (q, body, is_f) = absurd (none content body)
 same_verdict stamp index r (Refused (Unsupported k s)) (Refused (Unsupported k' s')) (unread, kind, subtype) (unread', kind', subtype') =
     λ i. Refused (Unsupported ((kind ∙ sym kind') i) ((subtype ∙ sym subtype') i))
 same_verdict stamp index r (Refused Malformed) (Refused Malformed) p q = refl
@@ -25,8 +26,8 @@ same_verdict stamp index r (Refused (Unsupported k s)) (Refused Malformed) (unre
 same_verdict stamp index r (Refused Malformed) (Refused (Unsupported k s)) (p, none) (unread, kind, subtype) = absurd (unread p)
 same_verdict stamp index r (Refused CutRecord) b p q = absurd p
 same_verdict stamp index r (Refused (TooLong n)) b p q = absurd p
-same_verdict stamp index r (Accepted e) (Refused CutRecord) p q = absurd q
-same_verdict stamp index r (Accepted e) (Refused (TooLong n)) p q = absurd q
+same_verdict stamp index r (Accepted content e) (Refused CutRecord) p q = absurd q
+same_verdict stamp index r (Accepted content e) (Refused (TooLong n)) p q = absurd q
 same_verdict stamp index r (Refused (Unsupported k s)) (Refused CutRecord) p q = absurd q
 same_verdict stamp index r (Refused (Unsupported k s)) (Refused (TooLong n)) p q = absurd q
 same_verdict stamp index r (Refused Malformed) (Refused CutRecord) p q = absurd q
@@ -76,11 +77,11 @@ frames_all stamp index found frames more rest p q end none e =
     nothing_behind a b (f ∷ later) are octets records = absurd (end f.mrt (spellings later ++ rest) records.0 (octets ∙ append_assoc (spelling f.mrt) (spellings later) rest))
 
 -- the frames of a splitting
-pub AreFrames-split : (stamp : Stamp) (octets : List ℕ) (frames : List Frame) (rest : List ℕ) → Splits stamp octets frames rest → AreFrames stamp None frames
-AreFrames-split stamp octets frames rest p = record { records = p.records; readings = p.readings }
+pub AreFrames-split : (stamp : Stamp) (index : PeerIndex) (octets : List ℕ) (frames : List Frame) (rest : List ℕ) → Splits stamp index octets frames rest → AreFrames stamp index frames
+AreFrames-split stamp index octets frames rest p = record { records = p.records; readings = p.readings }
 
 -- octets split in one way
-pub one_split : (stamp : Stamp) (octets : List ℕ) (frames frames' : List Frame) (rest rest' : List ℕ) → Splits stamp octets frames rest → Splits stamp octets frames' rest'
-    → (frames ≡ frames') × (rest ≡ rest')
-one_split stamp octets frames frames' rest rest' p q =
-    frames_all stamp None frames' frames rest' rest (AreFrames-split stamp octets frames' rest' q) (AreFrames-split stamp octets frames rest p) q.none p.none (sym q.whole ∙ p.whole)
+pub one_split : (stamp : Stamp) (index : PeerIndex) (octets : List ℕ) (frames frames' : List Frame) (rest rest' : List ℕ) → Splits stamp index octets frames rest
+    → Splits stamp index octets frames' rest' → (frames ≡ frames') × (rest ≡ rest')
+one_split stamp index octets frames frames' rest rest' p q =
+    frames_all stamp index frames' frames rest' rest (AreFrames-split stamp index octets frames' rest' q) (AreFrames-split stamp index octets frames rest p) q.none p.none (sym q.whole ∙ p.whole)

@@ -1,5 +1,5 @@
 -- What the body of a record holds, and how it is spelled (RFC 6396, section 4).
-use Rattle.std.specs.Prelude.{◌≡◌, ℕ, ◌<◌, ◌^◌, List, ◌++◌, length}
+use Rattle.std.specs.Prelude.{◌≡◌, ℕ, ◌<◌, ◌^◌, List, ◌++◌, length, Option, None}
 use Rattle.std.specs.Int.{to_be_bytes, w16}
 use Rattle.ip_prefix.specs.declared.addr.Family.TheVariants.{V4}
 use Rattle.ip_prefix.specs.Bits.{bits_of_octets}
@@ -7,7 +7,8 @@ use Rattle.bgpdump_tool.specs.declared.state_change.StateChange.{StateChange}
 
 -- what a body holds
 pub data Content : Type 0 where
-  Change : StateChange → Content
+  -- the microseconds, where the type of the record has them, and a state change
+  Change : Option ℕ → StateChange → Content
 
 -- the octets of a state change with AS numbers of two octets and IPv4 addresses, and any octets behind it (RFC 6396, section 4.4.1)
 pub record SpellsStateChange (change : StateChange) (octets : List ℕ) : Type 0 where
@@ -30,4 +31,4 @@ pub record SpellsStateChange (change : StateChange) (octets : List ℕ) : Type 0
 
 -- the octets are a body of this type and subtype with this content
 abbrev pub IsBody : ℕ → ℕ → Content → List ℕ → Type 0
-IsBody kind subtype (Change change) octets = (kind ≡ 16) × (subtype ≡ 0) × SpellsStateChange change octets
+IsBody kind subtype (Change micros change) octets = (kind ≡ 16) × (subtype ≡ 0) × (micros ≡ None) × SpellsStateChange change octets

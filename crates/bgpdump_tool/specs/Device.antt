@@ -19,12 +19,12 @@ Fills old new buffer (Err e) = (front : List ℕ) × (length front < length buff
 -- the same, where at most room octets were to be taken, and the buffer may have wanted memory
 abbrev pub FillsWithin : Option (List ℕ) → Option (List ℕ) → List ℕ → ℕ → ℕ → Result ℕ Stop → Type 0
 FillsWithin old new buffer size room (Ok count) = (count ≤ size) × (count ≤ room) × Consumes old new (take count buffer) × (count < size → IsAtEnd new)
-FillsWithin old new buffer size room (Err ReadFault) = (front : List ℕ) × (length front < size) × Consumes old new front
+FillsWithin old new buffer size room (Err ReadFault) = (front : List ℕ) × (length front < size) × (length front ≤ room) × Consumes old new front
 FillsWithin old new buffer size room (Err InputTooLong) = (front : List ℕ) × (length front < size) × (length front ≡ room) × Consumes old new front
-FillsWithin old new buffer size room (Err Memory) = (front : List ℕ) × Consumes old new front
+FillsWithin old new buffer size room (Err Memory) = (front : List ℕ) × (length front < size) × (length front ≤ room) × Consumes old new front
 FillsWithin old new buffer size room (Err WriteFault) = ⊥
 
--- the run ended by a read fault
+-- the call ended by a read fault
 abbrev pub is_read_fault : {A : Type 0} → Result A Stop → Bool
 is_read_fault (Ok x) = false
 is_read_fault (Err ReadFault) = true

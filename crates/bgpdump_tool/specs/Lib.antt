@@ -6,6 +6,7 @@ pub mod Reading
 pub mod Judging
 pub mod Splitting
 pub mod Results
+pub mod Tail
 pub mod Taking
 pub mod Text
 pub mod Run

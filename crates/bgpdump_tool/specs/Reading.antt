@@ -12,7 +12,8 @@ use Rattle.bgpdump_tool.specs.Content.{Content, Change, IsBody}
 
 -- what becomes of a record
 pub data Verdict : Type 0 where
-  Accepted : Event → Verdict
+  -- with this content, and the event that it makes
+  Accepted : Content → Event → Verdict
   Refused : RecordKind → Verdict
 
 -- a record and what becomes of it
@@ -24,17 +25,17 @@ pub record Frame : Type 0 where
 abbrev pub PeerIndex : Type 0
 PeerIndex = Option (List Peer)
 
--- the peer index after a record: as it was, since no record that is read yet brings one
-abbrev pub index_after : PeerIndex → Frame → PeerIndex
-index_after index frame = index
+-- the peer index after a record: as it was, since no content is a peer index
+abbrev pub index_after : PeerIndex → Verdict → PeerIndex
+index_after index verdict = index
 
 -- the event of a state change
 abbrev pub state_event : ℕ → StateChange → Event
 state_event seconds change = record { time = record { seconds = seconds; micros = None }; tag = Bgp4mp; items = State change.peer change.old change.new ∷ [] }
 
--- the event of an accepted record
-abbrev pub event_of : Stamp → ℕ → Content → Event
-event_of stamp seconds (Change change) = state_event seconds change
+-- the event of an accepted record, with this peer index before it
+abbrev pub event_of : Stamp → PeerIndex → Record → Content → Event
+event_of stamp index r (Change micros change) = state_event r.seconds change
 
 -- the body is long enough to hold an address family, and that is the one of IPv6
 abbrev pub IsOfIPv6 : List ℕ → Type 0
@@ -48,7 +49,7 @@ pub record IsSupported (r : Record) : Type 0 where
 
 -- with this peer index before it, this is what becomes of the record
 abbrev pub ReadsAs : Stamp → PeerIndex → Record → Verdict → Type 0
-ReadsAs stamp index r (Accepted event) = IsSupported r × (content : Content) × IsBody r.kind r.subtype content r.body × (event ≡ event_of stamp r.seconds content)
+ReadsAs stamp index r (Accepted content event) = IsSupported r × IsBody r.kind r.subtype content r.body × (event ≡ event_of stamp index r content)
 ReadsAs stamp index r (Refused (Unsupported kind subtype)) = (IsSupported r → ⊥) × (kind ≡ r.kind) × (subtype ≡ r.subtype)
 ReadsAs stamp index r (Refused Malformed) = IsSupported r × ((content : Content) → IsBody r.kind r.subtype content r.body → ⊥)
 -- a whole record is neither cut nor too long
@@ -58,4 +59,4 @@ ReadsAs stamp index r (Refused (TooLong size)) = ⊥
 -- what becomes of records one behind the other, with this peer index before the first
 abbrev pub Readings : Stamp → PeerIndex → List Frame → Type 0
 Readings stamp index [] = Unit {0}
-Readings stamp index (frame ∷ frames) = ReadsAs stamp index frame.mrt frame.verdict × Readings stamp (index_after index frame) frames
+Readings stamp index (frame ∷ frames) = ReadsAs stamp index frame.mrt frame.verdict × Readings stamp (index_after index frame.verdict) frames

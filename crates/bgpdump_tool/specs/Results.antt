@@ -16,7 +16,7 @@ pub data Finding : Type 0 where
 
 -- what is found at a record of this number and offset
 abbrev pub finding : ℕ → ℕ → Verdict → Finding
-finding number offset (Accepted event) = Found event
+finding number offset (Accepted content event) = Found event
 finding number offset (Refused kind) = Bad (record { number = number; offset = offset; kind = kind })
 
 -- what is found in frames, after so many records and octets

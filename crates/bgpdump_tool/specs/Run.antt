@@ -1,10 +1,15 @@
 -- What a whole run takes from its input and writes to its outputs, where these tell their octets.
-use Rattle.std.specs.Prelude.{◌≡◌, ◌≢◌, ℕ, List, [], ◌++◌, Option, Some}
+use Rattle.bgpdump_tool.specs.Tail.{IsTail}
+use Rattle.bgpdump_tool.specs.Splitting.{Splits}
+use Rattle.bgpdump_tool.specs.Reading.{Frame}
+use Rattle.bgpdump_tool.specs.declared.fault.RecordKind.TheVariants.{CutRecord}
+use Rattle.bgpdump_tool.specs.declared.stamp.Stamp.{Stamp}
+use Rattle.std.specs.Prelude.{◌≡◌, ◌≢◌, ℕ, List, [], ◌++◌, Option, Some, None, ◌≤◌, length}
 use Rattle.std.specs.Io.KnownBytes.{Appends}
 use Rattle.bgpdump_tool.specs.declared.outcome.Outcome.{Outcome}
 use Rattle.bgpdump_tool.specs.declared.outcome.Outcome.TheVariants.{Done, Reported, ReadFault, WriteFault, InputTooLong, ScriptTooLong, Memory}
 use Rattle.bgpdump_tool.specs.Device.{AppendsFront}
-use Rattle.bgpdump_tool.specs.Results.{Finding}
+use Rattle.bgpdump_tool.specs.Results.{Finding, rest_kind}
 use Rattle.bgpdump_tool.specs.Text.{dump, reports}
 
 -- what was written to the output of lines and to that of reports
@@ -16,6 +21,15 @@ pub record Outputs : Type 0 where
 pub record Took (old new : Option (List ℕ)) (taken after : List ℕ) : Type 0 where
   pub before : old ≡ Some (taken ++ after)
   pub now : new ≡ Some after
+
+-- the octets that a run took, at most limit: frames and a tail; where the input ended the run, the tail states no length that is too long
+pub record IsTaken (stamp : Stamp) (limit : ℕ) (ByInput : Type 0) (taken : List ℕ) : Type 0 where
+  pub frames : List Frame
+  pub rest : List ℕ
+  pub split : Splits stamp None taken frames rest
+  pub tail : IsTail rest
+  pub cut : ByInput → rest_kind rest ≡ CutRecord
+  pub few : length taken ≤ limit
 
 -- octets that the input may hold on the whole, by those taken: these and any others behind them, but none where the end was seen
 pub record MayHold (old new : Option (List ℕ)) (octets : List ℕ) : Type 0 where

@@ -1,5 +1,5 @@
 -- What one step of a run takes and writes: a record and its line or report, or the rest and its report.
-use Rattle.std.specs.Prelude.{◌≡◌, ℕ, ◌+◌, Bool, true, false, List, [], ◌∷◌, ◌++◌, length, Option, None, Result, Ok, Err, ◌⊎◌}
+use Rattle.std.specs.Prelude.{◌≡◌, ℕ, ◌+◌, ◌≤◌, Bool, true, false, List, [], ◌∷◌, ◌++◌, length, Option, None, Result, Ok, Err, ◌⊎◌}
 use Rattle.std.specs.Io.KnownBytes.{Appends, Consumes}
 use Rattle.bgpdump_tool.specs.declared.fault.Stop.{Stop}
 use Rattle.bgpdump_tool.specs.declared.fault.Stop.TheVariants.{ReadFault, WriteFault, InputTooLong, Memory}
@@ -9,6 +9,7 @@ use Rattle.bgpdump_tool.specs.Device.{AppendsFront}
 use Rattle.bgpdump_tool.specs.Record.{Record, spelling, IsRecord, BeginsWithNone}
 use Rattle.bgpdump_tool.specs.Reading.{Verdict, Accepted, Refused, Frame, ReadsAs}
 use Rattle.bgpdump_tool.specs.Results.{Finding, Found, Bad, finding, rest_findings}
+use Rattle.bgpdump_tool.specs.Tail.{IsTail}
 use Rattle.bgpdump_tool.specs.Taking.{MayFollow, TakesNone}
 use Rattle.bgpdump_tool.specs.Run.{Outputs, Writes, WritesFronts}
 
@@ -30,7 +31,7 @@ is_write_fault (Err Memory) = false
 
 -- whether the record has a fault
 abbrev pub is_refused : Verdict → Bool
-is_refused (Accepted event) = false
+is_refused (Accepted content event) = false
 is_refused (Refused kind) = true
 
 -- whether a fault is among what was found
@@ -47,8 +48,9 @@ PutsFound found faulty old new (Err Memory) = Writes [] old new
 PutsFound found faulty old new (Err ReadFault) = ⊥
 PutsFound found faulty old new (Err InputTooLong) = ⊥
 
--- a record was taken whole, and this becomes of it
-pub record TakesFrame (stamp : Stamp) (old new : Option (List ℕ)) (frame : Frame) : Type 0 where
+-- a record of at most room octets was taken whole, and this becomes of it
+pub record TakesFrame (stamp : Stamp) (room : ℕ) (old new : Option (List ℕ)) (frame : Frame) : Type 0 where
+  pub few : length (spelling frame.mrt) ≤ room
   pub is_record : IsRecord frame.mrt
   pub reads : ReadsAs stamp None frame.mrt frame.verdict
   pub consumed : Consumes old new (spelling frame.mrt)
@@ -58,9 +60,11 @@ pub record Place : Type 0 where
   pub number : ℕ
   pub offset : ℕ
 
--- the rest was taken, in which this is found, whatever may follow it
-pub record TakesEnd (place : Place) (old new : Option (List ℕ)) (found : List Finding) : Type 0 where
+-- a rest of at most room octets was taken, in which this is found, whatever may follow it
+pub record TakesEnd (place : Place) (room : ℕ) (old new : Option (List ℕ)) (found : List Finding) : Type 0 where
   pub rest : List ℕ
+  pub few : length rest ≤ room
+  pub tail : IsTail rest
   pub consumed : Consumes old new rest
   pub none : (more : List ℕ) → MayFollow new more → BeginsWithNone (rest ++ more)
   pub findings : (more : List ℕ) → MayFollow new more → rest_findings place.number place.offset (rest ++ more) ≡ found
@@ -79,19 +83,23 @@ abbrev pub place_after : Place → Frame → Place
 place_after place frame = record { number = place.number + 1; offset = place.offset + length (spelling frame.mrt) }
 
 -- a step over a record, or over the rest
-abbrev pub StepsOn : Stamp → Place → Place → Option (List ℕ) → Option (List ℕ) → Outputs → Outputs → Bool → Bool → Type 0
-StepsOn stamp place place' left left' old new false reported =
-    (frame : Frame) × TakesFrame stamp left left' frame × (place' ≡ place_after place frame) × (reported ≡ is_refused frame.verdict)
+abbrev pub StepsOn : Stamp → Place → Place → ℕ → Option (List ℕ) → Option (List ℕ) → Outputs → Outputs → Bool → Bool → Type 0
+StepsOn stamp place place' room left left' old new false reported =
+    (frame : Frame) × TakesFrame stamp room left left' frame × (place' ≡ place_after place frame) × (reported ≡ is_refused frame.verdict)
     × Writes (finding_at place frame ∷ []) old new
-StepsOn stamp place place' left left' old new true reported =
-    (found : List Finding) × TakesEnd place left left' found × (reported ≡ is_any_bad found) × Writes found old new
+StepsOn stamp place place' room left left' old new true reported =
+    (found : List Finding) × TakesEnd place room left left' found × (reported ≡ is_any_bad found) × Writes found old new
 
--- a step from one place to another, where room octets may be taken
+-- a step from one place to another, where at most room octets may be taken
 abbrev pub Steps : Stamp → Place → Place → ℕ → Option (List ℕ) → Option (List ℕ) → Outputs → Outputs → Result Step Stop → Type 0
-Steps stamp place place' room left left' old new (Ok step) = StepsOn stamp place place' left left' old new step.ended step.reported
-Steps stamp place place' room left left' old new (Err ReadFault) = (rest : List ℕ) × TakesNone left left' rest × Writes [] old new
-Steps stamp place place' room left left' old new (Err InputTooLong) = (rest : List ℕ) × (length rest ≡ room) × TakesNone left left' rest × Writes [] old new
-Steps stamp place place' room left left' old new (Err Memory) = (rest : List ℕ) × Consumes left left' rest × Writes [] old new
+Steps stamp place place' room left left' old new (Ok step) = StepsOn stamp place place' room left left' old new step.ended step.reported
+Steps stamp place place' room left left' old new (Err ReadFault) = (rest : List ℕ) × TakesNone left left' room rest × Writes [] old new
+Steps stamp place place' room left left' old new (Err InputTooLong) = (rest : List ℕ) × (length rest ≡ room) × TakesNone left left' room rest × Writes [] old new
+-- memory was refused before a record was whole, or to the text of a record or of the rest
+Steps stamp place place' room left left' old new (Err Memory) =
+    ((rest : List ℕ) × TakesNone left left' room rest × Writes [] old new)
+    ⊎ (((frame : Frame) × TakesFrame stamp room left left' frame × WritesFronts (finding_at place frame ∷ []) old new)
+    ⊎ ((found : List Finding) × TakesEnd place room left left' found × WritesFronts found old new))
 Steps stamp place place' room left left' old new (Err WriteFault) =
-    ((frame : Frame) × TakesFrame stamp left left' frame × WritesFronts (finding_at place frame ∷ []) old new)
-    ⊎ ((found : List Finding) × TakesEnd place left left' found × WritesFronts found old new)
+    ((frame : Frame) × TakesFrame stamp room left left' frame × WritesFronts (finding_at place frame ∷ []) old new)
+    ⊎ ((found : List Finding) × TakesEnd place room left left' found × WritesFronts found old new)

@@ -1,5 +1,5 @@
 -- What the reader of records takes from an input that tells its octets.
-use Rattle.std.specs.Prelude.{◌≡◌, ℕ, ◌+◌, ◌<◌, Bool, true, false, List, [], ◌++◌, length, take, Option, Some, None, Result, Ok, Err}
+use Rattle.std.specs.Prelude.{◌⊎◌, ◌≡◌, ℕ, ◌+◌, ◌<◌, Bool, true, false, List, [], ◌++◌, length, take, Option, Some, None, Result, Ok, Err, ◌≤◌}
 use Rattle.std.specs.Io.KnownBytes.{Consumes, IsAtEnd}
 use Rattle.bgpdump_tool.specs.declared.fault.Stop.{Stop}
 use Rattle.bgpdump_tool.specs.declared.fault.Stop.TheVariants.{ReadFault, WriteFault, InputTooLong, Memory}
@@ -12,6 +12,7 @@ use Rattle.bgpdump_tool.specs.declared.records.Taken.{Taken}
 use Rattle.bgpdump_tool.specs.declared.records.Taken.TheVariants as taken
 use Rattle.bgpdump_tool.specs.Record.{Record, record_of, IsHeader, header_octets, spelling, IsRecord, BeginsWithNone}
 use Rattle.bgpdump_tool.specs.Results.{rest_kind}
+use Rattle.bgpdump_tool.specs.Tail.{IsTail}
 
 -- what may follow the octets taken from an input that has these left: any octets, but none where the end was seen
 abbrev pub MayFollow : Option (List ℕ) → List ℕ → Type 0
@@ -21,12 +22,12 @@ MayFollow (Some after) more = after ≡ [] → more ≡ []
 -- the octets of a header were taken, or all that were left, or a fault came before it was whole
 abbrev pub TakesHeader : Option (List ℕ) → Option (List ℕ) → ℕ → Result Front Stop → Type 0
 TakesHeader old new room (Ok (front.Header header)) =
-    IsHeader header.seconds header.kind header.subtype header.size × Consumes old new (header_octets header.seconds header.kind header.subtype header.size)
-TakesHeader old new room (Ok front.Cut) = (rest : List ℕ) × (0 < length rest) × (length rest < 12) × IsAtEnd new × Consumes old new rest
+    IsHeader header.seconds header.kind header.subtype header.size × (12 ≤ room) × Consumes old new (header_octets header.seconds header.kind header.subtype header.size)
+TakesHeader old new room (Ok front.Cut) = (rest : List ℕ) × (0 < length rest) × (length rest < 12) × (length rest ≤ room) × IsAtEnd new × Consumes old new rest
 TakesHeader old new room (Ok front.End) = IsAtEnd new × Consumes old new []
-TakesHeader old new room (Err ReadFault) = (rest : List ℕ) × (length rest < 12) × Consumes old new rest
+TakesHeader old new room (Err ReadFault) = (rest : List ℕ) × (length rest < 12) × (length rest ≤ room) × Consumes old new rest
 TakesHeader old new room (Err InputTooLong) = (rest : List ℕ) × (length rest < 12) × (length rest ≡ room) × Consumes old new rest
-TakesHeader old new room (Err Memory) = (rest : List ℕ) × Consumes old new rest
+TakesHeader old new room (Err Memory) = (rest : List ℕ) × (length rest < 12) × (length rest ≤ room) × Consumes old new rest
 TakesHeader old new room (Err WriteFault) = ⊥
 
 -- a whole header was taken
@@ -37,40 +38,44 @@ IsHeaderFront front.End = ⊥
 
 -- the octets of a body were taken to the front of a buffer, or all that were left, or a fault came before it was whole
 abbrev pub TakesBody : Option (List ℕ) → Option (List ℕ) → List ℕ → ℕ → ℕ → Result Bool Stop → Type 0
-TakesBody old new buffer size room (Ok true) = (length (take size buffer) ≡ size) × Consumes old new (take size buffer)
-TakesBody old new buffer size room (Ok false) = (rest : List ℕ) × (length rest < size) × IsAtEnd new × Consumes old new rest
-TakesBody old new buffer size room (Err ReadFault) = (rest : List ℕ) × (length rest < size) × Consumes old new rest
+TakesBody old new buffer size room (Ok true) = (length (take size buffer) ≡ size) × (size ≤ room) × Consumes old new (take size buffer)
+TakesBody old new buffer size room (Ok false) = (rest : List ℕ) × (length rest < size) × (length rest ≤ room) × IsAtEnd new × Consumes old new rest
+TakesBody old new buffer size room (Err ReadFault) = (rest : List ℕ) × (length rest < size) × (length rest ≤ room) × Consumes old new rest
 TakesBody old new buffer size room (Err InputTooLong) = (rest : List ℕ) × (length rest < size) × (length rest ≡ room) × Consumes old new rest
-TakesBody old new buffer size room (Err Memory) = (rest : List ℕ) × Consumes old new rest
+TakesBody old new buffer size room (Err Memory) = (rest : List ℕ) × (length rest < size) × (length rest ≤ room) × Consumes old new rest
 TakesBody old new buffer size room (Err WriteFault) = ⊥
 
 -- the record of a header whose body is at the front of the buffer
 abbrev pub record_in : Header → List ℕ → Record
 record_in header buffer = record_of header.seconds header.kind header.subtype (take header.size buffer)
 
--- a rest was taken: it begins with no record and has this fault, whatever may follow it
-pub record TakesRest (old new : Option (List ℕ)) (kind : RecordKind) : Type 0 where
+-- a rest of at most room octets was taken: it begins with no record and has this fault, whatever may follow it
+pub record TakesRest (old new : Option (List ℕ)) (room : ℕ) (kind : RecordKind) : Type 0 where
   pub rest : List ℕ
   pub some : 0 < length rest
+  pub few : length rest ≤ room
+  pub tail : IsTail rest
   pub consumed : Consumes old new rest
   pub none : (more : List ℕ) → MayFollow new more → BeginsWithNone (rest ++ more)
   pub fault : (more : List ℕ) → MayFollow new more → rest_kind (rest ++ more) ≡ kind
 
--- octets were taken that begin with no record
-pub record TakesNone (old new : Option (List ℕ)) (rest : List ℕ) : Type 0 where
-  pub consumed : Consumes old new rest
+-- at most room octets were taken, which begin with no record and state no length that is too long
+pub record TakesNone (old new : Option (List ℕ)) (room : ℕ) (rest : List ℕ) : Type 0 where
+  pub few : length rest ≤ room
   pub none : BeginsWithNone rest
+  pub cut : rest_kind rest ≡ kind.CutRecord
+  pub consumed : Consumes old new rest
 
 -- a record was taken with its body at the front of the buffer, or the rest, or a fault came before the record was whole
 abbrev pub TakesRecord : Option (List ℕ) → Option (List ℕ) → List ℕ → ℕ → Result Taken Stop → Type 0
 TakesRecord old new buffer room (Ok (taken.Record header)) =
-    (length (take header.size buffer) ≡ header.size) × IsRecord (record_in header buffer) × Consumes old new (spelling (record_in header buffer))
-TakesRecord old new buffer room (Ok taken.Cut) = TakesRest old new kind.CutRecord
-TakesRecord old new buffer room (Ok (taken.TooLong size)) = TakesRest old new (kind.TooLong size)
+    (length (take header.size buffer) ≡ header.size) × (12 + header.size ≤ room) × IsRecord (record_in header buffer) × Consumes old new (spelling (record_in header buffer))
+TakesRecord old new buffer room (Ok taken.Cut) = TakesRest old new room kind.CutRecord
+TakesRecord old new buffer room (Ok (taken.TooLong size)) = TakesRest old new room (kind.TooLong size)
 TakesRecord old new buffer room (Ok taken.End) = IsAtEnd new × Consumes old new []
-TakesRecord old new buffer room (Err ReadFault) = (rest : List ℕ) × TakesNone old new rest
-TakesRecord old new buffer room (Err InputTooLong) = (rest : List ℕ) × (length rest ≡ room) × TakesNone old new rest
-TakesRecord old new buffer room (Err Memory) = (rest : List ℕ) × Consumes old new rest
+TakesRecord old new buffer room (Err ReadFault) = (rest : List ℕ) × TakesNone old new room rest
+TakesRecord old new buffer room (Err InputTooLong) = (rest : List ℕ) × (length rest ≡ room) × TakesNone old new room rest
+TakesRecord old new buffer room (Err Memory) = (rest : List ℕ) × TakesNone old new room rest
 TakesRecord old new buffer room (Err WriteFault) = ⊥
 
 -- the number of whole records, and the number of octets taken, go on by a record

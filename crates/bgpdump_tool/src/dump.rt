@@ -1,15 +1,15 @@
 //! A whole run: the lines of all events, and the reports of all faulty records.
 
-ghost use Rattle.std.specs.Prelude.{◌≡◌, ◌≢◌, ◌↔◌, ◌⊎◌, ◌^◌, ◌++◌, ◌||◌, ℕ, List, Some, true, false, IsTrue, IfOk, length};
+ghost use Rattle.std.specs.Prelude.{◌≡◌, ◌≢◌, ◌↔◌, ◌⊎◌, ◌^◌, ◌++◌, ◌||◌, ℕ, List, None, true, false, IsTrue, IfOk, length};
 ghost use Rattle.bgpdump_tool.specs.declared.stamp.Stamp.{Stamp};
 ghost use Rattle.bgpdump_tool.specs.Device.{is_read_fault};
 ghost use Rattle.bgpdump_tool.specs.Reading.{Frame};
 ghost use Rattle.bgpdump_tool.specs.Splitting.{Splits};
 ghost use Rattle.bgpdump_tool.specs.Results.{findings, results};
-ghost use Rattle.bgpdump_tool.specs.Run.{MayHold, Took, Outputs, Writes, EndsSo, EndedByInput};
+ghost use Rattle.bgpdump_tool.specs.Run.{IsTaken, MayHold, Took, Outputs, Writes, EndsSo, EndedByInput};
 ghost use Rattle.bgpdump_tool.specs.Step.{is_write_fault};
-ghost use Rattle.std.specs.Io.KnownBytes.{Keeps};
-ghost use Rattle.bgpdump_tool.specs.Whole.{Dumps, outcome_of, stopped_outcome};
+ghost use Rattle.std.specs.Io.KnownBytes.{Consumes, Keeps};
+ghost use Rattle.bgpdump_tool.specs.Whole.{Dumps, TakesAll, StopsByInput, outcome_of, stopped_outcome};
 
 use crate::fault::Stop;
 use crate::input::Input;
@@ -39,16 +39,19 @@ pub fn run_dump<I: Input, O: Output, E: Output>(
 
     // Whatever the input may hold on the whole: its lines and reports were written, or fronts of them.
     ensures text { (octets : List ℕ) (frames : List Frame) (rest : List ℕ) →
-        MayHold (I.left input.old) (I.left input.new) octets → Splits stamp octets frames rest →
+        MayHold (I.left input.old) (I.left input.new) octets → Splits stamp None octets frames rest →
         EndsSo result (results frames rest) (record { out = O.written out.old; err = E.written err.old })
         (record { out = O.written out.new; err = E.written err.new }) }
 
     // A run that the input ended has written all that the records taken whole give, and no more.
     ensures whole_records { EndedByInput result →
         (taken after : List ℕ) (frames : List Frame) (rest : List ℕ) →
-        Took (I.left input.old) (I.left input.new) taken after → Splits stamp taken frames rest →
+        Took (I.left input.old) (I.left input.new) taken after → Splits stamp None taken frames rest →
         Writes (findings 0 0 frames) (record { out = O.written out.old; err = E.written err.old })
         (record { out = O.written out.new; err = E.written err.new }) }
+
+    // At most 2^40 octets are taken, and none behind a header that states too much.
+    ensures taken { (taken : List ℕ) × Consumes (I.left input.old) (I.left input.new) taken × IsTaken stamp (2 ^ 40) (EndedByInput result) taken }
 
     // When each fault comes.
     ensures read_fault { (result ≡ Outcome.ReadFault) ↔ IsTrue (I.failed input.new) }
@@ -103,6 +106,7 @@ fn dump_within<I: Input, O: Output, E: Output>(
     requires sound { (O.failed out.old || E.failed err.old) ≡ false }
     ensures whole { (stamp : Stamp) → Dumps stamp limit (I.left input.old) (I.left input.new)
         (record { out = O.written out.old; err = E.written err.old }) (record { out = O.written out.new; err = E.written err.new }) result }
+    ensures taken { (stamp : Stamp) → TakesAll stamp limit (StopsByInput result) (I.left input.old) (I.left input.new) }
     ensures read { I.failed input.new ≡ (I.failed input.old || is_read_fault result) }
     ensures wrote { (O.failed out.new || E.failed err.new) ≡ is_write_fault result }
 {

@@ -2,18 +2,18 @@
 
 ghost use Rattle.std.specs.Prelude.{◌≡◌, ℕ, List};
 ghost use Rattle.bgpdump_tool.specs.declared.stamp.Stamp.{Stamp};
-ghost use Rattle.bgpdump_tool.specs.Reading.{Frame};
+ghost use Rattle.bgpdump_tool.specs.Reading.{Frame, PeerIndex};
 ghost use Rattle.bgpdump_tool.specs.Record.{IsOctets};
 ghost use Rattle.bgpdump_tool.specs.Splitting.{Splits};
 
 /// Each list of octets splits into frames and a rest that begins with no record.
 pub fn octets_split()
-    ensures { (stamp : Stamp) (octets : List ℕ) → IsOctets octets →
-        (frames : List Frame) × (rest : List ℕ) × Splits stamp octets frames rest }
+    ensures { (stamp : Stamp) (index : PeerIndex) (octets : List ℕ) → IsOctets octets →
+        (frames : List Frame) × (rest : List ℕ) × Splits stamp index octets frames rest }
 {}
 
 /// No list of octets splits in two ways.
 pub fn one_split()
-    ensures { (stamp : Stamp) (octets : List ℕ) (frames frames' : List Frame) (rest rest' : List ℕ) →
-        Splits stamp octets frames rest → Splits stamp octets frames' rest' → (frames ≡ frames') × (rest ≡ rest') }
+    ensures { (stamp : Stamp) (index : PeerIndex) (octets : List ℕ) (frames frames' : List Frame) (rest rest' : List ℕ) →
+        Splits stamp index octets frames rest → Splits stamp index octets frames' rest' → (frames ≡ frames') × (rest ≡ rest') }
 {}

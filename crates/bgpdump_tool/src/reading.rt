@@ -44,7 +44,7 @@ fn is_supported(header: &Header, body: &[u8]) -> bool
 /// Reads a record. The first fault that it has is answered.
 pub(crate) fn read_record(header: &Header, body: &[u8]) -> Reading
     ensures { (stamp : Stamp) (index : PeerIndex) →
-        ReadsAs stamp index (record_of header.now.seconds header.now.kind header.now.subtype body.now) (verdict_of stamp header.now.seconds result) }
+        ReadsAs stamp index (record_of header.now.seconds header.now.kind header.now.subtype body.now) (verdict_of header.now.seconds result) }
 {
     if !is_supported(header, body) {
         return Reading::Fault(RecordKind::Unsupported(header.kind, header.subtype));

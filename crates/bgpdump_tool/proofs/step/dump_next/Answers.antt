@@ -34,7 +34,7 @@ returns-in_ok-reported-in-Record-clause-step g c =
     (record { out = g.O.Output.written c.args.out.now; err = g.E.Output.written c.args.err.now })
     (record { out = g.O.Output.written c.write_record.new.out; err = g.E.Output.written c.write_record.new.err }) (Ok c.in_ok-reported-in-Record.reported)
     c.number-number.ensures c.offset-offset.ensures (c.in_ok-reported-in-Record.ensures.found stamp) in
-    StepsOn-record stamp (record { number = c.args.records.now.number; offset = c.args.records.now.taken }) (record { number = c.next.new.self.number; offset = c.next.new.self.taken }) 0 _ _
+    StepsOn-record stamp (record { number = c.args.records.now.number; offset = c.args.records.now.taken }) (record { number = c.next.new.self.number; offset = c.next.new.self.taken }) (c.args.records.now.limit - c.args.records.now.taken) _ _
     (record { out = g.O.Output.written c.args.out.now; err = g.E.Output.written c.args.err.now })
     (record { out = g.O.Output.written c.write_record.new.out; err = g.E.Output.written c.write_record.new.err })
     c.next.new.self.body.items c.body-body.result.now c.in-Record.header _ taken counts c.body-body.ensures found
@@ -54,4 +54,4 @@ returns-in-TooLong-clause-step g c =
 pub returns-in-End-clause-step : goal.returns-in-End-clause-step
 returns-in-End-clause-step g c =
     let end = rw c.in-End.is at c.in_ok-header.ensures.octets in
-    λ stamp. ([], TakesEnd-end _ _ _ end.0 end.1, refl, Writes-none _)
+    λ stamp. ([], TakesEnd-end _ _ _ _ end.0 end.1, refl, Writes-none _)
