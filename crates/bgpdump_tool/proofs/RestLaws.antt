@@ -64,7 +64,7 @@ pub TakesRest-cut_body : (a b c : Option (List ℕ)) (s k t n : ℕ) (buffer : L
 TakesRest-cut_body a b c s k t n buffer room later fits small split header (rest, short, few, end, consumed) =
     let front : List ℕ = header_octets s k t n in
     TakesRest-at_end a c room (front ++ rest) (omega (arith, length-append front rest)) (omega (arith, length-append front rest)) end (Consumes-trans a b c front rest header consumed)
-      (BeginsWithNone-cut s k t n rest fits short) (rest_kind-cut s k t n rest fits small)
+    (BeginsWithNone-cut s k t n rest fits short) (rest_kind-cut s k t n rest fits small)
 
 -- a header states too much
 pub TakesRest-too_long : (old new : Option (List ℕ)) (room s k t n : ℕ) → IsHeader s k t n → longest_body < n → 12 ≤ room → Consumes old new (header_octets s k t n)

@@ -25,7 +25,7 @@ pub record Frame : Type 0 where
 abbrev pub PeerIndex : Type 0
 PeerIndex = Option (List Peer)
 
--- the peer index after a record: as it was, since no content is a peer index
+-- the peer index after a record: the one before it, where the record brings none
 abbrev pub index_after : PeerIndex → Verdict → PeerIndex
 index_after index verdict = index
 

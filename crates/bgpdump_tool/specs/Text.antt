@@ -1,7 +1,7 @@
 -- The texts of events and faults.
 use Rattle.std.specs.Prelude.{ℕ, List, [], ◌∷◌, ◌++◌, decimal, codes}
 use Rattle.std.specs.List.{flat_map}
-use Rattle.ip_prefix.specs.Text.{dotted}
+use Rattle.ip_prefix.specs.Text.{address_text}
 use Rattle.bgpdump_tool.specs.declared.fault.RecordKind.{RecordKind}
 use Rattle.bgpdump_tool.specs.declared.fault.RecordKind.TheVariants.{CutRecord, TooLong, Unsupported, Malformed}
 use Rattle.bgpdump_tool.specs.declared.fault.RecordFault.{RecordFault}
@@ -25,7 +25,7 @@ line_of (field ∷ next ∷ fields) = field ++ 124 ∷ line_of (next ∷ fields)
 -- the line of an item
 abbrev pub item_line : Time → Tag → Item → List ℕ
 item_line time tag (State peer old new) =
-    line_of (word tag ∷ time_text tag time ∷ codes "STATE" ∷ dotted peer.addr ∷ decimal peer.asn ∷ decimal old ∷ decimal new ∷ [])
+    line_of (word tag ∷ time_text tag time ∷ codes "STATE" ∷ address_text peer.addr ∷ decimal peer.asn ∷ decimal old ∷ decimal new ∷ [])
 
 -- the lines of an event, one for each item
 abbrev pub event_lines : Event → List ℕ

@@ -1,6 +1,7 @@
 //! Reading a body into a buffer that grows with what the input gives.
 
 ghost use Rattle.std.specs.Prelude.{◌≡◌, ◌+◌, ◌*◌, ◌≤◌, ◌<◌, ◌||◌, IfOk, OnOk, OnErr, max, take, drop, ◌-◌, vec_len};
+ghost use Rattle.bgpdump_tool.specs.Record.{longest_body};
 ghost use Rattle.bgpdump_tool.specs.Device.{FillsWithin, is_read_fault};
 
 use crate::fault::Stop;
@@ -15,7 +16,7 @@ const FIRST_GROWTH: usize = 4096;
 /// where it is full, as far as it may grow.
 fn next_end(held: usize, filled: usize, size: usize) -> usize
     requires unfinished { filled < size }
-    requires small { size ≤ 16777216 }
+    requires small { size ≤ longest_body }
     ensures further { filled < result }
     ensures within { result ≤ size }
     ensures growth { result ≤ max held (2 * filled + 4096) }
@@ -59,14 +60,14 @@ fn fill_part<I: Input>(
 }
 
 /// Reads a body of `size` octets into the front of the buffer, and answers how many there are. At
-/// most `room` octets may be taken. The buffer stays below twice what the input gave and 4,096.
+/// most `room` octets may be taken. The buffer grows to at most twice what the input gave, and 4,096.
 pub(crate) fn fill_body<I: Input>(
     input: &mut I,
     buffer: &mut Vec<u8>,
     size: usize,
     room: u64,
 ) -> Result<usize, Stop>
-    requires { size ≤ 16777216 }
+    requires { size ≤ longest_body }
     ensures octets { FillsWithin (I.left input.old) (I.left input.new) buffer.new.items size room result }
     ensures held { IfOk result (λ count. count ≤ vec_len buffer.new) }
     ensures growth { IfOk result (λ count. vec_len buffer.new ≤ max (vec_len buffer.old) (2 * count + 4096)) }

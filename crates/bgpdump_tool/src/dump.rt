@@ -23,8 +23,8 @@ use std::alloc::Global;
 /// How many octets a run reads at most.
 const LIMIT: u64 = 1 << 40;
 
-/// Reads an input of MRT records (RFC 6396) to its end. The lines of all events go to `out`, and
-/// the reports of all faulty records to `err`. What a record gives is written before the next one
+/// Reads an input of MRT records (RFC 6396) to its end, or to a header that states too much. The
+/// lines of all events go to `out`, and the reports of all faulty records to `err`. What a record gives is written before the next one
 /// is read. Where the run ends without a fault, both outputs are finished, `out` first.
 pub fn run_dump<I: Input, O: Output, E: Output>(
     alloc: Global,

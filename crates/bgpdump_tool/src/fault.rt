@@ -33,7 +33,7 @@ pub(crate) struct RecordFault {
 pub(crate) enum Stop {
     ReadFault,
     WriteFault,
-    /// The input goes on past the limit.
+    /// To go on, or to see the end, more octets than the limit would have to be read.
     InputTooLong,
     Memory,
 }

@@ -13,6 +13,7 @@ pub(crate) const HEADER_SIZE: usize = 12;
 pub(crate) struct Header {
     /// Seconds since 1970.
     pub(crate) seconds: u32,
+    /// The type of the record, and its subtype.
     pub(crate) kind: u16,
     pub(crate) subtype: u16,
     /// How many octets the body has.

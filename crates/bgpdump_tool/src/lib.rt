@@ -24,3 +24,6 @@ pub use laws::{octets_split, one_split};
 pub use outcome::Outcome;
 pub use output::{OutFault, Output, WriteOutput, put_all};
 pub use stamp::Stamp;
+
+#[cfg(test)]
+mod tests;

@@ -1,6 +1,7 @@
 //! Reading records one behind the other.
 
 ghost use Rattle.std.specs.Prelude.{◌≡◌, ◌+◌, ◌-◌, ◌*◌, ◌≤◌, ◌||◌, IfOk, IsTrue, take, length, vec_len};
+ghost use Rattle.bgpdump_tool.specs.Record.{longest_body};
 ghost use Rattle.bgpdump_tool.specs.Device.{is_read_fault};
 ghost use Rattle.bgpdump_tool.specs.Taking.{TakesHeader, TakesBody, TakesRecord, CountsOn, IsHeaderFront};
 
@@ -106,7 +107,7 @@ impl RecordReader {
 
     /// Reads a body, and answers whether it is whole.
     fn next_body<I: Input>(&mut self, input: &mut I, size: u32) -> Result<bool, Stop>
-        requires { size ≤ 16777216 }
+        requires { size ≤ longest_body }
         ensures octets { TakesBody (I.left input.old) (I.left input.new) self.new.body.items size (self.old.limit - self.old.taken) result }
         ensures failed { I.failed input.new ≡ (I.failed input.old || is_read_fault result) }
         ensures limit { self.new.limit ≡ self.old.limit }

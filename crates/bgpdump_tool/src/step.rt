@@ -56,7 +56,7 @@ fn write_report<E: Output>(err: &mut E, text: &mut Vec<u8>, fault: RecordFault) 
     Ok(())
 }
 
-/// Writes the line of a whole record, or the report of its fault, and answers whether it is that.
+/// Writes the line of a whole record, or the report of its fault, and answers whether it has one.
 /// The text is scratch.
 fn write_record<O: Output, E: Output>(
     out: &mut O,
@@ -92,12 +92,27 @@ fn write_record<O: Output, E: Output>(
 }
 
 /// Writes the report of the rest, which ends the reading. The text is scratch.
-fn write_rest<E: Output>(err: &mut E, text: &mut Vec<u8>, fault: RecordFault) -> Result<Step, Stop>
-    ensures text { Puts (E.written err.old) (E.written err.new) (fault_report fault) result }
+fn write_rest<E: Output>(
+    err: &mut E,
+    text: &mut Vec<u8>,
+    number: u64,
+    offset: u64,
+    kind: RecordKind,
+) -> Result<Step, Stop>
+    ensures text { Puts (E.written err.old) (E.written err.new)
+        (fault_report (record { number = number; offset = offset; kind = kind })) result }
     ensures step { IfOk result (λ step. (step.ended ≡ true) × (step.reported ≡ true)) }
     ensures failed { E.failed err.new ≡ (E.failed err.old || is_write_fault result) }
 {
-    write_report(err, text, fault)?;
+    write_report(
+        err,
+        text,
+        RecordFault {
+            number,
+            offset,
+            kind,
+        },
+    )?;
     Ok(Step {
         reported: true,
         ended: true,
@@ -131,30 +146,8 @@ pub(crate) fn dump_next<I: Input, O: Output, E: Output>(
                 ended: false,
             })
         }
-        Taken::Cut => {
-            let kind = RecordKind::CutRecord;
-            write_rest(
-                err,
-                text,
-                RecordFault {
-                    number,
-                    offset,
-                    kind,
-                },
-            )
-        }
-        Taken::TooLong(size) => {
-            let kind = RecordKind::TooLong(size);
-            write_rest(
-                err,
-                text,
-                RecordFault {
-                    number,
-                    offset,
-                    kind,
-                },
-            )
-        }
+        Taken::Cut => write_rest(err, text, number, offset, RecordKind::CutRecord),
+        Taken::TooLong(size) => write_rest(err, text, number, offset, RecordKind::TooLong(size)),
         Taken::End => Ok(Step {
             reported: false,
             ended: true,

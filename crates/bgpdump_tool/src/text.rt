@@ -1,7 +1,7 @@
 //! The lines of events and the reports of faults.
 
 ghost use Rattle.std.specs.Prelude.{◌≡◌, ◌∷◌, ◌++◌, OnOk, decimal};
-ghost use Rattle.ip_prefix.specs.Text.{dotted};
+ghost use Rattle.ip_prefix.specs.Text.{address_text};
 ghost use Rattle.bgpdump_tool.specs.Reading.{state_event};
 ghost use Rattle.bgpdump_tool.specs.Text.{event_lines, kind_text, fault_report};
 
@@ -21,7 +21,7 @@ fn put_labelled(word: &[u8], number: u64, text: &mut Vec<u8>) -> Result<(), Allo
 
 /// Appends the peer's address between bars, and its AS number.
 fn put_peer(peer: &Peer, text: &mut Vec<u8>) -> Result<(), AllocError>
-    ensures { OnOk result (text.new.items ≡ text.old.items ++ (124 ∷ dotted peer.now.addr ++ 124 ∷ decimal peer.now.asn)) }
+    ensures { OnOk result (text.new.items ≡ text.old.items ++ (124 ∷ address_text peer.now.addr ++ 124 ∷ decimal peer.now.asn)) }
 {
     text.push(b'|')?;
     peer.addr.put_text(text)?;

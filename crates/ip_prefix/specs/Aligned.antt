@@ -7,7 +7,7 @@ use Rattle.ip_prefix.specs.Bits.{bits_of, number_of}
 use Rattle.ip_prefix.specs.BitLemmas.{number_of-bits_of}
 use Rattle.ip_prefix.specs.Address.{bit_count}
 
--- the number has no bit below those of the address; no call makes an IPv6 address yet
+-- the number has no bit below those of the address; no number is kept for an IPv6 address, since no call makes one
 abbrev pub IsAligned : Family → ℕ → Type 0
 IsAligned V4 n = (n < 2 ^ 128) × (n % 2 ^ 96 ≡ 0)
 IsAligned V6 n = ⊥

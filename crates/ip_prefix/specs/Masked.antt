@@ -8,7 +8,7 @@ use Rattle.ip_prefix.specs.declared.addr.Family.TheVariants.{V4, V6}
 use Rattle.ip_prefix.specs.Bits.{bits_of, number_of}
 use Rattle.ip_prefix.specs.BitLemmas.{number_of-bits_of, length-bits_of}
 
--- the number has no bit below the prefix's; no call makes an IPv6 prefix yet
+-- the number has no bit below the prefix's; no number is kept for an IPv6 prefix, since no call makes one
 abbrev pub IsMasked : Family → ℕ → ℕ → Type 0
 IsMasked V4 number size = (number < 2 ^ 128) × (size ≤ 32) × (number % 2 ^ (128 - size) ≡ 0)
 IsMasked V6 number size = ⊥

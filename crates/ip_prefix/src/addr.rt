@@ -6,7 +6,7 @@ ghost use Rattle.ip_prefix.specs.Address.{octet_at, octet_count, bit_count};
 ghost use Rattle.ip_prefix.specs.Aligned.{IsAligned};
 ghost use Rattle.ip_prefix.specs.Bits.{bits_of, bits_of_octets};
 ghost use Rattle.ip_prefix.specs.Order.{family_cmp};
-ghost use Rattle.ip_prefix.specs.Text.{dotted};
+ghost use Rattle.ip_prefix.specs.Text.{address_text, dotted};
 
 use itoa::write_digits;
 use std::alloc::AllocError;
@@ -16,7 +16,9 @@ use std::marker::Model;
 /// The two families of Internet addresses.
 #[derive(Clone, Copy, Debug, PartialEq, Eq, PartialOrd, Ord)]
 pub enum Family {
+    /// Addresses of 32 bits (RFC 791).
     V4,
+    /// Addresses of 128 bits (RFC 4291).
     V6,
 }
 
@@ -85,6 +87,7 @@ impl Addr {
         self.number
     }
 
+    /// The family that it is of.
     #[inline]
     pub fn family(&self) -> Family
         ensures { result ≡ self.now.family }
@@ -112,8 +115,9 @@ impl Addr {
 
     /// Appends the address as a person reads it. Refused for want of memory, it leaves the text
     /// as it was.
+    #[tactic(auto, unfolding(crate::specs::Text::address_text))]
     pub fn put_text(&self, text: &mut Vec<u8>) -> Result<(), AllocError>
-        ensures appended { OnOk result (text.new.items ≡ text.old.items ++ dotted self.now) }
+        ensures appended { OnOk result (text.new.items ≡ text.old.items ++ address_text self.now) }
         ensures unchanged { OnErr result (text.new.items ≡ text.old.items) }
     {
         match self.family {

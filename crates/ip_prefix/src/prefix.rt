@@ -60,6 +60,7 @@ impl Prefix {
         })
     }
 
+    /// The family that it is of.
     #[inline]
     pub fn family(&self) -> Family
         ensures { result ≡ self.now.family }
