@@ -44,7 +44,7 @@ impl Ending<'_> {
 }
 
 /// What a run that ended so says last: something where its status is above 1.
-fn last_message(outcome: Outcome) -> Option<&'static str>
+pub(crate) fn last_message(outcome: Outcome) -> Option<&'static str>
     ensures { IsSome result ↔ (1 < status_of outcome) }
 {
     match outcome {

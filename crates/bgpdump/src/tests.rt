@@ -1,4 +1,5 @@
 use super::*;
+use crate::ending::last_message;
 use std::io::Write;
 
 /// A state change, of 32 octets.
@@ -58,4 +59,28 @@ fn a_late_write_fault_is_told(rt: HostRuntime) {
     assert_eq!(rt; broken, Outcome::WriteFault);
     let cut = dump(rt.alloc(), &STATE_CHANGE[..31], rt.stdout(), FullWriter);
     assert_eq!(rt; cut, Outcome::WriteFault);
+}
+
+#[test]
+fn runs_that_fail_say_why(rt: HostRuntime) {
+    assert_eq!(rt; last_message(Outcome::Done), None);
+    assert_eq!(rt; last_message(Outcome::Reported), None);
+    assert_eq!(rt; last_message(Outcome::ReadFault), Some("read fault"));
+    assert_eq!(rt; last_message(Outcome::WriteFault), Some("write fault"));
+    assert_eq!(rt; last_message(Outcome::InputTooLong), Some("input too long"));
+    assert_eq!(rt;
+        last_message(Outcome::ScriptTooLong),
+        Some("script too long")
+    );
+    assert_eq!(rt; last_message(Outcome::Memory), Some("out of memory"));
+}
+
+#[test]
+fn an_ending_has_its_status(rt: HostRuntime) {
+    assert_eq!(rt; Ending::Usage.status(), 2);
+    assert_eq!(rt; Ending::NotOpened("x").status(), 3);
+    assert_eq!(rt; Ending::Ran(Outcome::Done).status(), 0);
+    assert_eq!(rt; Ending::Ran(Outcome::Reported).status(), 1);
+    assert_eq!(rt; Ending::Ran(Outcome::WriteFault).status(), 3);
+    assert_eq!(rt; Ending::Ran(Outcome::Memory).status(), 4);
 }

@@ -7,11 +7,11 @@ use Rattle.std.specs.Io.KnownBytes.{Consumes, IsAtEnd}
 use Rattle.std.proofs.KnownBytes.{Consumes-trans}
 use Rattle.bgpdump_tool.specs.declared.fault.Stop.{Stop}
 use Rattle.bgpdump_tool.specs.declared.fault.Stop.TheVariants.{ReadFault, WriteFault, InputTooLong, Memory}
-use Rattle.bgpdump_tool.specs.declared.fault.RecordKind.{RecordKind}
 use Rattle.bgpdump_tool.specs.declared.fault.RecordKind.TheVariants.{CutRecord, TooLong}
 use Rattle.bgpdump_tool.specs.Record.{IsHeader, header_octets, BeginsWithNone, longest_body}
 use Rattle.bgpdump_tool.specs.Results.{rest_kind, stated_size}
-use Rattle.bgpdump_tool.specs.Taking.{MayFollow, TakesHeader, TakesBody, TakesRecord, TakesRest, TakesNone}
+use Rattle.bgpdump_tool.specs.Device.{MayFollow}
+use Rattle.bgpdump_tool.specs.Taking.{TakesHeader, TakesBody, TakesRecord, TakesRest, TakesNone}
 use Rattle.bgpdump_tool.proofs.RecordLaws.{BeginsWithNone-short, BeginsWithNone-cut, BeginsWithNone-too_long}
 
 -- nothing may follow where the end was seen

@@ -11,13 +11,13 @@ use Rattle.std.proofs.KnownBytes.{Appends-nil, Appends-trans, Consumes-nil, Cons
 use Rattle.bgpdump_tool.specs.declared.fault.Stop.{Stop}
 use Rattle.bgpdump_tool.specs.declared.fault.Stop.TheVariants.{ReadFault, WriteFault, InputTooLong, Memory}
 use Rattle.bgpdump_tool.specs.declared.stamp.Stamp.{Stamp}
-use Rattle.bgpdump_tool.specs.Device.{AppendsFront}
+use Rattle.bgpdump_tool.specs.Device.{AppendsFront, MayFollow}
 use Rattle.bgpdump_tool.specs.Record.{header_octets, spelling, IsRecord}
 use Rattle.bgpdump_tool.specs.Reading.{Verdict, Accepted, Refused, Frame, ReadsAs, PeerIndex}
 use Rattle.bgpdump_tool.specs.Splitting.{spellings}
 use Rattle.bgpdump_tool.specs.Results.{Finding, Found, Bad, finding, findings, rest_findings, results, rest_kind}
 use Rattle.bgpdump_tool.specs.Text.{dump, reports, finding_lines, finding_report}
-use Rattle.bgpdump_tool.specs.Taking.{MayFollow, TakesNone}
+use Rattle.bgpdump_tool.specs.Taking.{TakesNone}
 use Rattle.bgpdump_tool.specs.Run.{Outputs, MayHold, Took, Writes, WritesFronts, IsTaken}
 use Rattle.bgpdump_tool.specs.Step.{Place, finding_at, place_after, TakesFrame, TakesEnd, StepsOn, Steps, is_refused, is_any_bad}
 use Rattle.bgpdump_tool.specs.Whole.{TakesAll, AreFirst, AreAll, StopsBehind, Dumps, StopsByInput}
@@ -147,11 +147,10 @@ record HeldBehind (left left' : Option (List ℕ)) (taken octets : List ℕ) : T
 -- the octets taken are those by which an input may hold others
 HeldBehind-taken : (left left' : Option (List ℕ)) (taken octets : List ℕ) → Consumes left left' taken → MayHold left left' octets → HeldBehind left left' taken octets
 HeldBehind-taken left left' taken octets consumed p =
-    let follows : MayFollow (Some p.after) p.more = p.end in
     let taken' = subst (λ o. Consumes o left' taken) p.took.before consumed in
     let taken'' = subst (λ o. Consumes (Some (p.taken ++ p.after)) o taken) p.took.now taken' in
     let same : p.taken ≡ taken = append_cancel_right p.taken taken p.after taken'' in
-    record { more = p.more; follows = subst (λ o. MayFollow o p.more) (sym p.took.now) follows; whole = p.whole ∙ ap (λ l. l ++ p.more) same }
+    record { more = p.more; follows = p.follows; whole = p.whole ∙ ap (λ l. l ++ p.more) same }
 
 -- the same where the octets taken are told
 pub same_taken : (left left' : Option (List ℕ)) (taken taken' after : List ℕ) → Consumes left left' taken → Took left left' taken' after → taken' ≡ taken

@@ -8,7 +8,7 @@ use Rattle.std.specs.Prelude.{◌≡◌, ◌≢◌, ℕ, List, [], ◌++◌, Opt
 use Rattle.std.specs.Io.KnownBytes.{Appends}
 use Rattle.bgpdump_tool.specs.declared.outcome.Outcome.{Outcome}
 use Rattle.bgpdump_tool.specs.declared.outcome.Outcome.TheVariants.{Done, Reported, ReadFault, WriteFault, InputTooLong, ScriptTooLong, Memory}
-use Rattle.bgpdump_tool.specs.Device.{AppendsFront}
+use Rattle.bgpdump_tool.specs.Device.{AppendsFront, MayFollow}
 use Rattle.bgpdump_tool.specs.Results.{Finding, rest_kind}
 use Rattle.bgpdump_tool.specs.Text.{dump, reports}
 
@@ -31,14 +31,14 @@ pub record IsTaken (stamp : Stamp) (limit : ℕ) (ByInput : Type 0) (taken : Lis
   pub cut : ByInput → rest_kind rest ≡ CutRecord
   pub few : length taken ≤ limit
 
--- octets that the input may hold on the whole, by those taken: these and any others behind them, but none where the end was seen
+-- octets that the input may hold on the whole: those taken, and any others that may follow them
 pub record MayHold (old new : Option (List ℕ)) (octets : List ℕ) : Type 0 where
   pub taken : List ℕ
   pub after : List ℕ
   pub more : List ℕ
   pub took : Took old new taken after
   pub whole : octets ≡ taken ++ more
-  pub end : after ≡ [] → more ≡ []
+  pub follows : MayFollow new more
 
 -- the lines of what was found went to the one output, and the reports to the other
 abbrev pub Writes : List Finding → Outputs → Outputs → Type 0

@@ -5,12 +5,12 @@ use Rattle.bgpdump_tool.specs.declared.fault.Stop.{Stop}
 use Rattle.bgpdump_tool.specs.declared.fault.Stop.TheVariants.{ReadFault, WriteFault, InputTooLong, Memory}
 use Rattle.bgpdump_tool.specs.declared.stamp.Stamp.{Stamp}
 use Rattle.bgpdump_tool.specs.declared.step.Step.{Step}
-use Rattle.bgpdump_tool.specs.Device.{AppendsFront}
+use Rattle.bgpdump_tool.specs.Device.{AppendsFront, MayFollow}
 use Rattle.bgpdump_tool.specs.Record.{Record, spelling, IsRecord, BeginsWithNone}
 use Rattle.bgpdump_tool.specs.Reading.{Verdict, Accepted, Refused, Frame, ReadsAs}
 use Rattle.bgpdump_tool.specs.Results.{Finding, Found, Bad, finding, rest_findings}
 use Rattle.bgpdump_tool.specs.Tail.{IsTail}
-use Rattle.bgpdump_tool.specs.Taking.{MayFollow, TakesNone}
+use Rattle.bgpdump_tool.specs.Taking.{TakesNone}
 use Rattle.bgpdump_tool.specs.Run.{Outputs, Writes, WritesFronts}
 
 -- a text was written, or a front of it before a write fault, or nothing for want of memory
@@ -20,14 +20,6 @@ Puts old new text (Err WriteFault) = AppendsFront old new text
 Puts old new text (Err Memory) = Appends old new []
 Puts old new text (Err ReadFault) = ⊥
 Puts old new text (Err InputTooLong) = ⊥
-
--- the call ended by a write fault
-abbrev pub is_write_fault : {A : Type 0} → Result A Stop → Bool
-is_write_fault (Ok x) = false
-is_write_fault (Err ReadFault) = false
-is_write_fault (Err WriteFault) = true
-is_write_fault (Err InputTooLong) = false
-is_write_fault (Err Memory) = false
 
 -- whether the record has a fault
 abbrev pub is_refused : Verdict → Bool

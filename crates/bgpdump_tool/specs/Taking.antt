@@ -1,5 +1,5 @@
 -- What the reader of records takes from an input that tells its octets.
-use Rattle.std.specs.Prelude.{◌⊎◌, ◌≡◌, ℕ, ◌+◌, ◌<◌, Bool, true, false, List, [], ◌++◌, length, take, Option, Some, None, Result, Ok, Err, ◌≤◌}
+use Rattle.std.specs.Prelude.{◌≡◌, ℕ, ◌+◌, ◌<◌, Bool, true, false, List, [], ◌++◌, length, take, Option, Result, Ok, Err, ◌≤◌}
 use Rattle.std.specs.Io.KnownBytes.{Consumes, IsAtEnd}
 use Rattle.bgpdump_tool.specs.declared.fault.Stop.{Stop}
 use Rattle.bgpdump_tool.specs.declared.fault.Stop.TheVariants.{ReadFault, WriteFault, InputTooLong, Memory}
@@ -10,14 +10,10 @@ use Rattle.bgpdump_tool.specs.declared.records.Front.{Front}
 use Rattle.bgpdump_tool.specs.declared.records.Front.TheVariants as front
 use Rattle.bgpdump_tool.specs.declared.records.Taken.{Taken}
 use Rattle.bgpdump_tool.specs.declared.records.Taken.TheVariants as taken
+use Rattle.bgpdump_tool.specs.Device.{MayFollow}
 use Rattle.bgpdump_tool.specs.Record.{Record, record_of, IsHeader, header_octets, spelling, IsRecord, BeginsWithNone}
 use Rattle.bgpdump_tool.specs.Results.{rest_kind}
 use Rattle.bgpdump_tool.specs.Tail.{IsTail}
-
--- what may follow the octets taken from an input that has these left: any octets, but none where the end was seen
-abbrev pub MayFollow : Option (List ℕ) → List ℕ → Type 0
-MayFollow None more = ⊥
-MayFollow (Some after) more = after ≡ [] → more ≡ []
 
 -- the octets of a header were taken, or all that were left, or a fault came before it was whole
 abbrev pub TakesHeader : Option (List ℕ) → Option (List ℕ) → ℕ → Result Front Stop → Type 0

@@ -2,12 +2,11 @@
 
 ghost use Rattle.std.specs.Prelude.{◌≡◌, ◌≢◌, ◌↔◌, ◌⊎◌, ◌^◌, ◌++◌, ◌||◌, ℕ, List, None, true, false, IsTrue, IfOk, length};
 ghost use Rattle.bgpdump_tool.specs.declared.stamp.Stamp.{Stamp};
-ghost use Rattle.bgpdump_tool.specs.Device.{is_read_fault};
+ghost use Rattle.bgpdump_tool.specs.Device.{is_read_fault, is_write_fault};
 ghost use Rattle.bgpdump_tool.specs.Reading.{Frame};
 ghost use Rattle.bgpdump_tool.specs.Splitting.{Splits};
 ghost use Rattle.bgpdump_tool.specs.Results.{findings, results};
 ghost use Rattle.bgpdump_tool.specs.Run.{IsTaken, MayHold, Took, Outputs, Writes, EndsSo, EndedByInput};
-ghost use Rattle.bgpdump_tool.specs.Step.{is_write_fault};
 ghost use Rattle.std.specs.Io.KnownBytes.{Consumes, Keeps};
 ghost use Rattle.bgpdump_tool.specs.Whole.{Dumps, TakesAll, StopsByInput, outcome_of, stopped_outcome};
 
@@ -24,8 +23,9 @@ use std::alloc::Global;
 const LIMIT: u64 = 1 << 40;
 
 /// Reads an input of MRT records (RFC 6396) to its end, or to a header that states too much. The
-/// lines of all events go to `out`, and the reports of all faulty records to `err`. What a record gives is written before the next one
-/// is read. Where the run ends without a fault, both outputs are finished, `out` first.
+/// lines of all events go to `out`, and the reports of all faulty records to `err`. What a record
+/// gives is written before the next one is read. Where the run ends without a fault, both outputs
+/// are finished, `out` first.
 pub fn run_dump<I: Input, O: Output, E: Output>(
     alloc: Global,
     input: &mut I,

@@ -20,7 +20,7 @@ mod text;
 
 pub use dump::run_dump;
 pub use input::{InFault, Input, ReadInput};
-pub use laws::{octets_split, one_split};
+pub use laws::{octets_split, one_content, one_split};
 pub use outcome::Outcome;
 pub use output::{OutFault, Output, WriteOutput, put_all};
 pub use stamp::Stamp;

@@ -2,14 +2,14 @@
 
 ghost use Rattle.std.specs.Prelude.{◌≡◌, ◌+◌, ◌-◌, ◌<◌, ◌^◌, ◌||◌, ◌∷◌, [], List, IfOk, Option, None, true, false};
 ghost use Rattle.bgpdump_tool.specs.declared.stamp.Stamp.{Stamp};
-ghost use Rattle.bgpdump_tool.specs.Device.{is_read_fault};
+ghost use Rattle.bgpdump_tool.specs.Device.{is_read_fault, is_write_fault};
 ghost use Rattle.bgpdump_tool.specs.Record.{record_of};
 ghost use Rattle.bgpdump_tool.specs.Reading.{Verdict, ReadsAs, state_event};
 ghost use Rattle.bgpdump_tool.specs.Content.{Change};
 ghost use Rattle.bgpdump_tool.specs.Results.{Finding, Bad, finding};
 ghost use Rattle.bgpdump_tool.specs.Text.{event_lines, fault_report};
 ghost use Rattle.bgpdump_tool.specs.Run.{Outputs};
-ghost use Rattle.bgpdump_tool.specs.Step.{Puts, PutsFound, WritesRecord, Steps, is_refused, is_write_fault};
+ghost use Rattle.bgpdump_tool.specs.Step.{Puts, PutsFound, WritesRecord, Steps, is_refused};
 
 use crate::fault::{RecordFault, RecordKind, Stop};
 use crate::header::Header;

@@ -3,10 +3,12 @@
 
 mod addr;
 mod decimal;
+mod laws;
 mod prefix;
 
 pub use addr::{Addr, Family};
 pub use decimal::put_decimal;
+pub use laws::{address_order, prefix_order};
 pub use prefix::Prefix;
 
 #[cfg(test)]
