@@ -54,7 +54,8 @@ fn flush<O: Write + Drop, E: Write + Drop>(
     err: &mut BufWriter<E>,
 ) -> Outcome
     ensures outcome { (result ≡ outcome) ⊎ (result ≡ Outcome.WriteFault) }
-    ensures passed { result ≢ Outcome.WriteFault → (writer_buffer out.new ≡ []) × (writer_buffer err.new ≡ []) }
+    ensures passed { result ≢ Outcome.WriteFault →
+        (writer_buffer out.new ≡ []) × (writer_buffer err.new ≡ []) }
     ensures out { Keeps (writer_contents O.contents out.old) (writer_contents O.contents out.new) }
     ensures err { Keeps (writer_contents E.contents err.old) (writer_contents E.contents err.new) }
 {

@@ -53,14 +53,16 @@ fn fill_part<I: Input>(
     requires within { end ≤ vec_len buffer.old }
     ensures kept { take filled buffer.new.items ≡ take filled buffer.old.items }
     ensures size { vec_len buffer.new ≡ vec_len buffer.old }
-    ensures octets { FillsWithin (I.left input.old) (I.left input.new) (drop filled buffer.new.items) (end - filled) room result }
+    ensures octets { FillsWithin (I.left input.old) (I.left input.new) (drop filled buffer.new.items)
+        (end - filled) room result }
     ensures failed { I.failed input.new ≡ (I.failed input.old || is_read_fault result) }
 {
     fill_within(input, &mut buffer[filled..end], room)
 }
 
 /// Reads a body of `size` octets into the front of the buffer, and answers how many there are. At
-/// most `room` octets may be taken. The buffer grows to at most twice what the input gave, and 4,096.
+/// most `room` octets may be taken. The buffer grows to at most twice what the input gave, and
+/// 4,096.
 pub(crate) fn fill_body<I: Input>(
     input: &mut I,
     buffer: &mut Vec<u8>,

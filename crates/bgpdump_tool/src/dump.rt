@@ -37,7 +37,8 @@ pub fn run_dump<I: Input, O: Output, E: Output>(
     requires out_sound { O.failed out.old ≡ false }
     requires err_sound { E.failed err.old ≡ false }
 
-    // Whatever the input may hold on the whole: its lines and reports were written, or fronts of them.
+    // Whatever the input may hold on the whole: its lines and reports were written, or fronts of
+    // them.
     ensures text { (octets : List ℕ) (frames : List Frame) (rest : List ℕ) →
         MayHold (I.left input.old) (I.left input.new) octets → Splits stamp None octets frames rest →
         EndsSo result (results frames rest) (record { out = O.written out.old; err = E.written err.old })
@@ -51,7 +52,8 @@ pub fn run_dump<I: Input, O: Output, E: Output>(
         (record { out = O.written out.new; err = E.written err.new }) }
 
     // At most 2^40 octets are taken, and none behind a header that states too much.
-    ensures taken { (taken : List ℕ) × Consumes (I.left input.old) (I.left input.new) taken × IsTaken stamp (2 ^ 40) (EndedByInput result) taken }
+    ensures taken { (taken : List ℕ) × Consumes (I.left input.old) (I.left input.new) taken
+        × IsTaken stamp (2 ^ 40) (EndedByInput result) taken }
 
     // When each fault comes.
     ensures read_fault { (result ≡ Outcome.ReadFault) ↔ IsTrue (I.failed input.new) }
@@ -105,8 +107,10 @@ fn dump_within<I: Input, O: Output, E: Output>(
 ) -> Result<bool, Stop>
     requires sound { (O.failed out.old || E.failed err.old) ≡ false }
     ensures whole { (stamp : Stamp) → Dumps stamp limit (I.left input.old) (I.left input.new)
-        (record { out = O.written out.old; err = E.written err.old }) (record { out = O.written out.new; err = E.written err.new }) result }
-    ensures taken { (stamp : Stamp) → TakesAll stamp limit (StopsByInput result) (I.left input.old) (I.left input.new) }
+        (record { out = O.written out.old; err = E.written err.old })
+        (record { out = O.written out.new; err = E.written err.new }) result }
+    ensures taken { (stamp : Stamp) →
+        TakesAll stamp limit (StopsByInput result) (I.left input.old) (I.left input.new) }
     ensures read { I.failed input.new ≡ (I.failed input.old || is_read_fault result) }
     ensures wrote { (O.failed out.new || E.failed err.new) ≡ is_write_fault result }
 {

@@ -29,7 +29,8 @@ pub(crate) fn fill_within<I: Input>(
     buffer: &mut [u8],
     room: u64,
 ) -> Result<usize, Stop>
-    ensures octets { FillsWithin (I.left input.old) (I.left input.new) buffer.new (length buffer.new) room result }
+    ensures octets { FillsWithin (I.left input.old) (I.left input.new) buffer.new
+        (length buffer.new) room result }
     ensures failed { I.failed input.new ≡ (I.failed input.old || is_read_fault result) }
 {
     if buffer.len() as u64 <= room {

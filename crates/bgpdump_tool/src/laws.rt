@@ -21,6 +21,8 @@ pub fn octets_split()
 
 /// No list of octets splits in two ways.
 pub fn one_split()
-    ensures { (stamp : Stamp) (index : PeerIndex) (octets : List ℕ) (frames frames' : List Frame) (rest rest' : List ℕ) →
-        Splits stamp index octets frames rest → Splits stamp index octets frames' rest' → (frames ≡ frames') × (rest ≡ rest') }
+    ensures { (stamp : Stamp) (index : PeerIndex) (octets : List ℕ)
+        (frames frames' : List Frame) (rest rest' : List ℕ) →
+        Splits stamp index octets frames rest → Splits stamp index octets frames' rest' →
+        (frames ≡ frames') × (rest ≡ rest') }
 {}

@@ -36,7 +36,8 @@ fn is_of_ipv6(body: &[u8]) -> bool
 
 /// Whether records like this one are read.
 fn is_supported(header: &Header, body: &[u8]) -> bool
-    ensures { IsTrue result ↔ IsSupported (record_of header.now.seconds header.now.kind header.now.subtype body.now) }
+    ensures { IsTrue result ↔
+        IsSupported (record_of header.now.seconds header.now.kind header.now.subtype body.now) }
 {
     header.kind == BGP4MP && header.subtype == STATE_CHANGE && !is_of_ipv6(body)
 }
@@ -44,7 +45,8 @@ fn is_supported(header: &Header, body: &[u8]) -> bool
 /// Reads a record. The first fault that it has is answered.
 pub(crate) fn read_record(header: &Header, body: &[u8]) -> Reading
     ensures { (stamp : Stamp) (index : PeerIndex) →
-        ReadsAs stamp index (record_of header.now.seconds header.now.kind header.now.subtype body.now) (verdict_of header.now.seconds result) }
+        ReadsAs stamp index (record_of header.now.seconds header.now.kind header.now.subtype body.now)
+        (verdict_of header.now.seconds result) }
 {
     if !is_supported(header, body) {
         return Reading::Fault(RecordKind::Unsupported(header.kind, header.subtype));

@@ -90,7 +90,8 @@ impl RecordReader {
 
     /// Reads the next header.
     fn next_header<I: Input>(&mut self, input: &mut I) -> Result<Front, Stop>
-        ensures octets { TakesHeader (I.left input.old) (I.left input.new) (self.old.limit - self.old.taken) result }
+        ensures octets { TakesHeader (I.left input.old) (I.left input.new)
+            (self.old.limit - self.old.taken) result }
         ensures failed { I.failed input.new ≡ (I.failed input.old || is_read_fault result) }
         ensures limit { self.new.limit ≡ self.old.limit }
         ensures number { self.new.number ≡ self.old.number }
@@ -108,7 +109,8 @@ impl RecordReader {
     /// Reads a body, and answers whether it is whole.
     fn next_body<I: Input>(&mut self, input: &mut I, size: u32) -> Result<bool, Stop>
         requires { size ≤ longest_body }
-        ensures octets { TakesBody (I.left input.old) (I.left input.new) self.new.body.items size (self.old.limit - self.old.taken) result }
+        ensures octets { TakesBody (I.left input.old) (I.left input.new) self.new.body.items size
+            (self.old.limit - self.old.taken) result }
         ensures failed { I.failed input.new ≡ (I.failed input.old || is_read_fault result) }
         ensures limit { self.new.limit ≡ self.old.limit }
         ensures number { self.new.number ≡ self.old.number }

@@ -36,7 +36,8 @@ fn write_line<O: Output>(
     seconds: u32,
     change: &StateChange,
 ) -> Result<(), Stop>
-    ensures text { Puts (O.written out.old) (O.written out.new) (event_lines (state_event seconds change.now)) result }
+    ensures text { Puts (O.written out.old) (O.written out.new)
+        (event_lines (state_event seconds change.now)) result }
     ensures failed { O.failed out.new ≡ (O.failed out.old || is_write_fault result) }
 {
     text.clear();
@@ -67,9 +68,12 @@ fn write_record<O: Output, E: Output>(
     number: u64,
     offset: u64,
 ) -> Result<bool, Stop>
-    ensures found { (stamp : Stamp) → WritesRecord stamp (record_of header.now.seconds header.now.kind header.now.subtype body.now) number offset
-        (record { out = O.written out.old; err = E.written err.old }) (record { out = O.written out.new; err = E.written err.new }) result }
-    ensures failed { (O.failed out.new || E.failed err.new) ≡ (O.failed out.old || E.failed err.old || is_write_fault result) }
+    ensures found { (stamp : Stamp) → WritesRecord stamp
+        (record_of header.now.seconds header.now.kind header.now.subtype body.now) number offset
+        (record { out = O.written out.old; err = E.written err.old })
+        (record { out = O.written out.new; err = E.written err.new }) result }
+    ensures failed { (O.failed out.new || E.failed err.new) ≡
+        (O.failed out.old || E.failed err.old || is_write_fault result) }
 {
     match read_record(header, body) {
         Reading::Change(change) => {
@@ -128,12 +132,15 @@ pub(crate) fn dump_next<I: Input, O: Output, E: Output>(
     err: &mut E,
 ) -> Result<Step, Stop>
     ensures step { (stamp : Stamp) → Steps stamp
-        (record { number = records.old.number; offset = records.old.taken }) (record { number = records.new.number; offset = records.new.taken })
+        (record { number = records.old.number; offset = records.old.taken })
+        (record { number = records.new.number; offset = records.new.taken })
         (records.old.limit - records.old.taken) (I.left input.old) (I.left input.new)
-        (record { out = O.written out.old; err = E.written err.old }) (record { out = O.written out.new; err = E.written err.new }) result }
+        (record { out = O.written out.old; err = E.written err.old })
+        (record { out = O.written out.new; err = E.written err.new }) result }
     ensures limit { records.new.limit ≡ records.old.limit }
     ensures read { I.failed input.new ≡ (I.failed input.old || is_read_fault result) }
-    ensures wrote { (O.failed out.new || E.failed err.new) ≡ (O.failed out.old || E.failed err.old || is_write_fault result) }
+    ensures wrote { (O.failed out.new || E.failed err.new) ≡
+        (O.failed out.old || E.failed err.old || is_write_fault result) }
 {
     let number = records.number() + 1;
     let offset = records.offset();

@@ -21,7 +21,8 @@ fn put_labelled(word: &[u8], number: u64, text: &mut Vec<u8>) -> Result<(), Allo
 
 /// Appends the peer's address between bars, and its AS number.
 fn put_peer(peer: &Peer, text: &mut Vec<u8>) -> Result<(), AllocError>
-    ensures { OnOk result (text.new.items ≡ text.old.items ++ (124 ∷ address_text peer.now.addr ++ 124 ∷ decimal peer.now.asn)) }
+    ensures { OnOk result (text.new.items ≡
+        text.old.items ++ (124 ∷ address_text peer.now.addr ++ 124 ∷ decimal peer.now.asn)) }
 {
     text.push(b'|')?;
     peer.addr.put_text(text)?;

@@ -73,7 +73,10 @@ impl Addr {
     #[inline]
     pub(crate) fn aligned(number: u128, family: Family) -> Self
         requires { IsAligned family number }
-        ensures { result ≡ record { family = family; bits = bits_of (bit_count family) (number / 2 ^ (128 - bit_count family)) } }
+        ensures { result ≡ record {
+          family = family;
+          bits = bits_of (bit_count family) (number / 2 ^ (128 - bit_count family));
+        } }
     {
         Addr { number, family }
     }
@@ -82,7 +85,8 @@ impl Addr {
     #[inline]
     pub(crate) fn number(&self) -> u128
         ensures aligned { IsAligned self.now.family result }
-        ensures bits { self.now.bits ≡ bits_of (bit_count self.now.family) (result / 2 ^ (128 - bit_count self.now.family)) }
+        ensures bits { self.now.bits ≡
+            bits_of (bit_count self.now.family) (result / 2 ^ (128 - bit_count self.now.family)) }
     {
         self.number
     }

@@ -47,7 +47,8 @@ impl Prefix {
     /// than an address of the family has.
     pub fn new(addr: Addr, len: u8) -> Option<Prefix>
         ensures { MatchOption result (bit_count addr.family < len)
-            (λ prefix. (len ≤ bit_count addr.family) × (prefix ≡ record { family = addr.family; bits = take len addr.bits })) }
+            (λ prefix. (len ≤ bit_count addr.family)
+            × (prefix ≡ record { family = addr.family; bits = take len addr.bits })) }
     {
         let family = addr.family();
         if len > width(family) {
