@@ -11,3 +11,15 @@ pub mod StateChangeLaws
 pub mod StepLaws
 pub mod TextLaws
 pub mod WritingLaws
+pub mod PairLaws
+pub mod TableLaws
+pub mod HistoryLaws
+pub mod AlongHistory
+pub mod TimelineLaws
+pub mod BackAndForth
+pub mod StoreLaws
+pub mod PeerPairs
+pub mod JournalLaws
+pub mod CursorLaws
+pub mod ChangesLaws
+pub mod EntryLaws

@@ -1,15 +1,8 @@
--- What a record says, once it is read: an event with its items.
-use Rattle.std.specs.Prelude.{ℕ, List, Option}
-use Rattle.bgpdump_tool.specs.declared.state_change.Peer.{Peer}
-
--- seconds since 1970, and the microseconds where the record has them
-pub record Time : Type 0 where
-  pub seconds : ℕ
-  pub micros : Option ℕ
-
--- which kind of record an event comes from
-pub data Tag : Type 0 where
-  Bgp4mp : Tag
+-- What a record says, once it is read: an event with its items. So far that is state changes alone; `src/player/event.rt` has events as they are played.
+use Rattle.std.specs.Prelude.{ℕ, List}
+use Rattle.bgpdump_tool.specs.declared.peer.Peer.{Peer}
+use Rattle.bgpdump_tool.specs.declared.player.event.Time.{Time}
+use Rattle.bgpdump_tool.specs.declared.player.event.Tag.{Tag}
 
 -- one line's worth of an event
 pub data Item : Type 0 where

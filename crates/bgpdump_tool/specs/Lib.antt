@@ -13,3 +13,10 @@ pub mod Run
 pub mod Status
 pub mod Step
 pub mod Whole
+pub mod History
+pub mod Tables
+pub mod Codes
+pub mod Store
+pub mod Timeline
+pub mod Changes
+pub mod Journal

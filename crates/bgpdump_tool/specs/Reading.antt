@@ -4,10 +4,11 @@ use Rattle.std.specs.Int.{to_be_bytes, w16}
 use Rattle.bgpdump_tool.specs.declared.fault.RecordKind.{RecordKind}
 use Rattle.bgpdump_tool.specs.declared.fault.RecordKind.TheVariants.{CutRecord, TooLong, Unsupported, Malformed}
 use Rattle.bgpdump_tool.specs.declared.stamp.Stamp.{Stamp}
-use Rattle.bgpdump_tool.specs.declared.state_change.Peer.{Peer}
+use Rattle.bgpdump_tool.specs.declared.peer.Peer.{Peer}
 use Rattle.bgpdump_tool.specs.declared.state_change.StateChange.{StateChange}
 use Rattle.bgpdump_tool.specs.Record.{Record}
-use Rattle.bgpdump_tool.specs.Event.{Event, State, Bgp4mp}
+use Rattle.bgpdump_tool.specs.declared.player.event.Tag.TheVariants.{Bgp4mp}
+use Rattle.bgpdump_tool.specs.Event.{Event, State}
 use Rattle.bgpdump_tool.specs.Content.{Content, Change, IsBody}
 
 -- what becomes of a record

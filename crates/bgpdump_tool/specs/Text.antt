@@ -1,20 +1,32 @@
 -- The texts of events and faults.
-use Rattle.std.specs.Prelude.{ℕ, List, [], ◌∷◌, ◌++◌, decimal, codes}
+use Rattle.std.specs.Prelude.{ℕ, ◌-◌, List, [], ◌∷◌, ◌++◌, length, replicate, decimal, codes}
+use Rattle.std.specs.Option.{unwrap_or}
 use Rattle.std.specs.List.{flat_map}
 use Rattle.ip_prefix.specs.Text.{address_text}
 use Rattle.bgpdump_tool.specs.declared.fault.RecordKind.{RecordKind}
 use Rattle.bgpdump_tool.specs.declared.fault.RecordKind.TheVariants.{CutRecord, TooLong, Unsupported, Malformed}
 use Rattle.bgpdump_tool.specs.declared.fault.RecordFault.{RecordFault}
-use Rattle.bgpdump_tool.specs.Event.{Time, Tag, Bgp4mp, Item, State, Event}
+use Rattle.bgpdump_tool.specs.declared.player.event.Time.{Time}
+use Rattle.bgpdump_tool.specs.declared.player.event.Tag.{Tag}
+use Rattle.bgpdump_tool.specs.declared.player.event.Tag.TheVariants.{TableDump2, Bgp4mp, Bgp4mpEt}
+use Rattle.bgpdump_tool.specs.Event.{Item, State, Event}
 use Rattle.bgpdump_tool.specs.Results.{Finding, Found, Bad}
 
 -- the first field of a line
 abbrev pub word : Tag → List ℕ
+word TableDump2 = codes "TABLE_DUMP2"
 word Bgp4mp = codes "BGP4MP"
+word Bgp4mpEt = codes "BGP4MP_ET"
+
+-- microseconds in at least six digits
+abbrev micros_text : ℕ → List ℕ
+micros_text micros = replicate (6 - length (decimal micros)) 48 ++ decimal micros
 
 -- the time of a line, by the kind of record
 abbrev pub time_text : Tag → Time → List ℕ
+time_text TableDump2 time = decimal time.seconds
 time_text Bgp4mp time = decimal time.seconds
+time_text Bgp4mpEt time = decimal time.seconds ++ 46 ∷ micros_text (unwrap_or time.micros 0)
 
 -- the fields, each ended by a bar but the last, which a line feed ends
 abbrev pub line_of : List (List ℕ) → List ℕ

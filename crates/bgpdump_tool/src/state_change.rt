@@ -5,6 +5,7 @@ ghost use Rattle.bgpdump_tool.specs.Content.{SpellsStateChange};
 ghost use Rattle.bgpdump_tool.specs.declared.state_change.StateChange.{StateChange};
 
 use crate::octets::{u16_at, u32_at};
+use crate::peer::Peer;
 use ip_prefix::Addr;
 
 /// How many octets a state change has, with AS numbers of two octets and IPv4 addresses.
@@ -12,13 +13,6 @@ const SIZE: usize = 20;
 
 /// The address family of IPv4.
 const IPV4: u16 = 1;
-
-/// A peer: its address and its AS number.
-#[derive(Clone, Copy)]
-pub(crate) struct Peer {
-    pub(crate) addr: Addr,
-    pub(crate) asn: u32,
-}
 
 /// A peer's old and new state (RFC 4271, section 8.2.2).
 #[derive(Clone, Copy)]

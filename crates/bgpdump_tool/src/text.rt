@@ -6,7 +6,8 @@ ghost use Rattle.bgpdump_tool.specs.Reading.{state_event};
 ghost use Rattle.bgpdump_tool.specs.Text.{event_lines, kind_text, fault_report};
 
 use crate::fault::{RecordFault, RecordKind};
-use crate::state_change::{Peer, StateChange};
+use crate::peer::Peer;
+use crate::state_change::StateChange;
 use ip_prefix::put_decimal;
 use std::alloc::AllocError;
 

@@ -63,7 +63,7 @@ bits_cmp-IsAntisymmetric = slice_cmp-IsAntisymmetric booleans
     booleans false false e = refl
 
 -- both of two orders tie where the one after the other does
-both_tie : (r s : Ordering) → ordering_then r s ≡ Equal → (r ≡ Equal) × (s ≡ Equal)
+pub both_tie : (r s : Ordering) → ordering_then r s ≡ Equal → (r ≡ Equal) × (s ≡ Equal)
 both_tie Less s e = cc
 both_tie Equal s e = (refl, e)
 both_tie Greater s e = cc

@@ -1,0 +1,184 @@
+-- What a step's entries do to a table, and what crossing a step makes of a player.
+use Rattle.std.proofs.Common.{◌≡◌, ℕ, ◌+◌, ◌<◌, ◌≤◌, Bool, true, false, cond, ◌||◌, List, [], ◌∷◌, ◌++◌, length, get_or, take, drop, set, Option, Some, None, refl, sym, ap, subst, ◌∙◌, append_assoc}
+use Rattle.std.specs.List.{AllByRecursion, list_any, IsDistinct}
+use Rattle.std.specs.Ordering.{eq_by_cmp, is_eq}
+use Rattle.std.specs.Cmp.{eq_by_cmp_equiv, tied_itself}
+use Rattle.std.specs.FinMap as finite
+use Rattle.std.specs.FinSet as names
+use Rattle.std.specs.FinSet.{contains-from_list, contains-insert}
+use Rattle.std.proofs.lemmas.Bool.{or_parts}
+use Rattle.std.proofs.lemmas.List.{drop-drop, drop_more, take_more_set, map-append, map_more, take_at, length_push, length-take-le}
+use Rattle.std.proofs.lemmas.Map.Keys.{IsDistinct-head, IsDistinct-tail}
+use Rattle.bgpdump_tool.specs.declared.player.pair.Pair.{Pair}
+use Rattle.bgpdump_tool.specs.declared.player.event.Route.{Route}
+use Rattle.bgpdump_tool.specs.declared.player.event.Event.{Event}
+use Rattle.bgpdump_tool.specs.declared.player.journal.Entry.{Entry}
+use Rattle.bgpdump_tool.specs.History.{pair_cmp, Effect, Keep, Clear, Set, effect, applied}
+use Rattle.bgpdump_tool.specs.Tables.{Routes, Pairs, put, apply, is_named}
+use Rattle.bgpdump_tool.specs.Store.{route_in}
+use Rattle.bgpdump_tool.specs.Journal.{Side, side_of, sides_of, pairs_in, restored, crossed, IsKept, IsStepFor}
+use Rattle.bgpdump_tool.proofs.PairLaws.{pair_cmp_total, same_pair}
+use Rattle.bgpdump_tool.proofs.TableLaws.{untested, same_routes, get-put, get-apply, contains-named}
+
+-- a put at another pair leaves the route
+get-put_elsewhere : (routes : Routes) (pair q : Pair) (new : Option Route) → eq_by_cmp pair_cmp pair q ≡ false → finite.get (put routes pair new) q ≡ finite.get routes q
+get-put_elsewhere routes pair q new apart =
+    get-put routes pair new q
+    ∙ ap (λ b. cond b new (finite.get routes q)) ((eq_by_cmp_equiv pair_cmp_total).symm q pair ∙ apart)
+
+-- a put at another pair leaves the routes that crossing takes up
+crossed-put : (routes : Routes) (pair : Pair) (new : Option Route) (sides : List Side) → AllByRecursion (λ q. eq_by_cmp pair_cmp pair q ≡ false) (pairs_in sides)
+    → crossed (put routes pair new) sides ≡ crossed routes sides
+crossed-put routes pair new [] apart = refl
+crossed-put routes pair new (side ∷ sides) apart =
+    λ i. (side.0, get-put_elsewhere routes pair side.0 new apart.0 i) ∷ crossed-put routes pair new sides apart.1 i
+
+-- the entries that are left, by the first of them
+pub rest_of_entries : (i : ℕ) (entries first : List Entry) (default : Entry) → i < length entries → drop i entries ≡ drop i first
+    → drop i first ≡ get_or entries i default ∷ drop (i + 1) first
+rest_of_entries i entries first default within same =
+    let front : drop i first ≡ get_or entries i default ∷ drop (i + 1) entries = sym same ∙ drop_more entries i default within in
+    front ∙ ap (λ es. get_or entries i default ∷ es) (sym (ap (drop 1) front) ∙ drop-drop 1 i first)
+
+-- kept entries are still kept without the first
+pub kept-tail : (keys : Pairs) (side : Side) (sides : List Side) → IsKept keys (side ∷ sides) → IsKept keys sides
+kept-tail keys side sides kept = record {
+  distinct = IsDistinct-tail (eq_by_cmp pair_cmp) side.0 (pairs_in sides) kept.distinct;
+  among_keys = kept.among_keys.1;
+}
+
+-- the first of kept entries has a key
+pub kept-head : (keys : Pairs) (side : Side) (sides : List Side) → IsKept keys (side ∷ sides) → names.contains keys side.0 ≡ true
+kept-head keys side sides kept = kept.among_keys.0
+
+-- crossing kept entries one by one
+pub crossed-tail : (keys : Pairs) (routes : Routes) (side : Side) (sides : List Side) → IsKept keys (side ∷ sides)
+    → crossed (put routes side.0 side.1) sides ≡ crossed routes sides
+crossed-tail keys routes side sides kept =
+    crossed-put routes side.0 side.1 sides (IsDistinct-head (eq_by_cmp pair_cmp) side.0 (pairs_in sides) kept.distinct)
+
+-- one entry more is crossed
+pub entries-more : (keys : Pairs) (routes routes' : Routes) (entries rest : List Entry) (i : ℕ) (entry entry' : Entry) (whole : List Side) → i < length entries
+    → IsKept keys (sides_of (entry ∷ rest)) → routes' ≡ put routes entry.pair (route_in entry.other) → side_of entry' ≡ (entry.pair, finite.get routes entry.pair)
+    → sides_of (take i entries) ++ crossed routes (sides_of (entry ∷ rest)) ≡ whole
+    → sides_of (take (i + 1) (set entries i entry')) ++ crossed routes' (sides_of rest) ≡ whole
+entries-more keys routes routes' entries rest i entry entry' whole within kept put_there given before =
+    ap (λ es. sides_of es ++ crossed routes' (sides_of rest)) (take_more_set entries i entry' within)
+    ∙ ap (λ s. s ++ crossed routes' (sides_of rest)) (map-append side_of (take i entries) (entry' ∷ []))
+    ∙ append_assoc (sides_of (take i entries)) (side_of entry' ∷ []) (crossed routes' (sides_of rest))
+    ∙ ap (λ s. sides_of (take i entries) ++ (s ∷ crossed routes' (sides_of rest))) given
+    ∙ ap (λ s. sides_of (take i entries) ++ ((entry.pair, finite.get routes entry.pair) ∷ s))
+    (ap (λ r. crossed r (sides_of rest)) put_there ∙ crossed-tail keys routes (side_of entry) (sides_of rest) kept)
+    ∙ before
+
+-- the pairs of a crossed step are those of the step
+pub pairs_in-crossed : (routes : Routes) (sides : List Side) → pairs_in (crossed routes sides) ≡ pairs_in sides
+pairs_in-crossed routes [] = refl
+pairs_in-crossed routes (side ∷ sides) = ap (λ pairs. side.0 ∷ pairs) (pairs_in-crossed routes sides)
+
+-- a crossed step is kept as the step is
+pub kept-crossed : (keys : Pairs) (routes : Routes) (sides : List Side) → IsKept keys sides → IsKept keys (crossed routes sides)
+kept-crossed keys routes sides kept = record {
+  distinct = subst (IsDistinct (eq_by_cmp pair_cmp)) (sym (pairs_in-crossed routes sides)) kept.distinct;
+  among_keys = subst (AllByRecursion (λ pair. names.contains keys pair ≡ true)) (sym (pairs_in-crossed routes sides)) kept.among_keys;
+}
+
+-- a choice after a choice
+second_choice : {A : Type 0} (b c : Bool) (x y z : A) → (b ≡ true → y ≡ x) → cond c x (cond b y z) ≡ cond (b || c) x z
+second_choice true true x y z same = refl
+second_choice true false x y z same = same refl
+second_choice false c x y z same = refl
+
+-- behind a step whose routes are those of a table, its pairs have that table's routes, and the others keep theirs
+pub get-restored_crossed : (routes before : Routes) (sides : List Side) (q : Pair)
+    → finite.get (restored (crossed routes sides) before) q ≡ cond (list_any (eq_by_cmp pair_cmp q) (pairs_in sides)) (finite.get routes q) (finite.get before q)
+get-restored_crossed routes before [] q = refl
+get-restored_crossed routes before (side ∷ sides) q =
+    get-restored_crossed routes (put before side.0 (finite.get routes side.0)) sides q
+    ∙ ap (cond (list_any (eq_by_cmp pair_cmp q) (pairs_in sides)) (finite.get routes q)) (get-put before side.0 (finite.get routes side.0) q)
+    ∙ second_choice (eq_by_cmp pair_cmp q side.0) (list_any (eq_by_cmp pair_cmp q) (pairs_in sides)) (finite.get routes q) (finite.get routes side.0) (finite.get before q)
+    (λ e. ap (finite.get routes) (sym (same_pair q side.0 e)))
+
+-- a step leaves the routes of the pairs that it doesn't name
+get-restored_elsewhere : (sides : List Side) (routes : Routes) (q : Pair) → list_any (eq_by_cmp pair_cmp q) (pairs_in sides) ≡ false
+    → finite.get (restored sides routes) q ≡ finite.get routes q
+get-restored_elsewhere [] routes q out = refl
+get-restored_elsewhere (side ∷ sides) routes q out =
+    let apart = or_parts (eq_by_cmp pair_cmp q side.0) (list_any (eq_by_cmp pair_cmp q) (pairs_in sides)) out in
+    get-restored_elsewhere sides (put routes side.0 side.1) q apart.1
+    ∙ get-put routes side.0 side.1 q ∙ ap (λ b. cond b side.1 (finite.get routes q)) apart.0
+
+-- a step that is crossed and crossed back gives back the table
+pub restored-crossed : (sides : List Side) (routes : Routes) → restored (crossed routes sides) (restored sides routes) ≡ routes
+restored-crossed sides routes = same_routes _ routes (λ q.
+    get-restored_crossed routes (restored sides routes) sides q
+    ∙ untested (list_any (eq_by_cmp pair_cmp q) (pairs_in sides)) (finite.get routes q) (finite.get (restored sides routes) q) (λ out. sym (get-restored_elsewhere sides routes q out)))
+
+-- an event leaves the routes of the pairs that it doesn't name
+unnamed-same : (before : Option Route) (does : Effect) → is_named before does ≡ false → before ≡ applied before does
+unnamed-same before Keep e = refl
+unnamed-same None Clear e = refl
+unnamed-same (Some old) Clear e = cc
+unnamed-same None (Set new) e = cc
+unnamed-same (Some old) (Set new) e = cc
+
+-- the step of an event leads to the table that the event is applied to
+pub restored-step : (routes : Routes) (event : Event) (sides : List Side) → IsStepFor routes event sides → restored sides routes ≡ apply routes event
+restored-step routes event sides step = same_routes _ _ (λ q.
+    ap (λ s. finite.get (restored s routes) q) step.after
+    ∙ get-restored_crossed (apply routes event) routes sides q
+    ∙ untested (list_any (eq_by_cmp pair_cmp q) (pairs_in sides)) (finite.get (apply routes event) q) (finite.get routes q) (λ out.
+    get-apply routes event q
+    ∙ sym (unnamed-same (finite.get routes q) (effect q event)
+    (sym (contains-named routes event q) ∙ ap (λ s. names.contains s q) (sym step.names) ∙ contains-from_list pair_cmp_total (pairs_in sides) q ∙ out))))
+
+-- a list up to one that was put in its place
+pub take_inserted : {X : Type 0} (xs : List X) (index : ℕ) (new : X) → index ≤ length xs → take (index + 1) (take index xs ++ new ∷ drop index xs) ≡ take index xs ++ new ∷ []
+take_inserted xs index new within =
+    ap (take (index + 1)) (sym (append_assoc (take index xs) (new ∷ []) (drop index xs)))
+    ∙ take_at (take index xs ++ new ∷ []) (drop index xs) (index + 1) (length_push (take index xs) new ∙ ap (λ n. n + 1) (length-take-le index xs within))
+
+-- what follows for each element
+all-then : {X : Type 0} (P Q : X → Type 0) (xs : List X) → ((x : X) → P x → Q x) → AllByRecursion P xs → AllByRecursion Q xs
+all-then P Q [] then all = tt
+all-then P Q (x ∷ xs) then all = (then x all.0, all-then P Q xs then all.1)
+
+-- one element more
+pub all-push : {X : Type 0} (P : X → Type 0) (xs : List X) (x : X) → AllByRecursion P xs → P x → AllByRecursion P (xs ++ x ∷ [])
+all-push P [] x all one = (one, tt)
+all-push P (y ∷ xs) x all one = (all.0, all-push P xs x all.1 one)
+
+-- keys that have a pair more have it and those that they had
+pub contains-more : (keys keys' : Pairs) (pair q : Pair) → keys' ≡ names.insert keys pair → names.contains keys q ≡ true → names.contains keys' q ≡ true
+contains-more keys keys' pair q e there =
+    ap (λ k. names.contains k q) e ∙ contains-insert pair_cmp_total keys pair q ∙ ap (λ b. eq_by_cmp pair_cmp q pair || b) there ∙ or-true (eq_by_cmp pair_cmp q pair)
+  where
+    or-true : (b : Bool) → (b || true) ≡ true
+    or-true true = refl
+    or-true false = refl
+
+pub contains-new : (keys keys' : Pairs) (pair : Pair) → keys' ≡ names.insert keys pair → names.contains keys' pair ≡ true
+contains-new keys keys' pair e =
+    ap (λ k. names.contains k pair) e ∙ contains-insert pair_cmp_total keys pair pair
+    ∙ ap (λ r. is_eq r || names.contains keys pair) (tied_itself pair_cmp_total pair)
+
+-- the pairs of one entry more are keys too
+pub keys-more : (keys keys' : Pairs) (entries : List Entry) (index : ℕ) (default : Entry) → index < length entries → keys' ≡ names.insert keys (get_or entries index default).pair
+    → AllByRecursion (λ pair. names.contains keys pair ≡ true) (pairs_in (sides_of (take index entries)))
+    → AllByRecursion (λ pair. names.contains keys' pair ≡ true) (pairs_in (sides_of (take (index + 1) entries)))
+keys-more keys keys' entries index default within e all =
+    let new : Pair = (get_or entries index default).pair in
+    let split : pairs_in (sides_of (take (index + 1) entries)) ≡ pairs_in (sides_of (take index entries)) ++ new ∷ [] =
+    ap pairs_in (map_more side_of entries index default within) ∙ map-append (λ (side : Side). side.0) (sides_of (take index entries)) (side_of (get_or entries index default) ∷ []) in
+    subst (AllByRecursion (λ pair. names.contains keys' pair ≡ true)) (sym split)
+    (all-push (λ pair. names.contains keys' pair ≡ true) (pairs_in (sides_of (take index entries))) new
+    (all-then (λ pair. names.contains keys pair ≡ true) (λ pair. names.contains keys' pair ≡ true) (pairs_in (sides_of (take index entries))) (λ q there. contains-more keys keys' new q e there) all)
+    (contains-new keys keys' new e))
+
+-- kept steps are kept by keys that have all that these had
+pub kept-more : (keys keys' : Pairs) (steps : List (List Side)) → ((q : Pair) → names.contains keys q ≡ true → names.contains keys' q ≡ true)
+    → AllByRecursion (IsKept keys) steps → AllByRecursion (IsKept keys') steps
+kept-more keys keys' steps more all = all-then (IsKept keys) (IsKept keys') steps (λ sides kept. record {
+  distinct = kept.distinct;
+  among_keys = all-then (λ pair. names.contains keys pair ≡ true) (λ pair. names.contains keys' pair ≡ true) (pairs_in sides) more kept.among_keys;
+}) all

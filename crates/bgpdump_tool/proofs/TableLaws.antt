@@ -1,0 +1,136 @@
+-- What tables have at each pair: those of histories and of events, and the pairs that events name.
+use Rattle.std.proofs.Common.{◌≡◌, Bool, true, false, cond, ◌&&◌, ◌||◌, List, [], ◌∷◌, map, Option, Some, None, is_some, refl, sym, ap, ◌∙◌}
+use Rattle.std.specs.List.{flat_map, filter, list_any}
+use Rattle.std.specs.Ordering.{eq_by_cmp}
+use Rattle.std.specs.FinMap.{get, keys, get-empty, get-insert, get-remove, same_map, contains_key-keys}
+use Rattle.std.specs.FinSet.{contains, contains-from_list}
+use Rattle.std.proofs.Math.Bool.{and-true}
+use Rattle.std.proofs.lemmas.Bool.{or_parts}
+use Rattle.std.proofs.lemmas.List.Folds.{list_any-append}
+use Rattle.std.proofs.lemmas.Map.Views.{any-filter_same}
+use Rattle.bgpdump_tool.specs.declared.player.pair.Pair.{Pair}
+use Rattle.bgpdump_tool.specs.declared.player.event.Route.{Route}
+use Rattle.bgpdump_tool.specs.declared.player.event.Item.{Item}
+use Rattle.bgpdump_tool.specs.declared.player.event.Item.TheVariants.{Announce, Withdraw, State}
+use Rattle.bgpdump_tool.specs.declared.player.event.Event.{Event}
+use Rattle.bgpdump_tool.specs.History.{peer_cmp, pair_cmp, pair_of, Effect, Keep, Clear, Set, where_true, is_loss, item_effect, later, last_effect, effect, applied, route}
+use Rattle.bgpdump_tool.specs.Tables.{Routes, put, tabulate, announced_by, announced, table, concerned, apply, is_named, named}
+use Rattle.bgpdump_tool.proofs.PairLaws.{pair_cmp_total, pair_cmp-IsAntisymmetric, same_pair}
+
+-- whether the pair is among these
+abbrev among : Pair → List Pair → Bool
+among q pairs = list_any (eq_by_cmp pair_cmp q) pairs
+
+-- tables with the same route at each pair are one
+pub same_routes : (a b : Routes) → ((q : Pair) → get a q ≡ get b q) → a ≡ b
+same_routes a b same = same_map pair_cmp_total pair_cmp-IsAntisymmetric a b same
+
+-- a put gives its pair the new route, or none, and leaves the others
+pub get-put : (routes : Routes) (pair : Pair) (new : Option Route) (q : Pair) → get (put routes pair new) q ≡ cond (eq_by_cmp pair_cmp q pair) new (get routes q)
+get-put routes pair None q = get-remove pair_cmp_total routes pair q
+get-put routes pair (Some new) q = get-insert pair_cmp_total routes pair new q
+
+-- a choice after a choice is one by either test
+first_or_rest : {A : Type 0} (b c : Bool) (x y rest none : A) → (b ≡ true → x ≡ y) → rest ≡ cond c y none → cond b x rest ≡ cond (b || c) y none
+first_or_rest true c x y rest none same is = same refl
+first_or_rest false c x y rest none same is = is
+
+-- a tabulated function has its value at the listed pairs, and nothing elsewhere
+pub get-tabulate : (f : Pair → Option Route) (pairs : List Pair) (q : Pair) → get (tabulate f pairs) q ≡ cond (list_any (eq_by_cmp pair_cmp q) pairs) (f q) None
+get-tabulate f [] q = get-empty pair_cmp q
+get-tabulate f (pair ∷ pairs) q =
+    get-put (tabulate f pairs) pair (f pair) q
+    ∙ first_or_rest (eq_by_cmp pair_cmp q pair) (among q pairs) (f pair) (f q) _ None (λ e. ap f (sym (same_pair q pair e))) (get-tabulate f pairs q)
+
+-- an effect and then a later one are the later of the two
+pub applied-later : (before : Option Route) (first second : Effect) → applied before (later first second) ≡ applied (applied before first) second
+applied-later before first Keep = refl
+applied-later before first Clear = refl
+applied-later before first (Set new) = refl
+
+-- a Clear, where a test holds, leaves no route where there was none
+cleared : (b : Bool) → applied None (where_true b Clear) ≡ None
+cleared true = refl
+cleared false = refl
+
+-- a Set, where a test fails, leaves no route where there was none
+not_set : (b : Bool) (new : Route) → b ≡ false → applied None (where_true b (Set new)) ≡ None
+not_set true new e = cc
+not_set false new e = refl
+
+-- an item leaves no route where it announces none and there was none
+unset_by_item : (q : Pair) (item : Item) → among q (announced_by item) ≡ false → applied None (item_effect q item) ≡ None
+unset_by_item q (Announce peer network new) e = not_set _ new.value (or_parts _ false e).0
+unset_by_item q (Withdraw peer network) e = cleared (eq_by_cmp pair_cmp q (pair_of peer network))
+unset_by_item q (State peer old new) e = cleared (eq_by_cmp peer_cmp q.peer peer && is_loss old new)
+
+-- so do several, where each of them does
+unset_by_all : {A : Type 0} (q : Pair) (listed : A → List Pair) (does : A → Effect) → ((a : A) → among q (listed a) ≡ false → applied None (does a) ≡ None)
+    → (xs : List A) → among q (flat_map listed xs) ≡ false → applied None (last_effect (map does xs)) ≡ None
+unset_by_all q listed does each [] e = refl
+unset_by_all q listed does each (x ∷ xs) e =
+    let none = or_parts _ _ (sym (list_any-append (eq_by_cmp pair_cmp q) (listed x) (flat_map listed xs)) ∙ e) in
+    applied-later None (does x) (last_effect (map does xs))
+    ∙ ap (λ r. applied r (last_effect (map does xs))) (each x none.0)
+    ∙ unset_by_all q listed does each xs none.1
+
+-- an event leaves no route where it announces none and there was none
+unset_by_event : (q : Pair) (event : Event) → among q (announced event) ≡ false → applied None (effect q event) ≡ None
+unset_by_event q event e = unset_by_all q announced_by (item_effect q) (unset_by_item q) event.items.items e
+
+-- a history leaves no route where it announces none
+unset_by_history : (q : Pair) (history : List Event) → among q (flat_map announced history) ≡ false → route q history ≡ None
+unset_by_history q history e = unset_by_all q announced (effect q) (unset_by_event q) history e
+
+-- what is nothing where a test fails needs no test
+pub untested : {A : Type 0} (b : Bool) (x none : A) → (b ≡ false → x ≡ none) → cond b x none ≡ x
+untested true x none is = refl
+untested false x none is = sym (is refl)
+
+-- the table of a history has the history's route at each pair
+pub get-table : (history : List Event) (pair : Pair) → get (table history) pair ≡ route pair history
+unfolding table
+get-table history pair =
+    get-tabulate (λ p. route p history) (flat_map announced history) pair
+    ∙ untested (among pair (flat_map announced history)) (route pair history) None (unset_by_history pair history)
+
+-- what concerns a pair: it has a route, or the event announces one
+among-concerned : (routes : Routes) (event : Event) (q : Pair) → among q (concerned routes event) ≡ (is_some (get routes q) || among q (announced event))
+among-concerned routes event q =
+    list_any-append (eq_by_cmp pair_cmp q) (keys routes) (announced event)
+    ∙ ap (λ b. b || among q (announced event)) (sym (contains_key-keys routes q))
+
+-- a pair that is not concerned has no route before the event and none after it
+unconcerned : (before : Option Route) (does : Effect) (b : Bool) → (b ≡ false → applied None does ≡ None) → (is_some before || b) ≡ false → applied before does ≡ None
+unconcerned None does b is e = is e
+unconcerned (Some old) does b is e = cc
+
+-- a table after an event has, at each pair, what the event's effect leaves
+pub get-apply : (routes : Routes) (event : Event) (pair : Pair) → get (apply routes event) pair ≡ applied (get routes pair) (effect pair event)
+unfolding apply
+get-apply routes event pair =
+    get-tabulate (λ p. applied (get routes p) (effect p event)) (concerned routes event) pair
+    ∙ untested (among pair (concerned routes event)) (applied (get routes pair) (effect pair event)) None
+    (λ e. unconcerned (get routes pair) (effect pair event) (among pair (announced event)) (unset_by_event pair event) (sym (among-concerned routes event pair) ∙ e))
+
+-- an event does not name a pair without a route before it and after it
+unnamed : (does : Effect) → applied None does ≡ None → is_named None does ≡ false
+unnamed Keep e = refl
+unnamed Clear e = refl
+unnamed (Set new) e = cc
+
+-- a pair that an event names is concerned
+named_concerned : (before : Option Route) (does : Effect) (b : Bool) → (b ≡ false → applied None does ≡ None) → (is_named before does && (is_some before || b)) ≡ is_named before does
+named_concerned None does true is = and-true (is_named None does)
+named_concerned None does false is = ap (λ n. n && false) (unnamed does (is refl)) ∙ sym (unnamed does (is refl))
+named_concerned (Some old) does b is = and-true (is_named (Some old) does)
+
+-- an event names the pairs that it sets or clears and that have a route before it or after it
+pub contains-named : (routes : Routes) (event : Event) (pair : Pair) → contains (named routes event) pair ≡ is_named (get routes pair) (effect pair event)
+unfolding named
+contains-named routes event pair =
+    let test = λ (p : Pair). is_named (get routes p) (effect p event) in
+    contains-from_list pair_cmp_total (filter test (concerned routes event)) pair
+    ∙ any-filter_same (eq_by_cmp pair_cmp pair) test (test pair) (λ p e. ap test (sym (same_pair pair p e))) (concerned routes event)
+    ∙ ap (λ b. test pair && b) (among-concerned routes event pair)
+    ∙ named_concerned (get routes pair) (effect pair event) (among pair (announced event)) (unset_by_event pair event)

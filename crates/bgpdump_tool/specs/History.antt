@@ -1,0 +1,69 @@
+-- What events do to the routes of peers, and the route that a history of events leaves at a peer and a prefix.
+use Rattle.std.specs.Prelude.{ℕ, Bool, true, false, ◌&&◌, not, ◌==◌, List, [], ◌∷◌, map, Option, Some, None}
+use Rattle.std.specs.declared.cmp.Ordering.{Ordering}
+use Rattle.std.specs.Ordering.{nat_cmp, on, then_cmp, eq_by_cmp}
+use Rattle.ip_prefix.specs.Network.{Network}
+use Rattle.ip_prefix.specs.Order.{address_cmp, network_cmp}
+use Rattle.bgpdump_tool.specs.declared.peer.Peer.{Peer}
+use Rattle.bgpdump_tool.specs.declared.player.pair.Pair.{Pair}
+use Rattle.bgpdump_tool.specs.declared.player.event.Route.{Route}
+use Rattle.bgpdump_tool.specs.declared.player.event.Item.{Item}
+use Rattle.bgpdump_tool.specs.declared.player.event.Item.TheVariants.{Announce, Withdraw, State}
+use Rattle.bgpdump_tool.specs.declared.player.event.Event.{Event}
+
+-- peers by address and then by AS number
+abbrev pub peer_cmp : Peer → Peer → Ordering
+peer_cmp = then_cmp (on (λ p. p.addr) address_cmp) (on (λ p. p.asn) nat_cmp)
+
+-- pairs by peer and then by prefix
+abbrev pub pair_cmp : Pair → Pair → Ordering
+pair_cmp = then_cmp (on (λ p. p.peer) peer_cmp) (on (λ p. p.prefix) network_cmp)
+
+-- a peer and a prefix
+abbrev pub pair_of : Peer → Network → Pair
+pair_of peer network = record { peer = peer; prefix = network }
+
+-- what an item or an event does to the route at a pair
+pub data Effect : Type 0 where
+  Keep : Effect
+  Clear : Effect
+  Set : Route → Effect
+
+-- this effect where the condition holds
+abbrev pub where_true : Bool → Effect → Effect
+where_true true effect = effect
+where_true false effect = Keep
+
+-- the session leaves Established, whose number is 6 (RFC 6396, section 4.4.1)
+abbrev pub is_loss : ℕ → ℕ → Bool
+is_loss old new = (old == 6) && not (new == 6)
+
+abbrev pub item_effect : Pair → Item → Effect
+item_effect pair (Announce peer network route) = where_true (eq_by_cmp pair_cmp pair (pair_of peer network)) (Set route.value)
+item_effect pair (Withdraw peer network) = where_true (eq_by_cmp pair_cmp pair (pair_of peer network)) Clear
+item_effect pair (State peer old new) = where_true (eq_by_cmp peer_cmp pair.peer peer && is_loss old new) Clear
+
+-- the later of two effects, where it isn't Keep
+abbrev pub later : Effect → Effect → Effect
+later first Keep = first
+later first Clear = Clear
+later first (Set route) = Set route
+
+-- the last effect that isn't Keep
+abbrev pub last_effect : List Effect → Effect
+last_effect [] = Keep
+last_effect (effect ∷ effects) = later effect (last_effect effects)
+
+-- the last item that concerns the pair decides
+abbrev pub effect : Pair → Event → Effect
+effect pair event = last_effect (map (item_effect pair) event.items.items)
+
+-- the route behind an effect
+abbrev pub applied : Option Route → Effect → Option Route
+applied route Keep = route
+applied route Clear = None
+applied route (Set new) = Some new
+
+-- the route after a history, whose last event that concerns the pair decides
+abbrev pub route : Pair → List Event → Option Route
+route pair history = applied None (last_effect (map (effect pair) history))

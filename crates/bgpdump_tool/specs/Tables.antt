@@ -1,0 +1,63 @@
+-- Tables of routes: the table of a history, an event applied to a table, and the pairs that it names.
+use Rattle.std.specs.Prelude.{Bool, true, false, ◌&&◌, ◌||◌, not, List, [], ◌∷◌, ◌++◌, Option, Some, None, is_some}
+use Rattle.std.specs.List.{flat_map, filter}
+use Rattle.std.specs.FinMap.{FinMap, empty, get, insert, remove, keys}
+use Rattle.std.specs.FinSet.{FinSet, from_list}
+use Rattle.bgpdump_tool.specs.declared.player.pair.Pair.{Pair}
+use Rattle.bgpdump_tool.specs.declared.player.event.Route.{Route}
+use Rattle.bgpdump_tool.specs.declared.player.event.Item.{Item}
+use Rattle.bgpdump_tool.specs.declared.player.event.Item.TheVariants.{Announce, Withdraw, State}
+use Rattle.bgpdump_tool.specs.declared.player.event.Event.{Event}
+use Rattle.bgpdump_tool.specs.History.{pair_cmp, pair_of, Effect, Keep, Clear, Set, effect, applied, route}
+
+-- at most one route at each pair
+abbrev pub Routes : Type 0
+Routes = FinMap pair_cmp Route
+
+abbrev pub Pairs : Type 0
+Pairs = FinSet pair_cmp
+
+-- the routes with this one, or none, at the pair
+abbrev pub put : Routes → Pair → Option Route → Routes
+put routes pair None = remove routes pair
+put routes pair (Some new) = insert routes pair new
+
+-- what the function has at these pairs, and nothing elsewhere
+abbrev pub tabulate : (Pair → Option Route) → List Pair → Routes
+tabulate f [] = empty
+tabulate f (pair ∷ pairs) = put (tabulate f pairs) pair (f pair)
+
+-- the pairs to which an item announces a route
+abbrev pub announced_by : Item → List Pair
+announced_by (Announce peer network new) = pair_of peer network ∷ []
+announced_by (Withdraw peer network) = []
+announced_by (State peer old new) = []
+
+-- the pairs to which an event announces a route
+abbrev pub announced : Event → List Pair
+announced event = flat_map announced_by event.items.items
+
+-- the routes after a history
+unfoldable pub table : List Event → Routes
+table history = tabulate (λ pair. route pair history) (flat_map announced history)
+
+-- the pairs that a table has routes at, or an event announces routes to
+abbrev pub concerned : Routes → Event → List Pair
+concerned routes event = keys routes ++ announced event
+
+-- the routes after an event
+unfoldable pub apply : Routes → Event → Routes
+apply routes event = tabulate (λ pair. applied (get routes pair) (effect pair event)) (concerned routes event)
+
+abbrev pub is_keep : Effect → Bool
+is_keep Keep = true
+is_keep Clear = false
+is_keep (Set new) = false
+
+-- an event names a pair that it sets or clears and that has a route before it or after it
+abbrev pub is_named : Option Route → Effect → Bool
+is_named before effect = not (is_keep effect) && (is_some before || is_some (applied before effect))
+
+-- the pairs that an event names
+unfoldable pub named : Routes → Event → Pairs
+named routes event = from_list (filter (λ pair. is_named (get routes pair) (effect pair event)) (concerned routes event))

@@ -1,0 +1,93 @@
+//! Laws of the player's definitions.
+
+ghost use Rattle.std.specs.Prelude.{◌≡◌, ℕ, ◌≤◌, ◌<◌, ◌-◌, ◌++◌, ◌∷◌, [], List, Option, Some, length, take, map, replicate, slice_get};
+ghost use Rattle.std.specs.Option.{option_map};
+ghost use Rattle.std.specs.Cmp.{IsTotalOrder};
+ghost use Rattle.std.specs.FinMap.{IsAntisymmetric};
+ghost use Rattle.std.specs.FinMap as finite;
+ghost use Rattle.std.specs.FinSet as set;
+ghost use Rattle.bgpdump_tool.specs.declared.peer.Peer.{Peer};
+ghost use Rattle.bgpdump_tool.specs.declared.player.event.Event.{Event};
+ghost use Rattle.bgpdump_tool.specs.declared.player.pair.Pair.{Pair};
+ghost use Rattle.bgpdump_tool.specs.History.{peer_cmp, pair_cmp, effect, applied, route};
+ghost use Rattle.bgpdump_tool.specs.Tables.{Routes, table, apply, is_named, named};
+ghost use Rattle.bgpdump_tool.specs.Timeline.{Timeline, Call, Play, Undo, Redo, StandsFor, fresh, end_of, table_at, current, undone, redone, played, after_call, after_calls, history_after, history_after_calls};
+
+use crate::peer::Peer;
+
+/// Peers are ordered by address and then by AS number. The order is total, and only equal ones tie.
+pub fn peer_order()
+    ensures parts { (a b : Peer) → ⟦<Peer as Ord>⟧.cmp a b ≡ peer_cmp a b }
+    ensures total { IsTotalOrder peer_cmp }
+    ensures ties { IsAntisymmetric peer_cmp }
+{}
+
+/// The order of pairs is total, and only equal ones tie.
+pub fn pair_order()
+    ensures total { IsTotalOrder pair_cmp }
+    ensures ties { IsAntisymmetric pair_cmp }
+{}
+
+/// Tables have what their definitions say, at each pair.
+pub fn routes_at_pairs()
+    ensures table { (history : List Event) (pair : Pair) →
+        finite.get (table history) pair ≡ route pair history }
+    ensures apply { (routes : Routes) (event : Event) (pair : Pair) →
+        finite.get (apply routes event) pair ≡ applied (finite.get routes pair) (effect pair event) }
+    ensures named { (routes : Routes) (event : Event) (pair : Pair) →
+        set.contains (named routes event) pair ≡ is_named (finite.get routes pair) (effect pair event) }
+{}
+
+/// The table of a history that goes on by an event is that event applied to its table.
+pub fn one_event_more()
+    ensures { (history : List Event) (event : Event) →
+        table (history ++ event ∷ []) ≡ apply (table history) event }
+{}
+
+/// A player that stands for a history has, at each position that it keeps, the table of the
+/// events before it, and each step that it keeps names what the event there does.
+pub fn tables_by_position()
+    ensures tables { (t : Timeline) (history : List Event) → StandsFor t history →
+        (i : ℕ) → t.floor ≤ i → i ≤ length history → table_at t i ≡ table (take i history) }
+    ensures steps { (t : Timeline) (history : List Event) → StandsFor t history →
+        (i : ℕ) → t.floor ≤ i →
+        slice_get t.steps (i - t.floor) ≡ option_map (named (table (take i history))) (slice_get history i) }
+    ensures end { (t : Timeline) (history : List Event) → StandsFor t history →
+        end_of t ≡ length history }
+    ensures routes { (t : Timeline) (history : List Event) → StandsFor t history →
+        (pair : Pair) → finite.get (current t) pair ≡ route pair (take t.cursor history) }
+{}
+
+/// A player that stands for a history stands for the stated one after each call.
+pub fn history_after_one_call()
+    ensures { (t : Timeline) (history : List Event) (call : Call) → StandsFor t history →
+        StandsFor (after_call t call) (history_after t.cursor history call) }
+{}
+
+/// After any calls of a new player, refused ones among them, it stands for the stated history;
+/// and so does any player that stood for one.
+pub fn history_after_all_calls()
+    ensures new { (calls : List Call) →
+        StandsFor (after_calls fresh calls) (history_after_calls fresh [] calls) }
+    ensures any { (t : Timeline) (history : List Event) (calls : List Call) → StandsFor t history →
+        StandsFor (after_calls t calls) (history_after_calls t history calls) }
+{}
+
+/// Undoing a step that was played gives back the table before it, and redoing one that was
+/// undone gives back the player.
+pub fn one_step_back()
+    ensures undo { (t : Timeline) (history : List Event) (event : Event) → StandsFor t history →
+        current (undone (played t event)) ≡ current t }
+    ensures redo { (t : Timeline) (history : List Event) → StandsFor t history →
+        t.floor < t.cursor → redone (undone t) ≡ t }
+{}
+
+/// Events that were played and undone leave the first table, and redone they leave that of the
+/// history with these events.
+pub fn steps_back_and_forth()
+    ensures back { (t : Timeline) (history events : List Event) → StandsFor t history →
+        current (after_calls t (map Play events ++ replicate (length events) Undo)) ≡ current t }
+    ensures forth { (t : Timeline) (history events : List Event) → StandsFor t history →
+        current (after_calls t (map Play events ++ (replicate (length events) Undo ++ replicate (length events) Redo)))
+        ≡ table (take t.cursor history ++ events) }
+{}
