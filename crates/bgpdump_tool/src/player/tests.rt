@@ -1,8 +1,9 @@
 //! The player on event values.
 
-use crate::{Event, Item, Nothing, Peer, PlayFault, Player, Route, Tag, Time};
+use crate::{Event, Item, Peer, PlayFault, Player, Route, Tag, Time};
 use ip_prefix::{Addr, Prefix};
 use std::alloc::{AllocError, Global};
+use std::process::Abort;
 use std::rc::Rc;
 use std::test::Fail;
 
@@ -35,28 +36,84 @@ fn eight(octet: u8) -> Prefix {
     Prefix::new(Addr::v4([octet, 0, 0, 0]), 8).unwrap()
 }
 
-/// The announcement of 10.0.0.0/8 by the peer at this time.
-fn announce(alloc: Global, time: u32) -> Result<Item, AllocError> {
-    announce_by(alloc, peer(), 10, time)
+/// An item about the peer, in short.
+#[derive(Clone, Copy)]
+enum Say {
+    /// The announcement of 10.0.0.0/8 with this time.
+    Announce(u32),
+    /// That of the prefix of this octet.
+    AnnounceOf(u8, u32),
+    /// The withdrawal of 10.0.0.0/8.
+    Withdraw,
+    State(u16, u16),
 }
 
-fn announce_by(alloc: Global, peer: Peer, octet: u8, time: u32) -> Result<Item, AllocError> {
-    Ok(Item::Announce(peer, eight(octet), Rc::new(alloc, Route { time })?))
+/// A call of the player.
+#[derive(Clone, Copy)]
+enum Call<'a> {
+    Play(&'a [Say]),
+    Undo,
+    Redo,
 }
 
-/// The withdrawal of 10.0.0.0/8 by the peer.
-fn withdraw() -> Item {
-    Item::Withdraw(peer(), eight(10))
+/// What a call answers.
+#[derive(Clone, Copy, Debug, PartialEq, Eq)]
+enum Answer {
+    Dropped(u64),
+    Refused,
+    Done,
+    Nothing,
 }
 
-fn play(player: &mut Player, items: Vec<Item>) -> Result<u64, PlayFault> {
-    player.play(&Event {
+/// A call, what it answers, and the time of the peer's route to 10.0.0.0/8 then.
+type Row<'a> = (Call<'a>, Answer, Option<u32>);
+
+fn announcement(alloc: Global, peer: Peer, octet: u8, time: u32) -> Result<Item, AllocError> {
+    let route = Rc::new(alloc, Route { time })?;
+    Ok(Item::Announce(peer, eight(octet), route))
+}
+
+fn item(alloc: Global, say: Say) -> Result<Item, AllocError> {
+    match say {
+        Say::Announce(time) => announcement(alloc, peer(), 10, time),
+        Say::AnnounceOf(octet, time) => announcement(alloc, peer(), octet, time),
+        Say::Withdraw => Ok(Item::Withdraw(peer(), eight(10))),
+        Say::State(old, new) => Ok(Item::State(peer(), old, new)),
+    }
+}
+
+fn event(alloc: Global, items: &[Say]) -> Result<Event, AllocError> {
+    let mut event = Event {
         time: Time {
             seconds: 100,
             micros: None,
         },
         tag: Tag::Bgp4mp,
-        items,
+        items: Vec::new(alloc),
+    };
+    for say in items {
+        event.items.push(item(alloc, *say)?)?;
+    }
+    Ok(event)
+}
+
+fn answer_to(player: &mut Player, event: &Event) -> Answer {
+    match player.play(event) {
+        Ok(dropped) => Answer::Dropped(dropped),
+        Err(PlayFault::Memory) => Answer::Refused,
+    }
+}
+
+fn make_call(alloc: Global, player: &mut Player, call: Call) -> Result<Answer, AllocError> {
+    let moved = match call {
+        Call::Play(items) => return Ok(answer_to(player, &event(alloc, items)?)),
+        Call::Undo => player.undo(),
+        Call::Redo => player.redo(),
+    };
+    Ok(if moved.is_ok() {
+        Answer::Done
+    } else {
+        Answer::Nothing
     })
 }
 
@@ -68,160 +125,195 @@ fn time_of(player: &Player, peer: Peer, octet: u8) -> Option<u32> {
     }
 }
 
-/// The time of the peer's route to 10.0.0.0/8.
-fn time(player: &Player) -> Option<u32> {
-    time_of(player, peer(), 10)
+/// Makes the calls one after another, and compares what they answer and leave.
+fn follow(
+    rt: &impl Abort,
+    alloc: Global,
+    player: &mut Player,
+    rows: &[Row],
+) -> Result<(), AllocError> {
+    for (made, answer, time) in rows {
+        assert_eq!(rt; make_call(alloc, player, *made)?, *answer);
+        assert_eq!(rt; time_of(player, peer(), 10), *time);
+    }
+    Ok(())
 }
 
 #[test]
 fn withdraws_and_announces_in_one_event(rt: HostRuntime) -> Result<(), Fail> {
-    let alloc = rt.alloc();
-    let mut player = Player::new(alloc);
-    assert_eq!(rt;
-        play(&mut player, vec![in alloc; announce(alloc, 1)?]?),
-        Ok(0)
-    );
-    assert_eq!(rt;
-        play(
-            &mut player,
-            vec![in alloc; withdraw(), announce(alloc, 2)?]?
+    let mut player = Player::new(rt.alloc());
+    let rows = [
+        (Call::Play(&[Say::Announce(1)]), Answer::Dropped(0), Some(1)),
+        (
+            Call::Play(&[Say::Withdraw, Say::Announce(2)]),
+            Answer::Dropped(0),
+            Some(2),
         ),
-        Ok(0)
-    );
-    assert_eq!(rt; time(&player), Some(2));
-    assert_eq!(rt; player.undo(), Ok(()));
-    assert_eq!(rt; time(&player), Some(1));
-    assert_eq!(rt; player.redo(), Ok(()));
-    assert_eq!(rt; time(&player), Some(2));
+        (Call::Undo, Answer::Done, Some(1)),
+        (Call::Redo, Answer::Done, Some(2)),
+    ];
+    follow(&rt, rt.alloc(), &mut player, &rows)?;
     Ok(())
 }
 
 #[test]
 fn takes_the_last_of_two_announcements(rt: HostRuntime) -> Result<(), Fail> {
-    let alloc = rt.alloc();
-    let mut player = Player::new(alloc);
-    let items = vec![in alloc; announce(alloc, 1)?, announce(alloc, 2)?]?;
-    assert_eq!(rt; play(&mut player, items), Ok(0));
-    assert_eq!(rt; time(&player), Some(2));
-    assert_eq!(rt; player.undo(), Ok(()));
-    assert_eq!(rt; time(&player), None);
+    let mut player = Player::new(rt.alloc());
+    let rows = [
+        (
+            Call::Play(&[Say::Announce(1), Say::Announce(2)]),
+            Answer::Dropped(0),
+            Some(2),
+        ),
+        (Call::Undo, Answer::Done, None),
+    ];
+    follow(&rt, rt.alloc(), &mut player, &rows)?;
     Ok(())
 }
 
 #[test]
 fn takes_the_last_item_of_a_pair(rt: HostRuntime) -> Result<(), Fail> {
-    let alloc = rt.alloc();
-    let mut player = Player::new(alloc);
-    assert_eq!(rt;
-        play(
-            &mut player,
-            vec![in alloc; announce(alloc, 1)?, withdraw()]?
+    let mut player = Player::new(rt.alloc());
+    let items = [
+        Say::Announce(2),
+        Say::AnnounceOf(11, 3),
+        Say::State(6, 1),
+        Say::AnnounceOf(12, 4),
+    ];
+    let rows = [
+        (
+            Call::Play(&[Say::Announce(1), Say::Withdraw]),
+            Answer::Dropped(0),
+            None,
         ),
-        Ok(0)
-    );
-    assert_eq!(rt; time(&player), None);
-    let items = vec![in alloc;
-        announce(alloc, 2)?,
-        announce_by(alloc, peer(), 11, 3)?,
-        Item::State(peer(), 6, 1),
-        announce_by(alloc, peer(), 12, 4)?,
-    ]?;
-    assert_eq!(rt; play(&mut player, items), Ok(0));
-    assert_eq!(rt; time(&player), None);
+        (Call::Play(&items), Answer::Dropped(0), None),
+    ];
+    follow(&rt, rt.alloc(), &mut player, &rows)?;
     assert_eq!(rt; time_of(&player, peer(), 11), None);
     assert_eq!(rt; time_of(&player, peer(), 12), Some(4));
-    assert_eq!(rt; player.undo(), Ok(()));
-    assert_eq!(rt; time_of(&player, peer(), 12), None);
     Ok(())
 }
 
 #[test]
 fn loses_the_routes_of_a_lost_session(rt: HostRuntime) -> Result<(), Fail> {
-    let alloc = rt.alloc();
-    let mut player = Player::new(alloc);
-    assert_eq!(rt;
-        play(&mut player, vec![in alloc; announce(alloc, 1)?]?),
-        Ok(0)
-    );
-    assert_eq!(rt;
-        play(&mut player, vec![in alloc; Item::State(peer(), 6, 1)]?),
-        Ok(0)
-    );
-    assert_eq!(rt; time(&player), None);
-    assert_eq!(rt; player.undo(), Ok(()));
-    assert_eq!(rt; time(&player), Some(1));
+    let mut player = Player::new(rt.alloc());
+    let rows = [
+        (Call::Play(&[Say::Announce(1)]), Answer::Dropped(0), Some(1)),
+        (Call::Play(&[Say::State(6, 1)]), Answer::Dropped(0), None),
+        (Call::Undo, Answer::Done, Some(1)),
+    ];
+    follow(&rt, rt.alloc(), &mut player, &rows)?;
     Ok(())
 }
 
 #[test]
 fn keeps_routes_at_other_state_changes(rt: HostRuntime) -> Result<(), Fail> {
-    let alloc = rt.alloc();
-    let mut player = Player::new(alloc);
-    assert_eq!(rt;
-        play(&mut player, vec![in alloc; announce(alloc, 1)?]?),
-        Ok(0)
-    );
-    for (old, new) in [(6, 6), (1, 6), (5, 6), (1, 3)] {
-        let items = vec![in alloc; Item::State(peer(), old, new)]?;
-        assert_eq!(rt; play(&mut player, items), Ok(0));
-        assert_eq!(rt; time(&player), Some(1), "from {old} to {new}");
-    }
+    let mut player = Player::new(rt.alloc());
+    let rows = [
+        (Call::Play(&[Say::Announce(1)]), Answer::Dropped(0), Some(1)),
+        (Call::Play(&[Say::State(6, 6)]), Answer::Dropped(0), Some(1)),
+        (Call::Play(&[Say::State(1, 6)]), Answer::Dropped(0), Some(1)),
+        (Call::Play(&[Say::State(5, 6)]), Answer::Dropped(0), Some(1)),
+        (Call::Play(&[Say::State(1, 3)]), Answer::Dropped(0), Some(1)),
+    ];
+    follow(&rt, rt.alloc(), &mut player, &rows)?;
     Ok(())
 }
 
 #[test]
-fn clears_the_lost_peer_alone(rt: HostRuntime) -> Result<(), Fail> {
-    let alloc = rt.alloc();
-    let mut player = Player::new(alloc);
-    for (peer, time) in [(peer(), 1), (neighbour(), 2), (sibling(), 3)] {
-        for octet in 1..=50u8 {
-            let items = vec![in alloc; announce_by(alloc, peer, octet, time)?]?;
-            assert_eq!(rt; play(&mut player, items), Ok(0));
-        }
-    }
-    assert_eq!(rt;
-        play(&mut player, vec![in alloc; Item::State(peer(), 6, 1)]?),
-        Ok(0)
-    );
-    assert_eq!(rt; player.at(), 151);
-    for octet in 1..=50u8 {
-        assert_eq!(rt; time_of(&player, peer(), octet), None);
-        assert_eq!(rt; time_of(&player, neighbour(), octet), Some(2));
-        assert_eq!(rt; time_of(&player, sibling(), octet), Some(3));
-    }
-    assert_eq!(rt; player.undo(), Ok(()));
-    for octet in 1..=50u8 {
-        assert_eq!(rt; time_of(&player, peer(), octet), Some(1));
-        assert_eq!(rt; time_of(&player, neighbour(), octet), Some(2));
-    }
+fn answers_nothing_where_no_step_stands(rt: HostRuntime) -> Result<(), Fail> {
+    let mut player = Player::new(rt.alloc());
+    let rows = [
+        (Call::Undo, Answer::Nothing, None),
+        (Call::Redo, Answer::Nothing, None),
+        (Call::Play(&[Say::Announce(1)]), Answer::Dropped(0), Some(1)),
+        (Call::Redo, Answer::Nothing, Some(1)),
+        (Call::Undo, Answer::Done, None),
+        (Call::Undo, Answer::Nothing, None),
+    ];
+    follow(&rt, rt.alloc(), &mut player, &rows)?;
+    assert_eq!(rt; (player.at(), player.ahead()), (0, 1));
+    Ok(())
+}
+
+#[test]
+fn drops_the_steps_ahead(rt: HostRuntime) -> Result<(), Fail> {
+    let mut player = Player::new(rt.alloc());
+    let rows = [
+        (Call::Play(&[Say::Announce(1)]), Answer::Dropped(0), Some(1)),
+        (Call::Play(&[Say::Announce(2)]), Answer::Dropped(0), Some(2)),
+        (Call::Play(&[Say::Announce(3)]), Answer::Dropped(0), Some(3)),
+        (Call::Undo, Answer::Done, Some(2)),
+        (Call::Undo, Answer::Done, Some(1)),
+        (Call::Play(&[Say::Withdraw]), Answer::Dropped(2), None),
+        (Call::Redo, Answer::Nothing, None),
+        (Call::Undo, Answer::Done, Some(1)),
+    ];
+    follow(&rt, rt.alloc(), &mut player, &rows)?;
+    assert_eq!(rt; (player.at(), player.ahead()), (1, 1));
     Ok(())
 }
 
 #[test]
 fn goes_back_and_forth_over_many_steps(rt: HostRuntime) -> Result<(), Fail> {
-    let alloc = rt.alloc();
-    let mut player = Player::new(alloc);
-    assert_eq!(rt;
-        play(&mut player, vec![in alloc; announce(alloc, 1)?]?),
-        Ok(0)
-    );
-    assert_eq!(rt; play(&mut player, Vec::new(alloc)), Ok(0));
-    assert_eq!(rt; play(&mut player, vec![in alloc; withdraw()]?), Ok(0));
-    assert_eq!(rt; play(&mut player, vec![in alloc; withdraw()]?), Ok(0));
-    assert_eq!(rt;
-        play(&mut player, vec![in alloc; announce(alloc, 5)?]?),
-        Ok(0)
-    );
-    for _round in 0..2u8 {
-        for want in [None, None, Some(1), Some(1), None] {
-            assert_eq!(rt; player.undo(), Ok(()));
-            assert_eq!(rt; time(&player), want, "back at {}", player.at());
-        }
-        for want in [Some(1), Some(1), None, None, Some(5)] {
-            assert_eq!(rt; player.redo(), Ok(()));
-            assert_eq!(rt; time(&player), want, "on at {}", player.at());
-        }
+    let mut player = Player::new(rt.alloc());
+    let played = [
+        (Call::Play(&[Say::Announce(1)]), Answer::Dropped(0), Some(1)),
+        (Call::Play(&[]), Answer::Dropped(0), Some(1)),
+        (Call::Play(&[Say::Withdraw]), Answer::Dropped(0), None),
+        (Call::Play(&[Say::Withdraw]), Answer::Dropped(0), None),
+        (Call::Play(&[Say::Announce(5)]), Answer::Dropped(0), Some(5)),
+    ];
+    let back = [None, None, Some(1), Some(1), None].map(|time| (Call::Undo, Answer::Done, time));
+    let forth = [Some(1), Some(1), None, None, Some(5)].map(|time| (
+        Call::Redo,
+        Answer::Done,
+        time,
+    ));
+    for rows in [played, back, forth, back, forth] {
+        follow(&rt, rt.alloc(), &mut player, &rows)?;
     }
+    Ok(())
+}
+
+/// Plays the announcements of the prefixes 1.0.0.0/8 to 50.0.0.0/8 by the peer.
+fn announce_fifty(
+    alloc: Global,
+    player: &mut Player,
+    peer: Peer,
+    time: u32,
+) -> Result<Answer, AllocError> {
+    let mut event = event(alloc, &[])?;
+    for octet in 1..=50u8 {
+        event.items.push(announcement(alloc, peer, octet, time)?)?;
+    }
+    Ok(answer_to(player, &event))
+}
+
+/// Whether the peer has a route of this time, or none, to each of these prefixes.
+fn has_fifty(player: &Player, peer: &Peer, time: Option<u32>) -> bool {
+    (1..=50u8).all(|octet| time_of(player, *peer, octet) == time)
+}
+
+#[test]
+fn clears_the_lost_peer_alone(rt: HostRuntime) -> Result<(), Fail> {
+    let mut player = Player::new(rt.alloc());
+    for (peer, time) in [(peer(), 1), (neighbour(), 2), (sibling(), 3)] {
+        assert_eq!(rt;
+            announce_fifty(rt.alloc(), &mut player, peer, time)?,
+            Answer::Dropped(0)
+        );
+    }
+    let lost = make_call(rt.alloc(), &mut player, Call::Play(&[Say::State(6, 1)]))?;
+    assert_eq!(rt; lost, Answer::Dropped(0));
+    assert!(rt; has_fifty(&player, &peer(), None));
+    assert!(rt; has_fifty(&player, &neighbour(), Some(2)));
+    assert!(rt; has_fifty(&player, &sibling(), Some(3)));
+    assert_eq!(rt;
+        make_call(rt.alloc(), &mut player, Call::Undo)?,
+        Answer::Done
+    );
+    assert!(rt; has_fifty(&player, &peer(), Some(1)));
     Ok(())
 }
 
@@ -230,45 +322,4 @@ fn orders_peers_by_address_and_number(rt: HostRuntime) {
     assert!(rt; peer() < neighbour());
     assert!(rt; neighbour() < sibling());
     assert!(rt; peer() == peer() && peer() != neighbour() && peer() != sibling());
-}
-
-#[test]
-fn answers_nothing_where_no_step_stands(rt: HostRuntime) -> Result<(), Fail> {
-    let alloc = rt.alloc();
-    let mut player = Player::new(alloc);
-    assert_eq!(rt; player.undo(), Err(Nothing));
-    assert_eq!(rt; player.redo(), Err(Nothing));
-    assert_eq!(rt;
-        play(&mut player, vec![in alloc; announce(alloc, 1)?]?),
-        Ok(0)
-    );
-    assert_eq!(rt; player.redo(), Err(Nothing));
-    assert_eq!(rt; (player.at(), player.ahead()), (1, 0));
-    assert_eq!(rt; player.undo(), Ok(()));
-    assert_eq!(rt; player.undo(), Err(Nothing));
-    assert_eq!(rt; (player.at(), player.ahead()), (0, 1));
-    assert_eq!(rt; time(&player), None);
-    Ok(())
-}
-
-#[test]
-fn drops_the_steps_ahead(rt: HostRuntime) -> Result<(), Fail> {
-    let alloc = rt.alloc();
-    let mut player = Player::new(alloc);
-    for time in 1..=3 {
-        assert_eq!(rt;
-            play(&mut player, vec![in alloc; announce(alloc, time)?]?),
-            Ok(0)
-        );
-    }
-    assert_eq!(rt; player.undo(), Ok(()));
-    assert_eq!(rt; player.undo(), Ok(()));
-    assert_eq!(rt; (player.at(), player.ahead()), (1, 2));
-    assert_eq!(rt; play(&mut player, vec![in alloc; withdraw()]?), Ok(2));
-    assert_eq!(rt; (player.at(), player.ahead()), (2, 0));
-    assert_eq!(rt; time(&player), None);
-    assert_eq!(rt; player.redo(), Err(Nothing));
-    assert_eq!(rt; player.undo(), Ok(()));
-    assert_eq!(rt; time(&player), Some(1));
-    Ok(())
 }
