@@ -19,9 +19,9 @@ use Rattle.ip_prefix.specs.declared.prefix.Prefix.TheInside as prefix
 use Rattle.ip_prefix.specs.contracts.prefix.Prefix as prefixes
 use Rattle.ip_prefix.specs.Address.{bit_count}
 use Rattle.ip_prefix.specs.Aligned.{IsAligned}
-use Rattle.ip_prefix.specs.Masked.{IsMasked}
 use Rattle.ip_prefix.specs.Order.{family_cmp, bits_cmp, address_cmp, network_cmp}
 use Rattle.ip_prefix.proofs.BitLists.{bits_of-append}
+use Rattle.ip_prefix.proofs.Highest.{bit_count_le}
 
 -- ---- numbers by their highest digit
 
@@ -141,30 +141,37 @@ then_equal Less = refl
 then_equal Equal = refl
 then_equal Greater = refl
 
+-- a number ties with itself
+nat_cmp-same : (n : ℕ) → nat_cmp n n ≡ Equal
+nat_cmp-same n = sym (nat_cmp_is n n Equal refl)
+
 -- the bits of kept addresses compare as the families and numbers do
 pub address_cmp-kept : (a b : Inside) → the_invariant a → the_invariant b → ordering_then (family_cmp a.family b.family) (nat_cmp a.number b.number) ≡ address_cmp (the_view a) (the_view b)
-address_cmp-kept a b p q = ap (ordering_then (family_cmp a.family b.family)) (numbers a.family b.family a.number b.number p q)
+address_cmp-kept a b p q = numbers a.family b.family a.number b.number p q
   where
+    one_family : (w m n : ℕ) → w ≤ 128 → m < 2 ^ 128 → n < 2 ^ 128 → m % 2 ^ (128 - w) ≡ 0 → n % 2 ^ (128 - w) ≡ 0
+        → nat_cmp m n ≡ bits_cmp (bits_of w (m / 2 ^ (128 - w))) (bits_of w (n / 2 ^ (128 - w)))
+    one_family w m n w_in m_in n_in m_none n_none =
+        sym (bits_cmp-highest w w m n w_in w_in m_in n_in m_none n_none ∙ ap (ordering_then (nat_cmp m n)) (nat_cmp-same w) ∙ then_equal (nat_cmp m n))
+
     numbers : (f g : Family) (m n : ℕ) → IsAligned f m → IsAligned g n
-        → nat_cmp m n ≡ bits_cmp (bits_of (bit_count f) (m / 2 ^ (128 - bit_count f))) (bits_of (bit_count g) (n / 2 ^ (128 - bit_count g)))
-    numbers V4 V4 m n p q = sym (bits_cmp-highest 32 32 m n (omega arith) (omega arith) p.0 q.0 p.1 q.1 ∙ then_equal (nat_cmp m n))
-    numbers V4 V6 m n p q = absurd q
-    numbers V6 g m n p q = absurd p
+        → ordering_then (family_cmp f g) (nat_cmp m n)
+        ≡ ordering_then (family_cmp f g) (bits_cmp (bits_of (bit_count f) (m / 2 ^ (128 - bit_count f))) (bits_of (bit_count g) (n / 2 ^ (128 - bit_count g))))
+    numbers V4 V4 m n p q = one_family 32 m n (omega arith) p.0 q.0 p.1 q.1
+    numbers V4 V6 m n p q = refl
+    numbers V6 V4 m n p q = refl
+    numbers V6 V6 m n p q = one_family 128 m n (omega arith) p.0 q.0 p.1 q.1
 
 -- the bits of kept prefixes compare as the families, numbers and lengths do
 pub network_cmp-kept : (a b : prefix.Inside) → prefixes.the_invariant a → prefixes.the_invariant b
     → ordering_then (ordering_then (family_cmp a.family b.family) (nat_cmp a.number b.number)) (nat_cmp a.len b.len) ≡ network_cmp (prefixes.the_view a) (prefixes.the_view b)
 network_cmp-kept a b p q =
+    let a_len : a.len ≤ 128 = omega (arith, p.1, bit_count_le a.family) in
+    let b_len : b.len ≤ 128 = omega (arith, q.1, bit_count_le b.family) in
     then_assoc (family_cmp a.family b.family) (nat_cmp a.number b.number) (nat_cmp a.len b.len)
-    ∙ ap (ordering_then (family_cmp a.family b.family)) (numbers a.family b.family a.number b.number a.len b.len p q)
+    ∙ ap (ordering_then (family_cmp a.family b.family)) (sym (bits_cmp-highest a.len b.len a.number b.number a_len b_len p.0 q.0 p.2 q.2))
   where
     then_assoc : (r s t : Ordering) → ordering_then (ordering_then r s) t ≡ ordering_then r (ordering_then s t)
     then_assoc Less s t = refl
     then_assoc Equal s t = refl
     then_assoc Greater s t = refl
-
-    numbers : (f g : Family) (m n j k : ℕ) → IsMasked f m j → IsMasked g n k
-        → ordering_then (nat_cmp m n) (nat_cmp j k) ≡ bits_cmp (bits_of j (m / 2 ^ (128 - j))) (bits_of k (n / 2 ^ (128 - k)))
-    numbers V4 V4 m n j k p q = sym (bits_cmp-highest j k m n (omega (arith, p.1)) (omega (arith, q.1)) p.0 q.0 p.2 q.2)
-    numbers V4 V6 m n j k p q = absurd q
-    numbers V6 g m n j k p q = absurd p

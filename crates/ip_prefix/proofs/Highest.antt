@@ -1,4 +1,4 @@
--- The bits and octets of an address whose bits are the w highest of a number of 128 bits.
+-- The bits, octets and groups of an address whose bits are the w highest of a number of 128 bits.
 use Rattle.std.proofs.Common.{◌≡◌, ℕ, ◌+◌, ◌-◌, ◌*◌, ◌^◌, ◌/◌, ◌%◌, ◌<◌, ◌≤◌, ◌==◌, Some, bit_and, take, drop, length, List, [], ◌∷◌, get_or, refl, ap, ◌∙◌, arith}
 use Rattle.std.specs.Prelude.{slice_get}
 use Rattle.std.proofs.lemmas.Nat.{shr-shr, and_mask}
@@ -28,22 +28,32 @@ bit_of_highest w i n w_le i_in =
     let s : (128 - w) + (w - 1 - i) ≡ 127 - i = omega arith in
     rw (slice_get-bits_of w (n / 2 ^ (128 - w)) i i_in, shr-shr n (128 - w) (w - 1 - i), s, shr_and_one n (127 - i))
 
--- eight bits with r below them spell the number shifted by r, modulo 2 ^ 8
-octet_above : (i r n : ℕ) → number_of (take 8 (drop i (bits_of (i + (8 + r)) n))) ≡ n / 2 ^ r % 2 ^ 8
-octet_above i r n =
-    rw (drop-bits_of i (8 + r) n, take-bits_of 8 r n) (number_of-bits_of 8 (n / 2 ^ r))
+-- k bits with r below them spell the number shifted by r, modulo 2 ^ k
+field_above : (k i r n : ℕ) → number_of (take k (drop i (bits_of (i + (k + r)) n))) ≡ n / 2 ^ r % 2 ^ k
+field_above k i r n =
+    rw (drop-bits_of i (k + r) n, take-bits_of k r n) (number_of-bits_of k (n / 2 ^ r))
+
+-- k of the w highest bits, from the place i on, are found by a shift
+field_of_highest : (k w i n : ℕ) → w ≤ 128 → i + k ≤ w
+    → number_of (take k (drop i (bits_of w (n / 2 ^ (128 - w))))) ≡ n / 2 ^ (128 - k - i) % 2 ^ k
+field_of_highest k w i n w_le i_in =
+    let r : ℕ = w - (i + k) in
+    let e : w ≡ i + (k + r) = omega arith in
+    let s : (128 - w) + r ≡ 128 - k - i = omega arith in
+    ap (λ j. number_of (take k (drop i (bits_of j (n / 2 ^ (128 - w)))))) e
+    ∙ field_above k i r (n / 2 ^ (128 - w))
+    ∙ ap (λ q. q % 2 ^ k) (shr-shr n (128 - w) r)
+    ∙ ap (λ j. n / 2 ^ j % 2 ^ k) s
 
 -- an octet of the w highest bits is found by a shift
 pub octet_of_highest : (w i n : ℕ) → w ≤ 128 → 8 * i + 8 ≤ w
     → number_of (take 8 (drop (8 * i) (bits_of w (n / 2 ^ (128 - w))))) ≡ n / 2 ^ (120 - 8 * i) % 2 ^ 8
-octet_of_highest w i n w_le i_in =
-    let r : ℕ = w - (8 * i + 8) in
-    let e : w ≡ 8 * i + (8 + r) = omega arith in
-    let s : (128 - w) + r ≡ 120 - 8 * i = omega arith in
-    ap (λ k. number_of (take 8 (drop (8 * i) (bits_of k (n / 2 ^ (128 - w)))))) e
-    ∙ octet_above (8 * i) r (n / 2 ^ (128 - w))
-    ∙ ap (λ q. q % 2 ^ 8) (shr-shr n (128 - w) r)
-    ∙ ap (λ k. n / 2 ^ k % 2 ^ 8) s
+octet_of_highest w i n w_le i_in = field_of_highest 8 w (8 * i) n w_le i_in
+
+-- and so is a group of 16 bits
+pub group_of_highest : (w i n : ℕ) → w ≤ 128 → 16 * i + 16 ≤ w
+    → number_of (take 16 (drop (16 * i) (bits_of w (n / 2 ^ (128 - w))))) ≡ n / 2 ^ (112 - 16 * i) % 2 ^ 16
+group_of_highest w i n w_le i_in = field_of_highest 16 w (16 * i) n w_le i_in
 
 -- the bits of a number of four octets, the first of them the highest
 bits_of_four : (a b c d : ℕ) → b < 256 → c < 256 → d < 256
@@ -63,3 +73,7 @@ bits_of_be _ e h = absurd (omega arith)
 -- the mask 255 leaves the lowest eight bits
 pub low_octet : (n : ℕ) → bit_and n 255 ≡ n % 2 ^ 8
 low_octet n = and_mask n 8
+
+-- and the mask 65535 the lowest sixteen
+pub low_group : (n : ℕ) → bit_and n 65535 ≡ n % 2 ^ 16
+low_group n = and_mask n 16

@@ -1,5 +1,5 @@
 -- An address is a family and a list of bits (RFC 791, RFC 4291).
-use Rattle.std.specs.Prelude.{ℕ, ◌*◌, Bool, List, take, drop}
+use Rattle.std.specs.Prelude.{◌≡◌, ℕ, ◌*◌, Bool, List, [], ◌∷◌, length, take, drop}
 use Rattle.ip_prefix.specs.declared.addr.Family.{Family}
 use Rattle.ip_prefix.specs.declared.addr.Family.TheVariants.{V4, V6}
 use Rattle.ip_prefix.specs.Bits.{number_of}
@@ -22,3 +22,15 @@ bit_count V6 = 128
 -- the octet at a place, from 0
 unfoldable pub octet_at : Address → ℕ → ℕ
 octet_at address i = number_of (take 8 (drop (8 * i) address.bits))
+
+-- an address has as many bits as its family says
+abbrev pub IsAddress : Address → Type 0
+IsAddress address = length address.bits ≡ bit_count address.family
+
+-- the group of 16 bits at a place, from 0 (RFC 4291, section 2.2)
+unfoldable pub group_at : Address → ℕ → ℕ
+group_at address i = number_of (take 16 (drop (16 * i) address.bits))
+
+-- the eight groups of an IPv6 address
+abbrev pub groups_of : Address → List ℕ
+groups_of a = group_at a 0 ∷ group_at a 1 ∷ group_at a 2 ∷ group_at a 3 ∷ group_at a 4 ∷ group_at a 5 ∷ group_at a 6 ∷ group_at a 7 ∷ []

@@ -1,7 +1,8 @@
 -- The number that bits spell is the number that they are the bits of.
-use Rattle.std.specs.Prelude.{◌≡◌, ℕ, zero, suc, ◌+◌, ◌^◌, ◌%◌, ◌<◌, length, ◌==◌, refl}
-use Rattle.std.proofs.Common.{◌∙◌, sym, ap, arith}
-use Rattle.std.proofs.lemmas.Nat.{mod-pow-add}
+use Rattle.std.specs.Prelude.{◌≡◌, ℕ, zero, suc, ◌+◌, ◌*◌, ◌^◌, ◌/◌, ◌%◌, ◌<◌, length, ◌==◌, refl}
+use Rattle.std.proofs.Common.{◌∙◌, sym, ap, subst, arith, pow-add}
+use Rattle.std.proofs.Math.Nat.{div-lt_iff_lt-mul, mod-eq_of_lt}
+use Rattle.std.proofs.lemmas.Nat.{mod-pow-add, pow_pos, shr_split}
 use Rattle.std.proofs.lemmas.Nat.Bits.{bit_at-lt}
 use Rattle.ip_prefix.specs.Bits.{worth, number_of, bits_of}
 
@@ -24,3 +25,10 @@ number_of-bits_of zero n = omega arith
 number_of-bits_of (suc k) n =
     let e : suc k ≡ 1 + k = omega arith in
     rw (length-bits_of k n, number_of-bits_of k n, worth_of_digit _ (bit_at-lt n k)) (sym (ap (λ j. n % 2 ^ j) e ∙ mod-pow-add n 1 k))
+
+-- a number with no bit below its j highest is got back from them
+pub number-highest : (j k n : ℕ) → n < 2 ^ (j + k) → n % 2 ^ k ≡ 0 → number_of (bits_of j (n / 2 ^ k)) * 2 ^ k ≡ n
+number-highest j k n fits none =
+    let low : n < 2 ^ j * 2 ^ k = subst (λ m. n < m) (pow-add 2 j k) fits in
+    let high : n / 2 ^ k < 2 ^ j = (div-lt_iff_lt-mul (pow_pos k)).1 low in
+    rw (number_of-bits_of j (n / 2 ^ k), mod-eq_of_lt high) (omega (arith, none, shr_split n k))

@@ -7,3 +7,5 @@ pub mod Masked
 pub mod OrderLaws
 pub mod Order
 pub mod Text
+pub mod Wire
+pub mod Spelling

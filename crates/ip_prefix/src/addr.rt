@@ -1,15 +1,11 @@
 //! Addresses of both families.
 
-ghost use Rattle.std.specs.Prelude.{◌≡◌, ◌+◌, ◌-◌, ◌^◌, ◌/◌, ◌<◌, ◌≤◌, ◌∷◌, ◌++◌, OnOk, OnErr, Some, slice_get, length, take, drop, replicate, decimal};
-ghost use Rattle.ip_prefix.specs.declared.addr.Family.TheVariants.{V4};
-ghost use Rattle.ip_prefix.specs.Address.{octet_at, octet_count, bit_count};
+ghost use Rattle.std.specs.Prelude.{◌≡◌, ◌*◌, ◌+◌, ◌-◌, ◌^◌, ◌/◌, ◌<◌, ◌≤◌, Some, slice_get};
+ghost use Rattle.ip_prefix.specs.Address.{octet_at, group_at, octet_count, bit_count};
 ghost use Rattle.ip_prefix.specs.Aligned.{IsAligned};
 ghost use Rattle.ip_prefix.specs.Bits.{bits_of, bits_of_octets};
 ghost use Rattle.ip_prefix.specs.Order.{family_cmp};
-ghost use Rattle.ip_prefix.specs.Text.{address_text, dotted};
 
-use itoa::write_digits;
-use std::alloc::AllocError;
 use std::cmp::Ordering;
 use std::marker::Model;
 
@@ -69,6 +65,17 @@ impl Addr {
         }
     }
 
+    /// The IPv6 address of sixteen octets, in the order in which they are sent.
+    #[inline]
+    pub fn v6(octets: [u8; 16]) -> Self
+        ensures { result ≡ record { family = Family.V6; bits = bits_of_octets octets } }
+    {
+        Addr {
+            number: u128::from_be_bytes(octets),
+            family: Family::V6,
+        }
+    }
+
     /// The address of this number.
     #[inline]
     pub(crate) fn aligned(number: u128, family: Family) -> Self
@@ -108,6 +115,15 @@ impl Addr {
         (self.number >> (120 - 8 * place) & 0xff) as u8
     }
 
+    /// The group of 16 bits at a place, counted from 0 in the order in which they are written.
+    #[inline]
+    pub(crate) fn group(&self, place: usize) -> u16
+        requires { 16 * place + 16 ≤ bit_count self.now.family }
+        ensures { result ≡ group_at self.now place }
+    {
+        (self.number >> (112 - 16 * place) & 0xffff) as u16
+    }
+
     /// The bit at a place, counted from 0 at the most significant one.
     #[inline]
     pub fn bit(&self, place: usize) -> bool
@@ -115,19 +131,6 @@ impl Addr {
         ensures { slice_get self.now.bits place ≡ Some result }
     {
         self.number >> (127 - place) & 1 == 1
-    }
-
-    /// Appends the address as a person reads it. Refused for want of memory, it leaves the text
-    /// as it was.
-    #[tactic(auto, unfolding(crate::specs::Text::address_text))]
-    pub fn put_text(&self, text: &mut Vec<u8>) -> Result<(), AllocError>
-        ensures appended { OnOk result (text.new.items ≡ text.old.items ++ address_text self.now) }
-        ensures unchanged { OnErr result (text.new.items ≡ text.old.items) }
-    {
-        match self.family {
-            Family::V4 => put_dotted(self, text),
-            Family::V6 => unreachable!(),
-        }
     }
 }
 
@@ -195,31 +198,4 @@ pub(crate) fn compare_families(one: Family, other: Family) -> Ordering
     ensures { result ≡ family_cmp one other }
 {
     one.cmp(&other)
-}
-
-// Appends the four octets of an IPv4 address in decimal, joined by dots.
-fn put_dotted(address: &Addr, text: &mut Vec<u8>) -> Result<(), AllocError>
-    requires { address.now.family ≡ V4 }
-    ensures appended { OnOk result (text.new.items ≡ text.old.items ++ dotted address.now) }
-    ensures unchanged { OnErr result (text.new.items ≡ text.old.items) }
-{
-    let mut buffer = [b'.'; 15];
-    let third = write_octet(address.octet(3), &mut buffer, 15);
-    let second = write_octet(address.octet(2), &mut buffer, third);
-    let first = write_octet(address.octet(1), &mut buffer, second);
-    let start = write_digits(u64::from(address.octet(0)), &mut buffer, first);
-    text.extend_from_slice(&buffer[start..])
-}
-
-// Writes the octet so that it ends at `end`, in a buffer that has only dots so far before it, and
-// returns where the dot before the octet stands.
-#[inline]
-fn write_octet(octet: u8, buffer: &mut [u8], end: usize) -> usize
-    requires room { (4 ≤ end) × (end ≤ length buffer.old) }
-    requires dots { take end buffer.old ≡ replicate end 46 }
-    ensures start { (result < end) × (end ≤ result + 4) }
-    ensures written { drop result buffer.new ≡ 46 ∷ decimal octet ++ drop end buffer.old }
-    ensures dots { take result buffer.new ≡ replicate result 46 }
-{
-    write_digits(u64::from(octet), buffer, end) - 1
 }

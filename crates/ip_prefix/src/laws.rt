@@ -1,8 +1,15 @@
-//! Laws of the orders.
+//! Laws of the orders, of the texts and of what is sent.
 
+ghost use Rattle.std.specs.Prelude.{◌≡◌, ℕ, List};
 ghost use Rattle.std.specs.Cmp.{IsTotalOrder};
 ghost use Rattle.std.specs.FinMap.{IsAntisymmetric};
+ghost use Rattle.ip_prefix.specs.declared.addr.Family.{Family};
+ghost use Rattle.ip_prefix.specs.Address.{Address, IsAddress};
+ghost use Rattle.ip_prefix.specs.Network.{Network, IsNetwork};
 ghost use Rattle.ip_prefix.specs.Order.{address_cmp, network_cmp};
+ghost use Rattle.ip_prefix.specs.Spelling.{SpellsAddress, SpellsPrefix};
+ghost use Rattle.ip_prefix.specs.Text.{address_text, network_text};
+ghost use Rattle.ip_prefix.specs.Wire.{SpellsAll, IsCode, SpellsNetwork};
 
 /// The order of addresses is total, and only equal ones tie.
 pub fn address_order()
@@ -14,4 +21,26 @@ pub fn address_order()
 pub fn prefix_order()
     ensures total { IsTotalOrder network_cmp }
     ensures ties { IsAntisymmetric network_cmp }
+{}
+
+/// The text of an address is a spelling of it, and the text of a prefix one of the prefix.
+pub fn text_spells()
+    ensures addresses { (a : Address) → IsAddress a → SpellsAddress a (address_text a) }
+    ensures prefixes { (n : Network) → IsNetwork n → SpellsPrefix n (network_text n) }
+{}
+
+/// No text spells two addresses, nor two prefixes.
+pub fn one_spelling()
+    ensures addresses { (a b : Address) (text : List ℕ)
+        → SpellsAddress a text → SpellsAddress b text → a ≡ b }
+    ensures prefixes { (m n : Network) (text : List ℕ)
+        → SpellsPrefix m text → SpellsPrefix n text → m ≡ n }
+{}
+
+/// No octets begin with spellings of two prefixes of one family, and none are spellings of two
+/// lists of them.
+pub fn one_network()
+    ensures single { (family : Family) → IsCode (SpellsNetwork family) }
+    ensures lists { (family : Family) (octets : List ℕ) (a b : List Network) →
+        SpellsAll (SpellsNetwork family) a octets → SpellsAll (SpellsNetwork family) b octets → a ≡ b }
 {}

@@ -1,14 +1,16 @@
-//! Internet addresses, and the texts of addresses and numbers.
+//! Internet addresses and prefixes, their texts, and prefixes as BGP sends them.
 #![tactic(auto)]
 
 mod addr;
 mod decimal;
 mod laws;
+mod parse;
 mod prefix;
+mod text;
 
 pub use addr::{Addr, Family};
 pub use decimal::put_decimal;
-pub use laws::{address_order, prefix_order};
+pub use laws::{address_order, one_network, one_spelling, prefix_order, text_spells};
 pub use prefix::Prefix;
 
 #[cfg(test)]

@@ -1,8 +1,9 @@
 //! Prefixes of both families.
 
-ghost use Rattle.std.specs.Prelude.{◌≡◌, ◌<◌, ◌≤◌, ◌-◌, ◌*◌, ◌/◌, ◌^◌, MatchOption, length, take};
+ghost use Rattle.std.specs.Prelude.{◌≡◌, ℕ, ◌<◌, ◌≤◌, ◌-◌, ◌*◌, ◌/◌, ◌^◌, List, MatchOption, IfSome, IfNone, length, take};
 ghost use Rattle.ip_prefix.specs.Address.{bit_count};
-ghost use Rattle.ip_prefix.specs.Network.{least_address};
+ghost use Rattle.ip_prefix.specs.Network.{Network, least_address, contains, covers};
+ghost use Rattle.ip_prefix.specs.Wire.{Begins, SpellsNetwork};
 
 use crate::addr::{Addr, Family, compare_families};
 use std::cmp::Ordering;
@@ -74,6 +75,53 @@ impl Prefix {
         ensures { result ≡ least_address self.now }
     {
         Addr::aligned(self.number, self.family)
+    }
+
+    /// Whether the address is of the prefix's family and begins with its bits.
+    #[inline]
+    pub fn contains(&self, addr: &Addr) -> bool
+        ensures { result ≡ contains self.now addr.now }
+    {
+        self.family == addr.family() && highest(addr.number(), self.len) == self.number
+    }
+
+    /// Whether the other prefix is of the same family and begins with the bits of this one.
+    #[inline]
+    pub fn covers(&self, other: &Prefix) -> bool
+        ensures { result ≡ covers self.now other.now }
+    {
+        self.family == other.family
+            && self.len <= other.len
+            && highest(other.number, self.len) == self.number
+    }
+
+    /// The prefix of this family that the octets begin with (RFC 4271, section 4.3), and how many
+    /// octets it takes. The bits behind its length may be any.
+    pub fn read(family: Family, octets: &[u8]) -> Option<(Prefix, usize)>
+        ensures some { IfSome result (λ found. (found.1 ≤ length octets.now)
+            × SpellsNetwork family found.0 (take found.1 octets.now)) }
+        ensures none { IfNone result ((n : Network) (rest : List ℕ) →
+            Begins (SpellsNetwork family) n rest octets.now → ⊥) }
+    {
+        let (&len, rest) = octets.split_first()?;
+        if width(family) < len {
+            return None;
+        }
+        let size = usize::from(len.div_ceil(8));
+        if rest.len() < size {
+            return None;
+        }
+        let mut buffer = [0; 16];
+        buffer[..size].copy_from_slice(&rest[..size]);
+        let number = highest(u128::from_be_bytes(buffer), len);
+        Some((
+            Prefix {
+                number,
+                len,
+                family,
+            },
+            size + 1,
+        ))
     }
 
     /// How many bits it has.

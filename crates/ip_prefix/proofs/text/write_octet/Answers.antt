@@ -2,7 +2,7 @@
 use Rattle.std.proofs.Common.{rules, arith, ◌≡◌, ◌+◌, ◌-◌, ◌<◌, length}
 use Rattle.std.proofs.lemmas.Fmt.{length-decimal-le, decimal_nonempty}
 use Rattle.ip_prefix.proofs.Dots.{dots_kept, dot_first}
-use Rattle.ip_prefix.proofs.addr.write_octet.Goals as goal
+use Rattle.ip_prefix.proofs.text.write_octet.Goals as goal
 
 pub write_digits-requires : goal.write_digits-requires
 write_digits-requires c = search (rules, length-decimal-le 3)

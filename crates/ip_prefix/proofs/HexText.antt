@@ -1,0 +1,94 @@
+-- What is written of groups of hexadecimal digits, from the last to the first.
+use Rattle.std.proofs.Common.{◌≡◌, ℕ, ◌+◌, ◌-◌, ◌/◌, ◌%◌, ◌<◌, ◌≤◌, List, [], ◌∷◌, ◌++◌, length, take, drop, get_or, set, ap, sym, ◌∙◌, arith, le-leb, lt-ltb, le-ltb, length-set, append_assoc}
+use Rattle.std.proofs.lemmas.Bool.{lt-leb}
+use Rattle.std.proofs.lemmas.List.{drop-set, drop_more, drop_all, append-nil}
+use Rattle.std.specs.Char.{digit_char}
+use Rattle.std.specs.Net.Text.{hex, groups_text, longest_zero_run, hex_groups_text}
+
+-- a byte written before a place comes before what is left from there
+pub written_before : (buffer : List ℕ) (at next y : ℕ) → at + 1 ≡ next → next ≤ length buffer → drop at (set buffer at y) ≡ y ∷ drop next buffer
+written_before buffer at next y e within =
+    let inside : at < length buffer = omega arith in
+    drop-set buffer at y inside ∙ ap (λ n. y ∷ drop n buffer) e
+
+-- and so do two bytes
+pub two_before : (buffer : List ℕ) (at x y : ℕ) → 2 ≤ at → at ≤ length buffer
+    → drop (at - 2) (set (set buffer (at - 1) x) (at - 2) y) ≡ y ∷ x ∷ drop at buffer
+two_before buffer at x y room within =
+    written_before (set buffer (at - 1) x) (at - 2) (at - 1) y (omega arith) (omega (arith, length-set buffer (at - 1) x))
+    ∙ ap (λ t. y ∷ t) (written_before buffer (at - 1) at x (omega arith) within)
+
+-- and three
+pub three_before : (buffer : List ℕ) (at x y z : ℕ) → 3 ≤ at → at ≤ length buffer
+    → drop (at - 3) (set (set (set buffer (at - 1) x) (at - 2) y) (at - 3) z) ≡ z ∷ y ∷ x ∷ drop at buffer
+three_before buffer at x y z room within =
+    let one = set buffer (at - 1) x in
+    let two = set one (at - 2) y in
+    written_before two (at - 3) (at - 2) z (omega arith) (omega (arith, length-set buffer (at - 1) x, length-set one (at - 2) y))
+    ∙ ap (λ t. z ∷ t) (two_before buffer at x y (omega arith) within)
+
+-- and four
+pub four_before : (buffer : List ℕ) (at x y z w : ℕ) → 4 ≤ at → at ≤ length buffer
+    → drop (at - 4) (set (set (set (set buffer (at - 1) x) (at - 2) y) (at - 3) z) (at - 4) w) ≡ w ∷ z ∷ y ∷ x ∷ drop at buffer
+four_before buffer at x y z w room within =
+    let one = set buffer (at - 1) x in
+    let two = set one (at - 2) y in
+    let three = set two (at - 3) z in
+    written_before three (at - 4) (at - 3) w (omega arith) (omega (arith, length-set buffer (at - 1) x, length-set one (at - 2) y, length-set two (at - 3) z))
+    ∙ ap (λ t. w ∷ t) (three_before buffer at x y z (omega arith) within)
+
+-- a group below 16 has one digit
+pub hex_one : (n : ℕ) → n < 16 → hex n ≡ digit_char (n % 16) ∷ []
+unfolding hex
+hex_one n h = rw (lt-leb 0x1000 n (omega arith), lt-leb 0x100 n (omega arith), lt-leb 0x10 n h)
+
+-- and one below 256 two
+pub hex_two : (n : ℕ) → 16 ≤ n → n < 256 → hex n ≡ digit_char (n / 16 % 16) ∷ digit_char (n % 16) ∷ []
+unfolding hex
+hex_two n more h = rw (lt-leb 0x1000 n (omega arith), lt-leb 0x100 n h, le-leb 0x10 n more)
+
+-- and one below 4096 three
+pub hex_three : (n : ℕ) → 256 ≤ n → n < 4096 → hex n ≡ digit_char (n / 256 % 16) ∷ digit_char (n / 16 % 16) ∷ digit_char (n % 16) ∷ []
+unfolding hex
+hex_three n more h = rw (lt-leb 0x1000 n h, le-leb 0x100 n more)
+
+-- and any other four
+pub hex_four : (n : ℕ) → 4096 ≤ n → hex n ≡ digit_char (n / 4096) ∷ digit_char (n / 256 % 16) ∷ digit_char (n / 16 % 16) ∷ digit_char (n % 16) ∷ []
+unfolding hex
+hex_four n more = rw (le-leb 0x1000 n more)
+
+-- the last group stands alone
+pub groups_text_last : (groups : List ℕ) (i : ℕ) → i + 1 ≡ length groups → groups_text (drop i groups) ≡ hex (get_or groups i 0)
+groups_text_last groups i e =
+    let inside : i < length groups = omega arith in
+    let past : length groups ≤ i + 1 = omega arith in
+    rw (drop_more groups i 0 inside, drop_all (i + 1) groups past, append-nil (hex (get_or groups i 0)))
+
+-- and each other one comes with a colon before the next
+pub groups_text_more : (groups : List ℕ) (i : ℕ) → i + 1 < length groups → groups_text (drop i groups) ≡ hex (get_or groups i 0) ++ 58 ∷ groups_text (drop (i + 1) groups)
+groups_text_more groups i within =
+    let inside : i < length groups = omega arith in
+    rw (drop_more groups i 0 inside, drop_more groups (i + 1) 0 within)
+
+-- what is written of the groups from a place on, and of the one before them with its colon
+pub groups_text_step : (groups rest : List ℕ) (i left : ℕ) → i + 1 ≡ left → left < length groups
+    → hex (get_or groups i 0) ++ 58 ∷ (groups_text (drop left groups) ++ rest) ≡ groups_text (drop i groups) ++ rest
+groups_text_step groups rest i left e within =
+    let group = hex (get_or groups i 0) in
+    sym (ap (λ t. t ++ rest) (groups_text_more groups i (omega arith))
+    ∙ append_assoc group (58 ∷ groups_text (drop (i + 1) groups)) rest
+    ∙ ap (λ k. group ++ 58 ∷ (groups_text (drop k groups) ++ rest)) e)
+
+-- without a run of two or more groups that are 0, all groups are written
+pub whole_text : (groups : List ℕ) → (longest_zero_run groups).1 ≤ 1 → hex_groups_text groups ≡ groups_text groups
+unfolding hex_groups_text
+whole_text groups short = rw (le-ltb 1 (longest_zero_run groups).1 short)
+
+-- and with one, those on each side of `::`
+pub shortened_text : (groups : List ℕ) → 1 < (longest_zero_run groups).1
+    → hex_groups_text groups
+    ≡ groups_text (take (longest_zero_run groups).0 groups) ++ 58 ∷ 58 ∷ groups_text (drop ((longest_zero_run groups).0 + (longest_zero_run groups).1) groups)
+unfolding hex_groups_text
+shortened_text groups long =
+    let run = longest_zero_run groups in
+    rw (lt-ltb 1 run.1 long) (append_assoc (groups_text (take run.0 groups)) (58 ∷ 58 ∷ []) (groups_text (drop (run.0 + run.1) groups)))

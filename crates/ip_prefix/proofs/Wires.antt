@@ -1,0 +1,110 @@
+-- Octets that spell prefixes.
+use Rattle.std.proofs.Common.{◌≡◌, ℕ, ◌+◌, ◌-◌, ◌*◌, ◌^◌, ◌/◌, ◌<◌, ◌≤◌, Bool, List, [], ◌∷◌, ◌++◌, length, take, drop, refl, ap, sym, subst, ◌∙◌, arith, length-drop}
+use Rattle.std.specs.Int.{w128, from_be_bytes}
+use Rattle.std.proofs.lemmas.List.{length-append, length-take-le, take-append-le, take-append-drop}
+use Rattle.ip_prefix.specs.declared.addr.Family.{Family}
+use Rattle.ip_prefix.specs.Address.{bit_count}
+use Rattle.ip_prefix.specs.Bits.{bits_of, bits_of_octets}
+use Rattle.ip_prefix.specs.Network.{Network}
+use Rattle.ip_prefix.specs.Wire.{Begins, SpellsAll, IsCode, SpellsNetwork}
+use Rattle.ip_prefix.proofs.Masks.{first_bits}
+use Rattle.ip_prefix.proofs.Octets.{AllOctets, length-bits_of_octets, bits_of_octets-append, bits_of-from_be_bytes}
+
+-- ---- one spelling each
+
+-- lists of one length that begin one list are one, and so is what follows them
+append_parts : {A : Type 0} → (xs ys us vs : List A) → length xs ≡ length ys → xs ++ us ≡ ys ++ vs → (xs ≡ ys) × (us ≡ vs)
+append_parts [] [] us vs size e = (refl, e)
+append_parts [] (y ∷ ys) us vs size e = absurd (omega arith)
+append_parts (x ∷ xs) [] us vs size e = absurd (omega arith)
+append_parts (x ∷ xs) (y ∷ ys) us vs size e =
+    let first : x ≡ y = cc in
+    let more : xs ++ us ≡ ys ++ vs = cc in
+    let rest = append_parts xs ys us vs (omega arith) more in
+    ((λ i. first i ∷ rest.0 i), rest.1)
+
+-- the bits of the octets behind the length are the prefix's and the spare ones
+body_size : (kind : Family) (n : Network) (octets : List ℕ) (s : SpellsNetwork kind n octets) → 8 * length s.body ≡ length n.bits + length s.spare
+body_size kind n octets s = sym (length-bits_of_octets s.body) ∙ ap length s.held ∙ length-append n.bits s.spare
+
+-- octets that begin with a spelling of a prefix are its length, the octets that hold it, and the rest
+begun : (kind : Family) (n : Network) (rest octets : List ℕ) (b : Begins (SpellsNetwork kind) n rest octets) → octets ≡ length n.bits ∷ (b.spelled.body ++ rest)
+begun kind n rest octets b = b.whole ∙ ap (λ front. front ++ rest) b.spelled.whole
+
+-- no prefix is spelled by nothing, and no octets begin with spellings of two
+pub network_code : (kind : Family) → IsCode (SpellsNetwork kind)
+network_code kind = record { some = some; same = same }
+  where
+    some : (n : Network) → SpellsNetwork kind n [] → ⊥
+    some n s = let e = s.whole in cc
+
+    same : (a b : Network) (x y octets : List ℕ) → Begins (SpellsNetwork kind) a x octets → Begins (SpellsNetwork kind) b y octets → (a ≡ b) × (x ≡ y)
+    same a b x y octets p q =
+        let s = p.spelled in
+        let t = q.spelled in
+        let joined : length a.bits ∷ (s.body ++ x) ≡ length b.bits ∷ (t.body ++ y) = sym (begun kind a x octets p) ∙ begun kind b y octets q in
+        let lengths : length a.bits ≡ length b.bits = cc in
+        let bodies : s.body ++ x ≡ t.body ++ y = cc in
+        let sizes : length s.body ≡ length t.body = omega (arith, body_size kind a p.front s, body_size kind b q.front t, s.least, t.least) in
+        let parts = append_parts s.body t.body x y sizes bodies in
+        let bits = append_parts a.bits b.bits s.spare t.spare lengths (sym s.held ∙ ap bits_of_octets parts.0 ∙ t.held) in
+        ((λ i. record { family = (s.of_family ∙ sym t.of_family) i; bits = bits.0 i }), parts.1)
+
+-- what stands before others in nothing is nothing
+nothing_before : (front rest : List ℕ) → [] ≡ front ++ rest → front ≡ []
+nothing_before [] rest e = refl
+nothing_before (octet ∷ front) rest e = cc
+
+-- nothing begins with no spelling
+never_begins : {A : Type 0} (Spells : A → List ℕ → Type 0) → IsCode Spells → (value : A) (rest octets : List ℕ) → Begins Spells value rest octets → octets ≡ [] → ⊥
+never_begins Spells code value rest octets b e =
+    code.some value (subst (Spells value) (nothing_before b.front rest (sym e ∙ b.whole)) b.spelled)
+
+-- so no octets are spellings of two lists
+pub one_list : {A : Type 0} (Spells : A → List ℕ → Type 0) → IsCode Spells → (octets : List ℕ) (values others : List A)
+    → SpellsAll Spells values octets → SpellsAll Spells others octets → values ≡ others
+one_list Spells code octets [] [] p q = refl
+one_list Spells code octets [] (b ∷ others) p q = absurd (never_begins Spells code b q.0 octets q.1 p)
+one_list Spells code octets (a ∷ values) [] p q = absurd (never_begins Spells code a p.0 octets p.1 q)
+one_list Spells code octets (a ∷ values) (b ∷ others) p q =
+    let one = code.same a b p.0 q.0 octets p.1 q.1 in
+    let more = one_list Spells code q.0 values others (subst (SpellsAll Spells values) one.1 p.2) q.2 in
+    λ i. one.0 i ∷ more i
+
+-- ---- octets that are read
+
+-- octets that begin with a spelling have as many bits behind the first as the first says
+pub enough_octets : (kind : Family) (n : Network) (rest octets : List ℕ) (len : ℕ) (more : List ℕ) → Begins (SpellsNetwork kind) n rest octets → octets ≡ len ∷ more → len ≤ 8 * length more
+enough_octets kind n rest octets len more b e =
+    let s = b.spelled in
+    let joined : len ∷ more ≡ length n.bits ∷ (s.body ++ rest) = sym e ∙ begun kind n rest octets b in
+    let first : len ≡ length n.bits = cc in
+    let others : more ≡ s.body ++ rest = cc in
+    omega (arith, first, ap length others, length-append s.body rest, body_size kind n b.front s)
+
+-- the first bits of octets with others behind them, read as one number whose lower bits are cleared
+pub bits_read : (len : ℕ) (body others : List ℕ) → len ≤ 8 * length body → length (body ++ others) ≡ 16 → AllOctets (body ++ others)
+    → bits_of len (from_be_bytes w128 (body ++ others) / 2 ^ (128 - len) * 2 ^ (128 - len) / 2 ^ (128 - len)) ≡ take len (bits_of_octets body)
+bits_read len body others within size h =
+    let held : len ≤ length (bits_of_octets body) = omega (arith, length-bits_of_octets body) in
+    let len_le : len ≤ 128 = omega (arith, size, length-append body others) in
+    first_bits 128 (from_be_bytes w128 (body ++ others)) len len_le (omega arith)
+    ∙ ap (take len) (bits_of-from_be_bytes (body ++ others) size h ∙ bits_of_octets-append body others)
+    ∙ take-append-le len (bits_of_octets body) (bits_of_octets others) held
+
+-- the first bits of the least octets that hold them are spelled by their number and those octets
+pub spelled_by : (kind : Family) (len : ℕ) (body : List ℕ) (bits : List Bool) → len ≤ bit_count kind → AllOctets body → len ≤ 8 * length body → 8 * length body < len + 8
+    → bits ≡ take len (bits_of_octets body) → SpellsNetwork kind record { family = kind; bits = bits } (len ∷ body)
+spelled_by kind len body bits within each enough least e =
+    let held : len ≤ length (bits_of_octets body) = omega (arith, length-bits_of_octets body) in
+    let size : length bits ≡ len = ap length e ∙ length-take-le len (bits_of_octets body) held in
+    record {
+      of_family = refl;
+      fits = omega arith;
+      body = body;
+      spare = drop len (bits_of_octets body);
+      each = each;
+      held = sym (take-append-drop len (bits_of_octets body)) ∙ ap (λ l. l ++ drop len (bits_of_octets body)) (sym e);
+      least = omega (arith, length-drop len (bits_of_octets body), length-bits_of_octets body);
+      whole = ap (λ n. n ∷ body) (sym size);
+    }

@@ -1,0 +1,90 @@
+//! The addresses and prefixes that texts spell.
+
+ghost use Rattle.std.specs.Prelude.{◌≡◌, ◌≢◌, ℕ, ◌<◌, MatchOption, length, slice_index, decimal};
+ghost use Rattle.ip_prefix.specs.Address.{Address};
+ghost use Rattle.ip_prefix.specs.Network.{Network};
+ghost use Rattle.ip_prefix.specs.Spelling.{SpellsAddress, SpellsPrefix};
+
+use crate::addr::Addr;
+use crate::prefix::Prefix;
+use std::net::{Ipv4Addr, Ipv6Addr};
+
+impl Addr {
+    /// The address that the text spells: four decimals without leading zeros, joined by dots, for
+    /// IPv4; groups of one to four hexadecimal digits of either case, joined by colons, with at
+    /// most one `::` in place of one or more groups of 0, for IPv6. A dotted end of an IPv6 address is not
+    /// read.
+    pub fn parse(text: &[u8]) -> Option<Addr>
+        ensures { MatchOption result ((a : Address) → SpellsAddress a text.now → ⊥)
+            (λ addr. SpellsAddress addr text.now) }
+    {
+        if let Ok(addr) = Ipv4Addr::parse_ascii(text) {
+            return Some(Addr::v4(addr.octets()));
+        }
+        if text.contains(&b'.') {
+            return None;
+        }
+        match Ipv6Addr::parse_ascii(text) {
+            Ok(addr) => Some(Addr::v6(addr.octets())),
+            Err(_) => None,
+        }
+    }
+}
+
+impl Prefix {
+    /// The prefix that the text spells: an address, a slash and a decimal without leading zeros.
+    /// The bits of the address behind the length are cleared.
+    pub fn parse(text: &[u8]) -> Option<Prefix>
+        ensures { MatchOption result ((n : Network) → SpellsPrefix n text.now → ⊥)
+            (λ prefix. SpellsPrefix prefix text.now) }
+    {
+        let at = last_slash(text)?;
+        let addr = Addr::parse(&text[..at])?;
+        let len = read_length(&text[at + 1..])?;
+        Prefix::new(addr, len)
+    }
+}
+
+// Where the last slash stands.
+fn last_slash(text: &[u8]) -> Option<usize>
+    ensures { MatchOption result ((k : ℕ) → k < length text.now → slice_index text.now k ≢ 47)
+        (λ at. (at < length text.now)
+        × (slice_index text.now at ≡ 47)
+        × ((k : ℕ) → at < k → k < length text.now → slice_index text.now k ≢ 47)) }
+{
+    let mut at = text.len();
+    while at > 0 {
+        at -= 1;
+        if text[at] == b'/' {
+            return Some(at);
+        }
+    }
+    None
+}
+
+// The length of a prefix from its decimal, which has no leading zeros.
+fn read_length(text: &[u8]) -> Option<u8>
+    ensures { MatchOption result ((n : ℕ) → n < 256 → text.now ≢ decimal n)
+        (λ n. text.now ≡ decimal n) }
+{
+    if text.is_empty() {
+        return None;
+    }
+    if text.len() > 3 {
+        return None;
+    }
+    if text.len() > 1 && text[0] == b'0' {
+        return None;
+    }
+    let mut value: u16 = 0;
+    for digit in text {
+        if !digit.is_ascii_digit() {
+            return None;
+        }
+        value = value * 10 + u16::from(*digit - b'0');
+    }
+    if value > 255 {
+        return None;
+    }
+    Some(value as u8)
+}

@@ -1,0 +1,198 @@
+//! The printed texts of addresses and prefixes.
+
+ghost use Rattle.std.specs.Prelude.{◌≡◌, ◌+◌, ◌*◌, ◌<◌, ◌≤◌, ◌∷◌, ◌++◌, OnOk, OnErr, length, take, drop, replicate, decimal};
+ghost use Rattle.std.specs.Char.{digit_char};
+ghost use Rattle.std.specs.Net.Text as Hex;
+ghost use Rattle.ip_prefix.specs.declared.addr.Family.TheVariants.{V4, V6};
+ghost use Rattle.ip_prefix.specs.Text.{address_text, network_text, dotted, colons};
+
+use crate::addr::{Addr, Family};
+use crate::prefix::Prefix;
+use itoa::write_digits;
+use std::alloc::AllocError;
+
+impl Addr {
+    /// Appends the address as a person reads it (RFC 5952, section 4, for IPv6). Refused for want
+    /// of memory, it leaves the text as it was.
+    #[tactic(auto, unfolding(crate::specs::Text::address_text))]
+    pub fn put_text(&self, text: &mut Vec<u8>) -> Result<(), AllocError>
+        ensures appended { OnOk result (text.new.items ≡ text.old.items ++ address_text self.now) }
+        ensures unchanged { OnErr result (text.new.items ≡ text.old.items) }
+    {
+        match self.family() {
+            Family::V4 => put_dotted(self, text),
+            Family::V6 => put_colons(self, text),
+        }
+    }
+}
+
+impl Prefix {
+    /// Appends the prefix as a person reads it: its least address, a slash and its length.
+    /// Refused for want of memory, it leaves the text as it was.
+    pub fn put_text(&self, text: &mut Vec<u8>) -> Result<(), AllocError>
+        ensures appended { OnOk result (text.new.items ≡ text.old.items ++ network_text self.now) }
+        ensures unchanged { OnErr result (text.new.items ≡ text.old.items) }
+    {
+        // the longest text: an address of 39 bytes, the slash and a length of 3
+        text.reserve(43)?;
+        let before = text.len();
+        self.addr().put_text(text)?;
+        let result = put_length(self.len(), text);
+        if result.is_err() {
+            text.truncate(before);
+        }
+        result
+    }
+}
+
+// Appends a slash and the length of a prefix.
+fn put_length(len: u8, text: &mut Vec<u8>) -> Result<(), AllocError>
+    ensures appended { OnOk result (text.new.items ≡ text.old.items ++ 47 ∷ decimal len) }
+    ensures unchanged { OnErr result (text.new.items ≡ text.old.items) }
+{
+    let mut buffer = [0; 4];
+    let digits = write_digits(u64::from(len), &mut buffer, 4);
+    buffer[digits - 1] = b'/';
+    text.extend_from_slice(&buffer[digits - 1..])
+}
+
+// Appends the four octets of an IPv4 address in decimal, joined by dots.
+fn put_dotted(address: &Addr, text: &mut Vec<u8>) -> Result<(), AllocError>
+    requires { address.now.family ≡ V4 }
+    ensures appended { OnOk result (text.new.items ≡ text.old.items ++ dotted address.now) }
+    ensures unchanged { OnErr result (text.new.items ≡ text.old.items) }
+{
+    let mut buffer = [b'.'; 15];
+    let third = write_octet(address.octet(3), &mut buffer, 15);
+    let second = write_octet(address.octet(2), &mut buffer, third);
+    let first = write_octet(address.octet(1), &mut buffer, second);
+    let start = write_digits(u64::from(address.octet(0)), &mut buffer, first);
+    text.extend_from_slice(&buffer[start..])
+}
+
+// Writes the octet so that it ends at `end`, in a buffer that has only dots so far before it, and
+// returns where the dot before the octet stands.
+#[inline]
+fn write_octet(octet: u8, buffer: &mut [u8], end: usize) -> usize
+    requires room { (4 ≤ end) × (end ≤ length buffer.old) }
+    requires dots { take end buffer.old ≡ replicate end 46 }
+    ensures start { (result < end) × (end ≤ result + 4) }
+    ensures written { drop result buffer.new ≡ 46 ∷ decimal octet ++ drop end buffer.old }
+    ensures dots { take result buffer.new ≡ replicate result 46 }
+{
+    write_digits(u64::from(octet), buffer, end) - 1
+}
+
+// Appends the groups of an IPv6 address in hexadecimal, joined by colons, with `::` in place of
+// the first longest run of two or more groups that are 0.
+fn put_colons(address: &Addr, text: &mut Vec<u8>) -> Result<(), AllocError>
+    requires { address.now.family ≡ V6 }
+    ensures appended { OnOk result (text.new.items ≡ text.old.items ++ colons address.now) }
+    ensures unchanged { OnErr result (text.new.items ≡ text.old.items) }
+{
+    let groups = [
+        address.group(0),
+        address.group(1),
+        address.group(2),
+        address.group(3),
+        address.group(4),
+        address.group(5),
+        address.group(6),
+        address.group(7),
+    ];
+    // eight groups of four digits, and a place for a colon before each
+    let mut buffer = [b':'; 40];
+    let from = write_shortened(&groups, &mut buffer);
+    text.extend_from_slice(&buffer[from..])
+}
+
+// Writes the eight groups at the end of the buffer, and returns where their text starts.
+fn write_shortened(groups: &[u16], buffer: &mut [u8]) -> usize
+    requires { (length groups.now ≡ 8) × (length buffer.old ≡ 40) }
+    ensures within { result ≤ 40 }
+    ensures written { drop result buffer.new ≡ Hex.hex_groups_text groups.now }
+{
+    let (first, len) = longest_zero_run(groups);
+    if len < 2 {
+        return write_groups(groups, buffer, 40);
+    }
+    let after = write_groups(&groups[first + len..], buffer, 40);
+    buffer[after - 1] = b':';
+    buffer[after - 2] = b':';
+    write_groups(&groups[..first], buffer, after - 2)
+}
+
+// The start and the length of the longest run of groups that are 0, and of two such runs the
+// first.
+fn longest_zero_run(groups: &[u16]) -> (usize, usize)
+    ensures value { result ≡ Hex.longest_zero_run groups.now }
+    ensures within { result.0 + result.1 ≤ length groups.now }
+{
+    let mut start = groups.len();
+    let mut len = 0;
+    let mut run = 0;
+    for i in (0..groups.len()).rev() {
+        run = if groups[i] == 0 { run + 1 } else { 0 };
+        if run >= len {
+            start = i;
+            len = run;
+        }
+    }
+    (start, len)
+}
+
+// Writes the groups, joined by colons, so that they end at `end`, and returns where they start.
+fn write_groups(groups: &[u16], buffer: &mut [u8], end: usize) -> usize
+    requires { (5 * length groups.now ≤ end) × (end ≤ length buffer.old) }
+    ensures start { (result ≤ end) × (end ≤ result + 5 * length groups.now) }
+    ensures written { drop result buffer.new ≡ Hex.groups_text groups.now ++ drop end buffer.old }
+{
+    if groups.is_empty() {
+        return end;
+    }
+    let mut left = groups.len() - 1;
+    let mut at = write_group(groups[left], buffer, end);
+    while left > 0 {
+        left -= 1;
+        buffer[at - 1] = b':';
+        at = write_group(groups[left], buffer, at - 1);
+    }
+    at
+}
+
+// Writes a group in lower-case hexadecimal, without leading zeros, so that it ends at `end`, and
+// returns where it starts.
+#[inline]
+fn write_group(group: u16, buffer: &mut [u8], end: usize) -> usize
+    requires { (4 ≤ end) × (end ≤ length buffer.old) }
+    ensures start { (result ≤ end) × (end ≤ result + 4) }
+    ensures written { drop result buffer.new ≡ Hex.hex group ++ drop end buffer.old }
+{
+    buffer[end - 1] = hex_digit(group % 16);
+    if group < 0x10 {
+        return end - 1;
+    }
+    buffer[end - 2] = hex_digit(group / 0x10 % 16);
+    if group < 0x100 {
+        return end - 2;
+    }
+    buffer[end - 3] = hex_digit(group / 0x100 % 16);
+    if group < 0x1000 {
+        return end - 3;
+    }
+    buffer[end - 4] = hex_digit(group / 0x1000);
+    end - 4
+}
+
+// A hexadecimal digit.
+#[inline]
+fn hex_digit(digit: u16) -> u8
+    requires { digit < 16 }
+    ensures { result ≡ digit_char digit }
+{
+    if digit < 10 {
+        b'0' + digit as u8
+    } else {
+        b'a' + (digit - 10) as u8
+    }
+}
