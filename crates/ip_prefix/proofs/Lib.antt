@@ -5,7 +5,8 @@ mod Comparing
 pub mod Masks
 mod Octets
 mod Beginning
-mod Wires
+pub mod Wires
+pub mod Sequences
 pub mod HexText
 pub mod Dotless
 pub mod Chunks

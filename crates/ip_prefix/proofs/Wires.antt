@@ -13,7 +13,7 @@ use Rattle.ip_prefix.proofs.Octets.{AllOctets, length-bits_of_octets, bits_of_oc
 -- ---- one spelling each
 
 -- lists of one length that begin one list are one, and so is what follows them
-append_parts : {A : Type 0} → (xs ys us vs : List A) → length xs ≡ length ys → xs ++ us ≡ ys ++ vs → (xs ≡ ys) × (us ≡ vs)
+pub append_parts : {A : Type 0} → (xs ys us vs : List A) → length xs ≡ length ys → xs ++ us ≡ ys ++ vs → (xs ≡ ys) × (us ≡ vs)
 append_parts [] [] us vs size e = (refl, e)
 append_parts [] (y ∷ ys) us vs size e = absurd (omega arith)
 append_parts (x ∷ xs) [] us vs size e = absurd (omega arith)
@@ -56,7 +56,7 @@ nothing_before [] rest e = refl
 nothing_before (octet ∷ front) rest e = cc
 
 -- nothing begins with no spelling
-never_begins : {A : Type 0} (Spells : A → List ℕ → Type 0) → IsCode Spells → (value : A) (rest octets : List ℕ) → Begins Spells value rest octets → octets ≡ [] → ⊥
+pub never_begins : {A : Type 0} (Spells : A → List ℕ → Type 0) → IsCode Spells → (value : A) (rest octets : List ℕ) → Begins Spells value rest octets → octets ≡ [] → ⊥
 never_begins Spells code value rest octets b e =
     code.some value (subst (Spells value) (nothing_before b.front rest (sym e ∙ b.whole)) b.spelled)
 

@@ -1,7 +1,7 @@
 //! Addresses of both families.
 
 ghost use Rattle.std.specs.Prelude.{◌≡◌, ◌*◌, ◌+◌, ◌-◌, ◌^◌, ◌/◌, ◌<◌, ◌≤◌, Some, slice_get};
-ghost use Rattle.ip_prefix.specs.Address.{octet_at, group_at, octet_count, bit_count};
+ghost use Rattle.ip_prefix.specs.Address.{IsAddress, octet_at, group_at, octet_count, bit_count};
 ghost use Rattle.ip_prefix.specs.Aligned.{IsAligned};
 ghost use Rattle.ip_prefix.specs.Bits.{bits_of, bits_of_octets};
 ghost use Rattle.ip_prefix.specs.Order.{family_cmp};
@@ -101,7 +101,8 @@ impl Addr {
     /// The family that it is of.
     #[inline]
     pub fn family(&self) -> Family
-        ensures { result ≡ self.now.family }
+        ensures value { result ≡ self.now.family }
+        ensures whole { IsAddress self.now }
     {
         self.family
     }

@@ -1,8 +1,8 @@
 //! Prefixes of both families.
 
 ghost use Rattle.std.specs.Prelude.{◌≡◌, ℕ, ◌<◌, ◌≤◌, ◌-◌, ◌*◌, ◌/◌, ◌^◌, List, MatchOption, IfSome, IfNone, length, take};
-ghost use Rattle.ip_prefix.specs.Address.{bit_count};
-ghost use Rattle.ip_prefix.specs.Network.{Network, least_address, contains, covers};
+ghost use Rattle.ip_prefix.specs.Address.{IsAddress, bit_count};
+ghost use Rattle.ip_prefix.specs.Network.{Network, IsNetwork, least_address, contains, covers};
 ghost use Rattle.ip_prefix.specs.Wire.{Begins, SpellsNetwork};
 
 use crate::addr::{Addr, Family, compare_families};
@@ -72,7 +72,8 @@ impl Prefix {
 
     /// The least address of the prefix.
     pub fn addr(&self) -> Addr
-        ensures { result ≡ least_address self.now }
+        ensures value { result ≡ least_address self.now }
+        ensures whole { IsAddress result }
     {
         Addr::aligned(self.number, self.family)
     }
@@ -127,7 +128,8 @@ impl Prefix {
     /// How many bits it has.
     #[inline]
     pub fn len(&self) -> u8
-        ensures { result ≡ length self.now.bits }
+        ensures value { result ≡ length self.now.bits }
+        ensures fits { IsNetwork self.now }
     {
         self.len
     }

@@ -35,8 +35,7 @@ pub(crate) fn cross(table: &mut Table, entries: &mut [Entry])
     ensures entries { sides_of entries.new ≡ crossed table.old.routes (sides_of entries.old) }
 {
     'entries: for entry in entries.iter_mut() {
-        let pair = entry.pair;
-        table.exchange(&pair, &mut entry.other);
+        table.exchange(&entry.pair, &mut entry.other);
     }
 }
 

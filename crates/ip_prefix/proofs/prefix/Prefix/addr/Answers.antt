@@ -1,4 +1,6 @@
-use Rattle.std.proofs.Common.{◌∙◌, ap}
+use Rattle.std.proofs.Common.{◌-◌, ◌/◌, ◌^◌, ◌∙◌, ap, sym, subst}
+use Rattle.ip_prefix.specs.Address.{IsAddress, bit_count}
+use Rattle.ip_prefix.specs.BitLemmas.{length-bits_of}
 use Rattle.ip_prefix.specs.Network.{least_address}
 use Rattle.ip_prefix.proofs.Masks.{IsAligned-masked, bits_of-least}
 use Rattle.ip_prefix.proofs.prefix.Prefix.addr.Goals as goal
@@ -6,7 +8,12 @@ use Rattle.ip_prefix.proofs.prefix.Prefix.addr.Goals as goal
 pub aligned-requires : goal.aligned-requires
 aligned-requires c = IsAligned-masked c.self.inside.family c.self.inside.number c.self.inside.len c.self.invariant
 
-pub returns : goal.returns
-returns c =
+pub returns-clause-value : goal.returns-clause-value
+returns-clause-value c =
     let p = c.self.inside in
     c.aligned.ensures ∙ (λ i. record { family = p.family; bits = bits_of-least p.family p.number p.len c.self.invariant i }) ∙ ap least_address c.self.view_is
+
+pub returns-clause-whole : goal.returns-clause-whole
+returns-clause-whole c =
+    let p = c.self.inside in
+    subst IsAddress (sym c.aligned.ensures) (length-bits_of (bit_count p.family) (p.number / 2 ^ (128 - bit_count p.family)))

@@ -11,7 +11,7 @@ pub returns-then-eq : goal.returns-then-eq
 returns-then-eq c =
     let p = c.self.inside in
     let address = c.args.addr.now in
-    let family : p.family ≡ address.family = family_same p.family c.family.result (sym c.eq.ensures ∙ c.if-eq.true) ∙ c.family.ensures in
+    let family : p.family ≡ address.family = family_same p.family c.family.result (sym c.eq.ensures ∙ c.if-eq.true) ∙ c.family.ensures.value in
     let within : p.len ≤ bit_count address.family = omega (arith, c.self.invariant.1, ap bit_count family) in
     ap (λ n. n == p.number) c.highest.ensures
     ∙ begin_with-highest p.len (bit_count address.family) p.number c.number.result within (bit_count_le address.family) c.self.invariant.0 c.number.ensures.aligned.0 c.self.invariant.2

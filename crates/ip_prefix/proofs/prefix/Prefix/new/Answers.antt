@@ -17,6 +17,6 @@ pub returns : goal.returns
 returns c =
     let family = c.args.addr.family in
     let len = c.args.len in
-    let within : len ≤ bit_count family = omega (arith, c.width.ensures, ap bit_count c.family-family.ensures) in
+    let within : len ≤ bit_count family = omega (arith, c.width.ensures, ap bit_count c.family-family.ensures.value) in
     let bits = ap (λ n. bits_of len (n / 2 ^ (128 - len))) c.highest.ensures ∙ bits_of-highest family c.number.result len within ∙ ap (take len) (sym c.number.ensures.bits) in
-    (within, λ i. record { family = c.family-family.ensures i; bits = bits i })
+    (within, λ i. record { family = c.family-family.ensures.value i; bits = bits i })

@@ -1,0 +1,90 @@
+-- Octets of next hops.
+use Rattle.std.proofs.Common.{◌≡◌, ◌⊎◌, inl, inr, ℕ, ◌+◌, ◌<◌, ◌≤◌, List, [], ◌∷◌, ◌++◌, length, take, drop, get_or, ap, sym, subst, ◌∙◌, refl, arith, length-drop}
+use Rattle.std.proofs.lemmas.List.{length-append, length-take-le, take-append-drop}
+use Rattle.ip_prefix.specs.declared.addr.Family.{Family}
+use Rattle.ip_prefix.specs.declared.addr.Family.TheVariants.{V4, V6}
+use Rattle.ip_prefix.specs.Address.{Address, octet_count}
+use Rattle.ip_prefix.specs.Bits.{bits_of_octets}
+use Rattle.ip_prefix.proofs.Wires.{append_parts}
+use Rattle.bgp_wire.specs.NextHop.{IsLinkLocal, SpellsNextHop, SpellsHopAlone, SpellsHopInFull, SpellsTableHop}
+
+-- the octets behind the first sixteen are none, or a link-local address
+link_local_size : (octets : List ℕ) → ((length octets ≡ 16) ⊎ (length octets ≡ 32)) → IsLinkLocal V6 (drop 16 octets)
+link_local_size octets (inl e) = inl (nothing (drop 16 octets) (omega (arith, length-drop 16 octets, e)))
+  where
+    nothing : (l : List ℕ) → length l ≡ 0 → l ≡ []
+    nothing [] e = refl
+    nothing (x ∷ l) e = absurd (omega (arith, e))
+link_local_size octets (inr e) = inr (omega (arith, length-drop 16 octets, e))
+
+-- the first sixteen of 16 or 32 octets are the next hop
+pub global_hop : (hop : Address) (octets : List ℕ) → ((length octets ≡ 16) ⊎ (length octets ≡ 32)) → hop ≡ record { family = V6; bits = bits_of_octets (take 16 octets) } → SpellsNextHop hop octets
+global_hop hop octets size e = subst (λ hop. SpellsNextHop hop octets) (sym e) record {
+  address = take 16 octets;
+  spelled = record { size = length-take-le 16 octets (enough size); bits = refl };
+  link_local = drop 16 octets;
+  linked = link_local_size octets size;
+  whole = sym (take-append-drop 16 octets);
+}
+  where
+    enough : ((length octets ≡ 16) ⊎ (length octets ≡ 32)) → 16 ≤ length octets
+    enough (inl e) = omega (arith, e)
+    enough (inr e) = omega (arith, e)
+
+some_octets : (family : Family) → 0 < octet_count family
+some_octets V4 = omega arith
+some_octets V6 = omega arith
+
+-- a next hop has octets
+length-hop : (hop : Address) (octets : List ℕ) → SpellsNextHop hop octets → 0 < length octets
+length-hop hop octets s = omega (arith, some_octets hop.family, s.spelled.size, ap length s.whole, length-append s.address s.link_local)
+
+-- a next hop whose length stands in front is spelled by as many octets
+pub hop_in_front : (hop : Address) (len : ℕ) (rest octets : List ℕ) → octets ≡ len ∷ rest → SpellsHopAlone hop octets → (len ≤ length rest) × SpellsNextHop hop (take len rest)
+hop_in_front hop len rest octets e s =
+    let one : len ∷ rest ≡ length s.front ∷ (s.front ++ s.more) = sym e ∙ s.whole in
+    let lengths : len ≡ length s.front = ap (λ l. get_or l 0 0) one in
+    let rests : rest ≡ s.front ++ s.more = ap (drop 1) one in
+    let within : len ≤ length rest = omega (arith, lengths, ap length rests, length-append s.front s.more) in
+    let parts = append_parts (take len rest) s.front (drop len rest) s.more (length-take-le len rest within ∙ lengths) (take-append-drop len rest ∙ rests) in
+    (within, subst (SpellsNextHop hop) (sym parts.0) s.spelled)
+
+pub hop_alone : (hop : Address) (len : ℕ) (rest octets : List ℕ) → octets ≡ len ∷ rest → len ≤ length rest → SpellsNextHop hop (take len rest) → SpellsHopAlone hop octets
+hop_alone hop len rest octets e within s = record {
+  front = take len rest;
+  spelled = s;
+  more = drop len rest;
+  whole = e ∙ (λ i. sym (length-take-le len rest within) i ∷ sym (take-append-drop len rest) i);
+}
+
+-- ---- table entries
+
+-- a first octet that isn't 0 tells the abbreviated form
+pub abbreviated : (hop : Address) (first : ℕ) (rest octets : List ℕ) → octets ≡ first ∷ rest → (first ≡ 0 → ⊥) → SpellsTableHop hop octets → SpellsHopAlone hop octets
+abbreviated hop first rest octets e other (inl s) = s
+abbreviated hop first rest octets e other (inr s) = absurd (other (ap (λ l. get_or l 0 0) (sym e ∙ s.whole)))
+
+-- and one that is 0 the full form
+pub in_full : (hop : Address) (first : ℕ) (rest octets : List ℕ) → octets ≡ first ∷ rest → first ≡ 0 → SpellsTableHop hop octets → (3 ≤ length octets) × SpellsHopAlone hop (drop 3 octets)
+in_full hop first rest octets e zero (inl s) =
+    absurd (omega (arith, ap (λ l. get_or l 0 0) (sym e ∙ s.whole), zero, length-hop hop s.front s.spelled))
+in_full hop first rest octets e zero (inr s) = (omega (arith, ap length s.whole), subst (SpellsHopAlone hop) (sym (ap (drop 3) s.whole)) s.spelled)
+
+pub full_form : (hop : Address) (first : ℕ) (rest octets : List ℕ) → octets ≡ first ∷ rest → first ≡ 0 → 3 ≤ length octets → SpellsHopAlone hop (drop 3 octets) → SpellsTableHop hop octets
+full_form hop first rest octets e zero size s = inr record {
+  family_end = get_or octets 1 0;
+  subsequent = get_or octets 2 0;
+  rest = drop 3 octets;
+  spelled = s;
+  whole = three octets size ∙ ap (λ n. n ∷ get_or octets 1 0 ∷ get_or octets 2 0 ∷ drop 3 octets) (ap (λ l. get_or l 0 0) e ∙ zero);
+}
+  where
+    three : (l : List ℕ) → 3 ≤ length l → l ≡ get_or l 0 0 ∷ get_or l 1 0 ∷ get_or l 2 0 ∷ drop 3 l
+    three [] h = absurd (omega (arith, h))
+    three (x ∷ []) h = absurd (omega (arith, h))
+    three (x ∷ y ∷ []) h = absurd (omega (arith, h))
+    three (x ∷ y ∷ z ∷ l) h = refl
+
+pub never_nothing : (hop : Address) (octets : List ℕ) → octets ≡ [] → SpellsTableHop hop octets → ⊥
+never_nothing hop octets e (inl s) = let f = sym e ∙ s.whole in cc
+never_nothing hop octets e (inr s) = let f = sym e ∙ s.whole in cc

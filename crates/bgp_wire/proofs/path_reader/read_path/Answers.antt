@@ -1,0 +1,30 @@
+use Rattle.std.proofs.Common.{◌≡◌, ℕ, false, List, [], length, nat_eq, Err, ap, sym, subst, ◌∙◌}
+use Rattle.std.proofs.lemmas.Result.{err_from_is_err_and}
+use Rattle.ip_prefix.specs.Wire.{Begins, SpellsAll}
+use Rattle.ip_prefix.proofs.Sequences.{one_more}
+use Rattle.bgp_wire.specs.declared.path.Segment.{Segment}
+use Rattle.bgp_wire.specs.declared.path.AsPath.{AsPath}
+use Rattle.bgp_wire.specs.Path.{SpellsSegment, SpellsPath}
+use Rattle.bgp_wire.specs.Reading.{Reads}
+use Rattle.bgp_wire.proofs.Codes.{segment_code}
+use Rattle.bgp_wire.proofs.Refusing.{nonempty, refused_rest, refused_part}
+use Rattle.bgp_wire.proofs.path_reader.read_path.Goals as goal
+
+pub returns-in_err-segment : goal.returns-in_err-segment
+returns-in_err-segment c =
+    let width = c.args.width in
+    let octets = c.args.octets.now in
+    let rest = c.loop-rest.rest.now in
+    let some : rest ≡ [] → ⊥ = λ e. nonempty rest (sym c.is_empty.ensures ∙ c.loop-rest-test.true) e in
+    let refused = refused_rest (SpellsSegment width) (segment_code width) c.loop-rest.segments.items rest octets c.in_err-segment.field-0.0 some c.loop-rest.invariant c.in_err-segment.ensures.refused in
+    let p = err_from_is_err_and c.from_residual-in_err-segment.result c.from_residual-in_err-segment.ensures.1 in
+    subst (Reads (SpellsPath width) octets) (sym (p.1 ∙ ap Err p.2))
+    (refused_part (SpellsPath width) (SpellsAll (SpellsSegment width)) octets octets c.in_err-segment.field-0.0 (λ path s. (path.segments, s)) refused)
+
+pub loop-rest-preserved : goal.loop-rest-preserved
+loop-rest-preserved c =
+    let width = c.args.width in
+    let octets = c.args.octets.now in
+    let more = c.in_ok-segment.more.now in
+    subst (λ segments. Begins (SpellsAll (SpellsSegment width)) segments more octets) (sym c.in_ok-push.ensures.items)
+    (one_more (SpellsSegment width) c.loop-rest.segments.items c.in_ok-segment.segment more c.loop-rest.rest.now octets c.loop-rest.invariant c.in_ok-segment.ensures.found)

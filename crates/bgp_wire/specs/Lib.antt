@@ -1,0 +1,9 @@
+pub mod Number
+pub mod Path
+pub mod Attribute
+pub mod FirstValues
+pub mod Value
+pub mod NextHop
+pub mod Content
+pub mod Reading
+pub mod Text

@@ -1,0 +1,35 @@
+-- How an AS path is sent (RFC 4271, section 4.3; RFC 5065, section 3).
+use Rattle.std.specs.Prelude.{◌≡◌, ℕ, ◌*◌, ◌<◌, List, ◌∷◌, ◌++◌, length}
+use Rattle.ip_prefix.specs.Wire.{SpellsAll}
+use Rattle.bgp_wire.specs.declared.path.AsWidth.{AsWidth}
+use Rattle.bgp_wire.specs.declared.path.SegmentKind.{SegmentKind}
+use Rattle.bgp_wire.specs.declared.path.SegmentKind.TheVariants.{AsSet, AsSequence, ConfedSequence, ConfedSet}
+use Rattle.bgp_wire.specs.declared.path.Segment.{Segment}
+use Rattle.bgp_wire.specs.declared.path.AsPath.{AsPath}
+use Rattle.bgp_wire.specs.Number.{SpellsNumber, octets_at}
+
+-- the octet that stands for a kind of segment
+abbrev pub kind_code : SegmentKind → ℕ
+kind_code AsSet = 1
+kind_code AsSequence = 2
+kind_code ConfedSequence = 3
+kind_code ConfedSet = 4
+
+-- the octets of a segment: its kind, how many numbers it has, at least one, and the numbers
+pub record SpellsSegment (width : AsWidth) (segment : Segment) (octets : List ℕ) : Type 0 where
+  pub some : 0 < length segment.numbers
+  pub count_fits : length segment.numbers < 256
+  pub body : List ℕ
+  pub spelled : SpellsAll (SpellsNumber width) segment.numbers body
+  pub whole : octets ≡ kind_code segment.kind ∷ length segment.numbers ∷ body
+
+-- the octets of a path: its segments, one behind the other
+abbrev pub SpellsPath : AsWidth → AsPath → List ℕ → Type 0
+SpellsPath width path octets = SpellsAll (SpellsSegment width) path.segments octets
+
+-- the octets begin with the kind of a segment, its count, which isn't 0, and as many octets as its numbers have
+pub record IsFramed (width : AsWidth) (kind : SegmentKind) (count : ℕ) (body rest octets : List ℕ) : Type 0 where
+  pub some : 0 < count
+  pub fits : count < 256
+  pub size : length body ≡ octets_at width * count
+  pub whole : octets ≡ kind_code kind ∷ count ∷ (body ++ rest)

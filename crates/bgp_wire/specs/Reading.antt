@@ -1,0 +1,24 @@
+-- What a function that reads octets answers.
+use Rattle.std.specs.Prelude.{ℕ, List, Result, Ok, Err}
+use Rattle.ip_prefix.specs.Wire.{Begins}
+use Rattle.bgp_wire.specs.declared.fault.WireFault.{WireFault}
+use Rattle.bgp_wire.specs.declared.fault.WireFault.TheVariants.{Malformed, Memory}
+
+-- malformed is what no value is spelled by
+abbrev pub Refuses : {A B : Type 0} → (A → B → Type 0) → B → WireFault → Type 0
+Refuses {A} Spells octets Malformed = (value : A) → Spells value octets → ⊥
+Refuses Spells octets Memory = Unit {0}
+
+-- the answer is a value that the octets spell, or a fault where it is due
+abbrev pub Reads : {A B : Type 0} → (A → B → Type 0) → B → Result A WireFault → Type 0
+Reads Spells octets (Ok value) = Spells value octets
+Reads Spells octets (Err fault) = Refuses Spells octets fault
+
+-- no value stands in front of the octets, whatever follows it
+abbrev pub BeginsWithNone : {A : Type 0} → (A → List ℕ → Type 0) → List ℕ → Type 0
+BeginsWithNone {A} Spells octets = (value : A) (rest : List ℕ) → Begins Spells value rest octets → ⊥
+
+-- malformed is what begins with no value
+abbrev pub RefusesFront : {A : Type 0} → (A → List ℕ → Type 0) → List ℕ → WireFault → Type 0
+RefusesFront Spells octets Malformed = BeginsWithNone Spells octets
+RefusesFront Spells octets Memory = Unit {0}

@@ -1,0 +1,88 @@
+//! The path attributes of a route.
+
+ghost use Rattle.std.specs.Prelude.{◌≡◌};
+
+use crate::path::AsPath;
+use ip_prefix::Addr;
+use std::marker::Model;
+
+/// How a route came into BGP (RFC 4271, section 5.1.1).
+#[derive(Clone, Copy, Debug, PartialEq, Eq)]
+pub enum Origin {
+    /// It comes from inside its AS.
+    Igp,
+    /// It was learnt by EGP.
+    Egp,
+    /// It was learnt otherwise.
+    Incomplete,
+}
+
+/// Who has formed an aggregate route (RFC 4271, section 5.1.7).
+#[derive(Clone, Copy, Debug)]
+pub struct Aggregator {
+    /// The speaker's IPv4 address.
+    pub addr: Addr,
+    /// Its AS number.
+    pub asn: u32,
+}
+
+/// The communities of a route (RFC 1997), each a number of 32 bits.
+#[derive(Debug, Drop)]
+pub struct Communities {
+    communities: Vec<u32>,
+}
+
+impl Model for Communities {
+    ghost use Rattle.std.specs.Prelude.{ℕ, List};
+
+    ghost Value = { List ℕ };
+
+    ghost view = { λ a. a.communities.items };
+}
+
+impl Communities {
+    /// These communities.
+    #[inline]
+    pub fn from_vec(communities: Vec<u32>) -> Communities
+        ensures { result ≡ communities.items }
+    {
+        Communities { communities }
+    }
+
+    /// The communities as a vector.
+    #[inline]
+    pub fn into_vec(self) -> Vec<u32>
+        ensures { result.items ≡ self }
+    {
+        self.communities
+    }
+
+    /// The communities in order.
+    #[inline]
+    pub fn as_slice(&self) -> &[u32]
+        ensures { result.now ≡ self.now }
+    {
+        self.communities.as_slice()
+    }
+}
+
+/// The path attributes of a route. Those that are absent are `None`, false or empty.
+#[derive(Debug, Drop)]
+pub struct Attrs {
+    /// NEXT_HOP (RFC 4271, section 5.1.3), or the next hop of MP_REACH_NLRI (RFC 4760, section 3).
+    pub next_hop: Option<Addr>,
+    /// AGGREGATOR (RFC 4271, section 5.1.7).
+    pub aggregator: Option<Aggregator>,
+    /// AS_PATH (RFC 4271, section 5.1.2). An absent path has no segments.
+    pub path: AsPath,
+    /// COMMUNITIES (RFC 1997).
+    pub communities: Communities,
+    /// MULTI_EXIT_DISC (RFC 4271, section 5.1.4).
+    pub med: Option<u32>,
+    /// LOCAL_PREF (RFC 4271, section 5.1.5).
+    pub local_pref: Option<u32>,
+    /// ORIGIN (RFC 4271, section 5.1.1).
+    pub origin: Option<Origin>,
+    /// Whether ATOMIC_AGGREGATE is there (RFC 4271, section 5.1.6).
+    pub atomic: bool,
+}

@@ -1,0 +1,169 @@
+//! Finding the path attributes in their list.
+
+ghost use Rattle.std.specs.Prelude.{◌≡◌, ℕ, ◌<◌, List, [], ◌∷◌, ◌++◌, IfSome, IfNone};
+ghost use Rattle.ip_prefix.specs.Wire.{Begins};
+ghost use Rattle.bgp_wire.specs.Attribute.{Attribute, is_extended, length_octets, length_limit, SpellsAttribute, SpellsAttributes, first_value, repeats};
+ghost use Rattle.bgp_wire.specs.FirstValues.{Holds, octets_of};
+ghost use Rattle.bgp_wire.specs.Reading.{BeginsWithNone};
+ghost use Rattle.bgp_wire.specs.Value.{or_nothing};
+
+use byteorder::{BigEndian, ByteOrder};
+use std::marker::Model;
+
+/// The flag of an attribute whose length has two octets (RFC 4271, section 4.3).
+const EXTENDED_LENGTH: u8 = 0x10;
+
+/// The types of attributes are below this, as far as they are read.
+const KINDS: usize = 19;
+
+/// The type of ORIGIN (RFC 4271, section 4.3).
+pub(crate) const ORIGIN: u8 = 1;
+/// The type of AS_PATH.
+pub(crate) const AS_PATH: u8 = 2;
+/// The type of NEXT_HOP.
+pub(crate) const NEXT_HOP: u8 = 3;
+/// The type of MULTI_EXIT_DISC.
+pub(crate) const MULTI_EXIT_DISC: u8 = 4;
+/// The type of LOCAL_PREF.
+pub(crate) const LOCAL_PREF: u8 = 5;
+/// The type of ATOMIC_AGGREGATE.
+pub(crate) const ATOMIC_AGGREGATE: u8 = 6;
+/// The type of AGGREGATOR.
+pub(crate) const AGGREGATOR: u8 = 7;
+/// The type of COMMUNITIES (RFC 1997).
+pub(crate) const COMMUNITIES: u8 = 8;
+/// The type of MP_REACH_NLRI (RFC 4760, section 3).
+pub(crate) const MP_REACH_NLRI: u8 = 14;
+
+/// An attribute in front of octets: its type and value, and what follows it.
+#[derive(Clone, Copy)]
+struct FramedAttribute<'a> {
+    value: &'a [u8],
+    rest: &'a [u8],
+    kind: u8,
+}
+
+/// The length in front of the octets, and what follows it.
+fn split_length(flags: u8, octets: &[u8]) -> Option<(usize, &[u8])>
+    ensures some { IfSome result (λ found. (found.0 < length_limit (is_extended flags))
+        × (octets.now ≡ length_octets (is_extended flags) found.0 ++ found.1.now)) }
+    ensures none { IfNone result ((n : ℕ) (rest : List ℕ) →
+        octets.now ≡ length_octets (is_extended flags) n ++ rest → ⊥) }
+{
+    if flags & EXTENDED_LENGTH == 0 {
+        let (&len, rest) = octets.split_first()?;
+        return Some((usize::from(len), rest));
+    }
+    if octets.len() < 2 {
+        return None;
+    }
+    let (front, rest) = octets.split_at(2);
+    Some((usize::from(BigEndian::read_u16(front)), rest))
+}
+
+/// The attribute in front of the octets.
+fn split_attribute(octets: &[u8]) -> Option<FramedAttribute<'_>>
+    ensures some { IfSome result (λ f. (flags : ℕ)
+        × Begins SpellsAttribute record { flags = flags; kind = f.kind; value = f.value.now } f.rest.now octets.now) }
+    ensures none { IfNone result (BeginsWithNone SpellsAttribute octets.now) }
+{
+    let (&flags, after_flags) = octets.split_first()?;
+    let (&kind, after_kind) = after_flags.split_first()?;
+    let (len, body) = split_length(flags, after_kind)?;
+    if body.len() < len {
+        return None;
+    }
+    let (value, rest) = body.split_at(len);
+    Some(FramedAttribute { value, rest, kind })
+}
+
+/// The first values of a list of attributes, by their types, and which types come more than once.
+#[derive(Drop)]
+pub(crate) struct FirstValues<'a> {
+    values: [Option<&'a [u8]>; KINDS],
+    reach_repeats: bool,
+}
+
+impl<'a> Model for FirstValues<'a> {
+    ghost use Rattle.std.specs.Prelude.{◌≡◌, map, length};
+    ghost use Rattle.bgp_wire.specs.FirstValues.{Firsts, octets_of};
+
+    ghost Value = { Firsts };
+
+    ghost view = { λ v. record { values = map octets_of v.values; reach_repeats = v.reach_repeats } };
+
+    ghost invariant = { λ v. length v.values ≡ 19 };
+}
+
+impl<'a> FirstValues<'a> {
+    /// Those of no attributes.
+    fn none() -> FirstValues<'a>
+        ensures { Holds result [] }
+    {
+        FirstValues {
+            values: [None; KINDS],
+            reach_repeats: false,
+        }
+    }
+
+    /// Notes the next attribute of the list.
+    fn note(&mut self, kind: u8, value: &'a [u8])
+        ensures { (list : List Attribute) (flags : ℕ) → Holds self.old list →
+            Holds self.new (list ++ record { flags = flags; kind = kind; value = value.now } ∷ []) }
+    {
+        let place = usize::from(kind);
+        if place >= KINDS {
+            return;
+        }
+        if self.values[place].is_none() {
+            self.values[place] = Some(value);
+        } else if kind == MP_REACH_NLRI {
+            self.reach_repeats = true;
+        }
+    }
+
+    /// The value of the first attribute of a type.
+    #[inline]
+    pub(crate) fn first(&self, kind: u8) -> Option<&'a [u8]>
+        requires { kind < 19 }
+        ensures { (list : List Attribute) → Holds self.now list → octets_of result ≡ first_value kind list }
+    {
+        self.values[usize::from(kind)]
+    }
+
+    /// The octets of the value of the first attribute of a type, and none where it is absent.
+    #[inline]
+    pub(crate) fn octets(&self, kind: u8) -> &'a [u8]
+        requires { kind < 19 }
+        ensures { (list : List Attribute) → Holds self.now list → result.now ≡ or_nothing (first_value kind list) }
+    {
+        match self.first(kind) {
+            Some(octets) => octets,
+            None => &[],
+        }
+    }
+
+    /// Whether MP_REACH_NLRI comes more than once.
+    #[inline]
+    pub(crate) fn reach_repeats(&self) -> bool
+        ensures { (list : List Attribute) → Holds self.now list → result ≡ repeats 14 list }
+    {
+        self.reach_repeats
+    }
+}
+
+/// The first values of the attributes that the octets spell.
+pub(crate) fn read_first_values(octets: &[u8]) -> Option<FirstValues<'_>>
+    ensures some { IfSome result (λ values. (list : List Attribute)
+        × SpellsAttributes list octets.now × Holds values list) }
+    ensures none { IfNone result ((list : List Attribute) → SpellsAttributes list octets.now → ⊥) }
+{
+    let mut values = FirstValues::none();
+    let mut rest = octets;
+    while !rest.is_empty() {
+        let framed = split_attribute(rest)?;
+        values.note(framed.kind, framed.value);
+        rest = framed.rest;
+    }
+    Some(values)
+}

@@ -1,0 +1,60 @@
+//! Numbers in network byte order.
+
+ghost use Rattle.std.specs.Prelude.{◌≡◌, length, IfOk, IfErr};
+ghost use Rattle.ip_prefix.specs.Wire.{SpellsAll};
+ghost use Rattle.bgp_wire.specs.Number.{SpellsNumber, octets_at};
+ghost use Rattle.bgp_wire.specs.Reading.{Refuses};
+
+use crate::fault::WireFault;
+use crate::path::AsWidth;
+use byteorder::{BigEndian, ByteOrder};
+use std::alloc::Global;
+
+impl AsWidth {
+    // How many octets a number takes.
+    #[inline]
+    pub(crate) fn octets(self) -> usize
+        ensures { result ≡ octets_at self }
+    {
+        match self {
+            AsWidth::Two => 2,
+            AsWidth::Four => 4,
+        }
+    }
+
+    // The number in so many octets.
+    #[inline]
+    pub(crate) fn number(self, octets: &[u8]) -> u32
+        requires { length octets.now ≡ octets_at self }
+        ensures { SpellsNumber self result octets.now }
+    {
+        match self {
+            AsWidth::Two => u32::from(BigEndian::read_u16(octets)),
+            AsWidth::Four => BigEndian::read_u32(octets),
+        }
+    }
+}
+
+/// The numbers that the octets are, one behind the other. There is room for all of them from the
+/// start.
+pub(crate) fn read_numbers(
+    alloc: Global,
+    width: AsWidth,
+    octets: &[u8],
+) -> Result<Vec<u32>, WireFault>
+    ensures found { IfOk result (λ numbers. SpellsAll (SpellsNumber width) numbers.items octets.now) }
+    ensures refused { IfErr result (Refuses (SpellsAll (SpellsNumber width)) octets.now) }
+{
+    let size = width.octets();
+    if octets.len() % size != 0 {
+        return Err(WireFault::Malformed);
+    }
+    let mut numbers = Vec::with_capacity(alloc, octets.len() / size)?;
+    let mut rest = octets;
+    while !rest.is_empty() {
+        let (front, more) = rest.split_at(size);
+        numbers.push(width.number(front))?;
+        rest = more;
+    }
+    Ok(numbers)
+}

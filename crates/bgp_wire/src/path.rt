@@ -1,0 +1,124 @@
+//! AS paths.
+
+ghost use Rattle.std.specs.Prelude.{◌≡◌};
+
+use std::marker::Model;
+
+/// How many octets an AS number takes.
+#[derive(Clone, Copy, Debug, PartialEq, Eq)]
+pub enum AsWidth {
+    /// Two, as before RFC 6793.
+    Two,
+    /// Four (RFC 6793).
+    Four,
+}
+
+/// The kinds of segments of a path (RFC 4271, section 4.3; RFC 5065, section 3).
+#[derive(Clone, Copy, Debug, PartialEq, Eq)]
+pub enum SegmentKind {
+    /// AS numbers in no order.
+    AsSet,
+    /// AS numbers in order.
+    AsSequence,
+    /// AS numbers of a confederation's members, in order.
+    ConfedSequence,
+    /// AS numbers of a confederation's members, in no order.
+    ConfedSet,
+}
+
+/// The AS numbers of a segment.
+#[derive(Debug, Drop)]
+pub struct AsNumbers {
+    numbers: Vec<u32>,
+}
+
+impl Model for AsNumbers {
+    ghost use Rattle.std.specs.Prelude.{ℕ, List};
+
+    ghost Value = { List ℕ };
+
+    ghost view = { λ a. a.numbers.items };
+}
+
+impl AsNumbers {
+    /// These numbers.
+    #[inline]
+    pub fn from_vec(numbers: Vec<u32>) -> AsNumbers
+        ensures { result ≡ numbers.items }
+    {
+        AsNumbers { numbers }
+    }
+
+    /// The numbers as a vector.
+    #[inline]
+    pub fn into_vec(self) -> Vec<u32>
+        ensures { result.items ≡ self }
+    {
+        self.numbers
+    }
+
+    /// The numbers in order.
+    #[inline]
+    pub fn as_slice(&self) -> &[u32]
+        ensures { result.now ≡ self.now }
+    {
+        self.numbers.as_slice()
+    }
+}
+
+/// A segment of a path.
+#[derive(Debug, Drop)]
+pub struct Segment {
+    /// Its numbers.
+    pub numbers: AsNumbers,
+    /// Its kind.
+    pub kind: SegmentKind,
+}
+
+/// The segments of a path.
+#[derive(Debug, Drop)]
+pub struct Segments {
+    segments: Vec<Segment>,
+}
+
+impl Model for Segments {
+    ghost use Rattle.std.specs.Prelude.{List};
+    ghost use Rattle.bgp_wire.specs.declared.path.Segment.{Segment};
+
+    ghost Value = { List Segment };
+
+    ghost view = { λ a. a.segments.items };
+}
+
+impl Segments {
+    /// These segments.
+    #[inline]
+    pub fn from_vec(segments: Vec<Segment>) -> Segments
+        ensures { result ≡ segments.items }
+    {
+        Segments { segments }
+    }
+
+    /// The segments as a vector.
+    #[inline]
+    pub fn into_vec(self) -> Vec<Segment>
+        ensures { result.items ≡ self }
+    {
+        self.segments
+    }
+
+    /// The segments in order.
+    #[inline]
+    pub fn as_slice(&self) -> &[Segment]
+        ensures { result.now ≡ self.now }
+    {
+        self.segments.as_slice()
+    }
+}
+
+/// An AS path: the systems that a route has passed.
+#[derive(Debug, Drop)]
+pub struct AsPath {
+    /// Its segments, the latest first.
+    pub segments: Segments,
+}

@@ -1,0 +1,90 @@
+//! Reading AS paths.
+
+ghost use Rattle.std.specs.Prelude.{◌≡◌, IfOk, IfErr, IfSome, IfNone};
+ghost use Rattle.ip_prefix.specs.Wire.{Begins};
+ghost use Rattle.bgp_wire.specs.Path.{kind_code, SpellsSegment, SpellsPath, IsFramed};
+ghost use Rattle.bgp_wire.specs.Reading.{Reads, BeginsWithNone, RefusesFront};
+
+use crate::fault::WireFault;
+use crate::numbers::read_numbers;
+use crate::path::{AsNumbers, AsPath, AsWidth, Segment, SegmentKind, Segments};
+use std::alloc::Global;
+
+/// A segment in front of octets: its kind and count, the octets of its numbers, and what follows
+/// it.
+#[derive(Clone, Copy)]
+struct FramedSegment<'a> {
+    body: &'a [u8],
+    rest: &'a [u8],
+    count: u8,
+    kind: SegmentKind,
+}
+
+/// The kind of segment that a number stands for (RFC 4271, section 4.3; RFC 5065, section 3).
+fn segment_kind(code: u8) -> Option<SegmentKind>
+    ensures some { IfSome result (λ kind. code ≡ kind_code kind) }
+    ensures none { IfNone result ((kind : SegmentKind) → code ≡ kind_code kind → ⊥) }
+{
+    match code {
+        1 => Some(SegmentKind::AsSet),
+        2 => Some(SegmentKind::AsSequence),
+        3 => Some(SegmentKind::ConfedSequence),
+        4 => Some(SegmentKind::ConfedSet),
+        _ => None,
+    }
+}
+
+/// The segment in front of the octets.
+fn frame_segment(width: AsWidth, octets: &[u8]) -> Option<FramedSegment<'_>>
+    ensures some { IfSome result (λ f. IsFramed width f.kind f.count f.body.now f.rest.now octets.now) }
+    ensures none { IfNone result (BeginsWithNone (SpellsSegment width) octets.now) }
+{
+    let (&code, after_code) = octets.split_first()?;
+    let (&count, numbers) = after_code.split_first()?;
+    let kind = segment_kind(code)?;
+    if count == 0 {
+        return None;
+    }
+    let size = usize::from(count) * width.octets();
+    if numbers.len() < size {
+        return None;
+    }
+    let (body, rest) = numbers.split_at(size);
+    Some(FramedSegment {
+        body,
+        rest,
+        count,
+        kind,
+    })
+}
+
+/// The segment in front of the octets, and what follows it.
+fn read_segment(alloc: Global, width: AsWidth, octets: &[u8]) -> Result<(Segment, &[u8]), WireFault>
+    ensures found { IfOk result (λ found. Begins (SpellsSegment width) found.0 found.1.now octets.now) }
+    ensures refused { IfErr result (RefusesFront (SpellsSegment width) octets.now) }
+{
+    let framed = frame_segment(width, octets).ok_or(WireFault::Malformed)?;
+    let numbers = read_numbers(alloc, width, framed.body)?;
+    let segment = Segment {
+        numbers: AsNumbers::from_vec(numbers),
+        kind: framed.kind,
+    };
+    Ok((segment, framed.rest))
+}
+
+/// The path that the octets spell.
+pub(crate) fn read_path(alloc: Global, width: AsWidth, octets: &[u8]) -> Result<AsPath, WireFault>
+    ensures { Reads (SpellsPath width) octets.now result }
+{
+    // most paths have one segment
+    let mut segments = Vec::with_capacity(alloc, octets.len().min(1))?;
+    let mut rest = octets;
+    while !rest.is_empty() {
+        let (segment, more) = read_segment(alloc, width, rest)?;
+        segments.push(segment)?;
+        rest = more;
+    }
+    Ok(AsPath {
+        segments: Segments::from_vec(segments),
+    })
+}

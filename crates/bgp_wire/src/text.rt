@@ -1,0 +1,161 @@
+//! The printed texts of paths and communities.
+
+ghost use Rattle.std.specs.Prelude.{◌≡◌, ℕ, ◌^◌, ◌/◌, ◌%◌, List, [], ◌∷◌, ◌++◌, OnOk, OnErr, length, map, decimal, slice_index};
+ghost use Rattle.std.specs.List.{flat_map, join_with_byte};
+ghost use Rattle.bgp_wire.specs.Text.{path_text, joined, segment_words, community_text, communities_text, ended, StillBegins};
+
+use crate::path::{AsPath, Segment, SegmentKind};
+use itoa::write_digits;
+use std::alloc::AllocError;
+
+/// Not to be announced outside the AS, or a confederation (RFC 1997).
+const NO_EXPORT: u32 = 0xFFFF_FF01;
+/// Not to be announced to any peer.
+const NO_ADVERTISE: u32 = 0xFFFF_FF02;
+/// Not to be announced outside the AS, even in a confederation.
+const NO_EXPORT_SUBCONFED: u32 = 0xFFFF_FF03;
+
+impl AsPath {
+    /// Appends the path as a person reads it: the numbers of sequences, and the other segments in
+    /// brackets, joined by spaces. Refused for want of memory, it leaves the text as it was.
+    #[tactic(auto, unfolding(crate::specs::Text::path_text))]
+    pub fn put_text(&self, text: &mut Vec<u8>) -> Result<(), AllocError>
+        ensures appended { OnOk result (text.new.items ≡ text.old.items ++ path_text self.now) }
+        ensures unchanged { OnErr result (text.new.items ≡ text.old.items) }
+    {
+        let before = text.len();
+        let result = put_segments(self.segments.as_slice(), text);
+        if result.is_err() {
+            text.truncate(before);
+            return result;
+        }
+        drop_separator(before, text);
+        result
+    }
+}
+
+/// Appends the communities (RFC 1997) as a person reads them, joined by spaces. Refused for want of
+/// memory, it leaves the text as it was.
+pub fn put_communities(communities: &[u32], text: &mut Vec<u8>) -> Result<(), AllocError>
+    ensures appended { OnOk result (text.new.items ≡ text.old.items ++ communities_text communities.now) }
+    ensures unchanged { OnErr result (text.new.items ≡ text.old.items) }
+{
+    let before = text.len();
+    let result = put_each_community(communities, text);
+    if result.is_err() {
+        text.truncate(before);
+        return result;
+    }
+    drop_separator(before, text);
+    result
+}
+
+/// Takes away the separator behind the last word, where words were appended to a text of this
+/// length.
+fn drop_separator(before: usize, text: &mut Vec<u8>)
+    ensures { (old : List ℕ) (separator : ℕ) (words : List (List ℕ)) → length old ≡ before →
+        text.old.items ≡ old ++ ended separator words → text.new.items ≡ old ++ join_with_byte separator words }
+{
+    let end = text.len().saturating_sub(1).max(before);
+    text.truncate(end);
+}
+
+/// Appends the words of each segment, each with a space behind it.
+fn put_segments(segments: &[Segment], text: &mut Vec<u8>) -> Result<(), AllocError>
+    ensures appended { OnOk result (text.new.items ≡ text.old.items ++ ended 32 (flat_map segment_words segments.now)) }
+    ensures kept { OnErr result (StillBegins text.old.items text.new.items) }
+{
+    for segment in segments {
+        put_segment(segment, text)?;
+    }
+    Ok(())
+}
+
+/// Appends the words of a segment, each with a space behind it.
+fn put_segment(segment: &Segment, text: &mut Vec<u8>) -> Result<(), AllocError>
+    ensures appended { OnOk result (text.new.items ≡ text.old.items ++ ended 32 (segment_words segment.now)) }
+    ensures kept { OnErr result (StillBegins text.old.items text.new.items) }
+{
+    let numbers = segment.numbers.as_slice();
+    match segment.kind {
+        SegmentKind::AsSequence => put_numbers(numbers, b' ', text),
+        SegmentKind::AsSet => put_bracketed(numbers, [b'{', b',', b'}'], text),
+        SegmentKind::ConfedSequence => put_bracketed(numbers, [b'(', b' ', b')'], text),
+        SegmentKind::ConfedSet => put_bracketed(numbers, [b'[', b',', b']'], text),
+    }
+}
+
+/// Appends the numbers in brackets, and a space behind them. The marks are the first bracket, what
+/// stands between two numbers, and the last bracket.
+fn put_bracketed(numbers: &[u32], marks: [u8; 3], text: &mut Vec<u8>) -> Result<(), AllocError>
+    ensures appended { OnOk result (text.new.items ≡ text.old.items
+        ++ (slice_index marks 0 ∷ joined (slice_index marks 1) numbers.now ++ slice_index marks 2 ∷ 32 ∷ [])) }
+    ensures kept { OnErr result (StillBegins text.old.items text.new.items) }
+{
+    let [first, separator, last] = marks;
+    text.push(first)?;
+    let before = text.len();
+    put_numbers(numbers, separator, text)?;
+    drop_separator(before, text);
+    text.extend_from_slice(&[last, b' '])
+}
+
+/// Appends the numbers in decimal, each with the separator behind it.
+fn put_numbers(numbers: &[u32], separator: u8, text: &mut Vec<u8>) -> Result<(), AllocError>
+    ensures appended { OnOk result (text.new.items ≡ text.old.items ++ ended separator (map decimal numbers.now)) }
+    ensures kept { OnErr result (StillBegins text.old.items text.new.items) }
+{
+    for number in numbers {
+        put_number(*number, separator, text)?;
+    }
+    Ok(())
+}
+
+/// Appends the number in decimal, and the separator behind it.
+#[inline]
+fn put_number(number: u32, separator: u8, text: &mut Vec<u8>) -> Result<(), AllocError>
+    ensures appended { OnOk result (text.new.items ≡ text.old.items ++ (decimal number ++ separator ∷ [])) }
+    ensures unchanged { OnErr result (text.new.items ≡ text.old.items) }
+{
+    let mut buffer = [separator; 11];
+    let start = write_digits(u64::from(number), &mut buffer, 10);
+    text.extend_from_slice(&buffer[start..])
+}
+
+/// Appends the text of each community, each with a space behind it.
+fn put_each_community(communities: &[u32], text: &mut Vec<u8>) -> Result<(), AllocError>
+    ensures appended { OnOk result (text.new.items ≡ text.old.items ++ ended 32 (map community_text communities.now)) }
+    ensures kept { OnErr result (StillBegins text.old.items text.new.items) }
+{
+    for community in communities {
+        put_community(*community, text)?;
+    }
+    Ok(())
+}
+
+/// Appends the text of a community, and a space behind it.
+#[tactic(auto, unfolding(crate::specs::Text::community_text))]
+fn put_community(community: u32, text: &mut Vec<u8>) -> Result<(), AllocError>
+    ensures appended { OnOk result (text.new.items ≡ text.old.items ++ (community_text community ++ 32 ∷ [])) }
+    ensures unchanged { OnErr result (text.new.items ≡ text.old.items) }
+{
+    match community {
+        NO_EXPORT => text.extend_from_slice(b"no-export "),
+        NO_ADVERTISE => text.extend_from_slice(b"no-advertise "),
+        NO_EXPORT_SUBCONFED => text.extend_from_slice(b"local-AS "),
+        _ => put_halves(community, text),
+    }
+}
+
+/// Appends the two halves of a number in decimal, with a colon between them and a space behind.
+fn put_halves(number: u32, text: &mut Vec<u8>) -> Result<(), AllocError>
+    ensures appended { OnOk result (text.new.items ≡
+        text.old.items ++ (decimal (number / 2 ^ 16) ++ 58 ∷ decimal (number % 2 ^ 16) ++ 32 ∷ [])) }
+    ensures unchanged { OnErr result (text.new.items ≡ text.old.items) }
+{
+    let mut buffer = [b' '; 12];
+    let low = write_digits(u64::from(number % 0x1_0000), &mut buffer, 11);
+    buffer[low - 1] = b':';
+    let high = write_digits(u64::from(number / 0x1_0000), &mut buffer, low - 1);
+    text.extend_from_slice(&buffer[high..])
+}

@@ -1,0 +1,70 @@
+-- Values spelled one behind the other, as far as they have been read.
+use Rattle.std.proofs.Common.{◌≡◌, ℕ, ◌*◌, List, [], ◌∷◌, ◌++◌, length, refl, ap, sym, subst, ◌∙◌, arith, append_assoc, append-nil}
+use Rattle.std.proofs.lemmas.List.{length-append}
+use Rattle.ip_prefix.specs.Wire.{Begins, SpellsAll, IsCode}
+use Rattle.ip_prefix.proofs.Wires.{never_begins}
+
+-- before the first value nothing has been read
+pub none_yet : {A : Type 0} (Spells : A → List ℕ → Type 0) (octets : List ℕ) → Begins (SpellsAll Spells) [] octets octets
+none_yet Spells octets = record { front = []; spelled = refl; whole = refl }
+
+-- octets that begin with a spelling still do with more behind them
+pub longer : {A : Type 0} (Spells : A → List ℕ → Type 0) (value : A) (rest octets more : List ℕ) → Begins Spells value rest octets → Begins Spells value (rest ++ more) (octets ++ more)
+longer Spells value rest octets more b = record {
+  front = b.front;
+  spelled = b.spelled;
+  whole = ap (λ l. l ++ more) b.whole ∙ append_assoc b.front rest more;
+}
+
+-- the spellings of two lists, one behind the other, are those of both
+pub both : {A : Type 0} (Spells : A → List ℕ → Type 0) (values others : List A) (front back : List ℕ) → SpellsAll Spells values front → SpellsAll Spells others back → SpellsAll Spells (values ++ others) (front ++ back)
+both Spells [] others front back p q = subst (λ l. SpellsAll Spells others (l ++ back)) (sym p) q
+both Spells (value ∷ values) others front back p q =
+    (p.0 ++ back, longer Spells value p.0 front back p.1, both Spells values others p.0 back p.2 q)
+
+-- one value is spelled alone as in a list
+pub alone : {A : Type 0} (Spells : A → List ℕ → Type 0) (value : A) (octets : List ℕ) → Spells value octets → SpellsAll Spells (value ∷ []) octets
+alone Spells value octets s = ([], record { front = octets; spelled = s; whole = sym (append-nil octets) }, refl)
+
+-- with one more value read, as much more is done
+pub one_more : {A : Type 0} (Spells : A → List ℕ → Type 0) (values : List A) (value : A) (more rest octets : List ℕ) → Begins (SpellsAll Spells) values rest octets → Begins Spells value more rest
+    → Begins (SpellsAll Spells) (values ++ value ∷ []) more octets
+one_more Spells values value more rest octets b c = record {
+  front = b.front ++ c.front;
+  spelled = both Spells values (value ∷ []) b.front c.front b.spelled (alone Spells value c.front c.spelled);
+  whole = b.whole ∙ ap (λ l. b.front ++ l) c.whole ∙ sym (append_assoc b.front c.front more);
+}
+
+-- with nothing left, the octets are spelled
+pub at_end : {A : Type 0} (Spells : A → List ℕ → Type 0) (values : List A) (rest octets : List ℕ) → rest ≡ [] → Begins (SpellsAll Spells) values rest octets → SpellsAll Spells values octets
+at_end Spells values rest octets e b = subst (SpellsAll Spells values) (sym (append-nil b.front) ∙ ap (λ l. b.front ++ l) (sym e) ∙ sym b.whole) b.spelled
+
+-- a list that is spelled by octets which others begin goes on after those
+after : {A : Type 0} (Spells : A → List ℕ → Type 0) → IsCode Spells → (values others : List A) (front rest : List ℕ) → SpellsAll Spells values front → SpellsAll Spells others (front ++ rest)
+    → (more : List A) × SpellsAll Spells more rest
+after Spells code [] others front rest p q = (others, subst (λ l. SpellsAll Spells others (l ++ rest)) p q)
+after Spells code (value ∷ values) [] front rest p q =
+    absurd (never_begins Spells code value (p.0 ++ rest) (front ++ rest) (longer Spells value p.0 front rest p.1) q)
+after Spells code (value ∷ values) (other ∷ others) front rest p q =
+    let one = code.same value other (p.0 ++ rest) q.0 (front ++ rest) (longer Spells value p.0 front rest p.1) q.1 in
+    after Spells code values others p.0 rest p.2 (subst (SpellsAll Spells others) (sym one.1) q.2)
+
+-- where no value stands in front of what is left, and something is, no list is spelled
+pub none_at_all : {A : Type 0} (Spells : A → List ℕ → Type 0) → IsCode Spells → (values : List A) (rest octets : List ℕ) → (rest ≡ [] → ⊥) → Begins (SpellsAll Spells) values rest octets
+    → ((value : A) (more : List ℕ) → Begins Spells value more rest → ⊥) → (others : List A) → SpellsAll Spells others octets → ⊥
+none_at_all {A} Spells code values rest octets some b none others s =
+    let left = after Spells code values others b.front rest b.spelled (subst (SpellsAll Spells others) b.whole s) in
+    refused left.0 left.1
+  where
+    refused : (more : List A) → SpellsAll Spells more rest → ⊥
+    refused [] e = some e
+    refused (value ∷ more) t = none value t.0 t.1
+
+-- values that take so many octets each take as many together
+pub length_together : {A : Type 0} (Spells : A → List ℕ → Type 0) (size : ℕ) → ((value : A) (octets : List ℕ) → Spells value octets → length octets ≡ size) → (values : List A) (octets : List ℕ)
+    → SpellsAll Spells values octets → length octets ≡ size * length values
+length_together Spells size each [] octets s = ap length s ∙ omega arith
+length_together Spells size each (value ∷ values) octets s =
+    let first = each value s.1.front s.1.spelled in
+    let others = length_together Spells size each values s.0 s.2 in
+    omega (arith, ap length s.1.whole, length-append s.1.front s.0, first, others)
