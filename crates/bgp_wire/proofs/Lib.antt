@@ -4,3 +4,8 @@ pub mod Noting
 pub mod Refusing
 pub mod Hops
 pub mod Words
+pub mod Weights
+pub mod Fronts
+pub mod Gathering
+pub mod Merging
+pub mod Reaching

@@ -1,5 +1,5 @@
 -- Noting one attribute more.
-use Rattle.std.proofs.Common.{◌≡◌, ◌⊎◌, inl, inr, ℕ, ◌<◌, ◌≤◌, Bool, true, false, cond, ◌||◌, ◌&&◌, List, [], ◌∷◌, ◌++◌, length, Option, Some, None, get_or, set, refl, ap, sym, subst, ◌∙◌, arith}
+use Rattle.std.proofs.Common.{◌≡◌, inl, inr, ℕ, ◌<◌, Bool, true, false, cond, ◌||◌, ◌&&◌, List, [], ◌∷◌, ◌++◌, length, Option, Some, None, get_or, set, refl, ap, sym, ◌∙◌}
 use Rattle.std.specs.Bool.{◌==◌}
 use Rattle.std.specs.Option.{is_some}
 use Rattle.std.proofs.lemmas.Bool.Decides.{eqb_tells}
@@ -49,11 +49,11 @@ repeats-more wanted (x ∷ list) a =
 -- the values of one attribute more, where each is the one before or else the new one
 pub noted : (old new : Firsts) (list : List Attribute) (a : Attribute)
     → ((wanted : ℕ) → wanted < 19 → get_or new.values wanted None ≡ prefer (get_or old.values wanted None) (own_value a.kind wanted a.value))
-    → new.reach_repeats ≡ (old.reach_repeats || ((a.kind == 14) && is_some (get_or old.values 14 None)))
+    → ((wanted : ℕ) → wanted < 19 → get_or new.again wanted false ≡ (get_or old.again wanted false || ((a.kind == wanted) && is_some (get_or old.values wanted None))))
     → Holds old list → Holds new (list ++ a ∷ [])
 noted old new list a each again h = record {
   each = λ wanted within. each wanted within ∙ ap (λ first. prefer first (own_value a.kind wanted a.value)) (h.each wanted within) ∙ sym (first_value-more wanted list a);
-  repeated = again ∙ (λ i. h.repeated i || ((a.kind == 14) && is_some (h.each 14 (omega arith) i))) ∙ sym (repeats-more 14 list a);
+  repeated = λ wanted within. again wanted within ∙ (λ i. h.repeated wanted within i || ((a.kind == wanted) && is_some (h.each wanted within i))) ∙ sym (repeats-more wanted list a);
 }
 
 prefer-none : {A : Type 0} (old : Option A) → prefer old None ≡ old
@@ -74,9 +74,9 @@ other_kind kind wanted value old other =
       | inr h ↦ sym (ap (λ test. prefer old (cond test (Some value) None)) h.0 ∙ prefer-none old)
     ]
 
-pub other_not_again : (kind : ℕ) (again seen : Bool) → (kind ≡ 14 → ⊥) → again ≡ (again || ((kind == 14) && seen))
-other_not_again kind again seen other =
-    elim (eqb_tells kind 14) as (λ _. again ≡ (again || ((kind == 14) && seen))) [
+pub other_not_again : (kind wanted : ℕ) (again seen : Bool) → (kind ≡ wanted → ⊥) → again ≡ (again || ((kind == wanted) && seen))
+other_not_again kind wanted again seen other =
+    elim (eqb_tells kind wanted) as (λ _. again ≡ (again || ((kind == wanted) && seen))) [
       | inl h ↦ absurd (other h.1)
       | inr h ↦ sym (ap (λ test. again || (test && seen)) h.0 ∙ or-false again)
     ]
@@ -85,13 +85,30 @@ and-false : (test : Bool) → (test && false) ≡ false
 and-false true = refl
 and-false false = refl
 
+or-true : (test : Bool) → (test || true) ≡ true
+or-true true = refl
+or-true false = refl
+
 -- the first of its type isn't one again
-pub first_not_again : (kind : ℕ) (again : Bool) (first : Option (List ℕ)) → (kind ≡ 14 → first ≡ None) → again ≡ (again || ((kind == 14) && is_some first))
-first_not_again kind again first none =
-    elim (eqb_tells kind 14) as (λ _. again ≡ (again || ((kind == 14) && is_some first))) [
-      | inl h ↦ sym (ap (λ f. again || ((kind == 14) && is_some f)) (none h.1) ∙ ap (λ b. again || b) (and-false (kind == 14)) ∙ or-false again)
-      | inr h ↦ sym (ap (λ test. again || (test && is_some first)) h.0 ∙ or-false again)
+pub first_not_again : (values : List (Option (List ℕ))) (kind wanted : ℕ) (again : Bool) → get_or values kind None ≡ None → again ≡ (again || ((kind == wanted) && is_some (get_or values wanted None)))
+first_not_again values kind wanted again none =
+    elim (eqb_tells kind wanted) as (λ _. again ≡ (again || ((kind == wanted) && is_some (get_or values wanted None)))) [
+      | inl h ↦ sym (ap (λ f. again || ((kind == wanted) && is_some f)) (ap (λ k. get_or values k None) (sym h.1) ∙ none) ∙ ap (λ b. again || b) (and-false (kind == wanted)) ∙ or-false again)
+      | inr h ↦ sym (ap (λ test. again || (test && is_some (get_or values wanted None))) h.0 ∙ or-false again)
     ]
+
+-- a later one is
+pub later_again : (values : List (Option (List ℕ))) (again : List Bool) (kind wanted : ℕ) → kind < length again → is_some (get_or values kind None) ≡ true
+    → get_or (set again kind true) wanted false ≡ (get_or again wanted false || ((kind == wanted) && is_some (get_or values wanted None)))
+later_again values again kind wanted within some =
+    elim (eqb_tells kind wanted) as (λ _. get_or (set again kind true) wanted false ≡ (get_or again wanted false || ((kind == wanted) && is_some (get_or values wanted None)))) [
+      | inl h ↦ ap (λ k. get_or (set again kind true) k false) (sym h.1) ∙ get_or-set_same again kind true false within
+          ∙ sym (or-true (get_or again wanted false)) ∙ sym (λ i. get_or again wanted false || (h.0 i && seen h.1 i))
+      | inr h ↦ get_or-set_other again kind wanted true false (λ e. h.1 (sym e)) ∙ other_not_again kind wanted (get_or again wanted false) (is_some (get_or values wanted None)) h.1
+    ]
+  where
+    seen : kind ≡ wanted → is_some (get_or values wanted None) ≡ true
+    seen e = ap (λ k. is_some (get_or values k None)) (sym e) ∙ some
 
 -- the first of its type is written
 pub written : (values : List (Option (List ℕ))) (kind : ℕ) (value : List ℕ) (wanted : ℕ) → kind < length values → get_or values kind None ≡ None

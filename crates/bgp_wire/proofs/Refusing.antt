@@ -1,5 +1,5 @@
 -- What is refused when a part of it is.
-use Rattle.std.proofs.Common.{◌≡◌, ℕ, ◌+◌, ◌*◌, ◌<◌, false, nat_eq, IfSome, IfNone, Option, Some, None, Result, Ok, Err, List, [], ◌∷◌, ◌++◌, length, get_or, drop, ap, sym, subst, ◌∙◌, arith}
+use Rattle.std.proofs.Common.{◌≡◌, ℕ, ◌*◌, false, nat_eq, IfSome, IfNone, Option, Some, None, Result, Ok, Err, List, [], ◌∷◌, ◌++◌, length, get_or, drop, ap, sym, subst, ◌∙◌, arith}
 use Rattle.ip_prefix.specs.Wire.{Begins, SpellsAll, IsCode}
 use Rattle.ip_prefix.proofs.Wires.{append_parts}
 use Rattle.ip_prefix.proofs.Sequences.{none_at_all}
@@ -32,6 +32,11 @@ pub refused_part : {A B C D : Type 0} (Whole : A → C → Type 0) (Part : B →
     → ((value : A) → Whole value octets → (b : B) × Part b part) → Refuses Part part fault → Refuses Whole octets fault
 refused_part Whole Part octets part Malformed has none = λ value s. none (has value s).0 (has value s).1
 refused_part Whole Part octets part Memory has none = tt
+
+-- where no value is spelled, every fault may be answered
+pub refused_always : {A C : Type 0} (Spells : A → C → Type 0) (octets : C) (fault : WireFault) → ((value : A) → Spells value octets → ⊥) → Refuses Spells octets fault
+refused_always Spells octets Malformed none = none
+refused_always Spells octets Memory none = tt
 
 -- what is read of a part is read of the whole, where one is spelled exactly where the other is
 pub reads_whole : {A C D : Type 0} (Part : A → D → Type 0) (Whole : A → C → Type 0) (part : D) (octets : C) (answer : Result A WireFault)

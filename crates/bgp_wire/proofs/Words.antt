@@ -1,9 +1,8 @@
 -- Words and what stands between them.
-use Rattle.std.proofs.Common.{◌≡◌, ℕ, ◌+◌, ◌-◌, ◌≤◌, List, [], ◌∷◌, ◌++◌, length, take, max, refl, ap, sym, ◌∙◌, arith, append_assoc, append-nil}
-use Rattle.std.specs.List.{flat_map, join_with_byte}
+use Rattle.std.proofs.Common.{◌≡◌, ℕ, ◌-◌, List, [], ◌∷◌, ◌++◌, length, take, max, refl, ap, sym, ◌∙◌, arith, append_assoc, append-nil}
+use Rattle.std.specs.List.{join_with_byte}
 use Rattle.std.proofs.lemmas.List.{length-append, take-append-le, take_all}
-use Rattle.std.proofs.lemmas.Grind.{flat_map-append}
-use Rattle.bgp_wire.specs.Text.{ended, StillBegins}
+use Rattle.bgp_wire.specs.Text.{ended}
 
 -- words that are each ended are those that are joined and a last end
 ended-joined : (separator : ℕ) (word : List ℕ) (words : List (List ℕ)) → ended separator (word ∷ words) ≡ join_with_byte separator (word ∷ words) ++ separator ∷ []

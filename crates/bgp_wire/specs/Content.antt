@@ -1,4 +1,4 @@
--- What a list of path attributes says (RFC 4271, section 5; RFC 1997; RFC 4760; RFC 6396, section 4.3.4).
+-- What a list of path attributes says (RFC 4271, section 5; RFC 1997; RFC 4760; RFC 6396, section 4.3.4; RFC 6793).
 use Rattle.std.specs.Prelude.{◌≡◌, ℕ, false, List, Option}
 use Rattle.ip_prefix.specs.declared.addr.Family.{Family}
 use Rattle.ip_prefix.specs.Address.{Address}
@@ -6,19 +6,18 @@ use Rattle.ip_prefix.specs.Wire.{SpellsAll}
 use Rattle.bgp_wire.specs.declared.path.AsWidth.{AsWidth}
 use Rattle.bgp_wire.specs.declared.attrs.Attrs.{Attrs}
 use Rattle.bgp_wire.specs.Number.{SpellsWord}
-use Rattle.bgp_wire.specs.Path.{SpellsPath}
 use Rattle.bgp_wire.specs.Attribute.{Attribute, SpellsAttributes, first_value, repeats}
-use Rattle.bgp_wire.specs.Value.{SpellsOptional, or_nothing, SpellsPresence, SpellsOrigin, SpellsIPv4, SpellsAggregator}
+use Rattle.bgp_wire.specs.Value.{SpellsOptional, or_nothing, SpellsPresence, SpellsOrigin, SpellsIPv4}
+use Rattle.bgp_wire.specs.Four.{SaysPassed}
 use Rattle.bgp_wire.specs.NextHop.{SpellsTableHop, table_hop}
 
--- what the first attributes of each type say, but for the next hop; an absent path has no segments, and absent communities are none
+-- what the first attributes of each type say, but for the next hop; absent communities are none
 pub record Says (width : AsWidth) (attrs : Attrs) (list : List Attribute) : Type 0 where
   pub origin : SpellsOptional SpellsOrigin attrs.origin (first_value 1 list)
-  pub path : SpellsPath width attrs.path (or_nothing (first_value 2 list))
+  pub passed : SaysPassed width attrs.path attrs.aggregator list
   pub med : SpellsOptional SpellsWord attrs.med (first_value 4 list)
   pub local_pref : SpellsOptional SpellsWord attrs.local_pref (first_value 5 list)
   pub atomic : SpellsPresence attrs.atomic (first_value 6 list)
-  pub aggregator : SpellsOptional SpellsAggregator attrs.aggregator (first_value 7 list)
   pub communities : SpellsAll SpellsWord attrs.communities (or_nothing (first_value 8 list))
 
 -- the next hop of a table entry for a prefix of this family, where its attributes name one

@@ -7,3 +7,7 @@ pub mod NextHop
 pub mod Content
 pub mod Reading
 pub mod Text
+pub mod Merge
+pub mod Four
+pub mod Reach
+pub mod Update

@@ -48,11 +48,14 @@ pub record SpellsIPv4 (address : Address) (octets : List ℕ) : Type 0 where
   pub of_family : address.family ≡ V4
   pub spelled : SpellsAddress address octets
 
--- the octets of an aggregator: an AS number of either width, and an IPv4 address
-pub record SpellsAggregator (value : Aggregator) (octets : List ℕ) : Type 0 where
-  pub width : AsWidth
+-- the octets of an aggregator with an AS number of this width, and an IPv4 address
+pub record SpellsAggregatorAt (width : AsWidth) (value : Aggregator) (octets : List ℕ) : Type 0 where
   pub number : List ℕ
   pub spelled : SpellsNumber width value.asn number
   pub address : List ℕ
   pub addressed : SpellsIPv4 value.addr address
   pub whole : octets ≡ number ++ address
+
+-- the octets of an aggregator with an AS number of either width
+abbrev pub SpellsAggregator : Aggregator → List ℕ → Type 0
+SpellsAggregator value octets = (width : AsWidth) × SpellsAggregatorAt width value octets

@@ -4,6 +4,7 @@ ghost use Rattle.std.specs.Prelude.{◌≡◌};
 
 use crate::path::AsPath;
 use ip_prefix::Addr;
+use std::alloc::AllocError;
 use std::marker::Model;
 
 /// How a route came into BGP (RFC 4271, section 5.1.1).
@@ -66,6 +67,15 @@ impl Communities {
     }
 }
 
+impl Clone for Communities {
+    ghost is_clone = { λ communities copy. copy ≡ communities };
+
+    fn clone(&self) -> Result<Communities, AllocError> {
+        let communities = Vec::from_slice(*self.communities.allocator(), self.as_slice())?;
+        Ok(Communities { communities })
+    }
+}
+
 /// The path attributes of a route. Those that are absent are `None`, false or empty.
 #[derive(Debug, Drop)]
 pub struct Attrs {
@@ -85,4 +95,23 @@ pub struct Attrs {
     pub origin: Option<Origin>,
     /// Whether ATOMIC_AGGREGATE is there (RFC 4271, section 5.1.6).
     pub atomic: bool,
+}
+
+impl Clone for Attrs {
+    ghost is_clone = { λ attrs copy. copy ≡ attrs };
+
+    fn clone(&self) -> Result<Attrs, AllocError> {
+        let path = self.path.clone()?;
+        let communities = self.communities.clone()?;
+        Ok(Attrs {
+            next_hop: self.next_hop,
+            aggregator: self.aggregator,
+            path,
+            communities,
+            med: self.med,
+            local_pref: self.local_pref,
+            origin: self.origin,
+            atomic: self.atomic,
+        })
+    }
 }

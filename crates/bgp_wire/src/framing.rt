@@ -7,7 +7,7 @@ ghost use Rattle.bgp_wire.specs.FirstValues.{Holds, octets_of};
 ghost use Rattle.bgp_wire.specs.Reading.{BeginsWithNone};
 ghost use Rattle.bgp_wire.specs.Value.{or_nothing};
 
-use byteorder::{BigEndian, ByteOrder};
+use crate::numbers::read_length;
 use std::marker::Model;
 
 /// The flag of an attribute whose length has two octets (RFC 4271, section 4.3).
@@ -34,6 +34,12 @@ pub(crate) const AGGREGATOR: u8 = 7;
 pub(crate) const COMMUNITIES: u8 = 8;
 /// The type of MP_REACH_NLRI (RFC 4760, section 3).
 pub(crate) const MP_REACH_NLRI: u8 = 14;
+/// The type of MP_UNREACH_NLRI (RFC 4760, section 4).
+pub(crate) const MP_UNREACH_NLRI: u8 = 15;
+/// The type of AS4_PATH (RFC 6793, section 3).
+pub(crate) const AS4_PATH: u8 = 17;
+/// The type of AS4_AGGREGATOR (RFC 6793, section 3).
+pub(crate) const AS4_AGGREGATOR: u8 = 18;
 
 /// An attribute in front of octets: its type and value, and what follows it.
 #[derive(Clone, Copy)]
@@ -58,7 +64,7 @@ fn split_length(flags: u8, octets: &[u8]) -> Option<(usize, &[u8])>
         return None;
     }
     let (front, rest) = octets.split_at(2);
-    Some((usize::from(BigEndian::read_u16(front)), rest))
+    Some((read_length(front), rest))
 }
 
 /// The attribute in front of the octets.
@@ -77,11 +83,11 @@ fn split_attribute(octets: &[u8]) -> Option<FramedAttribute<'_>>
     Some(FramedAttribute { value, rest, kind })
 }
 
-/// The first values of a list of attributes, by their types, and which types come more than once.
+/// By the types of attributes, the first value of each and whether more than one is of the type.
 #[derive(Drop)]
 pub(crate) struct FirstValues<'a> {
     values: [Option<&'a [u8]>; KINDS],
-    reach_repeats: bool,
+    again: [bool; KINDS],
 }
 
 impl<'a> Model for FirstValues<'a> {
@@ -90,9 +96,9 @@ impl<'a> Model for FirstValues<'a> {
 
     ghost Value = { Firsts };
 
-    ghost view = { λ v. record { values = map octets_of v.values; reach_repeats = v.reach_repeats } };
+    ghost view = { λ v. record { values = map octets_of v.values; again = v.again } };
 
-    ghost invariant = { λ v. length v.values ≡ 19 };
+    ghost invariant = { λ v. (length v.values ≡ 19) × (length v.again ≡ 19) };
 }
 
 impl<'a> FirstValues<'a> {
@@ -102,7 +108,7 @@ impl<'a> FirstValues<'a> {
     {
         FirstValues {
             values: [None; KINDS],
-            reach_repeats: false,
+            again: [false; KINDS],
         }
     }
 
@@ -117,8 +123,8 @@ impl<'a> FirstValues<'a> {
         }
         if self.values[place].is_none() {
             self.values[place] = Some(value);
-        } else if kind == MP_REACH_NLRI {
-            self.reach_repeats = true;
+        } else {
+            self.again[place] = true;
         }
     }
 
@@ -143,12 +149,13 @@ impl<'a> FirstValues<'a> {
         }
     }
 
-    /// Whether MP_REACH_NLRI comes more than once.
+    /// Whether more than one attribute is of a type.
     #[inline]
-    pub(crate) fn reach_repeats(&self) -> bool
-        ensures { (list : List Attribute) → Holds self.now list → result ≡ repeats 14 list }
+    pub(crate) fn repeats(&self, kind: u8) -> bool
+        requires { kind < 19 }
+        ensures { (list : List Attribute) → Holds self.now list → result ≡ repeats kind list }
     {
-        self.reach_repeats
+        self.again[usize::from(kind)]
     }
 }
 

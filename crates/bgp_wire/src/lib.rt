@@ -1,24 +1,36 @@
-//! Path attributes of BGP, and their texts.
+//! Path attributes and messages of BGP, and the texts of paths and communities.
 #![tactic(auto)]
 
 mod attrs;
 mod fault;
+mod four;
 mod framing;
 mod laws;
+mod merge;
+mod message;
 mod next_hop;
 mod numbers;
 mod path;
 mod path_reader;
+mod prefixes;
+mod reach;
+mod shared;
 mod table;
 mod text;
+mod update;
 mod values;
 
 pub use attrs::{Aggregator, Attrs, Communities, Origin};
 pub use fault::WireFault;
-pub use laws::{one_attribute_list, one_path};
+pub use laws::{merge_keeps_the_weight, one_attribute_list, one_merge, one_path};
+pub use merge::merge_paths;
+pub use message::{Message, Update, read_message};
 pub use path::{AsNumbers, AsPath, AsWidth, Segment, SegmentKind, Segments};
+pub use prefixes::Prefixes;
 pub use table::read_rib_attrs;
 pub use text::put_communities;
 
 #[cfg(test)]
 mod tests;
+#[cfg(test)]
+mod tests_merge;

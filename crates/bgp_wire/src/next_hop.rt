@@ -17,7 +17,7 @@ const FAMILY_SIZE: usize = 3;
 
 /// The next hop that the octets spell: an address, and for IPv6 also with a link-local one behind
 /// it.
-fn read_next_hop(octets: &[u8]) -> Option<Addr>
+pub(crate) fn read_next_hop(octets: &[u8]) -> Option<Addr>
     ensures some { IfSome result (λ hop. SpellsNextHop hop octets.now) }
     ensures none { IfNone result ((hop : Address) → SpellsNextHop hop octets.now → ⊥) }
 {

@@ -1,6 +1,7 @@
 //! Numbers in network byte order.
 
-ghost use Rattle.std.specs.Prelude.{◌≡◌, length, IfOk, IfErr};
+ghost use Rattle.std.specs.Prelude.{◌≡◌, ◌<◌, ◌^◌, length, IfOk, IfErr};
+ghost use Rattle.std.specs.Int.{to_be_bytes, w16};
 ghost use Rattle.ip_prefix.specs.Wire.{SpellsAll};
 ghost use Rattle.bgp_wire.specs.Number.{SpellsNumber, octets_at};
 ghost use Rattle.bgp_wire.specs.Reading.{Refuses};
@@ -33,6 +34,16 @@ impl AsWidth {
             AsWidth::Four => BigEndian::read_u32(octets),
         }
     }
+}
+
+/// The length that two octets say.
+#[inline]
+pub(crate) fn read_length(octets: &[u8]) -> usize
+    requires { length octets.now ≡ 2 }
+    ensures fits { result < 2 ^ 16 }
+    ensures spelled { octets.now ≡ to_be_bytes w16 result }
+{
+    usize::from(BigEndian::read_u16(octets))
 }
 
 /// The numbers that the octets are, one behind the other. There is room for all of them from the

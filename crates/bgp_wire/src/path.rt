@@ -2,6 +2,7 @@
 
 ghost use Rattle.std.specs.Prelude.{◌≡◌};
 
+use std::alloc::AllocError;
 use std::marker::Model;
 
 /// How many octets an AS number takes.
@@ -40,6 +41,15 @@ impl Model for AsNumbers {
     ghost view = { λ a. a.numbers.items };
 }
 
+impl Clone for AsNumbers {
+    ghost is_clone = { λ numbers copy. copy ≡ numbers };
+
+    fn clone(&self) -> Result<AsNumbers, AllocError> {
+        let numbers = Vec::from_slice(*self.numbers.allocator(), self.as_slice())?;
+        Ok(AsNumbers { numbers })
+    }
+}
+
 impl AsNumbers {
     /// These numbers.
     #[inline]
@@ -75,6 +85,18 @@ pub struct Segment {
     pub kind: SegmentKind,
 }
 
+impl Clone for Segment {
+    ghost is_clone = { λ segment copy. copy ≡ segment };
+
+    fn clone(&self) -> Result<Segment, AllocError> {
+        let numbers = self.numbers.clone()?;
+        Ok(Segment {
+            numbers,
+            kind: self.kind,
+        })
+    }
+}
+
 /// The segments of a path.
 #[derive(Debug, Drop)]
 pub struct Segments {
@@ -88,6 +110,15 @@ impl Model for Segments {
     ghost Value = { List Segment };
 
     ghost view = { λ a. a.segments.items };
+}
+
+impl Clone for Segments {
+    ghost is_clone = { λ segments copy. copy ≡ segments };
+
+    fn clone(&self) -> Result<Segments, AllocError> {
+        let segments = self.segments.clone()?;
+        Ok(Segments { segments })
+    }
 }
 
 impl Segments {
@@ -121,4 +152,13 @@ impl Segments {
 pub struct AsPath {
     /// Its segments, the latest first.
     pub segments: Segments,
+}
+
+impl Clone for AsPath {
+    ghost is_clone = { λ path copy. copy ≡ path };
+
+    fn clone(&self) -> Result<AsPath, AllocError> {
+        let segments = self.segments.clone()?;
+        Ok(AsPath { segments })
+    }
 }

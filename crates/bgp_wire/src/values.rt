@@ -2,8 +2,9 @@
 
 ghost use Rattle.std.specs.Prelude.{◌≡◌, ◌+◌, length};
 ghost use Rattle.bgp_wire.specs.FirstValues.{octets_of};
+ghost use Rattle.bgp_wire.specs.Four.{SpellsWhereFormed};
 ghost use Rattle.bgp_wire.specs.Number.{SpellsWord, octets_at};
-ghost use Rattle.bgp_wire.specs.Value.{SpellsOptional, SpellsPresence, SpellsOrigin, SpellsIPv4, SpellsAggregator};
+ghost use Rattle.bgp_wire.specs.Value.{SpellsOptional, SpellsPresence, SpellsOrigin, SpellsIPv4, SpellsAggregatorAt, SpellsAggregator};
 ghost use Rattle.bgp_wire.specs.Reading.{Reads};
 
 use crate::attrs::{Aggregator, Origin};
@@ -71,10 +72,21 @@ pub(crate) fn read_aggregator(value: Option<&[u8]>) -> Result<Option<Aggregator>
     }
 }
 
+/// The value of AS4_AGGREGATOR (RFC 6793, section 3). One that isn't of its form is as one that
+/// isn't there.
+pub(crate) fn read_four_aggregator(value: Option<&[u8]>) -> Option<Aggregator>
+    ensures { SpellsWhereFormed (SpellsAggregatorAt AsWidth.Four) result (octets_of value.entry) }
+{
+    match value {
+        Some(octets) if octets.len() == 8 => Some(aggregator(AsWidth::Four, octets)),
+        _ => None,
+    }
+}
+
 /// The aggregator with an AS number of this width.
 fn aggregator(width: AsWidth, octets: &[u8]) -> Aggregator
     requires { length octets.now ≡ octets_at width + 4 }
-    ensures { SpellsAggregator result octets.now }
+    ensures { SpellsAggregatorAt width result octets.now }
 {
     let (number, address) = octets.split_at(width.octets());
     Aggregator {

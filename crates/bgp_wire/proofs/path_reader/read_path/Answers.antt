@@ -1,9 +1,7 @@
-use Rattle.std.proofs.Common.{◌≡◌, ℕ, false, List, [], length, nat_eq, Err, ap, sym, subst, ◌∙◌}
+use Rattle.std.proofs.Common.{◌≡◌, [], Err, ap, sym, subst, ◌∙◌}
 use Rattle.std.proofs.lemmas.Result.{err_from_is_err_and}
 use Rattle.ip_prefix.specs.Wire.{Begins, SpellsAll}
 use Rattle.ip_prefix.proofs.Sequences.{one_more}
-use Rattle.bgp_wire.specs.declared.path.Segment.{Segment}
-use Rattle.bgp_wire.specs.declared.path.AsPath.{AsPath}
 use Rattle.bgp_wire.specs.Path.{SpellsSegment, SpellsPath}
 use Rattle.bgp_wire.specs.Reading.{Reads}
 use Rattle.bgp_wire.proofs.Codes.{segment_code}

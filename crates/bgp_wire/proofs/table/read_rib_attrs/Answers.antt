@@ -1,4 +1,4 @@
-use Rattle.std.proofs.Common.{◌≡◌, ℕ, List, Option, IfSome, Err, ap, sym, subst, ◌∙◌}
+use Rattle.std.proofs.Common.{◌≡◌, List, Option, IfSome, Err, ap, sym, subst, ◌∙◌}
 use Rattle.std.proofs.lemmas.Result.{err_from_is_err_and}
 use Rattle.ip_prefix.specs.Address.{Address}
 use Rattle.ip_prefix.proofs.Wires.{one_list}
@@ -34,7 +34,7 @@ returns c =
     let held : (list : List Attribute) × SpellsAttributes list octets × Holds c.in_ok-values.values list
     = subst (λ found. IfSome found (λ values. (list : List Attribute) × SpellsAttributes list octets × Holds values list)) c.in_ok-values.ensures.ok_part c.read_first_values.ensures.some in
     let Part : Attrs → List Attribute → Type 0 = λ attrs list. (attrs.next_hop ≡ hop) × Says width attrs list in
-    reads_whole Part (SpellsTableAttrs family width) held.0 octets c.read_values.result
+    reads_whole Part (SpellsTableAttrs family width) held.0 octets c.read_shared.result
     (λ attrs s. record {
       list = held.0;
       spelled = held.1;
@@ -42,16 +42,15 @@ returns c =
       hop_said = subst (λ hop. SaysTableHop family hop held.0) (sym s.0) (c.in_ok-next_hop.ensures held.0 held.2);
     })
     (λ attrs s. (record attrs { next_hop = hop }, (λ _. hop, again width hop attrs held.0 (subst (Says width attrs) (one_list SpellsAttribute attribute_code octets s.list held.0 s.spelled held.1) s.said))))
-    (c.read_values.ensures held.0 held.2)
+    (c.read_shared.ensures held.0 held.2)
   where
     -- what attributes say but for the next hop doesn't depend on it
     again : (width : AsWidth) (hop : Option Address) (attrs : Attrs) (list : List Attribute) → Says width attrs list → Says width record attrs { next_hop = hop } list
     again width hop attrs list s = record {
       origin = s.origin;
-      path = s.path;
+      passed = s.passed;
       med = s.med;
       local_pref = s.local_pref;
       atomic = s.atomic;
-      aggregator = s.aggregator;
       communities = s.communities;
     }

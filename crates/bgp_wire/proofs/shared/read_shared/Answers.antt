@@ -1,17 +1,16 @@
-use Rattle.std.proofs.Common.{◌≡◌, ℕ, ◌<◌, List, Option, Err, ap, sym, subst, ◌∙◌, arith}
+use Rattle.std.proofs.Common.{◌≡◌, List, Err, ap, sym, subst, ◌∙◌}
 use Rattle.std.proofs.lemmas.Result.{err_from_is_err_and}
-use Rattle.ip_prefix.specs.Address.{Address}
 use Rattle.ip_prefix.specs.Wire.{SpellsAll}
-use Rattle.bgp_wire.specs.declared.path.AsWidth.TheVariants.{Four}
 use Rattle.bgp_wire.specs.declared.attrs.Attrs.{Attrs}
+use Rattle.bgp_wire.specs.declared.four.Passed.{Passed}
+use Rattle.bgp_wire.specs.Four.{SaysPassed}
 use Rattle.bgp_wire.specs.Number.{SpellsWord}
 use Rattle.bgp_wire.specs.Attribute.{Attribute, first_value}
-use Rattle.bgp_wire.specs.Path.{SpellsPath}
-use Rattle.bgp_wire.specs.Value.{SpellsOptional, SpellsPresence, SpellsOrigin, SpellsAggregator, or_nothing}
+use Rattle.bgp_wire.specs.Value.{SpellsOptional, SpellsPresence, SpellsOrigin, or_nothing}
 use Rattle.bgp_wire.specs.Content.{Says}
 use Rattle.bgp_wire.specs.Reading.{Reads, Refuses}
 use Rattle.bgp_wire.proofs.Refusing.{refused_part}
-use Rattle.bgp_wire.proofs.table.read_values.Goals as goal
+use Rattle.bgp_wire.proofs.shared.read_shared.Goals as goal
 
 pub returns-in_err-communities : goal.returns-in_err-communities
 returns-in_err-communities c list h =
@@ -19,22 +18,30 @@ returns-in_err-communities c list h =
     let fault = c.in_err-communities.field-0.0 in
     let value = or_nothing (first_value 8 list) in
     let Whole : Attrs → List Attribute → Type 0 = λ attrs list. (attrs.next_hop ≡ c.args.next_hop) × Says width attrs list in
-    let refused : Refuses (SpellsAll SpellsWord) value fault = subst (λ octets. Refuses (SpellsAll SpellsWord) octets fault) (c.octets-2.ensures list h) c.in_err-communities.ensures.refused in
+    let refused : Refuses (SpellsAll SpellsWord) value fault = subst (λ octets. Refuses (SpellsAll SpellsWord) octets fault) (c.octets.ensures list h) c.in_err-communities.ensures.refused in
     let p = err_from_is_err_and c.from_residual-in_err-communities.result c.from_residual-in_err-communities.ensures.1 in
     subst (Reads Whole list) (sym (p.1 ∙ ap Err p.2))
     (refused_part Whole (SpellsAll SpellsWord) list value fault (λ attrs s. (attrs.communities, s.1.communities)) refused)
+
+pub returns-in_err-passed : goal.returns-in_err-passed
+returns-in_err-passed c list h =
+    let width = c.args.width in
+    let Whole : Attrs → List Attribute → Type 0 = λ attrs list. (attrs.next_hop ≡ c.args.next_hop) × Says width attrs list in
+    let Part : Passed → List Attribute → Type 0 = λ passed list. SaysPassed width passed.path passed.aggregator list in
+    let p = err_from_is_err_and c.from_residual-in_err-passed.result c.from_residual-in_err-passed.ensures.1 in
+    subst (Reads Whole list) (sym (p.1 ∙ ap Err p.2))
+    (refused_part Whole Part list list c.in_err-passed.field-0.0 (λ attrs s. (record { aggregator = attrs.aggregator; path = attrs.path }, s.1.passed)) (c.in_err-passed.ensures list h))
 
 pub returns : goal.returns
 returns c list h = (
   λ _. c.args.next_hop,
   record {
     origin = subst (SpellsOptional SpellsOrigin c.in_ok-origin.origin) (c.first.ensures list h) c.in_ok-origin.ensures;
-    path = subst (SpellsPath c.args.width c.in_ok-path.path) (c.octets.ensures list h) c.in_ok-path.ensures;
+    passed = c.in_ok-passed.ensures list h;
     med = subst (SpellsOptional SpellsWord c.in_ok-med.med) (c.first-2.ensures list h) c.in_ok-med.ensures;
     local_pref = subst (SpellsOptional SpellsWord c.in_ok-local_pref.local_pref) (c.first-3.ensures list h) c.in_ok-local_pref.ensures;
     atomic = subst (SpellsPresence c.in_ok-atomic.atomic) (c.first-4.ensures list h) c.in_ok-atomic.ensures;
-    aggregator = subst (SpellsOptional SpellsAggregator c.in_ok-aggregator.aggregator) (c.first-5.ensures list h) c.in_ok-aggregator.ensures;
     communities = subst (λ ns. SpellsAll SpellsWord ns (or_nothing (first_value 8 list))) (sym c.from_vec.ensures)
-        (subst (SpellsAll SpellsWord c.in_ok-communities.communities.items) (c.octets-2.ensures list h) c.in_ok-communities.ensures.found);
+        (subst (SpellsAll SpellsWord c.in_ok-communities.communities.items) (c.octets.ensures list h) c.in_ok-communities.ensures.found);
   },
 )

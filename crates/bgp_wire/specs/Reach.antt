@@ -1,0 +1,89 @@
+-- What MP_REACH_NLRI and MP_UNREACH_NLRI of an UPDATE say (RFC 4760, sections 3 and 4).
+use Rattle.std.specs.Prelude.{◌≡◌, ◌⊎◌, ℕ, ◌<◌, List, [], ◌∷◌, ◌++◌, length, Option, Some, None}
+use Rattle.ip_prefix.specs.declared.addr.Family.{Family}
+use Rattle.ip_prefix.specs.declared.addr.Family.TheVariants.{V4, V6}
+use Rattle.ip_prefix.specs.Address.{Address}
+use Rattle.ip_prefix.specs.Network.{Network}
+use Rattle.ip_prefix.specs.Wire.{SpellsAll, SpellsNetwork}
+use Rattle.bgp_wire.specs.declared.attrs.Attrs.{Attrs}
+use Rattle.bgp_wire.specs.declared.reach.Reach.{Reach}
+use Rattle.bgp_wire.specs.declared.reach.Scope.{Scope}
+use Rattle.bgp_wire.specs.declared.reach.Scope.TheVariants.{Unicast, Another}
+use Rattle.bgp_wire.specs.NextHop.{SpellsNextHop}
+
+-- the number of an address family
+abbrev pub family_code : Family → ℕ
+family_code V4 = 1
+family_code V6 = 2
+
+-- the octets of an address family and of unicast
+abbrev pub unicast : Family → List ℕ
+unicast family = 0 ∷ family_code family ∷ 1 ∷ []
+
+-- octets that begin with another address family, or another use of one
+pub record IsOfAnother (octets : List ℕ) : Type 0 where
+  pub high : ℕ
+  pub low : ℕ
+  pub subsequent : ℕ
+  pub rest : List ℕ
+  pub whole : octets ≡ high ∷ low ∷ subsequent ∷ rest
+  pub other : (family : Family) → high ∷ low ∷ subsequent ∷ [] ≡ unicast family → ⊥
+
+-- a next hop behind its length, a reserved octet, which may be any, and the rest
+pub record HopStands (hop : Address) (rest octets : List ℕ) : Type 0 where
+  pub front : List ℕ
+  pub spelled : SpellsNextHop hop front
+  pub reserved : ℕ
+  pub whole : octets ≡ length front ∷ (front ++ (reserved ∷ rest))
+
+-- behind the family, the octets of prefixes that are announced with a next hop
+pub record SpellsUnicast (family : Family) (reach : Reach) (octets : List ℕ) : Type 0 where
+  pub body : List ℕ
+  pub stands : HopStands reach.hop body octets
+  pub spelled : SpellsAll (SpellsNetwork family) reach.prefixes body
+
+-- the octets of prefixes of a family that are announced with a next hop
+pub record SpellsReach (reach : Reach) (octets : List ℕ) : Type 0 where
+  pub family : Family
+  pub rest : List ℕ
+  pub whole : octets ≡ unicast family ++ rest
+  pub spelled : SpellsUnicast family reach rest
+
+-- the octets of prefixes of a family that are withdrawn
+pub record SpellsUnreach (prefixes : List Network) (octets : List ℕ) : Type 0 where
+  pub family : Family
+  pub rest : List ℕ
+  pub whole : octets ≡ unicast family ++ rest
+  pub spelled : SpellsAll (SpellsNetwork family) prefixes rest
+
+-- what the value of MP_REACH_NLRI announces: nothing where it is absent, or of another family
+abbrev pub SaysReach : Option Reach → Option (List ℕ) → Type 0
+SaysReach None None = Unit {0}
+SaysReach None (Some octets) = IsOfAnother octets
+SaysReach (Some reach) (Some octets) = SpellsReach reach octets
+SaysReach (Some reach) None = ⊥
+
+-- what the value of MP_UNREACH_NLRI withdraws
+abbrev pub SaysUnreach : List Network → Option (List ℕ) → Type 0
+SaysUnreach prefixes None = prefixes ≡ []
+SaysUnreach prefixes (Some octets) = (IsOfAnother octets × (prefixes ≡ [])) ⊎ SpellsUnreach prefixes octets
+
+-- the prefixes that are announced
+abbrev pub reach_prefixes : Option Reach → List Network
+reach_prefixes None = []
+reach_prefixes (Some reach) = reach.prefixes
+
+-- their attributes, where there are any prefixes: the others with the next hop beside the prefixes
+abbrev pub attrs_with : Attrs → Reach → List Network → Option Attrs
+attrs_with attrs reach [] = None
+attrs_with attrs reach (prefix ∷ prefixes) = Some record attrs { next_hop = Some reach.hop }
+
+abbrev pub reach_attrs : Attrs → Option Reach → Option Attrs
+reach_attrs attrs None = None
+reach_attrs attrs (Some reach) = attrs_with attrs reach reach.prefixes
+
+-- how the octets begin, as far as that is told by their first three; too few begin with neither
+abbrev pub BeginsIn : List ℕ → Option Scope → Type 0
+BeginsIn octets None = length octets < 3
+BeginsIn octets (Some Another) = IsOfAnother octets
+BeginsIn octets (Some (Unicast family rest)) = octets ≡ unicast family ++ rest.now

@@ -1,0 +1,67 @@
+-- How messages are sent (RFC 4271, sections 4.1 and 4.3).
+use Rattle.std.specs.Prelude.{◌≡◌, ℕ, ◌<◌, ◌^◌, false, List, ◌∷◌, ◌++◌, length, Option}
+use Rattle.std.specs.Int.{to_be_bytes, w16}
+use Rattle.ip_prefix.specs.declared.addr.Family.TheVariants.{V4}
+use Rattle.ip_prefix.specs.Network.{Network}
+use Rattle.ip_prefix.specs.Wire.{SpellsAll, SpellsNetwork}
+use Rattle.bgp_wire.specs.declared.path.AsWidth.{AsWidth}
+use Rattle.bgp_wire.specs.declared.attrs.Attrs.{Attrs}
+use Rattle.bgp_wire.specs.declared.reach.Reach.{Reach}
+use Rattle.bgp_wire.specs.declared.message.Update.{Update}
+use Rattle.bgp_wire.specs.declared.message.Message.{Message}
+use Rattle.bgp_wire.specs.declared.message.Message.TheVariants as messages
+use Rattle.bgp_wire.specs.Attribute.{Attribute, SpellsAttributes, first_value, repeats}
+use Rattle.bgp_wire.specs.Value.{SpellsOptional, SpellsIPv4}
+use Rattle.bgp_wire.specs.Content.{Says}
+use Rattle.bgp_wire.specs.Reach.{SaysReach, SaysUnreach, reach_prefixes, reach_attrs}
+
+-- the octets are a message of a type, with this body; the marker may be any octets
+pub record IsMessage (kind : ℕ) (body octets : List ℕ) : Type 0 where
+  pub marker : List ℕ
+  pub marker_size : length marker ≡ 16
+  pub kind_fits : kind < 256
+  pub length_fits : length octets < 2 ^ 16
+  pub whole : octets ≡ marker ++ (to_be_bytes w16 (length octets) ++ (kind ∷ body))
+
+-- octets behind their length
+abbrev pub sized : List ℕ → List ℕ
+sized octets = to_be_bytes w16 (length octets) ++ octets
+
+-- the octets of an UPDATE's body: those of withdrawn prefixes, of attributes, and of announced prefixes
+pub record IsUpdate (withdrawn attributes announced body : List ℕ) : Type 0 where
+  pub withdrawn_fits : length withdrawn < 2 ^ 16
+  pub attributes_fit : length attributes < 2 ^ 16
+  pub whole : body ≡ sized withdrawn ++ (sized attributes ++ announced)
+
+-- what the attributes of an UPDATE say: their values with the next hop of NEXT_HOP, what MP_REACH_NLRI announces, and what MP_UNREACH_NLRI withdraws
+pub record SaysTogether (width : AsWidth) (attrs : Attrs) (reach : Option Reach) (withdrawn : List Network) (list : List Attribute) : Type 0 where
+  pub said : Says width attrs list
+  pub hop : SpellsOptional SpellsIPv4 attrs.next_hop (first_value 3 list)
+  pub reached : SaysReach reach (first_value 14 list)
+  pub reached_once : repeats 14 list ≡ false
+  pub unreached : SaysUnreach withdrawn (first_value 15 list)
+  pub unreached_once : repeats 15 list ≡ false
+
+-- what they say of an UPDATE
+pub record SaysInUpdate (width : AsWidth) (update : Update) (list : List Attribute) : Type 0 where
+  pub reach : Option Reach
+  pub together : SaysTogether width update.attrs reach update.mp_withdrawn list
+  pub announced : update.mp_announced ≡ reach_prefixes reach
+  pub attrs : update.mp_attrs ≡ reach_attrs update.attrs reach
+
+-- the octets of an UPDATE's body
+pub record SpellsUpdate (width : AsWidth) (update : Update) (body : List ℕ) : Type 0 where
+  pub withdrawn : List ℕ
+  pub attributes : List ℕ
+  pub announced : List ℕ
+  pub whole : IsUpdate withdrawn attributes announced body
+  pub withdrawn_spelled : SpellsAll (SpellsNetwork V4) update.withdrawn withdrawn
+  pub announced_spelled : SpellsAll (SpellsNetwork V4) update.announced announced
+  pub list : List Attribute
+  pub spelled : SpellsAttributes list attributes
+  pub said : SaysInUpdate width update list
+
+-- the octets of a message; the body of one that isn't an UPDATE may be any octets
+abbrev pub SpellsMessage : AsWidth → Message → List ℕ → Type 0
+SpellsMessage width (messages.Update update) octets = (body : List ℕ) × IsMessage 2 body octets × SpellsUpdate width update body
+SpellsMessage width (messages.Other kind) octets = (kind ≡ 2 → ⊥) × (body : List ℕ) × IsMessage kind body octets
