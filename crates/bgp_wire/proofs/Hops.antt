@@ -36,7 +36,7 @@ some_octets V4 = omega arith
 some_octets V6 = omega arith
 
 -- a next hop has octets
-length-hop : (hop : Address) (octets : List ℕ) → SpellsNextHop hop octets → 0 < length octets
+pub length-hop : (hop : Address) (octets : List ℕ) → SpellsNextHop hop octets → 0 < length octets
 length-hop hop octets s = omega (arith, some_octets hop.family, s.spelled.size, ap length s.whole, length-append s.address s.link_local)
 
 -- a next hop whose length stands in front is spelled by as many octets

@@ -9,3 +9,5 @@ pub mod Fronts
 pub mod Gathering
 pub mod Merging
 pub mod Reaching
+pub mod OneValue
+pub mod OneContent

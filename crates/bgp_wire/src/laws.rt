@@ -1,10 +1,15 @@
 //! Laws of the definitions, which call nothing.
 
 ghost use Rattle.std.specs.Prelude.{◌≡◌, ℕ, List};
+ghost use Rattle.ip_prefix.specs.declared.addr.Family.{Family};
 ghost use Rattle.bgp_wire.specs.declared.path.AsWidth.{AsWidth};
+ghost use Rattle.bgp_wire.specs.declared.attrs.Attrs.{Attrs};
+ghost use Rattle.bgp_wire.specs.declared.message.Message.{Message};
 ghost use Rattle.bgp_wire.specs.declared.path.AsPath.{AsPath};
 ghost use Rattle.bgp_wire.specs.Attribute.{Attribute, SpellsAttributes};
 ghost use Rattle.bgp_wire.specs.Path.{SpellsPath};
+ghost use Rattle.bgp_wire.specs.Content.{SpellsTableAttrs};
+ghost use Rattle.bgp_wire.specs.Update.{SpellsMessage};
 ghost use Rattle.bgp_wire.specs.Merge.{IsMerge, path_weight};
 
 /// No octets spell two lists of attributes (RFC 4271, section 4.3).
@@ -27,4 +32,16 @@ pub fn merge_keeps_the_weight()
 /// Two paths are joined in one way.
 pub fn one_merge()
     ensures { (first second path other : AsPath) → IsMerge first second path → IsMerge first second other → path ≡ other }
+{}
+
+/// No octets spell two attributes of a table entry for a family, with AS numbers of one width.
+pub fn one_table_entry()
+    ensures { (family : Family) (width : AsWidth) (octets : List ℕ) (attrs other : Attrs) →
+        SpellsTableAttrs family width attrs octets → SpellsTableAttrs family width other octets → attrs ≡ other }
+{}
+
+/// No octets spell two messages with AS numbers of one width.
+pub fn one_message()
+    ensures { (width : AsWidth) (octets : List ℕ) (message other : Message) →
+        SpellsMessage width message octets → SpellsMessage width other octets → message ≡ other }
 {}

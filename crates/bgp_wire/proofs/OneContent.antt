@@ -1,0 +1,126 @@
+-- No octets are spellings of two attributes of a table entry, or of two messages.
+use Rattle.std.proofs.Common.{◌≡◌, inl, inr, ℕ, Bool, true, false, List, Option, Some, None, ap, sym, subst, ◌∙◌}
+use Rattle.ip_prefix.specs.declared.addr.Family.{Family}
+use Rattle.ip_prefix.specs.declared.addr.Family.TheVariants.{V4}
+use Rattle.ip_prefix.specs.Address.{Address}
+use Rattle.ip_prefix.specs.Wire.{SpellsAll, SpellsNetwork}
+use Rattle.ip_prefix.proofs.Wires.{one_list, network_code}
+use Rattle.bgp_wire.specs.declared.path.AsWidth.{AsWidth}
+use Rattle.bgp_wire.specs.declared.path.AsWidth.TheVariants.{Two, Four}
+use Rattle.bgp_wire.specs.declared.path.AsPath.{AsPath}
+use Rattle.bgp_wire.specs.declared.attrs.Aggregator.{Aggregator}
+use Rattle.bgp_wire.specs.declared.attrs.Attrs.{Attrs}
+use Rattle.bgp_wire.specs.declared.message.Update.{Update}
+use Rattle.bgp_wire.specs.declared.message.Message.{Message}
+use Rattle.bgp_wire.specs.declared.message.Message.TheVariants as messages
+use Rattle.bgp_wire.specs.Attribute.{Attribute, SpellsAttribute, SpellsAttributes, first_value}
+use Rattle.bgp_wire.specs.Path.{SpellsSegment, SpellsPath}
+use Rattle.bgp_wire.specs.Value.{or_nothing, SpellsOrigin, SpellsIPv4, SpellsAggregatorAt, SpellsAggregator}
+use Rattle.bgp_wire.specs.Number.{SpellsWord}
+use Rattle.bgp_wire.specs.NextHop.{SpellsTableHop, table_hop}
+use Rattle.bgp_wire.specs.Four.{ignores_four, joined_aggregator, IsJoined, SaysPassed}
+use Rattle.bgp_wire.specs.Merge.{IsMerge}
+use Rattle.bgp_wire.specs.Content.{Says, SaysTableHop, SpellsTableAttrs}
+use Rattle.bgp_wire.specs.Reach.{reach_prefixes, reach_attrs}
+use Rattle.bgp_wire.specs.Update.{SaysInUpdate, SpellsUpdate, SpellsMessage}
+use Rattle.bgp_wire.proofs.Codes.{segment_code, attribute_code}
+use Rattle.bgp_wire.proofs.Merging.{one_merged}
+use Rattle.bgp_wire.proofs.Reaching.{same_update, same_message}
+use Rattle.bgp_wire.proofs.OneValue.{one_optional, one_where_formed, one_presence, one_origin, one_word, one_words, one_ipv4, one_aggregator, one_aggregator_of, one_table_hop, one_reach, one_unreach}
+
+pub one_path_of : (width : AsWidth) (octets : List ℕ) (path other : AsPath) → SpellsPath width path octets → SpellsPath width other octets → path ≡ other
+one_path_of width octets path other s t =
+    let segments = one_list (SpellsSegment width) (segment_code width) octets path.segments other.segments s t in
+    λ i. record { segments = segments i }
+
+-- paths are joined in one way
+one_joined : (ignored : Bool) (own : AsPath) (value : Option (List ℕ)) (path other : AsPath) → IsJoined ignored own value path → IsJoined ignored own value other → path ≡ other
+one_joined true own value path other s t = s ∙ sym t
+one_joined false own None path other s t = s ∙ sym t
+one_joined false own (Some octets) path other (inl s) (inl t) =
+    one_merged own t.0 path other (subst (λ four. IsMerge own four path) (one_path_of Four octets s.0 t.0 s.1 t.1) s.2) t.2
+one_joined false own (Some octets) path other (inl s) (inr t) = absurd (t.0 s.0 s.1)
+one_joined false own (Some octets) path other (inr s) (inl t) = absurd (s.0 t.0 t.1)
+one_joined false own (Some octets) path other (inr s) (inr t) = s.1 ∙ sym t.1
+
+one_passed : (width : AsWidth) (path other : AsPath) (aggregator another : Option Aggregator) (list : List Attribute) → SaysPassed width path aggregator list → SaysPassed width other another list
+    → (path ≡ other) × (aggregator ≡ another)
+one_passed Two path other aggregator another list s t =
+    let paths = one_path_of Two (or_nothing (first_value 2 list)) s.own_path t.own_path s.path_spelled t.path_spelled in
+    let own = one_optional SpellsAggregator one_aggregator s.own t.own (first_value 7 list) s.own_spelled t.own_spelled in
+    let four = one_where_formed (SpellsAggregatorAt Four) (one_aggregator_of Four) s.four t.four (first_value 18 list) s.four_spelled t.four_spelled in
+    let first = subst (λ p. IsJoined (ignores_four t.own t.four) p (first_value 17 list) path) paths
+    (subst (λ ignored. IsJoined ignored s.own_path (first_value 17 list) path) (λ i. ignores_four (own i) (four i)) s.path_joined) in (
+      one_joined (ignores_four t.own t.four) t.own_path (first_value 17 list) path other first t.path_joined,
+      s.aggregator_joined ∙ (λ i. joined_aggregator (own i) (four i)) ∙ sym t.aggregator_joined,
+    )
+one_passed Four path other aggregator another list s t = (
+  one_path_of Four (or_nothing (first_value 2 list)) path other s.path_spelled t.path_spelled,
+  one_optional SpellsAggregator one_aggregator aggregator another (first_value 7 list) s.own_spelled t.own_spelled,
+)
+
+-- attributes with one next hop say one thing
+one_says : (width : AsWidth) (attrs other : Attrs) (list : List Attribute) → attrs.next_hop ≡ other.next_hop → Says width attrs list → Says width other list → attrs ≡ other
+one_says width attrs other list hops s t =
+    let origins = one_optional SpellsOrigin one_origin attrs.origin other.origin (first_value 1 list) s.origin t.origin in
+    let passed = one_passed width attrs.path other.path attrs.aggregator other.aggregator list s.passed t.passed in
+    let meds = one_optional SpellsWord one_word attrs.med other.med (first_value 4 list) s.med t.med in
+    let prefs = one_optional SpellsWord one_word attrs.local_pref other.local_pref (first_value 5 list) s.local_pref t.local_pref in
+    let atomics = one_presence attrs.atomic other.atomic (first_value 6 list) s.atomic t.atomic in
+    let words = one_words attrs.communities other.communities (or_nothing (first_value 8 list)) s.communities t.communities in
+    λ i. record {
+      next_hop = hops i;
+      aggregator = passed.1 i;
+      path = passed.0 i;
+      communities = words i;
+      med = meds i;
+      local_pref = prefs i;
+      origin = origins i;
+      atomic = atomics i;
+    }
+
+one_hop : (family : Family) (hop other : Option Address) (list : List Attribute) → SaysTableHop family hop list → SaysTableHop family other list → hop ≡ other
+one_hop family hop other list s t =
+    let own = one_optional SpellsIPv4 one_ipv4 s.own t.own (first_value 3 list) s.own_spelled t.own_spelled in
+    let reached = one_optional SpellsTableHop one_table_hop s.reached t.reached (first_value 14 list) s.reached_spelled t.reached_spelled in
+    s.chosen ∙ (λ i. table_hop family (own i) (reached i)) ∙ sym t.chosen
+
+pub one_table_attrs : (family : Family) (width : AsWidth) (octets : List ℕ) (attrs other : Attrs) → SpellsTableAttrs family width attrs octets → SpellsTableAttrs family width other octets → attrs ≡ other
+one_table_attrs family width octets attrs other s t =
+    let lists = one_list SpellsAttribute attribute_code octets s.list t.list s.spelled t.spelled in
+    one_says width attrs other t.list
+    (one_hop family attrs.next_hop other.next_hop t.list (subst (SaysTableHop family attrs.next_hop) lists s.hop_said) t.hop_said)
+    (subst (Says width attrs) lists s.said) t.said
+
+-- ---- messages
+
+one_update : (width : AsWidth) (body : List ℕ) (update other : Update) → SpellsUpdate width update body → SpellsUpdate width other body → update ≡ other
+one_update width body update other s t =
+    let parts = same_update s.withdrawn s.attributes s.announced t.withdrawn t.attributes t.announced body s.whole t.whole in
+    let withdrawn = one_list (SpellsNetwork V4) (network_code V4) t.withdrawn update.withdrawn other.withdrawn (subst (SpellsAll (SpellsNetwork V4) update.withdrawn) parts.0 s.withdrawn_spelled) t.withdrawn_spelled in
+    let announced = one_list (SpellsNetwork V4) (network_code V4) t.announced update.announced other.announced (subst (SpellsAll (SpellsNetwork V4) update.announced) parts.2 s.announced_spelled) t.announced_spelled in
+    let lists = one_list SpellsAttribute attribute_code t.attributes s.list t.list (subst (SpellsAttributes s.list) parts.1 s.spelled) t.spelled in
+    let said = subst (SaysInUpdate width update) lists s.said in
+    let a = said.together in
+    let b = t.said.together in
+    let attrs = one_says width update.attrs other.attrs t.list (one_optional SpellsIPv4 one_ipv4 update.attrs.next_hop other.attrs.next_hop (first_value 3 t.list) a.hop b.hop) a.said b.said in
+    let reach = one_reach said.reach t.said.reach (first_value 14 t.list) a.reached b.reached in
+    let unreached = one_unreach update.mp_withdrawn other.mp_withdrawn (first_value 15 t.list) a.unreached b.unreached in
+    let mp_announced = said.announced ∙ ap reach_prefixes reach ∙ sym t.said.announced in
+    let mp_attrs = said.attrs ∙ (λ i. reach_attrs (attrs i) (reach i)) ∙ sym t.said.attrs in
+    λ i. record {
+      withdrawn = withdrawn i;
+      mp_withdrawn = unreached i;
+      attrs = attrs i;
+      announced = announced i;
+      mp_attrs = mp_attrs i;
+      mp_announced = mp_announced i;
+    }
+
+pub one_message_of : (width : AsWidth) (octets : List ℕ) (message other : Message) → SpellsMessage width message octets → SpellsMessage width other octets → message ≡ other
+one_message_of width octets (messages.Update update) (messages.Update other) s t =
+    let bodies = (same_message 2 2 s.0 t.0 octets s.1 t.1).1 in
+    ap messages.Update (one_update width t.0 update other (subst (SpellsUpdate width update) bodies s.2) t.2)
+one_message_of width octets (messages.Update update) (messages.Other kind) s t = absurd (t.0 (sym (same_message 2 kind s.0 t.1 octets s.1 t.2).0))
+one_message_of width octets (messages.Other kind) (messages.Update update) s t = absurd (s.0 (same_message kind 2 s.1 t.0 octets s.2 t.1).0)
+one_message_of width octets (messages.Other kind) (messages.Other other) s t = ap messages.Other (same_message kind other s.1 t.1 octets s.2 t.2).0

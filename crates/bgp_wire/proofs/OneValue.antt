@@ -1,0 +1,186 @@
+-- No octets are spellings of two values of an attribute.
+use Rattle.std.proofs.Common.{◌≡◌, ◌⊎◌, inl, inr, ℕ, ◌+◌, true, false, List, [], ◌++◌, length, drop, get_or, Some, None, refl, ap, sym, subst, ◌∙◌, arith, append-nil}
+use Rattle.std.proofs.lemmas.List.{length-append}
+use Rattle.ip_prefix.specs.declared.addr.Family.{Family}
+use Rattle.ip_prefix.specs.declared.addr.Family.TheVariants.{V4, V6}
+use Rattle.ip_prefix.specs.Address.{octet_count}
+use Rattle.ip_prefix.specs.Wire.{SpellsAll, IsCode, SpellsNetwork}
+use Rattle.ip_prefix.proofs.Wires.{append_parts, one_list, network_code}
+use Rattle.bgp_wire.specs.declared.path.AsWidth.{AsWidth}
+use Rattle.bgp_wire.specs.declared.path.AsWidth.TheVariants.{Two, Four}
+use Rattle.bgp_wire.specs.declared.attrs.Origin.{Origin}
+use Rattle.bgp_wire.specs.declared.attrs.Origin.TheVariants.{Igp, Egp, Incomplete}
+use Rattle.bgp_wire.specs.declared.attrs.Aggregator.{Aggregator}
+use Rattle.bgp_wire.specs.Number.{octets_at, SpellsNumber, SpellsWord}
+use Rattle.bgp_wire.specs.Value.{SpellsOptional, SpellsPresence, origin_code, SpellsOrigin, SpellsAddress, SpellsIPv4, SpellsAggregatorAt, SpellsAggregator}
+use Rattle.bgp_wire.specs.NextHop.{IsLinkLocal, SpellsNextHop, SpellsHopAlone, SpellsTableHop}
+use Rattle.bgp_wire.specs.Four.{SpellsWhereFormed}
+use Rattle.bgp_wire.specs.Reach.{HopStands, SpellsUnicast, SpellsReach, SaysReach, SaysUnreach}
+use Rattle.bgp_wire.proofs.Codes.{number_code, length-number}
+use Rattle.bgp_wire.proofs.Hops.{length-hop}
+use Rattle.bgp_wire.proofs.Reaching.{same_unicast, same_stand, not_another}
+
+-- no octets are spellings of two values
+abbrev pub IsOne : {A B : Type 0} → (A → B → Type 0) → Type 0
+IsOne {A} {B} Spells = (value other : A) (octets : B) → Spells value octets → Spells other octets → value ≡ other
+
+-- values of which no octets begin with two aren't spelled by the same
+pub one_of_code : {A : Type 0} (Spells : A → List ℕ → Type 0) → IsCode Spells → IsOne Spells
+one_of_code Spells code value other octets s t =
+    (code.same value other [] [] octets
+    record { front = octets; spelled = s; whole = sym (append-nil octets) }
+    record { front = octets; spelled = t; whole = sym (append-nil octets) }).0
+
+pub one_optional : {A : Type 0} (Spells : A → List ℕ → Type 0) → IsOne Spells → IsOne (SpellsOptional Spells)
+one_optional Spells one None None octets s t = refl
+one_optional Spells one None (Some b) None s t = absurd t
+one_optional Spells one None (Some b) (Some octets) s t = absurd s
+one_optional Spells one (Some a) None None s t = absurd s
+one_optional Spells one (Some a) None (Some octets) s t = absurd t
+one_optional Spells one (Some a) (Some b) None s t = absurd s
+one_optional Spells one (Some a) (Some b) (Some octets) s t = ap Some (one a b octets s t)
+
+pub one_where_formed : {A : Type 0} (Spells : A → List ℕ → Type 0) → IsOne Spells → IsOne (SpellsWhereFormed Spells)
+one_where_formed Spells one None None octets s t = refl
+one_where_formed Spells one None (Some b) None s t = absurd t
+one_where_formed Spells one None (Some b) (Some octets) s t = absurd (s b t)
+one_where_formed Spells one (Some a) None None s t = absurd s
+one_where_formed Spells one (Some a) None (Some octets) s t = absurd (t a s)
+one_where_formed Spells one (Some a) (Some b) None s t = absurd s
+one_where_formed Spells one (Some a) (Some b) (Some octets) s t = ap Some (one a b octets s t)
+
+pub one_presence : IsOne SpellsPresence
+one_presence true true value s t = refl
+one_presence false false value s t = refl
+one_presence true false None s t = absurd s
+one_presence true false (Some octets) s t = absurd t
+one_presence false true None s t = absurd t
+one_presence false true (Some octets) s t = absurd s
+
+same_origin : (a b : Origin) → origin_code a ≡ origin_code b → a ≡ b
+same_origin Igp Igp e = refl
+same_origin Igp Egp e = absurd (omega (arith, e))
+same_origin Igp Incomplete e = absurd (omega (arith, e))
+same_origin Egp Igp e = absurd (omega (arith, e))
+same_origin Egp Egp e = refl
+same_origin Egp Incomplete e = absurd (omega (arith, e))
+same_origin Incomplete Igp e = absurd (omega (arith, e))
+same_origin Incomplete Egp e = absurd (omega (arith, e))
+same_origin Incomplete Incomplete e = refl
+
+pub one_origin : IsOne SpellsOrigin
+one_origin a b octets s t = same_origin a b (ap (λ l. get_or l 0 0) (sym s ∙ t))
+
+pub one_word : IsOne SpellsWord
+one_word = one_of_code SpellsWord (number_code Four)
+
+pub one_words : IsOne (SpellsAll SpellsWord)
+one_words a b octets s t = one_list SpellsWord (number_code Four) octets a b s t
+
+-- ---- addresses
+
+same_size : (family other : Family) → octet_count family ≡ octet_count other → family ≡ other
+same_size V4 V4 e = refl
+same_size V4 V6 e = absurd (omega (arith, e))
+same_size V6 V4 e = absurd (omega (arith, e))
+same_size V6 V6 e = refl
+
+pub one_address : IsOne SpellsAddress
+one_address a b octets s t =
+    let families = same_size a.family b.family (sym s.size ∙ t.size) in
+    let bits = s.bits ∙ sym t.bits in
+    λ i. record { family = families i; bits = bits i }
+
+pub one_ipv4 : IsOne SpellsIPv4
+one_ipv4 a b octets s t = one_address a b octets s.spelled t.spelled
+
+one_aggregator_at : (width : AsWidth) (a b : Aggregator) (octets : List ℕ) → SpellsAggregatorAt width a octets → SpellsAggregatorAt width b octets → a ≡ b
+one_aggregator_at width a b octets s t =
+    let sizes = length-number width a.asn s.number s.spelled ∙ sym (length-number width b.asn t.number t.spelled) in
+    let parts = append_parts s.number t.number s.address t.address sizes (sym s.whole ∙ t.whole) in
+    let numbers = one_of_code (SpellsNumber width) (number_code width) a.asn b.asn t.number (subst (SpellsNumber width a.asn) parts.0 s.spelled) t.spelled in
+    let addresses = one_ipv4 a.addr b.addr t.address (subst (SpellsIPv4 a.addr) parts.1 s.addressed) t.addressed in
+    λ i. record { addr = addresses i; asn = numbers i }
+
+pub one_aggregator_of : (width : AsWidth) → IsOne (SpellsAggregatorAt width)
+one_aggregator_of width = one_aggregator_at width
+
+length-aggregator : (width : AsWidth) (a : Aggregator) (octets : List ℕ) → SpellsAggregatorAt width a octets → length octets ≡ octets_at width + 4
+length-aggregator width a octets s =
+    let address : length s.address ≡ 4 = s.addressed.spelled.size ∙ ap octet_count s.addressed.of_family in
+    omega (arith, ap length s.whole, length-append s.number s.address, length-number width a.asn s.number s.spelled, address)
+
+pub one_aggregator : IsOne SpellsAggregator
+one_aggregator a b octets (Two, s) (Two, t) = one_aggregator_at Two a b octets s t
+one_aggregator a b octets (Two, s) (Four, t) = absurd (omega (arith, length-aggregator Two a octets s, length-aggregator Four b octets t))
+one_aggregator a b octets (Four, s) (Two, t) = absurd (omega (arith, length-aggregator Four a octets s, length-aggregator Two b octets t))
+one_aggregator a b octets (Four, s) (Four, t) = one_aggregator_at Four a b octets s t
+
+-- ---- next hops
+
+-- a next hop has 4 octets, 16 or 32
+hop_size : (family : Family) (address link octets : List ℕ) → length address ≡ octet_count family → IsLinkLocal family link → octets ≡ address ++ link
+    → (length octets ≡ octet_count family) ⊎ ((family ≡ V6) × (length octets ≡ 32))
+hop_size V4 address link octets size linked e = inl (omega (arith, size, ap length e, length-append address link, ap length linked))
+hop_size V6 address link octets size (inl linked) e = inl (omega (arith, size, ap length e, length-append address link, ap length linked))
+hop_size V6 address link octets size (inr linked) e = inr (refl, omega (arith, size, ap length e, length-append address link, linked))
+
+one_family : (family other : Family) (size : ℕ) → ((size ≡ octet_count family) ⊎ ((family ≡ V6) × (size ≡ 32))) → ((size ≡ octet_count other) ⊎ ((other ≡ V6) × (size ≡ 32))) → family ≡ other
+one_family V4 V4 size s t = refl
+one_family V6 V6 size s t = refl
+one_family V4 V6 size (inl s) (inl t) = absurd (omega (arith, s, t))
+one_family V4 V6 size (inl s) (inr t) = absurd (omega (arith, s, t.1))
+one_family V4 V6 size (inr s) t = absurd (let e = s.0 in cc)
+one_family V6 V4 size (inl s) (inl t) = absurd (omega (arith, s, t))
+one_family V6 V4 size (inr s) (inl t) = absurd (omega (arith, s.1, t))
+one_family V6 V4 size s (inr t) = absurd (let e = t.0 in cc)
+
+pub one_next_hop : IsOne SpellsNextHop
+one_next_hop a b octets s t =
+    let families = one_family a.family b.family (length octets) (hop_size a.family s.address s.link_local octets s.spelled.size s.linked s.whole) (hop_size b.family t.address t.link_local octets t.spelled.size t.linked t.whole) in
+    let sizes : length s.address ≡ length t.address = s.spelled.size ∙ ap octet_count families ∙ sym t.spelled.size in
+    let parts = append_parts s.address t.address s.link_local t.link_local sizes (sym s.whole ∙ t.whole) in
+    one_address a b t.address (subst (SpellsAddress a) parts.0 s.spelled) t.spelled
+
+pub one_hop_alone : IsOne SpellsHopAlone
+one_hop_alone a b octets s t =
+    let one = sym s.whole ∙ t.whole in
+    let parts = append_parts s.front t.front s.more t.more (ap (λ l. get_or l 0 0) one) (ap (drop 1) one) in
+    one_next_hop a b t.front (subst (SpellsNextHop a) parts.0 s.spelled) t.spelled
+
+pub one_table_hop : IsOne SpellsTableHop
+one_table_hop a b octets (inl s) (inl t) = one_hop_alone a b octets s t
+one_table_hop a b octets (inl s) (inr t) = absurd (omega (arith, length-hop a s.front s.spelled, ap (λ l. get_or l 0 0) (sym s.whole ∙ t.whole)))
+one_table_hop a b octets (inr s) (inl t) = absurd (omega (arith, length-hop b t.front t.spelled, ap (λ l. get_or l 0 0) (sym t.whole ∙ s.whole)))
+one_table_hop a b octets (inr s) (inr t) = one_hop_alone a b t.rest (subst (SpellsHopAlone a) (ap (drop 3) (sym s.whole ∙ t.whole)) s.spelled) t.spelled
+
+-- ---- what is announced and withdrawn
+
+one_reached : IsOne SpellsReach
+one_reached a b octets s t =
+    let same = same_unicast s.family t.family s.rest t.rest octets s.whole t.whole in
+    let u = subst (λ f. SpellsUnicast f a s.rest) same.0 s.spelled in
+    let stands = subst (HopStands a.hop u.body) same.1 u.stands in
+    let stood = same_stand a.hop b.hop u.body t.spelled.body t.rest stands t.spelled.stands in
+    let hops = one_next_hop a.hop b.hop t.spelled.stands.front (subst (SpellsNextHop a.hop) stood.0 stands.spelled) t.spelled.stands.spelled in
+    let prefixes = one_list (SpellsNetwork t.family) (network_code t.family) t.spelled.body a.prefixes b.prefixes (subst (SpellsAll (SpellsNetwork t.family) a.prefixes) stood.1 u.spelled) t.spelled.spelled in
+    λ i. record { hop = hops i; prefixes = prefixes i }
+
+pub one_reach : IsOne SaysReach
+one_reach None None octets s t = refl
+one_reach None (Some b) None s t = absurd t
+one_reach None (Some b) (Some octets) s t = absurd (not_another t.family t.rest octets t.whole s)
+one_reach (Some a) None None s t = absurd s
+one_reach (Some a) None (Some octets) s t = absurd (not_another s.family s.rest octets s.whole t)
+one_reach (Some a) (Some b) None s t = absurd s
+one_reach (Some a) (Some b) (Some octets) s t = ap Some (one_reached a b octets s t)
+
+pub one_unreach : IsOne SaysUnreach
+one_unreach a b None s t = s ∙ sym t
+one_unreach a b (Some octets) (inl s) (inl t) = s.1 ∙ sym t.1
+one_unreach a b (Some octets) (inl s) (inr t) = absurd (not_another t.family t.rest octets t.whole s.0)
+one_unreach a b (Some octets) (inr s) (inl t) = absurd (not_another s.family s.rest octets s.whole t.0)
+one_unreach a b (Some octets) (inr s) (inr t) =
+    let same = same_unicast s.family t.family s.rest t.rest octets s.whole t.whole in
+    let u = subst (λ f. SpellsAll (SpellsNetwork f) a s.rest) same.0 s.spelled in
+    one_list (SpellsNetwork t.family) (network_code t.family) t.rest a b (subst (SpellsAll (SpellsNetwork t.family) a) same.1 u) t.spelled
