@@ -5,7 +5,7 @@ use Rattle.ip_prefix.specs.declared.addr.Family.TheVariants.{V4, V6}
 use Rattle.ip_prefix.specs.Address.{Address}
 use Rattle.bgp_wire.specs.Value.{SpellsAddress}
 
--- behind a next hop stands nothing, or behind that of IPv6 a link-local address
+-- behind a next hop stands nothing, or behind that of IPv6 sixteen octets, which are a link-local address and may be any
 abbrev pub IsLinkLocal : Family → List ℕ → Type 0
 IsLinkLocal V4 octets = octets ≡ []
 IsLinkLocal V6 octets = (octets ≡ []) ⊎ (length octets ≡ 16)

@@ -55,7 +55,8 @@ impl Communities {
     pub fn into_vec(self) -> Vec<u32>
         ensures { result.items ≡ self }
     {
-        self.communities
+        let Communities { communities: kept } = self;
+        kept
     }
 
     /// The communities in order.
@@ -72,7 +73,7 @@ impl Clone for Communities {
 
     fn clone(&self) -> Result<Communities, AllocError> {
         let communities = Vec::from_slice(*self.communities.allocator(), self.as_slice())?;
-        Ok(Communities { communities })
+        Ok(Communities::from_vec(communities))
     }
 }
 

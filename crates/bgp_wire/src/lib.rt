@@ -34,5 +34,3 @@ pub use text::put_communities;
 
 #[cfg(test)]
 mod tests;
-#[cfg(test)]
-mod tests_merge;

@@ -46,7 +46,7 @@ impl Clone for AsNumbers {
 
     fn clone(&self) -> Result<AsNumbers, AllocError> {
         let numbers = Vec::from_slice(*self.numbers.allocator(), self.as_slice())?;
-        Ok(AsNumbers { numbers })
+        Ok(AsNumbers::from_vec(numbers))
     }
 }
 
@@ -64,7 +64,8 @@ impl AsNumbers {
     pub fn into_vec(self) -> Vec<u32>
         ensures { result.items ≡ self }
     {
-        self.numbers
+        let AsNumbers { numbers: kept } = self;
+        kept
     }
 
     /// The numbers in order.
@@ -117,7 +118,7 @@ impl Clone for Segments {
 
     fn clone(&self) -> Result<Segments, AllocError> {
         let segments = self.segments.clone()?;
-        Ok(Segments { segments })
+        Ok(Segments::from_vec(segments))
     }
 }
 
@@ -135,7 +136,8 @@ impl Segments {
     pub fn into_vec(self) -> Vec<Segment>
         ensures { result.items ≡ self }
     {
-        self.segments
+        let Segments { segments: kept } = self;
+        kept
     }
 
     /// The segments in order.

@@ -38,7 +38,8 @@ impl Prefixes {
     pub fn into_vec(self) -> Vec<Prefix>
         ensures { result.items ≡ self }
     {
-        self.prefixes
+        let Prefixes { prefixes: kept } = self;
+        kept
     }
 
     /// The prefixes in order.

@@ -12,7 +12,7 @@ use std::alloc::AllocError;
 const NO_EXPORT: u32 = 0xFFFF_FF01;
 /// Not to be announced to any peer.
 const NO_ADVERTISE: u32 = 0xFFFF_FF02;
-/// Not to be announced outside the AS, even in a confederation.
+/// Not to be announced outside the AS, nor to other members of its confederation.
 const NO_EXPORT_SUBCONFED: u32 = 0xFFFF_FF03;
 
 impl AsPath {

@@ -1,6 +1,6 @@
 //! Tests of joined paths.
 
-use super::*;
+use crate::{AsNumbers, AsPath, Segment, SegmentKind, Segments, merge_paths};
 use std::alloc::{AllocError, Global};
 use std::test::Fail;
 
