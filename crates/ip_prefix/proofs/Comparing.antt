@@ -26,7 +26,7 @@ use Rattle.ip_prefix.proofs.Highest.{bit_count_le}
 -- ---- numbers by their highest digit
 
 -- adding one number to both changes nothing
-nat_cmp-add : (m a b : ℕ) → nat_cmp a b ≡ nat_cmp (m + a) (m + b)
+pub nat_cmp-add : (m a b : ℕ) → nat_cmp a b ≡ nat_cmp (m + a) (m + b)
 nat_cmp-add m a b = nat_cmp_is (m + a) (m + b) (nat_cmp a b) (shifted (nat_cmp a b) (ranked a b (nat_cmp a b) refl))
   where
     shifted : (r : Ordering) → MatchOrdering r (a < b) (a ≡ b) (b < a) → MatchOrdering r (m + a < m + b) (m + a ≡ m + b) (m + b < m + a)

@@ -7,6 +7,7 @@ mod Octets
 mod Beginning
 pub mod Wires
 pub mod Sequences
+pub mod Filled
 pub mod HexText
 pub mod Dotless
 pub mod Chunks

@@ -6,7 +6,7 @@ ghost use Rattle.std.specs.FinMap.{IsAntisymmetric};
 ghost use Rattle.ip_prefix.specs.declared.addr.Family.{Family};
 ghost use Rattle.ip_prefix.specs.Address.{Address, IsAddress};
 ghost use Rattle.ip_prefix.specs.Network.{Network, IsNetwork};
-ghost use Rattle.ip_prefix.specs.Order.{address_cmp, network_cmp};
+ghost use Rattle.ip_prefix.specs.Order.{address_cmp, network_cmp, filled_cmp};
 ghost use Rattle.ip_prefix.specs.Spelling.{SpellsAddress, SpellsPrefix};
 ghost use Rattle.ip_prefix.specs.Text.{address_text, network_text};
 ghost use Rattle.ip_prefix.specs.Wire.{SpellsAll, IsCode, SpellsNetwork};
@@ -17,10 +17,12 @@ pub fn address_order()
     ensures ties { IsAntisymmetric address_cmp }
 {}
 
-/// The order of prefixes is total, and only equal ones tie.
+/// The order of prefixes is total, and only equal ones tie. It is that of the least addresses, and
+/// then of the lengths.
 pub fn prefix_order()
     ensures total { IsTotalOrder network_cmp }
     ensures ties { IsAntisymmetric network_cmp }
+    ensures filled { (m n : Network) → IsNetwork m → IsNetwork n → network_cmp m n ≡ filled_cmp m n }
 {}
 
 /// The text of an address is a spelling of it, and the text of a prefix one of the prefix.
