@@ -1,7 +1,9 @@
 //! Tests. Octets are written in hexadecimal, and attributes as one text.
 
+mod four;
 mod lists;
 mod merge;
+mod messages;
 mod next_hops;
 mod paths;
 mod texts;
