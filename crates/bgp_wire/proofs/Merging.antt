@@ -55,6 +55,17 @@ front_joined first second front h longest = record {
 
 -- ---- laws
 
+-- two paths have a joined path
+pub some_merged : (first second : AsPath) → (path : AsPath) × IsMerge first second path
+some_merged first second =
+    let lacking = path_weight first - path_weight second in
+    ⊎_elim (λ less. (first, first_alone first second less))
+    (λ more. (
+      record { segments = segments_of (front (hops_of first) lacking) ++ plain_segments second.segments },
+      front_joined first second (front (hops_of first) lacking) more (front_longest (hops_of first) lacking (omega arith)),
+    ))
+    (cases_lt (path_weight first) (path_weight second))
+
 -- two paths have one joined path
 pub one_merged : (first second path other : AsPath) → IsMerge first second path → IsMerge first second other → path ≡ other
 one_merged first second path other a b =

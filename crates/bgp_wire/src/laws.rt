@@ -29,9 +29,10 @@ pub fn merge_keeps_the_weight()
     ensures { (first second path : AsPath) → IsMerge first second path → path_weight path ≡ path_weight first }
 {}
 
-/// Two paths are joined in one way.
+/// Two paths are joined, and in one way.
 pub fn one_merge()
-    ensures { (first second path other : AsPath) → IsMerge first second path → IsMerge first second other → path ≡ other }
+    ensures some { (first second : AsPath) → (path : AsPath) × IsMerge first second path }
+    ensures one { (first second path other : AsPath) → IsMerge first second path → IsMerge first second other → path ≡ other }
 {}
 
 /// No octets spell two attributes of a table entry for a family, with AS numbers of one width.

@@ -12,7 +12,7 @@ use byteorder::{BigEndian, ByteOrder};
 use std::alloc::Global;
 
 impl AsWidth {
-    // How many octets a number takes.
+    /// How many octets a number takes.
     #[inline]
     pub(crate) fn octets(self) -> usize
         ensures { result ≡ octets_at self }
@@ -23,7 +23,7 @@ impl AsWidth {
         }
     }
 
-    // The number in so many octets.
+    /// The number in so many octets.
     #[inline]
     pub(crate) fn number(self, octets: &[u8]) -> u32
         requires { length octets.now ≡ octets_at self }

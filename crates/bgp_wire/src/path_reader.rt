@@ -1,6 +1,6 @@
 //! Reading AS paths.
 
-ghost use Rattle.std.specs.Prelude.{◌≡◌, IfOk, IfErr, IfSome, IfNone};
+ghost use Rattle.std.specs.Prelude.{◌≡◌, ℕ, IfOk, IfErr, IfSome, IfNone};
 ghost use Rattle.ip_prefix.specs.Wire.{Begins};
 ghost use Rattle.bgp_wire.specs.Path.{kind_code, SpellsSegment, SpellsPath, IsFramed};
 ghost use Rattle.bgp_wire.specs.Reading.{Reads, BeginsWithNone, RefusesFront};
@@ -10,13 +10,11 @@ use crate::numbers::read_numbers;
 use crate::path::{AsNumbers, AsPath, AsWidth, Segment, SegmentKind, Segments};
 use std::alloc::Global;
 
-/// A segment in front of octets: its kind and count, the octets of its numbers, and what follows
-/// it.
+/// A segment in front of octets: its kind, the octets of its numbers, and what follows it.
 #[derive(Clone, Copy)]
 struct FramedSegment<'a> {
     body: &'a [u8],
     rest: &'a [u8],
-    count: u8,
     kind: SegmentKind,
 }
 
@@ -36,7 +34,7 @@ fn segment_kind(code: u8) -> Option<SegmentKind>
 
 /// The segment in front of the octets.
 fn frame_segment(width: AsWidth, octets: &[u8]) -> Option<FramedSegment<'_>>
-    ensures some { IfSome result (λ f. IsFramed width f.kind f.count f.body.now f.rest.now octets.now) }
+    ensures some { IfSome result (λ f. (count : ℕ) × IsFramed width f.kind count f.body.now f.rest.now octets.now) }
     ensures none { IfNone result (BeginsWithNone (SpellsSegment width) octets.now) }
 {
     let (&code, after_code) = octets.split_first()?;
@@ -50,12 +48,7 @@ fn frame_segment(width: AsWidth, octets: &[u8]) -> Option<FramedSegment<'_>>
         return None;
     }
     let (body, rest) = numbers.split_at(size);
-    Some(FramedSegment {
-        body,
-        rest,
-        count,
-        kind,
-    })
+    Some(FramedSegment { body, rest, kind })
 }
 
 /// The segment in front of the octets, and what follows it.

@@ -1,4 +1,4 @@
-//! Tests. Octets are written in hexadecimal, and attributes as one text.
+//! Tests. Of table entries octets are written in hexadecimal, and attributes as one text.
 
 mod four;
 mod lists;
@@ -98,7 +98,7 @@ fn shown(alloc: Global, attrs: &Attrs) -> Result<Vec<u8>, AllocError> {
     Ok(text)
 }
 
-/// What the octets say as attributes of a table entry.
+/// What the octets say as attributes of a table entry, shown of a copy.
 fn read_shown(
     alloc: Global,
     family: Family,
@@ -106,7 +106,7 @@ fn read_shown(
     octets: &[u8],
 ) -> Result<Vec<u8>, WireFault> {
     match read_rib_attrs(alloc, family, width, octets) {
-        Ok(attrs) => Ok(shown(alloc, &attrs)?),
+        Ok(attrs) => Ok(shown(alloc, &attrs.clone()?)?),
         Err(WireFault::Malformed) => Ok(Vec::from_slice(alloc, MALFORMED.as_bytes())?),
         Err(WireFault::Memory) => Err(WireFault::Memory),
     }

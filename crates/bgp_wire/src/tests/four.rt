@@ -119,18 +119,18 @@ fn reads_attributes_of_messages(rt: HostRuntime) -> Result<(), Fail> {
         ),
         (
             [
-                ORIGIN_AND_HOP,
+                b"\x40\x01\x01\0",
                 b"\x40\x02\x0A\x02\x04\xFB\xF4\x5B\xA0\x5B\xA0\xFB\xF5",
-                b"\xC0\x11\x0E\x02\x03\0\x01\0\0\0\x01\x11\x70\0\0\xFB\xF5",
+                b"\x40\x03\x04\xC0\0\x02\x09\xC0\x11\x0E\x02\x03\0\x01\0\0\0\x01\x11\x70\0\0\xFB\xF5",
             ],
             "IGP|192.0.2.9|||NAG||64500 65536 70000 64501|",
         ),
         // a path of five numbers beside one of four
         (
             [
-                ORIGIN_AND_HOP,
+                b"\x40\x01\x01\0",
                 b"\x40\x02\x0A\x02\x04\xFB\xF4\x5B\xA0\x5B\xA0\xFB\xF5",
-                b"\xC0\x11\x16\x02\x05\0\0\0\x01\0\0\0\x02\0\0\0\x03\0\0\0\x04\0\0\0\x05",
+                b"\x40\x03\x04\xC0\0\x02\x09\xC0\x11\x16\x02\x05\0\0\0\x01\0\0\0\x02\0\0\0\x03\0\0\0\x04\0\0\0\x05",
             ],
             "IGP|192.0.2.9|||NAG||64500 23456 23456 64501|",
         ),

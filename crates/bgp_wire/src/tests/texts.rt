@@ -121,9 +121,11 @@ fn lists_are_as_made(rt: HostRuntime) -> Result<(), Fail> {
     for numbers in [[1, 2].as_slice(), &[], &[0, 4_294_967_295, 0]] {
         let own = AsNumbers::from_vec(Vec::from_slice(rt.alloc(), numbers)?);
         assert_eq!(rt; own.as_slice(), numbers);
+        assert_eq!(rt; own.clone()?.as_slice(), numbers);
         assert_eq!(rt; own.into_vec().as_slice(), numbers);
         let communities = Communities::from_vec(Vec::from_slice(rt.alloc(), numbers)?);
         assert_eq!(rt; communities.as_slice(), numbers);
+        assert_eq!(rt; communities.clone()?.as_slice(), numbers);
         assert_eq!(rt; communities.into_vec().as_slice(), numbers);
     }
     Ok(())
@@ -137,6 +139,35 @@ fn segments_are_as_made(rt: HostRuntime) -> Result<(), Fail> {
     assert_eq!(rt; segments.len(), 1);
     assert_eq!(rt; segments[0].kind, SegmentKind::AsSet);
     assert_eq!(rt; segments[0].numbers.as_slice(), [7, 8].as_slice());
+    Ok(())
+}
+
+#[test]
+fn copies_paths(rt: HostRuntime) -> Result<(), Fail> {
+    let path = path_of(rt.alloc(), &[(SegmentKind::AsSet, &[7, 8])])?;
+    for copy in [
+        path.clone()?,
+        AsPath {
+            segments: path.segments.clone()?,
+        },
+    ] {
+        let mut text = Vec::new(rt.alloc());
+        copy.put_text(&mut text)?;
+        assert_eq!(rt; text.as_slice(), b"{7,8}".as_slice());
+    }
+    Ok(())
+}
+
+#[test]
+fn copies_segments(rt: HostRuntime) -> Result<(), Fail> {
+    for segment in path_of(rt.alloc(), &[(SegmentKind::ConfedSet, &[7, 8])])?
+        .segments
+        .as_slice()
+    {
+        let copy = segment.clone()?;
+        assert_eq!(rt; copy.kind, SegmentKind::ConfedSet);
+        assert_eq!(rt; copy.numbers.as_slice(), [7, 8].as_slice());
+    }
     Ok(())
 }
 

@@ -47,10 +47,12 @@ pub returns-clause-some : goal.returns-clause-some
 returns-clause-some c =
     let count = c.in_ok-count.field-0-0.now in
     let front : c.args.octets.now ≡ c.in_ok-code.field-0-0.now ∷ count ∷ c.in_ok-count.numbers.now
-    = c.in_ok-code.ensures.cases.0 ∙ ap (λ l. c.in_ok-code.field-0-0.now ∷ l) c.in_ok-count.ensures.cases.0 in
-    record {
-      some = omega (arith, c.if-count-eq0.false);
-      fits = omega (arith, c.type_inv.octets 1, ap (λ l. get_or l 1 0) front);
-      size = c.split_at.ensures.front_len ∙ (λ i. c.from.ensures i * c.octets.ensures i) ∙ mul_comm count (octets_at c.args.width);
-      whole = front ∙ (λ i. c.in_ok-kind.ensures.some i ∷ count ∷ c.split_at.ensures.by_index.0 i);
-    }
+    = c.in_ok-code.ensures.cases.0 ∙ ap (λ l. c.in_ok-code.field-0-0.now ∷ l) c.in_ok-count.ensures.cases.0 in (
+      count,
+      record {
+        some = omega (arith, c.if-count-eq0.false);
+        fits = omega (arith, c.type_inv.octets 1, ap (λ l. get_or l 1 0) front);
+        size = c.split_at.ensures.front_len ∙ (λ i. c.from.ensures i * c.octets.ensures i) ∙ mul_comm count (octets_at c.args.width);
+        whole = front ∙ (λ i. c.in_ok-kind.ensures.some i ∷ count ∷ c.split_at.ensures.by_index.0 i);
+      },
+    )
