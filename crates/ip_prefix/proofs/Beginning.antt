@@ -8,7 +8,8 @@ use Rattle.ip_prefix.specs.contracts.addr.Family.{the_type}
 use Rattle.ip_prefix.specs.Address.{Address}
 use Rattle.ip_prefix.specs.Bits.{bits_of, number_of}
 use Rattle.ip_prefix.specs.BitLemmas.{length-bits_of, number-highest}
-use Rattle.ip_prefix.specs.Network.{Network, begin_with, contains, covers}
+use Rattle.ip_prefix.specs.Network.{Network, IsFront, begin_with, contains, covers}
+use Rattle.ip_prefix.proofs.Booleans.{same_tests}
 use Rattle.ip_prefix.proofs.Masks.{first_bits, highest_none}
 
 -- ---- families
@@ -47,7 +48,7 @@ covers_other n other e = families n.family other.family n.bits other.bits e
 -- ---- lists of bits
 
 -- bits that begin with others have them in front
-front_of : (front bits : List Bool) → begin_with front bits ≡ true → take (length front) bits ≡ front
+pub front_of : (front bits : List Bool) → begin_with front bits ≡ true → IsFront front bits
 front_of [] bits e = refl
 front_of (x ∷ front) [] e = cc
 front_of (true ∷ front) (true ∷ bits) e = ap (λ l. true ∷ l) (front_of front bits e)
@@ -56,7 +57,7 @@ front_of (false ∷ front) (true ∷ bits) e = cc
 front_of (false ∷ front) (false ∷ bits) e = ap (λ l. false ∷ l) (front_of front bits e)
 
 -- and bits that have others in front begin with them
-begin_from : (front bits : List Bool) → take (length front) bits ≡ front → begin_with front bits ≡ true
+pub begin_from : (front bits : List Bool) → IsFront front bits → begin_with front bits ≡ true
 begin_from [] bits e = refl
 begin_from (x ∷ front) [] e = cc
 begin_from (true ∷ front) (true ∷ bits) e = begin_from front bits (cc)
@@ -74,12 +75,6 @@ begin_longer (false ∷ front) (true ∷ bits) h = refl
 begin_longer (false ∷ front) (false ∷ bits) h = begin_longer front bits (omega arith)
 
 -- ---- numbers
-
--- two tests that hold together answer alike
-same_tests : (s t : Bool) → (s ≡ true → t ≡ true) → (t ≡ true → s ≡ true) → s ≡ t
-same_tests true t there back = sym (there refl)
-same_tests false true there back = back refl
-same_tests false false there back = refl
 
 -- the w highest bits of b begin with the j highest of a, which has none below them, if b is a once it has none below them either
 pub begin_with-highest : (j w a b : ℕ) → j ≤ w → w ≤ 128 → a < 2 ^ 128 → b < 2 ^ 128 → a % 2 ^ (128 - j) ≡ 0

@@ -11,6 +11,7 @@ use Rattle.ip_prefix.specs.BitLemmas.{length-bits_of, number_of-bits_of}
 use Rattle.ip_prefix.specs.Address.{Address, octet_at, group_at, groups_of}
 use Rattle.ip_prefix.specs.Spelling.{octets_of_v4}
 use Rattle.ip_prefix.proofs.BitLists.{bits_of-append}
+use Rattle.ip_prefix.proofs.Octets.{length-bits_of_octets}
 
 -- ---- numbers and their bits
 
@@ -128,13 +129,7 @@ group_part (x ∷ groups) (suc i) fits within =
     ∙ ap (λ t. number_of (take 16 t)) (later_part 16 (16 * i) x rest)
     ∙ group_part groups i (λ k. fits (suc k)) (omega arith)
 
--- there are eight bits for each octet
-pub length-bits_of_octets : (octets : List ℕ) → length (bits_of_octets octets) ≡ 8 * length octets
-length-bits_of_octets [] = refl
-length-bits_of_octets (x ∷ octets) =
-    omega (arith, length-append (bits_of 8 x) (bits_of_octets octets), length-bits_of 8 x, length-bits_of_octets octets)
-
--- and two octets for each group
+-- there are two octets for each group
 length-octets_of : (groups : List ℕ) → length (octets_of groups) ≡ 2 * length groups
 length-octets_of [] = refl
 length-octets_of (x ∷ groups) = omega (arith, length-octets_of groups)

@@ -77,6 +77,12 @@ zeros_tie : (n : ℕ) → bits_cmp (replicate n false) (replicate n false) ≡ E
 zeros_tie zero = refl
 zeros_tie (suc n) = zeros_tie n
 
+-- a third order is asked last
+then_assoc : (r s t : Ordering) → ordering_then r (ordering_then s t) ≡ ordering_then (ordering_then r s) t
+then_assoc Less s t = refl
+then_assoc Equal s t = refl
+then_assoc Greater s t = refl
+
 -- bits compare as they do when they are filled with zeros, and then as their lengths do
 pub bits_cmp-filled : (xs ys : List Bool) (m n : ℕ) → length xs + m ≡ length ys + n
     → bits_cmp xs ys ≡ ordering_then (bits_cmp (xs ++ replicate m false) (ys ++ replicate n false)) (nat_cmp (length xs) (length ys))
@@ -99,11 +105,6 @@ bits_cmp-filled (x ∷ xs) (y ∷ ys) m n e =
   where
     one_more : (k : ℕ) → 1 + k ≡ suc k
     one_more k = omega arith
-
-    then_assoc : (r s t : Ordering) → ordering_then r (ordering_then s t) ≡ ordering_then (ordering_then r s) t
-    then_assoc Less s t = refl
-    then_assoc Equal s t = refl
-    then_assoc Greater s t = refl
 
 -- the bits of 0 are zeros
 bits_of-zero : (k : ℕ) → bits_of k 0 ≡ replicate k false
@@ -168,10 +169,5 @@ pub network_cmp-kept : (a b : prefix.Inside) → prefixes.the_invariant a → pr
 network_cmp-kept a b p q =
     let a_len : a.len ≤ 128 = omega (arith, p.1, bit_count_le a.family) in
     let b_len : b.len ≤ 128 = omega (arith, q.1, bit_count_le b.family) in
-    then_assoc (family_cmp a.family b.family) (nat_cmp a.number b.number) (nat_cmp a.len b.len)
+    sym (then_assoc (family_cmp a.family b.family) (nat_cmp a.number b.number) (nat_cmp a.len b.len))
     ∙ ap (ordering_then (family_cmp a.family b.family)) (sym (bits_cmp-highest a.len b.len a.number b.number a_len b_len p.0 q.0 p.2 q.2))
-  where
-    then_assoc : (r s t : Ordering) → ordering_then (ordering_then r s) t ≡ ordering_then r (ordering_then s t)
-    then_assoc Less s t = refl
-    then_assoc Equal s t = refl
-    then_assoc Greater s t = refl

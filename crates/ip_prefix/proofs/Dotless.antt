@@ -1,6 +1,7 @@
 -- Texts of addresses with and without a dot.
-use Rattle.std.proofs.Common.{◌≡◌, ◌≢◌, ℕ, zero, suc, ◌-◌, ◌^◌, ◌<◌, ◌≤◌, ◌==◌, ◌||◌, Bool, true, false, List, [], ◌∷◌, ◌++◌, length, replicate, decimal, All, refl, sym, ap, ◌∙◌, arith, inl, inr, append_assoc, ne_eqb, true≢false, lit≤}
+use Rattle.std.proofs.Common.{◌≡◌, ◌≢◌, ℕ, zero, suc, ◌-◌, ◌^◌, ◌<◌, ◌≤◌, ◌==◌, Bool, true, false, List, [], ◌∷◌, ◌++◌, length, replicate, decimal, All, refl, sym, ap, ◌∙◌, arith, inl, inr, append_assoc, ne_eqb, true≢false, lit≤}
 use Rattle.std.specs.List.{list_any}
+use Rattle.std.proofs.lemmas.Bool.{or_from, or_parts, or_right}
 use Rattle.std.proofs.lemmas.List.Folds.{list_any-append}
 use Rattle.std.proofs.lemmas.List.Elements.{All-head, All-tail}
 use Rattle.std.specs.Char.{digit_value}
@@ -17,46 +18,32 @@ use Rattle.ip_prefix.specs.Spelling.{IsColons}
 abbrev pub has_dot : List ℕ → Bool
 has_dot text = list_any (λ c. c == 46) text
 
--- where one test or the other gives false, both do
-neither : (a b : Bool) → (a || b) ≡ false → (a ≡ false) × (b ≡ false)
-neither true b e = absurd (true≢false e)
-neither false b e = (refl, e)
-
--- and the other way round
-both_false : (a b : Bool) → a ≡ false → b ≡ false → (a || b) ≡ false
-both_false a b p q = rw (p, q)
-
--- a test is true where its second part is
-second_true : (a b : Bool) → b ≡ true → (a || b) ≡ true
-second_true true b e = refl
-second_true false b e = e
-
 -- two texts without a dot have none together
 pub has_dot-append : (front back : List ℕ) → has_dot front ≡ false → has_dot back ≡ false → has_dot (front ++ back) ≡ false
-has_dot-append front back f b = list_any-append (λ c. c == 46) front back ∙ both_false _ _ f b
+has_dot-append front back f b = list_any-append (λ c. c == 46) front back ∙ or_from _ _ f b
 
 -- and a part of a text without a dot has none
 pub has_dot-parts : (front back : List ℕ) → has_dot (front ++ back) ≡ false → (has_dot front ≡ false) × (has_dot back ≡ false)
-has_dot-parts front back e = neither _ _ (sym (list_any-append (λ c. c == 46) front back) ∙ e)
+has_dot-parts front back e = or_parts _ _ (sym (list_any-append (λ c. c == 46) front back) ∙ e)
 
 -- a dot is found behind any text
 pub has_dot-at : (front back : List ℕ) → has_dot (front ++ 46 ∷ back) ≡ true
-has_dot-at front back = list_any-append (λ c. c == 46) front (46 ∷ back) ∙ second_true _ _ refl
+has_dot-at front back = list_any-append (λ c. c == 46) front (46 ∷ back) ∙ or_right _ _ refl
 
 -- hexadecimal digits are no dots
 has_dot-digits : (text : List ℕ) → AllDigits 16 text → has_dot text ≡ false
 has_dot-digits [] h = refl
 has_dot-digits (c ∷ text) h =
     let other : c ≢ 46 = λ dot. let small : digit_value 46 < 16 = rw dot at h.0 in omega arith in
-    both_false _ _ (ne_eqb c 46 other) (has_dot-digits text h.1)
+    or_from _ _ (ne_eqb c 46 other) (has_dot-digits text h.1)
 
--- and neither are colons
+-- and or_parts are colons
 pub has_dot-hex : (text : List ℕ) → All IsHexOrColon text → has_dot text ≡ false
 has_dot-hex [] h = refl
 has_dot-hex (c ∷ text) h =
     let here = All-head IsHexOrColon c text h in
     let other : c ≢ 46 = λ dot. omega (arith, here) in
-    both_false _ _ (ne_eqb c 46 other) (has_dot-hex text (All-tail IsHexOrColon c text h))
+    or_from _ _ (ne_eqb c 46 other) (has_dot-hex text (All-tail IsHexOrColon c text h))
 
 -- four decimals joined by dots have one
 pub has_dot-dotted : (text octets : List ℕ) → IsDotted text octets → has_dot text ≡ true

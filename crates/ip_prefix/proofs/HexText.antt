@@ -1,41 +1,9 @@
 -- What is written of groups of hexadecimal digits, from the last to the first.
-use Rattle.std.proofs.Common.{◌≡◌, ℕ, ◌+◌, ◌-◌, ◌/◌, ◌%◌, ◌<◌, ◌≤◌, List, [], ◌∷◌, ◌++◌, length, take, drop, get_or, set, ap, sym, ◌∙◌, arith, le-leb, lt-ltb, le-ltb, length-set, append_assoc}
+use Rattle.std.proofs.Common.{◌≡◌, ℕ, ◌+◌, ◌-◌, ◌/◌, ◌%◌, ◌<◌, ◌≤◌, List, [], ◌∷◌, ◌++◌, length, take, drop, get_or, ap, sym, ◌∙◌, arith, le-leb, lt-ltb, le-ltb, append_assoc}
 use Rattle.std.proofs.lemmas.Bool.{lt-leb}
-use Rattle.std.proofs.lemmas.List.{drop-set, drop_more, drop_all, append-nil}
+use Rattle.std.proofs.lemmas.List.{drop_more, drop_all, append-nil}
 use Rattle.std.specs.Char.{digit_char}
 use Rattle.std.specs.Net.Text.{hex, groups_text, longest_zero_run, hex_groups_text}
-
--- a byte written before a place comes before what is left from there
-pub written_before : (buffer : List ℕ) (at next y : ℕ) → at + 1 ≡ next → next ≤ length buffer → drop at (set buffer at y) ≡ y ∷ drop next buffer
-written_before buffer at next y e within =
-    let inside : at < length buffer = omega arith in
-    drop-set buffer at y inside ∙ ap (λ n. y ∷ drop n buffer) e
-
--- and so do two bytes
-pub two_before : (buffer : List ℕ) (at x y : ℕ) → 2 ≤ at → at ≤ length buffer
-    → drop (at - 2) (set (set buffer (at - 1) x) (at - 2) y) ≡ y ∷ x ∷ drop at buffer
-two_before buffer at x y room within =
-    written_before (set buffer (at - 1) x) (at - 2) (at - 1) y (omega arith) (omega (arith, length-set buffer (at - 1) x))
-    ∙ ap (λ t. y ∷ t) (written_before buffer (at - 1) at x (omega arith) within)
-
--- and three
-pub three_before : (buffer : List ℕ) (at x y z : ℕ) → 3 ≤ at → at ≤ length buffer
-    → drop (at - 3) (set (set (set buffer (at - 1) x) (at - 2) y) (at - 3) z) ≡ z ∷ y ∷ x ∷ drop at buffer
-three_before buffer at x y z room within =
-    let one = set buffer (at - 1) x in
-    let two = set one (at - 2) y in
-    written_before two (at - 3) (at - 2) z (omega arith) (omega (arith, length-set buffer (at - 1) x, length-set one (at - 2) y))
-    ∙ ap (λ t. z ∷ t) (two_before buffer at x y (omega arith) within)
-
--- and four
-pub four_before : (buffer : List ℕ) (at x y z w : ℕ) → 4 ≤ at → at ≤ length buffer
-    → drop (at - 4) (set (set (set (set buffer (at - 1) x) (at - 2) y) (at - 3) z) (at - 4) w) ≡ w ∷ z ∷ y ∷ x ∷ drop at buffer
-four_before buffer at x y z w room within =
-    let one = set buffer (at - 1) x in
-    let two = set one (at - 2) y in
-    let three = set two (at - 3) z in
-    written_before three (at - 4) (at - 3) w (omega arith) (omega (arith, length-set buffer (at - 1) x, length-set one (at - 2) y, length-set two (at - 3) z))
-    ∙ ap (λ t. w ∷ t) (three_before buffer at x y z (omega arith) within)
 
 -- a group below 16 has one digit
 pub hex_one : (n : ℕ) → n < 16 → hex n ≡ digit_char (n % 16) ∷ []

@@ -1,12 +1,16 @@
+pub mod Booleans
+pub mod Options
+pub mod Lists
 pub mod BitLists
 pub mod Dots
 pub mod Highest
 mod Comparing
 pub mod Masks
 mod Octets
-mod Beginning
-pub mod Wires
+pub mod Beginning
+pub mod Containing
 pub mod Sequences
+pub mod Wires
 pub mod Filled
 pub mod HexText
 pub mod Dotless

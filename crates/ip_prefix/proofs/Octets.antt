@@ -1,5 +1,5 @@
 -- The number that octets spell has their bits.
-use Rattle.std.proofs.Common.{◌≡◌, ℕ, zero, suc, ◌+◌, ◌*◌, ◌^◌, ◌/◌, ◌<◌, List, [], ◌∷◌, ◌++◌, length, replicate, take, drop, get_or, refl, ap, sym, subst, ◌∙◌, append_assoc, arith, pow-add}
+use Rattle.std.proofs.Common.{◌≡◌, ℕ, suc, ◌+◌, ◌*◌, ◌^◌, ◌/◌, ◌<◌, List, [], ◌∷◌, ◌++◌, length, get_or, refl, ap, sym, subst, ◌∙◌, append_assoc, arith, pow-add}
 use Rattle.std.specs.Int.{w128, from_be_bytes}
 use Rattle.std.specs.List.{AllByRecursion}
 use Rattle.std.proofs.lemmas.Nat.{mul-add-lt}
@@ -7,37 +7,19 @@ use Rattle.std.proofs.lemmas.List.{length-append}
 use Rattle.ip_prefix.specs.Bits.{bits_of, bits_of_octets}
 use Rattle.ip_prefix.specs.BitLemmas.{length-bits_of}
 use Rattle.ip_prefix.proofs.BitLists.{bits_of-append}
+use Rattle.ip_prefix.proofs.Lists.{AllByRecursion-from_get_or}
+
+-- a number that an octet has
+abbrev pub IsOctet : ℕ → Type 0
+IsOctet n = n < 256
 
 -- each of them is an octet
 abbrev pub AllOctets : List ℕ → Type 0
-AllOctets octets = AllByRecursion (λ octet. octet < 256) octets
+AllOctets octets = AllByRecursion IsOctet octets
 
 -- where each place has an octet, all are
 pub AllOctets-from : (octets : List ℕ) → ((i : ℕ) → get_or octets i 0 < 256) → AllOctets octets
-AllOctets-from [] h = tt
-AllOctets-from (octet ∷ octets) h = (h 0, AllOctets-from octets (λ i. h (suc i)))
-
--- the first of octets are octets
-pub AllOctets-take : (n : ℕ) (octets : List ℕ) → AllOctets octets → AllOctets (take n octets)
-AllOctets-take zero octets h = tt
-AllOctets-take (suc n) [] h = tt
-AllOctets-take (suc n) (octet ∷ octets) h = (h.0, AllOctets-take n octets h.1)
-
--- and so are those behind them
-pub AllOctets-drop : (n : ℕ) (octets : List ℕ) → AllOctets octets → AllOctets (drop n octets)
-AllOctets-drop zero octets h = h
-AllOctets-drop (suc n) [] h = tt
-AllOctets-drop (suc n) (octet ∷ octets) h = AllOctets-drop n octets h.1
-
--- zeros are octets
-pub AllOctets-zeros : (n : ℕ) → AllOctets (replicate n 0)
-AllOctets-zeros zero = tt
-AllOctets-zeros (suc n) = (omega arith, AllOctets-zeros n)
-
--- octets behind octets
-pub AllOctets-append : (xs ys : List ℕ) → AllOctets xs → AllOctets ys → AllOctets (xs ++ ys)
-AllOctets-append [] ys g h = h
-AllOctets-append (x ∷ xs) ys g h = (g.0, AllOctets-append xs ys g.1 h)
+AllOctets-from octets each = AllByRecursion-from_get_or IsOctet octets 0 (λ i within. each i)
 
 -- eight bits for each octet
 pub length-bits_of_octets : (octets : List ℕ) → length (bits_of_octets octets) ≡ 8 * length octets

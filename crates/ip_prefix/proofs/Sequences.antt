@@ -1,8 +1,28 @@
--- Values spelled one behind the other, as far as they have been read.
+-- Values spelled one behind the other.
 use Rattle.std.proofs.Common.{◌≡◌, ℕ, ◌*◌, List, [], ◌∷◌, ◌++◌, length, refl, ap, sym, subst, ◌∙◌, arith, append_assoc, append-nil}
 use Rattle.std.proofs.lemmas.List.{length-append}
-use Rattle.ip_prefix.specs.Wire.{Begins, SpellsAll, IsCode}
-use Rattle.ip_prefix.proofs.Wires.{never_begins}
+use Rattle.ip_prefix.specs.Sequences.{Begins, BeginsWithNone, SpellsAll, IsCode}
+use Rattle.ip_prefix.proofs.Lists.{nothing_before}
+
+-- ---- one list
+
+-- nothing begins with no spelling
+pub never_begins : {A : Type 0} (Spells : A → List ℕ → Type 0) → IsCode Spells → (value : A) (rest octets : List ℕ) → Begins Spells value rest octets → octets ≡ [] → ⊥
+never_begins Spells code value rest octets b e =
+    code.some value (subst (Spells value) (nothing_before b.front rest (sym e ∙ b.whole)) b.spelled)
+
+-- so no octets are spellings of two lists
+pub one_list : {A : Type 0} (Spells : A → List ℕ → Type 0) → IsCode Spells → (octets : List ℕ) (values others : List A)
+    → SpellsAll Spells values octets → SpellsAll Spells others octets → values ≡ others
+one_list Spells code octets [] [] p q = refl
+one_list Spells code octets [] (b ∷ others) p q = absurd (never_begins Spells code b q.0 octets q.1 p)
+one_list Spells code octets (a ∷ values) [] p q = absurd (never_begins Spells code a p.0 octets p.1 q)
+one_list Spells code octets (a ∷ values) (b ∷ others) p q =
+    let one = code.same a b p.0 q.0 octets p.1 q.1 in
+    let more = one_list Spells code q.0 values others (subst (SpellsAll Spells values) one.1 p.2) q.2 in
+    λ i. one.0 i ∷ more i
+
+-- ---- as far as they have been read
 
 -- before the first value nothing has been read
 pub none_yet : {A : Type 0} (Spells : A → List ℕ → Type 0) (octets : List ℕ) → Begins (SpellsAll Spells) [] octets octets
@@ -51,7 +71,7 @@ after Spells code (value ∷ values) (other ∷ others) front rest p q =
 
 -- where no value stands in front of what is left, and something is, no list is spelled
 pub none_at_all : {A : Type 0} (Spells : A → List ℕ → Type 0) → IsCode Spells → (values : List A) (rest octets : List ℕ) → (rest ≡ [] → ⊥) → Begins (SpellsAll Spells) values rest octets
-    → ((value : A) (more : List ℕ) → Begins Spells value more rest → ⊥) → (others : List A) → SpellsAll Spells others octets → ⊥
+    → BeginsWithNone Spells rest → (others : List A) → SpellsAll Spells others octets → ⊥
 none_at_all {A} Spells code values rest octets some b none others s =
     let left = after Spells code values others b.front rest b.spelled (subst (SpellsAll Spells others) b.whole s) in
     refused left.0 left.1

@@ -1,27 +1,18 @@
 -- Octets that spell prefixes.
-use Rattle.std.proofs.Common.{◌≡◌, ℕ, ◌+◌, ◌-◌, ◌*◌, ◌^◌, ◌/◌, ◌<◌, ◌≤◌, Bool, List, [], ◌∷◌, ◌++◌, length, take, drop, refl, ap, sym, subst, ◌∙◌, arith, length-drop}
+use Rattle.std.proofs.Common.{◌≡◌, ℕ, ◌+◌, ◌-◌, ◌*◌, ◌^◌, ◌/◌, ◌<◌, ◌≤◌, Bool, List, [], ◌∷◌, ◌++◌, length, take, drop, refl, ap, sym, ◌∙◌, arith, length-drop}
 use Rattle.std.specs.Int.{w128, from_be_bytes}
 use Rattle.std.proofs.lemmas.List.{length-append, length-take-le, take-append-le, take-append-drop}
 use Rattle.ip_prefix.specs.declared.addr.Family.{Family}
 use Rattle.ip_prefix.specs.Address.{bit_count}
 use Rattle.ip_prefix.specs.Bits.{bits_of, bits_of_octets}
 use Rattle.ip_prefix.specs.Network.{Network}
-use Rattle.ip_prefix.specs.Wire.{Begins, SpellsAll, IsCode, SpellsNetwork}
+use Rattle.ip_prefix.specs.Sequences.{Begins, IsCode}
+use Rattle.ip_prefix.specs.Wire.{SpellsNetwork}
+use Rattle.ip_prefix.proofs.Lists.{append_parts}
 use Rattle.ip_prefix.proofs.Masks.{first_bits}
 use Rattle.ip_prefix.proofs.Octets.{AllOctets, length-bits_of_octets, bits_of_octets-append, bits_of-from_be_bytes}
 
 -- ---- one spelling each
-
--- lists of one length that begin one list are one, and so is what follows them
-pub append_parts : {A : Type 0} → (xs ys us vs : List A) → length xs ≡ length ys → xs ++ us ≡ ys ++ vs → (xs ≡ ys) × (us ≡ vs)
-append_parts [] [] us vs size e = (refl, e)
-append_parts [] (y ∷ ys) us vs size e = absurd (omega arith)
-append_parts (x ∷ xs) [] us vs size e = absurd (omega arith)
-append_parts (x ∷ xs) (y ∷ ys) us vs size e =
-    let first : x ≡ y = cc in
-    let more : xs ++ us ≡ ys ++ vs = cc in
-    let rest = append_parts xs ys us vs (omega arith) more in
-    ((λ i. first i ∷ rest.0 i), rest.1)
 
 -- the bits of the octets behind the length are the prefix's and the spare ones
 body_size : (kind : Family) (n : Network) (octets : List ℕ) (s : SpellsNetwork kind n octets) → 8 * length s.body ≡ length n.bits + length s.spare
@@ -49,27 +40,6 @@ network_code kind = record { some = some; same = same }
         let parts = append_parts s.body t.body x y sizes bodies in
         let bits = append_parts a.bits b.bits s.spare t.spare lengths (sym s.held ∙ ap bits_of_octets parts.0 ∙ t.held) in
         ((λ i. record { family = (s.of_family ∙ sym t.of_family) i; bits = bits.0 i }), parts.1)
-
--- what stands before others in nothing is nothing
-nothing_before : (front rest : List ℕ) → [] ≡ front ++ rest → front ≡ []
-nothing_before [] rest e = refl
-nothing_before (octet ∷ front) rest e = cc
-
--- nothing begins with no spelling
-pub never_begins : {A : Type 0} (Spells : A → List ℕ → Type 0) → IsCode Spells → (value : A) (rest octets : List ℕ) → Begins Spells value rest octets → octets ≡ [] → ⊥
-never_begins Spells code value rest octets b e =
-    code.some value (subst (Spells value) (nothing_before b.front rest (sym e ∙ b.whole)) b.spelled)
-
--- so no octets are spellings of two lists
-pub one_list : {A : Type 0} (Spells : A → List ℕ → Type 0) → IsCode Spells → (octets : List ℕ) (values others : List A)
-    → SpellsAll Spells values octets → SpellsAll Spells others octets → values ≡ others
-one_list Spells code octets [] [] p q = refl
-one_list Spells code octets [] (b ∷ others) p q = absurd (never_begins Spells code b q.0 octets q.1 p)
-one_list Spells code octets (a ∷ values) [] p q = absurd (never_begins Spells code a p.0 octets p.1 q)
-one_list Spells code octets (a ∷ values) (b ∷ others) p q =
-    let one = code.same a b p.0 q.0 octets p.1 q.1 in
-    let more = one_list Spells code q.0 values others (subst (SpellsAll Spells values) one.1 p.2) q.2 in
-    λ i. one.0 i ∷ more i
 
 -- ---- octets that are read
 

@@ -7,5 +7,7 @@ pub mod Masked
 pub mod OrderLaws
 pub mod Order
 pub mod Text
-pub mod Wire
 pub mod Spelling
+pub mod Sequences
+pub mod Wire
+pub mod Codes

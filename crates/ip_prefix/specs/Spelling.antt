@@ -1,10 +1,10 @@
 -- The texts that a person may write for addresses and prefixes.
-use Rattle.std.specs.Prelude.{◌≡◌, ℕ, ◌+◌, ◌-◌, ◌<◌, ◌⊎◌, false, List, [], ◌∷◌, ◌++◌, length, take, replicate, decimal}
+use Rattle.std.specs.Prelude.{◌≡◌, ℕ, ◌+◌, ◌-◌, ◌<◌, ◌⊎◌, false, List, [], ◌∷◌, ◌++◌, length, replicate, decimal}
 use Rattle.std.specs.Net.Grammar.{IsDotted, IsGroups}
 use Rattle.ip_prefix.specs.declared.addr.Family.{Family}
 use Rattle.ip_prefix.specs.declared.addr.Family.TheVariants.{V4, V6}
 use Rattle.ip_prefix.specs.Address.{Address, IsAddress, octet_at, groups_of}
-use Rattle.ip_prefix.specs.Network.{Network, IsNetwork}
+use Rattle.ip_prefix.specs.Network.{Network, IsNetwork, IsFront}
 
 -- the four octets of an IPv4 address
 abbrev pub octets_of_v4 : Address → List ℕ
@@ -41,5 +41,5 @@ pub record SpellsPrefix (n : Network) (text : List ℕ) : Type 0 where
   pub address_text : List ℕ
   pub spelled : SpellsAddress address address_text
   pub of_family : address.family ≡ n.family
-  pub begins : take (length n.bits) address.bits ≡ n.bits
+  pub begins : IsFront n.bits address.bits
   pub whole : text ≡ address_text ++ 47 ∷ decimal (length n.bits)

@@ -1,15 +1,16 @@
 //! Laws of the orders, of the texts and of what is sent.
 
-ghost use Rattle.std.specs.Prelude.{◌≡◌, ℕ, List};
+ghost use Rattle.std.specs.Prelude.{◌≡◌, ◌≤◌, ◌↔◌, ℕ, List, length, IsTrue};
 ghost use Rattle.std.specs.Cmp.{IsTotalOrder};
 ghost use Rattle.std.specs.FinMap.{IsAntisymmetric};
 ghost use Rattle.ip_prefix.specs.declared.addr.Family.{Family};
 ghost use Rattle.ip_prefix.specs.Address.{Address, IsAddress};
-ghost use Rattle.ip_prefix.specs.Network.{Network, IsNetwork};
+ghost use Rattle.ip_prefix.specs.Network.{Network, IsNetwork, IsFront, ContainsAllOf, contains, covers};
 ghost use Rattle.ip_prefix.specs.Order.{address_cmp, network_cmp, filled_cmp};
 ghost use Rattle.ip_prefix.specs.Spelling.{SpellsAddress, SpellsPrefix};
 ghost use Rattle.ip_prefix.specs.Text.{address_text, network_text};
-ghost use Rattle.ip_prefix.specs.Wire.{SpellsAll, IsCode, SpellsNetwork};
+ghost use Rattle.ip_prefix.specs.Sequences.{SpellsAll, IsCode};
+ghost use Rattle.ip_prefix.specs.Wire.{SpellsNetwork};
 
 /// The order of addresses is total, and only equal ones tie.
 pub fn address_order()
@@ -23,6 +24,35 @@ pub fn prefix_order()
     ensures total { IsTotalOrder network_cmp }
     ensures ties { IsAntisymmetric network_cmp }
     ensures filled { (m n : Network) → IsNetwork m → IsNetwork n → network_cmp m n ≡ filled_cmp m n }
+{}
+
+/// A prefix contains the addresses of its family that begin with its bits, and covers the prefixes
+/// of its family that do: those of which it contains each address.
+pub fn containment()
+    ensures contained { (n : Network) (a : Address)
+        → (IsTrue (contains n a) ↔ ((n.family ≡ a.family) × IsFront n.bits a.bits)) }
+    ensures covered { (n other : Network)
+        → (IsTrue (covers n other) ↔ ((n.family ≡ other.family) × IsFront n.bits other.bits)) }
+    ensures addresses { (n other : Network) → IsNetwork other
+        → (IsTrue (covers n other) ↔ ContainsAllOf n other) }
+{}
+
+/// Covering is an order of prefixes, and no prefix covers a shorter one.
+pub fn covering_order()
+    ensures reflexive { (n : Network) → IsTrue (covers n n) }
+    ensures transitive { (a b c : Network)
+        → IsTrue (covers a b) → IsTrue (covers b c) → IsTrue (covers a c) }
+    ensures antisymmetric { (a b : Network) → IsTrue (covers a b) → IsTrue (covers b a) → a ≡ b }
+    ensures lengths { (a b : Network) → IsTrue (covers a b) → length a.bits ≤ length b.bits }
+{}
+
+/// Of two prefixes that contain one address, one that is no longer covers the other. So of one
+/// length one alone contains the address.
+pub fn nested_prefixes()
+    ensures covered { (m n : Network) (a : Address) → IsTrue (contains m a) → IsTrue (contains n a)
+        → length m.bits ≤ length n.bits → IsTrue (covers m n) }
+    ensures one { (m n : Network) (a : Address) → IsTrue (contains m a) → IsTrue (contains n a)
+        → length m.bits ≡ length n.bits → m ≡ n }
 {}
 
 /// The text of an address is a spelling of it, and the text of a prefix one of the prefix.

@@ -10,7 +10,10 @@ mod text;
 
 pub use addr::{Addr, Family};
 pub use decimal::put_decimal;
-pub use laws::{address_order, one_network, one_spelling, prefix_order, text_spells};
+pub use laws::{
+    address_order, containment, covering_order, nested_prefixes, one_network, one_spelling,
+    prefix_order, text_spells,
+};
 pub use prefix::Prefix;
 
 #[cfg(test)]

@@ -3,7 +3,8 @@
 ghost use Rattle.std.specs.Prelude.{◌≡◌, ℕ, ◌<◌, ◌≤◌, ◌-◌, ◌*◌, ◌/◌, ◌^◌, List, MatchOption, IfSome, IfNone, length, take};
 ghost use Rattle.ip_prefix.specs.Address.{IsAddress, bit_count};
 ghost use Rattle.ip_prefix.specs.Network.{Network, IsNetwork, least_address, contains, covers};
-ghost use Rattle.ip_prefix.specs.Wire.{Begins, SpellsNetwork};
+ghost use Rattle.ip_prefix.specs.Sequences.{BeginsWithNone};
+ghost use Rattle.ip_prefix.specs.Wire.{SpellsNetwork};
 
 use crate::addr::{Addr, Family, compare_families};
 use std::cmp::Ordering;
@@ -101,8 +102,7 @@ impl Prefix {
     pub fn read(family: Family, octets: &[u8]) -> Option<(Prefix, usize)>
         ensures some { IfSome result (λ found. (found.1 ≤ length octets.now)
             × SpellsNetwork family found.0 (take found.1 octets.now)) }
-        ensures none { IfNone result ((n : Network) (rest : List ℕ) →
-            Begins (SpellsNetwork family) n rest octets.now → ⊥) }
+        ensures none { IfNone result (BeginsWithNone (SpellsNetwork family) octets.now) }
     {
         let (&len, rest) = octets.split_first()?;
         if width(family) < len {

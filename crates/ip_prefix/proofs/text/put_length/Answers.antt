@@ -2,7 +2,7 @@
 use Rattle.std.proofs.Common.{rules, ◌≡◌, ◌+◌, ◌-◌, ◌≤◌, ◌∷◌, ◌∙◌, length, drop, set, decimal, ap, append-nil, arith}
 use Rattle.std.proofs.lemmas.Grind.{common_steps}
 use Rattle.std.proofs.lemmas.Fmt.{length-decimal-le}
-use Rattle.ip_prefix.proofs.HexText.{written_before}
+use Rattle.ip_prefix.proofs.Lists.{written_before}
 use Rattle.ip_prefix.proofs.text.put_length.Goals as goal
 
 pub write_digits-digits-requires : goal.write_digits-digits-requires

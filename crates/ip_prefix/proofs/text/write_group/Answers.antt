@@ -1,6 +1,7 @@
 -- The digits of a group, from the last to the first.
 use Rattle.std.proofs.Common.{◌≡◌, ◌+◌, ◌-◌, ◌≤◌, arith}
-use Rattle.ip_prefix.proofs.HexText.{written_before, two_before, three_before, four_before, hex_one, hex_two, hex_three, hex_four}
+use Rattle.ip_prefix.proofs.HexText.{hex_one, hex_two, hex_three, hex_four}
+use Rattle.ip_prefix.proofs.Lists.{written_before, two_before, three_before, four_before}
 use Rattle.ip_prefix.proofs.text.write_group.Goals as goal
 
 pub returns-then-group-lt16-clause-written : goal.returns-then-group-lt16-clause-written

@@ -2,7 +2,8 @@
 use Rattle.std.proofs.Common.{rules, ◌≡◌, ◌+◌, ◌-◌, ◌<◌, ◌≤◌, ◌++◌, ◌∷◌, length, drop, get_or, ap, sym, ◌∙◌, arith}
 use Rattle.std.proofs.lemmas.Bool.Decides.{nat_tests}
 use Rattle.std.specs.Net.Text.{hex}
-use Rattle.ip_prefix.proofs.HexText.{written_before, groups_text_last, groups_text_step}
+use Rattle.ip_prefix.proofs.HexText.{groups_text_last, groups_text_step}
+use Rattle.ip_prefix.proofs.Lists.{written_before}
 use Rattle.ip_prefix.proofs.text.write_groups.Goals as goal
 
 pub loop-left-init : goal.loop-left-init

@@ -2,7 +2,8 @@
 use Rattle.std.proofs.Common.{◌≡◌, ◌+◌, ◌≤◌, ◌<◌, ◌++◌, ◌∷◌, [], length, drop, take, ap, ◌∙◌, sym, append-nil, length-drop, arith}
 use Rattle.std.proofs.lemmas.List.{drop_all, take_rest}
 use Rattle.std.specs.Net.Text.{groups_text, longest_zero_run}
-use Rattle.ip_prefix.proofs.HexText.{two_before, whole_text, shortened_text}
+use Rattle.ip_prefix.proofs.HexText.{whole_text, shortened_text}
+use Rattle.ip_prefix.proofs.Lists.{two_before}
 use Rattle.ip_prefix.proofs.text.write_shortened.Goals as goal
 
 pub returns-then-len-lt2-clause-written : goal.returns-then-len-lt2-clause-written

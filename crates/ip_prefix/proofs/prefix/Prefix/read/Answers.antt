@@ -8,7 +8,8 @@ use Rattle.ip_prefix.specs.Masked.{IsMasked}
 use Rattle.ip_prefix.specs.Wire.{SpellsNetwork}
 use Rattle.ip_prefix.proofs.Highest.{bit_count_le}
 use Rattle.ip_prefix.proofs.Masks.{IsMasked-highest}
-use Rattle.ip_prefix.proofs.Octets.{AllOctets-from, AllOctets-take, AllOctets-drop, AllOctets-zeros, AllOctets-append}
+use Rattle.ip_prefix.proofs.Lists.{AllByRecursion-append, AllByRecursion-drop, AllByRecursion-replicate, AllByRecursion-take}
+use Rattle.ip_prefix.proofs.Octets.{IsOctet, AllOctets-from}
 use Rattle.ip_prefix.proofs.Wires.{enough_octets, bits_read, spelled_by}
 use Rattle.ip_prefix.proofs.prefix.Prefix.read.Goals as goal
 
@@ -39,12 +40,12 @@ returns-clause-some c =
     let body_size : length body ≡ size = length-take-le size rest rest_le in
     let all : length (body ++ zeros) ≡ 16 = omega (arith, length-append body zeros, body_size, length-drop {A = ℕ} size (replicate 16 0)) in
     let octets : (i : ℕ) → get_or c.args.octets.now i 0 < 256 = λ i. omega (arith, c.type_inv.octets i) in
-    let each = AllOctets-take size rest (AllOctets-from (len ∷ rest) (λ i. subst (λ l. get_or l i 0 < 256) whole (octets i))).1 in
+    let each = AllByRecursion-take IsOctet size rest (AllOctets-from (len ∷ rest) (λ i. subst (λ l. get_or l i 0 < 256) whole (octets i))).1 in
     let read : c.from_be_bytes.result ≡ from_be_bytes w128 (c.copy_from_slice.new.self ++ zeros) = c.from_be_bytes.ensures in
     let number = read ∙ ap (λ l. from_be_bytes w128 (l ++ zeros)) c.copy_from_slice.ensures.after in
     let bits =
     ap (λ n. bits_of len (n / 2 ^ (128 - len))) (c.highest-number.ensures ∙ ap (λ n. n / 2 ^ (128 - len) * 2 ^ (128 - len)) number)
-    ∙ bits_read len body zeros (omega arith) all (AllOctets-append body zeros each (AllOctets-drop size (replicate 16 0) (AllOctets-zeros 16))) in
+    ∙ bits_read len body zeros (omega arith) all (AllByRecursion-append IsOctet body zeros each (AllByRecursion-drop IsOctet size (replicate 16 0) (AllByRecursion-replicate IsOctet 16 0 (omega arith)))) in
     let spelled = spelled_by family len body (bits_of len (c.highest-number.result / 2 ^ (128 - len))) within each (omega arith) (omega arith) bits in
     let front : take (size + 1) c.args.octets.now ≡ len ∷ body = ap (take (size + 1)) whole ∙ ap (λ k. take k (len ∷ rest)) (add-one size) in
     (omega (arith, c.in_ok-len.ensures.cases.1), subst (SpellsNetwork family record { family = family; bits = bits_of len (c.highest-number.result / 2 ^ (128 - len)) }) (sym front) spelled)

@@ -1,0 +1,195 @@
+-- Lists: their parts, what is written into them, and what holds of each element.
+use Rattle.std.proofs.Common.{◌≡◌, ℕ, zero, suc, ◌+◌, ◌-◌, ◌<◌, ◌≤◌, Bool, true, false, cond, List, [], ◌∷◌, ◌++◌, length, take, drop, get_or, set, replicate, refl, ap, ap₂, sym, ◌∙◌, arith, append_assoc, length-set, length-take-le, take-append-drop, take_at}
+use Rattle.std.specs.Prelude.{slice_get, nat_eq, filter}
+use Rattle.std.specs.List.{AllByRecursion}
+use Rattle.std.proofs.Math.Nat.{add-sub_of_le}
+use Rattle.std.proofs.lemmas.List.{drop-append-le, drop-drop, drop-set, drop-take, length_push, take-append-le, take_all, take_rest, take-take}
+
+-- ---- parts
+
+-- lists of one length that begin one list are one, and so is what follows them
+pub append_parts : {A : Type 0} → (xs ys us vs : List A) → length xs ≡ length ys → xs ++ us ≡ ys ++ vs → (xs ≡ ys) × (us ≡ vs)
+append_parts [] [] us vs size e = (refl, e)
+append_parts [] (y ∷ ys) us vs size e = absurd (omega arith)
+append_parts (x ∷ xs) [] us vs size e = absurd (omega arith)
+append_parts (x ∷ xs) (y ∷ ys) us vs size e =
+    let first : x ≡ y = cc in
+    let more : xs ++ us ≡ ys ++ vs = cc in
+    let rest = append_parts xs ys us vs (omega arith) more in
+    ((λ i. first i ∷ rest.0 i), rest.1)
+
+-- what stands before others in nothing is nothing
+pub nothing_before : {A : Type 0} (front rest : List A) → [] ≡ front ++ rest → front ≡ []
+nothing_before [] rest e = refl
+nothing_before (x ∷ front) rest e = cc
+
+-- a list that has elements isn't empty
+pub nonempty : {A : Type 0} (xs : List A) → nat_eq (length xs) 0 ≡ false → xs ≡ [] → ⊥
+nonempty xs e h = let f : nat_eq 0 0 ≡ false = sym (ap (λ l. nat_eq (length l) 0) h) ∙ e in cc
+
+-- the first elements of a front are those of the whole
+pub take_kept : {A : Type 0} (at k : ℕ) (old grown new : List A) → at ≤ k → take k grown ≡ old → take at new ≡ take at grown → take at new ≡ take at old
+take_kept at k old grown new within grew kept = kept ∙ sym (take-take at k grown within) ∙ ap (take at) grew
+
+-- the first elements in two parts
+pub take_in_parts : {A : Type 0} (low high : ℕ) (xs : List A) → low ≤ high → take low xs ++ take (high - low) (drop low xs) ≡ take high xs
+take_in_parts low high xs h =
+    ap₂ (λ a b. a ++ b)
+    (sym (take-take low high xs h))
+    (sym (drop-take low (high - low) xs) ∙ ap (λ n. drop low (take n xs)) (add-sub_of_le h))
+    ∙ take-append-drop low (take high xs)
+
+-- what stands from a place on, in two parts
+pub drop_in_parts : {A : Type 0} (place size : ℕ) (xs : List A) → drop place xs ≡ take size (drop place xs) ++ drop (place + size) xs
+drop_in_parts place size xs = sym (take-append-drop size (drop place xs)) ∙ ap (λ l. take size (drop place xs) ++ l) (drop-drop size place xs)
+
+-- a front of the rest goes over to what stands before it
+pub front_moved : {A : Type 0} (all front rest : List A) (n : ℕ) → all ≡ front ++ rest → all ≡ (front ++ take n rest) ++ take (length rest - n) (drop n rest)
+front_moved all front rest n e =
+    e ∙ ap (λ l. front ++ l) (sym (take-append-drop n rest)) ∙ sym (append_assoc front (take n rest) (drop n rest)) ∙ ap (λ l. (front ++ take n rest) ++ l) (sym (take_rest rest n))
+
+-- a list is appended, and then the rest
+pub append_then : {A : Type 0} (start mid end xs rest : List A) → mid ≡ start ++ xs → end ≡ mid ++ rest → end ≡ start ++ (xs ++ rest)
+append_then start mid end xs rest e f = f ∙ ap (λ l. l ++ rest) e ∙ append_assoc start xs rest
+
+-- an element of the rest of a list
+pub slice_get-drop : {A : Type 0} (low k i : ℕ) (xs : List A) → low + k ≡ i → slice_get (drop low xs) k ≡ slice_get xs i
+slice_get-drop zero k i xs e = ap (slice_get xs) (omega arith)
+slice_get-drop (suc low) k i [] e = refl
+slice_get-drop (suc low) k zero (x ∷ xs) e = absurd (omega arith)
+slice_get-drop (suc low) k (suc i) (x ∷ xs) e = slice_get-drop low k i xs (omega arith)
+
+-- ---- one element more
+
+-- the first elements and one more are all of these
+pub take_pushed : {A : Type 0} (n : ℕ) (xs : List A) (x : A) → n ≤ length xs → take (n + 1) (take n xs ++ x ∷ []) ≡ take n xs ++ x ∷ []
+take_pushed n xs x h = take_all (n + 1) (take n xs ++ x ∷ []) (omega (arith, length_push (take n xs) x, length-take-le n xs h))
+
+-- what stands before a lower place
+pub take_below_pushed : {A : Type 0} (low high : ℕ) (xs : List A) (x : A) → low ≤ high → high ≤ length xs → take low (take high xs ++ x ∷ []) ≡ take low xs
+take_below_pushed low high xs x h k = take-append-le low (take high xs) (x ∷ []) (omega (arith, length-take-le high xs k)) ∙ take-take low high xs h
+
+-- and what stands behind it
+pub drop_below_pushed : {A : Type 0} (low high : ℕ) (xs : List A) (x : A) → low ≤ high → high ≤ length xs → drop low (take high xs ++ x ∷ []) ≡ take (high - low) (drop low xs) ++ x ∷ []
+drop_below_pushed low high xs x h k =
+    drop-append-le low (take high xs) (x ∷ []) (omega (arith, length-take-le high xs k))
+    ∙ ap (λ ys. ys ++ x ∷ []) (ap (λ n. drop low (take n xs)) (sym (add-sub_of_le h)) ∙ drop-take low (high - low) xs)
+
+-- a list up to an element that was put into it
+pub take_inserted : {A : Type 0} (xs : List A) (index : ℕ) (new : A) → index ≤ length xs → take (index + 1) (take index xs ++ new ∷ drop index xs) ≡ take index xs ++ new ∷ []
+take_inserted xs index new within =
+    ap (take (index + 1)) (sym (append_assoc (take index xs) (new ∷ []) (drop index xs)))
+    ∙ take_at (take index xs ++ new ∷ []) (drop index xs) (index + 1) (length_push (take index xs) new ∙ ap (λ n. n + 1) (length-take-le index xs within))
+
+-- ---- elements written from the last to the first
+
+-- one that is written before a place comes before what is left from there
+pub written_before : {A : Type 0} (xs : List A) (at next : ℕ) (y : A) → at + 1 ≡ next → next ≤ length xs → drop at (set xs at y) ≡ y ∷ drop next xs
+written_before xs at next y e within =
+    let inside : at < length xs = omega arith in
+    drop-set xs at y inside ∙ ap (λ n. y ∷ drop n xs) e
+
+-- and so do two
+pub two_before : {A : Type 0} (xs : List A) (at : ℕ) (x y : A) → 2 ≤ at → at ≤ length xs
+    → drop (at - 2) (set (set xs (at - 1) x) (at - 2) y) ≡ y ∷ x ∷ drop at xs
+two_before xs at x y room within =
+    written_before (set xs (at - 1) x) (at - 2) (at - 1) y (omega arith) (omega (arith, length-set xs (at - 1) x))
+    ∙ ap (λ t. y ∷ t) (written_before xs (at - 1) at x (omega arith) within)
+
+-- and three
+pub three_before : {A : Type 0} (xs : List A) (at : ℕ) (x y z : A) → 3 ≤ at → at ≤ length xs
+    → drop (at - 3) (set (set (set xs (at - 1) x) (at - 2) y) (at - 3) z) ≡ z ∷ y ∷ x ∷ drop at xs
+three_before xs at x y z room within =
+    let one = set xs (at - 1) x in
+    let two = set one (at - 2) y in
+    written_before two (at - 3) (at - 2) z (omega arith) (omega (arith, length-set xs (at - 1) x, length-set one (at - 2) y))
+    ∙ ap (λ t. z ∷ t) (two_before xs at x y (omega arith) within)
+
+-- and four
+pub four_before : {A : Type 0} (xs : List A) (at : ℕ) (x y z w : A) → 4 ≤ at → at ≤ length xs
+    → drop (at - 4) (set (set (set (set xs (at - 1) x) (at - 2) y) (at - 3) z) (at - 4) w) ≡ w ∷ z ∷ y ∷ x ∷ drop at xs
+four_before xs at x y z w room within =
+    let one = set xs (at - 1) x in
+    let two = set one (at - 2) y in
+    let three = set two (at - 3) z in
+    written_before three (at - 4) (at - 3) w (omega arith) (omega (arith, length-set xs (at - 1) x, length-set one (at - 2) y, length-set two (at - 3) z))
+    ∙ ap (λ t. w ∷ t) (three_before xs at x y z (omega arith) within)
+
+-- ---- what holds of each element
+
+-- where it holds at each place, it holds of each
+pub AllByRecursion-from_get_or : {A : Type 0} (P : A → Type 0) (xs : List A) (d : A) → ((i : ℕ) → i < length xs → P (get_or xs i d)) → AllByRecursion P xs
+AllByRecursion-from_get_or P [] d each = tt
+AllByRecursion-from_get_or P (x ∷ xs) d each = (each 0 (omega arith), AllByRecursion-from_get_or P xs d (λ i within. each (suc i) (omega arith)))
+
+-- and where it holds of each, at each place
+pub AllByRecursion-get_or : {A : Type 0} (P : A → Type 0) (xs : List A) (i : ℕ) (d : A) → i < length xs → AllByRecursion P xs → P (get_or xs i d)
+AllByRecursion-get_or P [] i d within all = absurd (omega arith)
+AllByRecursion-get_or P (x ∷ xs) zero d within all = all.0
+AllByRecursion-get_or P (x ∷ xs) (suc i) d within all = AllByRecursion-get_or P xs i d (omega arith) all.1
+
+-- it holds of the first
+pub AllByRecursion-take : {A : Type 0} (P : A → Type 0) (n : ℕ) (xs : List A) → AllByRecursion P xs → AllByRecursion P (take n xs)
+AllByRecursion-take P zero xs all = tt
+AllByRecursion-take P (suc n) [] all = tt
+AllByRecursion-take P (suc n) (x ∷ xs) all = (all.0, AllByRecursion-take P n xs all.1)
+
+-- and of those behind them
+pub AllByRecursion-drop : {A : Type 0} (P : A → Type 0) (n : ℕ) (xs : List A) → AllByRecursion P xs → AllByRecursion P (drop n xs)
+AllByRecursion-drop P zero xs all = all
+AllByRecursion-drop P (suc n) [] all = tt
+AllByRecursion-drop P (suc n) (x ∷ xs) all = AllByRecursion-drop P n xs all.1
+
+-- it holds of the elements of two lists, one behind the other
+pub AllByRecursion-append : {A : Type 0} (P : A → Type 0) (xs ys : List A) → AllByRecursion P xs → AllByRecursion P ys → AllByRecursion P (xs ++ ys)
+AllByRecursion-append P [] ys all more = more
+AllByRecursion-append P (x ∷ xs) ys all more = (all.0, AllByRecursion-append P xs ys all.1 more)
+
+-- of one element more
+pub AllByRecursion-push : {A : Type 0} (P : A → Type 0) (xs : List A) (x : A) → AllByRecursion P xs → P x → AllByRecursion P (xs ++ x ∷ [])
+AllByRecursion-push P xs x all one = AllByRecursion-append P xs (x ∷ []) all (one, tt)
+
+-- of equal ones
+pub AllByRecursion-replicate : {A : Type 0} (P : A → Type 0) (n : ℕ) (x : A) → P x → AllByRecursion P (replicate n x)
+AllByRecursion-replicate P zero x one = tt
+AllByRecursion-replicate P (suc n) x one = (one, AllByRecursion-replicate P n x one)
+
+-- and still where one is written of which it holds
+pub AllByRecursion-set : {A : Type 0} (P : A → Type 0) (xs : List A) (i : ℕ) (new : A) → P new → AllByRecursion P xs → AllByRecursion P (set xs i new)
+AllByRecursion-set P [] i new one all = tt
+AllByRecursion-set P (x ∷ xs) zero new one all = (one, all.1)
+AllByRecursion-set P (x ∷ xs) (suc i) new one all = (all.0, AllByRecursion-set P xs i new one all.1)
+
+-- what follows from it holds of each too
+pub AllByRecursion-weaker : {A : Type 0} (P Q : A → Type 0) → ((x : A) → P x → Q x) → (xs : List A) → AllByRecursion P xs → AllByRecursion Q xs
+AllByRecursion-weaker P Q then [] all = tt
+AllByRecursion-weaker P Q then (x ∷ xs) all = (then x all.0, AllByRecursion-weaker P Q then xs all.1)
+
+-- ---- filters
+
+-- one element before those that a filter keeps
+kept_one : {A : Type 0} (P : A → Type 0) (b : Bool) (x : A) (xs : List A) → (b ≡ true → P x) → AllByRecursion P xs → AllByRecursion P (cond b (x ∷ xs) xs)
+kept_one P true x xs here all = (here refl, all)
+kept_one P false x xs here all = all
+
+-- what follows from the test holds of all that is kept
+pub AllByRecursion-filter : {A : Type 0} (p : A → Bool) (P : A → Type 0) → ((x : A) → p x ≡ true → P x) → (xs : List A) → AllByRecursion P (filter p xs)
+AllByRecursion-filter p P holds [] = tt
+AllByRecursion-filter p P holds (x ∷ xs) = kept_one P (p x) x (filter p xs) (holds x) (AllByRecursion-filter p P holds xs)
+
+-- nothing is kept where nothing passes
+pub filter_none : {A : Type 0} (p : A → Bool) (xs : List A) → AllByRecursion (λ x. p x ≡ false) xs → filter p xs ≡ []
+filter_none p [] none = refl
+filter_none p (x ∷ xs) none = ap (λ b. cond b (x ∷ filter p xs) (filter p xs)) none.0 ∙ filter_none p xs none.1
+
+-- the first element, by a weaker test and then by a stronger one
+within_one : {A : Type 0} (p : A → Bool) (a b : Bool) (x : A) (xs ys : List A) → p x ≡ a → (a ≡ true → b ≡ true) → filter p ys ≡ filter p xs
+    → filter p (cond b (x ∷ ys) ys) ≡ cond a (x ∷ filter p xs) (filter p xs)
+within_one p a true x xs ys e within same = λ i. cond (e i) (x ∷ same i) (same i)
+within_one p true false x xs ys e within same = let lost : false ≡ true = within refl in cc
+within_one p false false x xs ys e within same = same
+
+-- a filter loses nothing that a stronger one would keep
+pub filter-filter : {A : Type 0} (p q : A → Bool) → ((x : A) → p x ≡ true → q x ≡ true) → (xs : List A) → filter p (filter q xs) ≡ filter p xs
+filter-filter p q within [] = refl
+filter-filter p q within (x ∷ xs) = within_one p (p x) (q x) x xs (filter q xs) refl (within x) (filter-filter p q within xs)
