@@ -13,6 +13,7 @@ pub mod Sequences
 pub mod Wires
 pub mod Filled
 pub mod HexText
+pub mod ZeroRuns
 pub mod Dotless
 pub mod Chunks
 pub mod Lengths

@@ -7,6 +7,7 @@ pub mod Masked
 pub mod OrderLaws
 pub mod Order
 pub mod Text
+pub mod ZeroRun
 pub mod Spelling
 pub mod Sequences
 pub mod Wire

@@ -3,12 +3,14 @@
 ghost use Rattle.std.specs.Prelude.{◌≡◌, ◌≤◌, ◌↔◌, ℕ, List, length, IsTrue};
 ghost use Rattle.std.specs.Cmp.{IsTotalOrder};
 ghost use Rattle.std.specs.FinMap.{IsAntisymmetric};
+ghost use Rattle.std.specs.Net.Text.{longest_zero_run};
 ghost use Rattle.ip_prefix.specs.declared.addr.Family.{Family};
 ghost use Rattle.ip_prefix.specs.Address.{Address, IsAddress};
 ghost use Rattle.ip_prefix.specs.Network.{Network, IsNetwork, IsFront, ContainsAllOf, contains, covers};
 ghost use Rattle.ip_prefix.specs.Order.{address_cmp, network_cmp, filled_cmp};
 ghost use Rattle.ip_prefix.specs.Spelling.{SpellsAddress, SpellsPrefix};
 ghost use Rattle.ip_prefix.specs.Text.{address_text, network_text};
+ghost use Rattle.ip_prefix.specs.ZeroRun.{IsFirstLongestRun};
 ghost use Rattle.ip_prefix.specs.Sequences.{SpellsAll, IsCode};
 ghost use Rattle.ip_prefix.specs.Wire.{SpellsNetwork};
 
@@ -59,6 +61,12 @@ pub fn nested_prefixes()
 pub fn text_spells()
     ensures addresses { (a : Address) → IsAddress a → SpellsAddress a (address_text a) }
     ensures prefixes { (n : Network) → IsNetwork n → SpellsPrefix n (network_text n) }
+{}
+
+/// The groups that `::` stands for in the text of an IPv6 address are a run of zeros. None is longer,
+/// and none as long starts before it (RFC 5952, section 4.2).
+pub fn shortened_run()
+    ensures { (groups : List ℕ) → IsFirstLongestRun groups (longest_zero_run groups) }
 {}
 
 /// No text spells two addresses, nor two prefixes.

@@ -12,7 +12,7 @@ pub use addr::{Addr, Family};
 pub use decimal::put_decimal;
 pub use laws::{
     address_order, containment, covering_order, nested_prefixes, one_network, one_spelling,
-    prefix_order, text_spells,
+    prefix_order, shortened_run, text_spells,
 };
 pub use prefix::Prefix;
 
