@@ -1,4 +1,5 @@
 pub mod Bits
+pub mod Highest
 pub mod Address
 pub mod Network
 pub mod BitLemmas

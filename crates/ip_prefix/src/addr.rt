@@ -1,13 +1,30 @@
 //! Addresses of both families.
 
-ghost use Rattle.std.specs.Prelude.{◌≡◌, ◌*◌, ◌+◌, ◌-◌, ◌^◌, ◌/◌, ◌<◌, ◌≤◌, Some, slice_get};
+ghost use Rattle.std.specs.Prelude.{◌≡◌, ◌*◌, ◌+◌, ◌<◌, ◌≤◌, Some, slice_get};
 ghost use Rattle.ip_prefix.specs.Address.{IsAddress, octet_at, group_at, octet_count, bit_count};
 ghost use Rattle.ip_prefix.specs.Aligned.{IsAligned};
-ghost use Rattle.ip_prefix.specs.Bits.{bits_of, bits_of_octets};
+ghost use Rattle.ip_prefix.specs.Bits.{bits_of_octets};
+ghost use Rattle.ip_prefix.specs.Highest.{highest_bits};
 ghost use Rattle.ip_prefix.specs.Order.{family_cmp};
 
 use std::cmp::Ordering;
 use std::marker::Model;
+
+/// How many octets an IPv4 address has.
+pub const V4_OCTETS: usize = 4;
+/// How many octets an IPv6 address has.
+pub const V6_OCTETS: usize = 16;
+/// How many bits an IPv4 address has.
+pub const V4_BITS: u8 = 32;
+/// How many bits an IPv6 address has.
+pub const V6_BITS: u8 = 128;
+// How many bits an octet has, and a group.
+pub(crate) const OCTET_BITS: usize = 8;
+pub(crate) const GROUP_BITS: usize = 16;
+// How many groups an IPv6 address is written in.
+pub(crate) const GROUP_COUNT: usize = 8;
+// How many bits the numbers have that addresses and prefixes are kept as.
+pub(crate) const NUMBER_BITS: u8 = 128;
 
 /// The two families of Internet addresses.
 #[derive(Clone, Copy, Debug, PartialEq, Eq, PartialOrd, Ord)]
@@ -27,22 +44,21 @@ pub struct Addr {
 }
 
 impl Model for Addr {
-    ghost use Rattle.std.specs.Prelude.{◌*◌, ◌^◌, ◌/◌, ◌-◌};
     ghost use Rattle.ip_prefix.specs.Address.{Address, bit_count};
-    ghost use Rattle.ip_prefix.specs.Bits.{bits_of, number_of};
+    ghost use Rattle.ip_prefix.specs.Highest.{highest_bits, number_from};
     ghost use Rattle.ip_prefix.specs.Aligned.{IsAligned, number-again};
 
     ghost Value = { Address };
 
     ghost view = { λ a. record {
       family = a.family;
-      bits = bits_of (bit_count a.family) (a.number / 2 ^ (128 - bit_count a.family));
+      bits = highest_bits (bit_count a.family) a.number;
     } };
 
     ghost invariant = { λ a. IsAligned a.family a.number };
 
     ghost inverse = { λ a. record {
-      number = number_of a.bits * 2 ^ (128 - bit_count a.family);
+      number = number_from (bit_count a.family) a.bits;
       family = a.family;
     } };
 
@@ -55,7 +71,7 @@ impl Model for Addr {
 impl Addr {
     /// The IPv4 address of four octets, in the order in which they are written and sent.
     #[inline]
-    pub fn v4(octets: [u8; 4]) -> Self
+    pub fn v4(octets: [u8; V4_OCTETS]) -> Self
         ensures { result ≡ record { family = Family.V4; bits = bits_of_octets octets } }
     {
         let number = u128::from(u32::from_be_bytes(octets)) << 96;
@@ -67,7 +83,7 @@ impl Addr {
 
     /// The IPv6 address of sixteen octets, in the order in which they are sent.
     #[inline]
-    pub fn v6(octets: [u8; 16]) -> Self
+    pub fn v6(octets: [u8; V6_OCTETS]) -> Self
         ensures { result ≡ record { family = Family.V6; bits = bits_of_octets octets } }
     {
         Addr {
@@ -82,7 +98,7 @@ impl Addr {
         requires { IsAligned family number }
         ensures { result ≡ record {
           family = family;
-          bits = bits_of (bit_count family) (number / 2 ^ (128 - bit_count family));
+          bits = highest_bits (bit_count family) number;
         } }
     {
         Addr { number, family }
@@ -92,8 +108,7 @@ impl Addr {
     #[inline]
     pub(crate) fn number(&self) -> u128
         ensures aligned { IsAligned self.now.family result }
-        ensures bits { self.now.bits ≡
-            bits_of (bit_count self.now.family) (result / 2 ^ (128 - bit_count self.now.family)) }
+        ensures bits { self.now.bits ≡ highest_bits (bit_count self.now.family) result }
     {
         self.number
     }
@@ -119,7 +134,7 @@ impl Addr {
     /// The group of 16 bits at a place, counted from 0 in the order in which they are written.
     #[inline]
     pub(crate) fn group(&self, place: usize) -> u16
-        requires { 16 * place + 16 ≤ bit_count self.now.family }
+        requires { GROUP_BITS * place + GROUP_BITS ≤ bit_count self.now.family }
         ensures { result ≡ group_at self.now place }
     {
         (self.number >> (112 - 16 * place) & 0xffff) as u16

@@ -8,7 +8,7 @@ mod parse;
 mod prefix;
 mod text;
 
-pub use addr::{Addr, Family};
+pub use addr::{Addr, Family, V4_BITS, V4_OCTETS, V6_BITS, V6_OCTETS};
 pub use decimal::put_decimal;
 pub use laws::{
     address_order, containment, covering_order, nested_prefixes, one_network, one_spelling,

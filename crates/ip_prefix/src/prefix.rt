@@ -1,12 +1,13 @@
 //! Prefixes of both families.
 
-ghost use Rattle.std.specs.Prelude.{◌≡◌, ℕ, ◌<◌, ◌≤◌, ◌-◌, ◌*◌, ◌/◌, ◌^◌, List, MatchOption, IfSome, IfNone, length, take};
+ghost use Rattle.std.specs.Prelude.{◌≡◌, ◌<◌, ◌≤◌, MatchOption, IfSome, IfNone, length, take};
 ghost use Rattle.ip_prefix.specs.Address.{IsAddress, bit_count};
-ghost use Rattle.ip_prefix.specs.Network.{Network, IsNetwork, least_address, contains, covers};
+ghost use Rattle.ip_prefix.specs.Highest.{highest_part};
+ghost use Rattle.ip_prefix.specs.Network.{IsNetwork, least_address, contains, covers};
 ghost use Rattle.ip_prefix.specs.Sequences.{BeginsWithNone};
 ghost use Rattle.ip_prefix.specs.Wire.{SpellsNetwork};
 
-use crate::addr::{Addr, Family, compare_families};
+use crate::addr::{Addr, Family, NUMBER_BITS, V4_BITS, V6_BITS, V6_OCTETS, compare_families};
 use std::cmp::Ordering;
 use std::marker::Model;
 
@@ -20,19 +21,19 @@ pub struct Prefix {
 }
 
 impl Model for Prefix {
-    ghost use Rattle.std.specs.Prelude.{◌*◌, ◌^◌, ◌/◌, ◌-◌, length};
+    ghost use Rattle.std.specs.Prelude.{length};
     ghost use Rattle.ip_prefix.specs.Network.{Network};
-    ghost use Rattle.ip_prefix.specs.Bits.{bits_of, number_of};
+    ghost use Rattle.ip_prefix.specs.Highest.{highest_bits, number_from};
     ghost use Rattle.ip_prefix.specs.Masked.{IsMasked, number-masked, length-masked};
 
     ghost Value = { Network };
 
-    ghost view = { λ p. record { family = p.family; bits = bits_of p.len (p.number / 2 ^ (128 - p.len)) } };
+    ghost view = { λ p. record { family = p.family; bits = highest_bits p.len p.number } };
 
     ghost invariant = { λ p. IsMasked p.family p.number p.len };
 
     ghost inverse = { λ n. record {
-      number = number_of n.bits * 2 ^ (128 - length n.bits);
+      number = number_from (length n.bits) n.bits;
       len = length n.bits;
       family = n.family;
     } };
@@ -112,7 +113,7 @@ impl Prefix {
         if rest.len() < size {
             return None;
         }
-        let mut buffer = [0; 16];
+        let mut buffer = [0; V6_OCTETS];
         buffer[..size].copy_from_slice(&rest[..size]);
         let number = highest(u128::from_be_bytes(buffer), len);
         Some((
@@ -201,20 +202,20 @@ fn width(family: Family) -> u8
     ensures { result ≡ bit_count family }
 {
     match family {
-        Family::V4 => 32,
-        Family::V6 => 128,
+        Family::V4 => V4_BITS,
+        Family::V6 => V6_BITS,
     }
 }
 
 // The number with its highest bits, as many as are named, and zeros below them.
 #[inline]
 fn highest(number: u128, len: u8) -> u128
-    requires { len ≤ 128 }
-    ensures { result ≡ number / 2 ^ (128 - len) * 2 ^ (128 - len) }
+    requires { len ≤ NUMBER_BITS }
+    ensures { result ≡ highest_part len number }
 {
     if len == 0 {
         return 0;
     }
-    let below = 128 - len;
+    let below = NUMBER_BITS - len;
     number >> below << below
 }
