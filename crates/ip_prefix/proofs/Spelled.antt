@@ -17,7 +17,7 @@ use Rattle.ip_prefix.specs.declared.addr.Family.TheVariants.{V4, V6}
 use Rattle.ip_prefix.specs.Bits.{bits_of_octets}
 use Rattle.ip_prefix.specs.Address.{Address, IsAddress, bit_count, octet_at, group_at, groups_of}
 use Rattle.ip_prefix.specs.Network.{Network, IsNetwork, least_address}
-use Rattle.ip_prefix.specs.Text.{dotted, colons, address_text, network_text}
+use Rattle.ip_prefix.specs.Text.{v4_text, v6_text, address_text, network_text}
 use Rattle.ip_prefix.specs.Spelling.{octets_of_v4, IsColons, SpellsAddress, SpellsPrefix}
 use Rattle.ip_prefix.proofs.Dotless.{has_dot, has_dot-hex, has_dot-colons, IsColonHex-colons, IsColons-dotless, colons_small}
 use Rattle.ip_prefix.proofs.Chunks.{octets_back, groups_back, four_octets, eight_groups, octet_fits, group_fits, bits_from_octets, bits_from_groups}
@@ -119,10 +119,10 @@ groups_fit bits long =
 
 -- the text of an address is a spelling of it
 text_spelled : (family : Family) (bits : List Bool) → length bits ≡ bit_count family → SpellsAddress (record { family = family; bits = bits }) (address_text (record { family = family; bits = bits }))
-unfolding address_text dotted colons
+unfolding address_text v4_text v6_text
 text_spelled V4 bits long =
     let a : Address = record { family = V4; bits = bits } in
-    let same : ipv4_text (octets_of_v4 a) ≡ dotted a = simp append_assoc in
+    let same : ipv4_text (octets_of_v4 a) ≡ v4_text a = simp append_assoc in
     (long, subst (λ t. IsDotted t (octets_of_v4 a)) same (IsDotted-ipv4_text (octets_of_v4 a) refl (octets_fit bits long)))
 text_spelled V6 bits long =
     let groups = groups_of (record { family = V6; bits = bits }) in

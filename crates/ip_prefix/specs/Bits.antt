@@ -1,6 +1,7 @@
 -- Numbers as lists of bits, the most significant bit first.
 use Rattle.std.specs.Prelude.{ℕ, zero, suc, ◌+◌, ◌*◌, ◌^◌, Bool, true, false, List, [], ◌∷◌, ◌++◌, length, ◌==◌}
 use Rattle.std.specs.Int.{bit_at}
+use Rattle.ip_prefix.specs.declared.addr.TheConstants.{OCTET_BITS}
 
 -- what a bit is worth at the lowest place
 abbrev pub worth : Bool → ℕ
@@ -17,7 +18,7 @@ unfoldable pub bits_of : ℕ → ℕ → List Bool
 bits_of zero n = []
 bits_of (suc k) n = (bit_at n k == 1) ∷ bits_of k n
 
--- the bits of octets, eight for each
+-- the bits of octets, one octet behind the other
 abbrev pub bits_of_octets : List ℕ → List Bool
 bits_of_octets [] = []
-bits_of_octets (octet ∷ octets) = bits_of 8 octet ++ bits_of_octets octets
+bits_of_octets (octet ∷ octets) = bits_of OCTET_BITS octet ++ bits_of_octets octets

@@ -3,6 +3,8 @@ use Rattle.std.specs.Prelude.{◌≡◌, ℕ, ◌+◌, ◌-◌, ◌<◌, ◌⊎�
 use Rattle.std.specs.Net.Grammar.{IsDotted, IsGroups}
 use Rattle.ip_prefix.specs.declared.addr.Family.{Family}
 use Rattle.ip_prefix.specs.declared.addr.Family.TheVariants.{V4, V6}
+use Rattle.ip_prefix.specs.declared.addr.TheConstants.{GROUP_COUNT}
+use Rattle.ip_prefix.specs.declared.text.TheConstants.{COLON, SLASH}
 use Rattle.ip_prefix.specs.Address.{Address, IsAddress, octet_at, groups_of}
 use Rattle.ip_prefix.specs.Network.{Network, IsNetwork, IsFront}
 
@@ -16,15 +18,15 @@ pub record IsShortened (text groups : List ℕ) : Type 0 where
   pub back_text : List ℕ
   pub front : List ℕ
   pub back : List ℕ
-  pub spelled : text ≡ front_text ++ 58 ∷ 58 ∷ back_text
+  pub spelled : text ≡ front_text ++ COLON ∷ COLON ∷ back_text
   pub front_groups : IsGroups false front_text front
   pub back_groups : IsGroups false back_text back
-  pub some : length front + length back < 8
-  pub whole : groups ≡ front ++ replicate (8 - length front - length back) 0 ++ back
+  pub some : length front + length back < GROUP_COUNT
+  pub whole : groups ≡ front ++ replicate (GROUP_COUNT - length front - length back) 0 ++ back
 
 -- all groups, or some of them and `::`; never a dotted end
 abbrev pub IsColons : List ℕ → List ℕ → Type 0
-IsColons text groups = (IsGroups false text groups × (length groups ≡ 8)) ⊎ IsShortened text groups
+IsColons text groups = (IsGroups false text groups × (length groups ≡ GROUP_COUNT)) ⊎ IsShortened text groups
 
 abbrev SpellsBy : Family → Address → List ℕ → Type 0
 SpellsBy V4 address text = IsDotted text (octets_of_v4 address)
@@ -42,4 +44,4 @@ pub record SpellsPrefix (n : Network) (text : List ℕ) : Type 0 where
   pub spelled : SpellsAddress address address_text
   pub of_family : address.family ≡ n.family
   pub begins : IsFront n.bits address.bits
-  pub whole : text ≡ address_text ++ 47 ∷ decimal (length n.bits)
+  pub whole : text ≡ address_text ++ SLASH ∷ decimal (length n.bits)

@@ -2,6 +2,7 @@
 use Rattle.std.specs.Prelude.{◌≡◌, ℕ, ◌<◌, Bool, List, ◌∷◌, ◌++◌, length}
 use Rattle.std.specs.List.{AllByRecursion}
 use Rattle.ip_prefix.specs.declared.addr.Family.{Family}
+use Rattle.ip_prefix.specs.declared.addr.TheConstants.{OCTET_BITS}
 use Rattle.ip_prefix.specs.Bits.{bits_of_octets}
 use Rattle.ip_prefix.specs.Network.{Network, IsNetwork}
 
@@ -13,5 +14,5 @@ pub record SpellsNetwork (kind : Family) (n : Network) (octets : List ℕ) : Typ
   pub spare : List Bool
   pub each : AllByRecursion (λ octet. octet < 256) body
   pub held : bits_of_octets body ≡ n.bits ++ spare
-  pub least : length spare < 8
+  pub least : length spare < OCTET_BITS
   pub whole : octets ≡ length n.bits ∷ body

@@ -20,6 +20,7 @@ pub const V4_BITS: u8 = 32;
 pub const V6_BITS: u8 = 128;
 // How many bits an octet has, and a group.
 pub(crate) const OCTET_BITS: usize = 8;
+
 pub(crate) const GROUP_BITS: usize = 16;
 // How many groups an IPv6 address is written in.
 pub(crate) const GROUP_COUNT: usize = 8;
@@ -74,7 +75,7 @@ impl Addr {
     pub fn v4(octets: [u8; V4_OCTETS]) -> Self
         ensures { result ≡ record { family = Family.V4; bits = bits_of_octets octets } }
     {
-        let number = u128::from(u32::from_be_bytes(octets)) << 96;
+        let number = u128::from(u32::from_be_bytes(octets)) << (NUMBER_BITS - V4_BITS);
         Addr {
             number,
             family: Family::V4,
@@ -128,7 +129,7 @@ impl Addr {
         requires { place < octet_count self.now.family }
         ensures { result ≡ octet_at self.now place }
     {
-        (self.number >> (120 - 8 * place) & 0xff) as u8
+        (self.number >> (NUMBER_BITS as usize - OCTET_BITS - OCTET_BITS * place) & 0xff) as u8
     }
 
     /// The group of 16 bits at a place, counted from 0 in the order in which they are written.
@@ -137,7 +138,7 @@ impl Addr {
         requires { GROUP_BITS * place + GROUP_BITS ≤ bit_count self.now.family }
         ensures { result ≡ group_at self.now place }
     {
-        (self.number >> (112 - 16 * place) & 0xffff) as u16
+        (self.number >> (NUMBER_BITS as usize - GROUP_BITS - GROUP_BITS * place) & 0xffff) as u16
     }
 
     /// The bit at a place, counted from 0 at the most significant one.
@@ -146,7 +147,7 @@ impl Addr {
         requires { place < bit_count self.now.family }
         ensures { slice_get self.now.bits place ≡ Some result }
     {
-        self.number >> (127 - place) & 1 == 1
+        self.number >> (NUMBER_BITS as usize - 1 - place) & 1 == 1
     }
 }
 

@@ -7,6 +7,7 @@ ghost use Rattle.ip_prefix.specs.Spelling.{SpellsAddress, SpellsPrefix};
 
 use crate::addr::Addr;
 use crate::prefix::Prefix;
+use crate::text::{DOT, LENGTH_DIGITS, SLASH};
 use std::net::{Ipv4Addr, Ipv6Addr};
 
 impl Addr {
@@ -21,7 +22,7 @@ impl Addr {
         if let Ok(addr) = Ipv4Addr::parse_ascii(text) {
             return Some(Addr::v4(addr.octets()));
         }
-        if text.contains(&b'.') {
+        if text.contains(&DOT) {
             return None;
         }
         match Ipv6Addr::parse_ascii(text) {
@@ -47,15 +48,15 @@ impl Prefix {
 
 // Where the last slash stands.
 fn last_slash(text: &[u8]) -> Option<usize>
-    ensures { MatchOption result ((k : ℕ) → k < length text.now → slice_index text.now k ≢ 47)
+    ensures { MatchOption result ((k : ℕ) → k < length text.now → slice_index text.now k ≢ SLASH)
         (λ at. (at < length text.now)
-        × (slice_index text.now at ≡ 47)
-        × ((k : ℕ) → at < k → k < length text.now → slice_index text.now k ≢ 47)) }
+        × (slice_index text.now at ≡ SLASH)
+        × ((k : ℕ) → at < k → k < length text.now → slice_index text.now k ≢ SLASH)) }
 {
     let mut at = text.len();
     while at > 0 {
         at -= 1;
-        if text[at] == b'/' {
+        if text[at] == SLASH {
             return Some(at);
         }
     }
@@ -70,7 +71,7 @@ fn read_length(text: &[u8]) -> Option<u8>
     if text.is_empty() {
         return None;
     }
-    if text.len() > 3 {
+    if text.len() > LENGTH_DIGITS {
         return None;
     }
     if text.len() > 1 && text[0] == b'0' {
@@ -83,7 +84,7 @@ fn read_length(text: &[u8]) -> Option<u8>
         }
         value = value * 10 + u16::from(*digit - b'0');
     }
-    if value > 255 {
+    if value > u16::from(u8::MAX) {
         return None;
     }
     Some(value as u8)

@@ -7,7 +7,9 @@ ghost use Rattle.ip_prefix.specs.Network.{IsNetwork, least_address, contains, co
 ghost use Rattle.ip_prefix.specs.Sequences.{BeginsWithNone};
 ghost use Rattle.ip_prefix.specs.Wire.{SpellsNetwork};
 
-use crate::addr::{Addr, Family, NUMBER_BITS, V4_BITS, V6_BITS, V6_OCTETS, compare_families};
+use crate::addr::{
+    Addr, Family, NUMBER_BITS, OCTET_BITS, V4_BITS, V6_BITS, V6_OCTETS, compare_families,
+};
 use std::cmp::Ordering;
 use std::marker::Model;
 
@@ -109,7 +111,7 @@ impl Prefix {
         if width(family) < len {
             return None;
         }
-        let size = usize::from(len.div_ceil(8));
+        let size = usize::from(len).div_ceil(OCTET_BITS);
         if rest.len() < size {
             return None;
         }

@@ -4,12 +4,38 @@ ghost use Rattle.std.specs.Prelude.{◌≡◌, ◌+◌, ◌*◌, ◌<◌, ◌≤
 ghost use Rattle.std.specs.Char.{digit_char};
 ghost use Rattle.std.specs.Net.Text as Hex;
 ghost use Rattle.ip_prefix.specs.declared.addr.Family.TheVariants.{V4, V6};
-ghost use Rattle.ip_prefix.specs.Text.{address_text, network_text, dotted, colons};
+ghost use Rattle.ip_prefix.specs.Text.{address_text, network_text, v4_text, v6_text};
 
-use crate::addr::{Addr, Family};
+use crate::addr::{Addr, Family, GROUP_COUNT, V4_OCTETS};
 use crate::prefix::Prefix;
 use itoa::write_digits;
 use std::alloc::AllocError;
+
+// What stands between octets, between groups, and before a length.
+pub(crate) const DOT: u8 = b'.';
+
+pub(crate) const COLON: u8 = b':';
+
+pub(crate) const SLASH: u8 = b'/';
+// How many digits a length, an octet and a group have at most.
+pub(crate) const LENGTH_DIGITS: usize = 3;
+
+const OCTET_DIGITS: usize = 3;
+
+const GROUP_DIGITS: usize = 4;
+// The room for each of them with what stands before it.
+const LENGTH_ROOM: usize = LENGTH_DIGITS + 1;
+
+const OCTET_ROOM: usize = OCTET_DIGITS + 1;
+
+const GROUP_ROOM: usize = GROUP_DIGITS + 1;
+// The room for four octets with dots between them, for eight groups with colons before them, and
+// for an address, a slash and a length.
+const DOTTED_ROOM: usize = OCTET_ROOM * V4_OCTETS - 1;
+
+const COLONS_ROOM: usize = GROUP_ROOM * GROUP_COUNT;
+
+const PREFIX_ROOM: usize = COLONS_ROOM - 1 + LENGTH_ROOM;
 
 impl Addr {
     /// Appends the address as a person reads it (RFC 5952, section 4, for IPv6). Refused for want
@@ -33,8 +59,7 @@ impl Prefix {
         ensures appended { OnOk result (text.new.items ≡ text.old.items ++ network_text self.now) }
         ensures unchanged { OnErr result (text.new.items ≡ text.old.items) }
     {
-        // the longest text: an address of 39 bytes, the slash and a length of 3
-        text.reserve(43)?;
+        text.reserve(PREFIX_ROOM)?;
         let before = text.len();
         self.addr().put_text(text)?;
         let result = put_length(self.len(), text);
@@ -47,23 +72,23 @@ impl Prefix {
 
 // Appends a slash and the length of a prefix.
 fn put_length(len: u8, text: &mut Vec<u8>) -> Result<(), AllocError>
-    ensures appended { OnOk result (text.new.items ≡ text.old.items ++ 47 ∷ decimal len) }
+    ensures appended { OnOk result (text.new.items ≡ text.old.items ++ SLASH ∷ decimal len) }
     ensures unchanged { OnErr result (text.new.items ≡ text.old.items) }
 {
-    let mut buffer = [0; 4];
-    let digits = write_digits(u64::from(len), &mut buffer, 4);
-    buffer[digits - 1] = b'/';
+    let mut buffer = [0; LENGTH_ROOM];
+    let digits = write_digits(u64::from(len), &mut buffer, LENGTH_ROOM);
+    buffer[digits - 1] = SLASH;
     text.extend_from_slice(&buffer[digits - 1..])
 }
 
 // Appends the four octets of an IPv4 address in decimal, joined by dots.
 fn put_dotted(address: &Addr, text: &mut Vec<u8>) -> Result<(), AllocError>
     requires { address.now.family ≡ V4 }
-    ensures appended { OnOk result (text.new.items ≡ text.old.items ++ dotted address.now) }
+    ensures appended { OnOk result (text.new.items ≡ text.old.items ++ v4_text address.now) }
     ensures unchanged { OnErr result (text.new.items ≡ text.old.items) }
 {
-    let mut buffer = [b'.'; 15];
-    let third = write_octet(address.octet(3), &mut buffer, 15);
+    let mut buffer = [DOT; DOTTED_ROOM];
+    let third = write_octet(address.octet(3), &mut buffer, DOTTED_ROOM);
     let second = write_octet(address.octet(2), &mut buffer, third);
     let first = write_octet(address.octet(1), &mut buffer, second);
     let start = write_digits(u64::from(address.octet(0)), &mut buffer, first);
@@ -74,11 +99,11 @@ fn put_dotted(address: &Addr, text: &mut Vec<u8>) -> Result<(), AllocError>
 // returns where the dot before the octet stands.
 #[inline]
 fn write_octet(octet: u8, buffer: &mut [u8], end: usize) -> usize
-    requires room { (4 ≤ end) × (end ≤ length buffer.old) }
-    requires dots { take end buffer.old ≡ replicate end 46 }
-    ensures start { (result < end) × (end ≤ result + 4) }
-    ensures written { drop result buffer.new ≡ 46 ∷ decimal octet ++ drop end buffer.old }
-    ensures dots { take result buffer.new ≡ replicate result 46 }
+    requires room { (OCTET_ROOM ≤ end) × (end ≤ length buffer.old) }
+    requires dots { take end buffer.old ≡ replicate end DOT }
+    ensures start { (result < end) × (end ≤ result + OCTET_ROOM) }
+    ensures written { drop result buffer.new ≡ DOT ∷ decimal octet ++ drop end buffer.old }
+    ensures dots { take result buffer.new ≡ replicate result DOT }
 {
     write_digits(u64::from(octet), buffer, end) - 1
 }
@@ -87,7 +112,7 @@ fn write_octet(octet: u8, buffer: &mut [u8], end: usize) -> usize
 // the first longest run of two or more groups that are 0.
 fn put_colons(address: &Addr, text: &mut Vec<u8>) -> Result<(), AllocError>
     requires { address.now.family ≡ V6 }
-    ensures appended { OnOk result (text.new.items ≡ text.old.items ++ colons address.now) }
+    ensures appended { OnOk result (text.new.items ≡ text.old.items ++ v6_text address.now) }
     ensures unchanged { OnErr result (text.new.items ≡ text.old.items) }
 {
     let groups = [
@@ -100,25 +125,24 @@ fn put_colons(address: &Addr, text: &mut Vec<u8>) -> Result<(), AllocError>
         address.group(6),
         address.group(7),
     ];
-    // eight groups of four digits, and a place for a colon before each
-    let mut buffer = [b':'; 40];
+    let mut buffer = [COLON; COLONS_ROOM];
     let from = write_shortened(&groups, &mut buffer);
     text.extend_from_slice(&buffer[from..])
 }
 
 // Writes the eight groups at the end of the buffer, and returns where their text starts.
 fn write_shortened(groups: &[u16], buffer: &mut [u8]) -> usize
-    requires { (length groups.now ≡ 8) × (length buffer.old ≡ 40) }
-    ensures within { result ≤ 40 }
+    requires { (length groups.now ≡ GROUP_COUNT) × (length buffer.old ≡ COLONS_ROOM) }
+    ensures within { result ≤ COLONS_ROOM }
     ensures written { drop result buffer.new ≡ Hex.hex_groups_text groups.now }
 {
     let (first, len) = longest_zero_run(groups);
     if len < 2 {
-        return write_groups(groups, buffer, 40);
+        return write_groups(groups, buffer, COLONS_ROOM);
     }
-    let after = write_groups(&groups[first + len..], buffer, 40);
-    buffer[after - 1] = b':';
-    buffer[after - 2] = b':';
+    let after = write_groups(&groups[first + len..], buffer, COLONS_ROOM);
+    buffer[after - 1] = COLON;
+    buffer[after - 2] = COLON;
     write_groups(&groups[..first], buffer, after - 2)
 }
 
@@ -143,8 +167,8 @@ fn longest_zero_run(groups: &[u16]) -> (usize, usize)
 
 // Writes the groups, joined by colons, so that they end at `end`, and returns where they start.
 fn write_groups(groups: &[u16], buffer: &mut [u8], end: usize) -> usize
-    requires { (5 * length groups.now ≤ end) × (end ≤ length buffer.old) }
-    ensures start { (result ≤ end) × (end ≤ result + 5 * length groups.now) }
+    requires { (GROUP_ROOM * length groups.now ≤ end) × (end ≤ length buffer.old) }
+    ensures start { (result ≤ end) × (end ≤ result + GROUP_ROOM * length groups.now) }
     ensures written { drop result buffer.new ≡ Hex.groups_text groups.now ++ drop end buffer.old }
 {
     if groups.is_empty() {
@@ -154,7 +178,7 @@ fn write_groups(groups: &[u16], buffer: &mut [u8], end: usize) -> usize
     let mut at = write_group(groups[left], buffer, end);
     while left > 0 {
         left -= 1;
-        buffer[at - 1] = b':';
+        buffer[at - 1] = COLON;
         at = write_group(groups[left], buffer, at - 1);
     }
     at
@@ -164,8 +188,8 @@ fn write_groups(groups: &[u16], buffer: &mut [u8], end: usize) -> usize
 // returns where it starts.
 #[inline]
 fn write_group(group: u16, buffer: &mut [u8], end: usize) -> usize
-    requires { (4 ≤ end) × (end ≤ length buffer.old) }
-    ensures start { (result ≤ end) × (end ≤ result + 4) }
+    requires { (GROUP_DIGITS ≤ end) × (end ≤ length buffer.old) }
+    ensures start { (result ≤ end) × (end ≤ result + GROUP_DIGITS) }
     ensures written { drop result buffer.new ≡ Hex.hex group ++ drop end buffer.old }
 {
     buffer[end - 1] = hex_digit(group % 16);

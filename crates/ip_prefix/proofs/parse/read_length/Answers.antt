@@ -12,8 +12,8 @@ use Rattle.ip_prefix.proofs.parse.read_length.Goals.{else-text-gt1-via-then-text
 pub returns-then-is_empty : goal.returns-then-is_empty
 returns-then-is_empty c = empty_no_length c.args.text.now (eqb-true (length c.args.text.now) 0 (sym c.is_empty.ensures ∙ c.if-is_empty.true))
 
-pub returns-then-text-gt3 : goal.returns-then-text-gt3
-returns-then-text-gt3 c = long_no_length c.args.text.now c.if-text-gt3.true
+pub returns-then-text-gt-LENGTH_DIGITS : goal.returns-then-text-gt-LENGTH_DIGITS
+returns-then-text-gt-LENGTH_DIGITS c = long_no_length c.args.text.now c.if-text-gt-LENGTH_DIGITS.true
 
 pub returns-then-text-eq48 : goal.returns-then-text-eq48
 returns-then-text-eq48 c = zero_no_length c.args.text.now c.if-text-gt1.true c.if-text-eq48.true
@@ -25,12 +25,12 @@ returns-then-not-is_ascii_digit c =
 
 pub overflow_mul-value : goal.overflow_mul-value
 overflow_mul-value c =
-    let small = few_small c.args.text.now c.loop-digit.digit-index c.loop-digit-test.true c.if-text-gt3.false c.loop-digit.invariant.digits in
+    let small = few_small c.args.text.now c.loop-digit.digit-index c.loop-digit-test.true c.if-text-gt-LENGTH_DIGITS.false c.loop-digit.invariant.digits in
     omega (arith, small, c.loop-digit.invariant.value)
 
 pub overflow_add-value : goal.overflow_add-value
 overflow_add-value c =
-    let small = few_small c.args.text.now c.loop-digit.digit-index c.loop-digit-test.true c.if-text-gt3.false c.loop-digit.invariant.digits in
+    let small = few_small c.args.text.now c.loop-digit.digit-index c.loop-digit-test.true c.if-text-gt-LENGTH_DIGITS.false c.loop-digit.invariant.digits in
     omega (arith, small, c.loop-digit.invariant.value, c.from.ensures, c.type_inv.text c.loop-digit.digit-index)
 
 pub loop-digit-preserved : goal.loop-digit-preserved
@@ -47,11 +47,11 @@ loop-digit-preserved c =
       value = ap (λ v. v * 10 + c.from.result) inv.value ∙ ap (λ v. digits_value 10 (take i text) * 10 + v) (c.from.ensures ∙ sym worth) ∙ sym (digits_value_more 10 text i within);
     }
 
-pub returns-then-value-gt255 : goal.returns-then-value-gt255
-returns-then-value-gt255 c =
+pub returns-then-value-from : goal.returns-then-value-from
+returns-then-value-from c =
     let text = c.args.text.now in
     let all = take_all c.loop-digit.digit-index text c.loop-digit-test.false in
-    large_no_length text (omega (arith, c.if-value-gt255.true, c.loop-digit.invariant.value, ap (digits_value 10) all))
+    large_no_length text (omega (arith, c.if-value-from.true, c.loop-digit.invariant.value, ap (digits_value 10) all))
 
 pub returns : goal.returns
 returns c =
@@ -64,4 +64,4 @@ returns c =
       | else-text-gt1-via-then-text-gt1+else-text-eq48 w ↦ absurd (w.if-text-eq48.false e)
       | else-text-gt1-via-else-text-gt1 w ↦ w.if-text-gt1.false
     ] in
-    is_length text some digits alone (omega (arith, value, c.if-value-gt255.false)) ∙ ap decimal (sym value)
+    is_length text some digits alone (omega (arith, value, c.if-value-from.false)) ∙ ap decimal (sym value)
