@@ -24,10 +24,6 @@ one_list Spells code octets (a ∷ values) (b ∷ others) p q =
 
 -- ---- as far as they have been read
 
--- before the first value nothing has been read
-pub none_yet : {A : Type 0} (Spells : A → List ℕ → Type 0) (octets : List ℕ) → Begins (SpellsAll Spells) [] octets octets
-none_yet Spells octets = record { front = []; spelled = refl; whole = refl }
-
 -- octets that begin with a spelling still do with more behind them
 pub longer : {A : Type 0} (Spells : A → List ℕ → Type 0) (value : A) (rest octets more : List ℕ) → Begins Spells value rest octets → Begins Spells value (rest ++ more) (octets ++ more)
 longer Spells value rest octets more b = record {
@@ -54,10 +50,6 @@ one_more Spells values value more rest octets b c = record {
   spelled = both Spells values (value ∷ []) b.front c.front b.spelled (alone Spells value c.front c.spelled);
   whole = b.whole ∙ ap (λ l. b.front ++ l) c.whole ∙ sym (append_assoc b.front c.front more);
 }
-
--- with nothing left, the octets are spelled
-pub at_end : {A : Type 0} (Spells : A → List ℕ → Type 0) (values : List A) (rest octets : List ℕ) → rest ≡ [] → Begins (SpellsAll Spells) values rest octets → SpellsAll Spells values octets
-at_end Spells values rest octets e b = subst (SpellsAll Spells values) (sym (append-nil b.front) ∙ ap (λ l. b.front ++ l) (sym e) ∙ sym b.whole) b.spelled
 
 -- a list that is spelled by octets which others begin goes on after those
 after : {A : Type 0} (Spells : A → List ℕ → Type 0) → IsCode Spells → (values others : List A) (front rest : List ℕ) → SpellsAll Spells values front → SpellsAll Spells others (front ++ rest)

@@ -18,7 +18,7 @@ use Rattle.ip_prefix.specs.Bits.{bits_of_octets}
 use Rattle.ip_prefix.specs.Address.{Address, IsAddress, bit_count, octet_at, group_at, groups_of}
 use Rattle.ip_prefix.specs.Network.{Network, IsNetwork, least_address}
 use Rattle.ip_prefix.specs.Text.{v4_text, v6_text, address_text, network_text}
-use Rattle.ip_prefix.specs.Spelling.{octets_of_v4, IsColons, SpellsAddress, SpellsPrefix}
+use Rattle.ip_prefix.specs.Spelling.{octets_of_v4, IsColons, SpellsAddress, SpellsPrefix, HasNoSlash, IsLastSlash}
 use Rattle.ip_prefix.proofs.Dotless.{has_dot, has_dot-hex, has_dot-colons, IsColonHex-colons, IsColons-dotless, colons_small}
 use Rattle.ip_prefix.proofs.Chunks.{octets_back, groups_back, four_octets, eight_groups, octet_fits, group_fits, bits_from_octets, bits_from_groups}
 use Rattle.ip_prefix.proofs.Lengths.{IsNoLength, split_at_slash, slash_inside, digits_behind}
@@ -157,19 +157,13 @@ network_text_spells n h =
       whole = refl;
     }
 
--- the last slash of a text
-pub record IsLastSlash (text : List ℕ) (at : ℕ) : Type 0 where
-  pub within : at < length text
-  pub slash : get_or text at 0 ≡ 47
-  pub last : (k : ℕ) → at < k → k < length text → get_or text k 0 ≢ 47
-
 -- what stands on each side of it where the text spells a prefix
 sides : (n : Network) (text : List ℕ) (at : ℕ) → IsLastSlash text at → (h : SpellsPrefix n text)
     → (take at text ≡ h.address_text) × (drop (at + 1) text ≡ decimal (length n.bits))
 sides n text at s h = split_at_slash text h.address_text (length n.bits) at (length_small n.family (length n.bits) h.fits) h.whole s.within s.slash s.last
 
 -- a text without a slash spells no prefix
-pub no_slash : (n : Network) (text : List ℕ) → ((k : ℕ) → k < length text → get_or text k 0 ≢ 47) → ¬ (SpellsPrefix n text)
+pub no_slash : (n : Network) (text : List ℕ) → HasNoSlash text → ¬ (SpellsPrefix n text)
 no_slash n text none h = slash_inside text h.address_text (length n.bits) h.whole none
 
 -- nor does one with no address before the slash

@@ -12,19 +12,26 @@ use std::marker::Model;
 
 /// How many octets an IPv4 address has.
 pub const V4_OCTETS: usize = 4;
+
 /// How many octets an IPv6 address has.
 pub const V6_OCTETS: usize = 16;
+
 /// How many bits an IPv4 address has.
 pub const V4_BITS: u8 = 32;
+
 /// How many bits an IPv6 address has.
 pub const V6_BITS: u8 = 128;
-// How many bits an octet has, and a group.
+
+/// How many bits an octet has.
 pub(crate) const OCTET_BITS: usize = 8;
 
+/// How many bits a group has.
 pub(crate) const GROUP_BITS: usize = 16;
-// How many groups an IPv6 address is written in.
+
+/// How many groups an IPv6 address is written in.
 pub(crate) const GROUP_COUNT: usize = 8;
-// How many bits the numbers have that addresses and prefixes are kept as.
+
+/// How many bits the numbers have that addresses and prefixes are kept as.
 pub(crate) const NUMBER_BITS: u8 = 128;
 
 /// The two families of Internet addresses.

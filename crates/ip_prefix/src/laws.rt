@@ -25,7 +25,8 @@ pub fn address_order()
 pub fn prefix_order()
     ensures total { IsTotalOrder network_cmp }
     ensures ties { IsAntisymmetric network_cmp }
-    ensures filled { (m n : Network) → IsNetwork m → IsNetwork n → network_cmp m n ≡ filled_cmp m n }
+    ensures filled { (m n : Network) → IsNetwork m → IsNetwork n
+        → network_cmp m n ≡ filled_cmp m n }
 {}
 
 /// A prefix contains the addresses of its family that begin with its bits, and covers the prefixes
@@ -63,8 +64,8 @@ pub fn text_spells()
     ensures prefixes { (n : Network) → IsNetwork n → SpellsPrefix n (network_text n) }
 {}
 
-/// The groups that `::` stands for in the text of an IPv6 address are a run of zeros. None is longer,
-/// and none as long starts before it (RFC 5952, section 4.2).
+/// The groups that `::` stands for in the text of an IPv6 address are a run of zeros. None is
+/// longer, and none as long starts before it (RFC 5952, section 4.2).
 pub fn shortened_run()
     ensures { (groups : List ℕ) → IsFirstLongestRun groups (longest_zero_run groups) }
 {}
@@ -81,6 +82,7 @@ pub fn one_spelling()
 /// lists of them.
 pub fn one_network()
     ensures single { (family : Family) → IsCode (SpellsNetwork family) }
-    ensures lists { (family : Family) (octets : List ℕ) (a b : List Network) →
-        SpellsAll (SpellsNetwork family) a octets → SpellsAll (SpellsNetwork family) b octets → a ≡ b }
+    ensures lists { (family : Family) (octets : List ℕ) (a b : List Network)
+        → SpellsAll (SpellsNetwork family) a octets
+        → SpellsAll (SpellsNetwork family) b octets → a ≡ b }
 {}

@@ -1,9 +1,9 @@
 //! The addresses and prefixes that texts spell.
 
-ghost use Rattle.std.specs.Prelude.{◌≡◌, ◌≢◌, ℕ, ◌<◌, MatchOption, length, slice_index, decimal};
+ghost use Rattle.std.specs.Prelude.{◌≡◌, ◌≢◌, ℕ, ◌<◌, MatchOption, decimal};
 ghost use Rattle.ip_prefix.specs.Address.{Address};
 ghost use Rattle.ip_prefix.specs.Network.{Network};
-ghost use Rattle.ip_prefix.specs.Spelling.{SpellsAddress, SpellsPrefix};
+ghost use Rattle.ip_prefix.specs.Spelling.{SpellsAddress, SpellsPrefix, HasNoSlash, IsLastSlash};
 
 use crate::addr::Addr;
 use crate::prefix::Prefix;
@@ -13,8 +13,8 @@ use std::net::{Ipv4Addr, Ipv6Addr};
 impl Addr {
     /// The address that the text spells: four decimals without leading zeros, joined by dots, for
     /// IPv4; groups of one to four hexadecimal digits of either case, joined by colons, with at
-    /// most one `::` in place of one or more groups of 0, for IPv6. A dotted end of an IPv6 address is not
-    /// read.
+    /// most one `::` in place of one or more groups of 0, for IPv6. A dotted end of an IPv6 address
+    /// is not read.
     pub fn parse(text: &[u8]) -> Option<Addr>
         ensures { MatchOption result ((a : Address) → SpellsAddress a text.now → ⊥)
             (λ addr. SpellsAddress addr text.now) }
@@ -48,10 +48,7 @@ impl Prefix {
 
 // Where the last slash stands.
 fn last_slash(text: &[u8]) -> Option<usize>
-    ensures { MatchOption result ((k : ℕ) → k < length text.now → slice_index text.now k ≢ SLASH)
-        (λ at. (at < length text.now)
-        × (slice_index text.now at ≡ SLASH)
-        × ((k : ℕ) → at < k → k < length text.now → slice_index text.now k ≢ SLASH)) }
+    ensures { MatchOption result (HasNoSlash text.now) (IsLastSlash text.now) }
 {
     let mut at = text.len();
     while at > 0 {

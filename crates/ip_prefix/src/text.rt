@@ -11,30 +11,40 @@ use crate::prefix::Prefix;
 use itoa::write_digits;
 use std::alloc::AllocError;
 
-// What stands between octets, between groups, and before a length.
+/// What stands between octets.
 pub(crate) const DOT: u8 = b'.';
 
+/// What stands between groups.
 pub(crate) const COLON: u8 = b':';
 
+/// What stands before a length.
 pub(crate) const SLASH: u8 = b'/';
-// How many digits a length, an octet and a group have at most.
+
+/// How many digits a length has at most.
 pub(crate) const LENGTH_DIGITS: usize = 3;
 
+/// How many digits an octet has at most.
 const OCTET_DIGITS: usize = 3;
 
+/// How many digits a group has at most.
 const GROUP_DIGITS: usize = 4;
-// The room for each of them with what stands before it.
+
+/// The room for a length and the slash before it.
 const LENGTH_ROOM: usize = LENGTH_DIGITS + 1;
 
+/// The room for an octet and the dot before it.
 const OCTET_ROOM: usize = OCTET_DIGITS + 1;
 
+/// The room for a group and the colon before it.
 const GROUP_ROOM: usize = GROUP_DIGITS + 1;
-// The room for four octets with dots between them, for eight groups with colons before them, and
-// for an address, a slash and a length.
+
+/// The room for four octets with dots between them.
 const DOTTED_ROOM: usize = OCTET_ROOM * V4_OCTETS - 1;
 
+/// The room for eight groups with colons before them.
 const COLONS_ROOM: usize = GROUP_ROOM * GROUP_COUNT;
 
+/// The room for an address, a slash and a length.
 const PREFIX_ROOM: usize = COLONS_ROOM - 1 + LENGTH_ROOM;
 
 impl Addr {

@@ -2,7 +2,7 @@
 use Rattle.std.proofs.Common.{◌≡◌, ◌+◌, ◌∙◌, drop, decimal, sym, subst, rules}
 use Rattle.std.proofs.lemmas.List.{take_rest}
 use Rattle.ip_prefix.proofs.Lengths.{IsNoLength}
-use Rattle.ip_prefix.proofs.Spelled.{IsLastSlash, no_slash, no_address, no_length, parsed}
+use Rattle.ip_prefix.proofs.Spelled.{no_slash, no_address, no_length, parsed}
 use Rattle.ip_prefix.proofs.prefix.Prefix.parse.Goals as goal
 
 pub returns-in_err-at : goal.returns-in_err-at
@@ -12,21 +12,18 @@ pub returns-in_err-addr : goal.returns-in_err-addr
 returns-in_err-addr c =
     let text = c.args.text.now in
     let at = c.in_ok-at.at in
-    let slash : IsLastSlash text at = record { within = c.in_ok-at.ensures.0; slash = c.in_ok-at.ensures.1; last = c.in_ok-at.ensures.2 } in
-    rw c.from_residual-in_err-addr.ensures (λ n. no_address n text at slash c.in_err-addr.ensures)
+    rw c.from_residual-in_err-addr.ensures (λ n. no_address n text at c.in_ok-at.ensures c.in_err-addr.ensures)
 
 pub returns-in_err-len : goal.returns-in_err-len
 returns-in_err-len c =
     let text = c.args.text.now in
     let at = c.in_ok-at.at in
-    let slash : IsLastSlash text at = record { within = c.in_ok-at.ensures.0; slash = c.in_ok-at.ensures.1; last = c.in_ok-at.ensures.2 } in
     let none : IsNoLength (drop (at + 1) text) = subst IsNoLength (take_rest text (at + 1)) c.in_err-len.ensures in
-    rw c.from_residual-in_err-len.ensures (λ n. no_length n text at slash none)
+    rw c.from_residual-in_err-len.ensures (λ n. no_length n text at c.in_ok-at.ensures none)
 
 pub returns : goal.returns
 returns c =
     let text = c.args.text.now in
     let at = c.in_ok-at.at in
-    let slash : IsLastSlash text at = record { within = c.in_ok-at.ensures.0; slash = c.in_ok-at.ensures.1; last = c.in_ok-at.ensures.2 } in
     let behind : drop (at + 1) text ≡ decimal c.in_ok-len.len = sym (take_rest text (at + 1)) ∙ c.in_ok-len.ensures in
-    parsed text at c.in_ok-addr.addr c.in_ok-len.len c.new.result slash c.in_ok-addr.ensures (search rules) behind c.new.ensures
+    parsed text at c.in_ok-addr.addr c.in_ok-len.len c.new.result c.in_ok-at.ensures c.in_ok-addr.ensures (search rules) behind c.new.ensures
