@@ -6,7 +6,7 @@ use Rattle.std.proofs.lemmas.List.{append_cancel_left, length-replicate, length-
 use Rattle.ip_prefix.specs.declared.addr.Family.{Family}
 use Rattle.ip_prefix.specs.declared.addr.Family.TheVariants.{V4, V6}
 use Rattle.ip_prefix.specs.Address.{Address, IsAddress, bit_count}
-use Rattle.ip_prefix.specs.Network.{Network, IsNetwork, IsFront, ContainsAllOf, least_address, contains, covers}
+use Rattle.ip_prefix.specs.Network.{Network, IsNetwork, IsFront, ContainsAllOf, network_of, contains, covers}
 use Rattle.ip_prefix.proofs.Beginning.{front_of, begin_from}
 
 -- ---- the first bits
@@ -111,11 +111,11 @@ pub one_of_length : (m n : Network) (a : Address) → contains m a ≡ true → 
 one_of_length m n a p q size =
     covers_antisymmetric m n (covers_nested m n a p q (omega arith)) (covers_nested n m a q p (omega arith))
 
--- the first bits of an address are those of a prefix that contains it
-pub contains_first : (a : Address) (len : ℕ) → len ≤ length a.bits → contains record { family = a.family; bits = take len a.bits } a ≡ true
-contains_first a len within =
+-- the prefix of the first bits of an address contains it
+pub contains-network_of : (a : Address) (len : ℕ) → len ≤ length a.bits → contains (network_of a len) a ≡ true
+contains-network_of a len within =
     let size : length (take len a.bits) ≡ len = omega (arith, length-take len a.bits) in
-    contains_from record { family = a.family; bits = take len a.bits } a refl (ap (λ k. take k a.bits) size)
+    contains_from (network_of a len) a refl (ap (λ k. take k a.bits) size)
 
 -- ---- what is known by the addresses
 

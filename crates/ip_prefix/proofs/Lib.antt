@@ -9,7 +9,10 @@ pub mod Masks
 mod Octets
 pub mod Beginning
 pub mod Containing
+pub mod Numbers
 pub mod Sequences
+pub mod Fields
+pub mod Counts
 pub mod Wires
 pub mod Filled
 pub mod HexText

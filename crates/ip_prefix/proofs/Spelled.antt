@@ -16,7 +16,7 @@ use Rattle.ip_prefix.specs.declared.addr.Family.{Family}
 use Rattle.ip_prefix.specs.declared.addr.Family.TheVariants.{V4, V6}
 use Rattle.ip_prefix.specs.Bits.{bits_of_octets}
 use Rattle.ip_prefix.specs.Address.{Address, IsAddress, bit_count, octet_at, group_at, groups_of}
-use Rattle.ip_prefix.specs.Network.{Network, IsNetwork, least_address}
+use Rattle.ip_prefix.specs.Network.{Network, IsNetwork, network_of, least_address}
 use Rattle.ip_prefix.specs.Text.{v4_text, v6_text, address_text, network_text}
 use Rattle.ip_prefix.specs.Spelling.{octets_of_v4, IsColons, SpellsAddress, SpellsPrefix, HasNoSlash, IsLastSlash}
 use Rattle.ip_prefix.proofs.Dotless.{has_dot, has_dot-hex, has_dot-colons, IsColonHex-colons, IsColons-dotless, colons_small}
@@ -187,7 +187,7 @@ length_above n text at a len s spelled small e above h =
 
 -- and any other text does: of the bits of the address, as many as are named
 pub spells_prefix : (text : List ℕ) (at : ℕ) (a : Address) (len : ℕ) → IsLastSlash text at → SpellsAddress a (take at text)
-    → drop (at + 1) text ≡ decimal len → len ≤ bit_count a.family → SpellsPrefix (record { family = a.family; bits = take len a.bits }) text
+    → drop (at + 1) text ≡ decimal len → len ≤ bit_count a.family → SpellsPrefix (network_of a len) text
 spells_prefix text at a len s spelled e within =
     let long : length (take len a.bits) ≡ len = length-take-le len a.bits (omega (arith, spelled.0)) in
     let split : text ≡ take at text ++ 47 ∷ decimal len =
@@ -205,7 +205,7 @@ spells_prefix text at a len s spelled e within =
 -- what `Prefix::new` answers is the prefix that the text spells
 pub parsed : (text : List ℕ) (at : ℕ) (a : Address) (len : ℕ) (r : Option Network) → IsLastSlash text at → SpellsAddress a (take at text) → len < 256
     → drop (at + 1) text ≡ decimal len
-    → MatchOption r (bit_count a.family < len) (λ prefix. (len ≤ bit_count a.family) × (prefix ≡ record { family = a.family; bits = take len a.bits }))
+    → MatchOption r (bit_count a.family < len) (λ prefix. (len ≤ bit_count a.family) × (prefix ≡ network_of a len))
     → MatchOption r ((n : Network) → SpellsPrefix n text → ⊥) (λ prefix. SpellsPrefix prefix text)
 parsed text at a len None s spelled small e h = λ n. length_above n text at a len s spelled small e h
 parsed text at a len (Some prefix) s spelled small e h = subst (λ n. SpellsPrefix n text) (sym h.1) (spells_prefix text at a len s spelled e h.0)

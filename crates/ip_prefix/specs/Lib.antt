@@ -11,5 +11,7 @@ pub mod Text
 pub mod ZeroRun
 pub mod Spelling
 pub mod Sequences
+pub mod Fields
+pub mod Counted
 pub mod Wire
 pub mod Codes

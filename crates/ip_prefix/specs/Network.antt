@@ -1,5 +1,5 @@
 -- A prefix is a family and a list of bits, at most as many as an address of the family has (RFC 4632, section 3.1).
-use Rattle.std.specs.Prelude.{◌≡◌, ◌-◌, ◌≤◌, Bool, true, false, ◌&&◌, not, List, [], ◌∷◌, ◌++◌, length, take, replicate, IsTrue}
+use Rattle.std.specs.Prelude.{◌≡◌, ℕ, ◌-◌, ◌≤◌, Bool, true, false, ◌&&◌, not, List, [], ◌∷◌, ◌++◌, length, take, replicate, IsTrue}
 use Rattle.ip_prefix.specs.declared.addr.Family.{Family}
 use Rattle.ip_prefix.specs.declared.addr.Family.TheVariants.{V4, V6}
 use Rattle.ip_prefix.specs.Address.{Address, IsAddress, bit_count}
@@ -16,6 +16,10 @@ IsNetwork n = length n.bits ≤ bit_count n.family
 -- the bits are the first of the others
 abbrev pub IsFront : List Bool → List Bool → Type 0
 IsFront front bits = take (length front) bits ≡ front
+
+-- the prefix of an address's first bits, as many as are named
+abbrev pub network_of : Address → ℕ → Network
+network_of address len = record { family = address.family; bits = take len address.bits }
 
 -- the least address that begins with the bits
 abbrev pub least_address : Network → Address

@@ -16,7 +16,11 @@ abbrev pub SpellsAll : {A : Type 0} → (A → List ℕ → Type 0) → List A �
 SpellsAll Spells [] octets = octets ≡ []
 SpellsAll Spells (value ∷ values) octets = (rest : List ℕ) × Begins Spells value rest octets × SpellsAll Spells values rest
 
+-- no octets begin with spellings of two values
+abbrev pub OneFront : {A : Type 0} → (A → List ℕ → Type 0) → Type 0
+OneFront {A} Spells = (a b : A) (x y octets : List ℕ) → Begins Spells a x octets → Begins Spells b y octets → (a ≡ b) × (x ≡ y)
+
 -- no value is spelled by nothing, and no octets begin with spellings of two
 pub record IsCode {A : Type 0} (Spells : A → List ℕ → Type 0) : Type 0 where
   pub some : (a : A) → Spells a [] → ⊥
-  pub same : (a b : A) (x y octets : List ℕ) → Begins Spells a x octets → Begins Spells b y octets → (a ≡ b) × (x ≡ y)
+  pub same : OneFront Spells

@@ -3,7 +3,7 @@
 ghost use Rattle.std.specs.Prelude.{◌≡◌, ◌<◌, ◌≤◌, MatchOption, IfSome, IfNone, length, take};
 ghost use Rattle.ip_prefix.specs.Address.{IsAddress, bit_count};
 ghost use Rattle.ip_prefix.specs.Highest.{highest_part};
-ghost use Rattle.ip_prefix.specs.Network.{IsNetwork, least_address, contains, covers};
+ghost use Rattle.ip_prefix.specs.Network.{IsNetwork, network_of, least_address, contains, covers};
 ghost use Rattle.ip_prefix.specs.Sequences.{BeginsWithNone};
 ghost use Rattle.ip_prefix.specs.Wire.{SpellsNetwork};
 
@@ -52,8 +52,7 @@ impl Prefix {
     /// than an address of the family has.
     pub fn new(addr: Addr, len: u8) -> Option<Prefix>
         ensures { MatchOption result (bit_count addr.family < len)
-            (λ prefix. (len ≤ bit_count addr.family)
-            × (prefix ≡ record { family = addr.family; bits = take len addr.bits })) }
+            (λ prefix. (len ≤ bit_count addr.family) × (prefix ≡ network_of addr len)) }
     {
         let family = addr.family();
         if len > width(family) {

@@ -29,6 +29,9 @@ const OCTET_DIGITS: usize = 3;
 /// How many digits a group has at most.
 const GROUP_DIGITS: usize = 4;
 
+/// How many groups that are 0 have at least to stand in a row for `::` to stand for them.
+const LEAST_RUN: usize = 2;
+
 /// The room for a length and the slash before it.
 const LENGTH_ROOM: usize = LENGTH_DIGITS + 1;
 
@@ -147,7 +150,7 @@ fn write_shortened(groups: &[u16], buffer: &mut [u8]) -> usize
     ensures written { drop result buffer.new ≡ Hex.hex_groups_text groups.now }
 {
     let (first, len) = longest_zero_run(groups);
-    if len < 2 {
+    if len < LEAST_RUN {
         return write_groups(groups, buffer, COLONS_ROOM);
     }
     let after = write_groups(&groups[first + len..], buffer, COLONS_ROOM);

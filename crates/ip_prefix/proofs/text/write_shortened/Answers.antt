@@ -6,8 +6,8 @@ use Rattle.ip_prefix.proofs.HexText.{whole_text, shortened_text}
 use Rattle.ip_prefix.proofs.Lists.{two_before}
 use Rattle.ip_prefix.proofs.text.write_shortened.Goals as goal
 
-pub returns-then-len-lt2-clause-written : goal.returns-then-len-lt2-clause-written
-returns-then-len-lt2-clause-written c =
+pub returns-then-len-lt-LEAST_RUN-clause-written : goal.returns-then-len-lt-LEAST_RUN-clause-written
+returns-then-len-lt-LEAST_RUN-clause-written c =
     let groups = c.args.groups.now in
     let none : drop 40 c.args.buffer.now ≡ [] = drop_all 40 c.args.buffer.now (omega arith) in
     let same = ap (λ p. p.1) c.longest_zero_run-first.ensures.value in
