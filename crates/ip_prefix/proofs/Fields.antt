@@ -1,5 +1,5 @@
 -- Values of two kinds, one behind the other.
-use Rattle.std.proofs.Common.{◌≡◌, ℕ, List, [], ◌++◌, refl, ap, sym, subst, ◌∙◌, append_assoc, append-nil}
+use Rattle.std.proofs.Common.{ℕ, List, [], ◌++◌, refl, ap, sym, subst, ◌∙◌, append_assoc, append-nil}
 use Rattle.ip_prefix.specs.Sequences.{Begins, BeginsWithNone, OneFront, IsCode}
 use Rattle.ip_prefix.specs.Fields.{IsOne, Then, Behind, WithMore}
 use Rattle.ip_prefix.proofs.Sequences.{longer}

@@ -1,5 +1,5 @@
 -- The longest run of groups that are 0.
-use Rattle.std.proofs.Common.{◌≡◌, ℕ, zero, suc, ◌+◌, ◌<◌, ◌≤◌, ◌==◌, Bool, true, false, cond, List, [], ◌∷◌, length, take, drop, replicate, refl, ap, sym, subst, ◌∙◌, arith, length-drop, eqb-true, eq-eqb}
+use Rattle.std.proofs.Common.{◌≡◌, ℕ, zero, suc, ◌+◌, ◌<◌, ◌≤◌, ◌==◌, Bool, true, false, cond, List, [], ◌∷◌, length, take, drop, replicate, refl, ap, arith, length-drop, eqb-true, eq-eqb}
 use Rattle.std.specs.Prelude.{nat_le}
 use Rattle.std.specs.Net.Text.{zero_run, longest_zero_run}
 use Rattle.std.proofs.lemmas.Bool.{leb-true, leb-false}

@@ -31,7 +31,9 @@ overflow_mul-value c =
 pub overflow_add-value : goal.overflow_add-value
 overflow_add-value c =
     let small = few_small c.args.text.now c.loop-digit.digit-index c.loop-digit-test.true c.if-text-gt-LENGTH_DIGITS.false c.loop-digit.invariant.digits in
-    omega (arith, small, c.loop-digit.invariant.value, c.from.ensures, c.type_inv.text c.loop-digit.digit-index)
+    let range : IsInRange 48 57 (get_or c.args.text.now c.loop-digit.digit-index 0) =
+    is_digit (get_or c.args.text.now c.loop-digit.digit-index 0) c.is_ascii_digit.result c.is_ascii_digit.ensures.value c.if-not-is_ascii_digit.false in
+    omega (arith, small, range, c.loop-digit.invariant.value, c.from.ensures)
 
 pub loop-digit-preserved : goal.loop-digit-preserved
 loop-digit-preserved c =
