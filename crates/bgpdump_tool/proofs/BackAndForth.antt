@@ -2,7 +2,7 @@
 use Rattle.std.proofs.Common.{◌≡◌, ℕ, zero, suc, ◌+◌, ◌-◌, ◌<◌, ◌≤◌, List, [], ◌∷◌, ◌++◌, map, replicate, length, take, nat_lt, refl, sym, ap, ◌∙◌, append_assoc, append-nil, take-take, take_all, length-take-le, arith, lt-ltb}
 use Rattle.std.proofs.lemmas.Bool.{cond-true}
 use Rattle.std.proofs.lemmas.List.{take_at, length_push}
-use Rattle.bgpdump_tool.specs.declared.player.event.Event.{Event}
+use Rattle.mrt_wire.specs.declared.event.Event.{Event}
 use Rattle.bgpdump_tool.specs.Tables.{table}
 use Rattle.bgpdump_tool.specs.Timeline.{Timeline, StandsFor, Call, Play, Undo, Redo, end_of, table_at, current, played, undone, redone, after_call, after_calls}
 use Rattle.bgpdump_tool.proofs.TimelineLaws.{StandsFor-table, StandsFor-current, StandsFor-end, StandsFor-played}

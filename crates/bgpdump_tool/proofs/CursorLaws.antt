@@ -6,7 +6,7 @@ use Rattle.std.specs.FinSet as names
 use Rattle.std.proofs.lemmas.List.{take-set, drop-set, take_more, take_more_set, drop_more, drop-set-lt, reverse-append, length-reverse, length-take-le, length_push, get_or_at, map-set, set-get_or, get_or-map, take_at, drop_all, length-map, length-set, set_at, take_all, take-map, map-append}
 use Rattle.std.proofs.lemmas.Bool.{lt-ltb}
 use Rattle.bgpdump_tool.specs.declared.player.pair.Pair.{Pair}
-use Rattle.bgpdump_tool.specs.declared.player.event.Event.{Event}
+use Rattle.mrt_wire.specs.declared.event.Event.{Event}
 use Rattle.bgpdump_tool.specs.Tables.{Routes, Pairs, apply, named}
 use Rattle.bgpdump_tool.specs.Timeline.{Timeline, current, undone, redone, played}
 use Rattle.bgpdump_tool.specs.Journal.{Side, pairs_in, sides_at, restored, crossed, tables_before, tables_after, timeline_of, IsKept, IsJournal, IsStepFor}

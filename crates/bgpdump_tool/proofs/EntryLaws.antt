@@ -15,8 +15,8 @@ use Rattle.std.proofs.lemmas.Map.Entries.{lookup_head, none_past_head}
 use Rattle.std.proofs.lemmas.Map.Keys.{IsDistinct-from_sorted, IsDistinct-tail}
 use Rattle.std.proofs.lemmas.Map.Made.{IsDistinct-keys_filter}
 use Rattle.bgpdump_tool.specs.declared.player.pair.Pair.{Pair}
-use Rattle.bgpdump_tool.specs.declared.player.event.Route.{Route}
-use Rattle.bgpdump_tool.specs.declared.player.event.Event.{Event}
+use Rattle.mrt_wire.specs.declared.event.Route.{Route}
+use Rattle.mrt_wire.specs.declared.event.Event.{Event}
 use Rattle.bgpdump_tool.specs.declared.player.changes.Changes.{Changes}
 use Rattle.bgpdump_tool.specs.declared.player.journal.Entry.{Entry}
 use Rattle.bgpdump_tool.specs.History.{pair_cmp, effect, applied}

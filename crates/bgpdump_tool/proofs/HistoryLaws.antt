@@ -1,8 +1,8 @@
 -- Histories that go on by an event: the routes that they leave, and their tables.
 use Rattle.std.proofs.Common.{◌≡◌, List, [], ◌∷◌, ◌++◌, map, Option, None, sym, ap, ◌∙◌}
 use Rattle.bgpdump_tool.specs.declared.player.pair.Pair.{Pair}
-use Rattle.bgpdump_tool.specs.declared.player.event.Route.{Route}
-use Rattle.bgpdump_tool.specs.declared.player.event.Event.{Event}
+use Rattle.mrt_wire.specs.declared.event.Route.{Route}
+use Rattle.mrt_wire.specs.declared.event.Event.{Event}
 use Rattle.bgpdump_tool.specs.History.{Effect, last_effect, effect, applied, route}
 use Rattle.bgpdump_tool.specs.Tables.{table, apply}
 use Rattle.bgpdump_tool.proofs.TableLaws.{same_routes, applied-later, get-table, get-apply}

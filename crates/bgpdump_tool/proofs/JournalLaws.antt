@@ -10,8 +10,8 @@ use Rattle.std.proofs.lemmas.Bool.{or_parts}
 use Rattle.std.proofs.lemmas.List.{drop-drop, drop_more, take_more_set, map-append, map_more, take_at, length_push, length-take-le}
 use Rattle.std.proofs.lemmas.Map.Keys.{IsDistinct-head, IsDistinct-tail}
 use Rattle.bgpdump_tool.specs.declared.player.pair.Pair.{Pair}
-use Rattle.bgpdump_tool.specs.declared.player.event.Route.{Route}
-use Rattle.bgpdump_tool.specs.declared.player.event.Event.{Event}
+use Rattle.mrt_wire.specs.declared.event.Route.{Route}
+use Rattle.mrt_wire.specs.declared.event.Event.{Event}
 use Rattle.bgpdump_tool.specs.declared.player.journal.Entry.{Entry}
 use Rattle.bgpdump_tool.specs.History.{pair_cmp, Effect, Keep, Clear, Set, effect, applied}
 use Rattle.bgpdump_tool.specs.Tables.{Routes, Pairs, put, apply, is_named}

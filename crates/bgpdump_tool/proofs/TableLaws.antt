@@ -9,11 +9,11 @@ use Rattle.std.proofs.lemmas.Bool.{or_parts}
 use Rattle.std.proofs.lemmas.List.Folds.{list_any-append}
 use Rattle.std.proofs.lemmas.Map.Views.{any-filter_same}
 use Rattle.bgpdump_tool.specs.declared.player.pair.Pair.{Pair}
-use Rattle.bgpdump_tool.specs.declared.player.event.Route.{Route}
-use Rattle.bgpdump_tool.specs.declared.player.event.Item.{Item}
-use Rattle.bgpdump_tool.specs.declared.player.event.Item.TheVariants.{Announce, Withdraw, State}
-use Rattle.bgpdump_tool.specs.declared.player.event.Event.{Event}
-use Rattle.bgpdump_tool.specs.History.{peer_cmp, pair_cmp, pair_of, Effect, Keep, Clear, Set, where_true, is_loss, item_effect, later, last_effect, effect, applied, route}
+use Rattle.mrt_wire.specs.declared.event.Route.{Route}
+use Rattle.mrt_wire.specs.Event.{Saying, Announced, Withdrawn, Changed}
+use Rattle.mrt_wire.specs.declared.event.Event.{Event}
+use Rattle.mrt_wire.specs.Peer.{peer_cmp}
+use Rattle.bgpdump_tool.specs.History.{pair_cmp, pair_of, Effect, Keep, Clear, Set, where_true, is_loss, item_effect, later, last_effect, effect, applied, route}
 use Rattle.bgpdump_tool.specs.Tables.{Routes, put, tabulate, announced_by, announced, table, concerned, apply, is_named, named}
 use Rattle.bgpdump_tool.proofs.PairLaws.{pair_cmp_total, pair_cmp-IsAntisymmetric, same_pair}
 
@@ -59,10 +59,10 @@ not_set true new e = cc
 not_set false new e = refl
 
 -- an item leaves no route where it announces none and there was none
-unset_by_item : (q : Pair) (item : Item) → among q (announced_by item) ≡ false → applied None (item_effect q item) ≡ None
-unset_by_item q (Announce peer network new) e = not_set _ new.value (or_parts _ false e).0
-unset_by_item q (Withdraw peer network) e = cleared (eq_by_cmp pair_cmp q (pair_of peer network))
-unset_by_item q (State peer old new) e = cleared (eq_by_cmp peer_cmp q.peer peer && is_loss old new)
+unset_by_item : (q : Pair) (item : Saying) → among q (announced_by item) ≡ false → applied None (item_effect q item) ≡ None
+unset_by_item q (Announced peer network new) e = not_set _ new (or_parts _ false e).0
+unset_by_item q (Withdrawn peer network) e = cleared (eq_by_cmp pair_cmp q (pair_of peer network))
+unset_by_item q (Changed peer old new) e = cleared (eq_by_cmp peer_cmp q.peer peer && is_loss old new)
 
 -- so do several, where each of them does
 unset_by_all : {A : Type 0} (q : Pair) (listed : A → List Pair) (does : A → Effect) → ((a : A) → among q (listed a) ≡ false → applied None (does a) ≡ None)
@@ -76,7 +76,7 @@ unset_by_all q listed does each (x ∷ xs) e =
 
 -- an event leaves no route where it announces none and there was none
 unset_by_event : (q : Pair) (event : Event) → among q (announced event) ≡ false → applied None (effect q event) ≡ None
-unset_by_event q event e = unset_by_all q announced_by (item_effect q) (unset_by_item q) event.items.items e
+unset_by_event q event e = unset_by_all q announced_by (item_effect q) (unset_by_item q) event.items e
 
 -- a history leaves no route where it announces none
 unset_by_history : (q : Pair) (history : List Event) → among q (flat_map announced history) ≡ false → route q history ≡ None

@@ -4,7 +4,7 @@ use Rattle.std.proofs.lemmas.Bool.{cond_both, ltb-true}
 use Rattle.std.proofs.lemmas.List.{take-append-le, drop-append-le, drop-take, length_push}
 use Rattle.std.specs.FinMap as finite
 use Rattle.bgpdump_tool.specs.declared.player.pair.Pair.{Pair}
-use Rattle.bgpdump_tool.specs.declared.player.event.Event.{Event}
+use Rattle.mrt_wire.specs.declared.event.Event.{Event}
 use Rattle.bgpdump_tool.specs.History.{route}
 use Rattle.bgpdump_tool.specs.Tables.{table, apply, named}
 use Rattle.bgpdump_tool.specs.Timeline.{Timeline, StandsFor, Call, Play, PlayRefused, Undo, Redo, Look, end_of, behind, table_at, current, fresh, played, undone, redone, tables_along, steps_along, after_call, after_calls, history_after, history_after_calls}

@@ -7,8 +7,8 @@ use Rattle.std.specs.FinSet.{contains, from_list}
 use Rattle.std.specs.declared.alloc.Global.{Global}
 use Rattle.std.specs.declared.rc.Rc.{Rc}
 use Rattle.bgpdump_tool.specs.declared.player.pair.Pair.{Pair}
-use Rattle.bgpdump_tool.specs.declared.player.event.Route.{Route}
-use Rattle.bgpdump_tool.specs.declared.player.event.Event.{Event}
+use Rattle.mrt_wire.specs.declared.event.Route.{Route}
+use Rattle.mrt_wire.specs.declared.event.Event.{Event}
 use Rattle.bgpdump_tool.specs.declared.player.journal.Entry.{Entry}
 use Rattle.bgpdump_tool.specs.declared.player.journal.Step.{Step}
 use Rattle.bgpdump_tool.specs.History.{pair_cmp}

@@ -4,10 +4,9 @@ use Rattle.std.specs.List.{flat_map, filter}
 use Rattle.std.specs.FinMap.{FinMap, empty, get, insert, remove, keys}
 use Rattle.std.specs.FinSet.{FinSet, from_list}
 use Rattle.bgpdump_tool.specs.declared.player.pair.Pair.{Pair}
-use Rattle.bgpdump_tool.specs.declared.player.event.Route.{Route}
-use Rattle.bgpdump_tool.specs.declared.player.event.Item.{Item}
-use Rattle.bgpdump_tool.specs.declared.player.event.Item.TheVariants.{Announce, Withdraw, State}
-use Rattle.bgpdump_tool.specs.declared.player.event.Event.{Event}
+use Rattle.mrt_wire.specs.declared.event.Route.{Route}
+use Rattle.mrt_wire.specs.Event.{Saying, Announced, Withdrawn, Changed}
+use Rattle.mrt_wire.specs.declared.event.Event.{Event}
 use Rattle.bgpdump_tool.specs.History.{pair_cmp, pair_of, Effect, Keep, Clear, Set, effect, applied, route}
 
 -- at most one route at each pair
@@ -28,14 +27,14 @@ tabulate f [] = empty
 tabulate f (pair ∷ pairs) = put (tabulate f pairs) pair (f pair)
 
 -- the pairs to which an item announces a route
-abbrev pub announced_by : Item → List Pair
-announced_by (Announce peer network new) = pair_of peer network ∷ []
-announced_by (Withdraw peer network) = []
-announced_by (State peer old new) = []
+abbrev pub announced_by : Saying → List Pair
+announced_by (Announced peer network new) = pair_of peer network ∷ []
+announced_by (Withdrawn peer network) = []
+announced_by (Changed peer old new) = []
 
 -- the pairs to which an event announces a route
 abbrev pub announced : Event → List Pair
-announced event = flat_map announced_by event.items.items
+announced event = flat_map announced_by event.items
 
 -- the routes after a history
 unfoldable pub table : List Event → Routes

@@ -4,16 +4,14 @@ ghost use Rattle.std.specs.Prelude.{◌≡◌, ◌<◌, ◌↔◌, IfOk, OnOk, O
 ghost use Rattle.bgpdump_tool.specs.Timeline.{fresh, ahead_of, end_of, current, played, undone, redone};
 
 mod changes;
-mod event;
 mod journal;
 mod laws;
 mod pair;
 mod table;
 
-pub use event::{Event, Item, Route, Tag, Time};
 pub use laws::{
     history_after_all_calls, history_after_one_call, one_event_more, one_step_back, pair_order,
-    peer_order, routes_at_pairs, steps_back_and_forth, tables_by_position,
+    routes_at_pairs, steps_back_and_forth, tables_by_position,
 };
 pub use table::Table;
 
@@ -22,6 +20,7 @@ mod tests;
 
 use changes::step_for;
 use journal::{Step, cross_step, ensure_keys, replace_from};
+use mrt_wire::Event;
 use std::alloc::{AllocError, Global};
 use std::marker::Model;
 use thiserror::Error;
@@ -138,6 +137,11 @@ impl Player {
 }
 
 impl From<AllocError> for PlayFault {
+    ghost use Rattle.std.specs.Prelude.{◌≡◌};
+    ghost use Rattle.bgpdump_tool.specs.declared.player.PlayFault.TheVariants.{Memory};
+
+    ghost from_gives = { λ _ fault. fault ≡ Memory };
+
     fn from(_refused: AllocError) -> PlayFault {
         PlayFault::Memory
     }

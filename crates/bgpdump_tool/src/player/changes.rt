@@ -5,17 +5,18 @@ ghost use Rattle.std.specs.List.{list_any, filter, IsDistinct};
 ghost use Rattle.std.specs.Map.{keys_of};
 ghost use Rattle.std.specs.Ordering.{eq_by_cmp};
 ghost use Rattle.std.specs.FinMap as finite;
+ghost use Rattle.mrt_wire.specs.Event.{saying};
 ghost use Rattle.bgpdump_tool.specs.declared.player.pair.Pair.{Pair};
-ghost use Rattle.bgpdump_tool.specs.History.{peer_cmp, pair_cmp, Clear, where_true, item_effect, later, effect};
+ghost use Rattle.mrt_wire.specs.Peer.{peer_cmp};
+ghost use Rattle.bgpdump_tool.specs.History.{pair_cmp, Clear, where_true, item_effect, later, effect};
 ghost use Rattle.bgpdump_tool.specs.Store.{route_in};
 ghost use Rattle.bgpdump_tool.specs.Changes.{noted, decides, found, is_lost, or_absent, effect_of};
 ghost use Rattle.bgpdump_tool.specs.Journal.{sides_of, pairs_in, slot_side, IsStepFor};
 
-use crate::peer::Peer;
-use crate::player::event::{Event, Item, Route};
 use crate::player::journal::Entry;
 use crate::player::pair::Pair;
 use crate::player::table::{Table, put_slot};
+use mrt_wire::{Event, Item, Peer, Route};
 use std::alloc::{AllocError, Global};
 use std::collections::BTreeMap;
 use std::rc::Rc;
@@ -63,7 +64,7 @@ impl Changes {
 
     /// Notes what the item does, which stands before all that are noted.
     fn note(&mut self, item: &Item) -> Result<(), AllocError>
-        ensures { OnOk result ((q : Pair) → noted self.new q ≡ later (item_effect q item.now) (noted self.old q)) }
+        ensures { OnOk result ((q : Pair) → noted self.new q ≡ later (item_effect q (saying item.now)) (noted self.old q)) }
     {
         match item {
             Item::Announce(peer, prefix, route) => {
@@ -98,10 +99,11 @@ fn changes_of(alloc: Global, event: &Event) -> Result<Changes, AllocError>
         routes: BTreeMap::new(alloc),
         lost: Vec::new(alloc),
     };
-    let mut rest = event.items.len();
+    let items = event.items.as_slice();
+    let mut rest = items.len();
     'items: while rest > 0 {
         rest -= 1;
-        changes.note(&event.items[rest])?;
+        changes.note(&items[rest])?;
     }
     Ok(changes)
 }

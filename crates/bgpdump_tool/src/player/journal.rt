@@ -6,9 +6,9 @@ ghost use Rattle.std.specs.FinSet as names;
 ghost use Rattle.bgpdump_tool.specs.declared.player.pair.Pair.{Pair};
 ghost use Rattle.bgpdump_tool.specs.Journal.{sides_of, pairs_in, sides_at, steps_of, restored, crossed, IsKept};
 
-use crate::player::event::Route;
 use crate::player::pair::Pair;
 use crate::player::table::Table;
+use mrt_wire::Route;
 use std::alloc::AllocError;
 use std::rc::Rc;
 

@@ -6,21 +6,11 @@ ghost use Rattle.std.specs.Cmp.{IsTotalOrder};
 ghost use Rattle.std.specs.FinMap.{IsAntisymmetric};
 ghost use Rattle.std.specs.FinMap as finite;
 ghost use Rattle.std.specs.FinSet as set;
-ghost use Rattle.bgpdump_tool.specs.declared.peer.Peer.{Peer};
-ghost use Rattle.bgpdump_tool.specs.declared.player.event.Event.{Event};
+ghost use Rattle.mrt_wire.specs.declared.event.Event.{Event};
 ghost use Rattle.bgpdump_tool.specs.declared.player.pair.Pair.{Pair};
-ghost use Rattle.bgpdump_tool.specs.History.{peer_cmp, pair_cmp, effect, applied, route};
+ghost use Rattle.bgpdump_tool.specs.History.{pair_cmp, effect, applied, route};
 ghost use Rattle.bgpdump_tool.specs.Tables.{Routes, table, apply, is_named, named};
 ghost use Rattle.bgpdump_tool.specs.Timeline.{Timeline, Call, Play, Undo, Redo, StandsFor, fresh, end_of, table_at, current, undone, redone, played, after_call, after_calls, history_after, history_after_calls};
-
-use crate::peer::Peer;
-
-/// Peers are ordered by address and then by AS number. The order is total, and only equal ones tie.
-pub fn peer_order()
-    ensures parts { (a b : Peer) → ⟦<Peer as Ord>⟧.cmp a b ≡ peer_cmp a b }
-    ensures total { IsTotalOrder peer_cmp }
-    ensures ties { IsAntisymmetric peer_cmp }
-{}
 
 /// The order of pairs is total, and only equal ones tie.
 pub fn pair_order()

@@ -7,14 +7,14 @@ ghost use Rattle.std.specs.Ordering.{eq_by_cmp};
 ghost use Rattle.std.specs.FinMap as finite;
 ghost use Rattle.std.specs.FinSet as set;
 ghost use Rattle.bgpdump_tool.specs.declared.player.pair.Pair.{Pair};
-ghost use Rattle.bgpdump_tool.specs.History.{peer_cmp, pair_cmp, pair_of};
+ghost use Rattle.mrt_wire.specs.Peer.{peer_cmp};
+ghost use Rattle.bgpdump_tool.specs.History.{pair_cmp, pair_of};
 ghost use Rattle.bgpdump_tool.specs.Tables.{put};
 ghost use Rattle.bgpdump_tool.specs.Store.{route_in, slot_at};
 
-use crate::peer::Peer;
-use crate::player::event::Route;
 use crate::player::pair::Pair;
 use ip_prefix::{Addr, Prefix};
+use mrt_wire::{Peer, Route};
 use std::alloc::{AllocError, Global};
 use std::collections::BTreeMap;
 use std::marker::Model;
