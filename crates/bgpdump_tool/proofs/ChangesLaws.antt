@@ -41,9 +41,9 @@ is_some-map f None = refl
 is_some-map f (Some x) = refl
 
 -- where something is noted of a pair, an earlier effect on it changes nothing
-pub noted-decided : (slots : Slots) (peers : List Peer) (pair : Pair) (first : Effect) (q : Pair) → (is_some (slot_at slots pair) || is_lost peers pair) ≡ true
+pub noted_effect-decided : (slots : Slots) (peers : List Peer) (pair : Pair) (first : Effect) (q : Pair) → (is_some (slot_at slots pair) || is_lost peers pair) ≡ true
     → effect_of (found slots q) (is_lost peers q) ≡ later (where_true (eq_by_cmp pair_cmp q pair) first) (effect_of (found slots q) (is_lost peers q))
-noted-decided slots peers pair first q there = at (eq_by_cmp pair_cmp q pair) refl
+noted_effect-decided slots peers pair first q there = at (eq_by_cmp pair_cmp q pair) refl
   where
     at : (b : Bool) → eq_by_cmp pair_cmp q pair ≡ b → effect_of (found slots q) (is_lost peers q) ≡ later (where_true b first) (effect_of (found slots q) (is_lost peers q))
     at true e =
@@ -63,10 +63,10 @@ effect_of-none None false e = refl
 effect_of-none (Some slot) lost e = cc
 
 -- where nothing is noted of a pair, what is put into its slot comes before all that is noted
-pub noted-put : (old new : Slots) (peers : List Peer) (pair : Pair) (slot : Slot) (q : Pair) → (is_some (slot_at old pair) || is_lost peers pair) ≡ false
+pub noted_effect-put : (old new : Slots) (peers : List Peer) (pair : Pair) (slot : Slot) (q : Pair) → (is_some (slot_at old pair) || is_lost peers pair) ≡ false
     → slot_at new q ≡ cond (eq_by_cmp pair_cmp pair q) (Some slot) (slot_at old q)
     → effect_of (found new q) (is_lost peers q) ≡ later (where_true (eq_by_cmp pair_cmp q pair) (effect_of (Some (route_in slot)) false)) (effect_of (found old q) (is_lost peers q))
-noted-put old new peers pair slot q none put =
+noted_effect-put old new peers pair slot q none put =
     ap (λ s. effect_of (option_map route_in s) (is_lost peers q)) put
     ∙ at (eq_by_cmp pair_cmp pair q) refl
     ∙ ap (λ b. later (where_true b (effect_of (Some (route_in slot)) false)) (effect_of (found old q) (is_lost peers q))) ((eq_by_cmp_equiv pair_cmp_total).symm pair q)

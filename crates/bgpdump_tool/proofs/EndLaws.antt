@@ -11,7 +11,8 @@ use Rattle.mrt_wire.specs.declared.next.Phase.TheVariants.{Reading, Ended, Spent
 use Rattle.mrt_wire.specs.Record.{spelling, IsRecord}
 use Rattle.mrt_wire.specs.Verdict.{Frame}
 use Rattle.mrt_wire.specs.Splitting.{Splits, spellings}
-use Rattle.mrt_wire.specs.Results.{Finding, Found, Bad}
+use Rattle.mrt_wire.specs.declared.fault.RecordKind.TheVariants.{CutRecord}
+use Rattle.mrt_wire.specs.Results.{Finding, Found, Bad, rest_kind}
 use Rattle.mrt_wire.specs.Taking.{IsRest, IsBegun}
 use Rattle.mrt_wire.specs.Place.{Place, start_place, results}
 use Rattle.mrt_wire.specs.Next.{Took, IsLeft}
@@ -20,14 +21,14 @@ use Rattle.mrt_wire.specs.Device.{Stops}
 use Rattle.mrt_wire.proofs.FirstLaws.{same_taken}
 use Rattle.mrt_wire.proofs.RecordLaws.{BeginsWithNone-short}
 use Rattle.mrt_wire.proofs.SplitLaws.{frames_all}
-use Rattle.mrt_wire.proofs.SoFarLaws.{first_so_far, no_rest}
+use Rattle.mrt_wire.proofs.SoFarLaws.{FirstSoFar, first_so_far, front_so_far, no_rest}
 use Rattle.bgpdump_tool.specs.declared.fault.WriteFault.{WriteFault}
 use Rattle.bgpdump_tool.specs.declared.fault.WriteFault.TheVariants as write
 use Rattle.bgpdump_tool.specs.declared.outcome.Outcome.{Outcome}
 use Rattle.bgpdump_tool.specs.declared.outcome.Outcome.TheVariants as outcome
 use Rattle.bgpdump_tool.specs.Reports.{dump, reports}
 use Rattle.bgpdump_tool.specs.declared.dump.TheConstants.{LIMIT}
-use Rattle.bgpdump_tool.specs.Run.{Outputs, MayHold, Writes, WritesFronts, EndsSo, EndedByInput, IsTaken, IsLast, all_results}
+use Rattle.bgpdump_tool.specs.Run.{Outputs, MayHold, SawEnd, Writes, WritesFronts, EndsSo, EndedByInput, IsTaken, IsLast, all_results}
 use Rattle.bgpdump_tool.specs.Ending.{outcome_of, source_outcome, write_outcome}
 use Rattle.bgpdump_tool.specs.Writing.{is_any_bad}
 use Rattle.bgpdump_tool.specs.Going.{Going, StopsAtSource, StopsAtWriting, Ends}
@@ -43,72 +44,105 @@ reports_some [] e none = cc
 reports_some (Found event ∷ found) e none = reports_some found e none
 reports_some (Bad fault ∷ found) e none = cc
 
--- how a run ended that read all
-EndsSo-outcome : (failed reported : Bool) (found : List Finding) (a b : Outputs) → reported ≡ is_any_bad found → Writes found a b → EndsSo (outcome_of failed reported) found a b
-EndsSo-outcome true reported found a b told writes = WritesFronts-whole found a b writes
-EndsSo-outcome false true found a b told writes = (reports_some found (sym told), writes)
-EndsSo-outcome false false found a b told writes = (reports_none found (sym told), writes)
-
--- it wasn't ended by its input
-read_all : (failed reported : Bool) → EndedByInput (outcome_of failed reported) → ⊥
-read_all true reported by_input = by_input
-read_all false true by_input = by_input
-read_all false false by_input = by_input
-
 written_all : (fault : WriteFault) → EndedByInput (write_outcome fault) → ⊥
 written_all write.Write by_input = by_input
 written_all write.Memory by_input = by_input
 
--- an input that ends has nothing behind it
-ends_there : (left left' : Option (List ℕ)) (taken after more : List ℕ) → Took left left' taken after → (after ≡ [] → more ≡ []) → IsAtEnd left' → more ≡ []
-ends_there left left' taken after more took follows end = follows (subst IsAtEnd took.now end)
+-- what a source has left behind the frames is a rest
+rest_so_far : (p q : Place) (left left' : Option (List ℕ)) (found : List Finding) → (s : SoFar p q left left' found) → IsRest s.rest
+rest_so_far p q left left' found s = by_phase q.phase s.rest_is
+  where
+    by_phase : (phase : Phase) → RestSoFar phase left' s.rest → IsRest s.rest
+    by_phase Reading none = subst IsRest (sym none) (record { none = BeginsWithNone-short [] (omega arith); stops = inl refl })
+    by_phase Ended ends = ends.rest
+    by_phase Spent none = absurd none
 
--- a run that read all, and then finished its outputs
+-- what was found so far is first in whatever the input may hold, where a cut record shows that the end was seen
+first_held : (stamp : Stamp) (q : Place) (left left' : Option (List ℕ)) (found : List Finding) (outcome : Outcome) → (s : SoFar (start_place stamp LIMIT) q left left' found)
+    → (rest_kind s.rest ≡ CutRecord → SawEnd outcome s.rest) → (octets : List ℕ) (frames : List Frame) (rest : List ℕ) → MayHold stamp outcome left left' octets → Splits stamp None octets frames rest
+    → FirstSoFar (start_place stamp LIMIT) q found frames rest
+first_held stamp q left left' found outcome s saw octets frames rest may split =
+    let p : Place = start_place stamp LIMIT in
+    let same = same_taken left left' (spellings s.frames ++ s.rest) may.taken may.after s.consumed may.took in
+    let own : Splits stamp None may.taken s.frames s.rest = record { whole = same; are_frames = s.are_frames; none = (rest_so_far p q left left' found s).none } in
+    let split' = subst (λ o. Splits stamp None o frames rest) (may.whole ∙ ap (λ l. l ++ may.more) same) split in
+    first_so_far p q left left' found s may.more (λ _ cut end. may.follows s.frames s.rest own (saw cut) (subst IsAtEnd may.took.now end)) frames rest split'
+
+-- octets are none, or some
+cases_none : (octets : List ℕ) → (octets ≡ []) ⊎ (octets ≢ [])
+cases_none [] = inl refl
+cases_none (octet ∷ octets) = inr (λ e. cc)
+
+-- fronts of what was found so far are fronts of all that the input may hold
+WritesFronts-held : (stamp : Stamp) (q : Place) (left left' : Option (List ℕ)) (found : List Finding) (outcome : Outcome) (a b : Outputs) → SoFar (start_place stamp LIMIT) q left left' found
+    → ((rest : List ℕ) → rest_kind rest ≡ CutRecord → rest ≢ [] → SawEnd outcome rest) → WritesFronts found a b
+    → (octets : List ℕ) (frames : List Frame) (rest : List ℕ) → MayHold stamp outcome left left' octets → Splits stamp None octets frames rest → WritesFronts (all_results stamp frames rest) a b
+WritesFronts-held stamp q left left' found outcome a b s saw fronts octets frames rest may split = elim (cases_none s.rest) [
+  | inr some ↦
+      let first = first_held stamp q left left' found outcome s (λ cut. saw s.rest cut some) octets frames rest may split in
+      subst (λ f. WritesFronts f a b) (sym first.first) (WritesFronts-longer found first.later a b fronts)
+  | inl none ↦
+      let same = same_taken left left' (spellings s.frames ++ s.rest) may.taken may.after s.consumed may.took in
+      let split' = subst (λ o. Splits stamp None o frames rest) (may.whole ∙ ap (λ l. l ++ may.more) same) split in
+      let (later, first) = front_so_far (start_place stamp LIMIT) q left left' found s none may.more frames rest split' in
+      subst (λ f. WritesFronts f a b) (sym first) (WritesFronts-longer found later a b fronts)
+]
+
+-- all that the input may hold was found, where the source has ended
+all_held : (stamp : Stamp) (q : Place) (left left' : Option (List ℕ)) (found : List Finding) (outcome : Outcome) → (s : SoFar (start_place stamp LIMIT) q left left' found) → q.phase ≡ Ended
+    → (rest_kind s.rest ≡ CutRecord → SawEnd outcome s.rest) → (octets : List ℕ) (frames : List Frame) (rest : List ℕ) → MayHold stamp outcome left left' octets → Splits stamp None octets frames rest
+    → found ≡ all_results stamp frames rest
+all_held stamp q left left' found outcome s ended saw octets frames rest may split =
+    let first = first_held stamp q left left' found outcome s saw octets frames rest may split in
+    sym (first.first ∙ ap (λ l. found ++ l) (first.all ended) ∙ append-nil found)
+
+-- a run that read all, and then finished its outputs, by whether that failed and whether something was reported
+EndsSo-finished : (stamp : Stamp) (q : Place) (left left' : Option (List ℕ)) (found : List Finding) (a b : Outputs) (failed reported : Bool) → SoFar (start_place stamp LIMIT) q left left' found → q.phase ≡ Ended
+    → reported ≡ is_any_bad found → Writes found a b → (octets : List ℕ) (frames : List Frame) (rest : List ℕ) → MayHold stamp (outcome_of failed reported) left left' octets → Splits stamp None octets frames rest
+    → EndsSo (outcome_of failed reported) (all_results stamp frames rest) a b
+EndsSo-finished stamp q left left' found a b true reported s ended bad writes octets frames rest may split =
+    WritesFronts-held stamp q left left' found outcome.WriteFault a b s (λ _ cut some. (cut, some)) (WritesFronts-whole found a b writes) octets frames rest may split
+EndsSo-finished stamp q left left' found a b false true s ended bad writes octets frames rest may split =
+    subst (λ f. EndsSo outcome.Reported f a b) (all_held stamp q left left' found outcome.Reported s ended (λ cut. cut) octets frames rest may split) (reports_some found (sym bad), writes)
+EndsSo-finished stamp q left left' found a b false false s ended bad writes octets frames rest may split =
+    subst (λ f. EndsSo outcome.Done f a b) (all_held stamp q left left' found outcome.Done s ended (λ cut. cut) octets frames rest may split) (reports_none found (sym bad), writes)
+
 pub EndsSo-read : (stamp : Stamp) (left left' : Option (List ℕ)) (a b c : Outputs) (failed reported : Bool) (outcome : Outcome) → Ends (start_place stamp LIMIT) left left' a b (Ok reported)
     → outcome ≡ outcome_of failed reported → Keeps b.out c.out → Keeps b.err c.err
-    → (octets : List ℕ) (frames : List Frame) (rest : List ℕ) → MayHold outcome left left' octets → Splits stamp None octets frames rest → EndsSo outcome (all_results stamp frames rest) a c
+    → (octets : List ℕ) (frames : List Frame) (rest : List ℕ) → MayHold stamp outcome left left' octets → Splits stamp None octets frames rest → EndsSo outcome (all_results stamp frames rest) a c
 EndsSo-read stamp left left' a b c failed reported outcome (q, ended, g) is_outcome out err octets frames rest may split =
-    let s = g.so_far in
-    let same = same_taken left left' (spellings s.frames ++ s.rest) may.taken may.after s.consumed may.took in
-    let split' = subst (λ o. Splits stamp None o frames rest) (may.whole ∙ ap (λ l. l ++ may.more) same) split in
-    let follows = may.follows (λ by_input. read_all failed reported (subst EndedByInput is_outcome by_input)) in
-    let first = first_so_far (start_place stamp LIMIT) q left left' g.found s may.more (λ _ end. ends_there left left' may.taken may.after may.more may.took follows end) frames rest split' in
-    let all : results (start_place stamp LIMIT) frames rest ≡ g.found = first.first ∙ ap (λ l. g.found ++ l) (first.all ended) ∙ append-nil g.found in
     let writes : Writes g.found a c = (Appends-kept a.out b.out c.out (dump g.found) g.written.0 out, Appends-kept a.err b.err c.err (reports g.found) g.written.1 err) in
-    subst (λ f. EndsSo outcome f a c) (sym all) (subst (λ o. EndsSo o g.found a c) (sym is_outcome) (EndsSo-outcome failed reported g.found a c g.reported_is writes))
+    subst (λ o. EndsSo o (all_results stamp frames rest) a c) (sym is_outcome)
+    (EndsSo-finished stamp q left left' g.found a c failed reported g.so_far ended g.reported_is writes octets frames rest (subst (λ o. MayHold stamp o left left' octets) is_outcome may) split)
 
+-- a run that its source stopped
 EndsSo-source : (fault : SourceFault) (found : List Finding) (a b : Outputs) → WritesFronts found a b → EndsSo (source_outcome fault) found a b
 EndsSo-source source.Read found a b p = p
 EndsSo-source source.InputTooLong found a b p = p
 EndsSo-source source.Memory found a b p = p
 EndsSo-source source.Spent found a b p = p
 
-EndsSo-write : (fault : WriteFault) (found : List Finding) (a b : Outputs) → WritesFronts found a b → EndsSo (write_outcome fault) found a b
-EndsSo-write write.Write found a b p = p
-EndsSo-write write.Memory found a b p = p
+-- a run that its writing stopped
+EndsSo-write : (fault : WriteFault) (stamp : Stamp) (left left' : Option (List ℕ)) (a b : Outputs) → StopsAtWriting (start_place stamp LIMIT) left left' a b
+    → (octets : List ℕ) (frames : List Frame) (rest : List ℕ) → MayHold stamp (write_outcome fault) left left' octets → Splits stamp None octets frames rest → EndsSo (write_outcome fault) (all_results stamp frames rest) a b
+EndsSo-write write.Write stamp left left' a b stop = WritesFronts-held stamp stop.place left left' stop.found outcome.WriteFault a b stop.so_far (λ _ cut some. (cut, some)) stop.fronts
+EndsSo-write write.Memory stamp left left' a b stop = WritesFronts-held stamp stop.place left left' stop.found outcome.Memory a b stop.so_far (λ _ cut some. (cut, some)) stop.fronts
 
 -- a run that stopped
 pub EndsSo-stopped : (stamp : Stamp) (left left' : Option (List ℕ)) (a b : Outputs) (outcome : Outcome) → Ends (start_place stamp LIMIT) left left' a b (Err outcome)
-    → (octets : List ℕ) (frames : List Frame) (rest : List ℕ) → MayHold outcome left left' octets → Splits stamp None octets frames rest → EndsSo outcome (all_results stamp frames rest) a b
+    → (octets : List ℕ) (frames : List Frame) (rest : List ℕ) → MayHold stamp outcome left left' octets → Splits stamp None octets frames rest → EndsSo outcome (all_results stamp frames rest) a b
 EndsSo-stopped stamp left left' a b outcome (inl (fault, is, stop)) octets frames rest may split =
     let s = stop.so_far in
     let done : List ℕ = spellings s.frames ++ s.rest in
+    let none = no_rest (start_place stamp LIMIT) stop.place left stop.mid stop.found s stop.reading in
     let same = same_taken left left' (done ++ stop.octets) may.taken may.after (Consumes-trans left stop.mid left' done stop.octets s.consumed stop.consumed) may.took in
     let split' = subst (λ o. Splits stamp None o frames rest) (may.whole ∙ ap (λ l. l ++ may.more) same ∙ append_assoc done stop.octets may.more) split in
-    let first = first_so_far (start_place stamp LIMIT) stop.place left stop.mid stop.found s (stop.octets ++ may.more) (λ ended. absurd (clash (sym stop.reading ∙ ended))) frames rest split' in
-    let fronts = WritesFronts-longer stop.found first.later a b (WritesFronts-whole stop.found a b stop.written) in
-    subst (λ f. EndsSo outcome f a b) (sym first.first) (subst (λ o. EndsSo o (stop.found ++ first.later) a b) (sym is) (EndsSo-source fault (stop.found ++ first.later) a b fronts))
-  where
-    clash : Reading ≡ Ended → ⊥
-    clash e = cc
+    let (later, first) = front_so_far (start_place stamp LIMIT) stop.place left stop.mid stop.found s none (stop.octets ++ may.more) frames rest split' in
+    let fronts = WritesFronts-longer stop.found later a b (WritesFronts-whole stop.found a b stop.written) in
+    subst (λ f. EndsSo outcome f a b) (sym first) (subst (λ o. EndsSo o (stop.found ++ later) a b) (sym is) (EndsSo-source fault (stop.found ++ later) a b fronts))
 EndsSo-stopped stamp left left' a b outcome (inr (fault, is, stop)) octets frames rest may split =
-    let s = stop.so_far in
-    let same = same_taken left left' (spellings s.frames ++ s.rest) may.taken may.after s.consumed may.took in
-    let split' = subst (λ o. Splits stamp None o frames rest) (may.whole ∙ ap (λ l. l ++ may.more) same) split in
-    let follows = may.follows (λ by_input. written_all fault (subst EndedByInput is by_input)) in
-    let first = first_so_far (start_place stamp LIMIT) stop.place left left' stop.found s may.more (λ _ end. ends_there left left' may.taken may.after may.more may.took follows end) frames rest split' in
-    let fronts = WritesFronts-longer stop.found first.later a b stop.fronts in
-    subst (λ f. EndsSo outcome f a b) (sym first.first) (subst (λ o. EndsSo o (stop.found ++ first.later) a b) (sym is) (EndsSo-write fault (stop.found ++ first.later) a b fronts))
+    subst (λ o. EndsSo o (all_results stamp frames rest) a b) (sym is)
+    (EndsSo-write fault stamp left left' a b stop octets frames rest (subst (λ o. MayHold stamp o left left' octets) is may) split)
 
 -- a fault of the input leaves a record that has begun
 begun_by_input : (fault : SourceFault) (octets : List ℕ) → EndedByInput (source_outcome fault) → IsLeft fault octets → IsBegun octets
@@ -144,15 +178,6 @@ last_of_source source.Spent octets (inr (memory, whole)) = cc
 last_of_write : (fault : WriteFault) (octets : List ℕ) → IsRest octets → IsLast (write_outcome fault) octets
 last_of_write write.Write octets rest = rest
 last_of_write write.Memory octets rest = inl rest
-
--- what a source has left behind the frames is a rest
-rest_so_far : (p q : Place) (left left' : Option (List ℕ)) (found : List Finding) → (s : SoFar p q left left' found) → IsRest s.rest
-rest_so_far p q left left' found s = by_phase q.phase s.rest_is
-  where
-    by_phase : (phase : Phase) → RestSoFar phase left' s.rest → IsRest s.rest
-    by_phase Reading none = subst IsRest (sym none) (record { none = BeginsWithNone-short [] (omega arith); stops = inl refl })
-    by_phase Ended ends = ends.rest
-    by_phase Spent none = absurd none
 
 -- what was taken by a run that stopped
 pub IsTaken-stopped : (stamp : Stamp) (left left' : Option (List ℕ)) (a b : Outputs) (outcome : Outcome) → Ends (start_place stamp LIMIT) left left' a b (Err outcome)

@@ -26,8 +26,8 @@ effect_of (Some None) lost = Clear
 effect_of None lost = where_true lost Clear
 
 -- what is noted for a pair
-abbrev pub noted : Changes → Pair → Effect
-noted changes pair = effect_of (found changes.routes.entries pair) (is_lost changes.lost.items pair)
+abbrev pub noted_effect : Changes → Pair → Effect
+noted_effect changes pair = effect_of (found changes.routes.entries pair) (is_lost changes.lost.items pair)
 
 -- something is noted for a pair
 abbrev pub decides : Changes → Pair → Bool

@@ -55,11 +55,11 @@ abbrev pub effect : Pair → Event → Effect
 effect pair event = last_effect (map (item_effect pair) event.items)
 
 -- the route behind an effect
-abbrev pub applied : Option Route → Effect → Option Route
-applied route Keep = route
-applied route Clear = None
-applied route (Set new) = Some new
+abbrev pub route_after : Option Route → Effect → Option Route
+route_after route Keep = route
+route_after route Clear = None
+route_after route (Set new) = Some new
 
 -- the route after a history, whose last event that concerns the pair decides
 abbrev pub route : Pair → List Event → Option Route
-route pair history = applied None (last_effect (map (effect pair) history))
+route pair history = route_after None (last_effect (map (effect pair) history))

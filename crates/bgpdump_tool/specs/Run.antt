@@ -4,8 +4,9 @@ use Rattle.std.specs.Io.KnownBytes.{Appends}
 use Rattle.mrt_wire.specs.declared.event.Stamp.{Stamp}
 use Rattle.mrt_wire.specs.Record.{Record, spelling, IsRecord}
 use Rattle.mrt_wire.specs.Verdict.{Frame}
-use Rattle.mrt_wire.specs.Splitting.{AreFrames, spellings}
-use Rattle.mrt_wire.specs.Results.{Finding}
+use Rattle.mrt_wire.specs.Splitting.{AreFrames, Splits, spellings}
+use Rattle.mrt_wire.specs.declared.fault.RecordKind.TheVariants.{CutRecord}
+use Rattle.mrt_wire.specs.Results.{Finding, rest_kind}
 use Rattle.mrt_wire.specs.Taking.{IsRest, IsBegun}
 use Rattle.mrt_wire.specs.Place.{Place, start_place, results}
 use Rattle.mrt_wire.specs.Next.{Took}
@@ -56,14 +57,24 @@ EndedByInput WriteFault = ⊥
 EndedByInput ScriptTooLong = ⊥
 EndedByInput Memory = ⊥
 
+-- the end was seen by a run that ended so and took this behind the frames: where it read all, unless a header states too much; where it stopped at its writing, if a record is cut
+abbrev pub SawEnd : Outcome → List ℕ → Type 0
+SawEnd Done rest = rest_kind rest ≡ CutRecord
+SawEnd Reported rest = rest_kind rest ≡ CutRecord
+SawEnd WriteFault rest = (rest_kind rest ≡ CutRecord) × (rest ≢ [])
+SawEnd Memory rest = (rest_kind rest ≡ CutRecord) × (rest ≢ [])
+SawEnd ReadFault rest = ⊥
+SawEnd InputTooLong rest = ⊥
+SawEnd ScriptTooLong rest = ⊥
+
 -- octets that the input may hold on the whole: those taken, and any others behind them, but none where the end was seen
-pub record MayHold (outcome : Outcome) (old new : Option (List ℕ)) (octets : List ℕ) : Type 0 where
+pub record MayHold (stamp : Stamp) (outcome : Outcome) (old new : Option (List ℕ)) (octets : List ℕ) : Type 0 where
   pub taken : List ℕ
   pub after : List ℕ
   pub more : List ℕ
   pub took : Took old new taken after
   pub whole : octets ≡ taken ++ more
-  pub follows : (EndedByInput outcome → ⊥) → after ≡ [] → more ≡ []
+  pub follows : (frames : List Frame) (rest : List ℕ) → Splits stamp None taken frames rest → SawEnd outcome rest → after ≡ [] → more ≡ []
 
 -- octets taken behind the frames: a record has begun in them, where the input ended the run; or they are the rest; or for want of memory a whole record wasn't judged
 abbrev pub IsLast : Outcome → List ℕ → Type 0

@@ -39,7 +39,7 @@ pub fn run_dump<I: Input, O: Output, E: Output>(
     // Whatever the input may hold on the whole: its lines and reports were written, or fronts of
     // them.
     ensures text { (octets : List ℕ) (frames : List Frame) (rest : List ℕ) →
-        MayHold result (I.left input.old) (I.left input.new) octets →
+        MayHold stamp result (I.left input.old) (I.left input.new) octets →
         Splits stamp None octets frames rest →
         EndsSo result (all_results stamp frames rest)
         (outputs_of O.written E.written out.old err.old)

@@ -123,8 +123,8 @@ fn put_route_head(
     route: &Route,
     text: &mut Vec<u8>,
 ) -> Result<(), AllocError>
-    ensures { OnOk result (text.new.items ≡ text.old.items ++
-        (word tag ++ 124 ∷ (route_time_text time.now tag route.now ++ 124 ∷ route_letter tag ∷ []))) }
+    ensures { OnOk result (text.new.items ≡ text.old.items ++ (word tag ++
+        124 ∷ (route_time_text time.now tag route.now ++ 124 ∷ route_letter tag ∷ []))) }
 {
     put_word(tag, text)?;
     text.push(b'|')?;

@@ -171,7 +171,8 @@ all_of_frames p q left done frames last more rest ends follows are are' none joi
       all = λ _. refl;
     }
 
-pub first_so_far : (p q : Place) (left left' : Option (List ℕ)) (found : List Finding) → (s : SoFar p q left left' found) → (more : List ℕ) → (q.phase ≡ Ended → IsAtEnd left' → more ≡ [])
+pub first_so_far : (p q : Place) (left left' : Option (List ℕ)) (found : List Finding) → (s : SoFar p q left left' found) → (more : List ℕ)
+    → (q.phase ≡ Ended → rest_kind s.rest ≡ CutRecord → IsAtEnd left' → more ≡ [])
     → (frames : List Frame) (rest : List ℕ) → Splits p.stamp p.index ((spellings s.frames ++ s.rest) ++ more) frames rest → FirstSoFar p q found frames rest
 first_so_far p q left left' found s more follows frames rest split = subst (λ f. FirstSoFar p q f frames rest) (sym s.found_is) (by_phase q.phase refl s.rest_is)
   where
@@ -181,8 +182,21 @@ first_so_far p q left left' found s more follows frames rest split = subst (λ f
     by_phase : (phase : Phase) → q.phase ≡ phase → RestSoFar phase left' s.rest → FirstSoFar p q (results p s.frames s.rest) frames rest
     by_phase Reading is none = subst (λ l. FirstSoFar p q (results p s.frames l) frames rest) (sym none)
         (first_of_frames p q s.frames frames (s.rest ++ more) rest is s.are_frames split.are_frames split.none joined)
-    by_phase Ended is ends = all_of_frames p q left' s.frames frames s.rest more rest ends (λ cut. follows is (ends.seen cut)) s.are_frames split.are_frames split.none joined
+    by_phase Ended is ends = all_of_frames p q left' s.frames frames s.rest more rest ends (λ cut. follows is cut (ends.seen cut)) s.are_frames split.are_frames split.none joined
     by_phase Spent is none = absurd none
+
+-- where nothing was taken behind the frames, what is found is first, whatever follows
+pub front_so_far : (p q : Place) (left left' : Option (List ℕ)) (found : List Finding) → (s : SoFar p q left left' found) → s.rest ≡ [] → (more : List ℕ)
+    → (frames : List Frame) (rest : List ℕ) → Splits p.stamp p.index ((spellings s.frames ++ s.rest) ++ more) frames rest
+    → (later : List Finding) × (results p frames rest ≡ found ++ later)
+front_so_far p q left left' found s none more frames rest split =
+    let joined : spellings s.frames ++ (s.rest ++ more) ≡ spellings frames ++ rest = sym (append_assoc (spellings s.frames) s.rest more) ∙ split.whole in
+    let behind = frames_first p.stamp p.index s.frames frames (s.rest ++ more) rest s.are_frames split.are_frames split.none joined in
+    let found_is : found ≡ results p s.frames [] = s.found_is ∙ ap (results p s.frames) none in (
+      results (place_behind_all p s.frames) behind.later rest,
+      ap (λ f. results p f rest) behind.frames_are ∙ results-append p s.frames behind.later rest
+      ∙ ap (λ f. f ++ results (place_behind_all p s.frames) behind.later rest) (sym found_is),
+    )
 
 -- what `next` promises of a source that reads, and of one that has ended
 abbrev pub Promises : Place → Place → Option (List ℕ) → Option (List ℕ) → Next → Type 0

@@ -40,8 +40,8 @@ pub(crate) fn fill_within<I: Input>(
     limit: u64,
 ) -> Result<usize, SourceFault>
     requires room { taken.old ≤ limit }
-    ensures octets { FillsWithin (I.left input.old) (I.left input.new) taken.old taken.new buffer.new
-        (length buffer.new) limit result }
+    ensures octets { FillsWithin (I.left input.old) (I.left input.new) taken.old taken.new
+        buffer.new (length buffer.new) limit result }
     ensures failed { I.failed input.new ≡ (I.failed input.old || is_read result) }
 {
     let room = limit - *taken;
@@ -107,8 +107,8 @@ fn fill_part<I: Input>(
 }
 
 /// Reads a body of `size` octets into the front of the buffer, and answers how many there are. At
-/// most `limit` octets may be taken in all. The buffer grows to at most twice what the input gave, and
-/// 4,096.
+/// most `limit` octets may be taken in all. The buffer grows to at most twice what the input gave,
+/// and 4,096.
 pub(crate) fn fill_body<I: Input>(
     input: &mut I,
     buffer: &mut Vec<u8>,
@@ -118,8 +118,8 @@ pub(crate) fn fill_body<I: Input>(
 ) -> Result<usize, SourceFault>
     requires small { size ≤ LONGEST_BODY }
     requires room { taken.old ≤ limit }
-    ensures octets { FillsWithin (I.left input.old) (I.left input.new) taken.old taken.new buffer.new.items
-        size limit result }
+    ensures octets { FillsWithin (I.left input.old) (I.left input.new) taken.old taken.new
+        buffer.new.items size limit result }
     ensures held { IfOk result (λ count. count ≤ vec_len buffer.new) }
     ensures growth { IfOk result (λ count.
         vec_len buffer.new ≤ max (vec_len buffer.old) (2 * count + FIRST_GROWTH)) }

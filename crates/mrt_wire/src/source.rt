@@ -78,7 +78,7 @@ impl Source {
     /// What comes next in the input: an event, a faulty record, or the end. Behind the end, and
     /// behind a fault of the source, the input isn't asked any more.
     pub fn next<I: Input>(&mut self, input: &mut I) -> Result<Next, SourceFault>
-        // Octets are taken: those of a record, which is judged, or the rest; or a fault came before.
+        // Octets are taken: those of a record, which is judged, or the rest; or a fault came.
         ensures next { self.old.phase ≡ Phase.Reading → (octets : List ℕ)
             × Consumes (I.left input.old) (I.left input.new) octets
             × Nexts self.old self.new (I.left input.new) octets result }

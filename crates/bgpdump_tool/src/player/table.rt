@@ -34,7 +34,10 @@ impl Model for Table {
 
     ghost coded = { coded_store };
 
-    ghost view = { λ a. record { keys = keys_in a.slots.entries; routes = routes_in a.slots.entries } };
+    ghost view = { λ a. record {
+      keys = keys_in a.slots.entries;
+      routes = routes_in a.slots.entries;
+    } };
 }
 
 impl Table {
@@ -73,7 +76,8 @@ impl Table {
 
     /// The route at the pair.
     pub(crate) fn route(&self, pair: &Pair) -> Option<&Rc<Route>>
-        ensures { option_map (λ route. route.now.value) result ≡ finite.get self.now.routes pair.now }
+        ensures { option_map (λ route. route.now.value) result ≡
+            finite.get self.now.routes pair.now }
     {
         self.slots.get(pair)?.as_ref()
     }

@@ -2,7 +2,7 @@ use Rattle.std.proofs.Common.{◌≡◌, ◌-◌, ◌<◌, suc, length, arith, a
 use Rattle.mrt_wire.specs.Event.{saying}
 use Rattle.bgpdump_tool.specs.declared.player.pair.Pair.{Pair}
 use Rattle.bgpdump_tool.specs.History.{item_effect, last_effect}
-use Rattle.bgpdump_tool.specs.Changes.{noted}
+use Rattle.bgpdump_tool.specs.Changes.{noted_effect}
 use Rattle.bgpdump_tool.proofs.ChangesLaws.{last_effect-more, effects-sayings}
 use Rattle.bgpdump_tool.proofs.player.changes.changes_of.Goals as goal
 
@@ -13,7 +13,7 @@ items-preserved c =
     let next : suc (c.items.rest - 1) ≡ c.items.rest = omega arith in
     record {
       within = omega arith;
-      noted_is = λ (q : Pair). last_effect-more (λ item. item_effect q (saying item)) items (c.items.rest - 1) c.items.rest c.index-items-rest.result (noted c.items.changes q) (noted c.note.new.self q) within next
+      noted_is = λ (q : Pair). last_effect-more (λ item. item_effect q (saying item)) items (c.items.rest - 1) c.items.rest c.index-items-rest.result (noted_effect c.items.changes q) (noted_effect c.note.new.self q) within next
           c.index-items-rest.is (c.items.invariant.noted_is q) (c.in_ok-note.ensures q);
     }
 
