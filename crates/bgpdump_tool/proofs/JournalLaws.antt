@@ -47,10 +47,6 @@ kept-tail keys side sides kept = record {
   among_keys = kept.among_keys.1;
 }
 
--- the first of kept entries has a key
-pub kept-head : (keys : Pairs) (side : Side) (sides : List Side) → IsKept keys (side ∷ sides) → names.contains keys side.0 ≡ true
-kept-head keys side sides kept = kept.among_keys.0
-
 -- crossing kept entries one by one
 pub sides_across-tail : (keys : Pairs) (routes : Routes) (side : Side) (sides : List Side) → IsKept keys (side ∷ sides)
     → sides_across (put routes side.0 side.1) sides ≡ sides_across routes sides

@@ -5,6 +5,7 @@ use Rattle.std.specs.Ordering.{on, then_cmp, eq_by_cmp}
 use Rattle.ip_prefix.specs.Network.{Network}
 use Rattle.ip_prefix.specs.Order.{network_cmp}
 use Rattle.mrt_wire.specs.declared.peer.Peer.{Peer}
+use Rattle.bgpdump_tool.specs.declared.player.changes.TheConstants.{ESTABLISHED}
 use Rattle.bgpdump_tool.specs.declared.player.pair.Pair.{Pair}
 use Rattle.mrt_wire.specs.declared.event.Route.{Route}
 use Rattle.mrt_wire.specs.Peer.{peer_cmp}
@@ -30,9 +31,9 @@ abbrev pub where_true : Bool → Effect → Effect
 where_true true effect = effect
 where_true false effect = Keep
 
--- the session leaves Established, whose number is 6 (RFC 6396, section 4.4.1)
+-- the session leaves Established (RFC 6396, section 4.4.1)
 abbrev pub is_loss : ℕ → ℕ → Bool
-is_loss old new = (old == 6) && not (new == 6)
+is_loss old new = (old == ESTABLISHED) && not (new == ESTABLISHED)
 
 abbrev pub item_effect : Pair → Saying → Effect
 item_effect pair (Announced peer network route) = where_true (eq_by_cmp pair_cmp pair (pair_of peer network)) (Set route)

@@ -5,7 +5,7 @@ use Rattle.mrt_wire.specs.declared.fault.RecordKind.{RecordKind}
 use Rattle.mrt_wire.specs.declared.fault.RecordKind.TheVariants.{CutRecord, TooLong, Unsupported, Malformed, NoIndex, PeerIndex}
 use Rattle.mrt_wire.specs.declared.fault.RecordFault.{RecordFault}
 use Rattle.mrt_wire.specs.Results.{Finding, Found, Bad}
-use Rattle.bgpdump_tool.specs.Lines.{event_lines}
+use Rattle.bgpdump_tool.specs.Lines.{line_feed, event_lines}
 
 -- what is wrong with a record
 abbrev pub kind_text : RecordKind → List ℕ
@@ -19,7 +19,8 @@ kind_text (PeerIndex number) = codes "peer index " ++ decimal number
 -- the report of a fault
 abbrev pub fault_report : RecordFault → List ℕ
 fault_report fault =
-    codes "bgpdump: record " ++ (decimal fault.number ++ (codes ", byte " ++ (decimal fault.offset ++ (codes ": " ++ (kind_text fault.kind ++ 10 ∷ [])))))
+    codes "bgpdump: record " ++ (decimal fault.number ++ (codes ", byte " ++ (decimal fault.offset
+        ++ (codes ": " ++ (kind_text fault.kind ++ line_feed ∷ [])))))
 
 -- the lines and the report of what was found
 abbrev pub finding_lines : Finding → List ℕ

@@ -3,7 +3,7 @@
 ghost use Rattle.std.specs.Prelude.{◌≡◌, ◌∷◌, ◌++◌, ◌≤◌, [], OnOk, decimal, length};
 ghost use Rattle.ip_prefix.specs.Text.{address_text, network_text};
 ghost use Rattle.mrt_wire.specs.Event.{Announced, Withdrawn, Changed, saying};
-ghost use Rattle.bgpdump_tool.specs.Lines.{line_of, attribute_fields, word, micros_text, time_text, route_time_text, route_letter, item_line, event_lines};
+ghost use Rattle.bgpdump_tool.specs.Lines.{bar, line_of, attribute_fields, word, micros_text, time_text, route_time_text, route_letter, item_line, event_lines};
 
 use ip_prefix::{Prefix, put_decimal};
 use mrt_wire::{Event, Item, Peer, Route, Tag, Time};
@@ -14,7 +14,7 @@ const MICROS_DIGITS: usize = 6;
 
 /// Appends a bar and a number.
 fn put_number(number: u64, text: &mut Vec<u8>) -> Result<(), AllocError>
-    ensures { OnOk result (text.new.items ≡ text.old.items ++ (124 ∷ decimal number)) }
+    ensures { OnOk result (text.new.items ≡ text.old.items ++ (bar ∷ decimal number)) }
 {
     text.push(b'|')?;
     put_decimal(number, text)?;
@@ -24,7 +24,7 @@ fn put_number(number: u64, text: &mut Vec<u8>) -> Result<(), AllocError>
 /// Appends a bar, the peer's address, a bar, and its AS number.
 fn put_peer(peer: &Peer, text: &mut Vec<u8>) -> Result<(), AllocError>
     ensures { OnOk result (text.new.items ≡
-        text.old.items ++ (124 ∷ address_text peer.now.addr ++ 124 ∷ decimal peer.now.asn)) }
+        text.old.items ++ (bar ∷ address_text peer.now.addr ++ bar ∷ decimal peer.now.asn)) }
 {
     text.push(b'|')?;
     peer.addr.put_text(text)?;
@@ -34,7 +34,7 @@ fn put_peer(peer: &Peer, text: &mut Vec<u8>) -> Result<(), AllocError>
 
 /// Appends a bar and a prefix.
 fn put_prefix(prefix: &Prefix, text: &mut Vec<u8>) -> Result<(), AllocError>
-    ensures { OnOk result (text.new.items ≡ text.old.items ++ (124 ∷ network_text prefix.now)) }
+    ensures { OnOk result (text.new.items ≡ text.old.items ++ (bar ∷ network_text prefix.now)) }
 {
     text.push(b'|')?;
     prefix.put_text(text)?;
@@ -82,7 +82,7 @@ fn put_time(time: &Time, tag: Tag, text: &mut Vec<u8>) -> Result<(), AllocError>
 /// Appends the first two fields of a line: what kind of record it is from, and its time.
 fn put_head(time: &Time, tag: Tag, text: &mut Vec<u8>) -> Result<(), AllocError>
     ensures { OnOk result (text.new.items ≡
-        text.old.items ++ (word tag ++ 124 ∷ time_text tag time.now)) }
+        text.old.items ++ (word tag ++ bar ∷ time_text tag time.now)) }
 {
     put_word(tag, text)?;
     text.push(b'|')?;
@@ -108,7 +108,7 @@ fn put_route_time(
 
 /// What a route's line is: an entry of a table, or an announcement.
 fn letter_of(tag: Tag) -> u8
-    ensures { result ≡ route_letter tag }
+    ensures { result ∷ [] ≡ route_letter tag }
 {
     match tag {
         Tag::TableDump2 => b'B',
@@ -124,7 +124,7 @@ fn put_route_head(
     text: &mut Vec<u8>,
 ) -> Result<(), AllocError>
     ensures { OnOk result (text.new.items ≡ text.old.items ++ (word tag ++
-        124 ∷ (route_time_text time.now tag route.now ++ 124 ∷ route_letter tag ∷ []))) }
+        bar ∷ (route_time_text time.now tag route.now ++ bar ∷ route_letter tag))) }
 {
     put_word(tag, text)?;
     text.push(b'|')?;
@@ -137,7 +137,7 @@ fn put_route_head(
 /// Appends what stands behind the prefix in the line of a route. So far a route has a time alone,
 /// and all its attributes are absent.
 fn put_attributes(text: &mut Vec<u8>) -> Result<(), AllocError>
-    ensures { OnOk result (text.new.items ≡ text.old.items ++ (124 ∷ line_of attribute_fields)) }
+    ensures { OnOk result (text.new.items ≡ text.old.items ++ (bar ∷ line_of attribute_fields)) }
 {
     text.extend_from_slice(b"||||0|0||NAG||\n")?;
     Ok(())

@@ -1,11 +1,11 @@
 -- Laws of contents.
-use Rattle.std.proofs.Common.{◌≡◌, ◌∙◌, ◌⊎◌, inl, inr, ℕ, List, refl, sym}
+use Rattle.std.proofs.Common.{◌≡◌, ◌∙◌, ◌⊎◌, inl, inr, ℕ, List, sym}
 use Rattle.std.proofs.lemmas.Bool.{cases_eq}
 use Rattle.mrt_wire.specs.declared.judging.TheConstants.{BGP4MP, BGP4MP_STATE_CHANGE}
 use Rattle.mrt_wire.specs.declared.state_change.StateChange.{StateChange}
 use Rattle.mrt_wire.specs.Profile.{Form, HasForm}
 use Rattle.mrt_wire.specs.Profile as form
-use Rattle.mrt_wire.specs.Content.{Content, Change, SpellsContent, IsBody, SpellsStateChange}
+use Rattle.mrt_wire.specs.Content.{Content, Change, IsBody, SpellsStateChange}
 use Rattle.mrt_wire.proofs.StateChangeLaws.{same_state_change}
 
 -- a type and subtype have a form, or none

@@ -1,7 +1,7 @@
 -- What a source answers is the first result.
-use Rattle.std.proofs.Common.{◌≡◌, ◌⊎◌, inl, inr, Result, ℕ, ◌+◌, ◌≤◌, ◌<◌, cond, List, [], ◌∷◌, ◌++◌, Option, Some, None, Ok, Err, length, take, drop, sym, ap, ◌∙◌, refl, subst, arith, length-append, append-nil}
+use Rattle.std.proofs.Common.{◌≡◌, inl, inr, Result, ℕ, ◌+◌, ◌≤◌, ◌<◌, cond, List, [], ◌∷◌, ◌++◌, Option, Some, None, Ok, length, take, drop, sym, ap, ◌∙◌, refl, subst, arith, length-append, append-nil}
 use Rattle.std.proofs.lemmas.Bool.{cases_lt, lt-ltb, le-ltb}
-use Rattle.std.proofs.lemmas.List.{append_cancel_right, append_assoc, take_at, drop_at, take-append-drop, length-take-le}
+use Rattle.std.proofs.lemmas.List.{append_cancel_right, append_assoc, drop_at, take-append-drop, length-take-le}
 use Rattle.std.proofs.lemmas.Nat.{from_be_bytes-to_be_bytes_4}
 use Rattle.std.specs.Prelude.{nat_lt}
 use Rattle.std.specs.Int.{from_be_bytes, w32}
@@ -11,13 +11,12 @@ use Rattle.std.specs.Io.KnownBytes.{Consumes}
 use Rattle.mrt_wire.specs.declared.fault.SourceFault.{SourceFault}
 use Rattle.mrt_wire.specs.declared.next.Next.{Next}
 use Rattle.mrt_wire.specs.declared.next.Next.TheVariants as next
-use Rattle.mrt_wire.specs.declared.event.Stamp.{Stamp}
 use Rattle.mrt_wire.specs.declared.frames.TheConstants.{LONGEST_BODY}
 use Rattle.mrt_wire.specs.Record.{Record, spelling, IsRecord, BeginsWithNone}
-use Rattle.mrt_wire.specs.Verdict.{Frame, Index}
-use Rattle.mrt_wire.specs.Splitting.{AreFrames, Splits, spellings}
-use Rattle.mrt_wire.specs.Results.{Finding, Found, Bad, finding, stated_size, rest_kind, rest_fault, fault_findings}
-use Rattle.mrt_wire.specs.Taking.{IsRest, EndsAt}
+use Rattle.mrt_wire.specs.Verdict.{Frame}
+use Rattle.mrt_wire.specs.Splitting.{Splits, spellings}
+use Rattle.mrt_wire.specs.Results.{Finding, Found, Bad, stated_size, rest_kind, rest_fault, fault_findings}
+use Rattle.mrt_wire.specs.Taking.{IsRest}
 use Rattle.mrt_wire.specs.Place.{Place, results}
 use Rattle.mrt_wire.specs.Next.{Nexts, answer_findings, MayFollow, IsFrameAt, IsRestAt, Took}
 use Rattle.mrt_wire.proofs.SplitLaws.{frames_first, frames_all}

@@ -1,23 +1,20 @@
 -- What a call of `next` takes and answers.
-use Rattle.std.proofs.Common.{◌≡◌, ◌⊎◌, inl, inr, ℕ, ◌+◌, ◌≤◌, List, [], ◌∷◌, ◌++◌, Option, Result, Ok, Err, length, take, sym, ap, ◌∙◌, refl, subst}
+use Rattle.std.proofs.Common.{◌≡◌, inl, ℕ, ◌+◌, List, Option, Result, Ok, Err, length, take, ap, ◌∙◌, refl, subst}
 use Rattle.std.specs.Io.KnownBytes.{Consumes}
 use Rattle.mrt_wire.specs.declared.event.Event.{Event}
-use Rattle.mrt_wire.specs.declared.fault.SourceFault.{SourceFault}
-use Rattle.mrt_wire.specs.declared.fault.SourceFault.TheVariants.{Memory}
 use Rattle.mrt_wire.specs.declared.frames.Front.TheVariants as front
 use Rattle.mrt_wire.specs.declared.header.Header.{Header}
 use Rattle.mrt_wire.specs.declared.judging.Refusal.{Refusal}
 use Rattle.mrt_wire.specs.declared.judging.Refusal.TheVariants as refusal
 use Rattle.mrt_wire.specs.declared.next.Next.{Next}
 use Rattle.mrt_wire.specs.declared.next.Next.TheVariants as next
-use Rattle.mrt_wire.specs.declared.next.Phase.TheVariants.{Spent}
-use Rattle.mrt_wire.specs.Device.{Takes, Stops}
-use Rattle.mrt_wire.specs.Record.{Record, record_under, spelling}
-use Rattle.mrt_wire.specs.Verdict.{Index, Verdict, Accepted, Refused, Frame, ReadsAs, index_after}
+use Rattle.mrt_wire.specs.Device.{Takes}
+use Rattle.mrt_wire.specs.Record.{record_under, spelling}
+use Rattle.mrt_wire.specs.Verdict.{Index, Accepted, Refused, Frame, ReadsAs, index_after}
 use Rattle.mrt_wire.specs.Judging.{Judges, judged_answer}
 use Rattle.mrt_wire.specs.Taking.{TakesRecord, record_in}
 use Rattle.mrt_wire.specs.Place.{Place, place_behind}
-use Rattle.mrt_wire.specs.Next.{Nexts, answer_findings, IsFrameAt}
+use Rattle.mrt_wire.specs.Next.{Nexts, answer_findings}
 
 -- the place behind a frame, by its parts
 place_behind-parts : (p : Place) (frame : Frame) (index : Index) (number offset limit : ℕ) → index ≡ index_after p.index frame.verdict → number ≡ p.number + 1

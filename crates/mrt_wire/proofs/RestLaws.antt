@@ -1,21 +1,20 @@
 -- Octets that are a rest, or in which a record has begun.
-use Rattle.std.proofs.Common.{◌≡◌, ℕ, ◌+◌, ◌≤◌, ◌<◌, false, cond, List, [], ◌∷◌, ◌++◌, Option, Some, None, Ok, Err, length, take, sym, ap, ◌∙◌, subst, arith, length-append, append-nil, inl, inr, refl}
+use Rattle.std.proofs.Common.{◌≡◌, ℕ, ◌≤◌, ◌<◌, false, cond, List, [], ◌∷◌, ◌++◌, Option, Some, Ok, Err, length, sym, ap, ◌∙◌, subst, arith, length-append, inl, refl}
 use Rattle.std.proofs.lemmas.Bool.{lt-ltb, le-ltb}
 use Rattle.std.proofs.lemmas.Nat.{from_be_bytes-to_be_bytes_4}
 use Rattle.std.specs.Prelude.{nat_lt}
 use Rattle.std.specs.Io.KnownBytes.{IsAtEnd}
-use Rattle.mrt_wire.specs.declared.fault.RecordKind.{RecordKind}
 use Rattle.mrt_wire.specs.declared.fault.RecordKind.TheVariants.{CutRecord, TooLong}
 use Rattle.mrt_wire.specs.declared.fault.SourceFault.{SourceFault}
 use Rattle.mrt_wire.specs.declared.frames.Front.TheVariants as answer
 use Rattle.mrt_wire.specs.declared.header.Header.{Header}
 use Rattle.mrt_wire.specs.declared.frames.TheConstants.{LONGEST_BODY}
-use Rattle.mrt_wire.specs.Record.{IsHeader, header_octets, BeginsWithNone}
+use Rattle.mrt_wire.specs.Record.{IsHeader, header_octets}
 use Rattle.mrt_wire.specs.Results.{rest_kind, rest_fault, stated_size}
-use Rattle.mrt_wire.specs.Device.{Takes, Stops}
-use Rattle.mrt_wire.specs.Taking.{IsRest, IsBegun, EndsAt, TakesHeader, TakesBody, TakesRecord}
+use Rattle.mrt_wire.specs.Device.{Takes}
+use Rattle.mrt_wire.specs.Taking.{IsBegun, EndsAt, TakesHeader, TakesBody, TakesRecord}
 use Rattle.mrt_wire.proofs.Buffers.{Takes-trans}
-use Rattle.mrt_wire.proofs.RecordLaws.{BeginsWithNone-short, BeginsWithNone-cut, BeginsWithNone-too_long}
+use Rattle.mrt_wire.proofs.RecordLaws.{BeginsWithNone-cut}
 
 -- fewer octets than a header has are a cut record
 pub rest_kind-short : (rest : List ℕ) → length rest < 12 → rest_kind rest ≡ CutRecord
@@ -40,10 +39,6 @@ pub rest_fault-some : (rest : List ℕ) → 0 < length rest → rest_fault rest 
 rest_fault-some [] some = absurd (omega (arith, some))
 rest_fault-some (octet ∷ octets) some = refl
 
--- fewer octets than a header has have begun one
-pub IsBegun-short : (octets : List ℕ) → length octets < 12 → IsBegun octets
-IsBegun-short octets short = record { none = BeginsWithNone-short octets short; cut = rest_kind-short octets short }
-
 -- a header, and fewer octets than it states
 pub IsBegun-cut : (s k t n : ℕ) (body : List ℕ) → IsHeader s k t n → n ≤ LONGEST_BODY → length body < n → IsBegun (header_octets s k t n ++ body)
 IsBegun-cut s k t n body fits small short = record { none = BeginsWithNone-cut s k t n body fits short; cut = rest_kind-cut s k t n body fits small }
@@ -51,14 +46,6 @@ IsBegun-cut s k t n body fits small short = record { none = BeginsWithNone-cut s
 -- a record that has begun ends the octets, where the input ends there
 pub EndsAt-begun : (left : Option (List ℕ)) (octets : List ℕ) → IsBegun octets → IsAtEnd left → EndsAt left octets
 EndsAt-begun left octets begun end = record { rest = record { none = begun.none; stops = inl begun.cut }; seen = λ _. end }
-
--- and so does a header that states too much
-pub EndsAt-too_long : (left : Option (List ℕ)) (s k t n : ℕ) → IsHeader s k t n → LONGEST_BODY < n → EndsAt left (header_octets s k t n) × (rest_kind (header_octets s k t n) ≡ TooLong n)
-EndsAt-too_long left s k t n fits long =
-    let kind : rest_kind (header_octets s k t n) ≡ TooLong n = rest_kind-header s k t n [] fits ∙ ap (λ v. cond v (TooLong n) CutRecord) (lt-ltb LONGEST_BODY n long) in (
-      record { rest = record { none = BeginsWithNone-too_long s k t n [] fits long; stops = inr refl }; seen = λ cut. cc },
-      kind,
-    )
 
 -- a fault inside a body
 pub TakesRecord-stopped_place : (a b c : Option (List ℕ)) (k l m limit : ℕ) (buffer : List ℕ) (h : Header) (fault : SourceFault) → h.size ≤ LONGEST_BODY

@@ -1,5 +1,5 @@
 -- What a source has answered so far goes on by an answer, and is first in whatever the input may hold.
-use Rattle.std.proofs.Common.{◌≡◌, ◌⊎◌, inl, inr, ℕ, ◌+◌, ◌≤◌, ◌<◌, true, false, Result, List, [], ◌∷◌, ◌++◌, Option, Some, None, Ok, Err, length, sym, ap, ◌∙◌, refl, subst, arith, length-append, append-nil}
+use Rattle.std.proofs.Common.{◌≡◌, inl, inr, ℕ, ◌+◌, ◌<◌, true, false, Result, List, [], ◌∷◌, ◌++◌, Option, Ok, Err, length, sym, ap, ◌∙◌, refl, subst, arith, length-append, append-nil}
 use Rattle.std.proofs.lemmas.List.{append_assoc}
 use Rattle.std.proofs.lemmas.Grind.{flat_map-append}
 use Rattle.std.specs.Io.KnownBytes.{Consumes, IsAtEnd}
@@ -7,16 +7,14 @@ use Rattle.std.proofs.KnownBytes.{Consumes-nil, Consumes-trans}
 use Rattle.mrt_wire.specs.declared.fault.RecordKind.TheVariants.{CutRecord}
 use Rattle.mrt_wire.specs.declared.fault.SourceFault.{SourceFault}
 use Rattle.mrt_wire.specs.declared.next.Next.{Next}
-use Rattle.mrt_wire.specs.declared.next.Next.TheVariants as next
-use Rattle.mrt_wire.specs.declared.event.Stamp.{Stamp}
 use Rattle.mrt_wire.specs.declared.next.Phase.{Phase}
 use Rattle.mrt_wire.specs.declared.next.Phase.TheVariants.{Reading, Ended, Spent}
 use Rattle.mrt_wire.specs.Record.{header_octets, spelling, IsRecord, BeginsWithNone}
 use Rattle.mrt_wire.specs.Taking.{EndsAt}
-use Rattle.mrt_wire.specs.Verdict.{Frame, Index, ReadsAs, index_after}
+use Rattle.mrt_wire.specs.Verdict.{Frame, ReadsAs, index_after}
 use Rattle.mrt_wire.specs.Splitting.{AreFrames, Splits, spellings}
 use Rattle.mrt_wire.specs.Results.{Finding, finding, fault_findings, rest_kind, rest_fault}
-use Rattle.mrt_wire.specs.Place.{Place, place_behind, stopped_place, place_behind_all, results}
+use Rattle.mrt_wire.specs.Place.{Place, place_behind, place_behind_all, results}
 use Rattle.mrt_wire.specs.Next.{Nexts, answer_findings, IsFrameAt, IsRestAt}
 use Rattle.mrt_wire.specs.SoFar.{SoFar, RestSoFar, is_nothing}
 use Rattle.mrt_wire.proofs.SplitLaws.{frames_first, frames_all}
@@ -27,15 +25,6 @@ use Rattle.mrt_wire.proofs.FirstLaws.{RestStays-rest}
 -- the octets of one frame more
 spellings-push : (frames : List Frame) (frame : Frame) → spellings (frames ++ frame ∷ []) ≡ spellings frames ++ spelling frame.mrt
 spellings-push frames frame = flat_map-append (λ f. spelling f.mrt) frames (frame ∷ []) ∙ ap (λ l. spellings frames ++ l) (append-nil (spelling frame.mrt))
-
--- what doesn't change behind frames
-place_behind_all-stamp : (p : Place) (frames : List Frame) → (place_behind_all p frames).stamp ≡ p.stamp
-place_behind_all-stamp p [] = refl
-place_behind_all-stamp p (f ∷ frames) = place_behind_all-stamp (place_behind p f) frames
-
-pub place_behind_all-limit : (p : Place) (frames : List Frame) → (place_behind_all p frames).limit ≡ p.limit
-place_behind_all-limit p [] = refl
-place_behind_all-limit p (f ∷ frames) = place_behind_all-limit (place_behind p f) frames
 
 -- the octets taken behind frames
 pub place_behind_all-offset : (p : Place) (frames : List Frame) → (place_behind_all p frames).offset ≡ p.offset + length (spellings frames)
@@ -195,7 +184,7 @@ front_so_far p q left left' found s none more frames rest split =
     let found_is : found ≡ results p s.frames [] = s.found_is ∙ ap (results p s.frames) none in (
       results (place_behind_all p s.frames) behind.later rest,
       ap (λ f. results p f rest) behind.frames_are ∙ results-append p s.frames behind.later rest
-      ∙ ap (λ f. f ++ results (place_behind_all p s.frames) behind.later rest) (sym found_is),
+          ∙ ap (λ f. f ++ results (place_behind_all p s.frames) behind.later rest) (sym found_is),
     )
 
 -- what `next` promises of a source that reads, and of one that has ended

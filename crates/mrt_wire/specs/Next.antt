@@ -1,17 +1,15 @@
 -- What a call of `next` takes and answers.
-use Rattle.std.specs.Prelude.{◌≡◌, ◌⊎◌, ◌∷◌, [], ℕ, ◌+◌, ◌-◌, ◌++◌, List, length, Option, Some, None, Result, Ok, Err}
-use Rattle.std.specs.Io.KnownBytes.{Consumes, IsAtEnd}
-use Rattle.mrt_wire.specs.declared.fault.RecordKind.{RecordKind}
-use Rattle.mrt_wire.specs.declared.fault.RecordKind.TheVariants.{CutRecord, TooLong, Unsupported, Malformed}
+use Rattle.std.specs.Prelude.{◌≡◌, ◌⊎◌, ◌∷◌, [], ℕ, ◌+◌, ◌++◌, List, Option, Some, Result, Ok, Err}
+use Rattle.mrt_wire.specs.declared.fault.RecordKind.TheVariants.{CutRecord}
 use Rattle.mrt_wire.specs.declared.fault.SourceFault.{SourceFault}
 use Rattle.mrt_wire.specs.declared.fault.SourceFault.TheVariants.{Memory}
 use Rattle.mrt_wire.specs.declared.next.Phase.TheVariants.{Ended, Spent}
 use Rattle.mrt_wire.specs.declared.next.Next.{Next}
 use Rattle.mrt_wire.specs.declared.next.Next.TheVariants as next
 use Rattle.mrt_wire.specs.Device.{Stops}
-use Rattle.mrt_wire.specs.Record.{Record, spelling, IsRecord, BeginsWithNone}
+use Rattle.mrt_wire.specs.Record.{Record, spelling, IsRecord}
 use Rattle.mrt_wire.specs.Verdict.{Frame, ReadsAs}
-use Rattle.mrt_wire.specs.Results.{Finding, Found, Bad, finding, rest_kind, rest_fault, fault_findings}
+use Rattle.mrt_wire.specs.Results.{Finding, Found, Bad, finding, rest_fault, fault_findings}
 use Rattle.mrt_wire.specs.Taking.{IsBegun, EndsAt}
 use Rattle.mrt_wire.specs.Place.{Place, place_behind, stopped_place}
 

@@ -1,15 +1,13 @@
 -- The results of octets: what the reader finds in them, in order, with number and offset.
-use Rattle.std.specs.Prelude.{ℕ, Option, Some, None, ◌+◌, List, [], ◌∷◌, ◌++◌, length, take, drop, nat_lt, if◌then◌else◌}
+use Rattle.std.specs.Prelude.{ℕ, Option, Some, None, List, [], ◌∷◌, length, take, drop, nat_lt, if◌then◌else◌}
 use Rattle.std.specs.Int.{from_be_bytes, w32}
 use Rattle.mrt_wire.specs.declared.fault.RecordKind.{RecordKind}
 use Rattle.mrt_wire.specs.declared.fault.RecordKind.TheVariants.{CutRecord, TooLong}
 use Rattle.mrt_wire.specs.declared.fault.RecordFault.{RecordFault}
 use Rattle.mrt_wire.specs.declared.frames.TheConstants.{LONGEST_BODY}
 use Rattle.mrt_wire.specs.declared.header.TheConstants.{HEADER_SIZE}
-use Rattle.mrt_wire.specs.Record.{spelling}
 use Rattle.mrt_wire.specs.declared.event.Event.{Event}
-use Rattle.mrt_wire.specs.Verdict.{Verdict, Accepted, Refused, Frame}
-use Rattle.mrt_wire.specs.Splitting.{spellings}
+use Rattle.mrt_wire.specs.Verdict.{Verdict, Accepted, Refused}
 
 -- an event, or a fault with the record's number from 1 and the offset of its header
 pub data Finding : Type 0 where

@@ -1,5 +1,5 @@
 -- What the reader of records takes, by what it says of it.
-use Rattle.std.specs.Prelude.{◌≡◌, ◌⊎◌, ℕ, ◌+◌, ◌<◌, Bool, true, false, List, length, take, Option, Result, Ok, Err}
+use Rattle.std.specs.Prelude.{◌≡◌, ◌⊎◌, ℕ, ◌<◌, Bool, true, false, List, length, take, Option, Result, Ok, Err}
 use Rattle.std.specs.Io.KnownBytes.{IsAtEnd}
 use Rattle.mrt_wire.specs.declared.fault.SourceFault.{SourceFault}
 use Rattle.mrt_wire.specs.declared.fault.RecordKind.TheVariants.{CutRecord}

@@ -218,3 +218,27 @@ fn an_input_is_not_asked_behind_its_end(rt: HostRuntime) -> Result<(), Fail> {
     )?;
     Ok(())
 }
+
+/// A state change with so many octets behind it that are ignored.
+fn long_state_change(alloc: Global, behind: u32) -> Result<Vec<u8>, AllocError> {
+    let mut octets = octets_of(alloc, &[STATE_CHANGE])?;
+    let size = behind.saturating_add(20);
+    octets[8..12].copy_from_slice(&size.to_be_bytes());
+    octets.resize(octets.len() + behind as usize, 0xFF)?;
+    Ok(octets)
+}
+
+#[test]
+fn long_bodies_are_read(rt: HostRuntime) -> Result<(), Fail> {
+    let alloc = rt.alloc();
+    for (behind, want) in [
+        (4_076, "1 item at 4108"),
+        (4_077, "1 item at 4109"),
+        (1_000_000, "1 item at 1000032"),
+    ] {
+        let octets = long_state_change(alloc, behind)?;
+        let mut input = SlowInput::new(&octets, 1_500, MANY);
+        assert_answers(&rt, alloc, FAR, &mut input, &[want])?;
+    }
+    Ok(())
+}

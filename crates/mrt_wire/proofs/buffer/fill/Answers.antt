@@ -1,7 +1,5 @@
-use Rattle.std.proofs.Common.{rules, sym, subst}
-use Rattle.std.specs.Io.KnownBytes.{Consumes}
-use Rattle.std.proofs.KnownBytes.{Consumes-trans}
-use Rattle.mrt_wire.proofs.Buffers.{take-put_mid, Takes-filled}
+use Rattle.std.proofs.Common.{rules}
+use Rattle.mrt_wire.proofs.Buffers.{Takes-filled}
 use Rattle.mrt_wire.proofs.buffer.fill.Goals as goal
 
 pub loop-filled-preserved : goal.loop-filled-preserved

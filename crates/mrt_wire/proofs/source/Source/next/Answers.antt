@@ -1,4 +1,3 @@
-use Rattle.mrt_wire.specs.Next.{spent_place}
 use Rattle.mrt_wire.proofs.FirstLaws.{first_answered}
 use Rattle.mrt_wire.proofs.source.Source.next.Goals as goal
 
