@@ -4,7 +4,8 @@ ghost use Rattle.std.specs.Prelude.{◌≡◌, ◌≢◌, ◌⊎◌, []};
 ghost use Rattle.std.specs.Io.Buffered.{writer_buffer, writer_contents};
 ghost use Rattle.std.specs.Io.KnownBytes.{Keeps};
 
-use bgpdump_tool::{Outcome, ReadInput, Stamp, WriteOutput, run_dump};
+use bgpdump_tool::{Outcome, WriteOutput, run_dump};
+use mrt_wire::{ReadInput, Stamp};
 use std::alloc::Global;
 use std::io::{BufReader, BufWriter, Read, Write};
 

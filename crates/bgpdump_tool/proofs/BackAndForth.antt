@@ -2,28 +2,28 @@
 use Rattle.std.proofs.Common.{◌≡◌, ℕ, zero, suc, ◌+◌, ◌-◌, ◌<◌, ◌≤◌, List, [], ◌∷◌, ◌++◌, map, replicate, length, take, nat_lt, refl, sym, ap, ◌∙◌, append_assoc, append-nil, take-take, take_all, length-take-le, arith, lt-ltb}
 use Rattle.std.proofs.lemmas.Bool.{cond-true}
 use Rattle.std.proofs.lemmas.List.{take_at, length_push}
-use Rattle.bgpdump_tool.specs.declared.player.event.Event.{Event}
+use Rattle.mrt_wire.specs.declared.event.Event.{Event}
 use Rattle.bgpdump_tool.specs.Tables.{table}
-use Rattle.bgpdump_tool.specs.Timeline.{Timeline, StandsFor, Call, Play, Undo, Redo, end_of, table_at, current, played, undone, redone, after_call, after_calls}
-use Rattle.bgpdump_tool.proofs.TimelineLaws.{StandsFor-table, StandsFor-current, StandsFor-end, StandsFor-played}
+use Rattle.bgpdump_tool.specs.Timeline.{Timeline, StandsFor, Call, Play, Undo, Redo, end_of, table_at, current, after_play, after_undo, after_redo, after_call, after_calls}
+use Rattle.bgpdump_tool.proofs.TimelineLaws.{StandsFor-table, StandsFor-current, StandsFor-end, StandsFor-after_play}
 
 -- the player at another position
 abbrev at : Timeline → ℕ → Timeline
 at t position = record t { cursor = position }
 
 -- an undo goes one step back, where there is one
-undone-at : (t : Timeline) → t.floor < t.cursor → undone t ≡ at t (t.cursor - 1)
-undone-at t h = cond-true (nat_lt t.floor t.cursor) (at t (t.cursor - 1)) t (lt-ltb t.floor t.cursor h)
+after_undo-at : (t : Timeline) → t.floor < t.cursor → after_undo t ≡ at t (t.cursor - 1)
+after_undo-at t h = cond-true (nat_lt t.floor t.cursor) (at t (t.cursor - 1)) t (lt-ltb t.floor t.cursor h)
 
 -- a redo goes one step on, where there is one
-redone-at : (t : Timeline) → t.cursor < end_of t → redone t ≡ at t (t.cursor + 1)
-redone-at t h = cond-true (nat_lt t.cursor (end_of t)) (at t (t.cursor + 1)) t (lt-ltb t.cursor (end_of t) h)
+after_redo-at : (t : Timeline) → t.cursor < end_of t → after_redo t ≡ at t (t.cursor + 1)
+after_redo-at t h = cond-true (nat_lt t.cursor (end_of t)) (at t (t.cursor + 1)) t (lt-ltb t.cursor (end_of t) h)
 
 -- a redo takes an undo back
-pub redone-undone : (t : Timeline) (history : List Event) → StandsFor t history → t.floor < t.cursor → redone (undone t) ≡ t
-redone-undone t history stands h =
-    ap redone (undone-at t h)
-    ∙ redone-at (at t (t.cursor - 1)) (omega (arith, stands.cursor, StandsFor-end t history stands))
+pub after_redo-after_undo : (t : Timeline) (history : List Event) → StandsFor t history → t.floor < t.cursor → after_redo (after_undo t) ≡ t
+after_redo-after_undo t history stands h =
+    ap after_redo (after_undo-at t h)
+    ∙ after_redo-at (at t (t.cursor - 1)) (omega (arith, stands.cursor, StandsFor-end t history stands))
     ∙ ap (at t) (omega arith)
 
 -- the events before the cursor, and one event more, are what the player with that event played has before it
@@ -31,14 +31,14 @@ take-one_more : {A : Type 0} (n : ℕ) (xs : List A) (x : A) → n ≤ length xs
 take-one_more n xs x h = take_all (n + 1) (take n xs ++ x ∷ []) (omega (arith, length_push (take n xs) x, length-take-le n xs h))
 
 -- an undo takes a play back, to the same table
-pub current-undone-played : (t : Timeline) (history : List Event) (event : Event) → StandsFor t history → current (undone (played t event)) ≡ current t
-current-undone-played t history event stands =
+pub current-after_undo-after_play : (t : Timeline) (history : List Event) (event : Event) → StandsFor t history → current (after_undo (after_play t event)) ≡ current t
+current-after_undo-after_play t history event stands =
     let longer = take t.cursor history ++ event ∷ [] in
-    let plays = StandsFor-played t history event stands in
+    let plays = StandsFor-after_play t history event stands in
     let same : t.cursor + 1 - 1 ≡ t.cursor = omega arith in
-    ap current (undone-at (played t event) (omega (arith, stands.floor)))
-    ∙ ap (table_at (played t event)) same
-    ∙ StandsFor-table (played t event) longer plays t.cursor stands.floor (omega (arith, plays.cursor))
+    ap current (after_undo-at (after_play t event) (omega (arith, stands.floor)))
+    ∙ ap (table_at (after_play t event)) same
+    ∙ StandsFor-table (after_play t event) longer plays t.cursor stands.floor (omega (arith, plays.cursor))
     ∙ ap table (take_at (take t.cursor history) (event ∷ []) t.cursor (length-take-le t.cursor history stands.cursor))
     ∙ sym (StandsFor-current t history stands)
 
@@ -51,7 +51,7 @@ after_calls-append t (call ∷ calls) more = after_calls-append (after_call t ca
 undone_often : (k : ℕ) (t : Timeline) → t.floor + k ≤ t.cursor → after_calls t (replicate k Undo) ≡ at t (t.cursor - k)
 undone_often zero t h = ap (at t) (omega arith)
 undone_often (suc k) t h =
-    ap (λ p. after_calls p (replicate k Undo)) (undone-at t (omega arith))
+    ap (λ p. after_calls p (replicate k Undo)) (after_undo-at t (omega arith))
     ∙ undone_often k (at t (t.cursor - 1)) (omega arith)
     ∙ ap (at t) (omega arith)
 
@@ -59,7 +59,7 @@ undone_often (suc k) t h =
 redone_often : (k : ℕ) (t : Timeline) → t.cursor + k ≤ end_of t → after_calls t (replicate k Redo) ≡ at t (t.cursor + k)
 redone_often zero t h = ap (at t) (omega arith)
 redone_often (suc k) t h =
-    ap (λ p. after_calls p (replicate k Redo)) (redone-at t (omega arith))
+    ap (λ p. after_calls p (replicate k Redo)) (after_redo-at t (omega arith))
     ∙ redone_often k (at t (t.cursor + 1)) (omega arith)
     ∙ ap (at t) (omega arith)
 
@@ -77,7 +77,7 @@ played_often : (t : Timeline) (history events : List Event) → StandsFor t hist
 played_often t history [] stands = record { history = history; stands = stands; events = sym (append-nil (take t.cursor history)); same_floor = refl; same_cursor = omega arith }
 played_often t history (event ∷ events) stands =
     let longer = take t.cursor history ++ event ∷ [] in
-    let rest = played_often (played t event) longer events (StandsFor-played t history event stands) in
+    let rest = played_often (after_play t event) longer events (StandsFor-after_play t history event stands) in
     record {
       history = rest.history;
       stands = rest.stands;

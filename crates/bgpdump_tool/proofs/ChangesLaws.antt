@@ -1,5 +1,5 @@
 -- What is noted of an event's items and of lost peers' pairs, step by step.
-use Rattle.std.proofs.Common.{◌≡◌, ℕ, suc, ◌+◌, ◌<◌, Bool, true, false, cond, ◌&&◌, ◌||◌, List, map, take, get_or, length, drop, drop-cons, Option, Some, None, is_some, refl, sym, ap, ap₂, ◌∙◌}
+use Rattle.std.proofs.Common.{◌≡◌, ℕ, suc, ◌+◌, ◌<◌, Bool, true, false, cond, ◌&&◌, ◌||◌, List, [], ◌∷◌, map, take, get_or, length, drop, drop-cons, Option, Some, None, is_some, refl, sym, ap, ap₂, ◌∙◌}
 use Rattle.std.specs.List.{list_any}
 use Rattle.std.specs.Option.{option_map}
 use Rattle.std.specs.Ordering.{eq_by_cmp}
@@ -7,11 +7,13 @@ use Rattle.std.specs.Cmp.{eq_by_cmp_equiv}
 use Rattle.std.specs.declared.alloc.Global.{Global}
 use Rattle.std.specs.declared.rc.Rc.{Rc}
 use Rattle.std.proofs.lemmas.List.Folds.{list_any_more}
-use Rattle.bgpdump_tool.specs.declared.peer.Peer.{Peer}
+use Rattle.mrt_wire.specs.declared.peer.Peer.{Peer}
 use Rattle.bgpdump_tool.specs.declared.player.pair.Pair.{Pair}
-use Rattle.bgpdump_tool.specs.declared.player.event.Route.{Route}
-use Rattle.bgpdump_tool.specs.declared.player.event.Item.{Item}
-use Rattle.bgpdump_tool.specs.History.{peer_cmp, pair_cmp, Effect, Keep, Clear, Set, where_true, item_effect, later, last_effect}
+use Rattle.mrt_wire.specs.declared.event.Route.{Route}
+use Rattle.mrt_wire.specs.declared.event.Item.{Item}
+use Rattle.mrt_wire.specs.Event.{saying}
+use Rattle.mrt_wire.specs.Peer.{peer_cmp}
+use Rattle.bgpdump_tool.specs.History.{pair_cmp, Effect, Keep, Clear, Set, where_true, item_effect, later, last_effect}
 use Rattle.bgpdump_tool.specs.Store.{Slots, slot_at, route_in}
 use Rattle.bgpdump_tool.specs.Changes.{found, is_lost, effect_of, or_absent}
 use Rattle.bgpdump_tool.proofs.PairLaws.{pair_cmp_total, same_pair}
@@ -39,9 +41,9 @@ is_some-map f None = refl
 is_some-map f (Some x) = refl
 
 -- where something is noted of a pair, an earlier effect on it changes nothing
-pub noted-decided : (slots : Slots) (peers : List Peer) (pair : Pair) (first : Effect) (q : Pair) → (is_some (slot_at slots pair) || is_lost peers pair) ≡ true
+pub noted_effect-decided : (slots : Slots) (peers : List Peer) (pair : Pair) (first : Effect) (q : Pair) → (is_some (slot_at slots pair) || is_lost peers pair) ≡ true
     → effect_of (found slots q) (is_lost peers q) ≡ later (where_true (eq_by_cmp pair_cmp q pair) first) (effect_of (found slots q) (is_lost peers q))
-noted-decided slots peers pair first q there = at (eq_by_cmp pair_cmp q pair) refl
+noted_effect-decided slots peers pair first q there = at (eq_by_cmp pair_cmp q pair) refl
   where
     at : (b : Bool) → eq_by_cmp pair_cmp q pair ≡ b → effect_of (found slots q) (is_lost peers q) ≡ later (where_true b first) (effect_of (found slots q) (is_lost peers q))
     at true e =
@@ -61,10 +63,10 @@ effect_of-none None false e = refl
 effect_of-none (Some slot) lost e = cc
 
 -- where nothing is noted of a pair, what is put into its slot comes before all that is noted
-pub noted-put : (old new : Slots) (peers : List Peer) (pair : Pair) (slot : Slot) (q : Pair) → (is_some (slot_at old pair) || is_lost peers pair) ≡ false
+pub noted_effect-put : (old new : Slots) (peers : List Peer) (pair : Pair) (slot : Slot) (q : Pair) → (is_some (slot_at old pair) || is_lost peers pair) ≡ false
     → slot_at new q ≡ cond (eq_by_cmp pair_cmp pair q) (Some slot) (slot_at old q)
     → effect_of (found new q) (is_lost peers q) ≡ later (where_true (eq_by_cmp pair_cmp q pair) (effect_of (Some (route_in slot)) false)) (effect_of (found old q) (is_lost peers q))
-noted-put old new peers pair slot q none put =
+noted_effect-put old new peers pair slot q none put =
     ap (λ s. effect_of (option_map route_in s) (is_lost peers q)) put
     ∙ at (eq_by_cmp pair_cmp pair q) refl
     ∙ ap (λ b. later (where_true b (effect_of (Some (route_in slot)) false)) (effect_of (found old q) (is_lost peers q))) ((eq_by_cmp_equiv pair_cmp_total).symm pair q)
@@ -129,14 +131,19 @@ found-more pairs i pair kept old new q h at before step =
     ∙ ap (λ p. or_absent kept (list_any (eq_by_cmp pair_cmp q) (take i pairs) || eq_by_cmp pair_cmp q p)) at
     ∙ ap (or_absent kept) (sym (list_any_more (eq_by_cmp pair_cmp q) pairs i pair h))
 
--- one more item, before those of which the last decides
-pub last_effect-more : (q : Pair) (items : List Item) (i rest : ℕ) (item : Item) (later_ones here : Effect) → i < length items → suc i ≡ rest → item ≡ get_or items i item
-    → later_ones ≡ last_effect (map (item_effect q) (drop rest items)) → here ≡ later (item_effect q item) later_ones
-    → here ≡ last_effect (map (item_effect q) (drop i items))
-last_effect-more q items i rest item later_ones here h next at before step =
+-- one more of a list, before those of which the last decides
+pub last_effect-more : {A : Type 0} (f : A → Effect) (items : List A) (i rest : ℕ) (item : A) (later_ones here : Effect) → i < length items → suc i ≡ rest → item ≡ get_or items i item
+    → later_ones ≡ last_effect (map f (drop rest items)) → here ≡ later (f item) later_ones
+    → here ≡ last_effect (map f (drop i items))
+last_effect-more f items i rest item later_ones here h next at before step =
     step
-    ∙ ap₂ (λ a b. later (item_effect q a) b) at (before ∙ ap (λ n. last_effect (map (item_effect q) (drop n items))) (sym next))
-    ∙ ap (λ xs. last_effect (map (item_effect q) xs)) (sym (drop-cons items i item h))
+    ∙ ap₂ (λ a b. later (f a) b) at (before ∙ ap (λ n. last_effect (map f (drop n items))) (sym next))
+    ∙ ap (λ xs. last_effect (map f xs)) (sym (drop-cons items i item h))
+
+-- what items say has the effects of the items
+pub effects-sayings : (q : Pair) (items : List Item) → map (item_effect q) (map saying items) ≡ map (λ item. item_effect q (saying item)) items
+effects-sayings q [] = refl
+effects-sayings q (item ∷ items) = ap (λ l. item_effect q (saying item) ∷ l) (effects-sayings q items)
 
 -- one of some tests holds with another, or one more does
 both_lost : (some more has : Bool) → ((some && has) || (more && has)) ≡ ((some || more) && has)

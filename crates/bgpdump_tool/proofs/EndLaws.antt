@@ -1,126 +1,233 @@
 -- What a run leaves at its end, by how it ended.
-use Rattle.std.proofs.Common.{None, ◌≡◌, ◌≢◌, ℕ, Bool, true, false, List, [], ◌∷◌, Option, Ok, Err, length, sym, ap, ◌∙◌, refl, subst}
-use Rattle.std.specs.Io.KnownBytes.{Consumes, Keeps}
-use Rattle.std.proofs.KnownBytes.{Appends-kept}
-use Rattle.bgpdump_tool.specs.declared.fault.Stop.{Stop}
-use Rattle.bgpdump_tool.specs.declared.fault.Stop.TheVariants.{ReadFault, WriteFault, InputTooLong, Memory}
+use Rattle.std.proofs.Common.{None, Some, ◌≡◌, ◌≢◌, ◌⊎◌, inl, inr, ℕ, ◌+◌, Bool, true, false, List, [], ◌∷◌, ◌++◌, Option, Result, Ok, Err, length, sym, ap, ◌∙◌, refl, subst, arith, append-nil, length-append}
+use Rattle.std.proofs.lemmas.List.{append_assoc, append_cancel_right}
+use Rattle.std.specs.Io.KnownBytes.{Consumes, Keeps, IsAtEnd}
+use Rattle.std.proofs.KnownBytes.{Appends-kept, Consumes-trans}
+use Rattle.mrt_wire.specs.declared.fault.SourceFault.{SourceFault}
+use Rattle.mrt_wire.specs.declared.fault.SourceFault.TheVariants as source
+use Rattle.mrt_wire.specs.declared.event.Stamp.{Stamp}
+use Rattle.mrt_wire.specs.declared.next.Phase.{Phase}
+use Rattle.mrt_wire.specs.declared.next.Phase.TheVariants.{Reading, Ended, Spent}
+use Rattle.mrt_wire.specs.Record.{spelling, IsRecord}
+use Rattle.mrt_wire.specs.Verdict.{Frame}
+use Rattle.mrt_wire.specs.Splitting.{Splits, spellings}
+use Rattle.mrt_wire.specs.declared.fault.RecordKind.TheVariants.{CutRecord}
+use Rattle.mrt_wire.specs.Results.{Finding, Found, Bad, rest_kind}
+use Rattle.mrt_wire.specs.Taking.{IsRest, IsBegun}
+use Rattle.mrt_wire.specs.Place.{Place, start_place, results}
+use Rattle.mrt_wire.specs.Next.{Took, IsLeft}
+use Rattle.mrt_wire.specs.SoFar.{SoFar, RestSoFar}
+use Rattle.mrt_wire.specs.Device.{Stops}
+use Rattle.mrt_wire.proofs.FirstLaws.{same_taken}
+use Rattle.mrt_wire.proofs.RecordLaws.{BeginsWithNone-short}
+use Rattle.mrt_wire.proofs.SplitLaws.{frames_all}
+use Rattle.mrt_wire.proofs.SoFarLaws.{FirstSoFar, first_so_far, front_so_far, no_rest}
+use Rattle.bgpdump_tool.specs.declared.fault.WriteFault.{WriteFault}
+use Rattle.bgpdump_tool.specs.declared.fault.WriteFault.TheVariants as write
 use Rattle.bgpdump_tool.specs.declared.outcome.Outcome.{Outcome}
 use Rattle.bgpdump_tool.specs.declared.outcome.Outcome.TheVariants as outcome
-use Rattle.bgpdump_tool.specs.declared.stamp.Stamp.{Stamp}
-use Rattle.bgpdump_tool.specs.Reading.{Frame}
-use Rattle.bgpdump_tool.specs.Splitting.{Splits}
-use Rattle.bgpdump_tool.specs.Results.{Finding, Found, Bad, findings, results}
-use Rattle.bgpdump_tool.specs.Text.{dump, reports}
-use Rattle.bgpdump_tool.specs.Run.{Outputs, MayHold, Took, Writes, WritesFronts, EndsSo, EndedByInput}
-use Rattle.bgpdump_tool.specs.Step.{is_any_bad}
-use Rattle.bgpdump_tool.specs.Whole.{AreFirst, StopsBehind, Dumps, outcome_of, stopped_outcome, TakesAll, StopsByInput}
-use Rattle.bgpdump_tool.proofs.SplitLaws.{AreFrames-split, one_split}
-use Rattle.bgpdump_tool.proofs.RunLaws.{same_taken, AreFirst-frames, WritesFronts-longer, WritesFronts-whole, IsTaken-weaker}
+use Rattle.bgpdump_tool.specs.Reports.{dump, reports}
+use Rattle.bgpdump_tool.specs.declared.dump.TheConstants.{LIMIT}
+use Rattle.bgpdump_tool.specs.Run.{Outputs, MayHold, SawEnd, Writes, WritesFronts, EndsSo, EndedByInput, IsTaken, IsLast, all_results}
+use Rattle.bgpdump_tool.specs.Ending.{outcome_of, source_outcome, write_outcome}
+use Rattle.bgpdump_tool.specs.Writing.{is_any_bad}
+use Rattle.bgpdump_tool.specs.Going.{Going, StopsAtSource, StopsAtWriting, Ends}
+use Rattle.bgpdump_tool.proofs.WritingLaws.{WritesFronts-longer, WritesFronts-whole}
 
--- without a fault nothing is reported
 reports_none : (found : List Finding) → is_any_bad found ≡ false → reports found ≡ []
 reports_none [] e = refl
 reports_none (Found event ∷ found) e = reports_none found e
 reports_none (Bad fault ∷ found) e = cc
 
--- with one something is
 reports_some : (found : List Finding) → is_any_bad found ≡ true → reports found ≢ []
 reports_some [] e none = cc
 reports_some (Found event ∷ found) e none = reports_some found e none
 reports_some (Bad fault ∷ found) e none = cc
 
--- what outputs keep that are finished
-Writes-finished : (found : List Finding) (a b c : Outputs) → Writes found a b → Keeps b.out c.out → Keeps b.err c.err → Writes found a c
-Writes-finished found a b c p out err = (Appends-kept a.out b.out c.out (dump found) p.0 out, Appends-kept a.err b.err c.err (reports found) p.1 err)
+written_all : (fault : WriteFault) → EndedByInput (write_outcome fault) → ⊥
+written_all write.Write by_input = by_input
+written_all write.Memory by_input = by_input
 
--- how a run ended that read all
-EndsSo-outcome : (failed reported : Bool) (found : List Finding) (a b : Outputs) → reported ≡ is_any_bad found → Writes found a b → EndsSo (outcome_of failed reported) found a b
-EndsSo-outcome true reported found a b told writes = WritesFronts-whole found a b writes
-EndsSo-outcome false true found a b told writes = (reports_some found (sym told), writes)
-EndsSo-outcome false false found a b told writes = (reports_none found (sym told), writes)
+-- what a source has left behind the frames is a rest
+rest_so_far : (p q : Place) (left left' : Option (List ℕ)) (found : List Finding) → (s : SoFar p q left left' found) → IsRest s.rest
+rest_so_far p q left left' found s = by_phase q.phase s.rest_is
+  where
+    by_phase : (phase : Phase) → RestSoFar phase left' s.rest → IsRest s.rest
+    by_phase Reading none = subst IsRest (sym none) (record { none = BeginsWithNone-short [] (omega arith); stops = inl refl })
+    by_phase Ended ends = ends.rest
+    by_phase Spent none = absurd none
 
--- a run that read all, and then finished its outputs
-pub EndsSo-read : (stamp : Stamp) (limit : ℕ) (left left' : Option (List ℕ)) (a b c : Outputs) (failed reported : Bool) (outcome : Outcome) → Dumps stamp limit left left' a b (Ok reported)
+-- what was found so far is first in whatever the input may hold, where a cut record shows that the end was seen
+first_held : (stamp : Stamp) (q : Place) (left left' : Option (List ℕ)) (found : List Finding) (outcome : Outcome) → (s : SoFar (start_place stamp LIMIT) q left left' found)
+    → (rest_kind s.rest ≡ CutRecord → SawEnd outcome s.rest) → (octets : List ℕ) (frames : List Frame) (rest : List ℕ) → MayHold stamp outcome left left' octets → Splits stamp None octets frames rest
+    → FirstSoFar (start_place stamp LIMIT) q found frames rest
+first_held stamp q left left' found outcome s saw octets frames rest may split =
+    let p : Place = start_place stamp LIMIT in
+    let same = same_taken left left' (spellings s.frames ++ s.rest) may.taken may.after s.consumed may.took in
+    let own : Splits stamp None may.taken s.frames s.rest = record { whole = same; are_frames = s.are_frames; none = (rest_so_far p q left left' found s).none } in
+    let split' = subst (λ o. Splits stamp None o frames rest) (may.whole ∙ ap (λ l. l ++ may.more) same) split in
+    first_so_far p q left left' found s may.more (λ _ cut end. may.follows s.frames s.rest own (saw cut) (subst IsAtEnd may.took.now end)) frames rest split'
+
+-- octets are none, or some
+cases_none : (octets : List ℕ) → (octets ≡ []) ⊎ (octets ≢ [])
+cases_none [] = inl refl
+cases_none (octet ∷ octets) = inr (λ e. cc)
+
+-- fronts of what was found so far are fronts of all that the input may hold
+WritesFronts-held : (stamp : Stamp) (q : Place) (left left' : Option (List ℕ)) (found : List Finding) (outcome : Outcome) (a b : Outputs) → SoFar (start_place stamp LIMIT) q left left' found
+    → ((rest : List ℕ) → rest_kind rest ≡ CutRecord → rest ≢ [] → SawEnd outcome rest) → WritesFronts found a b
+    → (octets : List ℕ) (frames : List Frame) (rest : List ℕ) → MayHold stamp outcome left left' octets → Splits stamp None octets frames rest → WritesFronts (all_results stamp frames rest) a b
+WritesFronts-held stamp q left left' found outcome a b s saw fronts octets frames rest may split = elim (cases_none s.rest) [
+  | inr some ↦
+      let first = first_held stamp q left left' found outcome s (λ cut. saw s.rest cut some) octets frames rest may split in
+      subst (λ f. WritesFronts f a b) (sym first.first) (WritesFronts-longer found first.later a b fronts)
+  | inl none ↦
+      let same = same_taken left left' (spellings s.frames ++ s.rest) may.taken may.after s.consumed may.took in
+      let split' = subst (λ o. Splits stamp None o frames rest) (may.whole ∙ ap (λ l. l ++ may.more) same) split in
+      let (later, first) = front_so_far (start_place stamp LIMIT) q left left' found s none may.more frames rest split' in
+      subst (λ f. WritesFronts f a b) (sym first) (WritesFronts-longer found later a b fronts)
+]
+
+-- all that the input may hold was found, where the source has ended
+all_held : (stamp : Stamp) (q : Place) (left left' : Option (List ℕ)) (found : List Finding) (outcome : Outcome) → (s : SoFar (start_place stamp LIMIT) q left left' found) → q.phase ≡ Ended
+    → (rest_kind s.rest ≡ CutRecord → SawEnd outcome s.rest) → (octets : List ℕ) (frames : List Frame) (rest : List ℕ) → MayHold stamp outcome left left' octets → Splits stamp None octets frames rest
+    → found ≡ all_results stamp frames rest
+all_held stamp q left left' found outcome s ended saw octets frames rest may split =
+    let first = first_held stamp q left left' found outcome s saw octets frames rest may split in
+    sym (first.first ∙ ap (λ l. found ++ l) (first.all ended) ∙ append-nil found)
+
+-- a run that read all, and then finished its outputs, by whether that failed and whether something was reported
+EndsSo-finished : (stamp : Stamp) (q : Place) (left left' : Option (List ℕ)) (found : List Finding) (a b : Outputs) (failed reported : Bool) → SoFar (start_place stamp LIMIT) q left left' found → q.phase ≡ Ended
+    → reported ≡ is_any_bad found → Writes found a b → (octets : List ℕ) (frames : List Frame) (rest : List ℕ) → MayHold stamp (outcome_of failed reported) left left' octets → Splits stamp None octets frames rest
+    → EndsSo (outcome_of failed reported) (all_results stamp frames rest) a b
+EndsSo-finished stamp q left left' found a b true reported s ended bad writes octets frames rest may split =
+    WritesFronts-held stamp q left left' found outcome.WriteFault a b s (λ _ cut some. (cut, some)) (WritesFronts-whole found a b writes) octets frames rest may split
+EndsSo-finished stamp q left left' found a b false true s ended bad writes octets frames rest may split =
+    subst (λ f. EndsSo outcome.Reported f a b) (all_held stamp q left left' found outcome.Reported s ended (λ cut. cut) octets frames rest may split) (reports_some found (sym bad), writes)
+EndsSo-finished stamp q left left' found a b false false s ended bad writes octets frames rest may split =
+    subst (λ f. EndsSo outcome.Done f a b) (all_held stamp q left left' found outcome.Done s ended (λ cut. cut) octets frames rest may split) (reports_none found (sym bad), writes)
+
+pub EndsSo-read : (stamp : Stamp) (left left' : Option (List ℕ)) (a b c : Outputs) (failed reported : Bool) (outcome : Outcome) → Ends (start_place stamp LIMIT) left left' a b (Ok reported)
     → outcome ≡ outcome_of failed reported → Keeps b.out c.out → Keeps b.err c.err
-    → (octets : List ℕ) (frames : List Frame) (rest : List ℕ) → MayHold left left' octets → Splits stamp None octets frames rest → EndsSo outcome (results frames rest) a c
-EndsSo-read stamp limit left left' a b c failed reported outcome (found, all, told, writes) is_outcome out err octets frames rest may_hold split =
-    let ends = EndsSo-outcome failed reported found a c told (Writes-finished found a b c writes out err) in
-    subst (λ f. EndsSo outcome f a c) (sym (all octets frames rest may_hold split)) (subst (λ o. EndsSo o found a c) (sym is_outcome) ends)
+    → (octets : List ℕ) (frames : List Frame) (rest : List ℕ) → MayHold stamp outcome left left' octets → Splits stamp None octets frames rest → EndsSo outcome (all_results stamp frames rest) a c
+EndsSo-read stamp left left' a b c failed reported outcome (q, ended, g) is_outcome out err octets frames rest may split =
+    let writes : Writes g.found a c = (Appends-kept a.out b.out c.out (dump g.found) g.written.0 out, Appends-kept a.err b.err c.err (reports g.found) g.written.1 err) in
+    subst (λ o. EndsSo o (all_results stamp frames rest) a c) (sym is_outcome)
+    (EndsSo-finished stamp q left left' g.found a c failed reported g.so_far ended g.reported_is writes octets frames rest (subst (λ o. MayHold stamp o left left' octets) is_outcome may) split)
 
--- fronts of the texts of what was found first
-WritesFronts-first : (stamp : Stamp) (left left' : Option (List ℕ)) (a b : Outputs) (found : List Finding) → AreFirst stamp left left' found → WritesFronts found a b
-    → (octets : List ℕ) (frames : List Frame) (rest : List ℕ) → MayHold left left' octets → Splits stamp None octets frames rest → WritesFronts (results frames rest) a b
-WritesFronts-first stamp left left' a b found first fronts octets frames rest may_hold split =
-    let (later, whole) = first octets frames rest may_hold split in
-    subst (λ f. WritesFronts f a b) (sym whole) (WritesFronts-longer found later a b fronts)
+-- a run that its source stopped
+EndsSo-source : (fault : SourceFault) (found : List Finding) (a b : Outputs) → WritesFronts found a b → EndsSo (source_outcome fault) found a b
+EndsSo-source source.Read found a b p = p
+EndsSo-source source.InputTooLong found a b p = p
+EndsSo-source source.Memory found a b p = p
+EndsSo-source source.Spent found a b p = p
 
--- a run that the input ended has written fronts
-WritesFronts-stopped : (stamp : Stamp) (left left' : Option (List ℕ)) (a b : Outputs) (taken : List ℕ) → StopsBehind stamp left left' a b taken
-    → (octets : List ℕ) (frames : List Frame) (rest : List ℕ) → MayHold left left' octets → Splits stamp None octets frames rest → WritesFronts (results frames rest) a b
-WritesFronts-stopped stamp left left' a b taken p octets frames rest may_hold split =
-    let are = AreFrames-split stamp None taken p.frames p.rest p.split in
-    let first = AreFirst-frames stamp left left' p.frames p.rest are (subst (Consumes left left') p.split.whole p.consumed) in
-    WritesFronts-first stamp left left' a b (findings 0 0 p.frames) first (WritesFronts-whole (findings 0 0 p.frames) a b p.written) octets frames rest may_hold split
-
--- and that of the records taken whole it has written all
-Writes-behind : (stamp : Stamp) (left left' : Option (List ℕ)) (a b : Outputs) (taken : List ℕ) → StopsBehind stamp left left' a b taken
-    → (taken' after : List ℕ) (frames : List Frame) (rest : List ℕ) → Took left left' taken' after → Splits stamp None taken' frames rest → Writes (findings 0 0 frames) a b
-Writes-behind stamp left left' a b taken p taken' after frames rest took split =
-    let same = same_taken left left' taken taken' after p.consumed took in
-    let split' = subst (λ o. Splits stamp None o frames rest) same split in
-    let one = one_split stamp None taken p.frames frames p.rest rest p.split split' in
-    subst (λ f. Writes (findings 0 0 f) a b) one.0 p.written
-
--- the octets taken by a run that stopped
-length-behind : (stamp : Stamp) (limit : ℕ) (left left' : Option (List ℕ)) (a b : Outputs) (taken : List ℕ) → StopsBehind stamp left left' a b taken → length taken ≡ limit
-    → (taken' after : List ℕ) → Took left left' taken' after → length taken' ≡ limit
-length-behind stamp limit left left' a b taken p full taken' after took = ap length (same_taken left left' taken taken' after p.consumed took) ∙ full
+-- a run that its writing stopped
+EndsSo-write : (fault : WriteFault) (stamp : Stamp) (left left' : Option (List ℕ)) (a b : Outputs) → StopsAtWriting (start_place stamp LIMIT) left left' a b
+    → (octets : List ℕ) (frames : List Frame) (rest : List ℕ) → MayHold stamp (write_outcome fault) left left' octets → Splits stamp None octets frames rest → EndsSo (write_outcome fault) (all_results stamp frames rest) a b
+EndsSo-write write.Write stamp left left' a b stop = WritesFronts-held stamp stop.place left left' stop.found outcome.WriteFault a b stop.so_far (λ _ cut some. (cut, some)) stop.fronts
+EndsSo-write write.Memory stamp left left' a b stop = WritesFronts-held stamp stop.place left left' stop.found outcome.Memory a b stop.so_far (λ _ cut some. (cut, some)) stop.fronts
 
 -- a run that stopped
-pub EndsSo-stopped : (stamp : Stamp) (limit : ℕ) (left left' : Option (List ℕ)) (a b : Outputs) (stop : Stop) → Dumps stamp limit left left' a b (Err stop)
-    → (octets : List ℕ) (frames : List Frame) (rest : List ℕ) → MayHold left left' octets → Splits stamp None octets frames rest → EndsSo (stopped_outcome stop) (results frames rest) a b
-EndsSo-stopped stamp limit left left' a b ReadFault (taken, p) = WritesFronts-stopped stamp left left' a b taken p
-EndsSo-stopped stamp limit left left' a b WriteFault (found, first, fronts) = WritesFronts-first stamp left left' a b found first fronts
-EndsSo-stopped stamp limit left left' a b InputTooLong (taken, full, p) = WritesFronts-stopped stamp left left' a b taken p
-EndsSo-stopped stamp limit left left' a b Memory (found, first, fronts) = WritesFronts-first stamp left left' a b found first fronts
+pub EndsSo-stopped : (stamp : Stamp) (left left' : Option (List ℕ)) (a b : Outputs) (outcome : Outcome) → Ends (start_place stamp LIMIT) left left' a b (Err outcome)
+    → (octets : List ℕ) (frames : List Frame) (rest : List ℕ) → MayHold stamp outcome left left' octets → Splits stamp None octets frames rest → EndsSo outcome (all_results stamp frames rest) a b
+EndsSo-stopped stamp left left' a b outcome (inl (fault, is, stop)) octets frames rest may split =
+    let s = stop.so_far in
+    let done : List ℕ = spellings s.frames ++ s.rest in
+    let none = no_rest (start_place stamp LIMIT) stop.place left stop.mid stop.found s stop.reading in
+    let same = same_taken left left' (done ++ stop.octets) may.taken may.after (Consumes-trans left stop.mid left' done stop.octets s.consumed stop.consumed) may.took in
+    let split' = subst (λ o. Splits stamp None o frames rest) (may.whole ∙ ap (λ l. l ++ may.more) same ∙ append_assoc done stop.octets may.more) split in
+    let (later, first) = front_so_far (start_place stamp LIMIT) stop.place left stop.mid stop.found s none (stop.octets ++ may.more) frames rest split' in
+    let fronts = WritesFronts-longer stop.found later a b (WritesFronts-whole stop.found a b stop.written) in
+    subst (λ f. EndsSo outcome f a b) (sym first) (subst (λ o. EndsSo o (stop.found ++ later) a b) (sym is) (EndsSo-source fault (stop.found ++ later) a b fronts))
+EndsSo-stopped stamp left left' a b outcome (inr (fault, is, stop)) octets frames rest may split =
+    subst (λ o. EndsSo o (all_results stamp frames rest) a b) (sym is)
+    (EndsSo-write fault stamp left left' a b stop octets frames rest (subst (λ o. MayHold stamp o left left' octets) is may) split)
 
--- a run that the input ended
-pub Writes-stopped : (stamp : Stamp) (limit : ℕ) (left left' : Option (List ℕ)) (a b : Outputs) (stop : Stop) → Dumps stamp limit left left' a b (Err stop) → EndedByInput (stopped_outcome stop)
-    → (taken after : List ℕ) (frames : List Frame) (rest : List ℕ) → Took left left' taken after → Splits stamp None taken frames rest → Writes (findings 0 0 frames) a b
-Writes-stopped stamp limit left left' a b ReadFault (taken, p) by_input = Writes-behind stamp left left' a b taken p
-Writes-stopped stamp limit left left' a b WriteFault p by_input = absurd by_input
-Writes-stopped stamp limit left left' a b InputTooLong (taken, full, p) by_input = Writes-behind stamp left left' a b taken p
-Writes-stopped stamp limit left left' a b Memory p by_input = absurd by_input
+-- a fault of the input leaves a record that has begun
+begun_by_input : (fault : SourceFault) (octets : List ℕ) → EndedByInput (source_outcome fault) → IsLeft fault octets → IsBegun octets
+begun_by_input fault octets by_input (inl begun) = begun
+begun_by_input fault octets by_input (inr (memory, whole)) = absurd (subst (λ f. EndedByInput (source_outcome f)) memory by_input)
 
--- a run whose input was too long
-pub length-stopped : (stamp : Stamp) (limit : ℕ) (left left' : Option (List ℕ)) (a b : Outputs) (stop : Stop) → Dumps stamp limit left left' a b (Err stop)
-    → stopped_outcome stop ≡ outcome.InputTooLong → (taken after : List ℕ) → Took left left' taken after → length taken ≡ limit
-length-stopped stamp limit left left' a b ReadFault p e = cc
-length-stopped stamp limit left left' a b WriteFault p e = cc
-length-stopped stamp limit left left' a b InputTooLong (taken, full, p) e = length-behind stamp limit left left' a b taken p full
-length-stopped stamp limit left left' a b Memory p e = cc
+-- a run that the input ended has written what the frames give
+pub Writes-stopped : (stamp : Stamp) (left left' : Option (List ℕ)) (a b : Outputs) (outcome : Outcome) → Ends (start_place stamp LIMIT) left left' a b (Err outcome) → EndedByInput outcome
+    → (taken after : List ℕ) (frames : List Frame) (rest : List ℕ) → Took left left' taken after → Splits stamp None taken frames rest → Writes (all_results stamp frames []) a b
+Writes-stopped stamp left left' a b outcome (inl (fault, is, stop)) by_input taken after frames rest took split =
+    let s = stop.so_far in
+    let done : List ℕ = spellings s.frames ++ s.rest in
+    let none = no_rest (start_place stamp LIMIT) stop.place left stop.mid stop.found s stop.reading in
+    let same = same_taken left left' (done ++ stop.octets) taken after (Consumes-trans left stop.mid left' done stop.octets s.consumed stop.consumed) took in
+    let begun = begun_by_input fault stop.octets (subst EndedByInput is by_input) stop.left_over in
+    let joined : spellings s.frames ++ stop.octets ≡ spellings frames ++ rest =
+    sym (same ∙ ap (λ l. (spellings s.frames ++ l) ++ stop.octets) none ∙ ap (λ l. l ++ stop.octets) (append-nil (spellings s.frames))) ∙ split.whole in
+    let all = frames_all stamp None s.frames frames stop.octets rest s.are_frames split.are_frames begun.none split.none joined in
+    subst (λ f. Writes f a b) (s.found_is ∙ (λ i. results (start_place stamp LIMIT) (sym all.0 i) (none i))) stop.written
+Writes-stopped stamp left left' a b outcome (inr (fault, is, stop)) by_input taken after frames rest took split = absurd (written_all fault (subst EndedByInput is by_input))
 
--- a run that read all wasn't ended by its input
-read_all : (failed reported : Bool) → EndedByInput (outcome_of failed reported) → ⊥
-read_all true reported by_input = by_input
-read_all false true by_input = by_input
-read_all false false by_input = by_input
+-- what stands behind the frames of a run that the source stopped
+last_of_source : (fault : SourceFault) (octets : List ℕ) → IsLeft fault octets → IsLast (source_outcome fault) octets
+last_of_source source.Read octets (inl begun) = begun
+last_of_source source.InputTooLong octets (inl begun) = begun
+last_of_source source.Memory octets (inl begun) = inl (record { none = begun.none; stops = inl begun.cut })
+last_of_source source.Spent octets (inl begun) = inl (record { none = begun.none; stops = inl begun.cut })
+last_of_source source.Read octets (inr (memory, whole)) = cc
+last_of_source source.InputTooLong octets (inr (memory, whole)) = cc
+last_of_source source.Memory octets (inr (memory, whole)) = inr whole
+last_of_source source.Spent octets (inr (memory, whole)) = cc
 
--- what was taken by a run that read all
-pub TakesAll-read : (stamp : Stamp) (limit : ℕ) (left left' : Option (List ℕ)) (failed reported : Bool) (outcome : Outcome) → TakesAll stamp limit ⊥ left left'
-    → outcome ≡ outcome_of failed reported → TakesAll stamp limit (EndedByInput outcome) left left'
-TakesAll-read stamp limit left left' failed reported outcome (taken, consumed, p) is_outcome =
-    (taken, consumed, IsTaken-weaker stamp limit ⊥ (EndedByInput outcome) taken (λ by_input. read_all failed reported (subst EndedByInput is_outcome by_input)) p)
-
--- a stop by the input is told as one
-by_input_told : (stop : Stop) → EndedByInput (stopped_outcome stop) → StopsByInput {A = Bool} (Err stop)
-by_input_told ReadFault p = p
-by_input_told WriteFault p = p
-by_input_told InputTooLong p = p
-by_input_told Memory p = p
+last_of_write : (fault : WriteFault) (octets : List ℕ) → IsRest octets → IsLast (write_outcome fault) octets
+last_of_write write.Write octets rest = rest
+last_of_write write.Memory octets rest = inl rest
 
 -- what was taken by a run that stopped
-pub TakesAll-told : (stamp : Stamp) (limit : ℕ) (left left' : Option (List ℕ)) (stop : Stop) → TakesAll stamp limit (StopsByInput {A = Bool} (Err stop)) left left'
-    → TakesAll stamp limit (EndedByInput (stopped_outcome stop)) left left'
-TakesAll-told stamp limit left left' stop (taken, consumed, p) =
-    (taken, consumed, IsTaken-weaker stamp limit (StopsByInput {A = Bool} (Err stop)) (EndedByInput (stopped_outcome stop)) taken (by_input_told stop) p)
+pub IsTaken-stopped : (stamp : Stamp) (left left' : Option (List ℕ)) (a b : Outputs) (outcome : Outcome) → Ends (start_place stamp LIMIT) left left' a b (Err outcome)
+    → (taken : List ℕ) × Consumes left left' taken × IsTaken stamp outcome taken
+IsTaken-stopped stamp left left' a b outcome (inl (fault, is, stop)) =
+    let s = stop.so_far in
+    let done : List ℕ = spellings s.frames ++ s.rest in
+    let none = no_rest (start_place stamp LIMIT) stop.place left stop.mid stop.found s stop.reading in (
+      done ++ stop.octets,
+      Consumes-trans left stop.mid left' done stop.octets s.consumed stop.consumed,
+      record {
+        frames = s.frames;
+        rest = stop.octets;
+        whole = ap (λ l. (spellings s.frames ++ l) ++ stop.octets) none ∙ ap (λ l. l ++ stop.octets) (append-nil (spellings s.frames));
+        are_frames = s.are_frames;
+        last = subst (λ o. IsLast o stop.octets) (sym is) (last_of_source fault stop.octets stop.left_over);
+        few = omega (arith, stop.within, s.offset, length-append done stop.octets);
+      },
+    )
+IsTaken-stopped stamp left left' a b outcome (inr (fault, is, stop)) =
+    let s = stop.so_far in (
+      spellings s.frames ++ s.rest,
+      s.consumed,
+      record {
+        frames = s.frames;
+        rest = s.rest;
+        whole = refl;
+        are_frames = s.are_frames;
+        last = subst (λ o. IsLast o s.rest) (sym is) (last_of_write fault s.rest (rest_so_far (start_place stamp LIMIT) stop.place left left' stop.found s));
+        few = omega (arith, stop.within, s.offset);
+      },
+    )
+
+-- what was taken by a run whose input was too long
+pub length-stopped : (stamp : Stamp) (left left' : Option (List ℕ)) (a b : Outputs) (how : Outcome) → Ends (start_place stamp LIMIT) left left' a b (Err how) → how ≡ outcome.InputTooLong
+    → (taken after : List ℕ) → Took left left' taken after → length taken ≡ LIMIT
+length-stopped stamp left left' a b how (inl (fault, is, stop)) too_long taken after took =
+    let s = stop.so_far in
+    let done : List ℕ = spellings s.frames ++ s.rest in
+    let same = same_taken left left' (done ++ stop.octets) taken after (Consumes-trans left stop.mid left' done stop.octets s.consumed stop.consumed) took in
+    let full = by_fault fault (stop.place.offset + length stop.octets) (sym is ∙ too_long) stop.full in
+    omega (arith, ap length same, full, s.offset, length-append done stop.octets)
+  where
+    by_fault : (fault : SourceFault) (n : ℕ) → source_outcome fault ≡ outcome.InputTooLong → Stops fault n LIMIT → n ≡ LIMIT
+    by_fault source.Read n e stops = cc
+    by_fault source.InputTooLong n e stops = stops
+    by_fault source.Memory n e stops = cc
+    by_fault source.Spent n e stops = absurd stops
+length-stopped stamp left left' a b how (inr (fault, is, stop)) too_long taken after took = absurd (by_fault fault (sym is ∙ too_long))
+  where
+    by_fault : (fault : WriteFault) → write_outcome fault ≡ outcome.InputTooLong → ⊥
+    by_fault write.Write e = cc
+    by_fault write.Memory e = cc

@@ -15,17 +15,17 @@ use Rattle.std.proofs.lemmas.Map.Entries.{lookup_head, none_past_head}
 use Rattle.std.proofs.lemmas.Map.Keys.{IsDistinct-from_sorted, IsDistinct-tail}
 use Rattle.std.proofs.lemmas.Map.Made.{IsDistinct-keys_filter}
 use Rattle.bgpdump_tool.specs.declared.player.pair.Pair.{Pair}
-use Rattle.bgpdump_tool.specs.declared.player.event.Route.{Route}
-use Rattle.bgpdump_tool.specs.declared.player.event.Event.{Event}
+use Rattle.mrt_wire.specs.declared.event.Route.{Route}
+use Rattle.mrt_wire.specs.declared.event.Event.{Event}
 use Rattle.bgpdump_tool.specs.declared.player.changes.Changes.{Changes}
 use Rattle.bgpdump_tool.specs.declared.player.journal.Entry.{Entry}
-use Rattle.bgpdump_tool.specs.History.{pair_cmp, effect, applied}
-use Rattle.bgpdump_tool.specs.Tables.{Routes, apply, is_named, named}
+use Rattle.bgpdump_tool.specs.History.{pair_cmp, effect, route_after}
+use Rattle.bgpdump_tool.specs.Tables.{Routes, table_after, is_named, named_pairs}
 use Rattle.bgpdump_tool.specs.Store.{Slots, slot_at, route_in}
-use Rattle.bgpdump_tool.specs.Journal.{Side, sides_of, slot_side, pairs_in, crossed, IsStepFor}
-use Rattle.bgpdump_tool.specs.Changes.{found, is_lost, effect_of, noted, or_absent}
+use Rattle.bgpdump_tool.specs.Journal.{Side, sides_of, slot_side, pairs_in, sides_across, IsStepFor}
+use Rattle.bgpdump_tool.specs.Changes.{found, is_lost, effect_of, noted_effect, or_absent}
 use Rattle.bgpdump_tool.proofs.PairLaws.{pair_cmp_total, same_pair}
-use Rattle.bgpdump_tool.proofs.TableLaws.{get-apply, contains-named}
+use Rattle.bgpdump_tool.proofs.TableLaws.{get-table_after, contains-named_pairs}
 use Rattle.bgpdump_tool.proofs.StoreLaws.{same_pairs}
 
 -- a side has a route, here or on the other side
@@ -102,10 +102,10 @@ any_sides before q (slot ∷ slots) distinct =
     at rest false e = elsewhere (has_route before (slot_side slot)) _ ∙ rest
 
 -- sides that show what a function has are kept where it is read at their pairs, with a first one or not
-crossed-cond : (now : Pair → Option Route) (b : Bool) (side : Side) (sides : List Side) → now side.0 ≡ side.1 → map (λ (s : Side). (s.0, now s.0)) sides ≡ sides
+sides_across-cond : (now : Pair → Option Route) (b : Bool) (side : Side) (sides : List Side) → now side.0 ≡ side.1 → map (λ (s : Side). (s.0, now s.0)) sides ≡ sides
     → map (λ (s : Side). (s.0, now s.0)) (cond b (side ∷ sides) sides) ≡ cond b (side ∷ sides) sides
-crossed-cond now true side sides first rest = ap₂ (λ r ss. (side.0, r) ∷ ss) first rest
-crossed-cond now false side sides first rest = rest
+sides_across-cond now true side sides first rest = ap₂ (λ r ss. (side.0, r) ∷ ss) first rest
+sides_across-cond now false side sides first rest = rest
 
 -- what is found behind the first slot is found with it
 found-behind : (slot : Pair × Option (Rc Route Global)) (slots : Slots) (q : Pair) (route : Option Route) → IsDistinct (eq_by_cmp pair_cmp) (keys_of (slot ∷ slots))
@@ -120,37 +120,37 @@ found-behind slot slots q route distinct there = at (eq_by_cmp pair_cmp q slot.0
     at false e = there
 
 -- where a function has what is found, it has what the sides show
-crossed-found : (now : Pair → Option Route) (test : Side → Bool) (slots : Slots) → IsDistinct (eq_by_cmp pair_cmp) (keys_of slots)
+sides_across-found : (now : Pair → Option Route) (test : Side → Bool) (slots : Slots) → IsDistinct (eq_by_cmp pair_cmp) (keys_of slots)
     → ((q : Pair) (route : Option Route) → found slots q ≡ Some route → now q ≡ route)
     → map (λ (s : Side). (s.0, now s.0)) (filter test (map slot_side slots)) ≡ filter test (map slot_side slots)
-crossed-found now test [] distinct has = refl
-crossed-found now test (slot ∷ slots) distinct has =
-    crossed-cond now (test (slot_side slot)) (slot_side slot) (filter test (map slot_side slots))
+sides_across-found now test [] distinct has = refl
+sides_across-found now test (slot ∷ slots) distinct has =
+    sides_across-cond now (test (slot_side slot)) (slot_side slot) (filter test (map slot_side slots))
     (has slot.0 (route_in slot.1) (ap (option_map route_in) (lookup_head (eq_by_cmp pair_cmp slot.0) slot slots ((eq_by_cmp_equiv pair_cmp_total).refl slot.0))))
-    (crossed-found now test slots (IsDistinct-tail (eq_by_cmp pair_cmp) slot.0 (keys_of slots) distinct)
+    (sides_across-found now test slots (IsDistinct-tail (eq_by_cmp pair_cmp) slot.0 (keys_of slots) distinct)
     (λ q route there. has q route (found-behind slot slots q route distinct there)))
 
 -- what is kept for a pair, or lost with its peer, names it where its slot then shows a route, or it has one before
-named-shown : (kept : Option (Option Route)) (lost : Bool) (before : Option Route) → is_named before (effect_of kept lost) ≡ shows (or_absent kept (lost && is_some before)) before
-named-shown (Some (Some route)) lost None = refl
-named-shown (Some (Some route)) lost (Some old) = refl
-named-shown (Some None) lost None = refl
-named-shown (Some None) lost (Some old) = refl
-named-shown None true None = refl
-named-shown None true (Some old) = refl
-named-shown None false before = refl
+named_pairs-shown : (kept : Option (Option Route)) (lost : Bool) (before : Option Route) → is_named before (effect_of kept lost) ≡ shows (or_absent kept (lost && is_some before)) before
+named_pairs-shown (Some (Some route)) lost None = refl
+named_pairs-shown (Some (Some route)) lost (Some old) = refl
+named_pairs-shown (Some None) lost None = refl
+named_pairs-shown (Some None) lost (Some old) = refl
+named_pairs-shown None true None = refl
+named_pairs-shown None true (Some old) = refl
+named_pairs-shown None false before = refl
 
 -- and its slot then has the route that it leaves
-applied-found : (kept : Option (Option Route)) (lost : Bool) (before route : Option Route) → or_absent kept (lost && is_some before) ≡ Some route → applied before (effect_of kept lost) ≡ route
-applied-found (Some (Some new)) lost before route e = cc
-applied-found (Some None) lost before route e = cc
-applied-found None true None route e = cc
-applied-found None true (Some old) route e = cc
-applied-found None false before route e = cc
+route_after-found : (kept : Option (Option Route)) (lost : Bool) (before route : Option Route) → or_absent kept (lost && is_some before) ≡ Some route → route_after before (effect_of kept lost) ≡ route
+route_after-found (Some (Some new)) lost before route e = cc
+route_after-found (Some None) lost before route e = cc
+route_after-found None true None route e = cc
+route_after-found None true (Some old) route e = cc
+route_after-found None false before route e = cc
 
 -- the sides of such slots are those of the event's step
 pub IsStepFor-made : (routes : Routes) (event : Event) (changes : Changes) (slots : Slots) (sides : List Side)
-    → ((q : Pair) → noted changes q ≡ effect q event)
+    → ((q : Pair) → noted_effect changes q ≡ effect q event)
     → ((q : Pair) → found slots q ≡ or_absent (found changes.routes.entries q) (is_lost changes.lost.items q && is_some (get routes q)))
     → IsDistinct (eq_by_cmp pair_cmp) (keys_of slots)
     → IsDistinct (eq_by_cmp pair_cmp) (pairs_in sides)
@@ -160,24 +160,24 @@ IsStepFor-made routes event changes slots sides notes then keys distinct is =
     record {
       distinct = distinct;
       after = is
-          ∙ sym (crossed-found (get (apply routes event)) (has_route (get routes)) slots keys (λ q route there.
-          get-apply routes event q
-          ∙ ap (applied (get routes q)) (sym (notes q))
-          ∙ applied-found (found changes.routes.entries q) (is_lost changes.lost.items q) (get routes q) route (sym (then q) ∙ there)))
-          ∙ ap (crossed (apply routes event)) (sym is);
-      names = same_pairs (from_list (pairs_in sides)) (named routes event) (λ q.
+          ∙ sym (sides_across-found (get (table_after routes event)) (has_route (get routes)) slots keys (λ q route there.
+          get-table_after routes event q
+          ∙ ap (route_after (get routes q)) (sym (notes q))
+          ∙ route_after-found (found changes.routes.entries q) (is_lost changes.lost.items q) (get routes q) route (sym (then q) ∙ there)))
+          ∙ ap (sides_across (table_after routes event)) (sym is);
+      names = same_pairs (from_list (pairs_in sides)) (named_pairs routes event) (λ q.
           contains-from_list pair_cmp_total (pairs_in sides) q
           ∙ ap (λ (ss : List Side). list_any (eq_by_cmp pair_cmp q) (pairs_in ss)) is
           ∙ any_sides (get routes) q slots keys
           ∙ ap (λ k. shows k (get routes q)) (then q)
-          ∙ sym (named-shown (found changes.routes.entries q) (is_lost changes.lost.items q) (get routes q))
+          ∙ sym (named_pairs-shown (found changes.routes.entries q) (is_lost changes.lost.items q) (get routes q))
           ∙ ap (is_named (get routes q)) (notes q)
-          ∙ sym (contains-named routes event q));
+          ∙ sym (contains-named_pairs routes event q));
     }
 
 -- the same of an answer that may be a refusal
 pub IsStepFor-answered : {E : Type 0} (routes : Routes) (event : Event) (changes : Changes) (slots : Slots) (result : Result (Vec Entry Global) E)
-    → ((q : Pair) → noted changes q ≡ effect q event)
+    → ((q : Pair) → noted_effect changes q ≡ effect q event)
     → ((q : Pair) → found slots q ≡ or_absent (found changes.routes.entries q) (is_lost changes.lost.items q && is_some (get routes q)))
     → IfOk result (λ entries. IsDistinct (eq_by_cmp pair_cmp) (keys_of slots))
     → IfOk result (λ entries. IsDistinct (eq_by_cmp pair_cmp) (pairs_in (sides_of entries.items)))

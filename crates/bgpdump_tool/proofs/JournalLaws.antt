@@ -10,15 +10,15 @@ use Rattle.std.proofs.lemmas.Bool.{or_parts}
 use Rattle.std.proofs.lemmas.List.{drop-drop, drop_more, take_more_set, map-append, map_more, take_at, length_push, length-take-le}
 use Rattle.std.proofs.lemmas.Map.Keys.{IsDistinct-head, IsDistinct-tail}
 use Rattle.bgpdump_tool.specs.declared.player.pair.Pair.{Pair}
-use Rattle.bgpdump_tool.specs.declared.player.event.Route.{Route}
-use Rattle.bgpdump_tool.specs.declared.player.event.Event.{Event}
+use Rattle.mrt_wire.specs.declared.event.Route.{Route}
+use Rattle.mrt_wire.specs.declared.event.Event.{Event}
 use Rattle.bgpdump_tool.specs.declared.player.journal.Entry.{Entry}
-use Rattle.bgpdump_tool.specs.History.{pair_cmp, Effect, Keep, Clear, Set, effect, applied}
-use Rattle.bgpdump_tool.specs.Tables.{Routes, Pairs, put, apply, is_named}
+use Rattle.bgpdump_tool.specs.History.{pair_cmp, Effect, Keep, Clear, Set, effect, route_after}
+use Rattle.bgpdump_tool.specs.Tables.{Routes, Pairs, put, table_after, is_named}
 use Rattle.bgpdump_tool.specs.Store.{route_in}
-use Rattle.bgpdump_tool.specs.Journal.{Side, side_of, sides_of, pairs_in, restored, crossed, IsKept, IsStepFor}
+use Rattle.bgpdump_tool.specs.Journal.{Side, side_of, sides_of, pairs_in, routes_across, sides_across, IsKept, IsStepFor}
 use Rattle.bgpdump_tool.proofs.PairLaws.{pair_cmp_total, same_pair}
-use Rattle.bgpdump_tool.proofs.TableLaws.{untested, same_routes, get-put, get-apply, contains-named}
+use Rattle.bgpdump_tool.proofs.TableLaws.{untested, same_routes, get-put, get-table_after, contains-named_pairs}
 
 -- a put at another pair leaves the route
 get-put_elsewhere : (routes : Routes) (pair q : Pair) (new : Option Route) → eq_by_cmp pair_cmp pair q ≡ false → finite.get (put routes pair new) q ≡ finite.get routes q
@@ -27,11 +27,11 @@ get-put_elsewhere routes pair q new apart =
     ∙ ap (λ b. cond b new (finite.get routes q)) ((eq_by_cmp_equiv pair_cmp_total).symm q pair ∙ apart)
 
 -- a put at another pair leaves the routes that crossing takes up
-crossed-put : (routes : Routes) (pair : Pair) (new : Option Route) (sides : List Side) → AllByRecursion (λ q. eq_by_cmp pair_cmp pair q ≡ false) (pairs_in sides)
-    → crossed (put routes pair new) sides ≡ crossed routes sides
-crossed-put routes pair new [] apart = refl
-crossed-put routes pair new (side ∷ sides) apart =
-    λ i. (side.0, get-put_elsewhere routes pair side.0 new apart.0 i) ∷ crossed-put routes pair new sides apart.1 i
+sides_across-put : (routes : Routes) (pair : Pair) (new : Option Route) (sides : List Side) → AllByRecursion (λ q. eq_by_cmp pair_cmp pair q ≡ false) (pairs_in sides)
+    → sides_across (put routes pair new) sides ≡ sides_across routes sides
+sides_across-put routes pair new [] apart = refl
+sides_across-put routes pair new (side ∷ sides) apart =
+    λ i. (side.0, get-put_elsewhere routes pair side.0 new apart.0 i) ∷ sides_across-put routes pair new sides apart.1 i
 
 -- the entries that are left, by the first of them
 pub rest_of_entries : (i : ℕ) (entries first : List Entry) (default : Entry) → i < length entries → drop i entries ≡ drop i first
@@ -47,40 +47,36 @@ kept-tail keys side sides kept = record {
   among_keys = kept.among_keys.1;
 }
 
--- the first of kept entries has a key
-pub kept-head : (keys : Pairs) (side : Side) (sides : List Side) → IsKept keys (side ∷ sides) → names.contains keys side.0 ≡ true
-kept-head keys side sides kept = kept.among_keys.0
-
 -- crossing kept entries one by one
-pub crossed-tail : (keys : Pairs) (routes : Routes) (side : Side) (sides : List Side) → IsKept keys (side ∷ sides)
-    → crossed (put routes side.0 side.1) sides ≡ crossed routes sides
-crossed-tail keys routes side sides kept =
-    crossed-put routes side.0 side.1 sides (IsDistinct-head (eq_by_cmp pair_cmp) side.0 (pairs_in sides) kept.distinct)
+pub sides_across-tail : (keys : Pairs) (routes : Routes) (side : Side) (sides : List Side) → IsKept keys (side ∷ sides)
+    → sides_across (put routes side.0 side.1) sides ≡ sides_across routes sides
+sides_across-tail keys routes side sides kept =
+    sides_across-put routes side.0 side.1 sides (IsDistinct-head (eq_by_cmp pair_cmp) side.0 (pairs_in sides) kept.distinct)
 
 -- one entry more is crossed
 pub entries-more : (keys : Pairs) (routes routes' : Routes) (entries rest : List Entry) (i : ℕ) (entry entry' : Entry) (whole : List Side) → i < length entries
     → IsKept keys (sides_of (entry ∷ rest)) → routes' ≡ put routes entry.pair (route_in entry.other) → side_of entry' ≡ (entry.pair, finite.get routes entry.pair)
-    → sides_of (take i entries) ++ crossed routes (sides_of (entry ∷ rest)) ≡ whole
-    → sides_of (take (i + 1) (set entries i entry')) ++ crossed routes' (sides_of rest) ≡ whole
+    → sides_of (take i entries) ++ sides_across routes (sides_of (entry ∷ rest)) ≡ whole
+    → sides_of (take (i + 1) (set entries i entry')) ++ sides_across routes' (sides_of rest) ≡ whole
 entries-more keys routes routes' entries rest i entry entry' whole within kept put_there given before =
-    ap (λ es. sides_of es ++ crossed routes' (sides_of rest)) (take_more_set entries i entry' within)
-    ∙ ap (λ s. s ++ crossed routes' (sides_of rest)) (map-append side_of (take i entries) (entry' ∷ []))
-    ∙ append_assoc (sides_of (take i entries)) (side_of entry' ∷ []) (crossed routes' (sides_of rest))
-    ∙ ap (λ s. sides_of (take i entries) ++ (s ∷ crossed routes' (sides_of rest))) given
+    ap (λ es. sides_of es ++ sides_across routes' (sides_of rest)) (take_more_set entries i entry' within)
+    ∙ ap (λ s. s ++ sides_across routes' (sides_of rest)) (map-append side_of (take i entries) (entry' ∷ []))
+    ∙ append_assoc (sides_of (take i entries)) (side_of entry' ∷ []) (sides_across routes' (sides_of rest))
+    ∙ ap (λ s. sides_of (take i entries) ++ (s ∷ sides_across routes' (sides_of rest))) given
     ∙ ap (λ s. sides_of (take i entries) ++ ((entry.pair, finite.get routes entry.pair) ∷ s))
-    (ap (λ r. crossed r (sides_of rest)) put_there ∙ crossed-tail keys routes (side_of entry) (sides_of rest) kept)
+    (ap (λ r. sides_across r (sides_of rest)) put_there ∙ sides_across-tail keys routes (side_of entry) (sides_of rest) kept)
     ∙ before
 
 -- the pairs of a crossed step are those of the step
-pub pairs_in-crossed : (routes : Routes) (sides : List Side) → pairs_in (crossed routes sides) ≡ pairs_in sides
-pairs_in-crossed routes [] = refl
-pairs_in-crossed routes (side ∷ sides) = ap (λ pairs. side.0 ∷ pairs) (pairs_in-crossed routes sides)
+pub pairs_in-sides_across : (routes : Routes) (sides : List Side) → pairs_in (sides_across routes sides) ≡ pairs_in sides
+pairs_in-sides_across routes [] = refl
+pairs_in-sides_across routes (side ∷ sides) = ap (λ pairs. side.0 ∷ pairs) (pairs_in-sides_across routes sides)
 
 -- a crossed step is kept as the step is
-pub kept-crossed : (keys : Pairs) (routes : Routes) (sides : List Side) → IsKept keys sides → IsKept keys (crossed routes sides)
-kept-crossed keys routes sides kept = record {
-  distinct = subst (IsDistinct (eq_by_cmp pair_cmp)) (sym (pairs_in-crossed routes sides)) kept.distinct;
-  among_keys = subst (AllByRecursion (λ pair. names.contains keys pair ≡ true)) (sym (pairs_in-crossed routes sides)) kept.among_keys;
+pub kept-sides_across : (keys : Pairs) (routes : Routes) (sides : List Side) → IsKept keys sides → IsKept keys (sides_across routes sides)
+kept-sides_across keys routes sides kept = record {
+  distinct = subst (IsDistinct (eq_by_cmp pair_cmp)) (sym (pairs_in-sides_across routes sides)) kept.distinct;
+  among_keys = subst (AllByRecursion (λ pair. names.contains keys pair ≡ true)) (sym (pairs_in-sides_across routes sides)) kept.among_keys;
 }
 
 -- a choice after a choice
@@ -91,7 +87,7 @@ second_choice false c x y z same = refl
 
 -- behind a step whose routes are those of a table, its pairs have that table's routes, and the others keep theirs
 pub get-restored_crossed : (routes before : Routes) (sides : List Side) (q : Pair)
-    → finite.get (restored (crossed routes sides) before) q ≡ cond (list_any (eq_by_cmp pair_cmp q) (pairs_in sides)) (finite.get routes q) (finite.get before q)
+    → finite.get (routes_across (sides_across routes sides) before) q ≡ cond (list_any (eq_by_cmp pair_cmp q) (pairs_in sides)) (finite.get routes q) (finite.get before q)
 get-restored_crossed routes before [] q = refl
 get-restored_crossed routes before (side ∷ sides) q =
     get-restored_crossed routes (put before side.0 (finite.get routes side.0)) sides q
@@ -101,7 +97,7 @@ get-restored_crossed routes before (side ∷ sides) q =
 
 -- a step leaves the routes of the pairs that it doesn't name
 get-restored_elsewhere : (sides : List Side) (routes : Routes) (q : Pair) → list_any (eq_by_cmp pair_cmp q) (pairs_in sides) ≡ false
-    → finite.get (restored sides routes) q ≡ finite.get routes q
+    → finite.get (routes_across sides routes) q ≡ finite.get routes q
 get-restored_elsewhere [] routes q out = refl
 get-restored_elsewhere (side ∷ sides) routes q out =
     let apart = or_parts (eq_by_cmp pair_cmp q side.0) (list_any (eq_by_cmp pair_cmp q) (pairs_in sides)) out in
@@ -109,13 +105,13 @@ get-restored_elsewhere (side ∷ sides) routes q out =
     ∙ get-put routes side.0 side.1 q ∙ ap (λ b. cond b side.1 (finite.get routes q)) apart.0
 
 -- a step that is crossed and crossed back gives back the table
-pub restored-crossed : (sides : List Side) (routes : Routes) → restored (crossed routes sides) (restored sides routes) ≡ routes
-restored-crossed sides routes = same_routes _ routes (λ q.
-    get-restored_crossed routes (restored sides routes) sides q
-    ∙ untested (list_any (eq_by_cmp pair_cmp q) (pairs_in sides)) (finite.get routes q) (finite.get (restored sides routes) q) (λ out. sym (get-restored_elsewhere sides routes q out)))
+pub routes_across-sides_across : (sides : List Side) (routes : Routes) → routes_across (sides_across routes sides) (routes_across sides routes) ≡ routes
+routes_across-sides_across sides routes = same_routes _ routes (λ q.
+    get-restored_crossed routes (routes_across sides routes) sides q
+    ∙ untested (list_any (eq_by_cmp pair_cmp q) (pairs_in sides)) (finite.get routes q) (finite.get (routes_across sides routes) q) (λ out. sym (get-restored_elsewhere sides routes q out)))
 
 -- an event leaves the routes of the pairs that it doesn't name
-unnamed-same : (before : Option Route) (does : Effect) → is_named before does ≡ false → before ≡ applied before does
+unnamed-same : (before : Option Route) (does : Effect) → is_named before does ≡ false → before ≡ route_after before does
 unnamed-same before Keep e = refl
 unnamed-same None Clear e = refl
 unnamed-same (Some old) Clear e = cc
@@ -123,14 +119,14 @@ unnamed-same None (Set new) e = cc
 unnamed-same (Some old) (Set new) e = cc
 
 -- the step of an event leads to the table that the event is applied to
-pub restored-step : (routes : Routes) (event : Event) (sides : List Side) → IsStepFor routes event sides → restored sides routes ≡ apply routes event
-restored-step routes event sides step = same_routes _ _ (λ q.
-    ap (λ s. finite.get (restored s routes) q) step.after
-    ∙ get-restored_crossed (apply routes event) routes sides q
-    ∙ untested (list_any (eq_by_cmp pair_cmp q) (pairs_in sides)) (finite.get (apply routes event) q) (finite.get routes q) (λ out.
-    get-apply routes event q
+pub routes_across-step : (routes : Routes) (event : Event) (sides : List Side) → IsStepFor routes event sides → routes_across sides routes ≡ table_after routes event
+routes_across-step routes event sides step = same_routes _ _ (λ q.
+    ap (λ s. finite.get (routes_across s routes) q) step.after
+    ∙ get-restored_crossed (table_after routes event) routes sides q
+    ∙ untested (list_any (eq_by_cmp pair_cmp q) (pairs_in sides)) (finite.get (table_after routes event) q) (finite.get routes q) (λ out.
+    get-table_after routes event q
     ∙ sym (unnamed-same (finite.get routes q) (effect q event)
-    (sym (contains-named routes event q) ∙ ap (λ s. names.contains s q) (sym step.names) ∙ contains-from_list pair_cmp_total (pairs_in sides) q ∙ out))))
+    (sym (contains-named_pairs routes event q) ∙ ap (λ s. names.contains s q) (sym step.names) ∙ contains-from_list pair_cmp_total (pairs_in sides) q ∙ out))))
 
 -- a list up to one that was put in its place
 pub take_inserted : {X : Type 0} (xs : List X) (index : ℕ) (new : X) → index ≤ length xs → take (index + 1) (take index xs ++ new ∷ drop index xs) ≡ take index xs ++ new ∷ []

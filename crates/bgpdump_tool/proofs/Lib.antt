@@ -1,15 +1,6 @@
-pub mod Buffers
-pub mod ContentLaws
+pub mod LineLaws
 pub mod EndLaws
-pub mod Existence
-pub mod FieldLaws
-pub mod RecordLaws
-pub mod RestLaws
 pub mod RunLaws
-pub mod SplitLaws
-pub mod StateChangeLaws
-pub mod StepLaws
-pub mod TextLaws
 pub mod WritingLaws
 pub mod PairLaws
 pub mod TableLaws

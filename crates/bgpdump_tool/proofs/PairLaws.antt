@@ -6,23 +6,15 @@ use Rattle.std.specs.Cmp.{IsTotalOrder, nat_cmp_total, on_total, then_total, Equ
 use Rattle.std.specs.FinMap.{IsAntisymmetric, nat_cmp-IsAntisymmetric}
 use Rattle.ip_prefix.specs.Order.{address_cmp, network_cmp}
 use Rattle.ip_prefix.specs.OrderLaws.{both_tie, address_cmp_total, address_cmp-IsAntisymmetric, network_cmp_total, network_cmp-IsAntisymmetric}
-use Rattle.bgpdump_tool.specs.declared.peer.Peer.{Peer}
+use Rattle.mrt_wire.specs.declared.peer.Peer.{Peer}
 use Rattle.bgpdump_tool.specs.declared.player.pair.Pair.{Pair}
-use Rattle.bgpdump_tool.specs.History.{peer_cmp, pair_cmp}
-
--- the order of peers is total
-pub peer_cmp_total : IsTotalOrder peer_cmp
-peer_cmp_total = then_total (on_total (λ p. p.addr) address_cmp_total) (on_total (λ p. p.asn) nat_cmp_total)
+use Rattle.mrt_wire.specs.Peer.{peer_cmp}
+use Rattle.mrt_wire.proofs.PeerLaws.{peer_cmp_total, peer_cmp-IsAntisymmetric, derived_eq, peer_eq}
+use Rattle.bgpdump_tool.specs.History.{pair_cmp}
 
 -- the order of pairs is total
 pub pair_cmp_total : IsTotalOrder pair_cmp
 pair_cmp_total = then_total (on_total (λ p. p.peer) peer_cmp_total) (on_total (λ p. p.prefix) network_cmp_total)
-
--- peers that tie are one
-pub peer_cmp-IsAntisymmetric : IsAntisymmetric peer_cmp
-peer_cmp-IsAntisymmetric a b e =
-    let ties = both_tie (address_cmp a.addr b.addr) (nat_cmp a.asn b.asn) e in
-    λ i. record { addr = address_cmp-IsAntisymmetric a.addr b.addr ties.0 i; asn = nat_cmp-IsAntisymmetric a.asn b.asn ties.1 i }
 
 -- pairs that tie are one
 pub pair_cmp-IsAntisymmetric : IsAntisymmetric pair_cmp
@@ -33,14 +25,6 @@ pair_cmp-IsAntisymmetric a b e =
 -- pairs that pass the test are one
 pub same_pair : (a b : Pair) → eq_by_cmp pair_cmp a b ≡ true → a ≡ b
 same_pair a b e = pair_cmp-IsAntisymmetric a b ((Equal-is (pair_cmp a b)).0 e)
-
--- `==` of peers, as their type derives it
-abbrev pub derived_eq : Peer → Peer → Bool
-derived_eq a b = eq_by_cmp address_cmp a.addr b.addr && (a.asn == b.asn)
-
--- holds of those that tie
-peer_eq : (a b : Peer) → derived_eq a b ≡ eq_by_cmp peer_cmp a b
-peer_eq a b = both_tied _ _ (address_cmp a.addr b.addr) (nat_cmp a.asn b.asn) refl (unsigned_ties a.asn b.asn)
 
 -- so it finds a peer in a list where the order does
 pub any-peer_eq : (peer : Peer) (peers : List Peer) → list_any (λ p. derived_eq p peer) peers ≡ list_any (eq_by_cmp peer_cmp peer) peers

@@ -20,12 +20,14 @@ use Rattle.ip_prefix.specs.declared.addr.Family.{Family}
 use Rattle.ip_prefix.specs.declared.addr.Family.TheVariants.{V4, V6}
 use Rattle.ip_prefix.specs.Network.{Network}
 use Rattle.ip_prefix.specs.Order.{family_cmp, bits_cmp, network_cmp}
-use Rattle.bgpdump_tool.specs.declared.peer.Peer.{Peer}
+use Rattle.mrt_wire.specs.declared.peer.Peer.{Peer}
 use Rattle.bgpdump_tool.specs.declared.player.pair.Pair.{Pair}
-use Rattle.bgpdump_tool.specs.declared.player.event.Route.{Route}
-use Rattle.bgpdump_tool.specs.History.{peer_cmp, pair_cmp, pair_of}
+use Rattle.mrt_wire.specs.declared.event.Route.{Route}
+use Rattle.mrt_wire.specs.Peer.{peer_cmp}
+use Rattle.bgpdump_tool.specs.History.{pair_cmp, pair_of}
 use Rattle.bgpdump_tool.specs.Store.{Slots, slot_at, route_in}
-use Rattle.bgpdump_tool.proofs.PairLaws.{peer_cmp_total, same_pair}
+use Rattle.mrt_wire.proofs.PeerLaws.{peer_cmp_total}
+use Rattle.bgpdump_tool.proofs.PairLaws.{same_pair}
 use Rattle.bgpdump_tool.proofs.StoreLaws.{route_found}
 
 -- a pair with its slot

@@ -13,7 +13,7 @@ use Rattle.std.specs.declared.alloc.Global.{Global}
 use Rattle.std.specs.declared.rc.Rc.{Rc}
 use Rattle.std.proofs.lemmas.Map.{lookup-set_value, keys-set_value}
 use Rattle.bgpdump_tool.specs.declared.player.pair.Pair.{Pair}
-use Rattle.bgpdump_tool.specs.declared.player.event.Route.{Route}
+use Rattle.mrt_wire.specs.declared.event.Route.{Route}
 use Rattle.bgpdump_tool.specs.History.{pair_cmp}
 use Rattle.bgpdump_tool.specs.Tables.{Routes, Pairs, put}
 use Rattle.bgpdump_tool.specs.Store.{Slots, slot_at, route_in, keys_in, routes_in}

@@ -9,12 +9,12 @@ use Rattle.std.proofs.lemmas.Bool.{or_parts}
 use Rattle.std.proofs.lemmas.List.Folds.{list_any-append}
 use Rattle.std.proofs.lemmas.Map.Views.{any-filter_same}
 use Rattle.bgpdump_tool.specs.declared.player.pair.Pair.{Pair}
-use Rattle.bgpdump_tool.specs.declared.player.event.Route.{Route}
-use Rattle.bgpdump_tool.specs.declared.player.event.Item.{Item}
-use Rattle.bgpdump_tool.specs.declared.player.event.Item.TheVariants.{Announce, Withdraw, State}
-use Rattle.bgpdump_tool.specs.declared.player.event.Event.{Event}
-use Rattle.bgpdump_tool.specs.History.{peer_cmp, pair_cmp, pair_of, Effect, Keep, Clear, Set, where_true, is_loss, item_effect, later, last_effect, effect, applied, route}
-use Rattle.bgpdump_tool.specs.Tables.{Routes, put, tabulate, announced_by, announced, table, concerned, apply, is_named, named}
+use Rattle.mrt_wire.specs.declared.event.Route.{Route}
+use Rattle.mrt_wire.specs.Event.{Saying, Announced, Withdrawn, Changed}
+use Rattle.mrt_wire.specs.declared.event.Event.{Event}
+use Rattle.mrt_wire.specs.Peer.{peer_cmp}
+use Rattle.bgpdump_tool.specs.History.{pair_cmp, pair_of, Effect, Keep, Clear, Set, where_true, is_loss, item_effect, later, last_effect, effect, route_after, route}
+use Rattle.bgpdump_tool.specs.Tables.{Routes, put, tabulation, pairs_announced_by, announced_pairs, table, concerned_pairs, table_after, is_named, named_pairs}
 use Rattle.bgpdump_tool.proofs.PairLaws.{pair_cmp_total, pair_cmp-IsAntisymmetric, same_pair}
 
 -- whether the pair is among these
@@ -36,51 +36,51 @@ first_or_rest true c x y rest none same is = same refl
 first_or_rest false c x y rest none same is = is
 
 -- a tabulated function has its value at the listed pairs, and nothing elsewhere
-pub get-tabulate : (f : Pair → Option Route) (pairs : List Pair) (q : Pair) → get (tabulate f pairs) q ≡ cond (list_any (eq_by_cmp pair_cmp q) pairs) (f q) None
-get-tabulate f [] q = get-empty pair_cmp q
-get-tabulate f (pair ∷ pairs) q =
-    get-put (tabulate f pairs) pair (f pair) q
-    ∙ first_or_rest (eq_by_cmp pair_cmp q pair) (among q pairs) (f pair) (f q) _ None (λ e. ap f (sym (same_pair q pair e))) (get-tabulate f pairs q)
+pub get-tabulation : (f : Pair → Option Route) (pairs : List Pair) (q : Pair) → get (tabulation f pairs) q ≡ cond (list_any (eq_by_cmp pair_cmp q) pairs) (f q) None
+get-tabulation f [] q = get-empty pair_cmp q
+get-tabulation f (pair ∷ pairs) q =
+    get-put (tabulation f pairs) pair (f pair) q
+    ∙ first_or_rest (eq_by_cmp pair_cmp q pair) (among q pairs) (f pair) (f q) _ None (λ e. ap f (sym (same_pair q pair e))) (get-tabulation f pairs q)
 
 -- an effect and then a later one are the later of the two
-pub applied-later : (before : Option Route) (first second : Effect) → applied before (later first second) ≡ applied (applied before first) second
-applied-later before first Keep = refl
-applied-later before first Clear = refl
-applied-later before first (Set new) = refl
+pub route_after-later : (before : Option Route) (first second : Effect) → route_after before (later first second) ≡ route_after (route_after before first) second
+route_after-later before first Keep = refl
+route_after-later before first Clear = refl
+route_after-later before first (Set new) = refl
 
 -- a Clear, where a test holds, leaves no route where there was none
-cleared : (b : Bool) → applied None (where_true b Clear) ≡ None
+cleared : (b : Bool) → route_after None (where_true b Clear) ≡ None
 cleared true = refl
 cleared false = refl
 
 -- a Set, where a test fails, leaves no route where there was none
-not_set : (b : Bool) (new : Route) → b ≡ false → applied None (where_true b (Set new)) ≡ None
+not_set : (b : Bool) (new : Route) → b ≡ false → route_after None (where_true b (Set new)) ≡ None
 not_set true new e = cc
 not_set false new e = refl
 
 -- an item leaves no route where it announces none and there was none
-unset_by_item : (q : Pair) (item : Item) → among q (announced_by item) ≡ false → applied None (item_effect q item) ≡ None
-unset_by_item q (Announce peer network new) e = not_set _ new.value (or_parts _ false e).0
-unset_by_item q (Withdraw peer network) e = cleared (eq_by_cmp pair_cmp q (pair_of peer network))
-unset_by_item q (State peer old new) e = cleared (eq_by_cmp peer_cmp q.peer peer && is_loss old new)
+unset_by_item : (q : Pair) (item : Saying) → among q (pairs_announced_by item) ≡ false → route_after None (item_effect q item) ≡ None
+unset_by_item q (Announced peer network new) e = not_set _ new (or_parts _ false e).0
+unset_by_item q (Withdrawn peer network) e = cleared (eq_by_cmp pair_cmp q (pair_of peer network))
+unset_by_item q (Changed peer old new) e = cleared (eq_by_cmp peer_cmp q.peer peer && is_loss old new)
 
 -- so do several, where each of them does
-unset_by_all : {A : Type 0} (q : Pair) (listed : A → List Pair) (does : A → Effect) → ((a : A) → among q (listed a) ≡ false → applied None (does a) ≡ None)
-    → (xs : List A) → among q (flat_map listed xs) ≡ false → applied None (last_effect (map does xs)) ≡ None
+unset_by_all : {A : Type 0} (q : Pair) (listed : A → List Pair) (does : A → Effect) → ((a : A) → among q (listed a) ≡ false → route_after None (does a) ≡ None)
+    → (xs : List A) → among q (flat_map listed xs) ≡ false → route_after None (last_effect (map does xs)) ≡ None
 unset_by_all q listed does each [] e = refl
 unset_by_all q listed does each (x ∷ xs) e =
     let none = or_parts _ _ (sym (list_any-append (eq_by_cmp pair_cmp q) (listed x) (flat_map listed xs)) ∙ e) in
-    applied-later None (does x) (last_effect (map does xs))
-    ∙ ap (λ r. applied r (last_effect (map does xs))) (each x none.0)
+    route_after-later None (does x) (last_effect (map does xs))
+    ∙ ap (λ r. route_after r (last_effect (map does xs))) (each x none.0)
     ∙ unset_by_all q listed does each xs none.1
 
 -- an event leaves no route where it announces none and there was none
-unset_by_event : (q : Pair) (event : Event) → among q (announced event) ≡ false → applied None (effect q event) ≡ None
-unset_by_event q event e = unset_by_all q announced_by (item_effect q) (unset_by_item q) event.items.items e
+unset_by_event : (q : Pair) (event : Event) → among q (announced_pairs event) ≡ false → route_after None (effect q event) ≡ None
+unset_by_event q event e = unset_by_all q pairs_announced_by (item_effect q) (unset_by_item q) event.items e
 
 -- a history leaves no route where it announces none
-unset_by_history : (q : Pair) (history : List Event) → among q (flat_map announced history) ≡ false → route q history ≡ None
-unset_by_history q history e = unset_by_all q announced (effect q) (unset_by_event q) history e
+unset_by_history : (q : Pair) (history : List Event) → among q (flat_map announced_pairs history) ≡ false → route q history ≡ None
+unset_by_history q history e = unset_by_all q announced_pairs (effect q) (unset_by_event q) history e
 
 -- what is nothing where a test fails needs no test
 pub untested : {A : Type 0} (b : Bool) (x none : A) → (b ≡ false → x ≡ none) → cond b x none ≡ x
@@ -91,46 +91,46 @@ untested false x none is = sym (is refl)
 pub get-table : (history : List Event) (pair : Pair) → get (table history) pair ≡ route pair history
 unfolding table
 get-table history pair =
-    get-tabulate (λ p. route p history) (flat_map announced history) pair
-    ∙ untested (among pair (flat_map announced history)) (route pair history) None (unset_by_history pair history)
+    get-tabulation (λ p. route p history) (flat_map announced_pairs history) pair
+    ∙ untested (among pair (flat_map announced_pairs history)) (route pair history) None (unset_by_history pair history)
 
 -- what concerns a pair: it has a route, or the event announces one
-among-concerned : (routes : Routes) (event : Event) (q : Pair) → among q (concerned routes event) ≡ (is_some (get routes q) || among q (announced event))
-among-concerned routes event q =
-    list_any-append (eq_by_cmp pair_cmp q) (keys routes) (announced event)
-    ∙ ap (λ b. b || among q (announced event)) (sym (contains_key-keys routes q))
+among-concerned_pairs : (routes : Routes) (event : Event) (q : Pair) → among q (concerned_pairs routes event) ≡ (is_some (get routes q) || among q (announced_pairs event))
+among-concerned_pairs routes event q =
+    list_any-append (eq_by_cmp pair_cmp q) (keys routes) (announced_pairs event)
+    ∙ ap (λ b. b || among q (announced_pairs event)) (sym (contains_key-keys routes q))
 
 -- a pair that is not concerned has no route before the event and none after it
-unconcerned : (before : Option Route) (does : Effect) (b : Bool) → (b ≡ false → applied None does ≡ None) → (is_some before || b) ≡ false → applied before does ≡ None
+unconcerned : (before : Option Route) (does : Effect) (b : Bool) → (b ≡ false → route_after None does ≡ None) → (is_some before || b) ≡ false → route_after before does ≡ None
 unconcerned None does b is e = is e
 unconcerned (Some old) does b is e = cc
 
 -- a table after an event has, at each pair, what the event's effect leaves
-pub get-apply : (routes : Routes) (event : Event) (pair : Pair) → get (apply routes event) pair ≡ applied (get routes pair) (effect pair event)
-unfolding apply
-get-apply routes event pair =
-    get-tabulate (λ p. applied (get routes p) (effect p event)) (concerned routes event) pair
-    ∙ untested (among pair (concerned routes event)) (applied (get routes pair) (effect pair event)) None
-    (λ e. unconcerned (get routes pair) (effect pair event) (among pair (announced event)) (unset_by_event pair event) (sym (among-concerned routes event pair) ∙ e))
+pub get-table_after : (routes : Routes) (event : Event) (pair : Pair) → get (table_after routes event) pair ≡ route_after (get routes pair) (effect pair event)
+unfolding table_after
+get-table_after routes event pair =
+    get-tabulation (λ p. route_after (get routes p) (effect p event)) (concerned_pairs routes event) pair
+    ∙ untested (among pair (concerned_pairs routes event)) (route_after (get routes pair) (effect pair event)) None
+    (λ e. unconcerned (get routes pair) (effect pair event) (among pair (announced_pairs event)) (unset_by_event pair event) (sym (among-concerned_pairs routes event pair) ∙ e))
 
 -- an event does not name a pair without a route before it and after it
-unnamed : (does : Effect) → applied None does ≡ None → is_named None does ≡ false
+unnamed : (does : Effect) → route_after None does ≡ None → is_named None does ≡ false
 unnamed Keep e = refl
 unnamed Clear e = refl
 unnamed (Set new) e = cc
 
 -- a pair that an event names is concerned
-named_concerned : (before : Option Route) (does : Effect) (b : Bool) → (b ≡ false → applied None does ≡ None) → (is_named before does && (is_some before || b)) ≡ is_named before does
+named_concerned : (before : Option Route) (does : Effect) (b : Bool) → (b ≡ false → route_after None does ≡ None) → (is_named before does && (is_some before || b)) ≡ is_named before does
 named_concerned None does true is = and-true (is_named None does)
 named_concerned None does false is = ap (λ n. n && false) (unnamed does (is refl)) ∙ sym (unnamed does (is refl))
 named_concerned (Some old) does b is = and-true (is_named (Some old) does)
 
 -- an event names the pairs that it sets or clears and that have a route before it or after it
-pub contains-named : (routes : Routes) (event : Event) (pair : Pair) → contains (named routes event) pair ≡ is_named (get routes pair) (effect pair event)
-unfolding named
-contains-named routes event pair =
+pub contains-named_pairs : (routes : Routes) (event : Event) (pair : Pair) → contains (named_pairs routes event) pair ≡ is_named (get routes pair) (effect pair event)
+unfolding named_pairs
+contains-named_pairs routes event pair =
     let test = λ (p : Pair). is_named (get routes p) (effect p event) in
-    contains-from_list pair_cmp_total (filter test (concerned routes event)) pair
-    ∙ any-filter_same (eq_by_cmp pair_cmp pair) test (test pair) (λ p e. ap test (sym (same_pair pair p e))) (concerned routes event)
-    ∙ ap (λ b. test pair && b) (among-concerned routes event pair)
-    ∙ named_concerned (get routes pair) (effect pair event) (among pair (announced event)) (unset_by_event pair event)
+    contains-from_list pair_cmp_total (filter test (concerned_pairs routes event)) pair
+    ∙ any-filter_same (eq_by_cmp pair_cmp pair) test (test pair) (λ p e. ap test (sym (same_pair pair p e))) (concerned_pairs routes event)
+    ∙ ap (λ b. test pair && b) (among-concerned_pairs routes event pair)
+    ∙ named_concerned (get routes pair) (effect pair event) (among pair (announced_pairs event)) (unset_by_event pair event)

@@ -4,10 +4,10 @@ use Rattle.std.proofs.lemmas.Bool.{cond_both, ltb-true}
 use Rattle.std.proofs.lemmas.List.{take-append-le, drop-append-le, drop-take, length_push}
 use Rattle.std.specs.FinMap as finite
 use Rattle.bgpdump_tool.specs.declared.player.pair.Pair.{Pair}
-use Rattle.bgpdump_tool.specs.declared.player.event.Event.{Event}
+use Rattle.mrt_wire.specs.declared.event.Event.{Event}
 use Rattle.bgpdump_tool.specs.History.{route}
-use Rattle.bgpdump_tool.specs.Tables.{table, apply, named}
-use Rattle.bgpdump_tool.specs.Timeline.{Timeline, StandsFor, Call, Play, PlayRefused, Undo, Redo, Look, end_of, behind, table_at, current, fresh, played, undone, redone, tables_along, steps_along, after_call, after_calls, history_after, history_after_calls}
+use Rattle.bgpdump_tool.specs.Tables.{table, table_after, named_pairs}
+use Rattle.bgpdump_tool.specs.Timeline.{Timeline, StandsFor, Call, Play, PlayRefused, Undo, Redo, Look, end_of, behind, table_at, current, fresh, after_play, after_undo, after_redo, tables_along, steps_along, after_call, after_calls, history_after, history_after_calls}
 use Rattle.bgpdump_tool.proofs.TableLaws.{get-table}
 use Rattle.bgpdump_tool.proofs.HistoryLaws.{table-append}
 use Rattle.bgpdump_tool.proofs.AlongHistory.{length-steps_along, tables_along-append, steps_along-append, take-tables_along, take-steps_along, at-tables_along, at-steps_along, take_in_parts, slice_get-drop}
@@ -28,11 +28,11 @@ pub StandsFor-routes : (t : Timeline) (history : List Event) → StandsFor t his
 StandsFor-routes t history stands pair = ap (λ routes. finite.get routes pair) (StandsFor-current t history stands) ∙ get-table (take t.cursor history) pair
 
 -- the step at a position is what the event there names
-pub StandsFor-step : (t : Timeline) (history : List Event) → StandsFor t history → (i : ℕ) → t.floor ≤ i → slice_get t.steps (i - t.floor) ≡ option_map (named (table (take i history))) (slice_get history i)
+pub StandsFor-step : (t : Timeline) (history : List Event) → StandsFor t history → (i : ℕ) → t.floor ≤ i → slice_get t.steps (i - t.floor) ≡ option_map (named_pairs (table (take i history))) (slice_get history i)
 StandsFor-step t history stands i from =
     ap (λ ss. slice_get ss (i - t.floor)) stands.steps
     ∙ at-steps_along (i - t.floor) (take t.floor history) (drop t.floor history)
-    ∙ ap₂ (λ h e. option_map (named (table h)) e) (take_in_parts t.floor i history from) (slice_get-drop t.floor (i - t.floor) i history (add-sub_of_le from))
+    ∙ ap₂ (λ h e. option_map (named_pairs (table h)) e) (take_in_parts t.floor i history from) (slice_get-drop t.floor (i - t.floor) i history (add-sub_of_le from))
 
 -- the highest position is the history's length
 pub StandsFor-end : (t : Timeline) (history : List Event) → StandsFor t history → end_of t ≡ length history
@@ -41,19 +41,19 @@ StandsFor-end t history stands =
     omega (arith, steps, length-drop t.floor history, stands.floor, stands.cursor)
 
 -- a history up to a cursor, and one event more: what stands before a floor, and what stands behind it
-take-played : {A : Type 0} (low high : ℕ) (xs : List A) (x : A) → low ≤ high → high ≤ length xs → take low (take high xs ++ x ∷ []) ≡ take low xs
-take-played low high xs x h k = take-append-le low (take high xs) (x ∷ []) (omega (arith, length-take-le high xs k)) ∙ take-take low high xs h
+take-after_play : {A : Type 0} (low high : ℕ) (xs : List A) (x : A) → low ≤ high → high ≤ length xs → take low (take high xs ++ x ∷ []) ≡ take low xs
+take-after_play low high xs x h k = take-append-le low (take high xs) (x ∷ []) (omega (arith, length-take-le high xs k)) ∙ take-take low high xs h
 
-drop-played : {A : Type 0} (low high : ℕ) (xs : List A) (x : A) → low ≤ high → high ≤ length xs → drop low (take high xs ++ x ∷ []) ≡ take (high - low) (drop low xs) ++ x ∷ []
-drop-played low high xs x h k =
+drop-after_play : {A : Type 0} (low high : ℕ) (xs : List A) (x : A) → low ≤ high → high ≤ length xs → drop low (take high xs ++ x ∷ []) ≡ take (high - low) (drop low xs) ++ x ∷ []
+drop-after_play low high xs x h k =
     drop-append-le low (take high xs) (x ∷ []) (omega (arith, length-take-le high xs k))
     ∙ ap (λ ys. ys ++ x ∷ []) (ap (λ n. drop low (take n xs)) (sym (add-sub_of_le h)) ∙ drop-take low (high - low) xs)
 
 -- the tables up to a position and that of one event more
-tables-played : (low high : ℕ) (history : List Event) (event : Event) → low ≤ high → high ≤ length history
-    → take (high - low + 1) (tables_along (take low history) (drop low history)) ++ apply (table (take high history)) event ∷ []
+tables-after_play : (low high : ℕ) (history : List Event) (event : Event) → low ≤ high → high ≤ length history
+    → take (high - low + 1) (tables_along (take low history) (drop low history)) ++ table_after (table (take high history)) event ∷ []
     ≡ tables_along (take low (take high history ++ event ∷ [])) (drop low (take high history ++ event ∷ []))
-tables-played low high history event h k =
+tables-after_play low high history event h k =
     let past = take low history in
     let kept = take (high - low) (drop low history) in
     ap₂ (λ ts r. ts ++ r ∷ [])
@@ -62,52 +62,52 @@ tables-played low high history event h k =
     ∙ ap (λ hs. table (hs ++ event ∷ [])) (sym (take_in_parts low high history h))
     ∙ ap table (append_assoc past kept (event ∷ [])))
     ∙ sym (tables_along-append past kept event)
-    ∙ ap₂ tables_along (sym (take-played low high history event h k)) (sym (drop-played low high history event h k))
+    ∙ ap₂ tables_along (sym (take-after_play low high history event h k)) (sym (drop-after_play low high history event h k))
 
 -- the steps up to a position and that of one event more
-steps-played : (low high : ℕ) (history : List Event) (event : Event) → low ≤ high → high ≤ length history
-    → take (high - low) (steps_along (take low history) (drop low history)) ++ named (table (take high history)) event ∷ []
+steps-after_play : (low high : ℕ) (history : List Event) (event : Event) → low ≤ high → high ≤ length history
+    → take (high - low) (steps_along (take low history) (drop low history)) ++ named_pairs (table (take high history)) event ∷ []
     ≡ steps_along (take low (take high history ++ event ∷ [])) (drop low (take high history ++ event ∷ []))
-steps-played low high history event h k =
+steps-after_play low high history event h k =
     let past = take low history in
     let kept = take (high - low) (drop low history) in
     ap₂ (λ ss n. ss ++ n ∷ [])
     (take-steps_along (high - low) past (drop low history))
-    (ap (λ hs. named (table hs) event) (sym (take_in_parts low high history h)))
+    (ap (λ hs. named_pairs (table hs) event) (sym (take_in_parts low high history h)))
     ∙ sym (steps_along-append past kept event)
-    ∙ ap₂ steps_along (sym (take-played low high history event h k)) (sym (drop-played low high history event h k))
+    ∙ ap₂ steps_along (sym (take-after_play low high history event h k)) (sym (drop-after_play low high history event h k))
 
 -- a play leaves the history up to the cursor and then the event
-pub StandsFor-played : (t : Timeline) (history : List Event) (event : Event) → StandsFor t history → StandsFor (played t event) (take t.cursor history ++ event ∷ [])
-StandsFor-played t history event stands =
+pub StandsFor-after_play : (t : Timeline) (history : List Event) (event : Event) → StandsFor t history → StandsFor (after_play t event) (take t.cursor history ++ event ∷ [])
+StandsFor-after_play t history event stands =
     let now = StandsFor-current t history stands in
     record {
       floor = omega (arith, stands.floor);
       cursor = omega (arith, length_push (take t.cursor history) event, length-take-le t.cursor history stands.cursor);
-      tables = ap₂ (λ ts r. take (behind t + 1) ts ++ apply r event ∷ []) stands.tables now ∙ tables-played t.floor t.cursor history event stands.floor stands.cursor;
-      steps = ap₂ (λ ss r. take (behind t) ss ++ named r event ∷ []) stands.steps now ∙ steps-played t.floor t.cursor history event stands.floor stands.cursor;
+      tables = ap₂ (λ ts r. take (behind t + 1) ts ++ table_after r event ∷ []) stands.tables now ∙ tables-after_play t.floor t.cursor history event stands.floor stands.cursor;
+      steps = ap₂ (λ ss r. take (behind t) ss ++ named_pairs r event ∷ []) stands.steps now ∙ steps-after_play t.floor t.cursor history event stands.floor stands.cursor;
     }
 
 -- an undo keeps the history
-pub StandsFor-undone : (t : Timeline) (history : List Event) → StandsFor t history → StandsFor (undone t) history
-StandsFor-undone t history stands =
+pub StandsFor-after_undo : (t : Timeline) (history : List Event) → StandsFor t history → StandsFor (after_undo t) history
+StandsFor-after_undo t history stands =
     cond_both (nat_lt t.floor t.cursor) (record t { cursor = t.cursor - 1 }) t (λ p. StandsFor p history)
     (λ e. record { floor = omega (arith, ltb-true t.floor t.cursor e); cursor = omega (arith, stands.cursor); tables = stands.tables; steps = stands.steps })
     (λ e. stands)
 
 -- a redo keeps the history
-pub StandsFor-redone : (t : Timeline) (history : List Event) → StandsFor t history → StandsFor (redone t) history
-StandsFor-redone t history stands =
+pub StandsFor-after_redo : (t : Timeline) (history : List Event) → StandsFor t history → StandsFor (after_redo t) history
+StandsFor-after_redo t history stands =
     cond_both (nat_lt t.cursor (end_of t)) (record t { cursor = t.cursor + 1 }) t (λ p. StandsFor p history)
     (λ e. record { floor = omega (arith, stands.floor); cursor = omega (arith, ltb-true t.cursor (end_of t) e, StandsFor-end t history stands); tables = stands.tables; steps = stands.steps })
     (λ e. stands)
 
 -- after a call, a player stands for the history that the call leaves
 pub StandsFor-after_call : (t : Timeline) (history : List Event) (call : Call) → StandsFor t history → StandsFor (after_call t call) (history_after t.cursor history call)
-StandsFor-after_call t history (Play event) stands = StandsFor-played t history event stands
+StandsFor-after_call t history (Play event) stands = StandsFor-after_play t history event stands
 StandsFor-after_call t history (PlayRefused event) stands = stands
-StandsFor-after_call t history Undo stands = StandsFor-undone t history stands
-StandsFor-after_call t history Redo stands = StandsFor-redone t history stands
+StandsFor-after_call t history Undo stands = StandsFor-after_undo t history stands
+StandsFor-after_call t history Redo stands = StandsFor-after_redo t history stands
 StandsFor-after_call t history Look stands = stands
 
 -- and so it does after several

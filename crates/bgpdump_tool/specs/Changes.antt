@@ -3,11 +3,12 @@ use Rattle.std.specs.Prelude.{Bool, true, false, ◌||◌, List, Option, Some, N
 use Rattle.std.specs.List.{list_any}
 use Rattle.std.specs.Option.{option_map}
 use Rattle.std.specs.Ordering.{eq_by_cmp}
-use Rattle.bgpdump_tool.specs.declared.peer.Peer.{Peer}
+use Rattle.mrt_wire.specs.declared.peer.Peer.{Peer}
 use Rattle.bgpdump_tool.specs.declared.player.pair.Pair.{Pair}
-use Rattle.bgpdump_tool.specs.declared.player.event.Route.{Route}
+use Rattle.mrt_wire.specs.declared.event.Route.{Route}
 use Rattle.bgpdump_tool.specs.declared.player.changes.Changes.{Changes}
-use Rattle.bgpdump_tool.specs.History.{peer_cmp, Effect, Clear, Set, where_true}
+use Rattle.mrt_wire.specs.Peer.{peer_cmp}
+use Rattle.bgpdump_tool.specs.History.{Effect, Clear, Set, where_true}
 use Rattle.bgpdump_tool.specs.Store.{Slots, slot_at, route_in}
 
 -- the route, or its absence, that is kept for a pair
@@ -25,8 +26,8 @@ effect_of (Some None) lost = Clear
 effect_of None lost = where_true lost Clear
 
 -- what is noted for a pair
-abbrev pub noted : Changes → Pair → Effect
-noted changes pair = effect_of (found changes.routes.entries pair) (is_lost changes.lost.items pair)
+abbrev pub noted_effect : Changes → Pair → Effect
+noted_effect changes pair = effect_of (found changes.routes.entries pair) (is_lost changes.lost.items pair)
 
 -- something is noted for a pair
 abbrev pub decides : Changes → Pair → Bool

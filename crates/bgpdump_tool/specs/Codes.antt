@@ -5,9 +5,9 @@ use Rattle.ip_prefix.specs.declared.addr.Family.{Family}
 use Rattle.ip_prefix.specs.declared.addr.Family.TheVariants.{V4, V6}
 use Rattle.ip_prefix.specs.Address.{Address}
 use Rattle.ip_prefix.specs.Network.{Network}
-use Rattle.bgpdump_tool.specs.declared.peer.Peer.{Peer}
+use Rattle.mrt_wire.specs.declared.peer.Peer.{Peer}
 use Rattle.bgpdump_tool.specs.declared.player.pair.Pair.{Pair}
-use Rattle.bgpdump_tool.specs.declared.player.event.Route.{Route}
+use Rattle.mrt_wire.specs.declared.event.Route.{Route}
 
 abbrev is_v4 : Family → Bool
 is_v4 V4 = true

@@ -7,12 +7,12 @@ use Rattle.std.specs.FinSet.{contains, from_list}
 use Rattle.std.specs.declared.alloc.Global.{Global}
 use Rattle.std.specs.declared.rc.Rc.{Rc}
 use Rattle.bgpdump_tool.specs.declared.player.pair.Pair.{Pair}
-use Rattle.bgpdump_tool.specs.declared.player.event.Route.{Route}
-use Rattle.bgpdump_tool.specs.declared.player.event.Event.{Event}
+use Rattle.mrt_wire.specs.declared.event.Route.{Route}
+use Rattle.mrt_wire.specs.declared.event.Event.{Event}
 use Rattle.bgpdump_tool.specs.declared.player.journal.Entry.{Entry}
 use Rattle.bgpdump_tool.specs.declared.player.journal.Step.{Step}
 use Rattle.bgpdump_tool.specs.History.{pair_cmp}
-use Rattle.bgpdump_tool.specs.Tables.{Routes, Pairs, put, apply, named}
+use Rattle.bgpdump_tool.specs.Tables.{Routes, Pairs, put, table_after, named_pairs}
 use Rattle.bgpdump_tool.specs.Store.{route_in}
 use Rattle.bgpdump_tool.specs.Timeline.{Timeline}
 
@@ -34,23 +34,23 @@ abbrev pub pairs_in : List Side → List Pair
 pairs_in sides = map (λ side. side.0) sides
 
 -- the routes on the other side of a step
-abbrev pub restored : List Side → Routes → Routes
-restored [] routes = routes
-restored (side ∷ sides) routes = restored sides (put routes side.0 side.1)
+abbrev pub routes_across : List Side → Routes → Routes
+routes_across [] routes = routes
+routes_across (side ∷ sides) routes = routes_across sides (put routes side.0 side.1)
 
 -- the same pairs with the routes that a table has
-abbrev pub crossed : Routes → List Side → List Side
-crossed routes sides = map (λ side. (side.0, get routes side.0)) sides
+abbrev pub sides_across : Routes → List Side → List Side
+sides_across routes sides = map (λ side. (side.0, get routes side.0)) sides
 
 -- the tables before steps, whose last stands first
 abbrev pub tables_before : List (List Side) → Routes → List Routes
 tables_before [] routes = []
-tables_before (sides ∷ earlier) routes = tables_before earlier (restored sides routes) ++ restored sides routes ∷ []
+tables_before (sides ∷ earlier) routes = tables_before earlier (routes_across sides routes) ++ routes_across sides routes ∷ []
 
 -- the tables after steps
 abbrev pub tables_after : List (List Side) → Routes → List Routes
 tables_after [] routes = []
-tables_after (sides ∷ later) routes = restored sides routes ∷ tables_after later (restored sides routes)
+tables_after (sides ∷ later) routes = routes_across sides routes ∷ tables_after later (routes_across sides routes)
 
 -- the player with these steps and this table at the cursor
 abbrev pub timeline_of : ℕ → List (List Side) → Routes → Timeline
@@ -80,8 +80,8 @@ sides_at steps index = slice_index_or steps index []
 -- the entries of an event's step over a table
 pub record IsStepFor (routes : Routes) (event : Event) (sides : List Side) : Type 0 where
   pub distinct : IsDistinct (eq_by_cmp pair_cmp) (pairs_in sides)
-  pub after : sides ≡ crossed (apply routes event) sides
-  pub names : from_list (pairs_in sides) ≡ named routes event
+  pub after : sides ≡ sides_across (table_after routes event) sides
+  pub names : from_list (pairs_in sides) ≡ named_pairs routes event
 
 -- the cursor is within the steps, and each of them can be crossed
 pub record IsJournal (keys : Pairs) (cursor : ℕ) (steps : List (List Side)) : Type 0 where

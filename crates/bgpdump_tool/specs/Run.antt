@@ -1,44 +1,33 @@
 -- What a whole run takes from its input and writes to its outputs, where these tell their octets.
-use Rattle.bgpdump_tool.specs.Tail.{IsTail}
-use Rattle.bgpdump_tool.specs.Splitting.{Splits}
-use Rattle.bgpdump_tool.specs.Reading.{Frame}
-use Rattle.bgpdump_tool.specs.declared.fault.RecordKind.TheVariants.{CutRecord}
-use Rattle.bgpdump_tool.specs.declared.stamp.Stamp.{Stamp}
-use Rattle.std.specs.Prelude.{◌≡◌, ◌≢◌, ℕ, List, [], ◌++◌, Option, Some, None, ◌≤◌, length}
+use Rattle.std.specs.Prelude.{◌≡◌, ◌≢◌, ◌⊎◌, ℕ, List, [], ◌++◌, Option, Some, None, ◌≤◌, length}
 use Rattle.std.specs.Io.KnownBytes.{Appends}
+use Rattle.mrt_wire.specs.declared.event.Stamp.{Stamp}
+use Rattle.mrt_wire.specs.Record.{Record, spelling, IsRecord}
+use Rattle.mrt_wire.specs.Verdict.{Frame}
+use Rattle.mrt_wire.specs.Splitting.{AreFrames, Splits, spellings}
+use Rattle.mrt_wire.specs.declared.fault.RecordKind.TheVariants.{CutRecord}
+use Rattle.mrt_wire.specs.Results.{Finding, rest_kind}
+use Rattle.mrt_wire.specs.Taking.{IsRest, IsBegun}
+use Rattle.mrt_wire.specs.Place.{Place, start_place, results}
+use Rattle.mrt_wire.specs.Next.{Took}
+use Rattle.bgpdump_tool.specs.declared.dump.TheConstants.{LIMIT}
 use Rattle.bgpdump_tool.specs.declared.outcome.Outcome.{Outcome}
 use Rattle.bgpdump_tool.specs.declared.outcome.Outcome.TheVariants.{Done, Reported, ReadFault, WriteFault, InputTooLong, ScriptTooLong, Memory}
-use Rattle.bgpdump_tool.specs.Device.{AppendsFront, MayFollow}
-use Rattle.bgpdump_tool.specs.Results.{Finding, rest_kind}
-use Rattle.bgpdump_tool.specs.Text.{dump, reports}
+use Rattle.bgpdump_tool.specs.Device.{AppendsFront}
+use Rattle.bgpdump_tool.specs.Reports.{dump, reports}
 
 -- what was written to the output of lines and to that of reports
 pub record Outputs : Type 0 where
   pub out : Option (List ℕ)
   pub err : Option (List ℕ)
 
--- these octets were taken from the input, which has the others left
-pub record Took (old new : Option (List ℕ)) (taken after : List ℕ) : Type 0 where
-  pub before : old ≡ Some (taken ++ after)
-  pub now : new ≡ Some after
+-- the same of an output of lines and one of reports, by what is known of each kind
+abbrev pub outputs_of : {O E : Type 0} → (O → Option (List ℕ)) → (E → Option (List ℕ)) → O → E → Outputs
+outputs_of written written' out err = record { out = written out; err = written' err }
 
--- the octets that a run took, at most limit: frames and a tail; where the input ended the run, the tail states no length that is too long
-pub record IsTaken (stamp : Stamp) (limit : ℕ) (ByInput : Type 0) (taken : List ℕ) : Type 0 where
-  pub frames : List Frame
-  pub rest : List ℕ
-  pub split : Splits stamp None taken frames rest
-  pub tail : IsTail rest
-  pub cut : ByInput → rest_kind rest ≡ CutRecord
-  pub few : length taken ≤ limit
-
--- octets that the input may hold on the whole: those taken, and any others that may follow them
-pub record MayHold (old new : Option (List ℕ)) (octets : List ℕ) : Type 0 where
-  pub taken : List ℕ
-  pub after : List ℕ
-  pub more : List ℕ
-  pub took : Took old new taken after
-  pub whole : octets ≡ taken ++ more
-  pub follows : MayFollow new more
+-- what is found in octets that split so
+abbrev pub all_results : Stamp → List Frame → List ℕ → List Finding
+all_results stamp frames rest = results (start_place stamp LIMIT) frames rest
 
 -- the lines of what was found went to the one output, and the reports to the other
 abbrev pub Writes : List Finding → Outputs → Outputs → Type 0
@@ -67,3 +56,41 @@ EndedByInput Reported = ⊥
 EndedByInput WriteFault = ⊥
 EndedByInput ScriptTooLong = ⊥
 EndedByInput Memory = ⊥
+
+-- the end was seen by a run that ended so and took this behind the frames: where it read all, unless a header states too much; where it stopped at its writing, if a record is cut
+abbrev pub SawEnd : Outcome → List ℕ → Type 0
+SawEnd Done rest = rest_kind rest ≡ CutRecord
+SawEnd Reported rest = rest_kind rest ≡ CutRecord
+SawEnd WriteFault rest = (rest_kind rest ≡ CutRecord) × (rest ≢ [])
+SawEnd Memory rest = (rest_kind rest ≡ CutRecord) × (rest ≢ [])
+SawEnd ReadFault rest = ⊥
+SawEnd InputTooLong rest = ⊥
+SawEnd ScriptTooLong rest = ⊥
+
+-- octets that the input may hold on the whole: those taken, and any others behind them, but none where the end was seen
+pub record MayHold (stamp : Stamp) (outcome : Outcome) (old new : Option (List ℕ)) (octets : List ℕ) : Type 0 where
+  pub taken : List ℕ
+  pub after : List ℕ
+  pub more : List ℕ
+  pub took : Took old new taken after
+  pub whole : octets ≡ taken ++ more
+  pub follows : (frames : List Frame) (rest : List ℕ) → Splits stamp None taken frames rest → SawEnd outcome rest → after ≡ [] → more ≡ []
+
+-- octets taken behind the frames: a record has begun in them, where the input ended the run; or they are the rest; or for want of memory a whole record wasn't judged
+abbrev pub IsLast : Outcome → List ℕ → Type 0
+IsLast Done rest = IsRest rest
+IsLast Reported rest = IsRest rest
+IsLast WriteFault rest = IsRest rest
+IsLast ReadFault rest = IsBegun rest
+IsLast InputTooLong rest = IsBegun rest
+IsLast Memory rest = IsRest rest ⊎ ((r : Record) × IsRecord r × (rest ≡ spelling r))
+IsLast ScriptTooLong rest = ⊥
+
+-- the octets that a run took: those of frames, and then the last
+pub record IsTaken (stamp : Stamp) (outcome : Outcome) (taken : List ℕ) : Type 0 where
+  pub frames : List Frame
+  pub rest : List ℕ
+  pub whole : taken ≡ spellings frames ++ rest
+  pub are_frames : AreFrames stamp None frames
+  pub last : IsLast outcome rest
+  pub few : length taken ≤ LIMIT

@@ -3,9 +3,9 @@ use Rattle.std.specs.Prelude.{◌≡◌, ℕ, ◌+◌, ◌-◌, ◌≤◌, List,
 use Rattle.std.specs.Coded.{Coded, code_by, coded×, coded_ℕ, coded_list}
 use Rattle.std.specs.FinMap as finite
 use Rattle.std.specs.FinSet as set
-use Rattle.bgpdump_tool.specs.declared.player.event.Event.{Event}
+use Rattle.mrt_wire.specs.declared.event.Event.{Event}
 use Rattle.bgpdump_tool.specs.Codes.{coded_pair, coded_route}
-use Rattle.bgpdump_tool.specs.Tables.{Routes, Pairs, table, apply, named}
+use Rattle.bgpdump_tool.specs.Tables.{Routes, Pairs, table, table_after, named_pairs}
 
 -- a player as contracts see it
 pub record Timeline : Type 0 where
@@ -49,21 +49,21 @@ abbrev pub fresh : Timeline
 fresh = record { floor = 0; cursor = 0; tables = finite.empty ∷ []; steps = [] }
 
 -- the steps ahead are dropped, and the event becomes the last step
-abbrev pub played : Timeline → Event → Timeline
-played t event = record {
+abbrev pub after_play : Timeline → Event → Timeline
+after_play t event = record {
   floor = t.floor;
   cursor = t.cursor + 1;
-  tables = take (behind t + 1) t.tables ++ apply (current t) event ∷ [];
-  steps = take (behind t) t.steps ++ named (current t) event ∷ [];
+  tables = take (behind t + 1) t.tables ++ table_after (current t) event ∷ [];
+  steps = take (behind t) t.steps ++ named_pairs (current t) event ∷ [];
 }
 
 -- the cursor moves one step back, where there is one
-abbrev pub undone : Timeline → Timeline
-undone t = if nat_lt t.floor t.cursor then record t { cursor = t.cursor - 1 } else t
+abbrev pub after_undo : Timeline → Timeline
+after_undo t = if nat_lt t.floor t.cursor then record t { cursor = t.cursor - 1 } else t
 
 -- the cursor moves one step on, where there is one
-abbrev pub redone : Timeline → Timeline
-redone t = if nat_lt t.cursor (end_of t) then record t { cursor = t.cursor + 1 } else t
+abbrev pub after_redo : Timeline → Timeline
+after_redo t = if nat_lt t.cursor (end_of t) then record t { cursor = t.cursor + 1 } else t
 
 -- the tables after a past and after each of the events that follow it
 abbrev pub tables_along : List Event → List Event → List Routes
@@ -73,7 +73,7 @@ tables_along past (event ∷ events) = table past ∷ tables_along (past ++ even
 -- the pairs that each of the events names that follow a past
 abbrev pub steps_along : List Event → List Event → List Pairs
 steps_along past [] = []
-steps_along past (event ∷ events) = named (table past) event ∷ steps_along (past ++ event ∷ []) events
+steps_along past (event ∷ events) = named_pairs (table past) event ∷ steps_along (past ++ event ∷ []) events
 
 -- a player stands for a history: each position has the table of the events before it, each step names what its event does
 pub record StandsFor (t : Timeline) (history : List Event) : Type 0 where
@@ -93,10 +93,10 @@ pub data Call : Type 0 where
 
 -- what a call makes of a player
 abbrev pub after_call : Timeline → Call → Timeline
-after_call t (Play event) = played t event
+after_call t (Play event) = after_play t event
 after_call t (PlayRefused event) = t
-after_call t Undo = undone t
-after_call t Redo = redone t
+after_call t Undo = after_undo t
+after_call t Redo = after_redo t
 after_call t Look = t
 
 -- the history after a call, from that before it and the cursor

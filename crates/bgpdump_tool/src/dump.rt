@@ -1,22 +1,21 @@
 //! A whole run: the lines of all events, and the reports of all faulty records.
 
-ghost use Rattle.std.specs.Prelude.{◌≡◌, ◌≢◌, ◌↔◌, ◌⊎◌, ◌^◌, ◌++◌, ◌||◌, ℕ, List, None, true, false, IsTrue, IfOk, length};
-ghost use Rattle.bgpdump_tool.specs.declared.stamp.Stamp.{Stamp};
-ghost use Rattle.bgpdump_tool.specs.Device.{is_read_fault, is_write_fault};
-ghost use Rattle.bgpdump_tool.specs.Reading.{Frame};
-ghost use Rattle.bgpdump_tool.specs.Splitting.{Splits};
-ghost use Rattle.bgpdump_tool.specs.Results.{findings, results};
-ghost use Rattle.bgpdump_tool.specs.Run.{IsTaken, MayHold, Took, Outputs, Writes, EndsSo, EndedByInput};
+ghost use Rattle.std.specs.Prelude.{◌≡◌, ◌≢◌, ◌↔◌, ◌⊎◌, ◌^◌, ◌++◌, ◌||◌, ℕ, List, None, true, false, IsTrue, IfOk, length, []};
 ghost use Rattle.std.specs.Io.KnownBytes.{Consumes, Keeps};
-ghost use Rattle.bgpdump_tool.specs.Whole.{Dumps, TakesAll, StopsByInput, outcome_of, stopped_outcome};
+ghost use Rattle.mrt_wire.specs.declared.event.Stamp.{Stamp};
+ghost use Rattle.mrt_wire.specs.Verdict.{Frame};
+ghost use Rattle.mrt_wire.specs.Splitting.{Splits};
+ghost use Rattle.mrt_wire.specs.Place.{start_place};
+ghost use Rattle.mrt_wire.specs.Next.{Took, answer_findings};
+ghost use Rattle.mrt_wire.specs.SoFar.{is_nothing};
+ghost use Rattle.bgpdump_tool.specs.Run.{IsTaken, MayHold, outputs_of, Writes, EndsSo, EndedByInput, all_results};
+ghost use Rattle.bgpdump_tool.specs.Ending.{outcome_of, is_read_fault, is_write_fault};
+ghost use Rattle.bgpdump_tool.specs.Going.{Ends};
 
-use crate::fault::Stop;
-use crate::input::Input;
 use crate::outcome::Outcome;
 use crate::output::Output;
-use crate::records::RecordReader;
-use crate::stamp::Stamp;
-use crate::step::dump_next;
+use crate::write::write_next;
+use mrt_wire::{Input, Next, Source, Stamp};
 use std::alloc::Global;
 
 /// How many octets a run reads at most.
@@ -40,44 +39,45 @@ pub fn run_dump<I: Input, O: Output, E: Output>(
     // Whatever the input may hold on the whole: its lines and reports were written, or fronts of
     // them.
     ensures text { (octets : List ℕ) (frames : List Frame) (rest : List ℕ) →
-        MayHold (I.left input.old) (I.left input.new) octets → Splits stamp None octets frames rest →
-        EndsSo result (results frames rest) (record { out = O.written out.old; err = E.written err.old })
-        (record { out = O.written out.new; err = E.written err.new }) }
+        MayHold stamp result (I.left input.old) (I.left input.new) octets →
+        Splits stamp None octets frames rest →
+        EndsSo result (all_results stamp frames rest)
+        (outputs_of O.written E.written out.old err.old)
+        (outputs_of O.written E.written out.new err.new) }
 
     // A run that the input ended has written all that the records taken whole give, and no more.
     ensures whole_records { EndedByInput result →
         (taken after : List ℕ) (frames : List Frame) (rest : List ℕ) →
-        Took (I.left input.old) (I.left input.new) taken after → Splits stamp None taken frames rest →
-        Writes (findings 0 0 frames) (record { out = O.written out.old; err = E.written err.old })
-        (record { out = O.written out.new; err = E.written err.new }) }
+        Took (I.left input.old) (I.left input.new) taken after →
+        Splits stamp None taken frames rest →
+        Writes (all_results stamp frames [])
+        (outputs_of O.written E.written out.old err.old)
+        (outputs_of O.written E.written out.new err.new) }
 
-    // At most 2^40 octets are taken, and none behind a header that states too much.
+    // At most 2^40 octets are taken: those of frames, and then what stands behind them, none of it
+    // behind a header that states too much.
     ensures taken { (taken : List ℕ) × Consumes (I.left input.old) (I.left input.new) taken
-        × IsTaken stamp (2 ^ 40) (EndedByInput result) taken }
+        × IsTaken stamp result taken }
 
     // When each fault comes.
     ensures read_fault { (result ≡ Outcome.ReadFault) ↔ IsTrue (I.failed input.new) }
-    ensures write_fault { (result ≡ Outcome.WriteFault) ↔ IsTrue (O.failed out.new || E.failed err.new) }
+    ensures write_fault { (result ≡ Outcome.WriteFault)
+        ↔ IsTrue (O.failed out.new || E.failed err.new) }
     ensures too_long { result ≡ Outcome.InputTooLong → (taken after : List ℕ) →
-        Took (I.left input.old) (I.left input.new) taken after → length taken ≡ 2 ^ 40 }
+        Took (I.left input.old) (I.left input.new) taken after → length taken ≡ LIMIT }
     ensures no_script { result ≢ Outcome.ScriptTooLong }
 {
-    match dump_within(alloc, input, out, err, LIMIT) {
+    match dump_all(alloc, input, out, err, stamp) {
         Ok(reported) => finish(out, err, reported),
-        Err(stop) => stopped(stop),
+        Err(outcome) => outcome,
     }
 }
 
-/// How a run ended that stopped before the end of its input.
-fn stopped(stop: Stop) -> Outcome
-    ensures { result ≡ stopped_outcome stop }
+/// Whether nothing is left to read.
+fn is_end(next: &Next) -> bool
+    ensures { result ≡ is_nothing (answer_findings next.now) }
 {
-    match stop {
-        Stop::ReadFault => Outcome::ReadFault,
-        Stop::WriteFault => Outcome::WriteFault,
-        Stop::InputTooLong => Outcome::InputTooLong,
-        Stop::Memory => Outcome::Memory,
-    }
+    matches!(next, Next::End)
 }
 
 /// Finishes both outputs, and tells how the run ended.
@@ -97,31 +97,29 @@ fn finish<O: Output, E: Output>(out: &mut O, err: &mut E, reported: bool) -> Out
 }
 
 /// Reads and writes up to the end of the input or a fault, and answers whether something was
-/// reported. At most `limit` octets are read.
-fn dump_within<I: Input, O: Output, E: Output>(
+/// reported.
+fn dump_all<I: Input, O: Output, E: Output>(
     alloc: Global,
     input: &mut I,
     out: &mut O,
     err: &mut E,
-    limit: u64,
-) -> Result<bool, Stop>
+    stamp: Stamp,
+) -> Result<bool, Outcome>
     requires sound { (O.failed out.old || E.failed err.old) ≡ false }
-    ensures whole { (stamp : Stamp) → Dumps stamp limit (I.left input.old) (I.left input.new)
-        (record { out = O.written out.old; err = E.written err.old })
-        (record { out = O.written out.new; err = E.written err.new }) result }
-    ensures taken { (stamp : Stamp) →
-        TakesAll stamp limit (StopsByInput result) (I.left input.old) (I.left input.new) }
+    ensures ends { Ends (start_place stamp LIMIT) (I.left input.old) (I.left input.new)
+        (outputs_of O.written E.written out.old err.old)
+        (outputs_of O.written E.written out.new err.new) result }
     ensures read { I.failed input.new ≡ (I.failed input.old || is_read_fault result) }
     ensures wrote { (O.failed out.new || E.failed err.new) ≡ is_write_fault result }
 {
-    let mut records = RecordReader::new(alloc, limit);
+    let mut source = Source::new(alloc, stamp, LIMIT);
     let mut text = Vec::new(alloc);
     let mut reported = false;
     'steps: loop {
-        let step = dump_next(&mut records, &mut text, input, out, err)?;
-        reported |= step.reported;
-        if step.ended {
+        let next = source.next(input)?;
+        if is_end(&next) {
             return Ok(reported);
         }
+        reported |= write_next(out, err, &mut text, next)?;
     }
 }

@@ -1,19 +1,17 @@
 //! A routing table per peer that is played forwards and backwards, event by event.
 
 ghost use Rattle.std.specs.Prelude.{◌≡◌, ◌<◌, ◌↔◌, IfOk, OnOk, OnErr, IsOk};
-ghost use Rattle.bgpdump_tool.specs.Timeline.{fresh, ahead_of, end_of, current, played, undone, redone};
+ghost use Rattle.bgpdump_tool.specs.Timeline.{fresh, ahead_of, end_of, current, after_play, after_undo, after_redo};
 
 mod changes;
-mod event;
 mod journal;
 mod laws;
 mod pair;
 mod table;
 
-pub use event::{Event, Item, Route, Tag, Time};
 pub use laws::{
     history_after_all_calls, history_after_one_call, one_event_more, one_step_back, pair_order,
-    peer_order, routes_at_pairs, steps_back_and_forth, tables_by_position,
+    routes_at_pairs, steps_back_and_forth, tables_by_position,
 };
 pub use table::Table;
 
@@ -22,6 +20,7 @@ mod tests;
 
 use changes::step_for;
 use journal::{Step, cross_step, ensure_keys, replace_from};
+use mrt_wire::Event;
 use std::alloc::{AllocError, Global};
 use std::marker::Model;
 use thiserror::Error;
@@ -98,7 +97,7 @@ impl Player {
 
     /// Plays the event as the next step, and answers how many steps ahead it dropped.
     pub fn play(&mut self, event: &Event) -> Result<u64, PlayFault>
-        ensures played { OnOk result (self.new ≡ played self.old event.now) }
+        ensures after_play { OnOk result (self.new ≡ after_play self.old event.now) }
         ensures dropped { IfOk result (λ dropped. dropped ≡ ahead_of self.old) }
         ensures refused { OnErr result (self.new ≡ self.old) }
     {
@@ -112,7 +111,7 @@ impl Player {
 
     /// Undoes the step before the cursor. It takes no memory.
     pub fn undo(&mut self) -> Result<(), Nothing>
-        ensures undone { self.new ≡ undone self.old }
+        ensures after_undo { self.new ≡ after_undo self.old }
         ensures can { IsOk result ↔ (self.old.floor < self.old.cursor) }
     {
         if self.cursor == 0 {
@@ -125,7 +124,7 @@ impl Player {
 
     /// Redoes the step after the cursor. It takes no memory.
     pub fn redo(&mut self) -> Result<(), Nothing>
-        ensures redone { self.new ≡ redone self.old }
+        ensures after_redo { self.new ≡ after_redo self.old }
         ensures can { IsOk result ↔ (self.old.cursor < end_of self.old) }
     {
         if self.cursor == self.steps.len() {
@@ -138,6 +137,11 @@ impl Player {
 }
 
 impl From<AllocError> for PlayFault {
+    ghost use Rattle.std.specs.Prelude.{◌≡◌};
+    ghost use Rattle.bgpdump_tool.specs.declared.player.PlayFault.TheVariants.{Memory};
+
+    ghost from_gives = { λ _ fault. fault ≡ Memory };
+
     fn from(_refused: AllocError) -> PlayFault {
         PlayFault::Memory
     }

@@ -1,10 +1,11 @@
 mod adapters;
 mod devices;
 mod faults;
-mod limit;
+mod lines;
 mod reading;
 
-use crate::{Outcome, ReadInput, Stamp, WriteOutput, run_dump};
+use crate::{Outcome, WriteOutput, run_dump};
+use mrt_wire::{ReadInput, Stamp};
 use std::alloc::{AllocError, Global};
 
 /// A state change of an IPv4 peer, of 32 octets.

@@ -5,17 +5,18 @@ ghost use Rattle.std.specs.List.{list_any, filter, IsDistinct};
 ghost use Rattle.std.specs.Map.{keys_of};
 ghost use Rattle.std.specs.Ordering.{eq_by_cmp};
 ghost use Rattle.std.specs.FinMap as finite;
+ghost use Rattle.mrt_wire.specs.Event.{saying};
 ghost use Rattle.bgpdump_tool.specs.declared.player.pair.Pair.{Pair};
-ghost use Rattle.bgpdump_tool.specs.History.{peer_cmp, pair_cmp, Clear, where_true, item_effect, later, effect};
+ghost use Rattle.mrt_wire.specs.Peer.{peer_cmp};
+ghost use Rattle.bgpdump_tool.specs.History.{pair_cmp, Clear, where_true, item_effect, later, effect};
 ghost use Rattle.bgpdump_tool.specs.Store.{route_in};
-ghost use Rattle.bgpdump_tool.specs.Changes.{noted, decides, found, is_lost, or_absent, effect_of};
+ghost use Rattle.bgpdump_tool.specs.Changes.{noted_effect, decides, found, is_lost, or_absent, effect_of};
 ghost use Rattle.bgpdump_tool.specs.Journal.{sides_of, pairs_in, slot_side, IsStepFor};
 
-use crate::peer::Peer;
-use crate::player::event::{Event, Item, Route};
 use crate::player::journal::Entry;
 use crate::player::pair::Pair;
 use crate::player::table::{Table, put_slot};
+use mrt_wire::{Event, Item, Peer, Route};
 use std::alloc::{AllocError, Global};
 use std::collections::BTreeMap;
 use std::rc::Rc;
@@ -43,8 +44,10 @@ impl Changes {
 
     /// Notes the route that the pair has then, or its absence.
     fn note_route(&mut self, pair: Pair, route: Option<Rc<Route>>) -> Result<(), AllocError>
-        ensures { OnOk result ((q : Pair) → noted self.new q
-            ≡ later (where_true (eq_by_cmp pair_cmp q pair) (effect_of (Some (route_in route)) false)) (noted self.old q)) }
+        ensures { OnOk result ((q : Pair) → noted_effect self.new q
+            ≡ later
+                (where_true (eq_by_cmp pair_cmp q pair) (effect_of (Some (route_in route)) false))
+                (noted_effect self.old q)) }
     {
         if !self.decides(&pair) {
             put_slot(&mut self.routes, pair, route)?;
@@ -54,8 +57,8 @@ impl Changes {
 
     /// Notes that the peer has no routes any more.
     fn note_loss(&mut self, peer: Peer) -> Result<(), AllocError>
-        ensures { OnOk result ((q : Pair) → noted self.new q
-            ≡ later (where_true (eq_by_cmp peer_cmp q.peer peer) Clear) (noted self.old q)) }
+        ensures { OnOk result ((q : Pair) → noted_effect self.new q
+            ≡ later (where_true (eq_by_cmp peer_cmp q.peer peer) Clear) (noted_effect self.old q)) }
     {
         self.lost.push(peer)?;
         Ok(())
@@ -63,7 +66,8 @@ impl Changes {
 
     /// Notes what the item does, which stands before all that are noted.
     fn note(&mut self, item: &Item) -> Result<(), AllocError>
-        ensures { OnOk result ((q : Pair) → noted self.new q ≡ later (item_effect q item.now) (noted self.old q)) }
+        ensures { OnOk result ((q : Pair) → noted_effect self.new q
+            ≡ later (item_effect q (saying item.now)) (noted_effect self.old q)) }
     {
         match item {
             Item::Announce(peer, prefix, route) => {
@@ -92,16 +96,17 @@ impl Changes {
 
 /// What the event does.
 fn changes_of(alloc: Global, event: &Event) -> Result<Changes, AllocError>
-    ensures { IfOk result (λ changes. (q : Pair) → noted changes q ≡ effect q event.now) }
+    ensures { IfOk result (λ changes. (q : Pair) → noted_effect changes q ≡ effect q event.now) }
 {
     let mut changes = Changes {
         routes: BTreeMap::new(alloc),
         lost: Vec::new(alloc),
     };
-    let mut rest = event.items.len();
+    let items = event.items.as_slice();
+    let mut rest = items.len();
     'items: while rest > 0 {
         rest -= 1;
-        changes.note(&event.items[rest])?;
+        changes.note(&items[rest])?;
     }
     Ok(changes)
 }
@@ -129,7 +134,8 @@ fn routes_then(
     table: &Table,
 ) -> Result<BTreeMap<Pair, Option<Rc<Route>>>, AllocError>
     ensures { IfOk result (λ routes. (q : Pair) → found routes.entries q
-        ≡ or_absent (found changes.routes.entries q) (is_lost changes.lost.items q && is_some (finite.get table.now.routes q))) }
+        ≡ or_absent (found changes.routes.entries q)
+            (is_lost changes.lost.items q && is_some (finite.get table.now.routes q))) }
 {
     let Changes { mut routes, lost } = changes;
     'peers: for peer in &lost {
@@ -145,10 +151,12 @@ fn entries_of(
     routes: BTreeMap<Pair, Option<Rc<Route>>>,
     table: &Table,
 ) -> Result<Vec<Entry>, AllocError>
-    ensures distinct { IfOk result (λ entries. IsDistinct (eq_by_cmp pair_cmp) (pairs_in (sides_of entries.items))) }
+    ensures distinct { IfOk result (λ entries.
+        IsDistinct (eq_by_cmp pair_cmp) (pairs_in (sides_of entries.items))) }
     ensures keys { IfOk result (λ _. IsDistinct (eq_by_cmp pair_cmp) (keys_of routes.entries)) }
     ensures sides { IfOk result (λ entries. sides_of entries.items
-        ≡ filter (λ side. is_some side.1 || is_some (finite.get table.now.routes side.0)) (map slot_side routes.entries)) }
+        ≡ filter (λ side. is_some side.1 || is_some (finite.get table.now.routes side.0))
+            (map slot_side routes.entries)) }
 {
     let mut entries = Vec::new(alloc);
     'routes: for (pair, other) in routes {
@@ -165,7 +173,8 @@ pub(crate) fn step_for(
     event: &Event,
     table: &Table,
 ) -> Result<Vec<Entry>, AllocError>
-    ensures { IfOk result (λ entries. IsStepFor table.now.routes event.now (sides_of entries.items)) }
+    ensures { IfOk result (λ entries.
+        IsStepFor table.now.routes event.now (sides_of entries.items)) }
 {
     let changes = changes_of(alloc, event)?;
     let routes = routes_then(alloc, changes, table)?;

@@ -4,11 +4,11 @@ ghost use Rattle.std.specs.Prelude.{◌≡◌, ◌-◌, ◌<◌, ◌≤◌, [], 
 ghost use Rattle.std.specs.List.{AllByRecursion};
 ghost use Rattle.std.specs.FinSet as names;
 ghost use Rattle.bgpdump_tool.specs.declared.player.pair.Pair.{Pair};
-ghost use Rattle.bgpdump_tool.specs.Journal.{sides_of, pairs_in, sides_at, steps_of, restored, crossed, IsKept};
+ghost use Rattle.bgpdump_tool.specs.Journal.{sides_of, pairs_in, sides_at, steps_of, routes_across, sides_across, IsKept};
 
-use crate::player::event::Route;
 use crate::player::pair::Pair;
 use crate::player::table::Table;
+use mrt_wire::Route;
 use std::alloc::AllocError;
 use std::rc::Rc;
 
@@ -31,8 +31,8 @@ pub(crate) struct Step {
 pub(crate) fn cross(table: &mut Table, entries: &mut [Entry])
     requires { IsKept table.old.keys (sides_of entries.old) }
     ensures keys { table.new.keys ≡ table.old.keys }
-    ensures routes { table.new.routes ≡ restored (sides_of entries.old) table.old.routes }
-    ensures entries { sides_of entries.new ≡ crossed table.old.routes (sides_of entries.old) }
+    ensures routes { table.new.routes ≡ routes_across (sides_of entries.old) table.old.routes }
+    ensures entries { sides_of entries.new ≡ sides_across table.old.routes (sides_of entries.old) }
 {
     'entries: for entry in entries.iter_mut() {
         table.exchange(&entry.pair, &mut entry.other);
@@ -44,9 +44,10 @@ pub(crate) fn cross_step(table: &mut Table, steps: &mut [Step], index: usize)
     requires within { index < length steps.old }
     requires kept { AllByRecursion (IsKept table.old.keys) (steps_of steps.old) }
     ensures keys { table.new.keys ≡ table.old.keys }
-    ensures routes { table.new.routes ≡ restored (sides_at (steps_of steps.old) index) table.old.routes }
-    ensures steps { steps_of steps.new ≡
-        set (steps_of steps.old) index (crossed table.old.routes (sides_at (steps_of steps.old) index)) }
+    ensures routes { table.new.routes ≡
+        routes_across (sides_at (steps_of steps.old) index) table.old.routes }
+    ensures steps { steps_of steps.new ≡ set (steps_of steps.old) index
+        (sides_across table.old.routes (sides_at (steps_of steps.old) index)) }
 {
     let step = &mut steps[index];
     cross(table, step.entries.as_mut_slice());
@@ -55,8 +56,10 @@ pub(crate) fn cross_step(table: &mut Table, steps: &mut [Step], index: usize)
 /// Makes each entry's pair a key of the table. Refused, it may have made some.
 pub(crate) fn ensure_keys(table: &mut Table, entries: &[Entry]) -> Result<(), AllocError>
     ensures keys { OnOk result
-        (AllByRecursion (λ pair. names.contains table.new.keys pair ≡ true) (pairs_in (sides_of entries.now))) }
-    ensures kept { (q : Pair) → names.contains table.old.keys q ≡ true → names.contains table.new.keys q ≡ true }
+        (AllByRecursion (λ pair. names.contains table.new.keys pair ≡ true)
+            (pairs_in (sides_of entries.now))) }
+    ensures kept { (q : Pair) →
+        names.contains table.old.keys q ≡ true → names.contains table.new.keys q ≡ true }
     ensures routes { table.new.routes ≡ table.old.routes }
 {
     'entries: for entry in entries {

@@ -6,21 +6,11 @@ ghost use Rattle.std.specs.Cmp.{IsTotalOrder};
 ghost use Rattle.std.specs.FinMap.{IsAntisymmetric};
 ghost use Rattle.std.specs.FinMap as finite;
 ghost use Rattle.std.specs.FinSet as set;
-ghost use Rattle.bgpdump_tool.specs.declared.peer.Peer.{Peer};
-ghost use Rattle.bgpdump_tool.specs.declared.player.event.Event.{Event};
+ghost use Rattle.mrt_wire.specs.declared.event.Event.{Event};
 ghost use Rattle.bgpdump_tool.specs.declared.player.pair.Pair.{Pair};
-ghost use Rattle.bgpdump_tool.specs.History.{peer_cmp, pair_cmp, effect, applied, route};
-ghost use Rattle.bgpdump_tool.specs.Tables.{Routes, table, apply, is_named, named};
-ghost use Rattle.bgpdump_tool.specs.Timeline.{Timeline, Call, Play, Undo, Redo, StandsFor, fresh, end_of, table_at, current, undone, redone, played, after_call, after_calls, history_after, history_after_calls};
-
-use crate::peer::Peer;
-
-/// Peers are ordered by address and then by AS number. The order is total, and only equal ones tie.
-pub fn peer_order()
-    ensures parts { (a b : Peer) → ⟦<Peer as Ord>⟧.cmp a b ≡ peer_cmp a b }
-    ensures total { IsTotalOrder peer_cmp }
-    ensures ties { IsAntisymmetric peer_cmp }
-{}
+ghost use Rattle.bgpdump_tool.specs.History.{pair_cmp, effect, route_after, route};
+ghost use Rattle.bgpdump_tool.specs.Tables.{Routes, table, table_after, is_named, named_pairs};
+ghost use Rattle.bgpdump_tool.specs.Timeline.{Timeline, Call, Play, Undo, Redo, StandsFor, fresh, end_of, table_at, current, after_undo, after_redo, after_play, after_call, after_calls, history_after, history_after_calls};
 
 /// The order of pairs is total, and only equal ones tie.
 pub fn pair_order()
@@ -32,16 +22,18 @@ pub fn pair_order()
 pub fn routes_at_pairs()
     ensures table { (history : List Event) (pair : Pair) →
         finite.get (table history) pair ≡ route pair history }
-    ensures apply { (routes : Routes) (event : Event) (pair : Pair) →
-        finite.get (apply routes event) pair ≡ applied (finite.get routes pair) (effect pair event) }
-    ensures named { (routes : Routes) (event : Event) (pair : Pair) →
-        set.contains (named routes event) pair ≡ is_named (finite.get routes pair) (effect pair event) }
+    ensures table_after { (routes : Routes) (event : Event) (pair : Pair) →
+        finite.get (table_after routes event) pair
+        ≡ route_after (finite.get routes pair) (effect pair event) }
+    ensures named_pairs { (routes : Routes) (event : Event) (pair : Pair) →
+        set.contains (named_pairs routes event) pair
+        ≡ is_named (finite.get routes pair) (effect pair event) }
 {}
 
 /// The table of a history that goes on by an event is that event applied to its table.
 pub fn one_event_more()
     ensures { (history : List Event) (event : Event) →
-        table (history ++ event ∷ []) ≡ apply (table history) event }
+        table (history ++ event ∷ []) ≡ table_after (table history) event }
 {}
 
 /// A player that stands for a history has, at each position that it keeps, the table of the
@@ -51,7 +43,8 @@ pub fn tables_by_position()
         (i : ℕ) → t.floor ≤ i → i ≤ length history → table_at t i ≡ table (take i history) }
     ensures steps { (t : Timeline) (history : List Event) → StandsFor t history →
         (i : ℕ) → t.floor ≤ i →
-        slice_get t.steps (i - t.floor) ≡ option_map (named (table (take i history))) (slice_get history i) }
+        slice_get t.steps (i - t.floor)
+        ≡ option_map (named_pairs (table (take i history))) (slice_get history i) }
     ensures end { (t : Timeline) (history : List Event) → StandsFor t history →
         end_of t ≡ length history }
     ensures routes { (t : Timeline) (history : List Event) → StandsFor t history →
@@ -77,9 +70,9 @@ pub fn history_after_all_calls()
 /// undone gives back the player.
 pub fn one_step_back()
     ensures undo { (t : Timeline) (history : List Event) (event : Event) → StandsFor t history →
-        current (undone (played t event)) ≡ current t }
+        current (after_undo (after_play t event)) ≡ current t }
     ensures redo { (t : Timeline) (history : List Event) → StandsFor t history →
-        t.floor < t.cursor → redone (undone t) ≡ t }
+        t.floor < t.cursor → after_redo (after_undo t) ≡ t }
 {}
 
 /// Events that were played and undone leave the first table, and redone they leave that of the
@@ -88,6 +81,7 @@ pub fn steps_back_and_forth()
     ensures back { (t : Timeline) (history events : List Event) → StandsFor t history →
         current (after_calls t (map Play events ++ replicate (length events) Undo)) ≡ current t }
     ensures forth { (t : Timeline) (history events : List Event) → StandsFor t history →
-        current (after_calls t (map Play events ++ (replicate (length events) Undo ++ replicate (length events) Redo)))
+        current (after_calls t (map Play events
+            ++ (replicate (length events) Undo ++ replicate (length events) Redo)))
         ≡ table (take t.cursor history ++ events) }
 {}

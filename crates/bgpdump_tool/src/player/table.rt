@@ -7,14 +7,14 @@ ghost use Rattle.std.specs.Ordering.{eq_by_cmp};
 ghost use Rattle.std.specs.FinMap as finite;
 ghost use Rattle.std.specs.FinSet as set;
 ghost use Rattle.bgpdump_tool.specs.declared.player.pair.Pair.{Pair};
-ghost use Rattle.bgpdump_tool.specs.History.{peer_cmp, pair_cmp, pair_of};
+ghost use Rattle.mrt_wire.specs.Peer.{peer_cmp};
+ghost use Rattle.bgpdump_tool.specs.History.{pair_cmp, pair_of};
 ghost use Rattle.bgpdump_tool.specs.Tables.{put};
 ghost use Rattle.bgpdump_tool.specs.Store.{route_in, slot_at};
 
-use crate::peer::Peer;
-use crate::player::event::Route;
 use crate::player::pair::Pair;
 use ip_prefix::{Addr, Prefix};
+use mrt_wire::{Peer, Route};
 use std::alloc::{AllocError, Global};
 use std::collections::BTreeMap;
 use std::marker::Model;
@@ -34,7 +34,10 @@ impl Model for Table {
 
     ghost coded = { coded_store };
 
-    ghost view = { λ a. record { keys = keys_in a.slots.entries; routes = routes_in a.slots.entries } };
+    ghost view = { λ a. record {
+      keys = keys_in a.slots.entries;
+      routes = routes_in a.slots.entries;
+    } };
 }
 
 impl Table {
@@ -73,7 +76,8 @@ impl Table {
 
     /// The route at the pair.
     pub(crate) fn route(&self, pair: &Pair) -> Option<&Rc<Route>>
-        ensures { option_map (λ route. route.now.value) result ≡ finite.get self.now.routes pair.now }
+        ensures { option_map (λ route. route.now.value) result ≡
+            finite.get self.now.routes pair.now }
     {
         self.slots.get(pair)?.as_ref()
     }

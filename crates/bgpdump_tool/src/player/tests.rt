@@ -1,7 +1,8 @@
 //! The player on event values.
 
-use crate::{Event, Item, Peer, PlayFault, Player, Route, Tag, Time};
+use crate::{PlayFault, Player};
 use ip_prefix::{Addr, Prefix};
+use mrt_wire::{Event, Item, Items, Peer, Route, Tag, Time};
 use std::alloc::{AllocError, Global};
 use std::process::Abort;
 use std::rc::Rc;
@@ -82,19 +83,23 @@ fn item(alloc: Global, say: Say) -> Result<Item, AllocError> {
     }
 }
 
-fn event(alloc: Global, items: &[Say]) -> Result<Event, AllocError> {
-    let mut event = Event {
+fn event_of(items: Vec<Item>) -> Event {
+    Event {
         time: Time {
             seconds: 100,
             micros: None,
         },
         tag: Tag::Bgp4mp,
-        items: Vec::new(alloc),
-    };
-    for say in items {
-        event.items.push(item(alloc, *say)?)?;
+        items: Items::from_vec(items),
     }
-    Ok(event)
+}
+
+fn event(alloc: Global, says: &[Say]) -> Result<Event, AllocError> {
+    let mut items = Vec::new(alloc);
+    for say in says {
+        items.push(item(alloc, *say)?)?;
+    }
+    Ok(event_of(items))
 }
 
 fn answer_to(player: &mut Player, event: &Event) -> Answer {
@@ -283,11 +288,11 @@ fn announce_fifty(
     peer: Peer,
     time: u32,
 ) -> Result<Answer, AllocError> {
-    let mut event = event(alloc, &[])?;
+    let mut items = Vec::new(alloc);
     for octet in 1..=50u8 {
-        event.items.push(announcement(alloc, peer, octet, time)?)?;
+        items.push(announcement(alloc, peer, octet, time)?)?;
     }
-    Ok(answer_to(player, &event))
+    Ok(answer_to(player, &event_of(items)))
 }
 
 /// Whether the peer has a route of this time, or none, to each of these prefixes.
@@ -314,6 +319,31 @@ fn clears_the_lost_peer_alone(rt: HostRuntime) -> Result<(), Fail> {
         Answer::Done
     );
     assert!(rt; has_fifty(&player, &peer(), Some(1)));
+    Ok(())
+}
+
+#[test]
+fn plays_events_of_thousands_of_prefixes(rt: HostRuntime) -> Result<(), Fail> {
+    let alloc = rt.alloc();
+    let mut player = Player::new(alloc);
+    let mut items = Vec::new(alloc);
+    for number in 0..5_000u32 {
+        let [_, _, high, low] = number.to_be_bytes();
+        let prefix = Prefix::new(Addr::v4([10, high, low, 0]), 24).unwrap();
+        items.push(Item::Announce(peer(), prefix, Rc::new(alloc, Route { time: number })?))?;
+    }
+    let large = event_of(items);
+    assert_eq!(rt; answer_to(&mut player, &large), Answer::Dropped(0));
+    let last = Prefix::new(Addr::v4([10, 0x13, 0x87, 0]), 24).unwrap();
+    assert!(rt;
+        player
+            .table()
+            .get(&peer(), &last)
+            .is_some_and(|route| route.time == 4_999)
+    );
+    let lost = event(alloc, &[Say::State(6, 1)])?;
+    assert_eq!(rt; answer_to(&mut player, &lost), Answer::Dropped(0));
+    assert!(rt; player.table().get(&peer(), &last).is_none());
     Ok(())
 }
 

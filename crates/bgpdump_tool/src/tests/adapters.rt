@@ -1,38 +1,15 @@
-//! What inputs and outputs over readers and writers pass on, and when a run reads and writes.
+//! What outputs over writers pass on, and when a run reads and writes.
 
 ghost use Rattle.std.specs.Prelude.{◌≡◌, None, false};
 
 use super::devices::{SlowInput, SlowOutput};
-use super::{LINE, STATE_CHANGE, octets_of};
-use crate::{
-    InFault, Input, OutFault, Outcome, Output, ReadInput, Stamp, WriteOutput, put_all, run_dump,
-};
+use super::{LINE, PEER_INDEX, PEER_INDEX_REPORT, STATE_CHANGE, octets_of};
+use crate::{OutFault, Outcome, Output, WriteOutput, put_all, run_dump};
+use mrt_wire::{InFault, Input, Stamp};
+use std::alloc::{AllocError, Global};
 use std::cell::Cell;
-use std::io::{self, ErrorKind, Read, Write};
+use std::io::{self, ErrorKind, Write};
 use std::test::Fail;
-
-/// A reader whose first read is interrupted.
-#[derive(Drop)]
-struct InterruptedReader {
-    interrupted: bool,
-}
-
-impl Read for InterruptedReader {
-    fn read(&mut self, buffer: &mut [u8]) -> io::Result<usize> {
-        if self.interrupted {
-            return Ok(0);
-        }
-        self.interrupted = true;
-        Err(io::Error::from(ErrorKind::Interrupted))
-    }
-}
-
-#[test]
-fn an_interrupted_read_is_a_fault(rt: HostRuntime) {
-    let mut input = ReadInput::new(InterruptedReader { interrupted: false });
-    let mut buffer = [0; 4];
-    assert_eq!(rt; input.take(&mut buffer), Err(InFault));
-}
 
 /// A writer that takes nothing, and whose `flush` fails.
 #[derive(Drop)]
@@ -122,9 +99,10 @@ impl Input for WatchingInput<'_> {
     }
 }
 
-#[test]
-fn a_line_is_written_before_the_next_record_is_read(rt: HostRuntime) -> Result<(), Fail> {
-    let octets = octets_of(rt.alloc(), &[STATE_CHANGE, STATE_CHANGE])?;
+/// Runs over a record and a state change, and tells how the run ended and how much was written
+/// when the second one was asked for.
+fn written_before_the_second(alloc: Global, record: &str) -> Result<(Outcome, usize), AllocError> {
+    let octets = octets_of(alloc, &[record, STATE_CHANGE])?;
     let written = Cell::new(0);
     let mut input = WatchingInput {
         octets: &octets,
@@ -132,9 +110,16 @@ fn a_line_is_written_before_the_next_record_is_read(rt: HostRuntime) -> Result<(
         seen: 0,
     };
     let mut out = CountedOutput { written: &written };
-    let mut err = SlowOutput::new(rt.alloc(), usize::MAX, usize::MAX, true);
-    let outcome = run_dump(rt.alloc(), &mut input, &mut out, &mut err, Stamp::Dump);
-    assert_eq!(rt; outcome, Outcome::Done);
-    assert_eq!(rt; input.seen, LINE.len());
+    let mut err = CountedOutput { written: &written };
+    let outcome = run_dump(alloc, &mut input, &mut out, &mut err, Stamp::Dump);
+    Ok((outcome, input.seen))
+}
+
+#[test]
+fn all_is_written_before_the_next_record_is_read(rt: HostRuntime) -> Result<(), Fail> {
+    let line = written_before_the_second(rt.alloc(), STATE_CHANGE)?;
+    assert_eq!(rt; line, (Outcome::Done, LINE.len()));
+    let report = written_before_the_second(rt.alloc(), PEER_INDEX)?;
+    assert_eq!(rt; report, (Outcome::Reported, PEER_INDEX_REPORT.len()));
     Ok(())
 }

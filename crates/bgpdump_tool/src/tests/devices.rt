@@ -2,7 +2,8 @@
 
 ghost use Rattle.std.specs.Prelude.{◌≡◌, None, false};
 
-use crate::{InFault, Input, OutFault, Output};
+use crate::{OutFault, Output};
+use mrt_wire::{InFault, Input};
 use std::alloc::Global;
 
 /// An input over octets that gives at most `step` of them a call, and fails after `sound` of them.

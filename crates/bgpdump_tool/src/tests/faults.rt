@@ -4,7 +4,8 @@ ghost use Rattle.std.specs.Prelude.{◌≡◌, false};
 
 use super::devices::{SlowInput, SlowOutput};
 use super::{LINE, PEER_INDEX, PEER_INDEX_REPORT, STATE_CHANGE, octets_of};
-use crate::{OutFault, Outcome, Stamp, put_all, run_dump};
+use crate::{OutFault, Outcome, put_all, run_dump};
+use mrt_wire::Stamp;
 use std::alloc::Global;
 use std::test::Fail;
 
@@ -103,19 +104,20 @@ fn a_write_fault_ends_a_run(rt: HostRuntime) -> Result<(), Fail> {
 #[test]
 fn a_run_finishes_its_outputs(rt: HostRuntime) -> Result<(), Fail> {
     let alloc = rt.alloc();
-    let octets = octets_of(alloc, &[STATE_CHANGE])?;
-    for (out_finishes, err_finishes, want) in [
-        (true, true, Outcome::Done),
-        (false, true, Outcome::WriteFault),
-        (true, false, Outcome::WriteFault),
+    for (records, out_finishes, err_finishes, want) in [
+        (STATE_CHANGE, true, true, Outcome::Done),
+        (STATE_CHANGE, false, true, Outcome::WriteFault),
+        (STATE_CHANGE, true, false, Outcome::WriteFault),
+        (PEER_INDEX, true, true, Outcome::Reported),
+        (PEER_INDEX, false, true, Outcome::WriteFault),
+        (PEER_INDEX, true, false, Outcome::WriteFault),
     ] {
+        let octets = octets_of(alloc, &[records])?;
         let mut out = SlowOutput::new(alloc, MANY, MANY, out_finishes);
         let mut err = SlowOutput::new(alloc, MANY, MANY, err_finishes);
         let mut input = SlowInput::new(&octets, MANY, MANY);
         let outcome = run_dump(alloc, &mut input, &mut out, &mut err, Stamp::Dump);
         assert_eq!(rt; outcome, want);
-        assert_eq!(rt; out.text.as_slice(), LINE.as_bytes());
-        assert!(rt; err.text.is_empty());
         assert_eq!(rt; out.finish_calls, 1);
         assert_eq!(rt; err.finish_calls, u64::from(out_finishes));
     }

@@ -150,3 +150,20 @@ fn reports_a_cut_record(rt: HostRuntime) -> Result<(), Fail> {
     }
     Ok(())
 }
+
+#[test]
+fn writes_the_lines_of_thousands_of_records(rt: HostRuntime) -> Result<(), Fail> {
+    let alloc = rt.alloc();
+    let record = octets_of(alloc, &[STATE_CHANGE])?;
+    let mut octets = Vec::new(alloc);
+    let mut lines = Vec::new(alloc);
+    for _ in 0..5_000u32 {
+        octets.extend_from_slice(&record)?;
+        lines.extend_from_slice(LINE.as_bytes())?;
+    }
+    let run = dump(alloc, &octets);
+    assert_eq!(rt; run.outcome, Outcome::Done);
+    assert!(rt; run.out == lines);
+    assert!(rt; run.err.is_empty());
+    Ok(())
+}

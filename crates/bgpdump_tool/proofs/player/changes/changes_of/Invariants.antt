@@ -1,11 +1,16 @@
 use Rattle.std.proofs.Common.{◌≡◌, ◌≤◌, length, drop, map}
+use Rattle.mrt_wire.specs.Event.{saying}
 use Rattle.bgpdump_tool.specs.declared.player.pair.Pair.{Pair}
 use Rattle.bgpdump_tool.specs.History.{item_effect, last_effect}
-use Rattle.bgpdump_tool.specs.Changes.{noted}
+use Rattle.bgpdump_tool.specs.Changes.{noted_effect}
 use Rattle.bgpdump_tool.proofs.player.changes.changes_of.Given as goal
 
+-- what is noted is what the items behind the rest do
 abbrev pub invariant-items : goal.invariant-items
-invariant-items l = (l.rest ≤ length l.event.items.items) × ((q : Pair) → noted l.changes q ≡ last_effect (map (item_effect q) (drop l.rest l.event.items.items)))
+invariant-items l = record {
+  within : l.rest ≤ length l.items;
+  noted_is : (q : Pair) → noted_effect l.changes q ≡ last_effect (map (λ item. item_effect q (saying item)) (drop l.rest l.items));
+}
 
 abbrev pub decreases-items : goal.decreases-items
 decreases-items l = l.rest

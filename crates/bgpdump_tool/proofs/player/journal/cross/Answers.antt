@@ -1,6 +1,6 @@
 use Rattle.std.proofs.Common.{◌++◌, drop, take, ◌+◌, ◌<◌, length, get_or, arith, ap, sym, subst, ◌∙◌}
 use Rattle.std.proofs.lemmas.List.{drop-drop, drop-set-lt}
-use Rattle.bgpdump_tool.specs.Journal.{sides_of, restored, crossed, IsKept}
+use Rattle.bgpdump_tool.specs.Journal.{sides_of, routes_across, sides_across, IsKept}
 use Rattle.bgpdump_tool.proofs.JournalLaws.{rest_of_entries, kept-tail, entries-more}
 use Rattle.bgpdump_tool.proofs.player.journal.cross.Goals as goal
 
@@ -17,8 +17,8 @@ entries-preserved c =
       unchanged = drop-set-lt (i + 1) c.entries.entries i _ (omega arith) ∙ sym (drop-drop 1 i c.entries.entries) ∙ ap (drop 1) known.unchanged ∙ drop-drop 1 i first;
       keys = c.exchange.ensures.keys ∙ known.keys;
       kept = subst (λ k. IsKept k (sides_of (drop (i + 1) first))) (sym c.exchange.ensures.keys) (kept-tail c.entries.table.keys _ (sides_of (drop (i + 1) first)) kept);
-      routes = ap (restored (sides_of (drop (i + 1) first))) c.exchange.ensures.routes ∙ ap (λ es. restored (sides_of es) c.entries.table.routes) (sym rest) ∙ known.routes;
+      routes = ap (routes_across (sides_of (drop (i + 1) first))) c.exchange.ensures.routes ∙ ap (λ es. routes_across (sides_of es) c.entries.table.routes) (sym rest) ∙ known.routes;
       entries = entries-more c.entries.table.keys c.entries.table.routes c.exchange.new.self.routes c.entries.entries (drop (i + 1) first) i entry _ _ within kept c.exchange.ensures.routes
           (λ k. (entry.pair, c.exchange.ensures.given k))
-          (ap (λ es. sides_of (take i c.entries.entries) ++ crossed c.entries.table.routes (sides_of es)) (sym rest) ∙ known.entries);
+          (ap (λ es. sides_of (take i c.entries.entries) ++ sides_across c.entries.table.routes (sides_of es)) (sym rest) ∙ known.entries);
     }

@@ -1,5 +1,5 @@
 use Rattle.std.proofs.Common.{◌≡◌, ◌++◌, take, drop}
-use Rattle.bgpdump_tool.specs.Journal.{sides_of, restored, crossed, IsKept}
+use Rattle.bgpdump_tool.specs.Journal.{sides_of, routes_across, sides_across, IsKept}
 use Rattle.bgpdump_tool.proofs.player.journal.cross.Given as goal
 
 -- the entries that are left are as they were; crossing them too gives what crossing all gives
@@ -10,6 +10,6 @@ invariant-entries l =
       unchanged : drop l.entry-index l.entries ≡ rest;
       keys : l.table.keys ≡ l.fn.table.keys;
       kept : IsKept l.table.keys (sides_of rest);
-      routes : restored (sides_of rest) l.table.routes ≡ restored (sides_of l.fn.entries) l.fn.table.routes;
-      entries : sides_of (take l.entry-index l.entries) ++ crossed l.table.routes (sides_of rest) ≡ crossed l.fn.table.routes (sides_of l.fn.entries);
+      routes : routes_across (sides_of rest) l.table.routes ≡ routes_across (sides_of l.fn.entries) l.fn.table.routes;
+      entries : sides_of (take l.entry-index l.entries) ++ sides_across l.table.routes (sides_of rest) ≡ sides_across l.fn.table.routes (sides_of l.fn.entries);
     }

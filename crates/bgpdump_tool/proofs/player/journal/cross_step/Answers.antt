@@ -1,6 +1,6 @@
 use Rattle.std.proofs.Common.{◌≡◌, ◌<◌, length, ap, sym, subst, ◌∙◌, set, get_or, arith}
 use Rattle.std.proofs.lemmas.List.{get_or-map, map-set, length-map, with_items_is}
-use Rattle.bgpdump_tool.specs.Journal.{sides_of, sides_at, steps_of, step_sides, crossed, IsKept}
+use Rattle.bgpdump_tool.specs.Journal.{sides_of, sides_at, steps_of, step_sides, sides_across, IsKept}
 use Rattle.bgpdump_tool.proofs.CursorLaws.{kept-at}
 use Rattle.bgpdump_tool.proofs.player.journal.cross_step.Goals as goal
 use Rattle.bgpdump_tool.proofs.player.journal.cross_step.Goals.{After-as_mut_slice}
@@ -21,4 +21,4 @@ returns-clause-steps c =
     map-set step_sides c.args.steps.now c.args.index _
     ∙ ap (set (steps_of c.args.steps.now) c.args.index)
     (ap sides_of (with_items_is (get_or c.args.steps.now c.args.index c.index-steps-index.result).entries c.cross.new.entries (c.cross.auto.entries ∙ c.as_mut_slice.ensures.len))
-    ∙ c.cross.ensures.entries ∙ ap (crossed c.args.table.now.routes) (sym (at_index (goal.at.returns-clause-steps c).After-as_mut_slice)))
+    ∙ c.cross.ensures.entries ∙ ap (sides_across c.args.table.now.routes) (sym (at_index (goal.at.returns-clause-steps c).After-as_mut_slice)))

@@ -1,11 +1,11 @@
-use Rattle.bgpdump_tool.proofs.TableLaws.{get-table, get-apply, contains-named}
+use Rattle.bgpdump_tool.proofs.TableLaws.{get-table, get-table_after, contains-named_pairs}
 use Rattle.bgpdump_tool.proofs.player.laws.routes_at_pairs.Goals as goal
 
 pub returns-clause-table : goal.returns-clause-table
 returns-clause-table c = get-table
 
-pub returns-clause-apply : goal.returns-clause-apply
-returns-clause-apply c = get-apply
+pub returns-clause-table_after : goal.returns-clause-table_after
+returns-clause-table_after c = get-table_after
 
-pub returns-clause-named : goal.returns-clause-named
-returns-clause-named c = contains-named
+pub returns-clause-named_pairs : goal.returns-clause-named_pairs
+returns-clause-named_pairs c = contains-named_pairs

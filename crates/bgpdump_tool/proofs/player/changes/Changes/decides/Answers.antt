@@ -2,7 +2,8 @@ use Rattle.std.proofs.Common.{◌≡◌, ◌||◌, false, is_some, sym, ap, ◌�
 use Rattle.std.specs.List.{list_any}
 use Rattle.bgpdump_tool.specs.Store.{slot_at}
 use Rattle.bgpdump_tool.specs.Changes.{is_lost}
-use Rattle.bgpdump_tool.proofs.PairLaws.{derived_eq, any-peer_eq}
+use Rattle.mrt_wire.proofs.PeerLaws.{derived_eq}
+use Rattle.bgpdump_tool.proofs.PairLaws.{any-peer_eq}
 use Rattle.bgpdump_tool.proofs.player.changes.Changes.decides.Goals as goal
 
 pub returns-else-contains_key : goal.returns-else-contains_key

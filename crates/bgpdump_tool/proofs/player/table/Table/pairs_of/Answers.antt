@@ -5,7 +5,8 @@ use Rattle.std.specs.FinMap as finite
 use Rattle.std.specs.Map.Iter.{deref_pair}
 use Rattle.std.proofs.lemmas.List.{append-nil}
 use Rattle.std.proofs.lemmas.Map.Iter.{rest_more, rest_all}
-use Rattle.bgpdump_tool.specs.History.{peer_cmp, pair_cmp, pair_of}
+use Rattle.mrt_wire.specs.Peer.{peer_cmp}
+use Rattle.bgpdump_tool.specs.History.{pair_cmp, pair_of}
 use Rattle.bgpdump_tool.proofs.PairLaws.{peer_ne}
 use Rattle.bgpdump_tool.proofs.StoreLaws.{get-routes_in}
 use Rattle.bgpdump_tool.proofs.PeerPairs.{routed, Onward, least_prefix, slots_from, routed-from, Onward-from, Onward-tail, routed-take, routed-skip, routed-none, routed-behind, any-routed}

@@ -1,0 +1,10 @@
+-- The lines of the items so far.
+use Rattle.std.proofs.Common.{◌≡◌, ◌++◌, take}
+use Rattle.std.specs.List.{flat_map}
+use Rattle.mrt_wire.specs.Event.{saying}
+use Rattle.bgpdump_tool.specs.Lines.{item_line}
+use Rattle.bgpdump_tool.proofs.lines.put_lines.Given as goal
+
+abbrev pub invariant-items : goal.invariant-items
+invariant-items l =
+    l.text.items ≡ l.initial.text.items ++ flat_map (λ item. item_line l.event.time l.event.tag (saying item)) (take l.item-index l.items)

@@ -1,0 +1,82 @@
+-- The lines of events, one for each item.
+use Rattle.std.specs.Prelude.{ℕ, ◌-◌, List, [], ◌∷◌, ◌++◌, length, replicate, decimal, codes}
+use Rattle.std.specs.Option.{unwrap_or}
+use Rattle.std.specs.List.{flat_map}
+use Rattle.ip_prefix.specs.Network.{Network}
+use Rattle.ip_prefix.specs.Text.{address_text, network_text}
+use Rattle.mrt_wire.specs.declared.peer.Peer.{Peer}
+use Rattle.mrt_wire.specs.declared.event.Route.{Route}
+use Rattle.mrt_wire.specs.declared.event.Time.{Time}
+use Rattle.mrt_wire.specs.declared.event.Tag.{Tag}
+use Rattle.mrt_wire.specs.declared.event.Tag.TheVariants.{TableDump2, Bgp4mp, Bgp4mpEt}
+use Rattle.mrt_wire.specs.declared.event.Event.{Event}
+use Rattle.mrt_wire.specs.Event.{Saying, Announced, Withdrawn, Changed}
+use Rattle.bgpdump_tool.specs.declared.lines.TheConstants.{MICROS_DIGITS}
+
+-- the marks of lines
+abbrev pub bar : ℕ
+bar = 124
+
+abbrev pub line_feed : ℕ
+line_feed = 10
+
+abbrev pub dot : ℕ
+dot = 46
+
+abbrev pub zero_digit : ℕ
+zero_digit = 48
+
+-- the fields, each ended by a bar but the last, which a line feed ends
+abbrev pub line_of : List (List ℕ) → List ℕ
+line_of [] = line_feed ∷ []
+line_of (field ∷ []) = field ++ line_feed ∷ []
+line_of (field ∷ next ∷ fields) = field ++ bar ∷ line_of (next ∷ fields)
+
+-- the first field of a line
+abbrev pub word : Tag → List ℕ
+word TableDump2 = codes "TABLE_DUMP2"
+word Bgp4mp = codes "BGP4MP"
+word Bgp4mpEt = codes "BGP4MP_ET"
+
+-- microseconds, filled up with zeros in front
+abbrev pub micros_text : ℕ → List ℕ
+micros_text micros = replicate (MICROS_DIGITS - length (decimal micros)) zero_digit ++ decimal micros
+
+-- the time of a line: the seconds, and where the kind of record has them the microseconds
+abbrev pub time_text : Tag → Time → List ℕ
+time_text TableDump2 time = decimal time.seconds
+time_text Bgp4mp time = decimal time.seconds
+time_text Bgp4mpEt time = decimal time.seconds ++ dot ∷ micros_text (unwrap_or time.micros 0)
+
+-- the time of a route's line: a table's entry has the route's own
+abbrev pub route_time_text : Time → Tag → Route → List ℕ
+route_time_text time TableDump2 route = decimal route.time
+route_time_text time Bgp4mp route = time_text Bgp4mp time
+route_time_text time Bgp4mpEt route = time_text Bgp4mpEt time
+
+-- what a route's line is: an entry of a table, or an announcement
+abbrev pub route_letter : Tag → List ℕ
+route_letter TableDump2 = codes "B"
+route_letter Bgp4mp = codes "A"
+route_letter Bgp4mpEt = codes "A"
+
+-- a route's path, origin, next hop, preference, metric, communities, the word on its aggregate, its aggregator
+-- and an empty field at the end; so far all are absent
+abbrev pub attribute_fields : List (List ℕ)
+attribute_fields = [] ∷ [] ∷ [] ∷ codes "0" ∷ codes "0" ∷ [] ∷ codes "NAG" ∷ [] ∷ [] ∷ []
+
+-- the line of what an item says
+abbrev pub item_line : Time → Tag → Saying → List ℕ
+item_line time tag (Announced peer network route) =
+    line_of (word tag ∷ route_time_text time tag route ∷ route_letter tag
+        ∷ address_text peer.addr ∷ decimal peer.asn ∷ network_text network ∷ attribute_fields)
+item_line time tag (Withdrawn peer network) =
+    line_of (word tag ∷ time_text tag time ∷ codes "W"
+        ∷ address_text peer.addr ∷ decimal peer.asn ∷ network_text network ∷ [])
+item_line time tag (Changed peer old new) =
+    line_of (word tag ∷ time_text tag time ∷ codes "STATE"
+        ∷ address_text peer.addr ∷ decimal peer.asn ∷ decimal old ∷ decimal new ∷ [])
+
+-- the lines of an event, one for each item
+abbrev pub event_lines : Event → List ℕ
+event_lines event = flat_map (item_line event.time event.tag) event.items

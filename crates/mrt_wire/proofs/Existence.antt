@@ -1,0 +1,213 @@
+-- No list of octets is without a split into frames and a rest.
+use Rattle.std.proofs.Common.{◌≡◌, ℕ, zero, suc, ◌+◌, ◌≤◌, ◌<◌, ◌^◌, ◌⊎◌, inl, inr, List, [], ◌∷◌, ◌++◌, length, take, drop, sym, ap, ◌∙◌, subst, refl, arith}
+use Rattle.std.proofs.lemmas.Bool.{cases_lt, cases_eq}
+use Rattle.std.proofs.lemmas.List.{append_assoc, length-append, length-take-le, length-drop, get_or-take, get_or-drop, get_or_past, take-append-drop}
+use Rattle.std.proofs.lemmas.Nat.{be_bytes_2, be_bytes_4}
+use Rattle.std.specs.Int.{to_be_bytes, from_be_bytes, w16, w32}
+use Rattle.mrt_wire.specs.declared.fault.RecordKind.TheVariants.{Unsupported, Malformed}
+use Rattle.mrt_wire.specs.declared.event.Stamp.{Stamp}
+use Rattle.mrt_wire.specs.declared.frames.TheConstants.{LONGEST_BODY}
+use Rattle.mrt_wire.specs.Record.{Record, record_of, IsOctets, IsHeader, header_octets, spelling, IsRecord, BeginsWithNone}
+use Rattle.mrt_wire.specs.declared.judging.TheConstants.{AFI_IPV6}
+use Rattle.mrt_wire.specs.Profile.{IsOfIPv6, IsSupported}
+use Rattle.mrt_wire.specs.Verdict.{Verdict, Accepted, Refused, Frame, Index, index_after, event_of, ReadsAs}
+use Rattle.mrt_wire.specs.Splitting.{Splits, spellings}
+use Rattle.mrt_wire.proofs.ContentLaws.{cases_form}
+use Rattle.mrt_wire.proofs.FieldLaws.{field_at, field_then, IsOfIPv6-field, field-IsOfIPv6, length-IsOfIPv6}
+use Rattle.mrt_wire.proofs.RecordLaws.{same_w16, BeginsWithNone-short, BeginsWithNone-cut, BeginsWithNone-too_long}
+
+-- a front of octets is octets
+IsOctets-take : (n : ℕ) (octets : List ℕ) → n ≤ length octets → IsOctets octets → IsOctets (take n octets)
+IsOctets-take n octets within small i = elim (cases_lt i n) [
+  | inl below ↦ subst (λ m. m < 256) (sym (get_or-take n octets i 0 below)) (small i)
+  | inr above ↦ subst (λ m. m < 256) (sym (get_or_past (take n octets) i 0 (omega (arith, length-take-le n octets within)))) (omega arith)
+]
+
+-- what stands behind a front of octets is octets
+IsOctets-drop : (n : ℕ) (octets : List ℕ) → IsOctets octets → IsOctets (drop n octets)
+IsOctets-drop n octets small i = subst (λ m. m < 256) (sym (get_or-drop n octets i 0)) (small (n + i))
+
+-- two octets spell a number
+record Spells16 (octets : List ℕ) : Type 0 where
+  number : ℕ
+  fits : number < 2 ^ 16
+  spelling : to_be_bytes w16 number ≡ octets
+
+-- four octets spell a number
+record Spells32 (octets : List ℕ) : Type 0 where
+  number : ℕ
+  fits : number < 2 ^ 32
+  spelling : to_be_bytes w32 number ≡ octets
+
+-- any two octets spell a number
+Spells16-octets : (octets : List ℕ) → length octets ≡ 2 → IsOctets octets → Spells16 octets
+Spells16-octets octets size small = record {
+  number = from_be_bytes w16 octets;
+  fits = omega (arith, small 0, small 1);
+  spelling = be_bytes_2 octets (from_be_bytes w16 octets) size small refl;
+}
+
+-- any four octets spell a number
+Spells32-octets : (octets : List ℕ) → length octets ≡ 4 → IsOctets octets → Spells32 octets
+Spells32-octets octets size small = record {
+  number = from_be_bytes w32 octets;
+  fits = omega (arith, small 0, small 1, small 2, small 3);
+  spelling = be_bytes_4 octets (from_be_bytes w32 octets) size small refl;
+}
+
+-- the two octets at a place spell a number
+Spells16-at : (place : ℕ) (octets : List ℕ) → place + 2 ≤ length octets → IsOctets octets → Spells16 (take 2 (drop place octets))
+Spells16-at place octets within small =
+    let behind : List ℕ = drop place octets in
+    let long : 2 ≤ length behind = omega (arith, length-drop place octets) in
+    Spells16-octets (take 2 behind) (length-take-le 2 behind long) (IsOctets-take 2 behind long (IsOctets-drop place octets small))
+
+-- the four octets at a place spell a number
+Spells32-at : (place : ℕ) (octets : List ℕ) → place + 4 ≤ length octets → IsOctets octets → Spells32 (take 4 (drop place octets))
+Spells32-at place octets within small =
+    let behind : List ℕ = drop place octets in
+    let long : 4 ≤ length behind = omega (arith, length-drop place octets) in
+    Spells32-octets (take 4 behind) (length-take-le 4 behind long) (IsOctets-take 4 behind long (IsOctets-drop place octets small))
+
+-- a header stands in front of the octets
+record BeginsWithHeader (octets : List ℕ) : Type 0 where
+  seconds : ℕ
+  kind : ℕ
+  subtype : ℕ
+  size : ℕ
+  fits : IsHeader seconds kind subtype size
+  whole : octets ≡ header_octets seconds kind subtype size ++ drop 12 octets
+
+-- one stands in front of any twelve octets
+BeginsWithHeader-long : (octets : List ℕ) → 12 ≤ length octets → IsOctets octets → BeginsWithHeader octets
+BeginsWithHeader-long octets long small =
+    let seconds = Spells32-at 0 octets (omega arith) small in
+    let kind = Spells16-at 4 octets (omega arith) small in
+    let subtype = Spells16-at 6 octets (omega arith) small in
+    let size = Spells32-at 8 octets (omega arith) small in
+    record {
+      seconds = seconds.number;
+      kind = kind.number;
+      subtype = subtype.number;
+      size = size.number;
+      fits = record { seconds_fit = seconds.fits; kind_fits = kind.fits; subtype_fits = subtype.fits; size_fits = size.fits };
+      whole =
+          field_at 0 4 octets ∙ field_then _ _ _ _ (sym seconds.spelling)
+          (field_at 4 2 octets ∙ field_then _ _ _ _ (sym kind.spelling)
+          (field_at 6 2 octets ∙ field_then _ _ _ _ (sym subtype.spelling)
+          (field_at 8 4 octets ∙ field_then _ _ _ _ (sym size.spelling) refl)));
+    }
+
+-- a record whose body is octets stands in front of the octets, and octets follow it
+record BeginsWithRecord (octets : List ℕ) : Type 0 where
+  mrt : Record
+  more : List ℕ
+  is_record : IsRecord mrt
+  body_octets : IsOctets mrt.body
+  more_octets : IsOctets more
+  whole : octets ≡ spelling mrt ++ more
+
+-- one stands in front of octets whose header states a length that they have and a record may have
+BeginsWithRecord-header : (octets : List ℕ) → IsOctets octets → (header : BeginsWithHeader octets)
+    → header.size ≤ length (drop 12 octets) → header.size ≤ LONGEST_BODY → BeginsWithRecord octets
+BeginsWithRecord-header octets small header enough short =
+    let behind : List ℕ = drop 12 octets in
+    let body : List ℕ = take header.size behind in
+    let size : header.size ≡ length body = sym (length-take-le header.size behind enough) in
+    let small_behind : IsOctets behind = IsOctets-drop 12 octets small in
+    record {
+      mrt = record_of header.seconds header.kind header.subtype body;
+      more = drop header.size behind;
+      is_record = record { header = subst (IsHeader header.seconds header.kind header.subtype) size header.fits; size = omega arith };
+      body_octets = IsOctets-take header.size behind enough small_behind;
+      more_octets = IsOctets-drop header.size behind small_behind;
+      whole = header.whole
+          ∙ field_then _ _ _ _ (ap (header_octets header.seconds header.kind header.subtype) size) (sym (take-append-drop header.size behind));
+    }
+
+-- a record stands in front of octets, or none
+cases_record : (octets : List ℕ) → IsOctets octets → BeginsWithRecord octets ⊎ BeginsWithNone octets
+cases_record octets small = elim (cases_lt (length octets) 12) [
+  | inl short ↦ inr (BeginsWithNone-short octets short)
+  | inr long ↦
+      let header = BeginsWithHeader-long octets long small in
+      let s = header.seconds in
+      let k = header.kind in
+      let t = header.subtype in
+      let n = header.size in
+      let behind : List ℕ = drop 12 octets in
+      elim (cases_lt LONGEST_BODY n) [
+        | inl too_long ↦ inr (subst BeginsWithNone (sym header.whole) (BeginsWithNone-too_long s k t n behind header.fits too_long))
+        | inr short ↦ elim (cases_lt (length behind) n) [
+          | inl cut ↦ inr (subst BeginsWithNone (sym header.whole) (BeginsWithNone-cut s k t n behind header.fits cut))
+          | inr enough ↦ inl (BeginsWithRecord-header octets small header enough short)
+        ]
+      ]
+]
+
+-- octets give IPv6 as their address family, or not
+cases_IPv6 : (body : List ℕ) → IsOctets body → IsOfIPv6 body ⊎ (IsOfIPv6 body → ⊥)
+cases_IPv6 body small = elim (cases_lt (length body) 8) [
+  | inl short ↦ inr (λ six. absurd (omega (arith, length-IsOfIPv6 body six)))
+  | inr long ↦
+      let family = Spells16-at 6 body long small in
+      elim (cases_eq family.number AFI_IPV6) [
+        | inl same ↦ inl (IsOfIPv6-field body family.number long family.spelling same)
+        | inr other ↦ inr (λ six. other (same_w16 family.number AFI_IPV6 family.fits (omega arith) (family.spelling ∙ field-IsOfIPv6 body six)))
+      ]
+]
+
+-- a record of octets is supported, or not
+cases_supported : (r : Record) → IsOctets r.body → IsSupported r ⊎ (IsSupported r → ⊥)
+cases_supported r small = elim (cases_form r.kind r.subtype) [
+  | inr none ↦ inr (λ supported. none supported.form supported.has_form)
+  | inl (form, has) ↦ elim (cases_IPv6 r.body small) [
+    | inl six ↦ inr (λ supported. supported.family six)
+    | inr not_six ↦ inl (record { form = form; has_form = has; family = not_six })
+  ]
+]
+
+-- no record of octets is without a verdict
+ReadsAs-octets : (stamp : Stamp) (index : Index) (r : Record) → IsOctets r.body → ((verdict : Verdict) → ReadsAs stamp index r verdict → ⊥) → ⊥
+ReadsAs-octets stamp index r small none = elim (cases_supported r small) [
+  | inr unsupported ↦ none (Refused (Unsupported r.kind r.subtype)) (unsupported, refl, refl)
+  | inl supported ↦ none (Refused Malformed) (supported, λ content is_body. none (Accepted content (event_of stamp index r content)) (supported, is_body, refl))
+]
+
+-- octets that begin with no record are a rest
+Splits-rest : (stamp : Stamp) (index : Index) (octets : List ℕ) → BeginsWithNone octets → Splits stamp index octets [] octets
+Splits-rest stamp index octets none = record { whole = refl; are_frames = record { records = tt; readings = tt }; none = none }
+
+-- a record is put in front
+Splits-record : (stamp : Stamp) (index : Index) (frame : Frame) (octets more : List ℕ) (frames : List Frame) (rest : List ℕ) → IsRecord frame.mrt
+    → ReadsAs stamp index frame.mrt frame.verdict → octets ≡ spelling frame.mrt ++ more → Splits stamp (index_after index frame.verdict) more frames rest
+    → Splits stamp index octets (frame ∷ frames) rest
+Splits-record stamp index frame octets more frames rest is_record reads whole split = record {
+  whole = whole ∙ ap (λ l. spelling frame.mrt ++ l) split.whole ∙ sym (append_assoc (spelling frame.mrt) (spellings frames) rest);
+  are_frames = record { records = (is_record, split.are_frames.records); readings = (reads, split.are_frames.readings) };
+  none = split.none;
+}
+
+-- no octets of at most this length are without a split
+no_octets_without_a_split_within : (most : ℕ) (stamp : Stamp) (index : Index) (octets : List ℕ) → length octets ≤ most → IsOctets octets
+    → ((frames : List Frame) (rest : List ℕ) → Splits stamp index octets frames rest → ⊥) → ⊥
+no_octets_without_a_split_within zero stamp index octets within small none = none [] octets (Splits-rest stamp index octets (BeginsWithNone-short octets (omega arith)))
+no_octets_without_a_split_within (suc most) stamp index octets within small none = elim (cases_record octets small) [
+  | inr no_record ↦ none [] octets (Splits-rest stamp index octets no_record)
+  | inl front ↦
+      let r = front.mrt in
+      let shorter : length front.more ≤ most = omega (
+        arith,
+        ap length front.whole,
+        length-append (spelling r) front.more,
+        length-append (header_octets r.seconds r.kind r.subtype (length r.body)) r.body,
+      ) in
+      ReadsAs-octets stamp index r front.body_octets (λ verdict reads.
+      no_octets_without_a_split_within most stamp (index_after index verdict) front.more shorter front.more_octets (λ frames rest split.
+      none (record { mrt = r; verdict = verdict } ∷ frames) rest
+      (Splits-record stamp index (record { mrt = r; verdict = verdict }) octets front.more frames rest front.is_record reads front.whole split)))
+]
+
+-- no octets are without a split
+pub no_octets_without_a_split : (stamp : Stamp) (index : Index) (octets : List ℕ) → IsOctets octets → ((frames : List Frame) (rest : List ℕ) → Splits stamp index octets frames rest → ⊥) → ⊥
+no_octets_without_a_split stamp index octets small = no_octets_without_a_split_within (length octets) stamp index octets (omega arith) small

@@ -1,0 +1,12 @@
+pub mod Buffers
+pub mod ContentLaws
+pub mod Existence
+pub mod FieldLaws
+pub mod FirstLaws
+pub mod PeerLaws
+pub mod RecordLaws
+pub mod NextLaws
+pub mod RestLaws
+pub mod SoFarLaws
+pub mod SplitLaws
+pub mod StateChangeLaws

@@ -1,0 +1,71 @@
+-- Laws of records: none begins another, so octets split into records in one way.
+use Rattle.std.proofs.Common.{◌≡◌, ℕ, ◌<◌, ◌^◌, List, ◌++◌, length, take, drop, sym, ap, ◌∙◌, refl, arith, drop_at, take_at, length-append}
+use Rattle.std.proofs.lemmas.Nat.{from_be_bytes-to_be_bytes_2, from_be_bytes-to_be_bytes_4}
+use Rattle.std.specs.Int.{to_be_bytes, from_be_bytes, w16, w32}
+use Rattle.mrt_wire.specs.declared.frames.TheConstants.{LONGEST_BODY}
+use Rattle.mrt_wire.specs.Record.{Record, IsHeader, header_octets, spelling, IsRecord, BeginsWithNone}
+
+-- numbers that fit and are spelled alike are one
+pub same_w32 : (n m : ℕ) → n < 2 ^ 32 → m < 2 ^ 32 → to_be_bytes w32 n ≡ to_be_bytes w32 m → n ≡ m
+same_w32 n m p q e = sym (from_be_bytes-to_be_bytes_4 n p) ∙ ap (from_be_bytes w32) e ∙ from_be_bytes-to_be_bytes_4 m q
+
+pub same_w16 : (n m : ℕ) → n < 2 ^ 16 → m < 2 ^ 16 → to_be_bytes w16 n ≡ to_be_bytes w16 m → n ≡ m
+same_w16 n m p q e = sym (from_be_bytes-to_be_bytes_2 n p) ∙ ap (from_be_bytes w16) e ∙ from_be_bytes-to_be_bytes_2 m q
+
+-- two headers are equal, and so is what follows them
+pub record SameHeader (s k t n s' k' t' n' : ℕ) (x y : List ℕ) : Type 0 where
+  pub seconds : s ≡ s'
+  pub kind : k ≡ k'
+  pub subtype : t ≡ t'
+  pub size : n ≡ n'
+  pub rest : x ≡ y
+
+pub same_header : (s k t n s' k' t' n' : ℕ) (x y : List ℕ) → IsHeader s k t n → IsHeader s' k' t' n'
+    → header_octets s k t n ++ x ≡ header_octets s' k' t' n' ++ y → SameHeader s k t n s' k' t' n' x y
+same_header s k t n s' k' t' n' x y p q e = record {
+  seconds = same_w32 s s' p.seconds_fit q.seconds_fit (ap (take 4) e);
+  kind = same_w16 k k' p.kind_fits q.kind_fits (ap (λ l. take 2 (drop 4 l)) e);
+  subtype = same_w16 t t' p.subtype_fits q.subtype_fits (ap (λ l. take 2 (drop 6 l)) e);
+  size = same_w32 n n' p.size_fits q.size_fits (ap (λ l. take 4 (drop 8 l)) e);
+  rest = ap (drop 12) e;
+}
+
+-- what stands behind a header whose record stands in front
+pub SameHeader-record : (s k t n : ℕ) (octets : List ℕ) → IsHeader s k t n → (r : Record) (more : List ℕ) → IsRecord r
+    → header_octets s k t n ++ octets ≡ spelling r ++ more → SameHeader s k t n r.seconds r.kind r.subtype (length r.body) octets (r.body ++ more)
+SameHeader-record s k t n octets p r more q e =
+    same_header s k t n r.seconds r.kind r.subtype (length r.body) octets (r.body ++ more) p q.header e
+
+-- no record stands in front of fewer octets than a header has
+pub BeginsWithNone-short : (octets : List ℕ) → length octets < 12 → BeginsWithNone octets
+BeginsWithNone-short octets short r more q e =
+    absurd (omega (arith, ap length e, length-append (spelling r) more, length-append (header_octets r.seconds r.kind r.subtype (length r.body)) r.body))
+
+-- nor of a header with fewer octets behind it than it states
+pub BeginsWithNone-cut : (s k t n : ℕ) (body : List ℕ) → IsHeader s k t n → length body < n → BeginsWithNone (header_octets s k t n ++ body)
+BeginsWithNone-cut s k t n body p short r more q e =
+    let same = SameHeader-record s k t n body p r more q e in
+    absurd (omega (arith, same.size, ap length same.rest, length-append r.body more))
+
+-- nor of a header that states too much
+pub BeginsWithNone-too_long : (s k t n : ℕ) (octets : List ℕ) → IsHeader s k t n → LONGEST_BODY < n → BeginsWithNone (header_octets s k t n ++ octets)
+BeginsWithNone-too_long s k t n octets p long r more q e =
+    let same = SameHeader-record s k t n octets p r more q e in
+    absurd (omega (arith, same.size, q.size))
+
+-- bodies of one length that begin one list are equal, and so is what follows them
+pub same_parts : (a b x y : List ℕ) → length a ≡ length b → a ++ x ≡ b ++ y → (a ≡ b) × (x ≡ y)
+same_parts a b x y len e = (
+  sym (take_at a x (length a) refl) ∙ ap (take (length a)) e ∙ take_at b y (length a) (sym len),
+  sym (drop_at a x (length a) refl) ∙ ap (drop (length a)) e ∙ drop_at b y (length a) (sym len),
+)
+
+same_record : (a b : Record) → a.seconds ≡ b.seconds → a.kind ≡ b.kind → a.subtype ≡ b.subtype → a.body ≡ b.body → a ≡ b
+same_record a b p q r s = λ i. record { seconds = p i; kind = q i; subtype = r i; body = s i }
+
+-- no record begins another
+pub same_front : (a b : Record) (x y : List ℕ) → IsRecord a → IsRecord b → spelling a ++ x ≡ spelling b ++ y → (a ≡ b) × (x ≡ y)
+same_front a b x y p q e =
+    let same = same_header a.seconds a.kind a.subtype (length a.body) b.seconds b.kind b.subtype (length b.body) (a.body ++ x) (b.body ++ y) p.header q.header e in
+    let parts = same_parts a.body b.body x y same.size same.rest in
+    (same_record a b same.seconds same.kind same.subtype parts.0, parts.1)

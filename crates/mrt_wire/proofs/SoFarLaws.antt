@@ -1,0 +1,263 @@
+-- What a source has answered so far goes on by an answer, and is first in whatever the input may hold.
+use Rattle.std.proofs.Common.{◌≡◌, inl, inr, ℕ, ◌+◌, ◌<◌, true, false, Result, List, [], ◌∷◌, ◌++◌, Option, Ok, Err, length, sym, ap, ◌∙◌, refl, subst, arith, length-append, append-nil}
+use Rattle.std.proofs.lemmas.List.{append_assoc}
+use Rattle.std.proofs.lemmas.Grind.{flat_map-append}
+use Rattle.std.specs.Io.KnownBytes.{Consumes, IsAtEnd}
+use Rattle.std.proofs.KnownBytes.{Consumes-nil, Consumes-trans}
+use Rattle.mrt_wire.specs.declared.fault.RecordKind.TheVariants.{CutRecord}
+use Rattle.mrt_wire.specs.declared.fault.SourceFault.{SourceFault}
+use Rattle.mrt_wire.specs.declared.next.Next.{Next}
+use Rattle.mrt_wire.specs.declared.next.Phase.{Phase}
+use Rattle.mrt_wire.specs.declared.next.Phase.TheVariants.{Reading, Ended, Spent}
+use Rattle.mrt_wire.specs.Record.{header_octets, spelling, IsRecord, BeginsWithNone}
+use Rattle.mrt_wire.specs.Taking.{EndsAt}
+use Rattle.mrt_wire.specs.Verdict.{Frame, ReadsAs, index_after}
+use Rattle.mrt_wire.specs.Splitting.{AreFrames, Splits, spellings}
+use Rattle.mrt_wire.specs.Results.{Finding, finding, fault_findings, rest_kind, rest_fault}
+use Rattle.mrt_wire.specs.Place.{Place, place_behind, place_behind_all, results}
+use Rattle.mrt_wire.specs.Next.{Nexts, answer_findings, IsFrameAt, IsRestAt}
+use Rattle.mrt_wire.specs.SoFar.{SoFar, RestSoFar, is_nothing}
+use Rattle.mrt_wire.proofs.SplitLaws.{frames_first, frames_all}
+use Rattle.mrt_wire.proofs.FirstLaws.{RestStays-rest}
+
+-- ---- frames behind a place
+
+-- the octets of one frame more
+spellings-push : (frames : List Frame) (frame : Frame) → spellings (frames ++ frame ∷ []) ≡ spellings frames ++ spelling frame.mrt
+spellings-push frames frame = flat_map-append (λ f. spelling f.mrt) frames (frame ∷ []) ∙ ap (λ l. spellings frames ++ l) (append-nil (spelling frame.mrt))
+
+-- the octets taken behind frames
+pub place_behind_all-offset : (p : Place) (frames : List Frame) → (place_behind_all p frames).offset ≡ p.offset + length (spellings frames)
+place_behind_all-offset p [] = omega arith
+place_behind_all-offset p (f ∷ frames) = omega (arith, place_behind_all-offset (place_behind p f) frames, length-append (spelling f.mrt) (spellings frames))
+
+place_behind_all-push : (p : Place) (frames : List Frame) (frame : Frame) → place_behind_all p (frames ++ frame ∷ []) ≡ place_behind (place_behind_all p frames) frame
+place_behind_all-push p [] frame = refl
+place_behind_all-push p (f ∷ frames) frame = place_behind_all-push (place_behind p f) frames frame
+
+-- one frame more
+AreFrames-push : (p : Place) (frames : List Frame) (frame : Frame) → AreFrames p.stamp p.index frames → IsRecord frame.mrt
+    → ReadsAs p.stamp (place_behind_all p frames).index frame.mrt frame.verdict → AreFrames p.stamp p.index (frames ++ frame ∷ [])
+AreFrames-push p [] frame are is_record reads = record { records = (is_record, tt); readings = (reads, tt) }
+AreFrames-push p (f ∷ frames) frame are is_record reads =
+    let later = AreFrames-push (place_behind p f) frames frame (record { records = are.records.1; readings = are.readings.1 }) is_record reads in
+    record { records = (are.records.0, later.records); readings = (are.readings.0, later.readings) }
+
+-- what is found in more frames, or in a rest
+pub results-append : (p : Place) (frames later : List Frame) (rest : List ℕ) → results p (frames ++ later) rest ≡ results p frames [] ++ results (place_behind_all p frames) later rest
+results-append p [] later rest = refl
+results-append p (f ∷ frames) later rest = ap (λ l. finding (p.number + 1) p.offset f.verdict ∷ l) (results-append (place_behind p f) frames later rest)
+
+results-rest : (p : Place) (frames : List Frame) (rest : List ℕ) → results p frames rest ≡ results p frames [] ++ results (place_behind_all p frames) [] rest
+results-rest p frames rest = ap (λ f. results p f rest) (sym (append-nil frames)) ∙ results-append p frames [] rest
+
+-- ---- so far
+
+pub SoFar-start : (p : Place) (left : Option (List ℕ)) → p.phase ≡ Reading → SoFar p p left left []
+SoFar-start p left reading = record {
+  frames = [];
+  rest = [];
+  are_frames = record { records = tt; readings = tt };
+  consumed = Consumes-nil left;
+  found_is = refl;
+  index = refl;
+  number = refl;
+  offset = omega arith;
+  limit = refl;
+  stamp = refl;
+  rest_is = subst (λ s. RestSoFar s left []) (sym reading) refl;
+}
+
+-- nothing but frames was taken while the source reads
+pub no_rest : (p q : Place) (left left' : Option (List ℕ)) (found : List Finding) → (s : SoFar p q left left' found) → q.phase ≡ Reading → s.rest ≡ []
+no_rest p q left left' found s reading = subst (λ t. RestSoFar t left' s.rest) reading s.rest_is
+
+-- a frame more was taken
+SoFar-frame : (p q q' : Place) (left left' left'' : Option (List ℕ)) (found : List Finding) (answer : Next) (octets : List ℕ) (frame : Frame) → SoFar p q left left' found → q.phase ≡ Reading
+    → Consumes left' left'' octets → IsFrameAt q q' answer octets frame → SoFar p q' left left'' (found ++ answer_findings answer)
+SoFar-frame p q q' left left' left'' found answer octets frame s reading taken at =
+    let b : Place = place_behind_all p s.frames in
+    let none = no_rest p q left left' found s reading in
+    let only : spellings s.frames ++ s.rest ≡ spellings s.frames = ap (λ l. spellings s.frames ++ l) none ∙ append-nil (spellings s.frames) in
+    let offset : q.offset ≡ b.offset = omega (arith, s.offset, ap length only, place_behind_all-offset p s.frames) in
+    let reads = subst (λ x. ReadsAs x b.index frame.mrt frame.verdict) s.stamp (subst (λ x. ReadsAs q.stamp x frame.mrt frame.verdict) s.index at.reads) in
+    let all : List Frame = s.frames ++ frame ∷ [] in
+    let phase : q'.phase ≡ Reading = ap (λ x. x.phase) at.place ∙ reading in
+    let octets_are : (spellings s.frames ++ s.rest) ++ octets ≡ spellings all ++ [] =
+    (λ i. only i ++ at.whole i) ∙ sym (append-nil (spellings all) ∙ spellings-push s.frames frame) in
+    let end : place_behind b frame ≡ place_behind_all p all = sym (place_behind_all-push p s.frames frame) in
+    record {
+      frames = all;
+      rest = [];
+      are_frames = AreFrames-push p s.frames frame s.are_frames at.is_record reads;
+      consumed = subst (Consumes left left'') octets_are (Consumes-trans left left' left'' (spellings s.frames ++ s.rest) octets s.consumed taken);
+      found_is = (λ i. (s.found_is ∙ ap (results p s.frames) none) i ++ at.tells i) ∙ (λ i. results p s.frames [] ++ finding (s.number i + 1) (offset i) frame.verdict ∷ []) ∙ sym (results-append p s.frames (frame ∷ []) []);
+      index = ap (λ x. x.index) at.place ∙ ap (λ x. index_after x frame.verdict) s.index ∙ ap (λ x. x.index) end;
+      number = ap (λ x. x.number) at.place ∙ ap (λ n. n + 1) s.number ∙ ap (λ x. x.number) end;
+      offset = omega (arith, ap (λ x. x.offset) at.place, s.offset, ap length at.whole, ap length octets_are, length-append (spellings s.frames ++ s.rest) octets);
+      limit = ap (λ x. x.limit) at.place ∙ s.limit;
+      stamp = ap (λ x. x.stamp) at.place ∙ s.stamp;
+      rest_is = subst (λ t. RestSoFar t left'' []) (sym phase) refl;
+    }
+
+-- the rest was taken
+SoFar-rest : (p q q' : Place) (left left' left'' : Option (List ℕ)) (found : List Finding) (answer : Next) (octets : List ℕ) → SoFar p q left left' found → q.phase ≡ Reading
+    → Consumes left' left'' octets → IsRestAt q q' left'' answer octets → SoFar p q' left left'' (found ++ answer_findings answer)
+SoFar-rest p q q' left left' left'' found answer octets s reading taken at =
+    let b : Place = place_behind_all p s.frames in
+    let none = no_rest p q left left' found s reading in
+    let only : spellings s.frames ++ s.rest ≡ spellings s.frames = ap (λ l. spellings s.frames ++ l) none ∙ append-nil (spellings s.frames) in
+    let offset : q.offset ≡ b.offset = omega (arith, s.offset, ap length only, place_behind_all-offset p s.frames) in
+    let octets_are : (spellings s.frames ++ s.rest) ++ octets ≡ spellings s.frames ++ octets = ap (λ l. l ++ octets) only in
+    record {
+      frames = s.frames;
+      rest = octets;
+      are_frames = s.are_frames;
+      consumed = subst (Consumes left left'') octets_are (Consumes-trans left left' left'' (spellings s.frames ++ s.rest) octets s.consumed taken);
+      found_is = (λ i. (s.found_is ∙ ap (results p s.frames) none) i ++ at.tells i) ∙ (λ i. results p s.frames [] ++ fault_findings (s.number i + 1) (offset i) (rest_fault octets)) ∙ sym (results-rest p s.frames octets);
+      index = ap (λ x. x.index) at.place ∙ s.index;
+      number = ap (λ x. x.number) at.place ∙ s.number;
+      offset = omega (arith, ap (λ x. x.offset) at.place, s.offset, ap length octets_are, length-append (spellings s.frames ++ s.rest) octets);
+      limit = ap (λ x. x.limit) at.place ∙ s.limit;
+      stamp = ap (λ x. x.stamp) at.place ∙ s.stamp;
+      rest_is = subst (λ t. RestSoFar t left'' octets) (sym (ap (λ x. x.phase) at.place)) at.ends;
+    }
+
+-- an answer more, of a source that read
+pub SoFar-next : (p q q' : Place) (left left' left'' : Option (List ℕ)) (found : List Finding) (answer : Next) → SoFar p q left left' found → q.phase ≡ Reading
+    → (octets : List ℕ) × Consumes left' left'' octets × Nexts q q' left'' octets (Ok answer) → SoFar p q' left left'' (found ++ answer_findings answer)
+SoFar-next p q q' left left' left'' found answer s reading (octets, taken, inl (frame, at)) = SoFar-frame p q q' left left' left'' found answer octets frame s reading taken at
+SoFar-next p q q' left left' left'' found answer s reading (octets, taken, inr at) = SoFar-rest p q q' left left' left'' found answer octets s reading taken at
+
+-- what is found so far is first in whatever the input may hold, and all of it where the source has ended
+pub record FirstSoFar (p q : Place) (found : List Finding) (frames : List Frame) (rest : List ℕ) : Type 0 where
+  pub later : List Finding
+  pub first : results p frames rest ≡ found ++ later
+  pub all : q.phase ≡ Ended → later ≡ []
+
+-- whatever follows frames
+first_of_frames : (p q : Place) (done frames : List Frame) (more rest : List ℕ) → q.phase ≡ Reading → AreFrames p.stamp p.index done → AreFrames p.stamp p.index frames → BeginsWithNone rest
+    → spellings done ++ more ≡ spellings frames ++ rest → FirstSoFar p q (results p done []) frames rest
+first_of_frames p q done frames more rest reading are are' none joined =
+    let behind = frames_first p.stamp p.index done frames more rest are are' none joined in
+    record {
+      later = results (place_behind_all p done) behind.later rest;
+      first = ap (λ f. results p f rest) behind.frames_are ∙ results-append p done behind.later rest;
+      all = λ ended. cc;
+    }
+
+-- whatever follows frames and a rest
+all_of_frames : (p q : Place) (left : Option (List ℕ)) (done frames : List Frame) (last more rest : List ℕ) → EndsAt left last → (rest_kind last ≡ CutRecord → more ≡ []) → AreFrames p.stamp p.index done
+    → AreFrames p.stamp p.index frames → BeginsWithNone rest → spellings done ++ (last ++ more) ≡ spellings frames ++ rest → FirstSoFar p q (results p done last) frames rest
+all_of_frames p q left done frames last more rest ends follows are are' none joined =
+    let stays = RestStays-rest last more ends.rest follows in
+    let all = frames_all p.stamp p.index done frames (last ++ more) rest are are' stays.none none joined in
+    record {
+      later = [];
+      first = (λ i. results p (all.0 i) (all.1 i)) ∙ results-rest p done (last ++ more)
+          ∙ ap (λ f. results p done [] ++ fault_findings ((place_behind_all p done).number + 1) (place_behind_all p done).offset f) stays.fault
+          ∙ sym (results-rest p done last) ∙ sym (append-nil (results p done last));
+      all = λ _. refl;
+    }
+
+pub first_so_far : (p q : Place) (left left' : Option (List ℕ)) (found : List Finding) → (s : SoFar p q left left' found) → (more : List ℕ)
+    → (q.phase ≡ Ended → rest_kind s.rest ≡ CutRecord → IsAtEnd left' → more ≡ [])
+    → (frames : List Frame) (rest : List ℕ) → Splits p.stamp p.index ((spellings s.frames ++ s.rest) ++ more) frames rest → FirstSoFar p q found frames rest
+first_so_far p q left left' found s more follows frames rest split = subst (λ f. FirstSoFar p q f frames rest) (sym s.found_is) (by_phase q.phase refl s.rest_is)
+  where
+    joined : spellings s.frames ++ (s.rest ++ more) ≡ spellings frames ++ rest
+    joined = sym (append_assoc (spellings s.frames) s.rest more) ∙ split.whole
+
+    by_phase : (phase : Phase) → q.phase ≡ phase → RestSoFar phase left' s.rest → FirstSoFar p q (results p s.frames s.rest) frames rest
+    by_phase Reading is none = subst (λ l. FirstSoFar p q (results p s.frames l) frames rest) (sym none)
+        (first_of_frames p q s.frames frames (s.rest ++ more) rest is s.are_frames split.are_frames split.none joined)
+    by_phase Ended is ends = all_of_frames p q left' s.frames frames s.rest more rest ends (λ cut. follows is cut (ends.seen cut)) s.are_frames split.are_frames split.none joined
+    by_phase Spent is none = absurd none
+
+-- where nothing was taken behind the frames, what is found is first, whatever follows
+pub front_so_far : (p q : Place) (left left' : Option (List ℕ)) (found : List Finding) → (s : SoFar p q left left' found) → s.rest ≡ [] → (more : List ℕ)
+    → (frames : List Frame) (rest : List ℕ) → Splits p.stamp p.index ((spellings s.frames ++ s.rest) ++ more) frames rest
+    → (later : List Finding) × (results p frames rest ≡ found ++ later)
+front_so_far p q left left' found s none more frames rest split =
+    let joined : spellings s.frames ++ (s.rest ++ more) ≡ spellings frames ++ rest = sym (append_assoc (spellings s.frames) s.rest more) ∙ split.whole in
+    let behind = frames_first p.stamp p.index s.frames frames (s.rest ++ more) rest s.are_frames split.are_frames split.none joined in
+    let found_is : found ≡ results p s.frames [] = s.found_is ∙ ap (results p s.frames) none in (
+      results (place_behind_all p s.frames) behind.later rest,
+      ap (λ f. results p f rest) behind.frames_are ∙ results-append p s.frames behind.later rest
+          ∙ ap (λ f. f ++ results (place_behind_all p s.frames) behind.later rest) (sym found_is),
+    )
+
+-- what `next` promises of a source that reads, and of one that has ended
+abbrev pub Promises : Place → Place → Option (List ℕ) → Option (List ℕ) → Next → Type 0
+Promises q q' left' left'' answer =
+    (q.phase ≡ Reading → (octets : List ℕ) × Consumes left' left'' octets × Nexts q q' left'' octets (Ok answer))
+    × (q.phase ≡ Ended → (answer_findings answer ≡ []) × (q' ≡ q) × (left'' ≡ left'))
+
+-- the promises of an answer, by what it says of the result
+abbrev pub told_by : Result Next SourceFault → List Finding
+told_by (Ok answer) = answer_findings answer
+told_by (Err fault) = []
+
+-- an answer more
+pub SoFar-answer : (p q q' : Place) (left left' left'' : Option (List ℕ)) (found : List Finding) (answer : Next) → SoFar p q left left' found → Promises q q' left' left'' answer
+    → SoFar p q' left left'' (found ++ answer_findings answer)
+SoFar-answer p q q' left left' left'' found answer s promised = by_phase q.phase refl s.rest_is
+  where
+    by_phase : (phase : Phase) → q.phase ≡ phase → RestSoFar phase left' s.rest → SoFar p q' left left'' (found ++ answer_findings answer)
+    by_phase Reading is rest = SoFar-next p q q' left left' left'' found answer s is (promised.0 is)
+    by_phase Ended is rest =
+        let (tells, same, unasked) = promised.1 is in
+        subst (λ f. SoFar p q' left left'' f) (sym (append-nil found) ∙ ap (λ l. found ++ l) (sym tells))
+        (subst (λ x. SoFar p x left left'' found) (sym same) (subst (λ l. SoFar p q left l found) (sym unasked) s))
+    by_phase Spent is rest = absurd rest
+
+-- an answer that tells nothing is the end
+pub ends_with_none : (p q q' : Place) (left left' left'' : Option (List ℕ)) (found : List Finding) (answer : Next) → SoFar p q left left' found → Promises q q' left' left'' answer
+    → is_nothing (answer_findings answer) ≡ true → q'.phase ≡ Ended
+ends_with_none p q q' left left' left'' found answer s promised none = by_phase q.phase refl s.rest_is
+  where
+    by_answer : (octets : List ℕ) → Nexts q q' left'' octets (Ok answer) → q'.phase ≡ Ended
+    by_answer octets (inl (frame, at)) = absurd (some (sym (ap is_nothing at.tells) ∙ none))
+      where
+        some : false ≡ true → ⊥
+        some e = cc
+    by_answer octets (inr at) = ap (λ x. x.phase) at.place
+
+    by_phase : (phase : Phase) → q.phase ≡ phase → RestSoFar phase left' s.rest → q'.phase ≡ Ended
+    by_phase Reading is rest =
+        let (octets, taken, at) = promised.0 is in
+        by_answer octets at
+    by_phase Ended is rest =
+        let (tells, same, unasked) = promised.1 is in
+        ap (λ x. x.phase) same ∙ is
+    by_phase Spent is rest = absurd rest
+
+-- an answer that tells something takes octets
+pub goes_on_with_some : (p q q' : Place) (left left' left'' : Option (List ℕ)) (found : List Finding) (answer : Next) → SoFar p q left left' found → Promises q q' left' left'' answer
+    → is_nothing (answer_findings answer) ≡ false → q.offset < q'.offset
+goes_on_with_some p q q' left left' left'' found answer s promised some = by_phase q.phase refl s.rest_is
+  where
+    nonempty : (octets : List ℕ) → IsRestAt q q' left'' answer octets → 0 < length octets
+    nonempty [] at = absurd (none (sym (ap is_nothing at.tells) ∙ some))
+      where
+        none : true ≡ false → ⊥
+        none e = cc
+    nonempty (octet ∷ octets) at = omega arith
+
+    by_answer : (octets : List ℕ) → Nexts q q' left'' octets (Ok answer) → q.offset < q'.offset
+    by_answer octets (inl (frame, at)) =
+        let r = frame.mrt in
+        omega (arith, ap (λ x. x.offset) at.place, length-append (header_octets r.seconds r.kind r.subtype (length r.body)) r.body)
+    by_answer octets (inr at) = omega (arith, ap (λ x. x.offset) at.place, nonempty octets at)
+
+    by_phase : (phase : Phase) → q.phase ≡ phase → RestSoFar phase left' s.rest → q.offset < q'.offset
+    by_phase Reading is rest =
+        let (octets, taken, at) = promised.0 is in
+        by_answer octets at
+    by_phase Ended is rest =
+        let (tells, same, unasked) = promised.1 is in
+        absurd (none (sym (ap is_nothing tells) ∙ some))
+      where
+        none : true ≡ false → ⊥
+        none e = cc
+    by_phase Spent is rest = absurd rest

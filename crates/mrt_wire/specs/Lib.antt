@@ -1,0 +1,14 @@
+pub mod Device
+pub mod Record
+pub mod Content
+pub mod Verdict
+pub mod Event
+pub mod Peer
+pub mod Profile
+pub mod Splitting
+pub mod Results
+pub mod Place
+pub mod Judging
+pub mod Taking
+pub mod Next
+pub mod SoFar

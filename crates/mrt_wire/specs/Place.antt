@@ -1,0 +1,41 @@
+-- Where a source stands.
+use Rattle.std.specs.Prelude.{ℕ, ◌+◌, List, [], ◌∷◌, length, None}
+use Rattle.mrt_wire.specs.declared.event.Stamp.{Stamp}
+use Rattle.mrt_wire.specs.declared.next.Phase.{Phase}
+use Rattle.mrt_wire.specs.declared.next.Phase.TheVariants.{Reading}
+use Rattle.mrt_wire.specs.Record.{spelling}
+use Rattle.mrt_wire.specs.Verdict.{Index, Frame, index_after}
+use Rattle.mrt_wire.specs.Results.{Finding, finding, fault_findings, rest_fault}
+
+-- how many records and octets are behind the source, at most limit octets, the peer index there, and whether it still reads
+pub record Place : Type 0 where
+  pub index : Index
+  pub number : ℕ
+  pub offset : ℕ
+  pub limit : ℕ
+  pub stamp : Stamp
+  pub phase : Phase
+
+-- the place behind a frame
+abbrev pub place_behind : Place → Frame → Place
+place_behind p frame =
+    record { index = index_after p.index frame.verdict; number = p.number + 1; offset = p.offset + length (spelling frame.mrt); limit = p.limit; stamp = p.stamp; phase = p.phase }
+
+-- the place behind octets that ended the reading so
+abbrev pub stopped_place : Phase → Place → List ℕ → Place
+stopped_place phase p octets =
+    record { index = p.index; number = p.number; offset = p.offset + length octets; limit = p.limit; stamp = p.stamp; phase = phase }
+
+-- a source that has taken nothing
+abbrev pub start_place : Stamp → ℕ → Place
+start_place stamp limit = record { index = None; number = 0; offset = 0; limit = limit; stamp = stamp; phase = Reading }
+
+-- the place behind frames
+abbrev pub place_behind_all : Place → List Frame → Place
+place_behind_all p [] = p
+place_behind_all p (frame ∷ frames) = place_behind_all (place_behind p frame) frames
+
+-- what is found from a place on in octets that split so
+abbrev pub results : Place → List Frame → List ℕ → List Finding
+results p [] rest = fault_findings (p.number + 1) p.offset (rest_fault rest)
+results p (frame ∷ frames) rest = finding (p.number + 1) p.offset frame.verdict ∷ results (place_behind p frame) frames rest

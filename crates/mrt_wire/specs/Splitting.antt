@@ -1,0 +1,21 @@
+-- The frames of a list of octets.
+use Rattle.std.specs.Prelude.{◌≡◌, ℕ, List, ◌++◌}
+use Rattle.std.specs.List.{flat_map, AllByRecursion}
+use Rattle.mrt_wire.specs.declared.event.Stamp.{Stamp}
+use Rattle.mrt_wire.specs.Record.{spelling, IsRecord, BeginsWithNone}
+use Rattle.mrt_wire.specs.Verdict.{Frame, Index, Readings}
+
+-- the octets of records one behind the other
+abbrev pub spellings : List Frame → List ℕ
+spellings frames = flat_map (λ frame. spelling frame.mrt) frames
+
+-- records one behind the other, each with what becomes of it, with this peer index before the first
+pub record AreFrames (stamp : Stamp) (index : Index) (frames : List Frame) : Type 0 where
+  pub records : AllByRecursion (λ frame. IsRecord frame.mrt) frames
+  pub readings : Readings stamp index frames
+
+-- the octets are those of the frames, and then a rest that begins with no record
+pub record Splits (stamp : Stamp) (index : Index) (octets : List ℕ) (frames : List Frame) (rest : List ℕ) : Type 0 where
+  pub whole : octets ≡ spellings frames ++ rest
+  pub are_frames : AreFrames stamp index frames
+  pub none : BeginsWithNone rest

@@ -1,0 +1,100 @@
+//! What accepted records say.
+
+use crate::peer::Peer;
+use ip_prefix::Prefix;
+use std::marker::Model;
+use std::rc::Rc;
+
+/// Which time the entries of a table are given.
+#[derive(Clone, Copy, Debug, PartialEq, Eq)]
+pub enum Stamp {
+    /// That of the dump.
+    Dump,
+    /// That of the entry's last change.
+    Change,
+}
+
+/// When a record was written.
+#[derive(Clone, Copy, Debug, PartialEq, Eq)]
+pub struct Time {
+    /// Seconds since 1970.
+    pub seconds: u32,
+    /// Microseconds behind the seconds, where the record has them (RFC 6396, section 3).
+    pub micros: Option<u32>,
+}
+
+/// Which kind of record an event comes from.
+#[derive(Clone, Copy, Debug, PartialEq, Eq)]
+pub enum Tag {
+    /// A part of a routing table (RFC 6396, section 4.3).
+    TableDump2,
+    /// A message or a state change (RFC 6396, section 4.4).
+    Bgp4mp,
+    /// The same with microseconds (RFC 6396, section 3).
+    Bgp4mpEt,
+}
+
+/// A route to a prefix, as a peer announced it.
+#[derive(Debug, Drop, PartialEq, Eq)]
+pub struct Route {
+    /// The time that goes with it, in seconds since 1970: that of its record, or for a table's
+    /// entry what the `Stamp` says.
+    pub time: u32,
+}
+
+/// One thing that an event says of a peer.
+#[derive(Debug, Drop)]
+pub enum Item {
+    /// The peer has this route to the prefix from now on.
+    Announce(Peer, Prefix, Rc<Route>),
+    /// The peer has no route to the prefix any more.
+    Withdraw(Peer, Prefix),
+    /// The session with the peer went from the first state to the second (RFC 4271,
+    /// section 8.2.2).
+    State(Peer, u16, u16),
+}
+
+/// Items in order. Contracts see what they say, each route by its value.
+#[derive(Debug, Drop)]
+pub struct Items {
+    items: Vec<Item>,
+}
+
+impl Model for Items {
+    ghost use Rattle.std.specs.Prelude.{List, map};
+    ghost use Rattle.mrt_wire.specs.Event.{Saying, saying};
+
+    ghost Value = { List Saying };
+
+    ghost view = { λ a. map saying a.items.items };
+}
+
+impl Items {
+    ghost use Rattle.std.specs.Prelude.{◌≡◌, map};
+    ghost use Rattle.mrt_wire.specs.Event.{saying};
+
+    /// The items of the vector.
+    pub fn from_vec(items: Vec<Item>) -> Items
+        ensures { result ≡ map saying items.items }
+    {
+        Items { items }
+    }
+
+    /// The items.
+    pub fn as_slice(&self) -> &[Item]
+        ensures { map saying result.now ≡ self.now }
+    {
+        &self.items
+    }
+}
+
+/// What one accepted record says.
+#[derive(Debug, Drop)]
+pub struct Event {
+    /// When the record was written.
+    pub time: Time,
+    /// Which kind of record it is.
+    pub tag: Tag,
+    /// What it says, in order.
+    pub items: Items,
+}

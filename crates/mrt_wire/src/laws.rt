@@ -1,0 +1,46 @@
+//! Laws of what the contracts cite: of the octets of records, and of the order of peers.
+
+ghost use Rattle.std.specs.Prelude.{◌≡◌, ℕ, List, Some};
+ghost use Rattle.std.specs.Ordering.{eq_by_cmp};
+ghost use Rattle.std.specs.Cmp.{IsTotalOrder};
+ghost use Rattle.std.specs.FinMap.{IsAntisymmetric};
+ghost use Rattle.mrt_wire.specs.declared.event.Stamp.{Stamp};
+ghost use Rattle.mrt_wire.specs.declared.peer.Peer.{Peer};
+ghost use Rattle.mrt_wire.specs.Content.{Content, IsBody};
+ghost use Rattle.mrt_wire.specs.Peer.{peer_cmp};
+ghost use Rattle.mrt_wire.specs.Verdict.{Frame, Index};
+ghost use Rattle.mrt_wire.specs.Record.{IsOctets};
+ghost use Rattle.mrt_wire.specs.Splitting.{Splits};
+
+use crate::peer::Peer;
+
+/// No body of one type and subtype holds two contents.
+pub fn one_content()
+    ensures { (kind subtype : ℕ) (body : List ℕ) (a b : Content) →
+        IsBody kind subtype a body → IsBody kind subtype b body → a ≡ b }
+{}
+
+/// No list of octets is without a split into frames and a rest that begins with no record.
+pub fn no_octets_without_a_split()
+    ensures { (stamp : Stamp) (index : Index) (octets : List ℕ) → IsOctets octets →
+        ((frames : List Frame) (rest : List ℕ) → Splits stamp index octets frames rest → ⊥) → ⊥ }
+{}
+
+/// No list of octets splits in two ways.
+pub fn one_split()
+    ensures { (stamp : Stamp) (index : Index) (octets : List ℕ)
+        (frames frames' : List Frame) (rest rest' : List ℕ) →
+        Splits stamp index octets frames rest → Splits stamp index octets frames' rest' →
+        (frames ≡ frames') × (rest ≡ rest') }
+{}
+
+/// Peers are ordered by address and then by AS number. The order is total, only equal ones tie,
+/// and each comparison says what it says.
+pub fn peer_order()
+    ensures parts { (a b : Peer) → ⟦<Peer as Ord>⟧.cmp a b ≡ peer_cmp a b }
+    ensures partial { (a b : Peer) →
+        ⟦<Peer as PartialOrd>⟧.partial_cmp a b ≡ Some (peer_cmp a b) }
+    ensures equal { (a b : Peer) → ⟦<Peer as PartialEq>⟧.eq a b ≡ eq_by_cmp peer_cmp a b }
+    ensures total { IsTotalOrder peer_cmp }
+    ensures ties { IsAntisymmetric peer_cmp }
+{}

@@ -1,0 +1,26 @@
+//! What a source answers, and whether it goes on.
+
+use crate::event::Event;
+use crate::fault::RecordFault;
+
+/// What comes next in an input.
+#[derive(Debug, Drop)]
+pub enum Next {
+    /// An accepted record.
+    Event(Event),
+    /// A faulty record.
+    Bad(RecordFault),
+    /// Nothing is left to read.
+    End,
+}
+
+/// Whether a source goes on.
+#[derive(Clone, Copy, Debug, PartialEq, Eq)]
+pub enum Phase {
+    /// It reads.
+    Reading,
+    /// It has seen the end, or a header that states too much.
+    Ended,
+    /// It has met a fault.
+    Spent,
+}

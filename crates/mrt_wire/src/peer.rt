@@ -1,0 +1,28 @@
+//! The peers whose routes a collector records.
+
+use ip_prefix::Addr;
+use std::marker::Model;
+
+/// A peer: its address and its AS number. Peers are ordered by address, then by number.
+#[derive(Clone, Copy, Debug, PartialEq, Eq, PartialOrd, Ord)]
+pub struct Peer {
+    /// The address that it speaks from.
+    pub addr: Addr,
+    /// The number of the autonomous system that it belongs to.
+    pub asn: u32,
+}
+
+/// The peers of a table, by their numbers.
+#[derive(Debug, Drop)]
+pub(crate) struct Peers {
+    peers: Vec<Peer>,
+}
+
+impl Model for Peers {
+    ghost use Rattle.std.specs.Prelude.{List};
+    ghost use Rattle.mrt_wire.specs.declared.peer.Peer.{Peer};
+
+    ghost Value = { List Peer };
+
+    ghost view = { λ a. a.peers.items };
+}

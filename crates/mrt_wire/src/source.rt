@@ -1,0 +1,169 @@
+//! A source of events.
+
+ghost use Rattle.std.specs.Prelude.{◌≡◌, ◌≤◌, ◌+◌, ◌||◌, ◌++◌, ℕ, List, Ok, Err, take};
+ghost use Rattle.std.specs.Io.KnownBytes.{Consumes};
+ghost use Rattle.mrt_wire.specs.declared.next.Next.{Next};
+ghost use Rattle.mrt_wire.specs.Device.{is_read};
+ghost use Rattle.mrt_wire.specs.Verdict.{Frame};
+ghost use Rattle.mrt_wire.specs.Splitting.{Splits};
+ghost use Rattle.mrt_wire.specs.Results.{fault_findings};
+ghost use Rattle.mrt_wire.specs.Place.{start_place, results};
+ghost use Rattle.mrt_wire.specs.Judging.{judged_answer};
+ghost use Rattle.mrt_wire.specs.Next.{Nexts, answer_findings, Took, MayFollow, spent_place};
+
+use crate::event::{Event, Stamp};
+use crate::fault::{RecordFault, RecordKind, SourceFault};
+use crate::frames::{FrameReader, Front};
+use crate::input::Input;
+use crate::judging::{Refusal, judge};
+use crate::next::{Next, Phase};
+use crate::peer::Peers;
+use std::alloc::Global;
+use std::marker::Model;
+
+/// Reads events from an input of MRT records (RFC 6396). It doesn't hold its input. The buffer of
+/// bodies, the number and the offset of records, and the peers of the last table are kept in it.
+#[derive(Drop)]
+pub struct Source {
+    alloc: Global,
+    frames: FrameReader,
+    number: u64,
+    index: Option<Peers>,
+    stamp: Stamp,
+    phase: Phase,
+}
+
+impl Model for Source {
+    ghost use Rattle.std.specs.Prelude.{◌*◌, ◌≤◌};
+    ghost use Rattle.mrt_wire.specs.declared.header.TheConstants.{HEADER_SIZE};
+    ghost use Rattle.mrt_wire.specs.Place.{Place};
+
+    ghost Value = { Place };
+
+    ghost view = { λ a. record {
+      index = a.index;
+      number = a.number;
+      offset = a.frames.taken;
+      limit = a.frames.limit;
+      stamp = a.stamp;
+      phase = a.phase;
+    } };
+
+    ghost invariant = { λ a. HEADER_SIZE * a.number ≤ a.frames.taken };
+}
+
+impl Source {
+    /// A source at the start of its input. It takes `limit` octets at most, whatever these are.
+    pub fn new(alloc: Global, stamp: Stamp, limit: u64) -> Self
+        ensures { result ≡ start_place stamp limit }
+    {
+        Source {
+            alloc,
+            frames: FrameReader::new(alloc, limit),
+            number: 0,
+            index: None,
+            stamp,
+            phase: Phase::Reading,
+        }
+    }
+
+    /// How many octets were taken so far.
+    pub fn offset(&self) -> u64
+        ensures offset { result ≡ self.now.offset }
+        ensures within { self.now.offset ≤ self.now.limit }
+    {
+        self.frames.taken()
+    }
+
+    /// What comes next in the input: an event, a faulty record, or the end. Behind the end, and
+    /// behind a fault of the source, the input isn't asked any more.
+    pub fn next<I: Input>(&mut self, input: &mut I) -> Result<Next, SourceFault>
+        // Octets are taken: those of a record, which is judged, or the rest; or a fault came.
+        ensures next { self.old.phase ≡ Phase.Reading → (octets : List ℕ)
+            × Consumes (I.left input.old) (I.left input.new) octets
+            × Nexts self.old self.new (I.left input.new) octets result }
+
+        // So it is the first result of the octets taken and any behind them, or of none where the
+        // answer saw the end.
+        ensures first { self.old.phase ≡ Phase.Reading → (answer : Next) → result ≡ Ok answer →
+            (taken after more : List ℕ) (frames : List Frame) (rest : List ℕ) →
+            Took (I.left input.old) (I.left input.new) taken after → MayFollow answer more →
+            Splits self.old.stamp self.old.index (taken ++ more) frames rest →
+            take 1 (results self.old frames rest) ≡ answer_findings answer }
+
+        ensures ended { self.old.phase ≡ Phase.Ended →
+            (result ≡ Ok Next.End) × (self.new ≡ self.old) × (input.new ≡ input.old) }
+        ensures spent { self.old.phase ≡ Phase.Spent →
+            (result ≡ Err SourceFault.Spent) × (self.new ≡ self.old) × (input.new ≡ input.old) }
+
+        ensures failed { I.failed input.new ≡ (I.failed input.old || is_read result) }
+        ensures within { self.new.offset ≤ self.new.limit }
+    {
+        match self.phase {
+            Phase::Reading => {
+                let answer = self.read(input);
+                if answer.is_err() {
+                    self.phase = Phase::Spent;
+                }
+                answer
+            }
+            Phase::Ended => Ok(Next::End),
+            Phase::Spent => Err(SourceFault::Spent),
+        }
+    }
+
+    /// The same for a source that reads. A fault leaves it as if it still did.
+    fn read<I: Input>(&mut self, input: &mut I) -> Result<Next, SourceFault>
+        ensures next { (octets : List ℕ) × Consumes (I.left input.old) (I.left input.new) octets
+            × Nexts self.old (spent_place self.new result) (I.left input.new) octets result }
+        ensures failed { I.failed input.new ≡ (I.failed input.old || is_read result) }
+    {
+        let offset = self.frames.taken();
+        match self.frames.take_record(input)? {
+            Front::Record(header) => {
+                let body = self.frames.body(header.size);
+                let judged = judge(self.alloc, self.stamp, &mut self.index, &header, body);
+                let answer = record_answer(self.number + 1, offset, judged)?;
+                self.number += 1;
+                Ok(answer)
+            }
+            Front::Rest(kind) => {
+                self.phase = Phase::Ended;
+                Ok(rest_answer(self.number + 1, offset, kind))
+            }
+        }
+    }
+}
+
+/// The answer for a record of which this became.
+fn record_answer(
+    number: u64,
+    offset: u64,
+    judged: Result<Event, Refusal>,
+) -> Result<Next, SourceFault>
+    ensures { result ≡ judged_answer number offset judged }
+{
+    match judged {
+        Ok(event) => Ok(Next::Event(event)),
+        Err(Refusal::Fault(kind)) => Ok(Next::Bad(RecordFault {
+            number,
+            offset,
+            kind,
+        })),
+        Err(Refusal::Memory) => Err(SourceFault::Memory),
+    }
+}
+
+/// The answer for a rest that has this fault, or none.
+fn rest_answer(number: u64, offset: u64, kind: Option<RecordKind>) -> Next
+    ensures { answer_findings result ≡ fault_findings number offset kind }
+{
+    match kind {
+        Some(kind) => Next::Bad(RecordFault {
+            number,
+            offset,
+            kind,
+        }),
+        None => Next::End,
+    }
+}

@@ -1,0 +1,33 @@
+mod devices;
+mod events;
+mod sources;
+
+use std::alloc::{AllocError, Global};
+
+/// A state change of an IPv4 peer, of 32 octets.
+const STATE_CHANGE: &str =
+    "00000064 0010 0000 00000014 FBF4 FBF5 0000 0001 C0000201 C0000202 0006 0001";
+
+/// The value of a hexadecimal digit.
+fn digit_value(digit: u8) -> Option<u8> {
+    match digit {
+        b'0'..=b'9' => Some(digit - b'0'),
+        b'A'..=b'F' => Some(digit - b'A' + 10),
+        _ => None,
+    }
+}
+
+/// The octets that the texts spell in hexadecimal, one text behind the other. Spaces are ignored.
+fn octets_of(alloc: Global, texts: &[&str]) -> Result<Vec<u8>, AllocError> {
+    let mut octets = Vec::new(alloc);
+    for text in texts {
+        let mut high = None;
+        for value in text.bytes().filter_map(digit_value) {
+            match high.take() {
+                None => high = Some(value),
+                Some(first) => octets.push(first << 4 | value)?,
+            }
+        }
+    }
+    Ok(octets)
+}
