@@ -1,6 +1,6 @@
 //! Tests. Of table entries octets are written in hexadecimal, and attributes as one text.
 
-mod four;
+mod as4;
 mod lists;
 mod merge;
 mod messages;
