@@ -85,7 +85,3 @@ full_form hop first rest octets e zero size s = inr record {
     three (x ∷ []) h = absurd (omega (arith, h))
     three (x ∷ y ∷ []) h = absurd (omega (arith, h))
     three (x ∷ y ∷ z ∷ l) h = refl
-
-pub never_nothing : (hop : Address) (octets : List ℕ) → octets ≡ [] → SpellsRibHop hop octets → ⊥
-never_nothing hop octets e (inl s) = let f = sym e ∙ s.whole in cc
-never_nothing hop octets e (inr s) = let f = sym e ∙ s.whole in cc

@@ -58,13 +58,6 @@ reach_part family rest octets e (Some reach) s =
     let same = same_unicast s.family family s.rest rest octets s.whole e in
     (reach, subst (SpellsUnicast family reach) same.1 (subst (λ f. SpellsUnicast f reach s.rest) same.0 s.spelled))
 
--- or withdrawn
-pub unreach_part : (family : Family) (rest octets : List ℕ) → octets ≡ unicast_octets family ++ rest → (prefixes : List Network) → SaysUnreach prefixes (Some octets) → SpellsAll (SpellsNetwork family) prefixes rest
-unreach_part family rest octets e prefixes (inl s) = absurd (not_another family rest octets e s.0)
-unreach_part family rest octets e prefixes (inr s) =
-    let same = same_unicast s.family family s.rest rest octets s.whole e in
-    subst (SpellsAll (SpellsNetwork family) prefixes) same.1 (subst (λ f. SpellsAll (SpellsNetwork f) prefixes s.rest) same.0 s.spelled)
-
 -- octets behind their length are those in front of one list
 pub same_sized : (front other rest more : List ℕ) → length front < 2 ^ 16 → length other < 2 ^ 16 → sized_octets front ++ rest ≡ sized_octets other ++ more → (front ≡ other) × (rest ≡ more)
 same_sized front other rest more p q e =
