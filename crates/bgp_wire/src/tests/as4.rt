@@ -1,180 +1,135 @@
-//! Tests of attributes of messages, and of four-octet AS numbers beside two-octet ones.
+//! AS4_PATH and AS4_AGGREGATOR beside AS numbers of two octets, and the attributes of messages.
 
-use super::messages::{COMMON, read_update, together, update_of};
+use super::messages::{COMMON, read_update, update_of};
+use super::{octets_of, read_shown, shown};
 use crate::*;
-use ip_prefix::{Family, put_decimal};
-use std::alloc::{AllocError, Global};
+use ip_prefix::Family;
+use std::alloc::Global;
 use std::test::Fail;
 
 /// ORIGIN of IGP, and NEXT_HOP 192.0.2.9.
-const ORIGIN_AND_HOP: &[u8] = b"\x40\x01\x01\0\x40\x03\x04\xC0\0\x02\x09";
+const ORIGIN_AND_HOP: &str = "400101 00 400304 C0000209";
 
 /// AS_PATH of the sequence 64500 23456.
-const OWN_PATH: &[u8] = b"\x40\x02\x06\x02\x02\xFB\xF4\x5B\xA0";
+const OWN_PATH: &str = "400206 0202 FBF4 5BA0";
 
 /// The same with four-octet numbers.
-const WIDE_PATH: &[u8] = b"\x40\x02\x0A\x02\x02\0\0\xFB\xF4\0\0\x5B\xA0";
+const WIDE_PATH: &str = "40020A 0202 0000 FBF4 0000 5BA0";
 
 /// AS4_PATH of the sequence 70000.
-const FOUR_PATH: &[u8] = b"\xC0\x11\x06\x02\x01\0\x01\x11\x70";
+const FOUR_PATH: &str = "C01106 0201 00011170";
 
 /// AGGREGATOR of 192.0.2.99 with the number 23456.
-const TRANS: &[u8] = b"\xC0\x07\x06\x5B\xA0\xC0\0\x02\x63";
+const TRANS: &str = "C00706 5BA0 C0000263";
 
 /// AGGREGATOR of 192.0.2.99 with the number 64500.
-const ANOTHER: &[u8] = b"\xC0\x07\x06\xFB\xF4\xC0\0\x02\x63";
+const ANOTHER: &str = "C00706 FBF4 C0000263";
 
 /// AS4_AGGREGATOR of 192.0.2.100 with the number 70000.
-const FOUR: &[u8] = b"\xC0\x12\x08\0\x01\x11\x70\xC0\0\x02\x64";
+const FOUR: &str = "C01208 00011170 C0000264";
 
 /// AS4_AGGREGATOR that lacks an octet.
-const FOUR_CUT: &[u8] = b"\xC0\x12\x07\0\x01\x11\x70\xC0\0\x02";
+const FOUR_CUT: &str = "C01207 00011170C00002";
 
 /// AS4_AGGREGATOR of 192.0.2.101 with the number 65536.
-const SECOND_FOUR: &[u8] = b"\xC0\x12\x08\0\x01\0\0\xC0\0\x02\x65";
+const SECOND_FOUR: &str = "C01208 00010000 C0000265";
 
 /// AS4_PATH of the sequence 65536.
-const SECOND_PATH: &[u8] = b"\xC0\x11\x06\x02\x01\0\x01\0\0";
+const SECOND_PATH: &str = "C01106 0201 00010000";
 
 /// AS4_PATH that lacks an octet.
-const PATH_CUT: &[u8] = b"\xC0\x11\x05\x02\x01\0\x01\x11";
+const PATH_CUT: &str = "C01105 0201 000111";
 
-fn put_optional(number: Option<u32>, text: &mut Vec<u8>) -> Result<(), AllocError> {
-    if let Some(number) = number {
-        put_decimal(u64::from(number), text)?;
-    }
-    Ok(())
+/// What OWN_PATH and TRANS say.
+const OWN_SHOWN: &str = "64500 23456||||||NAG|23456 192.0.2.99";
+
+/// What a RIB entry with these attributes says.
+fn rib_shown(alloc: Global, width: AsWidth, parts: &[&str]) -> Result<Vec<u8>, WireFault> {
+    read_shown(alloc, Family::V4, width, &octets_of(alloc, parts)?)
 }
 
-/// Appends the path and the aggregator.
-fn put_passed(attrs: &Attrs, text: &mut Vec<u8>) -> Result<(), AllocError> {
-    attrs.path.put_text(text)?;
-    text.push(b'|')?;
-    if let Some(aggregator) = &attrs.aggregator {
-        put_decimal(u64::from(aggregator.asn), text)?;
-        text.push(b' ')?;
-        aggregator.addr.put_text(text)?;
-    }
-    Ok(())
-}
-
-/// The attributes, each followed by a bar, the path and the aggregator last.
-fn described(alloc: Global, attrs: &Attrs) -> Result<Vec<u8>, AllocError> {
-    let origin: &[u8] = match attrs.origin {
-        None => b"|",
-        Some(Origin::Igp) => b"IGP|",
-        Some(Origin::Egp) => b"EGP|",
-        Some(Origin::Incomplete) => b"INCOMPLETE|",
-    };
-    let mut text = Vec::from_slice(alloc, origin)?;
-    if let Some(hop) = &attrs.next_hop {
-        hop.put_text(&mut text)?;
-    }
-    text.push(b'|')?;
-    put_optional(attrs.med, &mut text)?;
-    text.push(b'|')?;
-    put_optional(attrs.local_pref, &mut text)?;
-    let word: &[u8] = if attrs.atomic { b"|AG|" } else { b"|NAG|" };
-    text.extend_from_slice(word)?;
-    put_communities(attrs.communities.as_slice(), &mut text)?;
-    text.push(b'|')?;
-    put_passed(attrs, &mut text)?;
-    Ok(text)
-}
-
-/// The path and the aggregator of a table entry with these attributes.
-fn passed_of(alloc: Global, width: AsWidth, parts: &[&[u8]]) -> Result<Vec<u8>, Fail> {
-    let octets = together(alloc, parts)?;
-    let attrs = read_rib_attrs(alloc, Family::V4, width, octets.as_slice())?;
-    let mut text = Vec::new(alloc);
-    put_passed(&attrs, &mut text)?;
-    Ok(text)
-}
-
-/// The attributes of an UPDATE with these attributes and the prefix 10.0.0.0/8.
-fn attrs_of(alloc: Global, width: AsWidth, parts: &[&[u8]]) -> Result<Attrs, Fail> {
-    let attributes = together(alloc, parts)?;
-    let octets = update_of(alloc, b"", attributes.as_slice(), b"\x08\x0A")?;
-    Ok(read_update(alloc, width, octets.as_slice())?.attrs)
+/// What the attributes of an UPDATE with these attributes and the prefix 10.0.0.0/8 say.
+fn update_shown(alloc: Global, width: AsWidth, parts: &[&str]) -> Result<Vec<u8>, Fail> {
+    let octets = update_of(alloc, "", parts, "080A")?;
+    let update = read_update(alloc, width, octets.as_slice())?;
+    Ok(shown(alloc, &update.attrs)?)
 }
 
 #[test]
 fn reads_attributes_of_messages(rt: HostRuntime) -> Result<(), Fail> {
     let alloc = rt.alloc();
-    let rows: [([&[u8]; 3], &str); 9] = [
-        ([b"", b"", b""], "||||NAG|||"),
-        ([COMMON, b"", b""], "IGP|192.0.2.9|||NAG||64500|"),
+    let rows: [([&str; 3], &str); 9] = [
+        (["", "", ""], "||||||NAG|"),
+        ([COMMON, "", ""], "64500|IGP|192.0.2.9||||NAG|"),
         // the first of two metrics counts, and the second isn't read
         (
-            [COMMON, b"", b"\x80\x04\x04\0\0\0\x0A\x80\x04\x04\0\0\0\x14"],
-            "IGP|192.0.2.9|10||NAG||64500|",
+            [COMMON, "", "800404 0000000A 800404 00000014"],
+            "64500|IGP|192.0.2.9||10||NAG|",
+        ),
+        (
+            [COMMON, "", "800404 0000000A 800400 400201 09"],
+            "64500|IGP|192.0.2.9||10||NAG|",
         ),
         (
             [
-                COMMON,
-                b"",
-                b"\x80\x04\x04\0\0\0\x0A\x80\x04\0\x40\x02\x01\x09",
+                "400101 00",
+                "40020A 0204 FBF4 5BA0 5BA0 FBF5",
+                "400304 C0000209 C0110E 0203 00010000 00011170 0000FBF5",
             ],
-            "IGP|192.0.2.9|10||NAG||64500|",
-        ),
-        (
-            [
-                b"\x40\x01\x01\0",
-                b"\x40\x02\x0A\x02\x04\xFB\xF4\x5B\xA0\x5B\xA0\xFB\xF5",
-                b"\x40\x03\x04\xC0\0\x02\x09\xC0\x11\x0E\x02\x03\0\x01\0\0\0\x01\x11\x70\0\0\xFB\xF5",
-            ],
-            "IGP|192.0.2.9|||NAG||64500 65536 70000 64501|",
+            "64500 65536 70000 64501|IGP|192.0.2.9||||NAG|",
         ),
         // a path of five numbers beside one of four
         (
             [
-                b"\x40\x01\x01\0",
-                b"\x40\x02\x0A\x02\x04\xFB\xF4\x5B\xA0\x5B\xA0\xFB\xF5",
-                b"\x40\x03\x04\xC0\0\x02\x09\xC0\x11\x16\x02\x05\0\0\0\x01\0\0\0\x02\0\0\0\x03\0\0\0\x04\0\0\0\x05",
+                "400101 00",
+                "40020A 0204 FBF4 5BA0 5BA0 FBF5",
+                "400304 C0000209 C01116 0205 00000001 00000002 00000003 00000004 00000005",
             ],
-            "IGP|192.0.2.9|||NAG||64500 23456 23456 64501|",
+            "64500 23456 23456 64501|IGP|192.0.2.9||||NAG|",
         ),
         (
-            [COMMON, TRANS, b"\xC0\x12\x08\0\x01\x11\x70\xC0\0\x02\x63"],
-            "IGP|192.0.2.9|||NAG||64500|70000 192.0.2.99",
+            [COMMON, TRANS, "C01208 00011170 C0000263"],
+            "64500|IGP|192.0.2.9||||NAG|70000 192.0.2.99",
         ),
         (
-            [COMMON, ANOTHER, b"\xC0\x12\x08\0\x01\x11\x70\xC0\0\x02\x63"],
-            "IGP|192.0.2.9|||NAG||64500|64500 192.0.2.99",
+            [COMMON, ANOTHER, "C01208 00011170 C0000263"],
+            "64500|IGP|192.0.2.9||||NAG|64500 192.0.2.99",
         ),
         (
             [
-                b"",
-                b"\xC0\x08\x08\xFB\xF4\0\x01\xFF\xFF\xFF\x01\x40\x06\0",
-                b"\x40\x05\x04\0\0\0\x64\x40\x01\x01\x02\x80\x04\x04\xFF\xFF\xFF\xFF",
+                "",
+                "C00808 FBF40001 FFFFFF01 400600",
+                "400504 00000064 400101 02 800404 FFFFFFFF",
             ],
-            "INCOMPLETE||4294967295|100|AG|64500:1 no-export||",
+            "|INCOMPLETE||100|4294967295|64500:1 no-export|AG|",
         ),
     ];
     for (parts, want) in rows {
-        let text = described(alloc, &attrs_of(alloc, AsWidth::Two, &parts)?)?;
+        let text = update_shown(alloc, AsWidth::Two, &parts)?;
         assert_eq!(rt; text.as_slice(), want.as_bytes());
     }
     Ok(())
 }
 
+/// Attributes beside a next hop, OWN_PATH, FOUR_PATH, TRANS and FOUR.
+const SHARED: &str = "400101 01 800404 0000000A 400504 00000064 400600 \
+                      C00808 FBF40001 FFFFFF01 800E0B 000101 04 C000020B 00 080B";
+
 #[test]
 fn shares_attributes(rt: HostRuntime) -> Result<(), Fail> {
     let alloc = rt.alloc();
-    let more: &[u8] =
-        b"\x40\x01\x01\x01\x80\x04\x04\0\0\0\x0A\x40\x05\x04\0\0\0\x64\x40\x06\0\xC0\x08\x08\xFB\xF4\0\x01\xFF\xFF\xFF\x01\x80\x0E\x0B\0\x01\x01\x04\xC0\0\x02\x0B\0\x08\x0B";
-    let rest: &[u8] = b"|10|100|AG|64500:1 no-export|64500 70000|70000 192.0.2.100";
-    let hop: &[u8] = b"\x40\x03\x04\xC0\0\x02\x09";
-    for (own_hop, want) in [(hop, b"EGP|192.0.2.9".as_slice()), (b"", b"EGP|")] {
-        let attributes = together(alloc, &[more, OWN_PATH, TRANS, FOUR, FOUR_PATH, own_hop])?;
-        let octets = update_of(alloc, b"", attributes.as_slice(), b"\x08\x0A")?;
+    for (own_hop, want) in [("400304 C0000209", "192.0.2.9"), ("", "")] {
+        let parts = [SHARED, OWN_PATH, TRANS, FOUR, FOUR_PATH, own_hop];
+        let octets = update_of(alloc, "", &parts, "080A")?;
         let update = read_update(alloc, AsWidth::Two, octets.as_slice())?;
-        let text = described(alloc, &update.attrs)?;
-        assert_eq!(rt; text.as_slice(), together(alloc, &[want, rest])?.as_slice());
         let shared = update.mp_attrs.ok_or("no attributes")?;
-        let text = described(alloc, &shared)?;
-        let want: &[u8] = b"EGP|192.0.2.11";
-        assert_eq!(rt; text.as_slice(), together(alloc, &[want, rest])?.as_slice());
+        for (attrs, hop) in [(&update.attrs, want), (&shared, "192.0.2.11")] {
+            let text = shown(alloc, attrs)?;
+            let want = format!(in alloc;
+                "64500 70000|EGP|{hop}|100|10|64500:1 no-export|AG|70000 192.0.2.100"
+            )?;
+            assert_eq!(rt; text.as_slice(), want.as_bytes());
+        }
     }
     Ok(())
 }
@@ -183,55 +138,60 @@ fn shares_attributes(rt: HostRuntime) -> Result<(), Fail> {
 fn joins_by_both_aggregators(rt: HostRuntime) -> Result<(), Fail> {
     let alloc = rt.alloc();
     // AGGREGATOR and AS4_AGGREGATOR, and what is said without AS4_PATH and with it
-    let rows: [(&[u8], &[u8], &str, &str); 9] = [
-        (b"", b"", "64500 23456|", "64500 70000|"),
-        (b"", FOUR_CUT, "64500 23456|", "64500 70000|"),
-        (b"", FOUR, "64500 23456|", "64500 70000|"),
+    let rows: [(&str, &str, &str, &str); 9] = [
+        ("", "", "64500 23456||||||NAG|", "64500 70000||||||NAG|"),
+        (
+            "",
+            FOUR_CUT,
+            "64500 23456||||||NAG|",
+            "64500 70000||||||NAG|",
+        ),
+        ("", FOUR, "64500 23456||||||NAG|", "64500 70000||||||NAG|"),
         (
             TRANS,
-            b"",
-            "64500 23456|23456 192.0.2.99",
-            "64500 70000|23456 192.0.2.99",
+            "",
+            "64500 23456||||||NAG|23456 192.0.2.99",
+            "64500 70000||||||NAG|23456 192.0.2.99",
         ),
         (
             TRANS,
             FOUR_CUT,
-            "64500 23456|23456 192.0.2.99",
-            "64500 70000|23456 192.0.2.99",
+            "64500 23456||||||NAG|23456 192.0.2.99",
+            "64500 70000||||||NAG|23456 192.0.2.99",
         ),
         (
             TRANS,
             FOUR,
-            "64500 23456|70000 192.0.2.100",
-            "64500 70000|70000 192.0.2.100",
+            "64500 23456||||||NAG|70000 192.0.2.100",
+            "64500 70000||||||NAG|70000 192.0.2.100",
         ),
         (
             ANOTHER,
-            b"",
-            "64500 23456|64500 192.0.2.99",
-            "64500 70000|64500 192.0.2.99",
+            "",
+            "64500 23456||||||NAG|64500 192.0.2.99",
+            "64500 70000||||||NAG|64500 192.0.2.99",
         ),
         (
             ANOTHER,
             FOUR_CUT,
-            "64500 23456|64500 192.0.2.99",
-            "64500 70000|64500 192.0.2.99",
+            "64500 23456||||||NAG|64500 192.0.2.99",
+            "64500 70000||||||NAG|64500 192.0.2.99",
         ),
         (
             ANOTHER,
             FOUR,
-            "64500 23456|64500 192.0.2.99",
-            "64500 23456|64500 192.0.2.99",
+            "64500 23456||||||NAG|64500 192.0.2.99",
+            "64500 23456||||||NAG|64500 192.0.2.99",
         ),
     ];
     // absent, without segments, and ill-formed
-    let without: [&[u8]; 3] = [b"", b"\xC0\x11\0", PATH_CUT];
+    let without: [&str; 3] = ["", "C01100", PATH_CUT];
     for (own, four, want, want_joined) in rows {
         for path in without {
-            let text = passed_of(alloc, AsWidth::Two, &[path, OWN_PATH, four, own])?;
+            let text = rib_shown(alloc, AsWidth::Two, &[path, OWN_PATH, four, own])?;
             assert_eq!(rt; text.as_slice(), want.as_bytes());
         }
-        let text = passed_of(alloc, AsWidth::Two, &[FOUR_PATH, OWN_PATH, four, own])?;
+        let text = rib_shown(alloc, AsWidth::Two, &[FOUR_PATH, OWN_PATH, four, own])?;
         assert_eq!(rt; text.as_slice(), want_joined.as_bytes());
     }
     Ok(())
@@ -240,34 +200,34 @@ fn joins_by_both_aggregators(rt: HostRuntime) -> Result<(), Fail> {
 #[test]
 fn compares_the_whole_number(rt: HostRuntime) -> Result<(), Fail> {
     let alloc = rt.alloc();
-    let rows: [(&[u8], &str); 6] = [
+    let rows: [(&str, &str); 6] = [
         (
-            b"\xC0\x07\x08\0\0\x5B\xA0\xC0\0\x02\x63",
-            "64500 70000|70000 192.0.2.100",
+            "C00708 00005BA0 C0000263",
+            "64500 70000||||||NAG|70000 192.0.2.100",
         ),
         (
-            b"\xC0\x07\x08\0\x01\x5B\xA0\xC0\0\x02\x63",
-            "64500 23456|88992 192.0.2.99",
+            "C00708 00015BA0 C0000263",
+            "64500 23456||||||NAG|88992 192.0.2.99",
         ),
         (
-            b"\xC0\x07\x08\x5B\xA0\0\0\xC0\0\x02\x63",
-            "64500 23456|1537212416 192.0.2.99",
+            "C00708 5BA00000 C0000263",
+            "64500 23456||||||NAG|1537212416 192.0.2.99",
         ),
         (
-            b"\xC0\x07\x08\0\x01\x11\x70\xC0\0\x02\x63",
-            "64500 23456|70000 192.0.2.99",
+            "C00708 00011170 C0000263",
+            "64500 23456||||||NAG|70000 192.0.2.99",
         ),
         (
-            b"\xC0\x07\x06\x5B\xA1\xC0\0\x02\x63",
-            "64500 23456|23457 192.0.2.99",
+            "C00706 5BA1 C0000263",
+            "64500 23456||||||NAG|23457 192.0.2.99",
         ),
         (
-            b"\xC0\x07\x06\xA0\x5B\xC0\0\x02\x63",
-            "64500 23456|41051 192.0.2.99",
+            "C00706 A05B C0000263",
+            "64500 23456||||||NAG|41051 192.0.2.99",
         ),
     ];
     for (own, want) in rows {
-        let text = passed_of(alloc, AsWidth::Two, &[OWN_PATH, own, FOUR, FOUR_PATH])?;
+        let text = rib_shown(alloc, AsWidth::Two, &[OWN_PATH, own, FOUR, FOUR_PATH])?;
         assert_eq!(rt; text.as_slice(), want.as_bytes());
     }
     Ok(())
@@ -276,34 +236,38 @@ fn compares_the_whole_number(rt: HostRuntime) -> Result<(), Fail> {
 #[test]
 fn counts_the_first_of_a_type(rt: HostRuntime) -> Result<(), Fail> {
     let alloc = rt.alloc();
-    let rows: [([&[u8]; 6], &str); 6] = [
+    let rows: [([&str; 6], &str); 6] = [
         // a discarded one isn't there, whatever follows
         (
-            [TRANS, FOUR_CUT, FOUR, FOUR_PATH, b"", b""],
-            "64500 70000|23456 192.0.2.99",
+            [TRANS, FOUR_CUT, FOUR, FOUR_PATH, "", ""],
+            "64500 70000||||||NAG|23456 192.0.2.99",
         ),
         (
-            [ANOTHER, FOUR_CUT, FOUR, FOUR_PATH, b"", b""],
-            "64500 70000|64500 192.0.2.99",
+            [ANOTHER, FOUR_CUT, FOUR, FOUR_PATH, "", ""],
+            "64500 70000||||||NAG|64500 192.0.2.99",
         ),
-        ([PATH_CUT, FOUR_PATH, b"", b"", b"", b""], "64500 23456|"),
+        (
+            [PATH_CUT, FOUR_PATH, "", "", "", ""],
+            "64500 23456||||||NAG|",
+        ),
         // nor does one that follows count
         (
             [TRANS, FOUR, FOUR_CUT, SECOND_FOUR, FOUR_PATH, PATH_CUT],
-            "64500 70000|70000 192.0.2.100",
+            "64500 70000||||||NAG|70000 192.0.2.100",
         ),
         (
-            [FOUR_PATH, SECOND_PATH, TRANS, SECOND_FOUR, FOUR, b""],
-            "64500 70000|65536 192.0.2.101",
+            [FOUR_PATH, SECOND_PATH, TRANS, SECOND_FOUR, FOUR, ""],
+            "64500 70000||||||NAG|65536 192.0.2.101",
         ),
         (
-            [TRANS, ANOTHER, FOUR, FOUR_PATH, b"", b""],
-            "64500 70000|70000 192.0.2.100",
+            [TRANS, ANOTHER, FOUR, FOUR_PATH, "", ""],
+            "64500 70000||||||NAG|70000 192.0.2.100",
         ),
     ];
     for (parts, want) in rows {
-        let octets = together(alloc, &parts)?;
-        let text = passed_of(alloc, AsWidth::Two, &[OWN_PATH, octets.as_slice()])?;
+        let [first, second, third, fourth, fifth, sixth] = parts;
+        let parts = [OWN_PATH, first, second, third, fourth, fifth, sixth];
+        let text = rib_shown(alloc, AsWidth::Two, &parts)?;
         assert_eq!(rt; text.as_slice(), want.as_bytes());
     }
     Ok(())
@@ -312,40 +276,33 @@ fn counts_the_first_of_a_type(rt: HostRuntime) -> Result<(), Fail> {
 #[test]
 fn discards_what_is_ill_formed(rt: HostRuntime) -> Result<(), Fail> {
     let alloc = rt.alloc();
-    let rows: [&[u8]; 16] = [
+    let rows: [&str; 16] = [
         // AS4_PATH
-        b"\xC0\x11\x01\x02",
-        b"\xC0\x11\x02\x02\0",
-        b"\xC0\x11\x02\x02\x01",
-        b"\xC0\x11\x04\x02\x01\x11\x70",
-        b"\xC0\x11\x05\x02\x01\0\x01\x11",
-        b"\xC0\x11\x07\x02\x01\0\x01\x11\x70\0",
-        b"\xC0\x11\x08\x02\x01\0\x01\x11\x70\x02\0",
-        b"\xC0\x11\x08\x02\x01\0\x01\x11\x70\x02\x01",
-        b"\xC0\x11\x06\0\x01\0\x01\x11\x70",
-        b"\xC0\x11\x06\x05\x01\0\x01\x11\x70",
-        b"\xC0\x11\x0C\x02\x01\0\x01\x11\x70\x05\x01\0\x01\x11\x70",
-        b"\xC0\x11\x06\x02\x02\0\x01\x11\x70",
+        "C01101 02",
+        "C01102 0200",
+        "C01102 0201",
+        "C01104 0201 1170",
+        "C01105 0201 000111",
+        "C01107 0201 00011170 00",
+        "C01108 0201 00011170 0200",
+        "C01108 0201 00011170 0201",
+        "C01106 0001 00011170",
+        "C01106 0501 00011170",
+        "C0110C 0201 00011170 0501 00011170",
+        "C01106 0202 00011170",
         // AS4_AGGREGATOR
-        b"\xC0\x12\0",
-        b"\xC0\x12\x06\x11\x70\xC0\0\x02\x64",
-        b"\xC0\x12\x09\0\x01\x11\x70\xC0\0\x02\x64\0",
-        b"\xC0\x12\x04\0\x01\x11\x70",
+        "C01200",
+        "C01206 1170C0000264",
+        "C01209 00011170C000026400",
+        "C01204 00011170",
     ];
-    for (place, more) in rows.iter().enumerate() {
-        let text = passed_of(alloc, AsWidth::Two, &[more, OWN_PATH, TRANS])?;
-        assert_eq!(rt;
-            text.as_slice(),
-            b"64500 23456|23456 192.0.2.99".as_slice(),
-            "row {place}"
-        );
-        let attrs = attrs_of(alloc, AsWidth::Two, &[OWN_PATH, TRANS, more])?;
-        let text = described(alloc, &attrs)?;
-        assert_eq!(rt;
-            text.as_slice(),
-            b"||||NAG||64500 23456|23456 192.0.2.99".as_slice(),
-            "row {place}"
-        );
+    for more in rows {
+        for text in [
+            rib_shown(alloc, AsWidth::Two, &[more, OWN_PATH, TRANS])?,
+            update_shown(alloc, AsWidth::Two, &[OWN_PATH, TRANS, more])?,
+        ] {
+            assert_eq!(rt; text.as_slice(), OWN_SHOWN.as_bytes(), "{more}");
+        }
     }
     Ok(())
 }
@@ -353,76 +310,74 @@ fn discards_what_is_ill_formed(rt: HostRuntime) -> Result<(), Fail> {
 #[test]
 fn joins_paths(rt: HostRuntime) -> Result<(), Fail> {
     let alloc = rt.alloc();
-    let rows: [(&[u8], &[u8], &str); 9] = [
+    let rows: [(&str, &str, &str); 9] = [
         // confederation segments of AS4_PATH are dropped
         (
             OWN_PATH,
-            b"\xC0\x11\x0C\x03\x01\0\0\xFD\xE9\x02\x01\0\x01\x11\x70",
-            "64500 70000|",
+            "C0110C 0301 0000FDE9 0201 00011170",
+            "64500 70000||||||NAG|",
         ),
         (
             OWN_PATH,
-            b"\xC0\x11\x0C\x02\x01\0\x01\x11\x70\x04\x01\0\0\xFD\xE9",
-            "64500 70000|",
+            "C0110C 0201 00011170 0401 0000FDE9",
+            "64500 70000||||||NAG|",
         ),
-        (
-            OWN_PATH,
-            b"\xC0\x11\x06\x03\x01\0\0\xFD\xE9",
-            "64500 23456|",
-        ),
+        (OWN_PATH, "C01106 0301 0000FDE9", "64500 23456||||||NAG|"),
         // those of AS_PATH are kept
         (
-            b"\x40\x02\x0A\x03\x01\xFD\xE9\x02\x02\xFB\xF4\x5B\xA0",
+            "40020A 0301 FDE9 0202 FBF4 5BA0",
             FOUR_PATH,
-            "(65001) 64500 70000|",
+            "(65001) 64500 70000||||||NAG|",
         ),
         // a set counts as one
         (
             OWN_PATH,
-            b"\xC0\x11\x0A\x01\x02\0\x01\x11\x70\0\x01\x11\x71",
-            "64500 {70000,70001}|",
+            "C0110A 0102 00011170 00011171",
+            "64500 {70000,70001}||||||NAG|",
         ),
         (
-            b"\x40\x02\x0A\x02\x01\xFB\xF4\x01\x02\x5B\xA0\x5B\xA0",
+            "40020A 0201 FBF4 0102 5BA0 5BA0",
             FOUR_PATH,
-            "64500 70000|",
+            "64500 70000||||||NAG|",
         ),
         // of one length, and a shorter AS_PATH
         (
             OWN_PATH,
-            b"\xC0\x11\x0A\x02\x02\0\x01\0\0\0\x01\x11\x70",
-            "65536 70000|",
+            "C0110A 0202 00010000 00011170",
+            "65536 70000||||||NAG|",
         ),
-        (b"", FOUR_PATH, "|"),
-        (b"\x40\x02\0", b"\xC0\x11\0", "|"),
+        ("", FOUR_PATH, "||||||NAG|"),
+        ("400200", "C01100", "||||||NAG|"),
     ];
     for (own, four, want) in rows {
-        let text = passed_of(alloc, AsWidth::Two, &[own, four])?;
+        let text = rib_shown(alloc, AsWidth::Two, &[own, four])?;
         assert_eq!(rt; text.as_slice(), want.as_bytes());
     }
     Ok(())
 }
 
 #[test]
-fn ignores_them_at_four_octets(rt: HostRuntime) -> Result<(), Fail> {
+fn passes_over_them_at_four_octets(rt: HostRuntime) -> Result<(), Fail> {
     let alloc = rt.alloc();
-    let rows: [([&[u8]; 3], &str); 4] = [
-        ([FOUR_PATH, b"", b""], "64500 23456|"),
-        ([FOUR_PATH, TRANS, FOUR], "64500 23456|23456 192.0.2.99"),
+    let rows: [([&str; 3], &str); 4] = [
+        ([FOUR_PATH, "", ""], "64500 23456||||||NAG|"),
         (
-            [b"\xC0\x07\x08\0\0\x5B\xA0\xC0\0\x02\x63", FOUR, b""],
-            "64500 23456|23456 192.0.2.99",
+            [FOUR_PATH, TRANS, FOUR],
+            "64500 23456||||||NAG|23456 192.0.2.99",
         ),
-        ([b"\xC0\x11\x01\x02", b"", b"\xC0\x12\0"], "64500 23456|"),
+        (
+            ["C00708 00005BA0 C0000263", FOUR, ""],
+            "64500 23456||||||NAG|23456 192.0.2.99",
+        ),
+        (["C01101 02", "", "C01200"], "64500 23456||||||NAG|"),
     ];
-    for (parts, want) in rows {
-        let octets = together(alloc, &parts)?;
-        let text = passed_of(alloc, AsWidth::Four, &[WIDE_PATH, octets.as_slice()])?;
-        assert_eq!(rt; text.as_slice(), want.as_bytes());
-        let attrs = attrs_of(alloc, AsWidth::Four, &[octets.as_slice(), WIDE_PATH])?;
-        let text = described(alloc, &attrs)?;
-        let whole = together(alloc, &[b"||||NAG||", want.as_bytes()])?;
-        assert_eq!(rt; text.as_slice(), whole.as_slice());
+    for ([first, second, third], want) in rows {
+        for text in [
+            rib_shown(alloc, AsWidth::Four, &[WIDE_PATH, first, second, third])?,
+            update_shown(alloc, AsWidth::Four, &[first, second, third, WIDE_PATH])?,
+        ] {
+            assert_eq!(rt; text.as_slice(), want.as_bytes());
+        }
     }
     Ok(())
 }
@@ -431,23 +386,22 @@ fn ignores_them_at_four_octets(rt: HostRuntime) -> Result<(), Fail> {
 fn refuses_ill_formed_attributes(rt: HostRuntime) -> Result<(), Fail> {
     let alloc = rt.alloc();
     // beside them AS4_PATH and AS4_AGGREGATOR are of their form
-    let rows: [&[u8]; 9] = [
-        b"\x40\x02\x05\x02\x01\xFB\xF4\0",
-        b"\x40\x02\x02\x02\0",
-        b"\x40\x02\x06\x02\x01\0\0\xFB\xF4",
-        b"\xC0\x07\x07\0\x5B\xA0\xC0\0\x02\x63",
-        b"\xC0\x07\0",
-        b"\x40\x01\x01\x03",
-        b"\x40\x03\x10\x20\x01\x0D\xB8\0\0\0\0\0\0\0\0\0\0\0\x01",
-        b"\x80\x04\x03\0\0\0",
+    let rows: [&str; 9] = [
+        "400205 0201 FBF4 00",
+        "400202 0200",
+        "400206 0201 0000 FBF4",
+        "C00707 005BA0C0000263",
+        "C00700",
+        "400101 03",
+        "400310 20010DB8000000000000000000000001",
+        "800403 000000",
         // past the list, whatever the type
-        b"\xC0\x11\x07\x02\x01\0\x01\x11\x70",
+        "C01107020100011170",
     ];
-    for (place, more) in rows.iter().enumerate() {
-        let attributes = together(alloc, &[FOUR_PATH, FOUR, more])?;
-        let octets = update_of(alloc, b"", attributes.as_slice(), b"\x08\x0A")?;
+    for more in rows {
+        let octets = update_of(alloc, "", &[FOUR_PATH, FOUR, more], "080A")?;
         let fault = read_message(alloc, AsWidth::Two, octets.as_slice()).err();
-        assert_eq!(rt; fault, Some(WireFault::Malformed), "row {place}");
+        assert_eq!(rt; fault, Some(WireFault::Malformed), "{more}");
     }
     Ok(())
 }
