@@ -40,7 +40,7 @@ IsJoined false own (Some octets) path =
     ⊎ (IsNoSpelling (SpellsPath Four) octets × (path ≡ own))
 
 -- who has passed a route on and who has aggregated it, where AS numbers of two octets and of four stand beside each other
-pub record SaysOfBoth (path : AsPath) (aggregator : Option Aggregator) (list : List Attribute) : Type 0 where
+pub record SaysJoined (path : AsPath) (aggregator : Option Aggregator) (list : List Attribute) : Type 0 where
   pub own_path : AsPath
   pub path_spelled : SpellsPath Two own_path (octets_or_none (first_value AS_PATH list))
   pub own : Option Aggregator
@@ -51,11 +51,11 @@ pub record SaysOfBoth (path : AsPath) (aggregator : Option Aggregator) (list : L
   pub aggregator_joined : aggregator ≡ joined_aggregator own as4
 
 -- the same, where all AS numbers have four octets
-pub record SaysOfFour (path : AsPath) (aggregator : Option Aggregator) (list : List Attribute) : Type 0 where
+pub record SaysOwn (path : AsPath) (aggregator : Option Aggregator) (list : List Attribute) : Type 0 where
   pub path_spelled : SpellsPath Four path (octets_or_none (first_value AS_PATH list))
   pub own_spelled : SpellsOptional SpellsAggregator aggregator (first_value AGGREGATOR list)
 
 -- who has passed a route on and who has aggregated it; an absent path has no segments
 abbrev pub SaysPassed : AsWidth → AsPath → Option Aggregator → List Attribute → Type 0
-SaysPassed Two path aggregator list = SaysOfBoth path aggregator list
-SaysPassed Four path aggregator list = SaysOfFour path aggregator list
+SaysPassed Two path aggregator list = SaysJoined path aggregator list
+SaysPassed Four path aggregator list = SaysOwn path aggregator list

@@ -12,12 +12,12 @@ pub record Hop : Type 0 where
   pub part : Segment
 
 -- one number of a sequence, as a segment
-abbrev pub single : ℕ → Segment
-single n = record { numbers = n ∷ []; kind = AsSequence }
+abbrev pub single_number : ℕ → Segment
+single_number n = record { numbers = n ∷ []; kind = AsSequence }
 
 -- the hops of a segment
 abbrev pub hops_by : SegmentKind → ℕ → List ℕ → List Hop
-hops_by AsSequence place ns = map (λ n. record { place = place; part = single n }) ns
+hops_by AsSequence place ns = map (λ n. record { place = place; part = single_number n }) ns
 hops_by AsSet place ns = record { place = place; part = record { numbers = ns; kind = AsSet } } ∷ []
 hops_by ConfedSequence place ns = record { place = place; part = record { numbers = ns; kind = ConfedSequence } } ∷ []
 hops_by ConfedSet place ns = record { place = place; part = record { numbers = ns; kind = ConfedSet } } ∷ []

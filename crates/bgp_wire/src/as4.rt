@@ -3,7 +3,7 @@
 ghost use Rattle.std.specs.Prelude.{◌≡◌, IfOk};
 ghost use Rattle.bgp_wire.specs.FirstValues.{ReadsList, octets_of};
 ghost use Rattle.bgp_wire.specs.As4.{ignores_as4, joined_aggregator, IsJoined};
-ghost use Rattle.bgp_wire.specs.As4.{SaysOfBoth, SaysOfFour, SaysPassed};
+ghost use Rattle.bgp_wire.specs.As4.{SaysJoined, SaysOwn, SaysPassed};
 
 use crate::attrs::Aggregator;
 use crate::fault::WireFault;
@@ -42,7 +42,7 @@ pub(crate) fn read_passed(
 
 /// Where all AS numbers have four octets.
 fn read_own(alloc: Global, values: &FirstValues) -> Result<Passed, WireFault>
-    ensures { ReadsList (λ passed. SaysOfFour passed.path passed.aggregator) values.now result }
+    ensures { ReadsList (λ passed. SaysOwn passed.path passed.aggregator) values.now result }
 {
     let aggregator = read_aggregator(values.first(AGGREGATOR))?;
     let path = read_path(alloc, AsWidth::Four, values.octets(AS_PATH))?;
@@ -51,7 +51,7 @@ fn read_own(alloc: Global, values: &FirstValues) -> Result<Passed, WireFault>
 
 /// Where AS4_PATH and AS4_AGGREGATOR stand beside numbers of two octets.
 fn read_joined(alloc: Global, values: &FirstValues) -> Result<Passed, WireFault>
-    ensures { ReadsList (λ passed. SaysOfBoth passed.path passed.aggregator) values.now result }
+    ensures { ReadsList (λ passed. SaysJoined passed.path passed.aggregator) values.now result }
 {
     let own = read_aggregator(values.first(AGGREGATOR))?;
     let as4 = read_as4_aggregator(values.first(AS4_AGGREGATOR));

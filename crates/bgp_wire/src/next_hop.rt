@@ -1,6 +1,6 @@
 //! Reading next hops (RFC 4760, section 3; RFC 2545, section 3).
 
-ghost use Rattle.std.specs.Prelude.{◌≡◌, length, IfErr};
+ghost use Rattle.std.specs.Prelude.{◌≡◌, length, IsOkUnless};
 ghost use Rattle.ip_prefix.specs.Bits.{bits_of_octets};
 ghost use Rattle.bgp_wire.specs.declared.fault.WireFault.TheVariants.{Malformed};
 ghost use Rattle.bgp_wire.specs.FirstValues.{octets_of};
@@ -78,7 +78,7 @@ fn read_rib_value(octets: &[u8]) -> Option<Addr>
 /// The next hop of MP_REACH_NLRI in a RIB entry, where it is there.
 pub(crate) fn read_rib_hop(value: Option<&[u8]>) -> Result<Option<Addr>, WireFault>
     ensures read { Reads (SpellsOptional SpellsRibHop) (octets_of value.entry) result }
-    ensures fault { IfErr result (λ fault. fault ≡ Malformed) }
+    ensures fault { IsOkUnless result Malformed }
 {
     match value {
         None => Ok(None),

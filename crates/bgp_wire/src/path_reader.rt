@@ -10,13 +10,13 @@ use crate::numbers::read_numbers;
 use crate::path::{AsNumbers, AsPath, AsWidth, Segment, SegmentKind, Segments};
 use std::alloc::Global;
 
-/// The types of segments (RFC 4271, section 4.3; RFC 5065, section 3).
+/// The type of a set (RFC 4271, section 4.3).
 const AS_SET: u8 = 1;
-
+/// The type of a sequence (RFC 4271, section 4.3).
 const AS_SEQUENCE: u8 = 2;
-
+/// The type of a sequence of a confederation's members (RFC 5065, section 3).
 const AS_CONFED_SEQUENCE: u8 = 3;
-
+/// The type of a set of a confederation's members (RFC 5065, section 3).
 const AS_CONFED_SET: u8 = 4;
 
 /// A segment in front of octets: its kind, the octets of its numbers, and what follows it.

@@ -15,7 +15,7 @@ use std::alloc::Global;
 
 /// The number of IPv4 among address families (RFC 4760, section 3), which is sent in two octets.
 const AFI_IPV4: u8 = 1;
-/// The number of IPv6.
+/// The number of IPv6 among them.
 const AFI_IPV6: u8 = 2;
 /// The number of unicast among subsequent address families (RFC 4760, section 6).
 const SAFI_UNICAST: u8 = 1;

@@ -1,6 +1,6 @@
 //! The path attributes of RIB entries.
 
-ghost use Rattle.std.specs.Prelude.{◌≡◌, IfErr};
+ghost use Rattle.std.specs.Prelude.{◌≡◌, IsOkUnless};
 ghost use Rattle.bgp_wire.specs.declared.fault.WireFault.TheVariants.{Malformed};
 ghost use Rattle.bgp_wire.specs.Content.{SaysRibHop, SpellsRibAttrs};
 ghost use Rattle.bgp_wire.specs.FirstValues.{ReadsList};
@@ -19,7 +19,7 @@ use std::alloc::Global;
 /// The next hop of a RIB entry with these values.
 fn read_next_hops(family: Family, values: &FirstValues) -> Result<Option<Addr>, WireFault>
     ensures read { ReadsList (SaysRibHop family) values.now result }
-    ensures fault { IfErr result (λ fault. fault ≡ Malformed) }
+    ensures fault { IsOkUnless result Malformed }
 {
     if values.repeats(MP_REACH_NLRI) {
         return Err(WireFault::Malformed);

@@ -1,6 +1,6 @@
 //! Reading the values of path attributes, each where it is there.
 
-ghost use Rattle.std.specs.Prelude.{◌≡◌, ◌+◌, length, IfErr};
+ghost use Rattle.std.specs.Prelude.{◌≡◌, ◌+◌, length, IsOkUnless};
 ghost use Rattle.bgp_wire.specs.declared.fault.WireFault.TheVariants.{Malformed};
 ghost use Rattle.bgp_wire.specs.FirstValues.{octets_of};
 ghost use Rattle.bgp_wire.specs.As4.{SpellsWhereFormed};
@@ -15,11 +15,11 @@ use crate::path::AsWidth;
 use byteorder::{BigEndian, ByteOrder};
 use ip_prefix::Addr;
 
-/// The codes of origins (RFC 4271, section 4.3).
+/// The value of ORIGIN for IGP (RFC 4271, section 4.3).
 const ORIGIN_IGP: u8 = 0;
-
+/// Its value for EGP.
 const ORIGIN_EGP: u8 = 1;
-
+/// Its value for INCOMPLETE.
 const ORIGIN_INCOMPLETE: u8 = 2;
 
 /// How many octets an IPv4 address has (RFC 791, section 3.2).
@@ -37,7 +37,7 @@ const AS4_AGGREGATOR_SIZE: usize = 8;
 /// The value of ORIGIN (RFC 4271, section 4.3).
 pub(crate) fn read_origin(value: Option<&[u8]>) -> Result<Option<Origin>, WireFault>
     ensures read { Reads (SpellsOptional SpellsOrigin) (octets_of value.entry) result }
-    ensures fault { IfErr result (λ fault. fault ≡ Malformed) }
+    ensures fault { IsOkUnless result Malformed }
 {
     match value {
         None => Ok(None),
@@ -51,7 +51,7 @@ pub(crate) fn read_origin(value: Option<&[u8]>) -> Result<Option<Origin>, WireFa
 /// The value of MULTI_EXIT_DISC or of LOCAL_PREF (RFC 4271, section 4.3).
 pub(crate) fn read_word(value: Option<&[u8]>) -> Result<Option<u32>, WireFault>
     ensures read { Reads (SpellsOptional SpellsWord) (octets_of value.entry) result }
-    ensures fault { IfErr result (λ fault. fault ≡ Malformed) }
+    ensures fault { IsOkUnless result Malformed }
 {
     match value {
         None => Ok(None),
@@ -63,7 +63,7 @@ pub(crate) fn read_word(value: Option<&[u8]>) -> Result<Option<u32>, WireFault>
 /// Whether ATOMIC_AGGREGATE is there (RFC 4271, section 4.3).
 pub(crate) fn read_presence(value: Option<&[u8]>) -> Result<bool, WireFault>
     ensures read { Reads SpellsPresence (octets_of value.entry) result }
-    ensures fault { IfErr result (λ fault. fault ≡ Malformed) }
+    ensures fault { IsOkUnless result Malformed }
 {
     match value {
         None => Ok(false),
@@ -75,7 +75,7 @@ pub(crate) fn read_presence(value: Option<&[u8]>) -> Result<bool, WireFault>
 /// The value of NEXT_HOP (RFC 4271, section 4.3).
 pub(crate) fn read_ipv4(value: Option<&[u8]>) -> Result<Option<Addr>, WireFault>
     ensures read { Reads (SpellsOptional SpellsIPv4) (octets_of value.entry) result }
-    ensures fault { IfErr result (λ fault. fault ≡ Malformed) }
+    ensures fault { IsOkUnless result Malformed }
 {
     match value {
         None => Ok(None),
@@ -88,7 +88,7 @@ pub(crate) fn read_ipv4(value: Option<&[u8]>) -> Result<Option<Addr>, WireFault>
 /// of the AS number.
 pub(crate) fn read_aggregator(value: Option<&[u8]>) -> Result<Option<Aggregator>, WireFault>
     ensures read { Reads (SpellsOptional SpellsAggregator) (octets_of value.entry) result }
-    ensures fault { IfErr result (λ fault. fault ≡ Malformed) }
+    ensures fault { IsOkUnless result Malformed }
 {
     match value {
         None => Ok(None),

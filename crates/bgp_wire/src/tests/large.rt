@@ -9,20 +9,21 @@ use std::alloc::{AllocError, Global};
 use std::process::Abort;
 use std::test::Fail;
 
-/// AS_PATH and AS4_PATH in front of 1000 sequences of three numbers, and of 400 sets of two.
+/// What stands in front of the segments: of AS_PATH with 1000 sequences of three numbers of two
+/// octets.
 const OWN_FRONT: &str = "50021F40";
-
+/// Of AS_PATH with 1000 such sequences of numbers of four octets.
 const WIDE_FRONT: &str = "500236B0";
-
+/// Of AS_PATH with 400 sets of two numbers of four octets.
+const SET_FRONT: &str = "50020FA0";
+/// Of AS4_PATH with the same.
 const AS4_FRONT: &str = "D0110FA0";
 
-const SET_FRONT: &str = "50020FA0";
-
-/// A sequence of three numbers, with two octets and with four, and a set of two.
+/// A sequence of three numbers of two octets.
 const SEQUENCE: &str = "0203 0001 0002 0003";
-
+/// A sequence of three numbers of four octets.
 const WIDE_SEQUENCE: &str = "0203 00000001 00000002 00000003";
-
+/// A set of two numbers of four octets.
 const SET: &str = "0102 00000004 00000005";
 
 /// The prefix 10.0.1.0/24.
