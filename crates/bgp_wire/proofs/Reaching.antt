@@ -1,5 +1,5 @@
 -- Octets of MP_REACH_NLRI, of MP_UNREACH_NLRI, and of messages.
-use Rattle.std.proofs.Common.{◌≡◌, inl, inr, ℕ, ◌<◌, ◌≤◌, ◌^◌, List, ◌∷◌, ◌++◌, length, take, drop, get_or, Option, Some, None, refl, ap, sym, subst, ◌∙◌, arith}
+use Rattle.std.proofs.Common.{◌≡◌, ℕ, ◌<◌, ◌≤◌, ◌^◌, List, ◌∷◌, ◌++◌, length, take, drop, get_or, Option, Some, None, refl, ap, sym, subst, ◌∙◌, arith}
 use Rattle.std.specs.Int.{w16, to_be_bytes, from_be_bytes}
 use Rattle.std.proofs.lemmas.Nat.{from_be_bytes-to_be_bytes_2}
 use Rattle.std.proofs.Math.Seq.{get_or-append_seam}
@@ -7,14 +7,12 @@ use Rattle.std.proofs.lemmas.List.{length-append, length-take-le, take-append-dr
 use Rattle.ip_prefix.specs.declared.addr.Family.{Family}
 use Rattle.ip_prefix.specs.declared.addr.Family.TheVariants.{V4, V6}
 use Rattle.ip_prefix.specs.Address.{Address}
-use Rattle.ip_prefix.specs.Network.{Network}
-use Rattle.ip_prefix.specs.Wire.{SpellsAll, SpellsNetwork}
 use Rattle.ip_prefix.proofs.Wires.{append_parts}
 use Rattle.bgp_wire.specs.declared.message.TheConstants.{MARKER_SIZE}
 use Rattle.bgp_wire.specs.declared.numbers.TheConstants.{LENGTH_SIZE}
 use Rattle.bgp_wire.specs.declared.reach.Reach.{Reach}
 use Rattle.bgp_wire.specs.NextHop.{SpellsNextHop}
-use Rattle.bgp_wire.specs.Reach.{family_code, unicast_octets, IsOfAnother, HopStands, SpellsUnicast, SaysReach, SaysUnreach}
+use Rattle.bgp_wire.specs.Reach.{family_code, unicast_octets, IsOfAnother, HopStands, SpellsUnicast, SaysReach}
 use Rattle.bgp_wire.specs.Update.{sized_octets, IsUpdate, IsMessage}
 
 -- a next hop whose length stands in front is spelled by as many octets, and another stands behind them

@@ -21,7 +21,7 @@ const IPV6_SIZE: usize = 16;
 /// How many octets the link-local address behind an IPv6 next hop has (RFC 2545, section 3).
 const LINK_LOCAL_SIZE: usize = 16;
 
-/// How many octets the two have together.
+/// How many octets an IPv6 next hop has with a link-local address behind it.
 const BOTH_SIZE: usize = 32;
 
 /// The next hop that the octets spell: an address, and for IPv6 also with a link-local one behind
