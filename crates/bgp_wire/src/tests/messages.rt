@@ -193,7 +193,8 @@ fn reads_messages_without_next_hop(rt: HostRuntime) -> Result<(), Fail> {
 fn reads_whole_messages(rt: HostRuntime) -> Result<(), Fail> {
     let rows: [(&str, &str); 3] = [
         (
-            "FFFFFFFFFFFFFFFFFFFFFFFFFFFFFFFF 002C 02 0000 0012 400101 00 400204 0201 FBF4 400304 C0000209 090AFF",
+            "FFFFFFFFFFFFFFFFFFFFFFFFFFFFFFFF 002C 02 0000 0012 400101 00 400204 0201 FBF4 \
+             400304 C0000209 090AFF",
             "+10.128.0.0/9;via 192.0.2.9;",
         ),
         (
@@ -364,7 +365,8 @@ fn reads_next_hops_of_mp_reach(rt: HostRuntime) -> Result<(), Fail> {
     let rows: [(&str, &str); 8] = [
         // an address, and also a link-local one
         (
-            "800E2A 000201 20 20010DB8000000000000000000000001 FE800000000000000000000000000001 00 2020010DB8",
+            "800E2A 000201 20 20010DB8000000000000000000000001 \
+             FE800000000000000000000000000001 00 2020010DB8",
             "mp +2001:db8::/32;mp via 2001:db8::1;",
         ),
         // of the other family
