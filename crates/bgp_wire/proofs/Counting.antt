@@ -3,8 +3,8 @@ use Rattle.std.proofs.Common.{◌≡◌, ℕ, ◌+◌, ◌*◌, ◌%◌, List, l
 use Rattle.ip_prefix.specs.Wire.{SpellsAll}
 use Rattle.bgp_wire.specs.declared.path.AsWidth.{AsWidth}
 use Rattle.bgp_wire.specs.declared.path.AsWidth.TheVariants.{Two, Four}
-use Rattle.bgp_wire.specs.Number.{octets_at, SpellsNumber}
-use Rattle.bgp_wire.proofs.Codes.{length-numbers}
+use Rattle.bgp_wire.specs.Number.{octets_at, SpellsAsn}
+use Rattle.bgp_wire.proofs.OneFront.{length-numbers}
 
 -- with one less it is still whole
 pub less_one : (width : AsWidth) (size left : ℕ) → size % octets_at width ≡ 0 → left + octets_at width ≡ size → left % octets_at width ≡ 0
@@ -16,5 +16,5 @@ whole_count Two count = omega arith
 whole_count Four count = omega arith
 
 -- octets that spell numbers hold a whole number of them
-pub whole_numbers : (width : AsWidth) (ns : List ℕ) (octets : List ℕ) → SpellsAll (SpellsNumber width) ns octets → length octets % octets_at width ≡ 0
+pub whole_numbers : (width : AsWidth) (ns : List ℕ) (octets : List ℕ) → SpellsAll (SpellsAsn width) ns octets → length octets % octets_at width ≡ 0
 whole_numbers width ns octets s = ap (λ n. n % octets_at width) (length-numbers width ns octets s) ∙ whole_count width (length ns)

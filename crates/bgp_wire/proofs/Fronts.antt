@@ -3,19 +3,19 @@ use Rattle.std.proofs.Common.{◌≡◌, ℕ, zero, suc, ◌+◌, ◌-◌, ◌<�
 use Rattle.ip_prefix.proofs.Wires.{append_parts}
 use Rattle.bgp_wire.specs.declared.path.SegmentKind.{SegmentKind}
 use Rattle.bgp_wire.specs.declared.path.SegmentKind.TheVariants.{AsSet, AsSequence, ConfedSequence, ConfedSet}
-use Rattle.bgp_wire.specs.Merge.{Hop, single, hops_by, hop_weight, weight_of, IsLongest}
+use Rattle.bgp_wire.specs.Merge.{Hop, single_number, hops_by, hop_weight, weight_of, IsLongest}
 use Rattle.bgp_wire.proofs.Weights.{weight_by, weight_of-cons, light}
 
 -- a hop that weighs so much, before what is kept of others with what it leaves; nothing where too little is left for it
-abbrev pub kept_before : ℕ → ℕ → Hop → (ℕ → List Hop) → List Hop
-kept_before zero left hop more = hop ∷ more left
-kept_before (suc w) zero hop more = []
-kept_before (suc w) (suc left) hop more = hop ∷ more left
+abbrev pub hops_before : ℕ → ℕ → Hop → (ℕ → List Hop) → List Hop
+hops_before zero left hop more = hop ∷ more left
+hops_before (suc w) zero hop more = []
+hops_before (suc w) (suc left) hop more = hop ∷ more left
 
 -- the hops that are kept, one by one, as long as enough is left
 abbrev pub front : List Hop → ℕ → List Hop
 front [] left = []
-front (hop ∷ hops) left = kept_before (hop_weight hop) left hop (front hops)
+front (hop ∷ hops) left = hops_before (hop_weight hop) left hop (front hops)
 
 -- ---- it is the longest
 
@@ -55,7 +55,7 @@ no_hops left h = record { rest = []; whole = refl; weighs = omega arith; longest
     longest (o ∷ os) rest e w = cc
 
 longest_before : (w left : ℕ) (hop : Hop) (hops : List Hop) → hop_weight hop ≡ w → ((n : ℕ) → n ≤ weight_of hops → IsLongest n hops (front hops n)) → left ≤ weight_of (hop ∷ hops)
-    → IsLongest left (hop ∷ hops) (kept_before w left hop (front hops))
+    → IsLongest left (hop ∷ hops) (hops_before w left hop (front hops))
 longest_before zero left hop hops e more h =
     let fits : left ≤ weight_of hops = omega (arith, weight_of-cons hop hops, e, h) in
     let sum : hop_weight hop + left ≡ left = omega (arith, e) in
@@ -82,7 +82,7 @@ one_front n hops kept other a b =
 
 -- ---- along a list
 
-kept_on : (w left : ℕ) (hop : Hop) (more : ℕ → List Hop) → w ≤ 1 → w ≤ left → kept_before w left hop more ≡ hop ∷ more (left - w)
+kept_on : (w left : ℕ) (hop : Hop) (more : ℕ → List Hop) → w ≤ 1 → w ≤ left → hops_before w left hop more ≡ hop ∷ more (left - w)
 kept_on zero left hop more one h = let e : left ≡ left - 0 = omega arith in ap (λ n. hop ∷ more n) e
 kept_on (suc w) zero hop more one h = absurd (omega arith)
 kept_on (suc w) (suc left) hop more one h = let e : left ≡ suc left - suc w = omega arith in ap (λ n. hop ∷ more n) e
@@ -104,7 +104,7 @@ numbers_cut : (place : ℕ) (ns : List ℕ) (others : List Hop) (left : ℕ) →
 numbers_cut place [] others left h = absurd (omega arith)
 numbers_cut place (n ∷ ns) others zero h = refl
 numbers_cut place (n ∷ ns) others (suc left) h =
-    let first : Hop = record { place = place; part = single n } in
+    let first : Hop = record { place = place; part = single_number n } in
     ap (λ l. first ∷ l) (numbers_cut place ns others left (omega arith))
 
 set_cut : (place : ℕ) (ns : List ℕ) (others : List Hop) (left : ℕ) → left < 1 → front (hops_by AsSet place ns ++ others) left ≡ hops_by AsSequence place (take left ns)

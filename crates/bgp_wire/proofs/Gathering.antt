@@ -6,9 +6,9 @@ use Rattle.std.proofs.lemmas.List.{map-append, length-take-le}
 use Rattle.bgp_wire.specs.declared.path.SegmentKind.{SegmentKind}
 use Rattle.bgp_wire.specs.declared.path.SegmentKind.TheVariants.{AsSet, AsSequence, ConfedSequence, ConfedSet}
 use Rattle.bgp_wire.specs.declared.path.Segment.{Segment}
-use Rattle.bgp_wire.specs.Merge.{Hop, hops_by, hops_from, hop_weight, weight_of, joined_to, gathered, segments_of}
+use Rattle.bgp_wire.specs.Merge.{Hop, hops_by, hops_from, hop_weight, weight_of, joined_hops, gathered_hops, segments_of}
 use Rattle.bgp_wire.proofs.Weights.{weight_by, cut_fits, segment_weight, total, weight-hops_by, total-append}
-use Rattle.bgp_wire.proofs.Fronts.{kept_before, front, front-append, front_cut}
+use Rattle.bgp_wire.proofs.Fronts.{hops_before, front, front-append, front_cut}
 
 -- ---- places
 
@@ -27,24 +27,24 @@ each-append : (P : ℕ → Type 0) (hops others : List Hop) → Each P hops → 
 each-append P [] others a b = b
 each-append P (hop ∷ hops) others a b = (a.0, each-append P hops others a.1 b)
 
-each-kept_before : (P : ℕ → Type 0) (w left : ℕ) (hop : Hop) (more : ℕ → List Hop) → P hop.place → ((n : ℕ) → Each P (more n)) → Each P (kept_before w left hop more)
-each-kept_before P zero left hop more a b = (a, b left)
-each-kept_before P (suc w) zero hop more a b = tt
-each-kept_before P (suc w) (suc left) hop more a b = (a, b left)
+each-hops_before : (P : ℕ → Type 0) (w left : ℕ) (hop : Hop) (more : ℕ → List Hop) → P hop.place → ((n : ℕ) → Each P (more n)) → Each P (hops_before w left hop more)
+each-hops_before P zero left hop more a b = (a, b left)
+each-hops_before P (suc w) zero hop more a b = tt
+each-hops_before P (suc w) (suc left) hop more a b = (a, b left)
 
 each-front : (P : ℕ → Type 0) (hops : List Hop) → Each P hops → (left : ℕ) → Each P (front hops left)
 each-front P [] a left = tt
-each-front P (hop ∷ hops) a left = each-kept_before P (hop_weight hop) left hop (front hops) a.0 (each-front P hops a.1)
+each-front P (hop ∷ hops) a left = each-hops_before P (hop_weight hop) left hop (front hops) a.0 (each-front P hops a.1)
 
-each-joined_to : (P : ℕ → Type 0) (hop : Hop) (hops : List Hop) → P hop.place → Each P hops → Each P (joined_to hop hops)
-each-joined_to P hop [] a b = (a, tt)
-each-joined_to P hop (next ∷ hops) a b =
+each-joined_hops : (P : ℕ → Type 0) (hop : Hop) (hops : List Hop) → P hop.place → Each P hops → Each P (joined_hops hop hops)
+each-joined_hops P hop [] a b = (a, tt)
+each-joined_hops P hop (next ∷ hops) a b =
     let joined : Hop = record { place = next.place; part = record { numbers = hop.part.numbers ++ next.part.numbers; kind = next.part.kind } } in
     elim (hop.place == next.place) as (λ v. Each P (cond v (joined ∷ hops) (hop ∷ next ∷ hops))) [ true ↦ b | false ↦ (a, b) ]
 
-each-gathered : (P : ℕ → Type 0) (hops : List Hop) → Each P hops → Each P (gathered hops)
-each-gathered P [] a = tt
-each-gathered P (hop ∷ hops) a = each-joined_to P hop (gathered hops) a.0 (each-gathered P hops a.1)
+each-gathered_hops : (P : ℕ → Type 0) (hops : List Hop) → Each P hops → Each P (gathered_hops hops)
+each-gathered_hops P [] a = tt
+each-gathered_hops P (hop ∷ hops) a = each-joined_hops P hop (gathered_hops hops) a.0 (each-gathered_hops P hops a.1)
 
 numbers_at : (P : ℕ → Type 0) (place : ℕ) (ns : List ℕ) → P place → Each P (hops_by AsSequence place ns)
 numbers_at P place [] a = tt
@@ -70,24 +70,24 @@ cond-append : (b : Bool) (xs ys hops : List Hop) → cond b (xs ++ hops) (ys ++ 
 cond-append true xs ys hops = refl
 cond-append false xs ys hops = refl
 
-joined_to-append : (hop : Hop) (hops others : List Hop) → AllBehind hop.place others → joined_to hop (hops ++ others) ≡ joined_to hop hops ++ others
-joined_to-append hop [] [] b = refl
-joined_to-append hop [] (next ∷ others) b =
+joined_hops-append : (hop : Hop) (hops others : List Hop) → AllBehind hop.place others → joined_hops hop (hops ++ others) ≡ joined_hops hop hops ++ others
+joined_hops-append hop [] [] b = refl
+joined_hops-append hop [] (next ∷ others) b =
     let apart : hop.place ≡ next.place → ⊥ = λ e. omega (arith, e, b.0) in
     cond-false (hop.place == next.place) _ _ (ne_eqb hop.place next.place apart)
-joined_to-append hop (next ∷ hops) others b =
+joined_hops-append hop (next ∷ hops) others b =
     let joined : Hop = record { place = next.place; part = record { numbers = hop.part.numbers ++ next.part.numbers; kind = next.part.kind } } in
     cond-append (hop.place == next.place) (joined ∷ hops) (hop ∷ next ∷ hops) others
 
-gathered-append : (place : ℕ) (hops others : List Hop) → AllAt place hops → AllBehind place others → gathered (hops ++ others) ≡ gathered hops ++ gathered others
-gathered-append place [] others a b = refl
-gathered-append place (hop ∷ hops) others a b =
-    let behind = each-gathered (λ other. place < other) others b in
-    ap (joined_to hop) (gathered-append place hops others a.1 b)
-    ∙ joined_to-append hop (gathered hops) (gathered others) (subst (λ p. AllBehind p (gathered others)) (sym a.0) behind)
+gathered_hops-append : (place : ℕ) (hops others : List Hop) → AllAt place hops → AllBehind place others → gathered_hops (hops ++ others) ≡ gathered_hops hops ++ gathered_hops others
+gathered_hops-append place [] others a b = refl
+gathered_hops-append place (hop ∷ hops) others a b =
+    let behind = each-gathered_hops (λ other. place < other) others b in
+    ap (joined_hops hop) (gathered_hops-append place hops others a.1 b)
+    ∙ joined_hops-append hop (gathered_hops hops) (gathered_hops others) (subst (λ p. AllBehind p (gathered_hops others)) (sym a.0) behind)
 
 pub segments_of-append : (place : ℕ) (hops others : List Hop) → AllAt place hops → AllBehind place others → segments_of (hops ++ others) ≡ segments_of hops ++ segments_of others
-segments_of-append place hops others a b = ap (map (λ hop. hop.part)) (gathered-append place hops others a b) ∙ map-append (λ hop. hop.part) (gathered hops) (gathered others)
+segments_of-append place hops others a b = ap (map (λ hop. hop.part)) (gathered_hops-append place hops others a b) ∙ map-append (λ hop. hop.part) (gathered_hops hops) (gathered_hops others)
 
 -- ---- the hops of one segment
 
@@ -102,15 +102,15 @@ piece ConfedSet ns = record { numbers = ns; kind = ConfedSet } ∷ []
 abbrev sequence_at : ℕ → List ℕ → Hop
 sequence_at place ns = record { place = place; part = record { numbers = ns; kind = AsSequence } }
 
-gathered-numbers : (place n : ℕ) (ns : List ℕ) → gathered (hops_by AsSequence place (n ∷ ns)) ≡ sequence_at place (n ∷ ns) ∷ []
-gathered-numbers place n [] = refl
-gathered-numbers place n (m ∷ ns) =
-    ap (joined_to (sequence_at place (n ∷ []))) (gathered-numbers place m ns)
+gathered_hops-numbers : (place n : ℕ) (ns : List ℕ) → gathered_hops (hops_by AsSequence place (n ∷ ns)) ≡ sequence_at place (n ∷ ns) ∷ []
+gathered_hops-numbers place n [] = refl
+gathered_hops-numbers place n (m ∷ ns) =
+    ap (joined_hops (sequence_at place (n ∷ []))) (gathered_hops-numbers place m ns)
     ∙ cond-true (place == place) (sequence_at place (n ∷ m ∷ ns) ∷ []) (sequence_at place (n ∷ []) ∷ sequence_at place (m ∷ ns) ∷ []) (eq-eqb place place refl)
 
 sequence_of : (place : ℕ) (ns : List ℕ) → segments_of (hops_by AsSequence place ns) ≡ piece AsSequence ns
 sequence_of place [] = refl
-sequence_of place (n ∷ ns) = ap (map (λ hop. hop.part)) (gathered-numbers place n ns)
+sequence_of place (n ∷ ns) = ap (map (λ hop. hop.part)) (gathered_hops-numbers place n ns)
 
 -- the hops of a segment are put back into it
 pub segments_of-hops_by : (kind : SegmentKind) (place : ℕ) (ns : List ℕ) → segments_of (hops_by kind place ns) ≡ piece kind ns
@@ -140,12 +140,12 @@ total-piece ConfedSet ns = refl
 -- ---- a front of segments
 
 -- the segments of what is kept of these, with so much left; the first has this place
-abbrev pub kept : ℕ → List Segment → ℕ → List Segment
-kept place ss left = segments_of (front (hops_from place ss) left)
+abbrev pub kept_segments : ℕ → List Segment → ℕ → List Segment
+kept_segments place ss left = segments_of (front (hops_from place ss) left)
 
 -- a segment for which enough is left is kept
 pub kept_whole : (place left : ℕ) (s : Segment) (ss : List Segment) → segment_weight s ≤ left
-    → kept place (s ∷ ss) left ≡ piece s.kind s.numbers ++ kept (suc place) ss (left - segment_weight s)
+    → kept_segments place (s ∷ ss) left ≡ piece s.kind s.numbers ++ kept_segments (suc place) ss (left - segment_weight s)
 kept_whole place left s ss h =
     let first = hops_by s.kind place s.numbers in
     let others = hops_from (suc place) ss in
@@ -156,22 +156,22 @@ kept_whole place left s ss h =
     ∙ segments_of-append place first more (hops_at (λ other. other ≡ place) s.kind place s.numbers refl)
     (each-front (λ other. place < other) others (hops_behind place (suc place) ss (omega arith)) (left - weight_of first))
     ∙ ap (λ l. l ++ segments_of more) (segments_of-hops_by s.kind place s.numbers)
-    ∙ ap (λ n. piece s.kind s.numbers ++ kept (suc place) ss (left - n)) weighs
+    ∙ ap (λ n. piece s.kind s.numbers ++ kept_segments (suc place) ss (left - n)) weighs
 
 -- of another so many numbers are kept, and nothing behind it
-pub kept_cut : (place left : ℕ) (s : Segment) (ss : List Segment) → left < segment_weight s → kept place (s ∷ ss) left ≡ piece AsSequence (take left s.numbers)
+pub kept_cut : (place left : ℕ) (s : Segment) (ss : List Segment) → left < segment_weight s → kept_segments place (s ∷ ss) left ≡ piece AsSequence (take left s.numbers)
 kept_cut place left s ss h =
     ap segments_of (front_cut s.kind place s.numbers (hops_from (suc place) ss) left h) ∙ sequence_of place (take left s.numbers)
 
-total-cut : (place left : ℕ) (s : Segment) (ss : List Segment) → left < segment_weight s → total (kept place (s ∷ ss) left) ≡ left
+total-cut : (place left : ℕ) (s : Segment) (ss : List Segment) → left < segment_weight s → total (kept_segments place (s ∷ ss) left) ≡ left
 total-cut place left s ss h =
     ap total (kept_cut place left s ss h) ∙ total-sequence (take left s.numbers)
     ∙ length-take-le left s.numbers (cut_fits s.kind (length s.numbers) left h)
 
-total-whole : (place left : ℕ) (s : Segment) (ss : List Segment) → segment_weight s ≤ left → total (kept (suc place) ss (left - segment_weight s)) ≡ left - segment_weight s
-    → total (kept place (s ∷ ss) left) ≡ left
+total-whole : (place left : ℕ) (s : Segment) (ss : List Segment) → segment_weight s ≤ left → total (kept_segments (suc place) ss (left - segment_weight s)) ≡ left - segment_weight s
+    → total (kept_segments place (s ∷ ss) left) ≡ left
 total-whole place left s ss h more =
-    let others = kept (suc place) ss (left - segment_weight s) in
+    let others = kept_segments (suc place) ss (left - segment_weight s) in
     let sum : segment_weight s + total others ≡ left = omega (arith, more) in
     ap total (kept_whole place left s ss h)
     ∙ total-append (piece s.kind s.numbers) others
@@ -179,9 +179,9 @@ total-whole place left s ss h more =
     ∙ sum
 
 -- what is kept weighs what was left
-pub total-kept : (place left : ℕ) (ss : List Segment) → left ≤ total ss → total (kept place ss left) ≡ left
-total-kept place left [] h = omega arith
-total-kept place left (s ∷ ss) h =
+pub total-kept_segments : (place left : ℕ) (ss : List Segment) → left ≤ total ss → total (kept_segments place ss left) ≡ left
+total-kept_segments place left [] h = omega arith
+total-kept_segments place left (s ∷ ss) h =
     ⊎_elim (total-cut place left s ss)
-    (λ above. total-whole place left s ss above (total-kept (suc place) (left - segment_weight s) ss (omega arith)))
+    (λ above. total-whole place left s ss above (total-kept_segments (suc place) (left - segment_weight s) ss (omega arith)))
     (cases_lt left (segment_weight s))

@@ -6,28 +6,29 @@ use Rattle.ip_prefix.specs.declared.addr.Family.TheVariants.{V4, V6}
 use Rattle.ip_prefix.specs.Address.{Address, octet_count}
 use Rattle.ip_prefix.specs.Bits.{bits_of_octets}
 use Rattle.ip_prefix.proofs.Wires.{append_parts}
-use Rattle.bgp_wire.specs.NextHop.{IsLinkLocal, SpellsNextHop, SpellsHopAlone, SpellsTableHop}
+use Rattle.bgp_wire.specs.declared.next_hop.TheConstants.{FAMILY_SIZE, IPV6_SIZE, BOTH_SIZE}
+use Rattle.bgp_wire.specs.NextHop.{IsLinkLocal, SpellsNextHop, SpellsHopAlone, SpellsRibHop}
 
 -- the octets behind the first sixteen are none, or a link-local address
-link_local_size : (octets : List ℕ) → ((length octets ≡ 16) ⊎ (length octets ≡ 32)) → IsLinkLocal V6 (drop 16 octets)
-link_local_size octets (inl e) = inl (nothing (drop 16 octets) (omega (arith, length-drop 16 octets, e)))
+link_local_size : (octets : List ℕ) → ((length octets ≡ IPV6_SIZE) ⊎ (length octets ≡ BOTH_SIZE)) → IsLinkLocal V6 (drop IPV6_SIZE octets)
+link_local_size octets (inl e) = inl (nothing (drop IPV6_SIZE octets) (omega (arith, length-drop IPV6_SIZE octets, e)))
   where
     nothing : (l : List ℕ) → length l ≡ 0 → l ≡ []
     nothing [] e = refl
     nothing (x ∷ l) e = absurd (omega (arith, e))
-link_local_size octets (inr e) = inr (omega (arith, length-drop 16 octets, e))
+link_local_size octets (inr e) = inr (omega (arith, length-drop IPV6_SIZE octets, e))
 
 -- the first sixteen of 16 or 32 octets are the next hop
-pub global_hop : (hop : Address) (octets : List ℕ) → ((length octets ≡ 16) ⊎ (length octets ≡ 32)) → hop ≡ record { family = V6; bits = bits_of_octets (take 16 octets) } → SpellsNextHop hop octets
+pub global_hop : (hop : Address) (octets : List ℕ) → ((length octets ≡ IPV6_SIZE) ⊎ (length octets ≡ BOTH_SIZE)) → hop ≡ record { family = V6; bits = bits_of_octets (take IPV6_SIZE octets) } → SpellsNextHop hop octets
 global_hop hop octets size e = subst (λ hop. SpellsNextHop hop octets) (sym e) record {
-  address = take 16 octets;
-  spelled = record { size = length-take-le 16 octets (enough size); bits = refl };
-  link_local = drop 16 octets;
+  address = take IPV6_SIZE octets;
+  spelled = record { size = length-take-le IPV6_SIZE octets (enough size); bits = refl };
+  link_local = drop IPV6_SIZE octets;
   linked = link_local_size octets size;
-  whole = sym (take-append-drop 16 octets);
+  whole = sym (take-append-drop IPV6_SIZE octets);
 }
   where
-    enough : ((length octets ≡ 16) ⊎ (length octets ≡ 32)) → 16 ≤ length octets
+    enough : ((length octets ≡ IPV6_SIZE) ⊎ (length octets ≡ BOTH_SIZE)) → IPV6_SIZE ≤ length octets
     enough (inl e) = omega (arith, e)
     enough (inr e) = omega (arith, e)
 
@@ -57,26 +58,26 @@ hop_alone hop len rest octets e within s = record {
   whole = e ∙ (λ i. sym (length-take-le len rest within) i ∷ sym (take-append-drop len rest) i);
 }
 
--- ---- table entries
+-- ---- RIB entries
 
 -- a first octet that isn't 0 tells the abbreviated form
-pub abbreviated : (hop : Address) (first : ℕ) (rest octets : List ℕ) → octets ≡ first ∷ rest → (first ≡ 0 → ⊥) → SpellsTableHop hop octets → SpellsHopAlone hop octets
+pub abbreviated : (hop : Address) (first : ℕ) (rest octets : List ℕ) → octets ≡ first ∷ rest → (first ≡ 0 → ⊥) → SpellsRibHop hop octets → SpellsHopAlone hop octets
 abbreviated hop first rest octets e other (inl s) = s
 abbreviated hop first rest octets e other (inr s) = absurd (other (ap (λ l. get_or l 0 0) (sym e ∙ s.whole)))
 
 -- and one that is 0 the full form
-pub in_full : (hop : Address) (first : ℕ) (rest octets : List ℕ) → octets ≡ first ∷ rest → first ≡ 0 → SpellsTableHop hop octets → (3 ≤ length octets) × SpellsHopAlone hop (drop 3 octets)
+pub in_full : (hop : Address) (first : ℕ) (rest octets : List ℕ) → octets ≡ first ∷ rest → first ≡ 0 → SpellsRibHop hop octets → (FAMILY_SIZE ≤ length octets) × SpellsHopAlone hop (drop FAMILY_SIZE octets)
 in_full hop first rest octets e zero (inl s) =
     absurd (omega (arith, ap (λ l. get_or l 0 0) (sym e ∙ s.whole), zero, length-hop hop s.front s.spelled))
-in_full hop first rest octets e zero (inr s) = (omega (arith, ap length s.whole), subst (SpellsHopAlone hop) (sym (ap (drop 3) s.whole)) s.spelled)
+in_full hop first rest octets e zero (inr s) = (omega (arith, ap length s.whole), subst (SpellsHopAlone hop) (sym (ap (drop FAMILY_SIZE) s.whole)) s.spelled)
 
-pub full_form : (hop : Address) (first : ℕ) (rest octets : List ℕ) → octets ≡ first ∷ rest → first ≡ 0 → 3 ≤ length octets → SpellsHopAlone hop (drop 3 octets) → SpellsTableHop hop octets
+pub full_form : (hop : Address) (first : ℕ) (rest octets : List ℕ) → octets ≡ first ∷ rest → first ≡ 0 → FAMILY_SIZE ≤ length octets → SpellsHopAlone hop (drop FAMILY_SIZE octets) → SpellsRibHop hop octets
 full_form hop first rest octets e zero size s = inr record {
   family_end = get_or octets 1 0;
   subsequent = get_or octets 2 0;
-  rest = drop 3 octets;
+  rest = drop FAMILY_SIZE octets;
   spelled = s;
-  whole = three octets size ∙ ap (λ n. n ∷ get_or octets 1 0 ∷ get_or octets 2 0 ∷ drop 3 octets) (ap (λ l. get_or l 0 0) e ∙ zero);
+  whole = three octets size ∙ ap (λ n. n ∷ get_or octets 1 0 ∷ get_or octets 2 0 ∷ drop FAMILY_SIZE octets) (ap (λ l. get_or l 0 0) e ∙ zero);
 }
   where
     three : (l : List ℕ) → 3 ≤ length l → l ≡ get_or l 0 0 ∷ get_or l 1 0 ∷ get_or l 2 0 ∷ drop 3 l
@@ -84,7 +85,3 @@ full_form hop first rest octets e zero size s = inr record {
     three (x ∷ []) h = absurd (omega (arith, h))
     three (x ∷ y ∷ []) h = absurd (omega (arith, h))
     three (x ∷ y ∷ z ∷ l) h = refl
-
-pub never_nothing : (hop : Address) (octets : List ℕ) → octets ≡ [] → SpellsTableHop hop octets → ⊥
-never_nothing hop octets e (inl s) = let f = sym e ∙ s.whole in cc
-never_nothing hop octets e (inr s) = let f = sym e ∙ s.whole in cc

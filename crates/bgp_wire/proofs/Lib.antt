@@ -1,4 +1,4 @@
-pub mod Codes
+pub mod OneFront
 pub mod Counting
 pub mod Noting
 pub mod Refusing

@@ -8,7 +8,7 @@ use Rattle.bgp_wire.specs.declared.path.AsPath.{AsPath}
 use Rattle.bgp_wire.specs.Merge.{Hop, hops_of, path_weight, plain_path, plain_segments, segments_of, IsLongest, IsMerge}
 use Rattle.bgp_wire.proofs.Weights.{segment_weight, total, weight-hops_from, total-append, total-plain}
 use Rattle.bgp_wire.proofs.Fronts.{front, front_longest, one_front}
-use Rattle.bgp_wire.proofs.Gathering.{piece, kept, kept_whole, kept_cut, total-kept}
+use Rattle.bgp_wire.proofs.Gathering.{piece, kept_segments, kept_whole, kept_cut, total-kept_segments}
 
 -- ---- a walk over the segments
 
@@ -17,23 +17,23 @@ at_segment segments i s h e = drop_more segments i s h ∙ ap (λ first. first �
 
 -- with a whole segment pushed, what is pushed and what is still kept are as before
 pub pushed_whole : (segments : List Segment) (i left : ℕ) (s : Segment) (pushed : List Segment) → i < length segments → s ≡ get_or segments i s → segment_weight s ≤ left
-    → (pushed ++ piece s.kind s.numbers) ++ kept (i + 1) (drop (i + 1) segments) (left - segment_weight s) ≡ pushed ++ kept i (drop i segments) left
+    → (pushed ++ piece s.kind s.numbers) ++ kept_segments (i + 1) (drop (i + 1) segments) (left - segment_weight s) ≡ pushed ++ kept_segments i (drop i segments) left
 pushed_whole segments i left s pushed h e fits =
     let more = drop (i + 1) segments in
     let rest = left - segment_weight s in
-    append_assoc pushed (piece s.kind s.numbers) (kept (i + 1) more rest)
-    ∙ ap (λ n. pushed ++ (piece s.kind s.numbers ++ kept n more rest)) (add-one i)
-    ∙ ap (λ l. pushed ++ l) (sym (ap (λ l. kept i l left) (at_segment segments i s h e) ∙ kept_whole i left s more fits))
+    append_assoc pushed (piece s.kind s.numbers) (kept_segments (i + 1) more rest)
+    ∙ ap (λ n. pushed ++ (piece s.kind s.numbers ++ kept_segments n more rest)) (add-one i)
+    ∙ ap (λ l. pushed ++ l) (sym (ap (λ l. kept_segments i l left) (at_segment segments i s h e) ∙ kept_whole i left s more fits))
 
 -- where too little is left for a segment, its front is the last that is kept
 pub pushed_cut : (segments : List Segment) (i left : ℕ) (s : Segment) (pushed : List Segment) → i < length segments → s ≡ get_or segments i s → left < segment_weight s
-    → pushed ++ piece AsSequence (take left s.numbers) ≡ pushed ++ kept i (drop i segments) left
+    → pushed ++ piece AsSequence (take left s.numbers) ≡ pushed ++ kept_segments i (drop i segments) left
 pushed_cut segments i left s pushed h e short =
-    ap (λ l. pushed ++ l) (sym (ap (λ l. kept i l left) (at_segment segments i s h e) ∙ kept_cut i left s (drop (i + 1) segments) short))
+    ap (λ l. pushed ++ l) (sym (ap (λ l. kept_segments i l left) (at_segment segments i s h e) ∙ kept_cut i left s (drop (i + 1) segments) short))
 
 -- at the end nothing more is kept
-pub pushed_all : (segments : List Segment) (i left : ℕ) (pushed : List Segment) → length segments ≤ i → pushed ≡ pushed ++ kept i (drop i segments) left
-pushed_all segments i left pushed h = sym (ap (λ l. pushed ++ kept i l left) (drop_all i segments h) ∙ append-nil pushed)
+pub pushed_all : (segments : List Segment) (i left : ℕ) (pushed : List Segment) → length segments ≤ i → pushed ≡ pushed ++ kept_segments i (drop i segments) left
+pushed_all segments i left pushed h = sym (ap (λ l. pushed ++ kept_segments i l left) (drop_all i segments h) ∙ append-nil pushed)
 
 -- ---- the two paths
 
@@ -85,7 +85,7 @@ joined_weight first second hops h longest =
     let fits : lacking ≤ total first.segments = omega (arith, sum) in
     let walked = front (hops_of first) lacking in
     let same = one_front lacking (hops_of first) hops walked longest (front_longest (hops_of first) lacking (omega arith)) in
-    let kept_weight : total (segments_of hops) ≡ lacking = ap (λ l. total (segments_of l)) same ∙ total-kept 0 lacking first.segments fits in
+    let kept_weight : total (segments_of hops) ≡ lacking = ap (λ l. total (segments_of l)) same ∙ total-kept_segments 0 lacking first.segments fits in
     weight-hops_from 0 (segments_of hops ++ plain_segments second.segments)
     ∙ total-append (segments_of hops) (plain_segments second.segments)
     ∙ omega (arith, kept_weight, weight-hops_from 0 (plain_segments second.segments), h)

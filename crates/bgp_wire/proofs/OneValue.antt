@@ -11,14 +11,15 @@ use Rattle.bgp_wire.specs.declared.path.AsWidth.TheVariants.{Two, Four}
 use Rattle.bgp_wire.specs.declared.attrs.Origin.{Origin}
 use Rattle.bgp_wire.specs.declared.attrs.Origin.TheVariants.{Igp, Egp, Incomplete}
 use Rattle.bgp_wire.specs.declared.attrs.Aggregator.{Aggregator}
-use Rattle.bgp_wire.specs.Number.{octets_at, SpellsNumber, SpellsWord}
-use Rattle.bgp_wire.specs.Value.{SpellsOptional, SpellsPresence, origin_code, SpellsOrigin, SpellsAddress, SpellsIPv4, SpellsAggregatorAt, SpellsAggregator}
-use Rattle.bgp_wire.specs.NextHop.{IsLinkLocal, SpellsNextHop, SpellsHopAlone, SpellsTableHop}
-use Rattle.bgp_wire.specs.Four.{SpellsWhereFormed}
+use Rattle.bgp_wire.specs.declared.values.TheConstants.{IPV4_SIZE}
+use Rattle.bgp_wire.specs.Number.{octets_at, SpellsAsn, SpellsWord}
+use Rattle.bgp_wire.specs.Value.{SpellsOptional, SpellsPresence, origin_code, SpellsOrigin, SpellsAddressOctets, SpellsIPv4, SpellsAggregatorAt, SpellsAggregator}
+use Rattle.bgp_wire.specs.NextHop.{IsLinkLocal, SpellsNextHop, SpellsHopAlone, SpellsRibHop}
+use Rattle.bgp_wire.specs.As4.{SpellsWhereFormed}
 use Rattle.bgp_wire.specs.Reach.{HopStands, SpellsUnicast, SpellsReach, SaysReach, SaysUnreach}
-use Rattle.bgp_wire.proofs.Codes.{number_code, length-number}
+use Rattle.bgp_wire.proofs.OneFront.{number_code, length-number}
 use Rattle.bgp_wire.proofs.Hops.{length-hop}
-use Rattle.bgp_wire.proofs.Reaching.{same_unicast, same_stand, not_another}
+use Rattle.bgp_wire.proofs.Reaching.{same_family, same_unicast, same_stand, not_another}
 
 -- no octets are spellings of two values
 abbrev pub IsOne : {A B : Type 0} → (A → B → Type 0) → Type 0
@@ -79,15 +80,9 @@ one_words a b octets s t = one_list SpellsWord (number_code Four) octets a b s t
 
 -- ---- addresses
 
-same_size : (family other : Family) → octet_count family ≡ octet_count other → family ≡ other
-same_size V4 V4 e = refl
-same_size V4 V6 e = absurd (omega (arith, e))
-same_size V6 V4 e = absurd (omega (arith, e))
-same_size V6 V6 e = refl
-
-pub one_address : IsOne SpellsAddress
+pub one_address : IsOne SpellsAddressOctets
 one_address a b octets s t =
-    let families = same_size a.family b.family (sym s.size ∙ t.size) in
+    let families = same_family octet_count (λ e. omega (arith, e)) a.family b.family (sym s.size ∙ t.size) in
     let bits = s.bits ∙ sym t.bits in
     λ i. record { family = families i; bits = bits i }
 
@@ -98,16 +93,16 @@ one_aggregator_at : (width : AsWidth) (a b : Aggregator) (octets : List ℕ) →
 one_aggregator_at width a b octets s t =
     let sizes = length-number width a.asn s.number s.spelled ∙ sym (length-number width b.asn t.number t.spelled) in
     let parts = append_parts s.number t.number s.address t.address sizes (sym s.whole ∙ t.whole) in
-    let numbers = one_of_code (SpellsNumber width) (number_code width) a.asn b.asn t.number (subst (SpellsNumber width a.asn) parts.0 s.spelled) t.spelled in
+    let numbers = one_of_code (SpellsAsn width) (number_code width) a.asn b.asn t.number (subst (SpellsAsn width a.asn) parts.0 s.spelled) t.spelled in
     let addresses = one_ipv4 a.addr b.addr t.address (subst (SpellsIPv4 a.addr) parts.1 s.addressed) t.addressed in
     λ i. record { addr = addresses i; asn = numbers i }
 
 pub one_aggregator_of : (width : AsWidth) → IsOne (SpellsAggregatorAt width)
 one_aggregator_of width = one_aggregator_at width
 
-length-aggregator : (width : AsWidth) (a : Aggregator) (octets : List ℕ) → SpellsAggregatorAt width a octets → length octets ≡ octets_at width + 4
+length-aggregator : (width : AsWidth) (a : Aggregator) (octets : List ℕ) → SpellsAggregatorAt width a octets → length octets ≡ octets_at width + IPV4_SIZE
 length-aggregator width a octets s =
-    let address : length s.address ≡ 4 = s.addressed.spelled.size ∙ ap octet_count s.addressed.of_family in
+    let address : length s.address ≡ IPV4_SIZE = s.addressed.spelled.size ∙ ap octet_count s.addressed.of_family in
     omega (arith, ap length s.whole, length-append s.number s.address, length-number width a.asn s.number s.spelled, address)
 
 pub one_aggregator : IsOne SpellsAggregator
@@ -140,7 +135,7 @@ one_next_hop a b octets s t =
     let families = one_family a.family b.family (length octets) (hop_size a.family s.address s.link_local octets s.spelled.size s.linked s.whole) (hop_size b.family t.address t.link_local octets t.spelled.size t.linked t.whole) in
     let sizes : length s.address ≡ length t.address = s.spelled.size ∙ ap octet_count families ∙ sym t.spelled.size in
     let parts = append_parts s.address t.address s.link_local t.link_local sizes (sym s.whole ∙ t.whole) in
-    one_address a b t.address (subst (SpellsAddress a) parts.0 s.spelled) t.spelled
+    one_address a b t.address (subst (SpellsAddressOctets a) parts.0 s.spelled) t.spelled
 
 pub one_hop_alone : IsOne SpellsHopAlone
 one_hop_alone a b octets s t =
@@ -148,11 +143,11 @@ one_hop_alone a b octets s t =
     let parts = append_parts s.front t.front s.more t.more (ap (λ l. get_or l 0 0) one) (ap (drop 1) one) in
     one_next_hop a b t.front (subst (SpellsNextHop a) parts.0 s.spelled) t.spelled
 
-pub one_table_hop : IsOne SpellsTableHop
-one_table_hop a b octets (inl s) (inl t) = one_hop_alone a b octets s t
-one_table_hop a b octets (inl s) (inr t) = absurd (omega (arith, length-hop a s.front s.spelled, ap (λ l. get_or l 0 0) (sym s.whole ∙ t.whole)))
-one_table_hop a b octets (inr s) (inl t) = absurd (omega (arith, length-hop b t.front t.spelled, ap (λ l. get_or l 0 0) (sym t.whole ∙ s.whole)))
-one_table_hop a b octets (inr s) (inr t) = one_hop_alone a b t.rest (subst (SpellsHopAlone a) (ap (drop 3) (sym s.whole ∙ t.whole)) s.spelled) t.spelled
+pub one_rib_hop : IsOne SpellsRibHop
+one_rib_hop a b octets (inl s) (inl t) = one_hop_alone a b octets s t
+one_rib_hop a b octets (inl s) (inr t) = absurd (omega (arith, length-hop a s.front s.spelled, ap (λ l. get_or l 0 0) (sym s.whole ∙ t.whole)))
+one_rib_hop a b octets (inr s) (inl t) = absurd (omega (arith, length-hop b t.front t.spelled, ap (λ l. get_or l 0 0) (sym t.whole ∙ s.whole)))
+one_rib_hop a b octets (inr s) (inr t) = one_hop_alone a b t.rest (subst (SpellsHopAlone a) (ap (drop 3) (sym s.whole ∙ t.whole)) s.spelled) t.spelled
 
 -- ---- what is announced and withdrawn
 

@@ -1,5 +1,5 @@
 -- Octets of MP_REACH_NLRI, of MP_UNREACH_NLRI, and of messages.
-use Rattle.std.proofs.Common.{◌≡◌, inl, inr, ℕ, ◌<◌, ◌≤◌, ◌^◌, List, ◌∷◌, ◌++◌, length, take, drop, get_or, Option, Some, None, refl, ap, sym, subst, ◌∙◌, arith}
+use Rattle.std.proofs.Common.{◌≡◌, ℕ, ◌<◌, ◌≤◌, ◌^◌, List, ◌∷◌, ◌++◌, length, take, drop, get_or, Option, Some, None, refl, ap, sym, subst, ◌∙◌, arith}
 use Rattle.std.specs.Int.{w16, to_be_bytes, from_be_bytes}
 use Rattle.std.proofs.lemmas.Nat.{from_be_bytes-to_be_bytes_2}
 use Rattle.std.proofs.Math.Seq.{get_or-append_seam}
@@ -7,13 +7,13 @@ use Rattle.std.proofs.lemmas.List.{length-append, length-take-le, take-append-dr
 use Rattle.ip_prefix.specs.declared.addr.Family.{Family}
 use Rattle.ip_prefix.specs.declared.addr.Family.TheVariants.{V4, V6}
 use Rattle.ip_prefix.specs.Address.{Address}
-use Rattle.ip_prefix.specs.Network.{Network}
-use Rattle.ip_prefix.specs.Wire.{SpellsAll, SpellsNetwork}
 use Rattle.ip_prefix.proofs.Wires.{append_parts}
+use Rattle.bgp_wire.specs.declared.message.TheConstants.{MARKER_SIZE}
+use Rattle.bgp_wire.specs.declared.numbers.TheConstants.{LENGTH_SIZE}
 use Rattle.bgp_wire.specs.declared.reach.Reach.{Reach}
 use Rattle.bgp_wire.specs.NextHop.{SpellsNextHop}
-use Rattle.bgp_wire.specs.Reach.{family_code, unicast, IsOfAnother, HopStands, SpellsUnicast, SaysReach, SaysUnreach}
-use Rattle.bgp_wire.specs.Update.{sized, IsUpdate, IsMessage}
+use Rattle.bgp_wire.specs.Reach.{family_code, unicast_octets, IsOfAnother, HopStands, SpellsUnicast, SaysReach}
+use Rattle.bgp_wire.specs.Update.{sized_octets, IsUpdate, IsMessage}
 
 -- a next hop whose length stands in front is spelled by as many octets, and another stands behind them
 pub hop_here : (hop : Address) (rest octets : List ℕ) (len : ℕ) (after : List ℕ) → octets ≡ len ∷ after → HopStands hop rest octets → SpellsNextHop hop (take len after)
@@ -32,38 +32,32 @@ same_stand hop other rest more octets s t =
     let parts = append_parts s.front t.front (s.reserved ∷ rest) (t.reserved ∷ more) (ap (λ l. get_or l 0 0) one) (ap (drop 1) one) in
     (parts.0, ap (drop 1) parts.1)
 
--- octets begin with unicast of one family at most
-same_family : (family other : Family) → family_code family ≡ family_code other → family ≡ other
-same_family V4 V4 e = refl
-same_family V4 V6 e = absurd (omega (arith, e))
-same_family V6 V4 e = absurd (omega (arith, e))
-same_family V6 V6 e = refl
+-- where two families have different numbers, those of one number are one
+pub same_family : (number : Family → ℕ) → (number V4 ≡ number V6 → ⊥) → (family other : Family) → number family ≡ number other → family ≡ other
+same_family number differ V4 V4 e = refl
+same_family number differ V4 V6 e = absurd (differ e)
+same_family number differ V6 V4 e = absurd (differ (sym e))
+same_family number differ V6 V6 e = refl
 
-pub same_unicast : (family other : Family) (rest more octets : List ℕ) → octets ≡ unicast family ++ rest → octets ≡ unicast other ++ more → (family ≡ other) × (rest ≡ more)
+-- octets begin with unicast of one family at most
+pub same_unicast : (family other : Family) (rest more octets : List ℕ) → octets ≡ unicast_octets family ++ rest → octets ≡ unicast_octets other ++ more → (family ≡ other) × (rest ≡ more)
 same_unicast family other rest more octets p q =
     let one = sym p ∙ q in
-    (same_family family other (ap (λ l. get_or l 1 0) one), ap (drop 3) one)
+    (same_family family_code (λ e. omega (arith, e)) family other (ap (λ l. get_or l 1 0) one), ap (drop 3) one)
 
 -- and with another then not
-pub not_another : (family : Family) (rest octets : List ℕ) → octets ≡ unicast family ++ rest → IsOfAnother octets → ⊥
+pub not_another : (family : Family) (rest octets : List ℕ) → octets ≡ unicast_octets family ++ rest → IsOfAnother octets → ⊥
 not_another family rest octets e a = a.other family (ap (take 3) (sym a.whole ∙ e))
 
 -- behind unicast of a family stand the prefixes that are announced
-pub reach_part : (family : Family) (rest octets : List ℕ) → octets ≡ unicast family ++ rest → (value : Option Reach) → SaysReach value (Some octets) → (reach : Reach) × SpellsUnicast family reach rest
+pub reach_part : (family : Family) (rest octets : List ℕ) → octets ≡ unicast_octets family ++ rest → (value : Option Reach) → SaysReach value (Some octets) → (reach : Reach) × SpellsUnicast family reach rest
 reach_part family rest octets e None s = absurd (not_another family rest octets e s)
 reach_part family rest octets e (Some reach) s =
     let same = same_unicast s.family family s.rest rest octets s.whole e in
     (reach, subst (SpellsUnicast family reach) same.1 (subst (λ f. SpellsUnicast f reach s.rest) same.0 s.spelled))
 
--- or withdrawn
-pub unreach_part : (family : Family) (rest octets : List ℕ) → octets ≡ unicast family ++ rest → (prefixes : List Network) → SaysUnreach prefixes (Some octets) → SpellsAll (SpellsNetwork family) prefixes rest
-unreach_part family rest octets e prefixes (inl s) = absurd (not_another family rest octets e s.0)
-unreach_part family rest octets e prefixes (inr s) =
-    let same = same_unicast s.family family s.rest rest octets s.whole e in
-    subst (SpellsAll (SpellsNetwork family) prefixes) same.1 (subst (λ f. SpellsAll (SpellsNetwork f) prefixes s.rest) same.0 s.spelled)
-
 -- octets behind their length are those in front of one list
-pub same_sized : (front other rest more : List ℕ) → length front < 2 ^ 16 → length other < 2 ^ 16 → sized front ++ rest ≡ sized other ++ more → (front ≡ other) × (rest ≡ more)
+pub same_sized : (front other rest more : List ℕ) → length front < 2 ^ 16 → length other < 2 ^ 16 → sized_octets front ++ rest ≡ sized_octets other ++ more → (front ≡ other) × (rest ≡ more)
 same_sized front other rest more p q e =
     let one : to_be_bytes w16 (length front) ++ (front ++ rest) ≡ to_be_bytes w16 (length other) ++ (other ++ more) = e in
     let parts = append_parts (to_be_bytes w16 (length front)) (to_be_bytes w16 (length other)) (front ++ rest) (other ++ more) refl one in
@@ -74,11 +68,11 @@ same_sized front other rest more p q e =
 -- ---- messages
 
 -- behind the marker of a message stands its length, and then its type and its body
-pub message_parts : (kind : ℕ) (body octets : List ℕ) (len after : List ℕ) → length len ≡ 2 → drop 16 octets ≡ len ++ after → IsMessage kind body octets
+pub message_parts : (kind : ℕ) (body octets : List ℕ) (len after : List ℕ) → length len ≡ LENGTH_SIZE → drop MARKER_SIZE octets ≡ len ++ after → IsMessage kind body octets
     → (len ≡ to_be_bytes w16 (length octets)) × (after ≡ kind ∷ body)
 message_parts kind body octets len after size e s =
-    let within : 16 ≤ length octets = omega (arith, ap length s.whole, length-append s.marker (to_be_bytes w16 (length octets) ++ (kind ∷ body)), s.marker_size) in
-    let parts = append_parts (take 16 octets) s.marker (drop 16 octets) (to_be_bytes w16 (length octets) ++ (kind ∷ body)) (length-take-le 16 octets within ∙ sym s.marker_size) (take-append-drop 16 octets ∙ s.whole) in
+    let within : MARKER_SIZE ≤ length octets = omega (arith, ap length s.whole, length-append s.marker (to_be_bytes w16 (length octets) ++ (kind ∷ body)), s.marker_size) in
+    let parts = append_parts (take MARKER_SIZE octets) s.marker (drop MARKER_SIZE octets) (to_be_bytes w16 (length octets) ++ (kind ∷ body)) (length-take-le MARKER_SIZE octets within ∙ sym s.marker_size) (take-append-drop MARKER_SIZE octets ∙ s.whole) in
     append_parts len (to_be_bytes w16 (length octets)) after (kind ∷ body) size (sym e ∙ parts.1)
 
 -- two octets are those of one length
@@ -93,7 +87,7 @@ octet_behind octets front rest x each e = omega (arith, each (length front), ap 
 pub same_update : (withdrawn attributes announced other_withdrawn other_attributes other_announced body : List ℕ) → IsUpdate withdrawn attributes announced body → IsUpdate other_withdrawn other_attributes other_announced body
     → (withdrawn ≡ other_withdrawn) × (attributes ≡ other_attributes) × (announced ≡ other_announced)
 same_update withdrawn attributes announced other_withdrawn other_attributes other_announced body s t =
-    let first = same_sized withdrawn other_withdrawn (sized attributes ++ announced) (sized other_attributes ++ other_announced) s.withdrawn_fits t.withdrawn_fits (sym s.whole ∙ t.whole) in
+    let first = same_sized withdrawn other_withdrawn (sized_octets attributes ++ announced) (sized_octets other_attributes ++ other_announced) s.withdrawn_fits t.withdrawn_fits (sym s.whole ∙ t.whole) in
     let second = same_sized attributes other_attributes announced other_announced s.attributes_fit t.attributes_fit first.1 in
     (first.0, second.0, second.1)
 

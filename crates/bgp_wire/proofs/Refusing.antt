@@ -1,5 +1,5 @@
 -- What is refused when a part of it is.
-use Rattle.std.proofs.Common.{◌≡◌, ℕ, ◌*◌, false, nat_eq, IfSome, IfNone, Option, Some, None, Result, Ok, Err, List, [], ◌∷◌, ◌++◌, length, get_or, drop, ap, sym, subst, ◌∙◌, arith}
+use Rattle.std.proofs.Common.{◌≡◌, ℕ, ◌*◌, false, nat_eq, Option, Some, None, Result, Ok, Err, List, [], ◌∷◌, ◌++◌, length, get_or, drop, ap, sym, subst, ◌∙◌, arith}
 use Rattle.ip_prefix.specs.Wire.{Begins, SpellsAll, IsCode}
 use Rattle.ip_prefix.proofs.Wires.{append_parts}
 use Rattle.ip_prefix.proofs.Sequences.{none_at_all}
@@ -9,19 +9,16 @@ use Rattle.bgp_wire.specs.declared.path.AsWidth.{AsWidth}
 use Rattle.bgp_wire.specs.declared.path.AsWidth.TheVariants.{Two, Four}
 use Rattle.bgp_wire.specs.declared.path.SegmentKind.{SegmentKind}
 use Rattle.bgp_wire.specs.declared.path.Segment.{Segment}
-use Rattle.bgp_wire.specs.Number.{octets_at, SpellsNumber}
+use Rattle.bgp_wire.specs.Number.{octets_at, SpellsAsn}
 use Rattle.bgp_wire.specs.Path.{kind_code, SpellsSegment, IsFramed}
-use Rattle.bgp_wire.specs.Reading.{Reads, Refuses, RefusesFront}
-use Rattle.bgp_wire.proofs.Codes.{segment_begun, length-numbers}
+use Rattle.bgp_wire.specs.Reading.{Finds, Reads, Refuses, RefusesFront}
+use Rattle.bgp_wire.proofs.OneFront.{segment_begun, length-numbers}
 
--- what holds of a value that is there, or of its absence, may be weakened
-pub some_weaker : {A : Type 0} (found : Option A) (P Q : A → Type 0) → ((a : A) → P a → Q a) → IfSome found P → IfSome found Q
-some_weaker None P Q weaken h = tt
-some_weaker (Some a) P Q weaken h = weaken a h
-
-pub none_weaker : {A : Type 0} (found : Option A) (P Q : Type 0) → (P → Q) → IfNone found P → IfNone found Q
-none_weaker None P Q weaken h = weaken h
-none_weaker (Some a) P Q weaken h = tt
+-- what is found by a part is found by the whole, where the two spell the same values
+pub finds_whole : {A C D : Type 0} (Part : A → D → Type 0) (Whole : A → C → Type 0) (part : D) (octets : C) (answer : Option A)
+    → ((a : A) → Part a part → Whole a octets) → ((a : A) → Whole a octets → Part a part) → Finds Part part answer → Finds Whole octets answer
+finds_whole Part Whole part octets None up down h = λ a s. h a (down a s)
+finds_whole Part Whole part octets (Some a) up down h = up a h
 
 -- a list that isn't empty
 pub nonempty : (l : List ℕ) → nat_eq (length l) 0 ≡ false → l ≡ [] → ⊥
@@ -52,17 +49,17 @@ refused_rest Spells code values rest octets Memory some b none = tt
 
 -- a segment in front has the numbers that stand where it is framed
 numbers_framed : (width : AsWidth) (kind : SegmentKind) (count : ℕ) (body rest octets : List ℕ) → IsFramed width kind count body rest octets
-    → (segment : Segment) (more : List ℕ) → Begins (SpellsSegment width) segment more octets → SpellsAll (SpellsNumber width) segment.numbers body
+    → (segment : Segment) (more : List ℕ) → Begins (SpellsSegment width) segment more octets → SpellsAll (SpellsAsn width) segment.numbers body
 numbers_framed width kind count body rest octets f segment more b =
     let s = b.spelled in
     let one : kind_code kind ∷ count ∷ (body ++ rest) ≡ kind_code segment.kind ∷ length segment.numbers ∷ (s.body ++ more) = sym f.whole ∙ segment_begun width segment more octets b in
     let counts : count ≡ length segment.numbers = ap (λ l. get_or l 1 0) one in
     let sizes : length body ≡ length s.body = f.size ∙ ap (λ n. octets_at width * n) counts ∙ sym (length-numbers width segment.numbers s.body s.spelled) in
     let parts = append_parts body s.body rest more sizes (ap (drop 2) one) in
-    subst (SpellsAll (SpellsNumber width) segment.numbers) (sym parts.0) s.spelled
+    subst (SpellsAll (SpellsAsn width) segment.numbers) (sym parts.0) s.spelled
 
 pub refused_numbers : (width : AsWidth) (kind : SegmentKind) (count : ℕ) (body rest octets : List ℕ) (fault : WireFault) → IsFramed width kind count body rest octets
-    → Refuses (SpellsAll (SpellsNumber width)) body fault → RefusesFront (SpellsSegment width) octets fault
+    → Refuses (SpellsAll (SpellsAsn width)) body fault → RefusesFront (SpellsSegment width) octets fault
 refused_numbers width kind count body rest octets Malformed f none = λ segment more b. none segment.numbers (numbers_framed width kind count body rest octets f segment more b)
 refused_numbers width kind count body rest octets Memory f none = tt
 
@@ -71,7 +68,7 @@ same_count Two m n e = omega (arith, e)
 same_count Four m n e = omega (arith, e)
 
 -- a segment that is framed, with its numbers
-pub segment_framed : (width : AsWidth) (kind : SegmentKind) (count : ℕ) (body rest octets : List ℕ) (ns : List ℕ) → IsFramed width kind count body rest octets → SpellsAll (SpellsNumber width) ns body
+pub segment_framed : (width : AsWidth) (kind : SegmentKind) (count : ℕ) (body rest octets : List ℕ) (ns : List ℕ) → IsFramed width kind count body rest octets → SpellsAll (SpellsAsn width) ns body
     → Begins (SpellsSegment width) record { numbers = ns; kind = kind } rest octets
 segment_framed width kind count body rest octets ns f s =
     let counts : count ≡ length ns = same_count width count (length ns) (sym f.size ∙ length-numbers width ns body s) in

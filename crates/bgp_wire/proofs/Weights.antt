@@ -5,7 +5,7 @@ use Rattle.std.proofs.lemmas.List.Sums.{sum_by-cons, sum_by-append}
 use Rattle.bgp_wire.specs.declared.path.SegmentKind.{SegmentKind}
 use Rattle.bgp_wire.specs.declared.path.SegmentKind.TheVariants.{AsSet, AsSequence, ConfedSequence, ConfedSet}
 use Rattle.bgp_wire.specs.declared.path.Segment.{Segment}
-use Rattle.bgp_wire.specs.Merge.{Hop, single, hops_by, hops_from, kind_weight, hop_weight, weight_of, if_plain, plain_segments}
+use Rattle.bgp_wire.specs.Merge.{Hop, single_number, hops_by, hops_from, kind_weight, hop_weight, weight_of, if_plain, plain_segments}
 
 -- what a segment of a kind with so many numbers weighs
 abbrev pub weight_by : SegmentKind → ℕ → ℕ
@@ -43,7 +43,7 @@ light hop = light_kind hop.part.kind
 weight-numbers : (place : ℕ) (ns : List ℕ) → weight_of (hops_by AsSequence place ns) ≡ length ns
 weight-numbers place [] = refl
 weight-numbers place (n ∷ ns) =
-    let first : Hop = record { place = place; part = single n } in
+    let first : Hop = record { place = place; part = single_number n } in
     omega (arith, weight_of-cons first (hops_by AsSequence place ns), weight-numbers place ns)
 
 -- the hops of a segment weigh what it weighs

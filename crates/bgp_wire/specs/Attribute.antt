@@ -1,8 +1,9 @@
 -- How path attributes are sent, one behind the other (RFC 4271, section 4.3).
-use Rattle.std.specs.Prelude.{◌≡◌, ◌==◌, ℕ, ◌<◌, ◌^◌, Bool, true, false, not, cond, List, [], ◌∷◌, ◌++◌, length, Option, Some, None, bit_and}
+use Rattle.std.specs.Prelude.{◌≡◌, ◌==◌, ℕ, ◌<◌, ◌^◌, Bool, true, false, not, if◌then◌else◌, List, [], ◌∷◌, ◌++◌, length, Option, Some, None, bit_and}
 use Rattle.std.specs.Option.{is_some}
 use Rattle.std.specs.Int.{to_be_bytes, w16}
 use Rattle.ip_prefix.specs.Wire.{SpellsAll}
+use Rattle.bgp_wire.specs.declared.framing.TheConstants.{EXTENDED_LENGTH}
 
 -- an attribute: its flags, the number of its type, and the octets of its value
 pub record Attribute : Type 0 where
@@ -12,7 +13,7 @@ pub record Attribute : Type 0 where
 
 -- the extended length flag: the length takes two octets
 abbrev pub is_extended : ℕ → Bool
-is_extended flags = not (bit_and flags 16 == 0)
+is_extended flags = not (bit_and flags EXTENDED_LENGTH == 0)
 
 -- the octets of an attribute's length
 abbrev pub length_octets : Bool → ℕ → List ℕ
@@ -38,9 +39,9 @@ SpellsAttributes list octets = SpellsAll SpellsAttribute list octets
 -- the value of the first attribute of a type, if there is one
 abbrev pub first_value : ℕ → List Attribute → Option (List ℕ)
 first_value kind [] = None
-first_value kind (a ∷ list) = cond (a.kind == kind) (Some a.value) (first_value kind list)
+first_value kind (a ∷ list) = if a.kind == kind then Some a.value else first_value kind list
 
 -- whether two attributes or more are of a type
 abbrev pub repeats : ℕ → List Attribute → Bool
 repeats kind [] = false
-repeats kind (a ∷ list) = cond (a.kind == kind) (is_some (first_value kind list)) (repeats kind list)
+repeats kind (a ∷ list) = if a.kind == kind then is_some (first_value kind list) else repeats kind list

@@ -1,7 +1,10 @@
 -- The first values of a list of attributes, as they are kept while it is read.
-use Rattle.std.specs.Prelude.{◌≡◌, ℕ, ◌<◌, Bool, false, List, Option, Some, None, slice_index_or}
+use Rattle.std.specs.Prelude.{◌≡◌, ℕ, ◌<◌, Bool, false, List, Option, Some, None, Result, slice_index_or}
 use Rattle.std.specs.Borrow.{Bor}
+use Rattle.bgp_wire.specs.declared.fault.WireFault.{WireFault}
+use Rattle.bgp_wire.specs.declared.framing.TheConstants.{KINDS}
 use Rattle.bgp_wire.specs.Attribute.{Attribute, first_value, repeats}
+use Rattle.bgp_wire.specs.Reading.{Reads}
 
 -- the octets that are lent, where there are any
 abbrev pub octets_of : Option (Bor (List ℕ)) → Option (List ℕ)
@@ -15,5 +18,9 @@ pub record Firsts : Type 0 where
 
 -- these are the first values of the list, and the types that repeat in it, as far as types are read
 pub record Holds (firsts : Firsts) (list : List Attribute) : Type 0 where
-  pub each : (kind : ℕ) → kind < 19 → slice_index_or firsts.values kind None ≡ first_value kind list
-  pub repeated : (kind : ℕ) → kind < 19 → slice_index_or firsts.again kind false ≡ repeats kind list
+  pub each : (kind : ℕ) → kind < KINDS → slice_index_or firsts.values kind None ≡ first_value kind list
+  pub repeated : (kind : ℕ) → kind < KINDS → slice_index_or firsts.again kind false ≡ repeats kind list
+
+-- the answer is what the list says of which these are the first values
+abbrev pub ReadsList : {A : Type 0} → (A → List Attribute → Type 0) → Firsts → Result A WireFault → Type 0
+ReadsList Says firsts result = (list : List Attribute) → Holds firsts list → Reads Says list result

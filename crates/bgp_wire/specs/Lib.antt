@@ -8,6 +8,7 @@ pub mod Content
 pub mod Reading
 pub mod Text
 pub mod Merge
-pub mod Four
+pub mod As4
 pub mod Reach
 pub mod Update
+pub mod Codes

@@ -1,5 +1,5 @@
 -- A path with two-octet AS numbers joined with the four-octet one that was sent beside it (RFC 6793, section 4.2.3).
-use Rattle.std.specs.Prelude.{◌≡◌, ℕ, suc, ◌-◌, ◌<◌, ◌≤◌, ◌==◌, cond, List, [], ◌∷◌, ◌++◌, length, map}
+use Rattle.std.specs.Prelude.{◌≡◌, ℕ, suc, ◌-◌, ◌<◌, ◌≤◌, ◌==◌, if◌then◌else◌, List, [], ◌∷◌, ◌++◌, length, map}
 use Rattle.std.specs.List.{flat_map, sum_by}
 use Rattle.bgp_wire.specs.declared.path.SegmentKind.{SegmentKind}
 use Rattle.bgp_wire.specs.declared.path.SegmentKind.TheVariants.{AsSet, AsSequence, ConfedSequence, ConfedSet}
@@ -12,12 +12,12 @@ pub record Hop : Type 0 where
   pub part : Segment
 
 -- one number of a sequence, as a segment
-abbrev pub single : ℕ → Segment
-single n = record { numbers = n ∷ []; kind = AsSequence }
+abbrev pub single_number : ℕ → Segment
+single_number n = record { numbers = n ∷ []; kind = AsSequence }
 
 -- the hops of a segment
 abbrev pub hops_by : SegmentKind → ℕ → List ℕ → List Hop
-hops_by AsSequence place ns = map (λ n. record { place = place; part = single n }) ns
+hops_by AsSequence place ns = map (λ n. record { place = place; part = single_number n }) ns
 hops_by AsSet place ns = record { place = place; part = record { numbers = ns; kind = AsSet } } ∷ []
 hops_by ConfedSequence place ns = record { place = place; part = record { numbers = ns; kind = ConfedSequence } } ∷ []
 hops_by ConfedSet place ns = record { place = place; part = record { numbers = ns; kind = ConfedSet } } ∷ []
@@ -47,20 +47,20 @@ abbrev pub path_weight : AsPath → ℕ
 path_weight path = weight_of (hops_of path)
 
 -- a hop before others: with the first of them in one segment, where both are of one
-abbrev pub joined_to : Hop → List Hop → List Hop
-joined_to hop [] = hop ∷ []
-joined_to hop (next ∷ hops) =
-    cond (hop.place == next.place)
-    (record { place = next.place; part = record { numbers = hop.part.numbers ++ next.part.numbers; kind = next.part.kind } } ∷ hops)
-    (hop ∷ next ∷ hops)
+abbrev pub joined_hops : Hop → List Hop → List Hop
+joined_hops hop [] = hop ∷ []
+joined_hops hop (next ∷ hops) =
+    if hop.place == next.place
+    then record { place = next.place; part = record { numbers = hop.part.numbers ++ next.part.numbers; kind = next.part.kind } } ∷ hops
+    else hop ∷ next ∷ hops
 
-abbrev pub gathered : List Hop → List Hop
-gathered [] = []
-gathered (hop ∷ hops) = joined_to hop (gathered hops)
+abbrev pub gathered_hops : List Hop → List Hop
+gathered_hops [] = []
+gathered_hops (hop ∷ hops) = joined_hops hop (gathered_hops hops)
 
 -- the segments that the hops are put back into
 abbrev pub segments_of : List Hop → List Segment
-segments_of hops = map (λ hop. hop.part) (gathered hops)
+segments_of hops = map (λ hop. hop.part) (gathered_hops hops)
 
 -- the segments but those of a confederation
 abbrev pub if_plain : SegmentKind → Segment → List Segment

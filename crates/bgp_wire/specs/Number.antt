@@ -4,7 +4,18 @@ use Rattle.std.specs.Int.{Width, w16, w32, to_be_bytes}
 use Rattle.bgp_wire.specs.declared.path.AsWidth.{AsWidth}
 use Rattle.bgp_wire.specs.declared.path.AsWidth.TheVariants.{Two, Four}
 
--- how many bits an AS number has (RFC 4271, section 4.3; RFC 6793, section 3)
+-- the octets of a number of so many bits, which is below a limit
+pub record SpellsNumber (bits : Width) (limit : ℕ) (n : ℕ) (octets : List ℕ) : Type 0 where
+  pub fits : n < limit
+  pub whole : octets ≡ to_be_bytes bits n
+
+-- the octets of a number of 32 bits
+abbrev pub SpellsWord : ℕ → List ℕ → Type 0
+SpellsWord n octets = SpellsNumber w32 (2 ^ 32) n octets
+
+-- ---- AS numbers (RFC 4271, section 4.3; RFC 6793, section 3)
+
+-- how many bits an AS number has
 abbrev pub bits_at : AsWidth → Width
 bits_at Two = w16
 bits_at Four = w32
@@ -20,10 +31,5 @@ limit_at Two = 2 ^ 16
 limit_at Four = 2 ^ 32
 
 -- the octets of an AS number
-pub record SpellsNumber (width : AsWidth) (n : ℕ) (octets : List ℕ) : Type 0 where
-  pub fits : n < limit_at width
-  pub whole : octets ≡ to_be_bytes (bits_at width) n
-
--- the octets of a number of 32 bits
-abbrev pub SpellsWord : ℕ → List ℕ → Type 0
-SpellsWord n octets = SpellsNumber Four n octets
+abbrev pub SpellsAsn : AsWidth → ℕ → List ℕ → Type 0
+SpellsAsn width n octets = SpellsNumber (bits_at width) (limit_at width) n octets

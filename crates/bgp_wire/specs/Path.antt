@@ -5,22 +5,23 @@ use Rattle.bgp_wire.specs.declared.path.AsWidth.{AsWidth}
 use Rattle.bgp_wire.specs.declared.path.SegmentKind.{SegmentKind}
 use Rattle.bgp_wire.specs.declared.path.SegmentKind.TheVariants.{AsSet, AsSequence, ConfedSequence, ConfedSet}
 use Rattle.bgp_wire.specs.declared.path.Segment.{Segment}
+use Rattle.bgp_wire.specs.declared.path_reader.TheConstants.{AS_SET, AS_SEQUENCE, AS_CONFED_SEQUENCE, AS_CONFED_SET}
 use Rattle.bgp_wire.specs.declared.path.AsPath.{AsPath}
-use Rattle.bgp_wire.specs.Number.{SpellsNumber, octets_at}
+use Rattle.bgp_wire.specs.Number.{SpellsAsn, octets_at}
 
 -- the octet that stands for a kind of segment
 abbrev pub kind_code : SegmentKind → ℕ
-kind_code AsSet = 1
-kind_code AsSequence = 2
-kind_code ConfedSequence = 3
-kind_code ConfedSet = 4
+kind_code AsSet = AS_SET
+kind_code AsSequence = AS_SEQUENCE
+kind_code ConfedSequence = AS_CONFED_SEQUENCE
+kind_code ConfedSet = AS_CONFED_SET
 
 -- the octets of a segment: its kind, how many numbers it has, at least one, and the numbers
 pub record SpellsSegment (width : AsWidth) (segment : Segment) (octets : List ℕ) : Type 0 where
   pub some : 0 < length segment.numbers
   pub count_fits : length segment.numbers < 256
   pub body : List ℕ
-  pub spelled : SpellsAll (SpellsNumber width) segment.numbers body
+  pub spelled : SpellsAll (SpellsAsn width) segment.numbers body
   pub whole : octets ≡ kind_code segment.kind ∷ length segment.numbers ∷ body
 
 -- the octets of a path: its segments, one behind the other

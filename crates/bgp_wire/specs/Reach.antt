@@ -7,18 +7,20 @@ use Rattle.ip_prefix.specs.Network.{Network}
 use Rattle.ip_prefix.specs.Wire.{SpellsAll, SpellsNetwork}
 use Rattle.bgp_wire.specs.declared.attrs.Attrs.{Attrs}
 use Rattle.bgp_wire.specs.declared.reach.Reach.{Reach}
+use Rattle.bgp_wire.specs.declared.next_hop.TheConstants.{FAMILY_SIZE}
+use Rattle.bgp_wire.specs.declared.reach.TheConstants.{AFI_IPV4, AFI_IPV6, SAFI_UNICAST}
 use Rattle.bgp_wire.specs.declared.reach.Scope.{Scope}
 use Rattle.bgp_wire.specs.declared.reach.Scope.TheVariants.{Unicast, Another}
 use Rattle.bgp_wire.specs.NextHop.{SpellsNextHop}
 
 -- the number of an address family
 abbrev pub family_code : Family → ℕ
-family_code V4 = 1
-family_code V6 = 2
+family_code V4 = AFI_IPV4
+family_code V6 = AFI_IPV6
 
--- the octets of an address family and of unicast
-abbrev pub unicast : Family → List ℕ
-unicast family = 0 ∷ family_code family ∷ 1 ∷ []
+-- the two octets of an address family, and the one of unicast
+abbrev pub unicast_octets : Family → List ℕ
+unicast_octets family = 0 ∷ family_code family ∷ SAFI_UNICAST ∷ []
 
 -- octets that begin with another address family, or another use of one
 pub record IsOfAnother (octets : List ℕ) : Type 0 where
@@ -27,7 +29,7 @@ pub record IsOfAnother (octets : List ℕ) : Type 0 where
   pub subsequent : ℕ
   pub rest : List ℕ
   pub whole : octets ≡ high ∷ low ∷ subsequent ∷ rest
-  pub other : (family : Family) → high ∷ low ∷ subsequent ∷ [] ≡ unicast family → ⊥
+  pub other : (family : Family) → high ∷ low ∷ subsequent ∷ [] ≡ unicast_octets family → ⊥
 
 -- a next hop behind its length, a reserved octet, which may be any, and the rest
 pub record HopStands (hop : Address) (rest octets : List ℕ) : Type 0 where
@@ -46,14 +48,14 @@ pub record SpellsUnicast (family : Family) (reach : Reach) (octets : List ℕ) :
 pub record SpellsReach (reach : Reach) (octets : List ℕ) : Type 0 where
   pub family : Family
   pub rest : List ℕ
-  pub whole : octets ≡ unicast family ++ rest
+  pub whole : octets ≡ unicast_octets family ++ rest
   pub spelled : SpellsUnicast family reach rest
 
 -- the octets of prefixes of a family that are withdrawn
 pub record SpellsUnreach (prefixes : List Network) (octets : List ℕ) : Type 0 where
   pub family : Family
   pub rest : List ℕ
-  pub whole : octets ≡ unicast family ++ rest
+  pub whole : octets ≡ unicast_octets family ++ rest
   pub spelled : SpellsAll (SpellsNetwork family) prefixes rest
 
 -- what the value of MP_REACH_NLRI announces: nothing where it is absent, or of another family
@@ -82,8 +84,8 @@ abbrev pub reach_attrs : Attrs → Option Reach → Option Attrs
 reach_attrs attrs None = None
 reach_attrs attrs (Some reach) = attrs_with attrs reach reach.prefixes
 
--- how the octets begin, as far as that is told by their first three; too few begin with neither
+-- how the octets begin, as far as that is told by a family and its use; too few begin with neither
 abbrev pub BeginsIn : List ℕ → Option Scope → Type 0
-BeginsIn octets None = length octets < 3
+BeginsIn octets None = length octets < FAMILY_SIZE
 BeginsIn octets (Some Another) = IsOfAnother octets
-BeginsIn octets (Some (Unicast family rest)) = octets ≡ unicast family ++ rest.now
+BeginsIn octets (Some (Unicast family rest)) = octets ≡ unicast_octets family ++ rest.now

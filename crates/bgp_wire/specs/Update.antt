@@ -7,6 +7,8 @@ use Rattle.ip_prefix.specs.Wire.{SpellsAll, SpellsNetwork}
 use Rattle.bgp_wire.specs.declared.path.AsWidth.{AsWidth}
 use Rattle.bgp_wire.specs.declared.attrs.Attrs.{Attrs}
 use Rattle.bgp_wire.specs.declared.reach.Reach.{Reach}
+use Rattle.bgp_wire.specs.declared.framing.TheConstants.{NEXT_HOP, MP_REACH_NLRI, MP_UNREACH_NLRI}
+use Rattle.bgp_wire.specs.declared.message.TheConstants.{MARKER_SIZE, UPDATE}
 use Rattle.bgp_wire.specs.declared.message.Update.{Update}
 use Rattle.bgp_wire.specs.declared.message.Message.{Message}
 use Rattle.bgp_wire.specs.declared.message.Message.TheVariants as messages
@@ -18,29 +20,29 @@ use Rattle.bgp_wire.specs.Reach.{SaysReach, SaysUnreach, reach_prefixes, reach_a
 -- the octets are a message of a type, with this body; the marker may be any octets
 pub record IsMessage (kind : ℕ) (body octets : List ℕ) : Type 0 where
   pub marker : List ℕ
-  pub marker_size : length marker ≡ 16
+  pub marker_size : length marker ≡ MARKER_SIZE
   pub kind_fits : kind < 256
   pub length_fits : length octets < 2 ^ 16
   pub whole : octets ≡ marker ++ (to_be_bytes w16 (length octets) ++ (kind ∷ body))
 
 -- octets behind their length
-abbrev pub sized : List ℕ → List ℕ
-sized octets = to_be_bytes w16 (length octets) ++ octets
+abbrev pub sized_octets : List ℕ → List ℕ
+sized_octets octets = to_be_bytes w16 (length octets) ++ octets
 
 -- the octets of an UPDATE's body: those of withdrawn prefixes, of attributes, and of announced prefixes
 pub record IsUpdate (withdrawn attributes announced body : List ℕ) : Type 0 where
   pub withdrawn_fits : length withdrawn < 2 ^ 16
   pub attributes_fit : length attributes < 2 ^ 16
-  pub whole : body ≡ sized withdrawn ++ (sized attributes ++ announced)
+  pub whole : body ≡ sized_octets withdrawn ++ (sized_octets attributes ++ announced)
 
 -- what the attributes of an UPDATE say: their values with the next hop of NEXT_HOP, what MP_REACH_NLRI announces, and what MP_UNREACH_NLRI withdraws
 pub record SaysTogether (width : AsWidth) (attrs : Attrs) (reach : Option Reach) (withdrawn : List Network) (list : List Attribute) : Type 0 where
   pub said : Says width attrs list
-  pub hop : SpellsOptional SpellsIPv4 attrs.next_hop (first_value 3 list)
-  pub reached : SaysReach reach (first_value 14 list)
-  pub reached_once : repeats 14 list ≡ false
-  pub unreached : SaysUnreach withdrawn (first_value 15 list)
-  pub unreached_once : repeats 15 list ≡ false
+  pub hop : SpellsOptional SpellsIPv4 attrs.next_hop (first_value NEXT_HOP list)
+  pub reached : SaysReach reach (first_value MP_REACH_NLRI list)
+  pub reached_once : repeats MP_REACH_NLRI list ≡ false
+  pub unreached : SaysUnreach withdrawn (first_value MP_UNREACH_NLRI list)
+  pub unreached_once : repeats MP_UNREACH_NLRI list ≡ false
 
 -- what they say of an UPDATE
 pub record SaysInUpdate (width : AsWidth) (update : Update) (list : List Attribute) : Type 0 where
@@ -63,5 +65,5 @@ pub record SpellsUpdate (width : AsWidth) (update : Update) (body : List ℕ) : 
 
 -- the octets of a message; the body of one that isn't an UPDATE may be any octets
 abbrev pub SpellsMessage : AsWidth → Message → List ℕ → Type 0
-SpellsMessage width (messages.Update update) octets = (body : List ℕ) × IsMessage 2 body octets × SpellsUpdate width update body
-SpellsMessage width (messages.Other kind) octets = (kind ≡ 2 → ⊥) × (body : List ℕ) × IsMessage kind body octets
+SpellsMessage width (messages.Update update) octets = (body : List ℕ) × IsMessage UPDATE body octets × SpellsUpdate width update body
+SpellsMessage width (messages.Other kind) octets = (kind ≡ UPDATE → ⊥) × (body : List ℕ) × IsMessage kind body octets

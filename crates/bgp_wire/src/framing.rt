@@ -2,12 +2,14 @@
 
 ghost use Rattle.std.specs.Prelude.{◌≡◌, ℕ, ◌<◌, List, [], ◌∷◌, ◌++◌, IfSome, IfNone};
 ghost use Rattle.ip_prefix.specs.Wire.{Begins};
-ghost use Rattle.bgp_wire.specs.Attribute.{Attribute, is_extended, length_octets, length_limit, SpellsAttribute, SpellsAttributes, first_value, repeats};
+ghost use Rattle.bgp_wire.specs.Attribute.{Attribute, SpellsAttribute, SpellsAttributes};
+ghost use Rattle.bgp_wire.specs.Attribute.{is_extended, length_octets, length_limit};
+ghost use Rattle.bgp_wire.specs.Attribute.{first_value, repeats};
 ghost use Rattle.bgp_wire.specs.FirstValues.{Holds, octets_of};
-ghost use Rattle.bgp_wire.specs.Reading.{BeginsWithNone};
-ghost use Rattle.bgp_wire.specs.Value.{or_nothing};
+ghost use Rattle.bgp_wire.specs.Reading.{BeginsWithNone, IsNoSpelling};
+ghost use Rattle.bgp_wire.specs.Value.{octets_or_none};
 
-use crate::numbers::read_length;
+use crate::numbers::{LENGTH_SIZE, read_length};
 use std::marker::Model;
 
 /// The flag of an attribute whose length has two octets (RFC 4271, section 4.3).
@@ -60,17 +62,17 @@ fn split_length(flags: u8, octets: &[u8]) -> Option<(usize, &[u8])>
         let (&len, rest) = octets.split_first()?;
         return Some((usize::from(len), rest));
     }
-    if octets.len() < 2 {
+    if octets.len() < LENGTH_SIZE {
         return None;
     }
-    let (front, rest) = octets.split_at(2);
+    let (front, rest) = octets.split_at(LENGTH_SIZE);
     Some((read_length(front), rest))
 }
 
 /// The attribute in front of the octets.
 fn split_attribute(octets: &[u8]) -> Option<FramedAttribute<'_>>
-    ensures some { IfSome result (λ f. (flags : ℕ)
-        × Begins SpellsAttribute record { flags = flags; kind = f.kind; value = f.value.now } f.rest.now octets.now) }
+    ensures some { IfSome result (λ f. (flags : ℕ) × Begins SpellsAttribute
+        record { flags = flags; kind = f.kind; value = f.value.now } f.rest.now octets.now) }
     ensures none { IfNone result (BeginsWithNone SpellsAttribute octets.now) }
 {
     let (&flags, after_flags) = octets.split_first()?;
@@ -92,13 +94,14 @@ pub(crate) struct FirstValues<'a> {
 
 impl<'a> Model for FirstValues<'a> {
     ghost use Rattle.std.specs.Prelude.{◌≡◌, map, length};
+    ghost use Rattle.bgp_wire.specs.declared.framing.TheConstants.{KINDS};
     ghost use Rattle.bgp_wire.specs.FirstValues.{Firsts, octets_of};
 
     ghost Value = { Firsts };
 
     ghost view = { λ v. record { values = map octets_of v.values; again = v.again } };
 
-    ghost invariant = { λ v. (length v.values ≡ 19) × (length v.again ≡ 19) };
+    ghost invariant = { λ v. (length v.values ≡ KINDS) × (length v.again ≡ KINDS) };
 }
 
 impl<'a> FirstValues<'a> {
@@ -131,8 +134,9 @@ impl<'a> FirstValues<'a> {
     /// The value of the first attribute of a type.
     #[inline]
     pub(crate) fn first(&self, kind: u8) -> Option<&'a [u8]>
-        requires { kind < 19 }
-        ensures { (list : List Attribute) → Holds self.now list → octets_of result ≡ first_value kind list }
+        requires { kind < KINDS }
+        ensures { (list : List Attribute) → Holds self.now list →
+            octets_of result ≡ first_value kind list }
     {
         self.values[usize::from(kind)]
     }
@@ -140,8 +144,9 @@ impl<'a> FirstValues<'a> {
     /// The octets of the value of the first attribute of a type, and none where it is absent.
     #[inline]
     pub(crate) fn octets(&self, kind: u8) -> &'a [u8]
-        requires { kind < 19 }
-        ensures { (list : List Attribute) → Holds self.now list → result.now ≡ or_nothing (first_value kind list) }
+        requires { kind < KINDS }
+        ensures { (list : List Attribute) → Holds self.now list →
+            result.now ≡ octets_or_none (first_value kind list) }
     {
         match self.first(kind) {
             Some(octets) => octets,
@@ -152,8 +157,9 @@ impl<'a> FirstValues<'a> {
     /// Whether more than one attribute is of a type.
     #[inline]
     pub(crate) fn repeats(&self, kind: u8) -> bool
-        requires { kind < 19 }
-        ensures { (list : List Attribute) → Holds self.now list → result ≡ repeats kind list }
+        requires { kind < KINDS }
+        ensures { (list : List Attribute) → Holds self.now list →
+            result ≡ repeats kind list }
     {
         self.again[usize::from(kind)]
     }
@@ -163,7 +169,7 @@ impl<'a> FirstValues<'a> {
 pub(crate) fn read_first_values(octets: &[u8]) -> Option<FirstValues<'_>>
     ensures some { IfSome result (λ values. (list : List Attribute)
         × SpellsAttributes list octets.now × Holds values list) }
-    ensures none { IfNone result ((list : List Attribute) → SpellsAttributes list octets.now → ⊥) }
+    ensures none { IfNone result (IsNoSpelling SpellsAttributes octets.now) }
 {
     let mut values = FirstValues::none();
     let mut rest = octets;

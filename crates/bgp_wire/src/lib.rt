@@ -1,9 +1,9 @@
 //! Path attributes and messages of BGP, and the texts of paths and communities.
 #![tactic(auto)]
 
+mod as4;
 mod attrs;
 mod fault;
-mod four;
 mod framing;
 mod laws;
 mod merge;
@@ -14,8 +14,8 @@ mod path;
 mod path_reader;
 mod prefixes;
 mod reach;
+mod rib_entry;
 mod shared;
-mod table;
 mod text;
 mod update;
 mod values;
@@ -29,7 +29,7 @@ pub use merge::merge_paths;
 pub use message::{Message, Update, read_message};
 pub use path::{AsNumbers, AsPath, AsWidth, Segment, SegmentKind, Segments};
 pub use prefixes::Prefixes;
-pub use table::read_rib_attrs;
+pub use rib_entry::read_rib_attrs;
 pub use text::put_communities;
 
 #[cfg(test)]

@@ -2,7 +2,8 @@
 //! 4.2.3).
 
 ghost use Rattle.std.specs.Prelude.{◌≡◌, ℕ, ◌≤◌, List, ◌++◌, IfOk, OnOk};
-ghost use Rattle.bgp_wire.specs.Merge.{IsMerge, IsLongest, Hop, path_weight, weight_of, hops_by, hops_from, segments_of, plain_segments};
+ghost use Rattle.bgp_wire.specs.Merge.{IsMerge, IsLongest, path_weight, weight_of};
+ghost use Rattle.bgp_wire.specs.Merge.{Hop, hops_by, hops_from, segments_of, plain_segments};
 ghost use Rattle.bgp_wire.specs.declared.path.AsPath.{AsPath};
 
 use crate::path::{AsNumbers, AsPath, Segment, SegmentKind, Segments};
@@ -88,7 +89,8 @@ fn push_segment(
     numbers: &[u32],
     path: &mut Vec<Segment>,
 ) -> Result<(), AllocError>
-    ensures { OnOk result (path.new.items ≡ path.old.items ++ segments_of (hops_by kind 0 numbers.now)) }
+    ensures { OnOk result
+        (path.new.items ≡ path.old.items ++ segments_of (hops_by kind 0 numbers.now)) }
 {
     if kind == SegmentKind::AsSequence && numbers.is_empty() {
         return Ok(());

@@ -6,7 +6,7 @@ ghost use Rattle.bgp_wire.specs.Reading.{Reads};
 
 use crate::attrs::Attrs;
 use crate::fault::WireFault;
-use crate::numbers::read_length;
+use crate::numbers::{LENGTH_SIZE, read_length};
 use crate::path::AsWidth;
 use crate::prefixes::Prefixes;
 use crate::update::read_update;
@@ -42,10 +42,11 @@ pub struct Update {
 /// The type of an UPDATE (RFC 4271, section 4.1).
 const UPDATE: u8 = 2;
 
-/// How many octets a message has before its body: the marker, the length and the type.
+/// How many octets a message has before its body (RFC 4271, section 4.1): the marker, the length
+/// and the type.
 const HEADER_SIZE: usize = 19;
 
-/// How many octets the marker has.
+/// How many octets the marker has (RFC 4271, section 4.1).
 const MARKER_SIZE: usize = 16;
 
 /// A message as it is framed: its type and its body.
@@ -58,13 +59,14 @@ struct FramedMessage<'a> {
 /// The type and the body of the message that the octets are.
 fn frame_message(octets: &[u8]) -> Option<FramedMessage<'_>>
     ensures some { IfSome result (λ f. IsMessage f.kind f.body.now octets.now) }
-    ensures none { IfNone result ((kind : ℕ) (body : List ℕ) → IsMessage kind body octets.now → ⊥) }
+    ensures none { IfNone result ((kind : ℕ) (body : List ℕ) →
+        IsMessage kind body octets.now → ⊥) }
 {
     if octets.len() < HEADER_SIZE {
         return None;
     }
     let (_, after_marker) = octets.split_at(MARKER_SIZE);
-    let (len, rest) = after_marker.split_at(2);
+    let (len, rest) = after_marker.split_at(LENGTH_SIZE);
     if read_length(len) != octets.len() {
         return None;
     }

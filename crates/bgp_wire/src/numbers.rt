@@ -3,7 +3,7 @@
 ghost use Rattle.std.specs.Prelude.{◌≡◌, ◌<◌, ◌^◌, length, IfOk, IfErr};
 ghost use Rattle.std.specs.Int.{to_be_bytes, w16};
 ghost use Rattle.ip_prefix.specs.Wire.{SpellsAll};
-ghost use Rattle.bgp_wire.specs.Number.{SpellsNumber, octets_at};
+ghost use Rattle.bgp_wire.specs.Number.{SpellsAsn, octets_at};
 ghost use Rattle.bgp_wire.specs.Reading.{Refuses};
 
 use crate::fault::WireFault;
@@ -27,7 +27,7 @@ impl AsWidth {
     #[inline]
     pub(crate) fn number(self, octets: &[u8]) -> u32
         requires { length octets.now ≡ octets_at self }
-        ensures { SpellsNumber self result octets.now }
+        ensures { SpellsAsn self result octets.now }
     {
         match self {
             AsWidth::Two => u32::from(BigEndian::read_u16(octets)),
@@ -36,10 +36,13 @@ impl AsWidth {
     }
 }
 
+/// How many octets a length takes, where it takes more than one (RFC 4271, sections 4.1 and 4.3).
+pub(crate) const LENGTH_SIZE: usize = 2;
+
 /// The length that two octets say.
 #[inline]
 pub(crate) fn read_length(octets: &[u8]) -> usize
-    requires { length octets.now ≡ 2 }
+    requires { length octets.now ≡ LENGTH_SIZE }
     ensures fits { result < 2 ^ 16 }
     ensures spelled { octets.now ≡ to_be_bytes w16 result }
 {
@@ -53,8 +56,9 @@ pub(crate) fn read_numbers(
     width: AsWidth,
     octets: &[u8],
 ) -> Result<Vec<u32>, WireFault>
-    ensures found { IfOk result (λ numbers. SpellsAll (SpellsNumber width) numbers.items octets.now) }
-    ensures refused { IfErr result (Refuses (SpellsAll (SpellsNumber width)) octets.now) }
+    ensures found { IfOk result
+        (λ numbers. SpellsAll (SpellsAsn width) numbers.items octets.now) }
+    ensures refused { IfErr result (Refuses (SpellsAll (SpellsAsn width)) octets.now) }
 {
     let size = width.octets();
     if octets.len() % size != 0 {

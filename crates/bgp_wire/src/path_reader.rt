@@ -3,12 +3,21 @@
 ghost use Rattle.std.specs.Prelude.{◌≡◌, ℕ, IfOk, IfErr, IfSome, IfNone};
 ghost use Rattle.ip_prefix.specs.Wire.{Begins};
 ghost use Rattle.bgp_wire.specs.Path.{kind_code, SpellsSegment, SpellsPath, IsFramed};
-ghost use Rattle.bgp_wire.specs.Reading.{Reads, BeginsWithNone, RefusesFront};
+ghost use Rattle.bgp_wire.specs.Reading.{Finds, Reads, BeginsWithNone, RefusesFront};
 
 use crate::fault::WireFault;
 use crate::numbers::read_numbers;
 use crate::path::{AsNumbers, AsPath, AsWidth, Segment, SegmentKind, Segments};
 use std::alloc::Global;
+
+/// The type of a set (RFC 4271, section 4.3).
+const AS_SET: u8 = 1;
+/// The type of a sequence (RFC 4271, section 4.3).
+const AS_SEQUENCE: u8 = 2;
+/// The type of a sequence of a confederation's members (RFC 5065, section 3).
+const AS_CONFED_SEQUENCE: u8 = 3;
+/// The type of a set of a confederation's members (RFC 5065, section 3).
+const AS_CONFED_SET: u8 = 4;
 
 /// A segment in front of octets: its kind, the octets of its numbers, and what follows it.
 #[derive(Clone, Copy)]
@@ -20,21 +29,21 @@ struct FramedSegment<'a> {
 
 /// The kind of segment that a number stands for (RFC 4271, section 4.3; RFC 5065, section 3).
 fn segment_kind(code: u8) -> Option<SegmentKind>
-    ensures some { IfSome result (λ kind. code ≡ kind_code kind) }
-    ensures none { IfNone result ((kind : SegmentKind) → code ≡ kind_code kind → ⊥) }
+    ensures { Finds (λ kind code. code ≡ kind_code kind) code result }
 {
     match code {
-        1 => Some(SegmentKind::AsSet),
-        2 => Some(SegmentKind::AsSequence),
-        3 => Some(SegmentKind::ConfedSequence),
-        4 => Some(SegmentKind::ConfedSet),
+        AS_SET => Some(SegmentKind::AsSet),
+        AS_SEQUENCE => Some(SegmentKind::AsSequence),
+        AS_CONFED_SEQUENCE => Some(SegmentKind::ConfedSequence),
+        AS_CONFED_SET => Some(SegmentKind::ConfedSet),
         _ => None,
     }
 }
 
 /// The segment in front of the octets.
 fn frame_segment(width: AsWidth, octets: &[u8]) -> Option<FramedSegment<'_>>
-    ensures some { IfSome result (λ f. (count : ℕ) × IsFramed width f.kind count f.body.now f.rest.now octets.now) }
+    ensures some { IfSome result (λ f. (count : ℕ)
+        × IsFramed width f.kind count f.body.now f.rest.now octets.now) }
     ensures none { IfNone result (BeginsWithNone (SpellsSegment width) octets.now) }
 {
     let (&code, after_code) = octets.split_first()?;
@@ -53,7 +62,8 @@ fn frame_segment(width: AsWidth, octets: &[u8]) -> Option<FramedSegment<'_>>
 
 /// The segment in front of the octets, and what follows it.
 fn read_segment(alloc: Global, width: AsWidth, octets: &[u8]) -> Result<(Segment, &[u8]), WireFault>
-    ensures found { IfOk result (λ found. Begins (SpellsSegment width) found.0 found.1.now octets.now) }
+    ensures found { IfOk result
+        (λ found. Begins (SpellsSegment width) found.0 found.1.now octets.now) }
     ensures refused { IfErr result (RefusesFront (SpellsSegment width) octets.now) }
 {
     let framed = frame_segment(width, octets).ok_or(WireFault::Malformed)?;

@@ -3,14 +3,22 @@
 ghost use Rattle.std.specs.Prelude.{◌≡◌, ℕ, List, IfSome, IfNone};
 ghost use Rattle.ip_prefix.specs.Address.{Address};
 ghost use Rattle.bgp_wire.specs.FirstValues.{octets_of};
-ghost use Rattle.bgp_wire.specs.Reach.{unicast, BeginsIn, HopStands, SpellsUnicast, SaysReach, SaysUnreach};
-ghost use Rattle.bgp_wire.specs.Reading.{Reads};
+ghost use Rattle.bgp_wire.specs.Reach.{unicast_octets, BeginsIn, HopStands, SpellsUnicast};
+ghost use Rattle.bgp_wire.specs.Reach.{SaysReach, SaysUnreach};
+ghost use Rattle.bgp_wire.specs.Reading.{Finds, Reads};
 
 use crate::fault::WireFault;
-use crate::next_hop::read_next_hop;
+use crate::next_hop::{FAMILY_SIZE, read_next_hop};
 use crate::prefixes::{Prefixes, read_prefixes};
 use ip_prefix::{Addr, Family};
 use std::alloc::Global;
+
+/// The number of IPv4 among address families (RFC 4760, section 3), which is sent in two octets.
+const AFI_IPV4: u8 = 1;
+/// The number of IPv6 among them.
+const AFI_IPV6: u8 = 2;
+/// The number of unicast among subsequent address families (RFC 4760, section 6).
+const SAFI_UNICAST: u8 = 1;
 
 /// Prefixes that are announced with a next hop of their own.
 #[derive(Debug, Drop)]
@@ -30,12 +38,11 @@ enum Scope<'a> {
 
 /// The family whose unicast these three octets stand for.
 fn unicast_family(octets: &[u8]) -> Option<Family>
-    ensures some { IfSome result (λ family. octets.now ≡ unicast family) }
-    ensures none { IfNone result ((family : Family) → octets.now ≡ unicast family → ⊥) }
+    ensures { Finds (λ family octets. octets ≡ unicast_octets family) octets.now result }
 {
     match octets {
-        [0, 1, 1] => Some(Family::V4),
-        [0, 2, 1] => Some(Family::V6),
+        [0, AFI_IPV4, SAFI_UNICAST] => Some(Family::V4),
+        [0, AFI_IPV6, SAFI_UNICAST] => Some(Family::V6),
         _ => None,
     }
 }
@@ -44,10 +51,10 @@ fn unicast_family(octets: &[u8]) -> Option<Family>
 fn read_scope(octets: &[u8]) -> Option<Scope<'_>>
     ensures { BeginsIn octets.now result }
 {
-    if octets.len() < 3 {
+    if octets.len() < FAMILY_SIZE {
         return None;
     }
-    let (front, rest) = octets.split_at(3);
+    let (front, rest) = octets.split_at(FAMILY_SIZE);
     match unicast_family(front) {
         Some(family) => Some(Scope::Unicast(family, rest)),
         None => Some(Scope::Another),
@@ -64,7 +71,8 @@ struct FramedHop<'a> {
 /// The next hop in front of the octets, with its length before it and a reserved octet behind it.
 fn split_next_hop(octets: &[u8]) -> Option<FramedHop<'_>>
     ensures some { IfSome result (λ f. HopStands f.hop f.rest.now octets.now) }
-    ensures none { IfNone result ((hop : Address) (rest : List ℕ) → HopStands hop rest octets.now → ⊥) }
+    ensures none { IfNone result ((hop : Address) (rest : List ℕ) →
+        HopStands hop rest octets.now → ⊥) }
 {
     let (&len, after_len) = octets.split_first()?;
     let size = usize::from(len);

@@ -1,14 +1,12 @@
-//! The values of path attributes that table entries and messages share.
+//! The values of path attributes that RIB entries and messages share.
 
-ghost use Rattle.std.specs.Prelude.{◌≡◌, List};
-ghost use Rattle.bgp_wire.specs.Attribute.{Attribute};
+ghost use Rattle.std.specs.Prelude.{◌≡◌};
 ghost use Rattle.bgp_wire.specs.Content.{Says};
-ghost use Rattle.bgp_wire.specs.FirstValues.{Holds};
-ghost use Rattle.bgp_wire.specs.Reading.{Reads};
+ghost use Rattle.bgp_wire.specs.FirstValues.{ReadsList};
 
+use crate::as4::read_passed;
 use crate::attrs::{Attrs, Communities};
 use crate::fault::WireFault;
-use crate::four::read_passed;
 use crate::framing::{
     ATOMIC_AGGREGATE, COMMUNITIES, FirstValues, LOCAL_PREF, MULTI_EXIT_DISC, ORIGIN,
 };
@@ -25,8 +23,8 @@ pub(crate) fn read_shared(
     values: &FirstValues,
     next_hop: Option<Addr>,
 ) -> Result<Attrs, WireFault>
-    ensures { (list : List Attribute) → Holds values.now list →
-        Reads (λ attrs list. (attrs.next_hop ≡ next_hop) × Says width attrs list) list result }
+    ensures { ReadsList (λ attrs list. (attrs.next_hop ≡ next_hop) × Says width attrs list)
+        values.now result }
 {
     let origin = read_origin(values.first(ORIGIN))?;
     let med = read_word(values.first(MULTI_EXIT_DISC))?;

@@ -1,6 +1,7 @@
-//! Tests. Of table entries octets are written in hexadecimal, and attributes as one text.
+//! Tests. Octets are written in hexadecimal, and attributes as one text.
 
-mod four;
+mod as4;
+mod large;
 mod lists;
 mod merge;
 mod messages;
@@ -98,7 +99,7 @@ fn shown(alloc: Global, attrs: &Attrs) -> Result<Vec<u8>, AllocError> {
     Ok(text)
 }
 
-/// What the octets say as attributes of a table entry, shown of a copy.
+/// What the octets say as attributes of a RIB entry, shown of a copy.
 fn read_shown(
     alloc: Global,
     family: Family,

@@ -1,8 +1,10 @@
 //! The printed texts of paths and communities.
 
-ghost use Rattle.std.specs.Prelude.{◌≡◌, ℕ, ◌^◌, ◌/◌, ◌%◌, List, [], ◌∷◌, ◌++◌, OnOk, OnErr, length, map, decimal, slice_index};
+ghost use Rattle.std.specs.Prelude.{◌≡◌, ℕ, List, [], ◌∷◌, ◌++◌, OnOk, OnErr, length, map, decimal};
 ghost use Rattle.std.specs.List.{flat_map, join_with_byte};
-ghost use Rattle.bgp_wire.specs.Text.{path_text, joined, segment_words, community_text, communities_text, ended, StillBegins};
+ghost use Rattle.bgp_wire.specs.Text.{bracketed_numbers, segment_words, path_text};
+ghost use Rattle.bgp_wire.specs.Text.{halves_text, community_text, communities_text};
+ghost use Rattle.bgp_wire.specs.Text.{ended_words, StillBegins};
 
 use crate::path::{AsPath, Segment, SegmentKind};
 use itoa::write_digits;
@@ -10,10 +12,44 @@ use std::alloc::AllocError;
 
 /// Not to be announced outside the AS, or a confederation (RFC 1997).
 const NO_EXPORT: u32 = 0xFFFF_FF01;
-/// Not to be announced to any peer.
+/// Not to be announced to any peer (RFC 1997).
 const NO_ADVERTISE: u32 = 0xFFFF_FF02;
-/// Not to be announced outside the AS, nor to other members of its confederation.
+/// Not to be announced outside the AS, nor to other members of its confederation (RFC 1997).
 const NO_EXPORT_SUBCONFED: u32 = 0xFFFF_FF03;
+
+/// What stands around numbers in brackets, and between them.
+#[derive(Clone, Copy)]
+struct Marks {
+    open: u8,
+    separator: u8,
+    close: u8,
+}
+
+/// The marks of a set.
+const AS_SET_MARKS: Marks = Marks {
+    open: b'{',
+    separator: b',',
+    close: b'}',
+};
+
+/// Those of a confederation's members in order.
+const CONFED_SEQUENCE_MARKS: Marks = Marks {
+    open: b'(',
+    separator: b' ',
+    close: b')',
+};
+
+/// Those of a confederation's members in no order.
+const CONFED_SET_MARKS: Marks = Marks {
+    open: b'[',
+    separator: b',',
+    close: b']',
+};
+
+/// What stands between words.
+const SPACE: u8 = b' ';
+/// What stands between the halves of a community.
+const COLON: u8 = b':';
 
 impl AsPath {
     /// Appends the path as a person reads it: the numbers of sequences, and the other segments in
@@ -37,7 +73,8 @@ impl AsPath {
 /// Appends the communities (RFC 1997) as a person reads them, joined by spaces. Refused for want of
 /// memory, it leaves the text as it was.
 pub fn put_communities(communities: &[u32], text: &mut Vec<u8>) -> Result<(), AllocError>
-    ensures appended { OnOk result (text.new.items ≡ text.old.items ++ communities_text communities.now) }
+    ensures appended { OnOk result
+        (text.new.items ≡ text.old.items ++ communities_text communities.now) }
     ensures unchanged { OnErr result (text.new.items ≡ text.old.items) }
 {
     let before = text.len();
@@ -54,7 +91,8 @@ pub fn put_communities(communities: &[u32], text: &mut Vec<u8>) -> Result<(), Al
 /// length.
 fn drop_separator(before: usize, text: &mut Vec<u8>)
     ensures { (old : List ℕ) (separator : ℕ) (words : List (List ℕ)) → length old ≡ before →
-        text.old.items ≡ old ++ ended separator words → text.new.items ≡ old ++ join_with_byte separator words }
+        text.old.items ≡ old ++ ended_words separator words →
+        text.new.items ≡ old ++ join_with_byte separator words }
 {
     let end = text.len().saturating_sub(1).max(before);
     text.truncate(end);
@@ -62,7 +100,8 @@ fn drop_separator(before: usize, text: &mut Vec<u8>)
 
 /// Appends the words of each segment, each with a space behind it.
 fn put_segments(segments: &[Segment], text: &mut Vec<u8>) -> Result<(), AllocError>
-    ensures appended { OnOk result (text.new.items ≡ text.old.items ++ ended 32 (flat_map segment_words segments.now)) }
+    ensures appended { OnOk result (text.new.items ≡
+        text.old.items ++ ended_words SPACE (flat_map segment_words segments.now)) }
     ensures kept { OnErr result (StillBegins text.old.items text.new.items) }
 {
     for segment in segments {
@@ -73,36 +112,36 @@ fn put_segments(segments: &[Segment], text: &mut Vec<u8>) -> Result<(), AllocErr
 
 /// Appends the words of a segment, each with a space behind it.
 fn put_segment(segment: &Segment, text: &mut Vec<u8>) -> Result<(), AllocError>
-    ensures appended { OnOk result (text.new.items ≡ text.old.items ++ ended 32 (segment_words segment.now)) }
+    ensures appended { OnOk result
+        (text.new.items ≡ text.old.items ++ ended_words SPACE (segment_words segment.now)) }
     ensures kept { OnErr result (StillBegins text.old.items text.new.items) }
 {
     let numbers = segment.numbers.as_slice();
     match segment.kind {
-        SegmentKind::AsSequence => put_numbers(numbers, b' ', text),
-        SegmentKind::AsSet => put_bracketed(numbers, [b'{', b',', b'}'], text),
-        SegmentKind::ConfedSequence => put_bracketed(numbers, [b'(', b' ', b')'], text),
-        SegmentKind::ConfedSet => put_bracketed(numbers, [b'[', b',', b']'], text),
+        SegmentKind::AsSequence => put_numbers(numbers, SPACE, text),
+        SegmentKind::AsSet => put_bracketed(numbers, AS_SET_MARKS, text),
+        SegmentKind::ConfedSequence => put_bracketed(numbers, CONFED_SEQUENCE_MARKS, text),
+        SegmentKind::ConfedSet => put_bracketed(numbers, CONFED_SET_MARKS, text),
     }
 }
 
-/// Appends the numbers in brackets, and a space behind them. The marks are the first bracket, what
-/// stands between two numbers, and the last bracket.
-fn put_bracketed(numbers: &[u32], marks: [u8; 3], text: &mut Vec<u8>) -> Result<(), AllocError>
-    ensures appended { OnOk result (text.new.items ≡ text.old.items
-        ++ (slice_index marks 0 ∷ joined (slice_index marks 1) numbers.now ++ slice_index marks 2 ∷ 32 ∷ [])) }
+/// Appends the numbers in brackets, and a space behind them.
+fn put_bracketed(numbers: &[u32], marks: Marks, text: &mut Vec<u8>) -> Result<(), AllocError>
+    ensures appended { OnOk result (text.new.items ≡
+        text.old.items ++ ended_words SPACE (bracketed_numbers marks numbers.now ∷ [])) }
     ensures kept { OnErr result (StillBegins text.old.items text.new.items) }
 {
-    let [first, separator, last] = marks;
-    text.push(first)?;
+    text.push(marks.open)?;
     let before = text.len();
-    put_numbers(numbers, separator, text)?;
+    put_numbers(numbers, marks.separator, text)?;
     drop_separator(before, text);
-    text.extend_from_slice(&[last, b' '])
+    text.extend_from_slice(&[marks.close, SPACE])
 }
 
 /// Appends the numbers in decimal, each with the separator behind it.
 fn put_numbers(numbers: &[u32], separator: u8, text: &mut Vec<u8>) -> Result<(), AllocError>
-    ensures appended { OnOk result (text.new.items ≡ text.old.items ++ ended separator (map decimal numbers.now)) }
+    ensures appended { OnOk result
+        (text.new.items ≡ text.old.items ++ ended_words separator (map decimal numbers.now)) }
     ensures kept { OnErr result (StillBegins text.old.items text.new.items) }
 {
     for number in numbers {
@@ -114,7 +153,8 @@ fn put_numbers(numbers: &[u32], separator: u8, text: &mut Vec<u8>) -> Result<(),
 /// Appends the number in decimal, and the separator behind it.
 #[inline]
 fn put_number(number: u32, separator: u8, text: &mut Vec<u8>) -> Result<(), AllocError>
-    ensures appended { OnOk result (text.new.items ≡ text.old.items ++ (decimal number ++ separator ∷ [])) }
+    ensures appended { OnOk result
+        (text.new.items ≡ text.old.items ++ (decimal number ++ separator ∷ [])) }
     ensures unchanged { OnErr result (text.new.items ≡ text.old.items) }
 {
     let mut buffer = [separator; 11];
@@ -124,7 +164,8 @@ fn put_number(number: u32, separator: u8, text: &mut Vec<u8>) -> Result<(), Allo
 
 /// Appends the text of each community, each with a space behind it.
 fn put_each_community(communities: &[u32], text: &mut Vec<u8>) -> Result<(), AllocError>
-    ensures appended { OnOk result (text.new.items ≡ text.old.items ++ ended 32 (map community_text communities.now)) }
+    ensures appended { OnOk result (text.new.items ≡
+        text.old.items ++ ended_words SPACE (map community_text communities.now)) }
     ensures kept { OnErr result (StillBegins text.old.items text.new.items) }
 {
     for community in communities {
@@ -136,7 +177,8 @@ fn put_each_community(communities: &[u32], text: &mut Vec<u8>) -> Result<(), All
 /// Appends the text of a community, and a space behind it.
 #[tactic(auto, unfolding(crate::specs::Text::community_text))]
 fn put_community(community: u32, text: &mut Vec<u8>) -> Result<(), AllocError>
-    ensures appended { OnOk result (text.new.items ≡ text.old.items ++ (community_text community ++ 32 ∷ [])) }
+    ensures appended { OnOk result
+        (text.new.items ≡ text.old.items ++ (community_text community ++ SPACE ∷ [])) }
     ensures unchanged { OnErr result (text.new.items ≡ text.old.items) }
 {
     match community {
@@ -149,13 +191,13 @@ fn put_community(community: u32, text: &mut Vec<u8>) -> Result<(), AllocError>
 
 /// Appends the two halves of a number in decimal, with a colon between them and a space behind.
 fn put_halves(number: u32, text: &mut Vec<u8>) -> Result<(), AllocError>
-    ensures appended { OnOk result (text.new.items ≡
-        text.old.items ++ (decimal (number / 2 ^ 16) ++ 58 ∷ decimal (number % 2 ^ 16) ++ 32 ∷ [])) }
+    ensures appended { OnOk result
+        (text.new.items ≡ text.old.items ++ (halves_text number ++ SPACE ∷ [])) }
     ensures unchanged { OnErr result (text.new.items ≡ text.old.items) }
 {
-    let mut buffer = [b' '; 12];
+    let mut buffer = [SPACE; 12];
     let low = write_digits(u64::from(number % 0x1_0000), &mut buffer, 11);
-    buffer[low - 1] = b':';
+    buffer[low - 1] = COLON;
     let high = write_digits(u64::from(number / 0x1_0000), &mut buffer, low - 1);
     text.extend_from_slice(&buffer[high..])
 }

@@ -1,17 +1,16 @@
 //! Reading UPDATE messages (RFC 4271, section 4.3).
 
 ghost use Rattle.std.specs.Prelude.{◌≡◌, ℕ, ◌<◌, ◌^◌, ◌++◌, List, length, IfSome, IfNone, IfOk};
-ghost use Rattle.bgp_wire.specs.Attribute.{Attribute};
-ghost use Rattle.bgp_wire.specs.FirstValues.{Holds};
+ghost use Rattle.bgp_wire.specs.FirstValues.{ReadsList};
 ghost use Rattle.bgp_wire.specs.Reach.{reach_prefixes, reach_attrs};
 ghost use Rattle.bgp_wire.specs.Reading.{Reads};
-ghost use Rattle.bgp_wire.specs.Update.{sized, IsUpdate, SaysTogether, SpellsUpdate};
+ghost use Rattle.bgp_wire.specs.Update.{sized_octets, IsUpdate, SaysTogether, SpellsUpdate};
 
 use crate::attrs::Attrs;
 use crate::fault::WireFault;
 use crate::framing::{FirstValues, MP_REACH_NLRI, MP_UNREACH_NLRI, NEXT_HOP, read_first_values};
 use crate::message::Update;
-use crate::numbers::read_length;
+use crate::numbers::{LENGTH_SIZE, read_length};
 use crate::path::AsWidth;
 use crate::prefixes::{Prefixes, read_prefixes};
 use crate::reach::{Reach, read_reach, read_unreach};
@@ -31,13 +30,15 @@ struct FramedUpdate<'a> {
 
 /// The octets behind their length, and what follows them.
 fn split_sized(octets: &[u8]) -> Option<(&[u8], &[u8])>
-    ensures some { IfSome result (λ found. (length found.0.now < 2 ^ 16) × (octets.now ≡ sized found.0.now ++ found.1.now)) }
-    ensures none { IfNone result ((front rest : List ℕ) → length front < 2 ^ 16 → octets.now ≡ sized front ++ rest → ⊥) }
+    ensures some { IfSome result (λ found. (length found.0.now < 2 ^ 16)
+        × (octets.now ≡ sized_octets found.0.now ++ found.1.now)) }
+    ensures none { IfNone result ((front rest : List ℕ) →
+        length front < 2 ^ 16 → octets.now ≡ sized_octets front ++ rest → ⊥) }
 {
-    if octets.len() < 2 {
+    if octets.len() < LENGTH_SIZE {
         return None;
     }
-    let (len, rest) = octets.split_at(2);
+    let (len, rest) = octets.split_at(LENGTH_SIZE);
     let size = read_length(len);
     if rest.len() < size {
         return None;
@@ -47,8 +48,10 @@ fn split_sized(octets: &[u8]) -> Option<(&[u8], &[u8])>
 
 /// The parts of an UPDATE's body.
 fn frame_update(body: &[u8]) -> Option<FramedUpdate<'_>>
-    ensures some { IfSome result (λ f. IsUpdate f.withdrawn.now f.attributes.now f.announced.now body.now) }
-    ensures none { IfNone result ((withdrawn attributes announced : List ℕ) → IsUpdate withdrawn attributes announced body.now → ⊥) }
+    ensures some { IfSome result
+        (λ f. IsUpdate f.withdrawn.now f.attributes.now f.announced.now body.now) }
+    ensures none { IfNone result ((withdrawn attributes announced : List ℕ) →
+        IsUpdate withdrawn attributes announced body.now → ⊥) }
 {
     let (withdrawn, rest) = split_sized(body)?;
     let (attributes, announced) = split_sized(rest)?;
@@ -69,8 +72,8 @@ struct Said {
 
 /// What the attributes of an UPDATE with these values say.
 fn read_said(alloc: Global, width: AsWidth, values: &FirstValues) -> Result<Said, WireFault>
-    ensures { (list : List Attribute) → Holds values.now list →
-        Reads (λ said list. SaysTogether width said.attrs said.reach said.withdrawn list) list result }
+    ensures { ReadsList (λ said. SaysTogether width said.attrs said.reach said.withdrawn)
+        values.now result }
 {
     if values.repeats(MP_REACH_NLRI) || values.repeats(MP_UNREACH_NLRI) {
         return Err(WireFault::Malformed);
@@ -100,7 +103,8 @@ fn share_attrs(
     attrs: &Attrs,
     reach: Option<Reach>,
 ) -> Result<MpAnnounced, AllocError>
-    ensures { IfOk result (λ mp. (mp.prefixes ≡ reach_prefixes reach) × (mp.attrs ≡ reach_attrs attrs.now reach)) }
+    ensures { IfOk result (λ mp.
+        (mp.prefixes ≡ reach_prefixes reach) × (mp.attrs ≡ reach_attrs attrs.now reach)) }
 {
     let Some(reach) = reach else {
         return Ok(MpAnnounced {

@@ -5,7 +5,7 @@ use crate::{AsWidth, read_rib_attrs};
 use ip_prefix::Family;
 use std::test::Fail;
 
-/// The attributes of a table entry, and the places where one ends.
+/// The attributes of a RIB entry, and the places where one ends.
 const WHOLE: &str = "40010100 400210 0201 0000FBF4 0102 00000001 00000002 400304 C0000209 400600 \
                      C00808 FBF40001 FFFFFF01";
 

@@ -1,29 +1,18 @@
 //! Tests of messages.
 
+use super::octets_of;
 use crate::*;
 use std::alloc::{AllocError, Global};
 use std::test::Fail;
 
 /// ORIGIN of IGP, AS_PATH of the sequence 64500, and NEXT_HOP 192.0.2.9.
-pub(crate) const COMMON: &[u8] =
-    b"\x40\x01\x01\x00\x40\x02\x04\x02\x01\xFB\xF4\x40\x03\x04\xC0\x00\x02\x09";
+pub(crate) const COMMON: &str = "400101 00 400204 0201 FBF4 400304 C0000209";
 
 /// MP_REACH_NLRI of 2001:db8::/32 with the next hop 2001:db8::1.
-const MP_REACH: &[u8] =
-    b"\x80\x0E\x1A\x00\x02\x01\x10\x20\x01\x0D\xB8\0\0\0\0\0\0\0\0\0\0\0\x01\0\x20\x20\x01\x0D\xB8";
+const MP_REACH: &str = "800E1A 000201 10 20010DB8000000000000000000000001 00 2020010DB8";
 
 /// MP_REACH_NLRI of ::/0 with the same next hop.
-const MP_REACH_ALL: &[u8] =
-    b"\x80\x0E\x16\x00\x02\x01\x10\x20\x01\x0D\xB8\0\0\0\0\0\0\0\0\0\0\0\x01\0\0";
-
-/// The octets of all of these, one behind the other.
-pub(crate) fn together(alloc: Global, parts: &[&[u8]]) -> Result<Vec<u8>, AllocError> {
-    let mut octets = Vec::new(alloc);
-    for part in parts {
-        octets.extend_from_slice(part)?;
-    }
-    Ok(octets)
-}
+const MP_REACH_ALL: &str = "800E16 000201 10 20010DB8000000000000000000000001 00 00";
 
 fn put_length(len: usize, octets: &mut Vec<u8>) -> Result<(), AllocError> {
     octets.push((len / 256 % 256) as u8)?;
@@ -32,7 +21,7 @@ fn put_length(len: usize, octets: &mut Vec<u8>) -> Result<(), AllocError> {
 }
 
 /// The message of this type with this body.
-fn message_of(alloc: Global, kind: u8, body: &[u8]) -> Result<Vec<u8>, AllocError> {
+pub(crate) fn message_of(alloc: Global, kind: u8, body: &[u8]) -> Result<Vec<u8>, AllocError> {
     let mut octets = Vec::from_slice(alloc, &[0xFF; 16])?;
     put_length(body.len().saturating_add(19), &mut octets)?;
     octets.push(kind)?;
@@ -40,19 +29,23 @@ fn message_of(alloc: Global, kind: u8, body: &[u8]) -> Result<Vec<u8>, AllocErro
     Ok(octets)
 }
 
+/// Appends octets behind their length.
+fn put_sized(octets: &[u8], body: &mut Vec<u8>) -> Result<(), AllocError> {
+    put_length(octets.len(), body)?;
+    body.extend_from_slice(octets)
+}
+
 /// The UPDATE of these prefixes that are withdrawn, attributes, and prefixes that are announced.
 pub(crate) fn update_of(
     alloc: Global,
-    withdrawn: &[u8],
-    attributes: &[u8],
-    announced: &[u8],
+    withdrawn: &str,
+    attributes: &[&str],
+    announced: &str,
 ) -> Result<Vec<u8>, AllocError> {
     let mut body = Vec::new(alloc);
-    put_length(withdrawn.len(), &mut body)?;
-    body.extend_from_slice(withdrawn)?;
-    put_length(attributes.len(), &mut body)?;
-    body.extend_from_slice(attributes)?;
-    body.extend_from_slice(announced)?;
+    put_sized(&octets_of(alloc, &[withdrawn])?, &mut body)?;
+    put_sized(&octets_of(alloc, attributes)?, &mut body)?;
+    body.append(&mut octets_of(alloc, &[announced])?)?;
     message_of(alloc, 2, body.as_slice())
 }
 
@@ -111,56 +104,50 @@ fn is_malformed(alloc: Global, octets: &[u8]) -> bool {
 fn reads_prefixes_and_next_hops(rt: HostRuntime) -> Result<(), Fail> {
     let alloc = rt.alloc();
     // withdrawn prefixes, attributes behind the common ones, announced prefixes, and the summary
-    let rows: [(&[u8], &[u8], &[u8], &str); 10] = [
-        (b"", b"", b"\x09\x0A\xFF", "+10.128.0.0/9;via 192.0.2.9;"),
-        (b"", b"", b"\0", "+0.0.0.0/0;via 192.0.2.9;"),
+    let rows: [(&str, &str, &str, &str); 10] = [
+        ("", "", "090AFF", "+10.128.0.0/9;via 192.0.2.9;"),
+        ("", "", "00", "+0.0.0.0/0;via 192.0.2.9;"),
+        ("080A", "", "080A", "-10.0.0.0/8;+10.0.0.0/8;via 192.0.2.9;"),
         (
-            b"\x08\x0A",
-            b"",
-            b"\x08\x0A",
-            "-10.0.0.0/8;+10.0.0.0/8;via 192.0.2.9;",
-        ),
-        (
-            b"\x10\x0A\x01\x20\xC0\x00\x02\x01\0",
-            b"",
-            b"\x08\x0A\x10\x0A\x01",
+            "100A01 20C0000201 00",
+            "",
+            "080A 100A01",
             "-10.1.0.0/16;-192.0.2.1/32;-0.0.0.0/0;+10.0.0.0/8;+10.1.0.0/16;via 192.0.2.9;",
         ),
         (
-            b"",
-            b"\x80\x0E\x0B\0\x01\x01\x04\xC0\0\x02\x0B\0\x08\x0A",
-            b"\x08\x0A",
+            "",
+            "800E0B 000101 04 C000020B 00 080A",
+            "080A",
             "+10.0.0.0/8;via 192.0.2.9;mp +10.0.0.0/8;mp via 192.0.2.11;",
         ),
         (
-            b"",
+            "",
             MP_REACH,
-            b"\x08\x0A",
+            "080A",
             "+10.0.0.0/8;via 192.0.2.9;mp +2001:db8::/32;mp via 2001:db8::1;",
         ),
         (
-            b"",
+            "",
             MP_REACH_ALL,
-            b"\x08\x0A\x10\x0A\x01",
+            "080A 100A01",
             "+10.0.0.0/8;+10.1.0.0/16;via 192.0.2.9;mp +::/0;mp via 2001:db8::1;",
         ),
         (
-            b"\x08\x0B",
-            b"\x80\x0F\x08\0\x02\x01\x20\x20\x01\x0D\xB8",
-            b"\x08\x0A",
+            "080B",
+            "800F08 000201 2020010DB8",
+            "080A",
             "-11.0.0.0/8;mp -2001:db8::/32;+10.0.0.0/8;via 192.0.2.9;",
         ),
         (
-            b"\x08\x0B",
-            b"\x80\x0F\x09\0\x01\x01\x09\x0A\xFF\0\x08\x0C",
-            b"",
+            "080B",
+            "800F09 000101 090AFF 00 080C",
+            "",
             "-11.0.0.0/8;mp -10.128.0.0/9;mp -0.0.0.0/0;mp -12.0.0.0/8;via 192.0.2.9;",
         ),
-        (b"", b"\x80\x0F\x03\0\x02\x01", b"", "via 192.0.2.9;"),
+        ("", "800F03 000201", "", "via 192.0.2.9;"),
     ];
     for (withdrawn, more, announced, want) in rows {
-        let attributes = together(alloc, &[COMMON, more])?;
-        let octets = update_of(alloc, withdrawn, attributes.as_slice(), announced)?;
+        let octets = update_of(alloc, withdrawn, &[COMMON, more], announced)?;
         let text = summary_of(alloc, octets.as_slice())?;
         assert_eq!(rt; text.as_slice(), want.as_bytes());
     }
@@ -170,32 +157,32 @@ fn reads_prefixes_and_next_hops(rt: HostRuntime) -> Result<(), Fail> {
 #[test]
 fn reads_messages_without_next_hop(rt: HostRuntime) -> Result<(), Fail> {
     let alloc = rt.alloc();
-    let rows: [(&[u8], &[u8], &[u8], &str); 7] = [
-        (b"", b"", b"", "via ;"),
-        (b"\x10\x0A\x01", b"", b"", "-10.1.0.0/16;via ;"),
-        (b"", b"", b"\x08\x0A", "+10.0.0.0/8;via ;"),
+    let rows: [(&str, &str, &str, &str); 7] = [
+        ("", "", "", "via ;"),
+        ("100A01", "", "", "-10.1.0.0/16;via ;"),
+        ("", "", "080A", "+10.0.0.0/8;via ;"),
         (
-            b"",
+            "",
             MP_REACH,
-            b"",
+            "",
             "via ;mp +2001:db8::/32;mp via 2001:db8::1;",
         ),
         (
-            b"",
+            "",
             MP_REACH_ALL,
-            b"\x08\x0A",
+            "080A",
             "+10.0.0.0/8;via ;mp +::/0;mp via 2001:db8::1;",
         ),
-        (b"", b"\x80\x0F\x03\0\x01\x01", b"", "via ;"),
+        ("", "800F03 000101", "", "via ;"),
         (
-            b"",
-            b"\x80\x0F\x05\0\x01\x01\x08\x0A",
-            b"\x08\x0A",
+            "",
+            "800F05 000101 080A",
+            "080A",
             "mp -10.0.0.0/8;+10.0.0.0/8;via ;",
         ),
     ];
     for (withdrawn, attributes, announced, want) in rows {
-        let octets = update_of(alloc, withdrawn, attributes, announced)?;
+        let octets = update_of(alloc, withdrawn, &[attributes], announced)?;
         let text = summary_of(alloc, octets.as_slice())?;
         assert_eq!(rt; text.as_slice(), want.as_bytes());
     }
@@ -204,23 +191,25 @@ fn reads_messages_without_next_hop(rt: HostRuntime) -> Result<(), Fail> {
 
 #[test]
 fn reads_whole_messages(rt: HostRuntime) -> Result<(), Fail> {
-    let rows: [(&[u8], &str); 3] = [
+    let rows: [(&str, &str); 3] = [
         (
-            b"\xFF\xFF\xFF\xFF\xFF\xFF\xFF\xFF\xFF\xFF\xFF\xFF\xFF\xFF\xFF\xFF\0\x2C\x02\0\0\0\x12\x40\x01\x01\0\x40\x02\x04\x02\x01\xFB\xF4\x40\x03\x04\xC0\0\x02\x09\x09\x0A\xFF",
+            "FFFFFFFFFFFFFFFFFFFFFFFFFFFFFFFF 002C 02 0000 0012 400101 00 400204 0201 FBF4 \
+             400304 C0000209 090AFF",
             "+10.128.0.0/9;via 192.0.2.9;",
         ),
         (
-            b"\xFF\xFF\xFF\xFF\xFF\xFF\xFF\xFF\xFF\xFF\xFF\xFF\xFF\xFF\xFF\xFF\0\x17\x02\0\0\0\0",
+            "FFFFFFFFFFFFFFFFFFFFFFFFFFFFFFFF 0017 02 0000 0000",
             "via ;",
         ),
         // the marker may be any octets
         (
-            b"\0\x01\x02\x03\x04\x05\x06\x07\x08\x09\x0A\x0B\x0C\x0D\x0E\x0F\0\x19\x02\0\x02\x08\x0A\0\0",
+            "000102030405060708090A0B0C0D0E0F 0019 02 0002 080A 0000",
             "-10.0.0.0/8;via ;",
         ),
     ];
     for (octets, want) in rows {
-        let text = summary_of(rt.alloc(), octets)?;
+        let octets = octets_of(rt.alloc(), &[octets])?;
+        let text = summary_of(rt.alloc(), octets.as_slice())?;
         assert_eq!(rt; text.as_slice(), want.as_bytes());
     }
     Ok(())
@@ -229,10 +218,11 @@ fn reads_whole_messages(rt: HostRuntime) -> Result<(), Fail> {
 #[test]
 fn reads_no_other_bodies(rt: HostRuntime) -> Result<(), Fail> {
     let alloc = rt.alloc();
-    let bodies: [&[u8]; 5] = [b"", b"\0", b"\0\0\0\0", b"\0\0\0\0\x21", b"\xFF\xFF\xFF"];
+    let bodies: [&str; 5] = ["", "00", "00000000", "00000000 21", "FFFFFF"];
     for body in bodies {
+        let body = octets_of(alloc, &[body])?;
         for kind in [0, 1, 3, 4, 5, 18, 255] {
-            let octets = message_of(alloc, kind, body)?;
+            let octets = message_of(alloc, kind, body.as_slice())?;
             let read = match read_message(alloc, AsWidth::Two, octets.as_slice())? {
                 Message::Other(kind) => Some(kind),
                 Message::Update(_) => None,
@@ -279,24 +269,20 @@ fn compares_the_length(rt: HostRuntime) -> Result<(), Fail> {
 #[test]
 fn refuses_cut_messages(rt: HostRuntime) -> Result<(), Fail> {
     let alloc = rt.alloc();
-    let octets = update_of(alloc, b"\x08\x0A", COMMON, b"\x08\x0A")?;
-    let whole = octets.as_slice();
-    assert!(rt; !is_malformed(alloc, whole));
-    for size in 0..whole.len() {
-        assert!(rt; is_malformed(alloc, &whole[..size]), "{size} octets");
+    let mut octets = update_of(alloc, "080A", &[COMMON], "080A")?;
+    assert!(rt; !is_malformed(alloc, octets.as_slice()));
+    for size in 0..octets.len() {
+        assert!(rt; is_malformed(alloc, &octets[..size]), "{size} octets");
     }
-    let more = together(alloc, &[whole, b"\0"])?;
-    assert!(rt; is_malformed(alloc, more.as_slice()));
+    octets.push(0)?;
+    assert!(rt; is_malformed(alloc, octets.as_slice()));
     Ok(())
 }
 
 #[test]
 fn refuses_cut_updates(rt: HostRuntime) -> Result<(), Fail> {
     let alloc = rt.alloc();
-    let lists = together(
-        alloc,
-        &[b"\0\x02\x08\x0A\0\x12", COMMON, b"\x08\x0A\0\x10\x0A"],
-    )?;
+    let lists = octets_of(alloc, &["0002 080A 0012", COMMON, "080A 00 100A"])?;
     let body = lists.as_slice();
     for size in 0..body.len() {
         // the announced prefixes begin behind 24 octets and end behind 26 and 27
@@ -311,34 +297,34 @@ fn refuses_cut_updates(rt: HostRuntime) -> Result<(), Fail> {
 #[test]
 fn refuses_ill_formed_updates(rt: HostRuntime) -> Result<(), Fail> {
     let alloc = rt.alloc();
-    let bodies: [&[u8]; 19] = [
+    let bodies: [&str; 19] = [
         // without the length of the attributes
-        b"\0\0",
-        b"\0\0\0",
-        b"\0\x02\x08\x0A",
-        b"\0\x03\x08\x0A\0\0",
+        "0000",
+        "000000",
+        "0002 080A",
+        "0003 080A 0000",
         // lengths past the end
-        b"\0\x01\0\0",
-        b"\0\x03\x08\x0A",
-        b"\xFF\xFF\0\0\0\0",
-        b"\0\0\0\x01",
-        b"\0\0\0\x05\x80\x04\0\0",
-        b"\0\0\xFF\xFF\0",
+        "0001 0000",
+        "0003 080A",
+        "FFFF 0000 0000",
+        "0000 0001",
+        "0000 0005 80040000",
+        "0000 FFFF 00",
         // withdrawn prefixes
-        b"\0\x01\x08\0\0",
-        b"\0\x06\x21\x0A\0\0\0\0\0\0",
-        b"\0\x02\x10\x0A\0\0",
+        "0001 08 0000",
+        "0006 210A00000000 0000",
+        "0002 100A 0000",
         // attributes
-        b"\0\0\0\x02\x80\x04",
-        b"\0\0\0\x04\x80\x04\x04\x0A\0\0\0",
+        "0000 0002 8004",
+        "0000 0004 8004040A 000000",
         // announced prefixes
-        b"\0\0\0\0\x08",
-        b"\0\0\0\0\x08\x0A\x21\x0A\0\0\0\0",
-        b"\0\0\0\0\x20\x0A\0\0",
-        b"\0\0\0\x12\x40\x01\x01\0\x40\x02\x04\x02\x01\xFB\xF4\x40\x03\x04\xC0\0\x02\x09\x21\x0A\0\0\0\0",
+        "0000 0000 08",
+        "0000 0000 080A 210A00000000",
+        "0000 0000 200A0000",
+        "0000 0012 400101 00 400204 0201 FBF4 400304 C0000209 210A00000000",
     ];
     for (place, body) in bodies.iter().enumerate() {
-        let octets = message_of(alloc, 2, body)?;
+        let octets = message_of(alloc, 2, octets_of(alloc, &[body])?.as_slice())?;
         assert!(rt; is_malformed(alloc, octets.as_slice()), "body {place}");
     }
     Ok(())
@@ -347,23 +333,22 @@ fn refuses_ill_formed_updates(rt: HostRuntime) -> Result<(), Fail> {
 #[test]
 fn ignores_other_families(rt: HostRuntime) -> Result<(), Fail> {
     let alloc = rt.alloc();
-    let rows: [&[u8]; 12] = [
-        b"\x80\x0E\x03\0\x19\x41",
-        b"\x80\x0F\x03\0\x19\x41",
-        b"\x80\x0E\x03\0\x01\x02",
-        b"\x80\x0E\x06\0\x01\x02\xFF\xFF\xFF",
-        b"\x80\x0E\x0B\0\x01\x02\x04\xC0\0\x02\x0B\0\x08\x0A",
-        b"\x80\x0E\x03\0\x03\x01",
-        b"\x80\x0E\x05\0\x03\x01\0\0",
-        b"\x80\x0E\x05\x01\x02\x01\0\0",
-        b"\x80\x0E\x04\x02\0\x01\x21",
-        b"\x80\x0F\x05\0\x01\x02\x08\x0A",
-        b"\x80\x0F\x05\0\0\x01\x08\x0A",
-        b"\x80\x0F\x04\0\x02\x04\xFF",
+    let rows: [&str; 12] = [
+        "800E03 001941",
+        "800F03 001941",
+        "800E03 000102",
+        "800E06 000102 FF FFFF",
+        "800E0B 000102 04 C000020B 00 080A",
+        "800E03 000301",
+        "800E05 000301 00 00",
+        "800E05 010201 00 00",
+        "800E04 020001 21",
+        "800F05 000102 080A",
+        "800F05 000001 080A",
+        "800F04 000204 FF",
     ];
     for (place, more) in rows.iter().enumerate() {
-        let attributes = together(alloc, &[COMMON, more])?;
-        let octets = update_of(alloc, b"", attributes.as_slice(), b"\x08\x0A")?;
+        let octets = update_of(alloc, "", &[COMMON, more], "080A")?;
         let text = summary_of(alloc, octets.as_slice())?;
         assert_eq!(rt;
             text.as_slice(),
@@ -377,48 +362,45 @@ fn ignores_other_families(rt: HostRuntime) -> Result<(), Fail> {
 #[test]
 fn reads_next_hops_of_mp_reach(rt: HostRuntime) -> Result<(), Fail> {
     let alloc = rt.alloc();
-    let rows: [(&[u8], &str); 8] = [
+    let rows: [(&str, &str); 8] = [
         // an address, and also a link-local one
         (
-            b"\x80\x0E\x2A\0\x02\x01\x20\x20\x01\x0D\xB8\0\0\0\0\0\0\0\0\0\0\0\x01\xFE\x80\0\0\0\0\0\0\0\0\0\0\0\0\0\x01\0\x20\x20\x01\x0D\xB8",
+            "800E2A 000201 20 20010DB8000000000000000000000001 \
+             FE800000000000000000000000000001 00 2020010DB8",
             "mp +2001:db8::/32;mp via 2001:db8::1;",
         ),
         // of the other family
         (
-            b"\x80\x0E\x0E\0\x02\x01\x04\xC0\0\x02\x0B\0\x20\x20\x01\x0D\xB8",
+            "800E0E 000201 04 C000020B 00 2020010DB8",
             "mp +2001:db8::/32;mp via 192.0.2.11;",
         ),
         (
-            b"\x80\x0E\x17\0\x01\x01\x10\x20\x01\x0D\xB8\0\0\0\0\0\0\0\0\0\0\0\x01\0\x08\x0A",
+            "800E17 000101 10 20010DB8000000000000000000000001 00 080A",
             "mp +10.0.0.0/8;mp via 2001:db8::1;",
         ),
         // the reserved octet may be any
         (
-            b"\x80\x0E\x0D\0\x01\x01\x04\xC0\0\x02\x0B\x01\x08\x0A\x08\x0B",
+            "800E0D 000101 04 C000020B 01 080A 080B",
             "mp +10.0.0.0/8;mp +11.0.0.0/8;mp via 192.0.2.11;",
         ),
         (
-            b"\x80\x0E\x0A\0\x01\x01\x04\xC0\0\x02\x0B\xFF\0",
+            "800E0A 000101 04 C000020B FF 00",
             "mp +0.0.0.0/0;mp via 192.0.2.11;",
         ),
         // with a length of two octets
         (
-            b"\x90\x0E\0\x0B\0\x01\x01\x04\xC0\0\x02\x0B\0\x08\x0A",
+            "900E000B 000101 04 C000020B 00 080A",
             "mp +10.0.0.0/8;mp via 192.0.2.11;",
         ),
         // without prefixes
-        (b"\x80\x0E\x09\0\x01\x01\x04\xC0\0\x02\x0B\0", ""),
-        (
-            b"\x80\x0E\x15\0\x02\x01\x10\x20\x01\x0D\xB8\0\0\0\0\0\0\0\0\0\0\0\x01\xFF",
-            "",
-        ),
+        ("800E09 000101 04 C000020B 00", ""),
+        ("800E15 000201 10 20010DB8000000000000000000000001 FF", ""),
     ];
     for (more, mp) in rows {
-        let attributes = together(alloc, &[COMMON, more])?;
-        let octets = update_of(alloc, b"", attributes.as_slice(), b"")?;
+        let octets = update_of(alloc, "", &[COMMON, more], "")?;
         let text = summary_of(alloc, octets.as_slice())?;
-        let want = together(alloc, &[b"via 192.0.2.9;", mp.as_bytes()])?;
-        assert_eq!(rt; text.as_slice(), want.as_slice());
+        let want = format!(in alloc; "via 192.0.2.9;{mp}")?;
+        assert_eq!(rt; text.as_slice(), want.as_bytes());
     }
     Ok(())
 }
@@ -426,41 +408,40 @@ fn reads_next_hops_of_mp_reach(rt: HostRuntime) -> Result<(), Fail> {
 #[test]
 fn refuses_ill_formed_mp_attributes(rt: HostRuntime) -> Result<(), Fail> {
     let alloc = rt.alloc();
-    let rows: [&[u8]; 26] = [
+    let rows: [&str; 26] = [
         // less than a family
-        b"\x80\x0E\0",
-        b"\x80\x0E\x01\0",
-        b"\x80\x0E\x02\0\x19",
-        b"\x80\x0E\x02\0\x01",
-        b"\x80\x0F\0",
-        b"\x80\x0F\x01\0",
-        b"\x80\x0F\x02\0\x19",
-        b"\x80\x0F\x02\0\x02",
+        "800E00",
+        "800E01 00",
+        "800E02 0019",
+        "800E02 0001",
+        "800F00",
+        "800F01 00",
+        "800F02 0019",
+        "800F02 0002",
         // no next hop, or one of another length
-        b"\x80\x0E\x03\0\x01\x01",
-        b"\x80\x0E\x03\0\x02\x01",
-        b"\x80\x0E\x05\0\x01\x01\0\0",
-        b"\x80\x0E\x08\0\x01\x01\x03\xC0\0\x02\0",
-        b"\x80\x0E\x0A\0\x01\x01\x05\xC0\0\x02\x0B\0\0",
-        b"\x80\x0E\x0D\0\x02\x01\x08\0\0\0\0\0\0\0\0\0",
-        b"\x80\x0E\x16\0\x02\x01\x11\0\0\0\0\0\0\0\0\0\0\0\0\0\0\0\0\0\0",
-        b"\x80\x0E\x1D\0\x02\x01\x18\0\0\0\0\0\0\0\0\0\0\0\0\0\0\0\0\0\0\0\0\0\0\0\0\0",
+        "800E03 000101",
+        "800E03 000201",
+        "800E05 000101 00 00",
+        "800E08 000101 03 C00002 00",
+        "800E0A 000101 05 C000020B00 00",
+        "800E0D 000201 08 0000000000000000 00",
+        "800E16 000201 11 0000000000000000000000000000000000 00",
+        "800E1D 000201 18 000000000000000000000000000000000000000000000000 00",
         // a next hop past the end, or with nothing behind it
-        b"\x80\x0E\x06\0\x01\x01\x04\xC0\0",
-        b"\x80\x0E\x08\0\x01\x01\x04\xC0\0\x02\x0B",
-        b"\x80\x0E\x14\0\x02\x01\x10\x20\x01\x0D\xB8\0\0\0\0\0\0\0\0\0\0\0\x01",
+        "800E06 000101 04 C000",
+        "800E08 000101 04 C000020B",
+        "800E14 000201 10 20010DB8000000000000000000000001",
         // ill-formed prefixes
-        b"\x80\x0E\x0A\0\x01\x01\x04\xC0\0\x02\x0B\0\x08",
-        b"\x80\x0E\x0F\0\x01\x01\x04\xC0\0\x02\x0B\0\x21\x0A\0\0\0\0",
-        b"\x80\x0E\x0D\0\x02\x01\x04\xC0\0\x02\x0B\0\x20\x20\x01\x0D",
-        b"\x80\x0E\x1B\0\x02\x01\x04\xC0\0\x02\x0B\0\x81\0\0\0\0\0\0\0\0\0\0\0\0\0\0\0\0\0",
-        b"\x80\x0F\x04\0\x01\x01\x08",
-        b"\x80\x0F\x09\0\x01\x01\x21\x0A\0\0\0\0",
-        b"\x80\x0F\x07\0\x02\x01\x20\x20\x01\x0D",
+        "800E0A 000101 04 C000020B 00 08",
+        "800E0F 000101 04 C000020B 00 210A00000000",
+        "800E0D 000201 04 C000020B 00 2020010D",
+        "800E1B 000201 04 C000020B 00 810000000000000000000000000000000000",
+        "800F04 000101 08",
+        "800F09 000101 210A00000000",
+        "800F07 000201 2020010D",
     ];
     for (place, more) in rows.iter().enumerate() {
-        let attributes = together(alloc, &[COMMON, more])?;
-        let octets = update_of(alloc, b"", attributes.as_slice(), b"\x08\x0A")?;
+        let octets = update_of(alloc, "", &[COMMON, more], "080A")?;
         assert!(rt; is_malformed(alloc, octets.as_slice()), "row {place}");
     }
     Ok(())
@@ -469,22 +450,21 @@ fn refuses_ill_formed_mp_attributes(rt: HostRuntime) -> Result<(), Fail> {
 #[test]
 fn refuses_a_second_mp_attribute(rt: HostRuntime) -> Result<(), Fail> {
     let alloc = rt.alloc();
-    let rows: [(&[u8], &[u8], bool); 11] = [
+    let rows: [(&str, &str, bool); 11] = [
         (MP_REACH, MP_REACH, true),
         (MP_REACH, MP_REACH_ALL, true),
-        (MP_REACH, b"\x80\x0E\x03\0\x19\x41", true),
-        (b"\x80\x0E\x03\0\x19\x41", MP_REACH, true),
-        (b"\x80\x0E\x03\0\x19\x41", b"\x80\x0E\0", true),
-        (b"\x80\x0F\x03\0\x02\x01", b"\x80\x0F\x03\0\x02\x01", true),
-        (b"\x80\x0F\x03\0\x02\x01", b"\x80\x0F\x03\0\x01\x01", true),
-        (b"\x80\x0F\x03\0\x19\x41", b"\x80\x0F\x03\0\x19\x41", true),
-        (b"\x80\x0F\x03\0\x19\x41", b"\x80\x0F\0", true),
-        (MP_REACH, b"\x80\x0F\x03\0\x02\x01", false),
-        (b"\x80\x0F\x03\0\x19\x41", MP_REACH, false),
+        (MP_REACH, "800E03 001941", true),
+        ("800E03 001941", MP_REACH, true),
+        ("800E03 001941", "800E00", true),
+        ("800F03 000201", "800F03 000201", true),
+        ("800F03 000201", "800F03 000101", true),
+        ("800F03 001941", "800F03 001941", true),
+        ("800F03 001941", "800F00", true),
+        (MP_REACH, "800F03 000201", false),
+        ("800F03 001941", MP_REACH, false),
     ];
     for (place, (first, second, want)) in rows.iter().enumerate() {
-        let attributes = together(alloc, &[first, COMMON, second])?;
-        let octets = update_of(alloc, b"", attributes.as_slice(), b"\x08\x0A")?;
+        let octets = update_of(alloc, "", &[first, COMMON, second], "080A")?;
         let malformed = is_malformed(alloc, octets.as_slice());
         assert_eq!(rt; malformed, *want, "row {place}");
     }

@@ -1,4 +1,4 @@
-//! The next hops of table entries (RFC 6396, section 4.3.4; RFC 4760, section 3; RFC 2545,
+//! The next hops of RIB entries (RFC 6396, section 4.3.4; RFC 4760, section 3; RFC 2545,
 //! section 3).
 
 use super::{MALFORMED, assert_rows, octets_of, read_shown};

@@ -1,5 +1,5 @@
-use Rattle.bgp_wire.proofs.OneContent.{one_table_attrs}
+use Rattle.bgp_wire.proofs.OneContent.{one_rib_attrs}
 use Rattle.bgp_wire.proofs.laws.one_table_entry.Goals as goal
 
 pub returns : goal.returns
-returns c = one_table_attrs
+returns c = one_rib_attrs

@@ -4,7 +4,7 @@ use Rattle.bgp_wire.specs.Merge.{hops_by, hops_from, segments_of}
 use Rattle.bgp_wire.specs.declared.path.SegmentKind.TheVariants.{AsSequence}
 use Rattle.bgp_wire.proofs.Weights.{segment_weight, weight-hops_by, cut_fits}
 use Rattle.bgp_wire.proofs.Fronts.{front, front_longest}
-use Rattle.bgp_wire.proofs.Gathering.{kept, piece, segments_of-hops_by}
+use Rattle.bgp_wire.proofs.Gathering.{kept_segments, piece, segments_of-hops_by}
 use Rattle.bgp_wire.proofs.Merging.{pushed_whole, pushed_cut, pushed_all}
 use Rattle.bgp_wire.proofs.merge.push_front.Goals as goal
 
@@ -49,10 +49,10 @@ loop-segment-preserved c =
     let needed = c.weigh_segment-needed.result in
     let weighs : needed ≡ segment_weight s = c.weigh_segment-needed.ensures ∙ weight-hops_by s.kind 0 s.numbers in
     let fits : segment_weight s ≤ left = omega arith in
-    ap (λ l. l ++ kept (i + 1) more (left - needed)) c.in_ok-push_segment.ensures
-    ∙ ap (λ numbers. (pushed ++ segments_of (hops_by s.kind 0 numbers)) ++ kept (i + 1) more (left - needed)) c.as_slice-numbers.ensures
-    ∙ ap (λ l. (pushed ++ l) ++ kept (i + 1) more (left - needed)) (segments_of-hops_by s.kind 0 s.numbers)
-    ∙ ap (λ n. (pushed ++ piece s.kind s.numbers) ++ kept (i + 1) more (left - n)) weighs
+    ap (λ l. l ++ kept_segments (i + 1) more (left - needed)) c.in_ok-push_segment.ensures
+    ∙ ap (λ numbers. (pushed ++ segments_of (hops_by s.kind 0 numbers)) ++ kept_segments (i + 1) more (left - needed)) c.as_slice-numbers.ensures
+    ∙ ap (λ l. (pushed ++ l) ++ kept_segments (i + 1) more (left - needed)) (segments_of-hops_by s.kind 0 s.numbers)
+    ∙ ap (λ n. (pushed ++ piece s.kind s.numbers) ++ kept_segments (i + 1) more (left - n)) weighs
     ∙ pushed_whole segments i left s pushed c.loop-segment-test.true c.segment-item.is fits
     ∙ c.loop-segment.invariant
 

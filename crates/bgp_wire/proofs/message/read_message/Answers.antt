@@ -3,6 +3,7 @@ use Rattle.std.proofs.lemmas.Result.{err_from_is_err_and}
 use Rattle.bgp_wire.specs.declared.path.AsWidth.{AsWidth}
 use Rattle.bgp_wire.specs.declared.message.Message.{Message}
 use Rattle.bgp_wire.specs.declared.message.Message.TheVariants as messages
+use Rattle.bgp_wire.specs.declared.message.TheConstants.{UPDATE}
 use Rattle.bgp_wire.specs.declared.message.Update.{Update}
 use Rattle.bgp_wire.specs.Reading.{Reads}
 use Rattle.bgp_wire.specs.Update.{IsMessage, SpellsUpdate, SpellsMessage}
@@ -12,12 +13,12 @@ use Rattle.bgp_wire.proofs.message.read_message.Goals as goal
 
 -- where no message is framed, none is spelled
 unframed : (width : AsWidth) (octets : List ℕ) → ((kind : ℕ) (body : List ℕ) → IsMessage kind body octets → ⊥) → (value : Message) → SpellsMessage width value octets → ⊥
-unframed width octets none (messages.Update update) s = none 2 s.0 s.1
+unframed width octets none (messages.Update update) s = none UPDATE s.0 s.1
 unframed width octets none (messages.Other kind) s = none kind s.1 s.2
 
 -- the body of a message of the type of an UPDATE is an UPDATE's
-update_part : (width : AsWidth) (kind : ℕ) (body octets : List ℕ) → kind ≡ 2 → IsMessage kind body octets → (value : Message) → SpellsMessage width value octets → (update : Update) × SpellsUpdate width update body
-update_part width kind body octets e m (messages.Update update) s = (update, subst (SpellsUpdate width update) (same_message 2 kind s.0 body octets s.1 m).1 s.2)
+update_part : (width : AsWidth) (kind : ℕ) (body octets : List ℕ) → kind ≡ UPDATE → IsMessage kind body octets → (value : Message) → SpellsMessage width value octets → (update : Update) × SpellsUpdate width update body
+update_part width kind body octets e m (messages.Update update) s = (update, subst (SpellsUpdate width update) (same_message UPDATE kind s.0 body octets s.1 m).1 s.2)
 update_part width kind body octets e m (messages.Other other) s = absurd (s.0 ((same_message other kind s.1 body octets s.2 m).0 ∙ e))
 
 pub returns-in_err-framed : goal.returns-in_err-framed

@@ -7,7 +7,7 @@ use Rattle.bgp_wire.specs.declared.path.AsWidth.TheVariants.{Two, Four}
 use Rattle.bgp_wire.specs.declared.path.Segment.{Segment}
 use Rattle.bgp_wire.specs.Number.{octets_at}
 use Rattle.bgp_wire.specs.Path.{kind_code, SpellsSegment}
-use Rattle.bgp_wire.proofs.Codes.{segment_begun, length-numbers}
+use Rattle.bgp_wire.proofs.OneFront.{segment_begun, length-numbers}
 use Rattle.bgp_wire.proofs.path_reader.frame_segment.Goals as goal
 
 few_octets : (width : AsWidth) (count : ℕ) → count < 256 → Fits w64 (count * octets_at width)
@@ -53,6 +53,6 @@ returns-clause-some c =
         some = omega (arith, c.if-count-eq0.false);
         fits = omega (arith, c.type_inv.octets 1, ap (λ l. get_or l 1 0) front);
         size = c.split_at.ensures.front_len ∙ (λ i. c.from.ensures i * c.octets.ensures i) ∙ mul_comm count (octets_at c.args.width);
-        whole = front ∙ (λ i. c.in_ok-kind.ensures.some i ∷ count ∷ c.split_at.ensures.by_index.0 i);
+        whole = front ∙ (λ i. c.in_ok-kind.ensures i ∷ count ∷ c.split_at.ensures.by_index.0 i);
       },
     )

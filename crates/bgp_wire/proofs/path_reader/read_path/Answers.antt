@@ -4,7 +4,7 @@ use Rattle.ip_prefix.specs.Wire.{Begins, SpellsAll}
 use Rattle.ip_prefix.proofs.Sequences.{one_more}
 use Rattle.bgp_wire.specs.Path.{SpellsSegment, SpellsPath}
 use Rattle.bgp_wire.specs.Reading.{Reads}
-use Rattle.bgp_wire.proofs.Codes.{segment_code}
+use Rattle.bgp_wire.proofs.OneFront.{segment_code}
 use Rattle.bgp_wire.proofs.Refusing.{nonempty, refused_rest, refused_part}
 use Rattle.bgp_wire.proofs.path_reader.read_path.Goals as goal
 

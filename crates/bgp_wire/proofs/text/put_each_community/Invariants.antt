@@ -1,7 +1,8 @@
 use Rattle.std.proofs.Common.{◌≡◌, ◌++◌, map, take}
-use Rattle.bgp_wire.specs.Text.{ended, community_text}
+use Rattle.bgp_wire.specs.declared.text.TheConstants.{SPACE}
+use Rattle.bgp_wire.specs.Text.{ended_words, community_text}
 use Rattle.bgp_wire.proofs.text.put_each_community.Given as goal
 
 -- the communities so far stand behind the text
 abbrev pub invariant-loop-community : goal.invariant-loop-community
-invariant-loop-community l = l.text.items ≡ l.fn.text.items ++ ended 32 (map community_text (take l.community-index l.communities))
+invariant-loop-community l = l.text.items ≡ l.fn.text.items ++ ended_words SPACE (map community_text (take l.community-index l.communities))

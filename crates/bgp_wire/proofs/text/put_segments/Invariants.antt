@@ -1,8 +1,9 @@
 use Rattle.std.proofs.Common.{◌≡◌, ◌++◌, take}
 use Rattle.std.specs.List.{flat_map}
-use Rattle.bgp_wire.specs.Text.{ended, segment_words}
+use Rattle.bgp_wire.specs.declared.text.TheConstants.{SPACE}
+use Rattle.bgp_wire.specs.Text.{ended_words, segment_words}
 use Rattle.bgp_wire.proofs.text.put_segments.Given as goal
 
 -- the words of the segments so far stand behind the text
 abbrev pub invariant-loop-segment : goal.invariant-loop-segment
-invariant-loop-segment l = l.text.items ≡ l.fn.text.items ++ ended 32 (flat_map segment_words (take l.segment-index l.segments))
+invariant-loop-segment l = l.text.items ≡ l.fn.text.items ++ ended_words SPACE (flat_map segment_words (take l.segment-index l.segments))

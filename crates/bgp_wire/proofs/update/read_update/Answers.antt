@@ -8,7 +8,7 @@ use Rattle.bgp_wire.specs.Attribute.{Attribute, SpellsAttribute, SpellsAttribute
 use Rattle.bgp_wire.specs.FirstValues.{Holds}
 use Rattle.bgp_wire.specs.Reading.{Reads}
 use Rattle.bgp_wire.specs.Update.{IsUpdate, SaysTogether, SpellsUpdate}
-use Rattle.bgp_wire.proofs.Codes.{attribute_code}
+use Rattle.bgp_wire.proofs.OneFront.{attribute_code}
 use Rattle.bgp_wire.proofs.Refusing.{refused_part, refused_always}
 use Rattle.bgp_wire.proofs.Reaching.{same_update}
 use Rattle.bgp_wire.proofs.update.read_update.Goals as goal

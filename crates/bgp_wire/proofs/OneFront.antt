@@ -10,14 +10,14 @@ use Rattle.bgp_wire.specs.declared.path.AsWidth.TheVariants.{Two, Four}
 use Rattle.bgp_wire.specs.declared.path.SegmentKind.{SegmentKind}
 use Rattle.bgp_wire.specs.declared.path.SegmentKind.TheVariants.{AsSet, AsSequence, ConfedSequence, ConfedSet}
 use Rattle.bgp_wire.specs.declared.path.Segment.{Segment}
-use Rattle.bgp_wire.specs.Number.{bits_at, octets_at, limit_at, SpellsNumber}
+use Rattle.bgp_wire.specs.Number.{bits_at, octets_at, limit_at, SpellsAsn}
 use Rattle.bgp_wire.specs.Path.{kind_code, SpellsSegment}
 use Rattle.bgp_wire.specs.Attribute.{Attribute, is_extended, length_octets, length_limit, SpellsAttribute}
 
 -- ---- numbers
 
 -- how many octets a number takes
-pub length-number : (width : AsWidth) (n : ℕ) (octets : List ℕ) → SpellsNumber width n octets → length octets ≡ octets_at width
+pub length-number : (width : AsWidth) (n : ℕ) (octets : List ℕ) → SpellsAsn width n octets → length octets ≡ octets_at width
 length-number Two n octets s = ap length s.whole
 length-number Four n octets s = ap length s.whole
 
@@ -30,21 +30,21 @@ some_octets : (width : AsWidth) → 0 < octets_at width
 some_octets Two = omega arith
 some_octets Four = omega arith
 
-pub number_code : (width : AsWidth) → IsCode (SpellsNumber width)
+pub number_code : (width : AsWidth) → IsCode (SpellsAsn width)
 number_code width = record { some = some; same = same }
   where
-    some : (n : ℕ) → SpellsNumber width n [] → ⊥
+    some : (n : ℕ) → SpellsAsn width n [] → ⊥
     some n s = omega (arith, length-number width n [] s, some_octets width)
 
-    same : (a b : ℕ) (x y octets : List ℕ) → Begins (SpellsNumber width) a x octets → Begins (SpellsNumber width) b y octets → (a ≡ b) × (x ≡ y)
+    same : (a b : ℕ) (x y octets : List ℕ) → Begins (SpellsAsn width) a x octets → Begins (SpellsAsn width) b y octets → (a ≡ b) × (x ≡ y)
     same a b x y octets p q =
         let sizes : length p.front ≡ length q.front = length-number width a p.front p.spelled ∙ sym (length-number width b q.front q.spelled) in
         let parts = append_parts p.front q.front x y sizes (sym p.whole ∙ q.whole) in
         (same_number width a b p.spelled.fits q.spelled.fits (sym p.spelled.whole ∙ parts.0 ∙ q.spelled.whole), parts.1)
 
 -- how many octets numbers take together
-pub length-numbers : (width : AsWidth) (ns : List ℕ) (octets : List ℕ) → SpellsAll (SpellsNumber width) ns octets → length octets ≡ octets_at width * length ns
-length-numbers width ns octets s = length_together (SpellsNumber width) (octets_at width) (length-number width) ns octets s
+pub length-numbers : (width : AsWidth) (ns : List ℕ) (octets : List ℕ) → SpellsAll (SpellsAsn width) ns octets → length octets ≡ octets_at width * length ns
+length-numbers width ns octets s = length_together (SpellsAsn width) (octets_at width) (length-number width) ns octets s
 
 -- ---- segments
 
@@ -87,7 +87,7 @@ segment_code width = record { some = some; same = same }
         = length-numbers width a.numbers p.spelled.body p.spelled.spelled ∙ ap (λ n. octets_at width * n) counts
         ∙ sym (length-numbers width b.numbers q.spelled.body q.spelled.spelled) in
         let parts = append_parts p.spelled.body q.spelled.body x y sizes bodies in
-        let numbers = one_list (SpellsNumber width) (number_code width) q.spelled.body a.numbers b.numbers (subst (SpellsAll (SpellsNumber width) a.numbers) parts.0 p.spelled.spelled) q.spelled.spelled in
+        let numbers = one_list (SpellsAsn width) (number_code width) q.spelled.body a.numbers b.numbers (subst (SpellsAll (SpellsAsn width) a.numbers) parts.0 p.spelled.spelled) q.spelled.spelled in
         let kind = same_kind a.kind b.kind kinds in
         ((λ i. record { numbers = numbers i; kind = kind i }), parts.1)
 

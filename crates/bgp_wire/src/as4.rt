@@ -1,11 +1,9 @@
-//! Four-octet AS numbers beside two-octet ones (RFC 6793, section 4.2.3).
+//! AS4_PATH and AS4_AGGREGATOR beside AS numbers of two octets (RFC 6793, section 4.2.3).
 
-ghost use Rattle.std.specs.Prelude.{◌≡◌, List, IfOk};
-ghost use Rattle.bgp_wire.specs.declared.path.AsPath.{AsPath};
-ghost use Rattle.bgp_wire.specs.Attribute.{Attribute};
-ghost use Rattle.bgp_wire.specs.FirstValues.{Holds, octets_of};
-ghost use Rattle.bgp_wire.specs.Four.{ignores_four, joined_aggregator, IsJoined, SaysOfBoth, SaysOfFour, SaysPassed};
-ghost use Rattle.bgp_wire.specs.Reading.{Reads};
+ghost use Rattle.std.specs.Prelude.{◌≡◌, IfOk};
+ghost use Rattle.bgp_wire.specs.FirstValues.{ReadsList, octets_of};
+ghost use Rattle.bgp_wire.specs.As4.{ignores_as4, joined_aggregator, IsJoined};
+ghost use Rattle.bgp_wire.specs.As4.{SaysJoined, SaysOwn, SaysPassed};
 
 use crate::attrs::Aggregator;
 use crate::fault::WireFault;
@@ -13,7 +11,7 @@ use crate::framing::{AGGREGATOR, AS_PATH, AS4_AGGREGATOR, AS4_PATH, FirstValues}
 use crate::merge::merge_paths;
 use crate::path::{AsPath, AsWidth};
 use crate::path_reader::read_path;
-use crate::values::{read_aggregator, read_four_aggregator};
+use crate::values::{read_aggregator, read_as4_aggregator};
 use std::alloc::{AllocError, Global};
 
 /// The AS number that stands for one that takes four octets (RFC 6793, section 9).
@@ -33,34 +31,32 @@ pub(crate) fn read_passed(
     width: AsWidth,
     values: &FirstValues,
 ) -> Result<Passed, WireFault>
-    ensures { (list : List Attribute) → Holds values.now list →
-        Reads (λ passed list. SaysPassed width passed.path passed.aggregator list) list result }
+    ensures { ReadsList (λ passed. SaysPassed width passed.path passed.aggregator)
+        values.now result }
 {
     match width {
-        AsWidth::Two => read_both(alloc, values),
-        AsWidth::Four => read_four(alloc, values),
+        AsWidth::Two => read_joined(alloc, values),
+        AsWidth::Four => read_own(alloc, values),
     }
 }
 
 /// Where all AS numbers have four octets.
-fn read_four(alloc: Global, values: &FirstValues) -> Result<Passed, WireFault>
-    ensures { (list : List Attribute) → Holds values.now list →
-        Reads (λ passed list. SaysOfFour passed.path passed.aggregator list) list result }
+fn read_own(alloc: Global, values: &FirstValues) -> Result<Passed, WireFault>
+    ensures { ReadsList (λ passed. SaysOwn passed.path passed.aggregator) values.now result }
 {
     let aggregator = read_aggregator(values.first(AGGREGATOR))?;
     let path = read_path(alloc, AsWidth::Four, values.octets(AS_PATH))?;
     Ok(Passed { aggregator, path })
 }
 
-/// Where those of four octets stand beside those of two.
-fn read_both(alloc: Global, values: &FirstValues) -> Result<Passed, WireFault>
-    ensures { (list : List Attribute) → Holds values.now list →
-        Reads (λ passed list. SaysOfBoth passed.path passed.aggregator list) list result }
+/// Where AS4_PATH and AS4_AGGREGATOR stand beside numbers of two octets.
+fn read_joined(alloc: Global, values: &FirstValues) -> Result<Passed, WireFault>
+    ensures { ReadsList (λ passed. SaysJoined passed.path passed.aggregator) values.now result }
 {
     let own = read_aggregator(values.first(AGGREGATOR))?;
-    let four = read_four_aggregator(values.first(AS4_AGGREGATOR));
-    let ignored = is_ignored(&own, &four);
-    let aggregator = join_aggregator(own, four);
+    let as4 = read_as4_aggregator(values.first(AS4_AGGREGATOR));
+    let ignored = is_ignored(&own, &as4);
+    let aggregator = join_aggregator(own, as4);
     let own_path = read_path(alloc, AsWidth::Two, values.octets(AS_PATH))?;
     let path = join_path(alloc, own_path, ignored, values.first(AS4_PATH))?;
     Ok(Passed { aggregator, path })
@@ -68,10 +64,10 @@ fn read_both(alloc: Global, values: &FirstValues) -> Result<Passed, WireFault>
 
 /// Whether AS4_AGGREGATOR and AS4_PATH are ignored: where both aggregators are there and the number
 /// of AGGREGATOR stands for no other.
-fn is_ignored(own: &Option<Aggregator>, four: &Option<Aggregator>) -> bool
-    ensures { result ≡ ignores_four own.now four.now }
+fn is_ignored(own: &Option<Aggregator>, as4: &Option<Aggregator>) -> bool
+    ensures { result ≡ ignores_as4 own.now as4.now }
 {
-    match (own, four) {
+    match (own, as4) {
         (Some(own), Some(_)) => own.asn != AS_TRANS,
         _ => false,
     }
@@ -79,11 +75,11 @@ fn is_ignored(own: &Option<Aggregator>, four: &Option<Aggregator>) -> bool
 
 /// The aggregator of two: AS4_AGGREGATOR replaces AGGREGATOR, where both are there and it isn't
 /// ignored.
-fn join_aggregator(own: Option<Aggregator>, four: Option<Aggregator>) -> Option<Aggregator>
-    ensures { result ≡ joined_aggregator own four }
+fn join_aggregator(own: Option<Aggregator>, as4: Option<Aggregator>) -> Option<Aggregator>
+    ensures { result ≡ joined_aggregator own as4 }
 {
-    match (own, four) {
-        (Some(own), Some(four)) => Some(if own.asn == AS_TRANS { four } else { own }),
+    match (own, as4) {
+        (Some(own), Some(as4)) => Some(if own.asn == AS_TRANS { as4 } else { own }),
         _ => own,
     }
 }
@@ -94,18 +90,18 @@ fn join_path(
     alloc: Global,
     own: AsPath,
     ignored: bool,
-    four: Option<&[u8]>,
+    as4: Option<&[u8]>,
 ) -> Result<AsPath, AllocError>
-    ensures { IfOk result (IsJoined ignored own (octets_of four.entry)) }
+    ensures { IfOk result (IsJoined ignored own (octets_of as4.entry)) }
 {
     if ignored {
         return Ok(own);
     }
-    let Some(octets) = four else {
+    let Some(octets) = as4 else {
         return Ok(own);
     };
     match read_path(alloc, AsWidth::Four, octets) {
-        Ok(four) => merge_paths(alloc, &own, &four),
+        Ok(as4) => merge_paths(alloc, &own, &as4),
         Err(WireFault::Malformed) => Ok(own),
         Err(WireFault::Memory) => Err(AllocError),
     }

@@ -1,0 +1,115 @@
+-- Paths and attributes as plain data, which the values of types that hold them are made of.
+use Rattle.std.specs.Prelude.{◌≡◌, ℕ, Bool, true, false, List, Option, refl}
+use Rattle.std.specs.Coded.{Coded, code_by, coded×, coded_ℕ, coded_bool, coded_list, coded_option}
+use Rattle.ip_prefix.specs.declared.addr.Family.{Family}
+use Rattle.ip_prefix.specs.declared.addr.Family.TheVariants.{V4, V6}
+use Rattle.ip_prefix.specs.Address.{Address}
+use Rattle.bgp_wire.specs.declared.path.SegmentKind.{SegmentKind}
+use Rattle.bgp_wire.specs.declared.path.SegmentKind.TheVariants.{AsSet, AsSequence, ConfedSequence, ConfedSet}
+use Rattle.bgp_wire.specs.declared.path.Segment.{Segment}
+use Rattle.bgp_wire.specs.declared.path.AsPath.{AsPath}
+use Rattle.bgp_wire.specs.declared.attrs.Origin.{Origin}
+use Rattle.bgp_wire.specs.declared.attrs.Origin.TheVariants.{Igp, Egp, Incomplete}
+use Rattle.bgp_wire.specs.declared.attrs.Aggregator.{Aggregator}
+use Rattle.bgp_wire.specs.declared.attrs.Attrs.{Attrs}
+
+-- TEMPORARY: from ip_prefix.specs.Codes
+abbrev is_v4 : Family → Bool
+is_v4 V4 = true
+is_v4 V6 = false
+
+abbrev family_if_v4 : Bool → Family
+family_if_v4 true = V4
+family_if_v4 false = V6
+
+abbrev same_family : (family : Family) → family_if_v4 (is_v4 family) ≡ family
+same_family V4 = refl
+same_family V6 = refl
+
+abbrev coded_family : Coded Family
+coded_family = code_by Bool coded_bool is_v4 family_if_v4 same_family
+
+abbrev coded_address : Coded Address
+coded_address = code_by (Family × List Bool) (coded× coded_family (coded_list coded_bool)) (λ a. (a.family, a.bits)) (λ p. record { family = p.0; bits = p.1 }) (λ _. refl)
+
+-- end of TEMPORARY
+
+-- whether a segment is of a confederation, and whether its numbers are in order
+abbrev kind_tests : SegmentKind → Bool × Bool
+kind_tests AsSet = (false, false)
+kind_tests AsSequence = (false, true)
+kind_tests ConfedSequence = (true, true)
+kind_tests ConfedSet = (true, false)
+
+abbrev kind_by_tests : Bool → Bool → SegmentKind
+kind_by_tests false false = AsSet
+kind_by_tests false true = AsSequence
+kind_by_tests true true = ConfedSequence
+kind_by_tests true false = ConfedSet
+
+abbrev same_kind : (kind : SegmentKind) → kind_by_tests (kind_tests kind).0 (kind_tests kind).1 ≡ kind
+same_kind AsSet = refl
+same_kind AsSequence = refl
+same_kind ConfedSequence = refl
+same_kind ConfedSet = refl
+
+abbrev pub coded_segment_kind : Coded SegmentKind
+coded_segment_kind = code_by (Bool × Bool) (coded× coded_bool coded_bool) kind_tests (λ p. kind_by_tests p.0 p.1) same_kind
+
+abbrev pub coded_segment : Coded Segment
+coded_segment = code_by (List ℕ × SegmentKind) (coded× (coded_list coded_ℕ) coded_segment_kind) (λ s. (s.numbers, s.kind)) (λ p. record { numbers = p.0; kind = p.1 }) (λ _. refl)
+
+abbrev pub coded_as_path : Coded AsPath
+coded_as_path = code_by (List Segment) (coded_list coded_segment) (λ path. path.segments) (λ segments. record { segments = segments }) (λ _. refl)
+
+-- whether an origin is IGP, and whether it is EGP
+abbrev origin_tests : Origin → Bool × Bool
+origin_tests Igp = (true, false)
+origin_tests Egp = (false, true)
+origin_tests Incomplete = (false, false)
+
+abbrev origin_by_tests : Bool → Bool → Origin
+origin_by_tests true egp = Igp
+origin_by_tests false true = Egp
+origin_by_tests false false = Incomplete
+
+abbrev same_origin : (origin : Origin) → origin_by_tests (origin_tests origin).0 (origin_tests origin).1 ≡ origin
+same_origin Igp = refl
+same_origin Egp = refl
+same_origin Incomplete = refl
+
+abbrev pub coded_origin : Coded Origin
+coded_origin = code_by (Bool × Bool) (coded× coded_bool coded_bool) origin_tests (λ p. origin_by_tests p.0 p.1) same_origin
+
+abbrev pub coded_aggregator : Coded Aggregator
+coded_aggregator = code_by (Address × ℕ) (coded× coded_address coded_ℕ) (λ a. (a.addr, a.asn)) (λ p. record { addr = p.0; asn = p.1 }) (λ _. refl)
+
+-- who has passed a route on, who has aggregated it, and its next hop
+abbrev Travelled : Type 0
+Travelled = AsPath × (Option Aggregator × Option Address)
+
+-- its communities, and whether ATOMIC_AGGREGATE is there
+abbrev Marked : Type 0
+Marked = List ℕ × Bool
+
+-- its metric, its preference and its origin
+abbrev Ranked : Type 0
+Ranked = Option ℕ × (Option ℕ × Option Origin)
+
+abbrev pub coded_attrs : Coded Attrs
+coded_attrs =
+    code_by (Travelled × (Marked × Ranked))
+    (coded× (coded× coded_as_path (coded× (coded_option coded_aggregator) (coded_option coded_address)))
+    (coded× (coded× (coded_list coded_ℕ) coded_bool) (coded× (coded_option coded_ℕ) (coded× (coded_option coded_ℕ) (coded_option coded_origin)))))
+    (λ a. ((a.path, (a.aggregator, a.next_hop)), ((a.communities, a.atomic), (a.med, (a.local_pref, a.origin)))))
+    (λ p. record {
+      path = p.0.0;
+      aggregator = p.0.1.0;
+      next_hop = p.0.1.1;
+      communities = p.1.0.0;
+      atomic = p.1.0.1;
+      med = p.1.1.0;
+      local_pref = p.1.1.1.0;
+      origin = p.1.1.1.1;
+    })
+    (λ _. refl)
