@@ -1,6 +1,6 @@
 -- How many numbers octets hold.
 use Rattle.std.proofs.Common.{◌≡◌, ℕ, ◌+◌, ◌*◌, ◌%◌, List, length, ap, ◌∙◌, arith}
-use Rattle.ip_prefix.specs.Wire.{SpellsAll}
+use Rattle.ip_prefix.specs.Sequences.{SpellsAll}
 use Rattle.bgp_wire.specs.declared.path.AsWidth.{AsWidth}
 use Rattle.bgp_wire.specs.declared.path.AsWidth.TheVariants.{Two, Four}
 use Rattle.bgp_wire.specs.Number.{octets_at, SpellsAsn}

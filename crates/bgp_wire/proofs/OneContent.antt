@@ -3,8 +3,10 @@ use Rattle.std.proofs.Common.{◌≡◌, inl, inr, ℕ, Bool, true, false, List,
 use Rattle.ip_prefix.specs.declared.addr.Family.{Family}
 use Rattle.ip_prefix.specs.declared.addr.Family.TheVariants.{V4}
 use Rattle.ip_prefix.specs.Address.{Address}
-use Rattle.ip_prefix.specs.Wire.{SpellsAll, SpellsNetwork}
-use Rattle.ip_prefix.proofs.Wires.{one_list, network_code}
+use Rattle.ip_prefix.specs.Sequences.{SpellsAll}
+use Rattle.ip_prefix.specs.Wire.{SpellsNetwork}
+use Rattle.ip_prefix.proofs.Sequences.{one_list}
+use Rattle.ip_prefix.proofs.Wires.{network_code}
 use Rattle.bgp_wire.specs.declared.framing.TheConstants.{ORIGIN, AS_PATH, NEXT_HOP, MULTI_EXIT_DISC, LOCAL_PREF, ATOMIC_AGGREGATE, AGGREGATOR, COMMUNITIES, MP_REACH_NLRI, MP_UNREACH_NLRI, AS4_PATH, AS4_AGGREGATOR}
 use Rattle.bgp_wire.specs.declared.path.AsWidth.{AsWidth}
 use Rattle.bgp_wire.specs.declared.path.AsWidth.TheVariants.{Two, Four}

@@ -4,8 +4,11 @@ use Rattle.std.proofs.lemmas.List.{length-append}
 use Rattle.ip_prefix.specs.declared.addr.Family.{Family}
 use Rattle.ip_prefix.specs.declared.addr.Family.TheVariants.{V4, V6}
 use Rattle.ip_prefix.specs.Address.{octet_count}
-use Rattle.ip_prefix.specs.Wire.{SpellsAll, IsCode, SpellsNetwork}
-use Rattle.ip_prefix.proofs.Wires.{append_parts, one_list, network_code}
+use Rattle.ip_prefix.specs.Sequences.{SpellsAll, IsCode}
+use Rattle.ip_prefix.specs.Wire.{SpellsNetwork}
+use Rattle.ip_prefix.proofs.Lists.{append_parts}
+use Rattle.ip_prefix.proofs.Sequences.{one_list}
+use Rattle.ip_prefix.proofs.Wires.{network_code}
 use Rattle.bgp_wire.specs.declared.path.AsWidth.{AsWidth}
 use Rattle.bgp_wire.specs.declared.path.AsWidth.TheVariants.{Two, Four}
 use Rattle.bgp_wire.specs.declared.attrs.Origin.{Origin}

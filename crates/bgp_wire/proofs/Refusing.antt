@@ -1,7 +1,7 @@
 -- What is refused when a part of it is.
 use Rattle.std.proofs.Common.{◌≡◌, ℕ, ◌*◌, false, nat_eq, Option, Some, None, Result, Ok, Err, List, [], ◌∷◌, ◌++◌, length, get_or, drop, ap, sym, subst, ◌∙◌, arith}
-use Rattle.ip_prefix.specs.Wire.{Begins, SpellsAll, IsCode}
-use Rattle.ip_prefix.proofs.Wires.{append_parts}
+use Rattle.ip_prefix.specs.Sequences.{Begins, SpellsAll, IsCode}
+use Rattle.ip_prefix.proofs.Lists.{append_parts}
 use Rattle.ip_prefix.proofs.Sequences.{none_at_all}
 use Rattle.bgp_wire.specs.declared.fault.WireFault.{WireFault}
 use Rattle.bgp_wire.specs.declared.fault.WireFault.TheVariants.{Malformed, Memory}

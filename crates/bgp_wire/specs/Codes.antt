@@ -1,9 +1,8 @@
 -- Paths and attributes as plain data, which the values of types that hold them are made of.
 use Rattle.std.specs.Prelude.{◌≡◌, ℕ, Bool, true, false, List, Option, refl}
 use Rattle.std.specs.Coded.{Coded, code_by, coded×, coded_ℕ, coded_bool, coded_list, coded_option}
-use Rattle.ip_prefix.specs.declared.addr.Family.{Family}
-use Rattle.ip_prefix.specs.declared.addr.Family.TheVariants.{V4, V6}
 use Rattle.ip_prefix.specs.Address.{Address}
+use Rattle.ip_prefix.specs.Codes.{coded_address}
 use Rattle.bgp_wire.specs.declared.path.SegmentKind.{SegmentKind}
 use Rattle.bgp_wire.specs.declared.path.SegmentKind.TheVariants.{AsSet, AsSequence, ConfedSequence, ConfedSet}
 use Rattle.bgp_wire.specs.declared.path.Segment.{Segment}
@@ -12,27 +11,6 @@ use Rattle.bgp_wire.specs.declared.attrs.Origin.{Origin}
 use Rattle.bgp_wire.specs.declared.attrs.Origin.TheVariants.{Igp, Egp, Incomplete}
 use Rattle.bgp_wire.specs.declared.attrs.Aggregator.{Aggregator}
 use Rattle.bgp_wire.specs.declared.attrs.Attrs.{Attrs}
-
--- TEMPORARY: from ip_prefix.specs.Codes
-abbrev is_v4 : Family → Bool
-is_v4 V4 = true
-is_v4 V6 = false
-
-abbrev family_if_v4 : Bool → Family
-family_if_v4 true = V4
-family_if_v4 false = V6
-
-abbrev same_family : (family : Family) → family_if_v4 (is_v4 family) ≡ family
-same_family V4 = refl
-same_family V6 = refl
-
-abbrev coded_family : Coded Family
-coded_family = code_by Bool coded_bool is_v4 family_if_v4 same_family
-
-abbrev coded_address : Coded Address
-coded_address = code_by (Family × List Bool) (coded× coded_family (coded_list coded_bool)) (λ a. (a.family, a.bits)) (λ p. record { family = p.0; bits = p.1 }) (λ _. refl)
-
--- end of TEMPORARY
 
 -- whether a segment is of a confederation, and whether its numbers are in order
 abbrev kind_tests : SegmentKind → Bool × Bool

@@ -2,7 +2,7 @@
 use Rattle.std.specs.Prelude.{◌≡◌, ℕ, false, List, Option}
 use Rattle.ip_prefix.specs.declared.addr.Family.{Family}
 use Rattle.ip_prefix.specs.Address.{Address}
-use Rattle.ip_prefix.specs.Wire.{SpellsAll}
+use Rattle.ip_prefix.specs.Sequences.{SpellsAll}
 use Rattle.bgp_wire.specs.declared.framing.TheConstants.{ORIGIN, NEXT_HOP, MULTI_EXIT_DISC, LOCAL_PREF, ATOMIC_AGGREGATE, COMMUNITIES, MP_REACH_NLRI}
 use Rattle.bgp_wire.specs.declared.path.AsWidth.{AsWidth}
 use Rattle.bgp_wire.specs.declared.attrs.Attrs.{Attrs}

@@ -1,6 +1,6 @@
 -- How an AS path is sent (RFC 4271, section 4.3; RFC 5065, section 3).
 use Rattle.std.specs.Prelude.{◌≡◌, ℕ, ◌*◌, ◌<◌, List, ◌∷◌, ◌++◌, length}
-use Rattle.ip_prefix.specs.Wire.{SpellsAll}
+use Rattle.ip_prefix.specs.Sequences.{SpellsAll}
 use Rattle.bgp_wire.specs.declared.path.AsWidth.{AsWidth}
 use Rattle.bgp_wire.specs.declared.path.SegmentKind.{SegmentKind}
 use Rattle.bgp_wire.specs.declared.path.SegmentKind.TheVariants.{AsSet, AsSequence, ConfedSequence, ConfedSet}

@@ -4,7 +4,8 @@ use Rattle.ip_prefix.specs.declared.addr.Family.{Family}
 use Rattle.ip_prefix.specs.declared.addr.Family.TheVariants.{V4, V6}
 use Rattle.ip_prefix.specs.Address.{Address}
 use Rattle.ip_prefix.specs.Network.{Network}
-use Rattle.ip_prefix.specs.Wire.{SpellsAll, SpellsNetwork}
+use Rattle.ip_prefix.specs.Sequences.{SpellsAll}
+use Rattle.ip_prefix.specs.Wire.{SpellsNetwork}
 use Rattle.bgp_wire.specs.declared.attrs.Attrs.{Attrs}
 use Rattle.bgp_wire.specs.declared.reach.Reach.{Reach}
 use Rattle.bgp_wire.specs.declared.next_hop.TheConstants.{FAMILY_SIZE}

@@ -3,7 +3,8 @@ use Rattle.std.specs.Prelude.{◌≡◌, ℕ, ◌<◌, ◌^◌, false, List, ◌
 use Rattle.std.specs.Int.{to_be_bytes, w16}
 use Rattle.ip_prefix.specs.declared.addr.Family.TheVariants.{V4}
 use Rattle.ip_prefix.specs.Network.{Network}
-use Rattle.ip_prefix.specs.Wire.{SpellsAll, SpellsNetwork}
+use Rattle.ip_prefix.specs.Sequences.{SpellsAll}
+use Rattle.ip_prefix.specs.Wire.{SpellsNetwork}
 use Rattle.bgp_wire.specs.declared.path.AsWidth.{AsWidth}
 use Rattle.bgp_wire.specs.declared.attrs.Attrs.{Attrs}
 use Rattle.bgp_wire.specs.declared.reach.Reach.{Reach}

@@ -1,7 +1,7 @@
 //! Finding the path attributes in their list.
 
 ghost use Rattle.std.specs.Prelude.{◌≡◌, ℕ, ◌<◌, List, [], ◌∷◌, ◌++◌, IfSome, IfNone};
-ghost use Rattle.ip_prefix.specs.Wire.{Begins};
+ghost use Rattle.ip_prefix.specs.Sequences.{Begins};
 ghost use Rattle.bgp_wire.specs.Attribute.{Attribute, SpellsAttribute, SpellsAttributes};
 ghost use Rattle.bgp_wire.specs.Attribute.{is_extended, length_octets, length_limit};
 ghost use Rattle.bgp_wire.specs.Attribute.{first_value, repeats};

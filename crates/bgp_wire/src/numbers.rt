@@ -2,7 +2,7 @@
 
 ghost use Rattle.std.specs.Prelude.{◌≡◌, ◌<◌, ◌^◌, length, IfOk, IfErr};
 ghost use Rattle.std.specs.Int.{to_be_bytes, w16};
-ghost use Rattle.ip_prefix.specs.Wire.{SpellsAll};
+ghost use Rattle.ip_prefix.specs.Sequences.{SpellsAll};
 ghost use Rattle.bgp_wire.specs.Number.{SpellsAsn, octets_at};
 ghost use Rattle.bgp_wire.specs.Reading.{Refuses};
 

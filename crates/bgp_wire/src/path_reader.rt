@@ -1,7 +1,7 @@
 //! Reading AS paths.
 
 ghost use Rattle.std.specs.Prelude.{◌≡◌, ℕ, IfOk, IfErr, IfSome, IfNone};
-ghost use Rattle.ip_prefix.specs.Wire.{Begins};
+ghost use Rattle.ip_prefix.specs.Sequences.{Begins};
 ghost use Rattle.bgp_wire.specs.Path.{kind_code, SpellsSegment, SpellsPath, IsFramed};
 ghost use Rattle.bgp_wire.specs.Reading.{Finds, Reads, BeginsWithNone, RefusesFront};
 

@@ -1,7 +1,8 @@
 //! Lists of prefixes.
 
 ghost use Rattle.std.specs.Prelude.{◌≡◌};
-ghost use Rattle.ip_prefix.specs.Wire.{SpellsAll, SpellsNetwork};
+ghost use Rattle.ip_prefix.specs.Sequences.{SpellsAll};
+ghost use Rattle.ip_prefix.specs.Wire.{SpellsNetwork};
 ghost use Rattle.bgp_wire.specs.Reading.{Reads};
 
 use crate::fault::WireFault;

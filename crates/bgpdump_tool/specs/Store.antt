@@ -10,7 +10,8 @@ use Rattle.std.specs.FinSet as set
 use Rattle.std.specs.declared.alloc.Global.{Global}
 use Rattle.bgpdump_tool.specs.declared.player.pair.Pair.{Pair}
 use Rattle.mrt_wire.specs.declared.event.Route.{Route}
-use Rattle.bgpdump_tool.specs.Codes.{coded_pair, coded_route}
+use Rattle.mrt_wire.specs.Codes.{coded_route}
+use Rattle.bgpdump_tool.specs.Codes.{coded_pair}
 use Rattle.bgpdump_tool.specs.History.{pair_cmp}
 use Rattle.bgpdump_tool.specs.Tables.{Routes, Pairs, put}
 

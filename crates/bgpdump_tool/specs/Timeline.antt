@@ -4,7 +4,8 @@ use Rattle.std.specs.Coded.{Coded, code_by, coded×, coded_ℕ, coded_list}
 use Rattle.std.specs.FinMap as finite
 use Rattle.std.specs.FinSet as set
 use Rattle.mrt_wire.specs.declared.event.Event.{Event}
-use Rattle.bgpdump_tool.specs.Codes.{coded_pair, coded_route}
+use Rattle.mrt_wire.specs.Codes.{coded_route}
+use Rattle.bgpdump_tool.specs.Codes.{coded_pair}
 use Rattle.bgpdump_tool.specs.Tables.{Routes, Pairs, table, table_after, named_pairs}
 
 -- a player as contracts see it

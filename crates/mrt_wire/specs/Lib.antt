@@ -12,3 +12,4 @@ pub mod Judging
 pub mod Taking
 pub mod Next
 pub mod SoFar
+pub mod Codes

@@ -1,5 +1,5 @@
 use Rattle.std.proofs.Common.{List, length}
-use Rattle.ip_prefix.specs.Wire.{Begins, SpellsAll}
+use Rattle.ip_prefix.specs.Sequences.{Begins, SpellsAll}
 use Rattle.bgp_wire.specs.Attribute.{Attribute, SpellsAttribute}
 use Rattle.bgp_wire.specs.FirstValues.{Holds}
 use Rattle.bgp_wire.proofs.framing.read_first_values.Given as goal

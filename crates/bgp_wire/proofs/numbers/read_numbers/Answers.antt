@@ -1,5 +1,5 @@
 use Rattle.std.proofs.Common.{◌+◌, ◌%◌, length, ap, sym, subst, ◌∙◌}
-use Rattle.ip_prefix.specs.Wire.{Begins, SpellsAll}
+use Rattle.ip_prefix.specs.Sequences.{Begins, SpellsAll}
 use Rattle.ip_prefix.proofs.Sequences.{one_more}
 use Rattle.bgp_wire.specs.Number.{SpellsAsn}
 use Rattle.bgp_wire.proofs.Counting.{whole_numbers, less_one}

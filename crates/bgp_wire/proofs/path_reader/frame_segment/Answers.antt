@@ -1,7 +1,7 @@
 use Rattle.std.proofs.Common.{◌≡◌, ℕ, ◌*◌, ◌<◌, ◌≤◌, List, ◌∷◌, ◌++◌, length, get_or, drop, Fits, w64, ap, sym, subst, ◌∙◌, arith}
 use Rattle.std.proofs.Math.Nat.{mul_comm}
 use Rattle.std.proofs.lemmas.List.{length-append}
-use Rattle.ip_prefix.specs.Wire.{Begins}
+use Rattle.ip_prefix.specs.Sequences.{Begins}
 use Rattle.bgp_wire.specs.declared.path.AsWidth.{AsWidth}
 use Rattle.bgp_wire.specs.declared.path.AsWidth.TheVariants.{Two, Four}
 use Rattle.bgp_wire.specs.declared.path.Segment.{Segment}

@@ -1,6 +1,6 @@
 use Rattle.std.proofs.Common.{◌≡◌, [], Err, ap, sym, subst, ◌∙◌}
 use Rattle.std.proofs.lemmas.Result.{err_from_is_err_and}
-use Rattle.ip_prefix.specs.Wire.{Begins, SpellsAll}
+use Rattle.ip_prefix.specs.Sequences.{Begins, SpellsAll}
 use Rattle.ip_prefix.proofs.Sequences.{one_more}
 use Rattle.bgp_wire.specs.Path.{SpellsSegment, SpellsPath}
 use Rattle.bgp_wire.specs.Reading.{Reads}

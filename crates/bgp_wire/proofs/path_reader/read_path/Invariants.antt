@@ -1,5 +1,5 @@
 use Rattle.std.proofs.Common.{length}
-use Rattle.ip_prefix.specs.Wire.{Begins, SpellsAll}
+use Rattle.ip_prefix.specs.Sequences.{Begins, SpellsAll}
 use Rattle.bgp_wire.specs.Path.{SpellsSegment}
 use Rattle.bgp_wire.proofs.path_reader.read_path.Given as goal
 

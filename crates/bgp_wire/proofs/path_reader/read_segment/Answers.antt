@@ -1,6 +1,6 @@
 use Rattle.std.proofs.Common.{ℕ, IfSome, sym, subst}
 use Rattle.std.proofs.lemmas.Result.{err_from_is_err_and}
-use Rattle.ip_prefix.specs.Wire.{Begins}
+use Rattle.ip_prefix.specs.Sequences.{Begins}
 use Rattle.bgp_wire.specs.Path.{SpellsSegment, IsFramed}
 use Rattle.bgp_wire.specs.Reading.{RefusesFront}
 use Rattle.bgp_wire.proofs.Refusing.{refused_numbers, segment_framed}

@@ -1,7 +1,8 @@
 use Rattle.std.proofs.Common.{◌≡◌, ◌≤◌, ℕ, List, [], length, take, IfSome, IfNone, sym, subst, ◌∙◌}
 use Rattle.std.proofs.lemmas.Result.{err_from_is_err_and}
 use Rattle.ip_prefix.specs.Network.{Network}
-use Rattle.ip_prefix.specs.Wire.{Begins, SpellsAll, SpellsNetwork}
+use Rattle.ip_prefix.specs.Sequences.{Begins, SpellsAll}
+use Rattle.ip_prefix.specs.Wire.{SpellsNetwork}
 use Rattle.ip_prefix.proofs.Wires.{network_code}
 use Rattle.ip_prefix.proofs.Sequences.{one_more, none_at_all}
 use Rattle.bgp_wire.specs.Reading.{Reads}

@@ -1,5 +1,6 @@
 use Rattle.std.proofs.Common.{length}
-use Rattle.ip_prefix.specs.Wire.{Begins, SpellsAll, SpellsNetwork}
+use Rattle.ip_prefix.specs.Sequences.{Begins, SpellsAll}
+use Rattle.ip_prefix.specs.Wire.{SpellsNetwork}
 use Rattle.bgp_wire.proofs.prefixes.read_prefixes.Given as goal
 
 -- the prefixes so far are spelled by the octets before the rest

@@ -1,7 +1,8 @@
 use Rattle.std.proofs.Common.{IfSome, IfNone, ℕ, List, Err, ap, sym, subst, ◌∙◌}
 use Rattle.std.proofs.lemmas.Result.{err_from_is_err_and}
 use Rattle.ip_prefix.specs.Address.{Address}
-use Rattle.ip_prefix.specs.Wire.{SpellsAll, SpellsNetwork}
+use Rattle.ip_prefix.specs.Sequences.{SpellsAll}
+use Rattle.ip_prefix.specs.Wire.{SpellsNetwork}
 use Rattle.bgp_wire.specs.Reach.{HopStands, SpellsUnicast}
 use Rattle.bgp_wire.specs.Reading.{Reads}
 use Rattle.bgp_wire.proofs.Refusing.{refused_part}

@@ -1,7 +1,7 @@
 use Rattle.std.proofs.Common.{◌≡◌, List, Option, IfSome, Err, ap, sym, subst, ◌∙◌}
 use Rattle.std.proofs.lemmas.Result.{err_from_is_err_and}
 use Rattle.ip_prefix.specs.Address.{Address}
-use Rattle.ip_prefix.proofs.Wires.{one_list}
+use Rattle.ip_prefix.proofs.Sequences.{one_list}
 use Rattle.bgp_wire.specs.declared.path.AsWidth.{AsWidth}
 use Rattle.bgp_wire.specs.declared.attrs.Attrs.{Attrs}
 use Rattle.bgp_wire.specs.Attribute.{Attribute, SpellsAttribute, SpellsAttributes}

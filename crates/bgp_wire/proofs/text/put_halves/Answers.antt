@@ -3,7 +3,7 @@ use Rattle.std.proofs.Common.{◌≡◌, ℕ, ◌+◌, ◌-◌, ◌%◌, ◌<◌
 use Rattle.std.proofs.lemmas.Fmt.{length-decimal-le}
 use Rattle.std.proofs.lemmas.List.{length-set}
 use Rattle.std.proofs.lemmas.Grind.{common_steps}
-use Rattle.ip_prefix.proofs.HexText.{written_before}
+use Rattle.ip_prefix.proofs.Lists.{written_before}
 use Rattle.bgp_wire.proofs.text.put_halves.Goals as goal
 
 short : (n : ℕ) → n < 65536 → length (decimal n) ≤ 5

@@ -1,8 +1,9 @@
 use Rattle.std.proofs.Common.{List, IfSome, IfNone, Err, ap, sym, subst, ◌∙◌}
 use Rattle.std.proofs.lemmas.Result.{err_from_is_err_and}
 use Rattle.ip_prefix.specs.declared.addr.Family.TheVariants.{V4}
-use Rattle.ip_prefix.specs.Wire.{SpellsAll, SpellsNetwork}
-use Rattle.ip_prefix.proofs.Wires.{one_list}
+use Rattle.ip_prefix.specs.Sequences.{SpellsAll}
+use Rattle.ip_prefix.specs.Wire.{SpellsNetwork}
+use Rattle.ip_prefix.proofs.Sequences.{one_list}
 use Rattle.bgp_wire.specs.declared.update.Said.{Said}
 use Rattle.bgp_wire.specs.Attribute.{Attribute, SpellsAttribute, SpellsAttributes}
 use Rattle.bgp_wire.specs.FirstValues.{Holds}

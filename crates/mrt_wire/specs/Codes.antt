@@ -1,0 +1,13 @@
+-- Peers and routes as plain data, which the values of types that hold them are made of.
+use Rattle.std.specs.Prelude.{ℕ, refl}
+use Rattle.std.specs.Coded.{Coded, code_by, coded×, coded_ℕ}
+use Rattle.ip_prefix.specs.Address.{Address}
+use Rattle.ip_prefix.specs.Codes.{coded_address}
+use Rattle.mrt_wire.specs.declared.peer.Peer.{Peer}
+use Rattle.mrt_wire.specs.declared.event.Route.{Route}
+
+abbrev pub coded_peer : Coded Peer
+coded_peer = code_by (Address × ℕ) (coded× coded_address coded_ℕ) (λ p. (p.addr, p.asn)) (λ p. record { addr = p.0; asn = p.1 }) (λ _. refl)
+
+abbrev pub coded_route : Coded Route
+coded_route = code_by ℕ coded_ℕ (λ r. r.time) (λ n. record { time = n }) (λ _. refl)
