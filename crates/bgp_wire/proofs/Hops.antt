@@ -1,6 +1,6 @@
 -- Octets of next hops.
 use Rattle.std.proofs.Common.{◌≡◌, ◌⊎◌, inl, inr, ℕ, ◌<◌, ◌≤◌, List, [], ◌∷◌, ◌++◌, length, take, drop, get_or, ap, sym, subst, ◌∙◌, refl, arith, length-drop}
-use Rattle.std.proofs.lemmas.List.{length-append, length-take-le, take-append-drop}
+use Rattle.std.proofs.lemmas.List.{length-append, length-take-le, take-append-drop, nil_from_length}
 use Rattle.ip_prefix.specs.declared.addr.Family.{Family}
 use Rattle.ip_prefix.specs.declared.addr.Family.TheVariants.{V4, V6}
 use Rattle.ip_prefix.specs.Address.{Address, octet_count}
@@ -11,11 +11,7 @@ use Rattle.bgp_wire.specs.NextHop.{IsLinkLocal, SpellsNextHop, SpellsHopAlone, S
 
 -- the octets behind the first sixteen are none, or a link-local address
 link_local_size : (octets : List ℕ) → ((length octets ≡ IPV6_SIZE) ⊎ (length octets ≡ BOTH_SIZE)) → IsLinkLocal V6 (drop IPV6_SIZE octets)
-link_local_size octets (inl e) = inl (nothing (drop IPV6_SIZE octets) (omega (arith, length-drop IPV6_SIZE octets, e)))
-  where
-    nothing : (l : List ℕ) → length l ≡ 0 → l ≡ []
-    nothing [] e = refl
-    nothing (x ∷ l) e = absurd (omega (arith, e))
+link_local_size octets (inl e) = inl (nil_from_length (drop IPV6_SIZE octets) (omega (arith, length-drop IPV6_SIZE octets, e)))
 link_local_size octets (inr e) = inr (omega (arith, length-drop IPV6_SIZE octets, e))
 
 -- the first sixteen of 16 or 32 octets are the next hop

@@ -8,6 +8,7 @@ use Rattle.bgp_wire.specs.declared.framing.TheConstants.{KINDS}
 use Rattle.bgp_wire.specs.Attribute.{Attribute, first_value, repeats}
 use Rattle.bgp_wire.specs.FirstValues.{Firsts, Holds}
 use Rattle.std.specs.Option.{option_or}
+use Rattle.std.proofs.Math.Bool.{or-false, and-false, or-true}
 
 -- what an attribute has of a type
 abbrev pub own_value : ℕ → ℕ → List ℕ → Option (List ℕ)
@@ -61,10 +62,6 @@ option_or-None : {A : Type 0} (old : Option A) → option_or old None ≡ old
 option_or-None None = refl
 option_or-None (Some value) = refl
 
-or-false : (test : Bool) → (test || false) ≡ test
-or-false true = refl
-or-false false = refl
-
 -- ---- the ways in which a value is noted, or not
 
 -- another type has no part in it
@@ -81,14 +78,6 @@ other_not_again kind wanted again seen other =
       | inl h ↦ absurd (other h.1)
       | inr h ↦ sym (ap (λ test. again || (test && seen)) h.0 ∙ or-false again)
     ]
-
-and-false : (test : Bool) → (test && false) ≡ false
-and-false true = refl
-and-false false = refl
-
-or-true : (test : Bool) → (test || true) ≡ true
-or-true true = refl
-or-true false = refl
 
 -- the first of its type isn't one again
 pub first_not_again : (values : List (Option (List ℕ))) (kind wanted : ℕ) (again : Bool) → get_or values kind None ≡ None → again ≡ (again || ((kind == wanted) && is_some (get_or values wanted None)))

@@ -1,10 +1,10 @@
 -- No octets are spellings of two values of an attribute.
-use Rattle.std.proofs.Common.{◌≡◌, ◌⊎◌, inl, inr, ℕ, ◌+◌, true, false, List, [], ◌++◌, length, drop, get_or, Some, None, refl, ap, sym, subst, ◌∙◌, arith, append-nil}
+use Rattle.std.proofs.Common.{◌≡◌, ◌⊎◌, inl, inr, ℕ, ◌+◌, true, false, List, ◌++◌, length, drop, get_or, Some, None, refl, ap, sym, subst, ◌∙◌, arith}
 use Rattle.std.proofs.lemmas.List.{length-append}
 use Rattle.ip_prefix.specs.declared.addr.Family.{Family}
 use Rattle.ip_prefix.specs.declared.addr.Family.TheVariants.{V4, V6}
 use Rattle.ip_prefix.specs.Address.{octet_count}
-use Rattle.ip_prefix.specs.Sequences.{SpellsAll, IsCode}
+use Rattle.ip_prefix.specs.Sequences.{SpellsAll}
 use Rattle.ip_prefix.specs.Wire.{SpellsNetwork}
 use Rattle.ip_prefix.proofs.Lists.{append_parts}
 use Rattle.ip_prefix.proofs.Sequences.{one_list}
@@ -23,17 +23,8 @@ use Rattle.bgp_wire.specs.Reach.{HopStands, SpellsUnicast, SpellsReach, SaysReac
 use Rattle.bgp_wire.proofs.OneFront.{number_code, length-number}
 use Rattle.bgp_wire.proofs.Hops.{length-hop}
 use Rattle.bgp_wire.proofs.Reaching.{same_family, same_unicast, same_stand, not_another}
-
--- no octets are spellings of two values
-abbrev pub IsOne : {A B : Type 0} → (A → B → Type 0) → Type 0
-IsOne {A} {B} Spells = (value other : A) (octets : B) → Spells value octets → Spells other octets → value ≡ other
-
--- values of which no octets begin with two aren't spelled by the same
-pub one_of_code : {A : Type 0} (Spells : A → List ℕ → Type 0) → IsCode Spells → IsOne Spells
-one_of_code Spells code value other octets s t =
-    (code.same value other [] [] octets
-    record { front = octets; spelled = s; whole = sym (append-nil octets) }
-    record { front = octets; spelled = t; whole = sym (append-nil octets) }).0
+use Rattle.ip_prefix.specs.Fields.{IsOne}
+use Rattle.ip_prefix.proofs.Fields.{one_of_code}
 
 pub one_optional : {A : Type 0} (Spells : A → List ℕ → Type 0) → IsOne Spells → IsOne (SpellsOptional Spells)
 one_optional Spells one None None octets s t = refl

@@ -75,10 +75,6 @@ message_parts kind body octets len after size e s =
     let parts = append_parts (take MARKER_SIZE octets) s.marker (drop MARKER_SIZE octets) (to_be_bytes w16 (length octets) ++ (kind ∷ body)) (length-take-le MARKER_SIZE octets within ∙ sym s.marker_size) (take-append-drop MARKER_SIZE octets ∙ s.whole) in
     append_parts len (to_be_bytes w16 (length octets)) after (kind ∷ body) size (sym e ∙ parts.1)
 
--- two octets are those of one length
-pub same_length_octets : (m n : ℕ) → m < 2 ^ 16 → n < 2 ^ 16 → to_be_bytes w16 m ≡ to_be_bytes w16 n → m ≡ n
-same_length_octets m n p q e = sym (from_be_bytes-to_be_bytes_2 m p) ∙ ap (from_be_bytes w16) e ∙ from_be_bytes-to_be_bytes_2 n q
-
 -- an octet that stands in octets is one
 pub octet_behind : (octets front rest : List ℕ) (x : ℕ) → ((i : ℕ) → get_or octets i 0 < 256) → octets ≡ front ++ x ∷ rest → x < 256
 octet_behind octets front rest x each e = omega (arith, each (length front), ap (λ l. get_or l (length front) 0) e, get_or-append_seam front x rest 0)

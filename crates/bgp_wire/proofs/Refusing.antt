@@ -1,5 +1,5 @@
 -- What is refused when a part of it is.
-use Rattle.std.proofs.Common.{◌≡◌, ℕ, ◌*◌, false, nat_eq, Option, Some, None, Result, Ok, Err, List, [], ◌∷◌, ◌++◌, length, get_or, drop, ap, sym, subst, ◌∙◌, arith}
+use Rattle.std.proofs.Common.{◌≡◌, ℕ, ◌*◌, Option, Some, None, Result, Ok, Err, List, [], ◌∷◌, ◌++◌, length, get_or, drop, ap, sym, subst, ◌∙◌, arith}
 use Rattle.ip_prefix.specs.Sequences.{Begins, SpellsAll, IsCode}
 use Rattle.ip_prefix.proofs.Lists.{append_parts}
 use Rattle.ip_prefix.proofs.Sequences.{none_at_all}
@@ -19,10 +19,6 @@ pub finds_whole : {A C D : Type 0} (Part : A → D → Type 0) (Whole : A → C 
     → ((a : A) → Part a part → Whole a octets) → ((a : A) → Whole a octets → Part a part) → Finds Part part answer → Finds Whole octets answer
 finds_whole Part Whole part octets None up down h = λ a s. h a (down a s)
 finds_whole Part Whole part octets (Some a) up down h = up a h
-
--- a list that isn't empty
-pub nonempty : (l : List ℕ) → nat_eq (length l) 0 ≡ false → l ≡ [] → ⊥
-nonempty l e h = let f : nat_eq 0 0 ≡ false = sym (ap (λ l. nat_eq (length l) 0) h) ∙ e in cc
 
 -- a value has a part that the other octets spell, so where none is spelled by those it isn't there
 pub refused_part : {A B C D : Type 0} (Whole : A → C → Type 0) (Part : B → D → Type 0) (octets : C) (part : D) (fault : WireFault)

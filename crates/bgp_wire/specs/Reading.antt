@@ -1,6 +1,6 @@
 -- What a function that reads octets answers.
 use Rattle.std.specs.Prelude.{ℕ, List, Option, Some, None, Result, Ok, Err}
-use Rattle.ip_prefix.specs.Sequences.{Begins}
+use Rattle.ip_prefix.specs.Sequences.{BeginsWithNone}
 use Rattle.bgp_wire.specs.declared.fault.WireFault.{WireFault}
 use Rattle.bgp_wire.specs.declared.fault.WireFault.TheVariants.{Malformed, Memory}
 
@@ -22,10 +22,6 @@ Refuses Spells octets Memory = Unit {0}
 abbrev pub Reads : {A B : Type 0} → (A → B → Type 0) → B → Result A WireFault → Type 0
 Reads Spells octets (Ok value) = Spells value octets
 Reads Spells octets (Err fault) = Refuses Spells octets fault
-
--- no value stands in front of the octets, whatever follows it
-abbrev pub BeginsWithNone : {A : Type 0} → (A → List ℕ → Type 0) → List ℕ → Type 0
-BeginsWithNone {A} Spells octets = (value : A) (rest : List ℕ) → Begins Spells value rest octets → ⊥
 
 -- malformed is what begins with no value
 abbrev pub RefusesFront : {A : Type 0} → (A → List ℕ → Type 0) → List ℕ → WireFault → Type 0

@@ -6,7 +6,8 @@ ghost use Rattle.bgp_wire.specs.Attribute.{Attribute, SpellsAttribute, SpellsAtt
 ghost use Rattle.bgp_wire.specs.Attribute.{is_extended, length_octets, length_limit};
 ghost use Rattle.bgp_wire.specs.Attribute.{first_value, repeats};
 ghost use Rattle.bgp_wire.specs.FirstValues.{Holds, octets_of};
-ghost use Rattle.bgp_wire.specs.Reading.{BeginsWithNone, IsNoSpelling};
+ghost use Rattle.ip_prefix.specs.Sequences.{BeginsWithNone};
+ghost use Rattle.bgp_wire.specs.Reading.{IsNoSpelling};
 ghost use Rattle.bgp_wire.specs.Value.{octets_or_none};
 
 use crate::numbers::{LENGTH_SIZE, read_length};

@@ -3,7 +3,8 @@
 ghost use Rattle.std.specs.Prelude.{◌≡◌, ℕ, IfOk, IfErr, IfSome, IfNone};
 ghost use Rattle.ip_prefix.specs.Sequences.{Begins};
 ghost use Rattle.bgp_wire.specs.Path.{kind_code, SpellsSegment, SpellsPath, IsFramed};
-ghost use Rattle.bgp_wire.specs.Reading.{Finds, Reads, BeginsWithNone, RefusesFront};
+ghost use Rattle.ip_prefix.specs.Sequences.{BeginsWithNone};
+ghost use Rattle.bgp_wire.specs.Reading.{Finds, Reads, RefusesFront};
 
 use crate::fault::WireFault;
 use crate::numbers::read_numbers;

@@ -55,18 +55,3 @@ at-steps_along zero past (event ∷ events) = ap (λ h. Some (named_pairs (table
 at-steps_along (suc k) past (event ∷ events) =
     at-steps_along k (past ++ event ∷ []) events
     ∙ ap (λ h. option_map (named_pairs (table h)) (slice_get events k)) (append_assoc past (event ∷ []) (take k events))
-
--- the first elements in two parts
-pub take_in_parts : {A : Type 0} (low high : ℕ) (xs : List A) → low ≤ high → take low xs ++ take (high - low) (drop low xs) ≡ take high xs
-take_in_parts low high xs h =
-    ap₂ (λ a b. a ++ b)
-    (sym (take-take low high xs h))
-    (sym (drop-take low (high - low) xs) ∙ ap (λ n. drop low (take n xs)) (add-sub_of_le h))
-    ∙ take-append-drop low (take high xs)
-
--- an element of the rest of a list
-pub slice_get-drop : {A : Type 0} (low k i : ℕ) (xs : List A) → low + k ≡ i → slice_get (drop low xs) k ≡ slice_get xs i
-slice_get-drop zero k i xs e = ap (slice_get xs) (omega arith)
-slice_get-drop (suc low) k i [] e = refl
-slice_get-drop (suc low) k zero (x ∷ xs) e = absurd (omega arith)
-slice_get-drop (suc low) k (suc i) (x ∷ xs) e = slice_get-drop low k i xs (omega arith)

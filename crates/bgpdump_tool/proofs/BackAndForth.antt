@@ -6,6 +6,7 @@ use Rattle.mrt_wire.specs.declared.event.Event.{Event}
 use Rattle.bgpdump_tool.specs.Tables.{table}
 use Rattle.bgpdump_tool.specs.Timeline.{Timeline, StandsFor, Call, Play, Undo, Redo, end_of, table_at, current, after_play, after_undo, after_redo, after_call, after_calls}
 use Rattle.bgpdump_tool.proofs.TimelineLaws.{StandsFor-table, StandsFor-current, StandsFor-end, StandsFor-after_play}
+use Rattle.ip_prefix.proofs.Lists.{take_pushed}
 
 -- the player at another position
 abbrev at : Timeline → ℕ → Timeline
@@ -25,10 +26,6 @@ after_redo-after_undo t history stands h =
     ap after_redo (after_undo-at t h)
     ∙ after_redo-at (at t (t.cursor - 1)) (omega (arith, stands.cursor, StandsFor-end t history stands))
     ∙ ap (at t) (omega arith)
-
--- the events before the cursor, and one event more, are what the player with that event played has before it
-take-one_more : {A : Type 0} (n : ℕ) (xs : List A) (x : A) → n ≤ length xs → take (n + 1) (take n xs ++ x ∷ []) ≡ take n xs ++ x ∷ []
-take-one_more n xs x h = take_all (n + 1) (take n xs ++ x ∷ []) (omega (arith, length_push (take n xs) x, length-take-le n xs h))
 
 -- an undo takes a play back, to the same table
 pub current-after_undo-after_play : (t : Timeline) (history : List Event) (event : Event) → StandsFor t history → current (after_undo (after_play t event)) ≡ current t
@@ -83,7 +80,7 @@ played_often t history (event ∷ events) stands =
       stands = rest.stands;
       events =
           rest.events
-          ∙ ap (λ h. h ++ events) (take-one_more t.cursor history event stands.cursor)
+          ∙ ap (λ h. h ++ events) (take_pushed t.cursor history event stands.cursor)
           ∙ append_assoc (take t.cursor history) (event ∷ []) events;
       same_floor = rest.same_floor;
       same_cursor = rest.same_cursor ∙ omega arith;

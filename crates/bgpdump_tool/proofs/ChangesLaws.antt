@@ -6,6 +6,7 @@ use Rattle.std.specs.Ordering.{eq_by_cmp}
 use Rattle.std.specs.Cmp.{eq_by_cmp_equiv}
 use Rattle.std.specs.declared.alloc.Global.{Global}
 use Rattle.std.specs.declared.rc.Rc.{Rc}
+use Rattle.std.proofs.Math.Bool.{and-or_distrib_right}
 use Rattle.std.proofs.lemmas.List.Folds.{list_any_more}
 use Rattle.mrt_wire.specs.declared.peer.Peer.{Peer}
 use Rattle.bgpdump_tool.specs.declared.player.pair.Pair.{Pair}
@@ -17,6 +18,7 @@ use Rattle.bgpdump_tool.specs.History.{pair_cmp, Effect, Keep, Clear, Set, where
 use Rattle.bgpdump_tool.specs.Store.{Slots, slot_at, route_in}
 use Rattle.bgpdump_tool.specs.Changes.{found, is_lost, effect_of, or_absent}
 use Rattle.bgpdump_tool.proofs.PairLaws.{pair_cmp_total, same_pair}
+use Rattle.ip_prefix.proofs.Options.{is_some-option_map}
 
 -- a slot
 abbrev Slot : Type 0
@@ -35,11 +37,6 @@ later-keep Keep = refl
 later-keep Clear = refl
 later-keep (Set route) = refl
 
--- a function of what was found keeps whether something was
-is_some-map : {A B : Type 0} (f : A → B) (found : Option A) → is_some (option_map f found) ≡ is_some found
-is_some-map f None = refl
-is_some-map f (Some x) = refl
-
 -- where something is noted of a pair, an earlier effect on it changes nothing
 pub noted_effect-decided : (slots : Slots) (peers : List Peer) (pair : Pair) (first : Effect) (q : Pair) → (is_some (slot_at slots pair) || is_lost peers pair) ≡ true
     → effect_of (found slots q) (is_lost peers q) ≡ later (where_true (eq_by_cmp pair_cmp q pair) first) (effect_of (found slots q) (is_lost peers q))
@@ -48,7 +45,7 @@ noted_effect-decided slots peers pair first q there = at (eq_by_cmp pair_cmp q p
     at : (b : Bool) → eq_by_cmp pair_cmp q pair ≡ b → effect_of (found slots q) (is_lost peers q) ≡ later (where_true b first) (effect_of (found slots q) (is_lost peers q))
     at true e =
         let here : (is_some (slot_at slots q) || is_lost peers q) ≡ true = ap (λ p. is_some (slot_at slots p) || is_lost peers p) (same_pair q pair e) ∙ there in
-        sym (decided first (found slots q) (is_lost peers q) (ap (λ b. b || is_lost peers q) (is_some-map route_in (slot_at slots q)) ∙ here))
+        sym (decided first (found slots q) (is_lost peers q) (ap (λ b. b || is_lost peers q) (is_some-option_map route_in (slot_at slots q)) ∙ here))
     at false e = sym (later-keep (effect_of (found slots q) (is_lost peers q)))
 
 -- where something is kept, it doesn't matter whether the peer is lost
@@ -100,7 +97,7 @@ pub found-there : (slots : Slots) (pair q : Pair) → is_some (slot_at slots pai
 found-there slots pair q there = at (eq_by_cmp pair_cmp q pair) refl
   where
     at : (b : Bool) → eq_by_cmp pair_cmp q pair ≡ b → found slots q ≡ or_absent (found slots q) b
-    at true e = or_absent-kept (found slots q) true (is_some-map route_in (slot_at slots q) ∙ ap (λ p. is_some (slot_at slots p)) (same_pair q pair e) ∙ there)
+    at true e = or_absent-kept (found slots q) true (is_some-option_map route_in (slot_at slots q) ∙ ap (λ p. is_some (slot_at slots p)) (same_pair q pair e) ∙ there)
     at false e = or_absent-false (found slots q)
 
 -- where there is no slot, a pair among those has no route
@@ -145,17 +142,6 @@ pub effects-sayings : (q : Pair) (items : List Item) → map (item_effect q) (ma
 effects-sayings q [] = refl
 effects-sayings q (item ∷ items) = ap (λ l. item_effect q (saying item) ∷ l) (effects-sayings q items)
 
--- one of some tests holds with another, or one more does
-both_lost : (some more has : Bool) → ((some && has) || (more && has)) ≡ ((some || more) && has)
-both_lost true true true = refl
-both_lost true true false = refl
-both_lost true false true = refl
-both_lost true false false = refl
-both_lost false true true = refl
-both_lost false true false = refl
-both_lost false false true = refl
-both_lost false false false = refl
-
 -- one more of a list of lost peers, whose pairs that have a route lose it
 pub lost-more : (peers : List Peer) (i : ℕ) (peer : Peer) (has among : Bool) (kept old new : Option (Option Route)) (q : Pair) → i < length peers → peer ≡ get_or peers i peer
     → old ≡ or_absent kept (is_lost (take i peers) q && has) → among ≡ (eq_by_cmp peer_cmp q.peer peer && has) → new ≡ or_absent old among
@@ -164,6 +150,6 @@ lost-more peers i peer has among kept old new q h at before pairs step =
     step
     ∙ ap₂ or_absent before pairs
     ∙ or_absent-more kept (is_lost (take i peers) q && has) (eq_by_cmp peer_cmp q.peer peer && has)
-    ∙ ap (or_absent kept) (both_lost (is_lost (take i peers) q) (eq_by_cmp peer_cmp q.peer peer) has)
+    ∙ ap (or_absent kept) (sym (and-or_distrib_right (is_lost (take i peers) q) (eq_by_cmp peer_cmp q.peer peer) has))
     ∙ ap (λ p. or_absent kept ((is_lost (take i peers) q || eq_by_cmp peer_cmp q.peer p) && has)) at
     ∙ ap (λ b. or_absent kept (b && has)) (sym (list_any_more (eq_by_cmp peer_cmp q.peer) peers i peer h))

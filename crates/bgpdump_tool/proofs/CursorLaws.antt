@@ -10,7 +10,8 @@ use Rattle.mrt_wire.specs.declared.event.Event.{Event}
 use Rattle.bgpdump_tool.specs.Tables.{Routes, Pairs, table_after, named_pairs}
 use Rattle.bgpdump_tool.specs.Timeline.{Timeline, current, after_undo, after_redo, after_play}
 use Rattle.bgpdump_tool.specs.Journal.{Side, pairs_in, sides_at, routes_across, sides_across, tables_before, tables_after, timeline_of, IsKept, IsJournal, IsStepFor}
-use Rattle.bgpdump_tool.proofs.JournalLaws.{all-push, kept-more, pairs_in-sides_across, kept-sides_across, routes_across-sides_across, routes_across-step}
+use Rattle.bgpdump_tool.proofs.JournalLaws.{kept-more, pairs_in-sides_across, kept-sides_across, routes_across-sides_across, routes_across-step}
+use Rattle.ip_prefix.proofs.Lists.{AllByRecursion-get_or, AllByRecursion-set, AllByRecursion-take, AllByRecursion-push}
 
 -- one table before each step
 length-tables_before : (steps : List (List Side)) (routes : Routes) → length (tables_before steps routes) ≡ length steps
@@ -121,21 +122,9 @@ timeline-after_redo cursor steps routes within =
 pub same-timeline : (cursor : ℕ) (steps steps' : List (List Side)) (routes routes' : Routes) → steps ≡ steps' → routes ≡ routes' → timeline_of cursor steps routes ≡ timeline_of cursor steps' routes'
 same-timeline cursor steps steps' routes routes' e f = λ i. timeline_of cursor (e i) (f i)
 
--- what holds of each element holds of the one at an index
-all-at : {X : Type 0} (P : X → Type 0) (xs : List X) (index : ℕ) (default : X) → index < length xs → AllByRecursion P xs → P (get_or xs index default)
-all-at P [] index default within all = absurd (omega arith)
-all-at P (x ∷ xs) zero default within all = all.0
-all-at P (x ∷ xs) (suc index) default within all = all-at P xs index default (omega arith) all.1
-
--- and it still holds of each where one is written of which it holds
-all-set : {X : Type 0} (P : X → Type 0) (xs : List X) (index : ℕ) (new : X) → P new → AllByRecursion P xs → AllByRecursion P (set xs index new)
-all-set P [] index new one all = tt
-all-set P (x ∷ xs) zero new one all = (one, all.1)
-all-set P (x ∷ xs) (suc index) new one all = (all.0, all-set P xs index new one all.1)
-
 -- the step at an index is kept as all are
 pub kept-at : (keys : Pairs) (steps : List (List Side)) (index : ℕ) → index < length steps → AllByRecursion (IsKept keys) steps → IsKept keys (sides_at steps index)
-kept-at keys steps index within kept = all-at (IsKept keys) steps index [] within kept
+kept-at keys steps index within kept = AllByRecursion-get_or (IsKept keys) steps index [] within kept
 
 -- a journal with a step crossed is one
 pub journal-sides_across : (keys keys' : Pairs) (steps steps' : List (List Side)) (routes : Routes) (index cursor : ℕ) → index < length steps → cursor ≤ length steps → AllByRecursion (IsKept keys) steps
@@ -144,15 +133,9 @@ journal-sides_across keys keys' steps steps' routes index cursor last within kep
     let crossing : List Side = sides_across routes (sides_at steps index) in
     let journal : IsJournal keys cursor (set steps index crossing) = record {
       within = omega (arith, length-set steps index crossing);
-      kept = all-set (IsKept keys) steps index crossing (kept-sides_across keys routes (sides_at steps index) (kept-at keys steps index last kept)) kept;
+      kept = AllByRecursion-set (IsKept keys) steps index crossing (kept-sides_across keys routes (sides_at steps index) (kept-at keys steps index last kept)) kept;
     } in
     subst (λ k. IsJournal k cursor steps') (sym e) (subst (IsJournal keys cursor) (sym f) journal)
-
--- what holds of each element holds of each of the first
-all-take : {X : Type 0} (P : X → Type 0) (count : ℕ) (xs : List X) → AllByRecursion P xs → AllByRecursion P (take count xs)
-all-take P zero xs all = tt
-all-take P (suc count) [] all = tt
-all-take P (suc count) (x ∷ xs) all = (all.0, all-take P count xs all.1)
 
 -- a step that is put behind the cursor, in place of those ahead
 abbrev pub added : ℕ → List (List Side) → List Side → List (List Side)
@@ -177,7 +160,7 @@ pub journal-added : (keys keys' : Pairs) (cursor : ℕ) (steps : List (List Side
     → IsJournal keys cursor steps → IsKept keys' sides → IsJournal keys' (cursor + 1) (added cursor steps sides)
 journal-added keys keys' cursor steps sides more journal new = record {
   within = omega (arith, length-added cursor steps sides journal.within);
-  kept = all-push (IsKept keys') (take cursor steps) sides (all-take (IsKept keys') cursor steps (kept-more keys keys' steps more journal.kept)) new;
+  kept = AllByRecursion-push (IsKept keys') (take cursor steps) sides (AllByRecursion-take (IsKept keys') cursor steps (kept-more keys keys' steps more journal.kept)) new;
 }
 
 -- the event's step, put behind the cursor and crossed

@@ -27,6 +27,7 @@ use Rattle.bgpdump_tool.specs.Changes.{found, is_lost, effect_of, noted_effect, 
 use Rattle.bgpdump_tool.proofs.PairLaws.{pair_cmp_total, same_pair}
 use Rattle.bgpdump_tool.proofs.TableLaws.{get-table_after, contains-named_pairs}
 use Rattle.bgpdump_tool.proofs.StoreLaws.{same_pairs}
+use Rattle.ip_prefix.proofs.Booleans.{or-and_false}
 
 -- a side has a route, here or on the other side
 abbrev pub has_route : (Pair → Option Route) → Side → Bool
@@ -80,11 +81,6 @@ here None None None rest e f = f
 here None (Some old) None rest e f = cc
 here None None (Some first) rest e f = cc
 
--- a pair isn't that of the first side
-elsewhere : (b rest : Bool) → ((b && false) || rest) ≡ rest
-elsewhere true rest = refl
-elsewhere false rest = refl
-
 -- a pair is among the sides where its slot shows a route, or it has one before
 any_sides : (before : Pair → Option Route) (q : Pair) (slots : Slots) → IsDistinct (eq_by_cmp pair_cmp) (keys_of slots)
     → list_any (eq_by_cmp pair_cmp q) (pairs_in (filter (has_route before) (map slot_side slots))) ≡ shows (found slots q) (before q)
@@ -99,7 +95,7 @@ any_sides before q (slot ∷ slots) distinct =
         ≡ shows (option_map route_in (cond b (Some slot.1) (slot_at slots q))) (before q)
     at rest true e = here (route_in slot.1) (before q) (before slot.0) _ (ap before (sym (same_pair q slot.0 e)))
         (absent_sides (has_route before) q slots (none_past_head (eq_by_cmp_equiv pair_cmp_total) q slot slots distinct e))
-    at rest false e = elsewhere (has_route before (slot_side slot)) _ ∙ rest
+    at rest false e = or-and_false (has_route before (slot_side slot)) _ ∙ rest
 
 -- sides that show what a function has are kept where it is read at their pairs, with a first one or not
 sides_across-cond : (now : Pair → Option Route) (b : Bool) (side : Side) (sides : List Side) → now side.0 ≡ side.1 → map (λ (s : Side). (s.0, now s.0)) sides ≡ sides

@@ -18,7 +18,9 @@ use Rattle.bgpdump_tool.specs.Tables.{Routes, Pairs, put, table_after, is_named}
 use Rattle.bgpdump_tool.specs.Store.{route_in}
 use Rattle.bgpdump_tool.specs.Journal.{Side, side_of, sides_of, pairs_in, routes_across, sides_across, IsKept, IsStepFor}
 use Rattle.bgpdump_tool.proofs.PairLaws.{pair_cmp_total, same_pair}
-use Rattle.bgpdump_tool.proofs.TableLaws.{untested, same_routes, get-put, get-table_after, contains-named_pairs}
+use Rattle.bgpdump_tool.proofs.TableLaws.{same_routes, get-put, get-table_after, contains-named_pairs}
+use Rattle.ip_prefix.proofs.Lists.{AllByRecursion-push, AllByRecursion-weaker}
+use Rattle.ip_prefix.proofs.Booleans.{cond-cond, cond_untested}
 
 -- a put at another pair leaves the route
 get-put_elsewhere : (routes : Routes) (pair q : Pair) (new : Option Route) → eq_by_cmp pair_cmp pair q ≡ false → finite.get (put routes pair new) q ≡ finite.get routes q
@@ -79,12 +81,6 @@ kept-sides_across keys routes sides kept = record {
   among_keys = subst (AllByRecursion (λ pair. names.contains keys pair ≡ true)) (sym (pairs_in-sides_across routes sides)) kept.among_keys;
 }
 
--- a choice after a choice
-second_choice : {A : Type 0} (b c : Bool) (x y z : A) → (b ≡ true → y ≡ x) → cond c x (cond b y z) ≡ cond (b || c) x z
-second_choice true true x y z same = refl
-second_choice true false x y z same = same refl
-second_choice false c x y z same = refl
-
 -- behind a step whose routes are those of a table, its pairs have that table's routes, and the others keep theirs
 pub get-restored_crossed : (routes before : Routes) (sides : List Side) (q : Pair)
     → finite.get (routes_across (sides_across routes sides) before) q ≡ cond (list_any (eq_by_cmp pair_cmp q) (pairs_in sides)) (finite.get routes q) (finite.get before q)
@@ -92,7 +88,7 @@ get-restored_crossed routes before [] q = refl
 get-restored_crossed routes before (side ∷ sides) q =
     get-restored_crossed routes (put before side.0 (finite.get routes side.0)) sides q
     ∙ ap (cond (list_any (eq_by_cmp pair_cmp q) (pairs_in sides)) (finite.get routes q)) (get-put before side.0 (finite.get routes side.0) q)
-    ∙ second_choice (eq_by_cmp pair_cmp q side.0) (list_any (eq_by_cmp pair_cmp q) (pairs_in sides)) (finite.get routes q) (finite.get routes side.0) (finite.get before q)
+    ∙ cond-cond (eq_by_cmp pair_cmp q side.0) (list_any (eq_by_cmp pair_cmp q) (pairs_in sides)) (finite.get routes q) (finite.get routes side.0) (finite.get before q)
     (λ e. ap (finite.get routes) (sym (same_pair q side.0 e)))
 
 -- a step leaves the routes of the pairs that it doesn't name
@@ -108,7 +104,7 @@ get-restored_elsewhere (side ∷ sides) routes q out =
 pub routes_across-sides_across : (sides : List Side) (routes : Routes) → routes_across (sides_across routes sides) (routes_across sides routes) ≡ routes
 routes_across-sides_across sides routes = same_routes _ routes (λ q.
     get-restored_crossed routes (routes_across sides routes) sides q
-    ∙ untested (list_any (eq_by_cmp pair_cmp q) (pairs_in sides)) (finite.get routes q) (finite.get (routes_across sides routes) q) (λ out. sym (get-restored_elsewhere sides routes q out)))
+    ∙ cond_untested (list_any (eq_by_cmp pair_cmp q) (pairs_in sides)) (finite.get routes q) (finite.get (routes_across sides routes) q) (λ out. sym (get-restored_elsewhere sides routes q out)))
 
 -- an event leaves the routes of the pairs that it doesn't name
 unnamed-same : (before : Option Route) (does : Effect) → is_named before does ≡ false → before ≡ route_after before does
@@ -123,26 +119,10 @@ pub routes_across-step : (routes : Routes) (event : Event) (sides : List Side) �
 routes_across-step routes event sides step = same_routes _ _ (λ q.
     ap (λ s. finite.get (routes_across s routes) q) step.after
     ∙ get-restored_crossed (table_after routes event) routes sides q
-    ∙ untested (list_any (eq_by_cmp pair_cmp q) (pairs_in sides)) (finite.get (table_after routes event) q) (finite.get routes q) (λ out.
+    ∙ cond_untested (list_any (eq_by_cmp pair_cmp q) (pairs_in sides)) (finite.get (table_after routes event) q) (finite.get routes q) (λ out.
     get-table_after routes event q
     ∙ sym (unnamed-same (finite.get routes q) (effect q event)
     (sym (contains-named_pairs routes event q) ∙ ap (λ s. names.contains s q) (sym step.names) ∙ contains-from_list pair_cmp_total (pairs_in sides) q ∙ out))))
-
--- a list up to one that was put in its place
-pub take_inserted : {X : Type 0} (xs : List X) (index : ℕ) (new : X) → index ≤ length xs → take (index + 1) (take index xs ++ new ∷ drop index xs) ≡ take index xs ++ new ∷ []
-take_inserted xs index new within =
-    ap (take (index + 1)) (sym (append_assoc (take index xs) (new ∷ []) (drop index xs)))
-    ∙ take_at (take index xs ++ new ∷ []) (drop index xs) (index + 1) (length_push (take index xs) new ∙ ap (λ n. n + 1) (length-take-le index xs within))
-
--- what follows for each element
-all-then : {X : Type 0} (P Q : X → Type 0) (xs : List X) → ((x : X) → P x → Q x) → AllByRecursion P xs → AllByRecursion Q xs
-all-then P Q [] then all = tt
-all-then P Q (x ∷ xs) then all = (then x all.0, all-then P Q xs then all.1)
-
--- one element more
-pub all-push : {X : Type 0} (P : X → Type 0) (xs : List X) (x : X) → AllByRecursion P xs → P x → AllByRecursion P (xs ++ x ∷ [])
-all-push P [] x all one = (one, tt)
-all-push P (y ∷ xs) x all one = (all.0, all-push P xs x all.1 one)
 
 -- keys that have a pair more have it and those that they had
 pub contains-more : (keys keys' : Pairs) (pair q : Pair) → keys' ≡ names.insert keys pair → names.contains keys q ≡ true → names.contains keys' q ≡ true
@@ -167,14 +147,14 @@ keys-more keys keys' entries index default within e all =
     let split : pairs_in (sides_of (take (index + 1) entries)) ≡ pairs_in (sides_of (take index entries)) ++ new ∷ [] =
     ap pairs_in (map_more side_of entries index default within) ∙ map-append (λ (side : Side). side.0) (sides_of (take index entries)) (side_of (get_or entries index default) ∷ []) in
     subst (AllByRecursion (λ pair. names.contains keys' pair ≡ true)) (sym split)
-    (all-push (λ pair. names.contains keys' pair ≡ true) (pairs_in (sides_of (take index entries))) new
-    (all-then (λ pair. names.contains keys pair ≡ true) (λ pair. names.contains keys' pair ≡ true) (pairs_in (sides_of (take index entries))) (λ q there. contains-more keys keys' new q e there) all)
+    (AllByRecursion-push (λ pair. names.contains keys' pair ≡ true) (pairs_in (sides_of (take index entries))) new
+    (AllByRecursion-weaker (λ pair. names.contains keys pair ≡ true) (λ pair. names.contains keys' pair ≡ true) (λ q there. contains-more keys keys' new q e there) (pairs_in (sides_of (take index entries))) all)
     (contains-new keys keys' new e))
 
 -- kept steps are kept by keys that have all that these had
 pub kept-more : (keys keys' : Pairs) (steps : List (List Side)) → ((q : Pair) → names.contains keys q ≡ true → names.contains keys' q ≡ true)
     → AllByRecursion (IsKept keys) steps → AllByRecursion (IsKept keys') steps
-kept-more keys keys' steps more all = all-then (IsKept keys) (IsKept keys') steps (λ sides kept. record {
+kept-more keys keys' steps more all = AllByRecursion-weaker (IsKept keys) (IsKept keys') (λ sides kept. record {
   distinct = kept.distinct;
-  among_keys = all-then (λ pair. names.contains keys pair ≡ true) (λ pair. names.contains keys' pair ≡ true) (pairs_in sides) more kept.among_keys;
-}) all
+  among_keys = AllByRecursion-weaker (λ pair. names.contains keys pair ≡ true) (λ pair. names.contains keys' pair ≡ true) more (pairs_in sides) kept.among_keys;
+}) steps all

@@ -11,6 +11,7 @@ use Rattle.bgpdump_tool.specs.declared.player.pair.Pair.{Pair}
 use Rattle.mrt_wire.specs.Peer.{peer_cmp}
 use Rattle.mrt_wire.proofs.PeerLaws.{peer_cmp_total, peer_cmp-IsAntisymmetric, derived_eq, peer_eq}
 use Rattle.bgpdump_tool.specs.History.{pair_cmp}
+use Rattle.std.proofs.Math.Bool.{not-not}
 
 -- the order of pairs is total
 pub pair_cmp_total : IsTotalOrder pair_cmp
@@ -31,11 +32,6 @@ pub any-peer_eq : (peer : Peer) (peers : List Peer) → list_any (λ p. derived_
 any-peer_eq peer [] = refl
 any-peer_eq peer (p ∷ peers) = ap₂ (λ a b. a || b) (peer_eq p peer ∙ (eq_by_cmp_equiv peer_cmp_total).symm p peer) (any-peer_eq peer peers)
 
--- two negations cancel
-not_twice : (b : Bool) → not (not b) ≡ b
-not_twice true = refl
-not_twice false = refl
-
 -- and `!=` of the others
 pub peer_ne : (a b : Peer) (ne : Bool) → ne ≡ not (derived_eq a b) → eq_by_cmp peer_cmp a b ≡ not ne
-peer_ne a b ne e = sym (peer_eq a b) ∙ sym (not_twice (derived_eq a b)) ∙ ap not (sym e)
+peer_ne a b ne e = sym (peer_eq a b) ∙ sym (not-not (derived_eq a b)) ∙ ap not (sym e)

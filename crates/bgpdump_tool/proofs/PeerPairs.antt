@@ -29,6 +29,7 @@ use Rattle.bgpdump_tool.specs.Store.{Slots, slot_at, route_in}
 use Rattle.mrt_wire.proofs.PeerLaws.{peer_cmp_total}
 use Rattle.bgpdump_tool.proofs.PairLaws.{same_pair}
 use Rattle.bgpdump_tool.proofs.StoreLaws.{route_found}
+use Rattle.ip_prefix.proofs.Lists.{filter-filter, filter_none, AllByRecursion-filter}
 
 -- a pair with its slot
 abbrev pub Slot : Type 0
@@ -56,25 +57,10 @@ within_one p a true x xs ys e within same = λ i. cond (e i) (x ∷ same i) (sam
 within_one p true false x xs ys e within same = let lost : false ≡ true = within refl in cc
 within_one p false false x xs ys e within same = same
 
--- a filter loses nothing that a later one would keep
-filter_within : {X : Type 0} (p q : X → Bool) → ((x : X) → p x ≡ true → q x ≡ true) → (xs : List X) → filter p (filter q xs) ≡ filter p xs
-filter_within p q within [] = refl
-filter_within p q within (x ∷ xs) = within_one p (p x) (q x) x xs (filter q xs) refl (within x) (filter_within p q within xs)
-
--- nothing is kept where nothing passes
-filter_none : {X : Type 0} (p : X → Bool) (xs : List X) → AllByRecursion (λ x. p x ≡ false) xs → filter p xs ≡ []
-filter_none p [] none = refl
-filter_none p (x ∷ xs) none = ap (λ b. cond b (x ∷ filter p xs) (filter p xs)) none.0 ∙ filter_none p xs none.1
-
 -- one element before those that a filter keeps
 kept_one : {X : Type 0} (P : X → Type 0) (b : Bool) (x : X) (xs : List X) → (b ≡ true → P x) → AllByRecursion P xs → AllByRecursion P (cond b (x ∷ xs) xs)
 kept_one P true x xs here all = (here refl, all)
 kept_one P false x xs here all = all
-
--- what follows from the test holds of all that is kept
-filter_all : {X : Type 0} (p : X → Bool) (P : X → Type 0) → ((x : X) → p x ≡ true → P x) → (xs : List X) → AllByRecursion P (filter p xs)
-filter_all p P holds [] = tt
-filter_all p P holds (x ∷ xs) = kept_one P (p x) x (filter p xs) (holds x) (filter_all p P holds xs)
 
 -- the keys of a choice
 keys-cond : (b : Bool) (slot : Slot) (slots : Slots) → keys_of (cond b (slot ∷ slots) slots) ≡ cond b (slot.0 ∷ keys_of slots) (keys_of slots)
@@ -159,14 +145,14 @@ slots_from least slots = entries_between pair_cmp (Included least) Unbounded slo
 -- those from the peer's least pair on have all of the peer's pairs
 pub routed-from : (peer : Peer) (slots : Slots) → routed peer (slots_from (pair_of peer least_prefix) slots) ≡ routed peer slots
 unfolding routed
-routed-from peer slots = ap keys_of (filter_within (is_routed peer) _ (λ slot routes.
+routed-from peer slots = ap keys_of (filter-filter (is_routed peer) _ (λ slot routes.
     ap (λ b. b && true) (least_pair peer slot.0 (and_parts _ _ routes).0)) slots)
 
 -- and they go on from the peer
 pub Onward-from : (peer : Peer) (network : Network) (slots : Slots) → IsStrictlySortedBy pair_cmp (keys_of slots) → Onward peer (slots_from (pair_of peer network) slots)
 Onward-from peer network slots sorted = record {
   sorted = rw (keys-filter (λ pair. is_le (pair_cmp (pair_of peer network) pair) && true) slots) (IsStrictlySortedBy-filter pair_cmp _ (keys_of slots) sorted);
-  from = filter_all _ _ (λ slot from. not_greater-from_le (peer_cmp peer slot.0.peer) (network_cmp network slot.0.prefix) from) slots;
+  from = AllByRecursion-filter _ _ (λ slot from. not_greater-from_le (peer_cmp peer slot.0.peer) (network_cmp network slot.0.prefix) from) slots;
 }
 
 -- ---- a step

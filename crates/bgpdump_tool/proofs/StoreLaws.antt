@@ -19,6 +19,8 @@ use Rattle.bgpdump_tool.specs.Tables.{Routes, Pairs, put}
 use Rattle.bgpdump_tool.specs.Store.{Slots, slot_at, route_in, keys_in, routes_in}
 use Rattle.bgpdump_tool.proofs.PairLaws.{pair_cmp_total, pair_cmp-IsAntisymmetric, same_pair}
 use Rattle.bgpdump_tool.proofs.TableLaws.{same_routes, get-put}
+use Rattle.ip_prefix.proofs.Booleans.{or_implied}
+use Rattle.ip_prefix.proofs.Options.{is_some-cond}
 
 -- the route in what a look-up found
 abbrev pub route_found : Option (Option (Rc Route Global)) → Option Route
@@ -37,10 +39,6 @@ get-routes_in (slot ∷ slots) q =
     get-put (routes_in slots) slot.0 (route_in slot.1) q
     ∙ ap (cond (eq_by_cmp pair_cmp q slot.0) (route_in slot.1)) (get-routes_in slots q)
     ∙ route_found-cond (eq_by_cmp pair_cmp q slot.0) slot.1 (slot_at slots q)
-
-is_some-cond : {A : Type 0} (b : Bool) (x : A) (rest : Option A) → is_some (cond b (Some x) rest) ≡ (b || is_some rest)
-is_some-cond true x rest = refl
-is_some-cond false x rest = refl
 
 -- a look-up finds something where a key passes
 any-keys : (slots : Slots) (q : Pair) → list_any (eq_by_cmp pair_cmp q) (map (λ slot. slot.0) slots) ≡ is_some (slot_at slots q)
@@ -98,12 +96,8 @@ routes_in-more old new pair none same = same_routes (routes_in new) (routes_in o
 pub keys_in-there : (slots : Slots) (pair : Pair) → is_some (slot_at slots pair) ≡ true → keys_in slots ≡ set.insert (keys_in slots) pair
 keys_in-there slots pair there = same_pairs (keys_in slots) (set.insert (keys_in slots) pair) (λ q.
     sym (contains-insert pair_cmp_total (keys_in slots) pair q
-    ∙ again (eq_by_cmp pair_cmp q pair) (set.contains (keys_in slots) q) (λ e.
+    ∙ or_implied (eq_by_cmp pair_cmp q pair) (set.contains (keys_in slots) q) (λ e.
     ap (set.contains (keys_in slots)) (same_pair q pair e) ∙ contains-keys_in slots pair ∙ there)))
-  where
-    again : (b c : Bool) → (b ≡ true → c ≡ true) → (b || c) ≡ c
-    again true c is = sym (is refl)
-    again false c is = refl
 
 -- a slot that is written keeps the keys
 pub keys_in-write : (slots : Slots) (pair : Pair) (slot : Option (Rc Route Global)) → keys_in (set_value (eq_by_cmp pair_cmp pair) slots slot) ≡ keys_in slots
@@ -138,8 +132,3 @@ key-has-slot slots keys pair e there none =
 pub route_in-copied : (shared : Option (Bor (Rc Route Global))) → option_map (λ route. route.now.value) shared ≡ route_in (option_copied shared)
 route_in-copied None = refl
 route_in-copied (Some route) = refl
-
--- where there is not something there is nothing
-pub none-from_absent : {A : Type 0} (found : Option A) → is_some found ≡ false → found ≡ None
-none-from_absent None e = refl
-none-from_absent (Some x) e = cc

@@ -16,6 +16,7 @@ use Rattle.mrt_wire.specs.Peer.{peer_cmp}
 use Rattle.bgpdump_tool.specs.History.{pair_cmp, pair_of, Effect, Keep, Clear, Set, where_true, is_loss, item_effect, later, last_effect, effect, route_after, route}
 use Rattle.bgpdump_tool.specs.Tables.{Routes, put, tabulation, pairs_announced_by, announced_pairs, table, concerned_pairs, table_after, is_named, named_pairs}
 use Rattle.bgpdump_tool.proofs.PairLaws.{pair_cmp_total, pair_cmp-IsAntisymmetric, same_pair}
+use Rattle.ip_prefix.proofs.Booleans.{cond_or, cond_untested}
 
 -- whether the pair is among these
 abbrev among : Pair → List Pair → Bool
@@ -30,17 +31,12 @@ pub get-put : (routes : Routes) (pair : Pair) (new : Option Route) (q : Pair) �
 get-put routes pair None q = get-remove pair_cmp_total routes pair q
 get-put routes pair (Some new) q = get-insert pair_cmp_total routes pair new q
 
--- a choice after a choice is one by either test
-first_or_rest : {A : Type 0} (b c : Bool) (x y rest none : A) → (b ≡ true → x ≡ y) → rest ≡ cond c y none → cond b x rest ≡ cond (b || c) y none
-first_or_rest true c x y rest none same is = same refl
-first_or_rest false c x y rest none same is = is
-
 -- a tabulated function has its value at the listed pairs, and nothing elsewhere
 pub get-tabulation : (f : Pair → Option Route) (pairs : List Pair) (q : Pair) → get (tabulation f pairs) q ≡ cond (list_any (eq_by_cmp pair_cmp q) pairs) (f q) None
 get-tabulation f [] q = get-empty pair_cmp q
 get-tabulation f (pair ∷ pairs) q =
     get-put (tabulation f pairs) pair (f pair) q
-    ∙ first_or_rest (eq_by_cmp pair_cmp q pair) (among q pairs) (f pair) (f q) _ None (λ e. ap f (sym (same_pair q pair e))) (get-tabulation f pairs q)
+    ∙ cond_or (eq_by_cmp pair_cmp q pair) (among q pairs) (f pair) (f q) _ None (λ e. ap f (sym (same_pair q pair e))) (get-tabulation f pairs q)
 
 -- an effect and then a later one are the later of the two
 pub route_after-later : (before : Option Route) (first second : Effect) → route_after before (later first second) ≡ route_after (route_after before first) second
@@ -82,17 +78,12 @@ unset_by_event q event e = unset_by_all q pairs_announced_by (item_effect q) (un
 unset_by_history : (q : Pair) (history : List Event) → among q (flat_map announced_pairs history) ≡ false → route q history ≡ None
 unset_by_history q history e = unset_by_all q announced_pairs (effect q) (unset_by_event q) history e
 
--- what is nothing where a test fails needs no test
-pub untested : {A : Type 0} (b : Bool) (x none : A) → (b ≡ false → x ≡ none) → cond b x none ≡ x
-untested true x none is = refl
-untested false x none is = sym (is refl)
-
 -- the table of a history has the history's route at each pair
 pub get-table : (history : List Event) (pair : Pair) → get (table history) pair ≡ route pair history
 unfolding table
 get-table history pair =
     get-tabulation (λ p. route p history) (flat_map announced_pairs history) pair
-    ∙ untested (among pair (flat_map announced_pairs history)) (route pair history) None (unset_by_history pair history)
+    ∙ cond_untested (among pair (flat_map announced_pairs history)) (route pair history) None (unset_by_history pair history)
 
 -- what concerns a pair: it has a route, or the event announces one
 among-concerned_pairs : (routes : Routes) (event : Event) (q : Pair) → among q (concerned_pairs routes event) ≡ (is_some (get routes q) || among q (announced_pairs event))
@@ -110,7 +101,7 @@ pub get-table_after : (routes : Routes) (event : Event) (pair : Pair) → get (t
 unfolding table_after
 get-table_after routes event pair =
     get-tabulation (λ p. route_after (get routes p) (effect p event)) (concerned_pairs routes event) pair
-    ∙ untested (among pair (concerned_pairs routes event)) (route_after (get routes pair) (effect pair event)) None
+    ∙ cond_untested (among pair (concerned_pairs routes event)) (route_after (get routes pair) (effect pair event)) None
     (λ e. unconcerned (get routes pair) (effect pair event) (among pair (announced_pairs event)) (unset_by_event pair event) (sym (among-concerned_pairs routes event pair) ∙ e))
 
 -- an event does not name a pair without a route before it and after it

@@ -10,7 +10,8 @@ use Rattle.bgpdump_tool.specs.Tables.{table, table_after, named_pairs}
 use Rattle.bgpdump_tool.specs.Timeline.{Timeline, StandsFor, Call, Play, PlayRefused, Undo, Redo, Look, end_of, behind, table_at, current, fresh, after_play, after_undo, after_redo, tables_along, steps_along, after_call, after_calls, history_after, history_after_calls}
 use Rattle.bgpdump_tool.proofs.TableLaws.{get-table}
 use Rattle.bgpdump_tool.proofs.HistoryLaws.{table-append}
-use Rattle.bgpdump_tool.proofs.AlongHistory.{length-steps_along, tables_along-append, steps_along-append, take-tables_along, take-steps_along, at-tables_along, at-steps_along, take_in_parts, slice_get-drop}
+use Rattle.bgpdump_tool.proofs.AlongHistory.{length-steps_along, tables_along-append, steps_along-append, take-tables_along, take-steps_along, at-tables_along, at-steps_along}
+use Rattle.ip_prefix.proofs.Lists.{take_in_parts, slice_get-drop, take_below_pushed, drop_below_pushed}
 
 -- the table at a position is that of the events before it
 pub StandsFor-table : (t : Timeline) (history : List Event) → StandsFor t history → (i : ℕ) → t.floor ≤ i → i ≤ length history → table_at t i ≡ table (take i history)
@@ -40,15 +41,6 @@ StandsFor-end t history stands =
     let steps = ap length stands.steps ∙ length-steps_along (take t.floor history) (drop t.floor history) in
     omega (arith, steps, length-drop t.floor history, stands.floor, stands.cursor)
 
--- a history up to a cursor, and one event more: what stands before a floor, and what stands behind it
-take-after_play : {A : Type 0} (low high : ℕ) (xs : List A) (x : A) → low ≤ high → high ≤ length xs → take low (take high xs ++ x ∷ []) ≡ take low xs
-take-after_play low high xs x h k = take-append-le low (take high xs) (x ∷ []) (omega (arith, length-take-le high xs k)) ∙ take-take low high xs h
-
-drop-after_play : {A : Type 0} (low high : ℕ) (xs : List A) (x : A) → low ≤ high → high ≤ length xs → drop low (take high xs ++ x ∷ []) ≡ take (high - low) (drop low xs) ++ x ∷ []
-drop-after_play low high xs x h k =
-    drop-append-le low (take high xs) (x ∷ []) (omega (arith, length-take-le high xs k))
-    ∙ ap (λ ys. ys ++ x ∷ []) (ap (λ n. drop low (take n xs)) (sym (add-sub_of_le h)) ∙ drop-take low (high - low) xs)
-
 -- the tables up to a position and that of one event more
 tables-after_play : (low high : ℕ) (history : List Event) (event : Event) → low ≤ high → high ≤ length history
     → take (high - low + 1) (tables_along (take low history) (drop low history)) ++ table_after (table (take high history)) event ∷ []
@@ -62,7 +54,7 @@ tables-after_play low high history event h k =
     ∙ ap (λ hs. table (hs ++ event ∷ [])) (sym (take_in_parts low high history h))
     ∙ ap table (append_assoc past kept (event ∷ [])))
     ∙ sym (tables_along-append past kept event)
-    ∙ ap₂ tables_along (sym (take-after_play low high history event h k)) (sym (drop-after_play low high history event h k))
+    ∙ ap₂ tables_along (sym (take_below_pushed low high history event h k)) (sym (drop_below_pushed low high history event h k))
 
 -- the steps up to a position and that of one event more
 steps-after_play : (low high : ℕ) (history : List Event) (event : Event) → low ≤ high → high ≤ length history
@@ -75,7 +67,7 @@ steps-after_play low high history event h k =
     (take-steps_along (high - low) past (drop low history))
     (ap (λ hs. named_pairs (table hs) event) (sym (take_in_parts low high history h)))
     ∙ sym (steps_along-append past kept event)
-    ∙ ap₂ steps_along (sym (take-after_play low high history event h k)) (sym (drop-after_play low high history event h k))
+    ∙ ap₂ steps_along (sym (take_below_pushed low high history event h k)) (sym (drop_below_pushed low high history event h k))
 
 -- a play leaves the history up to the cursor and then the event
 pub StandsFor-after_play : (t : Timeline) (history : List Event) (event : Event) → StandsFor t history → StandsFor (after_play t event) (take t.cursor history ++ event ∷ [])

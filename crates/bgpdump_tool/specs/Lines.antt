@@ -69,13 +69,13 @@ attribute_fields = [] ∷ [] ∷ [] ∷ codes "0" ∷ codes "0" ∷ [] ∷ codes
 abbrev pub item_line : Time → Tag → Saying → List ℕ
 item_line time tag (Announced peer network route) =
     line_of (word tag ∷ route_time_text time tag route ∷ route_letter tag
-        ∷ address_text peer.addr ∷ decimal peer.asn ∷ network_text network ∷ attribute_fields)
+    ∷ address_text peer.addr ∷ decimal peer.asn ∷ network_text network ∷ attribute_fields)
 item_line time tag (Withdrawn peer network) =
     line_of (word tag ∷ time_text tag time ∷ codes "W"
-        ∷ address_text peer.addr ∷ decimal peer.asn ∷ network_text network ∷ [])
+    ∷ address_text peer.addr ∷ decimal peer.asn ∷ network_text network ∷ [])
 item_line time tag (Changed peer old new) =
     line_of (word tag ∷ time_text tag time ∷ codes "STATE"
-        ∷ address_text peer.addr ∷ decimal peer.asn ∷ decimal old ∷ decimal new ∷ [])
+    ∷ address_text peer.addr ∷ decimal peer.asn ∷ decimal old ∷ decimal new ∷ [])
 
 -- the lines of an event, one for each item
 abbrev pub event_lines : Event → List ℕ

@@ -20,7 +20,7 @@ kind_text (PeerIndex number) = codes "peer index " ++ decimal number
 abbrev pub fault_report : RecordFault → List ℕ
 fault_report fault =
     codes "bgpdump: record " ++ (decimal fault.number ++ (codes ", byte " ++ (decimal fault.offset
-        ++ (codes ": " ++ (kind_text fault.kind ++ line_feed ∷ [])))))
+    ++ (codes ": " ++ (kind_text fault.kind ++ line_feed ∷ [])))))
 
 -- the lines and the report of what was found
 abbrev pub finding_lines : Finding → List ℕ

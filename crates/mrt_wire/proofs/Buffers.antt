@@ -18,10 +18,6 @@ take-put_mid at room n buffer part within fits =
     ∙ ap (λ l. take at buffer ++ take n l) (drop_at (take at buffer) (part ++ after) at front)
     ∙ ap (λ l. take at buffer ++ l) (take-append-le n part after fits)
 
--- a front of a front that stays, stays
-pub take_kept : (at k : ℕ) (old grown new : List ℕ) → at ≤ k → take k grown ≡ old → take at new ≡ take at grown → take at new ≡ take at old
-take_kept at k old grown new within grew kept = kept ∙ sym (take-take at k grown within) ∙ ap (take at) grew
-
 -- octets taken one behind the other
 pub Takes-trans : (a b c : Option (List ℕ)) (k l m : ℕ) (front more : List ℕ) → Takes a b k l front → Takes b c l m more → Takes a c k m (front ++ more)
 Takes-trans a b c k l m front more p q = (Consumes-trans a b c front more p.0 q.0, omega (arith, p.1, q.1, length-append front more))

@@ -13,8 +13,10 @@ use Rattle.mrt_wire.specs.Profile.{IsOfIPv6, IsSupported}
 use Rattle.mrt_wire.specs.Verdict.{Verdict, Accepted, Refused, Frame, Index, index_after, event_of, ReadsAs}
 use Rattle.mrt_wire.specs.Splitting.{Splits, spellings}
 use Rattle.mrt_wire.proofs.ContentLaws.{cases_form}
-use Rattle.mrt_wire.proofs.FieldLaws.{field_at, field_then, IsOfIPv6-field, field-IsOfIPv6, length-IsOfIPv6}
-use Rattle.mrt_wire.proofs.RecordLaws.{same_w16, BeginsWithNone-short, BeginsWithNone-cut, BeginsWithNone-too_long}
+use Rattle.mrt_wire.proofs.FieldLaws.{field_then, IsOfIPv6-field, field-IsOfIPv6, length-IsOfIPv6}
+use Rattle.mrt_wire.proofs.RecordLaws.{BeginsWithNone-short, BeginsWithNone-cut, BeginsWithNone-too_long}
+use Rattle.ip_prefix.proofs.Numbers.{same_w16}
+use Rattle.ip_prefix.proofs.Lists.{drop_in_parts}
 
 -- a front of octets is octets
 IsOctets-take : (n : ℕ) (octets : List ℕ) → n ≤ length octets → IsOctets octets → IsOctets (take n octets)
@@ -92,10 +94,10 @@ BeginsWithHeader-long octets long small =
       size = size.number;
       fits = record { seconds_fit = seconds.fits; kind_fits = kind.fits; subtype_fits = subtype.fits; size_fits = size.fits };
       whole =
-          field_at 0 4 octets ∙ field_then _ _ _ _ (sym seconds.spelling)
-          (field_at 4 2 octets ∙ field_then _ _ _ _ (sym kind.spelling)
-          (field_at 6 2 octets ∙ field_then _ _ _ _ (sym subtype.spelling)
-          (field_at 8 4 octets ∙ field_then _ _ _ _ (sym size.spelling) refl)));
+          drop_in_parts 0 4 octets ∙ field_then _ _ _ _ (sym seconds.spelling)
+          (drop_in_parts 4 2 octets ∙ field_then _ _ _ _ (sym kind.spelling)
+          (drop_in_parts 6 2 octets ∙ field_then _ _ _ _ (sym subtype.spelling)
+          (drop_in_parts 8 4 octets ∙ field_then _ _ _ _ (sym size.spelling) refl)));
     }
 
 -- a record whose body is octets stands in front of the octets, and octets follow it

@@ -4,10 +4,7 @@ use Rattle.std.proofs.lemmas.List.{take-append-drop, drop-drop, length-take-le, 
 use Rattle.std.specs.Int.{to_be_bytes, w16}
 use Rattle.mrt_wire.specs.declared.judging.TheConstants.{AFI_IPV6}
 use Rattle.mrt_wire.specs.Profile.{IsOfIPv6}
-
--- the field of so many octets at a place, and what follows it
-pub field_at : (place size : ℕ) (octets : List ℕ) → drop place octets ≡ take size (drop place octets) ++ drop (place + size) octets
-field_at place size octets = sym (take-append-drop size (drop place octets)) ∙ ap (λ l. take size (drop place octets) ++ l) (drop-drop size place octets)
+use Rattle.ip_prefix.proofs.Lists.{drop_in_parts}
 
 -- a field is put in front
 pub field_then : (field front octets more : List ℕ) → field ≡ front → octets ≡ more → field ++ octets ≡ front ++ more
@@ -19,7 +16,7 @@ IsOfIPv6-field body family long spelled is_ipv6 = (
   take 6 body,
   drop 8 body,
   length-take-le 6 body (omega arith),
-  field_at 0 6 body ∙ field_then _ _ _ _ refl (field_at 6 2 body ∙ field_then _ _ _ _ (sym spelled ∙ ap (to_be_bytes w16) is_ipv6) refl),
+  drop_in_parts 0 6 body ∙ field_then _ _ _ _ refl (drop_in_parts 6 2 body ∙ field_then _ _ _ _ (sym spelled ∙ ap (to_be_bytes w16) is_ipv6) refl),
 )
 
 -- and only there

@@ -4,13 +4,8 @@ use Rattle.std.proofs.lemmas.Nat.{from_be_bytes-to_be_bytes_2, from_be_bytes-to_
 use Rattle.std.specs.Int.{to_be_bytes, from_be_bytes, w16, w32}
 use Rattle.mrt_wire.specs.declared.frames.TheConstants.{LONGEST_BODY}
 use Rattle.mrt_wire.specs.Record.{Record, IsHeader, header_octets, spelling, IsRecord, BeginsWithNone}
-
--- numbers that fit and are spelled alike are one
-pub same_w32 : (n m : ℕ) → n < 2 ^ 32 → m < 2 ^ 32 → to_be_bytes w32 n ≡ to_be_bytes w32 m → n ≡ m
-same_w32 n m p q e = sym (from_be_bytes-to_be_bytes_4 n p) ∙ ap (from_be_bytes w32) e ∙ from_be_bytes-to_be_bytes_4 m q
-
-pub same_w16 : (n m : ℕ) → n < 2 ^ 16 → m < 2 ^ 16 → to_be_bytes w16 n ≡ to_be_bytes w16 m → n ≡ m
-same_w16 n m p q e = sym (from_be_bytes-to_be_bytes_2 n p) ∙ ap (from_be_bytes w16) e ∙ from_be_bytes-to_be_bytes_2 m q
+use Rattle.ip_prefix.proofs.Lists.{append_parts}
+use Rattle.ip_prefix.proofs.Numbers.{same_w16, same_w32}
 
 -- two headers are equal, and so is what follows them
 pub record SameHeader (s k t n s' k' t' n' : ℕ) (x y : List ℕ) : Type 0 where
@@ -53,13 +48,6 @@ BeginsWithNone-too_long s k t n octets p long r more q e =
     let same = SameHeader-record s k t n octets p r more q e in
     absurd (omega (arith, same.size, q.size))
 
--- bodies of one length that begin one list are equal, and so is what follows them
-pub same_parts : (a b x y : List ℕ) → length a ≡ length b → a ++ x ≡ b ++ y → (a ≡ b) × (x ≡ y)
-same_parts a b x y len e = (
-  sym (take_at a x (length a) refl) ∙ ap (take (length a)) e ∙ take_at b y (length a) (sym len),
-  sym (drop_at a x (length a) refl) ∙ ap (drop (length a)) e ∙ drop_at b y (length a) (sym len),
-)
-
 same_record : (a b : Record) → a.seconds ≡ b.seconds → a.kind ≡ b.kind → a.subtype ≡ b.subtype → a.body ≡ b.body → a ≡ b
 same_record a b p q r s = λ i. record { seconds = p i; kind = q i; subtype = r i; body = s i }
 
@@ -67,5 +55,5 @@ same_record a b p q r s = λ i. record { seconds = p i; kind = q i; subtype = r 
 pub same_front : (a b : Record) (x y : List ℕ) → IsRecord a → IsRecord b → spelling a ++ x ≡ spelling b ++ y → (a ≡ b) × (x ≡ y)
 same_front a b x y p q e =
     let same = same_header a.seconds a.kind a.subtype (length a.body) b.seconds b.kind b.subtype (length b.body) (a.body ++ x) (b.body ++ y) p.header q.header e in
-    let parts = same_parts a.body b.body x y same.size same.rest in
+    let parts = append_parts a.body b.body x y same.size same.rest in
     (same_record a b same.seconds same.kind same.subtype parts.0, parts.1)

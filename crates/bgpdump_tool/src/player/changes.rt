@@ -46,8 +46,8 @@ impl Changes {
     fn note_route(&mut self, pair: Pair, route: Option<Rc<Route>>) -> Result<(), AllocError>
         ensures { OnOk result ((q : Pair) → noted_effect self.new q
             ≡ later
-                (where_true (eq_by_cmp pair_cmp q pair) (effect_of (Some (route_in route)) false))
-                (noted_effect self.old q)) }
+            (where_true (eq_by_cmp pair_cmp q pair) (effect_of (Some (route_in route)) false))
+            (noted_effect self.old q)) }
     {
         if !self.decides(&pair) {
             put_slot(&mut self.routes, pair, route)?;
@@ -135,7 +135,7 @@ fn routes_then(
 ) -> Result<BTreeMap<Pair, Option<Rc<Route>>>, AllocError>
     ensures { IfOk result (λ routes. (q : Pair) → found routes.entries q
         ≡ or_absent (found changes.routes.entries q)
-            (is_lost changes.lost.items q && is_some (finite.get table.now.routes q))) }
+        (is_lost changes.lost.items q && is_some (finite.get table.now.routes q))) }
 {
     let Changes { mut routes, lost } = changes;
     'peers: for peer in &lost {
@@ -156,7 +156,7 @@ fn entries_of(
     ensures keys { IfOk result (λ _. IsDistinct (eq_by_cmp pair_cmp) (keys_of routes.entries)) }
     ensures sides { IfOk result (λ entries. sides_of entries.items
         ≡ filter (λ side. is_some side.1 || is_some (finite.get table.now.routes side.0))
-            (map slot_side routes.entries)) }
+        (map slot_side routes.entries)) }
 {
     let mut entries = Vec::new(alloc);
     'routes: for (pair, other) in routes {

@@ -57,7 +57,7 @@ pub(crate) fn cross_step(table: &mut Table, steps: &mut [Step], index: usize)
 pub(crate) fn ensure_keys(table: &mut Table, entries: &[Entry]) -> Result<(), AllocError>
     ensures keys { OnOk result
         (AllByRecursion (λ pair. names.contains table.new.keys pair ≡ true)
-            (pairs_in (sides_of entries.now))) }
+        (pairs_in (sides_of entries.now))) }
     ensures kept { (q : Pair) →
         names.contains table.old.keys q ≡ true → names.contains table.new.keys q ≡ true }
     ensures routes { table.new.routes ≡ table.old.routes }

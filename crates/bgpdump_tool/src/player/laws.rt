@@ -82,6 +82,6 @@ pub fn steps_back_and_forth()
         current (after_calls t (map Play events ++ replicate (length events) Undo)) ≡ current t }
     ensures forth { (t : Timeline) (history events : List Event) → StandsFor t history →
         current (after_calls t (map Play events
-            ++ (replicate (length events) Undo ++ replicate (length events) Redo)))
+        ++ (replicate (length events) Undo ++ replicate (length events) Redo)))
         ≡ table (take t.cursor history ++ events) }
 {}

@@ -7,18 +7,26 @@ use std::alloc::{AllocError, Global};
 use std::rc::Rc;
 use std::test::Fail;
 
-/// An announcement, a withdrawal and a session's loss, at 200 seconds and so many microseconds.
-fn event_of(alloc: Global, tag: Tag, micros: Option<u32>) -> Result<Event, AllocError> {
-    let peer = Peer {
+/// The peer 192.0.2.1 of AS 64500.
+fn peer() -> Peer {
+    Peer {
         addr: Addr::v4([192, 0, 2, 1]),
         asn: 64500,
-    };
-    let prefix = Prefix::new(Addr::v4([10, 0, 0, 0]), 8).unwrap();
+    }
+}
+
+/// The prefix 10.0.0.0/8.
+fn ten() -> Prefix {
+    Prefix::new(Addr::v4([10, 0, 0, 0]), 8).unwrap()
+}
+
+/// An announcement, a withdrawal and a session's loss, at 200 seconds and so many microseconds.
+fn event_of(alloc: Global, tag: Tag, micros: Option<u32>) -> Result<Event, AllocError> {
     let route = Rc::new(alloc, Route { time: 50 })?;
     let mut items = Vec::new(alloc);
-    items.push(Item::Announce(peer, prefix, route))?;
-    items.push(Item::Withdraw(peer, prefix))?;
-    items.push(Item::State(peer, 6, 1))?;
+    items.push(Item::Announce(peer(), ten(), route))?;
+    items.push(Item::Withdraw(peer(), ten()))?;
+    items.push(Item::State(peer(), 6, 1))?;
     Ok(Event {
         time: Time {
             seconds: 200,

@@ -221,10 +221,12 @@ fn an_input_is_not_asked_behind_its_end(rt: HostRuntime) -> Result<(), Fail> {
 
 /// A state change with so many octets behind it that are ignored.
 fn long_state_change(alloc: Global, behind: u32) -> Result<Vec<u8>, AllocError> {
-    let mut octets = octets_of(alloc, &[STATE_CHANGE])?;
-    let size = behind.saturating_add(20);
-    octets[8..12].copy_from_slice(&size.to_be_bytes());
-    octets.resize(octets.len() + behind as usize, 0xFF)?;
+    let size = behind.saturating_add(20).to_be_bytes();
+    let change = octets_of(alloc, &["FBF4 FBF5 0000 0001 C0000201 C0000202 0006 0001"])?;
+    let mut octets = octets_of(alloc, &["00000064 0010 0000"])?;
+    octets.extend_from_slice(&size)?;
+    octets.extend_from_slice(&change)?;
+    octets.resize(octets.len().saturating_add(behind as usize), 0xFF)?;
     Ok(octets)
 }
 

@@ -1,9 +1,9 @@
 use Rattle.std.proofs.Common.{◌≡◌, [], ◌∷◌, ◌++◌, sym, ◌∙◌}
 use Rattle.ip_prefix.proofs.Sequences.{one_more, none_at_all}
 use Rattle.bgp_wire.specs.Attribute.{Attribute, SpellsAttribute}
-use Rattle.bgp_wire.proofs.Refusing.{nonempty}
 use Rattle.bgp_wire.proofs.OneFront.{attribute_code}
 use Rattle.bgp_wire.proofs.framing.read_first_values.Goals as goal
+use Rattle.ip_prefix.proofs.Lists.{nonempty}
 
 pub returns-in_err-framed-clause-none : goal.returns-in_err-framed-clause-none
 returns-in_err-framed-clause-none c =

@@ -1,13 +1,14 @@
 use Rattle.std.proofs.Common.{◌≡◌, ◌∷◌, ◌++◌, length, ap, sym, ◌∙◌, arith, append_assoc}
 use Rattle.std.specs.Int.{w16, to_be_bytes}
-use Rattle.bgp_wire.proofs.Reaching.{message_parts, same_length_octets, octet_behind}
+use Rattle.bgp_wire.proofs.Reaching.{message_parts, octet_behind}
 use Rattle.bgp_wire.proofs.message.frame_message.Goals as goal
+use Rattle.ip_prefix.proofs.Numbers.{same_w16}
 
 pub returns-then-read_length-octets-clause-none : goal.returns-then-read_length-octets-clause-none
 returns-then-read_length-octets-clause-none c kind body s =
     let octets = c.args.octets.now in
     let parts = message_parts kind body octets c.split_at-2.result.0.now c.split_at-2.result.1.now c.split_at-2.ensures.front_len (sym c.split_at.ensures.back ∙ c.split_at-2.ensures.by_index.0) s in
-    c.if-read_length-octets.true (same_length_octets c.read_length.result (length octets) c.read_length.ensures.fits s.length_fits (sym c.read_length.ensures.spelled ∙ parts.0))
+    c.if-read_length-octets.true (same_w16 c.read_length.result (length octets) c.read_length.ensures.fits s.length_fits (sym c.read_length.ensures.spelled ∙ parts.0))
 
 pub returns-clause-some : goal.returns-clause-some
 returns-clause-some c =

@@ -5,8 +5,9 @@ use Rattle.ip_prefix.proofs.Sequences.{one_more}
 use Rattle.bgp_wire.specs.Path.{SpellsSegment, SpellsPath}
 use Rattle.bgp_wire.specs.Reading.{Reads}
 use Rattle.bgp_wire.proofs.OneFront.{segment_code}
-use Rattle.bgp_wire.proofs.Refusing.{nonempty, refused_rest, refused_part}
+use Rattle.bgp_wire.proofs.Refusing.{refused_rest, refused_part}
 use Rattle.bgp_wire.proofs.path_reader.read_path.Goals as goal
+use Rattle.ip_prefix.proofs.Lists.{nonempty}
 
 pub returns-in_err-segment : goal.returns-in_err-segment
 returns-in_err-segment c =

@@ -6,8 +6,9 @@ use Rattle.ip_prefix.specs.Wire.{SpellsNetwork}
 use Rattle.ip_prefix.proofs.Wires.{network_code}
 use Rattle.ip_prefix.proofs.Sequences.{one_more, none_at_all}
 use Rattle.bgp_wire.specs.Reading.{Reads}
-use Rattle.bgp_wire.proofs.Refusing.{nonempty, refused_always}
+use Rattle.bgp_wire.proofs.Refusing.{refused_always}
 use Rattle.bgp_wire.proofs.prefixes.read_prefixes.Goals as goal
+use Rattle.ip_prefix.proofs.Lists.{nonempty}
 
 pub returns-in_err-prefix : goal.returns-in_err-prefix
 returns-in_err-prefix c =

@@ -1,7 +1,8 @@
 use Rattle.std.proofs.Common.{rules, ◌≤◌, length, take, drop, arith, length-take-le}
 use Rattle.std.proofs.lemmas.Result.{err_from_is_err_and}
-use Rattle.mrt_wire.proofs.Buffers.{take_kept, Takes-parts, FillsWithin-stopped_place}
+use Rattle.mrt_wire.proofs.Buffers.{Takes-parts, FillsWithin-stopped_place}
 use Rattle.mrt_wire.proofs.buffer.fill_body.Goals as goal
+use Rattle.ip_prefix.proofs.Lists.{take_kept}
 
 pub returns-in_err-filled-clause-octets : goal.returns-in_err-filled-clause-octets
 returns-in_err-filled-clause-octets g c =

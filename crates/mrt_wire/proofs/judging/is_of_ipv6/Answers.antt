@@ -1,9 +1,9 @@
 use Rattle.std.proofs.Common.{◌∙◌, arith, eq-eqb}
 use Rattle.std.proofs.lemmas.Bool.{eqb-true}
 use Rattle.mrt_wire.specs.declared.judging.TheConstants.{AFI_IPV6}
-use Rattle.mrt_wire.proofs.RecordLaws.{same_w16}
 use Rattle.mrt_wire.proofs.FieldLaws.{IsOfIPv6-field, field-IsOfIPv6}
 use Rattle.mrt_wire.proofs.judging.is_of_ipv6.Goals as goal
+use Rattle.ip_prefix.proofs.Numbers.{same_w16}
 
 pub returns-then-body-ge-FAMILY_END : goal.returns-then-body-ge-FAMILY_END
 returns-then-body-ge-FAMILY_END c =

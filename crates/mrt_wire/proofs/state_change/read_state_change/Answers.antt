@@ -1,9 +1,9 @@
 use Rattle.std.proofs.Common.{◌∙◌, ap, arith}
 use Rattle.std.specs.Int.{to_be_bytes, w16}
-use Rattle.mrt_wire.proofs.RecordLaws.{same_w16}
 use Rattle.mrt_wire.proofs.StateChangeLaws.{ipv4, SpellsStateChange-size, SpellsStateChange-family, SpellsStateChange-fields}
 use Rattle.mrt_wire.proofs.state_change.read_state_change.Goals.{then-body-lt-STATE_CHANGE_SIZE-via-then-body-lt-STATE_CHANGE_SIZE, then-body-lt-STATE_CHANGE_SIZE-via-else-body-lt-STATE_CHANGE_SIZE+then-u16_at-ne-AFI_IPV4}
 use Rattle.mrt_wire.proofs.state_change.read_state_change.Goals as goal
+use Rattle.ip_prefix.proofs.Numbers.{same_w16}
 
 pub returns-then-body-lt-STATE_CHANGE_SIZE-clause-none : goal.returns-then-body-lt-STATE_CHANGE_SIZE-clause-none
 returns-then-body-lt-STATE_CHANGE_SIZE-clause-none c =

@@ -6,15 +6,12 @@ use Rattle.bgp_wire.specs.Attribute.{Attribute}
 use Rattle.bgp_wire.specs.FirstValues.{Firsts, Holds, octets_of}
 use Rattle.bgp_wire.proofs.Noting.{noted, other_kind, other_not_again, first_not_again, later_again, written, kept}
 use Rattle.bgp_wire.proofs.framing.FirstValues.note.Goals as goal
+use Rattle.ip_prefix.proofs.Options.{None_from_is_some}
 
 -- lent octets are there exactly where there are octets
 is_some-octets_of : (lent : Option (Bor (List ℕ))) → is_some (octets_of lent) ≡ is_some lent
 is_some-octets_of None = refl
 is_some-octets_of (Some octets) = refl
-
-none_there : (value : Option (List ℕ)) → is_some value ≡ false → value ≡ None
-none_there None e = refl
-none_there (Some octets) e = cc
 
 -- what is kept at a place is seen there
 seen_at : (values : List (Option (Bor (List ℕ)))) (kind : ℕ) → kind < length values → is_some (get_or (map octets_of values) kind None) ≡ is_some (get_or values kind None)
@@ -38,7 +35,7 @@ note_first : (values : List (Option (Bor (List ℕ)))) (again : List Bool) (list
     → Holds (kept_as values again) list → Holds (kept_as (set values kind (Some value)) again) (list ++ record { flags = flags; kind = kind; value = value.now } ∷ [])
 note_first values again list flags kind value within none h =
     let seen = map octets_of values in
-    let empty : get_or seen kind None ≡ None = none_there (get_or seen kind None) (seen_at values kind within ∙ none) in
+    let empty : get_or seen kind None ≡ None = None_from_is_some (get_or seen kind None) (seen_at values kind within ∙ none) in
     noted (kept_as values again) (kept_as (set values kind (Some value)) again) list record { flags = flags; kind = kind; value = value.now }
     (λ wanted _. ap (λ l. get_or l wanted None) (map-set octets_of values kind (Some value)) ∙ written seen kind value.now wanted (omega (arith, within, length-map values octets_of)) empty)
     (λ wanted _. first_not_again seen kind wanted (get_or again wanted false) empty)

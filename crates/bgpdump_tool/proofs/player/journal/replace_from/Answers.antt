@@ -1,6 +1,6 @@
 use Rattle.std.proofs.Common.{◌+◌, take, ap, ◌∙◌}
-use Rattle.bgpdump_tool.proofs.JournalLaws.{take_inserted}
 use Rattle.bgpdump_tool.proofs.player.journal.replace_from.Goals as goal
+use Rattle.ip_prefix.proofs.Lists.{take_inserted}
 
 pub returns-clause-steps : goal.returns-clause-steps
 returns-clause-steps c =
