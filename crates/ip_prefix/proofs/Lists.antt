@@ -48,10 +48,6 @@ pub front_moved : {A : Type 0} (all front rest : List A) (n : ℕ) → all ≡ f
 front_moved all front rest n e =
     e ∙ ap (λ l. front ++ l) (sym (take-append-drop n rest)) ∙ sym (append_assoc front (take n rest) (drop n rest)) ∙ ap (λ l. (front ++ take n rest) ++ l) (sym (take_rest rest n))
 
--- a list is appended, and then the rest
-pub append_then : {A : Type 0} (start mid end xs rest : List A) → mid ≡ start ++ xs → end ≡ mid ++ rest → end ≡ start ++ (xs ++ rest)
-append_then start mid end xs rest e f = f ∙ ap (λ l. l ++ rest) e ∙ append_assoc start xs rest
-
 -- an element of the rest of a list
 pub slice_get-drop : {A : Type 0} (low k i : ℕ) (xs : List A) → low + k ≡ i → slice_get (drop low xs) k ≡ slice_get xs i
 slice_get-drop zero k i xs e = ap (slice_get xs) (omega arith)

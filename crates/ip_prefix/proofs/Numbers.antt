@@ -17,9 +17,3 @@ pub one_w16 : (m n : ℕ) (x y : List ℕ) → m < 2 ^ 16 → n < 2 ^ 16 → to_
 one_w16 m n x y p q e =
     let parts = append_parts (to_be_bytes w16 m) (to_be_bytes w16 n) x y refl e in
     (same_w16 m n p q parts.0, parts.1)
-
--- and so with one of four
-pub one_w32 : (m n : ℕ) (x y : List ℕ) → m < 2 ^ 32 → n < 2 ^ 32 → to_be_bytes w32 m ++ x ≡ to_be_bytes w32 n ++ y → (m ≡ n) × (x ≡ y)
-one_w32 m n x y p q e =
-    let parts = append_parts (to_be_bytes w32 m) (to_be_bytes w32 n) x y refl e in
-    (same_w32 m n p q parts.0, parts.1)

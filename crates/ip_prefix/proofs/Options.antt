@@ -16,8 +16,3 @@ is_some-cond false x rest = refl
 pub None_from_is_some : {A : Type 0} (found : Option A) → is_some found ≡ false → found ≡ None
 None_from_is_some None e = refl
 None_from_is_some (Some x) e = cc
-
--- what holds where no value is there may be weakened
-pub IfNone_then : {A : Type 0} (found : Option A) {P Q : Type 0} → IfNone found P → (P → Q) → IfNone found Q
-IfNone_then None h then = then h
-IfNone_then (Some x) h then = tt

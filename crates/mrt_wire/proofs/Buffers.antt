@@ -1,6 +1,6 @@
 -- What is filled of a buffer, in several reads.
 use Rattle.std.proofs.Common.{◌≡◌, ℕ, ◌+◌, ◌-◌, ◌≤◌, List, ◌++◌, Option, Err, length, take, drop, sym, ap, ◌∙◌, subst, arith, drop_at, take_at, length-take-le}
-use Rattle.std.proofs.lemmas.List.{take-take, length-append}
+use Rattle.std.proofs.lemmas.List.{length-append}
 use Rattle.std.specs.Io.KnownBytes.{Consumes}
 use Rattle.std.proofs.KnownBytes.{Consumes-trans}
 use borrow.Rule.Slice.PartMut.{put_mid, post_of}

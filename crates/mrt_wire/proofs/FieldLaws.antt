@@ -1,6 +1,6 @@
 -- Octets as fields one behind the other.
-use Rattle.std.proofs.Common.{◌≡◌, ℕ, ◌+◌, ◌≤◌, List, ◌++◌, length, take, drop, sym, ap, ◌∙◌, refl, arith}
-use Rattle.std.proofs.lemmas.List.{take-append-drop, drop-drop, length-take-le, length-append, drop_at}
+use Rattle.std.proofs.Common.{◌≡◌, ℕ, ◌≤◌, List, ◌++◌, length, take, drop, sym, ap, ◌∙◌, refl, arith}
+use Rattle.std.proofs.lemmas.List.{length-take-le, length-append, drop_at}
 use Rattle.std.specs.Int.{to_be_bytes, w16}
 use Rattle.mrt_wire.specs.declared.judging.TheConstants.{AFI_IPV6}
 use Rattle.mrt_wire.specs.Profile.{IsOfIPv6}

@@ -1,7 +1,5 @@
 -- Laws of records: none begins another, so octets split into records in one way.
-use Rattle.std.proofs.Common.{◌≡◌, ℕ, ◌<◌, ◌^◌, List, ◌++◌, length, take, drop, sym, ap, ◌∙◌, refl, arith, drop_at, take_at, length-append}
-use Rattle.std.proofs.lemmas.Nat.{from_be_bytes-to_be_bytes_2, from_be_bytes-to_be_bytes_4}
-use Rattle.std.specs.Int.{to_be_bytes, from_be_bytes, w16, w32}
+use Rattle.std.proofs.Common.{◌≡◌, ℕ, ◌<◌, List, ◌++◌, length, take, drop, ap, arith, length-append}
 use Rattle.mrt_wire.specs.declared.frames.TheConstants.{LONGEST_BODY}
 use Rattle.mrt_wire.specs.Record.{Record, IsHeader, header_octets, spelling, IsRecord, BeginsWithNone}
 use Rattle.ip_prefix.proofs.Lists.{append_parts}

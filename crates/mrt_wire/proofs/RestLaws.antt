@@ -1,6 +1,6 @@
 -- Octets that are a rest, or in which a record has begun.
 use Rattle.std.proofs.Common.{◌≡◌, ℕ, ◌≤◌, ◌<◌, false, cond, List, [], ◌∷◌, ◌++◌, Option, Some, Ok, Err, length, sym, ap, ◌∙◌, subst, arith, length-append, inl, refl}
-use Rattle.std.proofs.lemmas.Bool.{lt-ltb, le-ltb}
+use Rattle.std.proofs.lemmas.Bool.{le-ltb}
 use Rattle.std.proofs.lemmas.Nat.{from_be_bytes-to_be_bytes_4}
 use Rattle.std.specs.Prelude.{nat_lt}
 use Rattle.std.specs.Io.KnownBytes.{IsAtEnd}
@@ -15,11 +15,6 @@ use Rattle.mrt_wire.specs.Device.{Takes}
 use Rattle.mrt_wire.specs.Taking.{IsBegun, EndsAt, TakesHeader, TakesBody, TakesRecord}
 use Rattle.mrt_wire.proofs.Buffers.{Takes-trans}
 use Rattle.mrt_wire.proofs.RecordLaws.{BeginsWithNone-cut}
-
--- fewer octets than a header has are a cut record
-pub rest_kind-short : (rest : List ℕ) → length rest < 12 → rest_kind rest ≡ CutRecord
-rest_kind-short rest short =
-    ap (λ b. cond b CutRecord (cond (nat_lt LONGEST_BODY (stated_size rest)) (TooLong (stated_size rest)) CutRecord)) (lt-ltb (length rest) 12 short)
 
 -- behind a header its length decides
 pub rest_kind-header : (s k t n : ℕ) (octets : List ℕ) → IsHeader s k t n
