@@ -4,7 +4,7 @@ use Rattle.std.specs.List.{join_with_byte}
 use Rattle.std.proofs.lemmas.List.{length-append, take-append-le, take_all}
 use Rattle.bgp_wire.specs.Text.{ended_words}
 
--- words that are each ended_words are those that are joined and a last end
+-- words that each have an end are those that are joined and a last end
 ended_words-joined : (separator : ℕ) (word : List ℕ) (words : List (List ℕ)) → ended_words separator (word ∷ words) ≡ join_with_byte separator (word ∷ words) ++ separator ∷ []
 ended_words-joined separator word [] = append-nil (word ++ separator ∷ [])
 ended_words-joined separator word (next ∷ words) =

@@ -2,6 +2,13 @@
 
 ghost use Rattle.std.specs.Prelude.{◌≡◌, ℕ, List};
 ghost use Rattle.ip_prefix.specs.declared.addr.Family.{Family};
+ghost use Rattle.bgp_wire.specs.declared.as4.TheConstants.{AS_TRANS};
+ghost use Rattle.bgp_wire.specs.declared.framing.TheConstants.{EXTENDED_LENGTH, ORIGIN, AS_PATH, NEXT_HOP, MULTI_EXIT_DISC, LOCAL_PREF, ATOMIC_AGGREGATE, AGGREGATOR, COMMUNITIES, MP_REACH_NLRI, MP_UNREACH_NLRI, AS4_PATH, AS4_AGGREGATOR};
+ghost use Rattle.bgp_wire.specs.declared.message.TheConstants.{UPDATE, HEADER_SIZE, MARKER_SIZE};
+ghost use Rattle.bgp_wire.specs.declared.path_reader.TheConstants.{AS_SET, AS_SEQUENCE, AS_CONFED_SEQUENCE, AS_CONFED_SET};
+ghost use Rattle.bgp_wire.specs.declared.reach.TheConstants.{AFI_IPV4, AFI_IPV6, SAFI_UNICAST};
+ghost use Rattle.bgp_wire.specs.declared.text.TheConstants.{NO_EXPORT, NO_ADVERTISE, NO_EXPORT_SUBCONFED};
+ghost use Rattle.bgp_wire.specs.declared.values.TheConstants.{ORIGIN_IGP, ORIGIN_EGP, ORIGIN_INCOMPLETE};
 ghost use Rattle.bgp_wire.specs.declared.path.AsWidth.{AsWidth};
 ghost use Rattle.bgp_wire.specs.declared.attrs.Attrs.{Attrs};
 ghost use Rattle.bgp_wire.specs.declared.message.Message.{Message};
@@ -51,4 +58,22 @@ pub fn one_message()
         SpellsMessage width message octets → SpellsMessage width other octets → message ≡ other }
     ensures update { (width : AsWidth) (body : List ℕ) (update other : Update) →
         SpellsUpdate width update body → SpellsUpdate width other body → update ≡ other }
+{}
+
+/// The numbers that the definitions name: of attributes and segments (RFC 4271, section 4.3; RFC
+/// 5065, section 3; RFC 4760; RFC 6793), of messages (RFC 4271, section 4.1), of families (RFC 4760)
+/// and of communities (RFC 1997).
+pub fn attribute_numbers()
+    ensures extended_length { EXTENDED_LENGTH ≡ 16 }
+    ensures types { (ORIGIN ≡ 1) × (AS_PATH ≡ 2) × (NEXT_HOP ≡ 3) × (MULTI_EXIT_DISC ≡ 4)
+        × (LOCAL_PREF ≡ 5) × (ATOMIC_AGGREGATE ≡ 6) × (AGGREGATOR ≡ 7) × (COMMUNITIES ≡ 8) }
+    ensures reachability { (MP_REACH_NLRI ≡ 14) × (MP_UNREACH_NLRI ≡ 15) }
+    ensures four_octets { (AS4_PATH ≡ 17) × (AS4_AGGREGATOR ≡ 18) × (AS_TRANS ≡ 23456) }
+    ensures origins { (ORIGIN_IGP ≡ 0) × (ORIGIN_EGP ≡ 1) × (ORIGIN_INCOMPLETE ≡ 2) }
+    ensures segments { (AS_SET ≡ 1) × (AS_SEQUENCE ≡ 2) × (AS_CONFED_SEQUENCE ≡ 3)
+        × (AS_CONFED_SET ≡ 4) }
+    ensures families { (AFI_IPV4 ≡ 1) × (AFI_IPV6 ≡ 2) × (SAFI_UNICAST ≡ 1) }
+    ensures messages { (MARKER_SIZE ≡ 16) × (HEADER_SIZE ≡ 19) × (UPDATE ≡ 2) }
+    ensures communities { (NO_EXPORT ≡ 4294967041) × (NO_ADVERTISE ≡ 4294967042)
+        × (NO_EXPORT_SUBCONFED ≡ 4294967043) }
 {}

@@ -23,7 +23,8 @@ mod values;
 pub use attrs::{Aggregator, Attrs, Communities, Origin};
 pub use fault::WireFault;
 pub use laws::{
-    merge_keeps_the_weight, one_attribute_list, one_merge, one_message, one_path, one_table_entry,
+    attribute_numbers, merge_keeps_the_weight, one_attribute_list, one_merge, one_message,
+    one_path, one_table_entry,
 };
 pub use merge::merge_paths;
 pub use message::{Message, Update, read_message};

@@ -4,6 +4,7 @@
 
 mod dump;
 mod fault;
+mod laws;
 mod lines;
 mod outcome;
 mod output;
@@ -12,6 +13,7 @@ mod reports;
 mod write;
 
 pub use dump::run_dump;
+pub use laws::run_numbers;
 pub use outcome::Outcome;
 pub use output::{OutFault, Output, WriteOutput, put_all};
 pub use player::{

@@ -39,7 +39,7 @@ fn write_report<E: Output>(
     Ok(())
 }
 
-/// Writes what a source answer_findings, and answers whether that is a fault. The text is scratch.
+/// Writes what a source told, and answers whether that is a fault. The text is scratch.
 pub(crate) fn write_next<O: Output, E: Output>(
     out: &mut O,
     err: &mut E,

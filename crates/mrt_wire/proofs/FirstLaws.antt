@@ -128,7 +128,7 @@ pub first_result : (p q : Place) (left : Option (List ℕ)) (octets : List ℕ) 
 first_result p q left octets answer (inl (frame, at)) more frames rest follows split = first_of_frame p q octets answer frame at more frames rest split
 first_result p q left octets answer (inr at) more frames rest follows split = first_of_rest p q left octets answer at more frames rest follows split
 
--- the octets taken are those that are answer_findings
+-- the octets taken are those of the call
 pub same_taken : (left left' : Option (List ℕ)) (octets taken after : List ℕ) → Consumes left left' octets → Took left left' taken after → taken ≡ octets
 same_taken left left' octets taken after consumed p =
     let one = subst (λ o. Consumes o left' octets) p.before consumed in

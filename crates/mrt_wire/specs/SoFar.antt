@@ -29,7 +29,7 @@ pub record SoFar (p q : Place) (left left' : Option (List ℕ)) (found : List Fi
   pub stamp : q.stamp ≡ p.stamp
   pub rest_is : RestSoFar q.phase left' rest
 
--- whether nothing is answer_findings
+-- whether nothing was found
 abbrev pub is_nothing : List Finding → Bool
 is_nothing [] = true
 is_nothing (finding ∷ found) = false

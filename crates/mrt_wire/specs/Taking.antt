@@ -11,7 +11,7 @@ use Rattle.mrt_wire.specs.Device.{Stops}
 use Rattle.mrt_wire.specs.Record.{Record, record_under, IsHeader, header_octets, spelling, IsRecord, BeginsWithNone}
 use Rattle.mrt_wire.specs.Results.{rest_kind, rest_fault}
 
--- no record stands in front of the octets, and none stand behind a header that states too much
+-- no record stands in front of the octets, and no octets stand behind a header that states too much
 pub record IsRest (octets : List ℕ) : Type 0 where
   pub none : BeginsWithNone octets
   pub stops : (rest_kind octets ≡ CutRecord) ⊎ (length octets ≡ HEADER_SIZE)
@@ -21,7 +21,7 @@ pub record IsBegun (octets : List ℕ) : Type 0 where
   pub none : BeginsWithNone octets
   pub cut : rest_kind octets ≡ CutRecord
 
--- the octets are the rest, which has this fault; but for a length that is too long, the input ends there
+-- the octets are the rest; but for a length that is too long, the input ends there
 pub record EndsAt (left : Option (List ℕ)) (octets : List ℕ) : Type 0 where
   pub rest : IsRest octets
   pub seen : rest_kind octets ≡ CutRecord → IsAtEnd left

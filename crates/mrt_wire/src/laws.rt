@@ -5,7 +5,11 @@ ghost use Rattle.std.specs.Ordering.{eq_by_cmp};
 ghost use Rattle.std.specs.Cmp.{IsTotalOrder};
 ghost use Rattle.std.specs.FinMap.{IsAntisymmetric};
 ghost use Rattle.mrt_wire.specs.declared.event.Stamp.{Stamp};
+ghost use Rattle.mrt_wire.specs.declared.frames.TheConstants.{LONGEST_BODY};
+ghost use Rattle.mrt_wire.specs.declared.header.TheConstants.{HEADER_SIZE};
+ghost use Rattle.mrt_wire.specs.declared.judging.TheConstants.{BGP4MP, BGP4MP_STATE_CHANGE, AFI_IPV6, FAMILY_PLACE};
 ghost use Rattle.mrt_wire.specs.declared.peer.Peer.{Peer};
+ghost use Rattle.mrt_wire.specs.declared.state_change.TheConstants.{AFI_IPV4};
 ghost use Rattle.mrt_wire.specs.Content.{Content, IsBody};
 ghost use Rattle.mrt_wire.specs.Peer.{peer_cmp};
 ghost use Rattle.mrt_wire.specs.Verdict.{Frame, Index};
@@ -43,4 +47,12 @@ pub fn peer_order()
     ensures equal { (a b : Peer) → ⟦<Peer as PartialEq>⟧.eq a b ≡ eq_by_cmp peer_cmp a b }
     ensures total { IsTotalOrder peer_cmp }
     ensures ties { IsAntisymmetric peer_cmp }
+{}
+
+/// The numbers that the definitions name: of records (RFC 6396, sections 2 and 4) and of families
+/// (RFC 4760, section 3), and the greatest length that is read.
+pub fn record_numbers()
+    ensures sizes { (HEADER_SIZE ≡ 12) × (LONGEST_BODY ≡ 16777216) × (FAMILY_PLACE ≡ 6) }
+    ensures types { (BGP4MP ≡ 16) × (BGP4MP_STATE_CHANGE ≡ 0) }
+    ensures families { (AFI_IPV4 ≡ 1) × (AFI_IPV6 ≡ 2) }
 {}

@@ -18,7 +18,7 @@ mod state_change;
 pub use event::{Event, Item, Items, Route, Stamp, Tag, Time};
 pub use fault::{RecordFault, RecordKind, SourceFault};
 pub use input::{InFault, Input, ReadInput};
-pub use laws::{no_octets_without_a_split, one_content, one_split, peer_order};
+pub use laws::{no_octets_without_a_split, one_content, one_split, peer_order, record_numbers};
 pub use next::{Next, Phase};
 pub use peer::Peer;
 pub use source::Source;
