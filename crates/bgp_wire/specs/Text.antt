@@ -8,6 +8,10 @@ use Rattle.bgp_wire.specs.declared.path.AsPath.{AsPath}
 use Rattle.bgp_wire.specs.declared.text.Marks.{Marks}
 use Rattle.bgp_wire.specs.declared.text.TheConstants.{NO_EXPORT, NO_ADVERTISE, NO_EXPORT_SUBCONFED, AS_SET_MARKS, CONFED_SEQUENCE_MARKS, CONFED_SET_MARKS, SPACE, COLON}
 
+-- the marks in the order in which they are printed
+abbrev pub all_marks : Marks → List ℕ
+all_marks marks = marks.open ∷ marks.separator ∷ marks.close ∷ []
+
 -- numbers in decimal and in brackets
 abbrev pub bracketed_numbers : Marks → List ℕ → List ℕ
 bracketed_numbers marks ns = marks.open ∷ join_with_byte marks.separator (map decimal ns) ++ marks.close ∷ []

@@ -1,13 +1,16 @@
 //! Laws of the definitions, which call nothing.
 
-ghost use Rattle.std.specs.Prelude.{◌≡◌, ℕ, List};
+ghost use Rattle.std.specs.Prelude.{◌≡◌, ℕ, List, [], ◌∷◌, codes};
 ghost use Rattle.ip_prefix.specs.declared.addr.Family.{Family};
 ghost use Rattle.bgp_wire.specs.declared.as4.TheConstants.{AS_TRANS};
 ghost use Rattle.bgp_wire.specs.declared.framing.TheConstants.{EXTENDED_LENGTH, ORIGIN, AS_PATH, NEXT_HOP, MULTI_EXIT_DISC, LOCAL_PREF, ATOMIC_AGGREGATE, AGGREGATOR, COMMUNITIES, MP_REACH_NLRI, MP_UNREACH_NLRI, AS4_PATH, AS4_AGGREGATOR};
 ghost use Rattle.bgp_wire.specs.declared.message.TheConstants.{UPDATE, HEADER_SIZE, MARKER_SIZE};
+ghost use Rattle.bgp_wire.specs.declared.next_hop.TheConstants.{FAMILY_SIZE, LINK_LOCAL_SIZE};
 ghost use Rattle.bgp_wire.specs.declared.path_reader.TheConstants.{AS_SET, AS_SEQUENCE, AS_CONFED_SEQUENCE, AS_CONFED_SET};
 ghost use Rattle.bgp_wire.specs.declared.reach.TheConstants.{AFI_IPV4, AFI_IPV6, SAFI_UNICAST};
 ghost use Rattle.bgp_wire.specs.declared.text.TheConstants.{NO_EXPORT, NO_ADVERTISE, NO_EXPORT_SUBCONFED};
+ghost use Rattle.bgp_wire.specs.declared.text.TheConstants.{SPACE, COLON, AS_SET_MARKS, CONFED_SEQUENCE_MARKS, CONFED_SET_MARKS};
+ghost use Rattle.bgp_wire.specs.Text.{all_marks};
 ghost use Rattle.bgp_wire.specs.declared.values.TheConstants.{ORIGIN_IGP, ORIGIN_EGP, ORIGIN_INCOMPLETE};
 ghost use Rattle.bgp_wire.specs.declared.path.AsWidth.{AsWidth};
 ghost use Rattle.bgp_wire.specs.declared.attrs.Attrs.{Attrs};
@@ -73,7 +76,16 @@ pub fn attribute_numbers()
     ensures segments { (AS_SET ≡ 1) × (AS_SEQUENCE ≡ 2) × (AS_CONFED_SEQUENCE ≡ 3)
         × (AS_CONFED_SET ≡ 4) }
     ensures families { (AFI_IPV4 ≡ 1) × (AFI_IPV6 ≡ 2) × (SAFI_UNICAST ≡ 1) }
+    ensures sizes { (FAMILY_SIZE ≡ 3) × (LINK_LOCAL_SIZE ≡ 16) }
     ensures messages { (MARKER_SIZE ≡ 16) × (HEADER_SIZE ≡ 19) × (UPDATE ≡ 2) }
     ensures communities { (NO_EXPORT ≡ 4294967041) × (NO_ADVERTISE ≡ 4294967042)
         × (NO_EXPORT_SUBCONFED ≡ 4294967043) }
+{}
+
+/// The marks of texts that the definitions name.
+pub fn text_marks()
+    ensures between { SPACE ∷ COLON ∷ [] ≡ codes " :" }
+    ensures sets { all_marks AS_SET_MARKS ≡ codes "{,}" }
+    ensures confederation_sequences { all_marks CONFED_SEQUENCE_MARKS ≡ codes "( )" }
+    ensures confederation_sets { all_marks CONFED_SET_MARKS ≡ codes "[,]" }
 {}

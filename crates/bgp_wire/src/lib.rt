@@ -24,7 +24,7 @@ pub use attrs::{Aggregator, Attrs, Communities, Origin};
 pub use fault::WireFault;
 pub use laws::{
     attribute_numbers, merge_keeps_the_weight, one_attribute_list, one_merge, one_message,
-    one_path, one_table_entry,
+    one_path, one_table_entry, text_marks,
 };
 pub use merge::merge_paths;
 pub use message::{Message, Update, read_message};

@@ -111,12 +111,6 @@ pub one_of_length : (m n : Network) (a : Address) → contains m a ≡ true → 
 one_of_length m n a p q size =
     covers_antisymmetric m n (covers_nested m n a p q (omega arith)) (covers_nested n m a q p (omega arith))
 
--- the prefix of the first bits of an address contains it
-pub contains-network_of : (a : Address) (len : ℕ) → len ≤ length a.bits → contains (network_of a len) a ≡ true
-contains-network_of a len within =
-    let size : length (take len a.bits) ≡ len = omega (arith, length-take len a.bits) in
-    contains_from (network_of a len) a refl (ap (λ k. take k a.bits) size)
-
 -- ---- what is known by the addresses
 
 -- the address of a prefix's bits and then this bit

@@ -11,8 +11,8 @@ mod text;
 pub use addr::{Addr, Family, V4_BITS, V4_OCTETS, V6_BITS, V6_OCTETS};
 pub use decimal::put_decimal;
 pub use laws::{
-    address_order, containment, covering_order, nested_prefixes, one_network, one_spelling,
-    prefix_order, shortened_run, text_spells,
+    address_numbers, address_order, containment, covering_order, nested_prefixes, one_network,
+    one_spelling, prefix_order, shortened_run, text_spells,
 };
 pub use prefix::Prefix;
 
