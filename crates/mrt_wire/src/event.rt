@@ -1,6 +1,7 @@
 //! What accepted records say.
 
 use crate::peer::Peer;
+use bgp_wire::Attrs;
 use ip_prefix::Prefix;
 use std::marker::Model;
 use std::rc::Rc;
@@ -35,8 +36,10 @@ pub enum Tag {
 }
 
 /// A route to a prefix, as a peer announced it.
-#[derive(Debug, Drop, PartialEq, Eq)]
+#[derive(Debug, Drop)]
 pub struct Route {
+    /// Its path attributes.
+    pub attrs: Attrs,
     /// The time that goes with it, in seconds since 1970: that of its record, or for a table's
     /// entry what the `Stamp` says.
     pub time: u32,

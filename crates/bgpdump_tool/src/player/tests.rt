@@ -1,6 +1,7 @@
 //! The player on event values.
 
 use crate::{PlayFault, Player};
+use bgp_wire::{AsPath, Attrs, Communities, Segments};
 use ip_prefix::{Addr, Prefix};
 use mrt_wire::{Event, Item, Items, Peer, Route, Tag, Time};
 use std::alloc::{AllocError, Global};
@@ -69,8 +70,25 @@ enum Answer {
 /// A call, what it answers, and the time of the peer's route to 10.0.0.0/8 then.
 type Row<'a> = (Call<'a>, Answer, Option<u32>);
 
+/// A route of this time, without attributes.
+fn route_at(alloc: Global, time: u32) -> Route {
+    let attrs = Attrs {
+        next_hop: None,
+        aggregator: None,
+        path: AsPath {
+            segments: Segments::from_vec(Vec::new(alloc)),
+        },
+        communities: Communities::from_vec(Vec::new(alloc)),
+        med: None,
+        local_pref: None,
+        origin: None,
+        atomic: false,
+    };
+    Route { attrs, time }
+}
+
 fn announcement(alloc: Global, peer: Peer, octet: u8, time: u32) -> Result<Item, AllocError> {
-    let route = Rc::new(alloc, Route { time })?;
+    let route = Rc::new(alloc, route_at(alloc, time))?;
     Ok(Item::Announce(peer, eight(octet), route))
 }
 
@@ -330,7 +348,7 @@ fn plays_events_of_thousands_of_prefixes(rt: HostRuntime) -> Result<(), Fail> {
     for number in 0..5_000u32 {
         let [_, _, high, low] = number.to_be_bytes();
         let prefix = Prefix::new(Addr::v4([10, high, low, 0]), 24).unwrap();
-        items.push(Item::Announce(peer(), prefix, Rc::new(alloc, Route { time: number })?))?;
+        items.push(Item::Announce(peer(), prefix, Rc::new(alloc, route_at(alloc, number))?))?;
     }
     let large = event_of(items);
     assert_eq!(rt; answer_to(&mut player, &large), Answer::Dropped(0));

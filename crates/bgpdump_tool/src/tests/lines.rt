@@ -1,6 +1,7 @@
 //! The lines of events that no record gives yet, and of state changes with microseconds.
 
 use crate::lines::put_lines;
+use bgp_wire::{AsPath, Attrs, Communities, Segments};
 use ip_prefix::{Addr, Prefix};
 use mrt_wire::{Event, Item, Items, Peer, Route, Tag, Time};
 use std::alloc::{AllocError, Global};
@@ -20,9 +21,26 @@ fn ten() -> Prefix {
     Prefix::new(Addr::v4([10, 0, 0, 0]), 8).unwrap()
 }
 
+/// A route of 50 seconds, without attributes.
+fn route(alloc: Global) -> Route {
+    let attrs = Attrs {
+        next_hop: None,
+        aggregator: None,
+        path: AsPath {
+            segments: Segments::from_vec(Vec::new(alloc)),
+        },
+        communities: Communities::from_vec(Vec::new(alloc)),
+        med: None,
+        local_pref: None,
+        origin: None,
+        atomic: false,
+    };
+    Route { attrs, time: 50 }
+}
+
 /// An announcement, a withdrawal and a session's loss, at 200 seconds and so many microseconds.
 fn event_of(alloc: Global, tag: Tag, micros: Option<u32>) -> Result<Event, AllocError> {
-    let route = Rc::new(alloc, Route { time: 50 })?;
+    let route = Rc::new(alloc, route(alloc))?;
     let mut items = Vec::new(alloc);
     items.push(Item::Announce(peer(), ten(), route))?;
     items.push(Item::Withdraw(peer(), ten()))?;
