@@ -1,34 +1,39 @@
 -- Laws of contents.
-use Rattle.std.proofs.Common.{◌≡◌, ◌∙◌, ◌⊎◌, inl, inr, ℕ, List, sym}
-use Rattle.std.proofs.lemmas.Bool.{cases_eq}
-use Rattle.mrt_wire.specs.declared.judging.TheConstants.{BGP4MP, BGP4MP_STATE_CHANGE}
-use Rattle.mrt_wire.specs.declared.state_change.StateChange.{StateChange}
-use Rattle.mrt_wire.specs.Profile.{Form, HasForm}
-use Rattle.mrt_wire.specs.Profile as form
-use Rattle.mrt_wire.specs.Content.{Content, Change, IsBody, SpellsStateChange}
-use Rattle.mrt_wire.proofs.StateChangeLaws.{same_state_change}
+use Rattle.std.proofs.Common.{◌≡◌, ◌∙◌, ◌⊎◌, inl, inr, ℕ, List, Option, Some, None, refl, sym, ap, subst}
+use Rattle.ip_prefix.specs.Fields.{IsOne}
+use Rattle.mrt_wire.specs.declared.profile.Form.{Form}
+use Rattle.mrt_wire.specs.declared.profile.Form.TheVariants as form
+use Rattle.mrt_wire.specs.Profile.{HasForm, form_of}
+use Rattle.mrt_wire.specs.Content.{Content, Peers, Table, Session, SpellsContent, IsBody}
+use Rattle.mrt_wire.proofs.PeerIndexLaws.{one_peer_index}
+use Rattle.mrt_wire.proofs.RibLaws.{one_rib}
+use Rattle.mrt_wire.proofs.SessionLaws.{one_session_body}
 
 -- a type and subtype have a form, or none
 pub cases_form : (kind subtype : ℕ) → ((form : Form) × HasForm kind subtype form) ⊎ ((form : Form) → HasForm kind subtype form → ⊥)
-cases_form kind subtype = elim (cases_eq kind BGP4MP) [
-  | inr other ↦ inr (none_of_kind other)
-  | inl same ↦ elim (cases_eq subtype BGP4MP_STATE_CHANGE) [
-    | inr other ↦ inr (none_of_subtype other)
-    | inl same' ↦ inl (form.StateChange, (same, same'))
-  ]
-]
+cases_form kind subtype = by_form (form_of kind subtype) refl
   where
-    none_of_kind : (kind ≡ BGP4MP → ⊥) → (form : Form) → HasForm kind subtype form → ⊥
-    none_of_kind other form.StateChange has = other has.0
+    by_form : (found : Option Form) → form_of kind subtype ≡ found → ((form : Form) × HasForm kind subtype form) ⊎ ((form : Form) → HasForm kind subtype form → ⊥)
+    by_form None none = inr (λ form has. clash form (sym none ∙ has))
+      where
+        clash : (form : Form) → ◌≡◌ {A = Option Form} None (Some form) → ⊥
+        clash form e = cc
+    by_form (Some form) some = inl (form, some)
 
-    none_of_subtype : (subtype ≡ BGP4MP_STATE_CHANGE → ⊥) → (form : Form) → HasForm kind subtype form → ⊥
-    none_of_subtype other form.StateChange has = other has.1
+-- bodies of a type and subtype have one form
+pub same_form : (kind subtype : ℕ) (a b : Form) → HasForm kind subtype a → HasForm kind subtype b → a ≡ b
+same_form kind subtype a b p q = same_some (sym p ∙ q)
+  where
+    same_some : Some a ≡ Some b → a ≡ b
+    same_some e = cc
 
--- a body has no content where it spells no state change
-pub no_content : (kind subtype : ℕ) (body : List ℕ) → ((change : StateChange) → SpellsStateChange change body → ⊥) → (content : Content) → IsBody kind subtype content body → ⊥
-no_content kind subtype body none (Change micros change) (form.StateChange, has, spelled) = none change spelled.1
+-- no octets are of two contents of one form
+pub one_content_of : (form : Form) → IsOne (SpellsContent form)
+one_content_of form.PeerIndex a b octets s t = s.1 ∙ ap Peers (one_peer_index s.0 t.0 octets s.2 t.2) ∙ sym t.1
+one_content_of (form.Rib family) a b octets s t = s.1 ∙ ap Table (one_rib family s.0 t.0 octets s.2 t.2) ∙ sym t.1
+one_content_of (form.Session session) a b octets s t = s.1 ∙ ap Session (one_session_body session s.0 t.0 octets s.2 t.2) ∙ sym t.1
 
 -- a body has one content
 pub same_content : (kind subtype : ℕ) (body : List ℕ) (a b : Content) → IsBody kind subtype a body → IsBody kind subtype b body → a ≡ b
-same_content kind subtype body (Change m a) (Change n b) (form.StateChange, has, p) (form.StateChange, has', q) =
-    λ i. Change ((p.0 ∙ sym q.0) i) (same_state_change a b body p.1 q.1 i)
+same_content kind subtype body a b (f, has, p) (g, has', q) =
+    one_content_of g a b body (subst (λ f. SpellsContent f a body) (same_form kind subtype f g has has') p) q

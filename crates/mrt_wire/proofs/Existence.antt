@@ -1,6 +1,6 @@
 -- No list of octets is without a split into frames and a rest.
-use Rattle.std.proofs.Common.{◌≡◌, ℕ, zero, suc, ◌+◌, ◌≤◌, ◌<◌, ◌^◌, ◌⊎◌, inl, inr, List, [], ◌∷◌, ◌++◌, length, take, drop, sym, ap, ◌∙◌, subst, refl, arith}
-use Rattle.std.proofs.lemmas.Bool.{cases_lt, cases_eq}
+use Rattle.std.proofs.Common.{◌≡◌, ℕ, zero, suc, ◌+◌, ◌≤◌, ◌<◌, ◌^◌, ◌⊎◌, inl, inr, List, [], ◌∷◌, ◌++◌, Option, Some, None, length, take, drop, sym, ap, ◌∙◌, subst, refl, arith}
+use Rattle.std.proofs.lemmas.Bool.{cases_lt}
 use Rattle.std.proofs.lemmas.List.{append_assoc, length-append, length-take-le, length-drop, get_or-take, get_or-drop, get_or_past, take-append-drop}
 use Rattle.std.proofs.lemmas.Nat.{be_bytes_2, be_bytes_4}
 use Rattle.std.specs.Int.{to_be_bytes, from_be_bytes, w16, w32}
@@ -8,15 +8,18 @@ use Rattle.mrt_wire.specs.declared.fault.RecordKind.TheVariants.{Unsupported, Ma
 use Rattle.mrt_wire.specs.declared.event.Stamp.{Stamp}
 use Rattle.mrt_wire.specs.declared.frames.TheConstants.{LONGEST_BODY}
 use Rattle.mrt_wire.specs.Record.{Record, record_of, IsOctets, IsHeader, header_octets, spelling, IsRecord, BeginsWithNone}
-use Rattle.mrt_wire.specs.declared.judging.TheConstants.{AFI_IPV6}
-use Rattle.mrt_wire.specs.Profile.{IsOfIPv6, IsSupported}
-use Rattle.mrt_wire.specs.Verdict.{Verdict, Accepted, Refused, Frame, Index, index_after, event_of, ReadsAs}
+use Rattle.mrt_wire.specs.declared.fault.RecordKind.{RecordKind}
+use Rattle.mrt_wire.specs.Content.{Content, IsBody}
+use Rattle.mrt_wire.specs.Verdict.{Verdict, Accepted, Refused, Frame, Index, index_after, content_fault, event_of, ReadsAs}
 use Rattle.mrt_wire.specs.Splitting.{Splits, spellings}
 use Rattle.mrt_wire.proofs.ContentLaws.{cases_form}
-use Rattle.mrt_wire.proofs.FieldLaws.{field_then, IsOfIPv6-field, field-IsOfIPv6, length-IsOfIPv6}
+use Rattle.mrt_wire.proofs.JudgingLaws.{fault_of_content}
 use Rattle.mrt_wire.proofs.RecordLaws.{BeginsWithNone-short, BeginsWithNone-cut, BeginsWithNone-too_long}
-use Rattle.ip_prefix.proofs.Numbers.{same_w16}
 use Rattle.ip_prefix.proofs.Lists.{drop_in_parts}
+
+-- a field is put in front
+field_then : (field front octets more : List ℕ) → field ≡ front → octets ≡ more → field ++ octets ≡ front ++ more
+field_then field front octets more e f = ap (λ l. l ++ octets) e ∙ ap (λ l. front ++ l) f
 
 -- a front of octets is octets
 IsOctets-take : (n : ℕ) (octets : List ℕ) → n ≤ length octets → IsOctets octets → IsOctets (take n octets)
@@ -100,12 +103,11 @@ BeginsWithHeader-long octets long small =
           (drop_in_parts 8 4 octets ∙ field_then _ _ _ _ (sym size.spelling) refl)));
     }
 
--- a record whose body is octets stands in front of the octets, and octets follow it
+-- a record stands in front of the octets, and octets follow it
 record BeginsWithRecord (octets : List ℕ) : Type 0 where
   mrt : Record
   more : List ℕ
   is_record : IsRecord mrt
-  body_octets : IsOctets mrt.body
   more_octets : IsOctets more
   whole : octets ≡ spelling mrt ++ more
 
@@ -121,7 +123,6 @@ BeginsWithRecord-header octets small header enough short =
       mrt = record_of header.seconds header.kind header.subtype body;
       more = drop header.size behind;
       is_record = record { header = subst (IsHeader header.seconds header.kind header.subtype) size header.fits; size = omega arith };
-      body_octets = IsOctets-take header.size behind enough small_behind;
       more_octets = IsOctets-drop header.size behind small_behind;
       whole = header.whole
           ∙ field_then _ _ _ _ (ap (header_octets header.seconds header.kind header.subtype) size) (sym (take-append-drop header.size behind));
@@ -147,34 +148,16 @@ cases_record octets small = elim (cases_lt (length octets) 12) [
       ]
 ]
 
--- octets give IPv6 as their address family, or not
-cases_IPv6 : (body : List ℕ) → IsOctets body → IsOfIPv6 body ⊎ (IsOfIPv6 body → ⊥)
-cases_IPv6 body small = elim (cases_lt (length body) 8) [
-  | inl short ↦ inr (λ six. absurd (omega (arith, length-IsOfIPv6 body six)))
-  | inr long ↦
-      let family = Spells16-at 6 body long small in
-      elim (cases_eq family.number AFI_IPV6) [
-        | inl same ↦ inl (IsOfIPv6-field body family.number long family.spelling same)
-        | inr other ↦ inr (λ six. other (same_w16 family.number AFI_IPV6 family.fits (omega arith) (family.spelling ∙ field-IsOfIPv6 body six)))
-      ]
+-- no record is without a verdict
+some_verdict : (stamp : Stamp) (index : Index) (r : Record) → ((verdict : Verdict) → ReadsAs stamp index r verdict → ⊥) → ⊥
+some_verdict stamp index r none = elim (cases_form r.kind r.subtype) [
+  | inr unread ↦ none (Refused (Unsupported r.kind r.subtype)) (λ supported. unread supported.0 supported.1, refl, refl)
+  | inl supported ↦ none (Refused Malformed) (supported, λ content is_body. by_fault content is_body (content_fault index content) refl)
 ]
-
--- a record of octets is supported, or not
-cases_supported : (r : Record) → IsOctets r.body → IsSupported r ⊎ (IsSupported r → ⊥)
-cases_supported r small = elim (cases_form r.kind r.subtype) [
-  | inr none ↦ inr (λ supported. none supported.form supported.has_form)
-  | inl (form, has) ↦ elim (cases_IPv6 r.body small) [
-    | inl six ↦ inr (λ supported. supported.family six)
-    | inr not_six ↦ inl (record { form = form; has_form = has; family = not_six })
-  ]
-]
-
--- no record of octets is without a verdict
-ReadsAs-octets : (stamp : Stamp) (index : Index) (r : Record) → IsOctets r.body → ((verdict : Verdict) → ReadsAs stamp index r verdict → ⊥) → ⊥
-ReadsAs-octets stamp index r small none = elim (cases_supported r small) [
-  | inr unsupported ↦ none (Refused (Unsupported r.kind r.subtype)) (unsupported, refl, refl)
-  | inl supported ↦ none (Refused Malformed) (supported, λ content is_body. none (Accepted content (event_of stamp index r content)) (supported, is_body, refl))
-]
+  where
+    by_fault : (content : Content) → IsBody r.kind r.subtype content r.body → (fault : Option RecordKind) → content_fault index content ≡ fault → ⊥
+    by_fault content is_body None sound = none (Accepted content (event_of stamp index r content)) record { is_body = is_body; sound = sound; made = refl }
+    by_fault content is_body (Some kind) is = none (Refused kind) (fault_of_content index r content kind is_body is)
 
 -- octets that begin with no record are a rest
 Splits-rest : (stamp : Stamp) (index : Index) (octets : List ℕ) → BeginsWithNone octets → Splits stamp index octets [] octets
@@ -204,7 +187,7 @@ no_octets_without_a_split_within (suc most) stamp index octets within small none
         length-append (spelling r) front.more,
         length-append (header_octets r.seconds r.kind r.subtype (length r.body)) r.body,
       ) in
-      ReadsAs-octets stamp index r front.body_octets (λ verdict reads.
+      some_verdict stamp index r (λ verdict reads.
       no_octets_without_a_split_within most stamp (index_after index verdict) front.more shorter front.more_octets (λ frames rest split.
       none (record { mrt = r; verdict = verdict } ∷ frames) rest
       (Splits-record stamp index (record { mrt = r; verdict = verdict }) octets front.more frames rest front.is_record reads front.whole split)))

@@ -1,52 +1,80 @@
 -- Octets split into frames in one way, and frames found in front are the first of any splitting.
-use Rattle.std.proofs.Common.{◌≡◌, ℕ, List, [], ◌∷◌, ◌++◌, sym, ap, ◌∙◌, refl, subst}
+use Rattle.std.proofs.Common.{◌≡◌, ℕ, List, [], ◌∷◌, ◌++◌, Option, Some, None, sym, ap, ◌∙◌, refl, subst}
 use Rattle.std.specs.List.{AllByRecursion}
 use Rattle.std.proofs.lemmas.List.{append_assoc, append-nil}
 use Rattle.mrt_wire.specs.declared.fault.RecordKind.{RecordKind}
 use Rattle.mrt_wire.specs.declared.fault.RecordKind.TheVariants.{CutRecord, TooLong, Unsupported, Malformed, NoIndex, PeerIndex}
+use Rattle.mrt_wire.specs.declared.event.Event.{Event}
 use Rattle.mrt_wire.specs.declared.event.Stamp.{Stamp}
 use Rattle.mrt_wire.specs.Record.{Record, spelling, IsRecord, BeginsWithNone}
 use Rattle.mrt_wire.specs.Profile.{IsSupported}
-use Rattle.mrt_wire.specs.Verdict.{HasFault, HasNoContent, Verdict, Accepted, Refused, Frame, Index, ReadsAs, Readings, index_after, index_behind, event_of}
+use Rattle.mrt_wire.specs.Content.{Content, IsBody}
+use Rattle.mrt_wire.specs.Verdict.{content_fault, HasFault, HasNoContent, MakesEvent, Verdict, Accepted, Refused, Frame, Index, ReadsAs, Readings, index_after, index_behind, event_of}
 use Rattle.mrt_wire.specs.Splitting.{AreFrames, Splits, spellings}
 use Rattle.mrt_wire.proofs.ContentLaws.{same_content}
 use Rattle.mrt_wire.proofs.RecordLaws.{same_front}
 
--- a record that isn't supported has no other fault
-fault_of_unsupported : (r : Record) (kind : RecordKind) → (IsSupported r → ⊥) → HasFault r kind → kind ≡ Unsupported r.kind r.subtype
-fault_of_unsupported r (Unsupported k s) unread (unread', kind, subtype) = λ i. Unsupported (kind i) (subtype i)
-fault_of_unsupported r Malformed unread p = absurd (unread p.0)
-fault_of_unsupported r CutRecord unread p = absurd p
-fault_of_unsupported r (TooLong size) unread p = absurd p
-fault_of_unsupported r NoIndex unread p = absurd p
-fault_of_unsupported r (PeerIndex number) unread p = absurd p
+-- a content's record is supported
+supported_content : (r : Record) (content : Content) → IsBody r.kind r.subtype content r.body → IsSupported r
+supported_content r content (form, has, spelled) = (form, has)
 
--- and one that is supported is malformed at most
-fault_of_supported : (r : Record) (kind : RecordKind) → IsSupported r → HasFault r kind → (kind ≡ Malformed) × HasNoContent r
-fault_of_supported r (Unsupported k s) supported p = absurd (p.0 supported)
-fault_of_supported r Malformed supported p = (refl, p.1)
-fault_of_supported r CutRecord supported p = absurd p
-fault_of_supported r (TooLong size) supported p = absurd p
-fault_of_supported r NoIndex supported p = absurd p
-fault_of_supported r (PeerIndex number) supported p = absurd p
+-- a record that isn't supported has no other fault
+fault_of_unsupported : (index : Index) (r : Record) (kind : RecordKind) → (IsSupported r → ⊥) → HasFault index r kind → kind ≡ Unsupported r.kind r.subtype
+fault_of_unsupported index r (Unsupported k s) unread (unread', kind, subtype) = λ i. Unsupported (kind i) (subtype i)
+fault_of_unsupported index r Malformed unread p = absurd (unread p.0)
+fault_of_unsupported index r CutRecord unread p = absurd p
+fault_of_unsupported index r (TooLong size) unread p = absurd p
+fault_of_unsupported index r NoIndex unread (content, is_body, is) = absurd (unread (supported_content r content is_body))
+fault_of_unsupported index r (PeerIndex number) unread (content, is_body, is) = absurd (unread (supported_content r content is_body))
+
+-- one without a content is malformed, if it is supported
+fault_of_malformed : (index : Index) (r : Record) (kind : RecordKind) → IsSupported r → HasNoContent r → HasFault index r kind → kind ≡ Malformed
+fault_of_malformed index r (Unsupported k s) supported none p = absurd (p.0 supported)
+fault_of_malformed index r Malformed supported none p = refl
+fault_of_malformed index r CutRecord supported none p = absurd p
+fault_of_malformed index r (TooLong size) supported none p = absurd p
+fault_of_malformed index r NoIndex supported none (content, is_body, is) = absurd (none content is_body)
+fault_of_malformed index r (PeerIndex number) supported none (content, is_body, is) = absurd (none content is_body)
+
+-- one with a content has the content's fault
+fault_with_content : (index : Index) (r : Record) (content : Content) (kind : RecordKind) → IsBody r.kind r.subtype content r.body → HasFault index r kind → content_fault index content ≡ Some kind
+fault_with_content index r content (Unsupported k s) is_body p = absurd (p.0 (supported_content r content is_body))
+fault_with_content index r content Malformed is_body p = absurd (p.1 content is_body)
+fault_with_content index r content CutRecord is_body p = absurd p
+fault_with_content index r content (TooLong size) is_body p = absurd p
+fault_with_content index r content NoIndex is_body (other, is_body', is) =
+    ap (content_fault index) (same_content r.kind r.subtype r.body content other is_body is_body') ∙ is
+fault_with_content index r content (PeerIndex number) is_body (other, is_body', is) =
+    ap (content_fault index) (same_content r.kind r.subtype r.body content other is_body is_body') ∙ is
+
+-- what is some value isn't another
+same_some : {A : Type 0} (a b : A) → Some a ≡ Some b → a ≡ b
+same_some a b e = cc
 
 -- a record has one fault
-same_fault : (r : Record) (a b : RecordKind) → HasFault r a → HasFault r b → a ≡ b
-same_fault r (Unsupported k s) b p q = fault_of_unsupported r (Unsupported k s) p.0 p ∙ sym (fault_of_unsupported r b p.0 q)
-same_fault r Malformed b p q = sym (fault_of_supported r b p.0 q).0
-same_fault r CutRecord b p q = absurd p
-same_fault r (TooLong size) b p q = absurd p
-same_fault r NoIndex b p q = absurd p
-same_fault r (PeerIndex number) b p q = absurd p
+same_fault : (index : Index) (r : Record) (a b : RecordKind) → HasFault index r a → HasFault index r b → a ≡ b
+same_fault index r (Unsupported k s) b p q = fault_of_unsupported index r (Unsupported k s) p.0 p ∙ sym (fault_of_unsupported index r b p.0 q)
+same_fault index r Malformed b p q = sym (fault_of_malformed index r b p.0 p.1 q)
+same_fault index r CutRecord b p q = absurd p
+same_fault index r (TooLong size) b p q = absurd p
+same_fault index r NoIndex b (content, is_body, is) q = same_some NoIndex b (sym is ∙ fault_with_content index r content b is_body q)
+same_fault index r (PeerIndex number) b (content, is_body, is) q = same_some (PeerIndex number) b (sym is ∙ fault_with_content index r content b is_body q)
+
+-- one that makes an event has no fault
+no_fault : (stamp : Stamp) (index : Index) (r : Record) (content : Content) (event : Event) (kind : RecordKind) → MakesEvent stamp index r content event → HasFault index r kind → ⊥
+no_fault stamp index r content event kind made p = clash (sym made.sound ∙ fault_with_content index r content kind made.is_body p)
+  where
+    clash : ◌≡◌ {A = Option RecordKind} None (Some kind) → ⊥
+    clash e = cc
 
 -- one thing becomes of a record
 pub same_verdict : (stamp : Stamp) (index : Index) (r : Record) (a b : Verdict) → ReadsAs stamp index r a → ReadsAs stamp index r b → a ≡ b
-same_verdict stamp index r (Accepted content e) (Accepted content' f) (p, body, is_e) (q, body', is_f) =
-    let same = same_content r.kind r.subtype r.body content content' body body' in
-    λ i. Accepted (same i) ((is_e ∙ ap (event_of stamp index r) same ∙ sym is_f) i)
-same_verdict stamp index r (Accepted content e) (Refused kind) (p, body, is_e) q = absurd ((fault_of_supported r kind p q).1 content body)
-same_verdict stamp index r (Refused kind) (Accepted content f) p (q, body, is_f) = absurd ((fault_of_supported r kind q p).1 content body)
-same_verdict stamp index r (Refused kind) (Refused kind') p q = ap Refused (same_fault r kind kind' p q)
+same_verdict stamp index r (Accepted content e) (Accepted content' f) p q =
+    let same = same_content r.kind r.subtype r.body content content' p.is_body q.is_body in
+    λ i. Accepted (same i) ((p.made ∙ ap (event_of stamp index r) same ∙ sym q.made) i)
+same_verdict stamp index r (Accepted content e) (Refused kind) p q = absurd (no_fault stamp index r content e kind p q)
+same_verdict stamp index r (Refused kind) (Accepted content f) p q = absurd (no_fault stamp index r content f kind q p)
+same_verdict stamp index r (Refused kind) (Refused kind') p q = ap Refused (same_fault index r kind kind' p q)
 
 -- the frames that are left of a splitting behind those found in front
 pub record Behind (stamp : Stamp) (index : Index) (found frames : List Frame) (more rest : List ℕ) : Type 0 where

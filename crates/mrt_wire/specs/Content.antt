@@ -1,40 +1,32 @@
 -- What the body of a record holds, and how it is spelled (RFC 6396, section 4).
-use Rattle.std.specs.Prelude.{◌≡◌, ℕ, ◌<◌, ◌^◌, List, ◌++◌, length, Option, None}
-use Rattle.std.specs.Int.{to_be_bytes, w16}
-use Rattle.ip_prefix.specs.declared.addr.Family.TheVariants.{V4}
-use Rattle.ip_prefix.specs.Bits.{bits_of_octets}
-use Rattle.mrt_wire.specs.declared.state_change.StateChange.{StateChange}
-use Rattle.mrt_wire.specs.declared.state_change.TheConstants.{AFI_IPV4}
-use Rattle.mrt_wire.specs.Profile.{Form, HasForm}
-use Rattle.mrt_wire.specs.Profile as form
+use Rattle.std.specs.Prelude.{◌≡◌, ℕ, List}
+use Rattle.mrt_wire.specs.declared.peer.Peer.{Peer}
+use Rattle.mrt_wire.specs.declared.profile.Form.{Form}
+use Rattle.mrt_wire.specs.declared.profile.Form.TheVariants as form
+use Rattle.mrt_wire.specs.declared.session.SessionBody.{SessionBody}
+use Rattle.mrt_wire.specs.PeerIndex.{SpellsPeerIndex}
+use Rattle.mrt_wire.specs.Rib as rib
+use Rattle.mrt_wire.specs.Rib.{SpellsRib}
+use Rattle.mrt_wire.specs.Session.{SpellsSessionBody}
+use Rattle.mrt_wire.specs.Profile.{HasForm}
 
 -- what a body holds
 pub data Content : Type 0 where
-  -- the microseconds, where the type of the record has them, and a state change
-  Change : Option ℕ → StateChange → Content
-
--- the octets of a state change with AS numbers of two octets and IPv4 addresses, and any octets behind it (RFC 6396, section 4.4.1)
-pub record SpellsStateChange (change : StateChange) (octets : List ℕ) : Type 0 where
-  -- these may be any octets
-  pub local_as : List ℕ
-  pub interface : List ℕ
-  pub local_address : List ℕ
-  pub more : List ℕ
-  pub local_as_size : length local_as ≡ 2
-  pub interface_size : length interface ≡ 2
-  pub local_address_size : length local_address ≡ 4
-  pub address : List ℕ
-  pub address_size : length address ≡ 4
-  pub peer_address : change.peer.addr ≡ record { family = V4; bits = bits_of_octets address }
-  pub peer_as_fits : change.peer.asn < 2 ^ 16
-  pub old_fits : change.old < 2 ^ 16
-  pub new_fits : change.new < 2 ^ 16
-  pub whole : octets ≡ to_be_bytes w16 change.peer.asn ++ (local_as ++ (interface ++ (to_be_bytes w16 AFI_IPV4 ++ (address ++ (local_address
-      ++ (to_be_bytes w16 change.old ++ (to_be_bytes w16 change.new ++ more)))))))
+  -- the peers of a table, by their numbers
+  Peers : List Peer → Content
+  -- a prefix and its entries in a table
+  Table : rib.Rib → Content
+  -- what happened in a session, and the microseconds, where the type of the record has them
+  Session : SessionBody → Content
 
 -- the octets are a body of this form with this content
 abbrev pub SpellsContent : Form → Content → List ℕ → Type 0
-SpellsContent form.StateChange (Change micros change) octets = (micros ≡ None) × SpellsStateChange change octets
+SpellsContent form.PeerIndex content octets =
+    (peers : List Peer) × (content ≡ Peers peers) × SpellsPeerIndex peers octets
+SpellsContent (form.Rib family) content octets =
+    (table : rib.Rib) × (content ≡ Table table) × SpellsRib family table octets
+SpellsContent (form.Session session) content octets =
+    (body : SessionBody) × (content ≡ Session body) × SpellsSessionBody session body octets
 
 -- the octets are a body of this type and subtype with this content
 abbrev pub IsBody : ℕ → ℕ → Content → List ℕ → Type 0

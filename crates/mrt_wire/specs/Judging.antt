@@ -1,16 +1,34 @@
 -- What the code says of a record.
-use Rattle.std.specs.Prelude.{◌≡◌, ℕ, Result, Ok, Err}
+use Rattle.std.specs.Prelude.{◌≡◌, ℕ, List, ◌++◌, map, Option, Result, Ok, Err}
+use Rattle.bgp_wire.specs.declared.fault.WireFault.{WireFault}
+use Rattle.bgp_wire.specs.declared.fault.WireFault.TheVariants as wire
 use Rattle.mrt_wire.specs.declared.event.Stamp.{Stamp}
 use Rattle.mrt_wire.specs.declared.event.Event.{Event}
+use Rattle.mrt_wire.specs.declared.event.Item.{Item}
+use Rattle.mrt_wire.specs.declared.fault.RecordKind.TheVariants.{Malformed}
 use Rattle.mrt_wire.specs.declared.fault.SourceFault.{SourceFault}
 use Rattle.mrt_wire.specs.declared.fault.SourceFault.TheVariants as source
 use Rattle.mrt_wire.specs.declared.judging.Refusal.{Refusal}
 use Rattle.mrt_wire.specs.declared.judging.Refusal.TheVariants as refusal
 use Rattle.mrt_wire.specs.declared.next.Next.{Next}
 use Rattle.mrt_wire.specs.declared.next.Next.TheVariants as next
+use Rattle.mrt_wire.specs.declared.rib.Snapshot.{Snapshot}
+use Rattle.mrt_wire.specs.declared.rib.Told.{Told}
 use Rattle.mrt_wire.specs.Record.{Record}
+use Rattle.mrt_wire.specs.Rib.{Rib}
+use Rattle.mrt_wire.specs.Told.{table_items, first_unknown}
+use Rattle.mrt_wire.specs.Event.{Saying, saying}
 use Rattle.mrt_wire.specs.Content.{Content}
 use Rattle.mrt_wire.specs.Verdict.{Index, Accepted, Refused, ReadsAs, index_after}
+
+-- why a record makes no event, where its body was refused so
+abbrev pub body_refusal : WireFault → Refusal
+body_refusal wire.Malformed = refusal.Fault Malformed
+body_refusal wire.Memory = refusal.Memory
+
+-- the items grew by some that say this
+abbrev pub Adds : List Item → List Item → List Saying → Type 0
+Adds old new more = map saying new ≡ map saying old ++ more
 
 -- this becomes of the record, with one peer index before it and the other behind it
 abbrev pub Judges : Stamp → Index → Index → Record → Result Event Refusal → Type 0
@@ -25,3 +43,8 @@ judged_answer number offset (Ok event) = Ok (next.Event event)
 judged_answer number offset (Err (refusal.Fault kind)) =
     Ok (next.Bad (record { number = number; offset = offset; kind = kind }))
 judged_answer number offset (Err refusal.Memory) = Err source.Memory
+
+-- entries say this, and this is the first number among them that is no peer's
+pub record Tells (snapshot : Snapshot) (rib : Rib) (told : Told) : Type 0 where
+  pub items : map saying told.items.items ≡ table_items snapshot.peers.now snapshot.stamp snapshot.seconds rib
+  pub unknown : told.unknown ≡ first_unknown snapshot.peers.now rib.entries

@@ -1,6 +1,11 @@
 pub mod Device
 pub mod Record
+pub mod Fields
+pub mod PeerIndex
+pub mod Rib
+pub mod Session
 pub mod Content
+pub mod Told
 pub mod Verdict
 pub mod Event
 pub mod Peer

@@ -1,24 +1,48 @@
--- What is read: the types and subtypes of records, and the form that their bodies have.
-use Rattle.std.specs.Prelude.{◌≡◌, ℕ, List, ◌++◌, length}
-use Rattle.std.specs.Int.{to_be_bytes, w16}
-use Rattle.mrt_wire.specs.declared.judging.TheConstants.{BGP4MP, BGP4MP_STATE_CHANGE, AFI_IPV6, FAMILY_PLACE}
+-- What is read: the types and subtypes of records, and the forms of their bodies (RFC 6396, section 4).
+use Rattle.std.specs.Prelude.{◌≡◌, ℕ, ◌==◌, if◌then◌else◌, Bool, true, false, Option, Some, None}
+use Rattle.ip_prefix.specs.declared.addr.Family.TheVariants.{V4, V6}
+use Rattle.bgp_wire.specs.declared.path.AsWidth.{AsWidth}
+use Rattle.bgp_wire.specs.declared.path.AsWidth.TheVariants.{Two, Four}
+use Rattle.mrt_wire.specs.declared.profile.Form.{Form}
+use Rattle.mrt_wire.specs.declared.profile.Form.TheVariants.{PeerIndex, Rib, Session}
+use Rattle.mrt_wire.specs.declared.profile.SessionKind.{SessionKind}
+use Rattle.mrt_wire.specs.declared.profile.SessionKind.TheVariants.{StateChange, Message}
+use Rattle.mrt_wire.specs.declared.profile.TheConstants.{TABLE_DUMP_V2, BGP4MP, BGP4MP_ET, PEER_INDEX_TABLE, RIB_IPV4_UNICAST, RIB_IPV6_UNICAST, BGP4MP_STATE_CHANGE, BGP4MP_MESSAGE, BGP4MP_MESSAGE_AS4, BGP4MP_STATE_CHANGE_AS4}
 use Rattle.mrt_wire.specs.Record.{Record}
 
--- the forms of bodies
-pub data Form : Type 0 where
-  -- a state change with AS numbers of two octets (RFC 6396, section 4.4.1)
-  StateChange : Form
+-- the forms of parts of tables, by subtype (section 4.3)
+abbrev pub table_form : ℕ → Option Form
+table_form subtype =
+    if subtype == PEER_INDEX_TABLE then Some PeerIndex
+    else if subtype == RIB_IPV4_UNICAST then Some (Rib V4)
+    else if subtype == RIB_IPV6_UNICAST then Some (Rib V6)
+    else None
 
--- the table of what is read: records of this type and subtype have bodies of this form (RFC 6396, section 4)
+-- the form of what happened in a session
+abbrev pub session : Bool → SessionKind → AsWidth → Option Form
+session timed kind width = Some (Session record { kind = kind; width = width; timed = timed })
+
+-- those forms, by subtype (section 4.4)
+abbrev pub session_form : Bool → ℕ → Option Form
+session_form timed subtype =
+    if subtype == BGP4MP_STATE_CHANGE then session timed StateChange Two
+    else if subtype == BGP4MP_MESSAGE then session timed Message Two
+    else if subtype == BGP4MP_MESSAGE_AS4 then session timed Message Four
+    else if subtype == BGP4MP_STATE_CHANGE_AS4 then session timed StateChange Four
+    else None
+
+-- the table of what is read: the form of the bodies of a type and subtype
+abbrev pub form_of : ℕ → ℕ → Option Form
+form_of kind subtype =
+    if kind == TABLE_DUMP_V2 then table_form subtype
+    else if kind == BGP4MP then session_form false subtype
+    else if kind == BGP4MP_ET then session_form true subtype
+    else None
+
+-- bodies of this type and subtype have this form
 abbrev pub HasForm : ℕ → ℕ → Form → Type 0
-HasForm kind subtype StateChange = (kind ≡ BGP4MP) × (subtype ≡ BGP4MP_STATE_CHANGE)
+HasForm kind subtype form = form_of kind subtype ≡ Some form
 
--- the body is long enough to hold an address family, and that is the one of IPv6
-abbrev pub IsOfIPv6 : List ℕ → Type 0
-IsOfIPv6 body = (front more : List ℕ) × (length front ≡ FAMILY_PLACE) × (body ≡ front ++ (to_be_bytes w16 AFI_IPV6 ++ more))
-
--- the type and subtype are read, and the addresses aren't those of IPv6
-pub record IsSupported (r : Record) : Type 0 where
-  pub form : Form
-  pub has_form : HasForm r.kind r.subtype form
-  pub family : IsOfIPv6 r.body → ⊥
+-- the type and subtype are read
+abbrev pub IsSupported : Record → Type 0
+IsSupported r = (form : Form) × HasForm r.kind r.subtype form

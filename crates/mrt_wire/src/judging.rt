@@ -1,35 +1,25 @@
 //! What becomes of a record: the event that it makes, or the first fault that it has.
 
-ghost use Rattle.std.specs.Prelude.{◌≡◌, ◌↔◌, ◌+◌, IsTrue, IfOk};
+ghost use Rattle.std.specs.Prelude.{◌≡◌};
 ghost use Rattle.mrt_wire.specs.declared.judging.Refusal.TheVariants.{Memory};
+ghost use Rattle.mrt_wire.specs.declared.event.Stamp.{Stamp};
 ghost use Rattle.mrt_wire.specs.Record.{record_under};
-ghost use Rattle.mrt_wire.specs.Profile.{IsOfIPv6, IsSupported};
-ghost use Rattle.mrt_wire.specs.Verdict.{state_event as event_of_change};
-ghost use Rattle.mrt_wire.specs.Judging.{Judges};
+ghost use Rattle.mrt_wire.specs.Profile.{HasForm};
+ghost use Rattle.mrt_wire.specs.Verdict.{Index, peers_in, entries_fault, table_event, session_tag, session_event};
+ghost use Rattle.mrt_wire.specs.Judging.{Judges, body_refusal};
 
-use crate::event::{Event, Item, Items, Stamp, Tag, Time};
+use crate::event::{Event, Items, Stamp, Tag, Time};
 use crate::fault::RecordKind;
 use crate::header::Header;
-use crate::octets::u16_at;
-use crate::peer::Peers;
-use crate::state_change::{StateChange, read_state_change};
+use crate::peer::{Peer, Peers};
+use crate::peer_index::read_peer_index;
+use crate::profile::{Form, SessionForm, form_of};
+use crate::rib::{Snapshot, read_rib};
+use crate::session::read_session;
+use crate::update::items_of_session;
+use bgp_wire::WireFault;
+use ip_prefix::Family;
 use std::alloc::{AllocError, Global};
-
-/// The type of the records of BGP4MP (RFC 6396, section 4).
-pub(crate) const BGP4MP: u16 = 16;
-
-/// Their subtype for state changes with AS numbers of two octets (RFC 6396, section 4.4).
-pub(crate) const BGP4MP_STATE_CHANGE: u16 = 0;
-
-/// The address family of IPv6 (RFC 4760, section 3).
-pub(crate) const AFI_IPV6: u16 = 2;
-
-/// Where the address family of a body stands: behind two AS numbers of two octets and the index
-/// of an interface (RFC 6396, section 4.4.1).
-pub(crate) const FAMILY_PLACE: usize = 6;
-
-/// How many octets a body has that holds an address family.
-const FAMILY_END: usize = 8;
 
 /// Why a record makes no event.
 #[derive(Clone, Copy)]
@@ -46,33 +36,127 @@ impl From<AllocError> for Refusal {
     }
 }
 
-/// Whether the body gives IPv6 as its address family.
-fn is_of_ipv6(body: &[u8]) -> bool
-    ensures { IsTrue result ↔ IsOfIPv6 body.now }
-{
-    body.len() >= FAMILY_END && u16_at(body, FAMILY_PLACE) == AFI_IPV6
+impl From<WireFault> for Refusal {
+    ghost from_gives = { λ fault refusal. refusal ≡ body_refusal fault };
+
+    fn from(fault: WireFault) -> Refusal {
+        match fault {
+            WireFault::Malformed => Refusal::Fault(RecordKind::Malformed),
+            WireFault::Memory => Refusal::Memory,
+        }
+    }
 }
 
-/// Whether records like this one are read.
-fn is_supported(header: &Header, body: &[u8]) -> bool
-    ensures { IsTrue result ↔ IsSupported (record_under header.now body.now) }
+/// The peers that an index has.
+fn peers_in(index: &Option<Peers>) -> &[Peer]
+    ensures { result.now ≡ peers_in index.now }
 {
-    header.kind == BGP4MP && header.subtype == BGP4MP_STATE_CHANGE && !is_of_ipv6(body)
+    match index {
+        Some(peers) => peers.as_slice(),
+        None => &[],
+    }
 }
 
-/// The event of a state change.
-fn state_event(alloc: Global, seconds: u32, change: &StateChange) -> Result<Event, AllocError>
-    ensures { IfOk result (λ event. event ≡ event_of_change seconds change.now) }
+/// The fault of a table's entries, by the first number among them that is no peer's.
+fn entries_fault(index: &Option<Peers>, unknown: Option<u16>) -> Option<RecordKind>
+    ensures { result ≡ entries_fault index.now unknown }
 {
-    let items = Items::from_vec(vec![in alloc; Item::State(change.peer, change.old, change.new)]?);
-    Ok(Event {
+    if index.is_none() {
+        return Some(RecordKind::NoIndex);
+    }
+    let number = unknown?;
+    Some(RecordKind::PeerIndex(number))
+}
+
+/// The event of a part of a table.
+fn table_event(seconds: u32, items: Items) -> Event
+    ensures { result ≡ table_event seconds items }
+{
+    Event {
         time: Time {
             seconds,
             micros: None,
         },
-        tag: Tag::Bgp4mp,
+        tag: Tag::TableDump2,
         items,
-    })
+    }
+}
+
+/// The tag of what happened in a session, by the microseconds.
+fn session_tag(micros: Option<u32>) -> Tag
+    ensures { result ≡ session_tag micros }
+{
+    match micros {
+        None => Tag::Bgp4mp,
+        Some(_) => Tag::Bgp4mpEt,
+    }
+}
+
+/// The event of what happened in a session.
+fn session_event(seconds: u32, micros: Option<u32>, items: Items) -> Event
+    ensures { result ≡ session_event seconds micros items }
+{
+    Event {
+        time: Time { seconds, micros },
+        tag: session_tag(micros),
+        items,
+    }
+}
+
+/// Reads the peers of a table, which are put in the place of those before.
+fn judge_index(
+    alloc: Global,
+    index: &mut Option<Peers>,
+    header: &Header,
+    body: &[u8],
+) -> Result<Event, Refusal>
+    requires { HasForm header.now.kind header.now.subtype Form.PeerIndex }
+    ensures { (stamp : Stamp) →
+        Judges stamp index.old index.new (record_under header.now body.now) result }
+{
+    let peers = read_peer_index(alloc, body)?;
+    *index = Some(peers);
+    Ok(table_event(header.seconds, Items::from_vec(Vec::new(alloc))))
+}
+
+/// Reads the entries of a table for one prefix.
+fn judge_rib(
+    alloc: Global,
+    stamp: Stamp,
+    index: &Option<Peers>,
+    family: Family,
+    header: &Header,
+    body: &[u8],
+) -> Result<Event, Refusal>
+    requires { HasForm header.now.kind header.now.subtype (Form.Rib family) }
+    ensures { Judges stamp index.now index.now (record_under header.now body.now) result }
+{
+    let snapshot = Snapshot {
+        peers: peers_in(index),
+        seconds: header.seconds,
+        stamp,
+    };
+    let told = read_rib(alloc, family, snapshot, body)?;
+    if let Some(kind) = entries_fault(index, told.unknown) {
+        return Err(Refusal::Fault(kind));
+    }
+    Ok(table_event(header.seconds, Items::from_vec(told.items)))
+}
+
+/// Reads what happened in a session.
+fn judge_session(
+    alloc: Global,
+    form: SessionForm,
+    header: &Header,
+    body: &[u8],
+) -> Result<Event, Refusal>
+    requires { HasForm header.now.kind header.now.subtype (Form.Session form) }
+    ensures { (stamp : Stamp) (index : Index) →
+        Judges stamp index index (record_under header.now body.now) result }
+{
+    let session = read_session(alloc, form, body)?;
+    let items = items_of_session(alloc, header.seconds, session.content)?;
+    Ok(session_event(header.seconds, session.micros, items))
 }
 
 /// Reads a record. A record that brings an index puts it in the place of the one before, unless
@@ -86,11 +170,12 @@ pub(crate) fn judge(
 ) -> Result<Event, Refusal>
     ensures { Judges stamp index.old index.new (record_under header.now body.now) result }
 {
-    if !is_supported(header, body) {
+    let Some(form) = form_of(header.kind, header.subtype) else {
         return Err(Refusal::Fault(RecordKind::Unsupported(header.kind, header.subtype)));
-    }
-    let Some(change) = read_state_change(body) else {
-        return Err(Refusal::Fault(RecordKind::Malformed));
     };
-    Ok(state_event(alloc, header.seconds, &change)?)
+    match form {
+        Form::PeerIndex => judge_index(alloc, index, header, body),
+        Form::Rib(family) => judge_rib(alloc, stamp, index, family, header, body),
+        Form::Session(session) => judge_session(alloc, session, header, body),
+    }
 }

@@ -4,6 +4,7 @@
 mod buffer;
 mod event;
 mod fault;
+mod fields;
 mod frames;
 mod header;
 mod input;
@@ -12,8 +13,12 @@ mod laws;
 mod next;
 mod octets;
 mod peer;
+mod peer_index;
+mod profile;
+mod rib;
+mod session;
 mod source;
-mod state_change;
+mod update;
 
 pub use event::{Event, Item, Items, Route, Stamp, Tag, Time};
 pub use fault::{RecordFault, RecordKind, SourceFault};

@@ -1,5 +1,7 @@
 //! The peers whose routes a collector records.
 
+ghost use Rattle.std.specs.Prelude.{◌≡◌};
+
 use ip_prefix::Addr;
 use std::marker::Model;
 
@@ -25,4 +27,22 @@ impl Model for Peers {
     ghost Value = { List Peer };
 
     ghost view = { λ a. a.peers.items };
+}
+
+impl Peers {
+    /// These peers.
+    #[inline]
+    pub(crate) fn from_vec(peers: Vec<Peer>) -> Peers
+        ensures { result ≡ peers.items }
+    {
+        Peers { peers }
+    }
+
+    /// The peers in order.
+    #[inline]
+    pub(crate) fn as_slice(&self) -> &[Peer]
+        ensures { result.now ≡ self.now }
+    {
+        self.peers.as_slice()
+    }
 }

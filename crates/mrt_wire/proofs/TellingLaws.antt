@@ -1,0 +1,75 @@
+-- What entries and prefixes say, one by one.
+use Rattle.std.proofs.Common.{◌≡◌, ℕ, suc, ◌+◌, ◌<◌, map, take, get_or, List, [], ◌∷◌, ◌++◌, length, length-append, Option, Some, None, refl, ap, sym, ◌∙◌, arith, append_assoc, append-nil}
+use Rattle.std.specs.Option.{option_or}
+use Rattle.std.specs.List.{flat_map}
+use Rattle.std.proofs.lemmas.List.{map-append}
+use Rattle.std.proofs.lemmas.Grind.{flat_map-append}
+use Rattle.std.proofs.Math.Seq.{take-suc}
+use Rattle.ip_prefix.specs.Network.{Network}
+use Rattle.mrt_wire.specs.declared.peer.Peer.{Peer}
+use Rattle.mrt_wire.specs.declared.rib.RibEntry.{RibEntry}
+use Rattle.mrt_wire.specs.declared.event.Item.{Item}
+use Rattle.ip_prefix.specs.declared.addr.Family.{Family}
+use Rattle.ip_prefix.specs.Sequences.{Begins, SpellsAll}
+use Rattle.ip_prefix.proofs.Sequences.{one_more}
+use Rattle.mrt_wire.specs.declared.rib.Snapshot.{Snapshot}
+use Rattle.mrt_wire.specs.declared.rib.Told.{Told}
+use Rattle.mrt_wire.specs.Event.{Saying, saying}
+use Rattle.mrt_wire.specs.Rib.{SpellsEntry}
+use Rattle.mrt_wire.specs.Told.{entry_items, unknown_peer, first_unknown}
+use Rattle.mrt_wire.specs.Judging.{Adds, Tells}
+
+-- one of three, whichever is first
+option_or-assoc : {A : Type 0} (a b c : Option A) → option_or (option_or a b) c ≡ option_or a (option_or b c)
+option_or-assoc None b c = refl
+option_or-assoc (Some x) b c = refl
+
+option_or-none : {A : Type 0} (a : Option A) → option_or a None ≡ a
+option_or-none None = refl
+option_or-none (Some x) = refl
+
+-- the first number that is no peer's, with an entry more
+first_unknown-push : (peers : List Peer) (entries : List RibEntry) (entry : RibEntry) → first_unknown peers (entries ++ entry ∷ []) ≡ option_or (first_unknown peers entries) (unknown_peer peers entry)
+first_unknown-push peers [] entry = option_or-none (unknown_peer peers entry)
+first_unknown-push peers (first ∷ entries) entry =
+    ap (option_or (unknown_peer peers first)) (first_unknown-push peers entries entry)
+    ∙ sym (option_or-assoc (unknown_peer peers first) (first_unknown peers entries) (unknown_peer peers entry))
+
+-- what entries say, with one more
+flat_map-push : {A B : Type 0} (f : A → List B) (values : List A) (value : A) → flat_map f (values ++ value ∷ []) ≡ flat_map f values ++ f value
+flat_map-push f values value = flat_map-append f values (value ∷ []) ∙ ap (λ l. flat_map f values ++ l) (append-nil (f value))
+
+-- an item more says of the next prefix what the others say of theirs
+pub one_more_prefix : (f : Network → Saying) (old items new : List Item) (item : Item) (prefixes : List Network) (k : ℕ) (prefix : Network) → Adds old items (map f (take k prefixes)) → new ≡ items ++ item ∷ []
+    → saying item ≡ f prefix → prefix ≡ get_or prefixes k prefix → k < length prefixes → Adds old new (map f (take (k + 1) prefixes))
+one_more_prefix f old items new item prefixes k prefix a n s g less =
+    let next : suc k ≡ k + 1 = omega arith in
+    let taken : take k prefixes ++ prefix ∷ [] ≡ take (k + 1) prefixes = ap (λ p. take k prefixes ++ p ∷ []) g ∙ sym (take-suc prefixes k prefix less) ∙ ap (λ j. take j prefixes) next in
+    ap (map saying) n ∙ map-append saying items (item ∷ []) ∙ (λ i. a i ++ s i ∷ []) ∙ append_assoc (map saying old) (map f (take k prefixes)) (f prefix ∷ [])
+    ∙ ap (λ l. map saying old ++ l) (sym (map-append f (take k prefixes) (prefix ∷ []))) ∙ ap (λ l. map saying old ++ map f l) taken
+
+-- ---- entries read so far
+
+-- so many entries stand before the rest, and this is what they say
+pub record ToldSoFar (family : Family) (snapshot : Snapshot) (prefix : Network) (count : ℕ) (told : Told) (rest octets : List ℕ) : Type 0 where
+  pub entries : List RibEntry
+  pub size : length entries ≡ count
+  pub read : Begins (SpellsAll (SpellsEntry family)) entries rest octets
+  pub tells : Tells snapshot (record { prefix = prefix; entries = entries }) told
+
+-- with an entry more
+pub ToldSoFar-push : (family : Family) (snapshot : Snapshot) (prefix : Network) (count : ℕ) (told told' : Told) (rest more octets : List ℕ) (entry : RibEntry) → ToldSoFar family snapshot prefix count told rest octets
+    → Begins (SpellsEntry family) entry more rest
+    → map saying told'.items.items ≡ map saying told.items.items ++ entry_items snapshot.peers.now snapshot.stamp snapshot.seconds prefix entry
+    → told'.unknown ≡ option_or told.unknown (unknown_peer snapshot.peers.now entry) → ToldSoFar family snapshot prefix (count + 1) told' more octets
+ToldSoFar-push family snapshot prefix count told told' rest more octets entry s front items unknown =
+    let says = entry_items snapshot.peers.now snapshot.stamp snapshot.seconds prefix in
+    record {
+      entries = s.entries ++ entry ∷ [];
+      size = omega (arith, length-append s.entries (entry ∷ []), s.size);
+      read = one_more (SpellsEntry family) s.entries entry more rest octets s.read front;
+      tells = record {
+        items = items ∙ ap (λ l. l ++ says entry) s.tells.items ∙ sym (flat_map-push says s.entries entry);
+        unknown = unknown ∙ ap (λ o. option_or o (unknown_peer snapshot.peers.now entry)) s.tells.unknown ∙ sym (first_unknown-push snapshot.peers.now s.entries entry);
+      };
+    }

@@ -1,0 +1,24 @@
+use Rattle.std.proofs.Common.{Err, ap, sym, subst, ◌∙◌}
+use Rattle.std.proofs.lemmas.Result.{err_from_is_err_and}
+use Rattle.bgp_wire.specs.Reading.{Reads}
+use Rattle.bgp_wire.specs.Update.{SpellsMessage}
+use Rattle.bgp_wire.proofs.Refusing.{refused_part}
+use Rattle.ip_prefix.specs.Fields.{Then}
+use Rattle.mrt_wire.specs.Session.{SpellsSession, SpellsPeerMessage}
+use Rattle.mrt_wire.proofs.SessionLaws.{session_front}
+use Rattle.mrt_wire.proofs.ReadingLaws.{refused_behind}
+use Rattle.mrt_wire.proofs.session.read_peer_message.Goals as goal
+
+pub returns-in_default : goal.returns-in_default
+returns-in_default c m s = c.in_default.ensures m.peer s.rest s.first
+
+pub returns-in_err-message : goal.returns-in_err-message
+returns-in_err-message c =
+    let width = c.args.width in
+    let octets = c.args.octets.now in
+    let fault = c.in_err-message.field-0.0 in
+    let session = c.in-Some.session in
+    let p = err_from_is_err_and c.from_residual.result c.from_residual.ensures.1 in
+    subst (Reads (SpellsPeerMessage width) octets) (sym (p.1 ∙ ap Err p.2))
+    (refused_part (SpellsPeerMessage width) (Then (SpellsSession width) (λ peer. SpellsMessage width)) octets octets fault (λ m s. ((m.peer, m.message), s))
+    (refused_behind _ _ (session_front width) session.value session.rest.now octets fault c.in-Some.ensures c.in_err-message.ensures))

@@ -1,0 +1,8 @@
+use Rattle.std.proofs.Common.{◌≡◌, ◌++◌, map, take}
+use Rattle.mrt_wire.specs.Event.{Announced}
+use Rattle.mrt_wire.specs.Judging.{Adds}
+use Rattle.mrt_wire.proofs.update.share_route.Given as goal
+
+-- the prefixes so far were added
+abbrev pub invariant-loop-prefix : goal.invariant-loop-prefix
+invariant-loop-prefix l = Adds l.fn.items.items l.items.items (map (λ prefix. Announced l.peer prefix l.route.value) (take l.prefix-index l.prefix-items))

@@ -1,0 +1,39 @@
+-- The fields that the bodies of records are made of (RFC 6396, section 4).
+use Rattle.std.specs.Prelude.{◌≡◌, ℕ, ◌<◌, ◌^◌, List, [], ◌∷◌, length, Option, Some, None}
+use Rattle.std.specs.Int.{w16}
+use Rattle.ip_prefix.specs.declared.addr.Family.{Family}
+use Rattle.ip_prefix.specs.Address.{Address}
+use Rattle.ip_prefix.specs.Sequences.{Begins, BeginsWithNone}
+use Rattle.bgp_wire.specs.Number.{SpellsNumber}
+use Rattle.bgp_wire.specs.Update.{sized_octets}
+use Rattle.bgp_wire.specs.Value.{SpellsAddressOctets}
+use Rattle.mrt_wire.specs.declared.fields.Field.{Field}
+
+-- one octet
+pub record SpellsOctet (n : ℕ) (octets : List ℕ) : Type 0 where
+  pub fits : n < 256
+  pub whole : octets ≡ n ∷ []
+
+-- a number of two octets
+abbrev pub SpellsShort : ℕ → List ℕ → Type 0
+SpellsShort n octets = SpellsNumber w16 (2 ^ 16) n octets
+
+-- so many octets, which may be any
+pub record AreOctets (size : ℕ) (value : List ℕ) (octets : List ℕ) : Type 0 where
+  pub long : length octets ≡ size
+  pub whole : octets ≡ value
+
+-- octets, which may be any, behind their number in two octets
+pub record AreSized (value : List ℕ) (octets : List ℕ) : Type 0 where
+  pub fits : length value < 2 ^ 16
+  pub whole : octets ≡ sized_octets value
+
+-- an address of this family
+pub record SpellsAddressOf (family : Family) (address : Address) (octets : List ℕ) : Type 0 where
+  pub of_family : address.family ≡ family
+  pub spelled : SpellsAddressOctets address octets
+
+-- the answer is a value that the octets begin with and what follows it, or that they begin with none
+abbrev pub FindsField : {A : Type 0} → (A → List ℕ → Type 0) → List ℕ → Option (Field A) → Type 0
+FindsField Spells octets (Some found) = Begins Spells found.value found.rest.now octets
+FindsField Spells octets None = BeginsWithNone Spells octets

@@ -1,0 +1,78 @@
+-- How state changes and messages are sent (RFC 6396, section 4.4), behind microseconds or not (section 3).
+use Rattle.std.specs.Prelude.{◌≡◌, ℕ, ◌<◌, Bool, true, false, List, [], ◌∷◌, Option, Some, None}
+use Rattle.ip_prefix.specs.declared.addr.Family.{Family}
+use Rattle.ip_prefix.specs.Address.{Address, octet_count}
+use Rattle.ip_prefix.specs.Fields.{Then, WithMore}
+use Rattle.bgp_wire.specs.declared.path.AsWidth.{AsWidth}
+use Rattle.bgp_wire.specs.declared.message.Message.{Message}
+use Rattle.bgp_wire.specs.Number.{SpellsAsn, SpellsWord, octets_at}
+use Rattle.bgp_wire.specs.Reach.{family_code}
+use Rattle.bgp_wire.specs.Update.{SpellsMessage}
+use Rattle.mrt_wire.specs.declared.peer.Peer.{Peer}
+use Rattle.mrt_wire.specs.declared.profile.SessionKind.{SessionKind}
+use Rattle.mrt_wire.specs.declared.profile.SessionKind.TheVariants as kind
+use Rattle.mrt_wire.specs.declared.profile.SessionForm.{SessionForm}
+use Rattle.mrt_wire.specs.declared.session.TheConstants.{INTERFACE_SIZE, SECOND}
+use Rattle.mrt_wire.specs.declared.session.StateChange.{StateChange}
+use Rattle.mrt_wire.specs.declared.session.PeerMessage.{PeerMessage}
+use Rattle.mrt_wire.specs.declared.session.SessionContent.{SessionContent}
+use Rattle.mrt_wire.specs.declared.session.SessionContent.TheVariants.{Changed, Received}
+use Rattle.mrt_wire.specs.declared.session.SessionBody.{SessionBody}
+use Rattle.mrt_wire.specs.Fields.{SpellsShort, AreOctets, SpellsAddressOf}
+
+-- an address family, in two octets
+abbrev pub SpellsFamily : Family → List ℕ → Type 0
+SpellsFamily family octets = octets ≡ 0 ∷ family_code family ∷ []
+
+-- Peer AS Number, Local AS Number, Interface Index
+abbrev pub AreSystems : AsWidth → ℕ × (List ℕ × List ℕ) → List ℕ → Type 0
+AreSystems width =
+    Then (SpellsAsn width) (λ asn. Then (AreOctets (octets_at width)) (λ local. AreOctets INTERFACE_SIZE))
+
+-- Address Family, Peer IP Address, Local IP Address
+abbrev pub AreAddresses : Family × (Address × List ℕ) → List ℕ → Type 0
+AreAddresses =
+    Then SpellsFamily (λ family. Then (SpellsAddressOf family) (λ address. AreOctets (octet_count family)))
+
+-- the octets of a session with this peer, with AS numbers of this width; the local AS number, the interface and the local address may be any octets
+abbrev pub SpellsSession : AsWidth → Peer → List ℕ → Type 0
+SpellsSession width peer octets =
+    (number interface : List ℕ) × (family : Family) × (local : List ℕ)
+    × Then (AreSystems width) (λ systems. AreAddresses)
+    ((peer.asn, (number, interface)), (family, (peer.addr, local))) octets
+
+-- the session, Old State and New State, and any octets
+abbrev pub SpellsStates : AsWidth → Peer × (ℕ × ℕ) → List ℕ → Type 0
+SpellsStates width =
+    Then (SpellsSession width) (λ peer. Then SpellsShort (λ old. WithMore SpellsShort))
+
+-- the octets of STATE_CHANGE or STATE_CHANGE_AS4
+abbrev pub SpellsStateChange : AsWidth → StateChange → List ℕ → Type 0
+SpellsStateChange width change octets =
+    SpellsStates width (change.peer, (change.old, change.new)) octets
+
+-- the octets of MESSAGE or MESSAGE_AS4: the session, and a message to the end
+abbrev pub SpellsPeerMessage : AsWidth → PeerMessage → List ℕ → Type 0
+SpellsPeerMessage width m octets =
+    Then (SpellsSession width) (λ peer. SpellsMessage width) (m.peer, m.message) octets
+
+-- the octets of what happened in a session
+abbrev pub SpellsHappening : SessionKind → AsWidth → SessionContent → List ℕ → Type 0
+SpellsHappening kind.StateChange width content octets =
+    (change : StateChange) × (content ≡ Changed change) × SpellsStateChange width change octets
+SpellsHappening kind.Message width content octets =
+    (message : PeerMessage) × (content ≡ Received message) × SpellsPeerMessage width message octets
+
+-- the octets of microseconds, which don't make a second
+pub record SpellsMicros (n : ℕ) (octets : List ℕ) : Type 0 where
+  pub below : n < SECOND
+  pub spelled : SpellsWord n octets
+
+-- the octets of a body, with microseconds in front or not
+abbrev pub SpellsTimed : Bool → SessionKind → AsWidth → Option ℕ → SessionContent → List ℕ → Type 0
+SpellsTimed false kind width micros content octets = (micros ≡ None) × SpellsHappening kind width content octets
+SpellsTimed true kind width micros content octets =
+    (n : ℕ) × (micros ≡ Some n) × Then SpellsMicros (λ micros. SpellsHappening kind width) (n, content) octets
+
+abbrev pub SpellsSessionBody : SessionForm → SessionBody → List ℕ → Type 0
+SpellsSessionBody form body octets = SpellsTimed form.timed form.kind form.width body.micros body.content octets

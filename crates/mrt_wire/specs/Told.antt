@@ -1,0 +1,84 @@
+-- What the contents of records say of routes and sessions.
+use Rattle.std.specs.Prelude.{◌≡◌, ℕ, List, [], ◌∷◌, ◌++◌, map, slice_get, Option, Some, None}
+use Rattle.std.specs.Option.{option_or}
+use Rattle.std.specs.List.{flat_map}
+use Rattle.ip_prefix.specs.Network.{Network}
+use Rattle.bgp_wire.specs.declared.attrs.Attrs.{Attrs}
+use Rattle.bgp_wire.specs.declared.message.Message.{Message}
+use Rattle.bgp_wire.specs.declared.message.Message.TheVariants as message
+use Rattle.bgp_wire.specs.declared.message.Update.{Update}
+use Rattle.mrt_wire.specs.declared.peer.Peer.{Peer}
+use Rattle.mrt_wire.specs.declared.rib.RibEntry.{RibEntry}
+use Rattle.mrt_wire.specs.declared.event.Route.{Route}
+use Rattle.mrt_wire.specs.declared.event.Stamp.{Stamp}
+use Rattle.mrt_wire.specs.declared.event.Stamp.TheVariants.{Dump, Change}
+use Rattle.mrt_wire.specs.declared.session.SessionContent.{SessionContent}
+use Rattle.mrt_wire.specs.declared.session.SessionContent.TheVariants as session
+use Rattle.mrt_wire.specs.Event.{Saying, Announced, Withdrawn, Changed}
+use Rattle.mrt_wire.specs.Rib.{Rib}
+
+-- ---- tables
+
+-- the time of a table entry's route: that of the record, or that at which it was originated
+abbrev pub entry_time : Stamp → ℕ → ℕ → ℕ
+entry_time Dump seconds originated = seconds
+entry_time Change seconds originated = originated
+
+-- a route of these attributes and time
+abbrev pub route_of : Attrs → ℕ → Route
+route_of attrs time = record { attrs = attrs; time = time }
+
+-- the number of an entry's peer, where there is no such peer
+abbrev pub unknown_by : Option Peer → ℕ → Option ℕ
+unknown_by None number = Some number
+unknown_by (Some peer) number = None
+
+abbrev pub unknown_peer : List Peer → RibEntry → Option ℕ
+unknown_peer peers entry = unknown_by (slice_get peers entry.index) entry.index
+
+-- the first such number
+abbrev pub first_unknown : List Peer → List RibEntry → Option ℕ
+first_unknown peers [] = None
+first_unknown peers (entry ∷ entries) = option_or (unknown_peer peers entry) (first_unknown peers entries)
+
+-- what an entry announces: nothing where there is no such peer
+abbrev pub announced_by : Option Peer → Network → Route → List Saying
+announced_by None prefix route = []
+announced_by (Some peer) prefix route = Announced peer prefix route ∷ []
+
+abbrev pub entry_items : List Peer → Stamp → ℕ → Network → RibEntry → List Saying
+entry_items peers stamp seconds prefix entry =
+    announced_by (slice_get peers entry.index) prefix
+    (route_of entry.attrs (entry_time stamp seconds entry.time))
+
+-- what the entries announce, one after the other
+abbrev pub table_items : List Peer → Stamp → ℕ → Rib → List Saying
+table_items peers stamp seconds rib = flat_map (entry_items peers stamp seconds rib.prefix) rib.entries
+
+-- ---- sessions
+
+-- announcements of prefixes with one route
+abbrev pub announcements : Peer → Route → List Network → List Saying
+announcements peer route prefixes = map (λ prefix. Announced peer prefix route) prefixes
+
+-- those of MP_REACH_NLRI, which have attributes of their own
+abbrev pub mp_announcements : Peer → ℕ → Option Attrs → List Network → List Saying
+mp_announcements peer seconds None prefixes = []
+mp_announcements peer seconds (Some attrs) prefixes = announcements peer (route_of attrs seconds) prefixes
+
+-- what an UPDATE says: what it withdraws and then what it announces, each time behind the others what MP_UNREACH_NLRI or MP_REACH_NLRI has
+abbrev pub update_items : Peer → ℕ → Update → List Saying
+update_items peer seconds update =
+    map (Withdrawn peer) update.withdrawn ++ (map (Withdrawn peer) update.mp_withdrawn
+    ++ (announcements peer (route_of update.attrs seconds) update.announced
+    ++ mp_announcements peer seconds update.mp_attrs update.mp_announced))
+
+-- what a message says: nothing, where it isn't an UPDATE
+abbrev pub message_items : Peer → ℕ → Message → List Saying
+message_items peer seconds (message.Update update) = update_items peer seconds update
+message_items peer seconds (message.Other kind) = []
+
+-- what is said of a session
+abbrev pub session_items : ℕ → SessionContent → List Saying
+session_items seconds (session.Changed change) = Changed change.peer change.old change.new ∷ []
+session_items seconds (session.Received m) = message_items m.peer seconds m.message

@@ -1,0 +1,154 @@
+//! The fields that the bodies of records are made of (RFC 6396, section 4).
+
+ghost use Rattle.std.specs.Prelude.{◌≡◌, ℕ, List, length, IfSome, IfNone};
+ghost use Rattle.ip_prefix.specs.Sequences.{Begins, BeginsWithNone};
+ghost use Rattle.bgp_wire.specs.Number.{SpellsAsn, SpellsWord};
+ghost use Rattle.mrt_wire.specs.Fields.{AreOctets, AreSized, SpellsAddressOf, SpellsOctet, SpellsShort, FindsField};
+
+use bgp_wire::AsWidth;
+use byteorder::{BigEndian, ByteOrder};
+use ip_prefix::{Addr, Family};
+
+/// A field in front of octets, and what follows it.
+#[derive(Clone, Copy)]
+pub(crate) struct Field<'a, T> {
+    pub(crate) value: T,
+    pub(crate) rest: &'a [u8],
+}
+
+/// The octet in front, and what follows it.
+#[inline]
+pub(crate) fn split_octet(octets: &[u8]) -> Option<Field<'_, u8>>
+    ensures { FindsField SpellsOctet octets.now result }
+{
+    let (octet, rest) = octets.split_first()?;
+    Some(Field {
+        value: *octet,
+        rest,
+    })
+}
+
+/// What follows so many octets.
+#[inline]
+pub(crate) fn skip(size: usize, octets: &[u8]) -> Option<&[u8]>
+    ensures some { IfSome result (λ rest. (value : List ℕ) × Begins (AreOctets size) value rest.now octets.now) }
+    ensures none { IfNone result (BeginsWithNone (AreOctets size) octets.now) }
+{
+    if octets.len() < size {
+        return None;
+    }
+    let (_, rest) = octets.split_at(size);
+    Some(rest)
+}
+
+/// The number of two octets in front, and what follows it.
+#[inline]
+pub(crate) fn split_short(octets: &[u8]) -> Option<Field<'_, u16>>
+    ensures { FindsField SpellsShort octets.now result }
+{
+    if octets.len() < 2 {
+        return None;
+    }
+    let (front, rest) = octets.split_at(2);
+    Some(Field {
+        value: BigEndian::read_u16(front),
+        rest,
+    })
+}
+
+/// The number of four octets in front, and what follows it.
+#[inline]
+pub(crate) fn split_word(octets: &[u8]) -> Option<Field<'_, u32>>
+    ensures { FindsField SpellsWord octets.now result }
+{
+    if octets.len() < 4 {
+        return None;
+    }
+    let (front, rest) = octets.split_at(4);
+    Some(Field {
+        value: BigEndian::read_u32(front),
+        rest,
+    })
+}
+
+/// The AS number of this width in front, and what follows it.
+#[inline]
+pub(crate) fn split_asn(width: AsWidth, octets: &[u8]) -> Option<Field<'_, u32>>
+    ensures { FindsField (SpellsAsn width) octets.now result }
+{
+    match width {
+        AsWidth::Two => {
+            let number = split_short(octets)?;
+            Some(Field {
+                value: u32::from(number.value),
+                rest: number.rest,
+            })
+        }
+        AsWidth::Four => split_word(octets),
+    }
+}
+
+/// The octets in front behind their length, and what follows them.
+#[inline]
+pub(crate) fn split_sized(octets: &[u8]) -> Option<(&[u8], &[u8])>
+    ensures some { IfSome result (λ found. Begins AreSized found.0.now found.1.now octets.now) }
+    ensures none { IfNone result (BeginsWithNone AreSized octets.now) }
+{
+    let number = split_short(octets)?;
+    let size = usize::from(number.value);
+    if number.rest.len() < size {
+        return None;
+    }
+    Some(number.rest.split_at(size))
+}
+
+/// The address of four octets.
+#[inline]
+fn ipv4(octets: &[u8]) -> Addr
+    requires { length octets.now ≡ 4 }
+    ensures { SpellsAddressOf Family.V4 result octets.now }
+{
+    let mut buffer = [0; 4];
+    buffer.copy_from_slice(octets);
+    Addr::v4(buffer)
+}
+
+/// The address of sixteen octets.
+#[inline]
+fn ipv6(octets: &[u8]) -> Addr
+    requires { length octets.now ≡ 16 }
+    ensures { SpellsAddressOf Family.V6 result octets.now }
+{
+    let mut buffer = [0; 16];
+    buffer.copy_from_slice(octets);
+    Addr::v6(buffer)
+}
+
+/// The address of this family in front, and what follows it.
+#[inline]
+pub(crate) fn split_address(family: Family, octets: &[u8]) -> Option<Field<'_, Addr>>
+    ensures { FindsField (SpellsAddressOf family) octets.now result }
+{
+    match family {
+        Family::V4 => {
+            if octets.len() < 4 {
+                return None;
+            }
+            let (front, rest) = octets.split_at(4);
+            Some(Field {
+                value: ipv4(front),
+                rest,
+            })
+        }
+        Family::V6 => {
+            if octets.len() < 16 {
+                return None;
+            }
+            let (front, rest) = octets.split_at(16);
+            Some(Field {
+                value: ipv6(front),
+                rest,
+            })
+        }
+    }
+}

@@ -1,0 +1,110 @@
+//! Reading the peers of a table (RFC 6396, section 4.3.1).
+
+ghost use Rattle.std.specs.Prelude.{◌≡◌, ℕ, List, IfSome, IfNone};
+ghost use Rattle.ip_prefix.specs.Sequences.{Begins, BeginsWithNone};
+ghost use Rattle.ip_prefix.specs.Fields.{WithMore};
+ghost use Rattle.ip_prefix.specs.Counted.{SpellsCounted};
+ghost use Rattle.bgp_wire.specs.Reading.{Reads};
+ghost use Rattle.mrt_wire.specs.Fields.{FindsField};
+ghost use Rattle.mrt_wire.specs.PeerIndex.{peer_family, peer_width, SpellsPeer, SpellsView, SpellsPeerIndex};
+
+use crate::fields::{
+    Field, skip, split_address, split_asn, split_octet, split_short, split_sized,
+};
+use crate::peer::{Peer, Peers};
+use bgp_wire::{AsWidth, WireFault};
+use ip_prefix::Family;
+use std::alloc::Global;
+
+/// The bit of a Peer Type that tells an IPv6 address (RFC 6396, section 4.3.1).
+const IPV6_PEER: u8 = 0x01;
+
+/// The bit of a Peer Type that tells an AS number of four octets.
+const AS4_PEER: u8 = 0x02;
+
+/// How many octets the BGP ID of a collector or a peer has.
+const ID_SIZE: usize = 4;
+
+/// How many octets a peer has at least.
+const SMALLEST_PEER: usize = 11;
+
+/// The family of a peer's address.
+fn peer_family(kind: u8) -> Family
+    ensures { result ≡ peer_family kind }
+{
+    if kind & IPV6_PEER == 0 {
+        Family::V4
+    } else {
+        Family::V6
+    }
+}
+
+/// The width of a peer's AS number.
+fn peer_width(kind: u8) -> AsWidth
+    ensures { result ≡ peer_width kind }
+{
+    if kind & AS4_PEER == 0 {
+        AsWidth::Two
+    } else {
+        AsWidth::Four
+    }
+}
+
+/// The peer in front, and what follows it.
+fn split_peer(octets: &[u8]) -> Option<Field<'_, Peer>>
+    ensures { FindsField SpellsPeer octets.now result }
+{
+    let kind = split_octet(octets)?;
+    let after_id = skip(ID_SIZE, kind.rest)?;
+    let Some(addr) = split_address(peer_family(kind.value), after_id) else {
+        return None;
+    };
+    let asn = split_asn(peer_width(kind.value), addr.rest)?;
+    Some(Field {
+        value: Peer {
+            addr: addr.value,
+            asn: asn.value,
+        },
+        rest: asn.rest,
+    })
+}
+
+/// The peers that the octets begin with, behind their number.
+fn read_peers(alloc: Global, octets: &[u8]) -> Result<Peers, WireFault>
+    ensures { Reads (WithMore (SpellsCounted SpellsPeer)) octets.now result }
+{
+    let Some(count) = split_short(octets) else {
+        return Err(WireFault::Malformed);
+    };
+    let most = count.rest.len() / SMALLEST_PEER;
+    let mut peers = Vec::with_capacity(alloc, most.min(usize::from(count.value)))?;
+    let mut rest = count.rest;
+    for _ in 0..count.value {
+        let Some(peer) = split_peer(rest) else {
+            return Err(WireFault::Malformed);
+        };
+        peers.push(peer.value)?;
+        rest = peer.rest;
+    }
+    Ok(Peers::from_vec(peers))
+}
+
+/// What follows the collector and the name of the view.
+fn skip_view(octets: &[u8]) -> Option<&[u8]>
+    ensures some { IfSome result (λ rest. (view : List ℕ × List ℕ) × Begins SpellsView view rest.now octets.now) }
+    ensures none { IfNone result (BeginsWithNone SpellsView octets.now) }
+{
+    let after_id = skip(ID_SIZE, octets)?;
+    let (_, rest) = split_sized(after_id)?;
+    Some(rest)
+}
+
+/// The peers of a PEER_INDEX_TABLE.
+pub(crate) fn read_peer_index(alloc: Global, octets: &[u8]) -> Result<Peers, WireFault>
+    ensures { Reads SpellsPeerIndex octets.now result }
+{
+    let Some(rest) = skip_view(octets) else {
+        return Err(WireFault::Malformed);
+    };
+    read_peers(alloc, rest)
+}

@@ -1,0 +1,97 @@
+//! The types and subtypes of records that are read, and the forms of their bodies (RFC 6396,
+//! section 4).
+
+ghost use Rattle.std.specs.Prelude.{◌≡◌};
+ghost use Rattle.mrt_wire.specs.Profile.{form_of, table_form, session_form, session};
+
+use bgp_wire::AsWidth;
+use ip_prefix::Family;
+
+/// The type of the parts of a table (section 4.3), and their subtypes.
+const TABLE_DUMP_V2: u16 = 13;
+const PEER_INDEX_TABLE: u16 = 1;
+const RIB_IPV4_UNICAST: u16 = 2;
+const RIB_IPV6_UNICAST: u16 = 4;
+
+/// The types of what happens in sessions (section 4.4), without and with microseconds
+/// (section 3), and their subtypes.
+const BGP4MP: u16 = 16;
+const BGP4MP_ET: u16 = 17;
+const BGP4MP_STATE_CHANGE: u16 = 0;
+const BGP4MP_MESSAGE: u16 = 1;
+const BGP4MP_MESSAGE_AS4: u16 = 4;
+const BGP4MP_STATE_CHANGE_AS4: u16 = 5;
+
+/// What happens in a session.
+#[derive(Clone, Copy)]
+pub(crate) enum SessionKind {
+    /// Its state changes (sections 4.4.1 and 4.4.4).
+    StateChange,
+    /// The peer sends a message (sections 4.4.2 and 4.4.3).
+    Message,
+}
+
+/// The form of a body that says what happens in a session.
+#[derive(Clone, Copy)]
+pub(crate) struct SessionForm {
+    pub(crate) kind: SessionKind,
+    /// The width of AS numbers.
+    pub(crate) width: AsWidth,
+    /// Whether microseconds stand in front.
+    pub(crate) timed: bool,
+}
+
+/// The form of a body.
+#[derive(Clone, Copy)]
+pub(crate) enum Form {
+    /// The peers of a table (section 4.3.1).
+    PeerIndex,
+    /// The entries of a table for a prefix of this family (section 4.3.2).
+    Rib(Family),
+    /// What happens in a session (section 4.4).
+    Session(SessionForm),
+}
+
+/// The form of the bodies of a type and subtype, where they are read.
+pub(crate) fn form_of(kind: u16, subtype: u16) -> Option<Form>
+    ensures { result ≡ form_of kind subtype }
+{
+    match kind {
+        TABLE_DUMP_V2 => table_form(subtype),
+        BGP4MP => session_form(false, subtype),
+        BGP4MP_ET => session_form(true, subtype),
+        _ => None,
+    }
+}
+
+/// The form of a part of a table.
+fn table_form(subtype: u16) -> Option<Form>
+    ensures { result ≡ table_form subtype }
+{
+    match subtype {
+        PEER_INDEX_TABLE => Some(Form::PeerIndex),
+        RIB_IPV4_UNICAST => Some(Form::Rib(Family::V4)),
+        RIB_IPV6_UNICAST => Some(Form::Rib(Family::V6)),
+        _ => None,
+    }
+}
+
+/// The form of what happens in a session.
+fn session_form(timed: bool, subtype: u16) -> Option<Form>
+    ensures { result ≡ session_form timed subtype }
+{
+    match subtype {
+        BGP4MP_STATE_CHANGE => session(timed, SessionKind::StateChange, AsWidth::Two),
+        BGP4MP_MESSAGE => session(timed, SessionKind::Message, AsWidth::Two),
+        BGP4MP_MESSAGE_AS4 => session(timed, SessionKind::Message, AsWidth::Four),
+        BGP4MP_STATE_CHANGE_AS4 => session(timed, SessionKind::StateChange, AsWidth::Four),
+        _ => None,
+    }
+}
+
+/// The form of such a happening.
+fn session(timed: bool, kind: SessionKind, width: AsWidth) -> Option<Form>
+    ensures { result ≡ session timed kind width }
+{
+    Some(Form::Session(SessionForm { kind, width, timed }))
+}

@@ -1,0 +1,206 @@
+//! Reading the entries of a table for one prefix (RFC 6396, section 4.3.2).
+
+ghost use Rattle.std.specs.Prelude.{◌≡◌, ◌++◌, List, map, slice_get, OnOk, IfSome, IfNone, IfOk, IfErr};
+ghost use Rattle.std.specs.Option.{option_or};
+ghost use Rattle.ip_prefix.specs.Sequences.{Begins, BeginsWithNone};
+ghost use Rattle.bgp_wire.specs.Reading.{Refuses, RefusesFront};
+ghost use Rattle.mrt_wire.specs.declared.rib.RibEntry.{RibEntry};
+ghost use Rattle.mrt_wire.specs.Event.{saying};
+ghost use Rattle.mrt_wire.specs.Rib.{Rib, AreEntryFields, SpellsEntry, SpellsEntries, SpellsPrefixed, SpellsRib};
+ghost use Rattle.mrt_wire.specs.Told.{entry_time, entry_items, unknown_peer};
+ghost use Rattle.mrt_wire.specs.Judging.{Tells};
+
+use crate::event::{Item, Items, Route, Stamp};
+use crate::fields::{skip, split_short, split_sized, split_word};
+use crate::peer::Peer;
+use bgp_wire::{AsWidth, Attrs, WireFault, read_rib_attrs};
+use ip_prefix::{Family, Prefix};
+use std::alloc::{AllocError, Global};
+use std::rc::Rc;
+
+/// How many octets the sequence number of a record has.
+const SEQUENCE_SIZE: usize = 4;
+
+/// How many octets an entry has at least.
+const SMALLEST_ENTRY: usize = 8;
+
+/// The route of one peer.
+#[derive(Debug, Drop)]
+pub(crate) struct RibEntry {
+    /// Its attributes.
+    pub(crate) attrs: Attrs,
+    /// When it was originated, in seconds since 1970.
+    pub(crate) time: u32,
+    /// The number of the peer in the peer index.
+    pub(crate) index: u16,
+}
+
+/// A table as it was written: by their numbers its peers, when it was written, and which time its
+/// routes are given.
+#[derive(Clone, Copy)]
+pub(crate) struct Snapshot<'a> {
+    pub(crate) peers: &'a [Peer],
+    pub(crate) seconds: u32,
+    pub(crate) stamp: Stamp,
+}
+
+/// What entries say, and the first number among them that is no peer's.
+#[derive(Drop)]
+pub(crate) struct Told {
+    pub(crate) items: Vec<Item>,
+    pub(crate) unknown: Option<u16>,
+}
+
+/// An entry as it is framed, and what follows it.
+#[derive(Clone, Copy)]
+struct FramedEntry<'a> {
+    attributes: &'a [u8],
+    rest: &'a [u8],
+    time: u32,
+    index: u16,
+}
+
+/// The entry in front, and what follows it.
+fn frame_entry(octets: &[u8]) -> Option<FramedEntry<'_>>
+    ensures some { IfSome result (λ f.
+        Begins AreEntryFields (f.index, (f.time, f.attributes.now)) f.rest.now octets.now) }
+    ensures none { IfNone result (BeginsWithNone AreEntryFields octets.now) }
+{
+    let index = split_short(octets)?;
+    let time = split_word(index.rest)?;
+    let (attributes, rest) = split_sized(time.rest)?;
+    Some(FramedEntry {
+        attributes,
+        rest,
+        time: time.value,
+        index: index.value,
+    })
+}
+
+/// The entry in front, and what follows it.
+fn read_entry(alloc: Global, family: Family, octets: &[u8]) -> Result<(RibEntry, &[u8]), WireFault>
+    ensures found { IfOk result (λ found.
+        Begins (SpellsEntry family) found.0 found.1.now octets.now) }
+    ensures refused { IfErr result (RefusesFront (SpellsEntry family) octets.now) }
+{
+    let Some(framed) = frame_entry(octets) else {
+        return Err(WireFault::Malformed);
+    };
+    let attrs = read_rib_attrs(alloc, family, AsWidth::Four, framed.attributes)?;
+    let entry = RibEntry {
+        attrs,
+        time: framed.time,
+        index: framed.index,
+    };
+    Ok((entry, framed.rest))
+}
+
+/// The peer of this number.
+#[inline]
+fn peer_at(peers: &[Peer], number: u16) -> Option<Peer>
+    ensures { result ≡ slice_get peers.now number }
+{
+    peers.get(usize::from(number)).copied()
+}
+
+/// The time of an entry's route.
+#[inline]
+fn time_of(snapshot: Snapshot<'_>, originated: u32) -> u32
+    ensures { result ≡ entry_time snapshot.entry.stamp snapshot.entry.seconds originated }
+{
+    match snapshot.stamp {
+        Stamp::Dump => snapshot.seconds,
+        Stamp::Change => originated,
+    }
+}
+
+impl Told {
+    /// Adds what an entry announces, or notes that its number is no peer's.
+    fn add(
+        &mut self,
+        alloc: Global,
+        snapshot: Snapshot<'_>,
+        prefix: Prefix,
+        entry: RibEntry,
+    ) -> Result<(), AllocError>
+        ensures items { OnOk result (map saying self.new.items.items ≡ map saying self.old.items.items
+            ++ entry_items snapshot.entry.peers.now snapshot.entry.stamp snapshot.entry.seconds prefix entry) }
+        ensures unknown { OnOk result (self.new.unknown ≡
+            option_or self.old.unknown (unknown_peer snapshot.entry.peers.now entry)) }
+    {
+        let Some(peer) = peer_at(snapshot.peers, entry.index) else {
+            self.unknown = self.unknown.or(Some(entry.index));
+            return Ok(());
+        };
+        let time = time_of(snapshot, entry.time);
+        let attrs = entry.attrs;
+        let route = Rc::new(alloc, Route { attrs, time })?;
+        self.items.push(Item::Announce(peer, prefix, route))?;
+        Ok(())
+    }
+}
+
+/// What the entries say that the octets begin with, behind their number.
+fn read_entries(
+    alloc: Global,
+    family: Family,
+    snapshot: Snapshot<'_>,
+    prefix: Prefix,
+    octets: &[u8],
+) -> Result<Told, WireFault>
+    ensures told { IfOk result (λ told. (entries : List RibEntry)
+        × SpellsEntries family entries octets.now
+        × Tells snapshot.entry record { prefix = prefix; entries = entries } told) }
+    ensures refused { IfErr result (Refuses (SpellsEntries family) octets.now) }
+{
+    let Some(count) = split_short(octets) else {
+        return Err(WireFault::Malformed);
+    };
+    let most = count.rest.len() / SMALLEST_ENTRY;
+    let mut told = Told {
+        items: Vec::with_capacity(alloc, most.min(usize::from(count.value)))?,
+        unknown: None,
+    };
+    let mut rest = count.rest;
+    for _ in 0..count.value {
+        let (entry, more) = read_entry(alloc, family, rest)?;
+        told.add(alloc, snapshot, prefix, entry)?;
+        rest = more;
+    }
+    Ok(told)
+}
+
+/// What the entries of the prefix say that the octets begin with.
+fn read_prefixed(
+    alloc: Global,
+    family: Family,
+    snapshot: Snapshot<'_>,
+    octets: &[u8],
+) -> Result<Told, WireFault>
+    ensures told { IfOk result (λ told. (rib : Rib)
+        × SpellsPrefixed family rib octets.now × Tells snapshot.entry rib told) }
+    ensures refused { IfErr result (Refuses (SpellsPrefixed family) octets.now) }
+{
+    let Some(found) = Prefix::read(family, octets) else {
+        return Err(WireFault::Malformed);
+    };
+    let (_, rest) = octets.split_at(found.1);
+    read_entries(alloc, family, snapshot, found.0, rest)
+}
+
+/// What the entries of RIB_IPV4_UNICAST or of RIB_IPV6_UNICAST say.
+pub(crate) fn read_rib(
+    alloc: Global,
+    family: Family,
+    snapshot: Snapshot<'_>,
+    octets: &[u8],
+) -> Result<Told, WireFault>
+    ensures told { IfOk result (λ told. (rib : Rib)
+        × SpellsRib family rib octets.now × Tells snapshot.entry rib told) }
+    ensures refused { IfErr result (Refuses (SpellsRib family) octets.now) }
+{
+    let Some(rest) = skip(SEQUENCE_SIZE, octets) else {
+        return Err(WireFault::Malformed);
+    };
+    read_prefixed(alloc, family, snapshot, rest)
+}

@@ -1,0 +1,244 @@
+//! Reading what happened in a session with a peer (RFC 6396, section 4.4).
+
+ghost use Rattle.std.specs.Prelude.{◌≡◌, ℕ, List, IfSome, IfNone};
+ghost use Rattle.ip_prefix.specs.Address.{octet_count};
+ghost use Rattle.ip_prefix.specs.Sequences.{Begins, BeginsWithNone};
+ghost use Rattle.bgp_wire.specs.Number.{octets_at};
+ghost use Rattle.bgp_wire.specs.Reading.{Finds, Reads};
+ghost use Rattle.mrt_wire.specs.Fields.{FindsField};
+ghost use Rattle.mrt_wire.specs.Session.{SpellsFamily, AreSystems, AreAddresses, SpellsSession, SpellsStateChange, SpellsPeerMessage, SpellsMicros, SpellsHappening, SpellsSessionBody};
+
+use crate::fields::{Field, skip, split_address, split_asn, split_short, split_word};
+use crate::peer::Peer;
+use crate::profile::{SessionForm, SessionKind};
+use bgp_wire::{AsWidth, Message, WireFault, read_message};
+use ip_prefix::{Addr, Family};
+use std::alloc::Global;
+
+/// How many octets the index of an interface has (RFC 6396, section 4.4.1).
+const INTERFACE_SIZE: usize = 2;
+
+/// How many microseconds make a second.
+const SECOND: u32 = 1_000_000;
+
+/// A peer's old and new state (RFC 4271, section 8.2.2).
+#[derive(Clone, Copy, Debug)]
+pub(crate) struct StateChange {
+    pub(crate) peer: Peer,
+    pub(crate) old: u16,
+    pub(crate) new: u16,
+}
+
+/// A message that a peer has sent.
+#[derive(Debug, Drop)]
+pub(crate) struct PeerMessage {
+    pub(crate) message: Message,
+    pub(crate) peer: Peer,
+}
+
+/// What happened in a session.
+#[derive(Debug, Drop)]
+pub(crate) enum SessionContent {
+    Changed(StateChange),
+    Received(PeerMessage),
+}
+
+/// What happened in a session, and the microseconds, where the body has them.
+#[derive(Debug, Drop)]
+pub(crate) struct SessionBody {
+    pub(crate) content: SessionContent,
+    pub(crate) micros: Option<u32>,
+}
+
+/// How many octets an AS number takes.
+fn number_octets(width: AsWidth) -> usize
+    ensures { result ≡ octets_at width }
+{
+    match width {
+        AsWidth::Two => 2,
+        AsWidth::Four => 4,
+    }
+}
+
+/// How many octets an address takes.
+fn address_octets(family: Family) -> usize
+    ensures { result ≡ octet_count family }
+{
+    match family {
+        Family::V4 => 4,
+        Family::V6 => 16,
+    }
+}
+
+/// The family that two octets stand for.
+fn family_of(octets: &[u8]) -> Option<Family>
+    ensures { Finds SpellsFamily octets.now result }
+{
+    match octets {
+        [0, 1] => Some(Family::V4),
+        [0, 2] => Some(Family::V6),
+        _ => None,
+    }
+}
+
+/// The address family in front, and what follows it.
+fn split_family(octets: &[u8]) -> Option<Field<'_, Family>>
+    ensures { FindsField SpellsFamily octets.now result }
+{
+    if octets.len() < 2 {
+        return None;
+    }
+    let (front, rest) = octets.split_at(2);
+    let family = family_of(front)?;
+    Some(Field {
+        value: family,
+        rest,
+    })
+}
+
+/// The peer's AS number in front, and what follows the interface.
+fn split_systems(width: AsWidth, octets: &[u8]) -> Option<Field<'_, u32>>
+    ensures some { IfSome result (λ f. (local interface : List ℕ)
+        × Begins (AreSystems width) (f.value, (local, interface)) f.rest.now octets.now) }
+    ensures none { IfNone result (BeginsWithNone (AreSystems width) octets.now) }
+{
+    let asn = split_asn(width, octets)?;
+    let after_local = skip(number_octets(width), asn.rest)?;
+    let rest = skip(INTERFACE_SIZE, after_local)?;
+    Some(Field {
+        value: asn.value,
+        rest,
+    })
+}
+
+/// The peer's address behind the address family in front, and what follows the local address.
+fn split_addresses(octets: &[u8]) -> Option<Field<'_, Addr>>
+    ensures some { IfSome result (λ f. (family : Family) × (local : List ℕ)
+        × Begins AreAddresses (family, (f.value, local)) f.rest.now octets.now) }
+    ensures none { IfNone result (BeginsWithNone AreAddresses octets.now) }
+{
+    let family = split_family(octets)?;
+    let Some(addr) = split_address(family.value, family.rest) else {
+        return None;
+    };
+    let rest = skip(address_octets(family.value), addr.rest)?;
+    Some(Field {
+        value: addr.value,
+        rest,
+    })
+}
+
+/// The session in front, and what follows it.
+fn split_session(width: AsWidth, octets: &[u8]) -> Option<Field<'_, Peer>>
+    ensures { FindsField (SpellsSession width) octets.now result }
+{
+    let asn = split_systems(width, octets)?;
+    let Some(addr) = split_addresses(asn.rest) else {
+        return None;
+    };
+    Some(Field {
+        value: Peer {
+            addr: addr.value,
+            asn: asn.value,
+        },
+        rest: addr.rest,
+    })
+}
+
+/// The state change that the octets begin with.
+fn read_state_change(width: AsWidth, octets: &[u8]) -> Option<StateChange>
+    ensures { Finds (SpellsStateChange width) octets.now result }
+{
+    let Some(session) = split_session(width, octets) else {
+        return None;
+    };
+    let old = split_short(session.rest)?;
+    let new = split_short(old.rest)?;
+    Some(StateChange {
+        peer: session.value,
+        old: old.value,
+        new: new.value,
+    })
+}
+
+/// The message of a session that the octets are.
+fn read_peer_message(
+    alloc: Global,
+    width: AsWidth,
+    octets: &[u8],
+) -> Result<PeerMessage, WireFault>
+    ensures { Reads (SpellsPeerMessage width) octets.now result }
+{
+    let Some(session) = split_session(width, octets) else {
+        return Err(WireFault::Malformed);
+    };
+    let message = read_message(alloc, width, session.rest)?;
+    Ok(PeerMessage {
+        message,
+        peer: session.value,
+    })
+}
+
+/// The microseconds in front, and what follows them.
+fn split_micros(octets: &[u8]) -> Option<Field<'_, u32>>
+    ensures { FindsField SpellsMicros octets.now result }
+{
+    let micros = split_word(octets)?;
+    if micros.value >= SECOND {
+        return None;
+    }
+    Some(micros)
+}
+
+/// The state change that the octets are.
+fn read_change(width: AsWidth, octets: &[u8]) -> Result<SessionContent, WireFault>
+    ensures { Reads (SpellsHappening SessionKind.StateChange width) octets.now result }
+{
+    let Some(change) = read_state_change(width, octets) else {
+        return Err(WireFault::Malformed);
+    };
+    Ok(SessionContent::Changed(change))
+}
+
+/// What happened in a session, as the octets say.
+fn read_happening(
+    alloc: Global,
+    kind: SessionKind,
+    width: AsWidth,
+    octets: &[u8],
+) -> Result<SessionContent, WireFault>
+    ensures { Reads (SpellsHappening kind width) octets.now result }
+{
+    match kind {
+        SessionKind::StateChange => read_change(width, octets),
+        SessionKind::Message => {
+            let message = read_peer_message(alloc, width, octets)?;
+            Ok(SessionContent::Received(message))
+        }
+    }
+}
+
+/// What a body of this form says.
+pub(crate) fn read_session(
+    alloc: Global,
+    form: SessionForm,
+    octets: &[u8],
+) -> Result<SessionBody, WireFault>
+    ensures { Reads (SpellsSessionBody form) octets.now result }
+{
+    if !form.timed {
+        let content = read_happening(alloc, form.kind, form.width, octets)?;
+        return Ok(SessionBody {
+            content,
+            micros: None,
+        });
+    }
+    let Some(micros) = split_micros(octets) else {
+        return Err(WireFault::Malformed);
+    };
+    let content = read_happening(alloc, form.kind, form.width, micros.rest)?;
+    Ok(SessionBody {
+        content,
+        micros: Some(micros.value),
+    })
+}
