@@ -1,6 +1,6 @@
 -- What a run leaves at its end, by how it ended.
-use Rattle.std.proofs.Common.{None, Some, ◌≡◌, ◌≢◌, ◌⊎◌, inl, inr, ℕ, ◌+◌, Bool, true, false, List, [], ◌∷◌, ◌++◌, Option, Result, Ok, Err, length, sym, ap, ◌∙◌, refl, subst, arith, append-nil, length-append}
-use Rattle.std.proofs.lemmas.List.{append_assoc, append_cancel_right}
+use Rattle.std.proofs.Common.{None, ◌≡◌, ◌≢◌, ◌⊎◌, inl, inr, ℕ, ◌+◌, Bool, true, false, List, [], ◌∷◌, ◌++◌, Option, Ok, Err, length, sym, ap, ◌∙◌, refl, subst, arith, append-nil, length-append}
+use Rattle.std.proofs.lemmas.List.{append_assoc}
 use Rattle.std.specs.Io.KnownBytes.{Consumes, Keeps, IsAtEnd}
 use Rattle.std.proofs.KnownBytes.{Appends-kept, Consumes-trans}
 use Rattle.mrt_wire.specs.declared.fault.SourceFault.{SourceFault}
@@ -8,7 +8,6 @@ use Rattle.mrt_wire.specs.declared.fault.SourceFault.TheVariants as source
 use Rattle.mrt_wire.specs.declared.event.Stamp.{Stamp}
 use Rattle.mrt_wire.specs.declared.next.Phase.{Phase}
 use Rattle.mrt_wire.specs.declared.next.Phase.TheVariants.{Reading, Ended, Spent}
-use Rattle.mrt_wire.specs.Record.{spelling, IsRecord}
 use Rattle.mrt_wire.specs.Verdict.{Frame}
 use Rattle.mrt_wire.specs.Splitting.{Splits, spellings}
 use Rattle.mrt_wire.specs.declared.fault.RecordKind.TheVariants.{CutRecord}
@@ -31,7 +30,7 @@ use Rattle.bgpdump_tool.specs.declared.dump.TheConstants.{LIMIT}
 use Rattle.bgpdump_tool.specs.Run.{Outputs, MayHold, SawEnd, Writes, WritesFronts, EndsSo, EndedByInput, IsTaken, IsLast, all_results}
 use Rattle.bgpdump_tool.specs.Ending.{outcome_of, source_outcome, write_outcome}
 use Rattle.bgpdump_tool.specs.Writing.{is_any_bad}
-use Rattle.bgpdump_tool.specs.Going.{Going, StopsAtSource, StopsAtWriting, Ends}
+use Rattle.bgpdump_tool.specs.Going.{StopsUnwritten, StopsAtWriting, Ends}
 use Rattle.bgpdump_tool.proofs.WritingLaws.{WritesFronts-longer, WritesFronts-whole}
 
 reports_none : (found : List Finding) → is_any_bad found ≡ false → reports found ≡ []
@@ -73,13 +72,12 @@ cases_none : (octets : List ℕ) → (octets ≡ []) ⊎ (octets ≢ [])
 cases_none [] = inl refl
 cases_none (octet ∷ octets) = inr (λ e. cc)
 
--- fronts of what was found so far are fronts of all that the input may hold
-WritesFronts-held : (stamp : Stamp) (q : Place) (left left' : Option (List ℕ)) (found : List Finding) (outcome : Outcome) (a b : Outputs) → SoFar (start_place stamp LIMIT) q left left' found
-    → ((rest : List ℕ) → rest_kind rest ≡ CutRecord → rest ≢ [] → SawEnd outcome rest) → WritesFronts found a b
-    → (octets : List ℕ) (frames : List Frame) (rest : List ℕ) → MayHold stamp outcome left left' octets → Splits stamp None octets frames rest → WritesFronts (all_results stamp frames rest) a b
-WritesFronts-held stamp q left left' found outcome a b s saw fronts octets frames rest may split = elim (cases_none s.rest) [
+-- fronts of what was found so far are fronts of all that the input may hold, where an output failed
+WritesFronts-held : (stamp : Stamp) (q : Place) (left left' : Option (List ℕ)) (found : List Finding) (a b : Outputs) → SoFar (start_place stamp LIMIT) q left left' found → WritesFronts found a b
+    → (octets : List ℕ) (frames : List Frame) (rest : List ℕ) → MayHold stamp outcome.WriteFault left left' octets → Splits stamp None octets frames rest → WritesFronts (all_results stamp frames rest) a b
+WritesFronts-held stamp q left left' found a b s fronts octets frames rest may split = elim (cases_none s.rest) [
   | inr some ↦
-      let first = first_held stamp q left left' found outcome s (λ cut. saw s.rest cut some) octets frames rest may split in
+      let first = first_held stamp q left left' found outcome.WriteFault s (λ cut. (cut, some)) octets frames rest may split in
       subst (λ f. WritesFronts f a b) (sym first.first) (WritesFronts-longer found first.later a b fronts)
   | inl none ↦
       let same = same_taken left left' (spellings s.frames ++ s.rest) may.taken may.after s.consumed may.took in
@@ -101,7 +99,7 @@ EndsSo-finished : (stamp : Stamp) (q : Place) (left left' : Option (List ℕ)) (
     → reported ≡ is_any_bad found → Writes found a b → (octets : List ℕ) (frames : List Frame) (rest : List ℕ) → MayHold stamp (outcome_of failed reported) left left' octets → Splits stamp None octets frames rest
     → EndsSo (outcome_of failed reported) (all_results stamp frames rest) a b
 EndsSo-finished stamp q left left' found a b true reported s ended bad writes octets frames rest may split =
-    WritesFronts-held stamp q left left' found outcome.WriteFault a b s (λ _ cut some. (cut, some)) (WritesFronts-whole found a b writes) octets frames rest may split
+    WritesFronts-held stamp q left left' found a b s (WritesFronts-whole found a b writes) octets frames rest may split
 EndsSo-finished stamp q left left' found a b false true s ended bad writes octets frames rest may split =
     subst (λ f. EndsSo outcome.Reported f a b) (all_held stamp q left left' found outcome.Reported s ended (λ cut. cut) octets frames rest may split) (reports_some found (sym bad), writes)
 EndsSo-finished stamp q left left' found a b false false s ended bad writes octets frames rest may split =
@@ -115,31 +113,70 @@ EndsSo-read stamp left left' a b c failed reported outcome (q, ended, g) is_outc
     subst (λ o. EndsSo o (all_results stamp frames rest) a c) (sym is_outcome)
     (EndsSo-finished stamp q left left' g.found a c failed reported g.so_far ended g.reported_is writes octets frames rest (subst (λ o. MayHold stamp o left left' octets) is_outcome may) split)
 
--- a run that its source stopped
+-- ---- a run that stopped behind octets of which nothing is written
+
+-- nothing but frames stands before them
+only_frames : (p : Place) (left left' : Option (List ℕ)) (a b : Outputs) → (stop : StopsUnwritten p left left' a b) → spellings stop.so_far.frames ++ stop.so_far.rest ≡ spellings stop.so_far.frames
+only_frames p left left' a b stop =
+    let s = stop.so_far in
+    ap (λ l. spellings s.frames ++ l) (no_rest p stop.place left stop.mid stop.found s stop.reading) ∙ append-nil (spellings s.frames)
+
+-- the octets taken are those of the frames, and then they
+Consumes-unwritten : (p : Place) (left left' : Option (List ℕ)) (a b : Outputs) → (stop : StopsUnwritten p left left' a b) → Consumes left left' (spellings stop.so_far.frames ++ stop.octets)
+Consumes-unwritten p left left' a b stop =
+    let s = stop.so_far in
+    subst (λ l. Consumes left left' (l ++ stop.octets)) (only_frames p left left' a b stop)
+    (Consumes-trans left stop.mid left' (spellings s.frames ++ s.rest) stop.octets s.consumed stop.consumed)
+
+-- fronts of all that the input may hold were written, whatever follows
+WritesFronts-unwritten : (stamp : Stamp) (left left' : Option (List ℕ)) (outcome : Outcome) (a b : Outputs) → StopsUnwritten (start_place stamp LIMIT) left left' a b
+    → (octets : List ℕ) (frames : List Frame) (rest : List ℕ) → MayHold stamp outcome left left' octets → Splits stamp None octets frames rest → WritesFronts (all_results stamp frames rest) a b
+WritesFronts-unwritten stamp left left' outcome a b stop octets frames rest may split =
+    let s = stop.so_far in
+    let p : Place = start_place stamp LIMIT in
+    let same = same_taken left left' (spellings s.frames ++ stop.octets) may.taken may.after (Consumes-unwritten p left left' a b stop) may.took in
+    let whole = may.whole ∙ ap (λ l. l ++ may.more) same ∙ append_assoc (spellings s.frames) stop.octets may.more ∙ ap (λ l. l ++ (stop.octets ++ may.more)) (sym (only_frames p left left' a b stop)) in
+    let split' = subst (λ o. Splits stamp None o frames rest) whole split in
+    let (later, first) = front_so_far p stop.place left stop.mid stop.found s (no_rest p stop.place left stop.mid stop.found s stop.reading) (stop.octets ++ may.more) frames rest split' in
+    subst (λ f. WritesFronts f a b) (sym first) (WritesFronts-longer stop.found later a b (WritesFronts-whole stop.found a b stop.written))
+
+-- what was taken
+IsTaken-unwritten : (stamp : Stamp) (left left' : Option (List ℕ)) (outcome : Outcome) (a b : Outputs) → (stop : StopsUnwritten (start_place stamp LIMIT) left left' a b) → IsLast outcome stop.octets
+    → (taken : List ℕ) × Consumes left left' taken × IsTaken stamp outcome taken
+IsTaken-unwritten stamp left left' outcome a b stop last =
+    let s = stop.so_far in
+    let p : Place = start_place stamp LIMIT in (
+      spellings s.frames ++ stop.octets,
+      Consumes-unwritten p left left' a b stop,
+      record {
+        frames = s.frames;
+        rest = stop.octets;
+        whole = refl;
+        are_frames = s.are_frames;
+        last = last;
+        few = omega (arith, stop.within, s.offset, ap length (only_frames p left left' a b stop), length-append (spellings s.frames) stop.octets);
+      },
+    )
+
+-- ---- a run that its source or its writing stopped
+
 EndsSo-source : (fault : SourceFault) (found : List Finding) (a b : Outputs) → WritesFronts found a b → EndsSo (source_outcome fault) found a b
 EndsSo-source source.Read found a b p = p
 EndsSo-source source.InputTooLong found a b p = p
 EndsSo-source source.Memory found a b p = p
 EndsSo-source source.Spent found a b p = p
 
--- a run that its writing stopped
-EndsSo-write : (fault : WriteFault) (stamp : Stamp) (left left' : Option (List ℕ)) (a b : Outputs) → StopsAtWriting (start_place stamp LIMIT) left left' a b
+EndsSo-write : (fault : WriteFault) (stamp : Stamp) (left left' : Option (List ℕ)) (a b : Outputs) → StopsAtWriting (start_place stamp LIMIT) left left' a b fault
     → (octets : List ℕ) (frames : List Frame) (rest : List ℕ) → MayHold stamp (write_outcome fault) left left' octets → Splits stamp None octets frames rest → EndsSo (write_outcome fault) (all_results stamp frames rest) a b
-EndsSo-write write.Write stamp left left' a b stop = WritesFronts-held stamp stop.place left left' stop.found outcome.WriteFault a b stop.so_far (λ _ cut some. (cut, some)) stop.fronts
-EndsSo-write write.Memory stamp left left' a b stop = WritesFronts-held stamp stop.place left left' stop.found outcome.Memory a b stop.so_far (λ _ cut some. (cut, some)) stop.fronts
+EndsSo-write write.Write stamp left left' a b stop = WritesFronts-held stamp stop.place left left' stop.found a b stop.so_far stop.fronts
+EndsSo-write write.Memory stamp left left' a b (stop, last) = WritesFronts-unwritten stamp left left' outcome.Memory a b stop
 
 -- a run that stopped
 pub EndsSo-stopped : (stamp : Stamp) (left left' : Option (List ℕ)) (a b : Outputs) (outcome : Outcome) → Ends (start_place stamp LIMIT) left left' a b (Err outcome)
     → (octets : List ℕ) (frames : List Frame) (rest : List ℕ) → MayHold stamp outcome left left' octets → Splits stamp None octets frames rest → EndsSo outcome (all_results stamp frames rest) a b
-EndsSo-stopped stamp left left' a b outcome (inl (fault, is, stop)) octets frames rest may split =
-    let s = stop.so_far in
-    let done : List ℕ = spellings s.frames ++ s.rest in
-    let none = no_rest (start_place stamp LIMIT) stop.place left stop.mid stop.found s stop.reading in
-    let same = same_taken left left' (done ++ stop.octets) may.taken may.after (Consumes-trans left stop.mid left' done stop.octets s.consumed stop.consumed) may.took in
-    let split' = subst (λ o. Splits stamp None o frames rest) (may.whole ∙ ap (λ l. l ++ may.more) same ∙ append_assoc done stop.octets may.more) split in
-    let (later, first) = front_so_far (start_place stamp LIMIT) stop.place left stop.mid stop.found s none (stop.octets ++ may.more) frames rest split' in
-    let fronts = WritesFronts-longer stop.found later a b (WritesFronts-whole stop.found a b stop.written) in
-    subst (λ f. EndsSo outcome f a b) (sym first) (subst (λ o. EndsSo o (stop.found ++ later) a b) (sym is) (EndsSo-source fault (stop.found ++ later) a b fronts))
+EndsSo-stopped stamp left left' a b outcome (inl (fault, is, at)) octets frames rest may split =
+    let found : List Finding = all_results stamp frames rest in
+    subst (λ o. EndsSo o found a b) (sym is) (EndsSo-source fault found a b (WritesFronts-unwritten stamp left left' outcome a b at.stop octets frames rest may split))
 EndsSo-stopped stamp left left' a b outcome (inr (fault, is, stop)) octets frames rest may split =
     subst (λ o. EndsSo o (all_results stamp frames rest) a b) (sym is)
     (EndsSo-write fault stamp left left' a b stop octets frames rest (subst (λ o. MayHold stamp o left left' octets) is may) split)
@@ -152,16 +189,15 @@ begun_by_input fault octets by_input (inr (memory, whole)) = absurd (subst (λ f
 -- a run that the input ended has written what the frames give
 pub Writes-stopped : (stamp : Stamp) (left left' : Option (List ℕ)) (a b : Outputs) (outcome : Outcome) → Ends (start_place stamp LIMIT) left left' a b (Err outcome) → EndedByInput outcome
     → (taken after : List ℕ) (frames : List Frame) (rest : List ℕ) → Took left left' taken after → Splits stamp None taken frames rest → Writes (all_results stamp frames []) a b
-Writes-stopped stamp left left' a b outcome (inl (fault, is, stop)) by_input taken after frames rest took split =
+Writes-stopped stamp left left' a b outcome (inl (fault, is, at)) by_input taken after frames rest took split =
+    let stop = at.stop in
     let s = stop.so_far in
-    let done : List ℕ = spellings s.frames ++ s.rest in
-    let none = no_rest (start_place stamp LIMIT) stop.place left stop.mid stop.found s stop.reading in
-    let same = same_taken left left' (done ++ stop.octets) taken after (Consumes-trans left stop.mid left' done stop.octets s.consumed stop.consumed) took in
-    let begun = begun_by_input fault stop.octets (subst EndedByInput is by_input) stop.left_over in
-    let joined : spellings s.frames ++ stop.octets ≡ spellings frames ++ rest =
-    sym (same ∙ ap (λ l. (spellings s.frames ++ l) ++ stop.octets) none ∙ ap (λ l. l ++ stop.octets) (append-nil (spellings s.frames))) ∙ split.whole in
-    let all = frames_all stamp None s.frames frames stop.octets rest s.are_frames split.are_frames begun.none split.none joined in
-    subst (λ f. Writes f a b) (s.found_is ∙ (λ i. results (start_place stamp LIMIT) (sym all.0 i) (none i))) stop.written
+    let p : Place = start_place stamp LIMIT in
+    let none = no_rest p stop.place left stop.mid stop.found s stop.reading in
+    let same = same_taken left left' (spellings s.frames ++ stop.octets) taken after (Consumes-unwritten p left left' a b stop) took in
+    let begun = begun_by_input fault stop.octets (subst EndedByInput is by_input) at.left_over in
+    let all = frames_all stamp None s.frames frames stop.octets rest s.are_frames split.are_frames begun.none split.none (sym same ∙ split.whole) in
+    subst (λ f. Writes f a b) (s.found_is ∙ (λ i. results p (sym all.0 i) (none i))) stop.written
 Writes-stopped stamp left left' a b outcome (inr (fault, is, stop)) by_input taken after frames rest took split = absurd (written_all fault (subst EndedByInput is by_input))
 
 -- what stands behind the frames of a run that the source stopped
@@ -175,29 +211,10 @@ last_of_source source.InputTooLong octets (inr (memory, whole)) = cc
 last_of_source source.Memory octets (inr (memory, whole)) = inr whole
 last_of_source source.Spent octets (inr (memory, whole)) = cc
 
-last_of_write : (fault : WriteFault) (octets : List ℕ) → IsRest octets → IsLast (write_outcome fault) octets
-last_of_write write.Write octets rest = rest
-last_of_write write.Memory octets rest = inl rest
-
--- what was taken by a run that stopped
-pub IsTaken-stopped : (stamp : Stamp) (left left' : Option (List ℕ)) (a b : Outputs) (outcome : Outcome) → Ends (start_place stamp LIMIT) left left' a b (Err outcome)
-    → (taken : List ℕ) × Consumes left left' taken × IsTaken stamp outcome taken
-IsTaken-stopped stamp left left' a b outcome (inl (fault, is, stop)) =
-    let s = stop.so_far in
-    let done : List ℕ = spellings s.frames ++ s.rest in
-    let none = no_rest (start_place stamp LIMIT) stop.place left stop.mid stop.found s stop.reading in (
-      done ++ stop.octets,
-      Consumes-trans left stop.mid left' done stop.octets s.consumed stop.consumed,
-      record {
-        frames = s.frames;
-        rest = stop.octets;
-        whole = ap (λ l. (spellings s.frames ++ l) ++ stop.octets) none ∙ ap (λ l. l ++ stop.octets) (append-nil (spellings s.frames));
-        are_frames = s.are_frames;
-        last = subst (λ o. IsLast o stop.octets) (sym is) (last_of_source fault stop.octets stop.left_over);
-        few = omega (arith, stop.within, s.offset, length-append done stop.octets);
-      },
-    )
-IsTaken-stopped stamp left left' a b outcome (inr (fault, is, stop)) =
+-- what was taken by a run that its writing stopped
+IsTaken-write : (fault : WriteFault) (stamp : Stamp) (left left' : Option (List ℕ)) (a b : Outputs) → StopsAtWriting (start_place stamp LIMIT) left left' a b fault
+    → (taken : List ℕ) × Consumes left left' taken × IsTaken stamp (write_outcome fault) taken
+IsTaken-write write.Write stamp left left' a b stop =
     let s = stop.so_far in (
       spellings s.frames ++ s.rest,
       s.consumed,
@@ -206,20 +223,30 @@ IsTaken-stopped stamp left left' a b outcome (inr (fault, is, stop)) =
         rest = s.rest;
         whole = refl;
         are_frames = s.are_frames;
-        last = subst (λ o. IsLast o s.rest) (sym is) (last_of_write fault s.rest (rest_so_far (start_place stamp LIMIT) stop.place left left' stop.found s));
+        last = rest_so_far (start_place stamp LIMIT) stop.place left left' stop.found s;
         few = omega (arith, stop.within, s.offset);
       },
     )
+IsTaken-write write.Memory stamp left left' a b (stop, last) = IsTaken-unwritten stamp left left' outcome.Memory a b stop last
+
+-- what was taken by a run that stopped
+pub IsTaken-stopped : (stamp : Stamp) (left left' : Option (List ℕ)) (a b : Outputs) (outcome : Outcome) → Ends (start_place stamp LIMIT) left left' a b (Err outcome)
+    → (taken : List ℕ) × Consumes left left' taken × IsTaken stamp outcome taken
+IsTaken-stopped stamp left left' a b outcome (inl (fault, is, at)) =
+    IsTaken-unwritten stamp left left' outcome a b at.stop (subst (λ o. IsLast o at.stop.octets) (sym is) (last_of_source fault at.stop.octets at.left_over))
+IsTaken-stopped stamp left left' a b outcome (inr (fault, is, stop)) =
+    subst (λ o. (taken : List ℕ) × Consumes left left' taken × IsTaken stamp o taken) (sym is) (IsTaken-write fault stamp left left' a b stop)
 
 -- what was taken by a run whose input was too long
 pub length-stopped : (stamp : Stamp) (left left' : Option (List ℕ)) (a b : Outputs) (how : Outcome) → Ends (start_place stamp LIMIT) left left' a b (Err how) → how ≡ outcome.InputTooLong
     → (taken after : List ℕ) → Took left left' taken after → length taken ≡ LIMIT
-length-stopped stamp left left' a b how (inl (fault, is, stop)) too_long taken after took =
+length-stopped stamp left left' a b how (inl (fault, is, at)) too_long taken after took =
+    let stop = at.stop in
     let s = stop.so_far in
-    let done : List ℕ = spellings s.frames ++ s.rest in
-    let same = same_taken left left' (done ++ stop.octets) taken after (Consumes-trans left stop.mid left' done stop.octets s.consumed stop.consumed) took in
-    let full = by_fault fault (stop.place.offset + length stop.octets) (sym is ∙ too_long) stop.full in
-    omega (arith, ap length same, full, s.offset, length-append done stop.octets)
+    let p : Place = start_place stamp LIMIT in
+    let same = same_taken left left' (spellings s.frames ++ stop.octets) taken after (Consumes-unwritten p left left' a b stop) took in
+    let full = by_fault fault (stop.place.offset + length stop.octets) (sym is ∙ too_long) at.full in
+    omega (arith, ap length same, full, s.offset, ap length (only_frames p left left' a b stop), length-append (spellings s.frames) stop.octets)
   where
     by_fault : (fault : SourceFault) (n : ℕ) → source_outcome fault ≡ outcome.InputTooLong → Stops fault n LIMIT → n ≡ LIMIT
     by_fault source.Read n e stops = cc

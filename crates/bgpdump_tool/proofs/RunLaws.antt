@@ -1,5 +1,5 @@
 -- A run goes on.
-use Rattle.std.proofs.Common.{◌≡◌, ℕ, ◌≤◌, Result, Ok, Err, arith, append-nil, Bool, true, false, List, [], ◌∷◌, ◌++◌, ◌||◌, Option, sym, ap, ◌∙◌, refl, subst}
+use Rattle.std.proofs.Common.{◌≡◌, inl, inr, ℕ, ◌+◌, ◌≤◌, length, Result, Ok, Err, arith, append-nil, Bool, true, false, List, [], ◌∷◌, ◌++◌, ◌||◌, Option, sym, ap, ◌∙◌, refl, subst}
 use Rattle.std.proofs.KnownBytes.{Appends-nil}
 use Rattle.mrt_wire.specs.declared.next.Next.{Next}
 use Rattle.std.specs.Io.KnownBytes.{Consumes}
@@ -13,9 +13,11 @@ use Rattle.mrt_wire.specs.Place.{Place}
 use Rattle.mrt_wire.specs.Next.{answer_findings, Nexts}
 use Rattle.mrt_wire.specs.SoFar.{SoFar, RestSoFar, is_nothing}
 use Rattle.mrt_wire.proofs.SoFarLaws.{SoFar-start, SoFar-answer, ends_with_none, Promises}
-use Rattle.bgpdump_tool.specs.Run.{Outputs, Writes, WritesFronts}
-use Rattle.bgpdump_tool.specs.Writing.{is_any_bad}
-use Rattle.bgpdump_tool.specs.Going.{Going, StopsAtSource, StopsAtWriting}
+use Rattle.bgpdump_tool.specs.declared.fault.WriteFault.{WriteFault}
+use Rattle.bgpdump_tool.specs.declared.fault.WriteFault.TheVariants.{Write, Memory}
+use Rattle.bgpdump_tool.specs.Run.{Outputs, Writes}
+use Rattle.bgpdump_tool.specs.Writing.{PutsFound, is_any_bad}
+use Rattle.bgpdump_tool.specs.Going.{Going, StopsUnwritten, StopsAtSource, StopsAtWriting}
 use Rattle.bgpdump_tool.proofs.WritingLaws.{Writes-append, WritesFronts-behind}
 
 is_any_bad-append : (found more : List Finding) → is_any_bad (found ++ more) ≡ (is_any_bad found || is_any_bad more)
@@ -60,6 +62,21 @@ Going-end p q q' left left' left'' a b reported answer g promised none within =
     none_told [] e = refl
     none_told (f ∷ found) e = cc
 
+-- octets more were taken, of which nothing is written
+abbrev StopsUnwritten-behind : (p q : Place) (left left' left'' : Option (List ℕ)) (a b : Outputs) (reported : Bool) (octets : List ℕ) → Going p q left left' a b reported → q.phase ≡ Reading → Consumes left' left'' octets
+    → q.offset + length octets ≤ p.limit → StopsUnwritten p left left'' a b
+StopsUnwritten-behind p q left left' left'' a b reported octets g reading taken within = record {
+  place = q;
+  mid = left';
+  found = g.found;
+  so_far = g.so_far;
+  reading = reading;
+  octets = octets;
+  consumed = taken;
+  within = within;
+  written = g.written;
+}
+
 -- the source stops the run
 pub Stops-source : (p q q' : Place) (left left' left'' : Option (List ℕ)) (a b : Outputs) (reported : Bool) (fault : SourceFault) → Going p q left left' a b reported
     → (q.phase ≡ Reading → (octets : List ℕ) × Consumes left' left'' octets × Nexts q q' left'' octets (Err fault)) → (q.phase ≡ Ended → ◌≡◌ {A = Result Next SourceFault} (Err fault) (Ok next.End)) → q'.offset ≤ q'.limit
@@ -68,17 +85,9 @@ Stops-source p q q' left left' left'' a b reported fault g promised ended within
   where
     at : q.phase ≡ Reading → (octets : List ℕ) × Consumes left' left'' octets × Nexts q q' left'' octets (Err fault) → StopsAtSource p left left'' a b fault
     at is (octets, taken, (left_over, stops, place)) = record {
-      place = q;
-      mid = left';
-      found = g.found;
-      so_far = g.so_far;
-      reading = is;
-      octets = octets;
-      consumed = taken;
+      stop = StopsUnwritten-behind p q left left' left'' a b reported octets g is taken (omega (arith, within, ap (λ x. x.offset) place, ap (λ x. x.limit) place, g.so_far.limit));
       left_over = left_over;
-      within = omega (arith, within, ap (λ x. x.offset) place, ap (λ x. x.limit) place, g.so_far.limit);
       full = subst (λ n. Stops fault n p.limit) (ap (λ x. x.offset) place) (subst (λ n. Stops fault q'.offset n) g.so_far.limit stops);
-      written = g.written;
     }
 
     by_phase : (phase : Phase) → q.phase ≡ phase → RestSoFar phase left' g.so_far.rest → StopsAtSource p left left'' a b fault
@@ -89,10 +98,10 @@ Stops-source p q q' left left' left'' a b reported fault g promised ended within
         clash e = cc
     by_phase Spent is rest = absurd rest
 
--- the writing stops the run
-pub Stops-writing : (p q q' : Place) (left left' left'' : Option (List ℕ)) (a b c : Outputs) (reported : Bool) (answer : Next) → Going p q left left' a b reported → Promises q q' left' left'' answer
-    → WritesFronts (answer_findings answer) b c → q'.offset ≤ q'.limit → StopsAtWriting p left left'' a c
-Stops-writing p q q' left left' left'' a b c reported answer g promised fronts within =
+-- the writing stops the run, at an answer that tells something
+pub Stops-writing : (p q q' : Place) (left left' left'' : Option (List ℕ)) (a b c : Outputs) (reported : Bool) (answer : Next) (fault : WriteFault) → Going p q left left' a b reported → Promises q q' left' left'' answer
+    → is_nothing (answer_findings answer) ≡ false → PutsFound {A = Bool} (answer_findings answer) b c (Err fault) → q'.offset ≤ q'.limit → StopsAtWriting p left left'' a c fault
+Stops-writing p q q' left left' left'' a b c reported answer Write g promised some fronts within =
     let so_far = SoFar-answer p q q' left left' left'' g.found answer g.so_far promised in
     record {
       place = q';
@@ -101,3 +110,22 @@ Stops-writing p q q' left left' left'' a b c reported answer g promised fronts w
       within = omega (arith, within, so_far.limit);
       fronts = WritesFronts-behind g.found (answer_findings answer) a b c g.written fronts;
     }
+Stops-writing p q q' left left' left'' a b c reported answer Memory g promised some same within = subst (λ x. StopsAtWriting p left left'' a x Memory) (sym same) (by_phase q.phase refl g.so_far.rest_is)
+  where
+    by_answer : q.phase ≡ Reading → (octets : List ℕ) × Consumes left' left'' octets × Nexts q q' left'' octets (Ok answer) → StopsAtWriting p left left'' a b Memory
+    by_answer is (octets, taken, inl (frame, at)) = (
+      StopsUnwritten-behind p q left left' left'' a b reported octets g is taken (omega (arith, within, ap length at.whole, ap (λ x. x.offset) at.place, ap (λ x. x.limit) at.place, g.so_far.limit)),
+      inr (frame.mrt, at.is_record, at.whole),
+    )
+    by_answer is (octets, taken, inr at) = (
+      StopsUnwritten-behind p q left left' left'' a b reported octets g is taken (omega (arith, within, ap (λ x. x.offset) at.place, ap (λ x. x.limit) at.place, g.so_far.limit)),
+      inl at.ends.rest,
+    )
+
+    by_phase : (phase : Phase) → q.phase ≡ phase → RestSoFar phase left' g.so_far.rest → StopsAtWriting p left left'' a b Memory
+    by_phase Reading is rest = by_answer is (promised.0 is)
+    by_phase Ended is rest = absurd (none (sym (ap is_nothing (promised.1 is).0) ∙ some))
+      where
+        none : true ≡ false → ⊥
+        none e = cc
+    by_phase Spent is rest = absurd rest

@@ -1,5 +1,5 @@
 -- What lines and reports do to two outputs.
-use Rattle.std.proofs.Common.{◌≡◌, ℕ, Bool, true, List, [], ◌∷◌, ◌++◌, ◌||◌, Option, sym, ap, ◌∙◌, refl, subst, append-nil}
+use Rattle.std.proofs.Common.{ℕ, Bool, List, [], ◌∷◌, ◌++◌, Option, Err, sym, ap, ◌∙◌, refl, subst, append-nil}
 use Rattle.std.proofs.lemmas.List.{append_assoc}
 use Rattle.std.proofs.lemmas.Grind.{flat_map-append}
 use Rattle.std.specs.Io.KnownBytes.{Appends}
@@ -7,10 +7,13 @@ use Rattle.std.proofs.KnownBytes.{Appends-nil, Appends-trans}
 use Rattle.mrt_wire.specs.declared.event.Event.{Event}
 use Rattle.mrt_wire.specs.declared.fault.RecordFault.{RecordFault}
 use Rattle.mrt_wire.specs.Results.{Finding, Found, Bad}
+use Rattle.bgpdump_tool.specs.declared.fault.WriteFault.{WriteFault}
+use Rattle.bgpdump_tool.specs.declared.fault.WriteFault.TheVariants.{Write, Memory}
 use Rattle.bgpdump_tool.specs.Device.{AppendsFront}
 use Rattle.bgpdump_tool.specs.Lines.{event_lines}
 use Rattle.bgpdump_tool.specs.Reports.{fault_report, finding_lines, finding_report, dump, reports}
 use Rattle.bgpdump_tool.specs.Run.{Outputs, Writes, WritesFronts}
+use Rattle.bgpdump_tool.specs.Writing.{Puts, PutsFound}
 
 -- an output that was left alone has a front of any text
 pub AppendsFront-none : (known : Option (List ℕ)) (text : List ℕ) → AppendsFront known known text
@@ -20,13 +23,17 @@ pub Writes-report : (out err err' : Option (List ℕ)) (fault : RecordFault) →
     → Writes (Bad fault ∷ []) (record { out = out; err = err }) (record { out = out; err = err' })
 Writes-report out err err' fault appended = (Appends-nil out, subst (Appends err err') (sym (append-nil (fault_report fault))) appended)
 
-pub WritesFronts-lines : (out out' err : Option (List ℕ)) (event : Event) → AppendsFront out out' (event_lines event)
-    → WritesFronts (Found event ∷ []) (record { out = out; err = err }) (record { out = out'; err = err })
-WritesFronts-lines out out' err event put = (subst (AppendsFront out out') (sym (append-nil (event_lines event))) put, AppendsFront-none err [])
+-- the lines of an event that a fault stopped
+pub PutsFound-lines : (out out' err : Option (List ℕ)) (event : Event) (fault : WriteFault) → Puts {A = Unit {0}} out out' (event_lines event) (Err fault)
+    → PutsFound {A = Bool} (Found event ∷ []) (record { out = out; err = err }) (record { out = out'; err = err }) (Err fault)
+PutsFound-lines out out' err event Write put = (subst (AppendsFront out out') (sym (append-nil (event_lines event))) put, AppendsFront-none err [])
+PutsFound-lines out out' err event Memory same = ap (λ known. record { out = known; err = err }) same
 
-pub WritesFronts-report : (out err err' : Option (List ℕ)) (fault : RecordFault) → AppendsFront err err' (fault_report fault)
-    → WritesFronts (Bad fault ∷ []) (record { out = out; err = err }) (record { out = out; err = err' })
-WritesFronts-report out err err' fault put = (AppendsFront-none out [], subst (AppendsFront err err') (sym (append-nil (fault_report fault))) put)
+-- the report of a record's fault that a fault of the writing stopped
+pub PutsFound-report : (out err err' : Option (List ℕ)) (bad : RecordFault) (fault : WriteFault) → Puts {A = Unit {0}} err err' (fault_report bad) (Err fault)
+    → PutsFound {A = Bool} (Bad bad ∷ []) (record { out = out; err = err }) (record { out = out; err = err' }) (Err fault)
+PutsFound-report out err err' bad Write put = (AppendsFront-none out [], subst (AppendsFront err err') (sym (append-nil (fault_report bad))) put)
+PutsFound-report out err err' bad Memory same = ap (λ known. record { out = out; err = known }) same
 
 -- texts that were written one behind the other
 pub Writes-append : (found more : List Finding) (a b c : Outputs) → Writes found a b → Writes more b c → Writes (found ++ more) a c

@@ -1,5 +1,5 @@
 -- What a run has taken and written so far, and where it stopped.
-use Rattle.std.specs.Prelude.{◌≡◌, ℕ, Bool, true, false, List, [], ◌∷◌, ◌++◌, ◌⊎◌, ◌+◌, ◌≤◌, length, Option, Result, Ok, Err}
+use Rattle.std.specs.Prelude.{◌≡◌, ℕ, Bool, List, ◌⊎◌, ◌+◌, ◌≤◌, length, Option, Result, Ok, Err}
 use Rattle.std.specs.Io.KnownBytes.{Consumes}
 use Rattle.mrt_wire.specs.declared.fault.SourceFault.{SourceFault}
 use Rattle.mrt_wire.specs.declared.next.Phase.TheVariants.{Reading, Ended}
@@ -9,9 +9,11 @@ use Rattle.mrt_wire.specs.Place.{Place}
 use Rattle.mrt_wire.specs.Next.{IsLeft}
 use Rattle.mrt_wire.specs.SoFar.{SoFar}
 use Rattle.bgpdump_tool.specs.declared.fault.WriteFault.{WriteFault}
+use Rattle.bgpdump_tool.specs.declared.fault.WriteFault.TheVariants.{Write, Memory}
 use Rattle.bgpdump_tool.specs.declared.outcome.Outcome.{Outcome}
+use Rattle.bgpdump_tool.specs.declared.outcome.Outcome.TheVariants as outcome
 use Rattle.bgpdump_tool.specs.Ending.{source_outcome, write_outcome}
-use Rattle.bgpdump_tool.specs.Run.{Outputs, Writes, WritesFronts}
+use Rattle.bgpdump_tool.specs.Run.{Outputs, Writes, WritesFronts, IsLast}
 use Rattle.bgpdump_tool.specs.Writing.{is_any_bad}
 
 -- all that was found was written
@@ -22,8 +24,8 @@ pub record Going (p q : Place) (left left' : Option (List ℕ)) (old new : Outpu
   pub reported_is : reported ≡ is_any_bad found
   pub within : q.offset ≤ p.limit
 
--- the source stopped, behind octets that it left
-pub record StopsAtSource (p : Place) (left left' : Option (List ℕ)) (old new : Outputs) (fault : SourceFault) : Type 0 where
+-- all that was found was written, and nothing of octets that were taken behind it
+pub record StopsUnwritten (p : Place) (left left' : Option (List ℕ)) (old new : Outputs) : Type 0 where
   pub place : Place
   pub mid : Option (List ℕ)
   pub found : List Finding
@@ -31,22 +33,31 @@ pub record StopsAtSource (p : Place) (left left' : Option (List ℕ)) (old new :
   pub reading : place.phase ≡ Reading
   pub octets : List ℕ
   pub consumed : Consumes mid left' octets
-  pub left_over : IsLeft fault octets
   pub within : place.offset + length octets ≤ p.limit
-  pub full : Stops fault (place.offset + length octets) p.limit
   pub written : Writes found old new
 
--- the writing stopped
-pub record StopsAtWriting (p : Place) (left left' : Option (List ℕ)) (old new : Outputs) : Type 0 where
+-- the source stopped, behind octets that it left
+pub record StopsAtSource (p : Place) (left left' : Option (List ℕ)) (old new : Outputs) (fault : SourceFault) : Type 0 where
+  pub stop : StopsUnwritten p left left' old new
+  pub left_over : IsLeft fault stop.octets
+  pub full : Stops fault (stop.place.offset + length stop.octets) p.limit
+
+-- an output failed, behind fronts of what was found
+pub record StopsAtOutput (p : Place) (left left' : Option (List ℕ)) (old new : Outputs) : Type 0 where
   pub place : Place
   pub found : List Finding
   pub so_far : SoFar p place left left' found
   pub within : place.offset ≤ p.limit
   pub fronts : WritesFronts found old new
 
+-- the writing stopped at this fault; for want of memory, behind a record or a rest of which nothing is written
+abbrev pub StopsAtWriting : Place → Option (List ℕ) → Option (List ℕ) → Outputs → Outputs → WriteFault → Type 0
+StopsAtWriting p left left' old new Write = StopsAtOutput p left left' old new
+StopsAtWriting p left left' old new Memory = (stop : StopsUnwritten p left left' old new) × IsLast outcome.Memory stop.octets
+
 -- how a run ended before its outputs were finished
 abbrev pub Ends : Place → Option (List ℕ) → Option (List ℕ) → Outputs → Outputs → Result Bool Outcome → Type 0
 Ends p left left' old new (Ok reported) = (q : Place) × (q.phase ≡ Ended) × Going p q left left' old new reported
 Ends p left left' old new (Err outcome) =
     ((fault : SourceFault) × (outcome ≡ source_outcome fault) × StopsAtSource p left left' old new fault)
-    ⊎ ((fault : WriteFault) × (outcome ≡ write_outcome fault) × StopsAtWriting p left left' old new)
+    ⊎ ((fault : WriteFault) × (outcome ≡ write_outcome fault) × StopsAtWriting p left left' old new fault)

@@ -1,5 +1,5 @@
 -- What a whole run takes from its input and writes to its outputs, where these tell their octets.
-use Rattle.std.specs.Prelude.{◌≡◌, ◌≢◌, ◌⊎◌, ℕ, List, [], ◌++◌, Option, Some, None, ◌≤◌, length}
+use Rattle.std.specs.Prelude.{◌≡◌, ◌≢◌, ◌⊎◌, ℕ, List, [], ◌++◌, Option, None, ◌≤◌, length}
 use Rattle.std.specs.Io.KnownBytes.{Appends}
 use Rattle.mrt_wire.specs.declared.event.Stamp.{Stamp}
 use Rattle.mrt_wire.specs.Record.{Record, spelling, IsRecord}
@@ -8,7 +8,7 @@ use Rattle.mrt_wire.specs.Splitting.{AreFrames, Splits, spellings}
 use Rattle.mrt_wire.specs.declared.fault.RecordKind.TheVariants.{CutRecord}
 use Rattle.mrt_wire.specs.Results.{Finding, rest_kind}
 use Rattle.mrt_wire.specs.Taking.{IsRest, IsBegun}
-use Rattle.mrt_wire.specs.Place.{Place, start_place, results}
+use Rattle.mrt_wire.specs.Place.{start_place, results}
 use Rattle.mrt_wire.specs.Next.{Took}
 use Rattle.bgpdump_tool.specs.declared.dump.TheConstants.{LIMIT}
 use Rattle.bgpdump_tool.specs.declared.outcome.Outcome.{Outcome}
@@ -57,14 +57,14 @@ EndedByInput WriteFault = ⊥
 EndedByInput ScriptTooLong = ⊥
 EndedByInput Memory = ⊥
 
--- the end was seen by a run that ended so and took this behind the frames: where it read all, unless a header states too much; where it stopped at its writing, if a record is cut
+-- the end was seen by a run that ended so and took this behind the frames: where it read all, unless a header states too much; where an output failed, if a record is cut
 abbrev pub SawEnd : Outcome → List ℕ → Type 0
 SawEnd Done rest = rest_kind rest ≡ CutRecord
 SawEnd Reported rest = rest_kind rest ≡ CutRecord
 SawEnd WriteFault rest = (rest_kind rest ≡ CutRecord) × (rest ≢ [])
-SawEnd Memory rest = (rest_kind rest ≡ CutRecord) × (rest ≢ [])
 SawEnd ReadFault rest = ⊥
 SawEnd InputTooLong rest = ⊥
+SawEnd Memory rest = ⊥
 SawEnd ScriptTooLong rest = ⊥
 
 -- octets that the input may hold on the whole: those taken, and any others behind them, but none where the end was seen
@@ -76,7 +76,7 @@ pub record MayHold (stamp : Stamp) (outcome : Outcome) (old new : Option (List �
   pub whole : octets ≡ taken ++ more
   pub follows : (frames : List Frame) (rest : List ℕ) → Splits stamp None taken frames rest → SawEnd outcome rest → after ≡ [] → more ≡ []
 
--- octets taken behind the frames: a record has begun in them, where the input ended the run; or they are the rest; or for want of memory a whole record wasn't judged
+-- octets taken behind the frames: a record has begun in them, where the input ended the run; or they are the rest; or for want of memory a whole record of which nothing is written
 abbrev pub IsLast : Outcome → List ℕ → Type 0
 IsLast Done rest = IsRest rest
 IsLast Reported rest = IsRest rest

@@ -1,4 +1,4 @@
-use Rattle.std.proofs.Common.{◌≡◌, ◌||◌, ◌-◌, Ok, Err, rules, arith, ap, refl, inl, inr}
+use Rattle.std.proofs.Common.{rules, arith, ap, refl, inl, inr}
 use Rattle.std.proofs.lemmas.Result.{err_from_is_err_and}
 use Rattle.mrt_wire.specs.Place.{start_place}
 use Rattle.mrt_wire.proofs.SoFarLaws.{Promises, told_by, SoFar-answer, goes_on_with_some}
@@ -39,7 +39,7 @@ returns-in_err-reported-clause-ends g c =
       refl,
       Stops-writing (start_place c.args.stamp LIMIT) c.steps.source c.next.new.self _ (g.I.Input.left c.steps.input) _
           (record { out = g.O.Output.written c.args.out.now; err = g.E.Output.written c.args.err.now }) (record { out = g.O.Output.written c.steps.out; err = g.E.Output.written c.steps.err }) (record { out = g.O.Output.written c.write_next.new.out; err = g.E.Output.written c.write_next.new.err })
-          c.steps.reported c.in_ok-next.next c.steps.invariant.going promised c.in_err-reported.ensures.found c.next.ensures.within,
+          c.steps.reported c.in_ok-next.next c.in_err-reported.field-0.0 c.steps.invariant.going promised (search rules) c.in_err-reported.ensures.found c.next.ensures.within,
     ))
 
 pub steps-preserved : goal.steps-preserved
