@@ -1,6 +1,12 @@
 mod devices;
 mod events;
+mod kinds;
+mod large;
+mod messages;
+mod sessions;
+mod shown;
 mod sources;
+mod tables;
 
 use std::alloc::{AllocError, Global};
 
