@@ -4,7 +4,7 @@ PREFIX ?= /usr/local
 
 SOURCES := crates.txt $(shell find crates -name out -prune -o -type f -print)
 
-.PHONY: all demo test install clean
+.PHONY: all demo test bench install clean
 
 all: bin/bgpdump
 
@@ -14,12 +14,16 @@ bin/bgpdump: $(SOURCES)
 	mkdir -p bin
 	cp crates/bgpdump/out/bgpdump $@
 
-# The sample holds records that are reported, so the status is 1.
+# It fails where the program writes anything else than is stored beside an example.
 demo: bin/bgpdump
-	bin/bgpdump -m examples/session-changes.mrt || test $$? -eq 1
+	examples/demo.sh bin/bgpdump
 
 test:
 	rt ci
+
+# FILE=.. measures over that file alone.
+bench: bin/bgpdump
+	bench/measure.py bin/bgpdump $(FILE)
 
 install: bin/bgpdump
 	mkdir -p "$(DESTDIR)$(PREFIX)/bin"

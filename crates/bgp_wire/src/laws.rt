@@ -3,7 +3,7 @@
 ghost use Rattle.std.specs.Prelude.{◌≡◌, ℕ, List, [], ◌∷◌, codes};
 ghost use Rattle.ip_prefix.specs.declared.addr.Family.{Family};
 ghost use Rattle.bgp_wire.specs.declared.as4.TheConstants.{AS_TRANS};
-ghost use Rattle.bgp_wire.specs.declared.framing.TheConstants.{EXTENDED_LENGTH, ORIGIN, AS_PATH, NEXT_HOP, MULTI_EXIT_DISC, LOCAL_PREF, ATOMIC_AGGREGATE, AGGREGATOR, COMMUNITIES, MP_REACH_NLRI, MP_UNREACH_NLRI, AS4_PATH, AS4_AGGREGATOR};
+ghost use Rattle.bgp_wire.specs.declared.framing.TheConstants.{KINDS, EXTENDED_LENGTH, ORIGIN, AS_PATH, NEXT_HOP, MULTI_EXIT_DISC, LOCAL_PREF, ATOMIC_AGGREGATE, AGGREGATOR, COMMUNITIES, MP_REACH_NLRI, MP_UNREACH_NLRI, AS4_PATH, AS4_AGGREGATOR};
 ghost use Rattle.bgp_wire.specs.declared.message.TheConstants.{UPDATE, HEADER_SIZE, MARKER_SIZE};
 ghost use Rattle.bgp_wire.specs.declared.next_hop.TheConstants.{FAMILY_SIZE, LINK_LOCAL_SIZE};
 ghost use Rattle.bgp_wire.specs.declared.path_reader.TheConstants.{AS_SET, AS_SEQUENCE, AS_CONFED_SEQUENCE, AS_CONFED_SET};
@@ -63,11 +63,12 @@ pub fn one_message()
         SpellsUpdate width update body → SpellsUpdate width other body → update ≡ other }
 {}
 
-/// The numbers that the definitions name: of attributes and segments (RFC 4271, section 4.3; RFC
-/// 5065, section 3; RFC 4760; RFC 6793), of messages (RFC 4271, section 4.1), of families (RFC 4760)
-/// and of communities (RFC 1997).
+/// The numbers that the definitions name: of attributes and segments (RFC 4271, section 4.3;
+/// RFC 5065, section 3; RFC 4760; RFC 6793), of messages (RFC 4271, section 4.1), of families
+/// (RFC 4760) and of communities (RFC 1997).
 pub fn attribute_numbers()
     ensures extended_length { EXTENDED_LENGTH ≡ 16 }
+    ensures kinds { KINDS ≡ 19 }
     ensures types { (ORIGIN ≡ 1) × (AS_PATH ≡ 2) × (NEXT_HOP ≡ 3) × (MULTI_EXIT_DISC ≡ 4)
         × (LOCAL_PREF ≡ 5) × (ATOMIC_AGGREGATE ≡ 6) × (AGGREGATOR ≡ 7) × (COMMUNITIES ≡ 8) }
     ensures reachability { (MP_REACH_NLRI ≡ 14) × (MP_UNREACH_NLRI ≡ 15) }

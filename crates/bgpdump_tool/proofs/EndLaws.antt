@@ -18,7 +18,7 @@ use Rattle.mrt_wire.specs.Next.{Took, IsLeft}
 use Rattle.mrt_wire.specs.SoFar.{SoFar, RestSoFar}
 use Rattle.mrt_wire.specs.Device.{Stops}
 use Rattle.mrt_wire.proofs.FirstLaws.{same_taken}
-use Rattle.mrt_wire.proofs.RecordLaws.{BeginsWithNone-short}
+use Rattle.mrt_wire.proofs.RecordLaws.{BeginsWithNoRecord-short}
 use Rattle.mrt_wire.proofs.SplitLaws.{frames_all}
 use Rattle.mrt_wire.proofs.SoFarLaws.{FirstSoFar, first_so_far, front_so_far, no_rest}
 use Rattle.bgpdump_tool.specs.declared.fault.WriteFault.{WriteFault}
@@ -52,7 +52,7 @@ rest_so_far : (p q : Place) (left left' : Option (List ℕ)) (found : List Findi
 rest_so_far p q left left' found s = by_phase q.phase s.rest_is
   where
     by_phase : (phase : Phase) → RestSoFar phase left' s.rest → IsRest s.rest
-    by_phase Reading none = subst IsRest (sym none) (record { none = BeginsWithNone-short [] (omega arith); stops = inl refl })
+    by_phase Reading none = subst IsRest (sym none) (record { none = BeginsWithNoRecord-short [] (omega arith); stops = inl refl })
     by_phase Ended ends = ends.rest
     by_phase Spent none = absurd none
 

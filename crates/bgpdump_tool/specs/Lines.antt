@@ -1,10 +1,14 @@
 -- The lines of events, one for each item.
-use Rattle.std.specs.Prelude.{ℕ, ◌-◌, List, [], ◌∷◌, ◌++◌, length, replicate, decimal, codes}
+use Rattle.std.specs.Prelude.{ℕ, ◌-◌, if◌then◌else◌, Bool, Option, Some, None, List, [], ◌∷◌, ◌++◌, length, replicate, decimal, codes}
 use Rattle.std.specs.Option.{unwrap_or}
 use Rattle.std.specs.List.{flat_map}
-use Rattle.ip_prefix.specs.Network.{Network}
+use Rattle.ip_prefix.specs.Address.{Address}
 use Rattle.ip_prefix.specs.Text.{address_text, network_text}
-use Rattle.mrt_wire.specs.declared.peer.Peer.{Peer}
+use Rattle.bgp_wire.specs.declared.attrs.Origin.{Origin}
+use Rattle.bgp_wire.specs.declared.attrs.Origin.TheVariants.{Igp, Egp, Incomplete}
+use Rattle.bgp_wire.specs.declared.attrs.Aggregator.{Aggregator}
+use Rattle.bgp_wire.specs.declared.attrs.Attrs.{Attrs}
+use Rattle.bgp_wire.specs.Text.{path_text, communities_text}
 use Rattle.mrt_wire.specs.declared.event.Route.{Route}
 use Rattle.mrt_wire.specs.declared.event.Time.{Time}
 use Rattle.mrt_wire.specs.declared.event.Tag.{Tag}
@@ -25,6 +29,9 @@ dot = 46
 
 abbrev pub zero_digit : ℕ
 zero_digit = 48
+
+abbrev pub space : ℕ
+space = 32
 
 -- the fields, each ended by a bar but the last, which a line feed ends
 abbrev pub line_of : List (List ℕ) → List ℕ
@@ -60,16 +67,43 @@ route_letter TableDump2 = codes "B"
 route_letter Bgp4mp = codes "A"
 route_letter Bgp4mpEt = codes "A"
 
--- a route's path, origin, next hop, preference, metric, communities, the word on its aggregate, its aggregator
--- and an empty field at the end; so far all are absent
-abbrev pub attribute_fields : List (List ℕ)
-attribute_fields = [] ∷ [] ∷ [] ∷ codes "0" ∷ codes "0" ∷ [] ∷ codes "NAG" ∷ [] ∷ [] ∷ []
+-- how a route came into BGP
+abbrev pub origin_text : Option Origin → List ℕ
+origin_text (Some Igp) = codes "IGP"
+origin_text (Some Egp) = codes "EGP"
+origin_text (Some Incomplete) = codes "INCOMPLETE"
+origin_text None = []
+
+-- the address of the next hop
+abbrev pub next_hop_text : Option Address → List ℕ
+next_hop_text (Some address) = address_text address
+next_hop_text None = []
+
+-- a preference or a metric: an absent one as 0
+abbrev pub number_or_zero : Option ℕ → List ℕ
+number_or_zero number = decimal (unwrap_or number 0)
+
+-- whether ATOMIC_AGGREGATE is there
+abbrev pub aggregate_word : Bool → List ℕ
+aggregate_word atomic = if atomic then codes "AG" else codes "NAG"
+
+-- who has formed an aggregate: the AS number, a space and the address
+abbrev pub aggregator_text : Option Aggregator → List ℕ
+aggregator_text (Some aggregator) = decimal aggregator.asn ++ space ∷ address_text aggregator.addr
+aggregator_text None = []
+
+-- the fields of a route's attributes, with an empty one at the end
+abbrev pub attribute_fields : Attrs → List (List ℕ)
+attribute_fields attrs =
+    path_text attrs.path ∷ origin_text attrs.origin ∷ next_hop_text attrs.next_hop
+    ∷ number_or_zero attrs.local_pref ∷ number_or_zero attrs.med ∷ communities_text attrs.communities
+    ∷ aggregate_word attrs.atomic ∷ aggregator_text attrs.aggregator ∷ [] ∷ []
 
 -- the line of what an item says
 abbrev pub item_line : Time → Tag → Saying → List ℕ
 item_line time tag (Announced peer network route) =
     line_of (word tag ∷ route_time_text time tag route ∷ route_letter tag
-    ∷ address_text peer.addr ∷ decimal peer.asn ∷ network_text network ∷ attribute_fields)
+    ∷ address_text peer.addr ∷ decimal peer.asn ∷ network_text network ∷ attribute_fields route.attrs)
 item_line time tag (Withdrawn peer network) =
     line_of (word tag ∷ time_text tag time ∷ codes "W"
     ∷ address_text peer.addr ∷ decimal peer.asn ∷ network_text network ∷ [])

@@ -4,6 +4,7 @@
 
 mod dump;
 mod fault;
+mod fields;
 mod laws;
 mod lines;
 mod outcome;
@@ -14,6 +15,7 @@ mod write;
 
 pub use dump::run_dump;
 pub use laws::run_numbers;
+pub use lines::put_lines;
 pub use outcome::Outcome;
 pub use output::{OutFault, Output, WriteOutput, put_all};
 pub use player::{

@@ -1,10 +1,12 @@
 //! The lines of events.
 
-ghost use Rattle.std.specs.Prelude.{◌≡◌, ◌∷◌, ◌++◌, ◌≤◌, [], OnOk, decimal, length};
-ghost use Rattle.ip_prefix.specs.Text.{address_text, network_text};
+ghost use Rattle.std.specs.Prelude.{◌≡◌, ◌∷◌, ◌++◌, ◌≤◌, [], OnOk, OnErr, decimal, length};
+ghost use Rattle.bgp_wire.specs.Text.{StillBegins};
 ghost use Rattle.mrt_wire.specs.Event.{Announced, Withdrawn, Changed, saying};
-ghost use Rattle.bgpdump_tool.specs.Lines.{bar, line_of, attribute_fields, word, micros_text, time_text, route_time_text, route_letter, item_line, event_lines};
+ghost use Rattle.bgpdump_tool.specs.Lines.{bar, word, micros_text, time_text, route_time_text};
+ghost use Rattle.bgpdump_tool.specs.Lines.{route_letter, item_line, event_lines};
 
+use crate::fields::{put_attributes, put_number, put_peer, put_prefix};
 use ip_prefix::{Prefix, put_decimal};
 use mrt_wire::{Event, Item, Peer, Route, Tag, Time};
 use std::alloc::AllocError;
@@ -12,38 +14,10 @@ use std::alloc::AllocError;
 /// How many digits the microseconds of a line have at least.
 const MICROS_DIGITS: usize = 6;
 
-/// Appends a bar and a number.
-fn put_number(number: u64, text: &mut Vec<u8>) -> Result<(), AllocError>
-    ensures { OnOk result (text.new.items ≡ text.old.items ++ (bar ∷ decimal number)) }
-{
-    text.push(b'|')?;
-    put_decimal(number, text)?;
-    Ok(())
-}
-
-/// Appends a bar, the peer's address, a bar, and its AS number.
-fn put_peer(peer: &Peer, text: &mut Vec<u8>) -> Result<(), AllocError>
-    ensures { OnOk result (text.new.items ≡
-        text.old.items ++ (bar ∷ address_text peer.now.addr ++ bar ∷ decimal peer.now.asn)) }
-{
-    text.push(b'|')?;
-    peer.addr.put_text(text)?;
-    put_number(u64::from(peer.asn), text)?;
-    Ok(())
-}
-
-/// Appends a bar and a prefix.
-fn put_prefix(prefix: &Prefix, text: &mut Vec<u8>) -> Result<(), AllocError>
-    ensures { OnOk result (text.new.items ≡ text.old.items ++ (bar ∷ network_text prefix.now)) }
-{
-    text.push(b'|')?;
-    prefix.put_text(text)?;
-    Ok(())
-}
-
 /// Appends the first field of a line.
 fn put_word(tag: Tag, text: &mut Vec<u8>) -> Result<(), AllocError>
-    ensures { OnOk result (text.new.items ≡ text.old.items ++ word tag) }
+    ensures appended { OnOk result (text.new.items ≡ text.old.items ++ word tag) }
+    ensures kept { OnErr result (StillBegins text.old.items text.new.items) }
 {
     match tag {
         Tag::TableDump2 => text.extend_from_slice(b"TABLE_DUMP2")?,
@@ -56,7 +30,8 @@ fn put_word(tag: Tag, text: &mut Vec<u8>) -> Result<(), AllocError>
 /// Appends microseconds, behind zeros where they have fewer digits than are printed. They are
 /// printed once more, to see how many digits they have.
 fn put_micros(micros: u32, text: &mut Vec<u8>) -> Result<(), AllocError>
-    ensures { OnOk result (text.new.items ≡ text.old.items ++ micros_text micros) }
+    ensures appended { OnOk result (text.new.items ≡ text.old.items ++ micros_text micros) }
+    ensures kept { OnErr result (StillBegins text.old.items text.new.items) }
 {
     let front = text.len();
     put_decimal(u64::from(micros), text)?;
@@ -69,7 +44,8 @@ fn put_micros(micros: u32, text: &mut Vec<u8>) -> Result<(), AllocError>
 
 /// Appends the time of a line.
 fn put_time(time: &Time, tag: Tag, text: &mut Vec<u8>) -> Result<(), AllocError>
-    ensures { OnOk result (text.new.items ≡ text.old.items ++ time_text tag time.now) }
+    ensures appended { OnOk result (text.new.items ≡ text.old.items ++ time_text tag time.now) }
+    ensures kept { OnErr result (StillBegins text.old.items text.new.items) }
 {
     put_decimal(u64::from(time.seconds), text)?;
     if let Tag::Bgp4mpEt = tag {
@@ -81,8 +57,9 @@ fn put_time(time: &Time, tag: Tag, text: &mut Vec<u8>) -> Result<(), AllocError>
 
 /// Appends the first two fields of a line: what kind of record it is from, and its time.
 fn put_head(time: &Time, tag: Tag, text: &mut Vec<u8>) -> Result<(), AllocError>
-    ensures { OnOk result (text.new.items ≡
+    ensures appended { OnOk result (text.new.items ≡
         text.old.items ++ (word tag ++ bar ∷ time_text tag time.now)) }
+    ensures kept { OnErr result (StillBegins text.old.items text.new.items) }
 {
     put_word(tag, text)?;
     text.push(b'|')?;
@@ -97,8 +74,9 @@ fn put_route_time(
     route: &Route,
     text: &mut Vec<u8>,
 ) -> Result<(), AllocError>
-    ensures { OnOk result (text.new.items ≡
+    ensures appended { OnOk result (text.new.items ≡
         text.old.items ++ route_time_text time.now tag route.now) }
+    ensures kept { OnErr result (StillBegins text.old.items text.new.items) }
 {
     match tag {
         Tag::TableDump2 => put_decimal(u64::from(route.time), text),
@@ -123,23 +101,15 @@ fn put_route_head(
     route: &Route,
     text: &mut Vec<u8>,
 ) -> Result<(), AllocError>
-    ensures { OnOk result (text.new.items ≡ text.old.items ++ (word tag ++
+    ensures appended { OnOk result (text.new.items ≡ text.old.items ++ (word tag ++
         bar ∷ (route_time_text time.now tag route.now ++ bar ∷ route_letter tag))) }
+    ensures kept { OnErr result (StillBegins text.old.items text.new.items) }
 {
     put_word(tag, text)?;
     text.push(b'|')?;
     put_route_time(time, tag, route, text)?;
     text.push(b'|')?;
     text.push(letter_of(tag))?;
-    Ok(())
-}
-
-/// Appends what stands behind the prefix in the line of a route. So far a route has a time alone,
-/// and all its attributes are absent.
-fn put_attributes(text: &mut Vec<u8>) -> Result<(), AllocError>
-    ensures { OnOk result (text.new.items ≡ text.old.items ++ (bar ∷ line_of attribute_fields)) }
-{
-    text.extend_from_slice(b"||||0|0||NAG||\n")?;
     Ok(())
 }
 
@@ -152,14 +122,14 @@ fn put_route(
     route: &Route,
     text: &mut Vec<u8>,
 ) -> Result<(), AllocError>
-    ensures { OnOk result (text.new.items ≡ text.old.items ++
+    ensures appended { OnOk result (text.new.items ≡ text.old.items ++
         item_line time.now tag (Announced peer.now prefix.now route.now)) }
+    ensures kept { OnErr result (StillBegins text.old.items text.new.items) }
 {
     put_route_head(time, tag, route, text)?;
     put_peer(peer, text)?;
     put_prefix(prefix, text)?;
-    put_attributes(text)?;
-    Ok(())
+    put_attributes(&route.attrs, text)
 }
 
 /// Appends the line of a withdrawal.
@@ -170,8 +140,9 @@ fn put_withdrawal(
     prefix: &Prefix,
     text: &mut Vec<u8>,
 ) -> Result<(), AllocError>
-    ensures { OnOk result (text.new.items ≡ text.old.items ++
+    ensures appended { OnOk result (text.new.items ≡ text.old.items ++
         item_line time.now tag (Withdrawn peer.now prefix.now)) }
+    ensures kept { OnErr result (StillBegins text.old.items text.new.items) }
 {
     put_head(time, tag, text)?;
     text.extend_from_slice(b"|W")?;
@@ -190,8 +161,9 @@ fn put_change(
     new: u16,
     text: &mut Vec<u8>,
 ) -> Result<(), AllocError>
-    ensures { OnOk result (text.new.items ≡ text.old.items ++
+    ensures appended { OnOk result (text.new.items ≡ text.old.items ++
         item_line time.now tag (Changed peer.now old new)) }
+    ensures kept { OnErr result (StillBegins text.old.items text.new.items) }
 {
     put_head(time, tag, text)?;
     text.extend_from_slice(b"|STATE")?;
@@ -202,10 +174,11 @@ fn put_change(
     Ok(())
 }
 
-/// Appends the line of an item. Refused, it may have appended a part.
+/// Appends the line of an item.
 fn put_item(time: &Time, tag: Tag, item: &Item, text: &mut Vec<u8>) -> Result<(), AllocError>
-    ensures { OnOk result (text.new.items ≡
+    ensures appended { OnOk result (text.new.items ≡
         text.old.items ++ item_line time.now tag (saying item.now)) }
+    ensures kept { OnErr result (StillBegins text.old.items text.new.items) }
 {
     match item {
         Item::Announce(peer, prefix, route) => { put_route(time, tag, peer, prefix, route, text) }
@@ -214,13 +187,28 @@ fn put_item(time: &Time, tag: Tag, item: &Item, text: &mut Vec<u8>) -> Result<()
     }
 }
 
-/// Appends the lines of an event. Refused, it may have appended a part.
-pub(crate) fn put_lines(event: &Event, text: &mut Vec<u8>) -> Result<(), AllocError>
-    ensures { OnOk result (text.new.items ≡ text.old.items ++ event_lines event.now) }
+/// Appends the lines of an event's items.
+fn put_items(event: &Event, text: &mut Vec<u8>) -> Result<(), AllocError>
+    ensures appended { OnOk result (text.new.items ≡ text.old.items ++ event_lines event.now) }
+    ensures kept { OnErr result (StillBegins text.old.items text.new.items) }
 {
     let items = event.items.as_slice();
     'items: for item in items {
         put_item(&event.time, event.tag, item, text)?;
     }
     Ok(())
+}
+
+/// Appends the lines of an event, one for each item. Refused for want of memory, it leaves the text
+/// as it was.
+pub fn put_lines(event: &Event, text: &mut Vec<u8>) -> Result<(), AllocError>
+    ensures appended { OnOk result (text.new.items ≡ text.old.items ++ event_lines event.now) }
+    ensures unchanged { OnErr result (text.new.items ≡ text.old.items) }
+{
+    let before = text.len();
+    let result = put_items(event, text);
+    if result.is_err() {
+        text.truncate(before);
+    }
+    result
 }

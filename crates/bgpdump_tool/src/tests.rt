@@ -3,6 +3,7 @@ mod devices;
 mod faults;
 mod lines;
 mod reading;
+mod records;
 
 use crate::{Outcome, WriteOutput, run_dump};
 use mrt_wire::{ReadInput, Stamp};
@@ -15,11 +16,11 @@ const STATE_CHANGE: &str =
 /// Its line.
 const LINE: &str = "BGP4MP|100|STATE|192.0.2.1|64500|6|1\n";
 
-/// The index of a table's peers, of 31 octets.
-const PEER_INDEX: &str = "000000C8 000D 0001 00000013 C6336401 0000 0001 00 C0000201 C0000201 FBF4";
+/// A part of a multicast table, of 31 octets.
+const MULTICAST: &str = "000000C8 000D 0003 00000013 C6336401 0000 0001 00 C0000201 C0000201 FBF4";
 
 /// Its report, where it comes first.
-const PEER_INDEX_REPORT: &str = "bgpdump: record 1, byte 0: unsupported type 13 subtype 1\n";
+const MULTICAST_REPORT: &str = "bgpdump: record 1, byte 0: unsupported type 13 subtype 3\n";
 
 /// What a run wrote, and how it ended.
 #[derive(Drop)]
@@ -31,6 +32,11 @@ struct Run {
 
 /// Runs over these octets.
 fn dump(alloc: Global, octets: &[u8]) -> Run {
+    dump_by(alloc, Stamp::Dump, octets)
+}
+
+/// Runs over these octets, with this time of a table's entries.
+fn dump_by(alloc: Global, stamp: Stamp, octets: &[u8]) -> Run {
     let mut out = Vec::new(alloc);
     let mut err = Vec::new(alloc);
     let outcome = run_dump(
@@ -38,7 +44,7 @@ fn dump(alloc: Global, octets: &[u8]) -> Run {
         &mut ReadInput::new(octets),
         &mut WriteOutput::new(&mut out),
         &mut WriteOutput::new(&mut err),
-        Stamp::Dump,
+        stamp,
     );
     Run { out, err, outcome }
 }

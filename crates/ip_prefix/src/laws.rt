@@ -5,7 +5,7 @@ ghost use Rattle.std.specs.Cmp.{IsTotalOrder};
 ghost use Rattle.std.specs.FinMap.{IsAntisymmetric};
 ghost use Rattle.std.specs.Net.Text.{longest_zero_run};
 ghost use Rattle.ip_prefix.specs.declared.addr.Family.{Family};
-ghost use Rattle.ip_prefix.specs.declared.addr.TheConstants.{V4_OCTETS, V6_OCTETS, V4_BITS, V6_BITS};
+ghost use Rattle.ip_prefix.specs.declared.addr.TheConstants.{NUMBER_BITS, V4_OCTETS, V6_OCTETS, V4_BITS, V6_BITS};
 ghost use Rattle.ip_prefix.specs.declared.addr.TheConstants.{OCTET_BITS, GROUP_BITS, GROUP_COUNT};
 ghost use Rattle.ip_prefix.specs.declared.text.TheConstants.{DOT, COLON, SLASH};
 ghost use Rattle.ip_prefix.specs.Address.{Address, IsAddress};
@@ -93,7 +93,7 @@ pub fn one_network()
 /// The numbers and marks that the definitions name.
 pub fn address_numbers()
     ensures octets { (V4_OCTETS ≡ 4) × (V6_OCTETS ≡ 16) }
-    ensures bits { (V4_BITS ≡ 32) × (V6_BITS ≡ 128) }
+    ensures bits { (V4_BITS ≡ 32) × (V6_BITS ≡ 128) × (NUMBER_BITS ≡ 128) }
     ensures parts { (OCTET_BITS ≡ 8) × (GROUP_BITS ≡ 16) × (GROUP_COUNT ≡ 8) }
     ensures marks { DOT ∷ COLON ∷ SLASH ∷ [] ≡ codes ".:/" }
 {}

@@ -4,7 +4,7 @@ use Rattle.ip_prefix.specs.Fields.{IsOne}
 use Rattle.mrt_wire.specs.declared.profile.Form.{Form}
 use Rattle.mrt_wire.specs.declared.profile.Form.TheVariants as form
 use Rattle.mrt_wire.specs.Profile.{HasForm, form_of}
-use Rattle.mrt_wire.specs.Content.{Content, Peers, Table, Session, SpellsContent, IsBody}
+use Rattle.mrt_wire.specs.Content.{Content, Peers, Entries, Session, SpellsContent, IsBody}
 use Rattle.mrt_wire.proofs.PeerIndexLaws.{one_peer_index}
 use Rattle.mrt_wire.proofs.RibLaws.{one_rib}
 use Rattle.mrt_wire.proofs.SessionLaws.{one_session_body}
@@ -29,8 +29,8 @@ same_form kind subtype a b p q = same_some (sym p ∙ q)
 
 -- no octets are of two contents of one form
 pub one_content_of : (form : Form) → IsOne (SpellsContent form)
-one_content_of form.PeerIndex a b octets s t = s.1 ∙ ap Peers (one_peer_index s.0 t.0 octets s.2 t.2) ∙ sym t.1
-one_content_of (form.Rib family) a b octets s t = s.1 ∙ ap Table (one_rib family s.0 t.0 octets s.2 t.2) ∙ sym t.1
+one_content_of form.Peers a b octets s t = s.1 ∙ ap Peers (one_peer_index s.0 t.0 octets s.2 t.2) ∙ sym t.1
+one_content_of (form.Entries family) a b octets s t = s.1 ∙ ap Entries (one_rib family s.0 t.0 octets s.2 t.2) ∙ sym t.1
 one_content_of (form.Session session) a b octets s t = s.1 ∙ ap Session (one_session_body session s.0 t.0 octets s.2 t.2) ∙ sym t.1
 
 -- a body has one content

@@ -7,14 +7,14 @@ use Rattle.std.specs.Int.{to_be_bytes, from_be_bytes, w16, w32}
 use Rattle.mrt_wire.specs.declared.fault.RecordKind.TheVariants.{Unsupported, Malformed}
 use Rattle.mrt_wire.specs.declared.event.Stamp.{Stamp}
 use Rattle.mrt_wire.specs.declared.frames.TheConstants.{LONGEST_BODY}
-use Rattle.mrt_wire.specs.Record.{Record, record_of, IsOctets, IsHeader, header_octets, spelling, IsRecord, BeginsWithNone}
+use Rattle.mrt_wire.specs.Record.{Record, record_of, IsOctets, IsHeader, header_octets, spelling, IsRecord, BeginsWithNoRecord}
 use Rattle.mrt_wire.specs.declared.fault.RecordKind.{RecordKind}
 use Rattle.mrt_wire.specs.Content.{Content, IsBody}
 use Rattle.mrt_wire.specs.Verdict.{Verdict, Accepted, Refused, Frame, Index, index_after, content_fault, event_of, ReadsAs}
 use Rattle.mrt_wire.specs.Splitting.{Splits, spellings}
 use Rattle.mrt_wire.proofs.ContentLaws.{cases_form}
 use Rattle.mrt_wire.proofs.JudgingLaws.{fault_of_content}
-use Rattle.mrt_wire.proofs.RecordLaws.{BeginsWithNone-short, BeginsWithNone-cut, BeginsWithNone-too_long}
+use Rattle.mrt_wire.proofs.RecordLaws.{BeginsWithNoRecord-short, BeginsWithNoRecord-cut, BeginsWithNoRecord-too_long}
 use Rattle.ip_prefix.proofs.Lists.{drop_in_parts}
 
 -- a field is put in front
@@ -129,9 +129,9 @@ BeginsWithRecord-header octets small header enough short =
     }
 
 -- a record stands in front of octets, or none
-cases_record : (octets : List ℕ) → IsOctets octets → BeginsWithRecord octets ⊎ BeginsWithNone octets
+cases_record : (octets : List ℕ) → IsOctets octets → BeginsWithRecord octets ⊎ BeginsWithNoRecord octets
 cases_record octets small = elim (cases_lt (length octets) 12) [
-  | inl short ↦ inr (BeginsWithNone-short octets short)
+  | inl short ↦ inr (BeginsWithNoRecord-short octets short)
   | inr long ↦
       let header = BeginsWithHeader-long octets long small in
       let s = header.seconds in
@@ -140,9 +140,9 @@ cases_record octets small = elim (cases_lt (length octets) 12) [
       let n = header.size in
       let behind : List ℕ = drop 12 octets in
       elim (cases_lt LONGEST_BODY n) [
-        | inl too_long ↦ inr (subst BeginsWithNone (sym header.whole) (BeginsWithNone-too_long s k t n behind header.fits too_long))
+        | inl too_long ↦ inr (subst BeginsWithNoRecord (sym header.whole) (BeginsWithNoRecord-too_long s k t n behind header.fits too_long))
         | inr short ↦ elim (cases_lt (length behind) n) [
-          | inl cut ↦ inr (subst BeginsWithNone (sym header.whole) (BeginsWithNone-cut s k t n behind header.fits cut))
+          | inl cut ↦ inr (subst BeginsWithNoRecord (sym header.whole) (BeginsWithNoRecord-cut s k t n behind header.fits cut))
           | inr enough ↦ inl (BeginsWithRecord-header octets small header enough short)
         ]
       ]
@@ -160,7 +160,7 @@ some_verdict stamp index r none = elim (cases_form r.kind r.subtype) [
     by_fault content is_body (Some kind) is = none (Refused kind) (fault_of_content index r content kind is_body is)
 
 -- octets that begin with no record are a rest
-Splits-rest : (stamp : Stamp) (index : Index) (octets : List ℕ) → BeginsWithNone octets → Splits stamp index octets [] octets
+Splits-rest : (stamp : Stamp) (index : Index) (octets : List ℕ) → BeginsWithNoRecord octets → Splits stamp index octets [] octets
 Splits-rest stamp index octets none = record { whole = refl; are_frames = record { records = tt; readings = tt }; none = none }
 
 -- a record is put in front
@@ -176,7 +176,7 @@ Splits-record stamp index frame octets more frames rest is_record reads whole sp
 -- no octets of at most this length are without a split
 no_octets_without_a_split_within : (most : ℕ) (stamp : Stamp) (index : Index) (octets : List ℕ) → length octets ≤ most → IsOctets octets
     → ((frames : List Frame) (rest : List ℕ) → Splits stamp index octets frames rest → ⊥) → ⊥
-no_octets_without_a_split_within zero stamp index octets within small none = none [] octets (Splits-rest stamp index octets (BeginsWithNone-short octets (omega arith)))
+no_octets_without_a_split_within zero stamp index octets within small none = none [] octets (Splits-rest stamp index octets (BeginsWithNoRecord-short octets (omega arith)))
 no_octets_without_a_split_within (suc most) stamp index octets within small none = elim (cases_record octets small) [
   | inr no_record ↦ none [] octets (Splits-rest stamp index octets no_record)
   | inl front ↦

@@ -12,7 +12,7 @@ use Rattle.mrt_wire.specs.declared.fault.SourceFault.{SourceFault}
 use Rattle.mrt_wire.specs.declared.next.Next.{Next}
 use Rattle.mrt_wire.specs.declared.next.Next.TheVariants as next
 use Rattle.mrt_wire.specs.declared.frames.TheConstants.{LONGEST_BODY}
-use Rattle.mrt_wire.specs.Record.{Record, spelling, IsRecord, BeginsWithNone}
+use Rattle.mrt_wire.specs.Record.{Record, spelling, IsRecord, BeginsWithNoRecord}
 use Rattle.mrt_wire.specs.Verdict.{Frame}
 use Rattle.mrt_wire.specs.Splitting.{Splits, spellings}
 use Rattle.mrt_wire.specs.Results.{Finding, Found, Bad, stated_size, rest_kind, rest_fault, fault_findings}
@@ -27,8 +27,8 @@ stated_size-record : (r : Record) (more : List ℕ) → IsRecord r → stated_si
 stated_size-record r more p = from_be_bytes-to_be_bytes_4 (length r.body) p.header.size_fits
 
 -- octets that state too much begin with no record
-BeginsWithNone-stated : (octets : List ℕ) → LONGEST_BODY < stated_size octets → BeginsWithNone octets
-BeginsWithNone-stated octets long r more p e = absurd (omega (arith, ap stated_size e, stated_size-record r more p, p.size))
+BeginsWithNoRecord-stated : (octets : List ℕ) → LONGEST_BODY < stated_size octets → BeginsWithNoRecord octets
+BeginsWithNoRecord-stated octets long r more p e = absurd (omega (arith, ap stated_size e, stated_size-record r more p, p.size))
 
 -- what follows twelve octets doesn't change what they state
 stated_size-front : (octets more : List ℕ) → length octets ≡ 12 → stated_size (octets ++ more) ≡ stated_size octets
@@ -81,20 +81,20 @@ nothing_follows next.End number offset octets more tells cut follows = follows
 
 -- a rest is one whatever may follow it, and so is its fault
 pub record RestStays (octets more : List ℕ) : Type 0 where
-  pub none : BeginsWithNone (octets ++ more)
+  pub none : BeginsWithNoRecord (octets ++ more)
   pub fault : rest_fault (octets ++ more) ≡ rest_fault octets
 
-RestStays-end : (octets more : List ℕ) → BeginsWithNone octets → more ≡ [] → RestStays octets more
+RestStays-end : (octets more : List ℕ) → BeginsWithNoRecord octets → more ≡ [] → RestStays octets more
 RestStays-end octets more none end =
     let whole : octets ++ more ≡ octets = ap (λ l. octets ++ l) end ∙ append-nil octets in
-    record { none = subst BeginsWithNone (sym whole) none; fault = ap rest_fault whole }
+    record { none = subst BeginsWithNoRecord (sym whole) none; fault = ap rest_fault whole }
 
 pub RestStays-rest : (octets more : List ℕ) → IsRest octets → (rest_kind octets ≡ CutRecord → more ≡ []) → RestStays octets more
 RestStays-rest octets more rest end = elim rest.stops [
   | inl cut ↦ RestStays-end octets more rest.none (end cut)
   | inr size ↦ elim (cases_lt LONGEST_BODY (stated_size octets)) [
     | inl long ↦ record {
-      none = BeginsWithNone-stated (octets ++ more) (omega (arith, long, stated_size-front octets more size));
+      none = BeginsWithNoRecord-stated (octets ++ more) (omega (arith, long, stated_size-front octets more size));
       fault = rest_fault-front octets more size;
     }
     | inr small ↦ RestStays-end octets more rest.none (end (rest_kind-small octets small))

@@ -1,7 +1,7 @@
 -- Laws of records: none begins another, so octets split into records in one way.
 use Rattle.std.proofs.Common.{◌≡◌, ℕ, ◌<◌, List, ◌++◌, length, take, drop, ap, arith, length-append}
 use Rattle.mrt_wire.specs.declared.frames.TheConstants.{LONGEST_BODY}
-use Rattle.mrt_wire.specs.Record.{Record, IsHeader, header_octets, spelling, IsRecord, BeginsWithNone}
+use Rattle.mrt_wire.specs.Record.{Record, IsHeader, header_octets, spelling, IsRecord, BeginsWithNoRecord}
 use Rattle.ip_prefix.proofs.Lists.{append_parts}
 use Rattle.ip_prefix.proofs.Numbers.{same_w16, same_w32}
 
@@ -30,19 +30,19 @@ SameHeader-record s k t n octets p r more q e =
     same_header s k t n r.seconds r.kind r.subtype (length r.body) octets (r.body ++ more) p q.header e
 
 -- no record stands in front of fewer octets than a header has
-pub BeginsWithNone-short : (octets : List ℕ) → length octets < 12 → BeginsWithNone octets
-BeginsWithNone-short octets short r more q e =
+pub BeginsWithNoRecord-short : (octets : List ℕ) → length octets < 12 → BeginsWithNoRecord octets
+BeginsWithNoRecord-short octets short r more q e =
     absurd (omega (arith, ap length e, length-append (spelling r) more, length-append (header_octets r.seconds r.kind r.subtype (length r.body)) r.body))
 
 -- nor of a header with fewer octets behind it than it states
-pub BeginsWithNone-cut : (s k t n : ℕ) (body : List ℕ) → IsHeader s k t n → length body < n → BeginsWithNone (header_octets s k t n ++ body)
-BeginsWithNone-cut s k t n body p short r more q e =
+pub BeginsWithNoRecord-cut : (s k t n : ℕ) (body : List ℕ) → IsHeader s k t n → length body < n → BeginsWithNoRecord (header_octets s k t n ++ body)
+BeginsWithNoRecord-cut s k t n body p short r more q e =
     let same = SameHeader-record s k t n body p r more q e in
     absurd (omega (arith, same.size, ap length same.rest, length-append r.body more))
 
 -- nor of a header that states too much
-pub BeginsWithNone-too_long : (s k t n : ℕ) (octets : List ℕ) → IsHeader s k t n → LONGEST_BODY < n → BeginsWithNone (header_octets s k t n ++ octets)
-BeginsWithNone-too_long s k t n octets p long r more q e =
+pub BeginsWithNoRecord-too_long : (s k t n : ℕ) (octets : List ℕ) → IsHeader s k t n → LONGEST_BODY < n → BeginsWithNoRecord (header_octets s k t n ++ octets)
+BeginsWithNoRecord-too_long s k t n octets p long r more q e =
     let same = SameHeader-record s k t n octets p r more q e in
     absurd (omega (arith, same.size, q.size))
 

@@ -14,7 +14,7 @@ use Rattle.mrt_wire.specs.Results.{rest_kind, rest_fault, stated_size}
 use Rattle.mrt_wire.specs.Device.{Takes}
 use Rattle.mrt_wire.specs.Taking.{IsBegun, EndsAt, TakesHeader, TakesBody, TakesRecord}
 use Rattle.mrt_wire.proofs.Buffers.{Takes-trans}
-use Rattle.mrt_wire.proofs.RecordLaws.{BeginsWithNone-cut}
+use Rattle.mrt_wire.proofs.RecordLaws.{BeginsWithNoRecord-cut}
 
 -- behind a header its length decides
 pub rest_kind-header : (s k t n : ℕ) (octets : List ℕ) → IsHeader s k t n
@@ -36,7 +36,7 @@ rest_fault-some (octet ∷ octets) some = refl
 
 -- a header, and fewer octets than it states
 pub IsBegun-cut : (s k t n : ℕ) (body : List ℕ) → IsHeader s k t n → n ≤ LONGEST_BODY → length body < n → IsBegun (header_octets s k t n ++ body)
-IsBegun-cut s k t n body fits small short = record { none = BeginsWithNone-cut s k t n body fits short; cut = rest_kind-cut s k t n body fits small }
+IsBegun-cut s k t n body fits small short = record { none = BeginsWithNoRecord-cut s k t n body fits short; cut = rest_kind-cut s k t n body fits small }
 
 -- a record that has begun ends the octets, where the input ends there
 pub EndsAt-begun : (left : Option (List ℕ)) (octets : List ℕ) → IsBegun octets → IsAtEnd left → EndsAt left octets

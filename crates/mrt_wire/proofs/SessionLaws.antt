@@ -16,8 +16,8 @@ use Rattle.mrt_wire.specs.declared.profile.SessionKind.TheVariants.{StateChange,
 use Rattle.mrt_wire.specs.declared.profile.SessionForm.{SessionForm}
 use Rattle.mrt_wire.specs.declared.session.TheConstants.{INTERFACE_SIZE}
 use Rattle.mrt_wire.specs.declared.session.SessionContent.{SessionContent}
-use Rattle.mrt_wire.specs.declared.session.SessionContent.TheVariants.{Changed, Received}
-use Rattle.mrt_wire.specs.Session.{SpellsFamily, AreSystems, AreAddresses, SpellsSession, SpellsStateChange, SpellsPeerMessage, SpellsHappening, SpellsMicros, SpellsTimed, SpellsSessionBody}
+use Rattle.mrt_wire.specs.declared.session.SessionContent.TheVariants as content
+use Rattle.mrt_wire.specs.Session.{SpellsFamily, AreSystems, AreAddresses, SpellsSessionPeer, SpellsStateChange, SpellsPeerMessage, SpellsHappening, SpellsMicros, SpellsTimed, SpellsSessionBody}
 use Rattle.mrt_wire.proofs.FieldFronts.{octets_front, address_front, asn_front, short_front, word_front}
 
 pub family_front : OneFront SpellsFamily
@@ -34,27 +34,27 @@ addresses_front : OneFront AreAddresses
 addresses_front = then_front _ _ family_front (λ family. then_front _ _ (address_front family) (λ address. octets_front (octet_count family)))
 
 -- octets that begin with a session begin with its systems and addresses
-session_fields : (width : AsWidth) (peer : Peer) (rest octets : List ℕ) (b : Begins (SpellsSession width) peer rest octets)
+session_fields : (width : AsWidth) (peer : Peer) (rest octets : List ℕ) (b : Begins (SpellsSessionPeer width) peer rest octets)
     → Begins (Then (AreSystems width) (λ systems. AreAddresses)) ((peer.asn, (b.spelled.0, b.spelled.1)), (b.spelled.2, (peer.addr, b.spelled.3))) rest octets
 session_fields width peer rest octets b = record { front = b.front; spelled = b.spelled.4; whole = b.whole }
 
-pub session_front : (width : AsWidth) → OneFront (SpellsSession width)
+pub session_front : (width : AsWidth) → OneFront (SpellsSessionPeer width)
 session_front width a b x y octets p q =
     let one = then_front _ _ (systems_front width) (λ systems. addresses_front) _ _ x y octets (session_fields width a x octets p) (session_fields width b y octets q) in
     ((λ i. record { addr = (one.0 i).1.1.0; asn = (one.0 i).0.0 }), one.1)
 
 -- where the systems and addresses don't stand in front no session does
-no_session : (width : AsWidth) (octets : List ℕ) → BeginsWithNone (Then (AreSystems width) (λ systems. AreAddresses)) octets → BeginsWithNone (SpellsSession width) octets
+no_session : (width : AsWidth) (octets : List ℕ) → BeginsWithNone (Then (AreSystems width) (λ systems. AreAddresses)) octets → BeginsWithNone (SpellsSessionPeer width) octets
 no_session width octets none peer rest b = none _ rest (session_fields width peer rest octets b)
 
-pub no_systems : (width : AsWidth) (octets : List ℕ) → BeginsWithNone (AreSystems width) octets → BeginsWithNone (SpellsSession width) octets
+pub no_systems : (width : AsWidth) (octets : List ℕ) → BeginsWithNone (AreSystems width) octets → BeginsWithNone (SpellsSessionPeer width) octets
 no_systems width octets none = no_session width octets (none_first _ _ octets none)
 
-pub no_addresses : (width : AsWidth) (systems : ℕ × (List ℕ × List ℕ)) (more octets : List ℕ) → Begins (AreSystems width) systems more octets → BeginsWithNone AreAddresses more → BeginsWithNone (SpellsSession width) octets
+pub no_addresses : (width : AsWidth) (systems : ℕ × (List ℕ × List ℕ)) (more octets : List ℕ) → Begins (AreSystems width) systems more octets → BeginsWithNone AreAddresses more → BeginsWithNone (SpellsSessionPeer width) octets
 no_addresses width systems more octets b none = no_session width octets (none_second _ _ (systems_front width) systems more octets b none)
 
 pub a_session : (width : AsWidth) (asn : ℕ) (number interface : List ℕ) (family : Family) (addr : Address) (local more rest octets : List ℕ) → Begins (AreSystems width) (asn, (number, interface)) more octets
-    → Begins AreAddresses (family, (addr, local)) rest more → Begins (SpellsSession width) record { addr = addr; asn = asn } rest octets
+    → Begins AreAddresses (family, (addr, local)) rest more → Begins (SpellsSessionPeer width) record { addr = addr; asn = asn } rest octets
 a_session width asn number interface family addr local more rest octets p q =
     let b = both_front (AreSystems width) (λ systems. AreAddresses) (asn, (number, interface)) (family, (addr, local)) more rest octets p q in
     record { front = b.front; spelled = (number, interface, family, local, b.spelled); whole = b.whole }
@@ -72,8 +72,8 @@ one_peer_message width a b octets s t =
     λ i. record { message = (one i).1; peer = (one i).0 }
 
 one_happening : (kind : SessionKind) (width : AsWidth) → IsOne (SpellsHappening kind width)
-one_happening StateChange width a b octets s t = s.1 ∙ ap Changed (one_state_change width s.0 t.0 octets s.2 t.2) ∙ sym t.1
-one_happening Message width a b octets s t = s.1 ∙ ap Received (one_peer_message width s.0 t.0 octets s.2 t.2) ∙ sym t.1
+one_happening StateChange width a b octets s t = s.1 ∙ ap content.StateChange (one_state_change width s.0 t.0 octets s.2 t.2) ∙ sym t.1
+one_happening Message width a b octets s t = s.1 ∙ ap content.Message (one_peer_message width s.0 t.0 octets s.2 t.2) ∙ sym t.1
 
 micros_front : OneFront SpellsMicros
 micros_front a b x y octets p q =

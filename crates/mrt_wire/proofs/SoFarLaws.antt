@@ -9,7 +9,7 @@ use Rattle.mrt_wire.specs.declared.fault.SourceFault.{SourceFault}
 use Rattle.mrt_wire.specs.declared.next.Next.{Next}
 use Rattle.mrt_wire.specs.declared.next.Phase.{Phase}
 use Rattle.mrt_wire.specs.declared.next.Phase.TheVariants.{Reading, Ended, Spent}
-use Rattle.mrt_wire.specs.Record.{header_octets, spelling, IsRecord, BeginsWithNone}
+use Rattle.mrt_wire.specs.Record.{header_octets, spelling, IsRecord, BeginsWithNoRecord}
 use Rattle.mrt_wire.specs.Taking.{EndsAt}
 use Rattle.mrt_wire.specs.Verdict.{Frame, ReadsAs, index_after}
 use Rattle.mrt_wire.specs.Splitting.{AreFrames, Splits, spellings}
@@ -136,7 +136,7 @@ pub record FirstSoFar (p q : Place) (found : List Finding) (frames : List Frame)
   pub all : q.phase ≡ Ended → later ≡ []
 
 -- whatever follows frames
-first_of_frames : (p q : Place) (done frames : List Frame) (more rest : List ℕ) → q.phase ≡ Reading → AreFrames p.stamp p.index done → AreFrames p.stamp p.index frames → BeginsWithNone rest
+first_of_frames : (p q : Place) (done frames : List Frame) (more rest : List ℕ) → q.phase ≡ Reading → AreFrames p.stamp p.index done → AreFrames p.stamp p.index frames → BeginsWithNoRecord rest
     → spellings done ++ more ≡ spellings frames ++ rest → FirstSoFar p q (results p done []) frames rest
 first_of_frames p q done frames more rest reading are are' none joined =
     let behind = frames_first p.stamp p.index done frames more rest are are' none joined in
@@ -148,7 +148,7 @@ first_of_frames p q done frames more rest reading are are' none joined =
 
 -- whatever follows frames and a rest
 all_of_frames : (p q : Place) (left : Option (List ℕ)) (done frames : List Frame) (last more rest : List ℕ) → EndsAt left last → (rest_kind last ≡ CutRecord → more ≡ []) → AreFrames p.stamp p.index done
-    → AreFrames p.stamp p.index frames → BeginsWithNone rest → spellings done ++ (last ++ more) ≡ spellings frames ++ rest → FirstSoFar p q (results p done last) frames rest
+    → AreFrames p.stamp p.index frames → BeginsWithNoRecord rest → spellings done ++ (last ++ more) ≡ spellings frames ++ rest → FirstSoFar p q (results p done last) frames rest
 all_of_frames p q left done frames last more rest ends follows are are' none joined =
     let stays = RestStays-rest last more ends.rest follows in
     let all = frames_all p.stamp p.index done frames (last ++ more) rest are are' stays.none none joined in

@@ -6,7 +6,7 @@ use Rattle.mrt_wire.specs.declared.fault.RecordKind.{RecordKind}
 use Rattle.mrt_wire.specs.declared.fault.RecordKind.TheVariants.{CutRecord, TooLong, Unsupported, Malformed, NoIndex, PeerIndex}
 use Rattle.mrt_wire.specs.declared.event.Event.{Event}
 use Rattle.mrt_wire.specs.declared.event.Stamp.{Stamp}
-use Rattle.mrt_wire.specs.Record.{Record, spelling, IsRecord, BeginsWithNone}
+use Rattle.mrt_wire.specs.Record.{Record, spelling, IsRecord, BeginsWithNoRecord}
 use Rattle.mrt_wire.specs.Profile.{IsSupported}
 use Rattle.mrt_wire.specs.Content.{Content, IsBody}
 use Rattle.mrt_wire.specs.Verdict.{content_fault, HasFault, HasNoContent, MakesEvent, Verdict, Accepted, Refused, Frame, Index, ReadsAs, Readings, index_after, index_behind, event_of}
@@ -84,7 +84,7 @@ pub record Behind (stamp : Stamp) (index : Index) (found frames : List Frame) (m
   pub are_frames : AreFrames stamp (index_behind index found) later
 
 -- frames found in front are the first of any splitting
-pub frames_first : (stamp : Stamp) (index : Index) (found frames : List Frame) (more rest : List ℕ) → AreFrames stamp index found → AreFrames stamp index frames → BeginsWithNone rest
+pub frames_first : (stamp : Stamp) (index : Index) (found frames : List Frame) (more rest : List ℕ) → AreFrames stamp index found → AreFrames stamp index frames → BeginsWithNoRecord rest
     → spellings found ++ more ≡ spellings frames ++ rest → Behind stamp index found frames more rest
 frames_first stamp index [] frames more rest p q none e = record { later = frames; frames_are = refl; octets_are = e; are_frames = q }
 frames_first stamp index (a ∷ found) [] more rest p q none e =
@@ -105,7 +105,7 @@ frames_first stamp index (a ∷ found) (b ∷ frames) more rest p q none e =
     }
 
 -- where they end at no record, they are all
-pub frames_all : (stamp : Stamp) (index : Index) (found frames : List Frame) (more rest : List ℕ) → AreFrames stamp index found → AreFrames stamp index frames → BeginsWithNone more → BeginsWithNone rest
+pub frames_all : (stamp : Stamp) (index : Index) (found frames : List Frame) (more rest : List ℕ) → AreFrames stamp index found → AreFrames stamp index frames → BeginsWithNoRecord more → BeginsWithNoRecord rest
     → spellings found ++ more ≡ spellings frames ++ rest → (frames ≡ found) × (rest ≡ more)
 frames_all stamp index found frames more rest p q end none e =
     let behind = frames_first stamp index found frames more rest p q none e in

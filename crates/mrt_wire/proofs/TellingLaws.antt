@@ -13,11 +13,11 @@ use Rattle.ip_prefix.specs.declared.addr.Family.{Family}
 use Rattle.ip_prefix.specs.Sequences.{Begins, SpellsAll}
 use Rattle.ip_prefix.proofs.Sequences.{one_more}
 use Rattle.mrt_wire.specs.declared.rib.Snapshot.{Snapshot}
-use Rattle.mrt_wire.specs.declared.rib.Told.{Told}
+use Rattle.mrt_wire.specs.declared.rib.EntryItems.{EntryItems}
 use Rattle.mrt_wire.specs.Event.{Saying, saying}
 use Rattle.mrt_wire.specs.Rib.{SpellsEntry}
-use Rattle.mrt_wire.specs.Told.{entry_items, unknown_peer, first_unknown}
-use Rattle.mrt_wire.specs.Judging.{Adds, Tells}
+use Rattle.mrt_wire.specs.Items.{entry_items, unknown_peer, first_unknown}
+use Rattle.mrt_wire.specs.Judging.{Adds, AreItemsOf}
 
 -- one of three, whichever is first
 option_or-assoc : {A : Type 0} (a b c : Option A) → option_or (option_or a b) c ≡ option_or a (option_or b c)
@@ -51,18 +51,18 @@ one_more_prefix f old items new item prefixes k prefix a n s g less =
 -- ---- entries read so far
 
 -- so many entries stand before the rest, and this is what they say
-pub record ToldSoFar (family : Family) (snapshot : Snapshot) (prefix : Network) (count : ℕ) (told : Told) (rest octets : List ℕ) : Type 0 where
+pub record ItemsSoFar (family : Family) (snapshot : Snapshot) (prefix : Network) (count : ℕ) (told : EntryItems) (rest octets : List ℕ) : Type 0 where
   pub entries : List RibEntry
   pub size : length entries ≡ count
   pub read : Begins (SpellsAll (SpellsEntry family)) entries rest octets
-  pub tells : Tells snapshot (record { prefix = prefix; entries = entries }) told
+  pub tells : AreItemsOf snapshot (record { prefix = prefix; entries = entries }) told
 
 -- with an entry more
-pub ToldSoFar-push : (family : Family) (snapshot : Snapshot) (prefix : Network) (count : ℕ) (told told' : Told) (rest more octets : List ℕ) (entry : RibEntry) → ToldSoFar family snapshot prefix count told rest octets
+pub ItemsSoFar-push : (family : Family) (snapshot : Snapshot) (prefix : Network) (count : ℕ) (told told' : EntryItems) (rest more octets : List ℕ) (entry : RibEntry) → ItemsSoFar family snapshot prefix count told rest octets
     → Begins (SpellsEntry family) entry more rest
     → map saying told'.items.items ≡ map saying told.items.items ++ entry_items snapshot.peers.now snapshot.stamp snapshot.seconds prefix entry
-    → told'.unknown ≡ option_or told.unknown (unknown_peer snapshot.peers.now entry) → ToldSoFar family snapshot prefix (count + 1) told' more octets
-ToldSoFar-push family snapshot prefix count told told' rest more octets entry s front items unknown =
+    → told'.unknown ≡ option_or told.unknown (unknown_peer snapshot.peers.now entry) → ItemsSoFar family snapshot prefix (count + 1) told' more octets
+ItemsSoFar-push family snapshot prefix count told told' rest more octets entry s front items unknown =
     let says = entry_items snapshot.peers.now snapshot.stamp snapshot.seconds prefix in
     record {
       entries = s.entries ++ entry ∷ [];

@@ -1,4 +1,4 @@
--- Peers and routes as plain data, which the values of types that hold them are made of.
+-- Peers and routes as plain data, for values with finite maps in them.
 use Rattle.std.specs.Prelude.{ℕ, refl}
 use Rattle.std.specs.Coded.{Coded, code_by, coded×, coded_ℕ}
 use Rattle.ip_prefix.specs.Address.{Address}

@@ -5,8 +5,7 @@ use Rattle.mrt_wire.specs.declared.profile.Form.{Form}
 use Rattle.mrt_wire.specs.declared.profile.Form.TheVariants as form
 use Rattle.mrt_wire.specs.declared.session.SessionBody.{SessionBody}
 use Rattle.mrt_wire.specs.PeerIndex.{SpellsPeerIndex}
-use Rattle.mrt_wire.specs.Rib as rib
-use Rattle.mrt_wire.specs.Rib.{SpellsRib}
+use Rattle.mrt_wire.specs.Rib.{PrefixEntries, SpellsRib}
 use Rattle.mrt_wire.specs.Session.{SpellsSessionBody}
 use Rattle.mrt_wire.specs.Profile.{HasForm}
 
@@ -15,16 +14,16 @@ pub data Content : Type 0 where
   -- the peers of a table, by their numbers
   Peers : List Peer → Content
   -- a prefix and its entries in a table
-  Table : rib.Rib → Content
+  Entries : PrefixEntries → Content
   -- what happened in a session, and the microseconds, where the type of the record has them
   Session : SessionBody → Content
 
 -- the octets are a body of this form with this content
 abbrev pub SpellsContent : Form → Content → List ℕ → Type 0
-SpellsContent form.PeerIndex content octets =
+SpellsContent form.Peers content octets =
     (peers : List Peer) × (content ≡ Peers peers) × SpellsPeerIndex peers octets
-SpellsContent (form.Rib family) content octets =
-    (table : rib.Rib) × (content ≡ Table table) × SpellsRib family table octets
+SpellsContent (form.Entries family) content octets =
+    (entries : PrefixEntries) × (content ≡ Entries entries) × SpellsRib family entries octets
 SpellsContent (form.Session session) content octets =
     (body : SessionBody) × (content ≡ Session body) × SpellsSessionBody session body octets
 

@@ -1,4 +1,4 @@
--- What the code says of a record.
+-- What the private calls make of a record.
 use Rattle.std.specs.Prelude.{◌≡◌, ℕ, List, ◌++◌, map, Option, Result, Ok, Err}
 use Rattle.bgp_wire.specs.declared.fault.WireFault.{WireFault}
 use Rattle.bgp_wire.specs.declared.fault.WireFault.TheVariants as wire
@@ -13,10 +13,10 @@ use Rattle.mrt_wire.specs.declared.judging.Refusal.TheVariants as refusal
 use Rattle.mrt_wire.specs.declared.next.Next.{Next}
 use Rattle.mrt_wire.specs.declared.next.Next.TheVariants as next
 use Rattle.mrt_wire.specs.declared.rib.Snapshot.{Snapshot}
-use Rattle.mrt_wire.specs.declared.rib.Told.{Told}
+use Rattle.mrt_wire.specs.declared.rib.EntryItems.{EntryItems}
 use Rattle.mrt_wire.specs.Record.{Record}
-use Rattle.mrt_wire.specs.Rib.{Rib}
-use Rattle.mrt_wire.specs.Told.{table_items, first_unknown}
+use Rattle.mrt_wire.specs.Rib.{PrefixEntries}
+use Rattle.mrt_wire.specs.Items.{entries_items, first_unknown}
 use Rattle.mrt_wire.specs.Event.{Saying, saying}
 use Rattle.mrt_wire.specs.Content.{Content}
 use Rattle.mrt_wire.specs.Verdict.{Index, Accepted, Refused, ReadsAs, index_after}
@@ -45,6 +45,6 @@ judged_answer number offset (Err (refusal.Fault kind)) =
 judged_answer number offset (Err refusal.Memory) = Err source.Memory
 
 -- entries say this, and this is the first number among them that is no peer's
-pub record Tells (snapshot : Snapshot) (rib : Rib) (told : Told) : Type 0 where
-  pub items : map saying told.items.items ≡ table_items snapshot.peers.now snapshot.stamp snapshot.seconds rib
+pub record AreItemsOf (snapshot : Snapshot) (rib : PrefixEntries) (told : EntryItems) : Type 0 where
+  pub items : map saying told.items.items ≡ entries_items snapshot.peers.now snapshot.stamp snapshot.seconds rib
   pub unknown : told.unknown ≡ first_unknown snapshot.peers.now rib.entries

@@ -5,7 +5,7 @@ pub mod PeerIndex
 pub mod Rib
 pub mod Session
 pub mod Content
-pub mod Told
+pub mod Items
 pub mod Verdict
 pub mod Event
 pub mod Peer

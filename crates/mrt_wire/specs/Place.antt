@@ -7,7 +7,7 @@ use Rattle.mrt_wire.specs.Record.{spelling}
 use Rattle.mrt_wire.specs.Verdict.{Index, Frame, index_after}
 use Rattle.mrt_wire.specs.Results.{Finding, finding, fault_findings, rest_fault}
 
--- how many records and octets are behind the source, at most limit octets, the peer index there, and whether it still reads
+-- where a source stands: the peer index there, how many records and octets are behind it, how many octets it takes at most, which time entries get, and whether it still reads
 pub record Place : Type 0 where
   pub index : Index
   pub number : ℕ

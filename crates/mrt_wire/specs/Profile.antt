@@ -4,7 +4,7 @@ use Rattle.ip_prefix.specs.declared.addr.Family.TheVariants.{V4, V6}
 use Rattle.bgp_wire.specs.declared.path.AsWidth.{AsWidth}
 use Rattle.bgp_wire.specs.declared.path.AsWidth.TheVariants.{Two, Four}
 use Rattle.mrt_wire.specs.declared.profile.Form.{Form}
-use Rattle.mrt_wire.specs.declared.profile.Form.TheVariants.{PeerIndex, Rib, Session}
+use Rattle.mrt_wire.specs.declared.profile.Form.TheVariants.{Peers, Entries, Session}
 use Rattle.mrt_wire.specs.declared.profile.SessionKind.{SessionKind}
 use Rattle.mrt_wire.specs.declared.profile.SessionKind.TheVariants.{StateChange, Message}
 use Rattle.mrt_wire.specs.declared.profile.TheConstants.{TABLE_DUMP_V2, BGP4MP, BGP4MP_ET, PEER_INDEX_TABLE, RIB_IPV4_UNICAST, RIB_IPV6_UNICAST, BGP4MP_STATE_CHANGE, BGP4MP_MESSAGE, BGP4MP_MESSAGE_AS4, BGP4MP_STATE_CHANGE_AS4}
@@ -13,22 +13,22 @@ use Rattle.mrt_wire.specs.Record.{Record}
 -- the forms of parts of tables, by subtype (section 4.3)
 abbrev pub table_form : ℕ → Option Form
 table_form subtype =
-    if subtype == PEER_INDEX_TABLE then Some PeerIndex
-    else if subtype == RIB_IPV4_UNICAST then Some (Rib V4)
-    else if subtype == RIB_IPV6_UNICAST then Some (Rib V6)
+    if subtype == PEER_INDEX_TABLE then Some Peers
+    else if subtype == RIB_IPV4_UNICAST then Some (Entries V4)
+    else if subtype == RIB_IPV6_UNICAST then Some (Entries V6)
     else None
 
 -- the form of what happened in a session
-abbrev pub session : Bool → SessionKind → AsWidth → Option Form
-session timed kind width = Some (Session record { kind = kind; width = width; timed = timed })
+abbrev pub happening_form : Bool → SessionKind → AsWidth → Option Form
+happening_form timed kind width = Some (Session record { kind = kind; width = width; timed = timed })
 
 -- those forms, by subtype (section 4.4)
 abbrev pub session_form : Bool → ℕ → Option Form
 session_form timed subtype =
-    if subtype == BGP4MP_STATE_CHANGE then session timed StateChange Two
-    else if subtype == BGP4MP_MESSAGE then session timed Message Two
-    else if subtype == BGP4MP_MESSAGE_AS4 then session timed Message Four
-    else if subtype == BGP4MP_STATE_CHANGE_AS4 then session timed StateChange Four
+    if subtype == BGP4MP_STATE_CHANGE then happening_form timed StateChange Two
+    else if subtype == BGP4MP_MESSAGE then happening_form timed Message Two
+    else if subtype == BGP4MP_MESSAGE_AS4 then happening_form timed Message Four
+    else if subtype == BGP4MP_STATE_CHANGE_AS4 then happening_form timed StateChange Four
     else None
 
 -- the table of what is read: the form of the bodies of a type and subtype

@@ -44,5 +44,5 @@ pub record IsRecord (r : Record) : Type 0 where
   pub size : length r.body ≤ LONGEST_BODY
 
 -- no record stands in front of the octets, whatever follows it
-abbrev pub BeginsWithNone : List ℕ → Type 0
-BeginsWithNone octets = (r : Record) (more : List ℕ) → IsRecord r → octets ≡ spelling r ++ more → ⊥
+abbrev pub BeginsWithNoRecord : List ℕ → Type 0
+BeginsWithNoRecord octets = (r : Record) (more : List ℕ) → IsRecord r → octets ≡ spelling r ++ more → ⊥

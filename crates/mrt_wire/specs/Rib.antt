@@ -13,7 +13,7 @@ use Rattle.mrt_wire.specs.declared.rib.TheConstants.{SEQUENCE_SIZE}
 use Rattle.mrt_wire.specs.Fields.{SpellsShort, AreOctets, AreSized}
 
 -- a prefix and its entries in a table
-pub record Rib : Type 0 where
+pub record PrefixEntries : Type 0 where
   pub prefix : Network
   pub entries : List RibEntry
 
@@ -32,10 +32,10 @@ abbrev pub SpellsEntries : Family → List RibEntry → List ℕ → Type 0
 SpellsEntries family = WithMore (SpellsCounted (SpellsEntry family))
 
 -- Prefix, and the entries
-abbrev pub SpellsPrefixed : Family → Rib → List ℕ → Type 0
+abbrev pub SpellsPrefixed : Family → PrefixEntries → List ℕ → Type 0
 SpellsPrefixed family rib octets =
     Then (SpellsNetwork family) (λ prefix. SpellsEntries family) (rib.prefix, rib.entries) octets
 
 -- the octets of RIB_IPV4_UNICAST or of RIB_IPV6_UNICAST, whose sequence number may be any
-abbrev pub SpellsRib : Family → Rib → List ℕ → Type 0
-SpellsRib family = Behind (AreOctets SEQUENCE_SIZE) (λ number. SpellsPrefixed family)
+abbrev pub SpellsRib : Family → PrefixEntries → List ℕ → Type 0
+SpellsRib family = Behind (AreOctets SEQUENCE_SIZE) (λ sequence. SpellsPrefixed family)

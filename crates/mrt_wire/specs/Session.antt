@@ -12,11 +12,11 @@ use Rattle.mrt_wire.specs.declared.peer.Peer.{Peer}
 use Rattle.mrt_wire.specs.declared.profile.SessionKind.{SessionKind}
 use Rattle.mrt_wire.specs.declared.profile.SessionKind.TheVariants as kind
 use Rattle.mrt_wire.specs.declared.profile.SessionForm.{SessionForm}
-use Rattle.mrt_wire.specs.declared.session.TheConstants.{INTERFACE_SIZE, SECOND}
+use Rattle.mrt_wire.specs.declared.session.TheConstants.{INTERFACE_SIZE, MICROS_PER_SECOND}
 use Rattle.mrt_wire.specs.declared.session.StateChange.{StateChange}
 use Rattle.mrt_wire.specs.declared.session.PeerMessage.{PeerMessage}
 use Rattle.mrt_wire.specs.declared.session.SessionContent.{SessionContent}
-use Rattle.mrt_wire.specs.declared.session.SessionContent.TheVariants.{Changed, Received}
+use Rattle.mrt_wire.specs.declared.session.SessionContent.TheVariants as content
 use Rattle.mrt_wire.specs.declared.session.SessionBody.{SessionBody}
 use Rattle.mrt_wire.specs.Fields.{SpellsShort, AreOctets, SpellsAddressOf}
 
@@ -27,7 +27,7 @@ SpellsFamily family octets = octets ≡ 0 ∷ family_code family ∷ []
 -- Peer AS Number, Local AS Number, Interface Index
 abbrev pub AreSystems : AsWidth → ℕ × (List ℕ × List ℕ) → List ℕ → Type 0
 AreSystems width =
-    Then (SpellsAsn width) (λ asn. Then (AreOctets (octets_at width)) (λ local. AreOctets INTERFACE_SIZE))
+    Then (SpellsAsn width) (λ asn. Then (AreOctets (octets_at width)) (λ local_asn. AreOctets INTERFACE_SIZE))
 
 -- Address Family, Peer IP Address, Local IP Address
 abbrev pub AreAddresses : Family × (Address × List ℕ) → List ℕ → Type 0
@@ -35,16 +35,16 @@ AreAddresses =
     Then SpellsFamily (λ family. Then (SpellsAddressOf family) (λ address. AreOctets (octet_count family)))
 
 -- the octets of a session with this peer, with AS numbers of this width; the local AS number, the interface and the local address may be any octets
-abbrev pub SpellsSession : AsWidth → Peer → List ℕ → Type 0
-SpellsSession width peer octets =
-    (number interface : List ℕ) × (family : Family) × (local : List ℕ)
+abbrev pub SpellsSessionPeer : AsWidth → Peer → List ℕ → Type 0
+SpellsSessionPeer width peer octets =
+    (local_asn interface : List ℕ) × (family : Family) × (local_address : List ℕ)
     × Then (AreSystems width) (λ systems. AreAddresses)
-    ((peer.asn, (number, interface)), (family, (peer.addr, local))) octets
+    ((peer.asn, (local_asn, interface)), (family, (peer.addr, local_address))) octets
 
 -- the session, Old State and New State, and any octets
 abbrev pub SpellsStates : AsWidth → Peer × (ℕ × ℕ) → List ℕ → Type 0
 SpellsStates width =
-    Then (SpellsSession width) (λ peer. Then SpellsShort (λ old. WithMore SpellsShort))
+    Then (SpellsSessionPeer width) (λ peer. Then SpellsShort (λ old. WithMore SpellsShort))
 
 -- the octets of STATE_CHANGE or STATE_CHANGE_AS4
 abbrev pub SpellsStateChange : AsWidth → StateChange → List ℕ → Type 0
@@ -54,18 +54,18 @@ SpellsStateChange width change octets =
 -- the octets of MESSAGE or MESSAGE_AS4: the session, and a message to the end
 abbrev pub SpellsPeerMessage : AsWidth → PeerMessage → List ℕ → Type 0
 SpellsPeerMessage width m octets =
-    Then (SpellsSession width) (λ peer. SpellsMessage width) (m.peer, m.message) octets
+    Then (SpellsSessionPeer width) (λ peer. SpellsMessage width) (m.peer, m.message) octets
 
 -- the octets of what happened in a session
 abbrev pub SpellsHappening : SessionKind → AsWidth → SessionContent → List ℕ → Type 0
-SpellsHappening kind.StateChange width content octets =
-    (change : StateChange) × (content ≡ Changed change) × SpellsStateChange width change octets
-SpellsHappening kind.Message width content octets =
-    (message : PeerMessage) × (content ≡ Received message) × SpellsPeerMessage width message octets
+SpellsHappening kind.StateChange width said octets =
+    (change : StateChange) × (said ≡ content.StateChange change) × SpellsStateChange width change octets
+SpellsHappening kind.Message width said octets =
+    (message : PeerMessage) × (said ≡ content.Message message) × SpellsPeerMessage width message octets
 
 -- the octets of microseconds, which don't make a second
 pub record SpellsMicros (n : ℕ) (octets : List ℕ) : Type 0 where
-  pub below : n < SECOND
+  pub below : n < MICROS_PER_SECOND
   pub spelled : SpellsWord n octets
 
 -- the octets of a body, with microseconds in front or not

@@ -2,7 +2,7 @@
 use Rattle.std.specs.Prelude.{◌≡◌, ℕ, List, ◌++◌}
 use Rattle.std.specs.List.{flat_map, AllByRecursion}
 use Rattle.mrt_wire.specs.declared.event.Stamp.{Stamp}
-use Rattle.mrt_wire.specs.Record.{spelling, IsRecord, BeginsWithNone}
+use Rattle.mrt_wire.specs.Record.{spelling, IsRecord, BeginsWithNoRecord}
 use Rattle.mrt_wire.specs.Verdict.{Frame, Index, Readings}
 
 -- the octets of records one behind the other
@@ -18,4 +18,4 @@ pub record AreFrames (stamp : Stamp) (index : Index) (frames : List Frame) : Typ
 pub record Splits (stamp : Stamp) (index : Index) (octets : List ℕ) (frames : List Frame) (rest : List ℕ) : Type 0 where
   pub whole : octets ≡ spellings frames ++ rest
   pub are_frames : AreFrames stamp index frames
-  pub none : BeginsWithNone rest
+  pub none : BeginsWithNoRecord rest

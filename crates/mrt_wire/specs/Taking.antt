@@ -1,4 +1,4 @@
--- What the reader of records takes, by what it says of it.
+-- What the reader of records takes from its input, by what it answers.
 use Rattle.std.specs.Prelude.{◌≡◌, ◌⊎◌, ℕ, ◌<◌, Bool, true, false, List, length, take, Option, Result, Ok, Err}
 use Rattle.std.specs.Io.KnownBytes.{IsAtEnd}
 use Rattle.mrt_wire.specs.declared.fault.SourceFault.{SourceFault}
@@ -8,17 +8,17 @@ use Rattle.mrt_wire.specs.declared.header.TheConstants.{HEADER_SIZE}
 use Rattle.mrt_wire.specs.declared.frames.Front.{Front}
 use Rattle.mrt_wire.specs.declared.frames.Front.TheVariants as front
 use Rattle.mrt_wire.specs.Device.{Stops}
-use Rattle.mrt_wire.specs.Record.{Record, record_under, IsHeader, header_octets, spelling, IsRecord, BeginsWithNone}
+use Rattle.mrt_wire.specs.Record.{Record, record_under, IsHeader, header_octets, spelling, IsRecord, BeginsWithNoRecord}
 use Rattle.mrt_wire.specs.Results.{rest_kind, rest_fault}
 
 -- no record stands in front of the octets, and no octets stand behind a header that states too much
 pub record IsRest (octets : List ℕ) : Type 0 where
-  pub none : BeginsWithNone octets
+  pub none : BeginsWithNoRecord octets
   pub stops : (rest_kind octets ≡ CutRecord) ⊎ (length octets ≡ HEADER_SIZE)
 
 -- a record has begun in the octets, or not even that, and none stands in front of them
 pub record IsBegun (octets : List ℕ) : Type 0 where
-  pub none : BeginsWithNone octets
+  pub none : BeginsWithNoRecord octets
   pub cut : rest_kind octets ≡ CutRecord
 
 -- the octets are the rest; but for a length that is too long, the input ends there

@@ -9,8 +9,8 @@ use Rattle.mrt_wire.specs.declared.event.Event.{Event}
 use Rattle.mrt_wire.specs.declared.peer.Peer.{Peer}
 use Rattle.mrt_wire.specs.Record.{Record}
 use Rattle.mrt_wire.specs.Event.{Saying}
-use Rattle.mrt_wire.specs.Content.{Content, Peers, Table, Session, IsBody}
-use Rattle.mrt_wire.specs.Told.{first_unknown, table_items, session_items}
+use Rattle.mrt_wire.specs.Content.{Content, Peers, Entries, Session, IsBody}
+use Rattle.mrt_wire.specs.Items.{first_unknown, entries_items, session_items}
 use Rattle.mrt_wire.specs.Profile.{IsSupported}
 
 -- what becomes of a record
@@ -31,7 +31,7 @@ Index = Option (List Peer)
 -- the peer index after a record: its own, where it brings one
 abbrev pub index_after : Index → Verdict → Index
 index_after index (Accepted (Peers peers) event) = Some peers
-index_after index (Accepted (Table rib) event) = index
+index_after index (Accepted (Entries rib) event) = index
 index_after index (Accepted (Session body) event) = index
 index_after index (Refused kind) = index
 
@@ -49,7 +49,7 @@ entries_fault (Some peers) (Some number) = Some (PeerIndex number)
 -- the fault of a content, with this peer index before it
 abbrev pub content_fault : Index → Content → Option RecordKind
 content_fault index (Peers peers) = None
-content_fault index (Table rib) = entries_fault index (first_unknown (peers_in index) rib.entries)
+content_fault index (Entries rib) = entries_fault index (first_unknown (peers_in index) rib.entries)
 content_fault index (Session body) = None
 
 -- the event of a part of a table
@@ -76,7 +76,7 @@ session_event seconds micros items = record {
 -- the event of an accepted record, with this peer index before it
 abbrev pub event_of : Stamp → Index → Record → Content → Event
 event_of stamp index r (Peers peers) = table_event r.seconds []
-event_of stamp index r (Table rib) = table_event r.seconds (table_items (peers_in index) stamp r.seconds rib)
+event_of stamp index r (Entries rib) = table_event r.seconds (entries_items (peers_in index) stamp r.seconds rib)
 event_of stamp index r (Session body) = session_event r.seconds body.micros (session_items r.seconds body.content)
 
 -- no content has the record's body for a spelling

@@ -11,7 +11,7 @@ use std::rc::Rc;
 pub enum Stamp {
     /// That of the dump.
     Dump,
-    /// That of the entry's last change.
+    /// That at which the entry was originated.
     Change,
 }
 
@@ -53,7 +53,7 @@ pub enum Item {
     /// The peer has no route to the prefix any more.
     Withdraw(Peer, Prefix),
     /// The session with the peer went from the first state to the second (RFC 4271,
-    /// section 8.2.2).
+    /// section 8.2.2; their numbers are those of RFC 6396, section 4.4.1).
     State(Peer, u16, u16),
 }
 

@@ -7,8 +7,8 @@ use crate::input::InFault;
 use std::alloc::AllocError;
 use thiserror::Error;
 
-/// What is wrong with a record, in the order in which it is looked for. `NoIndex` and `PeerIndex`
-/// come from parts of tables alone, which aren't read yet.
+/// What is wrong with a record, in the order in which it is looked for; but a body that is cut is
+/// looked for behind `TooLong`.
 #[derive(Clone, Copy, Debug, PartialEq, Eq)]
 pub enum RecordKind {
     /// The input ends inside the record.
@@ -19,9 +19,9 @@ pub enum RecordKind {
     Unsupported(u16, u16),
     /// The body isn't one of its type and subtype.
     Malformed,
-    /// A part of a table comes before any index of its peers.
+    /// The record of a table's entries comes before any accepted index of its peers.
     NoIndex,
-    /// The first number of a peer that the index doesn't have.
+    /// The first number among the entries of a table that is no peer's of its index.
     PeerIndex(u16),
 }
 

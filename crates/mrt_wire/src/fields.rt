@@ -31,7 +31,8 @@ pub(crate) fn split_octet(octets: &[u8]) -> Option<Field<'_, u8>>
 /// What follows so many octets.
 #[inline]
 pub(crate) fn skip(size: usize, octets: &[u8]) -> Option<&[u8]>
-    ensures some { IfSome result (λ rest. (value : List ℕ) × Begins (AreOctets size) value rest.now octets.now) }
+    ensures some { IfSome result (λ rest. (value : List ℕ)
+        × Begins (AreOctets size) value rest.now octets.now) }
     ensures none { IfNone result (BeginsWithNone (AreOctets size) octets.now) }
 {
     if octets.len() < size {

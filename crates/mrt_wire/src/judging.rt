@@ -110,7 +110,7 @@ fn judge_index(
     header: &Header,
     body: &[u8],
 ) -> Result<Event, Refusal>
-    requires { HasForm header.now.kind header.now.subtype Form.PeerIndex }
+    requires { HasForm header.now.kind header.now.subtype Form.Peers }
     ensures { (stamp : Stamp) →
         Judges stamp index.old index.new (record_under header.now body.now) result }
 {
@@ -128,7 +128,7 @@ fn judge_rib(
     header: &Header,
     body: &[u8],
 ) -> Result<Event, Refusal>
-    requires { HasForm header.now.kind header.now.subtype (Form.Rib family) }
+    requires { HasForm header.now.kind header.now.subtype (Form.Entries family) }
     ensures { Judges stamp index.now index.now (record_under header.now body.now) result }
 {
     let snapshot = Snapshot {
@@ -174,8 +174,8 @@ pub(crate) fn judge(
         return Err(Refusal::Fault(RecordKind::Unsupported(header.kind, header.subtype)));
     };
     match form {
-        Form::PeerIndex => judge_index(alloc, index, header, body),
-        Form::Rib(family) => judge_rib(alloc, stamp, index, family, header, body),
+        Form::Peers => judge_index(alloc, index, header, body),
+        Form::Entries(family) => judge_rib(alloc, stamp, index, family, header, body),
         Form::Session(session) => judge_session(alloc, session, header, body),
     }
 }

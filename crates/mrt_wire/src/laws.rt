@@ -10,7 +10,7 @@ ghost use Rattle.mrt_wire.specs.declared.header.TheConstants.{HEADER_SIZE};
 ghost use Rattle.mrt_wire.specs.declared.peer_index.TheConstants.{ID_SIZE, IPV6_PEER, AS4_PEER};
 ghost use Rattle.mrt_wire.specs.declared.profile.TheConstants.{TABLE_DUMP_V2, BGP4MP, BGP4MP_ET, PEER_INDEX_TABLE, RIB_IPV4_UNICAST, RIB_IPV6_UNICAST, BGP4MP_STATE_CHANGE, BGP4MP_MESSAGE, BGP4MP_MESSAGE_AS4, BGP4MP_STATE_CHANGE_AS4};
 ghost use Rattle.mrt_wire.specs.declared.rib.TheConstants.{SEQUENCE_SIZE};
-ghost use Rattle.mrt_wire.specs.declared.session.TheConstants.{INTERFACE_SIZE, SECOND};
+ghost use Rattle.mrt_wire.specs.declared.session.TheConstants.{INTERFACE_SIZE, MICROS_PER_SECOND};
 ghost use Rattle.mrt_wire.specs.declared.peer.Peer.{Peer};
 ghost use Rattle.mrt_wire.specs.Content.{Content, IsBody};
 ghost use Rattle.mrt_wire.specs.Peer.{peer_cmp};
@@ -62,5 +62,5 @@ pub fn record_numbers()
         × (BGP4MP_MESSAGE_AS4 ≡ 4) × (BGP4MP_STATE_CHANGE_AS4 ≡ 5) }
     ensures peer_types { (IPV6_PEER ≡ 1) × (AS4_PEER ≡ 2) }
     ensures fields { (ID_SIZE ≡ 4) × (SEQUENCE_SIZE ≡ 4) × (INTERFACE_SIZE ≡ 2) }
-    ensures microseconds { SECOND ≡ 1000000 }
+    ensures microseconds { MICROS_PER_SECOND ≡ 1000000 }
 {}

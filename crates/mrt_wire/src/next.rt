@@ -10,7 +10,7 @@ pub enum Next {
     Event(Event),
     /// A faulty record.
     Bad(RecordFault),
-    /// Nothing is left to read.
+    /// Nothing more is read.
     End,
 }
 

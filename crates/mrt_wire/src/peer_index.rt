@@ -91,7 +91,8 @@ fn read_peers(alloc: Global, octets: &[u8]) -> Result<Peers, WireFault>
 
 /// What follows the collector and the name of the view.
 fn skip_view(octets: &[u8]) -> Option<&[u8]>
-    ensures some { IfSome result (λ rest. (view : List ℕ × List ℕ) × Begins SpellsView view rest.now octets.now) }
+    ensures some { IfSome result (λ rest. (view : List ℕ × List ℕ)
+        × Begins SpellsView view rest.now octets.now) }
     ensures none { IfNone result (BeginsWithNone SpellsView octets.now) }
 {
     let after_id = skip(ID_SIZE, octets)?;

@@ -2,7 +2,7 @@
 //! section 4).
 
 ghost use Rattle.std.specs.Prelude.{◌≡◌};
-ghost use Rattle.mrt_wire.specs.Profile.{form_of, table_form, session_form, session};
+ghost use Rattle.mrt_wire.specs.Profile.{form_of, table_form, session_form, happening_form};
 
 use bgp_wire::AsWidth;
 use ip_prefix::Family;
@@ -45,9 +45,9 @@ pub(crate) struct SessionForm {
 #[derive(Clone, Copy)]
 pub(crate) enum Form {
     /// The peers of a table (section 4.3.1).
-    PeerIndex,
+    Peers,
     /// The entries of a table for a prefix of this family (section 4.3.2).
-    Rib(Family),
+    Entries(Family),
     /// What happens in a session (section 4.4).
     Session(SessionForm),
 }
@@ -69,9 +69,9 @@ fn table_form(subtype: u16) -> Option<Form>
     ensures { result ≡ table_form subtype }
 {
     match subtype {
-        PEER_INDEX_TABLE => Some(Form::PeerIndex),
-        RIB_IPV4_UNICAST => Some(Form::Rib(Family::V4)),
-        RIB_IPV6_UNICAST => Some(Form::Rib(Family::V6)),
+        PEER_INDEX_TABLE => Some(Form::Peers),
+        RIB_IPV4_UNICAST => Some(Form::Entries(Family::V4)),
+        RIB_IPV6_UNICAST => Some(Form::Entries(Family::V6)),
         _ => None,
     }
 }
@@ -81,17 +81,17 @@ fn session_form(timed: bool, subtype: u16) -> Option<Form>
     ensures { result ≡ session_form timed subtype }
 {
     match subtype {
-        BGP4MP_STATE_CHANGE => session(timed, SessionKind::StateChange, AsWidth::Two),
-        BGP4MP_MESSAGE => session(timed, SessionKind::Message, AsWidth::Two),
-        BGP4MP_MESSAGE_AS4 => session(timed, SessionKind::Message, AsWidth::Four),
-        BGP4MP_STATE_CHANGE_AS4 => session(timed, SessionKind::StateChange, AsWidth::Four),
+        BGP4MP_STATE_CHANGE => happening_form(timed, SessionKind::StateChange, AsWidth::Two),
+        BGP4MP_MESSAGE => happening_form(timed, SessionKind::Message, AsWidth::Two),
+        BGP4MP_MESSAGE_AS4 => happening_form(timed, SessionKind::Message, AsWidth::Four),
+        BGP4MP_STATE_CHANGE_AS4 => happening_form(timed, SessionKind::StateChange, AsWidth::Four),
         _ => None,
     }
 }
 
 /// The form of such a happening.
-fn session(timed: bool, kind: SessionKind, width: AsWidth) -> Option<Form>
-    ensures { result ≡ session timed kind width }
+fn happening_form(timed: bool, kind: SessionKind, width: AsWidth) -> Option<Form>
+    ensures { result ≡ happening_form timed kind width }
 {
     Some(Form::Session(SessionForm { kind, width, timed }))
 }

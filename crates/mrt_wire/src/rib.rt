@@ -1,14 +1,14 @@
 //! Reading the entries of a table for one prefix (RFC 6396, section 4.3.2).
 
-ghost use Rattle.std.specs.Prelude.{◌≡◌, ◌++◌, List, map, slice_get, OnOk, IfSome, IfNone, IfOk, IfErr};
+ghost use Rattle.std.specs.Prelude.{◌≡◌, List, slice_get, OnOk, IfSome, IfNone, IfOk, IfErr};
 ghost use Rattle.std.specs.Option.{option_or};
 ghost use Rattle.ip_prefix.specs.Sequences.{Begins, BeginsWithNone};
 ghost use Rattle.bgp_wire.specs.Reading.{Refuses, RefusesFront};
 ghost use Rattle.mrt_wire.specs.declared.rib.RibEntry.{RibEntry};
-ghost use Rattle.mrt_wire.specs.Event.{saying};
-ghost use Rattle.mrt_wire.specs.Rib.{Rib, AreEntryFields, SpellsEntry, SpellsEntries, SpellsPrefixed, SpellsRib};
-ghost use Rattle.mrt_wire.specs.Told.{entry_time, entry_items, unknown_peer};
-ghost use Rattle.mrt_wire.specs.Judging.{Tells};
+ghost use Rattle.mrt_wire.specs.Rib.{PrefixEntries, AreEntryFields, SpellsEntry, SpellsEntries};
+ghost use Rattle.mrt_wire.specs.Rib.{SpellsPrefixed, SpellsRib};
+ghost use Rattle.mrt_wire.specs.Items.{entry_time, entry_items, unknown_peer};
+ghost use Rattle.mrt_wire.specs.Judging.{Adds, AreItemsOf};
 
 use crate::event::{Item, Items, Route, Stamp};
 use crate::fields::{skip, split_short, split_sized, split_word};
@@ -46,7 +46,7 @@ pub(crate) struct Snapshot<'a> {
 
 /// What entries say, and the first number among them that is no peer's.
 #[derive(Drop)]
-pub(crate) struct Told {
+pub(crate) struct EntryItems {
     pub(crate) items: Vec<Item>,
     pub(crate) unknown: Option<u16>,
 }
@@ -114,7 +114,7 @@ fn time_of(snapshot: Snapshot<'_>, originated: u32) -> u32
     }
 }
 
-impl Told {
+impl EntryItems {
     /// Adds what an entry announces, or notes that its number is no peer's.
     fn add(
         &mut self,
@@ -123,8 +123,9 @@ impl Told {
         prefix: Prefix,
         entry: RibEntry,
     ) -> Result<(), AllocError>
-        ensures items { OnOk result (map saying self.new.items.items ≡ map saying self.old.items.items
-            ++ entry_items snapshot.entry.peers.now snapshot.entry.stamp snapshot.entry.seconds prefix entry) }
+        ensures items { OnOk result (Adds self.old.items.items self.new.items.items
+            (entry_items snapshot.entry.peers.now snapshot.entry.stamp
+            snapshot.entry.seconds prefix entry)) }
         ensures unknown { OnOk result (self.new.unknown ≡
             option_or self.old.unknown (unknown_peer snapshot.entry.peers.now entry)) }
     {
@@ -147,17 +148,17 @@ fn read_entries(
     snapshot: Snapshot<'_>,
     prefix: Prefix,
     octets: &[u8],
-) -> Result<Told, WireFault>
+) -> Result<EntryItems, WireFault>
     ensures told { IfOk result (λ told. (entries : List RibEntry)
         × SpellsEntries family entries octets.now
-        × Tells snapshot.entry record { prefix = prefix; entries = entries } told) }
+        × AreItemsOf snapshot.entry record { prefix = prefix; entries = entries } told) }
     ensures refused { IfErr result (Refuses (SpellsEntries family) octets.now) }
 {
     let Some(count) = split_short(octets) else {
         return Err(WireFault::Malformed);
     };
     let most = count.rest.len() / SMALLEST_ENTRY;
-    let mut told = Told {
+    let mut told = EntryItems {
         items: Vec::with_capacity(alloc, most.min(usize::from(count.value)))?,
         unknown: None,
     };
@@ -176,9 +177,9 @@ fn read_prefixed(
     family: Family,
     snapshot: Snapshot<'_>,
     octets: &[u8],
-) -> Result<Told, WireFault>
-    ensures told { IfOk result (λ told. (rib : Rib)
-        × SpellsPrefixed family rib octets.now × Tells snapshot.entry rib told) }
+) -> Result<EntryItems, WireFault>
+    ensures told { IfOk result (λ told. (rib : PrefixEntries)
+        × SpellsPrefixed family rib octets.now × AreItemsOf snapshot.entry rib told) }
     ensures refused { IfErr result (Refuses (SpellsPrefixed family) octets.now) }
 {
     let Some(found) = Prefix::read(family, octets) else {
@@ -194,9 +195,9 @@ pub(crate) fn read_rib(
     family: Family,
     snapshot: Snapshot<'_>,
     octets: &[u8],
-) -> Result<Told, WireFault>
-    ensures told { IfOk result (λ told. (rib : Rib)
-        × SpellsRib family rib octets.now × Tells snapshot.entry rib told) }
+) -> Result<EntryItems, WireFault>
+    ensures told { IfOk result (λ told. (rib : PrefixEntries)
+        × SpellsRib family rib octets.now × AreItemsOf snapshot.entry rib told) }
     ensures refused { IfErr result (Refuses (SpellsRib family) octets.now) }
 {
     let Some(rest) = skip(SEQUENCE_SIZE, octets) else {

@@ -6,7 +6,7 @@ ghost use Rattle.ip_prefix.specs.Sequences.{Begins, BeginsWithNone};
 ghost use Rattle.bgp_wire.specs.Number.{octets_at};
 ghost use Rattle.bgp_wire.specs.Reading.{Finds, Reads};
 ghost use Rattle.mrt_wire.specs.Fields.{FindsField};
-ghost use Rattle.mrt_wire.specs.Session.{SpellsFamily, AreSystems, AreAddresses, SpellsSession, SpellsStateChange, SpellsPeerMessage, SpellsMicros, SpellsHappening, SpellsSessionBody};
+ghost use Rattle.mrt_wire.specs.Session.{SpellsFamily, AreSystems, AreAddresses, SpellsSessionPeer, SpellsStateChange, SpellsPeerMessage, SpellsMicros, SpellsHappening, SpellsSessionBody};
 
 use crate::fields::{Field, skip, split_address, split_asn, split_short, split_word};
 use crate::peer::Peer;
@@ -19,7 +19,7 @@ use std::alloc::Global;
 const INTERFACE_SIZE: usize = 2;
 
 /// How many microseconds make a second.
-const SECOND: u32 = 1_000_000;
+const MICROS_PER_SECOND: u32 = 1_000_000;
 
 /// A peer's old and new state (RFC 4271, section 8.2.2).
 #[derive(Clone, Copy, Debug)]
@@ -39,8 +39,8 @@ pub(crate) struct PeerMessage {
 /// What happened in a session.
 #[derive(Debug, Drop)]
 pub(crate) enum SessionContent {
-    Changed(StateChange),
-    Received(PeerMessage),
+    StateChange(StateChange),
+    Message(PeerMessage),
 }
 
 /// What happened in a session, and the microseconds, where the body has them.
@@ -129,8 +129,8 @@ fn split_addresses(octets: &[u8]) -> Option<Field<'_, Addr>>
 }
 
 /// The session in front, and what follows it.
-fn split_session(width: AsWidth, octets: &[u8]) -> Option<Field<'_, Peer>>
-    ensures { FindsField (SpellsSession width) octets.now result }
+fn split_session_peer(width: AsWidth, octets: &[u8]) -> Option<Field<'_, Peer>>
+    ensures { FindsField (SpellsSessionPeer width) octets.now result }
 {
     let asn = split_systems(width, octets)?;
     let Some(addr) = split_addresses(asn.rest) else {
@@ -149,7 +149,7 @@ fn split_session(width: AsWidth, octets: &[u8]) -> Option<Field<'_, Peer>>
 fn read_state_change(width: AsWidth, octets: &[u8]) -> Option<StateChange>
     ensures { Finds (SpellsStateChange width) octets.now result }
 {
-    let Some(session) = split_session(width, octets) else {
+    let Some(session) = split_session_peer(width, octets) else {
         return None;
     };
     let old = split_short(session.rest)?;
@@ -169,7 +169,7 @@ fn read_peer_message(
 ) -> Result<PeerMessage, WireFault>
     ensures { Reads (SpellsPeerMessage width) octets.now result }
 {
-    let Some(session) = split_session(width, octets) else {
+    let Some(session) = split_session_peer(width, octets) else {
         return Err(WireFault::Malformed);
     };
     let message = read_message(alloc, width, session.rest)?;
@@ -184,7 +184,7 @@ fn split_micros(octets: &[u8]) -> Option<Field<'_, u32>>
     ensures { FindsField SpellsMicros octets.now result }
 {
     let micros = split_word(octets)?;
-    if micros.value >= SECOND {
+    if micros.value >= MICROS_PER_SECOND {
         return None;
     }
     Some(micros)
@@ -197,7 +197,7 @@ fn read_change(width: AsWidth, octets: &[u8]) -> Result<SessionContent, WireFaul
     let Some(change) = read_state_change(width, octets) else {
         return Err(WireFault::Malformed);
     };
-    Ok(SessionContent::Changed(change))
+    Ok(SessionContent::StateChange(change))
 }
 
 /// What happened in a session, as the octets say.
@@ -213,7 +213,7 @@ fn read_happening(
         SessionKind::StateChange => read_change(width, octets),
         SessionKind::Message => {
             let message = read_peer_message(alloc, width, octets)?;
-            Ok(SessionContent::Received(message))
+            Ok(SessionContent::Message(message))
         }
     }
 }

@@ -1,8 +1,8 @@
 //! What messages say of routes.
 
-ghost use Rattle.std.specs.Prelude.{◌≡◌, ◌++◌, map, OnOk, IfOk};
-ghost use Rattle.mrt_wire.specs.Event.{Withdrawn, saying};
-ghost use Rattle.mrt_wire.specs.Told.{announcements, mp_announcements, message_items, route_of, session_items, update_items};
+ghost use Rattle.std.specs.Prelude.{◌≡◌, ◌++◌, ◌∷◌, [], map, OnOk, IfOk};
+ghost use Rattle.mrt_wire.specs.Event.{Withdrawn, Changed, saying};
+ghost use Rattle.mrt_wire.specs.Items.{announcements, mp_announcements, message_items, route_of, session_items, update_items};
 ghost use Rattle.mrt_wire.specs.Judging.{Adds};
 
 use crate::event::{Item, Items, Route};
@@ -133,7 +133,8 @@ fn items_of_message(
 
 /// What a state change says.
 fn items_of_change(alloc: Global, change: &StateChange) -> Result<Items, AllocError>
-    ensures { IfOk result (λ items. items ≡ session_items 0 (SessionContent.Changed change.now)) }
+    ensures { IfOk result (λ items.
+        items ≡ Changed change.now.peer change.now.old change.now.new ∷ []) }
 {
     let items = vec![in alloc; Item::State(change.peer, change.old, change.new)]?;
     Ok(Items::from_vec(items))
@@ -148,8 +149,8 @@ pub(crate) fn items_of_session(
     ensures { IfOk result (λ items. items ≡ session_items seconds content) }
 {
     match content {
-        SessionContent::Changed(change) => items_of_change(alloc, &change),
-        SessionContent::Received(received) => {
+        SessionContent::StateChange(change) => items_of_change(alloc, &change),
+        SessionContent::Message(received) => {
             let PeerMessage { message, peer } = received;
             items_of_message(alloc, &peer, seconds, message)
         }

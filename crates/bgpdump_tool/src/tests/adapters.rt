@@ -3,7 +3,7 @@
 ghost use Rattle.std.specs.Prelude.{◌≡◌, None, false};
 
 use super::devices::{SlowInput, SlowOutput};
-use super::{LINE, PEER_INDEX, PEER_INDEX_REPORT, STATE_CHANGE, octets_of};
+use super::{LINE, MULTICAST, MULTICAST_REPORT, STATE_CHANGE, octets_of};
 use crate::{OutFault, Outcome, Output, WriteOutput, put_all, run_dump};
 use mrt_wire::{InFault, Input, Stamp};
 use std::alloc::{AllocError, Global};
@@ -119,7 +119,7 @@ fn written_before_the_second(alloc: Global, record: &str) -> Result<(Outcome, us
 fn all_is_written_before_the_next_record_is_read(rt: HostRuntime) -> Result<(), Fail> {
     let line = written_before_the_second(rt.alloc(), STATE_CHANGE)?;
     assert_eq!(rt; line, (Outcome::Done, LINE.len()));
-    let report = written_before_the_second(rt.alloc(), PEER_INDEX)?;
-    assert_eq!(rt; report, (Outcome::Reported, PEER_INDEX_REPORT.len()));
+    let report = written_before_the_second(rt.alloc(), MULTICAST)?;
+    assert_eq!(rt; report, (Outcome::Reported, MULTICAST_REPORT.len()));
     Ok(())
 }

@@ -3,7 +3,7 @@
 ghost use Rattle.std.specs.Prelude.{◌≡◌, false};
 
 use super::devices::{SlowInput, SlowOutput};
-use super::{LINE, PEER_INDEX, PEER_INDEX_REPORT, STATE_CHANGE, octets_of};
+use super::{LINE, MULTICAST, MULTICAST_REPORT, STATE_CHANGE, octets_of};
 use crate::{OutFault, Outcome, put_all, run_dump};
 use mrt_wire::Stamp;
 use std::alloc::Global;
@@ -47,13 +47,13 @@ fn a_read_fault_ends_a_run(rt: HostRuntime) -> Result<(), Fail> {
 #[test]
 fn a_read_fault_ends_a_run_octet_by_octet(rt: HostRuntime) -> Result<(), Fail> {
     let alloc = rt.alloc();
-    let octets = octets_of(alloc, &[PEER_INDEX, STATE_CHANGE])?;
+    let octets = octets_of(alloc, &[MULTICAST, STATE_CHANGE])?;
     for sound in 0..63 {
         let mut out = SlowOutput::new(alloc, 1, MANY, true);
         let mut err = SlowOutput::new(alloc, 1, MANY, true);
         let mut input = SlowInput::new(&octets, 1, sound);
         let outcome = run_dump(alloc, &mut input, &mut out, &mut err, Stamp::Dump);
-        let reports = if sound < 31 { "" } else { PEER_INDEX_REPORT };
+        let reports = if sound < 31 { "" } else { MULTICAST_REPORT };
         assert_eq!(rt; outcome, Outcome::ReadFault, "after {sound} octets");
         assert!(rt; out.text.is_empty(), "after {sound} octets");
         assert_eq!(rt;
@@ -68,14 +68,14 @@ fn a_read_fault_ends_a_run_octet_by_octet(rt: HostRuntime) -> Result<(), Fail> {
 #[test]
 fn reads_and_writes_octet_by_octet(rt: HostRuntime) -> Result<(), Fail> {
     let alloc = rt.alloc();
-    let octets = octets_of(alloc, &[PEER_INDEX, STATE_CHANGE])?;
+    let octets = octets_of(alloc, &[MULTICAST, STATE_CHANGE])?;
     let mut out = SlowOutput::new(alloc, 1, MANY, true);
     let mut err = SlowOutput::new(alloc, 1, MANY, true);
     let mut input = SlowInput::new(&octets, 1, MANY);
     let outcome = run_dump(alloc, &mut input, &mut out, &mut err, Stamp::Dump);
     assert_eq!(rt; outcome, Outcome::Reported);
     assert_eq!(rt; out.text.as_slice(), LINE.as_bytes());
-    assert_eq!(rt; err.text.as_slice(), PEER_INDEX_REPORT.as_bytes());
+    assert_eq!(rt; err.text.as_slice(), MULTICAST_REPORT.as_bytes());
     Ok(())
 }
 
@@ -108,9 +108,9 @@ fn a_run_finishes_its_outputs(rt: HostRuntime) -> Result<(), Fail> {
         (STATE_CHANGE, true, true, Outcome::Done),
         (STATE_CHANGE, false, true, Outcome::WriteFault),
         (STATE_CHANGE, true, false, Outcome::WriteFault),
-        (PEER_INDEX, true, true, Outcome::Reported),
-        (PEER_INDEX, false, true, Outcome::WriteFault),
-        (PEER_INDEX, true, false, Outcome::WriteFault),
+        (MULTICAST, true, true, Outcome::Reported),
+        (MULTICAST, false, true, Outcome::WriteFault),
+        (MULTICAST, true, false, Outcome::WriteFault),
     ] {
         let octets = octets_of(alloc, &[records])?;
         let mut out = SlowOutput::new(alloc, MANY, MANY, out_finishes);

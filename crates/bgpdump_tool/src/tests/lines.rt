@@ -1,7 +1,8 @@
 //! The lines of events that no record gives yet, and of state changes with microseconds.
 
-use crate::lines::put_lines;
-use bgp_wire::{AsPath, Attrs, Communities, Segments};
+use super::octets_of;
+use crate::put_lines;
+use bgp_wire::{AsPath, AsWidth, Attrs, Communities, Segments, WireFault, read_rib_attrs};
 use ip_prefix::{Addr, Prefix};
 use mrt_wire::{Event, Item, Items, Peer, Route, Tag, Time};
 use std::alloc::{AllocError, Global};
@@ -101,6 +102,172 @@ fn each_item_has_a_line(rt: HostRuntime) -> Result<(), Fail> {
         let mut text = Vec::new(rt.alloc());
         put_lines(&event, &mut text)?;
         assert_eq!(rt; text.as_slice(), want.as_bytes());
+    }
+    Ok(())
+}
+
+/// Entries of tables: the time of the route, the prefix, the attributes with AS numbers of four
+/// octets, and the line.
+const ENTRIES: [(u32, &str, &str, &str); 7] = [
+    (
+        200,
+        "10.0.0.0/8",
+        "40010100 400210 0201 0000FBF4 0102 00000001 00000002 400304 C0000209 400600 \
+         C00808 FBF40001 FFFFFF01",
+        "TABLE_DUMP2|200|B|192.0.2.1|64500|10.0.0.0/8|64500 {1,2}|IGP|192.0.2.9|0|0|\
+         64500:1 no-export|AG||\n",
+    ),
+    (
+        50,
+        "10.0.0.0/8",
+        "40010100 400210 0201 0000FBF4 0102 00000001 00000002 400304 C0000209 400600 \
+         C00808 FBF40001 FFFFFF01",
+        "TABLE_DUMP2|50|B|192.0.2.1|64500|10.0.0.0/8|64500 {1,2}|IGP|192.0.2.9|0|0|\
+         64500:1 no-export|AG||\n",
+    ),
+    (
+        200,
+        "2001:db8::/32",
+        "800E11 10 20010DB8000000000001000000000001",
+        "TABLE_DUMP2|200|B|192.0.2.1|64500|2001:db8::/32|||2001:db8::1:0:0:1|0|0||NAG||\n",
+    ),
+    (
+        200,
+        "10.0.0.0/8",
+        "",
+        "TABLE_DUMP2|200|B|192.0.2.1|64500|10.0.0.0/8||||0|0||NAG||\n",
+    ),
+    (
+        200,
+        "10.0.0.0/8",
+        "40010101",
+        "TABLE_DUMP2|200|B|192.0.2.1|64500|10.0.0.0/8||EGP||0|0||NAG||\n",
+    ),
+    (
+        200,
+        "10.0.0.0/8",
+        "40010102",
+        "TABLE_DUMP2|200|B|192.0.2.1|64500|10.0.0.0/8||INCOMPLETE||0|0||NAG||\n",
+    ),
+    (
+        200,
+        "10.0.0.0/8",
+        "400504 00000064",
+        "TABLE_DUMP2|200|B|192.0.2.1|64500|10.0.0.0/8||||100|0||NAG||\n",
+    ),
+];
+
+/// Announcements of 10.128.0.0/9 at 100 seconds: the attributes with AS numbers of two octets, and
+/// the line.
+const ANNOUNCEMENTS: [(&str, &str); 4] = [
+    (
+        "40010100 400204 0201 FBF4 400304 C0000209",
+        "BGP4MP|100|A|192.0.2.1|64500|10.128.0.0/9|64500|IGP|192.0.2.9|0|0||NAG||\n",
+    ),
+    (
+        "40010100 400204 0201 FBF4 400304 C0000209 C00706 5BA0 C0000263 \
+         C01208 00011170 C0000263",
+        "BGP4MP|100|A|192.0.2.1|64500|10.128.0.0/9|64500|IGP|192.0.2.9|0|0||NAG|\
+         70000 192.0.2.99|\n",
+    ),
+    (
+        "40010100 400204 0201 FBF4 400304 C0000209 C00706 FBF4 C0000263 \
+         C01208 00011170 C0000263",
+        "BGP4MP|100|A|192.0.2.1|64500|10.128.0.0/9|64500|IGP|192.0.2.9|0|0||NAG|\
+         64500 192.0.2.99|\n",
+    ),
+    (
+        "40010100 400204 0201 FBF4 400304 C0000209 800404 0000000A 800404 00000014",
+        "BGP4MP|100|A|192.0.2.1|64500|10.128.0.0/9|64500|IGP|192.0.2.9|0|10||NAG||\n",
+    ),
+];
+
+/// An event of so many announcements, which share one route.
+fn event_with(
+    alloc: Global,
+    tag: Tag,
+    seconds: u32,
+    prefix: Prefix,
+    route: Route,
+    count: usize,
+) -> Result<Event, AllocError> {
+    let route = Rc::new(alloc, route)?;
+    let mut items = Vec::new(alloc);
+    for _ in 0..count {
+        items.push(Item::Announce(peer(), prefix, route.clone()?))?;
+    }
+    Ok(Event {
+        time: Time {
+            seconds,
+            micros: None,
+        },
+        tag,
+        items: Items::from_vec(items),
+    })
+}
+
+/// The lines of an event whose route has these attributes, which are written in hexadecimal.
+fn lines_of(
+    alloc: Global,
+    tag: Tag,
+    seconds: u32,
+    time: u32,
+    prefix: &str,
+    width: AsWidth,
+    octets: &str,
+) -> Result<Vec<u8>, WireFault> {
+    let prefix = Prefix::parse(prefix.as_bytes()).ok_or(WireFault::Malformed)?;
+    let octets = octets_of(alloc, &[octets])?;
+    let attrs = read_rib_attrs(alloc, prefix.family(), width, octets.as_slice())?;
+    let event = event_with(alloc, tag, seconds, prefix, Route { attrs, time }, 1)?;
+    let mut text = Vec::new(alloc);
+    put_lines(&event, &mut text)?;
+    Ok(text)
+}
+
+#[test]
+fn entries_show_their_attributes(rt: HostRuntime) -> Result<(), Fail> {
+    for (time, prefix, octets, want) in ENTRIES {
+        let tag = Tag::TableDump2;
+        let text = lines_of(rt.alloc(), tag, 200, time, prefix, AsWidth::Four, octets)?;
+        assert_eq!(rt; text.as_slice(), want.as_bytes());
+    }
+    Ok(())
+}
+
+#[test]
+fn announcements_show_their_attributes(rt: HostRuntime) -> Result<(), Fail> {
+    for (octets, want) in ANNOUNCEMENTS {
+        let tag = Tag::Bgp4mp;
+        let prefix = "10.128.0.0/9";
+        let text = lines_of(rt.alloc(), tag, 100, 100, prefix, AsWidth::Two, octets)?;
+        assert_eq!(rt; text.as_slice(), want.as_bytes());
+    }
+    Ok(())
+}
+
+/// The line of each announcement of a large event.
+const LINE_OF_MANY: &str = "BGP4MP|200|A|192.0.2.1|64500|10.0.0.0/8||||0|0||NAG||\n";
+
+#[test]
+fn no_items_have_no_lines_and_many_have_many(rt: HostRuntime) -> Result<(), Fail> {
+    for count in [0, 1, 10_000] {
+        let event = event_with(
+            rt.alloc(),
+            Tag::Bgp4mp,
+            200,
+            ten(),
+            route(rt.alloc()),
+            count,
+        )?;
+        let mut text = Vec::from_slice(rt.alloc(), b"old text\n")?;
+        put_lines(&event, &mut text)?;
+        assert_eq!(rt; text.len(), 9 + count * LINE_OF_MANY.len());
+        let (old, lines) = text.split_at(9);
+        assert_eq!(rt; old, b"old text\n".as_slice());
+        for line in lines.chunks(LINE_OF_MANY.len()) {
+            assert_eq!(rt; line, LINE_OF_MANY.as_bytes());
+        }
     }
     Ok(())
 }

@@ -1,6 +1,6 @@
 //! What runs write over inputs and outputs that are sound.
 
-use super::{LINE, PEER_INDEX, Run, STATE_CHANGE, dump, octets_of};
+use super::{LINE, MULTICAST, Run, STATE_CHANGE, dump, octets_of};
 use crate::Outcome;
 use std::process::Abort;
 use std::test::Fail;
@@ -37,17 +37,14 @@ const READ: [(&str, &str, &str); 6] = [
 
 /// Whole records that give no line, with what is reported of them.
 const FAULTY: [(&str, &str); 8] = [
-    (PEER_INDEX, "unsupported type 13 subtype 1"),
-    // Seven octets of body, and eight with the address family of IPv6.
+    (MULTICAST, "unsupported type 13 subtype 3"),
+    // Seven octets of body, and eight.
     ("00000064 0010 0000 00000007 FBF4 FBF5 0000 00", "malformed"),
-    (
-        "00000064 0010 0000 00000008 FBF4 FBF5 0000 0002",
-        "unsupported type 16 subtype 0",
-    ),
-    // The address family of IPv6, and one that isn't used.
+    ("00000064 0010 0000 00000008 FBF4 FBF5 0000 0002", "malformed"),
+    // Too few octets for the address family, and one that isn't used.
     (
         "00000064 0010 0000 00000014 FBF4 FBF5 0000 0002 C0000201 C0000202 0006 0001",
-        "unsupported type 16 subtype 0",
+        "malformed",
     ),
     (
         "00000064 0010 0000 00000014 FBF4 FBF5 0000 0003 C0000201 C0000202 0006 0001",
@@ -60,12 +57,12 @@ const FAULTY: [(&str, &str); 8] = [
     ),
     // Another subtype, and another type.
     (
-        "00000064 0010 0001 00000014 FBF4 FBF5 0000 0001 C0000201 C0000202 0006 0001",
-        "unsupported type 16 subtype 1",
+        "00000064 0010 0002 00000014 FBF4 FBF5 0000 0001 C0000201 C0000202 0006 0001",
+        "unsupported type 16 subtype 2",
     ),
     (
-        "00000064 0011 0000 00000014 FBF4 FBF5 0000 0001 C0000201 C0000202 0006 0001",
-        "unsupported type 17 subtype 0",
+        "00000064 0012 0000 00000014 FBF4 FBF5 0000 0001 C0000201 C0000202 0006 0001",
+        "unsupported type 18 subtype 0",
     ),
 ];
 

@@ -18,12 +18,12 @@ returns-in_err-peers c stamp =
     let fault = c.in_err-peers.field-0.0 in
     let p = err_from_is_err_and c.from_residual.result c.from_residual.ensures.1 in
     subst (Judges stamp index index r) (sym (p.1 ∙ ap Err p.2))
-    (refused_body stamp index r form.PeerIndex fault c.requires
-    (refused_part (SpellsContent form.PeerIndex) SpellsPeerIndex r.body r.body fault (λ content s. (s.0, s.2)) c.in_err-peers.ensures))
+    (refused_body stamp index r form.Peers fault c.requires
+    (refused_part (SpellsContent form.Peers) SpellsPeerIndex r.body r.body fault (λ content s. (s.0, s.2)) c.in_err-peers.ensures))
 
 pub returns : goal.returns
 returns c stamp = (
   Peers c.in_ok-peers.peers,
-  record { is_body = (form.PeerIndex, c.requires, (c.in_ok-peers.peers, refl, c.in_ok-peers.ensures)); sound = refl; made = c.table_event.ensures ∙ ap (table_event c.args.header.now.seconds) (c.from_vec.ensures ∙ ap (map saying) c.new.ensures.items) },
+  record { is_body = (form.Peers, c.requires, (c.in_ok-peers.peers, refl, c.in_ok-peers.ensures)); sound = refl; made = c.table_event.ensures ∙ ap (table_event c.args.header.now.seconds) (c.from_vec.ensures ∙ ap (map saying) c.new.ensures.items) },
   refl,
 )

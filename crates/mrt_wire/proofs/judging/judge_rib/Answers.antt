@@ -2,10 +2,10 @@ use Rattle.std.proofs.Common.{Err, ap, sym, subst, ◌∙◌, refl}
 use Rattle.std.proofs.lemmas.Result.{err_from_is_err_and}
 use Rattle.bgp_wire.proofs.Refusing.{refused_part}
 use Rattle.mrt_wire.specs.declared.profile.Form.TheVariants as form
-use Rattle.mrt_wire.specs.Content.{Table, SpellsContent}
+use Rattle.mrt_wire.specs.Content.{Entries, SpellsContent}
 use Rattle.mrt_wire.specs.Rib.{SpellsRib}
 use Rattle.mrt_wire.specs.Record.{record_under}
-use Rattle.mrt_wire.specs.Told.{first_unknown, table_items}
+use Rattle.mrt_wire.specs.Items.{first_unknown, entries_items}
 use Rattle.mrt_wire.specs.Verdict.{entries_fault, table_event}
 use Rattle.mrt_wire.specs.Judging.{Judges}
 use Rattle.mrt_wire.proofs.JudgingLaws.{refused_body, fault_of_content}
@@ -19,8 +19,8 @@ returns-in_err-told c =
     let fault = c.in_err-told.field-0.0 in
     let p = err_from_is_err_and c.from_residual.result c.from_residual.ensures.1 in
     subst (Judges c.args.stamp index index r) (sym (p.1 ∙ ap Err p.2))
-    (refused_body c.args.stamp index r (form.Rib family) fault c.requires
-    (refused_part (SpellsContent (form.Rib family)) (SpellsRib family) r.body r.body fault (λ content s. (s.0, s.2)) c.in_err-told.ensures.refused))
+    (refused_body c.args.stamp index r (form.Entries family) fault c.requires
+    (refused_part (SpellsContent (form.Entries family)) (SpellsRib family) r.body r.body fault (λ content s. (s.0, s.2)) c.in_err-told.ensures.refused))
 
 pub returns-in-Some : goal.returns-in-Some
 returns-in-Some c =
@@ -29,7 +29,7 @@ returns-in-Some c =
     let (rib, spelled, tells) = c.in_ok-told.ensures.told in
     let unknown = tells.unknown ∙ ap (λ peers. first_unknown peers rib.entries) c.peers_in.ensures in
     let is = ap (entries_fault index) (sym unknown) ∙ sym c.entries_fault.ensures ∙ c.in-Some.is in
-    (fault_of_content index r (Table rib) c.in-Some.kind (form.Rib c.args.family, c.requires, (rib, refl, spelled)) is, refl)
+    (fault_of_content index r (Entries rib) c.in-Some.kind (form.Entries c.args.family, c.requires, (rib, refl, spelled)) is, refl)
 
 pub returns : goal.returns
 returns c =
@@ -37,10 +37,10 @@ returns c =
     let seconds = c.args.header.now.seconds in
     let (rib, spelled, tells) = c.in_ok-told.ensures.told in
     let unknown = tells.unknown ∙ ap (λ peers. first_unknown peers rib.entries) c.peers_in.ensures in
-    let items = c.from_vec.ensures ∙ tells.items ∙ ap (λ peers. table_items peers c.args.stamp seconds rib) c.peers_in.ensures in (
-      Table rib,
+    let items = c.from_vec.ensures ∙ tells.items ∙ ap (λ peers. entries_items peers c.args.stamp seconds rib) c.peers_in.ensures in (
+      Entries rib,
       record {
-        is_body = (form.Rib c.args.family, c.requires, (rib, refl, spelled));
+        is_body = (form.Entries c.args.family, c.requires, (rib, refl, spelled));
         sound = ap (entries_fault index) (sym unknown) ∙ sym c.entries_fault.ensures ∙ c.in_default.is;
         made = c.table_event.ensures ∙ ap (table_event seconds) items;
       },

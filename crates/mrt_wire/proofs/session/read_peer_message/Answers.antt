@@ -4,7 +4,7 @@ use Rattle.bgp_wire.specs.Reading.{Reads}
 use Rattle.bgp_wire.specs.Update.{SpellsMessage}
 use Rattle.bgp_wire.proofs.Refusing.{refused_part}
 use Rattle.ip_prefix.specs.Fields.{Then}
-use Rattle.mrt_wire.specs.Session.{SpellsSession, SpellsPeerMessage}
+use Rattle.mrt_wire.specs.Session.{SpellsSessionPeer, SpellsPeerMessage}
 use Rattle.mrt_wire.proofs.SessionLaws.{session_front}
 use Rattle.mrt_wire.proofs.ReadingLaws.{refused_behind}
 use Rattle.mrt_wire.proofs.session.read_peer_message.Goals as goal
@@ -20,5 +20,5 @@ returns-in_err-message c =
     let session = c.in-Some.session in
     let p = err_from_is_err_and c.from_residual.result c.from_residual.ensures.1 in
     subst (Reads (SpellsPeerMessage width) octets) (sym (p.1 ∙ ap Err p.2))
-    (refused_part (SpellsPeerMessage width) (Then (SpellsSession width) (λ peer. SpellsMessage width)) octets octets fault (λ m s. ((m.peer, m.message), s))
+    (refused_part (SpellsPeerMessage width) (Then (SpellsSessionPeer width) (λ peer. SpellsMessage width)) octets octets fault (λ m s. ((m.peer, m.message), s))
     (refused_behind _ _ (session_front width) session.value session.rest.now octets fault c.in-Some.ensures c.in_err-message.ensures))

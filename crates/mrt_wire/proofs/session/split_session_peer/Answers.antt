@@ -1,5 +1,5 @@
 use Rattle.mrt_wire.proofs.SessionLaws.{no_systems, no_addresses, a_session}
-use Rattle.mrt_wire.proofs.session.split_session.Goals as goal
+use Rattle.mrt_wire.proofs.session.split_session_peer.Goals as goal
 
 pub returns-in_err-asn : goal.returns-in_err-asn
 returns-in_err-asn c = rw c.from_residual.ensures (no_systems c.args.width c.args.octets.now c.in_err-asn.ensures.none)

@@ -3,7 +3,7 @@ use Rattle.std.proofs.Common.{◌≡◌, ◌++◌, take}
 use Rattle.std.specs.List.{flat_map}
 use Rattle.mrt_wire.specs.Event.{saying}
 use Rattle.bgpdump_tool.specs.Lines.{item_line}
-use Rattle.bgpdump_tool.proofs.lines.put_lines.Given as goal
+use Rattle.bgpdump_tool.proofs.lines.put_items.Given as goal
 
 abbrev pub invariant-items : goal.invariant-items
 invariant-items l =

@@ -15,7 +15,7 @@ use Rattle.mrt_wire.specs.declared.event.Stamp.TheVariants.{Dump, Change}
 use Rattle.mrt_wire.specs.declared.session.SessionContent.{SessionContent}
 use Rattle.mrt_wire.specs.declared.session.SessionContent.TheVariants as session
 use Rattle.mrt_wire.specs.Event.{Saying, Announced, Withdrawn, Changed}
-use Rattle.mrt_wire.specs.Rib.{Rib}
+use Rattle.mrt_wire.specs.Rib.{PrefixEntries}
 
 -- ---- tables
 
@@ -28,11 +28,12 @@ entry_time Change seconds originated = originated
 abbrev pub route_of : Attrs → ℕ → Route
 route_of attrs time = record { attrs = attrs; time = time }
 
--- the number of an entry's peer, where there is no such peer
+-- a number, where there is no peer of it
 abbrev pub unknown_by : Option Peer → ℕ → Option ℕ
 unknown_by None number = Some number
 unknown_by (Some peer) number = None
 
+-- the number of an entry's peer, where there is no such peer
 abbrev pub unknown_peer : List Peer → RibEntry → Option ℕ
 unknown_peer peers entry = unknown_by (slice_get peers entry.index) entry.index
 
@@ -52,8 +53,8 @@ entry_items peers stamp seconds prefix entry =
     (route_of entry.attrs (entry_time stamp seconds entry.time))
 
 -- what the entries announce, one after the other
-abbrev pub table_items : List Peer → Stamp → ℕ → Rib → List Saying
-table_items peers stamp seconds rib = flat_map (entry_items peers stamp seconds rib.prefix) rib.entries
+abbrev pub entries_items : List Peer → Stamp → ℕ → PrefixEntries → List Saying
+entries_items peers stamp seconds rib = flat_map (entry_items peers stamp seconds rib.prefix) rib.entries
 
 -- ---- sessions
 
@@ -66,7 +67,7 @@ abbrev pub mp_announcements : Peer → ℕ → Option Attrs → List Network →
 mp_announcements peer seconds None prefixes = []
 mp_announcements peer seconds (Some attrs) prefixes = announcements peer (route_of attrs seconds) prefixes
 
--- what an UPDATE says: what it withdraws and then what it announces, each time behind the others what MP_UNREACH_NLRI or MP_REACH_NLRI has
+-- what an UPDATE says of its withdrawn prefixes, those of MP_UNREACH_NLRI, its announced prefixes, and those of MP_REACH_NLRI, in this order
 abbrev pub update_items : Peer → ℕ → Update → List Saying
 update_items peer seconds update =
     map (Withdrawn peer) update.withdrawn ++ (map (Withdrawn peer) update.mp_withdrawn
@@ -80,5 +81,5 @@ message_items peer seconds (message.Other kind) = []
 
 -- what is said of a session
 abbrev pub session_items : ℕ → SessionContent → List Saying
-session_items seconds (session.Changed change) = Changed change.peer change.old change.new ∷ []
-session_items seconds (session.Received m) = message_items m.peer seconds m.message
+session_items seconds (session.StateChange change) = Changed change.peer change.old change.new ∷ []
+session_items seconds (session.Message m) = message_items m.peer seconds m.message

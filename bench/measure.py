@@ -1,0 +1,191 @@
+#!/usr/bin/env python3
+"""Times the program beside Debian's bgpdump, both as `-m FILE`, in turn.
+
+    bench/measure.py PROGRAM [FILE..]
+
+Without files it makes two of about 30 MB, a table and updates, always the same octets. Of seven runs
+of the program, and three of bgpdump, the least processor time counts; output goes to the null device.
+"""
+import os
+import random
+import shutil
+import struct
+import subprocess
+import sys
+import tempfile
+from pathlib import Path
+
+SIZE = 30_000_000
+TRANSITS = (174, 209, 286, 701, 1239, 1299, 2914, 3257, 3320, 3356, 6453, 6461, 6762, 6939, 9002, 199524)
+
+
+def record(seconds, kind, subtype, body):
+    return struct.pack('>IHHI', seconds, kind, subtype, len(body)) + body
+
+
+def attribute(kind, value):
+    return struct.pack('>BBB', 0x40, kind, len(value)) + value
+
+
+def as_path(chance):
+    """Three to seven hops, at times with the last one prepended."""
+    numbers = [chance.choice(TRANSITS) for _ in range(chance.randint(2, 6))]
+    numbers += [chance.randrange(1, 64495) if chance.random() < 0.8 else
+                chance.randrange(131072, 400000)] * (chance.randint(2, 5) if chance.random() < 0.12 else 1)
+    return struct.pack('>BB%dI' % len(numbers), 2, len(numbers), *numbers)
+
+
+def communities(chance, size):
+    return bytes(chance.randrange(256) for _ in range(size * chance.randint(1, 10)))
+
+
+def attributes(chance, reach):
+    """The attributes of a route as full tables show them, with this NEXT_HOP or MP_REACH_NLRI."""
+    parts = [attribute(1, b'\0'), attribute(2, as_path(chance)), reach]
+    if chance.random() < 0.25:
+        parts.append(attribute(4, struct.pack('>I', chance.randrange(1000))))
+    if chance.random() < 0.05:
+        parts.append(attribute(6, b''))
+    if chance.random() < 0.08:
+        parts.append(attribute(7, struct.pack('>I', chance.choice(TRANSITS)) + address(chance, 4)))
+    if chance.random() < 0.9:
+        parts.append(attribute(8, communities(chance, 4)))
+    if chance.random() < 0.15:
+        parts.append(attribute(32, communities(chance, 12)))
+    if chance.random() < 0.04:
+        parts.append(attribute(16, communities(chance, 8)))
+    return b''.join(parts)
+
+
+def address(chance, size):
+    front = b'\xc3\x1a' if size == 4 else b'\x20\x01\x07\xf8' + bytes(8)
+    return front + bytes(chance.randrange(256) for _ in range(size - len(front)))
+
+
+def prefix(chance, size):
+    if size == 4:
+        bits = chance.choice((16, 19, 20, 22, 23, 24, 24, 24))
+        front = chance.randrange(1 << bits) << (32 - bits)
+    else:
+        bits = chance.choice((29, 32, 36, 40, 44, 48, 48, 48))
+        front = 0x2A << 120 | chance.randrange(1 << (bits - 8)) << (128 - bits)
+    return bytes([bits]) + front.to_bytes(size, 'big')[:(bits + 7) // 8]
+
+
+def write_table(out, chance):
+    """An index of 40 IPv4 and 20 IPv6 peers, and prefixes with up to 40 entries each, every sixth of IPv6."""
+    peers = [(size, chance.choice(TRANSITS), address(chance, size)) for size in [4] * 40 + [16] * 20]
+    index = b''.join(struct.pack('>BI', 2 if size == 4 else 3, n) + addr + struct.pack('>I', asn)
+                     for n, (size, asn, addr) in enumerate(peers))
+    written = out.write(record(1700000000, 13, 1, struct.pack('>IHH', 1, 0, 60) + index))
+    sequence = 0
+    while written < SIZE:
+        size = 16 if sequence % 6 == 5 else 4
+        first, last = (40, 60) if size == 16 else (0, 40)
+        chosen = chance.sample(range(first, last), chance.randint((last - first) // 2, last - first))
+        body = struct.pack('>I', sequence) + prefix(chance, size) + struct.pack('>H', len(chosen))
+        for peer in chosen:
+            addr = peers[peer][2]
+            reach = attribute(3, addr) if size == 4 else attribute(14, bytes([16]) + addr)
+            found = attributes(chance, reach)
+            body += struct.pack('>HIH', peer, 1690000000 + sequence, len(found)) + found
+        written += out.write(record(1700000000, 13, 2 if size == 4 else 4, body))
+        sequence += 1
+
+
+def update(chance, size, addr):
+    """Announcements of one to four prefixes, or withdrawals of as many."""
+    prefixes = b''.join(prefix(chance, size) for _ in range(chance.randint(1, 4)))
+    if chance.random() < 0.8:
+        if size == 4:
+            found = attributes(chance, attribute(3, addr))
+            return struct.pack('>HH', 0, len(found)) + found + prefixes
+        reach = struct.pack('>HBB', 2, 1, 16) + addr + b'\0' + prefixes
+        found = attributes(chance, attribute(14, reach))
+        return struct.pack('>HH', 0, len(found)) + found
+    if size == 4:
+        return struct.pack('>H', len(prefixes)) + prefixes + struct.pack('>H', 0)
+    found = attribute(15, struct.pack('>HB', 2, 1) + prefixes)
+    return struct.pack('>HH', 0, len(found)) + found
+
+
+def write_updates(out, chance):
+    """UPDATE messages of 40 IPv4 and 8 IPv6 peers."""
+    peers = [(size, chance.choice(TRANSITS), address(chance, size)) for size in [4] * 40 + [16] * 8]
+    written = 0
+    seconds = 1700000000
+    while written < SIZE:
+        size, asn, addr = chance.choice(peers)
+        found = update(chance, size, addr)
+        message = b'\xff' * 16 + struct.pack('>HB', 19 + len(found), 2) + found
+        session = struct.pack('>IIHH', asn, 64499, 0, 1 if size == 4 else 2) + addr + address(chance, size)
+        written += out.write(record(seconds, 16, 4, session + message))
+        seconds += chance.random() < 0.01
+
+
+def made_files(folder):
+    """The two files, made where they aren't there yet."""
+    files = []
+    for name, write in (('table.mrt', write_table), ('updates.mrt', write_updates)):
+        path = folder / name
+        if not path.exists():
+            part = folder / (name + '.part')
+            with open(part, 'wb') as out:
+                write(out, random.Random(name))
+            part.rename(path)
+        files.append(path)
+    return files
+
+
+def run(command, out=subprocess.DEVNULL):
+    """The processor time of a command in seconds."""
+    before = os.times()
+    done = subprocess.run(command, stdout=out, stderr=subprocess.DEVNULL)
+    if done.returncode not in (0, 1):
+        sys.exit('%s ended with %d' % (' '.join(command), done.returncode))
+    after = os.times()
+    return after.children_user + after.children_system - before.children_user - before.children_system
+
+
+def peak_memory(command):
+    """The peak memory of a command in MiB, as GNU time tells it."""
+    if not shutil.which('time'):
+        return '-'
+    told = subprocess.run(['time', '-f', '%M', *command], stdout=subprocess.DEVNULL,
+                          stderr=subprocess.PIPE, text=True)
+    return '%.1f' % (int(told.stderr.split()[-1]) / 1024)
+
+
+def line_count(command):
+    with tempfile.TemporaryFile() as out:
+        run(command, out)
+        out.seek(0)
+        return sum(block.count(b'\n') for block in iter(lambda: out.read(1 << 20), b''))
+
+
+def main():
+    if len(sys.argv) < 2:
+        sys.exit(__doc__)
+    folder = Path(tempfile.gettempdir()) / 'bgpdump-bench'
+    folder.mkdir(exist_ok=True)
+    files = [Path(word) for word in sys.argv[2:]] or made_files(folder)
+    rival = shutil.which('bgpdump')
+    print('file           program   seconds   lines/s   peak MiB   ratio')
+    for path in files:
+        commands = {'ours': [str(Path(sys.argv[1]).resolve()), '-m', str(path)]}
+        if rival:
+            commands['bgpdump'] = [rival, '-q', '-m', str(path)]
+        lines = line_count(commands['ours'])
+        best = {}
+        for turn in range(7):
+            for name, command in commands.items():
+                if name == 'ours' or turn < 3:
+                    best[name] = min(best.get(name, 1e9), run(command))
+        for name, seconds in best.items():
+            print('%-14s %-9s %7.3f %9d %10s %7.1f' % (
+                path.name, name, seconds, lines / seconds, peak_memory(commands[name]), seconds / best['ours']))
+    if not rival:
+        print("Debian's bgpdump isn't here to compare with: apt-get install bgpdump")
+
+
+main()

@@ -1,0 +1,31 @@
+#!/bin/sh
+# Runs PROGRAM on each example, fails where a text differs from the one stored beside it, and shows
+# some lines of each kind.
+#   examples/demo.sh PROGRAM
+set -eu
+program=$1
+here=$(dirname "$0")
+out=$(mktemp -d)
+trap 'rm -rf "$out"' EXIT
+
+for file in "$here"/*.mrt; do
+    name=$(basename "$file" .mrt)
+    # The status is 1 where a record is reported.
+    "$program" -m "$file" >"$out/$name.lines" 2>"$out/$name.reports" || test $? -eq 1
+    cmp "$out/$name.lines" "$here/$name.lines"
+    cmp "$out/$name.reports" "$here/$name.reports"
+done
+
+show() {
+    echo
+    echo "$1"
+    shift
+    "$@"
+}
+show "A table (examples/table.mrt):" head -n 3 "$out/table.lines"
+show "Announcements (examples/updates.mrt):" grep -m 2 '|A|' "$out/updates.lines"
+show "Withdrawals:" grep -m 2 '|W|' "$out/updates.lines"
+show "A state change:" grep -m 1 '|STATE|' "$out/updates.lines"
+show "Reports of faulty records (examples/damaged.mrt):" cat "$out/damaged.reports"
+echo
+echo "All lines and reports are those stored in examples/."
