@@ -1,4 +1,4 @@
-//! The lines of events that no record gives yet, and of state changes with microseconds.
+//! The lines of events, by kinds of records and attributes.
 
 use super::octets_of;
 use crate::put_lines;
