@@ -1,5 +1,5 @@
 -- The lines of events, one for each item.
-use Rattle.std.specs.Prelude.{ℕ, ◌-◌, if◌then◌else◌, Bool, Option, Some, None, List, [], ◌∷◌, ◌++◌, length, replicate, decimal, codes}
+use Rattle.std.specs.Prelude.{◌≡◌, ℕ, ◌-◌, ◌≤◌, if◌then◌else◌, Bool, Option, Some, None, List, [], ◌∷◌, ◌++◌, length, drop, replicate, slice_range, decimal, codes}
 use Rattle.std.specs.Option.{unwrap_or}
 use Rattle.std.specs.List.{flat_map}
 use Rattle.ip_prefix.specs.Address.{Address}
@@ -9,6 +9,7 @@ use Rattle.bgp_wire.specs.declared.attrs.Origin.TheVariants.{Igp, Egp, Incomplet
 use Rattle.bgp_wire.specs.declared.attrs.Aggregator.{Aggregator}
 use Rattle.bgp_wire.specs.declared.attrs.Attrs.{Attrs}
 use Rattle.bgp_wire.specs.Text.{path_text, communities_text}
+use Rattle.mrt_wire.specs.declared.peer.Peer.{Peer}
 use Rattle.mrt_wire.specs.declared.event.Route.{Route}
 use Rattle.mrt_wire.specs.declared.event.Time.{Time}
 use Rattle.mrt_wire.specs.declared.event.Tag.{Tag}
@@ -16,6 +17,8 @@ use Rattle.mrt_wire.specs.declared.event.Tag.TheVariants.{TableDump2, Bgp4mp, Bg
 use Rattle.mrt_wire.specs.declared.event.Event.{Event}
 use Rattle.mrt_wire.specs.Event.{Saying, Announced, Withdrawn, Changed}
 use Rattle.bgpdump_tool.specs.declared.lines.TheConstants.{MICROS_DIGITS}
+use Rattle.bgpdump_tool.specs.declared.lines.Places.{Places}
+use Rattle.bgpdump_tool.specs.declared.lines.LastLine.{LastLine}
 
 -- the marks of lines
 abbrev pub bar : ℕ
@@ -98,6 +101,36 @@ attribute_fields attrs =
     path_text attrs.path ∷ origin_text attrs.origin ∷ next_hop_text attrs.next_hop
     ∷ number_or_zero attrs.local_pref ∷ number_or_zero attrs.med ∷ communities_text attrs.communities
     ∷ aggregate_word attrs.atomic ∷ aggregator_text attrs.aggregator ∷ [] ∷ []
+
+-- what stands in front of the prefix in a route's line, up to a bar
+abbrev pub route_front : Time → Tag → Peer → Route → List ℕ
+route_front time tag peer route =
+    word tag ++ bar ∷ (route_time_text time tag route ++ bar ∷ route_letter tag)
+    ++ (bar ∷ address_text peer.addr ++ bar ∷ decimal peer.asn)
+
+-- what stands behind the prefix in a route's line
+abbrev pub route_tail : Route → List ℕ
+route_tail route = bar ∷ line_of (attribute_fields route.attrs)
+
+-- the places follow one another in the text
+pub record AreOrdered (places : Places) (text : List ℕ) : Type 0 where
+  pub front : places.start ≤ places.front
+  pub tail : places.front ≤ places.tail
+  pub within : places.tail ≤ length text
+
+-- what stands at these places, in front of the prefix
+abbrev pub front_at : Places → List ℕ → List ℕ
+front_at places text = slice_range text places.start places.front
+
+-- and behind it
+abbrev pub tail_at : Places → List ℕ → List ℕ
+tail_at places text = drop places.tail text
+
+-- the text ends in a line, of a route of this peer, with its parts at its places
+pub record EndsIn (time : Time) (tag : Tag) (line : LastLine) (text : List ℕ) : Type 0 where
+  pub ordered : AreOrdered line.places text
+  pub front : front_at line.places text ≡ route_front time tag line.peer.now line.route.now
+  pub tail : tail_at line.places text ≡ route_tail line.route.now
 
 -- the line of what an item says
 abbrev pub item_line : Time → Tag → Saying → List ℕ

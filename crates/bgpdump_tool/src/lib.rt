@@ -2,6 +2,7 @@
 //! events, played forwards and backwards over a table of routes for each peer.
 #![tactic(auto)]
 
+mod again;
 mod dump;
 mod fault;
 mod fields;
@@ -11,6 +12,7 @@ mod outcome;
 mod output;
 mod player;
 mod reports;
+mod same;
 mod write;
 
 pub use dump::run_dump;

@@ -1,18 +1,44 @@
 //! The lines of events.
 
-ghost use Rattle.std.specs.Prelude.{◌≡◌, ◌∷◌, ◌++◌, ◌≤◌, [], OnOk, OnErr, decimal, length};
+ghost use Rattle.std.specs.Prelude.{◌≡◌, ◌∷◌, ◌++◌, [], OnOk, OnErr, IfOk, IfSome, IsSomeAnd};
+ghost use Rattle.ip_prefix.specs.Text.{network_text};
 ghost use Rattle.bgp_wire.specs.Text.{StillBegins};
 ghost use Rattle.mrt_wire.specs.Event.{Announced, Withdrawn, Changed, saying};
 ghost use Rattle.bgpdump_tool.specs.Lines.{bar, word, micros_text, time_text, route_time_text};
-ghost use Rattle.bgpdump_tool.specs.Lines.{route_letter, item_line, event_lines};
+ghost use Rattle.bgpdump_tool.specs.Lines.{route_letter, route_front, route_tail, EndsIn};
+ghost use Rattle.bgpdump_tool.specs.Lines.{AreOrdered, front_at, tail_at, item_line, event_lines};
 
+use crate::again::put_again;
 use crate::fields::{put_attributes, put_number, put_peer, put_prefix};
+use crate::same::{same_peer, same_route};
 use ip_prefix::{Prefix, put_decimal};
 use mrt_wire::{Event, Item, Peer, Route, Tag, Time};
 use std::alloc::AllocError;
 
 /// How many digits the microseconds of a line have at least.
 const MICROS_DIGITS: usize = 6;
+
+/// Where the parts of a route's line stand.
+#[derive(Clone, Copy)]
+struct Places {
+    /// Where it begins.
+    start: usize,
+    /// Where what stands in front of the prefix ends.
+    front: usize,
+    /// Where what stands behind the prefix begins.
+    tail: usize,
+}
+
+/// The line that a text ends in, of a route.
+#[derive(Clone, Copy)]
+struct LastLine<'a> {
+    /// Whose route it is.
+    peer: &'a Peer,
+    /// The route.
+    route: &'a Route,
+    /// Where its parts stand.
+    places: Places,
+}
 
 /// Appends the first field of a line.
 fn put_word(tag: Tag, text: &mut Vec<u8>) -> Result<(), AllocError>
@@ -113,23 +139,110 @@ fn put_route_head(
     Ok(())
 }
 
-/// Appends the line of a route.
-fn put_route(
+/// Appends what stands in front of the prefix in a route's line.
+fn put_route_front(
+    time: &Time,
+    tag: Tag,
+    peer: &Peer,
+    route: &Route,
+    text: &mut Vec<u8>,
+) -> Result<(), AllocError>
+    ensures appended { OnOk result (text.new.items ≡
+        text.old.items ++ route_front time.now tag peer.now route.now) }
+    ensures kept { OnErr result (StillBegins text.old.items text.new.items) }
+{
+    put_route_head(time, tag, route, text)?;
+    put_peer(peer, text)
+}
+
+/// Appends the line of a route with each part printed. Returned is where they stand.
+fn put_route_anew(
     time: &Time,
     tag: Tag,
     peer: &Peer,
     prefix: &Prefix,
     route: &Route,
     text: &mut Vec<u8>,
-) -> Result<(), AllocError>
+) -> Result<Places, AllocError>
     ensures appended { OnOk result (text.new.items ≡ text.old.items ++
-        item_line time.now tag (Announced peer.now prefix.now route.now)) }
+        (route_front time.now tag peer.now route.now
+        ++ (bar ∷ network_text prefix.now ++ route_tail route.now))) }
+    ensures ordered { IfOk result (λ places. AreOrdered places text.new.items) }
+    ensures front { IfOk result (λ places. front_at places text.new.items
+        ≡ route_front time.now tag peer.now route.now) }
+    ensures tail { IfOk result (λ places. tail_at places text.new.items ≡ route_tail route.now) }
     ensures kept { OnErr result (StillBegins text.old.items text.new.items) }
 {
-    put_route_head(time, tag, route, text)?;
-    put_peer(peer, text)?;
+    let start = text.len();
+    put_route_front(time, tag, peer, route, text)?;
+    let front = text.len();
     put_prefix(prefix, text)?;
-    put_attributes(&route.attrs, text)
+    let tail = text.len();
+    put_attributes(&route.attrs, text)?;
+    Ok(Places { start, front, tail })
+}
+
+/// Appends the line that the text ends in once more, with another prefix. Returned is where its
+/// parts stand.
+fn put_route_again(last: Places, prefix: &Prefix, text: &mut Vec<u8>) -> Result<Places, AllocError>
+    requires { AreOrdered last text.old.items }
+    ensures appended { OnOk result (text.new.items ≡ text.old.items ++
+        (front_at last text.old.items
+        ++ (bar ∷ network_text prefix.now ++ tail_at last text.old.items))) }
+    ensures ordered { IfOk result (λ places. AreOrdered places text.new.items) }
+    ensures front { IfOk result (λ places. front_at places text.new.items
+        ≡ front_at last text.old.items) }
+    ensures tail { IfOk result (λ places. tail_at places text.new.items
+        ≡ tail_at last text.old.items) }
+    ensures kept { OnErr result (StillBegins text.old.items text.new.items) }
+{
+    let start = text.len();
+    put_again(last.start, last.front, text)?;
+    let front = text.len();
+    put_prefix(prefix, text)?;
+    let tail = text.len();
+    put_again(last.tail, start, text)?;
+    Ok(Places { start, front, tail })
+}
+
+/// Where the parts of the last line stand, if it is of this route.
+fn places_of_same(last: Option<LastLine<'_>>, peer: &Peer, route: &Route) -> Option<Places>
+    ensures { IfSome result (λ places. IsSomeAnd last.entry (λ line. (line.places ≡ places)
+        × (line.peer.now ≡ peer.now) × (line.route.now ≡ route.now))) }
+{
+    let line = last?;
+    if same_peer(line.peer, peer) && same_route(line.route, route) {
+        Some(line.places)
+    } else {
+        None
+    }
+}
+
+/// Appends the line of a route. What the last line says too is copied from there.
+fn put_route<'a>(
+    time: &Time,
+    tag: Tag,
+    peer: &'a Peer,
+    prefix: &Prefix,
+    route: &'a Route,
+    last: Option<LastLine<'a>>,
+    text: &mut Vec<u8>,
+) -> Result<LastLine<'a>, AllocError>
+    requires { IfSome last (λ line. EndsIn time.now tag line text.old.items) }
+    ensures appended { OnOk result (text.new.items ≡ text.old.items ++
+        item_line time.now tag (Announced peer.now prefix.now route.now)) }
+    ensures last { IfOk result (λ line. EndsIn time.now tag line text.new.items) }
+    ensures kept { OnErr result (StillBegins text.old.items text.new.items) }
+{
+    let places = match places_of_same(last, peer, route) {
+        Some(places) => put_route_again(places, prefix, text)?,
+        None => put_route_anew(time, tag, peer, prefix, route, text)?,
+    };
+    Ok(LastLine {
+        peer,
+        route,
+        places,
+    })
 }
 
 /// Appends the line of a withdrawal.
@@ -174,16 +287,33 @@ fn put_change(
     Ok(())
 }
 
-/// Appends the line of an item.
-fn put_item(time: &Time, tag: Tag, item: &Item, text: &mut Vec<u8>) -> Result<(), AllocError>
+/// Appends the line of an item. Returned is the line, if it is of a route.
+fn put_item<'a>(
+    time: &Time,
+    tag: Tag,
+    item: &'a Item,
+    last: Option<LastLine<'a>>,
+    text: &mut Vec<u8>,
+) -> Result<Option<LastLine<'a>>, AllocError>
+    requires { IfSome last (λ line. EndsIn time.now tag line text.old.items) }
     ensures appended { OnOk result (text.new.items ≡
         text.old.items ++ item_line time.now tag (saying item.now)) }
+    ensures last { IfOk result (λ last. IfSome last (λ line.
+        EndsIn time.now tag line text.new.items)) }
     ensures kept { OnErr result (StillBegins text.old.items text.new.items) }
 {
     match item {
-        Item::Announce(peer, prefix, route) => { put_route(time, tag, peer, prefix, route, text) }
-        Item::Withdraw(peer, prefix) => put_withdrawal(time, tag, peer, prefix, text),
-        Item::State(peer, old, new) => put_change(time, tag, peer, *old, *new, text),
+        Item::Announce(peer, prefix, route) => {
+            Ok(Some(put_route(time, tag, peer, prefix, route, last, text)?))
+        }
+        Item::Withdraw(peer, prefix) => {
+            put_withdrawal(time, tag, peer, prefix, text)?;
+            Ok(None)
+        }
+        Item::State(peer, old, new) => {
+            put_change(time, tag, peer, *old, *new, text)?;
+            Ok(None)
+        }
     }
 }
 
@@ -193,8 +323,9 @@ fn put_items(event: &Event, text: &mut Vec<u8>) -> Result<(), AllocError>
     ensures kept { OnErr result (StillBegins text.old.items text.new.items) }
 {
     let items = event.items.as_slice();
+    let mut last = None;
     'items: for item in items {
-        put_item(&event.time, event.tag, item, text)?;
+        last = put_item(&event.time, event.tag, item, last, text)?;
     }
     Ok(())
 }
