@@ -1,6 +1,5 @@
 -- The tables and the steps along a history: how many they are, which one is where, and those of a shorter or a longer history.
-use Rattle.std.proofs.Common.{◌≡◌, ℕ, zero, suc, ◌+◌, ◌-◌, ◌≤◌, List, [], ◌∷◌, ◌++◌, Some, option_map, length, take, drop, slice_get, slice_index_or, refl, sym, ap, ap₂, ◌∙◌, append_assoc, append-nil, take-append-drop, take-take, add-sub_of_le, arith}
-use Rattle.std.proofs.lemmas.List.{drop-take}
+use Rattle.std.proofs.Common.{◌≡◌, ℕ, zero, suc, ◌≤◌, List, [], ◌∷◌, ◌++◌, Some, option_map, length, take, slice_get, slice_index_or, refl, sym, ap, ◌∙◌, append_assoc, append-nil, arith}
 use Rattle.mrt_wire.specs.declared.event.Event.{Event}
 use Rattle.bgpdump_tool.specs.Tables.{Routes, table, named_pairs}
 use Rattle.bgpdump_tool.specs.Timeline.{tables_along, steps_along}

@@ -1,7 +1,7 @@
 -- Players that play, undo and redo: where they stand, and what their table is.
-use Rattle.std.proofs.Common.{◌≡◌, ℕ, zero, suc, ◌+◌, ◌-◌, ◌<◌, ◌≤◌, List, [], ◌∷◌, ◌++◌, map, replicate, length, take, nat_lt, refl, sym, ap, ◌∙◌, append_assoc, append-nil, take-take, take_all, length-take-le, arith, lt-ltb}
+use Rattle.std.proofs.Common.{◌≡◌, ℕ, zero, suc, ◌+◌, ◌-◌, ◌<◌, ◌≤◌, List, [], ◌∷◌, ◌++◌, map, replicate, length, take, nat_lt, refl, sym, ap, ◌∙◌, append_assoc, append-nil, take-take, length-take-le, arith, lt-ltb}
 use Rattle.std.proofs.lemmas.Bool.{cond-true}
-use Rattle.std.proofs.lemmas.List.{take_at, length_push}
+use Rattle.std.proofs.lemmas.List.{take_at}
 use Rattle.mrt_wire.specs.declared.event.Event.{Event}
 use Rattle.bgpdump_tool.specs.Tables.{table}
 use Rattle.bgpdump_tool.specs.Timeline.{Timeline, StandsFor, Call, Play, Undo, Redo, end_of, table_at, current, after_play, after_undo, after_redo, after_call, after_calls}

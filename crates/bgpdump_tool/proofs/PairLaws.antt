@@ -1,11 +1,11 @@
 -- The orders of peers and of pairs are total, and only equal ones tie.
-use Rattle.std.proofs.Common.{◌≡◌, Bool, true, false, ◌&&◌, ◌||◌, not, ◌==◌, List, [], ◌∷◌, refl, sym, ap, ap₂, ◌∙◌}
+use Rattle.std.proofs.Common.{◌≡◌, Bool, true, ◌||◌, not, List, [], ◌∷◌, refl, sym, ap, ap₂, ◌∙◌}
 use Rattle.std.specs.List.{list_any}
-use Rattle.std.specs.Ordering.{nat_cmp, eq_by_cmp}
-use Rattle.std.specs.Cmp.{IsTotalOrder, nat_cmp_total, on_total, then_total, Equal-is, eq_by_cmp_equiv, both_tied, unsigned_ties}
-use Rattle.std.specs.FinMap.{IsAntisymmetric, nat_cmp-IsAntisymmetric}
-use Rattle.ip_prefix.specs.Order.{address_cmp, network_cmp}
-use Rattle.ip_prefix.specs.OrderLaws.{both_tie, address_cmp_total, address_cmp-IsAntisymmetric, network_cmp_total, network_cmp-IsAntisymmetric}
+use Rattle.std.specs.Ordering.{eq_by_cmp}
+use Rattle.std.specs.Cmp.{IsTotalOrder, on_total, then_total, Equal-is, eq_by_cmp_equiv}
+use Rattle.std.specs.FinMap.{IsAntisymmetric}
+use Rattle.ip_prefix.specs.Order.{network_cmp}
+use Rattle.ip_prefix.specs.OrderLaws.{both_tie, network_cmp_total, network_cmp-IsAntisymmetric}
 use Rattle.mrt_wire.specs.declared.peer.Peer.{Peer}
 use Rattle.bgpdump_tool.specs.declared.player.pair.Pair.{Pair}
 use Rattle.mrt_wire.specs.Peer.{peer_cmp}

@@ -1,5 +1,5 @@
 -- What becomes of a record, by what its body was read as.
-use Rattle.std.proofs.Common.{◌≡◌, ◌∙◌, ℕ, List, Option, Some, None, Err, refl, sym, ap, subst}
+use Rattle.std.proofs.Common.{◌≡◌, ℕ, Option, Some, None, Err, refl, subst}
 use Rattle.bgp_wire.specs.declared.fault.WireFault.{WireFault}
 use Rattle.bgp_wire.specs.declared.fault.WireFault.TheVariants as wire
 use Rattle.bgp_wire.specs.Reading.{Refuses, IsNoSpelling}

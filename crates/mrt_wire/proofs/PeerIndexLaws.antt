@@ -1,5 +1,5 @@
 -- What is a peer, and what isn't.
-use Rattle.std.proofs.Common.{◌≡◌, ℕ, List, [], refl}
+use Rattle.std.proofs.Common.{ℕ, List, [], refl}
 use Rattle.ip_prefix.specs.Address.{Address}
 use Rattle.ip_prefix.specs.Sequences.{Begins, BeginsWithNone, OneFront, IsCode}
 use Rattle.ip_prefix.specs.Fields.{IsOne}

@@ -1,5 +1,5 @@
 -- What the private calls make of a record.
-use Rattle.std.specs.Prelude.{◌≡◌, ℕ, List, ◌++◌, map, Option, Result, Ok, Err}
+use Rattle.std.specs.Prelude.{◌≡◌, ℕ, List, ◌++◌, map, Result, Ok, Err}
 use Rattle.bgp_wire.specs.declared.fault.WireFault.{WireFault}
 use Rattle.bgp_wire.specs.declared.fault.WireFault.TheVariants as wire
 use Rattle.mrt_wire.specs.declared.event.Stamp.{Stamp}

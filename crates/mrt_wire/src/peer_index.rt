@@ -8,9 +8,7 @@ ghost use Rattle.bgp_wire.specs.Reading.{Reads};
 ghost use Rattle.mrt_wire.specs.Fields.{FindsField};
 ghost use Rattle.mrt_wire.specs.PeerIndex.{peer_family, peer_width, SpellsPeer, SpellsView, SpellsPeerIndex};
 
-use crate::fields::{
-    Field, skip, split_address, split_asn, split_octet, split_short, split_sized,
-};
+use crate::fields::{Field, skip, split_address, split_asn, split_octet, split_short, split_sized};
 use crate::peer::{Peer, Peers};
 use bgp_wire::{AsWidth, WireFault};
 use ip_prefix::Family;

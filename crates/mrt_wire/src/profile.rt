@@ -9,17 +9,25 @@ use ip_prefix::Family;
 
 /// The type of the parts of a table (section 4.3), and their subtypes.
 const TABLE_DUMP_V2: u16 = 13;
+
 const PEER_INDEX_TABLE: u16 = 1;
+
 const RIB_IPV4_UNICAST: u16 = 2;
+
 const RIB_IPV6_UNICAST: u16 = 4;
 
 /// The types of what happens in sessions (section 4.4), without and with microseconds
 /// (section 3), and their subtypes.
 const BGP4MP: u16 = 16;
+
 const BGP4MP_ET: u16 = 17;
+
 const BGP4MP_STATE_CHANGE: u16 = 0;
+
 const BGP4MP_MESSAGE: u16 = 1;
+
 const BGP4MP_MESSAGE_AS4: u16 = 4;
+
 const BGP4MP_STATE_CHANGE_AS4: u16 = 5;
 
 /// What happens in a session.

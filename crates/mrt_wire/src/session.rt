@@ -162,11 +162,7 @@ fn read_state_change(width: AsWidth, octets: &[u8]) -> Option<StateChange>
 }
 
 /// The message of a session that the octets are.
-fn read_peer_message(
-    alloc: Global,
-    width: AsWidth,
-    octets: &[u8],
-) -> Result<PeerMessage, WireFault>
+fn read_peer_message(alloc: Global, width: AsWidth, octets: &[u8]) -> Result<PeerMessage, WireFault>
     ensures { Reads (SpellsPeerMessage width) octets.now result }
 {
     let Some(session) = split_session_peer(width, octets) else {

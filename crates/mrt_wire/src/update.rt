@@ -105,14 +105,7 @@ fn items_of_update(
     add_withdrawals(&mut items, peer, &withdrawn)?;
     add_withdrawals(&mut items, peer, &mp_withdrawn)?;
     add_announcements(alloc, &mut items, peer, seconds, attrs, &announced)?;
-    add_mp_announcements(
-        alloc,
-        &mut items,
-        peer,
-        seconds,
-        mp_attrs,
-        &mp_announced,
-    )?;
+    add_mp_announcements(alloc, &mut items, peer, seconds, mp_attrs, &mp_announced)?;
     Ok(Items::from_vec(items))
 }
 

@@ -40,7 +40,10 @@ const FAULTY: [(&str, &str); 8] = [
     (MULTICAST, "unsupported type 13 subtype 3"),
     // Seven octets of body, and eight.
     ("00000064 0010 0000 00000007 FBF4 FBF5 0000 00", "malformed"),
-    ("00000064 0010 0000 00000008 FBF4 FBF5 0000 0002", "malformed"),
+    (
+        "00000064 0010 0000 00000008 FBF4 FBF5 0000 0002",
+        "malformed",
+    ),
     // Too few octets for the address family, and one that isn't used.
     (
         "00000064 0010 0000 00000014 FBF4 FBF5 0000 0002 C0000201 C0000202 0006 0001",

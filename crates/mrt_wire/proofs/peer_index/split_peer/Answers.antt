@@ -1,4 +1,4 @@
-use Rattle.std.proofs.Common.{ap, subst}
+use Rattle.std.proofs.Common.{subst}
 use Rattle.mrt_wire.specs.Fields.{SpellsAddressOf}
 use Rattle.bgp_wire.specs.Number.{SpellsAsn}
 use Rattle.ip_prefix.specs.Sequences.{BeginsWithNone}

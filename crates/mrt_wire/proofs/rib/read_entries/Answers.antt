@@ -1,4 +1,4 @@
-use Rattle.std.proofs.Common.{◌≡◌, Err, ap, sym, subst, ◌∙◌, length, arith}
+use Rattle.std.proofs.Common.{Err, ap, sym, subst, ◌∙◌, arith}
 use Rattle.std.specs.Prelude.{IfErr}
 use Rattle.std.proofs.lemmas.Result.{err_from_is_err_and}
 use Rattle.bgp_wire.specs.Reading.{Refuses}
@@ -31,7 +31,10 @@ returns-clause-told c =
     let count = c.in-Some.count in
     let s = c.loop.invariant in (
       s.entries,
-      (c.loop.rest.now, counted (SpellsEntry c.args.family) s.entries count.value c.loop.rest.now count.rest.now c.args.octets.now c.in-Some.ensures
-          (omega (arith, s.size, c.loop-test.false, c.loop.auto.counter-end)) s.read),
+      (
+        c.loop.rest.now,
+        counted (SpellsEntry c.args.family) s.entries count.value c.loop.rest.now count.rest.now c.args.octets.now c.in-Some.ensures
+            (omega (arith, s.size, c.loop-test.false, c.loop.auto.counter-end)) s.read,
+      ),
       s.tells,
     )

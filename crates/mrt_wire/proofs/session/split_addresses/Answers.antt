@@ -1,6 +1,5 @@
-use Rattle.std.proofs.Common.{ap, subst}
+use Rattle.std.proofs.Common.{subst}
 use Rattle.ip_prefix.specs.Sequences.{BeginsWithNone}
-use Rattle.ip_prefix.specs.Address.{octet_count}
 use Rattle.ip_prefix.specs.Sequences.{Begins}
 use Rattle.mrt_wire.specs.Fields.{AreOctets}
 use Rattle.ip_prefix.proofs.Fields.{both_front, none_first, none_second}

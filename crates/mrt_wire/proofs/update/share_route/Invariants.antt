@@ -1,4 +1,4 @@
-use Rattle.std.proofs.Common.{◌≡◌, ◌++◌, map, take}
+use Rattle.std.proofs.Common.{map, take}
 use Rattle.mrt_wire.specs.Event.{Announced}
 use Rattle.mrt_wire.specs.Judging.{Adds}
 use Rattle.mrt_wire.proofs.update.share_route.Given as goal
