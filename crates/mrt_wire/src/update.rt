@@ -44,7 +44,7 @@ fn share_route(
     Ok(())
 }
 
-/// Adds what announcements of the prefixes with these attributes say.
+/// Adds what announcements of the prefixes with these attributes say. No route is made for none.
 fn add_announcements(
     alloc: Global,
     items: &mut Vec<Item>,
@@ -56,6 +56,9 @@ fn add_announcements(
     ensures { OnOk result (Adds items.old.items items.new.items
         (announcements peer.now (route_of attrs seconds) prefixes.now)) }
 {
+    if prefixes.as_slice().is_empty() {
+        return Ok(());
+    }
     let route = Rc::new(
         alloc,
         Route {
@@ -101,7 +104,10 @@ fn items_of_update(
         mp_attrs,
         mp_announced,
     } = update;
-    let mut items = Vec::new(alloc);
+    let count = [&withdrawn, &mp_withdrawn, &announced, &mp_announced]
+        .into_iter()
+        .fold(0usize, |count, prefixes| count.saturating_add(prefixes.as_slice().len()));
+    let mut items = Vec::with_capacity(alloc, count)?;
     add_withdrawals(&mut items, peer, &withdrawn)?;
     add_withdrawals(&mut items, peer, &mp_withdrawn)?;
     add_announcements(alloc, &mut items, peer, seconds, attrs, &announced)?;

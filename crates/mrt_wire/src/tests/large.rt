@@ -74,6 +74,20 @@ fn tables_have_many_entries(rt: HostRuntime) -> Result<(), Fail> {
     Ok(())
 }
 
+#[test]
+fn indexes_have_many_peers(rt: HostRuntime) -> Result<(), Fail> {
+    let alloc = rt.alloc();
+    let mut index = octets_of(alloc, &["000D 0001 C6336401 0000 FFFF"])?;
+    put_repeated(alloc, "00 C0000201 C0000201 FBF4", 65_534, &mut index)?;
+    put_repeated(alloc, "00 C0000202 C0000202 FBF5", 1, &mut index)?;
+    let mut octets = Vec::new(alloc);
+    put_record(index.as_slice(), &mut octets)?;
+    let entry = records_of(alloc, &["000D 0002 00000000 080A 0001 FFFE 00000032 0000"])?;
+    octets.extend_from_slice(entry.as_slice())?;
+    let want = "+192.0.2.2 64501 10.0.0.0/8 at 200";
+    assert_last(&rt, alloc, octets.as_slice(), 1, want)
+}
+
 /// The record of an UPDATE that announces so many times one prefix, and then another.
 fn announcing(
     alloc: Global,
