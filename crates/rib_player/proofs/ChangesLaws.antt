@@ -1,0 +1,155 @@
+-- What is noted of an event's items and of lost peers' pairs, step by step.
+use Rattle.std.proofs.Common.{◌≡◌, ℕ, suc, ◌+◌, ◌<◌, Bool, true, false, cond, ◌&&◌, ◌||◌, List, [], ◌∷◌, map, take, get_or, length, drop, drop-cons, Option, Some, None, is_some, refl, sym, ap, ap₂, ◌∙◌}
+use Rattle.std.specs.List.{list_any}
+use Rattle.std.specs.Option.{option_map}
+use Rattle.std.specs.Ordering.{eq_by_cmp}
+use Rattle.std.specs.Cmp.{eq_by_cmp_equiv}
+use Rattle.std.specs.declared.alloc.Global.{Global}
+use Rattle.std.specs.declared.rc.Rc.{Rc}
+use Rattle.std.proofs.Math.Bool.{and-or_distrib_right}
+use Rattle.std.proofs.lemmas.List.Folds.{list_any_more}
+use Rattle.mrt_wire.specs.declared.peer.Peer.{Peer}
+use Rattle.rib_player.specs.declared.pair.Pair.{Pair}
+use Rattle.mrt_wire.specs.declared.event.Route.{Route}
+use Rattle.mrt_wire.specs.declared.event.Item.{Item}
+use Rattle.mrt_wire.specs.Event.{saying}
+use Rattle.mrt_wire.specs.Peer.{peer_cmp}
+use Rattle.rib_player.specs.History.{pair_cmp, Effect, Keep, Clear, Set, where_true, item_effect, later, last_effect}
+use Rattle.rib_player.specs.Store.{Slots, slot_at, route_in}
+use Rattle.rib_player.specs.Changes.{found, is_lost, effect_of, or_absent}
+use Rattle.rib_player.proofs.PairLaws.{pair_cmp_total, same_pair}
+use Rattle.ip_prefix.proofs.Options.{is_some-option_map}
+
+-- a slot
+abbrev Slot : Type 0
+Slot = Option (Rc Route Global)
+
+-- where something is kept or the peer is lost, no earlier effect counts
+decided : (first : Effect) (kept : Option (Option Route)) (lost : Bool) → (is_some kept || lost) ≡ true → later first (effect_of kept lost) ≡ effect_of kept lost
+decided first (Some (Some route)) lost e = refl
+decided first (Some None) lost e = refl
+decided first None true e = refl
+decided first None false e = cc
+
+-- an effect behind Keep stays
+later-keep : (second : Effect) → later Keep second ≡ second
+later-keep Keep = refl
+later-keep Clear = refl
+later-keep (Set route) = refl
+
+-- where something is noted of a pair, an earlier effect on it changes nothing
+pub noted_effect-decided : (slots : Slots) (peers : List Peer) (pair : Pair) (first : Effect) (q : Pair) → (is_some (slot_at slots pair) || is_lost peers pair) ≡ true
+    → effect_of (found slots q) (is_lost peers q) ≡ later (where_true (eq_by_cmp pair_cmp q pair) first) (effect_of (found slots q) (is_lost peers q))
+noted_effect-decided slots peers pair first q there = at (eq_by_cmp pair_cmp q pair) refl
+  where
+    at : (b : Bool) → eq_by_cmp pair_cmp q pair ≡ b → effect_of (found slots q) (is_lost peers q) ≡ later (where_true b first) (effect_of (found slots q) (is_lost peers q))
+    at true e =
+        let here : (is_some (slot_at slots q) || is_lost peers q) ≡ true = ap (λ p. is_some (slot_at slots p) || is_lost peers p) (same_pair q pair e) ∙ there in
+        sym (decided first (found slots q) (is_lost peers q) (ap (λ b. b || is_lost peers q) (is_some-option_map route_in (slot_at slots q)) ∙ here))
+    at false e = sym (later-keep (effect_of (found slots q) (is_lost peers q)))
+
+-- where something is kept, it doesn't matter whether the peer is lost
+effect_of-kept : (kept : Option Route) (lost : Bool) → effect_of (Some kept) lost ≡ effect_of (Some kept) false
+effect_of-kept (Some route) lost = refl
+effect_of-kept None lost = refl
+
+-- where there is no slot and the peer is not lost, the effect is Keep
+effect_of-none : (slot : Option Slot) (lost : Bool) → (is_some slot || lost) ≡ false → effect_of (option_map route_in slot) lost ≡ Keep
+effect_of-none None true e = cc
+effect_of-none None false e = refl
+effect_of-none (Some slot) lost e = cc
+
+-- where nothing is noted of a pair, what is put into its slot comes before all that is noted
+pub noted_effect-put : (old new : Slots) (peers : List Peer) (pair : Pair) (slot : Slot) (q : Pair) → (is_some (slot_at old pair) || is_lost peers pair) ≡ false
+    → slot_at new q ≡ cond (eq_by_cmp pair_cmp pair q) (Some slot) (slot_at old q)
+    → effect_of (found new q) (is_lost peers q) ≡ later (where_true (eq_by_cmp pair_cmp q pair) (effect_of (Some (route_in slot)) false)) (effect_of (found old q) (is_lost peers q))
+noted_effect-put old new peers pair slot q none put =
+    ap (λ s. effect_of (option_map route_in s) (is_lost peers q)) put
+    ∙ at (eq_by_cmp pair_cmp pair q) refl
+    ∙ ap (λ b. later (where_true b (effect_of (Some (route_in slot)) false)) (effect_of (found old q) (is_lost peers q))) ((eq_by_cmp_equiv pair_cmp_total).symm pair q)
+  where
+    at : (b : Bool) → eq_by_cmp pair_cmp pair q ≡ b
+        → effect_of (option_map route_in (cond b (Some slot) (slot_at old q))) (is_lost peers q) ≡ later (where_true b (effect_of (Some (route_in slot)) false)) (effect_of (found old q) (is_lost peers q))
+    at true e =
+        let here : (is_some (slot_at old q) || is_lost peers q) ≡ false = ap (λ p. is_some (slot_at old p) || is_lost peers p) (sym (same_pair pair q e)) ∙ none in
+        effect_of-kept (route_in slot) (is_lost peers q)
+        ∙ ap (later (effect_of (Some (route_in slot)) false)) (sym (effect_of-none (slot_at old q) (is_lost peers q) here))
+    at false e = sym (later-keep (effect_of (found old q) (is_lost peers q)))
+
+-- pairs that lose their route, and then more of them
+or_absent-more : (kept : Option (Option Route)) (some more : Bool) → or_absent (or_absent kept some) more ≡ or_absent kept (some || more)
+or_absent-more (Some route) some more = refl
+or_absent-more None true more = refl
+or_absent-more None false more = refl
+
+-- what is kept stays
+or_absent-kept : (kept : Option (Option Route)) (absent : Bool) → is_some kept ≡ true → kept ≡ or_absent kept absent
+or_absent-kept None absent e = cc
+or_absent-kept (Some route) absent e = refl
+
+-- and so does what is found where the pair is not among those
+or_absent-false : (kept : Option (Option Route)) → kept ≡ or_absent kept false
+or_absent-false None = refl
+or_absent-false (Some route) = refl
+
+-- a pair that has a slot, among those that lose their route, changes nothing
+pub found-there : (slots : Slots) (pair q : Pair) → is_some (slot_at slots pair) ≡ true → found slots q ≡ or_absent (found slots q) (eq_by_cmp pair_cmp q pair)
+found-there slots pair q there = at (eq_by_cmp pair_cmp q pair) refl
+  where
+    at : (b : Bool) → eq_by_cmp pair_cmp q pair ≡ b → found slots q ≡ or_absent (found slots q) b
+    at true e = or_absent-kept (found slots q) true (is_some-option_map route_in (slot_at slots q) ∙ ap (λ p. is_some (slot_at slots p)) (same_pair q pair e) ∙ there)
+    at false e = or_absent-false (found slots q)
+
+-- where there is no slot, a pair among those has no route
+or_absent-none : (slot : Option Slot) → is_some slot ≡ false → Some None ≡ or_absent (option_map route_in slot) true
+or_absent-none None e = refl
+or_absent-none (Some slot) e = cc
+
+-- a pair without a slot gets one without a route
+pub found-put : (old new : Slots) (pair q : Pair) → is_some (slot_at old pair) ≡ false → slot_at new q ≡ cond (eq_by_cmp pair_cmp pair q) (Some None) (slot_at old q)
+    → found new q ≡ or_absent (found old q) (eq_by_cmp pair_cmp q pair)
+found-put old new pair q none put =
+    ap (option_map route_in) put
+    ∙ at (eq_by_cmp pair_cmp pair q) refl
+    ∙ ap (or_absent (found old q)) ((eq_by_cmp_equiv pair_cmp_total).symm pair q)
+  where
+    at : (b : Bool) → eq_by_cmp pair_cmp pair q ≡ b → option_map route_in (cond b (Some None) (slot_at old q)) ≡ or_absent (found old q) b
+    at true e = or_absent-none (slot_at old q) (ap (λ p. is_some (slot_at old p)) (sym (same_pair pair q e)) ∙ none)
+    at false e = or_absent-false (found old q)
+
+-- one more of a list of pairs that lose their route
+pub found-more : (pairs : List Pair) (i : ℕ) (pair : Pair) (kept old new : Option (Option Route)) (q : Pair) → i < length pairs → pair ≡ get_or pairs i pair
+    → old ≡ or_absent kept (list_any (eq_by_cmp pair_cmp q) (take i pairs)) → new ≡ or_absent old (eq_by_cmp pair_cmp q pair)
+    → new ≡ or_absent kept (list_any (eq_by_cmp pair_cmp q) (take (i + 1) pairs))
+found-more pairs i pair kept old new q h at before step =
+    step
+    ∙ ap (λ k. or_absent k (eq_by_cmp pair_cmp q pair)) before
+    ∙ or_absent-more kept (list_any (eq_by_cmp pair_cmp q) (take i pairs)) (eq_by_cmp pair_cmp q pair)
+    ∙ ap (λ p. or_absent kept (list_any (eq_by_cmp pair_cmp q) (take i pairs) || eq_by_cmp pair_cmp q p)) at
+    ∙ ap (or_absent kept) (sym (list_any_more (eq_by_cmp pair_cmp q) pairs i pair h))
+
+-- one more of a list, before those of which the last decides
+pub last_effect-more : {A : Type 0} (f : A → Effect) (items : List A) (i rest : ℕ) (item : A) (later_ones here : Effect) → i < length items → suc i ≡ rest → item ≡ get_or items i item
+    → later_ones ≡ last_effect (map f (drop rest items)) → here ≡ later (f item) later_ones
+    → here ≡ last_effect (map f (drop i items))
+last_effect-more f items i rest item later_ones here h next at before step =
+    step
+    ∙ ap₂ (λ a b. later (f a) b) at (before ∙ ap (λ n. last_effect (map f (drop n items))) (sym next))
+    ∙ ap (λ xs. last_effect (map f xs)) (sym (drop-cons items i item h))
+
+-- what items say has the effects of the items
+pub effects-sayings : (q : Pair) (items : List Item) → map (item_effect q) (map saying items) ≡ map (λ item. item_effect q (saying item)) items
+effects-sayings q [] = refl
+effects-sayings q (item ∷ items) = ap (λ l. item_effect q (saying item) ∷ l) (effects-sayings q items)
+
+-- one more of a list of lost peers, whose pairs that have a route lose it
+pub lost-more : (peers : List Peer) (i : ℕ) (peer : Peer) (has among : Bool) (kept old new : Option (Option Route)) (q : Pair) → i < length peers → peer ≡ get_or peers i peer
+    → old ≡ or_absent kept (is_lost (take i peers) q && has) → among ≡ (eq_by_cmp peer_cmp q.peer peer && has) → new ≡ or_absent old among
+    → new ≡ or_absent kept (is_lost (take (i + 1) peers) q && has)
+lost-more peers i peer has among kept old new q h at before pairs step =
+    step
+    ∙ ap₂ or_absent before pairs
+    ∙ or_absent-more kept (is_lost (take i peers) q && has) (eq_by_cmp peer_cmp q.peer peer && has)
+    ∙ ap (or_absent kept) (sym (and-or_distrib_right (is_lost (take i peers) q) (eq_by_cmp peer_cmp q.peer peer) has))
+    ∙ ap (λ p. or_absent kept ((is_lost (take i peers) q || eq_by_cmp peer_cmp q.peer p) && has)) at
+    ∙ ap (λ b. or_absent kept (b && has)) (sym (list_any_more (eq_by_cmp peer_cmp q.peer) peers i peer h))

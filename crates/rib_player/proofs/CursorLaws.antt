@@ -1,0 +1,192 @@
+-- A player's timeline, and what a step that is crossed, or put behind the cursor, makes of it.
+use Rattle.std.proofs.Common.{◌≡◌, ℕ, ◌+◌, ◌-◌, ◌<◌, ◌≤◌, true, cond, List, [], ◌∷◌, ◌++◌, map, length, take, drop, set, reverse, arith, refl, sym, ap, subst, ◌∙◌, append_assoc}
+use Rattle.std.specs.List.{AllByRecursion}
+use Rattle.std.specs.FinMap as finite
+use Rattle.std.specs.FinSet as names
+use Rattle.std.proofs.lemmas.List.{take-set, drop-set, take_more, take_more_set, drop_more, drop-set-lt, reverse-append, length-reverse, length-take-le, length_push, get_or_at, map-set, set-get_or, get_or-map, take_at, drop_all, length-map, length-set, set_at, take_all, take-map, map-append}
+use Rattle.std.proofs.lemmas.Bool.{lt-ltb}
+use Rattle.rib_player.specs.declared.pair.Pair.{Pair}
+use Rattle.mrt_wire.specs.declared.event.Event.{Event}
+use Rattle.rib_player.specs.Tables.{Routes, Pairs, table_after, named_pairs}
+use Rattle.rib_player.specs.Timeline.{Timeline, current, after_undo, after_redo, after_play}
+use Rattle.rib_player.specs.Journal.{Side, pairs_in, sides_at, routes_across, sides_across, tables_before, tables_after, timeline_of, IsKept, IsJournal, IsStepFor}
+use Rattle.rib_player.proofs.JournalLaws.{kept-more, pairs_in-sides_across, kept-sides_across, routes_across-sides_across, routes_across-step}
+use Rattle.ip_prefix.proofs.Lists.{AllByRecursion-get_or, AllByRecursion-set, AllByRecursion-take, AllByRecursion-push}
+
+-- one table before each step
+length-tables_before : (steps : List (List Side)) (routes : Routes) → length (tables_before steps routes) ≡ length steps
+length-tables_before [] routes = refl
+length-tables_before (sides ∷ steps) routes =
+    length_push (tables_before steps (routes_across sides routes)) (routes_across sides routes)
+    ∙ ap (λ n. n + 1) (length-tables_before steps (routes_across sides routes)) ∙ omega arith
+
+-- the tables before the cursor
+abbrev earlier : ℕ → List (List Side) → Routes → List Routes
+earlier cursor steps routes = tables_before (reverse (take cursor steps)) routes
+
+-- are as many as the cursor says
+length-earlier : (cursor : ℕ) (steps : List (List Side)) (routes : Routes) → cursor ≤ length steps → length (earlier cursor steps routes) ≡ cursor
+length-earlier cursor steps routes within =
+    length-tables_before (reverse (take cursor steps)) routes ∙ length-reverse (take cursor steps) ∙ length-take-le cursor steps within
+
+-- the table at the cursor
+pub current-timeline : (cursor : ℕ) (steps : List (List Side)) (routes : Routes) → cursor ≤ length steps → current (timeline_of cursor steps routes) ≡ routes
+current-timeline cursor steps routes within =
+    get_or_at (earlier cursor steps routes) routes (tables_after (drop cursor steps) routes) finite.empty (cursor - 0)
+    (length-earlier cursor steps routes within ∙ omega arith)
+
+-- the tables before one step more
+earlier-more : (cursor : ℕ) (steps : List (List Side)) (routes : Routes) → cursor < length steps
+    → earlier (cursor + 1) steps routes ≡ earlier cursor steps (routes_across (sides_at steps cursor) routes) ++ routes_across (sides_at steps cursor) routes ∷ []
+earlier-more cursor steps routes within =
+    ap (λ s. tables_before (reverse s) routes) (take_more steps cursor [] within)
+    ∙ ap (λ s. tables_before s routes) (reverse-append (take cursor steps) (sides_at steps cursor ∷ []))
+
+-- the tables before a step are those before it was written
+earlier-set : (cursor : ℕ) (steps : List (List Side)) (sides : List Side) (routes : Routes) → earlier cursor (set steps cursor sides) routes ≡ earlier cursor steps routes
+earlier-set cursor steps sides routes = ap (λ s. tables_before (reverse s) routes) (take-set steps cursor sides)
+
+-- going back over the step before the cursor keeps all tables
+tables-back : (cursor : ℕ) (steps : List (List Side)) (routes : Routes) → cursor < length steps
+    → let sides = sides_at steps cursor in
+    (timeline_of cursor (set steps cursor (sides_across routes sides)) (routes_across sides routes)).tables ≡ (timeline_of (cursor + 1) steps routes).tables
+tables-back cursor steps routes within =
+    let sides : List Side = sides_at steps cursor in
+    let back : Routes = routes_across sides routes in
+    let first : List Routes = earlier cursor steps back in
+    let later : List (List Side) = drop (cursor + 1) steps in
+    ap (λ t. t ++ back ∷ tables_after (drop cursor (set steps cursor (sides_across routes sides))) back) (earlier-set cursor steps (sides_across routes sides) back)
+    ∙ ap (λ s. first ++ back ∷ tables_after s back) (drop-set steps cursor (sides_across routes sides) within)
+    ∙ ap (λ r. first ++ back ∷ r ∷ tables_after later r) (routes_across-sides_across sides routes)
+    ∙ sym (append_assoc first (back ∷ []) (routes ∷ tables_after later routes))
+    ∙ ap (λ t. t ++ routes ∷ tables_after later routes) (sym (earlier-more cursor steps routes within))
+
+-- going on over the step behind the cursor keeps all tables
+tables-on : (cursor : ℕ) (steps : List (List Side)) (routes : Routes) → cursor < length steps
+    → let sides = sides_at steps cursor in
+    (timeline_of (cursor + 1) (set steps cursor (sides_across routes sides)) (routes_across sides routes)).tables ≡ (timeline_of cursor steps routes).tables
+tables-on cursor steps routes within =
+    let sides : List Side = sides_at steps cursor in
+    let on : Routes = routes_across sides routes in
+    let first : List Routes = earlier cursor steps routes in
+    let later : List (List Side) = drop (cursor + 1) steps in
+    ap (λ s. tables_before (reverse s) on ++ on ∷ tables_after (drop (cursor + 1) (set steps cursor (sides_across routes sides))) on) (take_more_set steps cursor (sides_across routes sides) within)
+    ∙ ap (λ s. tables_before s on ++ on ∷ tables_after (drop (cursor + 1) (set steps cursor (sides_across routes sides))) on) (reverse-append (take cursor steps) (sides_across routes sides ∷ []))
+    ∙ ap (λ s. (tables_before (reverse (take cursor steps)) (routes_across (sides_across routes sides) on) ++ routes_across (sides_across routes sides) on ∷ []) ++ on ∷ tables_after s on)
+    (drop-set-lt (cursor + 1) steps cursor (sides_across routes sides) (omega arith))
+    ∙ ap (λ r. (tables_before (reverse (take cursor steps)) r ++ r ∷ []) ++ on ∷ tables_after later on) (routes_across-sides_across sides routes)
+    ∙ append_assoc first (routes ∷ []) (on ∷ tables_after later on)
+    ∙ ap (λ s. first ++ routes ∷ tables_after s routes) (sym (drop_more steps cursor [] within))
+
+-- crossing a step keeps the pairs that each step names
+names-sides_across : (index : ℕ) (steps : List (List Side)) (routes : Routes) → index < length steps
+    → let names_of : List Side → Pairs = λ sides. names.from_list (pairs_in sides) in
+    map names_of (set steps index (sides_across routes (sides_at steps index))) ≡ map names_of steps
+names-sides_across index steps routes within =
+    let names_of : List Side → Pairs = λ sides. names.from_list (pairs_in sides) in
+    map-set names_of steps index (sides_across routes (sides_at steps index))
+    ∙ ap (set (map names_of steps) index) (ap names.from_list (pairs_in-sides_across routes (sides_at steps index)) ∙ sym (get_or-map names_of steps index [] (names_of []) within))
+    ∙ set-get_or (map names_of steps) index (names_of [])
+
+-- the cursor one step back
+pub timeline-after_undo : (cursor : ℕ) (steps : List (List Side)) (routes : Routes) → 0 < cursor → cursor ≤ length steps
+    → let index = cursor - 1 in
+    timeline_of index (set steps index (sides_across routes (sides_at steps index))) (routes_across (sides_at steps index) routes) ≡ after_undo (timeline_of cursor steps routes)
+timeline-after_undo cursor steps routes some within =
+    let index : ℕ = cursor - 1 in
+    let last : index < length steps = omega arith in
+    let same : index + 1 ≡ cursor = omega arith in
+    let t : Timeline = timeline_of cursor steps routes in
+    (λ i. record {
+      floor = 0;
+      cursor = index;
+      tables = (tables-back index steps routes last ∙ ap (λ n. (timeline_of n steps routes).tables) same) i;
+      steps = names-sides_across index steps routes last i;
+    }) ∙ ap (λ b. cond b (record t { cursor = index }) t) (sym (lt-ltb 0 cursor some))
+
+-- the cursor one step on
+pub timeline-after_redo : (cursor : ℕ) (steps : List (List Side)) (routes : Routes) → cursor < length steps
+    → timeline_of (cursor + 1) (set steps cursor (sides_across routes (sides_at steps cursor))) (routes_across (sides_at steps cursor) routes) ≡ after_redo (timeline_of cursor steps routes)
+timeline-after_redo cursor steps routes within =
+    let t : Timeline = timeline_of cursor steps routes in
+    let names_of : List Side → Pairs = λ sides. names.from_list (pairs_in sides) in
+    let ahead : cursor < 0 + length (map names_of steps) = omega (arith, length-map steps names_of) in
+    (λ i. record {
+      floor = 0;
+      cursor = cursor + 1;
+      tables = tables-on cursor steps routes within i;
+      steps = names-sides_across cursor steps routes within i;
+    }) ∙ ap (λ b. cond b (record t { cursor = cursor + 1 }) t) (sym (lt-ltb cursor (0 + length (map names_of steps)) ahead))
+
+-- timelines of the same steps and routes are one
+pub same-timeline : (cursor : ℕ) (steps steps' : List (List Side)) (routes routes' : Routes) → steps ≡ steps' → routes ≡ routes' → timeline_of cursor steps routes ≡ timeline_of cursor steps' routes'
+same-timeline cursor steps steps' routes routes' e f = λ i. timeline_of cursor (e i) (f i)
+
+-- the step at an index is kept as all are
+pub kept-at : (keys : Pairs) (steps : List (List Side)) (index : ℕ) → index < length steps → AllByRecursion (IsKept keys) steps → IsKept keys (sides_at steps index)
+kept-at keys steps index within kept = AllByRecursion-get_or (IsKept keys) steps index [] within kept
+
+-- a journal with a step crossed is one
+pub journal-sides_across : (keys keys' : Pairs) (steps steps' : List (List Side)) (routes : Routes) (index cursor : ℕ) → index < length steps → cursor ≤ length steps → AllByRecursion (IsKept keys) steps
+    → keys' ≡ keys → steps' ≡ set steps index (sides_across routes (sides_at steps index)) → IsJournal keys' cursor steps'
+journal-sides_across keys keys' steps steps' routes index cursor last within kept e f =
+    let crossing : List Side = sides_across routes (sides_at steps index) in
+    let journal : IsJournal keys cursor (set steps index crossing) = record {
+      within = omega (arith, length-set steps index crossing);
+      kept = AllByRecursion-set (IsKept keys) steps index crossing (kept-sides_across keys routes (sides_at steps index) (kept-at keys steps index last kept)) kept;
+    } in
+    subst (λ k. IsJournal k cursor steps') (sym e) (subst (IsJournal keys cursor) (sym f) journal)
+
+-- a step that is put behind the cursor, in place of those ahead
+abbrev pub added : ℕ → List (List Side) → List Side → List (List Side)
+added cursor steps sides = take cursor steps ++ sides ∷ []
+
+pub length-added : (cursor : ℕ) (steps : List (List Side)) (sides : List Side) → cursor ≤ length steps → length (added cursor steps sides) ≡ cursor + 1
+length-added cursor steps sides within = length_push (take cursor steps) sides ∙ ap (λ n. n + 1) (length-take-le cursor steps within)
+
+-- is the step at the cursor
+pub sides-added : (cursor : ℕ) (steps : List (List Side)) (sides : List Side) → cursor ≤ length steps → sides_at (added cursor steps sides) cursor ≡ sides
+sides-added cursor steps sides within = get_or_at (take cursor steps) sides [] [] cursor (length-take-le cursor steps within)
+
+-- and crossed it is still that
+pub sides_across-added : (cursor : ℕ) (steps : List (List Side)) (sides : List Side) (routes : Routes) → cursor ≤ length steps
+    → set (added cursor steps sides) cursor (sides_across routes (sides_at (added cursor steps sides) cursor)) ≡ added cursor steps (sides_across routes sides)
+sides_across-added cursor steps sides routes within =
+    ap (λ s. set (added cursor steps sides) cursor (sides_across routes s)) (sides-added cursor steps sides within)
+    ∙ set_at (take cursor steps) sides [] (sides_across routes sides) cursor (length-take-le cursor steps within)
+
+-- it is kept as the steps before it are
+pub journal-added : (keys keys' : Pairs) (cursor : ℕ) (steps : List (List Side)) (sides : List Side) → ((q : Pair) → names.contains keys q ≡ true → names.contains keys' q ≡ true)
+    → IsJournal keys cursor steps → IsKept keys' sides → IsJournal keys' (cursor + 1) (added cursor steps sides)
+journal-added keys keys' cursor steps sides more journal new = record {
+  within = omega (arith, length-added cursor steps sides journal.within);
+  kept = AllByRecursion-push (IsKept keys') (take cursor steps) sides (AllByRecursion-take (IsKept keys') cursor steps (kept-more keys keys' steps more journal.kept)) new;
+}
+
+-- the event's step, put behind the cursor and crossed
+pub timeline-after_play : (cursor : ℕ) (steps : List (List Side)) (sides : List Side) (routes : Routes) (event : Event) → cursor ≤ length steps → IsStepFor routes event sides
+    → timeline_of (cursor + 1) (added cursor steps (sides_across routes sides)) (routes_across sides routes) ≡ after_play (timeline_of cursor steps routes) event
+timeline-after_play cursor steps sides routes event within step =
+    let next : Routes = routes_across sides routes in
+    let crossing : List Side = sides_across routes sides in
+    let first : List Routes = earlier cursor steps routes in
+    let names_of : List Side → Pairs = λ s. names.from_list (pairs_in s) in
+    let t : Timeline = timeline_of cursor steps routes in
+    let here : current t ≡ routes = current-timeline cursor steps routes within in
+    let long : length (added cursor steps crossing) ≤ cursor + 1 = omega (arith, length-added cursor steps crossing within) in
+    let before : first ++ routes ∷ [] ≡ take (cursor - 0 + 1) t.tables =
+    sym (take_at (first ++ routes ∷ []) (tables_after (drop cursor steps) routes) (cursor - 0 + 1)
+    (length_push first routes ∙ ap (λ n. n + 1) (length-earlier cursor steps routes within) ∙ omega arith))
+    ∙ ap (take (cursor - 0 + 1)) (append_assoc first (routes ∷ []) (tables_after (drop cursor steps) routes)) in
+    let tables : (timeline_of (cursor + 1) (added cursor steps crossing) next).tables ≡ (after_play t event).tables =
+    ap (λ s. tables_before (reverse s) next ++ next ∷ tables_after (drop (cursor + 1) (added cursor steps crossing)) next) (take_all (cursor + 1) (added cursor steps crossing) long)
+    ∙ ap (λ s. tables_before (reverse (added cursor steps crossing)) next ++ next ∷ tables_after s next) (drop_all (cursor + 1) (added cursor steps crossing) long)
+    ∙ ap (λ s. tables_before s next ++ next ∷ []) (reverse-append (take cursor steps) (crossing ∷ []))
+    ∙ ap (λ r. (tables_before (reverse (take cursor steps)) r ++ r ∷ []) ++ next ∷ []) (routes_across-sides_across sides routes)
+    ∙ ap (λ b. b ++ next ∷ []) before
+    ∙ ap (λ n. take (cursor - 0 + 1) t.tables ++ n ∷ []) (routes_across-step routes event sides step ∙ ap (λ r. table_after r event) (sym here)) in
+    let steps_then : map names_of (added cursor steps crossing) ≡ (after_play t event).steps =
+    map-append names_of (take cursor steps) (crossing ∷ [])
+    ∙ ap (λ s. s ++ names_of crossing ∷ []) (sym (take-map names_of cursor steps) ∙ ap (λ n. take n (map names_of steps)) (omega arith))
+    ∙ ap (λ s. take (cursor - 0) (map names_of steps) ++ s ∷ []) (ap names.from_list (pairs_in-sides_across routes sides) ∙ step.names ∙ ap (λ r. named_pairs r event) (sym here)) in
+    λ i. record { floor = 0; cursor = cursor + 1; tables = tables i; steps = steps_then i }

@@ -1,0 +1,160 @@
+-- What a step's entries do to a table, and what crossing a step makes of a player.
+use Rattle.std.proofs.Common.{◌≡◌, ℕ, ◌+◌, ◌<◌, Bool, true, false, cond, ◌||◌, List, [], ◌∷◌, ◌++◌, length, get_or, take, drop, set, Option, Some, None, refl, sym, ap, subst, ◌∙◌, append_assoc}
+use Rattle.std.specs.List.{AllByRecursion, list_any, IsDistinct}
+use Rattle.std.specs.Ordering.{eq_by_cmp, is_eq}
+use Rattle.std.specs.Cmp.{eq_by_cmp_equiv, tied_itself}
+use Rattle.std.specs.FinMap as finite
+use Rattle.std.specs.FinSet as names
+use Rattle.std.specs.FinSet.{contains-from_list, contains-insert}
+use Rattle.std.proofs.lemmas.Bool.{or_parts}
+use Rattle.std.proofs.lemmas.List.{drop-drop, drop_more, take_more_set, map-append, map_more}
+use Rattle.std.proofs.lemmas.Map.Keys.{IsDistinct-head, IsDistinct-tail}
+use Rattle.rib_player.specs.declared.pair.Pair.{Pair}
+use Rattle.mrt_wire.specs.declared.event.Route.{Route}
+use Rattle.mrt_wire.specs.declared.event.Event.{Event}
+use Rattle.rib_player.specs.declared.journal.Entry.{Entry}
+use Rattle.rib_player.specs.History.{pair_cmp, Effect, Keep, Clear, Set, effect, route_after}
+use Rattle.rib_player.specs.Tables.{Routes, Pairs, put, table_after, is_named}
+use Rattle.rib_player.specs.Store.{route_in}
+use Rattle.rib_player.specs.Journal.{Side, side_of, sides_of, pairs_in, routes_across, sides_across, IsKept, IsStepFor}
+use Rattle.rib_player.proofs.PairLaws.{pair_cmp_total, same_pair}
+use Rattle.rib_player.proofs.TableLaws.{same_routes, get-put, get-table_after, contains-named_pairs}
+use Rattle.ip_prefix.proofs.Lists.{AllByRecursion-push, AllByRecursion-weaker}
+use Rattle.ip_prefix.proofs.Booleans.{cond-cond, cond_untested}
+
+-- a put at another pair leaves the route
+get-put_elsewhere : (routes : Routes) (pair q : Pair) (new : Option Route) → eq_by_cmp pair_cmp pair q ≡ false → finite.get (put routes pair new) q ≡ finite.get routes q
+get-put_elsewhere routes pair q new apart =
+    get-put routes pair new q
+    ∙ ap (λ b. cond b new (finite.get routes q)) ((eq_by_cmp_equiv pair_cmp_total).symm q pair ∙ apart)
+
+-- a put at another pair leaves the routes that crossing takes up
+sides_across-put : (routes : Routes) (pair : Pair) (new : Option Route) (sides : List Side) → AllByRecursion (λ q. eq_by_cmp pair_cmp pair q ≡ false) (pairs_in sides)
+    → sides_across (put routes pair new) sides ≡ sides_across routes sides
+sides_across-put routes pair new [] apart = refl
+sides_across-put routes pair new (side ∷ sides) apart =
+    λ i. (side.0, get-put_elsewhere routes pair side.0 new apart.0 i) ∷ sides_across-put routes pair new sides apart.1 i
+
+-- the entries that are left, by the first of them
+pub rest_of_entries : (i : ℕ) (entries first : List Entry) (default : Entry) → i < length entries → drop i entries ≡ drop i first
+    → drop i first ≡ get_or entries i default ∷ drop (i + 1) first
+rest_of_entries i entries first default within same =
+    let front : drop i first ≡ get_or entries i default ∷ drop (i + 1) entries = sym same ∙ drop_more entries i default within in
+    front ∙ ap (λ es. get_or entries i default ∷ es) (sym (ap (drop 1) front) ∙ drop-drop 1 i first)
+
+-- kept entries are still kept without the first
+pub kept-tail : (keys : Pairs) (side : Side) (sides : List Side) → IsKept keys (side ∷ sides) → IsKept keys sides
+kept-tail keys side sides kept = record {
+  distinct = IsDistinct-tail (eq_by_cmp pair_cmp) side.0 (pairs_in sides) kept.distinct;
+  among_keys = kept.among_keys.1;
+}
+
+-- crossing kept entries one by one
+pub sides_across-tail : (keys : Pairs) (routes : Routes) (side : Side) (sides : List Side) → IsKept keys (side ∷ sides)
+    → sides_across (put routes side.0 side.1) sides ≡ sides_across routes sides
+sides_across-tail keys routes side sides kept =
+    sides_across-put routes side.0 side.1 sides (IsDistinct-head (eq_by_cmp pair_cmp) side.0 (pairs_in sides) kept.distinct)
+
+-- one entry more is crossed
+pub entries-more : (keys : Pairs) (routes routes' : Routes) (entries rest : List Entry) (i : ℕ) (entry entry' : Entry) (whole : List Side) → i < length entries
+    → IsKept keys (sides_of (entry ∷ rest)) → routes' ≡ put routes entry.pair (route_in entry.other) → side_of entry' ≡ (entry.pair, finite.get routes entry.pair)
+    → sides_of (take i entries) ++ sides_across routes (sides_of (entry ∷ rest)) ≡ whole
+    → sides_of (take (i + 1) (set entries i entry')) ++ sides_across routes' (sides_of rest) ≡ whole
+entries-more keys routes routes' entries rest i entry entry' whole within kept put_there given before =
+    ap (λ es. sides_of es ++ sides_across routes' (sides_of rest)) (take_more_set entries i entry' within)
+    ∙ ap (λ s. s ++ sides_across routes' (sides_of rest)) (map-append side_of (take i entries) (entry' ∷ []))
+    ∙ append_assoc (sides_of (take i entries)) (side_of entry' ∷ []) (sides_across routes' (sides_of rest))
+    ∙ ap (λ s. sides_of (take i entries) ++ (s ∷ sides_across routes' (sides_of rest))) given
+    ∙ ap (λ s. sides_of (take i entries) ++ ((entry.pair, finite.get routes entry.pair) ∷ s))
+    (ap (λ r. sides_across r (sides_of rest)) put_there ∙ sides_across-tail keys routes (side_of entry) (sides_of rest) kept)
+    ∙ before
+
+-- the pairs of a crossed step are those of the step
+pub pairs_in-sides_across : (routes : Routes) (sides : List Side) → pairs_in (sides_across routes sides) ≡ pairs_in sides
+pairs_in-sides_across routes [] = refl
+pairs_in-sides_across routes (side ∷ sides) = ap (λ pairs. side.0 ∷ pairs) (pairs_in-sides_across routes sides)
+
+-- a crossed step is kept as the step is
+pub kept-sides_across : (keys : Pairs) (routes : Routes) (sides : List Side) → IsKept keys sides → IsKept keys (sides_across routes sides)
+kept-sides_across keys routes sides kept = record {
+  distinct = subst (IsDistinct (eq_by_cmp pair_cmp)) (sym (pairs_in-sides_across routes sides)) kept.distinct;
+  among_keys = subst (AllByRecursion (λ pair. names.contains keys pair ≡ true)) (sym (pairs_in-sides_across routes sides)) kept.among_keys;
+}
+
+-- behind a step whose routes are those of a table, its pairs have that table's routes, and the others keep theirs
+pub get-restored_crossed : (routes before : Routes) (sides : List Side) (q : Pair)
+    → finite.get (routes_across (sides_across routes sides) before) q ≡ cond (list_any (eq_by_cmp pair_cmp q) (pairs_in sides)) (finite.get routes q) (finite.get before q)
+get-restored_crossed routes before [] q = refl
+get-restored_crossed routes before (side ∷ sides) q =
+    get-restored_crossed routes (put before side.0 (finite.get routes side.0)) sides q
+    ∙ ap (cond (list_any (eq_by_cmp pair_cmp q) (pairs_in sides)) (finite.get routes q)) (get-put before side.0 (finite.get routes side.0) q)
+    ∙ cond-cond (eq_by_cmp pair_cmp q side.0) (list_any (eq_by_cmp pair_cmp q) (pairs_in sides)) (finite.get routes q) (finite.get routes side.0) (finite.get before q)
+    (λ e. ap (finite.get routes) (sym (same_pair q side.0 e)))
+
+-- a step leaves the routes of the pairs that it doesn't name
+pub get-restored_elsewhere : (sides : List Side) (routes : Routes) (q : Pair) → list_any (eq_by_cmp pair_cmp q) (pairs_in sides) ≡ false
+    → finite.get (routes_across sides routes) q ≡ finite.get routes q
+get-restored_elsewhere [] routes q out = refl
+get-restored_elsewhere (side ∷ sides) routes q out =
+    let apart = or_parts (eq_by_cmp pair_cmp q side.0) (list_any (eq_by_cmp pair_cmp q) (pairs_in sides)) out in
+    get-restored_elsewhere sides (put routes side.0 side.1) q apart.1
+    ∙ get-put routes side.0 side.1 q ∙ ap (λ b. cond b side.1 (finite.get routes q)) apart.0
+
+-- a step that is crossed and crossed back gives back the table
+pub routes_across-sides_across : (sides : List Side) (routes : Routes) → routes_across (sides_across routes sides) (routes_across sides routes) ≡ routes
+routes_across-sides_across sides routes = same_routes _ routes (λ q.
+    get-restored_crossed routes (routes_across sides routes) sides q
+    ∙ cond_untested (list_any (eq_by_cmp pair_cmp q) (pairs_in sides)) (finite.get routes q) (finite.get (routes_across sides routes) q) (λ out. sym (get-restored_elsewhere sides routes q out)))
+
+-- an event leaves the routes of the pairs that it doesn't name
+unnamed-same : (before : Option Route) (does : Effect) → is_named before does ≡ false → before ≡ route_after before does
+unnamed-same before Keep e = refl
+unnamed-same None Clear e = refl
+unnamed-same (Some old) Clear e = cc
+unnamed-same None (Set new) e = cc
+unnamed-same (Some old) (Set new) e = cc
+
+-- the step of an event leads to the table that the event is applied to
+pub routes_across-step : (routes : Routes) (event : Event) (sides : List Side) → IsStepFor routes event sides → routes_across sides routes ≡ table_after routes event
+routes_across-step routes event sides step = same_routes _ _ (λ q.
+    ap (λ s. finite.get (routes_across s routes) q) step.after
+    ∙ get-restored_crossed (table_after routes event) routes sides q
+    ∙ cond_untested (list_any (eq_by_cmp pair_cmp q) (pairs_in sides)) (finite.get (table_after routes event) q) (finite.get routes q) (λ out.
+    get-table_after routes event q
+    ∙ sym (unnamed-same (finite.get routes q) (effect q event)
+    (sym (contains-named_pairs routes event q) ∙ ap (λ s. names.contains s q) (sym step.names) ∙ contains-from_list pair_cmp_total (pairs_in sides) q ∙ out))))
+
+-- keys that have a pair more have it and those that they had
+pub contains-more : (keys keys' : Pairs) (pair q : Pair) → keys' ≡ names.insert keys pair → names.contains keys q ≡ true → names.contains keys' q ≡ true
+contains-more keys keys' pair q e there =
+    ap (λ k. names.contains k q) e ∙ contains-insert pair_cmp_total keys pair q ∙ ap (λ b. eq_by_cmp pair_cmp q pair || b) there ∙ or-true (eq_by_cmp pair_cmp q pair)
+  where
+    or-true : (b : Bool) → (b || true) ≡ true
+    or-true true = refl
+    or-true false = refl
+
+pub contains-new : (keys keys' : Pairs) (pair : Pair) → keys' ≡ names.insert keys pair → names.contains keys' pair ≡ true
+contains-new keys keys' pair e =
+    ap (λ k. names.contains k pair) e ∙ contains-insert pair_cmp_total keys pair pair
+    ∙ ap (λ r. is_eq r || names.contains keys pair) (tied_itself pair_cmp_total pair)
+
+-- the pairs of one entry more are keys too
+pub keys-more : (keys keys' : Pairs) (entries : List Entry) (index : ℕ) (default : Entry) → index < length entries → keys' ≡ names.insert keys (get_or entries index default).pair
+    → AllByRecursion (λ pair. names.contains keys pair ≡ true) (pairs_in (sides_of (take index entries)))
+    → AllByRecursion (λ pair. names.contains keys' pair ≡ true) (pairs_in (sides_of (take (index + 1) entries)))
+keys-more keys keys' entries index default within e all =
+    let new : Pair = (get_or entries index default).pair in
+    let split : pairs_in (sides_of (take (index + 1) entries)) ≡ pairs_in (sides_of (take index entries)) ++ new ∷ [] =
+    ap pairs_in (map_more side_of entries index default within) ∙ map-append (λ (side : Side). side.0) (sides_of (take index entries)) (side_of (get_or entries index default) ∷ []) in
+    subst (AllByRecursion (λ pair. names.contains keys' pair ≡ true)) (sym split)
+    (AllByRecursion-push (λ pair. names.contains keys' pair ≡ true) (pairs_in (sides_of (take index entries))) new
+    (AllByRecursion-weaker (λ pair. names.contains keys pair ≡ true) (λ pair. names.contains keys' pair ≡ true) (λ q there. contains-more keys keys' new q e there) (pairs_in (sides_of (take index entries))) all)
+    (contains-new keys keys' new e))
+
+-- kept steps are kept by keys that have all that these had
+pub kept-more : (keys keys' : Pairs) (steps : List (List Side)) → ((q : Pair) → names.contains keys q ≡ true → names.contains keys' q ≡ true)
+    → AllByRecursion (IsKept keys) steps → AllByRecursion (IsKept keys') steps
+kept-more keys keys' steps more all = AllByRecursion-weaker (IsKept keys) (IsKept keys') (λ sides kept. record {
+  distinct = kept.distinct;
+  among_keys = AllByRecursion-weaker (λ pair. names.contains keys pair ≡ true) (λ pair. names.contains keys' pair ≡ true) more (pairs_in sides) kept.among_keys;
+}) steps all

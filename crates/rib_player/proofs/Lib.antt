@@ -1,0 +1,14 @@
+pub mod PairLaws
+pub mod TableLaws
+pub mod StoreLaws
+pub mod HistoryLaws
+pub mod AlongHistory
+pub mod TimelineLaws
+pub mod BackAndForth
+pub mod JournalLaws
+pub mod CursorLaws
+pub mod ChangesLaws
+pub mod EntryLaws
+pub mod MarkLaws
+pub mod SearchLaws
+pub mod KeyLaws

@@ -1,0 +1,401 @@
+-- What the stores of all peers hold together, pair by pair.
+use Rattle.std.proofs.Common.{◌≡◌, ℕ, zero, suc, ◌+◌, ◌<◌, Bool, true, false, cond, not, ◌||◌, ◌&&◌, List, [], ◌∷◌, map, Option, Some, None, is_some, IsSome, IfSome, IfNone, Result, Ok, Err, IfOk, OnOk, OnErr, Bor, refl, sym, ap, ap₂, subst, ◌∙◌, arith}
+use lib.Dec.{eqb}
+use Rattle.std.specs.List.{list_any, flat_map, filter}
+use Rattle.std.specs.Map.{set_value}
+use Rattle.std.specs.Option.{option_map, option_copied}
+use Rattle.std.specs.Ordering.{eq_by_cmp}
+use Rattle.std.specs.Cmp.{eq_by_cmp_equiv, Equal-is, both_tied}
+use Rattle.std.specs.FinMap as finite
+use Rattle.std.specs.FinMap.{contains_key-keys}
+use Rattle.std.specs.FinSet as set
+use Rattle.std.specs.FinSet.{contains-from_list, contains-insert, contains-remove, contains-items, contains-empty, same_set, len-insert}
+use Rattle.std.specs.declared.alloc.Global.{Global}
+use Rattle.std.specs.declared.rc.Rc.{Rc}
+use Rattle.std.proofs.lemmas.Bool.{eqb-true}
+use Rattle.std.proofs.lemmas.List.Folds.{list_any-append}
+use Rattle.std.proofs.lemmas.Map.{lookup-set_value}
+use Rattle.std.proofs.lemmas.Map.Views.{any-filter_same}
+use Rattle.ip_prefix.specs.Network.{Network}
+use Rattle.ip_prefix.specs.Order.{network_cmp}
+use Rattle.ip_prefix.specs.OrderLaws.{network_cmp_total}
+use Rattle.rib_store.specs.Stored as stored
+use Rattle.rib_store.proofs.SlotLaws.{get-put as get-put_stored}
+use Rattle.mrt_wire.specs.declared.peer.Peer.{Peer}
+use Rattle.rib_player.specs.declared.pair.Pair.{Pair}
+use Rattle.mrt_wire.specs.declared.event.Route.{Route}
+use Rattle.mrt_wire.specs.Peer.{peer_cmp}
+use Rattle.rib_player.specs.History.{pair_cmp, pair_of}
+use Rattle.rib_player.specs.Tables.{Routes, Pairs, put}
+use Rattle.rib_player.specs.Store.{Stores, store_at, has_key, stored_route, value_of, route_in, keys_in, routes_in, IsHeld, IsLeft}
+use Rattle.ip_prefix.proofs.Booleans.{cond_untested}
+use Rattle.mrt_wire.proofs.PeerLaws.{peer_cmp_total, peer_cmp-IsAntisymmetric}
+use Rattle.rib_player.proofs.PairLaws.{pair_cmp_total, pair_cmp-IsAntisymmetric, same_pair}
+use Rattle.rib_player.proofs.TableLaws.{same_routes, get-put, get-tabulation}
+
+abbrev pub same_peer : Peer → Peer → Bool
+same_peer = eq_by_cmp peer_cmp
+
+abbrev pub same_network : Network → Network → Bool
+same_network = eq_by_cmp network_cmp
+
+-- peers that tie are one
+one_peer : (a b : Peer) → same_peer a b ≡ true → a ≡ b
+one_peer a b e = peer_cmp-IsAntisymmetric a b ((Equal-is (peer_cmp a b)).0 e)
+
+peer_symm : (a b : Peer) → same_peer a b ≡ same_peer b a
+peer_symm a b = (eq_by_cmp_equiv peer_cmp_total).symm a b
+
+-- keys that contain the same pairs are one
+pub same_pairs : (a b : Pairs) → ((q : Pair) → set.contains a q ≡ set.contains b q) → a ≡ b
+same_pairs a b same = same_set pair_cmp_total pair_cmp-IsAntisymmetric a b same
+
+-- pairs tie where their peers and their prefixes do
+tied_parts : (q : Pair) (peer : Peer) (n : Network) → eq_by_cmp pair_cmp q (pair_of peer n) ≡ (same_peer q.peer peer && same_network q.prefix n)
+tied_parts q peer n = sym (both_tied _ _ (peer_cmp q.peer peer) (network_cmp q.prefix n) refl refl)
+
+or-and : (a b c : Bool) → ((a && b) || (a && c)) ≡ (a && (b || c))
+or-and true b c = refl
+or-and false b c = refl
+
+and-false : (a : Bool) → false ≡ (a && false)
+and-false true = refl
+and-false false = refl
+
+-- a pair is among those of a peer where its prefix is among the prefixes
+any-pairs : (q : Pair) (peer : Peer) (ns : List Network) → list_any (eq_by_cmp pair_cmp q) (map (pair_of peer) ns) ≡ (same_peer q.peer peer && list_any (same_network q.prefix) ns)
+any-pairs q peer [] = and-false (same_peer q.peer peer)
+any-pairs q peer (n ∷ ns) =
+    ap₂ (λ a b. a || b) (tied_parts q peer n) (any-pairs q peer ns)
+    ∙ or-and (same_peer q.peer peer) (same_network q.prefix n) (list_any (same_network q.prefix) ns)
+
+module _ {S : Type 0} (keys : S → stored.Keys) where
+  abbrev key_pairs : Stores S → List Pair
+  key_pairs stores = flat_map (λ (entry : Peer × S). map (pair_of entry.0) (set.items (keys entry.1))) stores
+
+  -- a key of a pair's store is among the keys of all
+  key_among : (stores : Stores S) (q : Pair) → (has_key keys (store_at stores q.peer) q.prefix && list_any (eq_by_cmp pair_cmp q) (key_pairs stores)) ≡ has_key keys (store_at stores q.peer) q.prefix
+  key_among [] q = refl
+  key_among (entry ∷ stores) q =
+      ap (λ b. has_key keys (cond (same_peer q.peer entry.0) (Some entry.1) (store_at stores q.peer)) q.prefix && b)
+      (list_any-append (eq_by_cmp pair_cmp q) (map (pair_of entry.0) (set.items (keys entry.1))) (key_pairs stores)
+      ∙ ap (λ b. b || list_any (eq_by_cmp pair_cmp q) (key_pairs stores)) (any-pairs q entry.0 (set.items (keys entry.1)) ∙ ap (λ b. same_peer q.peer entry.0 && b) (sym (contains-items (keys entry.1) q.prefix))))
+      ∙ at (same_peer q.peer entry.0) (list_any (eq_by_cmp pair_cmp q) (key_pairs stores)) (set.contains (keys entry.1) q.prefix) refl (key_among stores q)
+    where
+      at : (a rest b : Bool) → set.contains (keys entry.1) q.prefix ≡ b → (has_key keys (store_at stores q.peer) q.prefix && rest) ≡ has_key keys (store_at stores q.peer) q.prefix
+          → (has_key keys (cond a (Some entry.1) (store_at stores q.peer)) q.prefix && ((a && b) || rest)) ≡ has_key keys (cond a (Some entry.1) (store_at stores q.peer)) q.prefix
+      at true rest true e f = ap (λ b. b && true) e ∙ sym e
+      at true rest false e f = ap (λ b. b && rest) e ∙ sym e
+      at false rest b e f = f
+
+  -- a pair is a key where its prefix is a key of its peer's store
+  pub contains-keys_in : (stores : Stores S) (q : Pair) → set.contains (keys_in keys stores) q ≡ has_key keys (store_at stores q.peer) q.prefix
+  unfolding keys_in
+  contains-keys_in stores q =
+      let test = λ (p : Pair). has_key keys (store_at stores p.peer) p.prefix in
+      contains-from_list pair_cmp_total (filter test (key_pairs stores)) q
+      ∙ any-filter_same (eq_by_cmp pair_cmp q) test (test q) (λ p e. ap test (sym (same_pair q p e))) (key_pairs stores)
+      ∙ key_among stores q
+
+  -- the keys once a peer's store is another, or goes
+  pub keys_in-other : (old new : Stores S) (peer : Peer) (w : Option S) (q : Pair) → ((p : Peer) → store_at new p ≡ cond (same_peer peer p) w (store_at old p))
+      → set.contains (keys_in keys new) q ≡ cond (same_peer q.peer peer) (has_key keys w q.prefix) (set.contains (keys_in keys old) q)
+  keys_in-other old new peer w q same =
+      contains-keys_in new q
+      ∙ ap (λ s. has_key keys s q.prefix) (same q.peer)
+      ∙ at (same_peer peer q.peer)
+      ∙ ap₂ (λ a b. cond a (has_key keys w q.prefix) b) (peer_symm peer q.peer) (sym (contains-keys_in old q))
+    where
+      at : (a : Bool) → has_key keys (cond a w (store_at old q.peer)) q.prefix ≡ cond a (has_key keys w q.prefix) (has_key keys (store_at old q.peer) q.prefix)
+      at true = refl
+      at false = refl
+
+  pub keys_in-insert : (old new : Stores S) (peer : Peer) (n : Network) (w : Option S) → ((p : Peer) → store_at new p ≡ cond (same_peer peer p) w (store_at old p))
+      → ((x : Network) → has_key keys w x ≡ (same_network x n || has_key keys (store_at old peer) x))
+      → keys_in keys new ≡ set.insert (keys_in keys old) (pair_of peer n)
+  keys_in-insert old new peer n w same is = same_pairs _ _ (λ q.
+      keys_in-other old new peer w q same
+      ∙ at q (same_peer q.peer peer) refl
+      ∙ ap (λ b. b || set.contains (keys_in keys old) q) (sym (tied_parts q peer n))
+      ∙ sym (contains-insert pair_cmp_total (keys_in keys old) (pair_of peer n) q))
+    where
+      at : (q : Pair) (a : Bool) → same_peer q.peer peer ≡ a → cond a (has_key keys w q.prefix) (set.contains (keys_in keys old) q) ≡ ((a && same_network q.prefix n) || set.contains (keys_in keys old) q)
+      at q true e = is q.prefix ∙ ap (λ b. same_network q.prefix n || b) (ap (λ p. has_key keys (store_at old p) q.prefix) (sym (one_peer q.peer peer e)) ∙ sym (contains-keys_in old q))
+      at q false e = refl
+
+  pub keys_in-remove : (old new : Stores S) (peer : Peer) (n : Network) (w : Option S) → ((p : Peer) → store_at new p ≡ cond (same_peer peer p) w (store_at old p))
+      → ((x : Network) → has_key keys w x ≡ (not (same_network x n) && has_key keys (store_at old peer) x))
+      → keys_in keys new ≡ set.remove (keys_in keys old) (pair_of peer n)
+  keys_in-remove old new peer n w same is = same_pairs _ _ (λ q.
+      keys_in-other old new peer w q same
+      ∙ at q (same_peer q.peer peer) refl
+      ∙ ap (λ b. not b && set.contains (keys_in keys old) q) (sym (tied_parts q peer n))
+      ∙ sym (contains-remove pair_cmp_total (keys_in keys old) (pair_of peer n) q))
+    where
+      at : (q : Pair) (a : Bool) → same_peer q.peer peer ≡ a → cond a (has_key keys w q.prefix) (set.contains (keys_in keys old) q) ≡ (not (a && same_network q.prefix n) && set.contains (keys_in keys old) q)
+      at q true e = is q.prefix ∙ ap (λ b. not (same_network q.prefix n) && b) (ap (λ p. has_key keys (store_at old p) q.prefix) (sym (one_peer q.peer peer e)) ∙ sym (contains-keys_in old q))
+      at q false e = refl
+
+  pub keys_in-same : (old new : Stores S) (peer : Peer) (w : Option S) → ((p : Peer) → store_at new p ≡ cond (same_peer peer p) w (store_at old p))
+      → ((x : Network) → has_key keys w x ≡ has_key keys (store_at old peer) x)
+      → keys_in keys new ≡ keys_in keys old
+  keys_in-same old new peer w same is = same_pairs _ _ (λ q.
+      keys_in-other old new peer w q same ∙ at q (same_peer q.peer peer) refl)
+    where
+      at : (q : Pair) (a : Bool) → same_peer q.peer peer ≡ a → cond a (has_key keys w q.prefix) (set.contains (keys_in keys old) q) ≡ set.contains (keys_in keys old) q
+      at q true e = is q.prefix ∙ ap (λ p. has_key keys (store_at old p) q.prefix) (sym (one_peer q.peer peer e)) ∙ sym (contains-keys_in old q)
+      at q false e = refl
+
+  -- no store without a key
+  pub held-other : (old new : Stores S) (peer : Peer) (w : Option S) → ((p : Peer) → store_at new p ≡ cond (same_peer peer p) w (store_at old p))
+      → IsHeld keys old → IfSome w (λ store. 0 < set.len (keys store)) → IsHeld keys new
+  held-other old new peer w same held one p = subst (λ s. IfSome s (λ store. 0 < set.len (keys store))) (sym (same p)) (at (same_peer peer p))
+    where
+      at : (a : Bool) → IfSome (cond a w (store_at old p)) (λ store. 0 < set.len (keys store))
+      at true = one
+      at false = held p
+
+module _ {S : Type 0} (routes : S → stored.Routes (Rc Route Global)) where
+  abbrev route_pairs : Stores S → List Pair
+  route_pairs stores = flat_map (λ (entry : Peer × S). map (pair_of entry.0) (finite.keys (routes entry.1))) stores
+
+  -- a pair that is not among those with routes has none
+  no_route : (stores : Stores S) (q : Pair) → list_any (eq_by_cmp pair_cmp q) (route_pairs stores) ≡ false → stored_route routes (store_at stores q.peer) q.prefix ≡ None
+  no_route [] q e = refl
+  no_route (entry ∷ stores) q e =
+      at (same_peer q.peer entry.0) (finite.get (routes entry.1) q.prefix)
+      refl (list_any (eq_by_cmp pair_cmp q) (route_pairs stores))
+      (sym (list_any-append (eq_by_cmp pair_cmp q) (map (pair_of entry.0) (finite.keys (routes entry.1))) (route_pairs stores)
+      ∙ ap (λ b. b || list_any (eq_by_cmp pair_cmp q) (route_pairs stores)) (any-pairs q entry.0 (finite.keys (routes entry.1)) ∙ ap (λ b. same_peer q.peer entry.0 && b) (sym (contains_key-keys (routes entry.1) q.prefix)))) ∙ e)
+      (no_route stores q)
+    where
+      at : (a : Bool) (found : Option (Rc Route Global)) → finite.get (routes entry.1) q.prefix ≡ found → (rest : Bool) → ((a && is_some found) || rest) ≡ false
+          → (rest ≡ false → stored_route routes (store_at stores q.peer) q.prefix ≡ None)
+          → stored_route routes (cond a (Some entry.1) (store_at stores q.peer)) q.prefix ≡ None
+      at true None is rest e then = ap (option_map (λ shared. shared.value)) is
+      at true (Some r) is rest e then = cc
+      at false found is rest e then = then e
+
+  -- the route at a pair is that of its peer's store
+  pub get-routes_in : (stores : Stores S) (q : Pair) → finite.get (routes_in routes stores) q ≡ stored_route routes (store_at stores q.peer) q.prefix
+  unfolding routes_in
+  get-routes_in stores q =
+      get-tabulation (λ p. stored_route routes (store_at stores p.peer) p.prefix) (route_pairs stores) q
+      ∙ cond_untested (list_any (eq_by_cmp pair_cmp q) (route_pairs stores)) (stored_route routes (store_at stores q.peer) q.prefix) None (no_route stores q)
+
+  pub routes_in-other : (old new : Stores S) (peer : Peer) (w : Option S) (q : Pair) → ((p : Peer) → store_at new p ≡ cond (same_peer peer p) w (store_at old p))
+      → finite.get (routes_in routes new) q ≡ cond (same_peer q.peer peer) (stored_route routes w q.prefix) (finite.get (routes_in routes old) q)
+  routes_in-other old new peer w q same =
+      get-routes_in new q
+      ∙ ap (λ s. stored_route routes s q.prefix) (same q.peer)
+      ∙ at (same_peer peer q.peer)
+      ∙ ap₂ (λ a b. cond a (stored_route routes w q.prefix) b) (peer_symm peer q.peer) (sym (get-routes_in old q))
+    where
+      at : (a : Bool) → stored_route routes (cond a w (store_at old q.peer)) q.prefix ≡ cond a (stored_route routes w q.prefix) (stored_route routes (store_at old q.peer) q.prefix)
+      at true = refl
+      at false = refl
+
+  pub routes_in-put : (old new : Stores S) (peer : Peer) (n : Network) (w : Option S) (route : Option Route) → ((p : Peer) → store_at new p ≡ cond (same_peer peer p) w (store_at old p))
+      → ((x : Network) → stored_route routes w x ≡ cond (same_network x n) route (stored_route routes (store_at old peer) x))
+      → routes_in routes new ≡ put (routes_in routes old) (pair_of peer n) route
+  routes_in-put old new peer n w route same is = same_routes _ _ (λ q.
+      routes_in-other old new peer w q same
+      ∙ at q (same_peer q.peer peer) refl
+      ∙ ap (λ b. cond b route (finite.get (routes_in routes old) q)) (sym (tied_parts q peer n))
+      ∙ sym (get-put (routes_in routes old) (pair_of peer n) route q))
+    where
+      at : (q : Pair) (a : Bool) → same_peer q.peer peer ≡ a → cond a (stored_route routes w q.prefix) (finite.get (routes_in routes old) q) ≡ cond (a && same_network q.prefix n) route (finite.get (routes_in routes old) q)
+      at q true e = is q.prefix ∙ ap (cond (same_network q.prefix n) route) (ap (λ p. stored_route routes (store_at old p) q.prefix) (sym (one_peer q.peer peer e)) ∙ sym (get-routes_in old q))
+      at q false e = refl
+
+  pub routes_in-same : (old new : Stores S) (peer : Peer) (w : Option S) → ((p : Peer) → store_at new p ≡ cond (same_peer peer p) w (store_at old p))
+      → ((x : Network) → stored_route routes w x ≡ stored_route routes (store_at old peer) x)
+      → routes_in routes new ≡ routes_in routes old
+  routes_in-same old new peer w same is = same_routes _ _ (λ q.
+      routes_in-other old new peer w q same ∙ at q (same_peer q.peer peer) refl)
+    where
+      at : (q : Pair) (a : Bool) → same_peer q.peer peer ≡ a → cond a (stored_route routes w q.prefix) (finite.get (routes_in routes old) q) ≡ finite.get (routes_in routes old) q
+      at q true e = is q.prefix ∙ ap (λ p. stored_route routes (store_at old p) q.prefix) (sym (one_peer q.peer peer e)) ∙ sym (get-routes_in old q)
+      at q false e = refl
+
+-- a store that is written is the peer's
+pub store_at-write : {S : Type 0} (stores : Stores S) (peer : Peer) (store : S) → IsSome (store_at stores peer)
+    → (p : Peer) → store_at (set_value (same_peer peer) stores store) p ≡ cond (same_peer peer p) (Some store) (store_at stores p)
+store_at-write stores peer store there p =
+    lookup-set_value (eq_by_cmp_equiv peer_cmp_total) (same_peer peer) (λ x y e. sym ((eq_by_cmp_equiv peer_cmp_total).congr x peer y (peer_symm x peer ∙ e))) p store stores there
+
+-- no stores
+pub keys_in-none : {S : Type 0} (keys : S → stored.Keys) (stores : Stores S) → stores ≡ [] → keys_in keys stores ≡ set.empty
+unfolding keys_in
+keys_in-none keys stores e = ap (keys_in keys) e
+
+pub routes_in-none : {S : Type 0} (routes : S → stored.Routes (Rc Route Global)) (stores : Stores S) → stores ≡ [] → routes_in routes stores ≡ finite.empty
+unfolding routes_in
+routes_in-none routes stores e = ap (routes_in routes) e
+
+-- the route behind a reference to a slot's
+pub route-copied : (shared : Option (Bor (Rc Route Global))) → option_map (λ route. route.now.value) shared ≡ option_map (λ shared. shared.value) (option_copied shared)
+route-copied None = refl
+route-copied (Some route) = refl
+
+-- a table has the route that its peer's store has
+pub get-found : {S : Type 0} (routes : S → stored.Routes (Rc Route Global)) (stores : Stores S) (all : Routes) (q : Pair) (store : Option S) → store ≡ store_at stores q.peer → routes_in routes stores ≡ all
+    → stored_route routes store q.prefix ≡ finite.get all q
+get-found routes stores all q store found e = ap (λ s. stored_route routes s q.prefix) found ∙ sym (get-routes_in routes stores q) ∙ ap (λ r. finite.get r q) e
+
+-- and the key that it has
+pub contains-found : {S : Type 0} (keys : S → stored.Keys) (stores : Stores S) (all : Pairs) (q : Pair) (store : Option S) → store ≡ store_at stores q.peer → keys_in keys stores ≡ all
+    → has_key keys store q.prefix ≡ set.contains all q
+contains-found keys stores all q store found e = ap (λ s. has_key keys s q.prefix) found ∙ sym (contains-keys_in keys stores q) ∙ ap (λ k. set.contains k q) e
+
+-- the store that a look-up finds
+pub store-keys : {S : Type 0} (keys : S → stored.Keys) (stores : Stores S) (all : Pairs) (peer : Peer) (found : Option (Bor S)) → option_copied found ≡ store_at stores peer → keys_in keys stores ≡ all
+    → IfSome found (λ store. (n : Network) → set.contains (keys store.now) n ≡ set.contains all (pair_of peer n))
+store-keys keys stores all peer None is e = tt
+store-keys keys stores all peer (Some store) is e = λ n. contains-found keys stores all (pair_of peer n) (Some store.now) is e
+
+pub store-routes : {S : Type 0} (routes : S → stored.Routes (Rc Route Global)) (stores : Stores S) (all : Routes) (peer : Peer) (found : Option (Bor S)) → option_copied found ≡ store_at stores peer → routes_in routes stores ≡ all
+    → IfSome found (λ store. (n : Network) → option_map value_of (finite.get (routes store.now) n) ≡ finite.get all (pair_of peer n))
+store-routes routes stores all peer None is e = tt
+store-routes routes stores all peer (Some store) is e = λ n. get-found routes stores all (pair_of peer n) (Some store.now) is e
+
+pub store-some : {S : Type 0} (keys : S → stored.Keys) (stores : Stores S) (peer : Peer) (found : Option (Bor S)) → option_copied found ≡ store_at stores peer → IsHeld keys stores
+    → IfSome found (λ store. 0 < set.len (keys store.now))
+store-some keys stores peer None is held = tt
+store-some keys stores peer (Some store) is held = subst (λ s. IfSome s (λ store. 0 < set.len (keys store))) (sym is) (held peer)
+
+pub store-none : {S : Type 0} (keys : S → stored.Keys) (stores : Stores S) (all : Pairs) (peer : Peer) (found : Option (Bor S)) → option_copied found ≡ store_at stores peer → keys_in keys stores ≡ all
+    → IfNone found ((n : Network) → set.contains all (pair_of peer n) ≡ false)
+store-none keys stores all peer None is e = λ n. sym (contains-found keys stores all (pair_of peer n) None is e)
+store-none keys stores all peer (Some store) is e = tt
+
+-- a key has a store
+pub key-has-store : {S : Type 0} (keys : S → stored.Keys) (stores : Stores S) (all : Pairs) (q : Pair) → keys_in keys stores ≡ all → set.contains all q ≡ true → None ≡ store_at stores q.peer → ⊥
+key-has-store keys stores all q e there none =
+    let lost : false ≡ true = contains-found keys stores all q None none e ∙ there in
+    cc
+
+-- a route put into a store
+pub stored-put : (old new : stored.Routes (Rc Route Global)) (n : Network) (route : Option (Rc Route Global)) → new ≡ stored.put old n route
+    → (x : Network) → option_map value_of (finite.get new x) ≡ cond (same_network x n) (route_in route) (option_map value_of (finite.get old x))
+stored-put old new n route e x =
+    ap (λ r. option_map value_of (finite.get r x)) e
+    ∙ ap (option_map value_of) (get-put_stored old n route x)
+    ∙ at (same_network x n)
+  where
+    at : (b : Bool) → option_map value_of (cond b route (finite.get old x)) ≡ cond b (route_in route) (option_map value_of (finite.get old x))
+    at true = refl
+    at false = refl
+
+-- keys with one more are some
+pub some-insert : (keys keys' : stored.Keys) (n : Network) → keys' ≡ set.insert keys n → 0 < set.len keys'
+some-insert keys keys' n e =
+    let more : set.len keys' ≡ cond (set.contains keys n) (set.len keys) (set.len keys + 1) = ap set.len e ∙ len-insert network_cmp_total keys n in
+    at (set.contains keys n) refl more
+  where
+    at : (b : Bool) → set.contains keys n ≡ b → set.len keys' ≡ cond b (set.len keys) (set.len keys + 1) → 0 < set.len keys'
+    at true there more = subst (λ m. 0 < m) (sym more) (pos (set.len keys) refl)
+      where
+        pos : (m : ℕ) → set.len keys ≡ m → 0 < set.len keys
+        pos zero none =
+            let gone : set.contains keys n ≡ false = ap (λ k. set.contains k n) (set.empty_of_len keys none) ∙ contains-empty network_cmp n in
+            let wrong : true ≡ false = sym there ∙ gone in
+            cc
+        pos (suc m) some = omega arith
+    at false absent more = omega (arith, more)
+
+-- keys with one less may be none
+pub none-left : (keys : stored.Keys) (x : Network) → set.len keys ≡ 0 → set.contains keys x ≡ false
+none-left keys x none = ap (λ k. set.contains k x) (set.empty_of_len keys none) ∙ contains-empty network_cmp x
+
+-- no key, no route: what a store without keys leaves
+pub on_ok : {A E P Q : Type 0} (r : Result A E) → (P → Q) → OnOk r P → OnOk r Q
+on_ok (Ok a) then p = then p
+on_ok (Err e) then p = tt
+
+pub on_err : {A E P Q : Type 0} (r : Result A E) → (P → Q) → OnErr r P → OnErr r Q
+on_err (Ok a) then p = tt
+on_err (Err e) then p = then p
+
+pub if_ok : {A E : Type 0} {P Q : A → Type 0} (r : Result A E) → ((a : A) → P a → Q a) → IfOk r P → IfOk r Q
+if_ok (Ok a) then p = then a p
+if_ok (Err e) then p = tt
+
+pub either : {A E P : Type 0} (r : Result A E) → OnOk r P → OnErr r P → P
+either (Ok a) p q = p
+either (Err e) p q = q
+
+pub no_value : (found : Option (Rc Route Global)) → option_map value_of found ≡ None → found ≡ None
+no_value None e = refl
+no_value (Some shared) e = cc
+
+some_left : (n : ℕ) → eqb n 0 ≡ false → 0 < n
+some_left zero e = cc
+some_left (suc n) e = omega arith
+
+none_len : (n : ℕ) → eqb n 0 ≡ true → n ≡ 0
+none_len n e = eqb-true n 0 e
+
+module _ {S : Type 0} (keys : S → stored.Keys) (routes : S → stored.Routes (Rc Route Global)) (old between : Stores S) (pair : Pair) (empty : Bool) (left : IsLeft keys routes old between pair empty) where
+  -- a store with other keys left
+  pub left-held : empty ≡ false → IsHeld keys old → IsHeld keys between
+  left-held e held = held-other keys old between pair.peer (Some left.after) left.written held (some_left (set.len (keys left.after)) (sym left.is_empty ∙ e))
+
+  pub left-keys : keys_in keys between ≡ set.remove (keys_in keys old) pair
+  left-keys = keys_in-remove keys old between pair.peer pair.prefix (Some left.after) left.written
+      (λ x. ap (λ k. set.contains k x) left.less ∙ contains-remove network_cmp_total (keys left.before) pair.prefix x
+      ∙ ap (λ s. not (same_network x pair.prefix) && has_key keys s x) left.found)
+
+  pub left-routes : routes_in routes between ≡ routes_in routes old
+  left-routes = routes_in-same routes old between pair.peer (Some left.after) left.written
+      (λ x. ap (λ r. option_map value_of (finite.get r x)) left.same ∙ ap (λ s. stored_route routes s x) left.found)
+
+  -- a store that then goes
+  gone : (new : Stores S) → ((p : Peer) → store_at new p ≡ cond (same_peer pair.peer p) None (store_at between p)) → (p : Peer) → store_at new p ≡ cond (same_peer pair.peer p) None (store_at old p)
+  gone new removed p = removed p ∙ ap (cond (same_peer pair.peer p) None) (left.written p) ∙ at (same_peer pair.peer p)
+    where
+      at : (b : Bool) → cond b None (cond b (Some left.after) (store_at old p)) ≡ cond b None (store_at old p)
+      at true = refl
+      at false = refl
+
+  no_key : empty ≡ true → (x : Network) → set.contains (keys left.after) x ≡ false
+  no_key e x = none-left (keys left.after) x (none_len (set.len (keys left.after)) (sym left.is_empty ∙ e))
+
+  pub gone-held : (new : Stores S) → ((p : Peer) → store_at new p ≡ cond (same_peer pair.peer p) None (store_at between p)) → IsHeld keys old → IsHeld keys new
+  gone-held new removed held = held-other keys old new pair.peer None (gone new removed) held tt
+
+  pub gone-keys : (new : Stores S) → ((p : Peer) → store_at new p ≡ cond (same_peer pair.peer p) None (store_at between p)) → empty ≡ true → keys_in keys new ≡ set.remove (keys_in keys old) pair
+  gone-keys new removed e = keys_in-remove keys old new pair.peer pair.prefix None (gone new removed)
+      (λ x. sym (no_key e x) ∙ ap (λ k. set.contains k x) left.less ∙ contains-remove network_cmp_total (keys left.before) pair.prefix x
+      ∙ ap (λ s. not (same_network x pair.prefix) && has_key keys s x) left.found)
+
+  pub gone-routes : (new : Stores S) → ((p : Peer) → store_at new p ≡ cond (same_peer pair.peer p) None (store_at between p)) → empty ≡ true → routes_in routes new ≡ routes_in routes old
+  gone-routes new removed e = routes_in-same routes old new pair.peer None (gone new removed)
+      (λ x. sym (ap (option_map value_of) (left.among x (no_key e x))) ∙ ap (λ r. option_map value_of (finite.get r x)) left.same ∙ ap (λ s. stored_route routes s x) left.found)
+
+-- the pairs of a peer have the routes of its store
+pub peer-routes : {S : Type 0} (routes : S → stored.Routes (Rc Route Global)) (stores : Stores S) (all : Routes) (peer : Peer) (store : Option S) → store ≡ store_at stores peer → routes_in routes stores ≡ all
+    → (q : Pair) → (same_peer q.peer peer && is_some (stored_route routes store q.prefix)) ≡ (same_peer q.peer peer && is_some (finite.get all q))
+peer-routes routes stores all peer store found e q = at (same_peer q.peer peer) refl
+  where
+    at : (b : Bool) → same_peer q.peer peer ≡ b → (b && is_some (stored_route routes store q.prefix)) ≡ (b && is_some (finite.get all q))
+    at true is = ap is_some (get-found routes stores all q store (found ∙ ap (store_at stores) (sym (one_peer q.peer peer is))) e)
+    at false is = refl
+
+pub peer-pairs : {S : Type 0} (routes : S → stored.Routes (Rc Route Global)) (store : S) (peer : Peer) (q : Pair)
+    → list_any (eq_by_cmp pair_cmp q) (map (pair_of peer) (finite.keys (routes store))) ≡ (same_peer q.peer peer && is_some (stored_route routes (Some store) q.prefix))
+peer-pairs routes store peer q =
+    any-pairs q peer (finite.keys (routes store))
+    ∙ ap (λ b. same_peer q.peer peer && b) (sym (contains_key-keys (routes store) q.prefix) ∙ at (finite.get (routes store) q.prefix))
+  where
+    at : (found : Option (Rc Route Global)) → is_some found ≡ is_some (option_map value_of found)
+    at None = refl
+    at (Some shared) = refl
+
+pub none-and : (b : Bool) → false ≡ (b && false)
+none-and b = and-false b
+
+-- the pairs of entries
+pub pairs-entries : {R : Type 0} (peer : Peer) (es : List (Network × R)) → map (pair_of peer) (map (λ (e : Network × R). e.0) es) ≡ map (λ (e : Network × R). pair_of peer e.0) es
+pairs-entries peer [] = refl
+pairs-entries peer (e ∷ es) = ap (λ ps. pair_of peer e.0 ∷ ps) (pairs-entries peer es)

@@ -1,0 +1,127 @@
+-- What tables have at each pair: those of histories and of events, and the pairs that events name.
+use Rattle.std.proofs.Common.{◌≡◌, Bool, true, false, cond, ◌&&◌, ◌||◌, List, [], ◌∷◌, map, Option, Some, None, is_some, refl, sym, ap, ◌∙◌}
+use Rattle.std.specs.List.{flat_map, filter, list_any}
+use Rattle.std.specs.Ordering.{eq_by_cmp}
+use Rattle.std.specs.FinMap.{get, keys, get-empty, get-insert, get-remove, same_map, contains_key-keys}
+use Rattle.std.specs.FinSet.{contains, contains-from_list}
+use Rattle.std.proofs.Math.Bool.{and-true}
+use Rattle.std.proofs.lemmas.Bool.{or_parts}
+use Rattle.std.proofs.lemmas.List.Folds.{list_any-append}
+use Rattle.std.proofs.lemmas.Map.Views.{any-filter_same}
+use Rattle.rib_player.specs.declared.pair.Pair.{Pair}
+use Rattle.mrt_wire.specs.declared.event.Route.{Route}
+use Rattle.mrt_wire.specs.Event.{Saying, Announced, Withdrawn, Changed}
+use Rattle.mrt_wire.specs.declared.event.Event.{Event}
+use Rattle.mrt_wire.specs.Peer.{peer_cmp}
+use Rattle.rib_player.specs.History.{pair_cmp, pair_of, Effect, Keep, Clear, Set, where_true, is_loss, item_effect, later, last_effect, effect, route_after, route}
+use Rattle.rib_player.specs.Tables.{Routes, put, tabulation, pairs_announced_by, announced_pairs, table, concerned_pairs, table_after, is_named, named_pairs}
+use Rattle.rib_player.proofs.PairLaws.{pair_cmp_total, pair_cmp-IsAntisymmetric, same_pair}
+use Rattle.ip_prefix.proofs.Booleans.{cond_or, cond_untested}
+
+-- whether the pair is among these
+abbrev among : Pair → List Pair → Bool
+among q pairs = list_any (eq_by_cmp pair_cmp q) pairs
+
+-- tables with the same route at each pair are one
+pub same_routes : (a b : Routes) → ((q : Pair) → get a q ≡ get b q) → a ≡ b
+same_routes a b same = same_map pair_cmp_total pair_cmp-IsAntisymmetric a b same
+
+-- a put gives its pair the new route, or none, and leaves the others
+pub get-put : (routes : Routes) (pair : Pair) (new : Option Route) (q : Pair) → get (put routes pair new) q ≡ cond (eq_by_cmp pair_cmp q pair) new (get routes q)
+get-put routes pair None q = get-remove pair_cmp_total routes pair q
+get-put routes pair (Some new) q = get-insert pair_cmp_total routes pair new q
+
+-- a tabulated function has its value at the listed pairs, and nothing elsewhere
+pub get-tabulation : (f : Pair → Option Route) (pairs : List Pair) (q : Pair) → get (tabulation f pairs) q ≡ cond (list_any (eq_by_cmp pair_cmp q) pairs) (f q) None
+get-tabulation f [] q = get-empty pair_cmp q
+get-tabulation f (pair ∷ pairs) q =
+    get-put (tabulation f pairs) pair (f pair) q
+    ∙ cond_or (eq_by_cmp pair_cmp q pair) (among q pairs) (f pair) (f q) _ None (λ e. ap f (sym (same_pair q pair e))) (get-tabulation f pairs q)
+
+-- an effect and then a later one are the later of the two
+pub route_after-later : (before : Option Route) (first second : Effect) → route_after before (later first second) ≡ route_after (route_after before first) second
+route_after-later before first Keep = refl
+route_after-later before first Clear = refl
+route_after-later before first (Set new) = refl
+
+-- a Clear, where a test holds, leaves no route where there was none
+cleared : (b : Bool) → route_after None (where_true b Clear) ≡ None
+cleared true = refl
+cleared false = refl
+
+-- a Set, where a test fails, leaves no route where there was none
+not_set : (b : Bool) (new : Route) → b ≡ false → route_after None (where_true b (Set new)) ≡ None
+not_set true new e = cc
+not_set false new e = refl
+
+-- an item leaves no route where it announces none and there was none
+unset_by_item : (q : Pair) (item : Saying) → among q (pairs_announced_by item) ≡ false → route_after None (item_effect q item) ≡ None
+unset_by_item q (Announced peer network new) e = not_set _ new (or_parts _ false e).0
+unset_by_item q (Withdrawn peer network) e = cleared (eq_by_cmp pair_cmp q (pair_of peer network))
+unset_by_item q (Changed peer old new) e = cleared (eq_by_cmp peer_cmp q.peer peer && is_loss old new)
+
+-- so do several, where each of them does
+unset_by_all : {A : Type 0} (q : Pair) (listed : A → List Pair) (does : A → Effect) → ((a : A) → among q (listed a) ≡ false → route_after None (does a) ≡ None)
+    → (xs : List A) → among q (flat_map listed xs) ≡ false → route_after None (last_effect (map does xs)) ≡ None
+unset_by_all q listed does each [] e = refl
+unset_by_all q listed does each (x ∷ xs) e =
+    let none = or_parts _ _ (sym (list_any-append (eq_by_cmp pair_cmp q) (listed x) (flat_map listed xs)) ∙ e) in
+    route_after-later None (does x) (last_effect (map does xs))
+    ∙ ap (λ r. route_after r (last_effect (map does xs))) (each x none.0)
+    ∙ unset_by_all q listed does each xs none.1
+
+-- an event leaves no route where it announces none and there was none
+unset_by_event : (q : Pair) (event : Event) → among q (announced_pairs event) ≡ false → route_after None (effect q event) ≡ None
+unset_by_event q event e = unset_by_all q pairs_announced_by (item_effect q) (unset_by_item q) event.items e
+
+-- a history leaves no route where it announces none
+unset_by_history : (q : Pair) (history : List Event) → among q (flat_map announced_pairs history) ≡ false → route q history ≡ None
+unset_by_history q history e = unset_by_all q announced_pairs (effect q) (unset_by_event q) history e
+
+-- the table of a history has the history's route at each pair
+pub get-table : (history : List Event) (pair : Pair) → get (table history) pair ≡ route pair history
+unfolding table
+get-table history pair =
+    get-tabulation (λ p. route p history) (flat_map announced_pairs history) pair
+    ∙ cond_untested (among pair (flat_map announced_pairs history)) (route pair history) None (unset_by_history pair history)
+
+-- what concerns a pair: it has a route, or the event announces one
+among-concerned_pairs : (routes : Routes) (event : Event) (q : Pair) → among q (concerned_pairs routes event) ≡ (is_some (get routes q) || among q (announced_pairs event))
+among-concerned_pairs routes event q =
+    list_any-append (eq_by_cmp pair_cmp q) (keys routes) (announced_pairs event)
+    ∙ ap (λ b. b || among q (announced_pairs event)) (sym (contains_key-keys routes q))
+
+-- a pair that is not concerned has no route before the event and none after it
+unconcerned : (before : Option Route) (does : Effect) (b : Bool) → (b ≡ false → route_after None does ≡ None) → (is_some before || b) ≡ false → route_after before does ≡ None
+unconcerned None does b is e = is e
+unconcerned (Some old) does b is e = cc
+
+-- a table after an event has, at each pair, what the event's effect leaves
+pub get-table_after : (routes : Routes) (event : Event) (pair : Pair) → get (table_after routes event) pair ≡ route_after (get routes pair) (effect pair event)
+unfolding table_after
+get-table_after routes event pair =
+    get-tabulation (λ p. route_after (get routes p) (effect p event)) (concerned_pairs routes event) pair
+    ∙ cond_untested (among pair (concerned_pairs routes event)) (route_after (get routes pair) (effect pair event)) None
+    (λ e. unconcerned (get routes pair) (effect pair event) (among pair (announced_pairs event)) (unset_by_event pair event) (sym (among-concerned_pairs routes event pair) ∙ e))
+
+-- an event does not name a pair without a route before it and after it
+unnamed : (does : Effect) → route_after None does ≡ None → is_named None does ≡ false
+unnamed Keep e = refl
+unnamed Clear e = refl
+unnamed (Set new) e = cc
+
+-- a pair that an event names is concerned
+named_concerned : (before : Option Route) (does : Effect) (b : Bool) → (b ≡ false → route_after None does ≡ None) → (is_named before does && (is_some before || b)) ≡ is_named before does
+named_concerned None does true is = and-true (is_named None does)
+named_concerned None does false is = ap (λ n. n && false) (unnamed does (is refl)) ∙ sym (unnamed does (is refl))
+named_concerned (Some old) does b is = and-true (is_named (Some old) does)
+
+-- an event names the pairs that it sets or clears and that have a route before it or after it
+pub contains-named_pairs : (routes : Routes) (event : Event) (pair : Pair) → contains (named_pairs routes event) pair ≡ is_named (get routes pair) (effect pair event)
+unfolding named_pairs
+contains-named_pairs routes event pair =
+    let test = λ (p : Pair). is_named (get routes p) (effect p event) in
+    contains-from_list pair_cmp_total (filter test (concerned_pairs routes event)) pair
+    ∙ any-filter_same (eq_by_cmp pair_cmp pair) test (test pair) (λ p e. ap test (sym (same_pair pair p e))) (concerned_pairs routes event)
+    ∙ ap (λ b. test pair && b) (among-concerned_pairs routes event pair)
+    ∙ named_concerned (get routes pair) (effect pair event) (among pair (announced_pairs event)) (unset_by_event pair event)

@@ -1,0 +1,65 @@
+use Rattle.std.proofs.Common.{◌≡◌, false, not, [], ◌∷◌, ◌++◌, ◌||◌, ◌+◌, ◌<◌, List, length, take, set, get_or, arith, refl, sym, ap, subst, ◌∙◌}
+use Rattle.std.proofs.lemmas.List.{length-set}
+use Rattle.std.specs.List.{IsDistinct}
+use Rattle.std.specs.List.Sorted.{IsStrictlySortedBy}
+use Rattle.std.specs.FinMap as finite
+use Rattle.std.specs.FinSet as names
+use Rattle.rib_player.specs.declared.journal.Entry.{Entry}
+use Rattle.rib_player.specs.Journal.{Mark, sides_of, pairs_in, marks_of, mark_of, named_by, AreFirst, IsExact}
+use Rattle.rib_player.proofs.MarkLaws.{tied, pairs_in-take, distinct-take, distinct-before, exact-unmake, exact-unmade, same-names, keys-more-marked, first-push, first-made, marks-more, get_or-any, sides-set}
+use Rattle.rib_player.proofs.journal.make_keys.Given.{Over}
+use Rattle.rib_player.proofs.journal.make_keys.Goals as goal
+use Rattle.rib_player.proofs.journal.make_keys.Goals.{In-Err}
+
+pub release-requires-clause-distinct : goal.release-requires-clause-distinct
+release-requires-clause-distinct g c =
+    subst (IsDistinct tied) (sym (pairs_in-take c.entries.made c.entries.entries ∙ ap (λ s. take c.entries.made (pairs_in s)) c.entries.invariant.sides))
+    (distinct-take c.entries.made (pairs_in (sides_of c.args.entries.now)) c.requires.distinct)
+
+pub release-requires-clause-ordered : goal.release-requires-clause-ordered
+unfolding IsStrictlySortedBy
+release-requires-clause-ordered g c = tt
+
+-- without the keys that were made
+unmake : (g : Over) (c : In-Err g) → IsExact (names.contains c.args.table.now.keys) (marks_of (take c.entries.made c.entries.entries) ∷ []) [] c.ensure.new.self.keys c.ensure.new.self.routes
+unmake g c =
+    exact-unmake (names.contains c.args.table.now.keys) (marks_of (take c.entries.made c.entries.entries)) c.ensure.new.self.keys c.ensure.new.self.routes
+    (λ q. ap (λ k. names.contains k q) c.in-Err.ensures.refused ∙ c.entries.invariant.held q)
+    c.entries.invariant.first
+    (λ q unseen. ap (λ r. finite.get r q) (c.ensure.ensures.routes ∙ c.entries.invariant.routes) ∙ c.requires.free q unseen)
+
+pub release-requires-clause-exact : goal.release-requires-clause-exact
+release-requires-clause-exact g c = record {
+  seen = names.contains c.args.table.now.keys;
+  exact = unmake g (goal.at.release-requires-clause-exact g c).In-Err;
+}
+
+pub returns-in-Err-clause-refused : goal.returns-in-Err-clause-refused
+returns-in-Err-clause-refused g c =
+    exact-unmade c.args.table.now.keys c.release.new.table.keys (marks_of c.release.new.last) c.release.new.table.routes
+    (λ q. same-names c.release.new.last [] q c.release.ensures.sides)
+    (c.release.ensures.exact (names.contains c.args.table.now.keys) (unmake g (goal.at.returns-in-Err-clause-refused g c).In-Err))
+
+pub entries-preserved : goal.entries-preserved
+entries-preserved g c =
+    let made = c.entries.made in
+    let entries = c.entries.entries in
+    let known = c.entries.invariant in
+    let within : made < length entries = omega arith in
+    let here : Entry = get_or entries made c.index-entries-made-in-Ok.result in
+    let new : Entry = record { pair = here.pair; other = here.other; first = c.in-Ok.new } in
+    let seen = names.contains c.args.table.now.keys in
+    let marks : List Mark = marks_of (take made entries) in
+    let same : c.index-entries-made.result ≡ here = c.index-entries-made.is ∙ get_or-any entries made c.index-entries-made.result c.index-entries-made-in-Ok.result within in
+    let more : marks_of (take (made + 1) (set entries made new)) ≡ marks ++ mark_of new ∷ [] = marks-more entries made new within in
+    let distinct : IsDistinct tied (pairs_in (sides_of entries)) = subst (λ s. IsDistinct tied (pairs_in s)) (sym known.sides) c.requires.distinct in
+    let apart : named_by marks here.pair ≡ false = distinct-before entries made c.index-entries-made-in-Ok.result within distinct in
+    record {
+      within = omega (arith, length-set entries made new);
+      held = λ q. keys-more-marked seen c.entries.table.keys c.ensure.new.self.keys marks (mark_of new) (c.in-Ok.ensures.keys ∙ ap (λ (e : Entry). names.insert c.entries.table.keys e.pair) (sym c.index-entries-made.is ∙ same)) known.held q
+          ∙ ap (λ m. seen q || named_by m q) (sym more);
+      first = subst (AreFirst seen) (sym more) (first-push seen marks (mark_of new) known.first
+          (first-made seen c.entries.table.keys marks here.pair c.in-Ok.new (c.in-Ok.ensures.made ∙ ap (λ (e : Entry). not (names.contains c.entries.table.keys e.pair)) (sym c.index-entries-made.is ∙ same)) known.held apart));
+      routes = c.ensure.ensures.routes ∙ known.routes;
+      sides = sides-set entries made new here refl within (get_or-any entries made here c.index-entries-made-in-Ok.result within) ∙ known.sides;
+    }

@@ -1,0 +1,40 @@
+-- What is noted of an event's items, pair by pair.
+use Rattle.std.specs.Prelude.{Bool, true, false, ◌||◌, List, Option, Some, None, is_some}
+use Rattle.std.specs.List.{list_any}
+use Rattle.std.specs.Option.{option_map}
+use Rattle.std.specs.Ordering.{eq_by_cmp}
+use Rattle.mrt_wire.specs.declared.peer.Peer.{Peer}
+use Rattle.rib_player.specs.declared.pair.Pair.{Pair}
+use Rattle.mrt_wire.specs.declared.event.Route.{Route}
+use Rattle.rib_player.specs.declared.changes.Changes.{Changes}
+use Rattle.mrt_wire.specs.Peer.{peer_cmp}
+use Rattle.rib_player.specs.History.{Effect, Clear, Set, where_true}
+use Rattle.rib_player.specs.Store.{Slots, slot_at, route_in}
+
+-- the route, or its absence, that is kept for a pair
+abbrev pub found : Slots → Pair → Option (Option Route)
+found slots pair = option_map route_in (slot_at slots pair)
+
+-- the pair's peer is among these
+abbrev pub is_lost : List Peer → Pair → Bool
+is_lost peers pair = list_any (eq_by_cmp peer_cmp pair.peer) peers
+
+-- what is done to a pair for which this is kept, and whose peer is lost or not
+abbrev pub effect_of : Option (Option Route) → Bool → Effect
+effect_of (Some (Some route)) lost = Set route
+effect_of (Some None) lost = Clear
+effect_of None lost = where_true lost Clear
+
+-- what is noted for a pair
+abbrev pub noted_effect : Changes → Pair → Effect
+noted_effect changes pair = effect_of (found changes.routes.entries pair) (is_lost changes.lost.items pair)
+
+-- something is noted for a pair
+abbrev pub decides : Changes → Pair → Bool
+decides changes pair = is_some (slot_at changes.routes.entries pair) || is_lost changes.lost.items pair
+
+-- what is kept for a pair once it is among those that lose their route
+abbrev pub or_absent : Option (Option Route) → Bool → Option (Option Route)
+or_absent (Some kept) absent = Some kept
+or_absent None true = Some None
+or_absent None false = None

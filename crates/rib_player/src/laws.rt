@@ -1,0 +1,87 @@
+//! Laws of the player's definitions.
+
+ghost use Rattle.std.specs.Prelude.{◌≡◌, ℕ, ◌≤◌, ◌<◌, ◌-◌, ◌++◌, ◌∷◌, [], List, Option, Some, length, take, map, replicate, slice_get};
+ghost use Rattle.std.specs.Option.{option_map};
+ghost use Rattle.std.specs.Cmp.{IsTotalOrder};
+ghost use Rattle.std.specs.FinMap.{IsAntisymmetric};
+ghost use Rattle.std.specs.FinMap as finite;
+ghost use Rattle.std.specs.FinSet as set;
+ghost use Rattle.mrt_wire.specs.declared.event.Event.{Event};
+ghost use Rattle.rib_player.specs.declared.pair.Pair.{Pair};
+ghost use Rattle.rib_player.specs.History.{pair_cmp, effect, route_after, route};
+ghost use Rattle.rib_player.specs.Tables.{Routes, table, table_after, is_named, named_pairs};
+ghost use Rattle.rib_player.specs.Timeline.{Timeline, Call, Play, Undo, Redo, StandsFor, fresh, end_of, table_at, current, after_undo, after_redo, after_play, after_call, after_calls, history_after, history_after_calls};
+
+/// The order of pairs is total, and only equal ones tie.
+pub fn pair_order()
+    ensures total { IsTotalOrder pair_cmp }
+    ensures ties { IsAntisymmetric pair_cmp }
+{}
+
+/// Tables have what their definitions say, at each pair.
+pub fn routes_at_pairs()
+    ensures table { (history : List Event) (pair : Pair) →
+        finite.get (table history) pair ≡ route pair history }
+    ensures table_after { (routes : Routes) (event : Event) (pair : Pair) →
+        finite.get (table_after routes event) pair
+        ≡ route_after (finite.get routes pair) (effect pair event) }
+    ensures named_pairs { (routes : Routes) (event : Event) (pair : Pair) →
+        set.contains (named_pairs routes event) pair
+        ≡ is_named (finite.get routes pair) (effect pair event) }
+{}
+
+/// The table of a history that goes on by an event is that event applied to its table.
+pub fn one_event_more()
+    ensures { (history : List Event) (event : Event) →
+        table (history ++ event ∷ []) ≡ table_after (table history) event }
+{}
+
+/// A player that stands for a history has, at each position that it keeps, the table of the
+/// events before it, and each step that it keeps names what the event there does.
+pub fn tables_by_position()
+    ensures tables { (t : Timeline) (history : List Event) → StandsFor t history →
+        (i : ℕ) → t.floor ≤ i → i ≤ length history → table_at t i ≡ table (take i history) }
+    ensures steps { (t : Timeline) (history : List Event) → StandsFor t history →
+        (i : ℕ) → t.floor ≤ i →
+        slice_get t.steps (i - t.floor)
+        ≡ option_map (named_pairs (table (take i history))) (slice_get history i) }
+    ensures end { (t : Timeline) (history : List Event) → StandsFor t history →
+        end_of t ≡ length history }
+    ensures routes { (t : Timeline) (history : List Event) → StandsFor t history →
+        (pair : Pair) → finite.get (current t) pair ≡ route pair (take t.cursor history) }
+{}
+
+/// A player that stands for a history stands for the stated one after each call.
+pub fn history_after_one_call()
+    ensures { (t : Timeline) (history : List Event) (call : Call) → StandsFor t history →
+        StandsFor (after_call t call) (history_after t.cursor history call) }
+{}
+
+/// After any calls of a new player, refused ones among them, it stands for the stated history;
+/// and so does any player that stood for one.
+pub fn history_after_all_calls()
+    ensures new { (calls : List Call) →
+        StandsFor (after_calls fresh calls) (history_after_calls fresh [] calls) }
+    ensures any { (t : Timeline) (history : List Event) (calls : List Call) → StandsFor t history →
+        StandsFor (after_calls t calls) (history_after_calls t history calls) }
+{}
+
+/// Undoing a step that was played gives back the table before it, and redoing one that was
+/// undone gives back the player.
+pub fn one_step_back()
+    ensures undo { (t : Timeline) (history : List Event) (event : Event) → StandsFor t history →
+        current (after_undo (after_play t event)) ≡ current t }
+    ensures redo { (t : Timeline) (history : List Event) → StandsFor t history →
+        t.floor < t.cursor → after_redo (after_undo t) ≡ t }
+{}
+
+/// Events that were played and undone leave the first table, and redone they leave that of the
+/// history with these events.
+pub fn steps_back_and_forth()
+    ensures back { (t : Timeline) (history events : List Event) → StandsFor t history →
+        current (after_calls t (map Play events ++ replicate (length events) Undo)) ≡ current t }
+    ensures forth { (t : Timeline) (history events : List Event) → StandsFor t history →
+        current (after_calls t (map Play events
+        ++ (replicate (length events) Undo ++ replicate (length events) Redo)))
+        ≡ table (take t.cursor history ++ events) }
+{}

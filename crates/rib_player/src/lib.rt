@@ -1,0 +1,16 @@
+//! A table of routes for each peer of a collector, played forwards and backwards, event by event.
+#![tactic(auto)]
+
+mod changes;
+mod journal;
+mod laws;
+mod pair;
+mod player;
+mod table;
+
+pub use laws::{
+    history_after_all_calls, history_after_one_call, one_event_more, one_step_back, pair_order,
+    routes_at_pairs, steps_back_and_forth, tables_by_position,
+};
+pub use player::{Nothing, PlayFault, Player};
+pub use table::Table;

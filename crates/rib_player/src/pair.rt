@@ -1,0 +1,12 @@
+//! A peer and a prefix.
+
+use ip_prefix::Prefix;
+use mrt_wire::Peer;
+
+/// A peer and a prefix, to which a table has at most one route. Pairs are ordered by peer, then
+/// by prefix.
+#[derive(Clone, Copy, Debug, PartialEq, Eq, PartialOrd, Ord)]
+pub(crate) struct Pair {
+    pub(crate) peer: Peer,
+    pub(crate) prefix: Prefix,
+}

@@ -1,0 +1,143 @@
+//! A routing table per peer that is played forwards and backwards, event by event.
+
+ghost use Rattle.std.specs.Prelude.{◌≡◌, ◌<◌, ◌↔◌, IfOk, OnOk, OnErr, IsOk};
+ghost use Rattle.rib_player.specs.Timeline.{fresh, ahead_of, end_of, current, wanted, after_play, after_undo, after_redo};
+
+use crate::changes::step_for;
+use mrt_wire::{Event, Route};
+use crate::journal::{Step, advance, cross_step};
+use crate::table::Table;
+use rib_store::PrefixStore;
+use std::alloc::{AllocError, Global};
+use std::marker::Model;
+use std::rc::Rc;
+use thiserror::Error;
+
+/// Why an event can't be played.
+#[derive(Clone, Copy, Debug, PartialEq, Eq, Error)]
+pub enum PlayFault {
+    /// Memory was refused. The player is as it was, the steps ahead included.
+    #[error("out of memory")]
+    Memory,
+}
+
+/// No step stands there.
+#[derive(Clone, Copy, Debug, PartialEq, Eq)]
+pub struct Nothing;
+
+/// A table of routes that events are played on, one step each, and a cursor that goes back and
+/// forth over these steps. Between the calls the table is that of the steps before the cursor.
+#[derive(Drop)]
+pub struct Player<S: PrefixStore<Rc<Route>>> {
+    alloc: Global,
+    table: Table<S>,
+    steps: Vec<Step>,
+    cursor: usize,
+}
+
+impl<S: PrefixStore<Rc<Route>>> Model for Player<S> {
+    ghost use Rattle.rib_player.specs.Timeline.{Timeline, coded_timeline};
+
+    ghost Value = { Timeline };
+
+    ghost coded = { coded_timeline };
+
+    ghost use Rattle.rib_player.specs.Journal.{timeline_of, steps_of, IsPlayed};
+
+    ghost view = { λ a. timeline_of a.cursor (steps_of a.steps.items) a.table.routes };
+
+    ghost invariant = { λ a. IsPlayed a.table.keys a.table.routes a.cursor a.steps.items };
+}
+
+impl<S: PrefixStore<Rc<Route>>> Player<S> {
+    /// An empty table, and no step.
+    pub fn new(alloc: Global) -> Self
+        ensures { result ≡ fresh }
+    {
+        Player {
+            alloc,
+            table: Table::new(alloc),
+            steps: Vec::new(alloc),
+            cursor: 0,
+        }
+    }
+
+    /// How many steps stand before the cursor.
+    pub fn at(&self) -> u64
+        ensures { result ≡ self.now.cursor }
+    {
+        self.cursor as u64
+    }
+
+    /// How many steps stand after the cursor.
+    pub fn ahead(&self) -> u64
+        ensures { result ≡ ahead_of self.now }
+    {
+        (self.steps.len() - self.cursor) as u64
+    }
+
+    /// The table at the cursor.
+    pub fn table(&self) -> &Table<S>
+        ensures keys { result.now.keys ≡ wanted self.now }
+        ensures routes { result.now.routes ≡ current self.now }
+    {
+        &self.table
+    }
+
+    /// Plays the event as the next step, and answers how many steps ahead it dropped.
+    pub fn play(&mut self, event: &Event) -> Result<u64, PlayFault>
+        ensures after_play { OnOk result (self.new ≡ after_play self.old event.now) }
+        ensures dropped { IfOk result (λ dropped. dropped ≡ ahead_of self.old) }
+        ensures refused { OnErr result (self.new ≡ self.old) }
+    {
+        let mut entries = step_for(self.alloc, event, &self.table)?;
+        self.steps.reserve(1)?;
+        let dropped = self.steps.len() - self.cursor;
+        advance(
+            &mut self.table,
+            &mut self.steps,
+            self.cursor,
+            entries.as_mut_slice(),
+        )?;
+        self.steps.push_reserved(Step { entries });
+        self.cursor += 1;
+        Ok(dropped as u64)
+    }
+
+    /// Undoes the step before the cursor. It takes no memory.
+    pub fn undo(&mut self) -> Result<(), Nothing>
+        ensures after_undo { self.new ≡ after_undo self.old }
+        ensures can { IsOk result ↔ (self.old.floor < self.old.cursor) }
+    {
+        if self.cursor == 0 {
+            return Err(Nothing);
+        }
+        self.cursor -= 1;
+        cross_step(&mut self.table, &mut self.steps, self.cursor);
+        Ok(())
+    }
+
+    /// Redoes the step after the cursor. It takes no memory.
+    pub fn redo(&mut self) -> Result<(), Nothing>
+        ensures after_redo { self.new ≡ after_redo self.old }
+        ensures can { IsOk result ↔ (self.old.cursor < end_of self.old) }
+    {
+        if self.cursor == self.steps.len() {
+            return Err(Nothing);
+        }
+        cross_step(&mut self.table, &mut self.steps, self.cursor);
+        self.cursor += 1;
+        Ok(())
+    }
+}
+
+impl From<AllocError> for PlayFault {
+    ghost use Rattle.std.specs.Prelude.{◌≡◌};
+    ghost use Rattle.rib_player.specs.declared.player.PlayFault.TheVariants.{Memory};
+
+    ghost from_gives = { λ _ fault. fault ≡ Memory };
+
+    fn from(_refused: AllocError) -> PlayFault {
+        PlayFault::Memory
+    }
+}

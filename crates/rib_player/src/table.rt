@@ -1,0 +1,206 @@
+//! The routes of all peers.
+
+ghost use Rattle.std.specs.Prelude.{◌≡◌, ◌<◌, ◌&&◌, Some, ℕ, Bool, true, false, not, is_some, Option, None, if◌then◌else◌, List, map, IfSome, IfNone, IfOk, OnOk, OnErr};
+ghost use Rattle.std.specs.List.{list_any};
+ghost use Rattle.std.specs.Option.{option_map, option_copied};
+ghost use Rattle.std.specs.Ordering.{eq_by_cmp};
+ghost use Rattle.std.specs.FinMap as finite;
+ghost use Rattle.std.specs.FinSet as set;
+ghost use Rattle.ip_prefix.specs.Network.{Network};
+ghost use Rattle.rib_player.specs.declared.pair.Pair.{Pair};
+ghost use Rattle.mrt_wire.specs.declared.peer.Peer.{Peer};
+ghost use Rattle.mrt_wire.specs.Peer.{peer_cmp};
+ghost use Rattle.rib_player.specs.History.{pair_cmp, pair_of};
+ghost use Rattle.rib_player.specs.Tables.{put};
+ghost use Rattle.rib_player.specs.Store.{route_in, value_of, slot_at, store_at, keys_in, routes_in, IsLeft};
+
+use mrt_wire::{Route};
+use crate::pair::Pair;
+use mrt_wire::Peer;
+use ip_prefix::Prefix;
+use rib_store::PrefixStore;
+use std::alloc::{AllocError, Global};
+use std::collections::BTreeMap;
+use std::marker::Model;
+use std::rc::Rc;
+
+/// The routes of all peers: at most one for each peer and prefix. Each peer that has a key has a
+/// store of its own.
+#[derive(Drop)]
+pub struct Table<S: PrefixStore<Rc<Route>>> {
+    alloc: Global,
+    stores: BTreeMap<Peer, S>,
+}
+
+impl<S: PrefixStore<Rc<Route>>> Model for Table<S> {
+    ghost use Rattle.rib_player.specs.Store.{Store, coded_store, keys_in, routes_in, IsHeld};
+
+    ghost Value = { Store };
+
+    ghost coded = { coded_store };
+
+    ghost view = { λ a. record { keys = keys_in S.keys a.stores.entries; routes = routes_in S.routes a.stores.entries } };
+
+    ghost invariant = { λ a. IsHeld S.keys a.stores.entries };
+}
+
+impl<S: PrefixStore<Rc<Route>>> Table<S> {
+    /// No keys and no routes.
+    pub(crate) fn new(alloc: Global) -> Self
+        ensures { result ≡ record { keys = set.empty; routes = finite.empty } }
+    {
+        Table {
+            alloc,
+            stores: BTreeMap::new(alloc),
+        }
+    }
+
+    /// Makes the pair a key, so that a route can be put there without memory. Answers whether it
+    /// is new.
+    pub(crate) fn ensure(&mut self, pair: &Pair) -> Result<bool, AllocError>
+        ensures keys { OnOk result (self.new.keys ≡ set.insert self.old.keys pair.now) }
+        ensures made { IfOk result (λ made. made ≡ not (set.contains self.old.keys pair.now)) }
+        ensures routes { self.new.routes ≡ self.old.routes }
+        ensures refused { OnErr result (self.new.keys ≡ self.old.keys) }
+    {
+        if let Some(store) = self.stores.get_mut(&pair.peer) {
+            return store.ensure(pair.prefix);
+        }
+        let store = store_with(self.alloc, pair.prefix)?;
+        self.stores.insert(pair.peer, store)?;
+        Ok(true)
+    }
+
+    /// The route at the pair, or its absence, and the argument change places.
+    pub(crate) fn exchange(&mut self, pair: &Pair, route: &mut Option<Rc<Route>>)
+        requires { set.contains self.old.keys pair.now ≡ true }
+        ensures keys { self.new.keys ≡ self.old.keys }
+        ensures routes { self.new.routes ≡ put self.old.routes pair.now (route_in route.old) }
+        ensures given { route_in route.new ≡ finite.get self.old.routes pair.now }
+    {
+        if let Some(store) = self.stores.get_mut(&pair.peer) {
+            store.exchange(&pair.prefix, route);
+        }
+    }
+
+    /// Drops a key that has no route, and its peer's store with the last one.
+    pub(crate) fn discard(&mut self, pair: &Pair)
+        requires key { set.contains self.old.keys pair.now ≡ true }
+        requires free { finite.get self.old.routes pair.now ≡ None }
+        ensures keys { self.new.keys ≡ set.remove self.old.keys pair.now }
+        ensures routes { self.new.routes ≡ self.old.routes }
+    {
+        if drop_key(&mut self.stores, pair) {
+            drop_store(&mut self.stores, &pair.peer);
+        }
+    }
+
+    /// The route at the pair.
+    pub(crate) fn route(&self, pair: &Pair) -> Option<&Rc<Route>>
+        ensures { option_map (λ route. route.now.value) result ≡
+            finite.get self.now.routes pair.now }
+    {
+        self.stores.get(&pair.peer)?.get(&pair.prefix)
+    }
+
+    /// The route that the peer has to the prefix.
+    pub fn get(&self, peer: &Peer, prefix: &Prefix) -> Option<&Rc<Route>>
+        ensures { option_map (λ route. route.now.value) result ≡
+            finite.get self.now.routes (pair_of peer.now prefix.now) }
+    {
+        let pair = Pair {
+            peer: *peer,
+            prefix: *prefix,
+        };
+        self.route(&pair)
+    }
+
+    /// The peer's store, where it has a key.
+    pub fn store(&self, peer: &Peer) -> Option<&S>
+        ensures keys { IfSome result (λ store. (n : Network) → set.contains (S.keys store.now) n
+            ≡ set.contains self.now.keys (pair_of peer.now n)) }
+        ensures routes { IfSome result (λ store. (n : Network) → option_map value_of (finite.get (S.routes store.now) n)
+            ≡ finite.get self.now.routes (pair_of peer.now n)) }
+        ensures some { IfSome result (λ store. 0 < set.len (S.keys store.now)) }
+        ensures none { IfNone result ((n : Network) → set.contains self.now.keys (pair_of peer.now n) ≡ false) }
+    {
+        self.stores.get(peer)
+    }
+
+    /// The pairs of the peer that have a route.
+    pub(crate) fn pairs_of(&self, alloc: Global, peer: &Peer) -> Result<Vec<Pair>, AllocError>
+        ensures { IfOk result (λ pairs. (q : Pair) → list_any (eq_by_cmp pair_cmp q) pairs.items
+            ≡ (eq_by_cmp peer_cmp q.peer peer.now && is_some (finite.get self.now.routes q))) }
+    {
+        match self.stores.get(peer) {
+            Some(store) => pairs_in(alloc, store, peer),
+            None => Ok(Vec::new(alloc)),
+        }
+    }
+}
+
+/// A store with this one key.
+fn store_with<S: PrefixStore<Rc<Route>>>(alloc: Global, prefix: Prefix) -> Result<S, AllocError>
+    ensures keys { IfOk result (λ store. S.keys store ≡ set.insert set.empty prefix) }
+    ensures routes { IfOk result (λ store. S.routes store ≡ finite.empty) }
+{
+    let mut store = S::new(alloc);
+    store.ensure(prefix)?;
+    Ok(store)
+}
+
+/// The pairs of a peer whose prefix has a route in the store.
+fn pairs_in<S: PrefixStore<Rc<Route>>>(
+    alloc: Global,
+    store: &S,
+    peer: &Peer,
+) -> Result<Vec<Pair>, AllocError>
+    ensures { IfOk result (λ pairs. pairs.items ≡ map (λ n. pair_of peer.now n) (finite.keys (S.routes store.now))) }
+{
+    let mut pairs = Vec::new(alloc);
+    let mut last = None;
+    'routes: while let Some(found) = store.after(last.as_ref()) {
+        let pair = Pair {
+            peer: *peer,
+            prefix: found.0,
+        };
+        pairs.push(pair)?;
+        last = Some(found.0);
+    }
+    Ok(pairs)
+}
+
+/// Drops the peer's store.
+fn drop_store<S: PrefixStore<Rc<Route>>>(stores: &mut BTreeMap<Peer, S>, peer: &Peer)
+    ensures { (p : Peer) → store_at stores.new.entries p
+        ≡ (if eq_by_cmp peer_cmp peer.now p then None else store_at stores.old.entries p) }
+{
+    stores.remove(peer);
+}
+
+/// Drops a key that has no route, and answers whether its peer's store has none left.
+fn drop_key<S: PrefixStore<Rc<Route>>>(stores: &mut BTreeMap<Peer, S>, pair: &Pair) -> bool
+    requires key { set.contains (keys_in S.keys stores.old.entries) pair.now ≡ true }
+    requires free { finite.get (routes_in S.routes stores.old.entries) pair.now ≡ None }
+    ensures left { IsLeft S.keys S.routes stores.old.entries stores.new.entries pair.now result }
+{
+    if let Some(store) = stores.get_mut(&pair.peer) {
+        store.discard(&pair.prefix);
+        return store.key_count() == 0;
+    }
+    false
+}
+
+/// Puts a route, or the absence of one, into the pair's slot.
+pub(crate) fn put_slot(
+    slots: &mut BTreeMap<Pair, Option<Rc<Route>>>,
+    pair: Pair,
+    route: Option<Rc<Route>>,
+) -> Result<(), AllocError>
+    ensures put { OnOk result ((q : Pair) → slot_at slots.new.entries q
+        ≡ (if eq_by_cmp pair_cmp pair q then Some route else slot_at slots.old.entries q)) }
+    ensures refused { OnErr result (slots.new.entries ≡ slots.old.entries) }
+{
+    slots.insert(pair, route)?;
+    Ok(())
+}
