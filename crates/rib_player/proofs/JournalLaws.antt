@@ -14,7 +14,8 @@ use Rattle.mrt_wire.specs.declared.event.Route.{Route}
 use Rattle.mrt_wire.specs.declared.event.Event.{Event}
 use Rattle.rib_player.specs.declared.journal.Entry.{Entry}
 use Rattle.rib_player.specs.History.{pair_cmp, Effect, Keep, Clear, Set, effect, route_after}
-use Rattle.rib_player.specs.Tables.{Routes, Pairs, put, table_after, is_named}
+use Rattle.rib_store.specs.Stored.{put}
+use Rattle.rib_player.specs.Tables.{Routes, Pairs, table_after, is_named}
 use Rattle.rib_player.specs.Store.{route_in}
 use Rattle.rib_player.specs.Journal.{Side, side_of, sides_of, pairs_in, routes_across, sides_across, IsKept, IsStepFor}
 use Rattle.rib_player.proofs.PairLaws.{pair_cmp_total, same_pair}

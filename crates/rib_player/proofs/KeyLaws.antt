@@ -16,7 +16,7 @@ use Rattle.rib_player.specs.declared.journal.Step.{Step}
 use Rattle.rib_player.specs.History.{pair_cmp}
 use Rattle.rib_player.specs.Tables.{Routes, Pairs, table_after}
 use Rattle.rib_player.specs.Timeline.{Timeline, end_of, current, table_at, wanted, routed_first, after_play, after_undo, after_redo}
-use Rattle.rib_player.specs.Journal.{Side, Mark, sides_of, pairs_in, steps_of, step_sides, marks_of, step_marks, trail_of, routes_across, tables_before, tables_after, timeline_of, named_by, with_named, seen_after, AreFirst, IsExact, IsKept, AreHeld, AreDistinct, IsPlayed, IsAdvanced, IsStepFor, sides_across}
+use Rattle.rib_player.specs.Journal.{counts_of, AreCounted, Side, Mark, sides_of, pairs_in, steps_of, step_sides, marks_of, step_marks, trail_of, routes_across, tables_before, tables_after, timeline_of, named_by, with_named, seen_after, AreFirst, IsExact, IsKept, AreHeld, AreDistinct, IsPlayed, IsAdvanced, IsStepFor, sides_across}
 use Rattle.rib_player.proofs.PairLaws.{pair_cmp_total}
 use Rattle.rib_player.proofs.StoreLaws.{same_pairs}
 use Rattle.rib_player.proofs.JournalLaws.{get-restored_elsewhere}
@@ -235,6 +235,7 @@ all-distinct keys (sides ∷ steps) all = (all.0.distinct, all-distinct keys ste
 played_fresh : IsPlayed set.empty finite.empty 0 []
 played_fresh = record {
   journal = record { within = omega arith; kept = tt };
+  counts = tt;
   held = record { first = tt; held = λ q. contains-empty pair_cmp q ∙ sym (ap is_some (get-empty pair_cmp q)) };
 }
 
@@ -245,8 +246,9 @@ after_play-new keys routes steps e f h = subst (λ k. IsPlayed k routes 0 steps)
 pub after_play-on : (keys keys' : Pairs) (routes routes' : Routes) (cursor : ℕ) (steps steps' : List Step) (sides : List Side) (entries : List Entry) (new : Step) (event : Event)
     → cursor ≤ length (steps_of steps) → IsStepFor routes event sides → new.entries.items ≡ entries
     → IsAdvanced keys routes cursor steps sides keys' routes' steps' entries
+    → AreCounted 0 (counts_of (steps' ++ new ∷ []))
     → (timeline_of (cursor + 1) (steps_of (steps' ++ new ∷ [])) routes' ≡ after_play (timeline_of cursor (steps_of steps) routes) event) × IsPlayed keys' routes' (cursor + 1) (steps' ++ new ∷ [])
-after_play-on keys keys' routes routes' cursor steps steps' sides entries new event within step is advanced =
+after_play-on keys keys' routes routes' cursor steps steps' sides entries new event within step is advanced counts =
     let front : List Step = take cursor steps in
     let same : steps_of (steps' ++ new ∷ []) ≡ added cursor (steps_of steps) (sides_across routes sides) =
     map-append step_sides steps' (new ∷ []) ∙ ap₂ (λ a b. a ++ b ∷ []) (ap steps_of advanced.left ∙ sym (take-map step_sides cursor steps)) (ap sides_of is ∙ advanced.crossing) in
@@ -262,6 +264,7 @@ after_play-on keys keys' routes routes' cursor steps steps' sides entries new ev
         within = omega (arith, ap length same, length-added cursor (steps_of steps) (sides_across routes sides) within);
         kept = kept;
       };
+      counts = counts;
       held = held-same (routed_first (timeline_of cursor (steps_of steps) routes)) _ (trail_of front ++ marks_of entries ∷ []) _ keys' keys'
           (ap routed_first then ∙ after_play-first cursor (steps_of steps) routes event) trail refl advanced.held;
     })

@@ -11,4 +11,5 @@ pub mod ChangesLaws
 pub mod EntryLaws
 pub mod MarkLaws
 pub mod SearchLaws
+pub mod CountLaws
 pub mod KeyLaws

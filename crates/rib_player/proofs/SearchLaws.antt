@@ -43,7 +43,7 @@ pair-at [] i d within = absurd (omega arith)
 pair-at (e ∷ entries) zero d within = refl
 pair-at (e ∷ entries) (suc i) d within = pair-at entries i d (omega arith)
 
-length-pairs : (entries : List Entry) → length (pairs_in (sides_of entries)) ≡ length entries
+pub length-pairs : (entries : List Entry) → length (pairs_in (sides_of entries)) ≡ length entries
 length-pairs [] = refl
 length-pairs (e ∷ entries) = ap suc (length-pairs entries)
 

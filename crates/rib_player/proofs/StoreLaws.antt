@@ -16,7 +16,9 @@ use Rattle.std.proofs.lemmas.Bool.{eqb-true}
 use Rattle.std.proofs.lemmas.List.Folds.{list_any-append}
 use Rattle.std.proofs.lemmas.Map.{lookup-set_value}
 use Rattle.std.proofs.lemmas.Map.Views.{any-filter_same}
+use Rattle.ip_prefix.specs.Address.{Address}
 use Rattle.ip_prefix.specs.Network.{Network}
+use Rattle.ip_prefix.proofs.Options.{is_some-option_map}
 use Rattle.ip_prefix.specs.Order.{network_cmp}
 use Rattle.ip_prefix.specs.OrderLaws.{network_cmp_total}
 use Rattle.rib_store.specs.Stored as stored
@@ -26,8 +28,9 @@ use Rattle.rib_player.specs.declared.pair.Pair.{Pair}
 use Rattle.mrt_wire.specs.declared.event.Route.{Route}
 use Rattle.mrt_wire.specs.Peer.{peer_cmp}
 use Rattle.rib_player.specs.History.{pair_cmp, pair_of}
-use Rattle.rib_player.specs.Tables.{Routes, Pairs, put}
-use Rattle.rib_player.specs.Store.{Stores, store_at, has_key, stored_route, value_of, route_in, keys_in, routes_in, IsHeld, IsLeft}
+use Rattle.rib_store.specs.Stored.{put}
+use Rattle.rib_player.specs.Tables.{Routes, Pairs}
+use Rattle.rib_player.specs.Store.{Stores, store_at, has_key, stored_route, value_of, route_in, keys_in, routes_in, IsHeld, IsLeft, IsBest}
 use Rattle.ip_prefix.proofs.Booleans.{cond_untested}
 use Rattle.mrt_wire.proofs.PeerLaws.{peer_cmp_total, peer_cmp-IsAntisymmetric}
 use Rattle.rib_player.proofs.PairLaws.{pair_cmp_total, pair_cmp-IsAntisymmetric, same_pair}
@@ -258,6 +261,22 @@ pub store-routes : {S : Type 0} (routes : S → stored.Routes (Rc Route Global))
     → IfSome found (λ store. (n : Network) → option_map value_of (finite.get (routes store.now) n) ≡ finite.get all (pair_of peer n))
 store-routes routes stores all peer None is e = tt
 store-routes routes stores all peer (Some store) is e = λ n. get-found routes stores all (pair_of peer n) (Some store.now) is e
+
+-- a peer without a store has no best route
+pub longest-none : {S : Type 0} (routes : S → stored.Routes (Rc Route Global)) (stores : Stores S) (all : Routes) (peer : Peer) (address : Address) → None ≡ store_at stores peer → routes_in routes stores ≡ all
+    → IsBest all peer address None
+longest-none routes stores all peer address found e = λ n within. sym (get-found routes stores all (pair_of peer n) None found e)
+
+-- else that of its store, behind the pointer
+pub longest-found : {S : Type 0} (routes : S → stored.Routes (Rc Route Global)) (stores : Stores S) (all : Routes) (peer : Peer) (address : Address) (store : S)
+    (best : Option (Network × Bor (Rc Route Global))) → Some store ≡ store_at stores peer → routes_in routes stores ≡ all
+    → stored.IsLongest (routes store) address (option_map (λ b. (b.0, b.1.now)) best) → IsBest all peer address (option_map (λ b. (b.0, b.1.now.value)) best)
+longest-found routes stores all peer address store None found e longest = λ n within.
+    sym (get-found routes stores all (pair_of peer n) (Some store) found e) ∙ ap (option_map value_of) (longest n within)
+longest-found routes stores all peer address store (Some best) found e longest =
+    (longest.0,
+    sym (get-found routes stores all (pair_of peer best.0) (Some store) found e) ∙ ap (option_map value_of) longest.1,
+    λ n within there. longest.2 n within (sym (is_some-option_map value_of (finite.get (routes store) n)) ∙ ap is_some (get-found routes stores all (pair_of peer n) (Some store) found e) ∙ there))
 
 pub store-some : {S : Type 0} (keys : S → stored.Keys) (stores : Stores S) (peer : Peer) (found : Option (Bor S)) → option_copied found ≡ store_at stores peer → IsHeld keys stores
     → IfSome found (λ store. 0 < set.len (keys store.now))

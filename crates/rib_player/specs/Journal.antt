@@ -1,5 +1,5 @@
 -- How a player keeps its steps: for each pair that a step names, the route on the other side of the step.
-use Rattle.std.specs.Prelude.{◌≡◌, ℕ, ◌≤◌, Bool, true, false, ◌||◌, not, None, List, [], ◌∷◌, ◌++◌, map, take, drop, length, reverse, slice_index_or, Option}
+use Rattle.std.specs.Prelude.{◌≡◌, ℕ, ◌+◌, ◌≤◌, Bool, true, false, ◌||◌, not, None, List, [], ◌∷◌, ◌++◌, map, take, drop, length, reverse, slice_index_or, Option}
 use Rattle.std.specs.List.{AllByRecursion, IsDistinct, list_any}
 use Rattle.std.specs.List.Sorted.{IsStrictlySortedBy}
 use Rattle.std.specs.Ordering.{eq_by_cmp}
@@ -13,7 +13,8 @@ use Rattle.mrt_wire.specs.declared.event.Event.{Event}
 use Rattle.rib_player.specs.declared.journal.Entry.{Entry}
 use Rattle.rib_player.specs.declared.journal.Step.{Step}
 use Rattle.rib_player.specs.History.{pair_cmp}
-use Rattle.rib_player.specs.Tables.{Routes, Pairs, put, table_after, named_pairs}
+use Rattle.rib_store.specs.Stored.{put, counted}
+use Rattle.rib_player.specs.Tables.{Routes, Pairs, table_after, named_pairs}
 use Rattle.rib_player.specs.Store.{route_in}
 use Rattle.rib_player.specs.Timeline.{Timeline, routed_first}
 
@@ -145,6 +146,18 @@ pub record CanLeave (trail : List (List Mark)) (last : List Mark) (keys : Pairs)
 abbrev pub AreDistinct : List (List Side) → Type 0
 AreDistinct steps = AllByRecursion (λ sides. IsDistinct (eq_by_cmp pair_cmp) (pairs_in sides)) steps
 
+-- how many pairs a step names, and the count that it keeps
+abbrev pub count_of : Step → ℕ × ℕ
+count_of step = (length step.entries.items, step.named)
+
+abbrev pub counts_of : List Step → List (ℕ × ℕ)
+counts_of steps = map count_of steps
+
+-- each step keeps the count of the pairs that it and the steps before it name
+abbrev pub AreCounted : ℕ → List (ℕ × ℕ) → Type 0
+AreCounted before [] = Unit {0}
+AreCounted before (count ∷ counts) = (count.1 ≡ counted (before + count.0)) × AreCounted (before + count.0) counts
+
 -- the cursor is within the steps, and each of them can be crossed
 pub record IsJournal (keys : Pairs) (cursor : ℕ) (steps : List (List Side)) : Type 0 where
   pub within : cursor ≤ length steps
@@ -155,9 +168,10 @@ pub record AreHeld (seen : Pair → Bool) (trail : List (List Mark)) (keys : Pai
   pub first : MarkFirst seen trail
   pub held : (q : Pair) → contains keys q ≡ seen_after seen trail q
 
--- the steps can be crossed, and the keys are those that they and the routes before all of them want
+-- the steps can be crossed, their counts are right, and the keys are those that they and the routes before all of them want
 pub record IsPlayed (keys : Pairs) (routes : Routes) (cursor : ℕ) (steps : List Step) : Type 0 where
   pub journal : IsJournal keys cursor (steps_of steps)
+  pub counts : AreCounted 0 (counts_of steps)
   pub held : AreHeld (routed_first (timeline_of cursor (steps_of steps) routes)) (trail_of steps) keys
 
 -- the steps ahead have made room for a step of these sides, which was crossed

@@ -9,6 +9,7 @@ use Rattle.std.specs.declared.rc.Rc.{Rc}
 use Rattle.std.specs.FinMap as finite
 use Rattle.std.specs.FinSet as set
 use Rattle.std.specs.declared.alloc.Global.{Global}
+use Rattle.ip_prefix.specs.Address.{Address}
 use Rattle.ip_prefix.specs.Network.{Network}
 use Rattle.rib_store.specs.Stored as stored
 use Rattle.mrt_wire.specs.declared.peer.Peer.{Peer}
@@ -90,3 +91,7 @@ pub record IsLeft {S : Type 0} (keys : S → stored.Keys) (routes : S → stored
   pub same : routes after ≡ routes before
   pub among : stored.AreAmong (keys after) (routes after)
   pub is_empty : empty ≡ (set.len (keys after) == 0)
+
+-- of the prefixes that the peer has a route to and that contain the address the longest, and its route
+abbrev pub IsBest : Routes → Peer → Address → Option (Network × Route) → Type 0
+IsBest routes peer = stored.IsLongestOf (λ n. finite.get routes (pair_of peer n))

@@ -1,8 +1,9 @@
 -- Tables of routes: the table of a history, an event applied to a table, and the pairs that it names.
-use Rattle.std.specs.Prelude.{Bool, true, false, ◌&&◌, ◌||◌, not, List, [], ◌∷◌, ◌++◌, Option, Some, None, is_some}
+use Rattle.std.specs.Prelude.{Bool, true, false, ◌&&◌, ◌||◌, not, List, [], ◌∷◌, ◌++◌, Option, is_some}
 use Rattle.std.specs.List.{flat_map, filter}
-use Rattle.std.specs.FinMap.{FinMap, empty, get, insert, remove, keys}
+use Rattle.std.specs.FinMap.{FinMap, empty, get, keys}
 use Rattle.std.specs.FinSet.{FinSet, from_list}
+use Rattle.rib_store.specs.Stored.{put}
 use Rattle.rib_player.specs.declared.pair.Pair.{Pair}
 use Rattle.mrt_wire.specs.declared.event.Route.{Route}
 use Rattle.mrt_wire.specs.Event.{Saying, Announced, Withdrawn, Changed}
@@ -15,11 +16,6 @@ Routes = FinMap pair_cmp Route
 
 abbrev pub Pairs : Type 0
 Pairs = FinSet pair_cmp
-
--- the routes with this one, or none, at the pair
-abbrev pub put : Routes → Pair → Option Route → Routes
-put routes pair None = remove routes pair
-put routes pair (Some new) = insert routes pair new
 
 -- what the function has at these pairs, and nothing elsewhere
 abbrev pub tabulation : (Pair → Option Route) → List Pair → Routes

@@ -1,6 +1,6 @@
 -- What contracts see of a player: the tables by position, and a cursor; what each call does to it, and when it stands for a history.
 use Rattle.std.specs.Prelude.{◌≡◌, ℕ, Bool, is_some, ◌+◌, ◌-◌, ◌≤◌, List, [], ◌∷◌, ◌++◌, length, take, drop, slice_index_or, nat_lt, if◌then◌else◌, refl}
-use Rattle.std.specs.List.{flat_map}
+use Rattle.std.specs.List.{flat_map, sum_by}
 use Rattle.std.specs.Coded.{Coded, code_by, coded×, coded_ℕ, coded_list}
 use Rattle.std.specs.FinMap as finite
 use Rattle.std.specs.FinSet as set
@@ -50,6 +50,10 @@ current t = table_at t t.cursor
 -- the pairs that have a route at the cursor or are named by a kept step, before it or after it
 unfoldable pub wanted : Timeline → Pairs
 wanted t = set.from_list (finite.keys (current t) ++ flat_map set.items t.steps)
+
+-- how many pairs the kept steps name, in all
+abbrev pub named_count : Timeline → ℕ
+named_count t = sum_by set.len t.steps
 
 -- whether the pair has a route before all kept steps
 abbrev pub routed_first : Timeline → Pair → Bool

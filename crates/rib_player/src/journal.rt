@@ -1,14 +1,15 @@
 //! The steps that are kept, so that they can be undone and redone.
 
 ghost use Rattle.std.specs.Prelude.{◌≡◌, ◌-◌, ◌<◌, ◌≤◌, [], ◌∷◌, ◌||◌, true, false, not, Bool, None, length, take, drop, set, IfOk, OnOk, OnErr};
-ghost use Rattle.std.specs.List.{AllByRecursion, IsDistinct};
+ghost use Rattle.std.specs.List.{AllByRecursion, IsDistinct, sum_by};
 ghost use Rattle.std.specs.Vec.{vec_capacity};
 ghost use Rattle.std.specs.Ordering.{eq_by_cmp};
 ghost use Rattle.std.specs.FinMap as finite;
 ghost use Rattle.std.specs.FinSet as names;
+ghost use Rattle.rib_store.specs.Stored.{counted};
 ghost use Rattle.rib_player.specs.declared.pair.Pair.{Pair};
 ghost use Rattle.rib_player.specs.History.{pair_cmp};
-ghost use Rattle.rib_player.specs.Journal.{sides_of, pairs_in, sides_at, steps_of, routes_across, sides_across, IsKept, marks_of, trail_of, named_by, marked, AreFirst, IsExact, CanLeave, AreDistinct, AreOrdered, IsPlayed, IsAdvanced};
+ghost use Rattle.rib_player.specs.Journal.{sides_of, pairs_in, sides_at, steps_of, routes_across, sides_across, IsKept, marks_of, trail_of, counts_of, AreCounted, named_by, marked, AreFirst, IsExact, CanLeave, AreDistinct, AreOrdered, IsPlayed, IsAdvanced};
 
 use mrt_wire::{Route};
 use crate::pair::Pair;
@@ -32,6 +33,19 @@ pub(crate) struct Entry {
 #[derive(Drop)]
 pub(crate) struct Step {
     pub(crate) entries: Vec<Entry>,
+    /// How many pairs it and the kept steps before it name, in all; `u64::MAX` where more.
+    pub(crate) named: u64,
+}
+
+/// How many pairs the steps name, in all.
+pub(crate) fn named_pairs(steps: &[Step]) -> u64
+    requires counts { AreCounted 0 (counts_of steps.now) }
+    ensures { result ≡ counted (sum_by (λ count. count.0) (counts_of steps.now)) }
+{
+    match steps.last() {
+        Some(step) => step.named,
+        None => 0,
+    }
 }
 
 /// Goes from one side of a step to the other. The routes of the table and of the entries change
@@ -61,6 +75,7 @@ pub(crate) fn cross_step<S: PrefixStore<Rc<Route>>>(
     ensures steps { steps_of steps.new ≡
         set (steps_of steps.old) index (sides_across table.old.routes (sides_at (steps_of steps.old) index)) }
     ensures trail { trail_of steps.new ≡ trail_of steps.old }
+    ensures counts { counts_of steps.new ≡ counts_of steps.old }
 {
     let step = &mut steps[index];
     cross(table, step.entries.as_mut_slice());

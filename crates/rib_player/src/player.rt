@@ -1,11 +1,13 @@
 //! A routing table per peer that is played forwards and backwards, event by event.
 
 ghost use Rattle.std.specs.Prelude.{◌≡◌, ◌<◌, ◌↔◌, IfOk, OnOk, OnErr, IsOk};
-ghost use Rattle.rib_player.specs.Timeline.{fresh, ahead_of, end_of, current, wanted, after_play, after_undo, after_redo};
+ghost use Rattle.rib_store.specs.Stored.{counted};
+ghost use Rattle.rib_store.specs.declared.store.TheConstants.{GREATEST_COUNT};
+ghost use Rattle.rib_player.specs.Timeline.{fresh, ahead_of, end_of, current, wanted, named_count, after_play, after_undo, after_redo};
 
 use crate::changes::step_for;
 use mrt_wire::{Event, Route};
-use crate::journal::{Step, advance, cross_step};
+use crate::journal::{Step, advance, cross_step, named_pairs};
 use crate::table::Table;
 use rib_store::PrefixStore;
 use std::alloc::{AllocError, Global};
@@ -76,6 +78,13 @@ impl<S: PrefixStore<Rc<Route>>> Player<S> {
         (self.steps.len() - self.cursor) as u64
     }
 
+    /// How many pairs of a peer and a prefix the kept steps name, in all.
+    pub fn named(&self) -> u64
+        ensures { result ≡ counted (named_count self.now) }
+    {
+        named_pairs(&self.steps)
+    }
+
     /// The table at the cursor.
     pub fn table(&self) -> &Table<S>
         ensures keys { result.now.keys ≡ wanted self.now }
@@ -86,6 +95,7 @@ impl<S: PrefixStore<Rc<Route>>> Player<S> {
 
     /// Plays the event as the next step, and answers how many steps ahead it dropped.
     pub fn play(&mut self, event: &Event) -> Result<u64, PlayFault>
+        requires { self.old.cursor < GREATEST_COUNT }
         ensures after_play { OnOk result (self.new ≡ after_play self.old event.now) }
         ensures dropped { IfOk result (λ dropped. dropped ≡ ahead_of self.old) }
         ensures refused { OnErr result (self.new ≡ self.old) }
@@ -99,7 +109,8 @@ impl<S: PrefixStore<Rc<Route>>> Player<S> {
             self.cursor,
             entries.as_mut_slice(),
         )?;
-        self.steps.push_reserved(Step { entries });
+        let named = named_pairs(&self.steps).saturating_add(entries.len() as u64);
+        self.steps.push_reserved(Step { entries, named });
         self.cursor += 1;
         Ok(dropped as u64)
     }

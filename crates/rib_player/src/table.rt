@@ -11,13 +11,12 @@ ghost use Rattle.rib_player.specs.declared.pair.Pair.{Pair};
 ghost use Rattle.mrt_wire.specs.declared.peer.Peer.{Peer};
 ghost use Rattle.mrt_wire.specs.Peer.{peer_cmp};
 ghost use Rattle.rib_player.specs.History.{pair_cmp, pair_of};
-ghost use Rattle.rib_player.specs.Tables.{put};
-ghost use Rattle.rib_player.specs.Store.{route_in, value_of, slot_at, store_at, keys_in, routes_in, IsLeft};
+ghost use Rattle.rib_store.specs.Stored.{put};
+ghost use Rattle.rib_player.specs.Store.{route_in, value_of, slot_at, store_at, keys_in, routes_in, IsLeft, IsBest};
 
-use mrt_wire::{Route};
 use crate::pair::Pair;
-use mrt_wire::Peer;
-use ip_prefix::Prefix;
+use ip_prefix::{Addr, Prefix};
+use mrt_wire::{Peer, Route};
 use rib_store::PrefixStore;
 use std::alloc::{AllocError, Global};
 use std::collections::BTreeMap;
@@ -113,6 +112,16 @@ impl<S: PrefixStore<Rc<Route>>> Table<S> {
             prefix: *prefix,
         };
         self.route(&pair)
+    }
+
+    /// The longest prefix that the peer has a route to and that contains the address, and its
+    /// route: what a router that had the peer's routes alone would forward by (RFC 1812, section
+    /// 5.2.4.3).
+    pub fn longest(&self, peer: &Peer, addr: &Addr) -> Option<(Prefix, &Rc<Route>)>
+        ensures { IsBest self.now.routes peer.now addr.now
+            (option_map (λ found. (found.0, found.1.now.value)) result) }
+    {
+        self.stores.get(peer)?.longest(addr)
     }
 
     /// The peer's store, where it has a key.

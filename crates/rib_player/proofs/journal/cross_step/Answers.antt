@@ -1,6 +1,6 @@
 use Rattle.std.proofs.Common.{◌≡◌, [], ◌<◌, length, ap, sym, subst, ◌∙◌, set, get_or, arith}
 use Rattle.std.proofs.lemmas.List.{get_or-map, map-set, length-map, with_items_is, set-get_or}
-use Rattle.rib_player.specs.Journal.{marks_of, step_marks, trail_of, sides_of, sides_at, steps_of, step_sides, sides_across, IsKept}
+use Rattle.rib_player.specs.Journal.{count_of, counts_of, marks_of, step_marks, trail_of, sides_of, sides_at, steps_of, step_sides, sides_across, IsKept}
 use Rattle.rib_player.proofs.CursorLaws.{kept-at}
 use Rattle.rib_player.proofs.journal.cross_step.Goals as goal
 use Rattle.rib_player.proofs.journal.cross_step.Given.{Over}
@@ -32,3 +32,12 @@ returns-clause-trail g c =
     ∙ c.cross.ensures.marks ∙ ap marks_of c.as_mut_slice.ensures.value
     ∙ sym (get_or-map step_marks c.args.steps.now c.args.index c.index-steps-index.result [] c.requires.within))
     ∙ set-get_or (trail_of c.args.steps.now) c.args.index []
+
+pub returns-clause-counts : goal.returns-clause-counts
+returns-clause-counts g c =
+    let here = get_or c.args.steps.now c.args.index c.index-steps-index.result in
+    map-set count_of c.args.steps.now c.args.index _
+    ∙ ap (set (counts_of c.args.steps.now) c.args.index)
+    (ap (λ n. (n, here.named)) (ap length (with_items_is here.entries c.cross.new.entries (c.cross.auto.entries ∙ c.as_mut_slice.ensures.len)) ∙ c.cross.auto.entries ∙ ap length c.as_mut_slice.ensures.value)
+    ∙ sym (get_or-map count_of c.args.steps.now c.args.index c.index-steps-index.result (count_of c.index-steps-index.result) c.requires.within))
+    ∙ set-get_or (counts_of c.args.steps.now) c.args.index (count_of c.index-steps-index.result)

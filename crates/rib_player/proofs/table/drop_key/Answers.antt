@@ -1,6 +1,8 @@
 use Rattle.std.proofs.Common.{◌≡◌, Some, is_some, refl, sym, ap, ◌∙◌}
 use Rattle.std.specs.Option.{option_copied_mut}
 use Rattle.std.specs.Prelude.{◌==◌}
+use Rattle.std.specs.FinSet as set
+use Rattle.rib_player.proofs.CountLaws.{counted-zero}
 use Rattle.rib_player.specs.Store.{store_at, keys_in, routes_in}
 use Rattle.rib_player.proofs.StoreLaws.{store_at-write, contains-found, get-found, key-has-store, no_value}
 use Rattle.rib_player.proofs.table.drop_key.Goals as goal
@@ -27,7 +29,7 @@ returns-in-Some g c =
       less = c.discard.ensures.keys;
       same = c.discard.ensures.routes;
       among = c.key_count.ensures.among;
-      is_empty = ap (λ n. n == 0) c.key_count.ensures.count;
+      is_empty = ap (λ n. n == 0) c.key_count.ensures.count ∙ counted-zero (set.len (g.S.PrefixStore.keys c.discard.new.self));
     } }
 
 pub returns : goal.returns

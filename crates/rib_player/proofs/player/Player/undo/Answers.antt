@@ -1,8 +1,8 @@
-use Rattle.std.proofs.Common.{◌≡◌, ◌-◌, ◌<◌, set, ap, ◌∙◌, arith}
+use Rattle.std.proofs.Common.{◌≡◌, ◌-◌, ◌<◌, set, sym, ap, subst, ◌∙◌, arith}
 use Rattle.std.specs.Vec.{with_items}
 use Rattle.std.proofs.lemmas.List.{with_items_is}
 use Rattle.rib_player.specs.Timeline.{after_undo, routed_first}
-use Rattle.rib_player.specs.Journal.{AreHeld, trail_of, timeline_of, steps_of, sides_at, routes_across, sides_across}
+use Rattle.rib_player.specs.Journal.{AreHeld, counts_of, AreCounted, trail_of, timeline_of, steps_of, sides_at, routes_across, sides_across}
 use Rattle.rib_player.proofs.CursorLaws.{timeline-after_undo, same-timeline, journal-sides_across}
 use Rattle.rib_player.proofs.KeyLaws.{held-same, after_undo-first}
 use Rattle.rib_player.proofs.player.Player.undo.Goals as goal
@@ -32,6 +32,12 @@ held_then g c =
     (ap trail_of (with_items_is c.self.inside.steps c.cross_step.new.steps (c.cross_step.auto.steps ∙ c.deref_mut.ensures.len)) ∙ c.cross_step.ensures.trail ∙ ap trail_of c.deref_mut.ensures.value)
     c.cross_step.ensures.keys c.self.invariant.held
 
+counts_then : (g : Over) (c : After-cross_step g) → AreCounted 0 (counts_of (with_items c.self.inside.steps c.cross_step.new.steps).items)
+counts_then g c =
+    subst (AreCounted 0)
+    (sym (ap counts_of (with_items_is c.self.inside.steps c.cross_step.new.steps (c.cross_step.auto.steps ∙ c.deref_mut.ensures.len)) ∙ c.cross_step.ensures.counts ∙ ap counts_of c.deref_mut.ensures.value))
+    c.self.invariant.counts
+
 pub invariant_of-self : goal.invariant_of-self
 invariant_of-self g c =
     let some : 0 < c.self.inside.cursor = omega arith in
@@ -40,6 +46,7 @@ invariant_of-self g c =
           journal-sides_across c.self.inside.table.keys c.cross_step.new.table.keys (steps_of c.self.inside.steps.items) _ c.self.inside.table.routes (c.self.inside.cursor - 1) (c.self.inside.cursor - 1)
               (omega (arith, c.self.invariant.journal.within)) (omega (arith, c.self.invariant.journal.within)) c.self.invariant.journal.kept c.cross_step.ensures.keys
               (steps_left g (goal.at.invariant_of-self g c).After-cross_step);
+      counts = counts_then g (goal.at.invariant_of-self g c).After-cross_step;
       held = held_then g (goal.at.invariant_of-self g c).After-cross_step;
     }
 
