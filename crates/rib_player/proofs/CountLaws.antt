@@ -1,6 +1,6 @@
 -- The counts that steps keep of the pairs that they name.
 use Rattle.std.proofs.Common.{◌≡◌, ℕ, zero, suc, ◌+◌, ◌==◌, min, length, take, get_or, cond, List, [], ◌∷◌, ◌++◌, map, refl, sym, ap, ap₂, subst, ◌∙◌, arith}
-use Rattle.std.specs.List.{IsDistinct, sum_by}
+use Rattle.std.specs.List.{AllByRecursion, IsDistinct, sum_by}
 use Rattle.std.specs.FinSet as set
 use Rattle.std.specs.FinSet.{contains-from_list, len-empty, len-insert}
 use Rattle.std.proofs.lemmas.Bool.{eqb-true}
@@ -55,7 +55,7 @@ len-from_list (pair ∷ pairs) distinct =
     ∙ omega arith
 
 -- the counts are those of the pairs that the steps name
-pub named-total : (steps : List Step) → AreDistinct (steps_of steps) → total (counts_of steps) ≡ sum_by set.len (map (λ sides. set.from_list {R = pair_cmp} (pairs_in sides)) (steps_of steps))
+pub named-total : (steps : List Step) → AllByRecursion AreDistinct (steps_of steps) → total (counts_of steps) ≡ sum_by set.len (map (λ sides. set.from_list {R = pair_cmp} (pairs_in sides)) (steps_of steps))
 named-total [] all = refl
 named-total (step ∷ steps) all =
     total-cons (count_of step) (counts_of steps)

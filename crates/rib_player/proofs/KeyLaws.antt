@@ -120,6 +120,7 @@ held-wanted cursor steps routes keys within held =
     at : (n a b : Bool) → (n ≡ false → a ≡ b) → (a || n) ≡ (b || n)
     at true a b same = or-true a ∙ sym (or-true b)
     at false a b same = ap (λ x. x || false) (same refl)
+
     part : (q : Pair) → any_named (trail_of steps) q ≡ false → any_named (trail_of (take cursor steps)) q ≡ false
     part q e = ap (λ t. any_named t q) (sym (take-map step_marks cursor steps)) ∙ any-take (λ marks. named_by marks q) cursor (trail_of steps) e
 
@@ -171,6 +172,7 @@ exact-start base front ahead last keys keys' routes held more first free = recor
   where
     whole : (q : Pair) → set.contains keys q ≡ seen_after (seen_after base front) ahead q
     whole q = held.held q ∙ ap (λ f. f q) (seen_after-append base front ahead)
+
     all-same : {f g : Pair → Bool} (ls : List Mark) → ((q : Pair) → f q ≡ g q) → AllByRecursion (λ (l : Mark). l.1 ≡ not (f l.0)) ls → AllByRecursion (λ (l : Mark). l.1 ≡ not (g l.0)) ls
     all-same [] same all = tt
     all-same (l ∷ ls) same all = (all.0 ∙ ap not (same l.0), all-same ls same all.1)
@@ -186,9 +188,10 @@ held-end base front ahead last keys keys' routes held exact = record {
 -- keys that have all that steps name keep these steps
 pub all-named_pairs : (entries : List Entry) (keys : Pairs) → ((q : Pair) → named_by (marks_of entries) q ≡ true → set.contains keys q ≡ true) → AllByRecursion (λ p. set.contains keys p ≡ true) (pairs_in (sides_of entries))
 all-named_pairs [] keys have = tt
-all-named_pairs (e ∷ entries) keys have =
-    (have e.pair (ap (λ b. b || named_by (marks_of entries) e.pair) (tied_itself e.pair)),
-    all-named_pairs entries keys (λ q e'. have q (ap (λ b. tied q e.pair || b) e' ∙ or-true (tied q e.pair))))
+all-named_pairs (e ∷ entries) keys have = (
+  have e.pair (ap (λ b. b || named_by (marks_of entries) e.pair) (tied_itself e.pair)),
+  all-named_pairs entries keys (λ q e'. have q (ap (λ b. tied q e.pair || b) e' ∙ or-true (tied q e.pair))),
+)
 
 pub kept-named_pairs : (keys keys' : Pairs) (entries : List Entry) → ((q : Pair) → named_by (marks_of entries) q ≡ true → set.contains keys' q ≡ true) → IsKept keys (sides_of entries) → IsKept keys' (sides_of entries)
 kept-named_pairs keys keys' entries have kept = record { distinct = kept.distinct; among_keys = all-named_pairs entries keys' have }
@@ -196,9 +199,10 @@ kept-named_pairs keys keys' entries have kept = record { distinct = kept.distinc
 pub all-kept : (keys keys' : Pairs) (steps : List Step) → ((q : Pair) → any_named (trail_of steps) q ≡ true → set.contains keys' q ≡ true)
     → AllByRecursion (IsKept keys) (steps_of steps) → AllByRecursion (IsKept keys') (steps_of steps)
 all-kept keys keys' [] have all = tt
-all-kept keys keys' (step ∷ steps) have all =
-    (kept-named_pairs keys keys' step.entries.items (λ q e. have q (ap (λ b. b || any_named (trail_of steps) q) e)) all.0,
-    all-kept keys keys' steps (λ q e. have q (ap (λ b. named_by (step_marks step) q || b) e ∙ or-true (named_by (step_marks step) q))) all.1)
+all-kept keys keys' (step ∷ steps) have all = (
+  kept-named_pairs keys keys' step.entries.items (λ q e. have q (ap (λ b. b || any_named (trail_of steps) q) e)) all.0,
+  all-kept keys keys' steps (λ q e. have q (ap (λ b. named_by (step_marks step) q || b) e ∙ or-true (named_by (step_marks step) q))) all.1,
+)
 
 -- what is exact with no steps ahead has the pairs of the steps behind and of the last one
 pub exact-has : (base : Pair → Bool) (front : List (List Mark)) (last : List Mark) (keys : Pairs) (routes : Routes) → IsExact (seen_after base front) [] last keys routes
@@ -227,7 +231,7 @@ unheld-route cursor steps routes keys held q out =
     (unseen-before (seen_after base (trail_of (take cursor steps))) (trail_of (drop cursor steps)) q
     (ap (λ f. f q) (sym (seen_after-append base (trail_of (take cursor steps)) (trail_of (drop cursor steps)))) ∙ sym (parts.held q) ∙ out))
 
-pub all-distinct : (keys : Pairs) (steps : List (List Side)) → AllByRecursion (IsKept keys) steps → AreDistinct steps
+pub all-distinct : (keys : Pairs) (steps : List (List Side)) → AllByRecursion (IsKept keys) steps → AllByRecursion AreDistinct steps
 all-distinct keys [] all = tt
 all-distinct keys (sides ∷ steps) all = (all.0.distinct, all-distinct keys steps all.1)
 
@@ -245,7 +249,7 @@ after_play-new keys routes steps e f h = subst (λ k. IsPlayed k routes 0 steps)
 -- a step that was put behind the cursor
 pub after_play-on : (keys keys' : Pairs) (routes routes' : Routes) (cursor : ℕ) (steps steps' : List Step) (sides : List Side) (entries : List Entry) (new : Step) (event : Event)
     → cursor ≤ length (steps_of steps) → IsStepFor routes event sides → new.entries.items ≡ entries
-    → IsAdvanced keys routes cursor steps sides keys' routes' steps' entries
+    → IsAdvanced (record { keys = keys; routes = routes }) cursor steps sides (record { keys = keys'; routes = routes' }) steps' entries
     → AreCounted 0 (counts_of (steps' ++ new ∷ []))
     → (timeline_of (cursor + 1) (steps_of (steps' ++ new ∷ [])) routes' ≡ after_play (timeline_of cursor (steps_of steps) routes) event) × IsPlayed keys' routes' (cursor + 1) (steps' ++ new ∷ [])
 after_play-on keys keys' routes routes' cursor steps steps' sides entries new event within step is advanced counts =
@@ -258,13 +262,15 @@ after_play-on keys keys' routes routes' cursor steps steps' sides entries new ev
     map-append step_marks steps' (new ∷ []) ∙ ap₂ (λ a b. a ++ b ∷ []) (ap trail_of advanced.left) (ap marks_of is) in
     let kept : AllByRecursion (IsKept keys') (steps_of (steps' ++ new ∷ [])) =
     subst (AllByRecursion (IsKept keys')) (sym (map-append step_sides steps' (new ∷ [])))
-    (AllByRecursion-push (IsKept keys') (steps_of steps') (step_sides new) (subst (λ s. AllByRecursion (IsKept keys') (steps_of s)) (sym advanced.left) advanced.before) (subst (λ es. IsKept keys' (sides_of es)) (sym is) advanced.kept)) in
-    (then, record {
-      journal = record {
-        within = omega (arith, ap length same, length-added cursor (steps_of steps) (sides_across routes sides) within);
-        kept = kept;
-      };
-      counts = counts;
-      held = held-same (routed_first (timeline_of cursor (steps_of steps) routes)) _ (trail_of front ++ marks_of entries ∷ []) _ keys' keys'
-          (ap routed_first then ∙ after_play-first cursor (steps_of steps) routes event) trail refl advanced.held;
-    })
+    (AllByRecursion-push (IsKept keys') (steps_of steps') (step_sides new) (subst (λ s. AllByRecursion (IsKept keys') (steps_of s)) (sym advanced.left) advanced.before) (subst (λ es. IsKept keys' (sides_of es)) (sym is) advanced.kept)) in (
+      then,
+      record {
+        journal = record {
+          within = omega (arith, ap length same, length-added cursor (steps_of steps) (sides_across routes sides) within);
+          kept = kept;
+        };
+        counts = counts;
+        held = held-same (routed_first (timeline_of cursor (steps_of steps) routes)) _ (trail_of front ++ marks_of entries ∷ []) _ keys' keys'
+            (ap routed_first then ∙ after_play-first cursor (steps_of steps) routes event) trail refl advanced.held;
+      },
+    )

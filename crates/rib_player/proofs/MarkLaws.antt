@@ -80,6 +80,7 @@ exact-seen seen m gone last keys routes e exact =
     not_false : (b : Bool) → not b ≡ false → b ≡ true
     not_false true e = refl
     not_false false e = cc
+
     skip : (a b c : Bool) → (b ≡ true → a ≡ true) → (a || (b || c)) ≡ (a || c)
     skip true b c is = refl
     skip false true c is = absurd_case (is refl)
@@ -87,8 +88,10 @@ exact-seen seen m gone last keys routes e exact =
         absurd_case : false ≡ true → (false || (true || c)) ≡ (false || c)
         absurd_case e = cc
     skip false false c is = refl
+
     dropped : seen m.0 ≡ true → (q : Pair) → (seen q || (tied q m.0 || named_by gone q)) ≡ (seen q || named_by gone q)
     dropped is q = skip (seen q) (tied q m.0) (named_by gone q) (λ t. at_tied seen q m.0 t ∙ is)
+
     all-same : {f g : Pair → Bool} (ls : List Mark) → ((q : Pair) → f q ≡ g q) → AllByRecursion (λ (l : Mark). l.1 ≡ not (f l.0)) ls → AllByRecursion (λ (l : Mark). l.1 ≡ not (g l.0)) ls
     all-same [] same all = tt
     all-same (l ∷ ls) same all = (all.0 ∙ ap not (same l.0), all-same ls same all.1)
@@ -164,6 +167,7 @@ exact-end seen last keys routes exact = record {
     or-false : (b : Bool) → (b || false) ≡ b
     or-false true = refl
     or-false false = refl
+
     all-same : (ls : List Mark) → AllByRecursion (λ (l : Mark). l.1 ≡ not (seen l.0 || false)) ls → AllByRecursion (λ (l : Mark). l.1 ≡ not (seen l.0)) ls
     all-same [] all = tt
     all-same (l ∷ ls) all = (all.0 ∙ ap not (or-false (seen l.0)), all-same ls all.1)

@@ -29,10 +29,12 @@ rise a b pair below = at (pair_cmp b pair) refl
   where
     least : pair_cmp a pair ≡ Less → ordering_index (pair_cmp a pair) ≤ ordering_index (pair_cmp b pair)
     least e = omega (arith, ap ordering_index e)
+
     greatest : (r : Ordering) → ordering_index r ≤ 2
     greatest Less = omega arith
     greatest Equal = omega arith
     greatest Greater = omega arith
+
     at : (r : Ordering) → pair_cmp b pair ≡ r → ordering_index (pair_cmp a pair) ≤ ordering_index (pair_cmp b pair)
     at Less e = least (pair_cmp_total.trans a b pair below e)
     at Equal e = least (ap (pair_cmp a) (sym (pair_cmp-IsAntisymmetric b pair e)) ∙ below)

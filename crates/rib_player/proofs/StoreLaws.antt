@@ -273,10 +273,11 @@ pub longest-found : {S : Type 0} (routes : S → stored.Routes (Rc Route Global)
     → stored.IsLongest (routes store) address (option_map (λ b. (b.0, b.1.now)) best) → IsBest all peer address (option_map (λ b. (b.0, b.1.now.value)) best)
 longest-found routes stores all peer address store None found e longest = λ n within.
     sym (get-found routes stores all (pair_of peer n) (Some store) found e) ∙ ap (option_map value_of) (longest n within)
-longest-found routes stores all peer address store (Some best) found e longest =
-    (longest.0,
-    sym (get-found routes stores all (pair_of peer best.0) (Some store) found e) ∙ ap (option_map value_of) longest.1,
-    λ n within there. longest.2 n within (sym (is_some-option_map value_of (finite.get (routes store) n)) ∙ ap is_some (get-found routes stores all (pair_of peer n) (Some store) found e) ∙ there))
+longest-found routes stores all peer address store (Some best) found e longest = (
+  longest.0,
+  sym (get-found routes stores all (pair_of peer best.0) (Some store) found e) ∙ ap (option_map value_of) longest.1,
+  λ n within there. longest.2 n within (sym (is_some-option_map value_of (finite.get (routes store) n)) ∙ ap is_some (get-found routes stores all (pair_of peer n) (Some store) found e) ∙ there),
+)
 
 pub store-some : {S : Type 0} (keys : S → stored.Keys) (stores : Stores S) (peer : Peer) (found : Option (Bor S)) → option_copied found ≡ store_at stores peer → IsHeld keys stores
     → IfSome found (λ store. 0 < set.len (keys store.now))

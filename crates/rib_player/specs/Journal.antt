@@ -15,7 +15,7 @@ use Rattle.rib_player.specs.declared.journal.Step.{Step}
 use Rattle.rib_player.specs.History.{pair_cmp}
 use Rattle.rib_store.specs.Stored.{put, counted}
 use Rattle.rib_player.specs.Tables.{Routes, Pairs, table_after, named_pairs}
-use Rattle.rib_player.specs.Store.{route_in}
+use Rattle.rib_player.specs.Store.{Store, route_in}
 use Rattle.rib_player.specs.Timeline.{Timeline, routed_first}
 
 -- a pair, and the route that it has on the other side of a step
@@ -63,9 +63,13 @@ timeline_of cursor steps routes = record {
   steps = map (λ sides. from_list (pairs_in sides)) steps;
 }
 
+-- no pair stands twice
+abbrev pub AreDistinct : List Side → Type 0
+AreDistinct sides = IsDistinct (eq_by_cmp pair_cmp) (pairs_in sides)
+
 -- no pair stands twice, and each is a key
 pub record IsKept (keys : Pairs) (sides : List Side) : Type 0 where
-  pub distinct : IsDistinct (eq_by_cmp pair_cmp) (pairs_in sides)
+  pub distinct : AreDistinct sides
   pub among_keys : AllByRecursion (λ pair. contains keys pair ≡ true) (pairs_in sides)
 
 -- the steps as the definitions above take them
@@ -138,13 +142,14 @@ pub record IsExact (seen : Pair → Bool) (trail : List (List Mark)) (last : Lis
   pub free : (q : Pair) → seen q ≡ false → named_by last q ≡ false → get routes q ≡ None
 
 -- so for some pairs that were seen
-pub record CanLeave (trail : List (List Mark)) (last : List Mark) (keys : Pairs) (routes : Routes) : Type 0 where
+pub record CanLeave (trail : List (List Mark)) (last : List Mark) (table : Store) : Type 0 where
   pub seen : Pair → Bool
-  pub exact : IsExact seen trail last keys routes
+  pub exact : IsExact seen trail last table.keys table.routes
 
--- no step names a pair twice
-abbrev pub AreDistinct : List (List Side) → Type 0
-AreDistinct steps = AllByRecursion (λ sides. IsDistinct (eq_by_cmp pair_cmp) (pairs_in sides)) steps
+-- for all pairs that were seen: what was exact with the steps ahead is so without them
+abbrev pub LeavesExact : List (List Mark) → List Mark → Store → List Mark → Store → Type 0
+LeavesExact trail last table last' table' =
+    (seen : Pair → Bool) → IsExact seen trail last table.keys table.routes → IsExact seen [] last' table'.keys table'.routes
 
 -- how many pairs a step names, and the count that it keeps
 abbrev pub count_of : Step → ℕ × ℕ
@@ -175,10 +180,10 @@ pub record IsPlayed (keys : Pairs) (routes : Routes) (cursor : ℕ) (steps : Lis
   pub held : AreHeld (routed_first (timeline_of cursor (steps_of steps) routes)) (trail_of steps) keys
 
 -- the steps ahead have made room for a step of these sides, which was crossed
-pub record IsAdvanced (keys : Pairs) (routes : Routes) (cursor : ℕ) (steps : List Step) (sides : List Side) (keys' : Pairs) (routes' : Routes) (steps' : List Step) (entries : List Entry) : Type 0 where
+pub record IsAdvanced (table : Store) (cursor : ℕ) (steps : List Step) (sides : List Side) (table' : Store) (steps' : List Step) (entries : List Entry) : Type 0 where
   pub left : steps' ≡ take cursor steps
-  pub after : routes' ≡ routes_across sides routes
-  pub crossing : sides_of entries ≡ sides_across routes sides
-  pub kept : IsKept keys' (sides_of entries)
-  pub before : AllByRecursion (IsKept keys') (steps_of (take cursor steps))
-  pub held : AreHeld (routed_first (timeline_of cursor (steps_of steps) routes)) (trail_of (take cursor steps) ++ marks_of entries ∷ []) keys'
+  pub after : table'.routes ≡ routes_across sides table.routes
+  pub crossing : sides_of entries ≡ sides_across table.routes sides
+  pub kept : IsKept table'.keys (sides_of entries)
+  pub before : AllByRecursion (IsKept table'.keys) (steps_of (take cursor steps))
+  pub held : AreHeld (routed_first (timeline_of cursor (steps_of steps) table.routes)) (trail_of (take cursor steps) ++ marks_of entries ∷ []) table'.keys

@@ -13,11 +13,10 @@ ghost use Rattle.rib_player.specs.Store.{route_in};
 ghost use Rattle.rib_player.specs.Changes.{noted_effect, decides, found, is_lost, or_absent, effect_of};
 ghost use Rattle.rib_player.specs.Journal.{sides_of, slot_side, AreOrdered, IsStepFor};
 
-use mrt_wire::Peer;
-use mrt_wire::{Event, Item, Route};
 use crate::journal::Entry;
 use crate::pair::Pair;
 use crate::table::{Table, put_slot};
+use mrt_wire::{Event, Item, Peer, Route};
 use rib_store::PrefixStore;
 use std::alloc::{AllocError, Global};
 use std::collections::BTreeMap;

@@ -6,14 +6,14 @@ ghost use Rattle.std.specs.Vec.{vec_capacity};
 ghost use Rattle.std.specs.Ordering.{eq_by_cmp};
 ghost use Rattle.std.specs.FinMap as finite;
 ghost use Rattle.std.specs.FinSet as names;
-ghost use Rattle.rib_store.specs.Stored.{counted};
+ghost use Rattle.rib_store.specs.Stored.{counted, AreAmong};
 ghost use Rattle.rib_player.specs.declared.pair.Pair.{Pair};
 ghost use Rattle.rib_player.specs.History.{pair_cmp};
-ghost use Rattle.rib_player.specs.Journal.{sides_of, pairs_in, sides_at, steps_of, routes_across, sides_across, IsKept, marks_of, trail_of, counts_of, AreCounted, named_by, marked, AreFirst, IsExact, CanLeave, AreDistinct, AreOrdered, IsPlayed, IsAdvanced};
+ghost use Rattle.rib_player.specs.Journal.{sides_of, pairs_in, sides_at, steps_of, routes_across, sides_across, IsKept, marks_of, trail_of, counts_of, AreCounted, named_by, marked, AreFirst, IsExact, CanLeave, LeavesExact, AreDistinct, AreOrdered, IsPlayed, IsAdvanced};
 
-use mrt_wire::{Route};
 use crate::pair::Pair;
 use crate::table::Table;
+use mrt_wire::Route;
 use rib_store::PrefixStore;
 use std::alloc::AllocError;
 use std::rc::Rc;
@@ -71,9 +71,10 @@ pub(crate) fn cross_step<S: PrefixStore<Rc<Route>>>(
     requires within { index < length steps.old }
     requires kept { AllByRecursion (IsKept table.old.keys) (steps_of steps.old) }
     ensures keys { table.new.keys ≡ table.old.keys }
-    ensures routes { table.new.routes ≡ routes_across (sides_at (steps_of steps.old) index) table.old.routes }
-    ensures steps { steps_of steps.new ≡
-        set (steps_of steps.old) index (sides_across table.old.routes (sides_at (steps_of steps.old) index)) }
+    ensures routes { table.new.routes ≡
+        routes_across (sides_at (steps_of steps.old) index) table.old.routes }
+    ensures steps { steps_of steps.new ≡ set (steps_of steps.old) index
+        (sides_across table.old.routes (sides_at (steps_of steps.old) index)) }
     ensures trail { trail_of steps.new ≡ trail_of steps.old }
     ensures counts { counts_of steps.new ≡ counts_of steps.old }
 {
@@ -104,12 +105,11 @@ pub(crate) fn release<S: PrefixStore<Rc<Route>>>(
     gone: &[Entry],
     last: &mut [Entry],
 )
-    requires distinct { IsDistinct (eq_by_cmp pair_cmp) (pairs_in (sides_of gone.now)) }
+    requires distinct { AreDistinct (sides_of gone.now) }
     requires ordered { AreOrdered (sides_of last.old) }
-    requires exact { CanLeave (marks_of gone.now ∷ []) (marks_of last.old) table.old.keys table.old.routes }
-    ensures exact { (seen : Pair → Bool)
-        → IsExact seen (marks_of gone.now ∷ []) (marks_of last.old) table.old.keys table.old.routes
-        → IsExact seen [] (marks_of last.new) table.new.keys table.new.routes }
+    requires exact { CanLeave (marks_of gone.now ∷ []) (marks_of last.old) table.old }
+    ensures exact { LeavesExact (marks_of gone.now ∷ []) (marks_of last.old) table.old
+        (marks_of last.new) table.new }
     ensures routes { table.new.routes ≡ table.old.routes }
     ensures sides { sides_of last.new ≡ sides_of last.old }
 {
@@ -126,8 +126,8 @@ pub(crate) fn make_keys<S: PrefixStore<Rc<Route>>>(
     table: &mut Table<S>,
     entries: &mut [Entry],
 ) -> Result<(), AllocError>
-    requires distinct { IsDistinct (eq_by_cmp pair_cmp) (pairs_in (sides_of entries.old)) }
-    requires free { (q : Pair) → names.contains table.old.keys q ≡ false → finite.get table.old.routes q ≡ None }
+    requires distinct { AreDistinct (sides_of entries.old) }
+    requires free { AreAmong table.old.keys table.old.routes }
     ensures keys { OnOk result ((q : Pair) → names.contains table.new.keys q
         ≡ (names.contains table.old.keys q || named_by (marks_of entries.new) q)) }
     ensures marks { OnOk result (AreFirst (names.contains table.old.keys) (marks_of entries.new)) }
@@ -158,12 +158,11 @@ pub(crate) fn drop_ahead<S: PrefixStore<Rc<Route>>>(
     last: &mut [Entry],
 )
     requires within { index ≤ length steps.old.items }
-    requires distinct { AreDistinct (steps_of steps.old.items) }
+    requires distinct { AllByRecursion AreDistinct (steps_of steps.old.items) }
     requires ordered { AreOrdered (sides_of last.old) }
-    requires exact { CanLeave (trail_of (drop index steps.old.items)) (marks_of last.old) table.old.keys table.old.routes }
-    ensures exact { (seen : Pair → Bool)
-        → IsExact seen (trail_of (drop index steps.old.items)) (marks_of last.old) table.old.keys table.old.routes
-        → IsExact seen [] (marks_of last.new) table.new.keys table.new.routes }
+    requires exact { CanLeave (trail_of (drop index steps.old.items)) (marks_of last.old) table.old }
+    ensures exact { LeavesExact (trail_of (drop index steps.old.items)) (marks_of last.old)
+        table.old (marks_of last.new) table.new }
     ensures routes { table.new.routes ≡ table.old.routes }
     ensures sides { sides_of last.new ≡ sides_of last.old }
     ensures steps { steps.new.items ≡ take index steps.old.items }
@@ -186,8 +185,8 @@ pub(crate) fn advance<S: PrefixStore<Rc<Route>>>(
 ) -> Result<(), AllocError>
     requires played { IsPlayed table.old.keys table.old.routes index steps.old.items }
     requires ordered { AreOrdered (sides_of entries.old) }
-    ensures advanced { OnOk result (IsAdvanced table.old.keys table.old.routes index steps.old.items (sides_of entries.old)
-        table.new.keys table.new.routes steps.new.items entries.new) }
+    ensures advanced { OnOk result (IsAdvanced table.old index steps.old.items
+        (sides_of entries.old) table.new steps.new.items entries.new) }
     ensures keys { OnErr result (table.new.keys ≡ table.old.keys) }
     ensures routes { OnErr result (table.new.routes ≡ table.old.routes) }
     ensures steps { OnErr result (steps.new.items ≡ steps.old.items) }

@@ -1,6 +1,7 @@
 //! Laws of the player's definitions.
 
-ghost use Rattle.std.specs.Prelude.{◌≡◌, ℕ, ◌≤◌, ◌<◌, ◌-◌, ◌++◌, ◌∷◌, [], List, Option, Some, length, take, map, replicate, slice_get};
+ghost use Rattle.std.specs.Prelude.{◌≡◌, ℕ, ◌≤◌, ◌<◌, ◌-◌, ◌++◌, ◌∷◌, ◌||◌, [], List, Option, Some, is_some, length, take, map, replicate, slice_get};
+ghost use Rattle.std.specs.List.{list_any};
 ghost use Rattle.std.specs.Option.{option_map};
 ghost use Rattle.std.specs.Cmp.{IsTotalOrder};
 ghost use Rattle.std.specs.FinMap.{IsAntisymmetric};
@@ -10,7 +11,7 @@ ghost use Rattle.mrt_wire.specs.declared.event.Event.{Event};
 ghost use Rattle.rib_player.specs.declared.pair.Pair.{Pair};
 ghost use Rattle.rib_player.specs.History.{pair_cmp, effect, route_after, route};
 ghost use Rattle.rib_player.specs.Tables.{Routes, table, table_after, is_named, named_pairs};
-ghost use Rattle.rib_player.specs.Timeline.{Timeline, Call, Play, Undo, Redo, StandsFor, fresh, end_of, table_at, current, after_undo, after_redo, after_play, after_call, after_calls, history_after, history_after_calls};
+ghost use Rattle.rib_player.specs.Timeline.{Timeline, wanted, Call, Play, Undo, Redo, StandsFor, fresh, end_of, table_at, current, after_undo, after_redo, after_play, after_call, after_calls, history_after, history_after_calls};
 
 /// The order of pairs is total, and only equal ones tie.
 pub fn pair_order()
@@ -28,6 +29,14 @@ pub fn routes_at_pairs()
     ensures named_pairs { (routes : Routes) (event : Event) (pair : Pair) →
         set.contains (named_pairs routes event) pair
         ≡ is_named (finite.get routes pair) (effect pair event) }
+{}
+
+/// The wanted pairs of a player, which are the keys of its table, are those that have a route at
+/// the cursor or that a kept step names, before it or after it.
+pub fn wanted_pairs()
+    ensures { (t : Timeline) (pair : Pair) → set.contains (wanted t) pair
+        ≡ (is_some (finite.get (current t) pair)
+        || list_any (λ step. set.contains step pair) t.steps) }
 {}
 
 /// The table of a history that goes on by an event is that event applied to its table.

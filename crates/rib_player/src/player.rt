@@ -6,9 +6,9 @@ ghost use Rattle.rib_store.specs.declared.store.TheConstants.{GREATEST_COUNT};
 ghost use Rattle.rib_player.specs.Timeline.{fresh, ahead_of, end_of, current, wanted, named_count, after_play, after_undo, after_redo};
 
 use crate::changes::step_for;
-use mrt_wire::{Event, Route};
 use crate::journal::{Step, advance, cross_step, named_pairs};
 use crate::table::Table;
+use mrt_wire::{Event, Route};
 use rib_store::PrefixStore;
 use std::alloc::{AllocError, Global};
 use std::marker::Model;

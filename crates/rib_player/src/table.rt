@@ -38,7 +38,10 @@ impl<S: PrefixStore<Rc<Route>>> Model for Table<S> {
 
     ghost coded = { coded_store };
 
-    ghost view = { λ a. record { keys = keys_in S.keys a.stores.entries; routes = routes_in S.routes a.stores.entries } };
+    ghost view = { λ a. record {
+      keys = keys_in S.keys a.stores.entries;
+      routes = routes_in S.routes a.stores.entries;
+    } };
 
     ghost invariant = { λ a. IsHeld S.keys a.stores.entries };
 }
@@ -126,12 +129,14 @@ impl<S: PrefixStore<Rc<Route>>> Table<S> {
 
     /// The peer's store, where it has a key.
     pub fn store(&self, peer: &Peer) -> Option<&S>
-        ensures keys { IfSome result (λ store. (n : Network) → set.contains (S.keys store.now) n
-            ≡ set.contains self.now.keys (pair_of peer.now n)) }
-        ensures routes { IfSome result (λ store. (n : Network) → option_map value_of (finite.get (S.routes store.now) n)
+        ensures keys { IfSome result (λ store. (n : Network) →
+            set.contains (S.keys store.now) n ≡ set.contains self.now.keys (pair_of peer.now n)) }
+        ensures routes { IfSome result (λ store. (n : Network) →
+            option_map value_of (finite.get (S.routes store.now) n)
             ≡ finite.get self.now.routes (pair_of peer.now n)) }
         ensures some { IfSome result (λ store. 0 < set.len (S.keys store.now)) }
-        ensures none { IfNone result ((n : Network) → set.contains self.now.keys (pair_of peer.now n) ≡ false) }
+        ensures none { IfNone result ((n : Network) →
+            set.contains self.now.keys (pair_of peer.now n) ≡ false) }
     {
         self.stores.get(peer)
     }
@@ -164,7 +169,8 @@ fn pairs_in<S: PrefixStore<Rc<Route>>>(
     store: &S,
     peer: &Peer,
 ) -> Result<Vec<Pair>, AllocError>
-    ensures { IfOk result (λ pairs. pairs.items ≡ map (λ n. pair_of peer.now n) (finite.keys (S.routes store.now))) }
+    ensures { IfOk result (λ pairs. pairs.items
+        ≡ map (λ n. pair_of peer.now n) (finite.keys (S.routes store.now))) }
 {
     let mut pairs = Vec::new(alloc);
     let mut last = None;

@@ -1,5 +1,5 @@
 use Rattle.std.proofs.Common.{◌≡◌, ◌≤◌, Bool, List, [], ◌∷◌, ◌++◌, length, take, drop, arith, sym, ap, subst, ◌∙◌}
-use Rattle.std.specs.List.{IsDistinct}
+use Rattle.std.specs.List.{AllByRecursion, IsDistinct}
 use Rattle.std.specs.Option.{option_to_list}
 use Rattle.std.specs.Ordering.{eq_by_cmp}
 use Rattle.std.proofs.lemmas.List.{drop-append-le, take-append-le, length_push, map-append}
@@ -25,8 +25,8 @@ trail-split g c =
     ∙ trail-push (drop c.args.index c.pop.new.self.items) c.in-Some.step
     ∙ ap (λ es. trail_of (drop c.args.index c.pop.new.self.items) ++ marks_of es ∷ []) (sym c.deref.ensures.value)
 
-all-distinct : (g : Over) (c : After-deref g) → AreDistinct (steps_of c.pop.new.self.items ++ step_sides c.in-Some.step ∷ [])
-all-distinct g c = subst AreDistinct (ap steps_of (split g c) ∙ map-append step_sides c.pop.new.self.items (c.in-Some.step ∷ [])) c.steps.invariant.distinct
+all-distinct : (g : Over) (c : After-deref g) → AllByRecursion AreDistinct (steps_of c.pop.new.self.items ++ step_sides c.in-Some.step ∷ [])
+all-distinct g c = subst (AllByRecursion AreDistinct) (ap steps_of (split g c) ∙ map-append step_sides c.pop.new.self.items (c.in-Some.step ∷ [])) c.steps.invariant.distinct
 
 before : (g : Over) (c : After-deref g) (seen : Pair → Bool)
     → IsExact seen (trail_of (drop c.args.index c.args.steps.now.items)) (marks_of c.args.last.now) c.args.table.now.keys c.args.table.now.routes

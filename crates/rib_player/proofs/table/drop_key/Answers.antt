@@ -20,17 +20,19 @@ discard-requires-clause-free g c =
 pub returns-in-Some : goal.returns-in-Some
 returns-in-Some g c =
     let found : Some c.in-Some.store.now ≡ store_at c.args.stores.now.entries c.args.pair.now.peer = sym (ap option_copied_mut c.in-Some.is) ∙ c.get_mut.ensures.value in
-    record { left = record {
-      before = c.in-Some.store.now;
-      after = c.discard.new.self;
-      found = found;
-      written = λ p. ap (λ es. store_at es p) (c.get_mut.follows.holds c.discard.new.self).0
-          ∙ store_at-write c.args.stores.now.entries c.args.pair.now.peer c.discard.new.self (ap is_some (sym found)) p;
-      less = c.discard.ensures.keys;
-      same = c.discard.ensures.routes;
-      among = c.key_count.ensures.among;
-      is_empty = ap (λ n. n == 0) c.key_count.ensures.count ∙ counted-zero (set.len (g.S.PrefixStore.keys c.discard.new.self));
-    } }
+    record {
+      left = record {
+        before = c.in-Some.store.now;
+        after = c.discard.new.self;
+        found = found;
+        written = λ p. ap (λ es. store_at es p) (c.get_mut.follows.holds c.discard.new.self).0
+            ∙ store_at-write c.args.stores.now.entries c.args.pair.now.peer c.discard.new.self (ap is_some (sym found)) p;
+        less = c.discard.ensures.keys;
+        same = c.discard.ensures.routes;
+        among = c.key_count.ensures.among;
+        is_empty = ap (λ n. n == 0) c.key_count.ensures.count ∙ counted-zero (set.len (g.S.PrefixStore.keys c.discard.new.self));
+      };
+    }
 
 pub returns : goal.returns
 returns g c =

@@ -13,8 +13,10 @@ use Rattle.rib_player.proofs.player.Player.play.Goals.{After-push_reserved}
 
 pub named_pairs-requires : goal.named_pairs-requires
 named_pairs-requires g c =
-    record { counts = subst (λ s. AreCounted 0 (counts_of s)) (sym c.deref.ensures.value)
-        (counted-left c.self.inside.cursor c.self.inside.steps.items c.advance.new.steps.items (c.in_ok-advance.ensures.advanced.left ∙ ap (take c.self.inside.cursor) c.reserve.ensures.items) c.self.invariant.counts) }
+    record {
+      counts = subst (λ s. AreCounted 0 (counts_of s)) (sym c.deref.ensures.value)
+          (counted-left c.self.inside.cursor c.self.inside.steps.items c.advance.new.steps.items (c.in_ok-advance.ensures.advanced.left ∙ ap (take c.self.inside.cursor) c.reserve.ensures.items) c.self.invariant.counts);
+    }
 
 -- the counts with the new step's
 counts_then : (g : Over) (c : After-push_reserved g) → AreCounted 0 (counts_of (c.advance.new.steps.items ++ record { entries = with_items c.in_ok-entries.entries c.advance.new.entries; named = c.saturating_add-named.result } ∷ []))
@@ -41,8 +43,8 @@ then g c =
     (sides_of c.in_ok-entries.entries.items) c.advance.new.entries (record { entries = with_items c.in_ok-entries.entries c.advance.new.entries; named = c.saturating_add-named.result }) c.args.event.now
     c.self.invariant.journal.within c.in_ok-entries.ensures
     (with_items_is c.in_ok-entries.entries c.advance.new.entries (c.advance.auto.entries ∙ c.as_mut_slice.ensures.len))
-    (subst (λ es. IsAdvanced c.self.inside.table.keys c.self.inside.table.routes c.self.inside.cursor c.self.inside.steps.items (sides_of es) c.advance.new.table.keys c.advance.new.table.routes c.advance.new.steps.items c.advance.new.entries) c.as_mut_slice.ensures.value
-    (subst (λ ss. IsAdvanced c.self.inside.table.keys c.self.inside.table.routes c.self.inside.cursor ss (sides_of c.as_mut_slice.result.now) c.advance.new.table.keys c.advance.new.table.routes c.advance.new.steps.items c.advance.new.entries) c.reserve.ensures.items
+    (subst (λ es. IsAdvanced c.self.inside.table c.self.inside.cursor c.self.inside.steps.items (sides_of es) c.advance.new.table c.advance.new.steps.items c.advance.new.entries) c.as_mut_slice.ensures.value
+    (subst (λ ss. IsAdvanced c.self.inside.table c.self.inside.cursor ss (sides_of c.as_mut_slice.result.now) c.advance.new.table c.advance.new.steps.items c.advance.new.entries) c.reserve.ensures.items
     c.in_ok-advance.ensures.advanced))
     (counts_then g c))
 

@@ -48,8 +48,8 @@ invariant_of-self g c =
     record {
       journal =
           journal-sides_across c.self.inside.table.keys c.cross_step.new.table.keys (steps_of c.self.inside.steps.items) _ c.self.inside.table.routes c.self.inside.cursor (c.self.inside.cursor + 1)
-              step (omega (arith, step)) c.self.invariant.journal.kept c.cross_step.ensures.keys
-              (steps_left g (goal.at.invariant_of-self g c).After-cross_step);
+          step (omega (arith, step)) c.self.invariant.journal.kept c.cross_step.ensures.keys
+          (steps_left g (goal.at.invariant_of-self g c).After-cross_step);
       counts = counts_then g (goal.at.invariant_of-self g c).After-cross_step;
       held = held_then g (goal.at.invariant_of-self g c).After-cross_step;
     }
