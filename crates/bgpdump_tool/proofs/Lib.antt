@@ -2,15 +2,3 @@ pub mod LineLaws
 pub mod EndLaws
 pub mod RunLaws
 pub mod WritingLaws
-pub mod PairLaws
-pub mod TableLaws
-pub mod HistoryLaws
-pub mod AlongHistory
-pub mod TimelineLaws
-pub mod BackAndForth
-pub mod StoreLaws
-pub mod PeerPairs
-pub mod JournalLaws
-pub mod CursorLaws
-pub mod ChangesLaws
-pub mod EntryLaws

@@ -6,10 +6,3 @@ pub mod Ending
 pub mod Writing
 pub mod Going
 pub mod Status
-pub mod History
-pub mod Tables
-pub mod Codes
-pub mod Store
-pub mod Timeline
-pub mod Changes
-pub mod Journal

@@ -3,15 +3,12 @@
 ghost use Rattle.std.specs.Prelude.{◌≡◌, ◌^◌, [], ◌∷◌, codes};
 ghost use Rattle.bgpdump_tool.specs.declared.dump.TheConstants.{LIMIT};
 ghost use Rattle.bgpdump_tool.specs.declared.lines.TheConstants.{MICROS_DIGITS};
-ghost use Rattle.bgpdump_tool.specs.declared.player.changes.TheConstants.{ESTABLISHED};
 ghost use Rattle.bgpdump_tool.specs.Lines.{bar, line_feed, dot, zero_digit, space};
 
-/// The numbers that the definitions name: how many octets a run takes at most, how many digits
-/// microseconds have at least, and the state Established (RFC 6396, section 4.4.1); and the marks
-/// of lines.
+/// The numbers that the definitions name: how many octets a run takes at most, and how many digits
+/// microseconds have at least; and the marks of lines.
 pub fn run_numbers()
     ensures limit { LIMIT ≡ 2 ^ 40 }
     ensures micros { MICROS_DIGITS ≡ 6 }
-    ensures established { ESTABLISHED ≡ 6 }
     ensures marks { bar ∷ line_feed ∷ dot ∷ zero_digit ∷ space ∷ [] ≡ codes "|\n.0 " }
 {}

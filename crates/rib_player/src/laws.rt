@@ -9,9 +9,15 @@ ghost use Rattle.std.specs.FinMap as finite;
 ghost use Rattle.std.specs.FinSet as set;
 ghost use Rattle.mrt_wire.specs.declared.event.Event.{Event};
 ghost use Rattle.rib_player.specs.declared.pair.Pair.{Pair};
+ghost use Rattle.rib_player.specs.declared.changes.TheConstants.{ESTABLISHED};
 ghost use Rattle.rib_player.specs.History.{pair_cmp, effect, route_after, route};
 ghost use Rattle.rib_player.specs.Tables.{Routes, table, table_after, is_named, named_pairs};
 ghost use Rattle.rib_player.specs.Timeline.{Timeline, wanted, Call, Play, Undo, Redo, StandsFor, fresh, end_of, table_at, current, after_undo, after_redo, after_play, after_call, after_calls, history_after, history_after_calls};
+
+/// The number that the definitions name: the state Established (RFC 6396, section 4.4.1).
+pub fn state_numbers()
+    ensures established { ESTABLISHED ≡ 6 }
+{}
 
 /// The order of pairs is total, and only equal ones tie.
 pub fn pair_order()

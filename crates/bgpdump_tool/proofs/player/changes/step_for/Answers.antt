@@ -1,7 +1,0 @@
-use Rattle.bgpdump_tool.proofs.EntryLaws.{IsStepFor-answered}
-use Rattle.bgpdump_tool.proofs.player.changes.step_for.Goals as goal
-
-pub returns : goal.returns
-returns c =
-    IsStepFor-answered c.args.table.now.routes c.args.event.now c.in_ok-changes.changes c.in_ok-routes.routes.entries c.entries_of.result
-    c.in_ok-changes.ensures c.in_ok-routes.ensures c.entries_of.ensures.keys c.entries_of.ensures.distinct c.entries_of.ensures.sides
