@@ -1,0 +1,111 @@
+//! What the calls of a store answer, and that memory is there for them.
+
+mod generated;
+mod listed;
+mod lookups;
+mod walks;
+
+use crate::{MapStore, PrefixStore};
+use ip_prefix::Prefix;
+use std::process::Abort;
+use std::test::Fail;
+
+/// The prefix that the text spells.
+fn prefix_of(text: &str) -> Result<Prefix, Fail> {
+    Ok(Prefix::parse(text.as_bytes()).ok_or("a prefix")?)
+}
+
+/// Exchanges the route of a key, and asserts which one it had.
+fn assert_had<S: PrefixStore<u32>>(
+    rt: &impl Abort,
+    store: &mut S,
+    prefix: &Prefix,
+    route: Option<u32>,
+    had: Option<u32>,
+) {
+    let mut given = route;
+    assert!(rt; store.has_key(prefix));
+    store.exchange(prefix, &mut given);
+    assert_eq!(rt; given, had);
+    assert_eq!(rt; store.get(prefix).copied(), route);
+}
+
+/// Makes the prefix a key with this route, where it was none.
+fn add<S: PrefixStore<u32>>(
+    rt: &impl Abort,
+    store: &mut S,
+    prefix: &Prefix,
+    route: Option<u32>,
+) -> Result<(), Fail> {
+    assert!(rt; store.ensure(*prefix)?);
+    assert_had(rt, store, prefix, route, None);
+    Ok(())
+}
+
+/// Discards a key that has no route.
+fn take_away<S: PrefixStore<u32>>(rt: &impl Abort, store: &mut S, prefix: &Prefix) {
+    assert!(rt; store.has_key(prefix));
+    assert!(rt; store.get(prefix).is_none());
+    store.discard(prefix);
+    assert!(rt; !store.has_key(prefix));
+}
+
+/// Asserts how many keys and how many routes there are.
+fn assert_counts<S: PrefixStore<u32>>(rt: &impl Abort, store: &S, keys: u64, routes: u64) {
+    assert_eq!(rt; store.key_count(), keys);
+    assert_eq!(rt; store.route_count(), routes);
+}
+
+#[test]
+fn keys_come_and_go(rt: HostRuntime) -> Result<(), Fail> {
+    let mut store = MapStore::new(rt.alloc());
+    let prefix = prefix_of("10.0.0.0/8")?;
+    assert_counts(&rt, &store, 0, 0);
+    assert!(rt; store.ensure(prefix)?);
+    assert!(rt; !store.ensure(prefix)?);
+    assert_counts(&rt, &store, 1, 0);
+    take_away(&rt, &mut store, &prefix);
+    assert_counts(&rt, &store, 0, 0);
+    assert!(rt; store.ensure(prefix)?);
+    Ok(())
+}
+
+#[test]
+fn routes_change_places(rt: HostRuntime) -> Result<(), Fail> {
+    let mut store = MapStore::new(rt.alloc());
+    let prefix = prefix_of("192.0.2.0/24")?;
+    add(&rt, &mut store, &prefix_of("192.0.2.0/25")?, Some(9))?;
+    assert!(rt; store.ensure(prefix)?);
+    for (route, had, routes) in [
+        (None, None, 1),
+        (Some(1), None, 2),
+        (Some(2), Some(1), 2),
+        (None, Some(2), 1),
+        (None, None, 1),
+        (Some(3), None, 2),
+    ] {
+        assert_had(&rt, &mut store, &prefix, route, had);
+        assert_counts(&rt, &store, 2, routes);
+    }
+    assert!(rt; !store.ensure(prefix)?);
+    assert_eq!(rt; store.get(&prefix).copied(), Some(3));
+    Ok(())
+}
+
+/// Only where growth is refused does the second key not come to be; then the first stays.
+#[test]
+fn a_refused_key_leaves_the_store(rt: HostRuntime) -> Result<(), Fail> {
+    let mut store = MapStore::new(rt.alloc());
+    let prefix = prefix_of("10.0.0.0/8")?;
+    add(&rt, &mut store, &prefix, Some(1))?;
+    for i in 0..64 {
+        let more = Prefix::new(prefix.addr(), i % 24 + 9).ok_or("a length that fits")?;
+        let before = store.key_count();
+        if store.ensure(more).is_err() {
+            assert!(rt; !store.has_key(&more));
+            assert_counts(&rt, &store, before, 1);
+        }
+        assert_eq!(rt; store.get(&prefix).copied(), Some(1));
+    }
+    Ok(())
+}

@@ -1,0 +1,61 @@
+//! Walks from the least route to the greatest.
+
+use super::{add, prefix_of};
+use crate::{MapStore, PrefixStore};
+use std::test::Fail;
+
+/// Prefixes in order, IPv4 first, a prefix before those that it covers. Those without a route are
+/// left out of a walk.
+const IN_ORDER: [(&str, Option<u32>); 10] = [
+    ("0.0.0.0/0", None),
+    ("10.0.0.0/8", Some(1)),
+    ("10.0.0.0/9", None),
+    ("10.0.0.0/10", Some(2)),
+    ("10.128.0.0/9", Some(3)),
+    ("10.192.0.0/10", None),
+    ("255.255.255.255/32", Some(4)),
+    ("::/0", Some(5)),
+    ("2001:db8::/32", Some(6)),
+    ("ffff:ffff:ffff:ffff:ffff:ffff:ffff:ffff/128", None),
+];
+
+#[test]
+fn walks_in_order(rt: HostRuntime) -> Result<(), Fail> {
+    let mut store = MapStore::new(rt.alloc());
+    for (text, route) in IN_ORDER.iter().rev() {
+        add(&rt, &mut store, &prefix_of(text)?, *route)?;
+    }
+    let mut last = None;
+    for (text, route) in IN_ORDER {
+        let Some(route) = route else {
+            continue;
+        };
+        let prefix = prefix_of(text)?;
+        let found = store.after(last.as_ref()).map(|found| (found.0, *found.1));
+        assert!(rt; found == Some((prefix, route)), "{text}");
+        last = Some(prefix);
+    }
+    assert!(rt; store.after(last.as_ref()).is_none());
+    Ok(())
+}
+
+#[test]
+fn starts_anywhere(rt: HostRuntime) -> Result<(), Fail> {
+    let mut store = MapStore::new(rt.alloc());
+    for (text, route) in IN_ORDER {
+        add(&rt, &mut store, &prefix_of(text)?, route)?;
+    }
+    for (text, want) in [
+        ("0.0.0.0/0", Some(1)),
+        ("10.0.0.0/9", Some(2)),
+        ("10.64.0.0/10", Some(3)),
+        ("192.0.2.0/24", Some(4)),
+        ("::/0", Some(6)),
+        ("2001:db8::/31", Some(6)),
+        ("2001:db8::/33", None),
+    ] {
+        let found = store.after(Some(&prefix_of(text)?)).map(|found| *found.1);
+        assert_eq!(rt; found, want, "{text}");
+    }
+    Ok(())
+}
