@@ -108,7 +108,7 @@ fn routes_change_places(rt: HostRuntime) -> Result<(), Fail> {
     Ok(())
 }
 
-/// Only where growth is refused does the second key not come to be; then the first stays.
+/// Where a growth is refused, as by `rt try --test --fail-alloc`, keys and routes stay.
 #[test]
 fn a_refused_key_leaves_the_store(rt: HostRuntime) -> Result<(), Fail> {
     let mut store = MapStore::new(rt.alloc());
