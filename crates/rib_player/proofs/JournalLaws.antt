@@ -9,6 +9,7 @@ use Rattle.std.specs.FinSet.{contains-from_list, contains-insert}
 use Rattle.std.proofs.lemmas.Bool.{or_parts}
 use Rattle.std.proofs.lemmas.List.{drop-drop, drop_more, take_more_set, map-append, map_more}
 use Rattle.std.proofs.lemmas.Map.Keys.{IsDistinct-head, IsDistinct-tail}
+use Rattle.rib_store.proofs.PutLaws.{get-put}
 use Rattle.rib_player.specs.declared.pair.Pair.{Pair}
 use Rattle.mrt_wire.specs.declared.event.Route.{Route}
 use Rattle.mrt_wire.specs.declared.event.Event.{Event}
@@ -19,14 +20,14 @@ use Rattle.rib_player.specs.Tables.{Routes, Pairs, table_after, is_named}
 use Rattle.rib_player.specs.Store.{route_in}
 use Rattle.rib_player.specs.Journal.{Side, side_of, sides_of, pairs_in, routes_across, sides_across, IsKept, IsStepFor}
 use Rattle.rib_player.proofs.PairLaws.{pair_cmp_total, same_pair}
-use Rattle.rib_player.proofs.TableLaws.{same_routes, get-put, get-table_after, contains-named_pairs}
+use Rattle.rib_player.proofs.TableLaws.{same_routes, get-table_after, contains-named_pairs}
 use Rattle.ip_prefix.proofs.Lists.{AllByRecursion-push, AllByRecursion-weaker}
 use Rattle.ip_prefix.proofs.Booleans.{cond-cond, cond_untested}
 
 -- a put at another pair leaves the route
 get-put_elsewhere : (routes : Routes) (pair q : Pair) (new : Option Route) → eq_by_cmp pair_cmp pair q ≡ false → finite.get (put routes pair new) q ≡ finite.get routes q
 get-put_elsewhere routes pair q new apart =
-    get-put routes pair new q
+    get-put pair_cmp_total routes pair new q
     ∙ ap (λ b. cond b new (finite.get routes q)) ((eq_by_cmp_equiv pair_cmp_total).symm q pair ∙ apart)
 
 -- a put at another pair leaves the routes that crossing takes up
@@ -88,7 +89,7 @@ pub get-restored_crossed : (routes before : Routes) (sides : List Side) (q : Pai
 get-restored_crossed routes before [] q = refl
 get-restored_crossed routes before (side ∷ sides) q =
     get-restored_crossed routes (put before side.0 (finite.get routes side.0)) sides q
-    ∙ ap (cond (list_any (eq_by_cmp pair_cmp q) (pairs_in sides)) (finite.get routes q)) (get-put before side.0 (finite.get routes side.0) q)
+    ∙ ap (cond (list_any (eq_by_cmp pair_cmp q) (pairs_in sides)) (finite.get routes q)) (get-put pair_cmp_total before side.0 (finite.get routes side.0) q)
     ∙ cond-cond (eq_by_cmp pair_cmp q side.0) (list_any (eq_by_cmp pair_cmp q) (pairs_in sides)) (finite.get routes q) (finite.get routes side.0) (finite.get before q)
     (λ e. ap (finite.get routes) (sym (same_pair q side.0 e)))
 
@@ -99,7 +100,7 @@ get-restored_elsewhere [] routes q out = refl
 get-restored_elsewhere (side ∷ sides) routes q out =
     let apart = or_parts (eq_by_cmp pair_cmp q side.0) (list_any (eq_by_cmp pair_cmp q) (pairs_in sides)) out in
     get-restored_elsewhere sides (put routes side.0 side.1) q apart.1
-    ∙ get-put routes side.0 side.1 q ∙ ap (λ b. cond b side.1 (finite.get routes q)) apart.0
+    ∙ get-put pair_cmp_total routes side.0 side.1 q ∙ ap (λ b. cond b side.1 (finite.get routes q)) apart.0
 
 -- a step that is crossed and crossed back gives back the table
 pub routes_across-sides_across : (sides : List Side) (routes : Routes) → routes_across (sides_across routes sides) (routes_across sides routes) ≡ routes

@@ -22,7 +22,7 @@ use Rattle.ip_prefix.proofs.Options.{is_some-option_map}
 use Rattle.ip_prefix.specs.Order.{network_cmp}
 use Rattle.ip_prefix.specs.OrderLaws.{network_cmp_total}
 use Rattle.rib_store.specs.Stored as stored
-use Rattle.rib_store.proofs.SlotLaws.{get-put as get-put_stored}
+use Rattle.rib_store.proofs.PutLaws.{get-put}
 use Rattle.mrt_wire.specs.declared.peer.Peer.{Peer}
 use Rattle.rib_player.specs.declared.pair.Pair.{Pair}
 use Rattle.mrt_wire.specs.declared.event.Route.{Route}
@@ -34,7 +34,7 @@ use Rattle.rib_player.specs.Store.{Stores, store_at, has_key, stored_route, valu
 use Rattle.ip_prefix.proofs.Booleans.{cond_untested}
 use Rattle.mrt_wire.proofs.PeerLaws.{peer_cmp_total, peer_cmp-IsAntisymmetric}
 use Rattle.rib_player.proofs.PairLaws.{pair_cmp_total, pair_cmp-IsAntisymmetric, same_pair}
-use Rattle.rib_player.proofs.TableLaws.{same_routes, get-put, get-tabulation}
+use Rattle.rib_player.proofs.TableLaws.{same_routes, get-tabulation}
 
 abbrev pub same_peer : Peer → Peer → Bool
 same_peer = eq_by_cmp peer_cmp
@@ -205,7 +205,7 @@ module _ {S : Type 0} (routes : S → stored.Routes (Rc Route Global)) where
       routes_in-other old new peer w q same
       ∙ at q (same_peer q.peer peer) refl
       ∙ ap (λ b. cond b route (finite.get (routes_in routes old) q)) (sym (tied_parts q peer n))
-      ∙ sym (get-put (routes_in routes old) (pair_of peer n) route q))
+      ∙ sym (get-put pair_cmp_total (routes_in routes old) (pair_of peer n) route q))
     where
       at : (q : Pair) (a : Bool) → same_peer q.peer peer ≡ a → cond a (stored_route routes w q.prefix) (finite.get (routes_in routes old) q) ≡ cond (a && same_network q.prefix n) route (finite.get (routes_in routes old) q)
       at q true e = is q.prefix ∙ ap (cond (same_network q.prefix n) route) (ap (λ p. stored_route routes (store_at old p) q.prefix) (sym (one_peer q.peer peer e)) ∙ sym (get-routes_in old q))
@@ -300,7 +300,7 @@ pub stored-put : (old new : stored.Routes (Rc Route Global)) (n : Network) (rout
     → (x : Network) → option_map value_of (finite.get new x) ≡ cond (same_network x n) (route_in route) (option_map value_of (finite.get old x))
 stored-put old new n route e x =
     ap (λ r. option_map value_of (finite.get r x)) e
-    ∙ ap (option_map value_of) (get-put_stored old n route x)
+    ∙ ap (option_map value_of) (get-put network_cmp_total old n route x)
     ∙ at (same_network x n)
   where
     at : (b : Bool) → option_map value_of (cond b route (finite.get old x)) ≡ cond b (route_in route) (option_map value_of (finite.get old x))

@@ -2,19 +2,19 @@
 use Rattle.std.proofs.Common.{◌≡◌, Bool, true, false, cond, ◌&&◌, ◌||◌, List, [], ◌∷◌, map, Option, Some, None, is_some, refl, sym, ap, ◌∙◌}
 use Rattle.std.specs.List.{flat_map, filter, list_any}
 use Rattle.std.specs.Ordering.{eq_by_cmp}
-use Rattle.std.specs.FinMap.{get, keys, get-empty, get-insert, get-remove, same_map, contains_key-keys}
+use Rattle.std.specs.FinMap.{get, keys, get-empty, same_map, contains_key-keys}
 use Rattle.std.specs.FinSet.{contains, contains-from_list}
 use Rattle.std.proofs.Math.Bool.{and-true}
 use Rattle.std.proofs.lemmas.Bool.{or_parts}
 use Rattle.std.proofs.lemmas.List.Folds.{list_any-append}
 use Rattle.std.proofs.lemmas.Map.Views.{any-filter_same}
+use Rattle.rib_store.proofs.PutLaws.{get-put}
 use Rattle.rib_player.specs.declared.pair.Pair.{Pair}
 use Rattle.mrt_wire.specs.declared.event.Route.{Route}
 use Rattle.mrt_wire.specs.Event.{Saying, Announced, Withdrawn, Changed}
 use Rattle.mrt_wire.specs.declared.event.Event.{Event}
 use Rattle.mrt_wire.specs.Peer.{peer_cmp}
 use Rattle.rib_player.specs.History.{pair_cmp, pair_of, Effect, Keep, Clear, Set, where_true, is_loss, item_effect, later, last_effect, effect, route_after, route}
-use Rattle.rib_store.specs.Stored.{put}
 use Rattle.rib_player.specs.Tables.{Routes, tabulation, pairs_announced_by, announced_pairs, table, concerned_pairs, table_after, is_named, named_pairs}
 use Rattle.rib_player.proofs.PairLaws.{pair_cmp_total, pair_cmp-IsAntisymmetric, same_pair}
 use Rattle.ip_prefix.proofs.Booleans.{cond_or, cond_untested}
@@ -27,16 +27,11 @@ among q pairs = list_any (eq_by_cmp pair_cmp q) pairs
 pub same_routes : (a b : Routes) → ((q : Pair) → get a q ≡ get b q) → a ≡ b
 same_routes a b same = same_map pair_cmp_total pair_cmp-IsAntisymmetric a b same
 
--- a put gives its pair the new route, or none, and leaves the others
-pub get-put : (routes : Routes) (pair : Pair) (new : Option Route) (q : Pair) → get (put routes pair new) q ≡ cond (eq_by_cmp pair_cmp q pair) new (get routes q)
-get-put routes pair None q = get-remove pair_cmp_total routes pair q
-get-put routes pair (Some new) q = get-insert pair_cmp_total routes pair new q
-
 -- a tabulated function has its value at the listed pairs, and nothing elsewhere
 pub get-tabulation : (f : Pair → Option Route) (pairs : List Pair) (q : Pair) → get (tabulation f pairs) q ≡ cond (list_any (eq_by_cmp pair_cmp q) pairs) (f q) None
 get-tabulation f [] q = get-empty pair_cmp q
 get-tabulation f (pair ∷ pairs) q =
-    get-put (tabulation f pairs) pair (f pair) q
+    get-put pair_cmp_total (tabulation f pairs) pair (f pair) q
     ∙ cond_or (eq_by_cmp pair_cmp q pair) (among q pairs) (f pair) (f q) _ None (λ e. ap f (sym (same_pair q pair e))) (get-tabulation f pairs q)
 
 -- an effect and then a later one are the later of the two

@@ -1,12 +1,18 @@
 //! Laws of what a store holds and answers.
 
-ghost use Rattle.std.specs.Prelude.{◌≡◌, ◌≢◌, ◌∷◌, [], Option, Some, None, slice_get};
+ghost use Rattle.std.specs.Prelude.{◌≡◌, ◌≢◌, ◌+◌, ◌^◌, ◌∷◌, [], Option, Some, None, slice_get};
 ghost use Rattle.std.specs.FinMap as finite;
 ghost use Rattle.std.specs.List.Sorted.{IsStrictlySortedBy};
 ghost use Rattle.ip_prefix.specs.Address.{Address};
 ghost use Rattle.ip_prefix.specs.Network.{Network};
 ghost use Rattle.ip_prefix.specs.Order.{network_cmp};
+ghost use Rattle.rib_store.specs.declared.store.TheConstants.{GREATEST_COUNT};
 ghost use Rattle.rib_store.specs.Stored.{Routes, put, IsLongest, above};
+
+/// The number that the definitions name: where counts stop, `u64::MAX`.
+pub fn count_numbers()
+    ensures { GREATEST_COUNT + 1 ≡ 2 ^ 64 }
+{}
 
 /// What is put at a prefix is there, and the routes at other prefixes stay.
 pub fn put_route<R>()

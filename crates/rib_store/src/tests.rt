@@ -6,13 +6,29 @@ mod lookups;
 mod walks;
 
 use crate::{MapStore, PrefixStore};
-use ip_prefix::Prefix;
+use ip_prefix::{Addr, Prefix};
 use std::process::Abort;
 use std::test::Fail;
 
 /// The prefix that the text spells.
 fn prefix_of(text: &str) -> Result<Prefix, Fail> {
     Ok(Prefix::parse(text.as_bytes()).ok_or("a prefix")?)
+}
+
+/// The longest prefix with a route that contains the address, and a copy of its route.
+fn longest<S: PrefixStore<u32>>(store: &S, addr: &Addr) -> Option<(Prefix, u32)> {
+    match store.longest(addr) {
+        Some(found) => Some((found.0, *found.1)),
+        None => None,
+    }
+}
+
+/// The least prefix with a route above the other, and a copy of its route.
+fn after<S: PrefixStore<u32>>(store: &S, low: Option<&Prefix>) -> Option<(Prefix, u32)> {
+    match store.after(low) {
+        Some(found) => Some((found.0, *found.1)),
+        None => None,
+    }
 }
 
 /// Exchanges the route of a key, and asserts which one it had.
@@ -92,7 +108,7 @@ fn routes_change_places(rt: HostRuntime) -> Result<(), Fail> {
     Ok(())
 }
 
-/// Only where growth is refused does the second key not come to be; then the first stays.
+/// Where a growth is refused, as by `rt try --test --fail-alloc`, keys and routes stay.
 #[test]
 fn a_refused_key_leaves_the_store(rt: HostRuntime) -> Result<(), Fail> {
     let mut store = MapStore::new(rt.alloc());

@@ -1,6 +1,7 @@
 //! Generated calls of all kinds, which a store and a slow one answer alike.
 
 use super::listed::Listed;
+use super::{after, longest};
 use crate::{MapStore, PrefixStore};
 use ip_prefix::{Addr, Prefix};
 use std::process::Abort;
@@ -104,12 +105,9 @@ fn compare<S: PrefixStore<u32>>(
 ) {
     assert_eq!(rt; store.has_key(prefix), listed.has_key(prefix));
     assert_eq!(rt; store.get(prefix).copied(), listed.get(prefix));
-    let longest = store.longest(addr).map(|found| (found.0, *found.1));
-    assert!(rt; longest == listed.longest(addr));
-    let after = store.after(Some(prefix)).map(|found| (found.0, *found.1));
-    assert!(rt; after == listed.after(Some(*prefix)));
-    let least = store.after(None).map(|found| (found.0, *found.1));
-    assert!(rt; least == listed.after(None));
+    assert!(rt; longest(store, addr) == listed.longest(addr));
+    assert!(rt; after(store, Some(prefix)) == listed.after(Some(prefix)));
+    assert!(rt; after(store, None) == listed.after(None));
     assert_eq!(rt; store.key_count(), listed.key_count());
     assert_eq!(rt; store.route_count(), listed.route_count());
 }

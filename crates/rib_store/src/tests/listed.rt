@@ -9,12 +9,30 @@ pub(super) struct Listed {
     slots: Vec<(Prefix, Option<u32>)>,
 }
 
-/// The better of two prefixes with their routes by a test of the prefixes.
-fn better(old: Option<(Prefix, u32)>, new: (Prefix, u32), beats: bool) -> Option<(Prefix, u32)> {
-    if old.is_none() || beats {
-        Some(new)
-    } else {
-        old
+/// A prefix and its route.
+type Found = (Prefix, u32);
+
+/// The new prefix, unless the old one is longer.
+fn longer(old: Option<Found>, new: Found) -> Option<Found> {
+    match old {
+        Some(old) if old.0.len() > new.0.len() => Some(old),
+        _ => Some(new),
+    }
+}
+
+/// The new prefix, unless the old one is below it.
+fn lesser(old: Option<Found>, new: Found) -> Option<Found> {
+    match old {
+        Some(old) if old.0 < new.0 => Some(old),
+        _ => Some(new),
+    }
+}
+
+/// Whether the prefix is above the other, where there is one.
+fn is_above(low: Option<&Prefix>, prefix: &Prefix) -> bool {
+    match low {
+        Some(low) => low < prefix,
+        None => true,
     }
 }
 
@@ -61,26 +79,24 @@ impl Listed {
         self.slots.retain(|slot| slot.0 != *prefix);
     }
 
-    pub(super) fn longest(&self, addr: &Addr) -> Option<(Prefix, u32)> {
-        let mut found: Option<(Prefix, u32)> = None;
-        for (prefix, slot) in &self.slots {
-            if let Some(route) = slot {
-                if prefix.contains(addr) {
-                    let beats = found.is_some_and(|old| old.0.len() < prefix.len());
-                    found = better(found, (*prefix, *route), beats);
+    pub(super) fn longest(&self, addr: &Addr) -> Option<Found> {
+        let mut found = None;
+        for slot in &self.slots {
+            if let Some(route) = slot.1 {
+                if slot.0.contains(addr) {
+                    found = longer(found, (slot.0, route));
                 }
             }
         }
         found
     }
 
-    pub(super) fn after(&self, low: Option<Prefix>) -> Option<(Prefix, u32)> {
-        let mut found: Option<(Prefix, u32)> = None;
-        for (prefix, slot) in &self.slots {
-            if let Some(route) = slot {
-                if low.is_none_or(|low| low < *prefix) {
-                    let beats = found.is_some_and(|old| *prefix < old.0);
-                    found = better(found, (*prefix, *route), beats);
+    pub(super) fn after(&self, low: Option<&Prefix>) -> Option<Found> {
+        let mut found = None;
+        for slot in &self.slots {
+            if let Some(route) = slot.1 {
+                if is_above(low, &slot.0) {
+                    found = lesser(found, (slot.0, route));
                 }
             }
         }

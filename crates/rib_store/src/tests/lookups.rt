@@ -1,6 +1,6 @@
 //! The longest prefix with a route.
 
-use super::{add, assert_counts, assert_had, prefix_of};
+use super::{add, assert_counts, assert_had, longest, prefix_of};
 use crate::{MapStore, PrefixStore};
 use ip_prefix::{Addr, Prefix};
 use std::process::Abort;
@@ -16,7 +16,7 @@ fn assert_longest<S: PrefixStore<u32>>(
     addr: &Addr,
     want: Option<(Prefix, u32)>,
 ) {
-    assert!(rt; store.longest(addr).map(|found| (found.0, *found.1)) == want);
+    assert!(rt; longest(store, addr) == want);
 }
 
 /// Adds all prefixes of an address, each with its length as its route.

@@ -1,6 +1,6 @@
 //! Walks from the least route to the greatest.
 
-use super::{add, prefix_of};
+use super::{add, after, prefix_of};
 use crate::{MapStore, PrefixStore};
 use std::test::Fail;
 
@@ -31,11 +31,11 @@ fn walks_in_order(rt: HostRuntime) -> Result<(), Fail> {
             continue;
         };
         let prefix = prefix_of(text)?;
-        let found = store.after(last.as_ref()).map(|found| (found.0, *found.1));
+        let found = after(&store, last.as_ref());
         assert!(rt; found == Some((prefix, route)), "{text}");
         last = Some(prefix);
     }
-    assert!(rt; store.after(last.as_ref()).is_none());
+    assert!(rt; after(&store, last.as_ref()).is_none());
     Ok(())
 }
 
@@ -45,17 +45,19 @@ fn starts_anywhere(rt: HostRuntime) -> Result<(), Fail> {
     for (text, route) in IN_ORDER {
         add(&rt, &mut store, &prefix_of(text)?, route)?;
     }
-    for (text, want) in [
-        ("0.0.0.0/0", Some(1)),
-        ("10.0.0.0/9", Some(2)),
-        ("10.64.0.0/10", Some(3)),
-        ("192.0.2.0/24", Some(4)),
-        ("::/0", Some(6)),
-        ("2001:db8::/31", Some(6)),
-        ("2001:db8::/33", None),
+    for (low, text, route) in [
+        ("0.0.0.0/0", "10.0.0.0/8", 1),
+        ("10.0.0.0/9", "10.0.0.0/10", 2),
+        ("10.64.0.0/10", "10.128.0.0/9", 3),
+        ("192.0.2.0/24", "255.255.255.255/32", 4),
+        ("::/0", "2001:db8::/32", 6),
+        ("2001:db8::/31", "2001:db8::/32", 6),
     ] {
-        let found = store.after(Some(&prefix_of(text)?)).map(|found| *found.1);
-        assert_eq!(rt; found, want, "{text}");
+        let low = prefix_of(low)?;
+        let want = Some((prefix_of(text)?, route));
+        assert!(rt; after(&store, Some(&low)) == want, "{text}");
     }
+    let low = prefix_of("2001:db8::/33")?;
+    assert!(rt; after(&store, Some(&low)).is_none());
     Ok(())
 }
