@@ -1,17 +1,16 @@
 -- A player's timeline, and what a step that is crossed, or put behind the cursor, makes of it.
-use Rattle.std.proofs.Common.{◌≡◌, ℕ, ◌+◌, ◌-◌, ◌<◌, ◌≤◌, true, cond, List, [], ◌∷◌, ◌++◌, map, length, take, drop, set, reverse, arith, refl, sym, ap, subst, ◌∙◌, append_assoc}
+use Rattle.std.proofs.Common.{◌≡◌, ℕ, ◌+◌, ◌-◌, ◌<◌, ◌≤◌, cond, List, [], ◌∷◌, ◌++◌, map, length, take, drop, set, reverse, arith, refl, sym, ap, subst, ◌∙◌, append_assoc}
 use Rattle.std.specs.List.{AllByRecursion}
 use Rattle.std.specs.FinMap as finite
 use Rattle.std.specs.FinSet as names
-use Rattle.std.proofs.lemmas.List.{take-set, drop-set, take_more, take_more_set, drop_more, drop-set-lt, reverse-append, length-reverse, length-take-le, length_push, get_or_at, map-set, set-get_or, get_or-map, take_at, drop_all, length-map, length-set, set_at, take_all, take-map, map-append}
+use Rattle.std.proofs.lemmas.List.{take-set, drop-set, take_more, take_more_set, drop_more, drop-set-lt, reverse-append, length-reverse, length-take-le, length_push, get_or_at, map-set, set-get_or, get_or-map, take_at, drop_all, length-map, length-set, take_all, take-map, map-append}
 use Rattle.std.proofs.lemmas.Bool.{lt-ltb}
-use Rattle.rib_player.specs.declared.pair.Pair.{Pair}
 use Rattle.mrt_wire.specs.declared.event.Event.{Event}
 use Rattle.rib_player.specs.Tables.{Routes, Pairs, table_after, named_pairs}
 use Rattle.rib_player.specs.Timeline.{Timeline, current, after_undo, after_redo, after_play}
 use Rattle.rib_player.specs.Journal.{Side, pairs_in, sides_at, routes_across, sides_across, tables_before, tables_after, timeline_of, IsKept, IsJournal, IsStepFor}
-use Rattle.rib_player.proofs.JournalLaws.{kept-more, pairs_in-sides_across, kept-sides_across, routes_across-sides_across, routes_across-step}
-use Rattle.ip_prefix.proofs.Lists.{AllByRecursion-get_or, AllByRecursion-set, AllByRecursion-take, AllByRecursion-push}
+use Rattle.rib_player.proofs.JournalLaws.{pairs_in-sides_across, kept-sides_across, routes_across-sides_across, routes_across-step}
+use Rattle.ip_prefix.proofs.Lists.{AllByRecursion-get_or, AllByRecursion-set}
 
 -- one table before each step
 length-tables_before : (steps : List (List Side)) (routes : Routes) → length (tables_before steps routes) ≡ length steps
@@ -143,25 +142,6 @@ added cursor steps sides = take cursor steps ++ sides ∷ []
 
 pub length-added : (cursor : ℕ) (steps : List (List Side)) (sides : List Side) → cursor ≤ length steps → length (added cursor steps sides) ≡ cursor + 1
 length-added cursor steps sides within = length_push (take cursor steps) sides ∙ ap (λ n. n + 1) (length-take-le cursor steps within)
-
--- is the step at the cursor
-pub sides-added : (cursor : ℕ) (steps : List (List Side)) (sides : List Side) → cursor ≤ length steps → sides_at (added cursor steps sides) cursor ≡ sides
-sides-added cursor steps sides within = get_or_at (take cursor steps) sides [] [] cursor (length-take-le cursor steps within)
-
--- and crossed it is still that
-pub sides_across-added : (cursor : ℕ) (steps : List (List Side)) (sides : List Side) (routes : Routes) → cursor ≤ length steps
-    → set (added cursor steps sides) cursor (sides_across routes (sides_at (added cursor steps sides) cursor)) ≡ added cursor steps (sides_across routes sides)
-sides_across-added cursor steps sides routes within =
-    ap (λ s. set (added cursor steps sides) cursor (sides_across routes s)) (sides-added cursor steps sides within)
-    ∙ set_at (take cursor steps) sides [] (sides_across routes sides) cursor (length-take-le cursor steps within)
-
--- it is kept as the steps before it are
-pub journal-added : (keys keys' : Pairs) (cursor : ℕ) (steps : List (List Side)) (sides : List Side) → ((q : Pair) → names.contains keys q ≡ true → names.contains keys' q ≡ true)
-    → IsJournal keys cursor steps → IsKept keys' sides → IsJournal keys' (cursor + 1) (added cursor steps sides)
-journal-added keys keys' cursor steps sides more journal new = record {
-  within = omega (arith, length-added cursor steps sides journal.within);
-  kept = AllByRecursion-push (IsKept keys') (take cursor steps) sides (AllByRecursion-take (IsKept keys') cursor steps (kept-more keys keys' steps more journal.kept)) new;
-}
 
 -- the event's step, put behind the cursor and crossed
 pub timeline-after_play : (cursor : ℕ) (steps : List (List Side)) (sides : List Side) (routes : Routes) (event : Event) → cursor ≤ length steps → IsStepFor routes event sides

@@ -1,13 +1,13 @@
 -- What a step's entries do to a table, and what crossing a step makes of a player.
-use Rattle.std.proofs.Common.{◌≡◌, ℕ, ◌+◌, ◌<◌, Bool, true, false, cond, ◌||◌, List, [], ◌∷◌, ◌++◌, length, get_or, take, drop, set, Option, Some, None, refl, sym, ap, subst, ◌∙◌, append_assoc}
+use Rattle.std.proofs.Common.{◌≡◌, ℕ, ◌+◌, ◌<◌, true, false, cond, List, [], ◌∷◌, ◌++◌, length, get_or, take, drop, set, Option, Some, None, refl, sym, ap, subst, ◌∙◌, append_assoc}
 use Rattle.std.specs.List.{AllByRecursion, list_any, IsDistinct}
-use Rattle.std.specs.Ordering.{eq_by_cmp, is_eq}
-use Rattle.std.specs.Cmp.{eq_by_cmp_equiv, tied_itself}
+use Rattle.std.specs.Ordering.{eq_by_cmp}
+use Rattle.std.specs.Cmp.{eq_by_cmp_equiv}
 use Rattle.std.specs.FinMap as finite
 use Rattle.std.specs.FinSet as names
-use Rattle.std.specs.FinSet.{contains-from_list, contains-insert}
+use Rattle.std.specs.FinSet.{contains-from_list}
 use Rattle.std.proofs.lemmas.Bool.{or_parts}
-use Rattle.std.proofs.lemmas.List.{drop-drop, drop_more, take_more_set, map-append, map_more}
+use Rattle.std.proofs.lemmas.List.{drop-drop, drop_more, take_more_set, map-append}
 use Rattle.std.proofs.lemmas.Map.Keys.{IsDistinct-head, IsDistinct-tail}
 use Rattle.rib_store.proofs.PutLaws.{get-put}
 use Rattle.rib_player.specs.declared.pair.Pair.{Pair}
@@ -21,7 +21,6 @@ use Rattle.rib_player.specs.Store.{route_in}
 use Rattle.rib_player.specs.Journal.{Side, side_of, sides_of, pairs_in, routes_across, sides_across, IsKept, IsStepFor}
 use Rattle.rib_player.proofs.PairLaws.{pair_cmp_total, same_pair}
 use Rattle.rib_player.proofs.TableLaws.{same_routes, get-table_after, contains-named_pairs}
-use Rattle.ip_prefix.proofs.Lists.{AllByRecursion-push, AllByRecursion-weaker}
 use Rattle.ip_prefix.proofs.Booleans.{cond-cond, cond_untested}
 
 -- a put at another pair leaves the route
@@ -125,38 +124,3 @@ routes_across-step routes event sides step = same_routes _ _ (λ q.
     get-table_after routes event q
     ∙ sym (unnamed-same (finite.get routes q) (effect q event)
     (sym (contains-named_pairs routes event q) ∙ ap (λ s. names.contains s q) (sym step.names) ∙ contains-from_list pair_cmp_total (pairs_in sides) q ∙ out))))
-
--- keys that have a pair more have it and those that they had
-pub contains-more : (keys keys' : Pairs) (pair q : Pair) → keys' ≡ names.insert keys pair → names.contains keys q ≡ true → names.contains keys' q ≡ true
-contains-more keys keys' pair q e there =
-    ap (λ k. names.contains k q) e ∙ contains-insert pair_cmp_total keys pair q ∙ ap (λ b. eq_by_cmp pair_cmp q pair || b) there ∙ or-true (eq_by_cmp pair_cmp q pair)
-  where
-    or-true : (b : Bool) → (b || true) ≡ true
-    or-true true = refl
-    or-true false = refl
-
-pub contains-new : (keys keys' : Pairs) (pair : Pair) → keys' ≡ names.insert keys pair → names.contains keys' pair ≡ true
-contains-new keys keys' pair e =
-    ap (λ k. names.contains k pair) e ∙ contains-insert pair_cmp_total keys pair pair
-    ∙ ap (λ r. is_eq r || names.contains keys pair) (tied_itself pair_cmp_total pair)
-
--- the pairs of one entry more are keys too
-pub keys-more : (keys keys' : Pairs) (entries : List Entry) (index : ℕ) (default : Entry) → index < length entries → keys' ≡ names.insert keys (get_or entries index default).pair
-    → AllByRecursion (λ pair. names.contains keys pair ≡ true) (pairs_in (sides_of (take index entries)))
-    → AllByRecursion (λ pair. names.contains keys' pair ≡ true) (pairs_in (sides_of (take (index + 1) entries)))
-keys-more keys keys' entries index default within e all =
-    let new : Pair = (get_or entries index default).pair in
-    let split : pairs_in (sides_of (take (index + 1) entries)) ≡ pairs_in (sides_of (take index entries)) ++ new ∷ [] =
-    ap pairs_in (map_more side_of entries index default within) ∙ map-append (λ (side : Side). side.0) (sides_of (take index entries)) (side_of (get_or entries index default) ∷ []) in
-    subst (AllByRecursion (λ pair. names.contains keys' pair ≡ true)) (sym split)
-    (AllByRecursion-push (λ pair. names.contains keys' pair ≡ true) (pairs_in (sides_of (take index entries))) new
-    (AllByRecursion-weaker (λ pair. names.contains keys pair ≡ true) (λ pair. names.contains keys' pair ≡ true) (λ q there. contains-more keys keys' new q e there) (pairs_in (sides_of (take index entries))) all)
-    (contains-new keys keys' new e))
-
--- kept steps are kept by keys that have all that these had
-pub kept-more : (keys keys' : Pairs) (steps : List (List Side)) → ((q : Pair) → names.contains keys q ≡ true → names.contains keys' q ≡ true)
-    → AllByRecursion (IsKept keys) steps → AllByRecursion (IsKept keys') steps
-kept-more keys keys' steps more all = AllByRecursion-weaker (IsKept keys) (IsKept keys') (λ sides kept. record {
-  distinct = kept.distinct;
-  among_keys = AllByRecursion-weaker (λ pair. names.contains keys pair ≡ true) (λ pair. names.contains keys' pair ≡ true) more (pairs_in sides) kept.among_keys;
-}) steps all

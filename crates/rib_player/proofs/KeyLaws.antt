@@ -9,6 +9,7 @@ use Rattle.std.specs.FinSet.{contains-from_list, contains-items, contains-empty}
 use Rattle.std.proofs.lemmas.Bool.{or_parts}
 use Rattle.std.proofs.lemmas.List.{take-map, map-append, reverse-append}
 use Rattle.std.proofs.lemmas.List.Folds.{list_any-append}
+use Rattle.std.proofs.Math.Bool.{or-true, or-false, or_assoc}
 use Rattle.rib_player.specs.declared.pair.Pair.{Pair}
 use Rattle.mrt_wire.specs.declared.event.Event.{Event}
 use Rattle.rib_player.specs.declared.journal.Entry.{Entry}
@@ -22,7 +23,7 @@ use Rattle.rib_player.proofs.StoreLaws.{same_pairs}
 use Rattle.rib_player.proofs.JournalLaws.{get-restored_elsewhere}
 use Rattle.ip_prefix.proofs.Lists.{AllByRecursion-push}
 use Rattle.rib_player.proofs.CursorLaws.{current-timeline, same-timeline, timeline-after_play, added, length-added}
-use Rattle.rib_player.proofs.MarkLaws.{tied, tied_itself, pairs-same, or-true, or-false, or-assoc, seen_after-push, seen_after-append, MarkFirst-front, MarkFirst-rest, MarkFirst-push, unseen-before}
+use Rattle.rib_player.proofs.MarkLaws.{tied, tied_itself, pairs-same, seen_after-push, seen_after-append, MarkFirst-front, MarkFirst-rest, MarkFirst-push, unseen-before}
 
 -- a step names the pair
 abbrev pub any_named : List (List Mark) → Pair → Bool
@@ -30,7 +31,7 @@ any_named trail q = list_any (λ marks. named_by marks q) trail
 
 pub seen_after-any : (seen : Pair → Bool) (trail : List (List Mark)) (q : Pair) → seen_after seen trail q ≡ (seen q || any_named trail q)
 seen_after-any seen [] q = sym (or-false (seen q))
-seen_after-any seen (marks ∷ trail) q = seen_after-any (with_named seen marks) trail q ∙ or-assoc (seen q) (named_by marks q) (any_named trail q)
+seen_after-any seen (marks ∷ trail) q = seen_after-any (with_named seen marks) trail q ∙ or_assoc (seen q) (named_by marks q) (any_named trail q)
 
 -- a step's sides name the pair
 abbrev side_named : Pair → List Side → Bool

@@ -8,6 +8,7 @@ use Rattle.std.specs.FinSet.{contains, insert, remove, contains-insert, contains
 use Rattle.std.proofs.lemmas.Bool.{or_parts}
 use Rattle.std.proofs.lemmas.List.{take_more_set, map-append, drop_more, map-set, set-get_or, get_or-map}
 use Rattle.std.proofs.lemmas.Map.Keys.{IsDistinct-head, IsDistinct-tail}
+use Rattle.std.proofs.Math.Bool.{or-true, or-false, or_assoc}
 use Rattle.rib_player.specs.declared.pair.Pair.{Pair}
 use Rattle.rib_player.specs.declared.journal.Entry.{Entry}
 use Rattle.rib_player.specs.declared.journal.Step.{Step}
@@ -44,15 +45,7 @@ mark-one seen m gone l unseen stays is = at (tied l.0 m) refl
     at true e =
         ap (λ b. l.1 || b) e ∙ or-true l.1
         ∙ ap not (sym (ap₂ (λ a b. a || b) (at_tied seen l.0 m e ∙ unseen) (at_tied gone l.0 m e ∙ stays)))
-      where
-        or-true : (b : Bool) → (b || true) ≡ true
-        or-true true = refl
-        or-true false = refl
     at false e = ap (λ b. l.1 || b) e ∙ or-false l.1 ∙ is ∙ ap (λ b. not (seen l.0 || (b || gone l.0))) e
-      where
-        or-false : (b : Bool) → (b || false) ≡ b
-        or-false true = refl
-        or-false false = refl
 
 mark-all : (seen : Pair → Bool) (m : Pair) (gone : Pair → Bool) (last : List Mark) → seen m ≡ false → gone m ≡ false
     → AllByRecursion (λ (l : Mark). l.1 ≡ not (seen l.0 || (tied l.0 m || gone l.0))) last
@@ -164,10 +157,6 @@ exact-end seen last keys routes exact = record {
   free = exact.free;
 }
   where
-    or-false : (b : Bool) → (b || false) ≡ b
-    or-false true = refl
-    or-false false = refl
-
     all-same : (ls : List Mark) → AllByRecursion (λ (l : Mark). l.1 ≡ not (seen l.0 || false)) ls → AllByRecursion (λ (l : Mark). l.1 ≡ not (seen l.0)) ls
     all-same [] all = tt
     all-same (l ∷ ls) all = (all.0 ∙ ap not (or-false (seen l.0)), all-same ls all.1)
@@ -229,14 +218,6 @@ turn-more f entries i new x xs whole within is before =
     ∙ ap (λ y. map f (take i entries) ++ (y ∷ xs)) is
     ∙ before
 
-pub or-assoc : (a b c : Bool) → ((a || b) || c) ≡ (a || (b || c))
-or-assoc true b c = refl
-or-assoc false b c = refl
-
-pub or-false : (b : Bool) → (b || false) ≡ b
-or-false true = refl
-or-false false = refl
-
 -- the first of distinct keys are distinct
 pub apart-take : (q : Pair) (i : ℕ) (pairs : List Pair) → AllByRecursion (λ p. tied q p ≡ false) pairs → AllByRecursion (λ p. tied q p ≡ false) (take i pairs)
 apart-take q zero pairs all = tt
@@ -261,7 +242,7 @@ pairs-same (e ∷ entries) = ap (λ ps. e.pair ∷ ps) (pairs-same entries)
 
 pub named_by-push : (marks : List Mark) (m : Mark) (q : Pair) → named_by (marks ++ m ∷ []) q ≡ (named_by marks q || tied q m.0)
 named_by-push [] m q = or-false (tied q m.0)
-named_by-push (first ∷ marks) m q = ap (λ b. tied q first.0 || b) (named_by-push marks m q) ∙ sym (or-assoc (tied q first.0) (named_by marks q) (tied q m.0))
+named_by-push (first ∷ marks) m q = ap (λ b. tied q first.0 || b) (named_by-push marks m q) ∙ sym (or_assoc (tied q first.0) (named_by marks q) (tied q m.0))
 
 pub first-push : (seen : Pair → Bool) (marks : List Mark) (m : Mark) → AreFirst seen marks → m.1 ≡ not (seen m.0) → AreFirst seen (marks ++ m ∷ [])
 first-push seen [] m all one = (one, tt)
@@ -328,10 +309,6 @@ same-names a b q e = ap (list_any (tied q)) (pairs-same a ∙ ap pairs_in e ∙ 
 -- the entry at an index and those behind it
 pub rest_at : (i : ℕ) (entries : List Entry) (e : Entry) → i < length entries → e ≡ get_or entries i e → drop i entries ≡ e ∷ drop (i + 1) entries
 rest_at i entries e within is = drop_more entries i e within ∙ ap (λ x. x ∷ drop (i + 1) entries) (sym is)
-
-pub or-true : (b : Bool) → (b || true) ≡ true
-or-true true = refl
-or-true false = refl
 
 -- an element within a list is there whatever stands for one beyond it
 pub get_or-any : {A : Type 0} (xs : List A) (i : ℕ) (a b : A) → i < length xs → get_or xs i a ≡ get_or xs i b

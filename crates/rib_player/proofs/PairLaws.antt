@@ -1,8 +1,8 @@
 -- The orders of peers and of pairs are total, and only equal ones tie.
-use Rattle.std.proofs.Common.{◌≡◌, Bool, true, ◌&&◌, ◌||◌, not, List, [], ◌∷◌, refl, sym, ap, ap₂, ◌∙◌}
+use Rattle.std.proofs.Common.{◌≡◌, true, ◌||◌, List, [], ◌∷◌, refl, ap₂, ◌∙◌}
 use Rattle.std.specs.List.{list_any}
 use Rattle.std.specs.Ordering.{eq_by_cmp}
-use Rattle.std.specs.Cmp.{IsTotalOrder, on_total, then_total, both_tied, Equal-is, eq_by_cmp_equiv}
+use Rattle.std.specs.Cmp.{IsTotalOrder, on_total, then_total, Equal-is, eq_by_cmp_equiv}
 use Rattle.std.specs.FinMap.{IsAntisymmetric}
 use Rattle.ip_prefix.specs.Order.{network_cmp}
 use Rattle.ip_prefix.specs.OrderLaws.{both_tie, network_cmp_total, network_cmp-IsAntisymmetric}
@@ -11,7 +11,6 @@ use Rattle.rib_player.specs.declared.pair.Pair.{Pair}
 use Rattle.mrt_wire.specs.Peer.{peer_cmp}
 use Rattle.mrt_wire.proofs.PeerLaws.{peer_cmp_total, peer_cmp-IsAntisymmetric, derived_eq, peer_eq}
 use Rattle.rib_player.specs.History.{pair_cmp}
-use Rattle.std.proofs.Math.Bool.{not-not}
 
 -- the order of pairs is total
 pub pair_cmp_total : IsTotalOrder pair_cmp
@@ -31,14 +30,6 @@ same_pair a b e = pair_cmp-IsAntisymmetric a b ((Equal-is (pair_cmp a b)).0 e)
 pub any-peer_eq : (peer : Peer) (peers : List Peer) → list_any (λ p. derived_eq p peer) peers ≡ list_any (eq_by_cmp peer_cmp peer) peers
 any-peer_eq peer [] = refl
 any-peer_eq peer (p ∷ peers) = ap₂ (λ a b. a || b) (peer_eq p peer ∙ (eq_by_cmp_equiv peer_cmp_total).symm p peer) (any-peer_eq peer peers)
-
--- and `!=` of the others
-pub peer_ne : (a b : Peer) (ne : Bool) → ne ≡ not (derived_eq a b) → eq_by_cmp peer_cmp a b ≡ not ne
-peer_ne a b ne e = sym (peer_eq a b) ∙ sym (not-not (derived_eq a b)) ∙ ap not (sym e)
-
--- `==` of pairs, as their type derives it, holds of those that tie
-pub pair_eq : (a b : Pair) → (derived_eq a.peer b.peer && eq_by_cmp network_cmp a.prefix b.prefix) ≡ eq_by_cmp pair_cmp a b
-pair_eq a b = both_tied _ _ (peer_cmp a.peer b.peer) (network_cmp a.prefix b.prefix) (peer_eq a.peer b.peer) refl
 
 pub pair_symm : (a b : Pair) → eq_by_cmp pair_cmp a b ≡ eq_by_cmp pair_cmp b a
 pair_symm a b = (eq_by_cmp_equiv pair_cmp_total).symm a b

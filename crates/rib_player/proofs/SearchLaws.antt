@@ -8,12 +8,13 @@ use Rattle.std.specs.declared.cmp.Ordering.TheVariants.{Less, Equal, Greater}
 use Rattle.std.proofs.lemmas.Bool.{ltb-true, ltb-false}
 use Rattle.std.proofs.lemmas.Map.Keys.{Less-from_sorted, IsDistinct-head, IsDistinct-tail}
 use Rattle.ip_prefix.proofs.Lists.{AllByRecursion-from_get_or}
+use Rattle.std.proofs.Math.Bool.{or-true, or-false}
 use Rattle.rib_player.specs.declared.pair.Pair.{Pair}
 use Rattle.rib_player.specs.declared.journal.Entry.{Entry}
 use Rattle.rib_player.specs.History.{pair_cmp}
 use Rattle.rib_player.specs.Journal.{sides_of, pairs_in, mark_of, marks_of, named_by, marked, AreOrdered}
 use Rattle.rib_player.proofs.PairLaws.{pair_cmp_total, pair_cmp-IsAntisymmetric, pair_symm}
-use Rattle.rib_player.proofs.MarkLaws.{tied, tied_itself, or-true, or-false, apart-at}
+use Rattle.rib_player.proofs.MarkLaws.{tied, tied_itself, apart-at}
 
 -- the entry's pair is not this one
 abbrev pub IsApart : Pair → Entry → Type 0

@@ -1,5 +1,5 @@
 -- What the stores of all peers hold together, pair by pair.
-use Rattle.std.proofs.Common.{◌≡◌, ℕ, zero, suc, ◌+◌, ◌<◌, Bool, true, false, cond, not, ◌||◌, ◌&&◌, List, [], ◌∷◌, map, Option, Some, None, is_some, IsSome, IfSome, IfNone, Result, Ok, Err, IfOk, OnOk, OnErr, Bor, refl, sym, ap, ap₂, subst, ◌∙◌, arith}
+use Rattle.std.proofs.Common.{◌≡◌, ℕ, zero, suc, ◌+◌, ◌<◌, Bool, true, false, cond, not, ◌||◌, ◌&&◌, List, [], ◌∷◌, map, Option, Some, None, is_some, IsSome, IfSome, IfNone, Result, Ok, Err, OnOk, OnErr, Bor, refl, sym, ap, ap₂, subst, ◌∙◌, arith}
 use lib.Dec.{eqb}
 use Rattle.std.specs.List.{list_any, flat_map, filter}
 use Rattle.std.specs.Map.{set_value}
@@ -328,19 +328,7 @@ some-insert keys keys' n e =
 pub none-left : (keys : stored.Keys) (x : Network) → set.len keys ≡ 0 → set.contains keys x ≡ false
 none-left keys x none = ap (λ k. set.contains k x) (set.empty_of_len keys none) ∙ contains-empty network_cmp x
 
--- no key, no route: what a store without keys leaves
-pub on_ok : {A E P Q : Type 0} (r : Result A E) → (P → Q) → OnOk r P → OnOk r Q
-on_ok (Ok a) then p = then p
-on_ok (Err e) then p = tt
-
-pub on_err : {A E P Q : Type 0} (r : Result A E) → (P → Q) → OnErr r P → OnErr r Q
-on_err (Ok a) then p = tt
-on_err (Err e) then p = then p
-
-pub if_ok : {A E : Type 0} {P Q : A → Type 0} (r : Result A E) → ((a : A) → P a → Q a) → IfOk r P → IfOk r Q
-if_ok (Ok a) then p = then a p
-if_ok (Err e) then p = tt
-
+-- what holds of an answer and of a refusal alike
 pub either : {A E P : Type 0} (r : Result A E) → OnOk r P → OnErr r P → P
 either (Ok a) p q = p
 either (Err e) p q = q

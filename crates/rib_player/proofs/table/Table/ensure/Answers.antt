@@ -8,8 +8,9 @@ use Rattle.ip_prefix.specs.Network.{Network}
 use Rattle.ip_prefix.specs.Order.{network_cmp}
 use Rattle.ip_prefix.specs.OrderLaws.{network_cmp_total}
 use Rattle.mrt_wire.specs.declared.peer.Peer.{Peer}
+use Rattle.std.proofs.lemmas.Result.{on_ok_weaker, on_err_weaker, IfOk-weaker}
 use Rattle.rib_player.specs.Store.{store_at, has_key, stored_route, value_of}
-use Rattle.rib_player.proofs.StoreLaws.{same_peer, keys_in-insert, keys_in-same, routes_in-same, held-other, store_at-write, contains-found, some-insert, on_ok, on_err, if_ok, either}
+use Rattle.rib_player.proofs.StoreLaws.{same_peer, keys_in-insert, keys_in-same, routes_in-same, held-other, store_at-write, contains-found, some-insert, either}
 use Rattle.rib_player.proofs.table.Table.ensure.Goals as goal
 use Rattle.rib_player.proofs.table.Table.ensure.Given.{Over}
 use Rattle.rib_player.proofs.table.Table.ensure.Goals.{After-ensure, After-insert}
@@ -33,13 +34,13 @@ invariant_of-self g c =
     let b = (goal.at.invariant_of-self g c).After-ensure in
     held-other g.S.PrefixStore.keys c.self.inside.stores.entries (c.get_mut.follows.lender c.ensure.new.self).entries c.args.pair.now.peer (Some c.ensure.new.self) (written g b) c.self.invariant
     (either c.ensure.result
-    (on_ok c.ensure.result (λ e. some-insert (g.S.PrefixStore.keys c.in-Some.store.now) (g.S.PrefixStore.keys c.ensure.new.self) c.args.pair.now.prefix e) c.ensure.ensures.keys)
-    (on_err c.ensure.result (λ e. subst (λ k. 0 < set.len k) (sym e) (subst (λ s. IfSome s (λ store. 0 < set.len (g.S.PrefixStore.keys store))) (sym (found g b)) (c.self.invariant c.args.pair.now.peer))) c.ensure.ensures.refused))
+    (on_ok_weaker c.ensure.result (λ e. some-insert (g.S.PrefixStore.keys c.in-Some.store.now) (g.S.PrefixStore.keys c.ensure.new.self) c.args.pair.now.prefix e) c.ensure.ensures.keys)
+    (on_err_weaker c.ensure.result (λ e. subst (λ k. 0 < set.len k) (sym e) (subst (λ s. IfSome s (λ store. 0 < set.len (g.S.PrefixStore.keys store))) (sym (found g b)) (c.self.invariant c.args.pair.now.peer))) c.ensure.ensures.refused))
 
 pub returns-in-Some-clause-keys : goal.returns-in-Some-clause-keys
 returns-in-Some-clause-keys g c =
     let b = (goal.at.returns-in-Some-clause-keys g c).After-ensure in
-    on_ok c.ensure.result (λ e.
+    on_ok_weaker c.ensure.result (λ e.
     keys_in-insert g.S.PrefixStore.keys c.self.inside.stores.entries (c.get_mut.follows.lender c.ensure.new.self).entries c.args.pair.now.peer c.args.pair.now.prefix (Some c.ensure.new.self) (written g b)
     (λ x. ap (λ k. set.contains k x) e ∙ contains-insert network_cmp_total (g.S.PrefixStore.keys c.in-Some.store.now) c.args.pair.now.prefix x
     ∙ ap (λ s. eq_by_cmp network_cmp x c.args.pair.now.prefix || has_key g.S.PrefixStore.keys s x) (found g b))
@@ -48,7 +49,7 @@ returns-in-Some-clause-keys g c =
 pub returns-in-Some-clause-made : goal.returns-in-Some-clause-made
 returns-in-Some-clause-made g c =
     let b = (goal.at.returns-in-Some-clause-made g c).After-ensure in
-    if_ok c.ensure.result (λ made e. e ∙ ap not (contains-found g.S.PrefixStore.keys c.self.inside.stores.entries c.args.self.now.keys c.args.pair.now (Some c.in-Some.store.now) (found g b) (ap (λ s. s.keys) c.self.view_is))) c.ensure.ensures.made
+    IfOk-weaker c.ensure.result _ _ (λ made e. e ∙ ap not (contains-found g.S.PrefixStore.keys c.self.inside.stores.entries c.args.self.now.keys c.args.pair.now (Some c.in-Some.store.now) (found g b) (ap (λ s. s.keys) c.self.view_is))) c.ensure.ensures.made
 
 pub returns-in-Some-clause-routes : goal.returns-in-Some-clause-routes
 returns-in-Some-clause-routes g c =
@@ -60,7 +61,7 @@ returns-in-Some-clause-routes g c =
 pub returns-in-Some-clause-refused : goal.returns-in-Some-clause-refused
 returns-in-Some-clause-refused g c =
     let b = (goal.at.returns-in-Some-clause-refused g c).After-ensure in
-    on_err c.ensure.result (λ e.
+    on_err_weaker c.ensure.result (λ e.
     keys_in-same g.S.PrefixStore.keys c.self.inside.stores.entries (c.get_mut.follows.lender c.ensure.new.self).entries c.args.pair.now.peer (Some c.ensure.new.self) (written g b) (same_as g b e)
     ∙ ap (λ s. s.keys) c.self.view_is) c.ensure.ensures.refused
 
