@@ -13,7 +13,6 @@ use Rattle.rib_player.specs.declared.pair.Pair.{Pair}
 use Rattle.mrt_wire.specs.declared.event.Route.{Route}
 use Rattle.mrt_wire.specs.declared.event.Item.{Item}
 use Rattle.mrt_wire.specs.Event.{saying}
-use Rattle.mrt_wire.specs.Peer.{peer_cmp}
 use Rattle.rib_player.specs.History.{pair_cmp, Effect, Keep, Clear, Set, where_true, item_effect, later, last_effect}
 use Rattle.rib_player.specs.Store.{Slots, slot_at, route_in}
 use Rattle.rib_player.specs.Changes.{found, is_lost, effect_of, or_absent}
@@ -88,7 +87,7 @@ or_absent-kept None absent e = cc
 or_absent-kept (Some route) absent e = refl
 
 -- and so does what is found where the pair is not among those
-or_absent-false : (kept : Option (Option Route)) → kept ≡ or_absent kept false
+pub or_absent-false : (kept : Option (Option Route)) → kept ≡ or_absent kept false
 or_absent-false None = refl
 or_absent-false (Some route) = refl
 
@@ -142,14 +141,19 @@ pub effects-sayings : (q : Pair) (items : List Item) → map (item_effect q) (ma
 effects-sayings q [] = refl
 effects-sayings q (item ∷ items) = ap (λ l. item_effect q (saying item) ∷ l) (effects-sayings q items)
 
--- one more of a list of lost peers, whose pairs that have a route lose it
-pub lost-more : (peers : List Peer) (i : ℕ) (peer : Peer) (has among : Bool) (kept old new : Option (Option Route)) (q : Pair) → i < length peers → peer ≡ get_or peers i peer
-    → old ≡ or_absent kept (is_lost (take i peers) q && has) → among ≡ (eq_by_cmp peer_cmp q.peer peer && has) → new ≡ or_absent old among
-    → new ≡ or_absent kept (is_lost (take (i + 1) peers) q && has)
-lost-more peers i peer has among kept old new q h at before pairs step =
-    step
-    ∙ ap₂ or_absent before pairs
-    ∙ or_absent-more kept (is_lost (take i peers) q && has) (eq_by_cmp peer_cmp q.peer peer && has)
-    ∙ ap (or_absent kept) (sym (and-or_distrib_right (is_lost (take i peers) q) (eq_by_cmp peer_cmp q.peer peer) has))
-    ∙ ap (λ p. or_absent kept ((is_lost (take i peers) q || eq_by_cmp peer_cmp q.peer p) && has)) at
-    ∙ ap (λ b. or_absent kept (b && has)) (sym (list_any_more (eq_by_cmp peer_cmp q.peer) peers i peer h))
+-- one more lost peer, before all that is noted
+pub lost-noted : (kept : Option (Option Route)) (b lost : Bool) → effect_of kept (cond b true lost) ≡ later (where_true b Clear) (effect_of kept lost)
+lost-noted (Some (Some route)) b lost = refl
+lost-noted (Some None) b lost = refl
+lost-noted None true true = refl
+lost-noted None true false = refl
+lost-noted None false true = refl
+lost-noted None false false = refl
+
+-- a lost peer more, whose pairs that have a route lose it, is one less that is left
+pub lost-more : (b left has : Bool) (kept old new : Option (Option Route)) → new ≡ or_absent old (b && has) → or_absent old ((b || left) && has) ≡ kept → or_absent new (left && has) ≡ kept
+lost-more b left has kept old new step before =
+    ap (λ k. or_absent k (left && has)) step
+    ∙ or_absent-more old (b && has) (left && has)
+    ∙ ap (or_absent old) (sym (and-or_distrib_right b left has))
+    ∙ before

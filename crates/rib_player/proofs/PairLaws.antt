@@ -1,15 +1,13 @@
 -- The orders of peers and of pairs are total, and only equal ones tie.
-use Rattle.std.proofs.Common.{◌≡◌, true, ◌||◌, List, [], ◌∷◌, refl, ap₂, ◌∙◌}
-use Rattle.std.specs.List.{list_any}
+use Rattle.std.proofs.Common.{◌≡◌, true}
 use Rattle.std.specs.Ordering.{eq_by_cmp}
 use Rattle.std.specs.Cmp.{IsTotalOrder, on_total, then_total, Equal-is, eq_by_cmp_equiv}
 use Rattle.std.specs.FinMap.{IsAntisymmetric}
 use Rattle.ip_prefix.specs.Order.{network_cmp}
 use Rattle.ip_prefix.specs.OrderLaws.{both_tie, network_cmp_total, network_cmp-IsAntisymmetric}
-use Rattle.mrt_wire.specs.declared.peer.Peer.{Peer}
 use Rattle.rib_player.specs.declared.pair.Pair.{Pair}
 use Rattle.mrt_wire.specs.Peer.{peer_cmp}
-use Rattle.mrt_wire.proofs.PeerLaws.{peer_cmp_total, peer_cmp-IsAntisymmetric, derived_eq, peer_eq}
+use Rattle.mrt_wire.proofs.PeerLaws.{peer_cmp_total, peer_cmp-IsAntisymmetric}
 use Rattle.rib_player.specs.History.{pair_cmp}
 
 -- the order of pairs is total
@@ -25,11 +23,6 @@ pair_cmp-IsAntisymmetric a b e =
 -- pairs that pass the test are one
 pub same_pair : (a b : Pair) → eq_by_cmp pair_cmp a b ≡ true → a ≡ b
 same_pair a b e = pair_cmp-IsAntisymmetric a b ((Equal-is (pair_cmp a b)).0 e)
-
--- so it finds a peer in a list where the order does
-pub any-peer_eq : (peer : Peer) (peers : List Peer) → list_any (λ p. derived_eq p peer) peers ≡ list_any (eq_by_cmp peer_cmp peer) peers
-any-peer_eq peer [] = refl
-any-peer_eq peer (p ∷ peers) = ap₂ (λ a b. a || b) (peer_eq p peer ∙ (eq_by_cmp_equiv peer_cmp_total).symm p peer) (any-peer_eq peer peers)
 
 pub pair_symm : (a b : Pair) → eq_by_cmp pair_cmp a b ≡ eq_by_cmp pair_cmp b a
 pair_symm a b = (eq_by_cmp_equiv pair_cmp_total).symm a b

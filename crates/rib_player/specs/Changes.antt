@@ -27,11 +27,11 @@ effect_of None lost = where_true lost Clear
 
 -- what is noted for a pair
 abbrev pub noted_effect : Changes → Pair → Effect
-noted_effect changes pair = effect_of (found changes.routes.entries pair) (is_lost changes.lost.items pair)
+noted_effect changes pair = effect_of (found changes.routes.entries pair) (is_lost changes.lost.keys pair)
 
 -- something is noted for a pair
 abbrev pub decides : Changes → Pair → Bool
-decides changes pair = is_some (slot_at changes.routes.entries pair) || is_lost changes.lost.items pair
+decides changes pair = is_some (slot_at changes.routes.entries pair) || is_lost changes.lost.keys pair
 
 -- what is kept for a pair once it is among those that lose their route
 abbrev pub or_absent : Option (Option Route) → Bool → Option (Option Route)

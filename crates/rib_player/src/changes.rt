@@ -19,7 +19,7 @@ use crate::table::{Table, put_slot};
 use mrt_wire::{Event, Item, Peer, Route};
 use rib_store::PrefixStore;
 use std::alloc::{AllocError, Global};
-use std::collections::BTreeMap;
+use std::collections::{BTreeMap, BTreeSet};
 use std::rc::Rc;
 
 /// The number of the state Established (RFC 6396, section 4.4.1).
@@ -32,7 +32,7 @@ pub(crate) struct Changes {
     /// The pairs that items name, with the route that they have then.
     pub(crate) routes: BTreeMap<Pair, Option<Rc<Route>>>,
     /// The peers whose session is lost, before all that is noted of them in `routes`.
-    pub(crate) lost: Vec<Peer>,
+    pub(crate) lost: BTreeSet<Peer>,
 }
 
 impl Changes {
@@ -61,7 +61,7 @@ impl Changes {
         ensures { OnOk result ((q : Pair) → noted_effect self.new q
             ≡ later (where_true (eq_by_cmp peer_cmp q.peer peer) Clear) (noted_effect self.old q)) }
     {
-        self.lost.push(peer)?;
+        self.lost.insert(peer)?;
         Ok(())
     }
 
@@ -101,7 +101,7 @@ fn changes_of(alloc: Global, event: &Event) -> Result<Changes, AllocError>
 {
     let mut changes = Changes {
         routes: BTreeMap::new(alloc),
-        lost: Vec::new(alloc),
+        lost: BTreeSet::new(alloc),
     };
     let items = event.items.as_slice();
     let mut rest = items.len();
@@ -136,11 +136,11 @@ fn routes_then<S: PrefixStore<Rc<Route>>>(
 ) -> Result<BTreeMap<Pair, Option<Rc<Route>>>, AllocError>
     ensures { IfOk result (λ routes. (q : Pair) → found routes.entries q
         ≡ or_absent (found changes.routes.entries q)
-        (is_lost changes.lost.items q && is_some (finite.get table.now.routes q))) }
+        (is_lost changes.lost.keys q && is_some (finite.get table.now.routes q))) }
 {
     let Changes { mut routes, lost } = changes;
-    'peers: for peer in &lost {
-        let pairs = table.pairs_of(alloc, peer)?;
+    'peers: for peer in lost {
+        let pairs = table.pairs_of(alloc, &peer)?;
         note_absent(&mut routes, &pairs)?;
     }
     Ok(routes)
