@@ -70,7 +70,7 @@ counted-zero n =
     (λ e. ap (λ m. counted m == 0) (eqb-true n 0 e))
 
 -- the last step keeps the count of all
-pub counted-end : (steps : List Step) (i before : ℕ) (d : Step) → i + 1 ≡ length steps → AreCounted before (counts_of steps) → (get_or steps i d).named ≡ counted (before + total (counts_of steps))
+pub counted-end : (steps : List Step) (i before : ℕ) (d : Step) → i + 1 ≡ length steps → AreCounted before (counts_of steps) → (get_or steps i d).named_total ≡ counted (before + total (counts_of steps))
 counted-end [] i before d end all = absurd (omega arith)
 counted-end (step ∷ []) zero before d end all = all.0 ∙ ap counted {y = before + total (count_of step ∷ [])} (omega (arith, total-cons (count_of step) []))
 counted-end (step ∷ []) (suc i) before d end all = absurd (omega arith)

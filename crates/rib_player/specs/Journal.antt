@@ -15,7 +15,7 @@ use Rattle.rib_player.specs.declared.journal.Step.{Step}
 use Rattle.rib_player.specs.History.{pair_cmp}
 use Rattle.rib_store.specs.Stored.{put, counted}
 use Rattle.rib_player.specs.Tables.{Routes, Pairs, table_after, named_pairs}
-use Rattle.rib_player.specs.Store.{Store, route_in}
+use Rattle.rib_player.specs.Store.{Contents, route_in}
 use Rattle.rib_player.specs.Timeline.{Timeline, routed_first}
 
 -- a pair, and the route that it has on the other side of a step
@@ -142,18 +142,18 @@ pub record IsExact (seen : Pair → Bool) (trail : List (List Mark)) (last : Lis
   pub free : (q : Pair) → seen q ≡ false → named_by last q ≡ false → get routes q ≡ None
 
 -- so for some pairs that were seen
-pub record CanLeave (trail : List (List Mark)) (last : List Mark) (table : Store) : Type 0 where
+pub record CanLeave (trail : List (List Mark)) (last : List Mark) (table : Contents) : Type 0 where
   pub seen : Pair → Bool
   pub exact : IsExact seen trail last table.keys table.routes
 
 -- for all pairs that were seen: what was exact with the steps ahead is so without them
-abbrev pub LeavesExact : List (List Mark) → List Mark → Store → List Mark → Store → Type 0
+abbrev pub LeavesExact : List (List Mark) → List Mark → Contents → List Mark → Contents → Type 0
 LeavesExact trail last table last' table' =
     (seen : Pair → Bool) → IsExact seen trail last table.keys table.routes → IsExact seen [] last' table'.keys table'.routes
 
 -- how many pairs a step names, and the count that it keeps
 abbrev pub count_of : Step → ℕ × ℕ
-count_of step = (length step.entries.items, step.named)
+count_of step = (length step.entries.items, step.named_total)
 
 abbrev pub counts_of : List Step → List (ℕ × ℕ)
 counts_of steps = map count_of steps
@@ -180,7 +180,7 @@ pub record IsPlayed (keys : Pairs) (routes : Routes) (cursor : ℕ) (steps : Lis
   pub held : AreHeld (routed_first (timeline_of cursor (steps_of steps) routes)) (trail_of steps) keys
 
 -- the steps ahead have made room for a step of these sides, which was crossed
-pub record IsAdvanced (table : Store) (cursor : ℕ) (steps : List Step) (sides : List Side) (table' : Store) (steps' : List Step) (entries : List Entry) : Type 0 where
+pub record IsAdvanced (table : Contents) (cursor : ℕ) (steps : List Step) (sides : List Side) (table' : Contents) (steps' : List Step) (entries : List Entry) : Type 0 where
   pub left : steps' ≡ take cursor steps
   pub after : table'.routes ≡ routes_across sides table.routes
   pub crossing : sides_of entries ≡ sides_across table.routes sides

@@ -22,12 +22,12 @@ use Rattle.rib_player.specs.History.{pair_cmp, pair_of}
 use Rattle.rib_player.specs.Tables.{Routes, Pairs, tabulation}
 
 -- a table as contracts see it
-pub record Store : Type 0 where
+pub record Contents : Type 0 where
   pub keys : Pairs
   pub routes : Routes
 
-abbrev pub coded_store : Coded Store
-coded_store =
+abbrev pub coded_contents : Coded Contents
+coded_contents =
     code_by (Pairs × Routes) (coded× (set.code coded_pair) (finite.code coded_pair coded_route))
     (λ s. (s.keys, s.routes)) (λ p. record { keys = p.0; routes = p.1 }) (λ _. refl)
 

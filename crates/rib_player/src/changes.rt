@@ -1,6 +1,6 @@
 //! What an event does, pair by pair.
 
-ghost use Rattle.std.specs.Prelude.{◌≡◌, ◌||◌, ◌&&◌, IfOk, OnOk, Some, false, is_some, map};
+ghost use Rattle.std.specs.Prelude.{◌≡◌, ◌||◌, ◌&&◌, IfOk, OnOk, OnErr, Some, false, is_some, if◌then◌else◌, map};
 ghost use Rattle.std.specs.List.{list_any, filter, IsDistinct};
 ghost use Rattle.std.specs.Map.{keys_of};
 ghost use Rattle.std.specs.Ordering.{eq_by_cmp};
@@ -9,13 +9,13 @@ ghost use Rattle.mrt_wire.specs.Event.{saying};
 ghost use Rattle.rib_player.specs.declared.pair.Pair.{Pair};
 ghost use Rattle.mrt_wire.specs.Peer.{peer_cmp};
 ghost use Rattle.rib_player.specs.History.{pair_cmp, Clear, where_true, item_effect, later, effect};
-ghost use Rattle.rib_player.specs.Store.{route_in};
+ghost use Rattle.rib_player.specs.Store.{route_in, slot_at};
 ghost use Rattle.rib_player.specs.Changes.{noted_effect, decides, found, is_lost, or_absent, effect_of};
 ghost use Rattle.rib_player.specs.Journal.{sides_of, slot_side, AreOrdered, IsStepFor};
 
 use crate::journal::Entry;
 use crate::pair::Pair;
-use crate::table::{Table, put_slot};
+use crate::table::Table;
 use mrt_wire::{Event, Item, Peer, Route};
 use rib_store::PrefixStore;
 use std::alloc::{AllocError, Global};
@@ -110,6 +110,20 @@ fn changes_of(alloc: Global, event: &Event) -> Result<Changes, AllocError>
         changes.note(&items[rest])?;
     }
     Ok(changes)
+}
+
+/// Puts a route, or the absence of one, into the pair's slot.
+fn put_slot(
+    slots: &mut BTreeMap<Pair, Option<Rc<Route>>>,
+    pair: Pair,
+    route: Option<Rc<Route>>,
+) -> Result<(), AllocError>
+    ensures put { OnOk result ((q : Pair) → slot_at slots.new.entries q
+        ≡ (if eq_by_cmp pair_cmp pair q then Some route else slot_at slots.old.entries q)) }
+    ensures refused { OnErr result (slots.new.entries ≡ slots.old.entries) }
+{
+    slots.insert(pair, route)?;
+    Ok(())
 }
 
 /// Notes that the pairs have no route any more, but for those that items name.

@@ -1,15 +1,12 @@
 //! The steps that are kept, so that they can be undone and redone.
 
-ghost use Rattle.std.specs.Prelude.{◌≡◌, ◌-◌, ◌<◌, ◌≤◌, [], ◌∷◌, ◌||◌, true, false, not, Bool, None, length, take, drop, set, IfOk, OnOk, OnErr};
-ghost use Rattle.std.specs.List.{AllByRecursion, IsDistinct, sum_by};
+ghost use Rattle.std.specs.Prelude.{◌≡◌, ◌-◌, ◌<◌, ◌≤◌, [], ◌∷◌, ◌||◌, true, false, None, length, take, drop, set, OnOk, OnErr};
+ghost use Rattle.std.specs.List.{AllByRecursion, sum_by};
 ghost use Rattle.std.specs.Vec.{vec_capacity};
-ghost use Rattle.std.specs.Ordering.{eq_by_cmp};
-ghost use Rattle.std.specs.FinMap as finite;
 ghost use Rattle.std.specs.FinSet as names;
 ghost use Rattle.rib_store.specs.Stored.{counted, AreAmong};
 ghost use Rattle.rib_player.specs.declared.pair.Pair.{Pair};
-ghost use Rattle.rib_player.specs.History.{pair_cmp};
-ghost use Rattle.rib_player.specs.Journal.{sides_of, pairs_in, sides_at, steps_of, routes_across, sides_across, IsKept, marks_of, trail_of, counts_of, AreCounted, named_by, marked, AreFirst, IsExact, CanLeave, LeavesExact, AreDistinct, AreOrdered, IsPlayed, IsAdvanced};
+ghost use Rattle.rib_player.specs.Journal.{sides_of, sides_at, steps_of, routes_across, sides_across, IsKept, marks_of, trail_of, counts_of, AreCounted, named_by, marked, AreFirst, CanLeave, LeavesExact, AreDistinct, AreOrdered, IsPlayed, IsAdvanced};
 
 use crate::pair::Pair;
 use crate::table::Table;
@@ -34,16 +31,16 @@ pub(crate) struct Entry {
 pub(crate) struct Step {
     pub(crate) entries: Vec<Entry>,
     /// How many pairs it and the kept steps before it name, in all; `u64::MAX` where more.
-    pub(crate) named: u64,
+    pub(crate) named_total: u64,
 }
 
 /// How many pairs the steps name, in all.
-pub(crate) fn named_pairs(steps: &[Step]) -> u64
+pub(crate) fn named_total(steps: &[Step]) -> u64
     requires counts { AreCounted 0 (counts_of steps.now) }
     ensures { result ≡ counted (sum_by (λ count. count.0) (counts_of steps.now)) }
 {
     match steps.last() {
-        Some(step) => step.named,
+        Some(step) => step.named_total,
         None => 0,
     }
 }

@@ -6,7 +6,7 @@ ghost use Rattle.rib_store.specs.declared.store.TheConstants.{GREATEST_COUNT};
 ghost use Rattle.rib_player.specs.Timeline.{fresh, ahead_of, end_of, current, wanted, named_count, after_play, after_undo, after_redo};
 
 use crate::changes::step_for;
-use crate::journal::{Step, advance, cross_step, named_pairs};
+use crate::journal::{Step, advance, cross_step, named_total};
 use crate::table::Table;
 use mrt_wire::{Event, Route};
 use rib_store::PrefixStore;
@@ -78,11 +78,11 @@ impl<S: PrefixStore<Rc<Route>>> Player<S> {
         (self.steps.len() - self.cursor) as u64
     }
 
-    /// How many pairs of a peer and a prefix the kept steps name, in all.
+    /// How many pairs of a peer and a prefix the kept steps name, in all; `u64::MAX` where more.
     pub fn named(&self) -> u64
         ensures { result ≡ counted (named_count self.now) }
     {
-        named_pairs(&self.steps)
+        named_total(&self.steps)
     }
 
     /// The table at the cursor.
@@ -109,8 +109,11 @@ impl<S: PrefixStore<Rc<Route>>> Player<S> {
             self.cursor,
             entries.as_mut_slice(),
         )?;
-        let named = named_pairs(&self.steps).saturating_add(entries.len() as u64);
-        self.steps.push_reserved(Step { entries, named });
+        let named_total = named_total(&self.steps).saturating_add(entries.len() as u64);
+        self.steps.push_reserved(Step {
+            entries,
+            named_total,
+        });
         self.cursor += 1;
         Ok(dropped as u64)
     }

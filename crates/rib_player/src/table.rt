@@ -1,8 +1,8 @@
 //! The routes of all peers.
 
-ghost use Rattle.std.specs.Prelude.{◌≡◌, ◌<◌, ◌&&◌, Some, ℕ, Bool, true, false, not, is_some, Option, None, if◌then◌else◌, List, map, IfSome, IfNone, IfOk, OnOk, OnErr};
+ghost use Rattle.std.specs.Prelude.{◌≡◌, ◌<◌, ◌&&◌, Some, true, false, not, is_some, Option, None, if◌then◌else◌, map, IfSome, IfNone, IfOk, OnOk, OnErr};
 ghost use Rattle.std.specs.List.{list_any};
-ghost use Rattle.std.specs.Option.{option_map, option_copied};
+ghost use Rattle.std.specs.Option.{option_map};
 ghost use Rattle.std.specs.Ordering.{eq_by_cmp};
 ghost use Rattle.std.specs.FinMap as finite;
 ghost use Rattle.std.specs.FinSet as set;
@@ -12,7 +12,7 @@ ghost use Rattle.mrt_wire.specs.declared.peer.Peer.{Peer};
 ghost use Rattle.mrt_wire.specs.Peer.{peer_cmp};
 ghost use Rattle.rib_player.specs.History.{pair_cmp, pair_of};
 ghost use Rattle.rib_store.specs.Stored.{put};
-ghost use Rattle.rib_player.specs.Store.{route_in, value_of, slot_at, store_at, keys_in, routes_in, IsLeft, IsBest};
+ghost use Rattle.rib_player.specs.Store.{route_in, value_of, store_at, keys_in, routes_in, IsLeft, IsBest};
 
 use crate::pair::Pair;
 use ip_prefix::{Addr, Prefix};
@@ -32,11 +32,11 @@ pub struct Table<S: PrefixStore<Rc<Route>>> {
 }
 
 impl<S: PrefixStore<Rc<Route>>> Model for Table<S> {
-    ghost use Rattle.rib_player.specs.Store.{Store, coded_store, keys_in, routes_in, IsHeld};
+    ghost use Rattle.rib_player.specs.Store.{Contents, coded_contents, keys_in, routes_in, IsHeld};
 
-    ghost Value = { Store };
+    ghost Value = { Contents };
 
-    ghost coded = { coded_store };
+    ghost coded = { coded_contents };
 
     ghost view = { λ a. record {
       keys = keys_in S.keys a.stores.entries;
@@ -124,7 +124,8 @@ impl<S: PrefixStore<Rc<Route>>> Table<S> {
         ensures { IsBest self.now.routes peer.now addr.now
             (option_map (λ found. (found.0, found.1.now.value)) result) }
     {
-        self.stores.get(peer)?.longest(addr)
+        let store = self.stores.get(peer)?;
+        store.longest(addr)
     }
 
     /// The peer's store, where it has a key.
@@ -204,18 +205,4 @@ fn drop_key<S: PrefixStore<Rc<Route>>>(stores: &mut BTreeMap<Peer, S>, pair: &Pa
         return store.key_count() == 0;
     }
     false
-}
-
-/// Puts a route, or the absence of one, into the pair's slot.
-pub(crate) fn put_slot(
-    slots: &mut BTreeMap<Pair, Option<Rc<Route>>>,
-    pair: Pair,
-    route: Option<Rc<Route>>,
-) -> Result<(), AllocError>
-    ensures put { OnOk result ((q : Pair) → slot_at slots.new.entries q
-        ≡ (if eq_by_cmp pair_cmp pair q then Some route else slot_at slots.old.entries q)) }
-    ensures refused { OnErr result (slots.new.entries ≡ slots.old.entries) }
-{
-    slots.insert(pair, route)?;
-    Ok(())
 }

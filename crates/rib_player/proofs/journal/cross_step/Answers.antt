@@ -38,6 +38,6 @@ returns-clause-counts g c =
     let here = get_or c.args.steps.now c.args.index c.index-steps-index.result in
     map-set count_of c.args.steps.now c.args.index _
     ∙ ap (set (counts_of c.args.steps.now) c.args.index)
-    (ap (λ n. (n, here.named)) (ap length (with_items_is here.entries c.cross.new.entries (c.cross.auto.entries ∙ c.as_mut_slice.ensures.len)) ∙ c.cross.auto.entries ∙ ap length c.as_mut_slice.ensures.value)
+    (ap (λ n. (n, here.named_total)) (ap length (with_items_is here.entries c.cross.new.entries (c.cross.auto.entries ∙ c.as_mut_slice.ensures.len)) ∙ c.cross.auto.entries ∙ ap length c.as_mut_slice.ensures.value)
     ∙ sym (get_or-map count_of c.args.steps.now c.args.index c.index-steps-index.result (count_of c.index-steps-index.result) c.requires.within))
     ∙ set-get_or (counts_of c.args.steps.now) c.args.index (count_of c.index-steps-index.result)

@@ -8,6 +8,6 @@ use Rattle.rib_player.proofs.player.Player.named.Goals as goal
 
 pub returns : goal.returns
 returns g c =
-    c.named_pairs.ensures
+    c.named_total.ensures
     ∙ ap (λ s. counted (total (counts_of s))) c.deref.ensures.value
     ∙ ap counted (named-total c.self.inside.steps.items (all-distinct c.self.inside.table.keys (steps_of c.self.inside.steps.items) c.self.invariant.journal.kept) ∙ ap named_count c.self.view_is)

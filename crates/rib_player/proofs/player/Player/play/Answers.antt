@@ -11,21 +11,21 @@ use Rattle.rib_player.proofs.player.Player.play.Given.{Over}
 use Rattle.rib_player.proofs.player.Player.play.Goals as goal
 use Rattle.rib_player.proofs.player.Player.play.Goals.{After-push_reserved}
 
-pub named_pairs-requires : goal.named_pairs-requires
-named_pairs-requires g c =
+pub named_total-requires : goal.named_total-requires
+named_total-requires g c =
     record {
       counts = subst (λ s. AreCounted 0 (counts_of s)) (sym c.deref.ensures.value)
           (counted-left c.self.inside.cursor c.self.inside.steps.items c.advance.new.steps.items (c.in_ok-advance.ensures.advanced.left ∙ ap (take c.self.inside.cursor) c.reserve.ensures.items) c.self.invariant.counts);
     }
 
 -- the counts with the new step's
-counts_then : (g : Over) (c : After-push_reserved g) → AreCounted 0 (counts_of (c.advance.new.steps.items ++ record { entries = with_items c.in_ok-entries.entries c.advance.new.entries; named = c.saturating_add-named.result } ∷ []))
+counts_then : (g : Over) (c : After-push_reserved g) → AreCounted 0 (counts_of (c.advance.new.steps.items ++ record { entries = with_items c.in_ok-entries.entries c.advance.new.entries; named_total = c.saturating_add-named_total.result } ∷ []))
 counts_then g c =
-    subst (AreCounted 0) (sym (map-append count_of c.advance.new.steps.items (record { entries = with_items c.in_ok-entries.entries c.advance.new.entries; named = c.saturating_add-named.result } ∷ [])))
-    (counted-push 0 (counts_of c.advance.new.steps.items) (length (with_items c.in_ok-entries.entries c.advance.new.entries).items, c.saturating_add-named.result)
+    subst (AreCounted 0) (sym (map-append count_of c.advance.new.steps.items (record { entries = with_items c.in_ok-entries.entries c.advance.new.entries; named_total = c.saturating_add-named_total.result } ∷ [])))
+    (counted-push 0 (counts_of c.advance.new.steps.items) (length (with_items c.in_ok-entries.entries c.advance.new.entries).items, c.saturating_add-named_total.result)
     (counted-left c.self.inside.cursor c.self.inside.steps.items c.advance.new.steps.items (c.in_ok-advance.ensures.advanced.left ∙ ap (take c.self.inside.cursor) c.reserve.ensures.items) c.self.invariant.counts)
-    (c.saturating_add-named.ensures
-    ∙ ap₂ (λ m n. min (m + n) GREATEST_COUNT) (c.named_pairs.ensures ∙ ap (λ s. counted (total (counts_of s))) c.deref.ensures.value)
+    (c.saturating_add-named_total.ensures
+    ∙ ap₂ (λ m n. min (m + n) GREATEST_COUNT) (c.named_total.ensures ∙ ap (λ s. counted (total (counts_of s))) c.deref.ensures.value)
     (c.len-2.ensures ∙ (with_items c.in_ok-entries.entries c.advance.new.entries).ok.0)
     ∙ counted-more (total (counts_of c.advance.new.steps.items)) (length (with_items c.in_ok-entries.entries c.advance.new.entries).items)
     ∙ ap counted (omega arith)))
@@ -40,7 +40,7 @@ then g c =
     ≡ after_play (timeline_of c.self.inside.cursor (steps_of c.self.inside.steps.items) c.self.inside.table.routes) c.args.event.now)
     × IsPlayed c.advance.new.table.keys c.advance.new.table.routes (c.self.inside.cursor + 1) items) (sym c.push_reserved.ensures.items)
     (after_play-on c.self.inside.table.keys c.advance.new.table.keys c.self.inside.table.routes c.advance.new.table.routes c.self.inside.cursor c.self.inside.steps.items c.advance.new.steps.items
-    (sides_of c.in_ok-entries.entries.items) c.advance.new.entries (record { entries = with_items c.in_ok-entries.entries c.advance.new.entries; named = c.saturating_add-named.result }) c.args.event.now
+    (sides_of c.in_ok-entries.entries.items) c.advance.new.entries (record { entries = with_items c.in_ok-entries.entries c.advance.new.entries; named_total = c.saturating_add-named_total.result }) c.args.event.now
     c.self.invariant.journal.within c.in_ok-entries.ensures
     (with_items_is c.in_ok-entries.entries c.advance.new.entries (c.advance.auto.entries ∙ c.as_mut_slice.ensures.len))
     (subst (λ es. IsAdvanced c.self.inside.table c.self.inside.cursor c.self.inside.steps.items (sides_of es) c.advance.new.table c.advance.new.steps.items c.advance.new.entries) c.as_mut_slice.ensures.value
