@@ -1,12 +1,20 @@
 //! What the calls of a player answer, and what they leave.
 
 mod changes;
+mod counted;
+mod generated;
+mod kept;
+mod lookups;
+mod plain;
+mod refused;
+mod sessions;
+mod stores;
 
 use crate::{PlayFault, Player};
 use ip_prefix::{Addr, Prefix};
 use mrt_wire::{Event, Item, Items, Next, Peer, ReadInput, Route, Source, Stamp, Tag, Time};
 use rib_store::{GREATEST_COUNT, MapStore, PrefixStore};
-use std::alloc::{AllocError, Global};
+use std::alloc::Global;
 use std::process::Abort;
 use std::rc::Rc;
 use std::test::Fail;
@@ -39,12 +47,12 @@ enum Who {
 /// An item, in short. A peer that isn't named is `Who::Peer`, and a prefix that isn't named is
 /// 10.0.0.0/8.
 #[derive(Clone, Copy)]
-enum Say<'a> {
+enum Say {
     /// The announcement of a route of this time.
     Announce(u32),
-    AnnounceOf(Who, &'a str, u32),
+    AnnounceOf(Who, &'static str, u32),
     Withdraw,
-    WithdrawOf(Who, &'a str),
+    WithdrawOf(Who, &'static str),
     State(u16, u16),
     StateOf(Who, u16, u16),
 }
@@ -52,7 +60,7 @@ enum Say<'a> {
 /// A call of the player.
 #[derive(Clone, Copy)]
 enum Call<'a> {
-    Play(&'a [Say<'a>]),
+    Play(&'a [Say]),
     Undo,
     Redo,
 }
@@ -100,6 +108,12 @@ fn prefix_of(text: &str) -> Result<Prefix, Fail> {
 /// The IPv4 prefix of eight bits that begins with this octet.
 fn eight(octet: u8) -> Prefix {
     Prefix::new(Addr::v4([octet, 0, 0, 0]), 8).unwrap()
+}
+
+/// The IPv4 prefix of 24 bits that begins with 10 and this number in two octets.
+fn numbered(number: u32) -> Prefix {
+    let [_, _, high, low] = number.to_be_bytes();
+    Prefix::new(Addr::v4([10, high, low, 0]), 24).unwrap()
 }
 
 /// The route that an event of one announcement brings.
@@ -251,7 +265,11 @@ fn assert_times<S: PrefixStore<Rc<Route>>>(
     rows: &[(Who, &str, Option<u32>)],
 ) -> Result<(), Fail> {
     for (who, text, time) in rows {
-        assert_eq!(rt; time_of(player, &peer_of(*who), &prefix_of(text)?), *time, "{text}");
+        assert_eq!(rt;
+            time_of(player, &peer_of(*who), &prefix_of(text)?),
+            *time,
+            "{text}"
+        );
     }
     Ok(())
 }

@@ -2,10 +2,9 @@
 
 use super::{
     Answer, Call, MapPlayer, Say, Who, announcement, answer_to, assert_times, eight, event,
-    event_of, follow, make_call, peer, peer_of, time_of,
+    event_of, follow, make_call, numbered, peer, peer_of, time_of,
 };
 use crate::Player;
-use ip_prefix::{Addr, Prefix};
 use mrt_wire::Peer;
 use std::alloc::Global;
 use std::test::Fail;
@@ -204,12 +203,6 @@ fn clears_the_lost_peer_alone(rt: HostRuntime) -> Result<(), Fail> {
     Ok(())
 }
 
-/// The prefix of 24 bits of this number.
-fn numbered(number: u32) -> Prefix {
-    let [_, _, high, low] = number.to_be_bytes();
-    Prefix::new(Addr::v4([10, high, low, 0]), 24).unwrap()
-}
-
 #[test]
 fn plays_events_of_thousands_of_prefixes(rt: HostRuntime) -> Result<(), Fail> {
     let alloc = rt.alloc();
@@ -218,7 +211,10 @@ fn plays_events_of_thousands_of_prefixes(rt: HostRuntime) -> Result<(), Fail> {
     for number in 0..5_000u32 {
         items.push(announcement(alloc, peer(), numbered(number), number)?)?;
     }
-    assert_eq!(rt; answer_to(&mut player, &event_of(items)), Answer::Dropped(0));
+    assert_eq!(rt;
+        answer_to(&mut player, &event_of(items)),
+        Answer::Dropped(0)
+    );
     assert_eq!(rt; time_of(&player, &peer(), &numbered(4_999)), Some(4_999));
     let lost = event(alloc, &[Say::State(6, 1)])?;
     assert_eq!(rt; answer_to(&mut player, &lost), Answer::Dropped(0));
