@@ -160,8 +160,10 @@ fn goes_back_and_forth_over_many_steps(rt: HostRuntime) -> Result<(), Fail> {
         Answer::Done,
         time,
     ));
-    for rows in [played, back, forth, back, forth] {
-        follow(&rt, rt.alloc(), &mut player, &rows)?;
+    follow(&rt, rt.alloc(), &mut player, &played)?;
+    for _ in 0..2 {
+        follow(&rt, rt.alloc(), &mut player, &back)?;
+        follow(&rt, rt.alloc(), &mut player, &forth)?;
     }
     Ok(())
 }

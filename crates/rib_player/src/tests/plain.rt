@@ -68,15 +68,24 @@ fn names(before: &[Event], event: &Event, peer: &Peer, prefix: &Prefix) -> bool 
     }
 }
 
+/// Whether the step of the event of this number, counted from 0, names the pair.
+fn is_named_by(events: &[Event], number: usize, peer: &Peer, prefix: &Prefix) -> bool {
+    let Some((before, rest)) = events.split_at_checked(number) else {
+        return false;
+    };
+    match rest.first() {
+        Some(event) => names(before, event, peer, prefix),
+        None => false,
+    }
+}
+
 /// How many steps of these events name the pair.
 fn naming(events: &[Event], peer: &Peer, prefix: &Prefix) -> u64 {
-    let mut rest = events;
     let mut found = 0u64;
-    while let Some((event, before)) = rest.split_last() {
-        if names(before, event, peer, prefix) {
+    for number in 0..events.len() {
+        if is_named_by(events, number, peer, prefix) {
             found = found.saturating_add(1);
         }
-        rest = before;
     }
     found
 }
