@@ -14,3 +14,6 @@ pub use laws::{
 };
 pub use player::{Nothing, PlayFault, Player};
 pub use table::Table;
+
+#[cfg(test)]
+mod tests;
