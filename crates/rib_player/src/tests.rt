@@ -217,6 +217,14 @@ fn time_of<S: PrefixStore<Rc<Route>>>(
     }
 }
 
+/// Whether the peer's store has the key.
+fn has_key<S: PrefixStore<Rc<Route>>>(player: &Player<S>, peer: &Peer, prefix: &Prefix) -> bool {
+    match player.table().store(peer) {
+        Some(store) => store.has_key(prefix),
+        None => false,
+    }
+}
+
 /// How many keys the peer's store has, where there is one.
 fn keys_of<S: PrefixStore<Rc<Route>>>(player: &Player<S>, peer: &Peer) -> Option<u64> {
     match player.table().store(peer) {

@@ -2,7 +2,7 @@
 
 use super::plain::{PEERS, PREFIXES, Plain, prefix_at};
 use super::stores::Refusing;
-use super::{Answer, Who, announcement, answer_to, event_of, keys_of, peer_of, shift, time_of};
+use super::{Answer, Who, announcement, answer_to, event_of, has_key, keys_of, peer_of, shift, time_of};
 use crate::Player;
 use ip_prefix::Prefix;
 use mrt_wire::{Event, Item, Peer, Route};
@@ -133,6 +133,10 @@ fn compare_peer(rt: &impl Abort, player: &RefusingPlayer, plain: &Plain, peer: &
         assert_eq!(rt;
             time_of(player, peer, &prefix),
             plain.time_of(peer, &prefix)
+        );
+        assert_eq!(rt;
+            has_key(player, peer, &prefix),
+            plain.is_wanted(peer, &prefix)
         );
     }
     assert_eq!(rt; keys_of(player, peer), plain.keys_of(peer));

@@ -172,7 +172,7 @@ impl Plain {
     }
 
     /// Whether the pair has a route, or a step names it.
-    fn is_wanted(&self, peer: &Peer, prefix: &Prefix) -> bool {
+    pub(super) fn is_wanted(&self, peer: &Peer, prefix: &Prefix) -> bool {
         self.time_of(peer, prefix).is_some() || naming(&self.events, peer, prefix) > 0
     }
 
