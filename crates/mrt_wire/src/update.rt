@@ -106,7 +106,10 @@ fn items_of_update(
     } = update;
     let count = [&withdrawn, &mp_withdrawn, &announced, &mp_announced]
         .into_iter()
-        .fold(0usize, |count, prefixes| count.saturating_add(prefixes.as_slice().len()));
+        .fold(
+            0usize,
+            |count, prefixes| count.saturating_add(prefixes.as_slice().len()),
+        );
     let mut items = Vec::with_capacity(alloc, count)?;
     add_withdrawals(&mut items, peer, &withdrawn)?;
     add_withdrawals(&mut items, peer, &mp_withdrawn)?;

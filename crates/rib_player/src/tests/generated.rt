@@ -2,7 +2,9 @@
 
 use super::plain::{PEERS, PREFIXES, Plain, prefix_at};
 use super::stores::Refusing;
-use super::{Answer, Who, announcement, answer_to, event_of, has_key, keys_of, peer_of, shift, time_of};
+use super::{
+    Answer, Who, announcement, answer_to, event_of, has_key, keys_of, peer_of, shift, time_of,
+};
 use crate::Player;
 use ip_prefix::Prefix;
 use mrt_wire::{Event, Item, Peer, Route};
