@@ -1,5 +1,5 @@
 -- What lines and reports do to two outputs.
-use Rattle.std.proofs.Common.{ℕ, Bool, List, [], ◌∷◌, ◌++◌, Option, Err, sym, ap, ◌∙◌, refl, subst, append-nil}
+use Rattle.std.proofs.Common.{◌≡◌, ℕ, Bool, List, [], ◌∷◌, ◌++◌, Option, Err, sym, ap, ◌∙◌, refl, subst, append-nil}
 use Rattle.std.proofs.lemmas.List.{append_assoc}
 use Rattle.std.proofs.lemmas.Grind.{flat_map-append}
 use Rattle.std.specs.Io.KnownBytes.{Appends}
@@ -11,16 +11,20 @@ use Rattle.bgpdump_tool.specs.declared.fault.WriteFault.{WriteFault}
 use Rattle.bgpdump_tool.specs.declared.fault.WriteFault.TheVariants.{Write, Memory}
 use Rattle.bgpdump_tool.specs.Device.{AppendsFront}
 use Rattle.bgpdump_tool.specs.Lines.{event_lines}
-use Rattle.bgpdump_tool.specs.Reports.{fault_report, finding_lines, finding_report, dump, reports}
-use Rattle.bgpdump_tool.specs.Run.{Outputs, Writes, WritesFronts}
+use Rattle.bgpdump_tool.specs.Reports.{fault_report, finding_lines, finding_report, dump_texts}
+use Rattle.bgpdump_tool.specs.Run.{Texts, joined_texts, Outputs, Writes, WritesFronts}
 use Rattle.bgpdump_tool.specs.Writing.{Puts, PutsFound}
 
 -- an output that was left alone has a front of any text
 pub AppendsFront-none : (known : Option (List ℕ)) (text : List ℕ) → AppendsFront known known text
 AppendsFront-none known text = record { front = []; back = text; whole = refl; appended = Appends-nil known }
 
+-- the texts of what was found first, and of what was found then
+pub dump_texts-append : (found more : List Finding) → joined_texts (dump_texts found) (dump_texts more) ≡ dump_texts (found ++ more)
+dump_texts-append found more = λ i. record { out = sym (flat_map-append finding_lines found more) i; err = sym (flat_map-append finding_report found more) i }
+
 pub Writes-report : (out err err' : Option (List ℕ)) (fault : RecordFault) → Appends err err' (fault_report fault)
-    → Writes (Bad fault ∷ []) (record { out = out; err = err }) (record { out = out; err = err' })
+    → Writes (dump_texts (Bad fault ∷ [])) (record { out = out; err = err }) (record { out = out; err = err' })
 Writes-report out err err' fault appended = (Appends-nil out, subst (Appends err err') (sym (append-nil (fault_report fault))) appended)
 
 -- the lines of an event that a fault stopped
@@ -36,11 +40,8 @@ PutsFound-report out err err' bad Write put = (AppendsFront-none out [], subst (
 PutsFound-report out err err' bad Memory same = ap (λ known. record { out = out; err = known }) same
 
 -- texts that were written one behind the other
-pub Writes-append : (found more : List Finding) (a b c : Outputs) → Writes found a b → Writes more b c → Writes (found ++ more) a c
-Writes-append found more a b c p q = (
-  subst (Appends a.out c.out) (sym (flat_map-append finding_lines found more)) (Appends-trans a.out b.out c.out (dump found) (dump more) p.0 q.0),
-  subst (Appends a.err c.err) (sym (flat_map-append finding_report found more)) (Appends-trans a.err b.err c.err (reports found) (reports more) p.1 q.1),
-)
+pub Writes-append : (t u : Texts) (a b c : Outputs) → Writes t a b → Writes u b c → Writes (joined_texts t u) a c
+Writes-append t u a b c p q = (Appends-trans a.out b.out c.out t.out u.out p.0 q.0, Appends-trans a.err b.err c.err t.err u.err p.1 q.1)
 
 -- a front behind a whole text
 AppendsFront-behind : (a b c : Option (List ℕ)) (text more : List ℕ) → Appends a b text → AppendsFront b c more → AppendsFront a c (text ++ more)
@@ -52,11 +53,8 @@ AppendsFront-behind a b c text more p q = record {
 }
 
 -- fronts behind whole texts
-pub WritesFronts-behind : (found more : List Finding) (a b c : Outputs) → Writes found a b → WritesFronts more b c → WritesFronts (found ++ more) a c
-WritesFronts-behind found more a b c p q = (
-  subst (AppendsFront a.out c.out) (sym (flat_map-append finding_lines found more)) (AppendsFront-behind a.out b.out c.out (dump found) (dump more) p.0 q.0),
-  subst (AppendsFront a.err c.err) (sym (flat_map-append finding_report found more)) (AppendsFront-behind a.err b.err c.err (reports found) (reports more) p.1 q.1),
-)
+pub WritesFronts-behind : (t u : Texts) (a b c : Outputs) → Writes t a b → WritesFronts u b c → WritesFronts (joined_texts t u) a c
+WritesFronts-behind t u a b c p q = (AppendsFront-behind a.out b.out c.out t.out u.out p.0 q.0, AppendsFront-behind a.err b.err c.err t.err u.err p.1 q.1)
 
 -- a front of a text is one of a longer text
 AppendsFront-longer : (a b : Option (List ℕ)) (text more : List ℕ) → AppendsFront a b text → AppendsFront a b (text ++ more)
@@ -67,16 +65,13 @@ AppendsFront-longer a b text more p = record {
   appended = p.appended;
 }
 
--- fronts of the texts of what was found first are fronts of the texts of all
-pub WritesFronts-longer : (found more : List Finding) (a b : Outputs) → WritesFronts found a b → WritesFronts (found ++ more) a b
-WritesFronts-longer found more a b p = (
-  subst (AppendsFront a.out b.out) (sym (flat_map-append finding_lines found more)) (AppendsFront-longer a.out b.out (dump found) (dump more) p.0),
-  subst (AppendsFront a.err b.err) (sym (flat_map-append finding_report found more)) (AppendsFront-longer a.err b.err (reports found) (reports more) p.1),
-)
+-- fronts of texts are fronts of longer ones
+pub WritesFronts-longer : (t u : Texts) (a b : Outputs) → WritesFronts t a b → WritesFronts (joined_texts t u) a b
+WritesFronts-longer t u a b p = (AppendsFront-longer a.out b.out t.out u.out p.0, AppendsFront-longer a.err b.err t.err u.err p.1)
 
 -- whole texts are fronts
-pub WritesFronts-whole : (found : List Finding) (a b : Outputs) → Writes found a b → WritesFronts found a b
-WritesFronts-whole found a b p = (
-  record { front = dump found; back = []; whole = sym (append-nil (dump found)); appended = p.0 },
-  record { front = reports found; back = []; whole = sym (append-nil (reports found)); appended = p.1 },
+pub WritesFronts-whole : (t : Texts) (a b : Outputs) → Writes t a b → WritesFronts t a b
+WritesFronts-whole t a b p = (
+  record { front = t.out; back = []; whole = sym (append-nil t.out); appended = p.0 },
+  record { front = t.err; back = []; whole = sym (append-nil t.err); appended = p.1 },
 )

@@ -13,6 +13,7 @@ use Rattle.bgpdump_tool.specs.declared.fault.WriteFault.TheVariants.{Write, Memo
 use Rattle.bgpdump_tool.specs.declared.outcome.Outcome.{Outcome}
 use Rattle.bgpdump_tool.specs.declared.outcome.Outcome.TheVariants as outcome
 use Rattle.bgpdump_tool.specs.Ending.{source_outcome, write_outcome}
+use Rattle.bgpdump_tool.specs.Reports.{dump_texts}
 use Rattle.bgpdump_tool.specs.Run.{Outputs, Writes, WritesFronts, IsLast}
 use Rattle.bgpdump_tool.specs.Writing.{is_any_bad}
 
@@ -20,27 +21,37 @@ use Rattle.bgpdump_tool.specs.Writing.{is_any_bad}
 pub record Going (p q : Place) (left left' : Option (List ℕ)) (old new : Outputs) (reported : Bool) : Type 0 where
   pub found : List Finding
   pub so_far : SoFar p q left left' found
-  pub written : Writes found old new
+  pub written : Writes (dump_texts found) old new
   pub reported_is : reported ≡ is_any_bad found
   pub within : q.offset ≤ p.limit
 
--- all that was found was written, and nothing of octets that were taken behind it
-pub record StopsUnwritten (p : Place) (left left' : Option (List ℕ)) (old new : Outputs) : Type 0 where
+-- behind all that was found, octets were taken of which nothing is told
+pub record Untold (p : Place) (left left' : Option (List ℕ)) (found : List Finding) : Type 0 where
   pub place : Place
   pub mid : Option (List ℕ)
-  pub found : List Finding
   pub so_far : SoFar p place left mid found
   pub reading : place.phase ≡ Reading
   pub octets : List ℕ
   pub consumed : Consumes mid left' octets
   pub within : place.offset + length octets ≤ p.limit
-  pub written : Writes found old new
 
--- the source stopped, behind octets that it left
+-- they are what the source left at its fault
+pub record IsFaulty (p : Place) (left left' : Option (List ℕ)) (found : List Finding) (fault : SourceFault) : Type 0 where
+  pub untold : Untold p left left' found
+  pub left_over : IsLeft fault untold.octets
+  pub full : Stops fault (untold.place.offset + length untold.octets) p.limit
+
+-- all that was found was written, and nothing of octets that were taken behind it
+pub record StopsUnwritten (p : Place) (left left' : Option (List ℕ)) (old new : Outputs) : Type 0 where
+  pub found : List Finding
+  pub untold : Untold p left left' found
+  pub written : Writes (dump_texts found) old new
+
+-- the source stopped, behind all that was written
 pub record StopsAtSource (p : Place) (left left' : Option (List ℕ)) (old new : Outputs) (fault : SourceFault) : Type 0 where
-  pub stop : StopsUnwritten p left left' old new
-  pub left_over : IsLeft fault stop.octets
-  pub full : Stops fault (stop.place.offset + length stop.octets) p.limit
+  pub found : List Finding
+  pub faulty : IsFaulty p left left' found fault
+  pub written : Writes (dump_texts found) old new
 
 -- an output failed, behind fronts of what was found
 pub record StopsAtOutput (p : Place) (left left' : Option (List ℕ)) (old new : Outputs) : Type 0 where
@@ -48,12 +59,12 @@ pub record StopsAtOutput (p : Place) (left left' : Option (List ℕ)) (old new :
   pub found : List Finding
   pub so_far : SoFar p place left left' found
   pub within : place.offset ≤ p.limit
-  pub fronts : WritesFronts found old new
+  pub fronts : WritesFronts (dump_texts found) old new
 
 -- the writing stopped at this fault; for want of memory, behind a record or a rest of which nothing is written
 abbrev pub StopsAtWriting : Place → Option (List ℕ) → Option (List ℕ) → Outputs → Outputs → WriteFault → Type 0
 StopsAtWriting p left left' old new Write = StopsAtOutput p left left' old new
-StopsAtWriting p left left' old new Memory = (stop : StopsUnwritten p left left' old new) × IsLast outcome.Memory stop.octets
+StopsAtWriting p left left' old new Memory = (stop : StopsUnwritten p left left' old new) × IsLast outcome.Memory stop.untold.octets
 
 -- how a run ended before its outputs were finished
 abbrev pub Ends : Place → Option (List ℕ) → Option (List ℕ) → Outputs → Outputs → Result Bool Outcome → Type 0

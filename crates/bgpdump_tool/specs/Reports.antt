@@ -6,6 +6,7 @@ use Rattle.mrt_wire.specs.declared.fault.RecordKind.TheVariants.{CutRecord, TooL
 use Rattle.mrt_wire.specs.declared.fault.RecordFault.{RecordFault}
 use Rattle.mrt_wire.specs.Results.{Finding, Found, Bad}
 use Rattle.bgpdump_tool.specs.Lines.{line_feed, event_lines}
+use Rattle.bgpdump_tool.specs.Run.{Texts}
 
 -- what is wrong with a record
 abbrev pub kind_text : RecordKind → List ℕ
@@ -37,3 +38,7 @@ dump found = flat_map finding_lines found
 
 abbrev pub reports : List Finding → List ℕ
 reports found = flat_map finding_report found
+
+-- both: what a run of `-m` writes
+abbrev pub dump_texts : List Finding → Texts
+dump_texts found = record { out = dump found; err = reports found }

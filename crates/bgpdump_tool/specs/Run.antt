@@ -14,14 +14,22 @@ use Rattle.bgpdump_tool.specs.declared.dump.TheConstants.{LIMIT}
 use Rattle.bgpdump_tool.specs.declared.outcome.Outcome.{Outcome}
 use Rattle.bgpdump_tool.specs.declared.outcome.Outcome.TheVariants.{Done, Reported, ReadFault, WriteFault, InputTooLong, ScriptTooLong, Memory}
 use Rattle.bgpdump_tool.specs.Device.{AppendsFront}
-use Rattle.bgpdump_tool.specs.Reports.{dump, reports}
 
--- what was written to the output of lines and to that of reports
+-- what a run writes on the whole: lines or replies, and reports
+pub record Texts : Type 0 where
+  pub out : List ℕ
+  pub err : List ℕ
+
+-- the texts of what was written first, and behind them those of what came then
+abbrev pub joined_texts : Texts → Texts → Texts
+joined_texts first then = record { out = first.out ++ then.out; err = first.err ++ then.err }
+
+-- what was written to the output of lines or replies and to that of reports
 pub record Outputs : Type 0 where
   pub out : Option (List ℕ)
   pub err : Option (List ℕ)
 
--- the same of an output of lines and one of reports, by what is known of each kind
+-- the same of two outputs, by what is known of each kind
 abbrev pub outputs_of : {O E : Type 0} → (O → Option (List ℕ)) → (E → Option (List ℕ)) → O → E → Outputs
 outputs_of written written' out err = record { out = written out; err = written' err }
 
@@ -29,23 +37,23 @@ outputs_of written written' out err = record { out = written out; err = written'
 abbrev pub all_results : Stamp → List Frame → List ℕ → List Finding
 all_results stamp frames rest = results (start_place stamp LIMIT) frames rest
 
--- the lines of what was found went to the one output, and the reports to the other
-abbrev pub Writes : List Finding → Outputs → Outputs → Type 0
-Writes found old new = Appends old.out new.out (dump found) × Appends old.err new.err (reports found)
+-- each text went to its output
+abbrev pub Writes : Texts → Outputs → Outputs → Type 0
+Writes texts old new = Appends old.out new.out texts.out × Appends old.err new.err texts.err
 
--- a front of the lines went to the one output, and a front of the reports to the other
-abbrev pub WritesFronts : List Finding → Outputs → Outputs → Type 0
-WritesFronts found old new = AppendsFront old.out new.out (dump found) × AppendsFront old.err new.err (reports found)
+-- a front of each text went to its output
+abbrev pub WritesFronts : Texts → Outputs → Outputs → Type 0
+WritesFronts texts old new = AppendsFront old.out new.out texts.out × AppendsFront old.err new.err texts.err
 
--- a run over octets in which this is found ended so
-abbrev pub EndsSo : Outcome → List Finding → Outputs → Outputs → Type 0
-EndsSo Done found old new = (reports found ≡ []) × Writes found old new
-EndsSo Reported found old new = (reports found ≢ []) × Writes found old new
-EndsSo ReadFault found old new = WritesFronts found old new
-EndsSo WriteFault found old new = WritesFronts found old new
-EndsSo InputTooLong found old new = WritesFronts found old new
-EndsSo Memory found old new = WritesFronts found old new
-EndsSo ScriptTooLong found old new = ⊥
+-- a run that has these texts on the whole ended so
+abbrev pub EndsSo : Outcome → Texts → Outputs → Outputs → Type 0
+EndsSo Done texts old new = (texts.err ≡ []) × Writes texts old new
+EndsSo Reported texts old new = (texts.err ≢ []) × Writes texts old new
+EndsSo ReadFault texts old new = WritesFronts texts old new
+EndsSo WriteFault texts old new = WritesFronts texts old new
+EndsSo InputTooLong texts old new = WritesFronts texts old new
+EndsSo Memory texts old new = WritesFronts texts old new
+EndsSo ScriptTooLong texts old new = ⊥
 
 -- the run ended by the input: it failed, or it was too long
 abbrev pub EndedByInput : Outcome → Type 0
@@ -57,24 +65,24 @@ EndedByInput WriteFault = ⊥
 EndedByInput ScriptTooLong = ⊥
 EndedByInput Memory = ⊥
 
--- the end was seen by a run that ended so and took this behind the frames: where it read all, unless a header states too much; where an output failed, if a record is cut
-abbrev pub SawEnd : Outcome → List ℕ → Type 0
-SawEnd Done rest = rest_kind rest ≡ CutRecord
-SawEnd Reported rest = rest_kind rest ≡ CutRecord
-SawEnd WriteFault rest = (rest_kind rest ≡ CutRecord) × (rest ≢ [])
-SawEnd ReadFault rest = ⊥
-SawEnd InputTooLong rest = ⊥
-SawEnd Memory rest = ⊥
-SawEnd ScriptTooLong rest = ⊥
+-- the end was seen by a run that ended so and took frames and this behind them: where it read all, unless a header states too much; where an output failed, if a record is cut
+abbrev pub SawEnd : Outcome → List Frame → List ℕ → Type 0
+SawEnd Done frames rest = rest_kind rest ≡ CutRecord
+SawEnd Reported frames rest = rest_kind rest ≡ CutRecord
+SawEnd WriteFault frames rest = (rest_kind rest ≡ CutRecord) × (rest ≢ [])
+SawEnd ReadFault frames rest = ⊥
+SawEnd InputTooLong frames rest = ⊥
+SawEnd Memory frames rest = ⊥
+SawEnd ScriptTooLong frames rest = ⊥
 
--- octets that the input may hold on the whole: those taken, and any others behind them, but none where the end was seen
-pub record MayHold (stamp : Stamp) (outcome : Outcome) (old new : Option (List ℕ)) (octets : List ℕ) : Type 0 where
+-- octets that the input may hold on the whole: those taken, and any others behind them, but none where by what was taken the end was seen
+pub record MayHold (stamp : Stamp) (Saw : List Frame → List ℕ → Type 0) (old new : Option (List ℕ)) (octets : List ℕ) : Type 0 where
   pub taken : List ℕ
   pub after : List ℕ
   pub more : List ℕ
   pub took : Took old new taken after
   pub whole : octets ≡ taken ++ more
-  pub follows : (frames : List Frame) (rest : List ℕ) → Splits stamp None taken frames rest → SawEnd outcome rest → after ≡ [] → more ≡ []
+  pub follows : (frames : List Frame) (rest : List ℕ) → Splits stamp None taken frames rest → Saw frames rest → after ≡ [] → more ≡ []
 
 -- octets taken behind the frames: a record has begun in them, where the input ended the run; or they are the rest; or for want of memory a whole record of which nothing is written
 abbrev pub IsLast : Outcome → List ℕ → Type 0

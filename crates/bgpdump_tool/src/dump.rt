@@ -8,7 +8,8 @@ ghost use Rattle.mrt_wire.specs.Splitting.{Splits};
 ghost use Rattle.mrt_wire.specs.Place.{start_place};
 ghost use Rattle.mrt_wire.specs.Next.{Took, answer_findings};
 ghost use Rattle.mrt_wire.specs.SoFar.{is_nothing};
-ghost use Rattle.bgpdump_tool.specs.Run.{IsTaken, MayHold, outputs_of, Writes, EndsSo, EndedByInput, all_results};
+ghost use Rattle.bgpdump_tool.specs.Reports.{dump_texts};
+ghost use Rattle.bgpdump_tool.specs.Run.{IsTaken, MayHold, SawEnd, outputs_of, Writes, EndsSo, EndedByInput, all_results};
 ghost use Rattle.bgpdump_tool.specs.Ending.{outcome_of, is_read_fault, is_write_fault};
 ghost use Rattle.bgpdump_tool.specs.Going.{Ends};
 
@@ -39,9 +40,9 @@ pub fn run_dump<I: Input, O: Output, E: Output>(
     // Whatever the input may hold on the whole: its lines and reports were written, or fronts of
     // them.
     ensures text { (octets : List ℕ) (frames : List Frame) (rest : List ℕ) →
-        MayHold stamp result (I.left input.old) (I.left input.new) octets →
+        MayHold stamp (SawEnd result) (I.left input.old) (I.left input.new) octets →
         Splits stamp None octets frames rest →
-        EndsSo result (all_results stamp frames rest)
+        EndsSo result (dump_texts (all_results stamp frames rest))
         (outputs_of O.written E.written out.old err.old)
         (outputs_of O.written E.written out.new err.new) }
 
@@ -50,7 +51,7 @@ pub fn run_dump<I: Input, O: Output, E: Output>(
         (taken after : List ℕ) (frames : List Frame) (rest : List ℕ) →
         Took (I.left input.old) (I.left input.new) taken after →
         Splits stamp None taken frames rest →
-        Writes (all_results stamp frames [])
+        Writes (dump_texts (all_results stamp frames []))
         (outputs_of O.written E.written out.old err.old)
         (outputs_of O.written E.written out.new err.new) }
 
