@@ -44,7 +44,7 @@ pub Writes-append : (t u : Texts) (a b c : Outputs) → Writes t a b → Writes 
 Writes-append t u a b c p q = (Appends-trans a.out b.out c.out t.out u.out p.0 q.0, Appends-trans a.err b.err c.err t.err u.err p.1 q.1)
 
 -- a front behind a whole text
-AppendsFront-behind : (a b c : Option (List ℕ)) (text more : List ℕ) → Appends a b text → AppendsFront b c more → AppendsFront a c (text ++ more)
+pub AppendsFront-behind : (a b c : Option (List ℕ)) (text more : List ℕ) → Appends a b text → AppendsFront b c more → AppendsFront a c (text ++ more)
 AppendsFront-behind a b c text more p q = record {
   front = text ++ q.front;
   back = q.back;

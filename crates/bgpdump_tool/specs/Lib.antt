@@ -6,3 +6,6 @@ pub mod Ending
 pub mod Writing
 pub mod Going
 pub mod Status
+pub mod State
+pub mod Standing
+pub mod Moves

@@ -20,7 +20,7 @@ use mrt_wire::{Input, Next, Source, Stamp};
 use std::alloc::Global;
 
 /// How many octets a run reads at most.
-const LIMIT: u64 = 1 << 40;
+pub(crate) const LIMIT: u64 = 1 << 40;
 
 /// Reads an input of MRT records (RFC 6396) to its end, or to a header that states too much. The
 /// lines of all events go to `out`, and the reports of all faulty records to `err`. What a record

@@ -2,6 +2,7 @@
 #![tactic(auto)]
 
 mod again;
+mod commands;
 mod dump;
 mod fault;
 mod fields;
@@ -11,6 +12,8 @@ mod outcome;
 mod output;
 mod reports;
 mod same;
+mod script;
+mod session;
 mod write;
 
 pub use dump::run_dump;

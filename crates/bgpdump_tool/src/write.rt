@@ -25,7 +25,7 @@ fn write_lines<O: Output>(out: &mut O, text: &mut Vec<u8>, event: &Event) -> Res
 }
 
 /// Writes the report of a fault. The text is scratch.
-fn write_report<E: Output>(
+pub(crate) fn write_report<E: Output>(
     err: &mut E,
     text: &mut Vec<u8>,
     fault: RecordFault,

@@ -73,7 +73,7 @@ pub no_rest : (p q : Place) (left left' : Option (List ℕ)) (found : List Findi
 no_rest p q left left' found s reading = subst (λ t. RestSoFar t left' s.rest) reading s.rest_is
 
 -- a frame more was taken
-SoFar-frame : (p q q' : Place) (left left' left'' : Option (List ℕ)) (found : List Finding) (answer : Next) (octets : List ℕ) (frame : Frame) → SoFar p q left left' found → q.phase ≡ Reading
+abbrev SoFar-frame : (p q q' : Place) (left left' left'' : Option (List ℕ)) (found : List Finding) (answer : Next) (octets : List ℕ) (frame : Frame) → SoFar p q left left' found → q.phase ≡ Reading
     → Consumes left' left'' octets → IsFrameAt q q' answer octets frame → SoFar p q' left left'' (found ++ answer_findings answer)
 SoFar-frame p q q' left left' left'' found answer octets frame s reading taken at =
     let b : Place = place_behind_all p s.frames in
@@ -101,7 +101,7 @@ SoFar-frame p q q' left left' left'' found answer octets frame s reading taken a
     }
 
 -- the rest was taken
-SoFar-rest : (p q q' : Place) (left left' left'' : Option (List ℕ)) (found : List Finding) (answer : Next) (octets : List ℕ) → SoFar p q left left' found → q.phase ≡ Reading
+abbrev SoFar-rest : (p q q' : Place) (left left' left'' : Option (List ℕ)) (found : List Finding) (answer : Next) (octets : List ℕ) → SoFar p q left left' found → q.phase ≡ Reading
     → Consumes left' left'' octets → IsRestAt q q' left'' answer octets → SoFar p q' left left'' (found ++ answer_findings answer)
 SoFar-rest p q q' left left' left'' found answer octets s reading taken at =
     let b : Place = place_behind_all p s.frames in
@@ -260,4 +260,36 @@ goes_on_with_some p q q' left left' left'' found answer s promised some = by_pha
       where
         none : true ≡ false → ⊥
         none e = cc
+    by_phase Spent is rest = absurd rest
+
+-- an answer more that tells something: where it ends the reading, something was taken behind the frames
+pub SoFar-told : (p q q' : Place) (left left' left'' : Option (List ℕ)) (found : List Finding) (answer : Next) → SoFar p q left left' found → Promises q q' left' left'' answer
+    → is_nothing (answer_findings answer) ≡ false → (s' : SoFar p q' left left'' (found ++ answer_findings answer)) × (q'.phase ≡ Ended → s'.rest ≡ [] → ⊥)
+SoFar-told p q q' left left' left'' found answer s promised some = by_phase q.phase refl s.rest_is
+  where
+    nothing : is_nothing (answer_findings answer) ≡ true → ⊥
+    nothing none = clash (sym none ∙ some)
+      where
+        clash : true ≡ false → ⊥
+        clash e = cc
+
+    by_answer : q.phase ≡ Reading → (octets : List ℕ) → Consumes left' left'' octets → Nexts q q' left'' octets (Ok answer)
+        → (s' : SoFar p q' left left'' (found ++ answer_findings answer)) × (q'.phase ≡ Ended → s'.rest ≡ [] → ⊥)
+    by_answer is octets taken (inl (frame, at)) = (
+      SoFar-frame p q q' left left' left'' found answer octets frame s is taken at,
+      λ ended none. reading (sym ended ∙ ap (λ x. x.phase) at.place ∙ is),
+    )
+      where
+        reading : Ended ≡ Reading → ⊥
+        reading e = cc
+    by_answer is octets taken (inr at) = (
+      SoFar-rest p q q' left left' left'' found answer octets s is taken at,
+      λ ended none. nothing (ap is_nothing (at.tells ∙ ap (λ o. fault_findings (q.number + 1) q.offset (rest_fault o)) none)),
+    )
+
+    by_phase : (phase : Phase) → q.phase ≡ phase → RestSoFar phase left' s.rest → (s' : SoFar p q' left left'' (found ++ answer_findings answer)) × (q'.phase ≡ Ended → s'.rest ≡ [] → ⊥)
+    by_phase Reading is rest =
+        let (octets, taken, at) = promised.0 is in
+        by_answer is octets taken at
+    by_phase Ended is rest = absurd (nothing (ap is_nothing (promised.1 is).0))
     by_phase Spent is rest = absurd rest

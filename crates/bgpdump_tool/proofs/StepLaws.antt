@@ -1,0 +1,221 @@
+-- A run that goes on by one step.
+use Rattle.std.proofs.Common.{◌≡◌, inl, inr, ℕ, ◌+◌, ◌-◌, ◌<◌, ◌≤◌, ◌||◌, Bool, true, false, Result, Ok, Err, List, [], ◌∷◌, ◌++◌, length, take, nat_lt, Option, refl, sym, ap, subst, ◌∙◌, arith, append-nil}
+use Rattle.std.proofs.lemmas.Bool.Decides.{nat_tests}
+use Rattle.std.proofs.lemmas.List.{take_all}
+use Rattle.std.specs.Io.KnownBytes.{Consumes, Appends}
+use Rattle.std.proofs.KnownBytes.{Appends-nil}
+use Rattle.mrt_wire.specs.declared.event.Event.{Event}
+use Rattle.mrt_wire.specs.declared.fault.RecordFault.{RecordFault}
+use Rattle.mrt_wire.specs.declared.fault.SourceFault.{SourceFault}
+use Rattle.mrt_wire.specs.declared.next.Next.{Next}
+use Rattle.mrt_wire.specs.declared.next.Next.TheVariants as next
+use Rattle.mrt_wire.specs.declared.next.Phase.TheVariants.{Reading, Ended}
+use Rattle.mrt_wire.specs.Results.{Finding, Found, Bad}
+use Rattle.mrt_wire.specs.Place.{Place}
+use Rattle.mrt_wire.specs.Next.{answer_findings, Nexts}
+use Rattle.mrt_wire.specs.SoFar.{SoFar, is_nothing}
+use Rattle.mrt_wire.proofs.SoFarLaws.{Promises, SoFar-answer, SoFar-told, ends_with_none}
+use Rattle.rib_player.specs.Timeline.{Timeline, StandsFor, end_of, after_play, after_redo}
+use Rattle.rib_player.proofs.TimelineLaws.{StandsFor-after_play, StandsFor-after_redo, StandsFor-end}
+use Rattle.bgpdump_tool.specs.declared.fault.WriteFault.{WriteFault}
+use Rattle.bgpdump_tool.specs.declared.fault.WriteFault.TheVariants as write
+use Rattle.bgpdump_tool.specs.declared.outcome.Outcome.{Outcome}
+use Rattle.bgpdump_tool.specs.declared.outcome.Outcome.TheVariants as outcome
+use Rattle.bgpdump_tool.specs.Device.{AppendsFront}
+use Rattle.bgpdump_tool.specs.Ending.{source_outcome, write_outcome}
+use Rattle.bgpdump_tool.specs.Going.{IsFaulty}
+use Rattle.bgpdump_tool.specs.Reports.{fault_report, reports}
+use Rattle.bgpdump_tool.specs.Writing.{Puts}
+use Rattle.bgpdump_tool.specs.Standing.{Standing, Scene, Taking, Stands, Follows, standing_on, IsOnward}
+use Rattle.bgpdump_tool.specs.Moves.{GoesOn, Stops, StepDoes}
+use Rattle.bgpdump_tool.proofs.RunLaws.{IsFaulty-behind}
+use Rattle.bgpdump_tool.proofs.WritingLaws.{AppendsFront-none}
+
+or_false : (b : Bool) → (b || false) ≡ b
+or_false true = refl
+or_false false = refl
+
+or_true : (b : Bool) → (b || true) ≡ true
+or_true true = refl
+or_true false = refl
+
+-- ---- the player
+
+-- a redo where a step is ahead, and where none is
+redo_on : (t : Timeline) → t.cursor < end_of t → after_redo t ≡ record t { cursor = t.cursor + 1 }
+redo_on t h =
+    let on : nat_lt t.cursor (end_of t) ≡ true = grind (arith, nat_tests) in
+    rw on refl
+
+pub redo_off : (t : Timeline) → ¬ (t.cursor < end_of t) → after_redo t ≡ t
+redo_off t h =
+    let off : nat_lt t.cursor (end_of t) ≡ false = grind (arith, nat_tests) in
+    rw off refl
+
+-- there the cursor stands behind the history
+pub cursor_at_end : (from : Place) (left : Option (List ℕ)) (scene : Scene) (s : Standing) → Stands from left scene s → ¬ (scene.player.cursor < end_of scene.player) → s.cursor ≡ length s.history
+cursor_at_end from left scene s stands off =
+    omega (arith, StandsFor-end scene.player s.history stands.history, stands.history.cursor, stands.cursor)
+
+-- ---- the source
+
+-- nothing was asked
+Taking-stays : (from q : Place) (left left' : Option (List ℕ)) (found : List Finding) (ended : Bool) → Taking from left q left' found ended → Taking from left q left' (found ++ []) (ended || false)
+Taking-stays from q left left' found ended taking =
+    subst (λ b. Taking from left q left' (found ++ []) b) (sym (or_false ended)) (subst (λ f. Taking from left q left' f ended) (sym (append-nil found)) taking)
+
+-- an answer more that tells something
+pub Taking-told : (from q q' : Place) (left left' left'' : Option (List ℕ)) (found : List Finding) (ended : Bool) (answer : Next) → Taking from left q left' found ended → Promises q q' left' left'' answer
+    → is_nothing (answer_findings answer) ≡ false → q'.offset ≤ q'.limit → Taking from left q' left'' (found ++ answer_findings answer) ended
+Taking-told from q q' left left' left'' found ended answer taking promised some within =
+    let told = SoFar-told from q q' left left' left'' found answer taking.so_far promised some in
+    record {
+      so_far = told.0;
+      seen = λ ends none. absurd (told.1 ends none);
+      within = omega (arith, within, told.0.limit);
+    }
+
+-- the end was answered
+Taking-end : (from q q' : Place) (left left' left'' : Option (List ℕ)) (found : List Finding) (ended : Bool) → Taking from left q left' found ended → Promises q q' left' left'' next.End
+    → q'.offset ≤ q'.limit → Taking from left q' left'' (found ++ []) (ended || true)
+Taking-end from q q' left left' left'' found ended taking promised within =
+    let so_far = SoFar-answer from q q' left left' left'' found next.End taking.so_far promised in
+    record {
+      so_far = so_far;
+      seen = λ ends none. or_true ended;
+      within = omega (arith, within, so_far.limit);
+    }
+
+Follows-answer : (q q' : Place) (left left' : Option (List ℕ)) (answer : Next) → Promises q q' left left' answer → Follows q q' (answer_findings answer)
+Follows-answer q q' left left' answer promised = record {
+  quiet = λ e. (promised.1 e).0;
+  stays = λ e. ap (λ x. x.phase) (promised.1 e).1 ∙ e;
+}
+
+-- ---- one step
+
+-- over the step ahead
+pub step_over : (from : Place) (left : Option (List ℕ)) (old : Scene) (s : Standing) (t : Timeline) → Stands from left old s → t ≡ after_redo old.player → old.player.cursor < end_of old.player
+    → GoesOn from left s old (record old { player = t }) 1 [] false
+step_over from left old s t stands e on =
+    let same : t ≡ record (old.player) { cursor = old.player.cursor + 1 } = e ∙ redo_on old.player on in
+    let end = StandsFor-end old.player s.history stands.history in
+    record {
+      onward = record { few = omega (arith, end, stands.cursor); all = λ none. absurd (omega (arith, none)) };
+      stands = record {
+        history = subst (StandsFor t) (sym (append-nil s.history)) (subst (λ x. StandsFor x s.history) (sym e) (StandsFor-after_redo old.player s.history stands.history));
+        cursor = ap (λ x. x.cursor) same ∙ omega (arith, stands.cursor);
+        floor = ap (λ x. x.floor) same ∙ stands.floor;
+        taking = Taking-stays from old.place left old.left s.found s.ended stands.taking;
+      };
+      follows = record { quiet = λ _. refl; stays = λ ended. ended };
+      met = λ ended. cc;
+      reported = Appends-nil old.err;
+    }
+
+-- over an event that is played
+pub step_found : (from : Place) (left : Option (List ℕ)) (old : Scene) (s : Standing) (t u : Timeline) (q : Place) (left' : Option (List ℕ)) (event : Event) → Stands from left old s → t ≡ after_redo old.player
+    → ¬ (old.player.cursor < end_of old.player) → u ≡ after_play t event → Promises old.place q old.left left' (next.Event event) → q.offset ≤ q.limit
+    → GoesOn from left s old (record { player = u; place = q; left = left'; err = old.err }) 0 (Found event ∷ []) false
+step_found from left old s t u q left' event stands e off plays promised within =
+    let now : u ≡ after_play old.player event = plays ∙ ap (λ x. after_play x event) (e ∙ redo_off old.player off) in
+    let end = cursor_at_end from left old s stands off in
+    let all : take old.player.cursor s.history ≡ s.history = take_all old.player.cursor s.history (omega (arith, end, stands.cursor)) in
+    record {
+      onward = record { few = omega arith; all = λ one. omega (arith, end) };
+      stands = record {
+        history = subst (λ l. StandsFor u (l ++ event ∷ [])) all (subst (λ x. StandsFor x (take old.player.cursor s.history ++ event ∷ [])) (sym now) (StandsFor-after_play old.player s.history event stands.history));
+        cursor = ap (λ x. x.cursor) now ∙ omega (arith, stands.cursor);
+        floor = ap (λ x. x.floor) now ∙ stands.floor;
+        taking = subst (λ b. Taking from left q left' (s.found ++ Found event ∷ []) b) (sym (or_false s.ended)) (Taking-told from old.place q left old.left left' s.found s.ended (next.Event event) stands.taking promised refl within);
+      };
+      follows = Follows-answer old.place q old.left left' (next.Event event) promised;
+      met = λ ended. cc;
+      reported = Appends-nil old.err;
+    }
+
+-- a player that can't go on stays
+Stands-stays : (from : Place) (left : Option (List ℕ)) (old : Scene) (s : Standing) (t : Timeline) (q : Place) (left' err : Option (List ℕ)) (new : List Finding) (ended : Bool) → Stands from left old s → t ≡ after_redo old.player
+    → ¬ (old.player.cursor < end_of old.player) → Taking from left q left' (s.found ++ new) (s.ended || ended)
+    → Stands from left (record { player = t; place = q; left = left'; err = err }) (record { history = s.history ++ []; cursor = s.cursor + 0 + 0; floor = s.floor; found = s.found ++ new; ended = s.ended || ended })
+Stands-stays from left old s t q left' err new ended stands e off taking =
+    let same : t ≡ old.player = e ∙ redo_off old.player off in
+    record {
+      history = subst (StandsFor t) (sym (append-nil s.history)) (subst (λ x. StandsFor x s.history) (sym same) stands.history);
+      cursor = ap (λ x. x.cursor) same ∙ omega (arith, stands.cursor);
+      floor = ap (λ x. x.floor) same ∙ stands.floor;
+      taking = taking;
+    }
+
+-- over a fault that is reported
+pub step_bad : (from : Place) (left : Option (List ℕ)) (old : Scene) (s : Standing) (t : Timeline) (q : Place) (left' err : Option (List ℕ)) (fault : RecordFault) → Stands from left old s → t ≡ after_redo old.player
+    → ¬ (old.player.cursor < end_of old.player) → Promises old.place q old.left left' (next.Bad fault) → q.offset ≤ q.limit → Appends old.err err (fault_report fault)
+    → GoesOn from left s old (record { player = t; place = q; left = left'; err = err }) 0 (Bad fault ∷ []) false
+step_bad from left old s t q left' err fault stands e off promised within appended =
+    let end = cursor_at_end from left old s stands off in
+    record {
+      onward = record { few = omega arith; all = λ one. omega (arith, end) };
+      stands = Stands-stays from left old s t q left' err (Bad fault ∷ []) false stands e off
+          (subst (λ b. Taking from left q left' (s.found ++ Bad fault ∷ []) b) (sym (or_false s.ended)) (Taking-told from old.place q left old.left left' s.found s.ended (next.Bad fault) stands.taking promised refl within));
+      follows = Follows-answer old.place q old.left left' (next.Bad fault) promised;
+      met = λ ended. cc;
+      reported = subst (Appends old.err err) (sym (append-nil (fault_report fault))) appended;
+    }
+
+-- to the end
+pub step_end : (from : Place) (left : Option (List ℕ)) (old : Scene) (s : Standing) (t : Timeline) (q : Place) (left' : Option (List ℕ)) → Stands from left old s → t ≡ after_redo old.player
+    → ¬ (old.player.cursor < end_of old.player) → Promises old.place q old.left left' next.End → q.offset ≤ q.limit
+    → GoesOn from left s old (record { player = t; place = q; left = left'; err = old.err }) 0 [] true
+step_end from left old s t q left' stands e off promised within =
+    let end = cursor_at_end from left old s stands off in
+    record {
+      onward = record { few = omega arith; all = λ one. absurd (omega (arith, one)) };
+      stands = Stands-stays from left old s t q left' old.err [] true stands e off (Taking-end from old.place q left old.left left' s.found s.ended stands.taking promised within);
+      follows = Follows-answer old.place q old.left left' next.End promised;
+      met = λ _. (omega (arith, end), ends_with_none from old.place q left old.left left' s.found next.End stands.taking.so_far promised refl);
+      reported = Appends-nil old.err;
+    }
+
+-- ---- a step that a fault stops
+
+pub step_stops_reading : (from : Place) (left : Option (List ℕ)) (old : Scene) (s : Standing) (t : Timeline) (q : Place) (left' : Option (List ℕ)) (fault : SourceFault) → Stands from left old s
+    → ¬ (old.player.cursor < end_of old.player) → (old.place.phase ≡ Reading → (octets : List ℕ) × Consumes old.left left' octets × Nexts old.place q left' octets (Err fault))
+    → (old.place.phase ≡ Ended → ◌≡◌ {A = Result Next SourceFault} (Err fault) (Ok next.End)) → q.offset ≤ q.limit
+    → StepDoes from left s old (record { player = t; place = q; left = left'; err = old.err }) (Err (source_outcome fault))
+step_stops_reading from left old s t q left' fault stands off promised ended within =
+    let faulty = IsFaulty-behind from old.place q left old.left left' s.found fault stands.taking.so_far promised ended within in (
+      cursor_at_end from left old s stands off,
+      inl (fault, refl, [], refl, record {
+        faulty = subst (λ f. IsFaulty from left left' f fault) (sym (append-nil s.found)) faulty;
+        reported = Appends-nil old.err;
+      }),
+    )
+
+-- behind an answer that tells something
+stops_told : (from : Place) (left : Option (List ℕ)) (old : Scene) (s : Standing) (u : Timeline) (q : Place) (left' err : Option (List ℕ)) (answer : Next) (fault : WriteFault) → Stands from left old s
+    → ¬ (old.player.cursor < end_of old.player) → Promises old.place q old.left left' answer → is_nothing (answer_findings answer) ≡ false → length (answer_findings answer) ≡ 1 → q.offset ≤ q.limit
+    → AppendsFront old.err err (reports (answer_findings answer)) → StepDoes from left s old (record { player = u; place = q; left = left'; err = err }) (Err (write_outcome fault))
+stops_told from left old s u q left' err answer fault stands off promised some one within fronts = (
+  cursor_at_end from left old s stands off,
+  inr (fault, refl, answer_findings answer, one, record {
+    taking = Taking-told from old.place q left old.left left' s.found s.ended answer stands.taking promised some within;
+    follows = Follows-answer old.place q old.left left' answer promised;
+    fronts = fronts;
+  }),
+)
+
+pub step_stops_playing : (from : Place) (left : Option (List ℕ)) (old : Scene) (s : Standing) (u : Timeline) (q : Place) (left' : Option (List ℕ)) (event : Event) → Stands from left old s
+    → ¬ (old.player.cursor < end_of old.player) → Promises old.place q old.left left' (next.Event event) → q.offset ≤ q.limit
+    → StepDoes from left s old (record { player = u; place = q; left = left'; err = old.err }) (Err outcome.Memory)
+step_stops_playing from left old s u q left' event stands off promised within =
+    stops_told from left old s u q left' old.err (next.Event event) write.Memory stands off promised refl refl within (AppendsFront-none old.err [])
+
+pub step_stops_reporting : (from : Place) (left : Option (List ℕ)) (old : Scene) (s : Standing) (u : Timeline) (q : Place) (left' err : Option (List ℕ)) (bad : RecordFault) (fault : WriteFault) → Stands from left old s
+    → ¬ (old.player.cursor < end_of old.player) → Promises old.place q old.left left' (next.Bad bad) → q.offset ≤ q.limit → Puts {A = Unit {0}} old.err err (fault_report bad) (Err fault)
+    → StepDoes from left s old (record { player = u; place = q; left = left'; err = err }) (Err (write_outcome fault))
+step_stops_reporting from left old s u q left' err bad fault stands off promised within put =
+    stops_told from left old s u q left' err (next.Bad bad) fault stands off promised refl refl within (fronts fault put)
+  where
+    fronts : (fault : WriteFault) → Puts {A = Unit {0}} old.err err (fault_report bad) (Err fault) → AppendsFront old.err err (reports (Bad bad ∷ []))
+    fronts write.Write front = subst (AppendsFront old.err err) (sym (append-nil (fault_report bad))) front
+    fronts write.Memory same = subst (λ e. AppendsFront old.err e (reports (Bad bad ∷ []))) (sym same) (AppendsFront-none old.err (reports (Bad bad ∷ [])))

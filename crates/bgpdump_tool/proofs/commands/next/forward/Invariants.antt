@@ -1,0 +1,19 @@
+-- So many steps were taken.
+use Rattle.std.proofs.Common.{◌≡◌, ℕ, List, Option}
+use Rattle.mrt_wire.specs.Place.{Place}
+use Rattle.bgpdump_tool.specs.Standing.{Standing, Stands, HasRoom, scene_of}
+use Rattle.bgpdump_tool.specs.declared.script.TheConstants.{LONGEST_SCRIPT}
+use Rattle.bgpdump_tool.proofs.MoveLaws.{Forth}
+use Rattle.bgpdump_tool.proofs.commands.next.forward.Given as goal
+
+abbrev pub invariant-steps : goal.invariant-steps
+invariant-steps g l = record {
+  forth : (from : Place) (left : Option (List ℕ)) (s : Standing)
+      → Stands from left (scene_of g.I.Input.left g.E.Output.written l.initial.session.player l.initial.session.source l.initial.input l.initial.err) s
+      → Forth l.counter from left s
+      (scene_of g.I.Input.left g.E.Output.written l.initial.session.player l.initial.session.source l.initial.input l.initial.err)
+      (scene_of g.I.Input.left g.E.Output.written l.session.player l.session.source l.input l.err);
+  room : (lost : ℕ) → HasRoom l.initial.session.player l.initial.session.source lost → HasRoom l.session.player l.session.source lost;
+  read : g.I.Input.failed l.input ≡ g.I.Input.failed l.initial.input;
+  wrote : g.E.Output.failed l.err ≡ g.E.Output.failed l.initial.err;
+}

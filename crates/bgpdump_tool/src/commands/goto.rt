@@ -1,0 +1,54 @@
+//! To a position.
+
+ghost use Rattle.std.specs.Prelude.{◌≡◌, ◌≤◌, ◌||◌, ℕ, max};
+ghost use Rattle.bgpdump_tool.specs.declared.script.TheConstants.{LONGEST_SCRIPT};
+ghost use Rattle.bgpdump_tool.specs.Ending.{is_read_fault, is_write_fault};
+ghost use Rattle.bgpdump_tool.specs.Standing.{HasRoom, at_cursor, scene_of};
+ghost use Rattle.bgpdump_tool.specs.Moves.{Moves, OnwardDoes};
+
+use crate::outcome::Outcome;
+use crate::output::Output;
+use crate::session::Session;
+use mrt_wire::{Input, Route};
+use rib_player::Player;
+use rib_store::PrefixStore;
+use std::rc::Rc;
+
+/// On to a position, or as far as there are steps. Answers whether there were too few.
+fn onward<S: PrefixStore<Rc<Route>>, I: Input, E: Output>(
+    session: &mut Session<S>,
+    input: &mut I,
+    err: &mut E,
+    position: u32,
+) -> Result<bool, Outcome>
+    requires room { HasRoom session.old.player session.old.source LONGEST_SCRIPT }
+    requires ahead { session.old.player.cursor ≤ position }
+    ensures moves { Moves (OnwardDoes position)
+        (scene_of I.left E.written session.old.player session.old.source input.old err.old)
+        (scene_of I.left E.written session.new.player session.new.source input.new err.new)
+        result }
+    ensures room { (lost : ℕ) → HasRoom session.old.player session.old.source lost →
+        HasRoom session.new.player session.new.source lost }
+    ensures read { I.failed input.new ≡ (I.failed input.old || is_read_fault result) }
+    ensures wrote { E.failed err.new ≡ (E.failed err.old || is_write_fault result) }
+{
+    'steps: while session.player.at() < u64::from(position) {
+        if session.step(input, err)? {
+            return Ok(true);
+        }
+    }
+    Ok(false)
+}
+
+/// Back to a position, or as far as there are steps.
+fn retreat<S: PrefixStore<Rc<Route>>>(player: &mut Player<S>, position: u32)
+    requires behind { position ≤ player.old.cursor }
+    requires floor { player.old.floor ≤ player.old.cursor }
+    ensures { player.new ≡ at_cursor (max position player.old.floor) player.old }
+{
+    'steps: while player.at() > u64::from(position) {
+        if player.undo().is_err() {
+            return;
+        }
+    }
+}

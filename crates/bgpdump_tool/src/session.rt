@@ -1,0 +1,89 @@
+//! A player, and the source of what it plays next.
+
+ghost use Rattle.std.specs.Prelude.{◌≡◌, ◌<◌, ◌+◌, ◌||◌, ℕ, false, IfOk};
+ghost use Rattle.rib_player.specs.Timeline.{fresh, ahead_of};
+ghost use Rattle.mrt_wire.specs.Place.{start_place};
+ghost use Rattle.bgpdump_tool.specs.declared.dump.TheConstants.{LIMIT};
+ghost use Rattle.bgpdump_tool.specs.Ending.{is_read_fault, is_write_fault};
+ghost use Rattle.bgpdump_tool.specs.declared.script.TheConstants.{LONGEST_SCRIPT};
+ghost use Rattle.bgpdump_tool.specs.Standing.{HasRoom, scene_of};
+ghost use Rattle.bgpdump_tool.specs.Moves.{Moves, StepDoes};
+
+use crate::dump::LIMIT;
+use crate::outcome::Outcome;
+use crate::output::Output;
+use crate::write::write_report;
+use mrt_wire::{Input, Next, Route, Source, Stamp};
+use rib_player::Player;
+use rib_store::PrefixStore;
+use std::alloc::Global;
+use std::rc::Rc;
+
+/// A player, and the source of what it plays next.
+#[derive(Drop)]
+pub(crate) struct Session<S: PrefixStore<Rc<Route>>> {
+    /// What memory is taken from.
+    pub(crate) alloc: Global,
+    /// The player.
+    pub(crate) player: Player<S>,
+    /// Where what isn't played yet comes from.
+    pub(crate) source: Source,
+    /// Whether something was reported.
+    pub(crate) reported: bool,
+    /// Room for a text. What stands in it means nothing.
+    pub(crate) text: Vec<u8>,
+}
+
+impl<S: PrefixStore<Rc<Route>>> Session<S> {
+    /// Nothing is played, read or reported yet.
+    pub(crate) fn new(alloc: Global, stamp: Stamp) -> Self
+        ensures player { result.player ≡ fresh }
+        ensures source { result.source ≡ start_place stamp LIMIT }
+        ensures reported { result.reported ≡ false }
+    {
+        Session {
+            alloc,
+            player: Player::new(alloc),
+            source: Source::new(alloc, stamp, LIMIT),
+            reported: false,
+            text: Vec::new(alloc),
+        }
+    }
+
+    /// One step on: over the step ahead, or else over what is read next. The fault of a record is
+    /// reported, and is a step for what counts steps here, not for the player. Answers whether
+    /// instead nothing is left to read.
+    pub(crate) fn step<I: Input, E: Output>(
+        &mut self,
+        input: &mut I,
+        err: &mut E,
+    ) -> Result<bool, Outcome>
+        requires room { HasRoom self.old.player self.old.source LONGEST_SCRIPT }
+        ensures moves { Moves StepDoes
+            (scene_of I.left E.written self.old.player self.old.source input.old err.old)
+            (scene_of I.left E.written self.new.player self.new.source input.new err.new) result }
+        ensures room { (lost : ℕ) → HasRoom self.old.player self.old.source lost →
+            HasRoom self.new.player self.new.source lost }
+        ensures smaller { IfOk result (λ ended. ended ≡ false →
+            ahead_of self.new.player + self.old.source.offset
+            < ahead_of self.old.player + self.new.source.offset) }
+        ensures read { I.failed input.new ≡ (I.failed input.old || is_read_fault result) }
+        ensures wrote { E.failed err.new ≡ (E.failed err.old || is_write_fault result) }
+    {
+        if self.player.redo().is_ok() {
+            return Ok(false);
+        }
+        match self.source.next(input)? {
+            Next::Event(event) => {
+                self.player.play(&event)?;
+                Ok(false)
+            }
+            Next::Bad(fault) => {
+                self.reported = true;
+                write_report(err, &mut self.text, fault)?;
+                Ok(false)
+            }
+            Next::End => Ok(true),
+        }
+    }
+}
