@@ -6,3 +6,4 @@ pub mod Ending
 pub mod Writing
 pub mod Going
 pub mod Status
+pub mod Command

@@ -2,6 +2,7 @@
 #![tactic(auto)]
 
 mod again;
+mod command;
 mod dump;
 mod fault;
 mod fields;
@@ -11,10 +12,12 @@ mod outcome;
 mod output;
 mod reports;
 mod same;
+mod words;
 mod write;
 
+pub use command::{Command, read_command};
 pub use dump::run_dump;
-pub use laws::run_numbers;
+pub use laws::{one_command, run_numbers};
 pub use lines::put_lines;
 pub use outcome::Outcome;
 pub use output::{OutFault, Output, WriteOutput, put_all};
