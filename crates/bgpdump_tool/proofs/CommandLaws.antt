@@ -13,7 +13,7 @@ use Rattle.bgpdump_tool.specs.Command.{SpellsDecimal, SpellsPeer, SpellsRepeated
 -- ---- the name of a command
 
 -- the first word of a command
-abbrev pub name_of : Command → List ℕ
+abbrev name_of : Command → List ℕ
 name_of (Next n) = codes "next"
 name_of (Back n) = codes "back"
 name_of (Goto n) = codes "goto"
@@ -32,7 +32,7 @@ mark (a ∷ b ∷ []) = 0
 mark (a ∷ b ∷ c ∷ rest) = a * 256 + c
 
 -- the words: a name, and at most three more
-abbrev pub IsNamed : List ℕ → List (List ℕ) → Type 0
+abbrev IsNamed : List ℕ → List (List ℕ) → Type 0
 IsNamed name ws = (more : List (List ℕ)) × (length more ≤ 3) × (ws ≡ name ∷ more)
 
 named_repeated : (name : List ℕ) (n : ℕ) (ws : List (List ℕ)) → SpellsRepeated name n ws → IsNamed name ws
@@ -46,7 +46,7 @@ named_sought : {A : Type 0} (Spells : A → List ℕ → Type 0) (name : List �
 named_sought Spells name peer a ws h = (h.0 ∷ h.1 ∷ h.2 ∷ [], omega arith, h.5)
 
 -- the words of a command are its name and at most three more
-pub named_words : (c : Command) (ws : List (List ℕ)) → SpellsWords c ws → IsNamed (name_of c) ws
+named_words : (c : Command) (ws : List (List ℕ)) → SpellsWords c ws → IsNamed (name_of c) ws
 named_words (Next n) ws h = named_repeated (codes "next") n ws h
 named_words (Back n) ws h = named_repeated (codes "back") n ws h
 named_words (Goto n) ws h = (h.0 ∷ [], omega arith, h.2)

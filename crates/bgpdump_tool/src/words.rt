@@ -1,8 +1,7 @@
 //! The words of a line, and the numbers that words spell.
 
-ghost use Rattle.std.specs.Prelude.{◌≡◌, ◌≢◌, ℕ, ◌<◌, [], ◌∷◌, IsTrue, IsFalse, MatchOption, length, slice_index};
+ghost use Rattle.std.specs.Prelude.{◌≡◌, ◌≢◌, [], ◌∷◌, IsTrue, IsFalse, MatchOption};
 ghost use Rattle.bgp_wire.specs.Reading.{Finds};
-ghost use Rattle.bgpdump_tool.specs.Lines.{space};
 ghost use Rattle.bgpdump_tool.specs.Command.{words, SpellsDecimal};
 
 /// The least digit that others may follow: neither a sign nor a zero stands in front.
