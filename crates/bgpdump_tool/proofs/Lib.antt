@@ -6,3 +6,6 @@ pub mod StepLaws
 pub mod MoveLaws
 pub mod BackLaws
 pub mod WritingLaws
+pub mod DecimalLaws
+pub mod WordLaws
+pub mod CommandLaws

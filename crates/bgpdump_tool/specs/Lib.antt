@@ -6,6 +6,11 @@ pub mod Ending
 pub mod Writing
 pub mod Going
 pub mod Status
+pub mod Command
+pub mod Script
+pub mod Replies
 pub mod State
+pub mod Meaning
+pub mod Course
 pub mod Standing
 pub mod Moves

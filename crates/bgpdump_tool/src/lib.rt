@@ -2,6 +2,7 @@
 #![tactic(auto)]
 
 mod again;
+mod command;
 mod commands;
 mod dump;
 mod fault;
@@ -14,10 +15,12 @@ mod reports;
 mod same;
 mod script;
 mod session;
+mod words;
 mod write;
 
+pub use command::{Command, read_command};
 pub use dump::run_dump;
-pub use laws::run_numbers;
+pub use laws::{one_command, run_numbers};
 pub use lines::put_lines;
 pub use outcome::Outcome;
 pub use output::{OutFault, Output, WriteOutput, put_all};

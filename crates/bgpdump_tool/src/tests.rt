@@ -1,4 +1,5 @@
 mod adapters;
+mod commands;
 mod devices;
 mod faults;
 mod lines;

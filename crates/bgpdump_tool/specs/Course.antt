@@ -1,0 +1,70 @@
+-- What a script writes over results.
+use Rattle.std.specs.Prelude.{◌≡◌, ◌≢◌, ◌⊎◌, ℕ, ◌+◌, Bool, true, false, ◌&&◌, ◌||◌, List, [], ◌∷◌, ◌++◌, if◌then◌else◌, decimal, codes}
+use Rattle.mrt_wire.specs.declared.event.Stamp.{Stamp}
+use Rattle.mrt_wire.specs.declared.fault.RecordKind.TheVariants.{CutRecord}
+use Rattle.mrt_wire.specs.Verdict.{Frame}
+use Rattle.mrt_wire.specs.Results.{Finding, rest_kind}
+use Rattle.bgpdump_tool.specs.declared.outcome.Outcome.{Outcome}
+use Rattle.bgpdump_tool.specs.declared.outcome.Outcome.TheVariants.{Done, Reported, ReadFault, WriteFault, InputTooLong, ScriptTooLong, Memory}
+use Rattle.bgpdump_tool.specs.Lines.{line_feed}
+use Rattle.bgpdump_tool.specs.Reports.{reports}
+use Rattle.bgpdump_tool.specs.Run.{Texts, joined_texts, all_results}
+use Rattle.bgpdump_tool.specs.Script.{Line, Empty, Asks, NoCommand}
+use Rattle.bgpdump_tool.specs.State.{State, start}
+use Rattle.bgpdump_tool.specs.Meaning.{meaning, meets_end, faults_taken}
+
+-- what lines write, and whether one of them meets the end of the results
+pub record Course : Type 0 where
+  pub texts : Texts
+  pub ended : Bool
+
+-- a course behind what was written before it
+abbrev pub course_behind : Texts → Bool → Course → Course
+course_behind texts ended course = record { texts = joined_texts texts course.texts; ended = ended || course.ended }
+
+-- the report of a line that is no command
+abbrev pub line_report : ℕ → List ℕ
+line_report number = codes "bgpdump: script line " ++ (decimal number ++ (codes ": bad command" ++ line_feed ∷ []))
+
+-- the course of lines, the first of which has this number, from where the script stands. Where the results are cut off by a fault of the input, the command that wants more gives no reply, but the reports of what it took, and nothing comes behind it
+abbrev pub course_from : Bool → ℕ → List Line → State → Course
+course_from cut number [] s = record { texts = record { out = []; err = [] }; ended = false }
+course_from cut number (Empty ∷ lines) s = course_from cut (number + 1) lines s
+course_from cut number (NoCommand ∷ lines) s =
+    course_behind (record { out = []; err = line_report number }) false (course_from cut (number + 1) lines s)
+course_from cut number (Asks command ∷ lines) s =
+    if cut && meets_end command s then record { texts = record { out = []; err = reports s.unread }; ended = true }
+    else course_behind (record { out = (meaning command s).reply; err = faults_taken command s }) (meets_end command s)
+    (course_from cut (number + 1) lines (meaning command s).after)
+
+-- the course of a script
+abbrev pub course : List Line → List Finding → Course
+course lines found = course_from false 1 lines (start found)
+
+-- the replies and the reports of a script
+abbrev pub play_texts : List Line → List Finding → Texts
+play_texts lines found = (course lines found).texts
+
+-- the same where a fault of the input came behind these results
+abbrev pub cut_texts : List Line → List Finding → Texts
+cut_texts lines found = (course_from true 1 lines (start found)).texts
+
+-- the end was seen by a run that ended so, carried out these lines, and took frames and this behind them: a record is cut there, or one of the lines met the end
+abbrev pub PlaySawEnd : Stamp → Outcome → List Line → List Frame → List ℕ → Type 0
+PlaySawEnd stamp Done lines frames rest = (rest_kind rest ≡ CutRecord) × ((rest ≢ []) ⊎ ((course lines (all_results stamp frames rest)).ended ≡ true))
+PlaySawEnd stamp Reported lines frames rest = (rest_kind rest ≡ CutRecord) × ((rest ≢ []) ⊎ ((course lines (all_results stamp frames rest)).ended ≡ true))
+PlaySawEnd stamp WriteFault lines frames rest = (rest_kind rest ≡ CutRecord) × ((rest ≢ []) ⊎ ((course lines (all_results stamp frames rest)).ended ≡ true))
+PlaySawEnd stamp Memory lines frames rest = (rest_kind rest ≡ CutRecord) × ((rest ≢ []) ⊎ ((course lines (all_results stamp frames rest)).ended ≡ true))
+PlaySawEnd stamp ReadFault lines frames rest = ⊥
+PlaySawEnd stamp InputTooLong lines frames rest = ⊥
+PlaySawEnd stamp ScriptTooLong lines frames rest = ⊥
+
+-- a run that ended so carried out these lines of the script: all, where it came to its end
+abbrev pub AreCarriedOut : Outcome → List Line → List Line → Type 0
+AreCarriedOut Done lines script = lines ≡ script
+AreCarriedOut Reported lines script = lines ≡ script
+AreCarriedOut WriteFault lines script = (left : List Line) × (script ≡ lines ++ left)
+AreCarriedOut Memory lines script = (left : List Line) × (script ≡ lines ++ left)
+AreCarriedOut ReadFault lines script = (left : List Line) × (script ≡ lines ++ left)
+AreCarriedOut InputTooLong lines script = (left : List Line) × (script ≡ lines ++ left)
+AreCarriedOut ScriptTooLong lines script = ⊥

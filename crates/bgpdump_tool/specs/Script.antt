@@ -1,0 +1,36 @@
+-- The lines of a script, and what each of them asks for.
+use Rattle.std.specs.Prelude.{◌≡◌, ◌≢◌, ℕ, List, [], ◌∷◌, ◌==◌, if◌then◌else◌}
+use Rattle.bgpdump_tool.specs.declared.command.Command.{Command}
+use Rattle.bgpdump_tool.specs.Lines.{line_feed}
+use Rattle.bgpdump_tool.specs.Command.{onto, SpellsCommand}
+
+-- the lines of a script, each ended by a line feed, which the last may lack
+abbrev pub script_lines : List ℕ → List (List ℕ)
+script_lines [] = []
+script_lines (octet ∷ octets) = if octet == line_feed then [] ∷ script_lines octets else onto octet (script_lines octets)
+
+-- what a line asks for
+pub data Line : Type 0 where
+  -- nothing: it is empty
+  Empty : Line
+  -- what a command does
+  Asks : Command → Line
+  -- it is neither empty nor a command
+  NoCommand : Line
+
+-- the octets of a line ask for this
+abbrev pub IsLine : Line → List ℕ → Type 0
+IsLine Empty octets = octets ≡ []
+IsLine (Asks command) octets = SpellsCommand command octets
+IsLine NoCommand octets = (octets ≢ []) × ((command : Command) → SpellsCommand command octets → ⊥)
+
+-- the lines ask for these, one each
+abbrev pub AreLines : List Line → List (List ℕ) → Type 0
+AreLines [] [] = Unit {0}
+AreLines [] (octets ∷ more) = ⊥
+AreLines (line ∷ lines) [] = ⊥
+AreLines (line ∷ lines) (octets ∷ more) = IsLine line octets × AreLines lines more
+
+-- the lines of the script ask for these
+abbrev pub IsScript : List Line → List ℕ → Type 0
+IsScript lines script = AreLines lines (script_lines script)
