@@ -137,8 +137,8 @@ impl<S: PrefixStore<Rc<Route>>> Table<S> {
             slice_get (above (option_copied prefix.entry)
             (finite.entries (peer_routes self.now.routes peer.now))) 0 }
     {
-        let store = self.stores.get(peer)?;
-        store.after(prefix)
+        let routes = self.stores.get(peer)?;
+        routes.after(prefix)
     }
 
     /// The least peer above the given one, or of all, that has a route, and how many it has;
