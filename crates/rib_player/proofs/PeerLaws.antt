@@ -39,6 +39,7 @@ use Rattle.rib_player.proofs.StoreLaws.{same_peer, same_network, one_peer, peer_
 abbrev prefixed : List (Pair × Route) → List (Network × Route)
 prefixed es = map (λ (e : Pair × Route). (e.0.prefix, e.1)) es
 
+-- those of a peer
 abbrev of_peer : Peer → List (Pair × Route) → List (Network × Route)
 of_peer peer es = prefixed (filter (λ (e : Pair × Route). same_peer e.0.peer peer) es)
 
@@ -184,6 +185,7 @@ some-entries e es =
     at [] is = cc
     at (x ∷ xs) is = lt-ltb 0 (length (x ∷ xs)) (omega arith)
 
+-- there are some where some were given
 len-from_entries : (es : List (Network × Route)) → nat_lt 0 (finite.len (finite.from_entries {R = network_cmp} es)) ≡ nat_lt 0 (length es)
 len-from_entries [] = ap (λ n. nat_lt 0 n) (len-empty network_cmp Route)
 len-from_entries (e ∷ es) = some-entries e es ∙ sym (lt-ltb 0 (length (e ∷ es)) (omega arith))
@@ -202,11 +204,12 @@ some-peer_routes : (all : Routes) (p : Peer) → has_peer p (map (λ (e : Pair �
 unfolding peer_routes
 some-peer_routes all p = some-of_peer p (finite.entries all) ∙ sym (len-from_entries (of_peer p (finite.entries all)))
 
+-- a peer that is below all is not among them
 absent_peer : {A : Type 0} (p : Peer) (entries : List (Peer × A)) → AllByRecursion (λ y. peer_cmp p y ≡ Less) (keys_of entries) → has_peer p (keys_of entries) ≡ false
 absent_peer p [] all = refl
 absent_peer p (e ∷ entries) all = ap (λ r. is_eq r || has_peer p (keys_of entries)) all.0 ∙ absent_peer p entries all.1
 
--- those above stay above where some go
+-- where some go, a peer below all is below those that are left
 below-filter : {A : Type 0} (has : Peer × A → Bool) (x : Peer) (es : List (Peer × A)) → AllByRecursion (λ y. peer_cmp x y ≡ Less) (keys_of es) → AllByRecursion (λ y. peer_cmp x y ≡ Less) (keys_of (filter has es))
 below-filter has x [] all = tt
 below-filter has x (e ∷ es) all = at (has e) (below-filter has x es all.1)
@@ -317,14 +320,14 @@ module _ {S : Type 0} (routes : S → stored.Routes (Rc Route Global)) where
   unfolding routed_peers
   keys-routed_stores stores all sorted e =
       let marks = marked (λ (entry : Peer × S). entry.0) (routed_stores routes stores) in
-      let in_order : T (is_sorted peer_cmp marks) = subst T (sym (sorted-marked has_route stores sorted)) tt in
+      let sorted_marks : T (is_sorted peer_cmp marks) = subst T (sym (sorted-marked has_route stores sorted)) tt in
       ap finite.keys (same_map peer_cmp_total peer_cmp-IsAntisymmetric (finite.from_entries (marked (λ (entry : Pair × Route). entry.0.peer) (finite.entries all))) (finite.from_sorted marks) (λ p.
       get-from_entries peer_cmp_total (marked (λ (entry : Pair × Route). entry.0.peer) (finite.entries all)) p
       ∙ find-marked (λ (entry : Pair × Route). entry.0.peer) p (finite.entries all)
       ∙ ap mark_where (some-peer_routes all p ∙ some-routes_in stores all p (store_at stores p) refl e ∙ sym (has-routed_stores p stores sorted))
       ∙ sym (find-marked (λ (entry : Peer × S). entry.0) p (routed_stores routes stores))
-      ∙ sym (get-from_sorted peer_cmp marks p in_order)))
-      ∙ ap (map (λ (entry : Peer × Unit {0}). entry.0)) (entries-from_sorted peer_cmp marks in_order)
+      ∙ sym (get-from_sorted peer_cmp marks p sorted_marks)))
+      ∙ ap (map (λ (entry : Peer × Unit {0}). entry.0)) (entries-from_sorted peer_cmp marks sorted_marks)
       ∙ keys-marked (λ (entry : Peer × S). entry.0) (routed_stores routes stores)
 
   -- the stores above a peer that have a route
@@ -427,9 +430,9 @@ all_above_it : (x : Peer) (ps : List Peer) → AllByRecursion (λ y. peer_cmp x 
 all_above_it x [] all = refl
 all_above_it x (y ∷ ps) all = ap (λ r. cond (is_lt r) (y ∷ peers_above (Some x) ps) (peers_above (Some x) ps)) all.0 ∙ ap (λ s. y ∷ s) (all_above_it x ps all.1)
 
-first_above : (low : Option Peer) (ps : List Peer) (p : Peer) → slice_get (peers_above low ps) 0 ≡ Some p → is_peer_above low p ≡ true
-first_above low [] p e = cc
-first_above low (x ∷ ps) p e = at (is_peer_above low x) refl e (first_above low ps p)
+first_is_above : (low : Option Peer) (ps : List Peer) (p : Peer) → slice_get (peers_above low ps) 0 ≡ Some p → is_peer_above low p ≡ true
+first_is_above low [] p e = cc
+first_is_above low (x ∷ ps) p e = at (is_peer_above low x) refl e (first_is_above low ps p)
   where
     at : (b : Bool) → is_peer_above low x ≡ b → slice_get (cond b (x ∷ peers_above low ps) (peers_above low ps)) 0 ≡ Some p
         → (slice_get (peers_above low ps) 0 ≡ Some p → is_peer_above low p ≡ true) → is_peer_above low p ≡ true
@@ -459,7 +462,7 @@ peers-next low (x ∷ ps) p sorted is =
     at false out is all later =
         later is
         ∙ ap (λ s. p ∷ s) (sym (ap (λ b. cond b (x ∷ peers_above (Some p) ps) (peers_above (Some p) ps))
-        (not_above low x p out (first_above low ps p is))))
+        (not_above low x p out (first_is_above low ps p is))))
 
 pub all-peers : (ps : List Peer) → peers_above None ps ≡ ps
 all-peers [] = refl

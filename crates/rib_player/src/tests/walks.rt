@@ -118,9 +118,9 @@ fn steps_over_keys_without_a_route(rt: HostRuntime) -> Result<(), Fail> {
 fn assert_peers(rt: &impl Abort, player: &MapPlayer, peers: Peers) {
     let mut last: Option<Peer> = None;
     for (who, count) in peers {
-        let peer = peer_of(*who);
-        assert!(rt; player.table().peer_after(last.as_ref()) == Some((peer, *count)));
-        last = Some(peer);
+        let found = player.table().peer_after(last.as_ref());
+        assert!(rt; found == Some((peer_of(*who), *count)));
+        last = Some(peer_of(*who));
     }
     assert!(rt; player.table().peer_after(last.as_ref()).is_none());
 }
