@@ -43,10 +43,10 @@ abbrev pub same_network : Network → Network → Bool
 same_network = eq_by_cmp network_cmp
 
 -- peers that tie are one
-one_peer : (a b : Peer) → same_peer a b ≡ true → a ≡ b
+pub one_peer : (a b : Peer) → same_peer a b ≡ true → a ≡ b
 one_peer a b e = peer_cmp-IsAntisymmetric a b ((Equal-is (peer_cmp a b)).0 e)
 
-peer_symm : (a b : Peer) → same_peer a b ≡ same_peer b a
+pub peer_symm : (a b : Peer) → same_peer a b ≡ same_peer b a
 peer_symm a b = (eq_by_cmp_equiv peer_cmp_total).symm a b
 
 -- keys that contain the same pairs are one
@@ -54,7 +54,7 @@ pub same_pairs : (a b : Pairs) → ((q : Pair) → set.contains a q ≡ set.cont
 same_pairs a b same = same_set pair_cmp_total pair_cmp-IsAntisymmetric a b same
 
 -- pairs tie where their peers and their prefixes do
-tied_parts : (q : Pair) (peer : Peer) (n : Network) → eq_by_cmp pair_cmp q (pair_of peer n) ≡ (same_peer q.peer peer && same_network q.prefix n)
+pub tied_parts : (q : Pair) (peer : Peer) (n : Network) → eq_by_cmp pair_cmp q (pair_of peer n) ≡ (same_peer q.peer peer && same_network q.prefix n)
 tied_parts q peer n = sym (both_tied _ _ (peer_cmp q.peer peer) (network_cmp q.prefix n) refl refl)
 
 or-and : (a b c : Bool) → ((a && b) || (a && c)) ≡ (a && (b || c))

@@ -1,9 +1,9 @@
 -- What a table holds: its keys, and the routes that some of them have; and how it holds them, in one store for each peer.
-use Rattle.std.specs.Prelude.{◌≡◌, ◌<◌, Bool, false, ◌==◌, if◌then◌else◌, List, map, Option, Some, None, IfSome, refl}
+use Rattle.std.specs.Prelude.{◌≡◌, ℕ, ◌<◌, nat_lt, Bool, true, false, ◌==◌, if◌then◌else◌, List, map, Option, Some, None, IfSome, refl}
 use Rattle.std.specs.List.{flat_map, filter}
 use Rattle.std.specs.Option.{option_map}
 use Rattle.std.specs.Map.{lookup}
-use Rattle.std.specs.Ordering.{eq_by_cmp}
+use Rattle.std.specs.Ordering.{eq_by_cmp, is_lt}
 use Rattle.std.specs.Coded.{Coded, code_by, coded×}
 use Rattle.std.specs.declared.rc.Rc.{Rc}
 use Rattle.std.specs.FinMap as finite
@@ -95,3 +95,28 @@ pub record IsLeft {S : Type 0} (keys : S → stored.Keys) (routes : S → stored
 -- of the prefixes that the peer has a route to and that contain the address the longest, and its route
 abbrev pub IsBest : Routes → Peer → Address → Option (Network × Route) → Type 0
 IsBest routes peer = stored.IsLongestOf (λ n. finite.get routes (pair_of peer n))
+
+-- the routes of a peer, by their prefixes
+unfoldable pub peer_routes : Routes → Peer → stored.Routes Route
+peer_routes routes peer = finite.from_entries (map (λ entry. (entry.0.prefix, entry.1)) (filter (λ entry. eq_by_cmp peer_cmp entry.0.peer peer) (finite.entries routes)))
+
+-- the peers that have a route, in order
+unfoldable pub routed_peers : Routes → List Peer
+routed_peers routes = finite.keys (finite.from_entries {X = Unit {0}} {R = peer_cmp} (map (λ entry. (entry.0.peer, tt)) (finite.entries routes)))
+
+-- whether a peer is above the other, where there is one
+abbrev pub is_peer_above : Option Peer → Peer → Bool
+is_peer_above None peer = true
+is_peer_above (Some low) peer = is_lt (peer_cmp low peer)
+
+-- the peers above a peer, in order
+abbrev pub peers_above : Option Peer → List Peer → List Peer
+peers_above low peers = filter (is_peer_above low) peers
+
+-- the stores that have a route, each with its peer
+abbrev pub routed_stores : {S : Type 0} → (S → stored.Routes (Rc Route Global)) → Stores S → Stores S
+routed_stores routes stores = filter (λ entry. nat_lt 0 (finite.len (routes entry.1))) stores
+
+-- a store's peer, and what the store's count of routes answers
+abbrev pub peer_count : {S : Type 0} → (S → stored.Routes (Rc Route Global)) → Peer × S → Peer × ℕ
+peer_count routes entry = (entry.0, stored.counted (finite.len (routes entry.1)))

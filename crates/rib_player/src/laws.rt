@@ -1,17 +1,23 @@
 //! Laws of the player's definitions.
 
-ghost use Rattle.std.specs.Prelude.{◌≡◌, ℕ, ◌≤◌, ◌<◌, ◌-◌, ◌++◌, ◌∷◌, ◌||◌, [], List, is_some, length, take, map, replicate, slice_get};
+ghost use Rattle.std.specs.Prelude.{◌≡◌, ℕ, ◌≤◌, ◌<◌, ◌-◌, ◌++◌, ◌∷◌, ◌||◌, [], List, is_some, length, take, map, replicate, slice_get, nat_lt, Option, Some, None};
 ghost use Rattle.std.specs.List.{list_any};
+ghost use Rattle.std.specs.List.Sorted.{IsStrictlySortedBy};
 ghost use Rattle.std.specs.Option.{option_map};
+ghost use Rattle.std.specs.Ordering.{eq_by_cmp};
 ghost use Rattle.std.specs.Cmp.{IsTotalOrder};
 ghost use Rattle.std.specs.FinMap.{IsAntisymmetric};
 ghost use Rattle.std.specs.FinMap as finite;
 ghost use Rattle.std.specs.FinSet as set;
+ghost use Rattle.ip_prefix.specs.Network.{Network};
 ghost use Rattle.mrt_wire.specs.declared.event.Event.{Event};
+ghost use Rattle.mrt_wire.specs.declared.peer.Peer.{Peer};
+ghost use Rattle.mrt_wire.specs.Peer.{peer_cmp};
 ghost use Rattle.rib_player.specs.declared.pair.Pair.{Pair};
 ghost use Rattle.rib_player.specs.declared.changes.TheConstants.{ESTABLISHED};
-ghost use Rattle.rib_player.specs.History.{pair_cmp, effect, route_after, route};
+ghost use Rattle.rib_player.specs.History.{pair_cmp, pair_of, effect, route_after, route};
 ghost use Rattle.rib_player.specs.Tables.{Routes, table, table_after, is_named, named_pairs};
+ghost use Rattle.rib_player.specs.Store.{peer_routes, routed_peers, peers_above};
 ghost use Rattle.rib_player.specs.Timeline.{Timeline, wanted, Call, Play, Undo, Redo, StandsFor, fresh, end_of, table_at, current, after_undo, after_redo, after_play, after_call, after_calls, history_after, history_after_calls};
 
 /// The number that the definitions name: the state Established (RFC 6396, section 4.4.1).
@@ -35,6 +41,31 @@ pub fn routes_at_pairs()
     ensures named_pairs { (routes : Routes) (event : Event) (pair : Pair) →
         set.contains (named_pairs routes event) pair
         ≡ is_named (finite.get routes pair) (effect pair event) }
+{}
+
+/// The routes of a peer are those at its pairs, and the peers that have a route are in order, each
+/// of them once.
+pub fn routes_of_peers()
+    ensures routes { (routes : Routes) (peer : Peer) (prefix : Network) →
+        finite.get (peer_routes routes peer) prefix ≡ finite.get routes (pair_of peer prefix) }
+    ensures peers { (routes : Routes) (peer : Peer) →
+        list_any (eq_by_cmp peer_cmp peer) (routed_peers routes)
+        ≡ nat_lt 0 (finite.len (peer_routes routes peer)) }
+    ensures order { (routes : Routes) → IsStrictlySortedBy peer_cmp (routed_peers routes) }
+{}
+
+/// From the least on, one after the other, come all peers that have a route, in order, and then
+/// none.
+pub fn walk_over_peers()
+    ensures all { (routes : Routes) →
+        peers_above None (routed_peers routes) ≡ routed_peers routes }
+    ensures next { (routes : Routes) (low : Option Peer) (next : Peer)
+        → slice_get (peers_above low (routed_peers routes)) 0 ≡ Some next
+        → peers_above low (routed_peers routes)
+        ≡ next ∷ peers_above (Some next) (routed_peers routes) }
+    ensures end { (routes : Routes) (low : Option Peer)
+        → slice_get (peers_above low (routed_peers routes)) 0 ≡ None
+        → peers_above low (routed_peers routes) ≡ [] }
 {}
 
 /// The wanted pairs of a player, which are the keys of its table, are those that have a route at

@@ -1,8 +1,8 @@
 //! The routes of all peers.
 
-ghost use Rattle.std.specs.Prelude.{◌≡◌, ◌<◌, ◌&&◌, Some, true, false, not, is_some, Option, None, if◌then◌else◌, map, IfSome, IfNone, IfOk, OnOk, OnErr};
+ghost use Rattle.std.specs.Prelude.{◌≡◌, ◌<◌, ◌&&◌, Some, true, false, not, is_some, slice_get, Option, None, if◌then◌else◌, map, IfSome, IfNone, IfOk, OnOk, OnErr};
 ghost use Rattle.std.specs.List.{list_any};
-ghost use Rattle.std.specs.Option.{option_map};
+ghost use Rattle.std.specs.Option.{option_map, option_copied};
 ghost use Rattle.std.specs.Ordering.{eq_by_cmp};
 ghost use Rattle.std.specs.FinMap as finite;
 ghost use Rattle.std.specs.FinSet as set;
@@ -11,8 +11,8 @@ ghost use Rattle.rib_player.specs.declared.pair.Pair.{Pair};
 ghost use Rattle.mrt_wire.specs.declared.peer.Peer.{Peer};
 ghost use Rattle.mrt_wire.specs.Peer.{peer_cmp};
 ghost use Rattle.rib_player.specs.History.{pair_cmp, pair_of};
-ghost use Rattle.rib_store.specs.Stored.{put};
-ghost use Rattle.rib_player.specs.Store.{route_in, value_of, store_at, keys_in, routes_in, IsLeft, IsBest};
+ghost use Rattle.rib_store.specs.Stored.{put, counted, above};
+ghost use Rattle.rib_player.specs.Store.{route_in, value_of, store_at, keys_in, routes_in, IsLeft, IsBest, peer_routes, routed_peers, peers_above, routed_stores, peer_count};
 
 use crate::pair::Pair;
 use ip_prefix::{Addr, Prefix};
@@ -20,7 +20,9 @@ use mrt_wire::{Peer, Route};
 use rib_store::PrefixStore;
 use std::alloc::{AllocError, Global};
 use std::collections::BTreeMap;
+use std::collections::btree_map::Range;
 use std::marker::Model;
+use std::ops::Bound;
 use std::rc::Rc;
 
 /// The routes of all peers: at most one for each peer and prefix. Each peer that has a key has a
@@ -128,6 +130,31 @@ impl<S: PrefixStore<Rc<Route>>> Table<S> {
         store.longest(addr)
     }
 
+    /// The least prefix above the given one, or of all, that the peer has a route to, and its
+    /// route.
+    pub fn after(&self, peer: &Peer, prefix: Option<&Prefix>) -> Option<(Prefix, &Rc<Route>)>
+        ensures { option_map (λ found. (found.0, found.1.now.value)) result ≡
+            slice_get (above (option_copied prefix.entry)
+            (finite.entries (peer_routes self.now.routes peer.now))) 0 }
+    {
+        let routes = self.stores.get(peer)?;
+        routes.after(prefix)
+    }
+
+    /// The least peer above the given one, or of all, that has a route, and how many it has;
+    /// `u64::MAX` where more. It steps over peers whose keys have no route.
+    pub fn peer_after(&self, peer: Option<&Peer>) -> Option<(Peer, u64)>
+        ensures { result ≡
+            option_map (λ p. (p, counted (finite.len (peer_routes self.now.routes p))))
+            (slice_get (peers_above (option_copied peer.entry) (routed_peers self.now.routes)) 0) }
+    {
+        let low = match peer {
+            Some(peer) => Bound::Excluded(*peer),
+            None => Bound::Unbounded,
+        };
+        first_routed(self.stores.range((low, Bound::Unbounded)))
+    }
+
     /// The peer's store, where it has a key.
     pub fn store(&self, peer: &Peer) -> Option<&S>
         ensures keys { IfSome result (λ store. (n : Network) →
@@ -152,6 +179,20 @@ impl<S: PrefixStore<Rc<Route>>> Table<S> {
             None => Ok(Vec::new(alloc)),
         }
     }
+}
+
+/// The first store with a route: its peer, and how many routes it has.
+fn first_routed<'a, S: PrefixStore<Rc<Route>>>(stores: Range<'a, Peer, S>) -> Option<(Peer, u64)>
+    ensures { result ≡
+        option_map (peer_count S.routes) (slice_get (routed_stores S.routes stores.entry) 0) }
+{
+    'stores: for (peer, store) in stores {
+        let count = store.route_count();
+        if count > 0 {
+            return Some((*peer, count));
+        }
+    }
+    None
 }
 
 /// A store with this one key.

@@ -9,6 +9,7 @@ mod plain;
 mod refused;
 mod sessions;
 mod stores;
+mod walks;
 
 use crate::{PlayFault, Player};
 use ip_prefix::{Addr, Prefix};

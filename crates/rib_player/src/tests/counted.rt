@@ -73,3 +73,19 @@ fn a_small_step_takes_few_calls(rt: HostRuntime) -> Result<(), Fail> {
     assert_eq!(rt; keys_of(&player, &peer()), Some(1_001));
     Ok(())
 }
+
+/// A step of a walk makes one call, however many routes there are.
+#[test]
+fn a_step_of_a_walk_takes_one_call(rt: HostRuntime) -> Result<(), Fail> {
+    let mut player: CountedPlayer = Player::new(rt.alloc());
+    assert_eq!(rt;
+        answer_to(&mut player, &many(rt.alloc())?),
+        Answer::Dropped(0)
+    );
+    let start = calls(&player);
+    assert!(rt; player.table().peer_after(None) == Some((peer(), 1_000)));
+    assert_eq!(rt; calls(&player), start.saturating_add(1));
+    assert!(rt; player.table().after(&peer(), None).is_some());
+    assert_eq!(rt; calls(&player), start.saturating_add(2));
+    Ok(())
+}

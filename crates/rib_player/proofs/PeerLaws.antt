@@ -1,0 +1,469 @@
+-- The routes of one peer, those above a prefix, and the peers that have a route.
+use Rattle.std.proofs.Common.{◌≡◌, ℕ, suc, ◌<◌, ◌≤◌, Bool, true, false, cond, T, ◌&&◌, ◌||◌, nat_lt, List, [], ◌∷◌, map, length, Option, Some, None, is_some, slice_get, Bor, refl, sym, ap, ap₂, subst, ◌∙◌, arith}
+use Rattle.std.specs.List.{list_any, filter, AllByRecursion}
+use Rattle.std.specs.List.Sorted.{IsStrictlySortedBy}
+use Rattle.std.specs.Map.{keys_of}
+use Rattle.std.specs.Option.{option_map}
+use Rattle.std.specs.Ordering.{is_eq, is_lt}
+use Rattle.std.specs.declared.cmp.Ordering.{Ordering}
+use Rattle.std.specs.declared.cmp.Ordering.TheVariants.{Less, Equal, Greater}
+use Rattle.std.specs.Cmp.{tied_itself}
+use Rattle.std.specs.FinMap as finite
+use Rattle.std.specs.FinMap.{same_map, contains_key-keys, get-empty, get-entries, get-from_entries, get-from_sorted, entries-from_sorted, len-entries, len-empty}
+use Rattle.std.specs.FinMap.Entries.{find, is_sorted, below_all}
+use Rattle.std.specs.declared.alloc.Global.{Global}
+use Rattle.std.specs.declared.rc.Rc.{Rc}
+use Rattle.std.proofs.lemmas.Map.Keys.{sorted_head, sorted_tail}
+use Rattle.std.proofs.lemmas.Bool.{and_parts, lt-ltb, le-ltb}
+use Rattle.std.proofs.lemmas.List.{length-map}
+use Rattle.std.proofs.lemmas.Option.{slice_get-map}
+use Rattle.ip_prefix.specs.Network.{Network}
+use Rattle.ip_prefix.specs.Order.{network_cmp}
+use Rattle.ip_prefix.specs.OrderLaws.{network_cmp_total, network_cmp-IsAntisymmetric}
+use Rattle.rib_store.specs.Stored as stored
+use Rattle.rib_store.specs.Stored.{counted, above, is_above}
+use Rattle.rib_store.proofs.AboveLaws.{routes_sorted}
+use Rattle.mrt_wire.specs.declared.peer.Peer.{Peer}
+use Rattle.mrt_wire.specs.declared.event.Route.{Route}
+use Rattle.mrt_wire.specs.Peer.{peer_cmp}
+use Rattle.mrt_wire.proofs.PeerLaws.{peer_cmp_total, peer_cmp-IsAntisymmetric}
+use Rattle.rib_player.specs.declared.pair.Pair.{Pair}
+use Rattle.rib_player.specs.History.{pair_cmp, pair_of}
+use Rattle.rib_player.specs.Tables.{Routes}
+use Rattle.rib_player.specs.Store.{Stores, store_at, value_of, routes_in, peer_routes, routed_peers, is_peer_above, peers_above, routed_stores, peer_count}
+use Rattle.rib_player.proofs.StoreLaws.{same_peer, same_network, one_peer, peer_symm, tied_parts, get-found}
+
+-- ---- the routes of a peer
+
+-- entries by the prefixes of their pairs
+abbrev prefixed : List (Pair × Route) → List (Network × Route)
+prefixed es = map (λ (e : Pair × Route). (e.0.prefix, e.1)) es
+
+-- those of a peer
+abbrev of_peer : Peer → List (Pair × Route) → List (Network × Route)
+of_peer peer es = prefixed (filter (λ (e : Pair × Route). same_peer e.0.peer peer) es)
+
+-- a prefix among those of a peer is the pair among all
+find-peer : (peer : Peer) (n : Network) (es : List (Pair × Route)) → find network_cmp n (of_peer peer es) ≡ find pair_cmp (pair_of peer n) es
+find-peer peer n [] = refl
+find-peer peer n (e ∷ es) =
+    at (same_peer e.0.peer peer) (find-peer peer n es)
+    ∙ ap (λ b. cond (b && same_network n e.0.prefix) (Some e.1) (find pair_cmp (pair_of peer n) es)) (peer_symm e.0.peer peer)
+    ∙ ap (λ b. cond b (Some e.1) (find pair_cmp (pair_of peer n) es)) (sym (tied_parts (pair_of peer n) e.0.peer e.0.prefix))
+  where
+    at : (b : Bool) → find network_cmp n (of_peer peer es) ≡ find pair_cmp (pair_of peer n) es
+        → find network_cmp n (prefixed (cond b (e ∷ filter (λ (e : Pair × Route). same_peer e.0.peer peer) es) (filter (λ (e : Pair × Route). same_peer e.0.peer peer) es)))
+        ≡ cond (b && same_network n e.0.prefix) (Some e.1) (find pair_cmp (pair_of peer n) es)
+    at true rest = ap (cond (same_network n e.0.prefix) (Some e.1)) rest
+    at false rest = rest
+
+-- the routes of a peer are those at its pairs
+pub get-peer_routes : (routes : Routes) (peer : Peer) (n : Network) → finite.get (peer_routes routes peer) n ≡ finite.get routes (pair_of peer n)
+unfolding peer_routes
+get-peer_routes routes peer n =
+    get-from_entries network_cmp_total (of_peer peer (finite.entries routes)) n
+    ∙ find-peer peer n (finite.entries routes)
+    ∙ sym (get-entries routes (pair_of peer n))
+
+-- ---- those of a store, behind their pointers
+
+-- routes by their values
+abbrev valued : List (Network × Rc Route Global) → List (Network × Route)
+valued es = map (λ (e : Network × Rc Route Global). (e.0, e.1.value)) es
+
+find-valued : (n : Network) (es : List (Network × Rc Route Global)) → find network_cmp n (valued es) ≡ option_map value_of (find network_cmp n es)
+find-valued n [] = refl
+find-valued n (e ∷ es) = ap (cond (same_network n e.0) (Some e.1.value)) (find-valued n es) ∙ at (same_network n e.0)
+  where
+    at : (b : Bool) → cond b (Some e.1.value) (option_map value_of (find network_cmp n es)) ≡ option_map value_of (cond b (Some e.1) (find network_cmp n es))
+    at true = refl
+    at false = refl
+
+below-valued : (x : Network) (es : List (Network × Rc Route Global)) → below_all network_cmp x (valued es) ≡ below_all network_cmp x es
+below-valued x [] = refl
+below-valued x (e ∷ es) = ap (λ b. is_lt (network_cmp x e.0) && b) (below-valued x es)
+
+sorted-valued : (es : List (Network × Rc Route Global)) → is_sorted network_cmp (valued es) ≡ is_sorted network_cmp es
+sorted-valued [] = refl
+sorted-valued (e ∷ es) = ap₂ (λ a b. a && b) (below-valued e.0 es) (sorted-valued es)
+
+above-valued : (low : Option Network) (es : List (Network × Rc Route Global)) → above low (valued es) ≡ valued (above low es)
+above-valued low [] = refl
+above-valued low (e ∷ es) = ap (λ s. cond (is_above low e.0) ((e.0, e.1.value) ∷ s) s) (above-valued low es) ∙ at (is_above low e.0)
+  where
+    at : (b : Bool) → cond b ((e.0, e.1.value) ∷ valued (above low es)) (valued (above low es)) ≡ valued (cond b (e ∷ above low es) (above low es))
+    at true = refl
+    at false = refl
+
+no_entries : {A : Type 0} (xs : List A) → length xs ≡ 0 → xs ≡ []
+no_entries [] e = refl
+no_entries (x ∷ xs) e = absurd (omega arith)
+
+-- a peer has the routes of its store
+module _ {S : Type 0} (routes : S → stored.Routes (Rc Route Global)) (stores : Stores S) (all : Routes) (peer : Peer) where
+  pub entries-peer_routes : (store : S) → Some store ≡ store_at stores peer → routes_in routes stores ≡ all → finite.entries (peer_routes all peer) ≡ valued (finite.entries (routes store))
+  entries-peer_routes store found e =
+      let sorted : T (is_sorted network_cmp (valued (finite.entries (routes store)))) = subst T (sym (sorted-valued (finite.entries (routes store)) ∙ routes_sorted (routes store))) tt in
+      ap finite.entries (same_map network_cmp_total network_cmp-IsAntisymmetric (peer_routes all peer) (finite.from_sorted (valued (finite.entries (routes store)))) (λ n.
+      get-peer_routes all peer n
+      ∙ sym (get-found routes stores all (pair_of peer n) (Some store) found e)
+      ∙ ap (option_map value_of) (get-entries (routes store) n)
+      ∙ sym (find-valued n (finite.entries (routes store)))
+      ∙ sym (get-from_sorted network_cmp (valued (finite.entries (routes store))) n sorted)))
+      ∙ entries-from_sorted network_cmp (valued (finite.entries (routes store))) sorted
+
+  -- or none
+  pub entries-no_routes : None ≡ store_at stores peer → routes_in routes stores ≡ all → finite.entries (peer_routes all peer) ≡ []
+  entries-no_routes found e =
+      ap finite.entries (same_map network_cmp_total network_cmp-IsAntisymmetric (peer_routes all peer) finite.empty (λ n.
+      get-peer_routes all peer n
+      ∙ sym (get-found routes stores all (pair_of peer n) None found e)
+      ∙ sym (get-empty network_cmp n)))
+      ∙ no_entries _ (sym (len-entries (finite.empty {X = Route} {R = network_cmp})) ∙ len-empty network_cmp Route)
+
+  -- the first route above a prefix is that of the store
+  pub first-above : (low : Option Network) (store : S) (first : Option (Network × Bor (Rc Route Global))) → Some store ≡ store_at stores peer → routes_in routes stores ≡ all
+      → option_map (λ f. (f.0, f.1.now)) first ≡ slice_get (above low (finite.entries (routes store))) 0
+      → option_map {U = Network × Route} (λ f. (f.0, f.1.now.value)) first ≡ slice_get (above low (finite.entries (peer_routes all peer))) 0
+  first-above low store first found e is =
+      at first
+      ∙ ap (option_map {U = Network × Route} (λ f. (f.0, f.1.value))) is
+      ∙ sym (slice_get-map (λ (f : Network × Rc Route Global). (f.0, f.1.value)) (above low (finite.entries (routes store))) 0)
+      ∙ ap (λ s. slice_get s 0) (sym (above-valued low (finite.entries (routes store))) ∙ ap (above low) (sym (entries-peer_routes store found e)))
+    where
+      at : (first : Option (Network × Bor (Rc Route Global)))
+          → option_map {U = Network × Route} (λ f. (f.0, f.1.now.value)) first ≡ option_map {U = Network × Route} (λ f. (f.0, f.1.value)) (option_map {U = Network × Rc Route Global} (λ f. (f.0, f.1.now)) first)
+      at None = refl
+      at (Some f) = refl
+
+  pub none-above : (low : Option Network) → None ≡ store_at stores peer → routes_in routes stores ≡ all → None ≡ slice_get (above low (finite.entries (peer_routes all peer))) 0
+  none-above low found e = sym (ap (λ s. slice_get (above low s) 0) (entries-no_routes found e))
+
+  pub len-peer_routes : (store : S) → Some store ≡ store_at stores peer → routes_in routes stores ≡ all → finite.len (peer_routes all peer) ≡ finite.len (routes store)
+  len-peer_routes store found e =
+      len-entries (peer_routes all peer)
+      ∙ ap length (entries-peer_routes store found e)
+      ∙ length-map (finite.entries (routes store)) (λ (f : Network × Rc Route Global). (f.0, f.1.value))
+      ∙ sym (len-entries (routes store))
+
+-- ---- the peers that have a route
+
+-- a peer is among these
+abbrev has_peer : Peer → List Peer → Bool
+has_peer p peers = list_any (same_peer p) peers
+
+-- each peer as an entry
+abbrev marked : {A : Type 0} → (A → Peer) → List A → List (Peer × Unit {0})
+marked peer_of xs = map (λ x. (peer_of x, tt)) xs
+
+-- what a mark is found as
+abbrev mark_where : Bool → Option (Unit {0})
+mark_where b = cond b (Some tt) None
+
+find-marked : {A : Type 0} (peer_of : A → Peer) (p : Peer) (xs : List A) → find peer_cmp p (marked peer_of xs) ≡ mark_where (has_peer p (map peer_of xs))
+find-marked peer_of p [] = refl
+find-marked peer_of p (x ∷ xs) = ap (λ o. cond (same_peer p (peer_of x)) (mark_where true) o) (find-marked peer_of p xs) ∙ at (same_peer p (peer_of x)) (has_peer p (map peer_of xs))
+  where
+    at : (a b : Bool) → cond a (mark_where true) (mark_where b) ≡ mark_where (a || b)
+    at true b = refl
+    at false b = refl
+
+keys-marked : {A : Type 0} (peer_of : A → Peer) (xs : List A) → map (λ (e : Peer × Unit {0}). e.0) (marked peer_of xs) ≡ map peer_of xs
+keys-marked peer_of [] = refl
+keys-marked peer_of (x ∷ xs) = ap (λ s. peer_of x ∷ s) (keys-marked peer_of xs)
+
+-- the first of some entries is found
+some-entries : (e : Network × Route) (es : List (Network × Route)) → nat_lt 0 (finite.len (finite.from_entries {R = network_cmp} (e ∷ es))) ≡ true
+some-entries e es =
+    ap (λ n. nat_lt 0 n) (len-entries (finite.from_entries {R = network_cmp} (e ∷ es)))
+    ∙ at (finite.entries (finite.from_entries {R = network_cmp} (e ∷ es)))
+    (sym (get-entries (finite.from_entries {R = network_cmp} (e ∷ es)) e.0)
+    ∙ get-from_entries network_cmp_total (e ∷ es) e.0
+    ∙ ap (λ r. cond (is_eq r) (Some e.1) (find network_cmp e.0 es)) (tied_itself network_cmp_total e.0))
+  where
+    at : (xs : List (Network × Route)) → find network_cmp e.0 xs ≡ Some e.1 → nat_lt 0 (length xs) ≡ true
+    at [] is = cc
+    at (x ∷ xs) is = lt-ltb 0 (length (x ∷ xs)) (omega arith)
+
+-- there are some where some were given
+len-from_entries : (es : List (Network × Route)) → nat_lt 0 (finite.len (finite.from_entries {R = network_cmp} es)) ≡ nat_lt 0 (length es)
+len-from_entries [] = ap (λ n. nat_lt 0 n) (len-empty network_cmp Route)
+len-from_entries (e ∷ es) = some-entries e es ∙ sym (lt-ltb 0 (length (e ∷ es)) (omega arith))
+
+some-of_peer : (p : Peer) (es : List (Pair × Route)) → has_peer p (map (λ (e : Pair × Route). e.0.peer) es) ≡ nat_lt 0 (length (of_peer p es))
+some-of_peer p [] = refl
+some-of_peer p (e ∷ es) = ap₂ (λ a b. a || b) (peer_symm p e.0.peer) (some-of_peer p es) ∙ at (same_peer e.0.peer p)
+  where
+    at : (b : Bool) → (b || nat_lt 0 (length (of_peer p es)))
+        ≡ nat_lt 0 (length (prefixed (cond b (e ∷ filter (λ (e : Pair × Route). same_peer e.0.peer p) es) (filter (λ (e : Pair × Route). same_peer e.0.peer p) es))))
+    at true = sym (lt-ltb 0 (suc (length (of_peer p es))) (omega arith))
+    at false = refl
+
+-- a peer is among those of all routes where it has some
+some-peer_routes : (all : Routes) (p : Peer) → has_peer p (map (λ (e : Pair × Route). e.0.peer) (finite.entries all)) ≡ nat_lt 0 (finite.len (peer_routes all p))
+unfolding peer_routes
+some-peer_routes all p = some-of_peer p (finite.entries all) ∙ sym (len-from_entries (of_peer p (finite.entries all)))
+
+-- a peer that is below all is not among them
+absent_peer : {A : Type 0} (p : Peer) (entries : List (Peer × A)) → AllByRecursion (λ y. peer_cmp p y ≡ Less) (keys_of entries) → has_peer p (keys_of entries) ≡ false
+absent_peer p [] all = refl
+absent_peer p (e ∷ entries) all = ap (λ r. is_eq r || has_peer p (keys_of entries)) all.0 ∙ absent_peer p entries all.1
+
+-- where some go, a peer below all is below those that are left
+below-filter : {A : Type 0} (has : Peer × A → Bool) (x : Peer) (es : List (Peer × A)) → AllByRecursion (λ y. peer_cmp x y ≡ Less) (keys_of es) → AllByRecursion (λ y. peer_cmp x y ≡ Less) (keys_of (filter has es))
+below-filter has x [] all = tt
+below-filter has x (e ∷ es) all = at (has e) (below-filter has x es all.1)
+  where
+    at : (b : Bool) → AllByRecursion (λ y. peer_cmp x y ≡ Less) (keys_of (filter has es)) → AllByRecursion (λ y. peer_cmp x y ≡ Less) (keys_of (cond b (e ∷ filter has es) (filter has es)))
+    at true rest = (all.0, rest)
+    at false rest = rest
+
+below-marked : {A : Type 0} (x : Peer) (es : List (Peer × A)) → AllByRecursion (λ y. peer_cmp x y ≡ Less) (keys_of es) → below_all peer_cmp x (marked (λ e. e.0) es) ≡ true
+below-marked x [] all = refl
+below-marked x (e ∷ es) all = ap (λ r. is_lt r && below_all peer_cmp x (marked (λ e. e.0) es)) all.0 ∙ below-marked x es all.1
+
+sorted-marked : {A : Type 0} (has : Peer × A → Bool) (es : List (Peer × A)) → IsStrictlySortedBy peer_cmp (keys_of es) → is_sorted peer_cmp (marked (λ e. e.0) (filter has es)) ≡ true
+sorted-marked has [] sorted = refl
+sorted-marked has (e ∷ es) sorted = at (has e) (sorted-marked has es (sorted_tail peer_cmp e.0 (keys_of es) sorted))
+  where
+    at : (b : Bool) → is_sorted peer_cmp (marked (λ e. e.0) (filter has es)) ≡ true → is_sorted peer_cmp (marked (λ e. e.0) (cond b (e ∷ filter has es) (filter has es))) ≡ true
+    at true rest = ap (λ b. b && is_sorted peer_cmp (marked (λ e. e.0) (filter has es))) (below-marked e.0 (filter has es) (below-filter has e.0 es (sorted_head peer_cmp e.0 (keys_of es) sorted))) ∙ rest
+    at false rest = rest
+
+-- two filters are one
+filter_twice : {A : Type 0} (p q : A → Bool) (xs : List A) → filter p (filter q xs) ≡ filter (λ x. q x && p x) xs
+filter_twice p q [] = refl
+filter_twice p q (x ∷ xs) = at (q x) (filter_twice p q xs)
+  where
+    at : (b : Bool) → filter p (filter q xs) ≡ filter (λ x. q x && p x) xs
+        → filter p (cond b (x ∷ filter q xs) (filter q xs)) ≡ cond (b && p x) (x ∷ filter (λ x. q x && p x) xs) (filter (λ x. q x && p x) xs)
+    at true rest = ap (λ s. cond (p x) (x ∷ s) s) rest
+    at false rest = rest
+
+filter_alike : {A : Type 0} (p q : A → Bool) → ((x : A) → p x ≡ q x) → (xs : List A) → filter p xs ≡ filter q xs
+filter_alike p q same [] = refl
+filter_alike p q same (x ∷ xs) = ap₂ (λ b s. cond b (x ∷ s) s) (same x) (filter_alike p q same xs)
+
+and_turned : (a b : Bool) → (a && b) ≡ (b && a)
+and_turned true true = refl
+and_turned true false = refl
+and_turned false true = refl
+and_turned false false = refl
+
+keys-filter : {A : Type 0} (p : Peer → Bool) (es : List (Peer × A)) → keys_of (filter (λ e. p e.0) es) ≡ filter p (keys_of es)
+keys-filter p [] = refl
+keys-filter p (e ∷ es) = at (p e.0) ∙ ap (λ s. cond (p e.0) (e.0 ∷ s) s) (keys-filter p es)
+  where
+    at : (b : Bool) → keys_of (cond b (e ∷ filter (λ e. p e.0) es) (filter (λ e. p e.0) es)) ≡ cond b (e.0 ∷ keys_of (filter (λ e. p e.0) es)) (keys_of (filter (λ e. p e.0) es))
+    at true = refl
+    at false = refl
+
+some_same : {A : Type 0} (a b : A) → Some a ≡ Some b → a ≡ b
+some_same a b e = ap (λ o. from o a) e
+  where
+    from : {A : Type 0} → Option A → A → A
+    from None a = a
+    from (Some b) a = b
+
+-- the store of a peer that is below all others is not among those
+not_below : {A : Type 0} (p : Peer) (es : List (Peer × A)) (a : A) → AllByRecursion (λ y. peer_cmp p y ≡ Less) (keys_of es) → store_at es p ≡ Some a → ⊥
+not_below p [] a all found = cc
+not_below p (e ∷ es) a all found = not_below p es a all.1 (sym (ap (λ r. cond (is_eq r) (Some e.1) (store_at es p)) all.0) ∙ found)
+
+-- the first of those that pass is the store of its peer
+first_found : {A : Type 0} (p : Peer × A → Bool) (es : List (Peer × A)) (e : Peer × A) → IsStrictlySortedBy peer_cmp (keys_of es) → slice_get (filter p es) 0 ≡ Some e → store_at es e.0 ≡ Some e.1
+first_found p [] e sorted is = cc
+first_found {A} p (x ∷ es) e sorted is = at (p x) is (first_found p es e (sorted_tail peer_cmp x.0 (keys_of es) sorted)) (same_peer e.0 x.0) refl
+  where
+    at : (b : Bool) → slice_get (cond b (x ∷ filter p es) (filter p es)) 0 ≡ Some e → (slice_get (filter p es) 0 ≡ Some e → store_at es e.0 ≡ Some e.1)
+        → (c : Bool) → same_peer e.0 x.0 ≡ c → cond c (Some x.1) (store_at es e.0) ≡ Some e.1
+    at true is later true f = ap (λ (y : Peer × A). Some y.1) (some_same x e is)
+    at true is later false f =
+        let wrong : true ≡ false = sym (ap is_eq (tied_itself peer_cmp_total e.0)) ∙ ap (λ (y : Peer × A). same_peer e.0 y.0) (sym (some_same x e is)) ∙ f in
+        cc
+    at false is later true f =
+        absurd (not_below x.0 es e.1 (sorted_head peer_cmp x.0 (keys_of es) sorted) (ap (store_at es) (sym (one_peer e.0 x.0 f)) ∙ later is))
+    at false is later false f = later is
+
+module _ {S : Type 0} (routes : S → stored.Routes (Rc Route Global)) where
+  abbrev has_route : Peer × S → Bool
+  has_route entry = nat_lt 0 (finite.len (routes entry.1))
+
+  -- whether a store, if there is one, has a route
+  abbrev store_has_route : Option S → Bool
+  store_has_route None = false
+  store_has_route (Some store) = nat_lt 0 (finite.len (routes store))
+
+  has-routed_stores : (p : Peer) (stores : Stores S) → IsStrictlySortedBy peer_cmp (keys_of stores) → has_peer p (keys_of (routed_stores routes stores)) ≡ store_has_route (store_at stores p)
+  has-routed_stores p [] sorted = refl
+  has-routed_stores p (e ∷ stores) sorted =
+      at (nat_lt 0 (finite.len (routes e.1))) refl (same_peer p e.0) refl (has-routed_stores p stores (sorted_tail peer_cmp e.0 (keys_of stores) sorted))
+    where
+      none : same_peer p e.0 ≡ true → has_peer p (keys_of (routed_stores routes stores)) ≡ false
+      none f =
+          ap (λ q. has_peer q (keys_of (routed_stores routes stores))) (one_peer p e.0 f)
+          ∙ absent_peer e.0 (routed_stores routes stores) (below-filter has_route e.0 stores (sorted_head peer_cmp e.0 (keys_of stores) sorted))
+
+      at : (a : Bool) → nat_lt 0 (finite.len (routes e.1)) ≡ a → (b : Bool) → same_peer p e.0 ≡ b → has_peer p (keys_of (routed_stores routes stores)) ≡ store_has_route (store_at stores p)
+          → has_peer p (keys_of (cond a (e ∷ routed_stores routes stores) (routed_stores routes stores))) ≡ store_has_route (cond b (Some e.1) (store_at stores p))
+      at true h true f rest = ap (λ b. b || has_peer p (keys_of (routed_stores routes stores))) f ∙ sym h
+      at true h false f rest = ap (λ b. b || has_peer p (keys_of (routed_stores routes stores))) f ∙ rest
+      at false h true f rest = none f ∙ sym h
+      at false h false f rest = rest
+
+  some-routes_in : (stores : Stores S) (all : Routes) (p : Peer) (store : Option S) → store ≡ store_at stores p → routes_in routes stores ≡ all → nat_lt 0 (finite.len (peer_routes all p)) ≡ store_has_route store
+  some-routes_in stores all p None found e = ap (λ n. nat_lt 0 n) (len-entries (peer_routes all p) ∙ ap length (entries-no_routes routes stores all p found e))
+  some-routes_in stores all p (Some store) found e = ap (λ n. nat_lt 0 n) (len-peer_routes routes stores all p store found e)
+
+  -- the peers with a route are those of the stores with a route
+  keys-routed_stores : (stores : Stores S) (all : Routes) → IsStrictlySortedBy peer_cmp (keys_of stores) → routes_in routes stores ≡ all → routed_peers all ≡ keys_of (routed_stores routes stores)
+  unfolding routed_peers
+  keys-routed_stores stores all sorted e =
+      let marks = marked (λ (entry : Peer × S). entry.0) (routed_stores routes stores) in
+      let sorted_marks : T (is_sorted peer_cmp marks) = subst T (sym (sorted-marked has_route stores sorted)) tt in
+      ap finite.keys (same_map peer_cmp_total peer_cmp-IsAntisymmetric (finite.from_entries (marked (λ (entry : Pair × Route). entry.0.peer) (finite.entries all))) (finite.from_sorted marks) (λ p.
+      get-from_entries peer_cmp_total (marked (λ (entry : Pair × Route). entry.0.peer) (finite.entries all)) p
+      ∙ find-marked (λ (entry : Pair × Route). entry.0.peer) p (finite.entries all)
+      ∙ ap mark_where (some-peer_routes all p ∙ some-routes_in stores all p (store_at stores p) refl e ∙ sym (has-routed_stores p stores sorted))
+      ∙ sym (find-marked (λ (entry : Peer × S). entry.0) p (routed_stores routes stores))
+      ∙ sym (get-from_sorted peer_cmp marks p sorted_marks)))
+      ∙ ap (map (λ (entry : Peer × Unit {0}). entry.0)) (entries-from_sorted peer_cmp marks sorted_marks)
+      ∙ keys-marked (λ (entry : Peer × S). entry.0) (routed_stores routes stores)
+
+  -- the stores above a peer that have a route
+  abbrev stores_above : Option Peer → Stores S → Stores S
+  stores_above low stores = filter (λ (entry : Peer × S). has_route entry && is_peer_above low entry.0) stores
+
+  shown-above : (low : Option Peer) (test : Peer → Bool) (stores : Stores S) → ((p : Peer) → test p ≡ is_peer_above low p)
+      → routed_stores routes (filter (λ (entry : Peer × S). test entry.0) stores) ≡ stores_above low stores
+  shown-above low test stores same =
+      filter_twice has_route (λ (entry : Peer × S). test entry.0) stores
+      ∙ filter_alike (λ (entry : Peer × S). test entry.0 && has_route entry) (λ (entry : Peer × S). has_route entry && is_peer_above low entry.0)
+      (λ entry. ap (λ b. b && has_route entry) (same entry.0) ∙ and_turned (is_peer_above low entry.0) (has_route entry)) stores
+
+  keys-above : (low : Option Peer) (stores : Stores S) → keys_of (stores_above low stores) ≡ peers_above low (keys_of (routed_stores routes stores))
+  keys-above low stores =
+      ap keys_of (sym (filter_twice (λ (entry : Peer × S). is_peer_above low entry.0) has_route stores))
+      ∙ keys-filter (is_peer_above low) (routed_stores routes stores)
+
+  -- the first of these, and its count
+  pub first_counted : (low : Option Peer) (test : Peer → Bool) (stores shown : Stores S) (all : Routes) → ((p : Peer) → test p ≡ is_peer_above low p)
+      → IsStrictlySortedBy peer_cmp (keys_of stores) → shown ≡ filter (λ (entry : Peer × S). test entry.0) stores → routes_in routes stores ≡ all
+      → option_map (peer_count routes) (slice_get (routed_stores routes shown) 0)
+      ≡ option_map {U = Peer × ℕ} (λ p. (p, counted (finite.len (peer_routes all p)))) (slice_get (peers_above low (routed_peers all)) 0)
+  first_counted low test stores shown all same sorted is e =
+      ap (λ s. option_map (peer_count routes) (slice_get s 0)) (ap (routed_stores routes) is ∙ shown-above low test stores same)
+      ∙ at (slice_get (stores_above low stores) 0) refl
+      ∙ ap (option_map {U = Peer × ℕ} (λ p. (p, counted (finite.len (peer_routes all p))))) (sym (slice_get-map (λ (entry : Peer × S). entry.0) (stores_above low stores) 0)
+      ∙ ap (λ s. slice_get s 0) (keys-above low stores ∙ ap (peers_above low) (sym (keys-routed_stores stores all sorted e))))
+    where
+      at : (first : Option (Peer × S)) → slice_get (stores_above low stores) 0 ≡ first
+          → option_map (peer_count routes) first ≡ option_map {U = Peer × ℕ} (λ p. (p, counted (finite.len (peer_routes all p)))) (option_map {U = Peer} (λ (entry : Peer × S). entry.0) first)
+      at None f = refl
+      at (Some entry) f =
+          ap (λ n. Some (entry.0, counted n)) (sym (len-peer_routes routes stores all entry.0 entry.1
+          (sym (first_found (λ (entry : Peer × S). has_route entry && is_peer_above low entry.0) stores entry sorted f)) e))
+
+  -- a count of at least 1 is that of a store with a route
+  pub routed-more : (peer : Peer) (store : S) (rest : Stores S) (n : ℕ) → n ≡ counted (finite.len (routes store)) → 0 < n
+      → routed_stores routes ((peer, store) ∷ rest) ≡ (peer, store) ∷ routed_stores routes rest
+  routed-more peer store rest n is some = ap (λ b. cond b ((peer, store) ∷ routed_stores routes rest) (routed_stores routes rest)) (lt-ltb 0 (finite.len (routes store)) (omega (arith, is, some)))
+
+  pub routed-none : (peer : Peer) (store : S) (rest : Stores S) (n : ℕ) → n ≡ counted (finite.len (routes store)) → n ≤ 0
+      → routed_stores routes ((peer, store) ∷ rest) ≡ routed_stores routes rest
+  routed-none peer store rest n is none = ap (λ b. cond b ((peer, store) ∷ routed_stores routes rest) (routed_stores routes rest)) (le-ltb 0 (finite.len (routes store)) (omega (arith, is, none)))
+
+-- ---- the list of peers
+
+marks : (b : Bool) → is_some (mark_where b) ≡ b
+marks true = refl
+marks false = refl
+
+-- a peer is listed where it has a route
+pub has-routed_peers : (all : Routes) (p : Peer) → has_peer p (routed_peers all) ≡ nat_lt 0 (finite.len (peer_routes all p))
+unfolding routed_peers
+has-routed_peers all p =
+    let peers = marked (λ (entry : Pair × Route). entry.0.peer) (finite.entries all) in
+    sym (contains_key-keys (finite.from_entries {R = peer_cmp} peers) p)
+    ∙ ap is_some (get-from_entries peer_cmp_total peers p ∙ find-marked (λ (entry : Pair × Route). entry.0.peer) p (finite.entries all))
+    ∙ marks _ ∙ some-peer_routes all p
+
+is_less : (r : Ordering) → is_lt r ≡ true → r ≡ Less
+is_less Less e = refl
+is_less Equal e = cc
+is_less Greater e = cc
+
+below-in_order : {A : Type 0} (x : Peer) (es : List (Peer × A)) → below_all peer_cmp x es ≡ true → AllByRecursion (λ y. peer_cmp x y ≡ Less) (keys_of es)
+below-in_order x [] f = tt
+below-in_order x (e ∷ es) f =
+    let parts = and_parts (is_lt (peer_cmp x e.0)) (below_all peer_cmp x es) f in
+    (is_less _ parts.0, below-in_order x es parts.1)
+
+in_order : {A : Type 0} (es : List (Peer × A)) → is_sorted peer_cmp es ≡ true → IsStrictlySortedBy peer_cmp (keys_of es)
+unfolding IsStrictlySortedBy
+in_order [] sorted = tt
+in_order (e ∷ es) sorted =
+    let parts = and_parts (below_all peer_cmp e.0 es) (is_sorted peer_cmp es) sorted in
+    (below-in_order e.0 es parts.0, in_order es parts.1)
+
+pub peers-in_order : (all : Routes) → IsStrictlySortedBy peer_cmp (routed_peers all)
+unfolding routed_peers
+peers-in_order all =
+    let peers = finite.from_entries {X = Unit {0}} {R = peer_cmp} (marked (λ (entry : Pair × Route). entry.0.peer) (finite.entries all)) in
+    in_order (finite.entries peers) (is_true _ (finite.entries_sorted peers))
+  where
+    is_true : (b : Bool) → T b → b ≡ true
+    is_true true p = refl
+    is_true false p = absurd p
+
+-- the peers above one of them, and those above another that is above it
+above_trans : (low : Option Peer) (x y : Peer) → is_peer_above low x ≡ true → peer_cmp x y ≡ Less → is_peer_above low y ≡ true
+above_trans None x y e f = refl
+above_trans (Some l) x y e f = ap is_lt (peer_cmp_total.trans l x y (is_less _ e) f)
+
+all_above : (low : Option Peer) (x : Peer) (ps : List Peer) → is_peer_above low x ≡ true → AllByRecursion (λ y. peer_cmp x y ≡ Less) ps → peers_above low ps ≡ ps
+all_above low x [] e all = refl
+all_above low x (y ∷ ps) e all =
+    ap (λ b. cond b (y ∷ peers_above low ps) (peers_above low ps)) (above_trans low x y e all.0) ∙ ap (λ s. y ∷ s) (all_above low x ps e all.1)
+
+all_above_it : (x : Peer) (ps : List Peer) → AllByRecursion (λ y. peer_cmp x y ≡ Less) ps → peers_above (Some x) ps ≡ ps
+all_above_it x [] all = refl
+all_above_it x (y ∷ ps) all = ap (λ r. cond (is_lt r) (y ∷ peers_above (Some x) ps) (peers_above (Some x) ps)) all.0 ∙ ap (λ s. y ∷ s) (all_above_it x ps all.1)
+
+first_is_above : (low : Option Peer) (ps : List Peer) (p : Peer) → slice_get (peers_above low ps) 0 ≡ Some p → is_peer_above low p ≡ true
+first_is_above low [] p e = cc
+first_is_above low (x ∷ ps) p e = at (is_peer_above low x) refl e (first_is_above low ps p)
+  where
+    at : (b : Bool) → is_peer_above low x ≡ b → slice_get (cond b (x ∷ peers_above low ps) (peers_above low ps)) 0 ≡ Some p
+        → (slice_get (peers_above low ps) 0 ≡ Some p → is_peer_above low p ≡ true) → is_peer_above low p ≡ true
+    at true is e later = ap (is_peer_above low) (sym (some_same x p e)) ∙ is
+    at false is e later = later e
+
+not_above : (low : Option Peer) (x p : Peer) → is_peer_above low x ≡ false → is_peer_above low p ≡ true → is_lt (peer_cmp p x) ≡ false
+not_above low x p out here = at (is_lt (peer_cmp p x)) refl
+  where
+    at : (b : Bool) → is_lt (peer_cmp p x) ≡ b → b ≡ false
+    at true f = sym (above_trans low p x here (is_less _ f)) ∙ out
+    at false f = refl
+
+-- the first above a peer, and those above it
+pub peers-next : (low : Option Peer) (ps : List Peer) (p : Peer) → IsStrictlySortedBy peer_cmp ps → slice_get (peers_above low ps) 0 ≡ Some p
+    → peers_above low ps ≡ p ∷ peers_above (Some p) ps
+peers-next low [] p sorted is = cc
+peers-next low (x ∷ ps) p sorted is =
+    at (is_peer_above low x) refl is (sorted_head peer_cmp x ps sorted) (peers-next low ps p (sorted_tail peer_cmp x ps sorted))
+  where
+    at : (b : Bool) → is_peer_above low x ≡ b → slice_get (cond b (x ∷ peers_above low ps) (peers_above low ps)) 0 ≡ Some p → AllByRecursion (λ y. peer_cmp x y ≡ Less) ps
+        → (slice_get (peers_above low ps) 0 ≡ Some p → peers_above low ps ≡ p ∷ peers_above (Some p) ps)
+        → cond b (x ∷ peers_above low ps) (peers_above low ps) ≡ p ∷ peers_above (Some p) (x ∷ ps)
+    at true here is all later =
+        ap (λ s. x ∷ s) (all_above low x ps here all ∙ sym (ap (λ r. cond (is_lt r) (x ∷ peers_above (Some x) ps) (peers_above (Some x) ps)) (tied_itself peer_cmp_total x) ∙ all_above_it x ps all))
+        ∙ ap (λ (y : Peer). y ∷ peers_above (Some y) (x ∷ ps)) (some_same x p is)
+    at false out is all later =
+        later is
+        ∙ ap (λ s. p ∷ s) (sym (ap (λ b. cond b (x ∷ peers_above (Some p) ps) (peers_above (Some p) ps))
+        (not_above low x p out (first_is_above low ps p is))))
+
+pub all-peers : (ps : List Peer) → peers_above None ps ≡ ps
+all-peers [] = refl
+all-peers (p ∷ ps) = ap (λ s. p ∷ s) (all-peers ps)
