@@ -14,3 +14,4 @@ pub mod Meaning
 pub mod Course
 pub mod Standing
 pub mod Moves
+pub mod Carrying

@@ -1,6 +1,7 @@
 -- The replies to commands.
 use Rattle.std.specs.Prelude.{ℕ, Bool, true, false, List, [], ◌∷◌, ◌++◌, length, nat_lt, if◌then◌else◌, Option, Some, None, decimal, codes}
 use Rattle.std.specs.List.{flat_map, filter}
+use Rattle.std.specs.Option.{option_map}
 use Rattle.std.specs.FinMap as finite
 use Rattle.ip_prefix.specs.Address.{Address}
 use Rattle.ip_prefix.specs.Network.{Network, contains}
@@ -56,16 +57,22 @@ best routes peer address = longest (filter (λ entry. contains entry.0 address) 
 abbrev pub best_text : Routes → Peer → Address → List ℕ
 best_text routes peer address = found_text peer (best routes peer address)
 
+-- how many routes there are
+abbrev pub routes_line : ℕ → List ℕ
+routes_line number = codes "routes " ++ (decimal number ++ line_feed ∷ [])
+
 -- all routes of the peer in order, and how many they are
 abbrev pub table_text : Routes → Peer → List ℕ
 table_text routes peer =
-    flat_map (rib_line peer) (finite.entries (peer_routes routes peer))
-    ++ (codes "routes " ++ (decimal (counted (finite.len (peer_routes routes peer))) ++ line_feed ∷ []))
+    flat_map (rib_line peer) (finite.entries (peer_routes routes peer)) ++ routes_line (counted (finite.len (peer_routes routes peer)))
+
+-- a peer, and a number of routes
+abbrev pub peer_line_of : Peer → ℕ → List ℕ
+peer_line_of peer number = line_of (codes "PEER" ∷ address_text peer.addr ∷ decimal peer.asn ∷ decimal number ∷ [])
 
 -- a peer, and how many routes it has
 abbrev pub peer_line : Routes → Peer → List ℕ
-peer_line routes peer =
-    line_of (codes "PEER" ∷ address_text peer.addr ∷ decimal peer.asn ∷ decimal (counted (finite.len (peer_routes routes peer))) ∷ [])
+peer_line routes peer = peer_line_of peer (counted (finite.len (peer_routes routes peer)))
 
 -- the lines of these peers, if there are any
 abbrev pub peer_lines : Routes → List Peer → List ℕ

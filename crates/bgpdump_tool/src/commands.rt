@@ -2,5 +2,10 @@
 
 mod back;
 mod goto;
+mod lookup;
 mod lose;
 mod next;
+mod peers;
+mod position;
+mod route;
+mod table;

@@ -11,6 +11,7 @@ mod laws;
 mod lines;
 mod outcome;
 mod output;
+mod replies;
 mod reports;
 mod same;
 mod script;

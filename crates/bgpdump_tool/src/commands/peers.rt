@@ -1,0 +1,67 @@
+//! The peers that have routes.
+
+ghost use Rattle.std.specs.Prelude.{◌≡◌, ◌++◌, ◌||◌, OnOk};
+ghost use Rattle.std.specs.FinMap as finite;
+ghost use Rattle.rib_store.specs.Stored.{counted};
+ghost use Rattle.rib_player.specs.Store.{peer_routes};
+ghost use Rattle.bgpdump_tool.specs.Replies.{peer_line_of, peers_text};
+ghost use Rattle.bgpdump_tool.specs.Writing.{Puts, Replies, is_write};
+
+use crate::fault::WriteFault;
+use crate::fields::{put_number, put_peer};
+use crate::output::{Output, put_all};
+use crate::replies::write_none;
+use mrt_wire::{Peer, Route};
+use rib_player::Table;
+use rib_store::PrefixStore;
+use std::alloc::AllocError;
+use std::rc::Rc;
+
+/// Appends a peer, and how many routes it has.
+fn put_peer_line(peer: &Peer, routes: u64, text: &mut Vec<u8>) -> Result<(), AllocError>
+    ensures { OnOk result (text.new.items ≡ text.old.items ++ peer_line_of peer.now routes) }
+{
+    text.extend_from_slice(b"PEER")?;
+    put_peer(peer, text)?;
+    put_number(routes, text)?;
+    text.push(b'\n')?;
+    Ok(())
+}
+
+/// Writes a peer, and how many routes it has. The text is scratch.
+fn write_peer<O: Output>(
+    peer: &Peer,
+    routes: u64,
+    out: &mut O,
+    text: &mut Vec<u8>,
+) -> Result<(), WriteFault>
+    ensures text { Puts (O.written out.old) (O.written out.new) (peer_line_of peer.now routes)
+        result }
+    ensures failed { O.failed out.new ≡ (O.failed out.old || is_write result) }
+{
+    text.clear();
+    put_peer_line(peer, routes, text)?;
+    put_all(out, text)?;
+    Ok(())
+}
+
+/// Writes the peers that have a route, each on a line, as they come. The text is scratch.
+pub(crate) fn peers<S: PrefixStore<Rc<Route>>, O: Output>(
+    table: &Table<S>,
+    out: &mut O,
+    text: &mut Vec<u8>,
+) -> Result<(), WriteFault>
+    ensures text { Replies (O.written out.old) (O.written out.new) (peers_text table.now.routes)
+        result }
+    ensures failed { O.failed out.new ≡ (O.failed out.old || is_write result) }
+{
+    let mut last = None;
+    'peers: while let Some(found) = table.peer_after(last.as_ref()) {
+        write_peer(&found.0, found.1, out, text)?;
+        last = Some(found.0);
+    }
+    if last.is_none() {
+        write_none(out)?;
+    }
+    Ok(())
+}
