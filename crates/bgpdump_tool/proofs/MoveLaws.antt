@@ -16,6 +16,8 @@ use Rattle.bgpdump_tool.specs.Reports.{finding_report, reports}
 use Rattle.bgpdump_tool.specs.State.{event_of, events, needed}
 use Rattle.bgpdump_tool.specs.Standing.{Standing, Scene, Taking, Stands, Follows, standing_on, IsOnward}
 use Rattle.bgpdump_tool.specs.Moves.{GoesOn, StopsReading, StopsWriting, Stops, StepDoes, ForwardDoes, OnwardDoes, Moves}
+use Rattle.bgpdump_tool.specs.Writing.{is_any_bad}
+use Rattle.bgpdump_tool.proofs.RunLaws.{is_any_bad-append}
 use Rattle.bgpdump_tool.proofs.WritingLaws.{AppendsFront-behind}
 
 pub events-append : (found more : List Finding) → events (found ++ more) ≡ events found ++ events more
@@ -28,9 +30,13 @@ no_events : (found : List Finding) → length found ≡ 0 → length (events fou
 no_events [] e = refl
 no_events (x ∷ found) e = absurd (omega arith)
 
-or_assoc : (a b c : Bool) → b ≡ false → ((a || b) || c) ≡ (a || c)
-or_assoc true b c e = refl
-or_assoc false b c e = ap (λ x. x || c) e
+or_assoc : (a b c : Bool) → ((a || b) || c) ≡ (a || (b || c))
+or_assoc true b c = refl
+or_assoc false b c = refl
+
+or_false : (b : Bool) → (b || false) ≡ b
+or_false true = refl
+or_false false = refl
 
 -- ---- one move behind another
 
@@ -43,7 +49,7 @@ standing_on-twice s over more found new ended =
       cursor = sum i;
       floor = s.floor;
       found = append_assoc s.found found new i;
-      ended = or_assoc s.ended false ended refl i;
+      ended = or_assoc s.ended false ended i;
     }
 
 IsOnward-twice : (s : Standing) (over more : ℕ) (found new : List Finding) (ended : Bool) → s.cursor ≤ length s.history → IsOnward over found s → IsOnward more new (standing_on over found ended s) → IsOnward (over + more) (found ++ new) s
@@ -94,6 +100,7 @@ GoesOn-twice from left s a b c over more found new ended stands first second =
         (second.met e).1,
       );
       reported = subst (Appends a.err c.err) (sym (reports-append found new)) (Appends-trans a.err b.err c.err (reports found) (reports new) first.reported second.reported);
+      told = second.told ∙ ap (λ b. b || is_any_bad new) first.told ∙ or_assoc a.reported (is_any_bad found) (is_any_bad new) ∙ ap (λ b. a.reported || b) (sym (is_any_bad-append found new));
     }
 
 -- nothing moved yet
@@ -106,14 +113,11 @@ GoesOn-none from left s a stands =
       follows = record { quiet = λ _. refl; stays = λ e. e };
       met = λ e. cc;
       reported = Appends-nil a.err;
+      told = sym (or_false a.reported);
     }
   where
     sum : s.cursor ≡ s.cursor + 0 + length (events [])
     sum = omega arith
-
-    or_false : (b : Bool) → (b || false) ≡ b
-    or_false true = refl
-    or_false false = refl
 
 -- ---- a fault behind a move
 
@@ -131,11 +135,6 @@ StopsWriting-behind from left s a b c over found new first stop = record {
   follows = Follows-twice a.place b.place c.place found new first.follows stop.follows;
   fronts = subst (AppendsFront a.err c.err) (sym (reports-append found new)) (AppendsFront-behind a.err b.err c.err (reports found) (reports new) first.reported stop.fronts);
 }
-  where
-    or_false : (b : Bool) → (b || false) ≡ b
-    or_false true = refl
-    or_false false = refl
-
 pub Stops-behind : (More Enough More' Enough' : List Finding → Type 0) (from : Place) (left : Option (List ℕ)) (s : Standing) (a b c : Scene) (over : ℕ) (found : List Finding) (outcome : Outcome)
     → ((new : List Finding) → More new → More' (found ++ new)) → ((new : List Finding) → Enough new → Enough' (found ++ new))
     → GoesOn from left s a b over found false → Stops More Enough from left (standing_on over found false s) b c outcome → Stops More' Enough' from left s a c outcome

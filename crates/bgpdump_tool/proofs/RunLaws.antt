@@ -21,7 +21,7 @@ use Rattle.bgpdump_tool.specs.Writing.{PutsFound, is_any_bad}
 use Rattle.bgpdump_tool.specs.Going.{Going, Untold, IsFaulty, StopsAtSource, StopsAtWriting}
 use Rattle.bgpdump_tool.proofs.WritingLaws.{dump_texts-append, Writes-append, WritesFronts-behind}
 
-is_any_bad-append : (found more : List Finding) → is_any_bad (found ++ more) ≡ (is_any_bad found || is_any_bad more)
+pub is_any_bad-append : (found more : List Finding) → is_any_bad (found ++ more) ≡ (is_any_bad found || is_any_bad more)
 is_any_bad-append [] more = refl
 is_any_bad-append (Found event ∷ found) more = is_any_bad-append found more
 is_any_bad-append (Bad fault ∷ found) more = refl

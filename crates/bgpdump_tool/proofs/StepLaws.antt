@@ -111,12 +111,13 @@ step_over from left old s t stands e on =
       follows = record { quiet = λ _. refl; stays = λ ended. ended };
       met = λ ended. cc;
       reported = Appends-nil old.err;
+      told = sym (or_false old.reported);
     }
 
 -- over an event that is played
 pub step_found : (from : Place) (left : Option (List ℕ)) (old : Scene) (s : Standing) (t u : Timeline) (q : Place) (left' : Option (List ℕ)) (event : Event) → Stands from left old s → t ≡ after_redo old.player
     → ¬ (old.player.cursor < end_of old.player) → u ≡ after_play t event → Promises old.place q old.left left' (next.Event event) → q.offset ≤ q.limit
-    → GoesOn from left s old (record { player = u; place = q; left = left'; err = old.err }) 0 (Found event ∷ []) false
+    → GoesOn from left s old (record { player = u; place = q; left = left'; err = old.err; reported = old.reported }) 0 (Found event ∷ []) false
 step_found from left old s t u q left' event stands e off plays promised within =
     let now : u ≡ after_play old.player event = plays ∙ ap (λ x. after_play x event) (e ∙ redo_off old.player off) in
     let end = cursor_at_end from left old s stands off in
@@ -132,13 +133,14 @@ step_found from left old s t u q left' event stands e off plays promised within 
       follows = Follows-answer old.place q old.left left' (next.Event event) promised;
       met = λ ended. cc;
       reported = Appends-nil old.err;
+      told = sym (or_false old.reported);
     }
 
 -- a player that can't go on stays
-Stands-stays : (from : Place) (left : Option (List ℕ)) (old : Scene) (s : Standing) (t : Timeline) (q : Place) (left' err : Option (List ℕ)) (new : List Finding) (ended : Bool) → Stands from left old s → t ≡ after_redo old.player
+Stands-stays : (from : Place) (left : Option (List ℕ)) (old : Scene) (s : Standing) (t : Timeline) (q : Place) (left' err : Option (List ℕ)) (reported : Bool) (new : List Finding) (ended : Bool) → Stands from left old s → t ≡ after_redo old.player
     → ¬ (old.player.cursor < end_of old.player) → Taking from left q left' (s.found ++ new) (s.ended || ended)
-    → Stands from left (record { player = t; place = q; left = left'; err = err }) (record { history = s.history ++ []; cursor = s.cursor + 0 + 0; floor = s.floor; found = s.found ++ new; ended = s.ended || ended })
-Stands-stays from left old s t q left' err new ended stands e off taking =
+    → Stands from left (record { player = t; place = q; left = left'; err = err; reported = reported }) (record { history = s.history ++ []; cursor = s.cursor + 0 + 0; floor = s.floor; found = s.found ++ new; ended = s.ended || ended })
+Stands-stays from left old s t q left' err reported new ended stands e off taking =
     let same : t ≡ old.player = e ∙ redo_off old.player off in
     record {
       history = subst (StandsFor t) (sym (append-nil s.history)) (subst (λ x. StandsFor x s.history) (sym same) stands.history);
@@ -150,39 +152,41 @@ Stands-stays from left old s t q left' err new ended stands e off taking =
 -- over a fault that is reported
 pub step_bad : (from : Place) (left : Option (List ℕ)) (old : Scene) (s : Standing) (t : Timeline) (q : Place) (left' err : Option (List ℕ)) (fault : RecordFault) → Stands from left old s → t ≡ after_redo old.player
     → ¬ (old.player.cursor < end_of old.player) → Promises old.place q old.left left' (next.Bad fault) → q.offset ≤ q.limit → Appends old.err err (fault_report fault)
-    → GoesOn from left s old (record { player = t; place = q; left = left'; err = err }) 0 (Bad fault ∷ []) false
+    → GoesOn from left s old (record { player = t; place = q; left = left'; err = err; reported = true }) 0 (Bad fault ∷ []) false
 step_bad from left old s t q left' err fault stands e off promised within appended =
     let end = cursor_at_end from left old s stands off in
     record {
       onward = record { few = omega arith; all = λ one. omega (arith, end) };
-      stands = Stands-stays from left old s t q left' err (Bad fault ∷ []) false stands e off
+      stands = Stands-stays from left old s t q left' err true (Bad fault ∷ []) false stands e off
           (subst (λ b. Taking from left q left' (s.found ++ Bad fault ∷ []) b) (sym (or_false s.ended)) (Taking-told from old.place q left old.left left' s.found s.ended (next.Bad fault) stands.taking promised refl within));
       follows = Follows-answer old.place q old.left left' (next.Bad fault) promised;
       met = λ ended. cc;
       reported = subst (Appends old.err err) (sym (append-nil (fault_report fault))) appended;
+      told = sym (or_true old.reported);
     }
 
 -- to the end
 pub step_end : (from : Place) (left : Option (List ℕ)) (old : Scene) (s : Standing) (t : Timeline) (q : Place) (left' : Option (List ℕ)) → Stands from left old s → t ≡ after_redo old.player
     → ¬ (old.player.cursor < end_of old.player) → Promises old.place q old.left left' next.End → q.offset ≤ q.limit
-    → GoesOn from left s old (record { player = t; place = q; left = left'; err = old.err }) 0 [] true
+    → GoesOn from left s old (record { player = t; place = q; left = left'; err = old.err; reported = old.reported }) 0 [] true
 step_end from left old s t q left' stands e off promised within =
     let end = cursor_at_end from left old s stands off in
     record {
       onward = record { few = omega arith; all = λ one. absurd (omega (arith, one)) };
-      stands = Stands-stays from left old s t q left' old.err [] true stands e off (Taking-end from old.place q left old.left left' s.found s.ended stands.taking promised within);
+      stands = Stands-stays from left old s t q left' old.err old.reported [] true stands e off (Taking-end from old.place q left old.left left' s.found s.ended stands.taking promised within);
       follows = Follows-answer old.place q old.left left' next.End promised;
       met = λ _. (omega (arith, end), ends_with_none from old.place q left old.left left' s.found next.End stands.taking.so_far promised refl);
       reported = Appends-nil old.err;
+      told = sym (or_false old.reported);
     }
 
 -- ---- a step that a fault stops
 
-pub step_stops_reading : (from : Place) (left : Option (List ℕ)) (old : Scene) (s : Standing) (t : Timeline) (q : Place) (left' : Option (List ℕ)) (fault : SourceFault) → Stands from left old s
+pub step_stops_reading : (from : Place) (left : Option (List ℕ)) (old : Scene) (s : Standing) (t : Timeline) (q : Place) (left' : Option (List ℕ)) (reported : Bool) (fault : SourceFault) → Stands from left old s
     → ¬ (old.player.cursor < end_of old.player) → (old.place.phase ≡ Reading → (octets : List ℕ) × Consumes old.left left' octets × Nexts old.place q left' octets (Err fault))
     → (old.place.phase ≡ Ended → ◌≡◌ {A = Result Next SourceFault} (Err fault) (Ok next.End)) → q.offset ≤ q.limit
-    → StepDoes from left s old (record { player = t; place = q; left = left'; err = old.err }) (Err (source_outcome fault))
-step_stops_reading from left old s t q left' fault stands off promised ended within =
+    → StepDoes from left s old (record { player = t; place = q; left = left'; err = old.err; reported = reported }) (Err (source_outcome fault))
+step_stops_reading from left old s t q left' reported fault stands off promised ended within =
     let faulty = IsFaulty-behind from old.place q left old.left left' s.found fault stands.taking.so_far promised ended within in (
       cursor_at_end from left old s stands off,
       inl (fault, refl, [], refl, record {
@@ -192,10 +196,10 @@ step_stops_reading from left old s t q left' fault stands off promised ended wit
     )
 
 -- behind an answer that tells something
-stops_told : (from : Place) (left : Option (List ℕ)) (old : Scene) (s : Standing) (u : Timeline) (q : Place) (left' err : Option (List ℕ)) (answer : Next) (fault : WriteFault) → Stands from left old s
+stops_told : (from : Place) (left : Option (List ℕ)) (old : Scene) (s : Standing) (u : Timeline) (q : Place) (left' err : Option (List ℕ)) (reported : Bool) (answer : Next) (fault : WriteFault) → Stands from left old s
     → ¬ (old.player.cursor < end_of old.player) → Promises old.place q old.left left' answer → is_nothing (answer_findings answer) ≡ false → length (answer_findings answer) ≡ 1 → q.offset ≤ q.limit
-    → AppendsFront old.err err (reports (answer_findings answer)) → StepDoes from left s old (record { player = u; place = q; left = left'; err = err }) (Err (write_outcome fault))
-stops_told from left old s u q left' err answer fault stands off promised some one within fronts = (
+    → AppendsFront old.err err (reports (answer_findings answer)) → StepDoes from left s old (record { player = u; place = q; left = left'; err = err; reported = reported }) (Err (write_outcome fault))
+stops_told from left old s u q left' err reported answer fault stands off promised some one within fronts = (
   cursor_at_end from left old s stands off,
   inr (fault, refl, answer_findings answer, one, record {
     taking = Taking-told from old.place q left old.left left' s.found s.ended answer stands.taking promised some within;
@@ -206,15 +210,15 @@ stops_told from left old s u q left' err answer fault stands off promised some o
 
 pub step_stops_playing : (from : Place) (left : Option (List ℕ)) (old : Scene) (s : Standing) (u : Timeline) (q : Place) (left' : Option (List ℕ)) (event : Event) → Stands from left old s
     → ¬ (old.player.cursor < end_of old.player) → Promises old.place q old.left left' (next.Event event) → q.offset ≤ q.limit
-    → StepDoes from left s old (record { player = u; place = q; left = left'; err = old.err }) (Err outcome.Memory)
+    → StepDoes from left s old (record { player = u; place = q; left = left'; err = old.err; reported = old.reported }) (Err outcome.Memory)
 step_stops_playing from left old s u q left' event stands off promised within =
-    stops_told from left old s u q left' old.err (next.Event event) write.Memory stands off promised refl refl within (AppendsFront-none old.err [])
+    stops_told from left old s u q left' old.err old.reported (next.Event event) write.Memory stands off promised refl refl within (AppendsFront-none old.err [])
 
 pub step_stops_reporting : (from : Place) (left : Option (List ℕ)) (old : Scene) (s : Standing) (u : Timeline) (q : Place) (left' err : Option (List ℕ)) (bad : RecordFault) (fault : WriteFault) → Stands from left old s
     → ¬ (old.player.cursor < end_of old.player) → Promises old.place q old.left left' (next.Bad bad) → q.offset ≤ q.limit → Puts {A = Unit {0}} old.err err (fault_report bad) (Err fault)
-    → StepDoes from left s old (record { player = u; place = q; left = left'; err = err }) (Err (write_outcome fault))
+    → StepDoes from left s old (record { player = u; place = q; left = left'; err = err; reported = true }) (Err (write_outcome fault))
 step_stops_reporting from left old s u q left' err bad fault stands off promised within put =
-    stops_told from left old s u q left' err (next.Bad bad) fault stands off promised refl refl within (fronts fault put)
+    stops_told from left old s u q left' err true (next.Bad bad) fault stands off promised refl refl within (fronts fault put)
   where
     fronts : (fault : WriteFault) → Puts {A = Unit {0}} old.err err (fault_report bad) (Err fault) → AppendsFront old.err err (reports (Bad bad ∷ []))
     fronts write.Write front = subst (AppendsFront old.err err) (sym (append-nil (fault_report bad))) front

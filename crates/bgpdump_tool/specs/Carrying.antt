@@ -11,6 +11,7 @@ use Rattle.bgpdump_tool.specs.declared.outcome.Outcome.{Outcome}
 use Rattle.bgpdump_tool.specs.Device.{AppendsFront}
 use Rattle.bgpdump_tool.specs.Ending.{source_outcome, write_outcome}
 use Rattle.bgpdump_tool.specs.Reports.{reports}
+use Rattle.bgpdump_tool.specs.Writing.{is_any_bad}
 use Rattle.bgpdump_tool.specs.Meaning.{meaning, meets_end, faults_taken}
 use Rattle.bgpdump_tool.specs.Standing.{Standing, Scene, Taking, Stands, Follows, state_of}
 use Rattle.bgpdump_tool.specs.Moves.{StopsReading}
@@ -32,6 +33,7 @@ pub record IsCarriedOut (command : Command) (from : Place) (left : Option (List 
   pub follows : Follows old.place new.place taken
   pub leads : (more : List Finding) → (new.place.phase ≡ Ended → more ≡ []) → Leads command s after taken reply more
   pub reported : Appends old.err new.err (reports taken)
+  pub told : new.reported ≡ (old.reported || is_any_bad taken)
   pub replied : Appends out out' reply
 
 -- the source stopped it, behind results of which it has to take more: it gave no reply

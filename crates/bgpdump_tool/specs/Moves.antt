@@ -1,5 +1,5 @@
 -- What moves on do, and how a fault stops them.
-use Rattle.std.specs.Prelude.{◌≡◌, ◌⊎◌, ℕ, ◌+◌, ◌-◌, ◌<◌, ◌≤◌, Bool, true, false, List, [], ◌++◌, length, Option, Result, Ok, Err}
+use Rattle.std.specs.Prelude.{◌≡◌, ◌⊎◌, ℕ, ◌+◌, ◌-◌, ◌<◌, ◌≤◌, ◌||◌, Bool, true, false, List, [], ◌++◌, length, Option, Result, Ok, Err}
 use Rattle.std.specs.Io.KnownBytes.{Appends}
 use Rattle.mrt_wire.specs.declared.fault.SourceFault.{SourceFault}
 use Rattle.mrt_wire.specs.declared.next.Phase.TheVariants.{Ended}
@@ -11,6 +11,7 @@ use Rattle.bgpdump_tool.specs.Device.{AppendsFront}
 use Rattle.bgpdump_tool.specs.Ending.{source_outcome, write_outcome}
 use Rattle.bgpdump_tool.specs.Going.{IsFaulty}
 use Rattle.bgpdump_tool.specs.Reports.{reports}
+use Rattle.bgpdump_tool.specs.Writing.{is_any_bad}
 use Rattle.bgpdump_tool.specs.Standing.{Standing, Scene, Taking, Stands, Follows, standing_on, IsOnward}
 use Rattle.bgpdump_tool.specs.State.{needed}
 
@@ -21,6 +22,7 @@ pub record GoesOn (from : Place) (left : Option (List ℕ)) (s : Standing) (old 
   pub follows : Follows old.place new.place found
   pub met : ended ≡ true → (over ≡ length s.history - s.cursor) × (new.place.phase ≡ Ended)
   pub reported : Appends old.err new.err (reports found)
+  pub told : new.reported ≡ (old.reported || is_any_bad found)
 
 -- the source stopped it, behind all events ahead and what was found
 pub record StopsReading (from : Place) (left : Option (List ℕ)) (s : Standing) (old new : Scene) (found : List Finding) (fault : SourceFault) : Type 0 where

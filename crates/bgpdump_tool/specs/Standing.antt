@@ -7,6 +7,7 @@ use Rattle.mrt_wire.specs.Place.{Place}
 use Rattle.mrt_wire.specs.SoFar.{SoFar}
 use Rattle.rib_player.specs.Timeline.{Timeline, StandsFor, end_of}
 use Rattle.bgpdump_tool.specs.declared.dump.TheConstants.{LIMIT}
+use Rattle.bgpdump_tool.specs.declared.session.Session.{Session}
 use Rattle.bgpdump_tool.specs.State.{State, events}
 
 -- the events played, the cursor, the floor, what was found in the input so far, and whether a command met its end
@@ -17,16 +18,18 @@ pub record Standing : Type 0 where
   pub found : List Finding
   pub ended : Bool
 
--- a player, the source of what it plays next, what is left of that one's input, and what was reported
+-- a player, the source of what it plays next, whether something was reported, what is left of the input, and what was written of reports
 pub record Scene : Type 0 where
   pub player : Timeline
   pub place : Place
+  pub reported : Bool
   pub left : Option (List ℕ)
   pub err : Option (List ℕ)
 
--- the same of an input and an output, by what is known of each kind
-abbrev pub scene_of : {I E : Type 0} → (I → Option (List ℕ)) → (E → Option (List ℕ)) → Timeline → Place → I → E → Scene
-scene_of left written player place input err = record { player = player; place = place; left = left input; err = written err }
+-- the same of a session, an input and an output, by what is known of each kind
+abbrev pub scene_of : {S I E : Type 0} → (I → Option (List ℕ)) → (E → Option (List ℕ)) → Session S → I → E → Scene
+scene_of left written session input err =
+    record { player = session.player; place = session.source; reported = session.reported; left = left input; err = written err }
 
 -- where the script stands, if these are the results that no command has taken yet
 abbrev pub state_of : Standing → List Finding → State

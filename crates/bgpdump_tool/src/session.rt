@@ -60,8 +60,8 @@ impl<S: PrefixStore<Rc<Route>>> Session<S> {
     ) -> Result<bool, Outcome>
         requires room { HasRoom self.old.player self.old.source LONGEST_SCRIPT }
         ensures moves { Moves StepDoes
-            (scene_of I.left E.written self.old.player self.old.source input.old err.old)
-            (scene_of I.left E.written self.new.player self.new.source input.new err.new) result }
+            (scene_of I.left E.written self.old input.old err.old)
+            (scene_of I.left E.written self.new input.new err.new) result }
         ensures room { (lost : ℕ) → HasRoom self.old.player self.old.source lost →
             HasRoom self.new.player self.new.source lost }
         ensures smaller { IfOk result (λ ended. ended ≡ false →

@@ -22,9 +22,8 @@ fn forward<S: PrefixStore<Rc<Route>>, I: Input, E: Output>(
 ) -> Result<bool, Outcome>
     requires room { HasRoom session.old.player session.old.source LONGEST_SCRIPT }
     ensures moves { Moves (ForwardDoes count)
-        (scene_of I.left E.written session.old.player session.old.source input.old err.old)
-        (scene_of I.left E.written session.new.player session.new.source input.new err.new)
-        result }
+        (scene_of I.left E.written session.old input.old err.old)
+        (scene_of I.left E.written session.new input.new err.new) result }
     ensures room { (lost : ℕ) → HasRoom session.old.player session.old.source lost →
         HasRoom session.new.player session.new.source lost }
     ensures read { I.failed input.new ≡ (I.failed input.old || is_read_fault result) }

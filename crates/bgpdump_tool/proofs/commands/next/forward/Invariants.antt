@@ -9,10 +9,10 @@ use Rattle.bgpdump_tool.proofs.commands.next.forward.Given as goal
 abbrev pub invariant-steps : goal.invariant-steps
 invariant-steps g l = record {
   forth : (from : Place) (left : Option (List ℕ)) (s : Standing)
-      → Stands from left (scene_of g.I.Input.left g.E.Output.written l.initial.session.player l.initial.session.source l.initial.input l.initial.err) s
+      → Stands from left (scene_of g.I.Input.left g.E.Output.written l.initial.session l.initial.input l.initial.err) s
       → Forth l.counter from left s
-      (scene_of g.I.Input.left g.E.Output.written l.initial.session.player l.initial.session.source l.initial.input l.initial.err)
-      (scene_of g.I.Input.left g.E.Output.written l.session.player l.session.source l.input l.err);
+      (scene_of g.I.Input.left g.E.Output.written l.initial.session l.initial.input l.initial.err)
+      (scene_of g.I.Input.left g.E.Output.written l.session l.input l.err);
   room : (lost : ℕ) → HasRoom l.initial.session.player l.initial.session.source lost → HasRoom l.session.player l.session.source lost;
   read : g.I.Input.failed l.input ≡ g.I.Input.failed l.initial.input;
   wrote : g.E.Output.failed l.err ≡ g.E.Output.failed l.initial.err;

@@ -16,7 +16,7 @@ pub returns-in_err-event-clause-moves : goal.returns-in_err-event-clause-moves
 returns-in_err-event-clause-moves g c = λ from left s stands.
     let off : ¬ (c.args.self.now.player.cursor < end_of c.args.self.now.player) = search rules in
     let p = err_from_is_err_and c.from_residual.result c.from_residual.ensures.1 in
-    rw (p.1, p.2) (step_stops_reading from left _ s c.redo.new.self c.next.new.self (g.I.Input.left c.next.new.input) c.in_err-event.field-0.0 stands off c.in_err-event.ensures.next (λ e. (c.in_err-event.ensures.ended e).0) c.next.ensures.within)
+    rw (p.1, p.2) (step_stops_reading from left _ s c.redo.new.self c.next.new.self (g.I.Input.left c.next.new.input) c.args.self.now.reported c.in_err-event.field-0.0 stands off c.in_err-event.ensures.next (λ e. (c.in_err-event.ensures.ended e).0) c.next.ensures.within)
 
 pub play-requires : goal.play-requires
 play-requires g c =
