@@ -1,4 +1,4 @@
-//! What the definitions name, and laws of commands.
+//! What the definitions name, and that no line spells two commands.
 
 ghost use Rattle.std.specs.Prelude.{◌≡◌, ℕ, ◌^◌, List, [], ◌∷◌, codes};
 ghost use Rattle.bgpdump_tool.specs.declared.dump.TheConstants.{LIMIT};
