@@ -5,6 +5,7 @@ pub mod RunLaws
 pub mod StepLaws
 pub mod MoveLaws
 pub mod BackLaws
+pub mod CarryLaws
 pub mod WritingLaws
 pub mod DecimalLaws
 pub mod WordLaws

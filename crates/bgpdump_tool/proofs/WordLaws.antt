@@ -1,28 +1,28 @@
--- The words of a line by its first space.
+-- The pieces of a text by its first mark.
 use Rattle.std.proofs.Common.{◌≡◌, ℕ, ◌+◌, ◌<◌, ◌==◌, true, false, List, [], ◌∷◌, length, take, drop, ap, ◌∙◌, arith}
 use Rattle.std.proofs.lemmas.List.Elements.{All-from_all_within}
 use Rattle.std.proofs.lemmas.List.Splits.{slice_split_none, slice_split_first, length-slice_split}
 use Rattle.std.proofs.lemmas.List.Sums.{position_or_len_is}
 use Rattle.std.specs.List.{AllWithin, HoldsAt, position_or_len}
 use Rattle.bgpdump_tool.specs.Lines.{space}
-use Rattle.bgpdump_tool.specs.Command.{words}
+use Rattle.bgpdump_tool.specs.Command.{pieces, words}
 
-abbrev pub IsSpace : ℕ → Type 0
-IsSpace octet = (octet == space) ≡ true
+abbrev pub IsMark : ℕ → ℕ → Type 0
+IsMark mark octet = (octet == mark) ≡ true
 
-abbrev pub IsNoSpace : ℕ → Type 0
-IsNoSpace octet = (octet == space) ≡ false
+abbrev pub IsNoMark : ℕ → ℕ → Type 0
+IsNoMark mark octet = (octet == mark) ≡ false
 
--- a line without a space is one word
-pub words_alone : (line : List ℕ) → AllWithin IsNoSpace line 0 (length line) → words line ≡ line ∷ []
-words_alone line none = slice_split_none (λ octet. octet == space) line (All-from_all_within IsNoSpace line none)
+-- a text without a mark is one piece
+pub pieces_alone : (mark : ℕ) (text : List ℕ) → AllWithin (IsNoMark mark) text 0 (length text) → pieces mark text ≡ text ∷ []
+pieces_alone mark text none = slice_split_none (λ octet. octet == mark) text (All-from_all_within (IsNoMark mark) text none)
 
--- the first space ends the first word
-pub words_split : (line : List ℕ) (at : ℕ) → at < length line → HoldsAt IsSpace line at → AllWithin IsNoSpace line 0 at
-    → words line ≡ take at line ∷ words (drop (at + 1) line)
-words_split line at within here before =
-    let first : position_or_len (λ octet. octet == space) line ≡ at = position_or_len_is _ line at 0 (omega (arith, within)) (λ k h. before k 0 (omega arith) h) (λ h. here 0) in
-    slice_split_first _ line 0 (omega (arith, first, within)) ∙ ap (λ k. take k line ∷ words (drop (k + 1) line)) first
+-- the first mark ends the first piece
+pub pieces_split : (mark : ℕ) (text : List ℕ) (at : ℕ) → at < length text → HoldsAt (IsMark mark) text at → AllWithin (IsNoMark mark) text 0 at
+    → pieces mark text ≡ take at text ∷ pieces mark (drop (at + 1) text)
+pieces_split mark text at within here before =
+    let first : position_or_len (λ octet. octet == mark) text ≡ at = position_or_len_is _ text at 0 (omega (arith, within)) (λ k h. before k 0 (omega arith) h) (λ h. here 0) in
+    slice_split_first _ text 0 (omega (arith, first, within)) ∙ ap (λ k. take k text ∷ pieces mark (drop (k + 1) text)) first
 
 -- there is always a word
 pub words_some : (line : List ℕ) → 0 < length (words line)

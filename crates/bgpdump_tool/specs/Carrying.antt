@@ -1,5 +1,5 @@
 -- What carrying out a command does.
-use Rattle.std.specs.Prelude.{◌≡◌, ◌⊎◌, ℕ, ◌<◌, Bool, true, ◌||◌, List, ◌++◌, length, take, Option, Result, Ok, Err}
+use Rattle.std.specs.Prelude.{◌≡◌, ◌⊎◌, ℕ, ◌<◌, Bool, true, ◌||◌, List, [], ◌++◌, length, take, Option, Result, Ok, Err}
 use Rattle.std.specs.Io.KnownBytes.{Appends}
 use Rattle.mrt_wire.specs.declared.fault.SourceFault.{SourceFault}
 use Rattle.mrt_wire.specs.declared.next.Phase.TheVariants.{Ended}
@@ -23,8 +23,8 @@ pub record Leads (command : Command) (s t : Standing) (taken : List Finding) (re
   pub took : take (meaning command (state_of s (taken ++ more))).taken (taken ++ more) ≡ taken
   pub ended : t.ended ≡ (s.ended || meets_end command (state_of s (taken ++ more)))
 
--- a command was carried out
-pub record IsCarriedOut (command : Command) (from : Place) (left : Option (List ℕ)) (s : Standing) (old new : Scene) (out out' : Option (List ℕ)) : Type 0 where
+-- a command led a run so, and gives this reply
+pub record IsLed (command : Command) (from : Place) (left : Option (List ℕ)) (s : Standing) (old new : Scene) : Type 0 where
   pub after : Standing
   pub taken : List Finding
   pub reply : List ℕ
@@ -34,7 +34,10 @@ pub record IsCarriedOut (command : Command) (from : Place) (left : Option (List 
   pub leads : (more : List Finding) → (new.place.phase ≡ Ended → more ≡ []) → Leads command s after taken reply more
   pub reported : Appends old.err new.err (reports taken)
   pub told : new.reported ≡ (old.reported || is_any_bad taken)
-  pub replied : Appends out out' reply
+
+-- a command was carried out
+abbrev pub IsCarriedOut : Command → Place → Option (List ℕ) → Standing → Scene → Scene → Option (List ℕ) → Option (List ℕ) → Type 0
+IsCarriedOut command from left s old new out out' = (led : IsLed command from left s old new) × Appends out out' led.reply
 
 -- the source stopped it, behind results of which it has to take more: it gave no reply
 pub record IsCutOff (command : Command) (from : Place) (left : Option (List ℕ)) (s : Standing) (old new : Scene) (out out' : Option (List ℕ)) (fault : SourceFault) : Type 0 where

@@ -7,9 +7,13 @@ use Rattle.bgpdump_tool.specs.declared.command.Command.{Command}
 use Rattle.bgpdump_tool.specs.declared.command.Command.TheVariants.{Next, Back, Goto, Position, Peers, Table, Route, Lookup, Lose}
 use Rattle.bgpdump_tool.specs.Lines.{space}
 
--- the words of a line: what stands before its spaces, between them and behind them, empty words too
+-- what stands before the marks in a text, between them and behind them, empty pieces too
+abbrev pub pieces : ℕ → List ℕ → List (List ℕ)
+pieces mark text = slice_split (λ octet. octet == mark) text
+
+-- the words of a line
 abbrev pub words : List ℕ → List (List ℕ)
-words line = slice_split (λ octet. octet == space) line
+words line = pieces space line
 
 -- the decimal of a number of 32 bits, without leading zeros
 abbrev pub SpellsDecimal : ℕ → List ℕ → Type 0

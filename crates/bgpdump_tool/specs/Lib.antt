@@ -15,3 +15,4 @@ pub mod Course
 pub mod Standing
 pub mod Moves
 pub mod Carrying
+pub mod Losing

@@ -1,13 +1,12 @@
 -- The lines of a script, and what each of them asks for.
-use Rattle.std.specs.Prelude.{◌≡◌, ◌≢◌, ℕ, List, [], ◌∷◌, ◌==◌, if◌then◌else◌}
+use Rattle.std.specs.Prelude.{◌≡◌, ◌≢◌, ℕ, List, [], ◌∷◌}
 use Rattle.bgpdump_tool.specs.declared.command.Command.{Command}
 use Rattle.bgpdump_tool.specs.Lines.{line_feed}
-use Rattle.bgpdump_tool.specs.Command.{onto, SpellsCommand}
+use Rattle.bgpdump_tool.specs.Command.{pieces, SpellsCommand}
 
--- the lines of a script, each ended by a line feed, which the last may lack
+-- the lines of a script: what stands before its line feeds, between them and behind them. Behind a line feed at its end stands an empty line, which asks for nothing
 abbrev pub script_lines : List ℕ → List (List ℕ)
-script_lines [] = []
-script_lines (octet ∷ octets) = if octet == line_feed then [] ∷ script_lines octets else onto octet (script_lines octets)
+script_lines script = pieces line_feed script
 
 -- what a line asks for
 pub data Line : Type 0 where

@@ -9,3 +9,57 @@ mod peers;
 mod position;
 mod route;
 mod table;
+
+ghost use Rattle.std.specs.Prelude.{◌≡◌, ◌+◌, ◌||◌, ℕ};
+ghost use Rattle.bgpdump_tool.specs.declared.script.TheConstants.{LONGEST_SCRIPT};
+ghost use Rattle.bgpdump_tool.specs.Ending.{is_read_fault, is_write_fault};
+ghost use Rattle.bgpdump_tool.specs.Standing.{HasRoom, scene_of};
+ghost use Rattle.bgpdump_tool.specs.Carrying.{CarriesOut};
+
+use crate::command::Command;
+use crate::outcome::Outcome;
+use crate::output::Output;
+use crate::session::Session;
+use mrt_wire::{Input, Route};
+use rib_store::PrefixStore;
+use std::rc::Rc;
+
+/// Carries out a command: what it reads and finds faulty is reported, then its reply is written.
+pub(crate) fn carry_out<S: PrefixStore<Rc<Route>>, I: Input, O: Output, E: Output>(
+    session: &mut Session<S>,
+    input: &mut I,
+    out: &mut O,
+    err: &mut E,
+    command: Command,
+) -> Result<(), Outcome>
+    requires room { HasRoom session.old.player session.old.source LONGEST_SCRIPT }
+    ensures carries_out { CarriesOut command
+        (scene_of I.left E.written session.old input.old err.old)
+        (scene_of I.left E.written session.new input.new err.new)
+        (O.written out.old) (O.written out.new) result }
+    ensures room { (lost : ℕ) → HasRoom session.old.player session.old.source lost →
+        HasRoom session.new.player session.new.source (lost + 1) }
+    ensures read { I.failed input.new ≡ (I.failed input.old || is_read_fault result) }
+    ensures wrote { (O.failed out.new || E.failed err.new)
+        ≡ (O.failed out.old || E.failed err.old || is_write_fault result) }
+{
+    let text = &mut session.text;
+    match command {
+        Command::Next(count) => next::next(session, input, out, err, count)?,
+        Command::Back(count) => back::back(&mut session.player, count, out, text)?,
+        Command::Goto(position) => goto::goto(session, input, out, err, position)?,
+        Command::Position => position::position(&session.player, out, text)?,
+        Command::Peers => peers::peers(session.player.table(), out, text)?,
+        Command::Table(peer) => table::table(session.player.table(), &peer, out, text)?,
+        Command::Route(peer, prefix) => {
+            route::route(session.player.table(), &peer, &prefix, out, text)?;
+        }
+        Command::Lookup(peer, addr) => {
+            lookup::lookup(session.player.table(), &peer, &addr, out, text)?;
+        }
+        Command::Lose(peer) => {
+            lose::lose(&mut session.player, session.alloc, peer, out, text)?;
+        }
+    }
+    Ok(())
+}

@@ -1,11 +1,20 @@
-//! The words of a line, and the numbers that words spell.
+//! The pieces of a text, and the numbers that words spell.
 
 ghost use Rattle.std.specs.Prelude.{◌≡◌, ◌≢◌, [], ◌∷◌, IsTrue, IsFalse, MatchOption};
 ghost use Rattle.bgp_wire.specs.Reading.{Finds};
-ghost use Rattle.bgpdump_tool.specs.Command.{words, SpellsDecimal};
+ghost use Rattle.bgpdump_tool.specs.Command.{pieces, words, SpellsDecimal};
 
 /// The least digit that others may follow: neither a sign nor a zero stands in front.
 const LEAST_IN_FRONT: u8 = b'1';
+
+/// What stands before the first mark, and what stands behind it; none where no mark is there.
+pub(crate) fn split_first(text: &[u8], mark: u8) -> Option<(&[u8], &[u8])>
+    ensures { MatchOption result (pieces mark text.now ≡ text.now ∷ [])
+        (λ found. pieces mark text.now ≡ found.0.now ∷ pieces mark found.1.now) }
+{
+    let at = text.iter().position(|octet| *octet == mark)?;
+    Some((&text[..at], &text[at + 1..]))
+}
 
 /// The first word of the line and what stands behind the space that ends it; none where the line
 /// is one word.
@@ -13,8 +22,7 @@ pub(crate) fn split_word(line: &[u8]) -> Option<(&[u8], &[u8])>
     ensures { MatchOption result (words line.now ≡ line.now ∷ [])
         (λ found. words line.now ≡ found.0.now ∷ words found.1.now) }
 {
-    let at = line.iter().position(|octet| *octet == b' ')?;
-    Some((&line[..at], &line[at + 1..]))
+    split_first(line, b' ')
 }
 
 /// Whether the word is this name.

@@ -1,9 +1,14 @@
 //! Steps back.
 
-ghost use Rattle.std.specs.Prelude.{◌≡◌, ◌-◌, min};
+ghost use Rattle.std.specs.Prelude.{◌≡◌, ◌-◌, ◌||◌, min, false};
 ghost use Rattle.rib_player.specs.Timeline.{behind};
+ghost use Rattle.bgpdump_tool.specs.Replies.{at_text};
 ghost use Rattle.bgpdump_tool.specs.Standing.{at_cursor};
+ghost use Rattle.bgpdump_tool.specs.Writing.{Puts, is_write};
 
+use crate::fault::WriteFault;
+use crate::output::Output;
+use crate::replies::write_position;
 use mrt_wire::Route;
 use rib_player::Player;
 use rib_store::PrefixStore;
@@ -19,4 +24,22 @@ fn back_over<S: PrefixStore<Rc<Route>>>(player: &mut Player<S>, count: u32)
             return;
         }
     }
+}
+
+/// Goes back over so many steps, or as many as there are, and writes where the player stands then.
+/// The text is scratch.
+pub(crate) fn back<S: PrefixStore<Rc<Route>>, O: Output>(
+    player: &mut Player<S>,
+    count: u32,
+    out: &mut O,
+    text: &mut Vec<u8>,
+) -> Result<(), WriteFault>
+    ensures player { player.new ≡
+        at_cursor (player.old.cursor - min count (behind player.old)) player.old }
+    ensures text { Puts (O.written out.old) (O.written out.new) (at_text player.new.cursor false)
+        result }
+    ensures failed { O.failed out.new ≡ (O.failed out.old || is_write result) }
+{
+    back_over(player, count);
+    write_position(player.at(), false, out, text)
 }

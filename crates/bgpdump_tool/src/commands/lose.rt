@@ -1,7 +1,72 @@
 //! The loss of a session.
 
+ghost use Rattle.std.specs.Prelude.{◌≡◌, ◌<◌, ◌||◌, IfOk, OnErr, Ok, Err, codes};
+ghost use Rattle.rib_store.specs.declared.store.TheConstants.{GREATEST_COUNT};
+ghost use Rattle.rib_player.specs.Timeline.{after_play, ahead_of};
+ghost use Rattle.bgpdump_tool.specs.Replies.{counted_text};
+ghost use Rattle.bgpdump_tool.specs.State.{loss};
+ghost use Rattle.bgpdump_tool.specs.Writing.{Puts, is_write};
+ghost use Rattle.bgpdump_tool.specs.Losing.{Loses};
+
+use crate::fault::WriteFault;
+use crate::output::Output;
+use crate::replies::write_counted;
+use mrt_wire::{Event, Item, Items, Peer, Route, Tag, Time};
+use rib_player::Player;
+use rib_store::PrefixStore;
+use std::alloc::{AllocError, Global};
+use std::rc::Rc;
+
 /// The state of a session that stands (RFC 6396, section 4.4.1).
 const ESTABLISHED: u16 = 6;
 
 /// The state of one that is idle.
 const IDLE: u16 = 1;
+
+/// The loss of the session with the peer, as an event.
+fn loss_of(alloc: Global, peer: Peer) -> Result<Event, AllocError>
+    ensures { IfOk result (λ event. event ≡ loss peer) }
+{
+    let mut items = Vec::with_capacity(alloc, 1)?;
+    items.push(Item::State(peer, ESTABLISHED, IDLE))?;
+    Ok(Event {
+        time: Time {
+            seconds: 0,
+            micros: None,
+        },
+        tag: Tag::Bgp4mp,
+        items: Items::from_vec(items),
+    })
+}
+
+/// Plays the loss of the session with the peer, and answers how many steps ahead it dropped.
+fn play_loss<S: PrefixStore<Rc<Route>>>(
+    player: &mut Player<S>,
+    alloc: Global,
+    peer: Peer,
+) -> Result<u64, WriteFault>
+    requires { player.old.cursor < GREATEST_COUNT }
+    ensures played { IfOk result (λ dropped. (player.new ≡ after_play player.old (loss peer))
+        × (dropped ≡ ahead_of player.old)) }
+    ensures refused { OnErr result ((player.new ≡ player.old) × (result ≡ Err WriteFault.Memory)) }
+{
+    let event = loss_of(alloc, peer)?;
+    Ok(player.play(&event)?)
+}
+
+/// Plays the loss of the session with the peer in place of the steps ahead, and writes where the
+/// player stands then and how many steps that dropped. The text is scratch.
+pub(crate) fn lose<S: PrefixStore<Rc<Route>>, O: Output>(
+    player: &mut Player<S>,
+    alloc: Global,
+    peer: Peer,
+    out: &mut O,
+    text: &mut Vec<u8>,
+) -> Result<(), WriteFault>
+    requires { player.old.cursor < GREATEST_COUNT }
+    ensures loses { Loses peer player.old player.new (O.written out.old) (O.written out.new) result }
+    ensures failed { O.failed out.new ≡ (O.failed out.old || is_write result) }
+{
+    let dropped = play_loss(player, alloc, peer)?;
+    write_counted(player.at(), b" dropped ", dropped, out, text)
+}

@@ -5,9 +5,12 @@ ghost use Rattle.bgpdump_tool.specs.declared.script.TheConstants.{LONGEST_SCRIPT
 ghost use Rattle.bgpdump_tool.specs.Ending.{is_read_fault, is_write_fault};
 ghost use Rattle.bgpdump_tool.specs.Standing.{HasRoom, scene_of};
 ghost use Rattle.bgpdump_tool.specs.Moves.{Moves, ForwardDoes};
+ghost use Rattle.bgpdump_tool.specs.declared.command.Command.{Command};
+ghost use Rattle.bgpdump_tool.specs.Carrying.{CarriesOut};
 
 use crate::outcome::Outcome;
 use crate::output::Output;
+use crate::replies::write_position;
 use crate::session::Session;
 use mrt_wire::{Input, Route};
 use rib_store::PrefixStore;
@@ -35,4 +38,28 @@ fn forward<S: PrefixStore<Rc<Route>>, I: Input, E: Output>(
         }
     }
     Ok(false)
+}
+
+/// Carries out `next`. What is found faulty is reported, and counts as a step here.
+pub(crate) fn next<S: PrefixStore<Rc<Route>>, I: Input, O: Output, E: Output>(
+    session: &mut Session<S>,
+    input: &mut I,
+    out: &mut O,
+    err: &mut E,
+    count: u32,
+) -> Result<(), Outcome>
+    requires room { HasRoom session.old.player session.old.source LONGEST_SCRIPT }
+    ensures carries_out { CarriesOut (Command.Next count)
+        (scene_of I.left E.written session.old input.old err.old)
+        (scene_of I.left E.written session.new input.new err.new)
+        (O.written out.old) (O.written out.new) result }
+    ensures room { (lost : ℕ) → HasRoom session.old.player session.old.source lost →
+        HasRoom session.new.player session.new.source lost }
+    ensures read { I.failed input.new ≡ (I.failed input.old || is_read_fault result) }
+    ensures wrote { (O.failed out.new || E.failed err.new)
+        ≡ (O.failed out.old || E.failed err.old || is_write_fault result) }
+{
+    let ended = forward(session, input, err, count)?;
+    write_position(session.player.at(), ended, out, &mut session.text)?;
+    Ok(())
 }
