@@ -3,10 +3,16 @@ use Rattle.std.proofs.Common.{◌≡◌, ◌⊎◌, inl, inr, ℕ, zero, suc, �
 use Rattle.std.proofs.lemmas.Bool.{cases_eq}
 use Rattle.std.proofs.lemmas.Bool.Decides.{nat_tests}
 use Rattle.std.proofs.lemmas.List.{append_assoc, take_all, drop_all}
-use Rattle.std.proofs.Math.Nat.{min-eq_left, min-eq_right}
+use Rattle.std.specs.Prelude.{codes}
+use Rattle.std.proofs.Math.Nat.{min-eq_left, min-eq_right, min-le_right, le-max_right, max-le}
 use Rattle.std.specs.Io.KnownBytes.{Appends}
 use Rattle.std.proofs.KnownBytes.{Appends-nil}
+use Rattle.mrt_wire.specs.declared.peer.Peer.{Peer}
+use Rattle.mrt_wire.specs.declared.event.Event.{Event}
 use Rattle.mrt_wire.specs.declared.next.Phase.TheVariants.{Ended}
+use Rattle.rib_player.specs.Tables.{Routes, table}
+use Rattle.rib_player.specs.Timeline.{Timeline, StandsFor, behind, ahead_of, current, after_play}
+use Rattle.rib_player.proofs.TimelineLaws.{StandsFor-current, StandsFor-end, StandsFor-after_play}
 use Rattle.mrt_wire.specs.declared.fault.SourceFault.{SourceFault}
 use Rattle.mrt_wire.specs.Results.{Finding}
 use Rattle.mrt_wire.specs.Place.{Place}
@@ -18,15 +24,20 @@ use Rattle.bgpdump_tool.specs.declared.outcome.Outcome.{Outcome}
 use Rattle.bgpdump_tool.specs.Device.{AppendsFront}
 use Rattle.bgpdump_tool.specs.Ending.{source_outcome, write_outcome, outcome_result}
 use Rattle.bgpdump_tool.specs.Reports.{reports}
-use Rattle.bgpdump_tool.specs.Replies.{at_text}
-use Rattle.bgpdump_tool.specs.State.{State, steps_ahead, events, gone_on, needed}
-use Rattle.bgpdump_tool.specs.Meaning.{Meaning, advance, meaning, meets_end, faults_taken}
-use Rattle.bgpdump_tool.specs.Standing.{Standing, Scene, Taking, Stands, state_of, standing_on, IsOnward}
+use Rattle.bgpdump_tool.specs.Replies.{at_text, counted_text}
+use Rattle.bgpdump_tool.specs.State.{State, steps_ahead, events, gone_on, needed, loss}
+use Rattle.bgpdump_tool.specs.Meaning.{Meaning, answer, advance, meaning, meets_end, faults_taken}
+use Rattle.bgpdump_tool.specs.Standing.{Standing, Scene, Taking, Stands, state_of, at_cursor, standing_on, IsOnward}
 use Rattle.bgpdump_tool.specs.Moves.{GoesOn, StopsReading, StopsWriting, Stops, ForwardDoes, OnwardDoes}
-use Rattle.bgpdump_tool.specs.Carrying.{Leads, IsLed, IsCarriedOut, IsCutOff, IsBrokenOff, CarryingDoes}
+use Rattle.bgpdump_tool.specs.Carrying.{Leads, IsLed, IsCarriedOut, IsCutOff, IsBrokenOff, CarryingDoes, Travels}
+use Rattle.bgpdump_tool.specs.Losing.{loss_text}
 use Rattle.bgpdump_tool.specs.Writing.{Puts, Replies}
-use Rattle.bgpdump_tool.proofs.MoveLaws.{reports-append, needed_beyond}
+use Rattle.bgpdump_tool.proofs.MoveLaws.{Stands-inside, reports-append, needed_beyond}
 use Rattle.bgpdump_tool.proofs.WritingLaws.{AppendsFront-none, AppendsFront-longer}
+
+or_false : (b : Bool) → (b || false) ≡ b
+or_false true = refl
+or_false false = refl
 
 -- ---- fronts
 
@@ -193,3 +204,163 @@ Carrying-next n from left s old new out outcome stops =
     (λ found more below. left_below n (length s.history - s.cursor) (length found) below)
     (λ found more below. left_within n (length s.history - s.cursor) (length found) below)
     stops
+
+-- ---- `goto` that goes on
+
+forth : (k cursor : ℕ) → cursor ≤ k → nat_lt k cursor ≡ false
+forth k cursor above = grind (arith, nat_tests, above)
+
+-- on to a position it takes the results that are needed
+goto_means : (k : ℕ) (s : Standing) (over : ℕ) (found more : List Finding) → s.cursor ≤ k → min (k - s.cursor) (length s.history - s.cursor) ≡ over
+    → meaning (Goto k) (state_of s (found ++ more)) ≡ advance over (needed (k - length s.history) (found ++ more)) (state_of s (found ++ more))
+goto_means k s over found more above same =
+    let test = forth k s.cursor above in
+    rw test (ap (λ o. advance o (needed (k - length s.history) (found ++ more)) (state_of s (found ++ more))) same)
+
+no_events : (found : List Finding) → length found ≡ 0 → length (events found) ≡ 0
+no_events [] e = refl
+no_events (x ∷ found) e = absurd (omega (arith, e))
+
+-- too few events were found
+few_events : (k : ℕ) (s : Standing) (over : ℕ) (found : List Finding) → s.cursor ≤ length s.history → over ≡ length s.history - s.cursor → s.cursor + over + length (events found) < k → length (events found) < k - length s.history
+few_events k s over found inside all below = omega (arith, inside, all, below)
+
+pub IsLed-goto : (k : ℕ) (from : Place) (left : Option (List ℕ)) (s : Standing) (old new : Scene) (ended : Bool) → s.cursor ≤ k → Stands from left old s → OnwardDoes k from left s old new (Ok ended)
+    → (led : IsLed (Goto k) from left s old new) × (led.reply ≡ at_text new.player.cursor ended) × (led.after.ended ≡ (s.ended || ended))
+IsLed-goto k from left s old new false above stands (over, found, reached, exact, goes) =
+    let same : min (k - s.cursor) (length s.history - s.cursor) ≡ over = elim (cases_eq (length found) 0) [
+      | inl empty ↦
+          let sum = no_events found empty in
+          min-eq_left (omega (arith, reached, goes.stands.cursor, goes.onward.few, sum)) ∙ omega (arith, reached, goes.stands.cursor, sum)
+      | inr some ↦
+          let all = goes.onward.all (omega (arith, some)) in
+          min-eq_right (omega (arith, reached, goes.stands.cursor, all)) ∙ sym all
+    ] in
+    IsLed-advance (Goto k) from left s old new over found false (λ more. needed (k - length s.history) (found ++ more)) goes
+    (λ more. goto_means k s over found more above same)
+    (λ e more. sym (exact more)) (λ e more. cc)
+IsLed-goto k from left s old new true above stands (over, found, below, goes) =
+    let inside = Stands-inside from left old s stands in
+    let all = (goes.met refl).0 in
+    let few = few_events k s over found inside all (omega (arith, below, goes.stands.cursor)) in
+    let same : min (k - s.cursor) (length s.history - s.cursor) ≡ over = min-eq_right (omega (arith, below, goes.stands.cursor, all)) ∙ sym all in
+    IsLed-advance (Goto k) from left s old new over found true (λ more. needed (k - length s.history) (found ++ more)) goes
+    (λ more. goto_means k s over found more above same)
+    (λ e more. cc) (λ e more. needed_beyond (k - length s.history) found more few)
+
+goto_taken : (k : ℕ) (s : Standing) (found more : List Finding) → s.cursor ≤ k → (meaning (Goto k) (state_of s (found ++ more))).taken ≡ needed (k - length s.history) (found ++ more)
+goto_taken k s found more above = ap (λ m. m.taken) (goto_means k s (min (k - s.cursor) (length s.history - s.cursor)) found more above refl)
+
+pub Carrying-goto : (k : ℕ) (from : Place) (left : Option (List ℕ)) (s : Standing) (old new : Scene) (out : Option (List ℕ)) (outcome : Outcome) → s.cursor ≤ k → OnwardDoes k from left s old new (Err outcome)
+    → CarryingDoes {A = Unit {0}} (Goto k) from left s old new out out (Err outcome)
+Carrying-goto k from left s old new out outcome above stops =
+    Carrying-stopped (Goto k) from left s old new out outcome
+    (λ found. (more : List Finding) → length found < needed (k - length s.history) (found ++ more)) (λ found. (more : List Finding) → length found ≤ needed (k - length s.history) (found ++ more))
+    (λ found more wants. omega (arith, wants more, goto_taken k s found more above))
+    (λ found more has. omega (arith, has more, goto_taken k s found more above))
+    stops
+
+-- ---- commands that take nothing
+
+none_below : (n : ℕ) → nat_lt n 0 ≡ false
+none_below n = grind (arith, nat_tests)
+
+-- nothing is found, and the player goes elsewhere
+abbrev IsLed-still : (command : Command) (from : Place) (left : Option (List ℕ)) (s t : Standing) (old : Scene) (u : Timeline) (reply : List ℕ) → t.found ≡ s.found → t.ended ≡ s.ended → Stands from left (record old { player = u }) t
+    → ((more : List Finding) → meaning command (state_of s more) ≡ record { taken = 0; after = state_of t more; reply = reply }) → IsLed command from left s old (record old { player = u })
+IsLed-still command from left s t old u reply found ended stands means = record {
+  after = t;
+  taken = [];
+  reply = reply;
+  found = found ∙ sym (append-nil s.found);
+  stands = stands;
+  follows = record { quiet = λ _. refl; stays = λ e. e };
+  leads = λ more none. record {
+    after = ap (λ m. m.after) (means more);
+    replied = ap (λ m. m.reply) (means more);
+    took = ap (λ m. take m.taken more) (means more);
+    ended = ended ∙ sym (or_false s.ended) ∙ ap (λ b. s.ended || b) (sym (none_below (length more))) ∙ ap (λ m. s.ended || nat_lt (length more) m.taken) (sym (means more));
+  };
+  reported = Appends-nil old.err;
+  told = sym (or_false old.reported);
+}
+
+-- the same history with the cursor elsewhere
+StandsFor-at_cursor : (t : Timeline) (history : List Event) (cursor : ℕ) → StandsFor t history → t.floor ≤ cursor → cursor ≤ length history → StandsFor (at_cursor cursor t) history
+StandsFor-at_cursor t history cursor stands floor within = record { floor = floor; cursor = within; tables = stands.tables; steps = stands.steps }
+
+Stands-at_cursor : (from : Place) (left : Option (List ℕ)) (s : Standing) (old : Scene) (cursor : ℕ) → Stands from left old s → s.floor ≤ cursor → cursor ≤ s.cursor
+    → Stands from left (record old { player = at_cursor cursor old.player }) (record s { cursor = cursor })
+Stands-at_cursor from left s old cursor stands floor within = record {
+  history = StandsFor-at_cursor old.player s.history cursor stands.history (omega (arith, floor, stands.floor)) (omega (arith, within, stands.cursor, stands.history.cursor));
+  cursor = refl;
+  floor = stands.floor;
+  taking = stands.taking;
+}
+
+-- `goto` that goes back
+pub IsLed-retreat : (k : ℕ) (from : Place) (left : Option (List ℕ)) (s : Standing) (old : Scene) (u : Timeline) → k < s.cursor → Stands from left old s → u ≡ at_cursor (max k old.player.floor) old.player
+    → (led : IsLed (Goto k) from left s old (record old { player = u })) × (led.reply ≡ at_text u.cursor false)
+IsLed-retreat k from left s old u below stands is =
+    let cursor : ℕ = max k s.floor in
+    let same : u ≡ at_cursor cursor old.player = is ∙ ap (λ n. at_cursor (max k n) old.player) stands.floor in
+    let back : nat_lt k s.cursor ≡ true = grind (arith, nat_tests, below) in
+    let behind : s.floor ≤ s.cursor = omega (arith, stands.history.floor, stands.floor, stands.cursor) in (
+      IsLed-still (Goto k) from left s (record s { cursor = cursor }) old u (at_text cursor false) refl refl
+        (subst (λ t. Stands from left (record old { player = t }) (record s { cursor = cursor })) (sym same)
+        (Stands-at_cursor from left s old cursor stands (le-max_right k s.floor) (max-le (omega (arith, below)) behind)))
+        (λ more. rw back refl),
+      ap (λ t. at_text t.cursor false) (sym same),
+    )
+
+-- `back`
+pub IsLed-back : (n : ℕ) (from : Place) (left : Option (List ℕ)) (s : Standing) (old : Scene) (u : Timeline) → Stands from left old s → u ≡ at_cursor (old.player.cursor - min n (behind old.player)) old.player
+    → (led : IsLed (Back n) from left s old (record old { player = u })) × (led.reply ≡ at_text u.cursor false)
+IsLed-back n from left s old u stands is =
+    let cursor : ℕ = s.cursor - min n (s.cursor - s.floor) in
+    let same : u ≡ at_cursor cursor old.player = is ∙ (λ i. at_cursor (stands.cursor i - min n (stands.cursor i - stands.floor i)) old.player) in
+    let behind : s.floor ≤ s.cursor = omega (arith, stands.history.floor, stands.floor, stands.cursor) in (
+      IsLed-still (Back n) from left s (record s { cursor = cursor }) old u (at_text cursor false) refl refl
+        (subst (λ t. Stands from left (record old { player = t }) (record s { cursor = cursor })) (sym same)
+        (Stands-at_cursor from left s old cursor stands (omega (arith, behind, min-le_right n (s.cursor - s.floor))) (omega arith)))
+        (λ more. refl),
+      ap (λ t. at_text t.cursor false) (sym same),
+    )
+
+-- a question
+pub IsLed-answer : (command : Command) (from : Place) (left : Option (List ℕ)) (s : Standing) (old : Scene) (text : Routes → ℕ → ℕ → List ℕ) → Stands from left old s
+    → ((more : List Finding) → meaning command (state_of s more) ≡ answer (text (table (take s.cursor s.history)) s.cursor (length s.history - s.cursor)) (state_of s more))
+    → (led : IsLed command from left s old old) × (led.reply ≡ text (current old.player) old.player.cursor (ahead_of old.player))
+IsLed-answer command from left s old text stands means =
+    let routes : current old.player ≡ table (take s.cursor s.history) = StandsFor-current old.player s.history stands.history ∙ ap (λ n. table (take n s.history)) stands.cursor in
+    let ahead : ahead_of old.player ≡ length s.history - s.cursor = omega (arith, StandsFor-end old.player s.history stands.history, stands.cursor) in (
+      IsLed-still command from left s s old old.player (text (table (take s.cursor s.history)) s.cursor (length s.history - s.cursor)) refl refl stands means,
+      sym (λ i. text (routes i) (stands.cursor i) (ahead i)),
+    )
+
+-- the loss of a session
+pub IsLed-lose : (peer : Peer) (from : Place) (left : Option (List ℕ)) (s : Standing) (old : Scene) (u : Timeline) → Stands from left old s → u ≡ after_play old.player (loss peer)
+    → (led : IsLed (Lose peer) from left s old (record old { player = u })) × (led.reply ≡ loss_text old.player u)
+IsLed-lose peer from left s old u stands is =
+    let t : Standing = record { history = take s.cursor s.history ++ loss peer ∷ []; cursor = s.cursor + 1; floor = s.floor; found = s.found; ended = s.ended } in
+    let ahead : ahead_of old.player ≡ length s.history - s.cursor = omega (arith, StandsFor-end old.player s.history stands.history, stands.cursor) in
+    let cursor : u.cursor ≡ s.cursor + 1 = ap (λ x. x.cursor) is ∙ ap (λ n. n + 1) stands.cursor in (
+      IsLed-still (Lose peer) from left s t old u (counted_text (s.cursor + 1) (codes " dropped ") (length s.history - s.cursor)) refl refl
+        (record {
+          history = subst (λ x. StandsFor x (take s.cursor s.history ++ loss peer ∷ [])) (sym is)
+              (subst (λ n. StandsFor (after_play old.player (loss peer)) (take n s.history ++ loss peer ∷ [])) stands.cursor (StandsFor-after_play old.player s.history (loss peer) stands.history));
+          cursor = cursor;
+          floor = ap (λ x. x.floor) is ∙ stands.floor;
+          taking = stands.taking;
+        })
+        (λ more. refl),
+      sym (λ i. counted_text (cursor i) (codes " dropped ") (ahead i)),
+    )
+
+-- by the answer
+pub Travels-goto : (k : ℕ) (from : Place) (left : Option (List ℕ)) (s : Standing) (old new : Scene) (result : Result Bool Outcome) → s.cursor ≤ k → Stands from left old s → OnwardDoes k from left s old new result
+    → Travels (Goto k) from left s old new result
+Travels-goto k from left s old new (Ok ended) above stands does =
+    let led = IsLed-goto k from left s old new ended above stands does in
+    (led.0, led.1)
+Travels-goto k from left s old new (Err outcome) above stands does = λ out. Carrying-goto k from left s old new out outcome above does

@@ -12,6 +12,7 @@ use Rattle.bgpdump_tool.specs.Device.{AppendsFront}
 use Rattle.bgpdump_tool.specs.Ending.{source_outcome, write_outcome}
 use Rattle.bgpdump_tool.specs.Reports.{reports}
 use Rattle.bgpdump_tool.specs.Writing.{is_any_bad}
+use Rattle.bgpdump_tool.specs.Replies.{at_text}
 use Rattle.bgpdump_tool.specs.Meaning.{meaning, meets_end, faults_taken}
 use Rattle.bgpdump_tool.specs.Standing.{Standing, Scene, Taking, Stands, Follows, state_of}
 use Rattle.bgpdump_tool.specs.Moves.{StopsReading}
@@ -66,3 +67,8 @@ CarryingDoes command from left s old new out out' (Err outcome) =
 abbrev pub CarriesOut : {A : Type 0} → Command → Scene → Scene → Option (List ℕ) → Option (List ℕ) → Result A Outcome → Type 0
 CarriesOut command old new out out' result =
     (from : Place) (left : Option (List ℕ)) (s : Standing) → Stands from left old s → CarryingDoes command from left s old new out out' result
+
+-- a command that moves led a run so, and its reply tells where; or a fault stopped it on the way
+abbrev pub Travels : Command → Place → Option (List ℕ) → Standing → Scene → Scene → Result Bool Outcome → Type 0
+Travels command from left s old new (Ok ended) = (led : IsLed command from left s old new) × (led.reply ≡ at_text new.player.cursor ended)
+Travels command from left s old new (Err outcome) = (out : Option (List ℕ)) → CarryingDoes {A = Unit {0}} command from left s old new out out (Err outcome)

@@ -6,7 +6,7 @@ ghost use Rattle.bgpdump_tool.specs.Ending.{is_read_fault, is_write_fault};
 ghost use Rattle.bgpdump_tool.specs.Standing.{HasRoom, at_cursor, scene_of};
 ghost use Rattle.bgpdump_tool.specs.Moves.{Moves, OnwardDoes};
 ghost use Rattle.bgpdump_tool.specs.declared.command.Command.{Command};
-ghost use Rattle.bgpdump_tool.specs.Carrying.{CarriesOut};
+ghost use Rattle.bgpdump_tool.specs.Carrying.{CarriesOut, Travels};
 
 use crate::outcome::Outcome;
 use crate::output::Output;
@@ -55,6 +55,29 @@ fn retreat<S: PrefixStore<Rc<Route>>>(player: &mut Player<S>, position: u32)
     }
 }
 
+/// To a position, or as far as there are steps. Answers whether there were too few.
+fn travel<S: PrefixStore<Rc<Route>>, I: Input, E: Output>(
+    session: &mut Session<S>,
+    input: &mut I,
+    err: &mut E,
+    position: u32,
+) -> Result<bool, Outcome>
+    requires room { HasRoom session.old.player session.old.source LONGEST_SCRIPT }
+    ensures moves { Moves (Travels (Command.Goto position))
+        (scene_of I.left E.written session.old input.old err.old)
+        (scene_of I.left E.written session.new input.new err.new) result }
+    ensures room { (lost : ℕ) → HasRoom session.old.player session.old.source lost →
+        HasRoom session.new.player session.new.source lost }
+    ensures read { I.failed input.new ≡ (I.failed input.old || is_read_fault result) }
+    ensures wrote { E.failed err.new ≡ (E.failed err.old || is_write_fault result) }
+{
+    if u64::from(position) < session.player.at() {
+        retreat(&mut session.player, position);
+        return Ok(false);
+    }
+    onward(session, input, err, position)
+}
+
 /// Carries out `goto`. What is found faulty on the way is reported, and is no step.
 pub(crate) fn goto<S: PrefixStore<Rc<Route>>, I: Input, O: Output, E: Output>(
     session: &mut Session<S>,
@@ -74,12 +97,7 @@ pub(crate) fn goto<S: PrefixStore<Rc<Route>>, I: Input, O: Output, E: Output>(
     ensures wrote { (O.failed out.new || E.failed err.new)
         ≡ (O.failed out.old || E.failed err.old || is_write_fault result) }
 {
-    let ended = if u64::from(position) < session.player.at() {
-        retreat(&mut session.player, position);
-        false
-    } else {
-        onward(session, input, err, position)?
-    };
+    let ended = travel(session, input, err, position)?;
     write_position(session.player.at(), ended, out, &mut session.text)?;
     Ok(())
 }
