@@ -9,3 +9,4 @@ pub mod WritingLaws
 pub mod DecimalLaws
 pub mod WordLaws
 pub mod CommandLaws
+pub mod BestLaws
