@@ -55,23 +55,30 @@ module _ {R : Type 0} (address : Address) (entry : Network × R) (entries : List
           (p.0, front_or other.0 (wrong other.0 p.0) (λ same. same ∙ p.1), λ n inside some. front_or n (wrong n inside) (λ same. p.2 n inside (ap is_some (sym same) ∙ some)))
 
   longest-inside : contains entry.0 address ≡ true → (found : Option (Network × R)) → IsLongestOf (route_at entries) address found → IsLongestOf (route_at (entry ∷ entries)) address (longer entry found)
-  longest-inside within None p =
-      (within, found_there, λ n inside some. front_or n (λ is. omega (arith, ap (λ m. length m.bits) is)) (λ same.
-      let no : false ≡ true = ap is_some (sym (same ∙ p n inside)) ∙ some in
-      cc))
+  longest-inside within None p = (
+    within,
+    found_there,
+    λ n inside some. front_or n (λ is. omega (arith, ap (λ m. length m.bits) is)) (λ same.
+        let no : false ≡ true = ap is_some (sym (same ∙ p n inside)) ∙ some in
+        cc),
+  )
   longest-inside within (Some other) p = at (nat_lt (length entry.0.bits) (length other.0.bits)) refl
     where
       at : (b : Bool) → nat_lt (length entry.0.bits) (length other.0.bits) ≡ b → IsLongestOf (route_at (entry ∷ entries)) address (Some (cond b other entry))
       at true less =
-          let below = ltb-true (length entry.0.bits) (length other.0.bits) less in
-          (p.0, front_or other.0 (λ is. absurd (omega (arith, below, ap (λ m. length m.bits) is))) (λ same. same ∙ p.1),
-              λ n inside some. front_or n (λ is. omega (arith, below, ap (λ m. length m.bits) is)) (λ same. p.2 n inside (ap is_some (sym same) ∙ some)))
+          let below = ltb-true (length entry.0.bits) (length other.0.bits) less in (
+            p.0,
+            front_or other.0 (λ is. absurd (omega (arith, below, ap (λ m. length m.bits) is))) (λ same. same ∙ p.1),
+            λ n inside some. front_or n (λ is. omega (arith, below, ap (λ m. length m.bits) is)) (λ same. p.2 n inside (ap is_some (sym same) ∙ some)),
+          )
       at false less =
-          let below = ltb-false (length entry.0.bits) (length other.0.bits) less in
-          (within, found_there,
-              λ n inside some. front_or n (λ is. omega (arith, ap (λ m. length m.bits) is)) (λ same.
-              let shorter = p.2 n inside (ap is_some (sym same) ∙ some) in
-              omega (arith, below, shorter)))
+          let below = ltb-false (length entry.0.bits) (length other.0.bits) less in (
+            within,
+            found_there,
+            λ n inside some. front_or n (λ is. omega (arith, ap (λ m. length m.bits) is)) (λ same.
+                let shorter = p.2 n inside (ap is_some (sym same) ∙ some) in
+                omega (arith, below, shorter)),
+          )
 
 -- the longest of entries
 longest-entries : {R : Type 0} (address : Address) (entries : List (Network × R)) → IsLongestOf (route_at entries) address (longest_at address entries)

@@ -10,3 +10,4 @@ pub mod DecimalLaws
 pub mod WordLaws
 pub mod CommandLaws
 pub mod BestLaws
+pub mod WalkLaws

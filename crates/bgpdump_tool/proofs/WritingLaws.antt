@@ -57,7 +57,7 @@ pub WritesFronts-behind : (t u : Texts) (a b c : Outputs) → Writes t a b → W
 WritesFronts-behind t u a b c p q = (AppendsFront-behind a.out b.out c.out t.out u.out p.0 q.0, AppendsFront-behind a.err b.err c.err t.err u.err p.1 q.1)
 
 -- a front of a text is one of a longer text
-AppendsFront-longer : (a b : Option (List ℕ)) (text more : List ℕ) → AppendsFront a b text → AppendsFront a b (text ++ more)
+pub AppendsFront-longer : (a b : Option (List ℕ)) (text more : List ℕ) → AppendsFront a b text → AppendsFront a b (text ++ more)
 AppendsFront-longer a b text more p = record {
   front = p.front;
   back = p.back ++ more;
