@@ -10,3 +10,5 @@ pub mod WritingLaws
 pub mod DecimalLaws
 pub mod WordLaws
 pub mod CommandLaws
+pub mod BestLaws
+pub mod WalkLaws

@@ -1,0 +1,98 @@
+-- The route to the longest prefix that contains an address.
+use Rattle.std.proofs.Common.{◌≡◌, ◌≤◌, Bool, true, false, cond, nat_lt, List, [], ◌∷◌, length, Option, Some, None, is_some, refl, sym, ap, subst, ◌∙◌, arith}
+use Rattle.std.specs.List.{filter}
+use Rattle.std.specs.Ordering.{eq_by_cmp, is_eq}
+use Rattle.std.specs.Cmp.{tied_itself}
+use Rattle.std.specs.FinMap as finite
+use Rattle.std.specs.FinMap.{get-entries}
+use Rattle.std.specs.FinMap.Entries.{find}
+use Rattle.std.proofs.lemmas.Bool.{ltb-true, ltb-false}
+use Rattle.ip_prefix.specs.Address.{Address}
+use Rattle.ip_prefix.specs.Network.{Network, contains}
+use Rattle.ip_prefix.specs.Order.{network_cmp}
+use Rattle.ip_prefix.specs.OrderLaws.{network_cmp_total}
+use Rattle.mrt_wire.specs.declared.peer.Peer.{Peer}
+use Rattle.mrt_wire.specs.declared.event.Route.{Route}
+use Rattle.rib_store.specs.Stored.{IsLongestOf}
+use Rattle.rib_store.proofs.LongestLaws.{longest-one}
+use Rattle.rib_store.proofs.SlotLaws.{same_prefix}
+use Rattle.rib_player.specs.History.{pair_of}
+use Rattle.rib_player.specs.Tables.{Routes}
+use Rattle.rib_player.specs.Store.{peer_routes, IsBest}
+use Rattle.rib_player.proofs.PeerLaws.{get-peer_routes}
+use Rattle.bgpdump_tool.specs.Replies.{longer, longest, best}
+
+-- the route that entries have at a prefix
+abbrev route_at : {R : Type 0} → List (Network × R) → Network → Option R
+route_at entries n = find network_cmp n entries
+
+-- the longest of those that contain an address
+abbrev longest_at : {R : Type 0} → Address → List (Network × R) → Option (Network × R)
+longest_at address entries = longest (filter (λ entry. contains entry.0 address) entries)
+
+module _ {R : Type 0} (address : Address) (entry : Network × R) (entries : List (Network × R)) where
+  found_there : route_at (entry ∷ entries) entry.0 ≡ Some entry.1
+  found_there = ap (λ o. cond (is_eq o) (Some entry.1) (route_at entries entry.0)) (tied_itself network_cmp_total entry.0)
+
+  -- a prefix is that of the entry in front, or has its route behind it
+  front_or : {A : Type 0} (n : Network) → (n ≡ entry.0 → A) → (route_at (entry ∷ entries) n ≡ route_at entries n → A) → A
+  front_or {A} n here behind = at (eq_by_cmp network_cmp n entry.0) refl
+    where
+      at : (b : Bool) → eq_by_cmp network_cmp n entry.0 ≡ b → A
+      at true e = here (same_prefix n entry.0 e)
+      at false e = behind (ap (λ b. cond b (Some entry.1) (route_at entries n)) e)
+
+  -- an entry that does not contain the address changes nothing
+  longest-outside : contains entry.0 address ≡ false → (found : Option (Network × R)) → IsLongestOf (route_at entries) address found → IsLongestOf (route_at (entry ∷ entries)) address found
+  longest-outside out found p = at found p
+    where
+      wrong : {A : Type 0} (n : Network) → contains n address ≡ true → n ≡ entry.0 → A
+      wrong n inside is = let no : true ≡ false = sym inside ∙ ap (λ m. contains m address) is ∙ out in cc
+
+      at : (found : Option (Network × R)) → IsLongestOf (route_at entries) address found → IsLongestOf (route_at (entry ∷ entries)) address found
+      at None p = λ n inside. front_or n (wrong n inside) (λ same. same ∙ p n inside)
+      at (Some other) p =
+          (p.0, front_or other.0 (wrong other.0 p.0) (λ same. same ∙ p.1), λ n inside some. front_or n (wrong n inside) (λ same. p.2 n inside (ap is_some (sym same) ∙ some)))
+
+  longest-inside : contains entry.0 address ≡ true → (found : Option (Network × R)) → IsLongestOf (route_at entries) address found → IsLongestOf (route_at (entry ∷ entries)) address (longer entry found)
+  longest-inside within None p = (
+    within,
+    found_there,
+    λ n inside some. front_or n (λ is. omega (arith, ap (λ m. length m.bits) is)) (λ same.
+        let no : false ≡ true = ap is_some (sym (same ∙ p n inside)) ∙ some in
+        cc),
+  )
+  longest-inside within (Some other) p = at (nat_lt (length entry.0.bits) (length other.0.bits)) refl
+    where
+      at : (b : Bool) → nat_lt (length entry.0.bits) (length other.0.bits) ≡ b → IsLongestOf (route_at (entry ∷ entries)) address (Some (cond b other entry))
+      at true less =
+          let below = ltb-true (length entry.0.bits) (length other.0.bits) less in (
+            p.0,
+            front_or other.0 (λ is. absurd (omega (arith, below, ap (λ m. length m.bits) is))) (λ same. same ∙ p.1),
+            λ n inside some. front_or n (λ is. omega (arith, below, ap (λ m. length m.bits) is)) (λ same. p.2 n inside (ap is_some (sym same) ∙ some)),
+          )
+      at false less =
+          let below = ltb-false (length entry.0.bits) (length other.0.bits) less in (
+            within,
+            found_there,
+            λ n inside some. front_or n (λ is. omega (arith, ap (λ m. length m.bits) is)) (λ same.
+                let shorter = p.2 n inside (ap is_some (sym same) ∙ some) in
+                omega (arith, below, shorter)),
+          )
+
+-- the longest of entries
+longest-entries : {R : Type 0} (address : Address) (entries : List (Network × R)) → IsLongestOf (route_at entries) address (longest_at address entries)
+longest-entries address [] = λ n inside. refl
+longest-entries {R} address (entry ∷ entries) = at (contains entry.0 address) refl (longest-entries address entries)
+  where
+    at : (b : Bool) → contains entry.0 address ≡ b → IsLongestOf (route_at entries) address (longest_at address entries)
+        → IsLongestOf (route_at (entry ∷ entries)) address (longest (cond b (entry ∷ filter (λ (e : Network × R). contains e.0 address) entries) (filter (λ (e : Network × R). contains e.0 address) entries)))
+    at true within p = longest-inside address entry entries within (longest_at address entries) p
+    at false out p = longest-outside address entry entries out (longest_at address entries) p
+
+-- what is the best is the one
+pub one_best : (routes : Routes) (peer : Peer) (address : Address) (found : Option (Network × Route)) → IsBest routes peer address found → found ≡ best routes peer address
+one_best routes peer address found p =
+    longest-one (peer_routes routes peer) address found (best routes peer address)
+    (subst (λ route. IsLongestOf route address found) (λ i n. sym (get-peer_routes routes peer n) i) p)
+    (subst (λ route. IsLongestOf route address (best routes peer address)) (λ i n. sym (get-entries (peer_routes routes peer) n) i) (longest-entries address (finite.entries (peer_routes routes peer))))
