@@ -27,10 +27,10 @@ use Rattle.bgpdump_tool.specs.Reports.{reports}
 use Rattle.bgpdump_tool.specs.Replies.{at_text, counted_text}
 use Rattle.bgpdump_tool.specs.State.{State, steps_ahead, events, gone_on, needed, loss}
 use Rattle.bgpdump_tool.specs.Meaning.{Meaning, answer, advance, meaning, meets_end, faults_taken}
-use Rattle.bgpdump_tool.specs.Standing.{Standing, Scene, Taking, Stands, state_of, at_cursor, standing_on, IsOnward}
+use Rattle.bgpdump_tool.specs.Standing.{Standing, Scene, Taking, Stands, state_of, at_cursor, standing_on, IsOnward, HasRoom}
 use Rattle.bgpdump_tool.specs.Moves.{GoesOn, StopsReading, StopsWriting, Stops, ForwardDoes, OnwardDoes}
 use Rattle.bgpdump_tool.specs.Carrying.{Leads, IsLed, IsCarriedOut, IsCutOff, IsBrokenOff, CarryingDoes, Travels}
-use Rattle.bgpdump_tool.specs.Losing.{loss_text}
+use Rattle.bgpdump_tool.specs.Losing.{loss_text, Loses}
 use Rattle.bgpdump_tool.specs.Writing.{Puts, Replies}
 use Rattle.bgpdump_tool.proofs.MoveLaws.{Stands-inside, reports-append, needed_beyond}
 use Rattle.bgpdump_tool.proofs.WritingLaws.{AppendsFront-none, AppendsFront-longer}
@@ -328,15 +328,25 @@ IsLed-back n from left s old u stands is =
     )
 
 -- a question
-pub IsLed-answer : (command : Command) (from : Place) (left : Option (List ℕ)) (s : Standing) (old : Scene) (text : Routes → ℕ → ℕ → List ℕ) → Stands from left old s
-    → ((more : List Finding) → meaning command (state_of s more) ≡ answer (text (table (take s.cursor s.history)) s.cursor (length s.history - s.cursor)) (state_of s more))
-    → (led : IsLed command from left s old old) × (led.reply ≡ text (current old.player) old.player.cursor (ahead_of old.player))
-IsLed-answer command from left s old text stands means =
-    let routes : current old.player ≡ table (take s.cursor s.history) = StandsFor-current old.player s.history stands.history ∙ ap (λ n. table (take n s.history)) stands.cursor in
-    let ahead : ahead_of old.player ≡ length s.history - s.cursor = omega (arith, StandsFor-end old.player s.history stands.history, stands.cursor) in (
-      IsLed-still command from left s s old old.player (text (table (take s.cursor s.history)) s.cursor (length s.history - s.cursor)) refl refl stands means,
-      sym (λ i. text (routes i) (stands.cursor i) (ahead i)),
-    )
+abbrev IsLed-answer : (command : Command) (from : Place) (left : Option (List ℕ)) (s : Standing) (old : Scene) (text : List ℕ) → Stands from left old s
+    → ((more : List Finding) → meaning command (state_of s more) ≡ answer text (state_of s more)) → IsLed command from left s old old
+IsLed-answer command from left s old text stands means = IsLed-still command from left s s old old.player text refl refl stands means
+
+pub Carrying-question : (command : Command) (from : Place) (left : Option (List ℕ)) (s : Standing) (old : Scene) (out out' : Option (List ℕ)) (routes : Routes) (text : Routes → List ℕ) (result : Result (Unit {0}) WriteFault) → Stands from left old s
+    → ((more : List Finding) → meaning command (state_of s more) ≡ answer (text (table (take s.cursor s.history))) (state_of s more)) → routes ≡ current old.player → Replies out out' (text routes) result
+    → CarryingDoes command from left s old old out out' (outcome_result result)
+Carrying-question command from left s old out out' routes text result stands means is replied =
+    let same : routes ≡ table (take s.cursor s.history) = is ∙ StandsFor-current old.player s.history stands.history ∙ ap (λ n. table (take n s.history)) stands.cursor in
+    Carrying-replied command from left s old old out out' (text (table (take s.cursor s.history))) result (IsLed-answer command from left s old (text (table (take s.cursor s.history))) stands means) refl
+    (subst (λ r. Replies out out' (text r) result) same replied)
+
+pub Carrying-position : (from : Place) (left : Option (List ℕ)) (s : Standing) (old : Scene) (out out' : Option (List ℕ)) (result : Result (Unit {0}) WriteFault) → Stands from left old s
+    → Puts out out' (counted_text old.player.cursor (codes " ahead ") (ahead_of old.player)) result → CarryingDoes Position from left s old old out out' (outcome_result result)
+Carrying-position from left s old out out' result stands put =
+    let ahead : ahead_of old.player ≡ length s.history - s.cursor = omega (arith, StandsFor-end old.player s.history stands.history, stands.cursor) in
+    let text : List ℕ = counted_text s.cursor (codes " ahead ") (length s.history - s.cursor) in
+    Carrying-replied Position from left s old old out out' text result (IsLed-answer Position from left s old text stands (λ more. refl)) refl
+    (subst (λ t. Replies out out' t result) (λ i. counted_text (stands.cursor i) (codes " ahead ") (ahead i)) (Replies-put out out' (counted_text old.player.cursor (codes " ahead ") (ahead_of old.player)) result put))
 
 -- the loss of a session
 pub IsLed-lose : (peer : Peer) (from : Place) (left : Option (List ℕ)) (s : Standing) (old : Scene) (u : Timeline) → Stands from left old s → u ≡ after_play old.player (loss peer)
@@ -364,3 +374,39 @@ Travels-goto k from left s old new (Ok ended) above stands does =
     let led = IsLed-goto k from left s old new ended above stands does in
     (led.0, led.1)
 Travels-goto k from left s old new (Err outcome) above stands does = λ out. Carrying-goto k from left s old new out outcome above does
+
+pub Carrying-back : (n : ℕ) (from : Place) (left : Option (List ℕ)) (s : Standing) (old : Scene) (u : Timeline) (out out' : Option (List ℕ)) (result : Result (Unit {0}) WriteFault) → Stands from left old s
+    → u ≡ at_cursor (old.player.cursor - min n (behind old.player)) old.player → Puts out out' (at_text u.cursor false) result
+    → CarryingDoes (Back n) from left s old (record old { player = u }) out out' (outcome_result result)
+Carrying-back n from left s old u out out' result stands is put =
+    let led = IsLed-back n from left s old u stands is in
+    Carrying-replied (Back n) from left s old (record old { player = u }) out out' (at_text u.cursor false) result led.0 led.1 (Replies-put out out' (at_text u.cursor false) result put)
+
+-- nothing was played or written, for want of memory
+Carrying-refused : (command : Command) (from : Place) (left : Option (List ℕ)) (s : Standing) (old new : Scene) (out : Option (List ℕ)) (fault : WriteFault) → Stands from left old s → new ≡ old
+    → CarryingDoes {A = Unit {0}} command from left s old new out out (Err (write_outcome fault))
+Carrying-refused command from left s old new out fault stands same = inr (fault, refl, record {
+  taken = [];
+  ended = s.ended;
+  taking = subst (λ n. Taking from left n.place n.left (s.found ++ []) s.ended) (sym same) (subst (λ f. Taking from left old.place old.left f s.ended) (sym (append-nil s.found)) stands.taking);
+  follows = record { quiet = λ _. refl; stays = λ e. ap (λ n. n.place.phase) same ∙ e };
+  met = λ e. ap (λ b. b || meets_end command (state_of s [])) e;
+  fronts = λ more none. (
+    AppendsFront-none out (meaning command (state_of s more)).reply,
+    subst (λ n. AppendsFront old.err n.err (faults_taken command (state_of s more))) (sym same) (AppendsFront-none old.err (faults_taken command (state_of s more))),
+  );
+})
+
+pub Carrying-lose : (peer : Peer) (from : Place) (left : Option (List ℕ)) (s : Standing) (old : Scene) (u : Timeline) (out out' : Option (List ℕ)) (result : Result (Unit {0}) WriteFault) → Stands from left old s → Loses peer old.player u out out' result
+    → CarryingDoes (Lose peer) from left s old (record old { player = u }) out out' (outcome_result result)
+Carrying-lose peer from left s old u out out' result stands (inl (is, replied)) =
+    let led = IsLed-lose peer from left s old u stands is in
+    Carrying-replied (Lose peer) from left s old (record old { player = u }) out out' (loss_text old.player u) result led.0 led.1 replied
+Carrying-lose peer from left s old u out out' result stands (inr (fault, refused, stays, quiet)) =
+    subst (λ r. CarryingDoes (Lose peer) from left s old (record old { player = u }) out out' (outcome_result r)) (sym refused)
+    (subst (λ o. CarryingDoes {A = Unit {0}} (Lose peer) from left s old (record old { player = u }) out o (Err (write_outcome fault))) (sym quiet)
+    (Carrying-refused (Lose peer) from left s old (record old { player = u }) out fault stands (ap (λ t. record old { player = t }) stays)))
+
+-- room for one step more
+pub HasRoom-more : (t : Timeline) (q : Place) (lost : ℕ) → HasRoom t q lost → HasRoom t q (lost + 1)
+HasRoom-more t q lost room = record { floor = room.floor; cursor = room.cursor; steps = omega (arith, room.steps); within = room.within; limit = room.limit }
