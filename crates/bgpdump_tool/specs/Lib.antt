@@ -16,3 +16,4 @@ pub mod Standing
 pub mod Moves
 pub mod Carrying
 pub mod Losing
+pub mod Playing

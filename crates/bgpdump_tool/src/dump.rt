@@ -1,7 +1,7 @@
 //! A whole run: the lines of all events, and the reports of all faulty records.
 
 ghost use Rattle.std.specs.Prelude.{◌≡◌, ◌≢◌, ◌↔◌, ◌⊎◌, ◌^◌, ◌++◌, ◌||◌, ℕ, List, None, true, false, IsTrue, IfOk, length, []};
-ghost use Rattle.std.specs.Io.KnownBytes.{Consumes, Keeps};
+ghost use Rattle.std.specs.Io.KnownBytes.{Consumes};
 ghost use Rattle.mrt_wire.specs.declared.event.Stamp.{Stamp};
 ghost use Rattle.mrt_wire.specs.Verdict.{Frame};
 ghost use Rattle.mrt_wire.specs.Splitting.{Splits};
@@ -10,9 +10,10 @@ ghost use Rattle.mrt_wire.specs.Next.{Took, answer_findings};
 ghost use Rattle.mrt_wire.specs.SoFar.{is_nothing};
 ghost use Rattle.bgpdump_tool.specs.Reports.{dump_texts};
 ghost use Rattle.bgpdump_tool.specs.Run.{IsTaken, MayHold, SawEnd, outputs_of, Writes, EndsSo, EndedByInput, all_results};
-ghost use Rattle.bgpdump_tool.specs.Ending.{outcome_of, is_read_fault, is_write_fault};
+ghost use Rattle.bgpdump_tool.specs.Ending.{is_read_fault, is_write_fault};
 ghost use Rattle.bgpdump_tool.specs.Going.{Ends};
 
+use crate::finish::finish;
 use crate::outcome::Outcome;
 use crate::output::Output;
 use crate::write::write_next;
@@ -79,22 +80,6 @@ fn is_end(next: &Next) -> bool
     ensures { result ≡ is_nothing (answer_findings next.now) }
 {
     matches!(next, Next::End)
-}
-
-/// Finishes both outputs, and tells how the run ended.
-fn finish<O: Output, E: Output>(out: &mut O, err: &mut E, reported: bool) -> Outcome
-    requires sound { (O.failed out.old || E.failed err.old) ≡ false }
-    ensures outcome { result ≡ outcome_of (O.failed out.new || E.failed err.new) reported }
-    ensures out { Keeps (O.written out.old) (O.written out.new) }
-    ensures err { Keeps (E.written err.old) (E.written err.new) }
-{
-    if out.finish().is_err() || err.finish().is_err() {
-        Outcome::WriteFault
-    } else if reported {
-        Outcome::Reported
-    } else {
-        Outcome::Done
-    }
 }
 
 /// Reads and writes up to the end of the input or a fault, and answers whether something was

@@ -7,10 +7,12 @@ mod commands;
 mod dump;
 mod fault;
 mod fields;
+mod finish;
 mod laws;
 mod lines;
 mod outcome;
 mod output;
+mod play;
 mod replies;
 mod reports;
 mod same;
@@ -25,6 +27,7 @@ pub use laws::{one_command, run_numbers};
 pub use lines::put_lines;
 pub use outcome::Outcome;
 pub use output::{OutFault, Output, WriteOutput, put_all};
+pub use play::run_play;
 
 #[cfg(test)]
 mod tests;

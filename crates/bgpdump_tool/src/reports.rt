@@ -1,7 +1,8 @@
-//! The reports of faulty records.
+//! The reports of faulty records, and of lines that are no commands.
 
 ghost use Rattle.std.specs.Prelude.{◌≡◌, ◌++◌, OnOk, decimal};
 ghost use Rattle.bgpdump_tool.specs.Reports.{kind_text, fault_report};
+ghost use Rattle.bgpdump_tool.specs.Course.{line_report};
 
 use ip_prefix::put_decimal;
 use mrt_wire::{RecordFault, RecordKind};
@@ -52,6 +53,17 @@ pub(crate) fn put_report(fault: RecordFault, text: &mut Vec<u8>) -> Result<(), A
     put_labelled(b", byte ", fault.offset, text)?;
     text.extend_from_slice(b": ")?;
     put_kind(fault.kind, text)?;
+    text.push(b'\n')?;
+    Ok(())
+}
+
+/// Appends the report of a line of a script that is no command. Refused, it may have appended a
+/// part.
+pub(crate) fn put_line_report(number: u64, text: &mut Vec<u8>) -> Result<(), AllocError>
+    ensures { OnOk result (text.new.items ≡ text.old.items ++ line_report number) }
+{
+    put_labelled(b"bgpdump: script line ", number, text)?;
+    text.extend_from_slice(b": bad command")?;
     text.push(b'\n')?;
     Ok(())
 }

@@ -1,6 +1,6 @@
 //! The pieces of a text, and the numbers that words spell.
 
-ghost use Rattle.std.specs.Prelude.{◌≡◌, ◌≢◌, [], ◌∷◌, IsTrue, IsFalse, MatchOption};
+ghost use Rattle.std.specs.Prelude.{◌≡◌, ◌≢◌, [], ◌∷◌, ◌<◌, length, IsTrue, IsFalse, IfSome, MatchOption};
 ghost use Rattle.bgp_wire.specs.Reading.{Finds};
 ghost use Rattle.bgpdump_tool.specs.Command.{pieces, words, SpellsDecimal};
 
@@ -9,8 +9,9 @@ const LEAST_IN_FRONT: u8 = b'1';
 
 /// What stands before the first mark, and what stands behind it; none where no mark is there.
 pub(crate) fn split_first(text: &[u8], mark: u8) -> Option<(&[u8], &[u8])>
-    ensures { MatchOption result (pieces mark text.now ≡ text.now ∷ [])
+    ensures pieces { MatchOption result (pieces mark text.now ≡ text.now ∷ [])
         (λ found. pieces mark text.now ≡ found.0.now ∷ pieces mark found.1.now) }
+    ensures shorter { IfSome result (λ found. length found.1.now < length text.now) }
 {
     let at = text.iter().position(|octet| *octet == mark)?;
     Some((&text[..at], &text[at + 1..]))

@@ -6,14 +6,14 @@ use Rattle.bgpdump_tool.specs.Command.{pieces}
 use Rattle.bgpdump_tool.proofs.WordLaws.{IsMark, IsNoMark, pieces_alone, pieces_split}
 use Rattle.bgpdump_tool.proofs.words.split_first.Goals as goal
 
-pub returns-in_err-at : goal.returns-in_err-at
-returns-in_err-at c =
+pub returns-in_err-at-clause-pieces : goal.returns-in_err-at-clause-pieces
+returns-in_err-at-clause-pieces c =
     let none = if_none _ _ c.in_err-at.was (IsFirst-from_position _ _ _ (IsMark c.args.mark) (IsNoMark c.args.mark) c.position.ensures.ran (YieldsList-from_slice _ c.iter.ensures.rest) (λ x q k. search (rules, tests)) (λ x q k. search (rules, tests))) in
     rw c.from_residual.ensures
     (pieces_alone c.args.mark c.args.text.now none)
 
-pub returns : goal.returns
-returns c =
+pub returns-clause-pieces : goal.returns-clause-pieces
+returns-clause-pieces c =
     let text = c.args.text.now in
     let at = c.in_ok-at.at in
     let first = if_some _ _ _ c.in_ok-at.was (IsFirst-from_position _ _ _ (IsMark c.args.mark) (IsNoMark c.args.mark) c.position.ensures.ran (YieldsList-from_slice _ c.iter.ensures.rest) (λ x q k. search (rules, tests)) (λ x q k. search (rules, tests))) in

@@ -1,0 +1,176 @@
+//! A whole run of a script: the replies to its commands, and the reports.
+
+ghost use Rattle.std.specs.Prelude.{◌≡◌, ◌↔◌, ◌<◌, ◌≤◌, ◌+◌, ◌++◌, ◌||◌, ℕ, List, [], None, false, true, IsTrue, length};
+ghost use Rattle.std.specs.Io.KnownBytes.{Consumes};
+ghost use Rattle.mrt_wire.specs.Verdict.{Frame};
+ghost use Rattle.mrt_wire.specs.Splitting.{Splits};
+ghost use Rattle.mrt_wire.specs.Place.{start_place};
+ghost use Rattle.mrt_wire.specs.Next.{Took};
+ghost use Rattle.rib_player.specs.Timeline.{fresh};
+ghost use Rattle.bgpdump_tool.specs.declared.dump.TheConstants.{LIMIT};
+ghost use Rattle.bgpdump_tool.specs.Ending.{is_read_fault, is_write_fault};
+ghost use Rattle.bgpdump_tool.specs.Run.{IsTaken, MayHold, outputs_of, Writes, EndsSo, EndedByInput, all_results};
+ghost use Rattle.bgpdump_tool.specs.Script.{Line, IsScript};
+ghost use Rattle.bgpdump_tool.specs.Course.{play_texts, cut_texts, line_report, PlaySawEnd, AreCarriedOut};
+ghost use Rattle.bgpdump_tool.specs.Standing.{HasRoom, scene_of};
+ghost use Rattle.bgpdump_tool.specs.Playing.{CarriesLine, PlaysScript};
+ghost use Rattle.bgpdump_tool.specs.Writing.{Puts, is_write};
+
+use crate::command::read_command;
+use crate::commands::carry_out;
+use crate::fault::WriteFault;
+use crate::finish::finish;
+use crate::outcome::Outcome;
+use crate::output::{Output, put_all};
+use crate::reports::put_line_report;
+use crate::script::{LONGEST_SCRIPT, split_line};
+use crate::session::Session;
+use mrt_wire::{Input, Route, Stamp};
+use rib_store::PrefixStore;
+use std::alloc::Global;
+use std::rc::Rc;
+
+/// Carries out a script over an input of MRT records (RFC 6396), with a new player over the store
+/// that the caller names. The replies go to `out`; the reports of faulty records that commands
+/// take, and of lines that are no commands, go to `err`. Each is written before the next record or
+/// line is read. Records that no command takes are left. Where the run ends without a fault, both
+/// outputs are finished, `out` first. A script of more than 1,048,576 octets isn't begun.
+pub fn run_play<S: PrefixStore<Rc<Route>>, I: Input, O: Output, E: Output>(
+    alloc: Global,
+    input: &mut I,
+    script: &[u8],
+    out: &mut O,
+    err: &mut E,
+    stamp: Stamp,
+) -> Outcome
+    requires input_sound { I.failed input.old ≡ false }
+    requires out_sound { O.failed out.old ≡ false }
+    requires err_sound { E.failed err.old ≡ false }
+
+    // Whatever the input may hold on the whole: the texts that the script has over it were written,
+    // or fronts of them.
+    ensures text { length script.now ≤ LONGEST_SCRIPT →
+        (lines : List Line) → IsScript lines script.now →
+        (begun : List Line) × AreCarriedOut result begun lines
+        × ((octets : List ℕ) (frames : List Frame) (rest : List ℕ) →
+        MayHold stamp (PlaySawEnd stamp result begun) (I.left input.old) (I.left input.new) octets →
+        Splits stamp None octets frames rest →
+        EndsSo result (play_texts lines (all_results stamp frames rest))
+        (outputs_of O.written E.written out.old err.old)
+        (outputs_of O.written E.written out.new err.new)) }
+
+    // A run that the input ended has written what the records taken whole give: the replies to the
+    // commands that ended, the reports of what was taken, and those of the lines before.
+    ensures whole_records { EndedByInput result →
+        (lines : List Line) → IsScript lines script.now →
+        (taken after : List ℕ) (frames : List Frame) (rest : List ℕ) →
+        Took (I.left input.old) (I.left input.new) taken after →
+        Splits stamp None taken frames rest →
+        Writes (cut_texts lines (all_results stamp frames []))
+        (outputs_of O.written E.written out.old err.old)
+        (outputs_of O.written E.written out.new err.new) }
+
+    // At most 2^40 octets are taken: those of frames, and then what stands behind them, none of it
+    // behind a header that states too much.
+    ensures taken { length script.now ≤ LONGEST_SCRIPT →
+        (taken : List ℕ) × Consumes (I.left input.old) (I.left input.new) taken
+        × IsTaken stamp result taken }
+
+    // When each fault comes.
+    ensures read_fault { (result ≡ Outcome.ReadFault) ↔ IsTrue (I.failed input.new) }
+    ensures write_fault { (result ≡ Outcome.WriteFault)
+        ↔ IsTrue (O.failed out.new || E.failed err.new) }
+    ensures too_long { result ≡ Outcome.InputTooLong → (taken after : List ℕ) →
+        Took (I.left input.old) (I.left input.new) taken after → length taken ≡ LIMIT }
+    ensures script_too_long { (result ≡ Outcome.ScriptTooLong)
+        ↔ (LONGEST_SCRIPT < length script.now) }
+    ensures untouched { result ≡ Outcome.ScriptTooLong →
+        (input.new ≡ input.old) × (out.new ≡ out.old) × (err.new ≡ err.old) }
+{
+    if script.len() > LONGEST_SCRIPT {
+        return Outcome::ScriptTooLong;
+    }
+    let mut session: Session<S> = Session::new(alloc, stamp);
+    match play_lines(&mut session, input, script, out, err) {
+        Ok(()) => finish(out, err, session.reported),
+        Err(outcome) => outcome,
+    }
+}
+
+/// Carries out the lines of a script.
+fn play_lines<S: PrefixStore<Rc<Route>>, I: Input, O: Output, E: Output>(
+    session: &mut Session<S>,
+    input: &mut I,
+    script: &[u8],
+    out: &mut O,
+    err: &mut E,
+) -> Result<(), Outcome>
+    requires short { length script.now ≤ LONGEST_SCRIPT }
+    requires player { session.old.player ≡ fresh }
+    requires source { session.old.source ≡ start_place session.old.source.stamp LIMIT }
+    requires reported { session.old.reported ≡ false }
+    ensures plays { PlaysScript session.old.source (I.left input.old) script.now
+        (scene_of I.left E.written session.new input.new err.new)
+        (outputs_of O.written E.written out.old err.old)
+        (outputs_of O.written E.written out.new err.new) result }
+    ensures read { I.failed input.new ≡ (I.failed input.old || is_read_fault result) }
+    ensures wrote { (O.failed out.new || E.failed err.new)
+        ≡ (O.failed out.old || E.failed err.old || is_write_fault result) }
+{
+    let mut rest = script;
+    let mut number: u64 = 1;
+    'lines: while let Some(found) = split_line(rest) {
+        carry_line(session, input, found.0, number, out, err)?;
+        number += 1;
+        rest = found.1;
+    }
+    carry_line(session, input, rest, number, out, err)
+}
+
+/// Carries out a line of a script, by its number.
+fn carry_line<S: PrefixStore<Rc<Route>>, I: Input, O: Output, E: Output>(
+    session: &mut Session<S>,
+    input: &mut I,
+    line: &[u8],
+    number: u64,
+    out: &mut O,
+    err: &mut E,
+) -> Result<(), Outcome>
+    requires room { HasRoom session.old.player session.old.source LONGEST_SCRIPT }
+    ensures carries_line { CarriesLine line.now number
+        (scene_of I.left E.written session.old input.old err.old)
+        (scene_of I.left E.written session.new input.new err.new)
+        (O.written out.old) (O.written out.new) result }
+    ensures room { (lost : ℕ) → HasRoom session.old.player session.old.source lost →
+        HasRoom session.new.player session.new.source (lost + 1) }
+    ensures read { I.failed input.new ≡ (I.failed input.old || is_read_fault result) }
+    ensures wrote { (O.failed out.new || E.failed err.new)
+        ≡ (O.failed out.old || E.failed err.old || is_write_fault result) }
+{
+    if line.is_empty() {
+        return Ok(());
+    }
+    match read_command(line) {
+        Some(command) => carry_out(session, input, out, err, command),
+        None => {
+            session.reported = true;
+            write_line_report(err, &mut session.text, number)?;
+            Ok(())
+        }
+    }
+}
+
+/// Writes the report of a line that is no command. The text is scratch.
+fn write_line_report<E: Output>(
+    err: &mut E,
+    text: &mut Vec<u8>,
+    number: u64,
+) -> Result<(), WriteFault>
+    ensures text { Puts (E.written err.old) (E.written err.new) (line_report number) result }
+    ensures failed { E.failed err.new ≡ (E.failed err.old || is_write result) }
+{
+    text.clear();
+    put_line_report(number, text)?;
+    put_all(err, text)?;
+    Ok(())
+}
