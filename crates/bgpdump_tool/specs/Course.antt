@@ -24,7 +24,7 @@ course_behind texts ended course = record { texts = joined_texts texts course.te
 
 -- the report of a line that is no command
 abbrev pub line_report : ℕ → List ℕ
-line_report number = codes "bgpdump: script line " ++ (decimal number ++ (codes ": bad command" ++ line_feed ∷ []))
+line_report number = codes "bgpdump: script line " ++ (decimal number ++ codes ": bad command\n")
 
 -- the course of lines, the first of which has this number, from where the script stands. Where the results are cut off by a fault of the input, the command that wants more gives no reply, but the reports of what it took, and nothing comes behind it
 abbrev pub course_from : Bool → ℕ → List Line → State → Course

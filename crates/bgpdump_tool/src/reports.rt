@@ -63,7 +63,6 @@ pub(crate) fn put_line_report(number: u64, text: &mut Vec<u8>) -> Result<(), All
     ensures { OnOk result (text.new.items ≡ text.old.items ++ line_report number) }
 {
     put_labelled(b"bgpdump: script line ", number, text)?;
-    text.extend_from_slice(b": bad command")?;
-    text.push(b'\n')?;
+    text.extend_from_slice(b": bad command\n")?;
     Ok(())
 }
