@@ -1,5 +1,5 @@
 -- The route to the longest prefix that contains an address.
-use Rattle.std.proofs.Common.{◌≡◌, ◌≤◌, Bool, true, false, cond, nat_lt, List, [], ◌∷◌, length, Option, Some, None, is_some, refl, sym, ap, subst, ◌∙◌, arith}
+use Rattle.std.proofs.Common.{◌≡◌, Bool, true, false, cond, nat_lt, List, [], ◌∷◌, length, Option, Some, None, is_some, refl, sym, ap, subst, ◌∙◌, arith}
 use Rattle.std.specs.List.{filter}
 use Rattle.std.specs.Ordering.{eq_by_cmp, is_eq}
 use Rattle.std.specs.Cmp.{tied_itself}
@@ -16,7 +16,6 @@ use Rattle.mrt_wire.specs.declared.event.Route.{Route}
 use Rattle.rib_store.specs.Stored.{IsLongestOf}
 use Rattle.rib_store.proofs.LongestLaws.{longest-one}
 use Rattle.rib_store.proofs.SlotLaws.{same_prefix}
-use Rattle.rib_player.specs.History.{pair_of}
 use Rattle.rib_player.specs.Tables.{Routes}
 use Rattle.rib_player.specs.Store.{peer_routes, IsBest}
 use Rattle.rib_player.proofs.PeerLaws.{get-peer_routes}
@@ -31,6 +30,7 @@ abbrev longest_at : {R : Type 0} → Address → List (Network × R) → Option 
 longest_at address entries = longest (filter (λ entry. contains entry.0 address) entries)
 
 module _ {R : Type 0} (address : Address) (entry : Network × R) (entries : List (Network × R)) where
+  -- the entry in front is found
   found_there : route_at (entry ∷ entries) entry.0 ≡ Some entry.1
   found_there = ap (λ o. cond (is_eq o) (Some entry.1) (route_at entries entry.0)) (tied_itself network_cmp_total entry.0)
 
@@ -54,6 +54,7 @@ module _ {R : Type 0} (address : Address) (entry : Network × R) (entries : List
       at (Some other) p =
           (p.0, front_or other.0 (wrong other.0 p.0) (λ same. same ∙ p.1), λ n inside some. front_or n (wrong n inside) (λ same. p.2 n inside (ap is_some (sym same) ∙ some)))
 
+  -- one that contains it is the longest, unless there is a longer one behind it
   longest-inside : contains entry.0 address ≡ true → (found : Option (Network × R)) → IsLongestOf (route_at entries) address found → IsLongestOf (route_at (entry ∷ entries)) address (longer entry found)
   longest-inside within None p = (
     within,
@@ -80,7 +81,7 @@ module _ {R : Type 0} (address : Address) (entry : Network × R) (entries : List
                 omega (arith, below, shorter)),
           )
 
--- the longest of entries
+-- the longest of entries is that of the routes that they have
 longest-entries : {R : Type 0} (address : Address) (entries : List (Network × R)) → IsLongestOf (route_at entries) address (longest_at address entries)
 longest-entries address [] = λ n inside. refl
 longest-entries {R} address (entry ∷ entries) = at (contains entry.0 address) refl (longest-entries address entries)
@@ -90,7 +91,7 @@ longest-entries {R} address (entry ∷ entries) = at (contains entry.0 address) 
     at true within p = longest-inside address entry entries within (longest_at address entries) p
     at false out p = longest-outside address entry entries out (longest_at address entries) p
 
--- what is the best is the one
+-- a best route is the one that the definition gives
 pub one_best : (routes : Routes) (peer : Peer) (address : Address) (found : Option (Network × Route)) → IsBest routes peer address found → found ≡ best routes peer address
 one_best routes peer address found p =
     longest-one (peer_routes routes peer) address found (best routes peer address)
