@@ -41,7 +41,7 @@ or_false false = refl
 
 -- ---- fronts
 
-AppendsFront-whole : (a b : Option (List ℕ)) (text : List ℕ) → Appends a b text → AppendsFront a b text
+pub AppendsFront-whole : (a b : Option (List ℕ)) (text : List ℕ) → Appends a b text → AppendsFront a b text
 AppendsFront-whole a b text appended = record { front = text; back = []; whole = sym (append-nil text); appended = appended }
 
 -- a text that was put, or a front of it, is a reply
@@ -63,7 +63,7 @@ take_whole found more count none size =
     (ap (take count) same ∙ take_all count found size, ap (drop count) same ∙ drop_all count found size ∙ sym none)
 
 -- or more
-take_over : (found more : List Finding) (count : ℕ) → length found ≤ count → (rest : List Finding) × (take count (found ++ more) ≡ found ++ rest)
+pub take_over : (found more : List Finding) (count : ℕ) → length found ≤ count → (rest : List Finding) × (take count (found ++ more) ≡ found ++ rest)
 take_over [] more count h = (take count more, refl)
 take_over (x ∷ found) more zero h = absurd (omega (arith, h))
 take_over (x ∷ found) more (suc count) h =

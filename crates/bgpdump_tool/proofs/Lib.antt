@@ -6,6 +6,7 @@ pub mod StepLaws
 pub mod MoveLaws
 pub mod BackLaws
 pub mod CarryLaws
+pub mod PlayLaws
 pub mod WritingLaws
 pub mod DecimalLaws
 pub mod WordLaws

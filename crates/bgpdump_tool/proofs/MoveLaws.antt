@@ -124,6 +124,7 @@ GoesOn-none from left s a stands =
 StopsReading-behind : (from : Place) (left : Option (List ℕ)) (s : Standing) (a b c : Scene) (over : ℕ) (found new : List Finding) (fault : SourceFault) → GoesOn from left s a b over found false
     → StopsReading from left (standing_on over found false s) b c new fault → StopsReading from left s a c (found ++ new) fault
 StopsReading-behind from left s a b c over found new fault first stop = record {
+  reads = λ e. stop.reads (first.follows.stays e);
   faulty = subst (λ f. IsFaulty from left c.left f fault) (append_assoc s.found found new) stop.faulty;
   reported = subst (Appends a.err c.err) (sym (reports-append found new)) (Appends-trans a.err b.err c.err (reports found) (reports new) first.reported stop.reported);
 }

@@ -72,6 +72,7 @@ Taking-told from q q' left left' left'' found ended answer taking promised some 
     record {
       so_far = told.0;
       seen = λ ends none. absurd (told.1 ends none);
+      ends = λ e. ap (λ x. x.phase) (promised.1 (taking.ends e)).1 ∙ taking.ends e;
       within = omega (arith, within, told.0.limit);
     }
 
@@ -83,6 +84,7 @@ Taking-end from q q' left left' left'' found ended taking promised within =
     record {
       so_far = so_far;
       seen = λ ends none. or_true ended;
+      ends = λ _. ends_with_none from q q' left left' left'' found next.End taking.so_far promised refl;
       within = omega (arith, within, so_far.limit);
     }
 
@@ -190,10 +192,14 @@ step_stops_reading from left old s t q left' reported fault stands off promised 
     let faulty = IsFaulty-behind from old.place q left old.left left' s.found fault stands.taking.so_far promised ended within in (
       cursor_at_end from left old s stands off,
       inl (fault, refl, [], refl, record {
+        reads = λ e. clash (ended e);
         faulty = subst (λ f. IsFaulty from left left' f fault) (sym (append-nil s.found)) faulty;
         reported = Appends-nil old.err;
       }),
     )
+  where
+    clash : ◌≡◌ {A = Result Next SourceFault} (Err fault) (Ok next.End) → ⊥
+    clash e = cc
 
 -- behind an answer that tells something
 stops_told : (from : Place) (left : Option (List ℕ)) (old : Scene) (s : Standing) (u : Timeline) (q : Place) (left' err : Option (List ℕ)) (reported : Bool) (answer : Next) (fault : WriteFault) → Stands from left old s

@@ -26,6 +26,7 @@ pub record GoesOn (from : Place) (left : Option (List ℕ)) (s : Standing) (old 
 
 -- the source stopped it, behind all events ahead and what was found
 pub record StopsReading (from : Place) (left : Option (List ℕ)) (s : Standing) (old new : Scene) (found : List Finding) (fault : SourceFault) : Type 0 where
+  pub reads : old.place.phase ≡ Ended → ⊥
   pub faulty : IsFaulty from left new.left (s.found ++ found) fault
   pub reported : Appends old.err new.err (reports found)
 

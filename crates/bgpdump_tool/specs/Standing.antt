@@ -35,10 +35,11 @@ scene_of left written session input err =
 abbrev pub state_of : Standing → List Finding → State
 state_of s unread = record { history = s.history; cursor = s.cursor; floor = s.floor; unread = unread }
 
--- this was found from a place on, and the end was met if the source saw it behind whole records
+-- this was found from a place on, and the end was met, or not: it was if the source saw it behind whole records
 pub record Taking (from : Place) (left : Option (List ℕ)) (q : Place) (left' : Option (List ℕ)) (found : List Finding) (ended : Bool) : Type 0 where
   pub so_far : SoFar from q left left' found
   pub seen : q.phase ≡ Ended → so_far.rest ≡ [] → ended ≡ true
+  pub ends : ended ≡ true → q.phase ≡ Ended
   pub within : q.offset ≤ from.limit
 
 -- a player with its cursor elsewhere

@@ -6,6 +6,6 @@ pub returns : goal.returns
 returns c =
     let old = c.args.text.now.items in
     let number = decimal c.args.number in
-    c.extend_from_slice.ensures.items ∙ ap (λ l. l ++ codes ": bad command\n") c.in_ok-put_labelled.ensures
+    c.in_ok-extend_from_slice.ensures.items ∙ ap (λ l. l ++ codes ": bad command\n") c.in_ok-put_labelled.ensures
     ∙ append_assoc old (codes "bgpdump: script line " ++ number) (codes ": bad command\n")
     ∙ ap (λ l. old ++ l) (append_assoc (codes "bgpdump: script line ") number (codes ": bad command\n"))

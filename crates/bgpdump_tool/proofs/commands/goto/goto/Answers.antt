@@ -5,6 +5,11 @@ use Rattle.bgpdump_tool.specs.Replies.{at_text}
 use Rattle.bgpdump_tool.proofs.CarryLaws.{Replies-put, Carrying-replied}
 use Rattle.bgpdump_tool.proofs.commands.goto.goto.Goals as goal
 
+pub returns-in_err-ended-clause-carries_out : goal.returns-in_err-ended-clause-carries_out
+returns-in_err-ended-clause-carries_out g c = λ from left s stands.
+    let p = err_from_is_err_and c.from_residual.result c.from_residual.ensures.1 in
+    rw (p.1, p.2) (c.in_err-ended.ensures.moves from left s stands (g.O.Output.written c.args.out.now))
+
 pub returns-in_err-write_position-clause-carries_out :
     goal.returns-in_err-write_position-clause-carries_out
 returns-in_err-write_position-clause-carries_out g c = λ from left s stands.
