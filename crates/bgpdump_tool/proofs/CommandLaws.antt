@@ -124,3 +124,21 @@ route_none name address number sought named none (Route peer prefix) h = none pr
 route_none name address number sought named none c h =
     let other = named_words c (name ∷ address ∷ number ∷ sought ∷ []) h in
     absurd (omega (arith, ap mark (sym named ∙ same_first name (name_of c) (address ∷ number ∷ sought ∷ []) other.0 other.2)))
+
+-- a name has letters
+mark_some : (c : Command) → 0 < mark (name_of c)
+mark_some (Next n) = omega arith
+mark_some (Back n) = omega arith
+mark_some (Goto n) = omega arith
+mark_some Position = omega arith
+mark_some Peers = omega arith
+mark_some (Table peer) = omega arith
+mark_some (Route peer prefix) = omega arith
+mark_some (Lookup peer address) = omega arith
+mark_some (Lose peer) = omega arith
+
+-- one empty word
+pub empty_word : (ws : List (List ℕ)) → ws ≡ [] ∷ [] → IsNoSpelling SpellsWords ws
+empty_word ws same command h =
+    let named = named_words command ws h in
+    omega (arith, mark_some command, ap mark (same_first [] (name_of command) [] named.0 (sym same ∙ named.2)))

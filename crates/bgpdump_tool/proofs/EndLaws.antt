@@ -36,12 +36,12 @@ reports_some [] e none = cc
 reports_some (Found event ∷ found) e none = reports_some found e none
 reports_some (Bad fault ∷ found) e none = cc
 
-written_all : (fault : WriteFault) → EndedByInput (write_outcome fault) → ⊥
+pub written_all : (fault : WriteFault) → EndedByInput (write_outcome fault) → ⊥
 written_all write.Write by_input = by_input
 written_all write.Memory by_input = by_input
 
 -- octets are none, or some
-cases_none : (octets : List ℕ) → (octets ≡ []) ⊎ (octets ≢ [])
+pub cases_none : (octets : List ℕ) → (octets ≡ []) ⊎ (octets ≢ [])
 cases_none [] = inl refl
 cases_none (octet ∷ octets) = inr (λ e. cc)
 
@@ -94,7 +94,7 @@ EndsSo-read stamp left left' a b c failed reported outcome (q, ended, g) is_outc
 
 -- ---- a run that its source or its writing stopped
 
-EndsSo-source : (fault : SourceFault) (t : Texts) (a b : Outputs) → WritesFronts t a b → EndsSo (source_outcome fault) t a b
+pub EndsSo-source : (fault : SourceFault) (t : Texts) (a b : Outputs) → WritesFronts t a b → EndsSo (source_outcome fault) t a b
 EndsSo-source source.Read t a b p = p
 EndsSo-source source.InputTooLong t a b p = p
 EndsSo-source source.Memory t a b p = p

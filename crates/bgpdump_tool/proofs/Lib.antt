@@ -7,6 +7,8 @@ pub mod MoveLaws
 pub mod BackLaws
 pub mod CarryLaws
 pub mod PlayLaws
+pub mod ScriptLaws
+pub mod PlayEndLaws
 pub mod WritingLaws
 pub mod DecimalLaws
 pub mod WordLaws

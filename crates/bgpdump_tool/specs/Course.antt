@@ -49,12 +49,16 @@ play_texts lines found = (course lines found).texts
 abbrev pub cut_texts : List Line → List Finding → Texts
 cut_texts lines found = (course_from true 1 lines (start found)).texts
 
--- the end was seen by a run that ended so, carried out these lines, and took frames and this behind them: a record is cut there, or one of the lines met the end
+-- in these frames and what was taken behind them the end was seen by these lines: a record is cut there, or one of the lines met the end
+abbrev pub IsEndSeen : Stamp → List Line → List Frame → List ℕ → Type 0
+IsEndSeen stamp lines frames rest = (rest_kind rest ≡ CutRecord) × ((rest ≢ []) ⊎ ((course lines (all_results stamp frames rest)).ended ≡ true))
+
+-- the same for a run that ended so: a fault of the input came before it saw the end
 abbrev pub PlaySawEnd : Stamp → Outcome → List Line → List Frame → List ℕ → Type 0
-PlaySawEnd stamp Done lines frames rest = (rest_kind rest ≡ CutRecord) × ((rest ≢ []) ⊎ ((course lines (all_results stamp frames rest)).ended ≡ true))
-PlaySawEnd stamp Reported lines frames rest = (rest_kind rest ≡ CutRecord) × ((rest ≢ []) ⊎ ((course lines (all_results stamp frames rest)).ended ≡ true))
-PlaySawEnd stamp WriteFault lines frames rest = (rest_kind rest ≡ CutRecord) × ((rest ≢ []) ⊎ ((course lines (all_results stamp frames rest)).ended ≡ true))
-PlaySawEnd stamp Memory lines frames rest = (rest_kind rest ≡ CutRecord) × ((rest ≢ []) ⊎ ((course lines (all_results stamp frames rest)).ended ≡ true))
+PlaySawEnd stamp Done lines frames rest = IsEndSeen stamp lines frames rest
+PlaySawEnd stamp Reported lines frames rest = IsEndSeen stamp lines frames rest
+PlaySawEnd stamp WriteFault lines frames rest = IsEndSeen stamp lines frames rest
+PlaySawEnd stamp Memory lines frames rest = IsEndSeen stamp lines frames rest
 PlaySawEnd stamp ReadFault lines frames rest = ⊥
 PlaySawEnd stamp InputTooLong lines frames rest = ⊥
 PlaySawEnd stamp ScriptTooLong lines frames rest = ⊥
