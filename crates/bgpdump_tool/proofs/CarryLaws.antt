@@ -1,35 +1,33 @@
 -- Commands that are carried out.
-use Rattle.std.proofs.Common.{◌≡◌, ◌⊎◌, inl, inr, ℕ, zero, suc, ◌+◌, ◌-◌, ◌<◌, ◌≤◌, ◌||◌, min, max, Bool, true, false, if◌then◌else◌, Result, Ok, Err, List, [], ◌∷◌, ◌++◌, length, take, drop, nat_lt, Option, refl, sym, ap, ap₂, subst, ◌∙◌, arith, append-nil, length-append, take_at, drop_at}
+use Rattle.std.proofs.Common.{◌≡◌, inl, inr, ℕ, zero, suc, ◌+◌, ◌-◌, ◌<◌, ◌≤◌, ◌||◌, min, max, Bool, true, false, Result, Ok, Err, List, [], ◌∷◌, ◌++◌, length, take, drop, nat_lt, Option, refl, sym, ap, subst, ◌∙◌, arith, append-nil, length-append, take_at, drop_at}
 use Rattle.std.proofs.lemmas.Bool.{cases_eq}
 use Rattle.std.proofs.lemmas.Bool.Decides.{nat_tests}
-use Rattle.std.proofs.lemmas.List.{append_assoc, take_all, drop_all}
+use Rattle.std.proofs.lemmas.List.{take_all, drop_all}
 use Rattle.std.specs.Prelude.{codes}
 use Rattle.std.proofs.Math.Nat.{min-eq_left, min-eq_right, min-le_right, le-max_right, max-le}
 use Rattle.std.specs.Io.KnownBytes.{Appends}
 use Rattle.std.proofs.KnownBytes.{Appends-nil}
 use Rattle.mrt_wire.specs.declared.peer.Peer.{Peer}
 use Rattle.mrt_wire.specs.declared.event.Event.{Event}
-use Rattle.mrt_wire.specs.declared.next.Phase.TheVariants.{Ended}
 use Rattle.rib_player.specs.Tables.{Routes, table}
 use Rattle.rib_player.specs.Timeline.{Timeline, StandsFor, behind, ahead_of, current, after_play}
 use Rattle.rib_player.proofs.TimelineLaws.{StandsFor-current, StandsFor-end, StandsFor-after_play}
-use Rattle.mrt_wire.specs.declared.fault.SourceFault.{SourceFault}
 use Rattle.mrt_wire.specs.Results.{Finding}
 use Rattle.mrt_wire.specs.Place.{Place}
 use Rattle.bgpdump_tool.specs.declared.command.Command.{Command}
-use Rattle.bgpdump_tool.specs.declared.command.Command.TheVariants.{Next, Back, Goto, Position, Peers, Table, Route, Lookup, Lose}
+use Rattle.bgpdump_tool.specs.declared.command.Command.TheVariants.{Next, Back, Goto, Position, Lose}
 use Rattle.bgpdump_tool.specs.declared.fault.WriteFault.{WriteFault}
 use Rattle.bgpdump_tool.specs.declared.fault.WriteFault.TheVariants as write
 use Rattle.bgpdump_tool.specs.declared.outcome.Outcome.{Outcome}
 use Rattle.bgpdump_tool.specs.Device.{AppendsFront}
-use Rattle.bgpdump_tool.specs.Ending.{source_outcome, write_outcome, outcome_result}
+use Rattle.bgpdump_tool.specs.Ending.{write_outcome, outcome_result}
 use Rattle.bgpdump_tool.specs.Reports.{reports}
 use Rattle.bgpdump_tool.specs.Replies.{at_text, counted_text}
-use Rattle.bgpdump_tool.specs.State.{State, steps_ahead, events, gone_on, needed, loss}
-use Rattle.bgpdump_tool.specs.Meaning.{Meaning, answer, advance, meaning, meets_end, faults_taken}
+use Rattle.bgpdump_tool.specs.State.{events, needed, loss}
+use Rattle.bgpdump_tool.specs.Meaning.{answer, advance, meaning, meets_end, faults_taken}
 use Rattle.bgpdump_tool.specs.Standing.{Standing, Scene, Taking, Stands, state_of, at_cursor, standing_on, IsOnward, HasRoom}
-use Rattle.bgpdump_tool.specs.Moves.{GoesOn, StopsReading, StopsWriting, Stops, ForwardDoes, OnwardDoes}
-use Rattle.bgpdump_tool.specs.Carrying.{Leads, IsLed, IsCarriedOut, IsCutOff, IsBrokenOff, CarryingDoes, Travels}
+use Rattle.bgpdump_tool.specs.Moves.{GoesOn, Stops, ForwardDoes, OnwardDoes}
+use Rattle.bgpdump_tool.specs.Carrying.{Leads, IsLed, CarryingDoes, Travels}
 use Rattle.bgpdump_tool.specs.Losing.{loss_text, Loses}
 use Rattle.bgpdump_tool.specs.Writing.{Puts, Replies}
 use Rattle.bgpdump_tool.proofs.MoveLaws.{Stands-inside, reports-append, needed_beyond}
@@ -126,18 +124,22 @@ IsLed-advance command from left s old new over found ended count goes means all 
 pub Carrying-replied : (command : Command) (from : Place) (left : Option (List ℕ)) (s : Standing) (old new : Scene) (out out' : Option (List ℕ)) (text : List ℕ) (result : Result (Unit {0}) WriteFault) → (led : IsLed command from left s old new)
     → led.reply ≡ text → Replies out out' text result → CarryingDoes command from left s old new out out' (outcome_result result)
 Carrying-replied command from left s old new out out' text (Ok done) led is replied = (led, subst (Appends out out') (sym is) replied)
-Carrying-replied command from left s old new out out' text (Err fault) led is replied = inr (fault, refl, record {
-  taken = led.taken;
-  ended = led.after.ended;
-  taking = subst (λ f. Taking from left new.place new.left f led.after.ended) led.found led.stands.taking;
-  follows = led.follows;
-  met = λ e. ap (λ l. s.ended || meets_end command (state_of s l)) (sym (append-nil led.taken)) ∙ sym (led.leads [] (λ _. refl)).ended ∙ e;
-  fronts = λ more none.
-      let leads = led.leads more none in (
-        subst (AppendsFront out out') (sym (leads.replied ∙ is)) replied,
-        subst (AppendsFront old.err new.err) (ap reports (sym leads.took)) (AppendsFront-whole old.err new.err (reports led.taken) led.reported),
-      );
-})
+Carrying-replied command from left s old new out out' text (Err fault) led is replied = inr (
+  fault,
+  refl,
+  record {
+    taken = led.taken;
+    ended = led.after.ended;
+    taking = subst (λ f. Taking from left new.place new.left f led.after.ended) led.found led.stands.taking;
+    follows = led.follows;
+    met = λ e. ap (λ l. s.ended || meets_end command (state_of s l)) (sym (append-nil led.taken)) ∙ sym (led.leads [] (λ _. refl)).ended ∙ e;
+    fronts = λ more none.
+        let leads = led.leads more none in (
+          subst (AppendsFront out out') (sym (leads.replied ∙ is)) replied,
+          subst (AppendsFront old.err new.err) (ap reports (sym leads.took)) (AppendsFront-whole old.err new.err (reports led.taken) led.reported),
+        );
+  },
+)
 
 -- ---- a fault on the way
 
@@ -147,18 +149,22 @@ pub Carrying-stopped : (command : Command) (from : Place) (left : Option (List �
     → Stops More Enough from left s old new outcome → CarryingDoes {A = Unit {0}} command from left s old new out out (Err outcome)
 Carrying-stopped command from left s old new out outcome More Enough wants has (inl (fault, is, found, more, stop)) =
     inl (fault, is, record { taken = found; wants = λ later. wants found later more; stops = stop; quiet = refl })
-Carrying-stopped command from left s old new out outcome More Enough wants has (inr (fault, is, found, enough, stop)) = inr (fault, is, record {
-  taken = found;
-  ended = s.ended;
-  taking = stop.taking;
-  follows = stop.follows;
-  met = λ e. ap (λ b. b || meets_end command (state_of s found)) e;
-  fronts = λ more none.
-      let rest = take_over found more (meaning command (state_of s (found ++ more))).taken (has found more enough) in (
-        AppendsFront-none out (meaning command (state_of s (found ++ more))).reply,
-        subst (AppendsFront old.err new.err) (sym (ap reports rest.1 ∙ reports-append found rest.0)) (AppendsFront-longer old.err new.err (reports found) (reports rest.0) stop.fronts),
-      );
-})
+Carrying-stopped command from left s old new out outcome More Enough wants has (inr (fault, is, found, enough, stop)) = inr (
+  fault,
+  is,
+  record {
+    taken = found;
+    ended = s.ended;
+    taking = stop.taking;
+    follows = stop.follows;
+    met = λ e. ap (λ b. b || meets_end command (state_of s found)) e;
+    fronts = λ more none.
+        let rest = take_over found more (meaning command (state_of s (found ++ more))).taken (has found more enough) in (
+          AppendsFront-none out (meaning command (state_of s (found ++ more))).reply,
+          subst (AppendsFront old.err new.err) (sym (ap reports rest.1 ∙ reports-append found rest.0)) (AppendsFront-longer old.err new.err (reports found) (reports rest.0) stop.fronts),
+        );
+  },
+)
 
 -- ---- `next`
 
@@ -307,9 +313,9 @@ IsLed-retreat k from left s old u below stands is =
     let back : nat_lt k s.cursor ≡ true = grind (arith, nat_tests, below) in
     let behind : s.floor ≤ s.cursor = omega (arith, stands.history.floor, stands.floor, stands.cursor) in (
       IsLed-still (Goto k) from left s (record s { cursor = cursor }) old u (at_text cursor false) refl refl
-        (subst (λ t. Stands from left (record old { player = t }) (record s { cursor = cursor })) (sym same)
-        (Stands-at_cursor from left s old cursor stands (le-max_right k s.floor) (max-le (omega (arith, below)) behind)))
-        (λ more. rw back refl),
+          (subst (λ t. Stands from left (record old { player = t }) (record s { cursor = cursor })) (sym same)
+          (Stands-at_cursor from left s old cursor stands (le-max_right k s.floor) (max-le (omega (arith, below)) behind)))
+          (λ more. rw back refl),
       ap (λ t. at_text t.cursor false) (sym same),
     )
 
@@ -321,9 +327,9 @@ IsLed-back n from left s old u stands is =
     let same : u ≡ at_cursor cursor old.player = is ∙ (λ i. at_cursor (stands.cursor i - min n (stands.cursor i - stands.floor i)) old.player) in
     let behind : s.floor ≤ s.cursor = omega (arith, stands.history.floor, stands.floor, stands.cursor) in (
       IsLed-still (Back n) from left s (record s { cursor = cursor }) old u (at_text cursor false) refl refl
-        (subst (λ t. Stands from left (record old { player = t }) (record s { cursor = cursor })) (sym same)
-        (Stands-at_cursor from left s old cursor stands (omega (arith, behind, min-le_right n (s.cursor - s.floor))) (omega arith)))
-        (λ more. refl),
+          (subst (λ t. Stands from left (record old { player = t }) (record s { cursor = cursor })) (sym same)
+          (Stands-at_cursor from left s old cursor stands (omega (arith, behind, min-le_right n (s.cursor - s.floor))) (omega arith)))
+          (λ more. refl),
       ap (λ t. at_text t.cursor false) (sym same),
     )
 
@@ -356,14 +362,14 @@ IsLed-lose peer from left s old u stands is =
     let ahead : ahead_of old.player ≡ length s.history - s.cursor = omega (arith, StandsFor-end old.player s.history stands.history, stands.cursor) in
     let cursor : u.cursor ≡ s.cursor + 1 = ap (λ x. x.cursor) is ∙ ap (λ n. n + 1) stands.cursor in (
       IsLed-still (Lose peer) from left s t old u (counted_text (s.cursor + 1) (codes " dropped ") (length s.history - s.cursor)) refl refl
-        (record {
-          history = subst (λ x. StandsFor x (take s.cursor s.history ++ loss peer ∷ [])) (sym is)
-              (subst (λ n. StandsFor (after_play old.player (loss peer)) (take n s.history ++ loss peer ∷ [])) stands.cursor (StandsFor-after_play old.player s.history (loss peer) stands.history));
-          cursor = cursor;
-          floor = ap (λ x. x.floor) is ∙ stands.floor;
-          taking = stands.taking;
-        })
-        (λ more. refl),
+          (record {
+            history = subst (λ x. StandsFor x (take s.cursor s.history ++ loss peer ∷ [])) (sym is)
+                (subst (λ n. StandsFor (after_play old.player (loss peer)) (take n s.history ++ loss peer ∷ [])) stands.cursor (StandsFor-after_play old.player s.history (loss peer) stands.history));
+            cursor = cursor;
+            floor = ap (λ x. x.floor) is ∙ stands.floor;
+            taking = stands.taking;
+          })
+          (λ more. refl),
       sym (λ i. counted_text (cursor i) (codes " dropped ") (ahead i)),
     )
 
@@ -385,17 +391,21 @@ Carrying-back n from left s old u out out' result stands is put =
 -- nothing was played or written, for want of memory
 Carrying-refused : (command : Command) (from : Place) (left : Option (List ℕ)) (s : Standing) (old new : Scene) (out : Option (List ℕ)) (fault : WriteFault) → Stands from left old s → new ≡ old
     → CarryingDoes {A = Unit {0}} command from left s old new out out (Err (write_outcome fault))
-Carrying-refused command from left s old new out fault stands same = inr (fault, refl, record {
-  taken = [];
-  ended = s.ended;
-  taking = subst (λ n. Taking from left n.place n.left (s.found ++ []) s.ended) (sym same) (subst (λ f. Taking from left old.place old.left f s.ended) (sym (append-nil s.found)) stands.taking);
-  follows = record { quiet = λ _. refl; stays = λ e. ap (λ n. n.place.phase) same ∙ e };
-  met = λ e. ap (λ b. b || meets_end command (state_of s [])) e;
-  fronts = λ more none. (
-    AppendsFront-none out (meaning command (state_of s more)).reply,
-    subst (λ n. AppendsFront old.err n.err (faults_taken command (state_of s more))) (sym same) (AppendsFront-none old.err (faults_taken command (state_of s more))),
-  );
-})
+Carrying-refused command from left s old new out fault stands same = inr (
+  fault,
+  refl,
+  record {
+    taken = [];
+    ended = s.ended;
+    taking = subst (λ n. Taking from left n.place n.left (s.found ++ []) s.ended) (sym same) (subst (λ f. Taking from left old.place old.left f s.ended) (sym (append-nil s.found)) stands.taking);
+    follows = record { quiet = λ _. refl; stays = λ e. ap (λ n. n.place.phase) same ∙ e };
+    met = λ e. ap (λ b. b || meets_end command (state_of s [])) e;
+    fronts = λ more none. (
+      AppendsFront-none out (meaning command (state_of s more)).reply,
+      subst (λ n. AppendsFront old.err n.err (faults_taken command (state_of s more))) (sym same) (AppendsFront-none old.err (faults_taken command (state_of s more))),
+    );
+  },
+)
 
 pub Carrying-lose : (peer : Peer) (from : Place) (left : Option (List ℕ)) (s : Standing) (old : Scene) (u : Timeline) (out out' : Option (List ℕ)) (result : Result (Unit {0}) WriteFault) → Stands from left old s → Loses peer old.player u out out' result
     → CarryingDoes (Lose peer) from left s old (record old { player = u }) out out' (outcome_result result)

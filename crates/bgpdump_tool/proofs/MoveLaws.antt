@@ -1,5 +1,5 @@
 -- A run that goes on by several steps.
-use Rattle.std.proofs.Common.{◌≡◌, inl, inr, ℕ, zero, suc, ◌+◌, ◌-◌, ◌<◌, ◌≤◌, ◌||◌, Bool, true, false, Result, Ok, Err, List, [], ◌∷◌, ◌++◌, length, Option, refl, sym, ap, ap₂, subst, ◌∙◌, arith, append-nil, length-append}
+use Rattle.std.proofs.Common.{◌≡◌, inl, inr, ℕ, zero, suc, ◌+◌, ◌-◌, ◌<◌, ◌≤◌, ◌||◌, Bool, true, false, Ok, Err, List, [], ◌∷◌, ◌++◌, length, Option, refl, sym, ap, ap₂, subst, ◌∙◌, arith, append-nil, length-append}
 use Rattle.std.proofs.lemmas.Bool.{cases_eq}
 use Rattle.std.proofs.lemmas.List.{append_assoc}
 use Rattle.std.proofs.lemmas.Grind.{flat_map-append}
@@ -93,10 +93,10 @@ GoesOn-twice from left s a b c over more found new ended stands first second =
       follows = Follows-twice a.place b.place c.place found new first.follows second.follows;
       met = λ e. (
         (let all = (second.met e).0 in
-        elim (cases_eq (length found) 0) [
-          | inl empty ↦ omega (arith, all, first.onward.few, inside, no_events found empty, size)
-          | inr some ↦ omega (arith, all, first.onward.all (omega (arith, some)), inside, size)
-        ]),
+            elim (cases_eq (length found) 0) [
+              | inl empty ↦ omega (arith, all, first.onward.few, inside, no_events found empty, size)
+              | inr some ↦ omega (arith, all, first.onward.all (omega (arith, some)), inside, size)
+            ]),
         (second.met e).1,
       );
       reported = subst (Appends a.err c.err) (sym (reports-append found new)) (Appends-trans a.err b.err c.err (reports found) (reports new) first.reported second.reported);
@@ -136,6 +136,7 @@ StopsWriting-behind from left s a b c over found new first stop = record {
   follows = Follows-twice a.place b.place c.place found new first.follows stop.follows;
   fronts = subst (AppendsFront a.err c.err) (sym (reports-append found new)) (AppendsFront-behind a.err b.err c.err (reports found) (reports new) first.reported stop.fronts);
 }
+
 pub Stops-behind : (More Enough More' Enough' : List Finding → Type 0) (from : Place) (left : Option (List ℕ)) (s : Standing) (a b c : Scene) (over : ℕ) (found : List Finding) (outcome : Outcome)
     → ((new : List Finding) → More new → More' (found ++ new)) → ((new : List Finding) → Enough new → Enough' (found ++ new))
     → GoesOn from left s a b over found false → Stops More Enough from left (standing_on over found false s) b c outcome → Stops More' Enough' from left s a c outcome
@@ -282,6 +283,6 @@ Reaches-stops k from left s a b c outcome stands below r step =
     Stops-behind (λ new. new ≡ []) (λ new. length new ≡ 1) (λ l. (more : List Finding) → length l < needed (k - length s.history) (l ++ more)) (λ l. (more : List Finding) → length l ≤ needed (k - length s.history) (l ++ more))
     from left s a b c r.over r.found outcome
     (λ new none more. subst (λ n. length (r.found ++ n) < needed (k - length s.history) ((r.found ++ n) ++ more)) (sym none)
-      (subst (λ l. length l < needed (k - length s.history) (l ++ more)) (sym (append-nil r.found)) (needed_beyond (k - length s.history) r.found more few)))
+    (subst (λ l. length l < needed (k - length s.history) (l ++ more)) (sym (append-nil r.found)) (needed_beyond (k - length s.history) r.found more few)))
     (λ new one more. omega (arith, length-append r.found new, one, needed_beyond (k - length s.history) r.found (new ++ more) few, ap (λ l. needed (k - length s.history) l) (append_assoc r.found new more)))
     r.goes stop

@@ -1,5 +1,5 @@
 -- What a run of a script leaves at its end, by how it ended.
-use Rattle.std.proofs.Common.{None, ◌≡◌, ◌≢◌, ◌⊎◌, inl, inr, ℕ, ◌≤◌, ◌||◌, Bool, true, false, Result, Ok, Err, List, [], ◌∷◌, ◌++◌, length, Option, refl, sym, ap, subst, ◌∙◌, arith, append-nil}
+use Rattle.std.proofs.Common.{None, ◌≡◌, ◌≢◌, ◌⊎◌, inl, inr, ℕ, ◌||◌, Bool, true, false, Ok, Err, List, [], ◌∷◌, ◌++◌, length, Option, refl, sym, ap, subst, ◌∙◌, append-nil}
 use Rattle.std.specs.Io.KnownBytes.{Consumes, Keeps}
 use Rattle.mrt_wire.specs.declared.event.Stamp.{Stamp}
 use Rattle.mrt_wire.specs.declared.fault.SourceFault.{SourceFault}
@@ -22,7 +22,6 @@ use Rattle.bgpdump_tool.specs.Ending.{outcome_of, source_outcome, write_outcome}
 use Rattle.bgpdump_tool.specs.Going.{IsFaulty}
 use Rattle.bgpdump_tool.specs.Run.{Texts, Outputs, MayHold, Writes, WritesFronts, EndsSo, EndedByInput, IsTaken, IsLast, all_results}
 use Rattle.bgpdump_tool.specs.Script.{Line, AreLines, IsScript, script_lines}
-use Rattle.bgpdump_tool.specs.State.{start}
 use Rattle.bgpdump_tool.specs.Course.{course, play_texts, cut_texts, IsEndSeen, PlaySawEnd, AreCarriedOut}
 use Rattle.bgpdump_tool.specs.Standing.{Scene, Taking}
 use Rattle.bgpdump_tool.specs.Playing.{is_some_text, Plays, PlaysCutOff, PlaysBrokenOff, PlaysScript}
@@ -108,7 +107,7 @@ EndsSo-all stamp left lines scene old mid new failed p out err octets frames res
     let met : p.standing.ended ≡ true → (course lines (all_results stamp t.so_far.frames t.so_far.rest)).ended ≡ true =
     λ e. ap (λ l. (course lines l).ended) (sym (found_taken stamp scene.place left scene.left p.standing.found p.standing.ended t) ∙ sym (append-nil p.standing.found)) ∙ ap (λ c. c.ended) (own [] (λ _. refl)) ∙ e in
     let first = played_held stamp scene.place left scene.left p.standing.found p.standing.ended (PlaySawEnd stamp (outcome_of failed scene.reported) lines) t
-    (λ cut seen. saw_all stamp failed scene.reported lines t.so_far.frames t.so_far.rest (cut, elim seen [ | inl some ↦ inl some | inr e ↦ inr (met e) ])) octets frames rest may split in
+    (λ cut seen. saw_all stamp failed scene.reported lines t.so_far.frames t.so_far.rest (cut, elim seen [ inl some ↦ inl some | inr e ↦ inr (met e) ])) octets frames rest may split in
     let texts : play_texts lines (all_results stamp frames rest) ≡ p.texts = ap (λ l. play_texts lines l) first.first ∙ ap (λ c. c.texts) (own first.later first.all) in
     subst (λ x. EndsSo (outcome_of failed scene.reported) x old new) (sym texts) (EndsSo-by failed scene.reported p.texts old new p.told (Writes-kept p.texts old mid new p.written out err))
 
@@ -119,7 +118,7 @@ PlayEnds-finished stamp q left script scene old mid new failed outcome from (don
       lines,
       subst (λ o. AreCarriedOut o lines lines) (sym is) (carried_out_all failed scene.reported lines),
       subst (λ o. (octets : List ℕ) (frames : List Frame) (rest : List ℕ) → MayHold stamp (PlaySawEnd stamp o lines) left scene.left octets → Splits stamp None octets frames rest → EndsSo o (play_texts lines (all_results stamp frames rest)) old new) (sym is)
-      (EndsSo-all stamp left lines scene old mid new failed p out err),
+          (EndsSo-all stamp left lines scene old mid new failed p out err),
     )
 
 -- ---- a run that was stopped
@@ -157,7 +156,7 @@ PlayEnds-write stamp left begun lines behind scene old new fault is p octets fra
     let met : p.ended ≡ true → (course begun (all_results stamp t.so_far.frames t.so_far.rest)).ended ≡ true =
     λ e. ap (λ l. (course begun l).ended) (sym (found_taken stamp scene.place left scene.left p.found p.ended t)) ∙ p.met e in
     let first = played_held stamp scene.place left scene.left p.found p.ended (PlaySawEnd stamp (write_outcome fault) begun) t
-    (λ cut seen. saw_write stamp fault begun t.so_far.frames t.so_far.rest (cut, elim seen [ | inl some ↦ inl some | inr e ↦ inr (met e) ])) octets frames rest may split in
+    (λ cut seen. saw_write stamp fault begun t.so_far.frames t.so_far.rest (cut, elim seen [ inl some ↦ inl some | inr e ↦ inr (met e) ])) octets frames rest may split in
     subst (λ x. EndsSo (write_outcome fault) x old new) (λ i. play_texts (sym is i) (sym first.first i)) (EndsSo-write fault (play_texts (begun ++ behind) (p.found ++ first.later)) old new (p.fronts behind first.later first.all))
 
 pub PlayEnds-stopped : (stamp : Stamp) (q : Place) (left : Option (List ℕ)) (script : List ℕ) (scene : Scene) (old new : Outputs) (outcome : Outcome) → q ≡ start_place stamp LIMIT → PlaysScript q left script scene old new (Err outcome)
@@ -167,14 +166,14 @@ PlayEnds-stopped stamp q left script scene old new outcome from (begun, (first, 
       begun,
       subst (λ o. AreCarriedOut o begun lines) (sym is) (AreCarriedOut-source fault begun lines behind all),
       subst (λ o. (octets : List ℕ) (frames : List Frame) (rest : List ℕ) → MayHold stamp (PlaySawEnd stamp o begun) left scene.left octets → Splits stamp None octets frames rest → EndsSo o (play_texts lines (all_results stamp frames rest)) old new) (sym is)
-      (PlayEnds-source stamp left begun lines behind scene old new fault all (subst (λ x. PlaysCutOff x left begun scene old new fault) from p)),
+          (PlayEnds-source stamp left begun lines behind scene old new fault all (subst (λ x. PlaysCutOff x left begun scene old new fault) from p)),
     )
 PlayEnds-stopped stamp q left script scene old new outcome from (begun, (first, others, whole, are), inr (fault, is, p)) lines reading =
     let (behind, all) = first_reading begun lines first others are (subst (AreLines lines) whole reading) in (
       begun,
       subst (λ o. AreCarriedOut o begun lines) (sym is) (AreCarriedOut-write fault begun lines behind all),
       subst (λ o. (octets : List ℕ) (frames : List Frame) (rest : List ℕ) → MayHold stamp (PlaySawEnd stamp o begun) left scene.left octets → Splits stamp None octets frames rest → EndsSo o (play_texts lines (all_results stamp frames rest)) old new) (sym is)
-      (PlayEnds-write stamp left begun lines behind scene old new fault all (subst (λ x. PlaysBrokenOff x left begun scene old new) from p)),
+          (PlayEnds-write stamp left begun lines behind scene old new fault all (subst (λ x. PlaysBrokenOff x left begun scene old new) from p)),
     )
 
 -- a run that the input ended has written what the frames give
@@ -201,7 +200,7 @@ IsTaken-finished stamp q left script scene old new failed outcome from (done, ar
     let t = p.stands.taking in
     subst (λ o. (taken : List ℕ) × Consumes left scene.left taken × IsTaken stamp o taken) (sym is)
     (IsTaken-told stamp scene.place left scene.left (outcome_of failed scene.reported) p.standing.found t.so_far t.within
-      (last_told failed scene.reported t.so_far.rest (rest_so_far (start_place stamp LIMIT) scene.place left scene.left p.standing.found t.so_far)))
+    (last_told failed scene.reported t.so_far.rest (rest_so_far (start_place stamp LIMIT) scene.place left scene.left p.standing.found t.so_far)))
 
 last_write : (fault : WriteFault) (rest : List ℕ) → IsRest rest → IsLast (write_outcome fault) rest
 last_write write.Write rest is = is
@@ -215,7 +214,7 @@ IsTaken-ended stamp q left script scene old new outcome from (begun, read, inr (
     let t : Taking (start_place stamp LIMIT) left scene.place scene.left p.found p.ended = subst (λ x. Taking x left scene.place scene.left p.found p.ended) from p.taking in
     subst (λ o. (taken : List ℕ) × Consumes left scene.left taken × IsTaken stamp o taken) (sym is)
     (IsTaken-told stamp scene.place left scene.left (write_outcome fault) p.found t.so_far t.within
-      (last_write fault t.so_far.rest (rest_so_far (start_place stamp LIMIT) scene.place left scene.left p.found t.so_far)))
+    (last_write fault t.so_far.rest (rest_so_far (start_place stamp LIMIT) scene.place left scene.left p.found t.so_far)))
 
 pub length-ended : (stamp : Stamp) (q : Place) (left : Option (List ℕ)) (script : List ℕ) (scene : Scene) (old new : Outputs) (how : Outcome) → q ≡ start_place stamp LIMIT → PlaysScript q left script scene old new (Err how) → how ≡ outcome.InputTooLong
     → (taken after : List ℕ) → Took left scene.left taken after → length taken ≡ LIMIT

@@ -1,12 +1,12 @@
 -- A run of a script, line by line.
-use Rattle.std.proofs.Common.{◌≡◌, ◌⊎◌, inl, inr, ℕ, ◌+◌, ◌<◌, ◌≤◌, ◌&&◌, ◌||◌, Bool, true, false, if◌then◌else◌, Result, Ok, Err, List, [], ◌∷◌, ◌++◌, length, take, nat_lt, Option, refl, sym, ap, subst, ◌∙◌, arith, append-nil, length-append}
+use Rattle.std.proofs.Common.{◌≡◌, inl, inr, ℕ, ◌+◌, ◌<◌, ◌≤◌, ◌&&◌, ◌||◌, Bool, true, false, if◌then◌else◌, Result, Ok, Err, List, [], ◌∷◌, ◌++◌, length, Option, refl, sym, ap, subst, ◌∙◌, arith, append-nil, length-append}
 use Rattle.std.proofs.lemmas.Bool.Decides.{nat_tests}
 use Rattle.std.proofs.lemmas.List.{append_assoc}
 use Rattle.std.specs.Io.KnownBytes.{Appends}
-use Rattle.std.proofs.KnownBytes.{Appends-nil, Appends-trans}
+use Rattle.std.proofs.KnownBytes.{Appends-nil}
 use Rattle.mrt_wire.specs.declared.event.Stamp.{Stamp}
 use Rattle.mrt_wire.specs.declared.fault.SourceFault.{SourceFault}
-use Rattle.mrt_wire.specs.declared.next.Phase.TheVariants.{Reading, Ended}
+use Rattle.mrt_wire.specs.declared.next.Phase.TheVariants.{Ended}
 use Rattle.mrt_wire.specs.Results.{Finding, Found, Bad}
 use Rattle.mrt_wire.specs.Place.{Place, start_place}
 use Rattle.mrt_wire.proofs.SoFarLaws.{SoFar-start}
@@ -14,19 +14,17 @@ use Rattle.rib_player.specs.Timeline.{Timeline, fresh, StandsFor}
 use Rattle.rib_player.proofs.TimelineLaws.{StandsFor-fresh}
 use Rattle.bgpdump_tool.specs.declared.command.Command.{Command}
 use Rattle.bgpdump_tool.specs.declared.dump.TheConstants.{LIMIT}
-use Rattle.bgpdump_tool.specs.declared.fault.WriteFault.{WriteFault}
 use Rattle.bgpdump_tool.specs.declared.outcome.Outcome.{Outcome}
 use Rattle.bgpdump_tool.specs.Device.{AppendsFront}
-use Rattle.bgpdump_tool.specs.Ending.{source_outcome, write_outcome}
 use Rattle.bgpdump_tool.specs.Reports.{reports}
 use Rattle.bgpdump_tool.specs.Run.{Texts, joined_texts, Outputs, Writes, WritesFronts}
 use Rattle.bgpdump_tool.specs.Writing.{is_any_bad}
 use Rattle.bgpdump_tool.specs.Script.{Line, Empty, Asks, NoCommand, IsLine, AreLines, script_lines}
 use Rattle.bgpdump_tool.specs.State.{State, start}
 use Rattle.bgpdump_tool.specs.Meaning.{meaning, meets_end, faults_taken}
-use Rattle.bgpdump_tool.specs.Course.{Course, course_behind, course_from, course, play_texts, cut_texts, line_report}
-use Rattle.bgpdump_tool.specs.Standing.{Standing, Scene, Taking, Stands, Follows, HasRoom, state_of}
-use Rattle.bgpdump_tool.specs.Carrying.{Leads, IsLed, IsCarriedOut, IsCutOff, IsBrokenOff, CarryingDoes}
+use Rattle.bgpdump_tool.specs.Course.{Course, course_behind, course_from, course, play_texts, line_report}
+use Rattle.bgpdump_tool.specs.Standing.{Scene, Taking, Stands, Follows, HasRoom, state_of}
+use Rattle.bgpdump_tool.specs.Carrying.{IsCarriedOut, IsCutOff, IsBrokenOff}
 use Rattle.bgpdump_tool.specs.Playing.{LineDoes, CarriesLine, is_some_text, Plays, PlaysCutOff, PlaysBrokenOff, PlayDoes, PlaysScript}
 use Rattle.bgpdump_tool.proofs.WritingLaws.{AppendsFront-none, Writes-append, WritesFronts-behind, WritesFronts-longer, AppendsFront-longer}
 use Rattle.bgpdump_tool.proofs.CarryLaws.{AppendsFront-whole, take_over}
@@ -136,13 +134,13 @@ course_on : (cut : Bool) (number : ℕ) (command : Command) (lines : List Line) 
     → course_from cut number (Asks command ∷ lines) s ≡ course_behind (record { out = (meaning command s).reply; err = faults_taken command s }) (meets_end command s) (course_from cut (number + 1) lines (meaning command s).after)
 course_on cut number command lines s on =
     ap (λ test. if test then record { texts = record { out = []; err = reports s.unread }; ended = true }
-      else course_behind (record { out = (meaning command s).reply; err = faults_taken command s }) (meets_end command s) (course_from cut (number + 1) lines (meaning command s).after)) on
+    else course_behind (record { out = (meaning command s).reply; err = faults_taken command s }) (meets_end command s) (course_from cut (number + 1) lines (meaning command s).after)) on
 
 course_cut : (number : ℕ) (command : Command) (lines : List Line) (s : State) → meets_end command s ≡ true
     → course_from true number (Asks command ∷ lines) s ≡ record { texts = record { out = []; err = reports s.unread }; ended = true }
 course_cut number command lines s met =
     ap (λ test. if test then record { texts = record { out = []; err = reports s.unread }; ended = true }
-      else course_behind (record { out = (meaning command s).reply; err = faults_taken command s }) (meets_end command s) (course_from true (number + 1) lines (meaning command s).after)) met
+    else course_behind (record { out = (meaning command s).reply; err = faults_taken command s }) (meets_end command s) (course_from true (number + 1) lines (meaning command s).after)) met
 
 -- nothing more is found where the run had ended before, or has now
 none_more : (a b : Place) (taken more : List Finding) → Follows a b taken → (b.phase ≡ Ended → more ≡ []) → a.phase ≡ Ended → taken ++ more ≡ []
@@ -189,12 +187,12 @@ fronts_in texts part rest a b c writes out err = WritesFronts-behind texts (join
 texts_at : (from : Place) (left : Option (List ℕ)) (done lines : List Line) (command : Command) (a : Scene) (old mid : Outputs) (found taken more : List Finding) → (p : Plays from left done a old mid) → found ≡ p.standing.found ++ taken
     → (a.place.phase ≡ Ended → taken ++ more ≡ [])
     → play_texts ((done ++ Asks command ∷ []) ++ lines) (found ++ more) ≡ joined_texts p.texts (joined_texts
-      (record { out = (meaning command (state_of p.standing (taken ++ more))).reply; err = faults_taken command (state_of p.standing (taken ++ more)) })
-      (course_from false (length done + 1 + 1) lines (meaning command (state_of p.standing (taken ++ more))).after).texts)
+    (record { out = (meaning command (state_of p.standing (taken ++ more))).reply; err = faults_taken command (state_of p.standing (taken ++ more)) })
+    (course_from false (length done + 1 + 1) lines (meaning command (state_of p.standing (taken ++ more))).after).texts)
 texts_at from left done lines command a old mid found taken more p is none =
     ap (λ c. c.texts) (after_line false done lines (Asks command) (start (found ++ more))
-      ∙ ap (λ l. course_from false 1 (done ++ Asks command ∷ lines) (start l)) (ap (λ l. l ++ more) is ∙ append_assoc p.standing.found taken more)
-      ∙ p.goes false (Asks command ∷ lines) (taken ++ more) (λ e. (none e, refl)))
+    ∙ ap (λ l. course_from false 1 (done ++ Asks command ∷ lines) (start l)) (ap (λ l. l ++ more) is ∙ append_assoc p.standing.found taken more)
+    ∙ p.goes false (Asks command ∷ lines) (taken ++ more) (λ e. (none e, refl)))
 
 -- by its source
 pub PlaysCutOff-command : (from : Place) (left : Option (List ℕ)) (done : List Line) (command : Command) (a b : Scene) (old mid new : Outputs) (fault : SourceFault) → mid.err ≡ a.err → new.err ≡ b.err → (p : Plays from left done a old mid)
@@ -205,22 +203,22 @@ PlaysCutOff-command from left done command a b old mid new fault mid_err new_err
     let out : Appends mid.out new.out [] = subst (λ o. Appends mid.out o []) (sym stop.quiet) (Appends-nil mid.out) in
     let err : Appends mid.err new.err (reports taken) = subst (λ e. Appends e new.err (reports taken)) (sym mid_err) (subst (λ e. Appends a.err e (reports taken)) (sym new_err) stop.stops.reported) in
     let met : meets_end command (state_of s taken) ≡ true =
-      grind (arith, nat_tests, subst (λ l. length taken < (meaning command (state_of s l)).taken) (append-nil taken) (stop.wants [])) in
+    grind (arith, nat_tests, subst (λ l. length taken < (meaning command (state_of s l)).taken) (append-nil taken) (stop.wants [])) in
     record {
       found = s.found ++ taken;
       faulty = stop.stops.faulty;
       exact = λ lines.
           subst (λ c. Writes c.texts old new)
           (sym (after_line true done lines (Asks command) (start (s.found ++ taken)) ∙ p.goes true (Asks command ∷ lines) taken (λ e. absurd (stop.stops.reads e))
-            ∙ ap (course_behind p.texts s.ended) (course_cut (length done + 1) command lines (state_of s taken) met)))
+          ∙ ap (course_behind p.texts s.ended) (course_cut (length done + 1) command lines (state_of s taken) met)))
           (Writes-append p.texts (record { out = []; err = reports taken }) old mid new p.written (out, err));
       fronts = λ lines more.
           let rest = take_over taken more (meaning command (state_of s (taken ++ more))).taken (omega (arith, stop.wants more)) in
           subst (λ t. WritesFronts t old new) (sym (texts_at from left done lines command a old mid (s.found ++ taken) taken more p refl (λ e. absurd (stop.stops.reads e))))
           (fronts_in p.texts (record { out = (meaning command (state_of s (taken ++ more))).reply; err = faults_taken command (state_of s (taken ++ more)) })
-            (course_from false (length done + 1 + 1) lines (meaning command (state_of s (taken ++ more))).after).texts old mid new p.written
-            (subst (λ o. AppendsFront mid.out o (meaning command (state_of s (taken ++ more))).reply) (sym stop.quiet) (AppendsFront-none mid.out (meaning command (state_of s (taken ++ more))).reply))
-            (subst (AppendsFront mid.err new.err) (sym (ap reports rest.1 ∙ reports-append taken rest.0)) (AppendsFront-longer mid.err new.err (reports taken) (reports rest.0) (AppendsFront-whole mid.err new.err (reports taken) err))));
+          (course_from false (length done + 1 + 1) lines (meaning command (state_of s (taken ++ more))).after).texts old mid new p.written
+          (subst (λ o. AppendsFront mid.out o (meaning command (state_of s (taken ++ more))).reply) (sym stop.quiet) (AppendsFront-none mid.out (meaning command (state_of s (taken ++ more))).reply))
+          (subst (AppendsFront mid.err new.err) (sym (ap reports rest.1 ∙ reports-append taken rest.0)) (AppendsFront-longer mid.err new.err (reports taken) (reports rest.0) (AppendsFront-whole mid.err new.err (reports taken) err))));
     }
 
 -- by memory or an output
@@ -240,9 +238,9 @@ PlaysBrokenOff-command from left done command a b old mid new mid_err new_err p 
           let fronts = stop.fronts more none in
           subst (λ t. WritesFronts t old new) (sym (texts_at from left done lines command a old mid (s.found ++ taken) taken more p refl (none_more a.place b.place taken more stop.follows none)))
           (fronts_in p.texts (record { out = (meaning command (state_of s (taken ++ more))).reply; err = faults_taken command (state_of s (taken ++ more)) })
-            (course_from false (length done + 1 + 1) lines (meaning command (state_of s (taken ++ more))).after).texts old mid new p.written
-            fronts.0
-            (subst (λ e. AppendsFront e new.err (faults_taken command (state_of s (taken ++ more)))) (sym mid_err) (subst (λ e. AppendsFront a.err e (faults_taken command (state_of s (taken ++ more)))) (sym new_err) fronts.1)));
+          (course_from false (length done + 1 + 1) lines (meaning command (state_of s (taken ++ more))).after).texts old mid new p.written
+          fronts.0
+          (subst (λ e. AppendsFront e new.err (faults_taken command (state_of s (taken ++ more)))) (sym mid_err) (subst (λ e. AppendsFront a.err e (faults_taken command (state_of s (taken ++ more)))) (sym new_err) fronts.1)));
     }
 
 -- at a line that is no command
@@ -261,8 +259,8 @@ PlaysBrokenOff-report from left done number a b old mid new p is same quiet fron
           subst (λ t. WritesFronts t old new)
           (sym (ap (λ c. c.texts) (after_line false done lines NoCommand (start (s.found ++ more)) ∙ p.goes false (NoCommand ∷ lines) more (λ x. (none (ap (λ y. y.place.phase) same ∙ x), refl)))))
           (fronts_in p.texts (record { out = []; err = line_report (length done + 1) }) (course_from false (length done + 1 + 1) lines (state_of s more)).texts old mid new p.written
-            (subst (λ o. AppendsFront mid.out o []) (sym quiet) (AppendsFront-none mid.out []))
-            (subst (λ n. AppendsFront mid.err new.err (line_report n)) is front));
+          (subst (λ o. AppendsFront mid.out o []) (sym quiet) (AppendsFront-none mid.out []))
+          (subst (λ n. AppendsFront mid.err new.err (line_report n)) is front));
     }
 
 -- ---- a line, whatever it asks for

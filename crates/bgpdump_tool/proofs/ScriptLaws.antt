@@ -1,5 +1,5 @@
 -- What the lines of a script ask for is one thing.
-use Rattle.std.proofs.Common.{◌≡◌, ℕ, List, [], ◌∷◌, ◌++◌, refl, sym, ap, ap₂, subst, ◌∙◌}
+use Rattle.std.proofs.Common.{◌≡◌, ℕ, List, [], ◌∷◌, ◌++◌, refl, sym, ap, ap₂}
 use Rattle.bgpdump_tool.specs.declared.command.Command.{Command}
 use Rattle.bgpdump_tool.specs.Command.{words, SpellsCommand}
 use Rattle.bgpdump_tool.specs.Script.{Line, Empty, Asks, NoCommand, IsLine, AreLines}
@@ -38,3 +38,14 @@ first_reading (x ∷ begun) [] (o ∷ first) rest h k = absurd k
 first_reading (x ∷ begun) (y ∷ lines) (o ∷ first) rest h k =
     let more = first_reading begun lines first rest h.1 k.1 in
     (more.0, ap₂ (λ l ls. l ∷ ls) (sym (one_line x y o h.0 k.0)) more.1)
+
+-- ---- lines without a reading
+
+-- no octets of a line ask for nothing that is told
+line_read : (octets : List ℕ) → ((line : Line) → IsLine line octets → ⊥) → ⊥
+line_read [] none = none Empty refl
+line_read (octet ∷ octets) none = none NoCommand ((λ e. cc), λ command spelled. none (Asks command) spelled)
+
+pub lines_read : (octets : List (List ℕ)) → ((lines : List Line) → AreLines lines octets → ⊥) → ⊥
+lines_read [] none = none [] tt
+lines_read (o ∷ octets) none = lines_read octets (λ lines are. line_read o (λ line is. none (line ∷ lines) (is, are)))

@@ -1,5 +1,5 @@
 -- A run that goes on by one step.
-use Rattle.std.proofs.Common.{◌≡◌, inl, inr, ℕ, ◌+◌, ◌-◌, ◌<◌, ◌≤◌, ◌||◌, Bool, true, false, Result, Ok, Err, List, [], ◌∷◌, ◌++◌, length, take, nat_lt, Option, refl, sym, ap, subst, ◌∙◌, arith, append-nil}
+use Rattle.std.proofs.Common.{◌≡◌, inl, inr, ℕ, ◌+◌, ◌<◌, ◌≤◌, ◌||◌, Bool, true, false, Result, Ok, Err, List, [], ◌∷◌, ◌++◌, length, take, nat_lt, Option, refl, sym, ap, subst, ◌∙◌, arith, append-nil}
 use Rattle.std.proofs.lemmas.Bool.Decides.{nat_tests}
 use Rattle.std.proofs.lemmas.List.{take_all}
 use Rattle.std.specs.Io.KnownBytes.{Consumes, Appends}
@@ -13,21 +13,20 @@ use Rattle.mrt_wire.specs.declared.next.Phase.TheVariants.{Reading, Ended}
 use Rattle.mrt_wire.specs.Results.{Finding, Found, Bad}
 use Rattle.mrt_wire.specs.Place.{Place}
 use Rattle.mrt_wire.specs.Next.{answer_findings, Nexts}
-use Rattle.mrt_wire.specs.SoFar.{SoFar, is_nothing}
+use Rattle.mrt_wire.specs.SoFar.{is_nothing}
 use Rattle.mrt_wire.proofs.SoFarLaws.{Promises, SoFar-answer, SoFar-told, ends_with_none}
 use Rattle.rib_player.specs.Timeline.{Timeline, StandsFor, end_of, after_play, after_redo}
 use Rattle.rib_player.proofs.TimelineLaws.{StandsFor-after_play, StandsFor-after_redo, StandsFor-end}
 use Rattle.bgpdump_tool.specs.declared.fault.WriteFault.{WriteFault}
 use Rattle.bgpdump_tool.specs.declared.fault.WriteFault.TheVariants as write
-use Rattle.bgpdump_tool.specs.declared.outcome.Outcome.{Outcome}
 use Rattle.bgpdump_tool.specs.declared.outcome.Outcome.TheVariants as outcome
 use Rattle.bgpdump_tool.specs.Device.{AppendsFront}
 use Rattle.bgpdump_tool.specs.Ending.{source_outcome, write_outcome}
 use Rattle.bgpdump_tool.specs.Going.{IsFaulty}
 use Rattle.bgpdump_tool.specs.Reports.{fault_report, reports}
 use Rattle.bgpdump_tool.specs.Writing.{Puts}
-use Rattle.bgpdump_tool.specs.Standing.{Standing, Scene, Taking, Stands, Follows, standing_on, IsOnward}
-use Rattle.bgpdump_tool.specs.Moves.{GoesOn, Stops, StepDoes}
+use Rattle.bgpdump_tool.specs.Standing.{Standing, Scene, Taking, Stands, Follows}
+use Rattle.bgpdump_tool.specs.Moves.{GoesOn, StepDoes}
 use Rattle.bgpdump_tool.proofs.RunLaws.{IsFaulty-behind}
 use Rattle.bgpdump_tool.proofs.WritingLaws.{AppendsFront-none}
 
@@ -191,11 +190,17 @@ pub step_stops_reading : (from : Place) (left : Option (List ℕ)) (old : Scene)
 step_stops_reading from left old s t q left' reported fault stands off promised ended within =
     let faulty = IsFaulty-behind from old.place q left old.left left' s.found fault stands.taking.so_far promised ended within in (
       cursor_at_end from left old s stands off,
-      inl (fault, refl, [], refl, record {
-        reads = λ e. clash (ended e);
-        faulty = subst (λ f. IsFaulty from left left' f fault) (sym (append-nil s.found)) faulty;
-        reported = Appends-nil old.err;
-      }),
+      inl (
+        fault,
+        refl,
+        [],
+        refl,
+        record {
+          reads = λ e. clash (ended e);
+          faulty = subst (λ f. IsFaulty from left left' f fault) (sym (append-nil s.found)) faulty;
+          reported = Appends-nil old.err;
+        },
+      ),
     )
   where
     clash : ◌≡◌ {A = Result Next SourceFault} (Err fault) (Ok next.End) → ⊥
@@ -207,11 +212,17 @@ stops_told : (from : Place) (left : Option (List ℕ)) (old : Scene) (s : Standi
     → AppendsFront old.err err (reports (answer_findings answer)) → StepDoes from left s old (record { player = u; place = q; left = left'; err = err; reported = reported }) (Err (write_outcome fault))
 stops_told from left old s u q left' err reported answer fault stands off promised some one within fronts = (
   cursor_at_end from left old s stands off,
-  inr (fault, refl, answer_findings answer, one, record {
-    taking = Taking-told from old.place q left old.left left' s.found s.ended answer stands.taking promised some within;
-    follows = Follows-answer old.place q old.left left' answer promised;
-    fronts = fronts;
-  }),
+  inr (
+    fault,
+    refl,
+    answer_findings answer,
+    one,
+    record {
+      taking = Taking-told from old.place q left old.left left' s.found s.ended answer stands.taking promised some within;
+      follows = Follows-answer old.place q old.left left' answer promised;
+      fronts = fronts;
+    },
+  ),
 )
 
 pub step_stops_playing : (from : Place) (left : Option (List ℕ)) (old : Scene) (s : Standing) (u : Timeline) (q : Place) (left' : Option (List ℕ)) (event : Event) → Stands from left old s

@@ -6,7 +6,6 @@ use Rattle.mrt_wire.specs.Verdict.{Frame}
 use Rattle.mrt_wire.specs.Results.{Finding, rest_kind}
 use Rattle.bgpdump_tool.specs.declared.outcome.Outcome.{Outcome}
 use Rattle.bgpdump_tool.specs.declared.outcome.Outcome.TheVariants.{Done, Reported, ReadFault, WriteFault, InputTooLong, ScriptTooLong, Memory}
-use Rattle.bgpdump_tool.specs.Lines.{line_feed}
 use Rattle.bgpdump_tool.specs.Reports.{reports}
 use Rattle.bgpdump_tool.specs.Run.{Texts, joined_texts, all_results}
 use Rattle.bgpdump_tool.specs.Script.{Line, Empty, Asks, NoCommand}

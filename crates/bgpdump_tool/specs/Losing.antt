@@ -1,6 +1,5 @@
 -- What playing a loss and writing its reply does.
-use Rattle.std.specs.Prelude.{◌≡◌, ℕ, ◌⊎◌, List, Option, Result, Ok, Err, codes}
-use Rattle.std.specs.Io.KnownBytes.{Appends}
+use Rattle.std.specs.Prelude.{◌≡◌, ℕ, ◌⊎◌, List, Option, Result, Err, codes}
 use Rattle.mrt_wire.specs.declared.peer.Peer.{Peer}
 use Rattle.rib_player.specs.Timeline.{Timeline, after_play, ahead_of}
 use Rattle.bgpdump_tool.specs.declared.fault.WriteFault.{WriteFault}

@@ -1,5 +1,5 @@
 -- What each command does to where the script stands, and its reply.
-use Rattle.std.specs.Prelude.{ℕ, ◌+◌, ◌-◌, min, max, Bool, false, List, length, take, nat_lt, if◌then◌else◌, codes}
+use Rattle.std.specs.Prelude.{ℕ, ◌-◌, min, max, Bool, false, List, length, take, nat_lt, if◌then◌else◌, codes}
 use Rattle.bgpdump_tool.specs.declared.command.Command.{Command}
 use Rattle.bgpdump_tool.specs.declared.command.Command.TheVariants.{Next, Back, Goto, Position, Peers, Table, Route, Lookup, Lose}
 use Rattle.bgpdump_tool.specs.Reports.{reports}

@@ -1,5 +1,5 @@
 -- What a run of a script has carried out so far, and where it stopped.
-use Rattle.std.specs.Prelude.{◌≡◌, ◌≢◌, ◌⊎◌, ℕ, ◌+◌, Bool, true, false, List, [], ◌∷◌, ◌++◌, length, Option, Result, Ok, Err}
+use Rattle.std.specs.Prelude.{◌≡◌, ◌⊎◌, ℕ, ◌+◌, Bool, true, false, List, [], ◌∷◌, ◌++◌, length, Option, Result, Ok, Err}
 use Rattle.std.specs.Io.KnownBytes.{Appends}
 use Rattle.mrt_wire.specs.declared.fault.SourceFault.{SourceFault}
 use Rattle.mrt_wire.specs.declared.next.Phase.TheVariants.{Ended}
@@ -13,7 +13,7 @@ use Rattle.bgpdump_tool.specs.Going.{IsFaulty}
 use Rattle.bgpdump_tool.specs.Run.{Texts, Outputs, Writes, WritesFronts}
 use Rattle.bgpdump_tool.specs.Script.{Line, Empty, Asks, NoCommand, IsLine, AreLines, script_lines}
 use Rattle.bgpdump_tool.specs.State.{start}
-use Rattle.bgpdump_tool.specs.Course.{Course, course_behind, course_from, course, play_texts, cut_texts, line_report}
+use Rattle.bgpdump_tool.specs.Course.{course_behind, course_from, course, play_texts, cut_texts, line_report}
 use Rattle.bgpdump_tool.specs.Standing.{Standing, Scene, Taking, Stands, state_of}
 use Rattle.bgpdump_tool.specs.Carrying.{CarryingDoes}
 

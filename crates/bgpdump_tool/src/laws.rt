@@ -3,15 +3,21 @@
 ghost use Rattle.std.specs.Prelude.{◌≡◌, ℕ, ◌^◌, List, [], ◌∷◌, codes};
 ghost use Rattle.bgpdump_tool.specs.declared.dump.TheConstants.{LIMIT};
 ghost use Rattle.bgpdump_tool.specs.declared.lines.TheConstants.{MICROS_DIGITS};
+ghost use Rattle.bgpdump_tool.specs.declared.script.TheConstants.{LONGEST_SCRIPT};
+ghost use Rattle.bgpdump_tool.specs.declared.commands.lose.TheConstants.{ESTABLISHED, IDLE};
 ghost use Rattle.bgpdump_tool.specs.declared.command.Command.{Command};
 ghost use Rattle.bgpdump_tool.specs.Command.{SpellsCommand};
+ghost use Rattle.bgpdump_tool.specs.Script.{Line, IsScript};
 ghost use Rattle.bgpdump_tool.specs.Lines.{bar, line_feed, dot, zero_digit, space};
 
-/// The numbers that the definitions name: how many octets a run takes at most, and how many digits
-/// microseconds have at least; and the marks of lines.
+/// The numbers that the definitions name: how many octets a run takes at most, how many digits
+/// microseconds have at least, how many octets a script has at most, and the states of a lost
+/// session (RFC 6396, section 4.4.1); and the marks of lines.
 pub fn run_numbers()
     ensures limit { LIMIT ≡ 2 ^ 40 }
     ensures micros { MICROS_DIGITS ≡ 6 }
+    ensures script { LONGEST_SCRIPT ≡ 2 ^ 20 }
+    ensures states { ESTABLISHED ∷ IDLE ∷ [] ≡ 6 ∷ 1 ∷ [] }
     ensures marks { bar ∷ line_feed ∷ dot ∷ zero_digit ∷ space ∷ [] ≡ codes "|\n.0 " }
 {}
 
@@ -19,4 +25,12 @@ pub fn run_numbers()
 pub fn one_command()
     ensures { (a b : Command) (line : List ℕ) → SpellsCommand a line → SpellsCommand b line →
         a ≡ b }
+{}
+
+/// The lines of a script ask for one thing each. That each script has such lines is said by denying
+/// that one has none.
+pub fn one_script()
+    ensures one { (a b : List Line) (script : List ℕ) → IsScript a script → IsScript b script →
+        a ≡ b }
+    ensures some { (script : List ℕ) → ((lines : List Line) → IsScript lines script → ⊥) → ⊥ }
 {}

@@ -2,7 +2,6 @@
 use Rattle.std.proofs.Common.{◌≡◌, ℕ, List, Option}
 use Rattle.mrt_wire.specs.Place.{Place}
 use Rattle.bgpdump_tool.specs.Standing.{Standing, Stands, HasRoom, scene_of}
-use Rattle.bgpdump_tool.specs.declared.script.TheConstants.{LONGEST_SCRIPT}
 use Rattle.bgpdump_tool.proofs.MoveLaws.{Forth}
 use Rattle.bgpdump_tool.proofs.commands.next.forward.Given as goal
 
