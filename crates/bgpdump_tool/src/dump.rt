@@ -1,6 +1,6 @@
 //! A whole run: the lines of all events, and the reports of all faulty records.
 
-ghost use Rattle.std.specs.Prelude.{◌≡◌, ◌≢◌, ◌↔◌, ◌⊎◌, ◌^◌, ◌++◌, ◌||◌, ℕ, List, None, true, false, IsTrue, IfOk, length, []};
+ghost use Rattle.std.specs.Prelude.{◌≡◌, ◌≢◌, ◌↔◌, ◌^◌, ◌||◌, ℕ, List, None, false, IsTrue, length, []};
 ghost use Rattle.std.specs.Io.KnownBytes.{Consumes};
 ghost use Rattle.mrt_wire.specs.declared.event.Stamp.{Stamp};
 ghost use Rattle.mrt_wire.specs.Verdict.{Frame};

@@ -1,6 +1,6 @@
 //! A whole run of a script: the replies to its commands, and the reports.
 
-ghost use Rattle.std.specs.Prelude.{◌≡◌, ◌↔◌, ◌<◌, ◌≤◌, ◌+◌, ◌++◌, ◌||◌, ℕ, List, [], None, false, true, IsTrue, length};
+ghost use Rattle.std.specs.Prelude.{◌≡◌, ◌↔◌, ◌<◌, ◌≤◌, ◌+◌, ◌||◌, ℕ, List, [], None, false, true, IsTrue, length};
 ghost use Rattle.std.specs.Io.KnownBytes.{Consumes};
 ghost use Rattle.mrt_wire.specs.Verdict.{Frame};
 ghost use Rattle.mrt_wire.specs.Splitting.{Splits};

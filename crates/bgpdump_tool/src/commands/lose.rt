@@ -1,11 +1,10 @@
 //! The loss of a session.
 
-ghost use Rattle.std.specs.Prelude.{◌≡◌, ◌<◌, ◌||◌, IfOk, OnErr, Ok, Err, codes};
+ghost use Rattle.std.specs.Prelude.{◌≡◌, ◌<◌, ◌||◌, IfOk, OnErr, Ok, Err};
 ghost use Rattle.rib_store.specs.declared.store.TheConstants.{GREATEST_COUNT};
 ghost use Rattle.rib_player.specs.Timeline.{after_play, ahead_of};
-ghost use Rattle.bgpdump_tool.specs.Replies.{counted_text};
 ghost use Rattle.bgpdump_tool.specs.State.{loss};
-ghost use Rattle.bgpdump_tool.specs.Writing.{Puts, is_write};
+ghost use Rattle.bgpdump_tool.specs.Writing.{is_write};
 ghost use Rattle.bgpdump_tool.specs.Losing.{Loses};
 
 use crate::fault::WriteFault;

@@ -2,8 +2,6 @@
 
 ghost use Rattle.std.specs.Prelude.{◌≡◌, ◌++◌, ◌||◌, OnOk};
 ghost use Rattle.std.specs.FinMap as finite;
-ghost use Rattle.rib_store.specs.Stored.{counted};
-ghost use Rattle.rib_player.specs.Store.{peer_routes};
 ghost use Rattle.bgpdump_tool.specs.Replies.{peer_line_of, peers_text};
 ghost use Rattle.bgpdump_tool.specs.Writing.{Puts, Replies, is_write};
 
