@@ -3,6 +3,8 @@ mod commands;
 mod devices;
 mod faults;
 mod lines;
+mod moves;
+mod playing;
 mod reading;
 mod records;
 
