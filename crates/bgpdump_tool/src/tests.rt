@@ -7,6 +7,9 @@ mod moves;
 mod playing;
 mod reading;
 mod records;
+mod replies;
+mod script_faults;
+mod scripts;
 
 use crate::{Outcome, WriteOutput, run_dump};
 use mrt_wire::{ReadInput, Stamp};
