@@ -3,8 +3,13 @@ mod commands;
 mod devices;
 mod faults;
 mod lines;
+mod moves;
+mod playing;
 mod reading;
 mod records;
+mod replies;
+mod script_faults;
+mod scripts;
 
 use crate::{Outcome, WriteOutput, run_dump};
 use mrt_wire::{ReadInput, Stamp};
