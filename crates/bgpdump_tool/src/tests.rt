@@ -3,6 +3,7 @@ mod commands;
 mod devices;
 mod faults;
 mod lines;
+mod memory;
 mod moves;
 mod playing;
 mod reading;
