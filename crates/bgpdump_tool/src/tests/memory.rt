@@ -16,18 +16,18 @@ use std::test::Fail;
 
 /// A store that makes no new key where it has so many.
 #[derive(Drop)]
-struct Scarce<const MOST: u64> {
-    inner: Routes,
+struct Scarce<S, const MOST: u64> {
+    inner: S,
 }
 
-impl<const MOST: u64> PrefixStore<Rc<Route>> for Scarce<MOST> {
-    ghost keys = { λ s. Routes.keys s.inner };
+impl<S: PrefixStore<Rc<Route>>, const MOST: u64> PrefixStore<Rc<Route>> for Scarce<S, MOST> {
+    ghost keys = { λ s. S.keys s.inner };
 
-    ghost routes = { λ s. Routes.routes s.inner };
+    ghost routes = { λ s. S.routes s.inner };
 
     fn new(alloc: Global) -> Self {
         Scarce {
-            inner: Routes::new(alloc),
+            inner: S::new(alloc),
         }
     }
 
@@ -83,7 +83,7 @@ struct Played {
 fn play<const MOST: u64>(alloc: Global, octets: &[u8], script: &str) -> Played {
     let mut out = SlowOutput::new(alloc, usize::MAX, usize::MAX, true);
     let mut err = SlowOutput::new(alloc, usize::MAX, usize::MAX, true);
-    let outcome = run_play::<Scarce<MOST>, _, _, _>(
+    let outcome = run_play::<Scarce<Routes, MOST>, _, _, _>(
         alloc,
         &mut ReadInput::new(octets),
         script.as_bytes(),
