@@ -8,6 +8,7 @@ use super::playing::{NINE, assert_replied, play, state_record, update_record};
 use super::{MULTICAST, octets_of};
 use mrt_wire::Stamp;
 use std::alloc::{AllocError, Global};
+use std::process::Abort;
 use std::test::Fail;
 
 /// How many files there are, the lines of the script over each, and how many records one has at
@@ -35,39 +36,42 @@ impl Drawn {
         number.checked_rem(bound).unwrap_or(0)
     }
 
+    /// A peer, often the first.
     fn peer(&mut self) -> usize {
-        self.below(PEER_COUNT)
+        self.below(PEER_COUNT + 2)
+            .checked_rem(PEER_COUNT)
+            .unwrap_or(0)
     }
 
     fn prefix(&mut self) -> usize {
         self.below(PREFIX_COUNT)
     }
 
-    /// A prefix, or none.
-    fn some_prefix(&mut self) -> Option<usize> {
-        if self.below(3) == 0 {
-            return None;
+    /// A prefix in so many of six cases, or else none.
+    fn some_prefix(&mut self, cases: usize) -> Option<usize> {
+        if self.below(6) < cases {
+            return Some(self.prefix());
         }
-        Some(self.prefix())
+        None
     }
 
     /// What a record says. Losses are seldom.
     fn said(&mut self, time: u32) -> Said {
-        match self.below(12) {
+        match self.below(24) {
             0 => Said::Loss(self.peer()),
             1 => Said::Nothing,
             _ => {
                 let peer = self.peer();
-                let withdrawn = self.some_prefix();
-                Said::Update(peer, time, withdrawn, self.some_prefix())
+                let withdrawn = self.some_prefix(2);
+                Said::Update(peer, time, withdrawn, self.some_prefix(5))
             }
         }
     }
 
     fn move_line(&mut self) -> Line {
-        match self.below(6) {
-            0..=2 => Line::Next(self.below(5).saturating_add(1)),
-            3..=4 => Line::Back(self.below(4).saturating_add(1)),
+        match self.below(10) {
+            0..=5 => Line::Next(self.below(8).saturating_add(1)),
+            6..=8 => Line::Back(self.below(4).saturating_add(1)),
             _ => Line::Goto(self.below(RECORDS)),
         }
     }
@@ -85,8 +89,8 @@ impl Drawn {
 
     fn line(&mut self) -> Line {
         match self.below(20) {
-            0..=7 => self.move_line(),
-            8..=16 => self.question(),
+            0..=5 => self.move_line(),
+            6..=16 => self.question(),
             17 => Line::Lose(self.peer()),
             18 => Line::Empty,
             _ => Line::Bad,
@@ -195,21 +199,47 @@ fn script_of(alloc: Global, drawn: &mut Drawn, plain: &mut Plain) -> Result<Stri
     Ok(script)
 }
 
+/// Draws a file and a script, asserts that both players reply alike, and answers the replies.
+fn compare(rt: &impl Abort, alloc: Global, drawn: &mut Drawn) -> Result<String, Fail> {
+    let File { octets, given } = file_of(alloc, drawn)?;
+    let mut plain = Plain::new(alloc, given);
+    let script = script_of(alloc, drawn, &mut plain)?;
+    let run = play(alloc, Stamp::Dump, &octets, script.as_str().as_bytes());
+    assert_replied(
+        rt,
+        &run,
+        script.as_str(),
+        plain.out.as_str(),
+        plain.err.as_str(),
+    );
+    Ok(plain.out)
+}
+
+/// Asserts that the words stand so often in what was replied.
+fn assert_many(rt: &impl Abort, replies: &str, words: &str, least: usize) {
+    let count = replies.matches(words).count();
+    assert!(rt; count >= least, "{count} of {words}");
+}
+
 #[test]
 fn replies_as_a_plain_player_does(rt: HostRuntime) -> Result<(), Fail> {
     let mut drawn = Drawn { state: 1 };
+    let mut replies = String::new(rt.alloc());
     for _ in 0..FILES {
-        let File { octets, given } = file_of(rt.alloc(), &mut drawn)?;
-        let mut plain = Plain::new(rt.alloc(), given);
-        let script = script_of(rt.alloc(), &mut drawn, &mut plain)?;
-        let run = play(rt.alloc(), Stamp::Dump, &octets, script.as_str().as_bytes());
-        assert_replied(
-            &rt,
-            &run,
-            script.as_str(),
-            plain.out.as_str(),
-            plain.err.as_str(),
-        );
+        let more = compare(&rt, rt.alloc(), &mut drawn)?;
+        replies.push_str(more.as_str())?;
+    }
+    for (words, least) in [
+        ("RIB|", 100),
+        ("PEER|", 100),
+        ("none\n", 100),
+        (" end\n", 100),
+        (" dropped 0\n", 30),
+        (" dropped 1\n", 5),
+        ("|10.1.0.0/16|", 20),
+        ("|2001:db8::/32|", 20),
+    ] {
+        assert_many(&rt, replies.as_str(), words, least);
     }
     Ok(())
 }
