@@ -3,8 +3,9 @@
 ghost use Rattle.std.specs.Prelude.{◌≡◌, None, false};
 
 use super::devices::{SlowInput, SlowOutput};
+use super::playing::Routes;
 use super::{LINE, MULTICAST, MULTICAST_REPORT, STATE_CHANGE, octets_of};
-use crate::{OutFault, Outcome, Output, WriteOutput, put_all, run_dump};
+use crate::{OutFault, Outcome, Output, WriteOutput, put_all, run_dump, run_play};
 use mrt_wire::{InFault, Input, Stamp};
 use std::alloc::{AllocError, Global};
 use std::cell::Cell;
@@ -121,5 +122,47 @@ fn all_is_written_before_the_next_record_is_read(rt: HostRuntime) -> Result<(), 
     assert_eq!(rt; line, (Outcome::Done, LINE.len()));
     let report = written_before_the_second(rt.alloc(), MULTICAST)?;
     assert_eq!(rt; report, (Outcome::Reported, MULTICAST_REPORT.len()));
+    Ok(())
+}
+
+/// Carries out a script over a record and a state change, and tells how much was written when the
+/// second one was asked for.
+fn replied_before_the_second(
+    alloc: Global,
+    record: &str,
+    script: &str,
+) -> Result<usize, AllocError> {
+    let octets = octets_of(alloc, &[record, STATE_CHANGE])?;
+    let written = Cell::new(0);
+    let mut input = WatchingInput {
+        octets: &octets,
+        written: &written,
+        seen: 0,
+    };
+    let mut out = CountedOutput { written: &written };
+    let mut err = CountedOutput { written: &written };
+    let script = script.as_bytes();
+    run_play::<Routes, _, _, _>(alloc, &mut input, script, &mut out, &mut err, Stamp::Dump);
+    Ok(input.seen)
+}
+
+#[test]
+fn all_is_written_before_the_next_record_is_taken(rt: HostRuntime) -> Result<(), Fail> {
+    let bad_line = "bgpdump: script line 2: bad command\n";
+    for (record, script, want) in [
+        (STATE_CHANGE, "next 2\n", 0),
+        (STATE_CHANGE, "next\nnext\n", 5),
+        (
+            STATE_CHANGE,
+            "next\nfoo\nwhere\ngoto 2\n",
+            18 + bad_line.len(),
+        ),
+        (MULTICAST, "next 2\n", MULTICAST_REPORT.len()),
+        (MULTICAST, "goto 1\n", MULTICAST_REPORT.len()),
+        (MULTICAST, "next\nnext\n", 5 + MULTICAST_REPORT.len()),
+    ] {
+        let seen = replied_before_the_second(rt.alloc(), record, script)?;
+        assert_eq!(rt; seen, want, "in {script}");
+    }
     Ok(())
 }

@@ -78,24 +78,20 @@ fn update_of(
     Ok(octets)
 }
 
-/// A record of a message, at a time: the session, the marker, and the message behind it.
-fn message_of(
+/// A record of a session, at a time: its subtype, the session, and what stands behind it.
+fn session_record(
     alloc: Global,
     time: u32,
+    subtype: u8,
     session: &[u8],
-    message: &[u8],
+    rest: &[u8],
 ) -> Result<Vec<u8>, AllocError> {
-    let length = session
-        .len()
-        .saturating_add(message.len())
-        .saturating_add(16);
     let mut octets = Vec::new(alloc);
     octets.extend_from_slice(&time.to_be_bytes())?;
-    octets.extend_from_slice(b"\x00\x10\x00\x01")?;
-    put_long(length, &mut octets)?;
+    octets.extend_from_slice(&[0, 16, 0, subtype])?;
+    put_long(session.len().saturating_add(rest.len()), &mut octets)?;
     octets.extend_from_slice(session)?;
-    octets.extend_from_slice(&[0xFF; 16])?;
-    octets.extend_from_slice(message)?;
+    octets.extend_from_slice(rest)?;
     Ok(octets)
 }
 
@@ -108,13 +104,30 @@ pub(super) fn update_record(
     attributes: &[&str],
     announced: &str,
 ) -> Result<Vec<u8>, AllocError> {
-    let message = update_of(
+    let mut message = octets_of(alloc, &["FFFFFFFFFFFFFFFF FFFFFFFFFFFFFFFF"])?;
+    let update = update_of(
         alloc,
         &octets_of(alloc, &[withdrawn])?,
         &octets_of(alloc, attributes)?,
         &octets_of(alloc, &[announced])?,
     )?;
-    message_of(alloc, time, &octets_of(alloc, &[session])?, &message)
+    message.extend_from_slice(&update)?;
+    session_record(alloc, time, 1, &octets_of(alloc, &[session])?, &message)
+}
+
+/// The octets of a change of a session between two states, at 100 seconds.
+pub(super) fn state_record(
+    alloc: Global,
+    session: &str,
+    states: &str,
+) -> Result<Vec<u8>, AllocError> {
+    session_record(
+        alloc,
+        100,
+        0,
+        &octets_of(alloc, &[session])?,
+        &octets_of(alloc, &[states])?,
+    )
 }
 
 /// The octets of a record.

@@ -143,9 +143,10 @@ fn assert_idle(rt: &impl Abort, alloc: Global, script: &[u8], want: Outcome, fin
 
 #[test]
 fn a_script_that_is_too_long_is_not_begun(rt: HostRuntime) -> Result<(), Fail> {
-    let script = vec![in rt.alloc(); b'\n'; LONGEST + 1]?;
-    assert_idle(&rt, rt.alloc(), &script[..LONGEST], Outcome::Done, 1);
-    assert_idle(&rt, rt.alloc(), &script, Outcome::ScriptTooLong, 0);
+    let longest = vec![in rt.alloc(); b'\n'; LONGEST]?;
+    assert_idle(&rt, rt.alloc(), &longest, Outcome::Done, 1);
+    let longer = vec![in rt.alloc(); b'\n'; LONGEST + 1]?;
+    assert_idle(&rt, rt.alloc(), &longer, Outcome::ScriptTooLong, 0);
     Ok(())
 }
 
