@@ -4,7 +4,7 @@ use super::devices::{SlowInput, SlowOutput};
 use super::playing::{LOSS, Record, Routes, Row, assert_rows};
 use crate::{Outcome, run_play};
 use mrt_wire::Stamp;
-use std::alloc::Global;
+use std::alloc::{AllocError, Global};
 use std::process::Abort;
 use std::test::Fail;
 
@@ -141,18 +141,23 @@ fn assert_idle(rt: &impl Abort, alloc: Global, script: &[u8], want: Outcome, fin
     assert_eq!(rt; (out.finish_calls, err.finish_calls), (finishes, finishes));
 }
 
+/// So many line feeds.
+fn line_feeds(alloc: Global, count: usize) -> Result<Vec<u8>, AllocError> {
+    vec![in alloc; b'\n'; count]
+}
+
 #[test]
 fn a_script_that_is_too_long_is_not_begun(rt: HostRuntime) -> Result<(), Fail> {
-    let longest = vec![in rt.alloc(); b'\n'; LONGEST]?;
+    let longest = line_feeds(rt.alloc(), LONGEST)?;
     assert_idle(&rt, rt.alloc(), &longest, Outcome::Done, 1);
-    let longer = vec![in rt.alloc(); b'\n'; LONGEST + 1]?;
+    let longer = line_feeds(rt.alloc(), LONGEST + 1)?;
     assert_idle(&rt, rt.alloc(), &longer, Outcome::ScriptTooLong, 0);
     Ok(())
 }
 
 #[test]
 fn commands_of_a_script_that_is_too_long_are_not_carried_out(rt: HostRuntime) -> Result<(), Fail> {
-    let mut script = vec![in rt.alloc(); b'\n'; LONGEST - 8]?;
+    let mut script = line_feeds(rt.alloc(), LONGEST - 8)?;
     script.extend_from_slice(b"foo\nnext\n")?;
     assert_idle(&rt, rt.alloc(), &script, Outcome::ScriptTooLong, 0);
     Ok(())
