@@ -2,9 +2,8 @@
 
 ghost use Rattle.std.specs.Prelude.{◌≡◌, None, false};
 
-use super::MULTICAST;
 use super::devices::SlowOutput;
-use super::playing::{FIRST, NINE, OTHER_HOP, Record, Routes, file_of, outcome_of};
+use super::playing::{ANNOUNCED, FIRST, OTHER_HOP, Record, Routes, UNREAD, file_of, outcome_of};
 use crate::{OutFault, Outcome, Output, run_play};
 use ip_prefix::{Addr, Prefix};
 use mrt_wire::{ReadInput, Route, Stamp};
@@ -107,14 +106,14 @@ fn assert_played(rt: &impl Abort, played: &Played, outcome: Outcome, replies: &s
 }
 
 /// The announcement of 10.0.0.0/8, and of another route to it.
-const ANNOUNCED: [Record; 2] = [
-    Record::Update(FIRST, 100, "", &[NINE], "080A"),
+const REPLACED: [Record; 2] = [
+    ANNOUNCED,
     Record::Update(FIRST, 101, "080A", &[OTHER_HOP], "080A"),
 ];
 
 #[test]
 fn a_store_that_refuses_all_keys_ends_a_script(rt: HostRuntime) -> Result<(), Fail> {
-    let octets = file_of(rt.alloc(), &ANNOUNCED)?;
+    let octets = file_of(rt.alloc(), &REPLACED)?;
     let script =
         "next 2\nroute 192.0.2.1 64500 10.0.0.0/8\nback\nroute 192.0.2.1 64500 10.0.0.0/8\n";
     let played = play::<0>(rt.alloc(), &octets, script);
@@ -124,8 +123,8 @@ fn a_store_that_refuses_all_keys_ends_a_script(rt: HostRuntime) -> Result<(), Fa
 
 /// A faulty record between two, of which the second announces a further prefix.
 const FURTHER: [Record; 3] = [
-    Record::Update(FIRST, 100, "", &[NINE], "080A"),
-    Record::Octets(MULTICAST),
+    ANNOUNCED,
+    UNREAD,
     Record::Update(FIRST, 101, "", &[OTHER_HOP], "080A 100A01"),
 ];
 
@@ -167,7 +166,7 @@ fn a_refused_key_leaves_the_replies_before(rt: HostRuntime) -> Result<(), Fail> 
 
 #[test]
 fn a_loss_wants_no_key(rt: HostRuntime) -> Result<(), Fail> {
-    let octets = file_of(rt.alloc(), &ANNOUNCED)?;
+    let octets = file_of(rt.alloc(), &REPLACED)?;
     let script = "next 2\nlose 192.0.2.1 64500\npeers\nback\npeers\n";
     let played = play::<1>(rt.alloc(), &octets, script);
     let replies = "at 2\nat 3 dropped 0\nnone\nat 2\nPEER|192.0.2.1|64500|1\n";

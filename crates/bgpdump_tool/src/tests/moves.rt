@@ -1,20 +1,13 @@
 //! Scripts that go on, back and to positions, and that lose sessions.
 
-use super::MULTICAST;
-use super::playing::{FIRST, LOSS, NINE, OTHER_HOP, Record, Row, WIDE_0, assert_rows};
+use super::playing::{
+    ANNOUNCED, CUT, FIRST, INDEX, LOSS, NINE, OTHER_HOP, Record, Row, UNREAD, WIDE_0, assert_rows,
+};
 use mrt_wire::Stamp;
 use std::test::Fail;
 
-/// A part of a multicast table, which isn't read.
-const UNREAD: Record = Record::Octets(MULTICAST);
-
 /// An UPDATE with a prefix of 33 bits, of 75 octets.
 const MALFORMED: Record = Record::Update(FIRST, 100, "", &[NINE], "21 0A00000000");
-
-/// A state change without its last octet.
-const CUT: Record = Record::Octets(
-    "00000064 0010 0000 00000014 FBF4 FBF5 0000 0001 C0000201 C0000202 0006 00",
-);
 
 /// A header that states a length past the limit.
 const TOO_LONG: Record = Record::Octets("00000064 0010 0000 01000001");
@@ -25,15 +18,7 @@ const KEEPALIVE: Record = Record::Octets(
      FFFFFFFFFFFFFFFF FFFFFFFFFFFFFFFF 0013 04",
 );
 
-/// An index of the peer 192.0.2.1 of AS 64500.
-const INDEX: Record = Record::Octets(
-    "000000C8 000D 0001 00000013 C6336401 0000 0001 00 C0000201 C0000201 FBF4",
-);
-
-/// The announcement of 10.0.0.0/8 at 100 seconds, of another route to it at 101, and its
-/// withdrawal at 102.
-const ANNOUNCED: Record = Record::Update(FIRST, 100, "", &[NINE], "080A");
-
+/// The announcement of another route to 10.0.0.0/8 at 101 seconds, and its withdrawal at 102.
 const REPLACED: Record = Record::Update(FIRST, 101, "", &[OTHER_HOP], "080A");
 
 const WITHDRAWN: Record = Record::Update(FIRST, 102, "080A", &[], "");

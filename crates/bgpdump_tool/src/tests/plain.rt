@@ -224,7 +224,7 @@ impl Plain {
         self.tell(false)
     }
 
-    /// A step is at least a record, so more steps than records and steps aren't tried.
+    /// The files are short, so that as many steps as are tried lead to the position or the end.
     fn goto(&mut self, position: usize) -> Result<(), AllocError> {
         self.cursor = self.cursor.min(position);
         for _ in 0..1_000u32 {

@@ -1,6 +1,6 @@
 //! Files and scripts for tests, and runs over them.
 
-use super::{Run, STATE_CHANGE, octets_of};
+use super::{MULTICAST, Run, STATE_CHANGE, octets_of};
 use crate::{Outcome, WriteOutput, run_play};
 use mrt_wire::{ReadInput, Route, Stamp};
 use rib_store::MapStore;
@@ -42,6 +42,28 @@ pub(super) enum Record {
     /// announced.
     Update(&'static str, u32, &'static str, &'static [&'static str], &'static str),
 }
+
+/// An index of the peer 192.0.2.1 of AS 64500, and an entry of 10.0.0.0/8 that was originated at
+/// 50 seconds, both of 200 seconds.
+pub(super) const INDEX: Record = Record::Octets(
+    "000000C8 000D 0001 00000013 C6336401 0000 0001 00 C0000201 C0000201 FBF4",
+);
+
+pub(super) const ENTRY: Record = Record::Octets(
+    "000000C8 000D 0002 0000003C 00000000 080A 0001 0000 00000032 002C 40010100 \
+     400210 0201 0000FBF4 0102 00000001 00000002 400304 C0000209 400600 C00808 FBF40001 FFFFFF01",
+);
+
+/// The announcement of 10.0.0.0/8 at 100 seconds.
+pub(super) const ANNOUNCED: Record = Record::Update(FIRST, 100, "", &[NINE], "080A");
+
+/// A part of a multicast table, which isn't read.
+pub(super) const UNREAD: Record = Record::Octets(MULTICAST);
+
+/// A state change without its last octet.
+pub(super) const CUT: Record = Record::Octets(
+    "00000064 0010 0000 00000014 FBF4 FBF5 0000 0001 C0000201 C0000202 0006 00",
+);
 
 /// The loss of the session with 192.0.2.1 of AS 64500, at 100 seconds.
 pub(super) const LOSS: Record = Record::Octets(STATE_CHANGE);

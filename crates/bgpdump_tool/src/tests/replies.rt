@@ -1,29 +1,17 @@
 //! The replies to what scripts ask of the routes.
 
 use super::playing::{
-    FIRST, LOSS, NINE, OTHER_HOP, Record, Row, SECOND, WIDE, WIDE_0, WIDE_32, assert_rows,
+    ANNOUNCED, ENTRY, FIRST, INDEX, LOSS, NINE, OTHER_HOP, Record, Row, SECOND, WIDE, WIDE_0,
+    WIDE_32, assert_rows,
 };
 use mrt_wire::Stamp;
 use std::test::Fail;
 
-/// The announcement of 10.0.0.0/8 at 100 seconds, and of another route to it at 101.
-const ANNOUNCED: Record = Record::Update(FIRST, 100, "", &[NINE], "080A");
-
+/// The announcement of another route to 10.0.0.0/8, at 101 seconds.
 const REPLACED: Record = Record::Update(FIRST, 101, "080A", &[OTHER_HOP], "080A");
 
 /// The announcement of 10.0.0.0/8, 10.1.0.0/16 and ::/0 at 100 seconds.
 const THREE: Record = Record::Update(FIRST, 100, "", &[NINE, WIDE_0], "080A 100A01");
-
-/// An index of the peer 192.0.2.1 of AS 64500, and an entry of 10.0.0.0/8 that was originated at
-/// 50 seconds.
-const INDEX: Record = Record::Octets(
-    "000000C8 000D 0001 00000013 C6336401 0000 0001 00 C0000201 C0000201 FBF4",
-);
-
-const ENTRY: Record = Record::Octets(
-    "000000C8 000D 0002 0000003C 00000000 080A 0001 0000 00000032 002C 40010100 \
-     400210 0201 0000FBF4 0102 00000001 00000002 400304 C0000209 400600 C00808 FBF40001 FFFFFF01",
-);
 
 /// Routes to prefixes.
 const ROUTES: [Row; 5] = [

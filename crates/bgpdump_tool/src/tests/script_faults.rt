@@ -1,8 +1,9 @@
 //! Scripts over inputs and outputs that move few octets at a time, or fail.
 
 use super::devices::{SlowInput, SlowOutput};
-use super::playing::{FIRST, NINE, Record, Routes, file_of, outcome_of};
-use super::{MULTICAST, STATE_CHANGE};
+use super::playing::{
+    CUT, ENTRY, FIRST, INDEX, LOSS, NINE, Record, Routes, UNREAD, file_of, outcome_of,
+};
 use crate::{Outcome, run_play};
 use mrt_wire::Stamp;
 use std::alloc::Global;
@@ -12,19 +13,12 @@ use std::test::Fail;
 /// A number of octets that no test reaches.
 const MANY: usize = usize::MAX;
 
-/// A state change without its last octet.
-const CUT: &str = "00000064 0010 0000 00000014 FBF4 FBF5 0000 0001 C0000201 C0000202 0006 00";
-
 /// An index of a peer, an entry of its table, an UPDATE, and a record that is cut: 206 octets.
 const DAMAGED: [Record; 4] = [
-    Record::Octets("000000C8 000D 0001 00000013 C6336401 0000 0001 00 C0000201 C0000201 FBF4"),
-    Record::Octets(
-        "000000C8 000D 0002 0000003C 00000000 080A 0001 0000 00000032 002C 40010100 \
-         400210 0201 0000FBF4 0102 00000001 00000002 400304 C0000209 400600 \
-         C00808 FBF40001 FFFFFF01",
-    ),
+    INDEX,
+    ENTRY,
     Record::Update(FIRST, 100, "", &[NINE], "090AFF"),
-    Record::Octets(CUT),
+    CUT,
 ];
 
 /// A script over it, the replies and the reports.
@@ -154,14 +148,9 @@ fn a_read_fault_ends_a_script(rt: HostRuntime) -> Result<(), Fail> {
 }
 
 /// A part of a multicast table, a state change, such a part, and a record that is cut: 125 octets.
-const FAULTY: [Record; 4] = [
-    Record::Octets(MULTICAST),
-    Record::Octets(STATE_CHANGE),
-    Record::Octets(MULTICAST),
-    Record::Octets(CUT),
-];
+const FAULTY: [Record; 4] = [UNREAD, LOSS, UNREAD, CUT];
 
-/// A script over it, and the reports, with how many octets of them the first ones have.
+/// A script over it, the replies and the reports.
 const FAULTY_SCRIPT: &[u8] = b"next 2\nfoo\nnext 9\nwhere\n";
 
 const FAULTY_REPLIES: &[u8] = b"at 1\nat 1 end\nat 1 ahead 0\n";
@@ -171,6 +160,7 @@ const FAULTY_REPORTS: &[u8] = b"bgpdump: record 1, byte 0: unsupported type 13 s
                                 bgpdump: record 3, byte 63: unsupported type 13 subtype 3\n\
                                 bgpdump: record 4, byte 94: cut record\n";
 
+/// How many octets the first report has, the first two, and the first three.
 const ONE: usize = 57;
 
 const TWO: usize = 93;

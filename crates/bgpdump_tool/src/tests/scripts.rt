@@ -1,7 +1,7 @@
 //! The lines of scripts: those that are commands, those that aren't, and too many.
 
 use super::devices::{SlowInput, SlowOutput};
-use super::playing::{LOSS, Record, Routes, Row, assert_rows};
+use super::playing::{LOSS, Routes, Row, UNREAD, assert_rows};
 use crate::{Outcome, run_play};
 use mrt_wire::Stamp;
 use std::alloc::{AllocError, Global};
@@ -10,9 +10,6 @@ use std::test::Fail;
 
 /// The longest script.
 const LONGEST: usize = 1_048_576;
-
-/// A part of a multicast table, which isn't read.
-const UNREAD: Record = Record::Octets(super::MULTICAST);
 
 /// Scripts of no line but empty ones, and ones whose last line has no line feed.
 const ENDS: [Row; 8] = [
