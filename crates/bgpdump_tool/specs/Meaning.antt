@@ -6,7 +6,7 @@ use Rattle.bgpdump_tool.specs.Reports.{reports}
 use Rattle.bgpdump_tool.specs.State.{State, steps_ahead, steps_behind, routes_at, moved_to, gone_on, needed, loss, played}
 use Rattle.bgpdump_tool.specs.Replies.{at_text, counted_text, peers_text, table_text, route_text, best_text}
 
--- how many results a command takes, or all where fewer are left; where the script stands then; and the reply
+-- how many results a command wants, of which it takes all where fewer are left; where the script stands then; and the reply
 pub record Meaning : Type 0 where
   pub taken : ℕ
   pub after : State

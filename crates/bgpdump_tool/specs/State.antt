@@ -53,7 +53,7 @@ gone_on over count s = record {
   unread = drop count s.unread;
 }
 
--- how many results have so many events among them: one more than there are, where there are fewer events
+-- how many of the first results have so many events among them: one more than all results, where they have fewer events
 abbrev pub needed : ℕ → List Finding → ℕ
 needed zero results = 0
 needed (suc count) [] = 1

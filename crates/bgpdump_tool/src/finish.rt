@@ -1,4 +1,4 @@
-//! The end of a run that read and wrote all.
+//! The end of a run that no fault stopped.
 
 ghost use Rattle.std.specs.Prelude.{◌≡◌, ◌||◌, false};
 ghost use Rattle.std.specs.Io.KnownBytes.{Keeps};

@@ -1,4 +1,5 @@
-//! The dumps of routing tables and messages that routers write (MRT, RFC 6396), as lines.
+//! The dumps of routing tables and messages that routers write (MRT, RFC 6396), as lines, and
+//! scripts that play them forwards and backwards.
 #![tactic(auto)]
 
 mod again;
