@@ -8,9 +8,12 @@ use Rattle.mrt_wire.specs.Taking.{IsRest}
 use Rattle.mrt_wire.specs.declared.fault.RecordKind.TheVariants.{CutRecord}
 use Rattle.mrt_wire.specs.declared.next.Phase.TheVariants.{Ended}
 use Rattle.mrt_wire.specs.Verdict.{Frame}
-use Rattle.mrt_wire.specs.Splitting.{Splits}
+use Rattle.mrt_wire.specs.Splitting.{Splits, spellings}
+use Rattle.mrt_wire.specs.SoFar.{SoFar}
+use Rattle.mrt_wire.proofs.FirstLaws.{same_taken}
+use Rattle.mrt_wire.proofs.SplitLaws.{frames_all}
 use Rattle.mrt_wire.specs.Results.{Finding, rest_kind}
-use Rattle.mrt_wire.specs.Place.{Place, start_place}
+use Rattle.mrt_wire.specs.Place.{Place, start_place, results}
 use Rattle.mrt_wire.specs.Next.{Took}
 use Rattle.mrt_wire.proofs.SoFarLaws.{FirstSoFar}
 use Rattle.bgpdump_tool.specs.declared.dump.TheConstants.{LIMIT}
@@ -22,7 +25,7 @@ use Rattle.bgpdump_tool.specs.Ending.{outcome_of, source_outcome, write_outcome}
 use Rattle.bgpdump_tool.specs.Going.{IsFaulty}
 use Rattle.bgpdump_tool.specs.Run.{Texts, Outputs, MayHold, Writes, WritesFronts, EndsSo, EndedByInput, IsTaken, IsLast, all_results}
 use Rattle.bgpdump_tool.specs.Script.{Line, AreLines, IsScript, script_lines}
-use Rattle.bgpdump_tool.specs.Course.{course, play_texts, cut_texts, IsEndSeen, PlaySawEnd, AreCarriedOut}
+use Rattle.bgpdump_tool.specs.Course.{course, play_texts, cut_course, cut_texts, TakesWanted, IsEndSeen, PlaySawEnd, AreCarriedOut}
 use Rattle.bgpdump_tool.specs.Standing.{Scene, Taking}
 use Rattle.bgpdump_tool.specs.Playing.{is_some_text, Plays, PlaysCutOff, PlaysBrokenOff, PlaysScript}
 use Rattle.bgpdump_tool.proofs.WritingLaws.{WritesFronts-whole}
@@ -58,10 +61,10 @@ found_taken stamp q left left' found ended t = t.so_far.found_is
 
 -- its texts, whatever follows
 texts_of_all : (from : Place) (left : Option (List ℕ)) (lines : List Line) (scene : Scene) (old new : Outputs) (later : List Finding) → (p : Plays from left lines scene old new) → (scene.place.phase ≡ Ended → later ≡ [])
-    → course lines (p.standing.found ++ later) ≡ record { texts = p.texts; ended = p.standing.ended }
+    → course lines (p.standing.found ++ later) ≡ record { texts = p.texts; ended = p.standing.ended; left = later }
 texts_of_all from left lines scene old new later p none =
     ap (λ l. course l (p.standing.found ++ later)) (sym (append-nil lines)) ∙ p.goes false [] later (λ e. (none e, refl))
-    ∙ (λ i. record { texts = record { out = append-nil p.texts.out i; err = append-nil p.texts.err i }; ended = or_false p.standing.ended i })
+    ∙ (λ i. record { texts = record { out = append-nil p.texts.out i; err = append-nil p.texts.err i }; ended = or_false p.standing.ended i; left = later })
   where
     or_false : (b : Bool) → (b || false) ≡ b
     or_false true = refl
@@ -102,7 +105,7 @@ EndsSo-all : (stamp : Stamp) (left : Option (List ℕ)) (lines : List Line) (sce
     → EndsSo (outcome_of failed scene.reported) (play_texts lines (all_results stamp frames rest)) old new
 EndsSo-all stamp left lines scene old mid new failed p out err octets frames rest may split =
     let t = p.stands.taking in
-    let own : (more : List Finding) → (scene.place.phase ≡ Ended → more ≡ []) → course lines (p.standing.found ++ more) ≡ record { texts = p.texts; ended = p.standing.ended } =
+    let own : (more : List Finding) → (scene.place.phase ≡ Ended → more ≡ []) → course lines (p.standing.found ++ more) ≡ record { texts = p.texts; ended = p.standing.ended; left = more } =
     λ more none. texts_of_all (start_place stamp LIMIT) left lines scene old mid more p none in
     let met : p.standing.ended ≡ true → (course lines (all_results stamp t.so_far.frames t.so_far.rest)).ended ≡ true =
     λ e. ap (λ l. (course lines l).ended) (sym (found_taken stamp scene.place left scene.left p.standing.found p.standing.ended t) ∙ sym (append-nil p.standing.found)) ∙ ap (λ c. c.ended) (own [] (λ _. refl)) ∙ e in
@@ -225,3 +228,50 @@ length-ended stamp q left script scene old new how from (begun, read, inr (fault
     by_fault : (fault : WriteFault) → write_outcome fault ≡ outcome.InputTooLong → ⊥
     by_fault write.Write e = cc
     by_fault write.Memory e = cc
+
+-- ---- nothing but what commands want
+
+-- the octets taken give just what was found
+results_taken : (stamp : Stamp) (q : Place) (left left' : Option (List ℕ)) (found : List Finding) → (s : SoFar (start_place stamp LIMIT) q left left' found)
+    → (taken after : List ℕ) (frames : List Frame) (rest : List ℕ) → Took left left' taken after → Splits stamp None taken frames rest → all_results stamp frames rest ≡ found
+results_taken stamp q left left' found s taken after frames rest took split =
+    let p : Place = start_place stamp LIMIT in
+    let same = same_taken left left' (spellings s.frames ++ s.rest) taken after s.consumed took in
+    let all = frames_all stamp None s.frames frames s.rest rest s.are_frames split.are_frames (rest_so_far p q left left' found s).none split.none (sym same ∙ split.whole) in
+    (λ i. results p (all.0 i) (all.1 i)) ∙ sym s.found_is
+
+wanted_by : (stamp : Stamp) (failed reported : Bool) (lines : List Line) (frames : List Frame) (rest : List ℕ) → (course lines (all_results stamp frames rest)).left ≡ [] → TakesWanted stamp (outcome_of failed reported) lines frames rest
+wanted_by stamp true reported lines frames rest none = tt
+wanted_by stamp false true lines frames rest none = none
+wanted_by stamp false false lines frames rest none = none
+
+pub TakesWanted-finished : (stamp : Stamp) (q : Place) (left : Option (List ℕ)) (script : List ℕ) (scene : Scene) (old new : Outputs) (failed : Bool) (outcome : Outcome) → q ≡ start_place stamp LIMIT → PlaysScript q left script scene old new (Ok tt)
+    → outcome ≡ outcome_of failed scene.reported → (lines : List Line) → IsScript lines script → (taken after : List ℕ) (frames : List Frame) (rest : List ℕ) → Took left scene.left taken after → Splits stamp None taken frames rest
+    → TakesWanted stamp outcome lines frames rest
+TakesWanted-finished stamp q left script scene old new failed outcome from (done, are, plays) is lines reading taken after frames rest took split =
+    let p : Plays (start_place stamp LIMIT) left lines scene old new = subst (λ x. Plays x left lines scene old new) from (subst (λ l. Plays q left l scene old new) (one_reading done lines (script_lines script) are reading) plays) in
+    let found = p.standing.found in
+    let same = results_taken stamp scene.place left scene.left found p.stands.taking.so_far taken after frames rest took split in
+    let none = ap (λ l. (course lines l).left) (same ∙ sym (append-nil found)) ∙ ap (λ c. c.left) (texts_of_all (start_place stamp LIMIT) left lines scene old new [] p (λ _. refl)) in
+    subst (λ o. TakesWanted stamp o lines frames rest) (sym is) (wanted_by stamp failed scene.reported lines frames rest none)
+
+wanted_source : (fault : SourceFault) (stamp : Stamp) (lines : List Line) (frames : List Frame) (rest : List ℕ) → (EndedByInput (source_outcome fault) → (cut_course lines (all_results stamp frames [])).ended ≡ true) → TakesWanted stamp (source_outcome fault) lines frames rest
+wanted_source source.Read stamp lines frames rest ended = ended tt
+wanted_source source.InputTooLong stamp lines frames rest ended = ended tt
+wanted_source source.Memory stamp lines frames rest ended = tt
+wanted_source source.Spent stamp lines frames rest ended = tt
+
+wanted_write : (fault : WriteFault) (stamp : Stamp) (lines : List Line) (frames : List Frame) (rest : List ℕ) → TakesWanted stamp (write_outcome fault) lines frames rest
+wanted_write write.Write stamp lines frames rest = tt
+wanted_write write.Memory stamp lines frames rest = tt
+
+pub TakesWanted-stopped : (stamp : Stamp) (q : Place) (left : Option (List ℕ)) (script : List ℕ) (scene : Scene) (old new : Outputs) (outcome : Outcome) → q ≡ start_place stamp LIMIT → PlaysScript q left script scene old new (Err outcome)
+    → (lines : List Line) → IsScript lines script → (taken after : List ℕ) (frames : List Frame) (rest : List ℕ) → Took left scene.left taken after → Splits stamp None taken frames rest → TakesWanted stamp outcome lines frames rest
+TakesWanted-stopped stamp q left script scene old new outcome from (begun, (first, others, whole, are), inl (fault, is, p)) lines reading taken after frames rest took split =
+    let (behind, all) = first_reading begun lines first others are (subst (AreLines lines) whole reading) in
+    let faulty = subst (λ x. IsFaulty x left scene.left p.found fault) from p.faulty in
+    subst (λ o. TakesWanted stamp o lines frames rest) (sym is) (wanted_source fault stamp lines frames rest (λ by_input.
+      let found = whole_found stamp left scene.left p.found fault faulty by_input taken after frames rest took split in
+      (λ i. (cut_course (all i) (sym found i)).ended) ∙ p.wants behind))
+TakesWanted-stopped stamp q left script scene old new outcome from (begun, read, inr (fault, is, p)) lines reading taken after frames rest took split =
+    subst (λ o. TakesWanted stamp o lines frames rest) (sym is) (wanted_write fault stamp lines frames rest)

@@ -22,7 +22,7 @@ use Rattle.bgpdump_tool.specs.Writing.{is_any_bad}
 use Rattle.bgpdump_tool.specs.Script.{Line, Empty, Asks, NoCommand, IsLine, AreLines, script_lines}
 use Rattle.bgpdump_tool.specs.State.{State, start}
 use Rattle.bgpdump_tool.specs.Meaning.{meaning, meets_end, faults_taken}
-use Rattle.bgpdump_tool.specs.Course.{Course, course_behind, course_from, course, play_texts, line_report}
+use Rattle.bgpdump_tool.specs.Course.{Course, course_behind, course_from, course, cut_course, play_texts, line_report}
 use Rattle.bgpdump_tool.specs.Standing.{Scene, Taking, Stands, Follows, HasRoom, state_of}
 use Rattle.bgpdump_tool.specs.Carrying.{IsCarriedOut, IsCutOff, IsBrokenOff}
 use Rattle.bgpdump_tool.specs.Playing.{LineDoes, CarriesLine, is_some_text, Plays, PlaysCutOff, PlaysBrokenOff, PlayDoes, PlaysScript}
@@ -53,6 +53,7 @@ course_behind-twice : (a b : Texts) (x y : Bool) (c : Course) → course_behind 
 course_behind-twice a b x y c = λ i. record {
   texts = record { out = sym (append_assoc a.out b.out c.texts.out) i; err = sym (append_assoc a.err b.err c.texts.err) i };
   ended = sym (or_assoc x y c.ended) i;
+  left = c.left;
 }
 
 -- one line more was carried out
@@ -133,13 +134,13 @@ not_cut true true h = h refl
 course_on : (cut : Bool) (number : ℕ) (command : Command) (lines : List Line) (s : State) → (cut && meets_end command s) ≡ false
     → course_from cut number (Asks command ∷ lines) s ≡ course_behind (record { out = (meaning command s).reply; err = faults_taken command s }) (meets_end command s) (course_from cut (number + 1) lines (meaning command s).after)
 course_on cut number command lines s on =
-    ap (λ test. if test then record { texts = record { out = []; err = reports s.unread }; ended = true }
+    ap (λ test. if test then record { texts = record { out = []; err = reports s.unread }; ended = true; left = [] }
     else course_behind (record { out = (meaning command s).reply; err = faults_taken command s }) (meets_end command s) (course_from cut (number + 1) lines (meaning command s).after)) on
 
 course_cut : (number : ℕ) (command : Command) (lines : List Line) (s : State) → meets_end command s ≡ true
-    → course_from true number (Asks command ∷ lines) s ≡ record { texts = record { out = []; err = reports s.unread }; ended = true }
+    → course_from true number (Asks command ∷ lines) s ≡ record { texts = record { out = []; err = reports s.unread }; ended = true; left = [] }
 course_cut number command lines s met =
-    ap (λ test. if test then record { texts = record { out = []; err = reports s.unread }; ended = true }
+    ap (λ test. if test then record { texts = record { out = []; err = reports s.unread }; ended = true; left = [] }
     else course_behind (record { out = (meaning command s).reply; err = faults_taken command s }) (meets_end command s) (course_from true (number + 1) lines (meaning command s).after)) met
 
 -- nothing more is found where the run had ended before, or has now
@@ -204,13 +205,15 @@ PlaysCutOff-command from left done command a b old mid new fault mid_err new_err
     let err : Appends mid.err new.err (reports taken) = subst (λ e. Appends e new.err (reports taken)) (sym mid_err) (subst (λ e. Appends a.err e (reports taken)) (sym new_err) stop.stops.reported) in
     let met : meets_end command (state_of s taken) ≡ true =
     grind (arith, nat_tests, subst (λ l. length taken < (meaning command (state_of s l)).taken) (append-nil taken) (stop.wants [])) in
+    let course_is : (lines : List Line) → cut_course ((done ++ Asks command ∷ []) ++ lines) (s.found ++ taken) ≡ course_behind p.texts s.ended (record { texts = record { out = []; err = reports taken }; ended = true; left = [] }) =
+    λ lines. after_line true done lines (Asks command) (start (s.found ++ taken)) ∙ p.goes true (Asks command ∷ lines) taken (λ e. absurd (stop.stops.reads e))
+      ∙ ap (course_behind p.texts s.ended) (course_cut (length done + 1) command lines (state_of s taken) met) in
     record {
       found = s.found ++ taken;
       faulty = stop.stops.faulty;
+      wants = λ lines. ap (λ c. c.ended) (course_is lines) ∙ or_true s.ended;
       exact = λ lines.
-          subst (λ c. Writes c.texts old new)
-          (sym (after_line true done lines (Asks command) (start (s.found ++ taken)) ∙ p.goes true (Asks command ∷ lines) taken (λ e. absurd (stop.stops.reads e))
-          ∙ ap (course_behind p.texts s.ended) (course_cut (length done + 1) command lines (state_of s taken) met)))
+          subst (λ c. Writes c.texts old new) (sym (course_is lines))
           (Writes-append p.texts (record { out = []; err = reports taken }) old mid new p.written (out, err));
       fronts = λ lines more.
           let rest = take_over taken more (meaning command (state_of s (taken ++ more))).taken (omega (arith, stop.wants more)) in
@@ -220,6 +223,10 @@ PlaysCutOff-command from left done command a b old mid new fault mid_err new_err
           (subst (λ o. AppendsFront mid.out o (meaning command (state_of s (taken ++ more))).reply) (sym stop.quiet) (AppendsFront-none mid.out (meaning command (state_of s (taken ++ more))).reply))
           (subst (AppendsFront mid.err new.err) (sym (ap reports rest.1 ∙ reports-append taken rest.0)) (AppendsFront-longer mid.err new.err (reports taken) (reports rest.0) (AppendsFront-whole mid.err new.err (reports taken) err))));
     }
+  where
+    or_true : (b : Bool) → (b || true) ≡ true
+    or_true true = refl
+    or_true false = refl
 
 -- by memory or an output
 pub PlaysBrokenOff-command : (from : Place) (left : Option (List ℕ)) (done : List Line) (command : Command) (a b : Scene) (old mid new : Outputs) → mid.err ≡ a.err → new.err ≡ b.err → (p : Plays from left done a old mid)

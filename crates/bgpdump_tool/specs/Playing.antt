@@ -13,7 +13,7 @@ use Rattle.bgpdump_tool.specs.Going.{IsFaulty}
 use Rattle.bgpdump_tool.specs.Run.{Texts, Outputs, Writes, WritesFronts}
 use Rattle.bgpdump_tool.specs.Script.{Line, Empty, Asks, NoCommand, IsLine, AreLines, script_lines}
 use Rattle.bgpdump_tool.specs.State.{start}
-use Rattle.bgpdump_tool.specs.Course.{course_behind, course_from, course, play_texts, cut_texts, line_report}
+use Rattle.bgpdump_tool.specs.Course.{course_behind, course_from, course, play_texts, cut_course, cut_texts, line_report}
 use Rattle.bgpdump_tool.specs.Standing.{Standing, Scene, Taking, Stands, state_of}
 use Rattle.bgpdump_tool.specs.Carrying.{CarryingDoes}
 
@@ -53,6 +53,7 @@ pub record PlaysCutOff (from : Place) (left : Option (List ℕ)) (begun : List L
   pub found : List Finding
   pub faulty : IsFaulty from left scene.left found fault
   pub exact : (lines : List Line) → Writes (cut_texts (begun ++ lines) found) old new
+  pub wants : (lines : List Line) → (cut_course (begun ++ lines) found).ended ≡ true
   pub fronts : (lines : List Line) (more : List Finding) → WritesFronts (play_texts (begun ++ lines) (found ++ more)) old new
 
 -- memory or an output stopped it there

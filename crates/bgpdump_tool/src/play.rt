@@ -11,7 +11,7 @@ ghost use Rattle.bgpdump_tool.specs.declared.dump.TheConstants.{LIMIT};
 ghost use Rattle.bgpdump_tool.specs.Ending.{is_read_fault, is_write_fault};
 ghost use Rattle.bgpdump_tool.specs.Run.{IsTaken, MayHold, outputs_of, Writes, EndsSo, EndedByInput, all_results};
 ghost use Rattle.bgpdump_tool.specs.Script.{Line, IsScript};
-ghost use Rattle.bgpdump_tool.specs.Course.{play_texts, cut_texts, line_report, PlaySawEnd, AreCarriedOut};
+ghost use Rattle.bgpdump_tool.specs.Course.{play_texts, cut_texts, TakesWanted, line_report, PlaySawEnd, AreCarriedOut};
 ghost use Rattle.bgpdump_tool.specs.Standing.{HasRoom, scene_of};
 ghost use Rattle.bgpdump_tool.specs.Playing.{CarriesLine, PlaysScript};
 ghost use Rattle.bgpdump_tool.specs.Writing.{Puts, is_write};
@@ -69,6 +69,13 @@ pub fn run_play<S: PrefixStore<Rc<Route>>, I: Input, O: Output, E: Output>(
         Writes (cut_texts lines (all_results stamp frames []))
         (outputs_of O.written E.written out.old err.old)
         (outputs_of O.written E.written out.new err.new) }
+
+    // No record is taken that no command wants: where the run came to its end, commands took all
+    // that the octets give; and a fault of the input came inside a command that wanted more.
+    ensures wanted { (lines : List Line) → IsScript lines script.now →
+        (taken after : List ℕ) (frames : List Frame) (rest : List ℕ) →
+        Took (I.left input.old) (I.left input.new) taken after →
+        Splits stamp None taken frames rest → TakesWanted stamp result lines frames rest }
 
     // At most 2^40 octets are taken: those of frames, and then what stands behind them, none of it
     // behind a header that states too much.

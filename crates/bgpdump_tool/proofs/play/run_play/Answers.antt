@@ -1,5 +1,5 @@
 use Rattle.std.proofs.Common.{◌||◌}
-use Rattle.bgpdump_tool.proofs.PlayEndLaws.{PlayEnds-finished, PlayEnds-stopped, Writes-cut, IsTaken-finished, IsTaken-ended, length-ended}
+use Rattle.bgpdump_tool.proofs.PlayEndLaws.{PlayEnds-finished, PlayEnds-stopped, Writes-cut, IsTaken-finished, IsTaken-ended, length-ended, TakesWanted-finished, TakesWanted-stopped}
 use Rattle.bgpdump_tool.proofs.play.run_play.Goals as goal
 
 pub returns-in-Ok-clause-text : goal.returns-in-Ok-clause-text
@@ -21,3 +21,10 @@ returns-clause-taken g c = λ short. IsTaken-ended c.args.stamp _ _ c.args.scrip
 
 pub returns-clause-too_long : goal.returns-clause-too_long
 returns-clause-too_long g c = length-ended c.args.stamp _ _ c.args.script.now _ _ _ c.in-Err.outcome c.new-session.ensures.source c.in-Err.ensures.plays
+
+pub returns-in-Ok-clause-wanted : goal.returns-in-Ok-clause-wanted
+returns-in-Ok-clause-wanted g c =
+    TakesWanted-finished c.args.stamp _ _ c.args.script.now _ _ _ (g.O.Output.failed c.finish.new.out || g.E.Output.failed c.finish.new.err) c.finish.result c.new-session.ensures.source c.in-Ok.ensures.plays c.finish.ensures.outcome
+
+pub returns-clause-wanted : goal.returns-clause-wanted
+returns-clause-wanted g c = TakesWanted-stopped c.args.stamp _ _ c.args.script.now _ _ _ c.in-Err.outcome c.new-session.ensures.source c.in-Err.ensures.plays
