@@ -25,7 +25,7 @@ use Rattle.bgpdump_tool.specs.Ending.{outcome_of, source_outcome, write_outcome}
 use Rattle.bgpdump_tool.specs.Going.{IsFaulty}
 use Rattle.bgpdump_tool.specs.Run.{Texts, Outputs, MayHold, Writes, WritesFronts, EndsSo, EndedByInput, IsTaken, IsLast, all_results}
 use Rattle.bgpdump_tool.specs.Script.{Line, AreLines, IsScript, script_lines}
-use Rattle.bgpdump_tool.specs.Course.{course, play_texts, cut_course, cut_texts, TakesWanted, IsEndSeen, PlaySawEnd, AreCarriedOut}
+use Rattle.bgpdump_tool.specs.Course.{course, play_texts, cut_course, cut_texts, TakesWanted, IsEndSeen, PlaySawEnd}
 use Rattle.bgpdump_tool.specs.Standing.{Scene, Taking}
 use Rattle.bgpdump_tool.specs.Playing.{is_some_text, Plays, PlaysCutOff, PlaysBrokenOff, PlaysScript}
 use Rattle.bgpdump_tool.proofs.WritingLaws.{WritesFronts-whole}
@@ -84,11 +84,6 @@ EndsSo-by true reported texts old new told writes = WritesFronts-whole texts old
 EndsSo-by false true texts old new told writes = (some_text texts.err (sym told), writes)
 EndsSo-by false false texts old new told writes = (none_text texts.err (sym told), writes)
 
-carried_out_all : (failed reported : Bool) (lines : List Line) → AreCarriedOut (outcome_of failed reported) lines lines
-carried_out_all true reported lines = ([], sym (append-nil lines))
-carried_out_all false true lines = refl
-carried_out_all false false lines = refl
-
 saw_all : (stamp : Stamp) (failed reported : Bool) (lines : List Line) (frames : List Frame) (rest : List ℕ) → IsEndSeen stamp lines frames rest → PlaySawEnd stamp (outcome_of failed reported) lines frames rest
 saw_all stamp true reported lines frames rest seen = seen
 saw_all stamp false true lines frames rest seen = seen
@@ -96,9 +91,9 @@ saw_all stamp false false lines frames rest seen = seen
 
 -- the texts of a script that was carried out
 abbrev pub PlayEnds : Stamp → Option (List ℕ) → Option (List ℕ) → List ℕ → Outcome → Outputs → Outputs → Type 0
-PlayEnds stamp left left' script outcome old new = (lines : List Line) → IsScript lines script → (begun : List Line) × AreCarriedOut outcome begun lines
-    × ((octets : List ℕ) (frames : List Frame) (rest : List ℕ) → MayHold stamp (PlaySawEnd stamp outcome begun) left left' octets → Splits stamp None octets frames rest
-    → EndsSo outcome (play_texts lines (all_results stamp frames rest)) old new)
+PlayEnds stamp left left' script outcome old new = (lines : List Line) → IsScript lines script
+    → (octets : List ℕ) (frames : List Frame) (rest : List ℕ) → MayHold stamp (PlaySawEnd stamp outcome lines) left left' octets → Splits stamp None octets frames rest
+    → EndsSo outcome (play_texts lines (all_results stamp frames rest)) old new
 
 EndsSo-all : (stamp : Stamp) (left : Option (List ℕ)) (lines : List Line) (scene : Scene) (old mid new : Outputs) (failed : Bool) → Plays (start_place stamp LIMIT) left lines scene old mid → Keeps mid.out new.out → Keeps mid.err new.err
     → (octets : List ℕ) (frames : List Frame) (rest : List ℕ) → MayHold stamp (PlaySawEnd stamp (outcome_of failed scene.reported) lines) left scene.left octets → Splits stamp None octets frames rest
@@ -117,24 +112,11 @@ EndsSo-all stamp left lines scene old mid new failed p out err octets frames res
 pub PlayEnds-finished : (stamp : Stamp) (q : Place) (left : Option (List ℕ)) (script : List ℕ) (scene : Scene) (old mid new : Outputs) (failed : Bool) (outcome : Outcome) → q ≡ start_place stamp LIMIT → PlaysScript q left script scene old mid (Ok tt)
     → outcome ≡ outcome_of failed scene.reported → Keeps mid.out new.out → Keeps mid.err new.err → PlayEnds stamp left scene.left script outcome old new
 PlayEnds-finished stamp q left script scene old mid new failed outcome from (done, are, plays) is out err lines reading =
-    let p : Plays (start_place stamp LIMIT) left lines scene old mid = subst (λ x. Plays x left lines scene old mid) from (subst (λ l. Plays q left l scene old mid) (one_reading done lines (script_lines script) are reading) plays) in (
-      lines,
-      subst (λ o. AreCarriedOut o lines lines) (sym is) (carried_out_all failed scene.reported lines),
-      subst (λ o. (octets : List ℕ) (frames : List Frame) (rest : List ℕ) → MayHold stamp (PlaySawEnd stamp o lines) left scene.left octets → Splits stamp None octets frames rest → EndsSo o (play_texts lines (all_results stamp frames rest)) old new) (sym is)
-          (EndsSo-all stamp left lines scene old mid new failed p out err),
-    )
+    let p : Plays (start_place stamp LIMIT) left lines scene old mid = subst (λ x. Plays x left lines scene old mid) from (subst (λ l. Plays q left l scene old mid) (one_reading done lines (script_lines script) are reading) plays) in
+    subst (λ o. (octets : List ℕ) (frames : List Frame) (rest : List ℕ) → MayHold stamp (PlaySawEnd stamp o lines) left scene.left octets → Splits stamp None octets frames rest → EndsSo o (play_texts lines (all_results stamp frames rest)) old new) (sym is)
+    (EndsSo-all stamp left lines scene old mid new failed p out err)
 
 -- ---- a run that was stopped
-
-AreCarriedOut-source : (fault : SourceFault) (begun lines left : List Line) → lines ≡ begun ++ left → AreCarriedOut (source_outcome fault) begun lines
-AreCarriedOut-source source.Read begun lines left is = (left, is)
-AreCarriedOut-source source.InputTooLong begun lines left is = (left, is)
-AreCarriedOut-source source.Memory begun lines left is = (left, is)
-AreCarriedOut-source source.Spent begun lines left is = (left, is)
-
-AreCarriedOut-write : (fault : WriteFault) (begun lines left : List Line) → lines ≡ begun ++ left → AreCarriedOut (write_outcome fault) begun lines
-AreCarriedOut-write write.Write begun lines left is = (left, is)
-AreCarriedOut-write write.Memory begun lines left is = (left, is)
 
 EndsSo-write : (fault : WriteFault) (texts : Texts) (old new : Outputs) → WritesFronts texts old new → EndsSo (write_outcome fault) texts old new
 EndsSo-write write.Write texts old new fronts = fronts
@@ -145,39 +127,33 @@ saw_write stamp write.Write begun frames rest seen = seen
 saw_write stamp write.Memory begun frames rest seen = seen
 
 PlayEnds-source : (stamp : Stamp) (left : Option (List ℕ)) (begun lines behind : List Line) (scene : Scene) (old new : Outputs) (fault : SourceFault) → lines ≡ begun ++ behind → PlaysCutOff (start_place stamp LIMIT) left begun scene old new fault
-    → (octets : List ℕ) (frames : List Frame) (rest : List ℕ) → MayHold stamp (PlaySawEnd stamp (source_outcome fault) begun) left scene.left octets → Splits stamp None octets frames rest
+    → (octets : List ℕ) (frames : List Frame) (rest : List ℕ) → MayHold stamp (PlaySawEnd stamp (source_outcome fault) lines) left scene.left octets → Splits stamp None octets frames rest
     → EndsSo (source_outcome fault) (play_texts lines (all_results stamp frames rest)) old new
 PlayEnds-source stamp left begun lines behind scene old new fault is p octets frames rest may split =
-    let (later, first) = untold_held stamp left scene.left p.found (PlaySawEnd stamp (source_outcome fault) begun) p.faulty.untold octets frames rest may split in
+    let (later, first) = untold_held stamp left scene.left p.found (PlaySawEnd stamp (source_outcome fault) lines) p.faulty.untold octets frames rest may split in
     subst (λ t. EndsSo (source_outcome fault) t old new) (λ i. play_texts (sym is i) (sym first i)) (EndsSo-source fault (play_texts (begun ++ behind) (p.found ++ later)) old new (p.fronts behind later))
 
 PlayEnds-write : (stamp : Stamp) (left : Option (List ℕ)) (begun lines behind : List Line) (scene : Scene) (old new : Outputs) (fault : WriteFault) → lines ≡ begun ++ behind → PlaysBrokenOff (start_place stamp LIMIT) left begun scene old new
-    → (octets : List ℕ) (frames : List Frame) (rest : List ℕ) → MayHold stamp (PlaySawEnd stamp (write_outcome fault) begun) left scene.left octets → Splits stamp None octets frames rest
+    → (octets : List ℕ) (frames : List Frame) (rest : List ℕ) → MayHold stamp (PlaySawEnd stamp (write_outcome fault) lines) left scene.left octets → Splits stamp None octets frames rest
     → EndsSo (write_outcome fault) (play_texts lines (all_results stamp frames rest)) old new
 PlayEnds-write stamp left begun lines behind scene old new fault is p octets frames rest may split =
     let t = p.taking in
-    let met : p.ended ≡ true → (course begun (all_results stamp t.so_far.frames t.so_far.rest)).ended ≡ true =
-    λ e. ap (λ l. (course begun l).ended) (sym (found_taken stamp scene.place left scene.left p.found p.ended t)) ∙ p.met e in
-    let first = played_held stamp scene.place left scene.left p.found p.ended (PlaySawEnd stamp (write_outcome fault) begun) t
-    (λ cut seen. saw_write stamp fault begun t.so_far.frames t.so_far.rest (cut, elim seen [ inl some ↦ inl some | inr e ↦ inr (met e) ])) octets frames rest may split in
+    let met : p.ended ≡ true → (course lines (all_results stamp t.so_far.frames t.so_far.rest)).ended ≡ true =
+    λ e. (λ i. (course (is i) (sym (found_taken stamp scene.place left scene.left p.found p.ended t) i)).ended) ∙ p.met e behind in
+    let first = played_held stamp scene.place left scene.left p.found p.ended (PlaySawEnd stamp (write_outcome fault) lines) t
+    (λ cut seen. saw_write stamp fault lines t.so_far.frames t.so_far.rest (cut, elim seen [ inl some ↦ inl some | inr e ↦ inr (met e) ])) octets frames rest may split in
     subst (λ x. EndsSo (write_outcome fault) x old new) (λ i. play_texts (sym is i) (sym first.first i)) (EndsSo-write fault (play_texts (begun ++ behind) (p.found ++ first.later)) old new (p.fronts behind first.later first.all))
 
 pub PlayEnds-stopped : (stamp : Stamp) (q : Place) (left : Option (List ℕ)) (script : List ℕ) (scene : Scene) (old new : Outputs) (outcome : Outcome) → q ≡ start_place stamp LIMIT → PlaysScript q left script scene old new (Err outcome)
     → PlayEnds stamp left scene.left script outcome old new
 PlayEnds-stopped stamp q left script scene old new outcome from (begun, (first, others, whole, are), inl (fault, is, p)) lines reading =
-    let (behind, all) = first_reading begun lines first others are (subst (AreLines lines) whole reading) in (
-      begun,
-      subst (λ o. AreCarriedOut o begun lines) (sym is) (AreCarriedOut-source fault begun lines behind all),
-      subst (λ o. (octets : List ℕ) (frames : List Frame) (rest : List ℕ) → MayHold stamp (PlaySawEnd stamp o begun) left scene.left octets → Splits stamp None octets frames rest → EndsSo o (play_texts lines (all_results stamp frames rest)) old new) (sym is)
-          (PlayEnds-source stamp left begun lines behind scene old new fault all (subst (λ x. PlaysCutOff x left begun scene old new fault) from p)),
-    )
+    let (behind, all) = first_reading begun lines first others are (subst (AreLines lines) whole reading) in
+    subst (λ o. (octets : List ℕ) (frames : List Frame) (rest : List ℕ) → MayHold stamp (PlaySawEnd stamp o lines) left scene.left octets → Splits stamp None octets frames rest → EndsSo o (play_texts lines (all_results stamp frames rest)) old new) (sym is)
+    (PlayEnds-source stamp left begun lines behind scene old new fault all (subst (λ x. PlaysCutOff x left begun scene old new fault) from p))
 PlayEnds-stopped stamp q left script scene old new outcome from (begun, (first, others, whole, are), inr (fault, is, p)) lines reading =
-    let (behind, all) = first_reading begun lines first others are (subst (AreLines lines) whole reading) in (
-      begun,
-      subst (λ o. AreCarriedOut o begun lines) (sym is) (AreCarriedOut-write fault begun lines behind all),
-      subst (λ o. (octets : List ℕ) (frames : List Frame) (rest : List ℕ) → MayHold stamp (PlaySawEnd stamp o begun) left scene.left octets → Splits stamp None octets frames rest → EndsSo o (play_texts lines (all_results stamp frames rest)) old new) (sym is)
-          (PlayEnds-write stamp left begun lines behind scene old new fault all (subst (λ x. PlaysBrokenOff x left begun scene old new) from p)),
-    )
+    let (behind, all) = first_reading begun lines first others are (subst (AreLines lines) whole reading) in
+    subst (λ o. (octets : List ℕ) (frames : List Frame) (rest : List ℕ) → MayHold stamp (PlaySawEnd stamp o lines) left scene.left octets → Splits stamp None octets frames rest → EndsSo o (play_texts lines (all_results stamp frames rest)) old new) (sym is)
+    (PlayEnds-write stamp left begun lines behind scene old new fault all (subst (λ x. PlaysBrokenOff x left begun scene old new) from p))
 
 -- a run that the input ended has written what the frames give
 pub Writes-cut : (stamp : Stamp) (q : Place) (left : Option (List ℕ)) (script : List ℕ) (scene : Scene) (old new : Outputs) (outcome : Outcome) → q ≡ start_place stamp LIMIT → PlaysScript q left script scene old new (Err outcome) → EndedByInput outcome

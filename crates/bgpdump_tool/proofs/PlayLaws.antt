@@ -238,9 +238,10 @@ PlaysBrokenOff-command from left done command a b old mid new mid_err new_err p 
       found = s.found ++ taken;
       ended = stop.ended;
       taking = stop.taking;
-      met = λ e.
-          ap (λ c. c.ended) (p.goes false (Asks command ∷ []) taken (λ x. (stop.follows.quiet x, refl)))
-          ∙ ap (λ x. s.ended || x) (or_false (meets_end command (state_of s taken))) ∙ stop.met e;
+      met = λ e lines.
+          ap (λ c. c.ended) (after_line false done lines (Asks command) (start (s.found ++ taken)) ∙ p.goes false (Asks command ∷ lines) taken (λ x. (stop.follows.quiet x, refl)))
+          ∙ sym (or_assoc s.ended (meets_end command (state_of s taken)) (course_from false (length done + 1 + 1) lines (meaning command (state_of s taken)).after).ended)
+          ∙ ap (λ x. x || (course_from false (length done + 1 + 1) lines (meaning command (state_of s taken)).after).ended) (stop.met e);
       fronts = λ lines more none.
           let fronts = stop.fronts more none in
           subst (λ t. WritesFronts t old new) (sym (texts_at from left done lines command a old mid (s.found ++ taken) taken more p refl (none_more a.place b.place taken more stop.follows none)))
@@ -259,9 +260,10 @@ PlaysBrokenOff-report from left done number a b old mid new p is same quiet fron
       found = s.found;
       ended = s.ended;
       taking = subst (λ x. Taking from left x.place x.left s.found s.ended) (sym same) p.stands.taking;
-      met = λ e.
-          ap (λ l. (course (done ++ NoCommand ∷ []) l).ended) (sym (append-nil s.found)) ∙ ap (λ c. c.ended) (p.goes false (NoCommand ∷ []) [] (λ x. (refl, refl)))
-          ∙ or_false s.ended ∙ e;
+      met = λ e lines.
+          ap (λ l. (course ((done ++ NoCommand ∷ []) ++ lines) l).ended) (sym (append-nil s.found))
+          ∙ ap (λ c. c.ended) (after_line false done lines NoCommand (start (s.found ++ [])) ∙ p.goes false (NoCommand ∷ lines) [] (λ x. (refl, refl)))
+          ∙ ap (λ x. x || (course_from false (length done + 1 + 1) lines (state_of s [])).ended) e;
       fronts = λ lines more none.
           subst (λ t. WritesFronts t old new)
           (sym (ap (λ c. c.texts) (after_line false done lines NoCommand (start (s.found ++ more)) ∙ p.goes false (NoCommand ∷ lines) more (λ x. (none (ap (λ y. y.place.phase) same ∙ x), refl)))))

@@ -75,13 +75,3 @@ PlaySawEnd stamp Memory lines frames rest = IsEndSeen stamp lines frames rest
 PlaySawEnd stamp ReadFault lines frames rest = ⊥
 PlaySawEnd stamp InputTooLong lines frames rest = ⊥
 PlaySawEnd stamp ScriptTooLong lines frames rest = ⊥
-
--- a run that ended so carried out these lines of the script: all, where it came to its end
-abbrev pub AreCarriedOut : Outcome → List Line → List Line → Type 0
-AreCarriedOut Done lines script = lines ≡ script
-AreCarriedOut Reported lines script = lines ≡ script
-AreCarriedOut WriteFault lines script = (left : List Line) × (script ≡ lines ++ left)
-AreCarriedOut Memory lines script = (left : List Line) × (script ≡ lines ++ left)
-AreCarriedOut ReadFault lines script = (left : List Line) × (script ≡ lines ++ left)
-AreCarriedOut InputTooLong lines script = (left : List Line) × (script ≡ lines ++ left)
-AreCarriedOut ScriptTooLong lines script = ⊥

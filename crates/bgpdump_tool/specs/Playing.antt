@@ -61,7 +61,7 @@ pub record PlaysBrokenOff (from : Place) (left : Option (List ℕ)) (begun : Lis
   pub found : List Finding
   pub ended : Bool
   pub taking : Taking from left scene.place scene.left found ended
-  pub met : ended ≡ true → (course begun found).ended ≡ true
+  pub met : ended ≡ true → (lines : List Line) → (course (begun ++ lines) found).ended ≡ true
   pub fronts : (lines : List Line) (more : List Finding) → (scene.place.phase ≡ Ended → more ≡ []) → WritesFronts (play_texts (begun ++ lines) (found ++ more)) old new
 
 -- how the carrying out of lines ended

@@ -11,7 +11,7 @@ ghost use Rattle.bgpdump_tool.specs.declared.dump.TheConstants.{LIMIT};
 ghost use Rattle.bgpdump_tool.specs.Ending.{is_read_fault, is_write_fault};
 ghost use Rattle.bgpdump_tool.specs.Run.{IsTaken, MayHold, outputs_of, Writes, EndsSo, EndedByInput, all_results};
 ghost use Rattle.bgpdump_tool.specs.Script.{Line, IsScript};
-ghost use Rattle.bgpdump_tool.specs.Course.{play_texts, cut_texts, TakesWanted, line_report, PlaySawEnd, AreCarriedOut};
+ghost use Rattle.bgpdump_tool.specs.Course.{play_texts, cut_texts, TakesWanted, line_report, PlaySawEnd};
 ghost use Rattle.bgpdump_tool.specs.Standing.{HasRoom, scene_of};
 ghost use Rattle.bgpdump_tool.specs.Playing.{CarriesLine, PlaysScript};
 ghost use Rattle.bgpdump_tool.specs.Writing.{Puts, is_write};
@@ -51,13 +51,12 @@ pub fn run_play<S: PrefixStore<Rc<Route>>, I: Input, O: Output, E: Output>(
     // or fronts of them.
     ensures text { length script.now ≤ LONGEST_SCRIPT →
         (lines : List Line) → IsScript lines script.now →
-        (begun : List Line) × AreCarriedOut result begun lines
-        × ((octets : List ℕ) (frames : List Frame) (rest : List ℕ) →
-        MayHold stamp (PlaySawEnd stamp result begun) (I.left input.old) (I.left input.new) octets →
+        (octets : List ℕ) (frames : List Frame) (rest : List ℕ) →
+        MayHold stamp (PlaySawEnd stamp result lines) (I.left input.old) (I.left input.new) octets →
         Splits stamp None octets frames rest →
         EndsSo result (play_texts lines (all_results stamp frames rest))
         (outputs_of O.written E.written out.old err.old)
-        (outputs_of O.written E.written out.new err.new)) }
+        (outputs_of O.written E.written out.new err.new) }
 
     // A run that the input ended has written what the records taken whole give: the replies to the
     // commands that ended, the reports of what was taken, and those of the lines before.
