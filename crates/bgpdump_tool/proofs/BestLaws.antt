@@ -97,3 +97,9 @@ one_best routes peer address found p =
     longest-one (peer_routes routes peer) address found (best routes peer address)
     (subst (λ route. IsLongestOf route address found) (λ i n. sym (get-peer_routes routes peer n) i) p)
     (subst (λ route. IsLongestOf route address (best routes peer address)) (λ i n. sym (get-entries (peer_routes routes peer) n) i) (longest-entries address (finite.entries (peer_routes routes peer))))
+
+-- and it is such an answer
+pub best_is : (routes : Routes) (peer : Peer) (address : Address) → IsBest routes peer address (best routes peer address)
+best_is routes peer address =
+    subst (λ route. IsLongestOf route address (best routes peer address)) (λ i n. get-peer_routes routes peer n i)
+    (subst (λ route. IsLongestOf route address (best routes peer address)) (λ i n. sym (get-entries (peer_routes routes peer) n) i) (longest-entries address (finite.entries (peer_routes routes peer))))

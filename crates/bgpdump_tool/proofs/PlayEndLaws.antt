@@ -247,7 +247,7 @@ TakesWanted-stopped stamp q left script scene old new outcome from (begun, (firs
     let (behind, all) = first_reading begun lines first others are (subst (AreLines lines) whole reading) in
     let faulty = subst (λ x. IsFaulty x left scene.left p.found fault) from p.faulty in
     subst (λ o. TakesWanted stamp o lines frames rest) (sym is) (wanted_source fault stamp lines frames rest (λ by_input.
-      let found = whole_found stamp left scene.left p.found fault faulty by_input taken after frames rest took split in
-      (λ i. (cut_course (all i) (sym found i)).ended) ∙ p.wants behind))
+    let found = whole_found stamp left scene.left p.found fault faulty by_input taken after frames rest took split in
+    (λ i. (cut_course (all i) (sym found i)).ended) ∙ p.wants behind))
 TakesWanted-stopped stamp q left script scene old new outcome from (begun, read, inr (fault, is, p)) lines reading taken after frames rest took split =
     subst (λ o. TakesWanted stamp o lines frames rest) (sym is) (wanted_write fault stamp lines frames rest)

@@ -207,7 +207,7 @@ PlaysCutOff-command from left done command a b old mid new fault mid_err new_err
     grind (arith, nat_tests, subst (λ l. length taken < (meaning command (state_of s l)).taken) (append-nil taken) (stop.wants [])) in
     let course_is : (lines : List Line) → cut_course ((done ++ Asks command ∷ []) ++ lines) (s.found ++ taken) ≡ course_behind p.texts s.ended (record { texts = record { out = []; err = reports taken }; ended = true; left = [] }) =
     λ lines. after_line true done lines (Asks command) (start (s.found ++ taken)) ∙ p.goes true (Asks command ∷ lines) taken (λ e. absurd (stop.stops.reads e))
-      ∙ ap (course_behind p.texts s.ended) (course_cut (length done + 1) command lines (state_of s taken) met) in
+    ∙ ap (course_behind p.texts s.ended) (course_cut (length done + 1) command lines (state_of s taken) met) in
     record {
       found = s.found ++ taken;
       faulty = stop.stops.faulty;

@@ -7,6 +7,11 @@ ghost use Rattle.bgpdump_tool.specs.declared.script.TheConstants.{LONGEST_SCRIPT
 ghost use Rattle.bgpdump_tool.specs.declared.commands.lose.TheConstants.{ESTABLISHED, IDLE};
 ghost use Rattle.bgpdump_tool.specs.declared.command.Command.{Command};
 ghost use Rattle.bgpdump_tool.specs.Command.{SpellsCommand};
+ghost use Rattle.ip_prefix.specs.Address.{Address};
+ghost use Rattle.mrt_wire.specs.declared.peer.Peer.{Peer};
+ghost use Rattle.rib_player.specs.Tables.{Routes};
+ghost use Rattle.rib_player.specs.Store.{IsBest};
+ghost use Rattle.bgpdump_tool.specs.Replies.{best};
 ghost use Rattle.bgpdump_tool.specs.Script.{Line, IsScript};
 ghost use Rattle.bgpdump_tool.specs.Lines.{bar, line_feed, dot, zero_digit, space};
 
@@ -33,4 +38,11 @@ pub fn one_script()
     ensures one { (a b : List Line) (script : List ℕ) → IsScript a script → IsScript b script →
         a ≡ b }
     ensures some { (script : List ℕ) → ((lines : List Line) → IsScript lines script → ⊥) → ⊥ }
+{}
+
+/// What a lookup replies with is the longest match of the table: what the definition of replies
+/// finds, `Table::longest` answers.
+pub fn best_match()
+    ensures { (routes : Routes) (peer : Peer) (address : Address) →
+        IsBest routes peer address (best routes peer address) }
 {}

@@ -24,7 +24,7 @@ mod write;
 
 pub use command::{Command, read_command};
 pub use dump::run_dump;
-pub use laws::{one_command, one_script, run_numbers};
+pub use laws::{best_match, one_command, one_script, run_numbers};
 pub use lines::put_lines;
 pub use outcome::Outcome;
 pub use output::{OutFault, Output, WriteOutput, put_all};
