@@ -29,7 +29,7 @@ use Rattle.bgpdump_tool.specs.Standing.{Standing, Scene, Taking, Stands, state_o
 use Rattle.bgpdump_tool.specs.Moves.{GoesOn, Stops, ForwardDoes, OnwardDoes}
 use Rattle.bgpdump_tool.specs.Carrying.{Leads, IsLed, CarryingDoes, Travels}
 use Rattle.bgpdump_tool.specs.Losing.{loss_text, Loses}
-use Rattle.bgpdump_tool.specs.Writing.{Puts, Replies}
+use Rattle.bgpdump_tool.specs.Writing.{Puts, PutsPart}
 use Rattle.bgpdump_tool.proofs.MoveLaws.{Stands-inside, reports-append, needed_beyond}
 use Rattle.bgpdump_tool.proofs.WritingLaws.{AppendsFront-none, AppendsFront-longer}
 
@@ -43,10 +43,10 @@ pub AppendsFront-whole : (a b : Option (List ℕ)) (text : List ℕ) → Appends
 AppendsFront-whole a b text appended = record { front = text; back = []; whole = sym (append-nil text); appended = appended }
 
 -- a text that was put, or a front of it, is a reply
-pub Replies-put : (old new : Option (List ℕ)) (text : List ℕ) (result : Result (Unit {0}) WriteFault) → Puts old new text result → Replies old new text result
-Replies-put old new text (Ok done) put = put
-Replies-put old new text (Err write.Write) put = put
-Replies-put old new text (Err write.Memory) put = subst (λ n. AppendsFront old n text) (sym put) (AppendsFront-none old text)
+pub PutsPart-put : (old new : Option (List ℕ)) (text : List ℕ) (result : Result (Unit {0}) WriteFault) → Puts old new text result → PutsPart old new text result
+PutsPart-put old new text (Ok done) put = put
+PutsPart-put old new text (Err write.Write) put = put
+PutsPart-put old new text (Err write.Memory) put = subst (λ n. AppendsFront old n text) (sym put) (AppendsFront-none old text)
 
 -- ---- results that are taken
 
@@ -93,8 +93,8 @@ Leads-advance command s over count found more ended means all few =
     record {
       after = ap (λ m. m.after) means ∙ (λ i. record { history = s.history ++ events (took i); cursor = s.cursor + over + length (events (took i)); floor = s.floor; unread = left i });
       replied = ap (λ m. m.reply) means ∙ (λ i. at_text (s.cursor + over + length (events (took i))) (test i));
-      took = ap (λ m. take m.taken (found ++ more)) means ∙ took;
-      ended = ap (λ b. s.ended || b) (sym (ap (λ m. nat_lt (length (found ++ more)) m.taken) means ∙ test));
+      took = ap (λ m. take m.wanted (found ++ more)) means ∙ took;
+      ended = ap (λ b. s.ended || b) (sym (ap (λ m. nat_lt (length (found ++ more)) m.wanted) means ∙ test));
     }
 
 -- a run that went on was led by a command that takes so many results
@@ -122,7 +122,7 @@ IsLed-advance command from left s old new over found ended count goes means all 
 
 -- a reply that was written, or a front of it
 pub Carrying-replied : (command : Command) (from : Place) (left : Option (List ℕ)) (s : Standing) (old new : Scene) (out out' : Option (List ℕ)) (text : List ℕ) (result : Result (Unit {0}) WriteFault) → (led : IsLed command from left s old new)
-    → led.reply ≡ text → Replies out out' text result → CarryingDoes command from left s old new out out' (outcome_result result)
+    → led.reply ≡ text → PutsPart out out' text result → CarryingDoes command from left s old new out out' (outcome_result result)
 Carrying-replied command from left s old new out out' text (Ok done) led is replied = (led, subst (Appends out out') (sym is) replied)
 Carrying-replied command from left s old new out out' text (Err fault) led is replied = inr (
   fault,
@@ -144,8 +144,8 @@ Carrying-replied command from left s old new out out' text (Err fault) led is re
 -- ---- a fault on the way
 
 pub Carrying-stopped : (command : Command) (from : Place) (left : Option (List ℕ)) (s : Standing) (old new : Scene) (out : Option (List ℕ)) (outcome : Outcome) (More Enough : List Finding → Type 0)
-    → ((found more : List Finding) → More found → length found < (meaning command (state_of s (found ++ more))).taken)
-    → ((found more : List Finding) → Enough found → length found ≤ (meaning command (state_of s (found ++ more))).taken)
+    → ((found more : List Finding) → More found → length found < (meaning command (state_of s (found ++ more))).wanted)
+    → ((found more : List Finding) → Enough found → length found ≤ (meaning command (state_of s (found ++ more))).wanted)
     → Stops More Enough from left s old new outcome → CarryingDoes {A = Unit {0}} command from left s old new out out (Err outcome)
 Carrying-stopped command from left s old new out outcome More Enough wants has (inl (fault, is, found, more, stop)) =
     inl (fault, is, record { taken = found; wants = λ later. wants found later more; stops = stop; quiet = refl })
@@ -159,7 +159,7 @@ Carrying-stopped command from left s old new out outcome More Enough wants has (
     follows = stop.follows;
     met = λ e. ap (λ b. b || meets_end command (state_of s found)) e;
     fronts = λ more none.
-        let rest = take_over found more (meaning command (state_of s (found ++ more))).taken (has found more enough) in (
+        let rest = take_over found more (meaning command (state_of s (found ++ more))).wanted (has found more enough) in (
           AppendsFront-none out (meaning command (state_of s (found ++ more))).reply,
           subst (AppendsFront old.err new.err) (sym (ap reports rest.1 ∙ reports-append found rest.0)) (AppendsFront-longer old.err new.err (reports found) (reports rest.0) stop.fronts),
         );
@@ -254,8 +254,8 @@ IsLed-goto k from left s old new true above stands (over, found, below, goes) =
     (λ more. goto_means k s over found more above same)
     (λ e more. cc) (λ e more. needed_beyond (k - length s.history) found more few)
 
-goto_taken : (k : ℕ) (s : Standing) (found more : List Finding) → s.cursor ≤ k → (meaning (Goto k) (state_of s (found ++ more))).taken ≡ needed (k - length s.history) (found ++ more)
-goto_taken k s found more above = ap (λ m. m.taken) (goto_means k s (min (k - s.cursor) (length s.history - s.cursor)) found more above refl)
+goto_taken : (k : ℕ) (s : Standing) (found more : List Finding) → s.cursor ≤ k → (meaning (Goto k) (state_of s (found ++ more))).wanted ≡ needed (k - length s.history) (found ++ more)
+goto_taken k s found more above = ap (λ m. m.wanted) (goto_means k s (min (k - s.cursor) (length s.history - s.cursor)) found more above refl)
 
 pub Carrying-goto : (k : ℕ) (from : Place) (left : Option (List ℕ)) (s : Standing) (old new : Scene) (out : Option (List ℕ)) (outcome : Outcome) → s.cursor ≤ k → OnwardDoes k from left s old new (Err outcome)
     → CarryingDoes {A = Unit {0}} (Goto k) from left s old new out out (Err outcome)
@@ -273,7 +273,7 @@ none_below n = grind (arith, nat_tests)
 
 -- nothing is found, and the player goes elsewhere
 abbrev IsLed-still : (command : Command) (from : Place) (left : Option (List ℕ)) (s t : Standing) (old : Scene) (u : Timeline) (reply : List ℕ) → t.found ≡ s.found → t.ended ≡ s.ended → Stands from left (record old { player = u }) t
-    → ((more : List Finding) → meaning command (state_of s more) ≡ record { taken = 0; after = state_of t more; reply = reply }) → IsLed command from left s old (record old { player = u })
+    → ((more : List Finding) → meaning command (state_of s more) ≡ record { wanted = 0; after = state_of t more; reply = reply }) → IsLed command from left s old (record old { player = u })
 IsLed-still command from left s t old u reply found ended stands means = record {
   after = t;
   taken = [];
@@ -284,8 +284,8 @@ IsLed-still command from left s t old u reply found ended stands means = record 
   leads = λ more none. record {
     after = ap (λ m. m.after) (means more);
     replied = ap (λ m. m.reply) (means more);
-    took = ap (λ m. take m.taken more) (means more);
-    ended = ended ∙ sym (or_false s.ended) ∙ ap (λ b. s.ended || b) (sym (none_below (length more))) ∙ ap (λ m. s.ended || nat_lt (length more) m.taken) (sym (means more));
+    took = ap (λ m. take m.wanted more) (means more);
+    ended = ended ∙ sym (or_false s.ended) ∙ ap (λ b. s.ended || b) (sym (none_below (length more))) ∙ ap (λ m. s.ended || nat_lt (length more) m.wanted) (sym (means more));
   };
   reported = Appends-nil old.err;
   told = sym (or_false old.reported);
@@ -339,12 +339,12 @@ abbrev IsLed-answer : (command : Command) (from : Place) (left : Option (List �
 IsLed-answer command from left s old text stands means = IsLed-still command from left s s old old.player text refl refl stands means
 
 pub Carrying-question : (command : Command) (from : Place) (left : Option (List ℕ)) (s : Standing) (old : Scene) (out out' : Option (List ℕ)) (routes : Routes) (text : Routes → List ℕ) (result : Result (Unit {0}) WriteFault) → Stands from left old s
-    → ((more : List Finding) → meaning command (state_of s more) ≡ answer (text (table (take s.cursor s.history))) (state_of s more)) → routes ≡ current old.player → Replies out out' (text routes) result
+    → ((more : List Finding) → meaning command (state_of s more) ≡ answer (text (table (take s.cursor s.history))) (state_of s more)) → routes ≡ current old.player → PutsPart out out' (text routes) result
     → CarryingDoes command from left s old old out out' (outcome_result result)
 Carrying-question command from left s old out out' routes text result stands means is replied =
     let same : routes ≡ table (take s.cursor s.history) = is ∙ StandsFor-current old.player s.history stands.history ∙ ap (λ n. table (take n s.history)) stands.cursor in
     Carrying-replied command from left s old old out out' (text (table (take s.cursor s.history))) result (IsLed-answer command from left s old (text (table (take s.cursor s.history))) stands means) refl
-    (subst (λ r. Replies out out' (text r) result) same replied)
+    (subst (λ r. PutsPart out out' (text r) result) same replied)
 
 pub Carrying-position : (from : Place) (left : Option (List ℕ)) (s : Standing) (old : Scene) (out out' : Option (List ℕ)) (result : Result (Unit {0}) WriteFault) → Stands from left old s
     → Puts out out' (counted_text old.player.cursor (codes " ahead ") (ahead_of old.player)) result → CarryingDoes Position from left s old old out out' (outcome_result result)
@@ -352,7 +352,7 @@ Carrying-position from left s old out out' result stands put =
     let ahead : ahead_of old.player ≡ length s.history - s.cursor = omega (arith, StandsFor-end old.player s.history stands.history, stands.cursor) in
     let text : List ℕ = counted_text s.cursor (codes " ahead ") (length s.history - s.cursor) in
     Carrying-replied Position from left s old old out out' text result (IsLed-answer Position from left s old text stands (λ more. refl)) refl
-    (subst (λ t. Replies out out' t result) (λ i. counted_text (stands.cursor i) (codes " ahead ") (ahead i)) (Replies-put out out' (counted_text old.player.cursor (codes " ahead ") (ahead_of old.player)) result put))
+    (subst (λ t. PutsPart out out' t result) (λ i. counted_text (stands.cursor i) (codes " ahead ") (ahead i)) (PutsPart-put out out' (counted_text old.player.cursor (codes " ahead ") (ahead_of old.player)) result put))
 
 -- the loss of a session
 pub IsLed-lose : (peer : Peer) (from : Place) (left : Option (List ℕ)) (s : Standing) (old : Scene) (u : Timeline) → Stands from left old s → u ≡ after_play old.player (loss peer)
@@ -386,7 +386,7 @@ pub Carrying-back : (n : ℕ) (from : Place) (left : Option (List ℕ)) (s : Sta
     → CarryingDoes (Back n) from left s old (record old { player = u }) out out' (outcome_result result)
 Carrying-back n from left s old u out out' result stands is put =
     let led = IsLed-back n from left s old u stands is in
-    Carrying-replied (Back n) from left s old (record old { player = u }) out out' (at_text u.cursor false) result led.0 led.1 (Replies-put out out' (at_text u.cursor false) result put)
+    Carrying-replied (Back n) from left s old (record old { player = u }) out out' (at_text u.cursor false) result led.0 led.1 (PutsPart-put out out' (at_text u.cursor false) result put)
 
 -- nothing was played or written, for want of memory
 Carrying-refused : (command : Command) (from : Place) (left : Option (List ℕ)) (s : Standing) (old new : Scene) (out : Option (List ℕ)) (fault : WriteFault) → Stands from left old s → new ≡ old

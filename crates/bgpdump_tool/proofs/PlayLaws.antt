@@ -204,7 +204,7 @@ PlaysCutOff-command from left done command a b old mid new fault mid_err new_err
     let out : Appends mid.out new.out [] = subst (λ o. Appends mid.out o []) (sym stop.quiet) (Appends-nil mid.out) in
     let err : Appends mid.err new.err (reports taken) = subst (λ e. Appends e new.err (reports taken)) (sym mid_err) (subst (λ e. Appends a.err e (reports taken)) (sym new_err) stop.stops.reported) in
     let met : meets_end command (state_of s taken) ≡ true =
-    grind (arith, nat_tests, subst (λ l. length taken < (meaning command (state_of s l)).taken) (append-nil taken) (stop.wants [])) in
+    grind (arith, nat_tests, subst (λ l. length taken < (meaning command (state_of s l)).wanted) (append-nil taken) (stop.wants [])) in
     let course_is : (lines : List Line) → cut_course ((done ++ Asks command ∷ []) ++ lines) (s.found ++ taken) ≡ course_behind p.texts s.ended (record { texts = record { out = []; err = reports taken }; ended = true; left = [] }) =
     λ lines. after_line true done lines (Asks command) (start (s.found ++ taken)) ∙ p.goes true (Asks command ∷ lines) taken (λ e. absurd (stop.stops.reads e))
     ∙ ap (course_behind p.texts s.ended) (course_cut (length done + 1) command lines (state_of s taken) met) in
@@ -216,7 +216,7 @@ PlaysCutOff-command from left done command a b old mid new fault mid_err new_err
           subst (λ c. Writes c.texts old new) (sym (course_is lines))
           (Writes-append p.texts (record { out = []; err = reports taken }) old mid new p.written (out, err));
       fronts = λ lines more.
-          let rest = take_over taken more (meaning command (state_of s (taken ++ more))).taken (omega (arith, stop.wants more)) in
+          let rest = take_over taken more (meaning command (state_of s (taken ++ more))).wanted (omega (arith, stop.wants more)) in
           subst (λ t. WritesFronts t old new) (sym (texts_at from left done lines command a old mid (s.found ++ taken) taken more p refl (λ e. absurd (stop.stops.reads e))))
           (fronts_in p.texts (record { out = (meaning command (state_of s (taken ++ more))).reply; err = faults_taken command (state_of s (taken ++ more)) })
           (course_from false (length done + 1 + 1) lines (meaning command (state_of s (taken ++ more))).after).texts old mid new p.written

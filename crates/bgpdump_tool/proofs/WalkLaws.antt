@@ -13,7 +13,7 @@ use Rattle.bgpdump_tool.specs.declared.fault.WriteFault.{WriteFault}
 use Rattle.bgpdump_tool.specs.declared.fault.WriteFault.TheVariants.{Write, Memory}
 use Rattle.bgpdump_tool.specs.Device.{AppendsFront}
 use Rattle.bgpdump_tool.specs.Replies.{peer_line, peer_lines}
-use Rattle.bgpdump_tool.specs.Writing.{Puts, Replies}
+use Rattle.bgpdump_tool.specs.Writing.{Puts, PutsPart}
 use Rattle.bgpdump_tool.proofs.WritingLaws.{AppendsFront-none, AppendsFront-behind, AppendsFront-longer}
 
 -- of all items the lines of those done were written; the others are ahead
@@ -28,9 +28,9 @@ AppendsFront-put old new text Write put = put
 AppendsFront-put old new text Memory same = subst (λ known. AppendsFront old known text) (sym same) (AppendsFront-none old text)
 
 -- a text that was put, or a part of it, behind a whole one
-pub Replies-behind : (old mid new : Option (List ℕ)) (text more : List ℕ) (result : Result (Unit {0}) WriteFault) → Appends old mid text → Puts mid new more result → Replies old new (text ++ more) result
-Replies-behind old mid new text more (Ok done) p put = Appends-trans old mid new text more p put
-Replies-behind old mid new text more (Err fault) p put = AppendsFront-behind old mid new text more p (AppendsFront-put mid new more fault put)
+pub PutsPart-behind : (old mid new : Option (List ℕ)) (text more : List ℕ) (result : Result (Unit {0}) WriteFault) → Appends old mid text → Puts mid new more result → PutsPart old new (text ++ more) result
+PutsPart-behind old mid new text more (Ok done) p put = Appends-trans old mid new text more p put
+PutsPart-behind old mid new text more (Err fault) p put = AppendsFront-behind old mid new text more p (AppendsFront-put mid new more fault put)
 
 module _ {A : Type 0} (line : A → List ℕ) (all : List A) where
   -- at the start none is done

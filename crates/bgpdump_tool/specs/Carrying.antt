@@ -21,7 +21,7 @@ use Rattle.bgpdump_tool.specs.Moves.{StopsReading}
 pub record Leads (command : Command) (s t : Standing) (taken : List Finding) (reply : List ℕ) (more : List Finding) : Type 0 where
   pub after : (meaning command (state_of s (taken ++ more))).after ≡ state_of t more
   pub replied : (meaning command (state_of s (taken ++ more))).reply ≡ reply
-  pub took : take (meaning command (state_of s (taken ++ more))).taken (taken ++ more) ≡ taken
+  pub took : take (meaning command (state_of s (taken ++ more))).wanted (taken ++ more) ≡ taken
   pub ended : t.ended ≡ (s.ended || meets_end command (state_of s (taken ++ more)))
 
 -- a command led a run so, and gives this reply
@@ -43,7 +43,7 @@ IsCarriedOut command from left s old new out out' = (led : IsLed command from le
 -- the source stopped it, behind results of which it has to take more: it gave no reply
 pub record IsCutOff (command : Command) (from : Place) (left : Option (List ℕ)) (s : Standing) (old new : Scene) (out out' : Option (List ℕ)) (fault : SourceFault) : Type 0 where
   pub taken : List Finding
-  pub wants : (more : List Finding) → length taken < (meaning command (state_of s (taken ++ more))).taken
+  pub wants : (more : List Finding) → length taken < (meaning command (state_of s (taken ++ more))).wanted
   pub stops : StopsReading from left s old new taken fault
   pub quiet : out' ≡ out
 

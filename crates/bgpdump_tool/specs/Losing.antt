@@ -5,7 +5,7 @@ use Rattle.rib_player.specs.Timeline.{Timeline, after_play, ahead_of}
 use Rattle.bgpdump_tool.specs.declared.fault.WriteFault.{WriteFault}
 use Rattle.bgpdump_tool.specs.Replies.{counted_text}
 use Rattle.bgpdump_tool.specs.State.{loss}
-use Rattle.bgpdump_tool.specs.Writing.{Replies}
+use Rattle.bgpdump_tool.specs.Writing.{PutsPart}
 
 -- the reply to the loss of a session
 abbrev pub loss_text : Timeline → Timeline → List ℕ
@@ -14,5 +14,5 @@ loss_text t u = counted_text u.cursor (codes " dropped ") (ahead_of t)
 -- the loss was played, and its reply written; or a front of that; or, for want of memory, the player stays and nothing was written
 abbrev pub Loses : {A : Type 0} → Peer → Timeline → Timeline → Option (List ℕ) → Option (List ℕ) → Result A WriteFault → Type 0
 Loses {A} peer t u old new result =
-    ((u ≡ after_play t (loss peer)) × Replies old new (loss_text t u) result)
+    ((u ≡ after_play t (loss peer)) × PutsPart old new (loss_text t u) result)
     ⊎ ((fault : WriteFault) × (result ≡ Err fault) × (u ≡ t) × (new ≡ old))

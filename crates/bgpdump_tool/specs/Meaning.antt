@@ -8,26 +8,26 @@ use Rattle.bgpdump_tool.specs.Replies.{at_text, counted_text, peers_text, table_
 
 -- how many results a command wants, of which it takes all where fewer are left; where the script stands then; and the reply
 pub record Meaning : Type 0 where
-  pub taken : ℕ
+  pub wanted : ℕ
   pub after : State
   pub reply : List ℕ
 
 -- nothing moves
 abbrev pub answer : List ℕ → State → Meaning
-answer reply s = record { taken = 0; after = s; reply = reply }
+answer reply s = record { wanted = 0; after = s; reply = reply }
 
 -- the cursor goes to a position that it can go back to
 abbrev pub retreat : ℕ → State → Meaning
-retreat cursor s = record { taken = 0; after = moved_to cursor s; reply = at_text cursor false }
+retreat cursor s = record { wanted = 0; after = moved_to cursor s; reply = at_text cursor false }
 
 -- the cursor goes over so many events ahead, and over those of so many results; the end is met where fewer are left
 abbrev pub advance : ℕ → ℕ → State → Meaning
 advance over count s =
-    record { taken = count; after = gone_on over count s; reply = at_text (gone_on over count s).cursor (nat_lt (length s.unread) count) }
+    record { wanted = count; after = gone_on over count s; reply = at_text (gone_on over count s).cursor (nat_lt (length s.unread) count) }
 
 -- the event is played in place of those ahead
 abbrev pub replacement : State → State → Meaning
-replacement s t = record { taken = 0; after = t; reply = counted_text t.cursor (codes " dropped ") (steps_ahead s) }
+replacement s t = record { wanted = 0; after = t; reply = counted_text t.cursor (codes " dropped ") (steps_ahead s) }
 
 abbrev pub meaning : Command → State → Meaning
 meaning (Next n) s = advance (min n (steps_ahead s)) (n - min n (steps_ahead s)) s
@@ -44,8 +44,8 @@ meaning (Lose peer) s = replacement s (played (loss peer) s)
 
 -- the command meets the end of the results
 abbrev pub meets_end : Command → State → Bool
-meets_end command s = nat_lt (length s.unread) (meaning command s).taken
+meets_end command s = nat_lt (length s.unread) (meaning command s).wanted
 
 -- the reports of the faults among the results that a command takes
 abbrev pub faults_taken : Command → State → List ℕ
-faults_taken command s = reports (take (meaning command s).taken s.unread)
+faults_taken command s = reports (take (meaning command s).wanted s.unread)

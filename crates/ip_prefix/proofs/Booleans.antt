@@ -9,11 +9,6 @@ same_tests true t there back = sym (there refl)
 same_tests false true there back = back refl
 same_tests false false there back = refl
 
--- where the first test implies the second, the second decides
-pub or_implied : (b c : Bool) → (b ≡ true → c ≡ true) → (b || c) ≡ c
-or_implied true c then = sym (then refl)
-or_implied false c then = refl
-
 -- a test that can't pass, before another
 pub or-and_false : (b rest : Bool) → ((b && false) || rest) ≡ rest
 or-and_false true rest = refl

@@ -71,12 +71,6 @@ drop_below_pushed low high xs x h k =
     drop-append-le low (take high xs) (x ∷ []) (omega (arith, length-take-le high xs k))
     ∙ ap (λ ys. ys ++ x ∷ []) (ap (λ n. drop low (take n xs)) (sym (add-sub_of_le h)) ∙ drop-take low (high - low) xs)
 
--- a list up to an element that was put into it
-pub take_inserted : {A : Type 0} (xs : List A) (index : ℕ) (new : A) → index ≤ length xs → take (index + 1) (take index xs ++ new ∷ drop index xs) ≡ take index xs ++ new ∷ []
-take_inserted xs index new within =
-    ap (take (index + 1)) (sym (append_assoc (take index xs) (new ∷ []) (drop index xs)))
-    ∙ take_at (take index xs ++ new ∷ []) (drop index xs) (index + 1) (length_push (take index xs) new ∙ ap (λ n. n + 1) (length-take-le index xs within))
-
 -- ---- elements written from the last to the first
 
 -- one that is written before a place comes before what is left from there

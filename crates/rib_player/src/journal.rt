@@ -157,7 +157,8 @@ pub(crate) fn drop_ahead<S: PrefixStore<Rc<Route>>>(
     requires within { index ≤ length steps.old.items }
     requires distinct { AllByRecursion AreDistinct (steps_of steps.old.items) }
     requires ordered { AreOrdered (sides_of last.old) }
-    requires exact { CanLeave (trail_of (drop index steps.old.items)) (marks_of last.old) table.old }
+    requires exact { CanLeave (trail_of (drop index steps.old.items)) (marks_of last.old)
+        table.old }
     ensures exact { LeavesExact (trail_of (drop index steps.old.items)) (marks_of last.old)
         table.old (marks_of last.new) table.new }
     ensures routes { table.new.routes ≡ table.old.routes }

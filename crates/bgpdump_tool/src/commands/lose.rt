@@ -63,7 +63,8 @@ pub(crate) fn lose<S: PrefixStore<Rc<Route>>, O: Output>(
     text: &mut Vec<u8>,
 ) -> Result<(), WriteFault>
     requires { player.old.cursor < GREATEST_COUNT }
-    ensures loses { Loses peer player.old player.new (O.written out.old) (O.written out.new) result }
+    ensures loses { Loses peer player.old player.new
+        (O.written out.old) (O.written out.new) result }
     ensures failed { O.failed out.new ≡ (O.failed out.old || is_write result) }
 {
     let dropped = play_loss(player, alloc, peer)?;

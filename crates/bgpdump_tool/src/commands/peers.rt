@@ -3,7 +3,7 @@
 ghost use Rattle.std.specs.Prelude.{◌≡◌, ◌++◌, ◌||◌, OnOk};
 ghost use Rattle.std.specs.FinMap as finite;
 ghost use Rattle.bgpdump_tool.specs.Replies.{peer_line_of, peers_text};
-ghost use Rattle.bgpdump_tool.specs.Writing.{Puts, Replies, is_write};
+ghost use Rattle.bgpdump_tool.specs.Writing.{Puts, PutsPart, is_write};
 
 use crate::fault::WriteFault;
 use crate::fields::{put_number, put_peer};
@@ -49,7 +49,7 @@ pub(crate) fn peers<S: PrefixStore<Rc<Route>>, O: Output>(
     out: &mut O,
     text: &mut Vec<u8>,
 ) -> Result<(), WriteFault>
-    ensures text { Replies (O.written out.old) (O.written out.new) (peers_text table.now.routes)
+    ensures text { PutsPart (O.written out.old) (O.written out.new) (peers_text table.now.routes)
         result }
     ensures failed { O.failed out.new ≡ (O.failed out.old || is_write result) }
 {

@@ -2,7 +2,7 @@
 
 ghost use Rattle.std.specs.Prelude.{◌≡◌, ◌++◌, ◌||◌, OnOk};
 ghost use Rattle.bgpdump_tool.specs.Replies.{routes_line, table_text};
-ghost use Rattle.bgpdump_tool.specs.Writing.{Puts, Replies, is_write};
+ghost use Rattle.bgpdump_tool.specs.Writing.{Puts, PutsPart, is_write};
 
 use crate::fault::WriteFault;
 use crate::output::{Output, put_all};
@@ -47,7 +47,7 @@ pub(crate) fn table<S: PrefixStore<Rc<Route>>, O: Output>(
     out: &mut O,
     text: &mut Vec<u8>,
 ) -> Result<(), WriteFault>
-    ensures text { Replies (O.written out.old) (O.written out.new)
+    ensures text { PutsPart (O.written out.old) (O.written out.new)
         (table_text table.now.routes peer.now) result }
     ensures failed { O.failed out.new ≡ (O.failed out.old || is_write result) }
 {

@@ -2,7 +2,7 @@ use Rattle.std.proofs.Common.{refl, Ok, Err}
 use Rattle.std.proofs.lemmas.Result.{err_from_is_err_and}
 use Rattle.bgpdump_tool.specs.declared.command.Command.TheVariants.{Peers, Table, Route, Lookup}
 use Rattle.bgpdump_tool.specs.Replies.{peers_text, table_text, route_text, best_text}
-use Rattle.bgpdump_tool.proofs.CarryLaws.{Replies-put, HasRoom-more, Carrying-back, Carrying-position, Carrying-question, Carrying-lose}
+use Rattle.bgpdump_tool.proofs.CarryLaws.{PutsPart-put, HasRoom-more, Carrying-back, Carrying-position, Carrying-question, Carrying-lose}
 use Rattle.bgpdump_tool.proofs.commands.carry_out.Goals as goal
 
 pub returns-in_err-next-in-Next-clause-room : goal.returns-in_err-next-in-Next-clause-room
@@ -73,23 +73,23 @@ pub returns-in_err-route-in-Route-clause-carries_out :
     goal.returns-in_err-route-in-Route-clause-carries_out
 returns-in_err-route-in-Route-clause-carries_out g c = λ from left s stands.
     let p = err_from_is_err_and c.from_residual-in_err-route-in-Route.result c.from_residual-in_err-route-in-Route.ensures.1 in
-    rw (c.in-Route.is, p.1, p.2) (Carrying-question (Route c.in-Route.peer c.in-Route.prefix) from left s _ _ _ c.table-in-Route.result.now.routes (λ routes. route_text routes c.in-Route.peer c.in-Route.prefix) (Err c.in_err-route-in-Route.field-0.0) stands (λ more. refl) c.table-in-Route.ensures.routes (Replies-put _ _ _ (Err c.in_err-route-in-Route.field-0.0) c.in_err-route-in-Route.ensures.text))
+    rw (c.in-Route.is, p.1, p.2) (Carrying-question (Route c.in-Route.peer c.in-Route.prefix) from left s _ _ _ c.table-in-Route.result.now.routes (λ routes. route_text routes c.in-Route.peer c.in-Route.prefix) (Err c.in_err-route-in-Route.field-0.0) stands (λ more. refl) c.table-in-Route.ensures.routes (PutsPart-put _ _ _ (Err c.in_err-route-in-Route.field-0.0) c.in_err-route-in-Route.ensures.text))
 
 pub returns-in_ok-route-in-Route-clause-carries_out :
     goal.returns-in_ok-route-in-Route-clause-carries_out
 returns-in_ok-route-in-Route-clause-carries_out g c = λ from left s stands.
-    rw c.in-Route.is (Carrying-question (Route c.in-Route.peer c.in-Route.prefix) from left s _ _ _ c.table-in-Route.result.now.routes (λ routes. route_text routes c.in-Route.peer c.in-Route.prefix) (Ok tt) stands (λ more. refl) c.table-in-Route.ensures.routes (Replies-put _ _ _ (Ok tt) c.in_ok-route-in-Route.ensures.text))
+    rw c.in-Route.is (Carrying-question (Route c.in-Route.peer c.in-Route.prefix) from left s _ _ _ c.table-in-Route.result.now.routes (λ routes. route_text routes c.in-Route.peer c.in-Route.prefix) (Ok tt) stands (λ more. refl) c.table-in-Route.ensures.routes (PutsPart-put _ _ _ (Ok tt) c.in_ok-route-in-Route.ensures.text))
 
 pub returns-in_err-lookup-in-Lookup-clause-carries_out :
     goal.returns-in_err-lookup-in-Lookup-clause-carries_out
 returns-in_err-lookup-in-Lookup-clause-carries_out g c = λ from left s stands.
     let p = err_from_is_err_and c.from_residual-in_err-lookup-in-Lookup.result c.from_residual-in_err-lookup-in-Lookup.ensures.1 in
-    rw (c.in-Lookup.is, p.1, p.2) (Carrying-question (Lookup c.in-Lookup.peer c.in-Lookup.addr) from left s _ _ _ c.table-in-Lookup.result.now.routes (λ routes. best_text routes c.in-Lookup.peer c.in-Lookup.addr) (Err c.in_err-lookup-in-Lookup.field-0.0) stands (λ more. refl) c.table-in-Lookup.ensures.routes (Replies-put _ _ _ (Err c.in_err-lookup-in-Lookup.field-0.0) c.in_err-lookup-in-Lookup.ensures.text))
+    rw (c.in-Lookup.is, p.1, p.2) (Carrying-question (Lookup c.in-Lookup.peer c.in-Lookup.addr) from left s _ _ _ c.table-in-Lookup.result.now.routes (λ routes. best_text routes c.in-Lookup.peer c.in-Lookup.addr) (Err c.in_err-lookup-in-Lookup.field-0.0) stands (λ more. refl) c.table-in-Lookup.ensures.routes (PutsPart-put _ _ _ (Err c.in_err-lookup-in-Lookup.field-0.0) c.in_err-lookup-in-Lookup.ensures.text))
 
 pub returns-in_ok-lookup-in-Lookup-clause-carries_out :
     goal.returns-in_ok-lookup-in-Lookup-clause-carries_out
 returns-in_ok-lookup-in-Lookup-clause-carries_out g c = λ from left s stands.
-    rw c.in-Lookup.is (Carrying-question (Lookup c.in-Lookup.peer c.in-Lookup.addr) from left s _ _ _ c.table-in-Lookup.result.now.routes (λ routes. best_text routes c.in-Lookup.peer c.in-Lookup.addr) (Ok tt) stands (λ more. refl) c.table-in-Lookup.ensures.routes (Replies-put _ _ _ (Ok tt) c.in_ok-lookup-in-Lookup.ensures.text))
+    rw c.in-Lookup.is (Carrying-question (Lookup c.in-Lookup.peer c.in-Lookup.addr) from left s _ _ _ c.table-in-Lookup.result.now.routes (λ routes. best_text routes c.in-Lookup.peer c.in-Lookup.addr) (Ok tt) stands (λ more. refl) c.table-in-Lookup.ensures.routes (PutsPart-put _ _ _ (Ok tt) c.in_ok-lookup-in-Lookup.ensures.text))
 
 pub returns-in_err-lose-in-Lose-clause-carries_out :
     goal.returns-in_err-lose-in-Lose-clause-carries_out

@@ -2,7 +2,7 @@ use Rattle.std.proofs.Common.{sym, ap, ◌∙◌, Ok, Err}
 use Rattle.std.proofs.lemmas.Result.{err_from_is_err_and}
 use Rattle.bgpdump_tool.specs.declared.command.Command.TheVariants.{Goto}
 use Rattle.bgpdump_tool.specs.Replies.{at_text}
-use Rattle.bgpdump_tool.proofs.CarryLaws.{Replies-put, Carrying-replied}
+use Rattle.bgpdump_tool.proofs.CarryLaws.{PutsPart-put, Carrying-replied}
 use Rattle.bgpdump_tool.proofs.commands.goto.goto.Goals as goal
 
 pub returns-in_err-ended-clause-carries_out : goal.returns-in_err-ended-clause-carries_out
@@ -16,7 +16,7 @@ returns-in_err-write_position-clause-carries_out g c = λ from left s stands.
     let p = err_from_is_err_and c.from_residual-in_err-write_position.result c.from_residual-in_err-write_position.ensures.1 in
     let led = c.in_ok-ended.ensures.moves from left s stands in
     rw (p.1, p.2) (Carrying-replied (Goto c.args.position) from left s _ _ _ _ _ (Err c.in_err-write_position.field-0.0) led.0 (led.1 ∙ ap (λ n. at_text n c.in_ok-ended.ended) (sym c.at.ensures))
-    (Replies-put _ _ _ (Err c.in_err-write_position.field-0.0) c.in_err-write_position.ensures.text))
+    (PutsPart-put _ _ _ (Err c.in_err-write_position.field-0.0) c.in_err-write_position.ensures.text))
 
 pub returns-clause-carries_out : goal.returns-clause-carries_out
 returns-clause-carries_out g c = λ from left s stands.

@@ -13,7 +13,7 @@ use Rattle.rib_player.specs.Store.{peer_routes}
 use Rattle.bgpdump_tool.specs.Replies.{rib_line, routes_line}
 use Rattle.bgpdump_tool.specs.Writing.{Puts}
 use Rattle.bgpdump_tool.proofs.WritingLaws.{AppendsFront-longer}
-use Rattle.bgpdump_tool.proofs.WalkLaws.{Walked-start, Walked-next, Walked-end, Walked-stops, Replies-behind}
+use Rattle.bgpdump_tool.proofs.WalkLaws.{Walked-start, Walked-next, Walked-end, Walked-stops, PutsPart-behind}
 use Rattle.bgpdump_tool.proofs.commands.table.table.Given.{Over}
 use Rattle.bgpdump_tool.proofs.commands.table.table.Goals as goal
 use Rattle.bgpdump_tool.proofs.commands.table.table.Goals.{In-Some, In_default}
@@ -74,5 +74,5 @@ returns-clause-text g c =
     let new = g.O.Output.written c.write_routes_line.new.out in
     let end = Walked-end (rib_line c.args.peer.now) entries _ (g.O.Output.written c.args.out.now) mid (over g (goal.at.returns-clause-text g c).In_default) c.routes.invariant.walked in
     let count : c.routes.count ≡ counted (finite.len routes) = c.routes.invariant.count ∙ ap counted (ap length (sym end.0) ∙ sym (len-entries routes)) in
-    Replies-behind (g.O.Output.written c.args.out.now) mid new (flat_map (rib_line c.args.peer.now) entries) (routes_line (counted (finite.len routes))) c.write_routes_line.result end.1
+    PutsPart-behind (g.O.Output.written c.args.out.now) mid new (flat_map (rib_line c.args.peer.now) entries) (routes_line (counted (finite.len routes))) c.write_routes_line.result end.1
     (subst (λ n. Puts mid new (routes_line n) c.write_routes_line.result) count c.write_routes_line.ensures.text)
