@@ -1,29 +1,38 @@
-//! Prints the state changes of peers in a dump of routing messages (MRT, RFC 6396) as lines.
+//! Prints what a dump of routing tables and messages (MRT, RFC 6396) holds as lines, or plays a
+//! script over it.
 #![tactic(auto)]
 
-ghost use Rattle.std.specs.Prelude.{◌≡◌, ◌↔◌};
-ghost use Rattle.std.specs.IoError.{error_kind};
-
 mod ending;
+mod files;
 mod run;
-mod words;
 
-use bgpdump_tool::Outcome;
+use bgpdump_tool::{Mode, Outcome, STANDARD_INPUT, Settings, settings};
 use ending::Ending;
-use run::dump;
-use std::fs::File;
-use std::io::{ErrorKind, Read};
+use files::{create, open, outcome_of, read_script};
+use run::Task;
+use std::io::Read;
 use std::process::ExitCode;
 use std::{env, io};
-use words::input_name;
-
-/// What names standard input.
-const STANDARD_INPUT: &str = "-";
 
 fn main(rt: HostRuntime) -> ExitCode {
-    match read_words(&rt) {
-        Ok(words) => end(&rt, dump_named(&rt, &words)),
-        Err(error) => end(&rt, Ending::Ran(outcome_of(&error))),
+    match read_settings(&rt) {
+        Ok(settings) => match run_settings(&rt, &settings) {
+            Ok(outcome) => end(&rt, &Ending::Ran(outcome)),
+            Err(ending) => end(&rt, &ending),
+        },
+        Err(ending) => end(&rt, &ending),
+    }
+}
+
+/// What the words of the command line ask for. Words that aren't text can't be read.
+fn read_settings<'a>(rt: &HostRuntime) -> Result<Settings, Ending<'a>> {
+    let words = match read_words(rt) {
+        Ok(words) => words,
+        Err(error) => return Err(Ending::Ran(outcome_of(&error))),
+    };
+    match settings(rt.alloc(), words) {
+        Ok(settings) => Ok(settings),
+        Err(fault) => Err(Ending::Usage(fault)),
     }
 }
 
@@ -32,41 +41,53 @@ fn read_words(rt: &HostRuntime) -> io::Result<Vec<String>> {
     Ok(env::args(rt)?.collect(rt.alloc())?)
 }
 
-/// How a run ends that this error keeps from beginning. Words that aren't text are no input.
-fn outcome_of(error: &io::Error) -> Outcome
-    ensures { (result ≡ Outcome.Memory) ↔ (error_kind error.now ≡ ErrorKind.OutOfMemory) }
-{
-    match error.kind() {
-        ErrorKind::OutOfMemory => Outcome::Memory,
-        _ => Outcome::ReadFault,
+/// Opens what the settings name, the output last, and runs over it.
+fn run_settings<'a>(rt: &HostRuntime, settings: &'a Settings) -> Result<Outcome, Ending<'a>> {
+    let task = task_of(rt, &settings.mode)?;
+    if settings.input.as_str() == STANDARD_INPUT {
+        run_over(rt, settings, task, rt.stdin())
+    } else {
+        run_over(rt, settings, task, open(rt, settings.input.as_str())?)
     }
 }
 
-/// Runs over the input that the words name.
-fn dump_named<'a>(rt: &HostRuntime, words: &'a [String]) -> Ending<'a> {
-    let Some(name) = input_name(words) else {
-        return Ending::Usage;
-    };
-    if name == STANDARD_INPUT {
-        return Ending::Ran(dump_standard(rt, rt.stdin()));
-    }
-    match File::open(rt, name) {
-        Ok(file) => Ending::Ran(dump_standard(rt, file)),
-        Err(error) if error.kind() == ErrorKind::OutOfMemory => Ending::Ran(Outcome::Memory),
-        Err(_) => Ending::NotOpened(name),
+/// What is to be done, with the script where there is one.
+fn task_of<'a>(rt: &HostRuntime, mode: &'a Mode) -> Result<Task, Ending<'a>> {
+    match mode {
+        Mode::Lines => Ok(Task::Dump),
+        Mode::Play(script) if script.as_str() == STANDARD_INPUT => {
+            Ok(Task::Play(read_script(rt.alloc(), rt.stdin())?))
+        }
+        Mode::Play(script) => {
+            Ok(Task::Play(read_script(rt.alloc(), open(rt, script.as_str())?)?))
+        }
     }
 }
 
-/// Runs over a reader, to standard output and standard error.
-fn dump_standard<R: Read + Drop>(rt: &HostRuntime, reader: R) -> Outcome {
-    dump(rt.alloc(), reader, rt.stdout(), rt.stderr())
+/// Runs over an input that was opened.
+fn run_over<'a, R: Read + Drop>(
+    rt: &HostRuntime,
+    settings: &'a Settings,
+    task: Task,
+    input: R,
+) -> Result<Outcome, Ending<'a>> {
+    match &settings.output {
+        Some(name) => {
+            let out = create(rt, settings, name.as_str())?;
+            Ok(task.run(rt.alloc(), settings.stamp, input, out, rt.stderr()))
+        }
+        None => Ok(task.run(rt.alloc(), settings.stamp, input, rt.stdout(), rt.stderr())),
+    }
 }
 
-/// Prints the last message, and gives the exit status. A message that can't be printed is lost.
-fn end(rt: &HostRuntime, ending: Ending<'_>) -> ExitCode {
-    let _ = ending.print_message(rt);
-    ExitCode::from(ending.status())
+/// Prints the last message, and gives the exit status. Where help can't be printed, that is a write
+/// fault; any other message that can't be printed is lost.
+fn end(rt: &HostRuntime, ending: &Ending<'_>) -> ExitCode {
+    let is_printed = ending.print(rt).is_ok();
+    if is_printed || ending.status() > 0 {
+        return ExitCode::from(ending.status());
+    }
+    let fault = Ending::Ran(Outcome::WriteFault);
+    let _ = fault.print(rt);
+    ExitCode::from(fault.status())
 }
-
-#[cfg(test)]
-mod tests;

@@ -13,5 +13,7 @@ pub mod WritingLaws
 pub mod DecimalLaws
 pub mod WordLaws
 pub mod CommandLaws
+pub mod CommandLineLaws
+pub mod ArgumentLaws
 pub mod BestLaws
 pub mod WalkLaws

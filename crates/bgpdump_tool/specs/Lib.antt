@@ -7,6 +7,7 @@ pub mod Writing
 pub mod Going
 pub mod Status
 pub mod Command
+pub mod CommandLine
 pub mod Script
 pub mod Replies
 pub mod State

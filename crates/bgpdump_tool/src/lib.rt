@@ -3,7 +3,9 @@
 #![tactic(auto)]
 
 mod again;
+mod arguments;
 mod command;
+mod command_line;
 mod commands;
 mod dump;
 mod fault;
@@ -19,16 +21,20 @@ mod reports;
 mod same;
 mod script;
 mod session;
+mod usage;
 mod words;
 mod write;
 
 pub use command::{Command, read_command};
+pub use command_line::settings;
 pub use dump::run_dump;
 pub use laws::{best_match, one_command, one_script, run_numbers};
 pub use lines::put_lines;
 pub use outcome::Outcome;
 pub use output::{OutFault, Output, WriteOutput, put_all};
 pub use play::run_play;
+pub use script::LONGEST_SCRIPT;
+pub use usage::{Mode, STANDARD_INPUT, Settings, UsageFault};
 
 #[cfg(test)]
 mod tests;

@@ -6,7 +6,7 @@ ghost use Rattle.bgpdump_tool.specs.Script.{script_lines};
 use crate::words::split_first;
 
 /// How many octets a script has at most.
-pub(crate) const LONGEST_SCRIPT: usize = 1 << 20;
+pub const LONGEST_SCRIPT: usize = 1 << 20;
 
 /// The first line of a script and what stands behind the line feed that ends it; none where the
 /// script is one line.

@@ -1,0 +1,12 @@
+use Rattle.std.proofs.Common.{◌∙◌, ap}
+use Rattle.clap.proofs.WalkLemmas.{one_text-rows}
+use Rattle.clap.specs.Words.{found_of, one_text}
+use Rattle.std.specs.Prelude.{codes}
+use Rattle.bgpdump_tool.specs.CommandLine.{is_text}
+use Rattle.bgpdump_tool.proofs.CommandLineLaws.{flag_read}
+use Rattle.bgpdump_tool.proofs.command_line.asks_lines.Goals as goal
+
+pub returns : goal.returns
+returns c =
+    c.unwrap_or.ensures ∙ flag_read _ (one_text (found_of c.args.matches.now) (codes "lines")) c.get_one.result c.get_one.ensures.none c.get_one.ensures.value
+    ∙ ap (is_text (codes "true")) (one_text-rows (found_of c.args.matches.now) (codes "lines"))

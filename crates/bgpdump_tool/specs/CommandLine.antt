@@ -1,0 +1,147 @@
+-- What the words of a command line ask for.
+use Rattle.std.specs.Prelude.{◌≡◌, ◌≢◌, ◌&&◌, ⊤, Bool, true, false, not, List, [], ◌∷◌, map, Option, Some, is_some, option_map, if◌then◌else◌, Result, Ok, Err, codes, string_bytes}
+use Rattle.std.specs.Option.{option_map_or}
+use Rattle.std.specs.Str.{bytes_eq}
+use Rattle.clap.specs.Words.{App, IsAmong, IsParsedFrom, IsPlainArg, Kinds, Row, Rule, Text, fault_of, first_of, first_value, found_of, matches_of, new_app, new_rule, one_of, with_rule}
+use Rattle.clap.specs.declared.Arg.{Arg}
+use Rattle.clap.specs.declared.ArgMatches.{ArgMatches}
+use Rattle.clap.specs.declared.Command.{Command}
+use Rattle.clap.specs.declared.builder.ArgAction.TheVariants.{Set, SetTrue}
+use Rattle.clap.specs.declared.builder.value_parser.ValueParser.{ValueParser}
+use Rattle.clap.specs.declared.builder.value_parser.ValueParser.TheVariants as parser
+use Rattle.clap.specs.declared.error.ErrorKind.{ErrorKind}
+use Rattle.clap.specs.declared.error.ErrorKind.TheVariants.{DisplayHelp, OutOfMemory}
+use Rattle.mrt_wire.specs.declared.Stamp.{Stamp}
+use Rattle.mrt_wire.specs.declared.Stamp.TheVariants.{Dump, Change}
+use Rattle.bgpdump_tool.specs.declared.usage.Mode.{Mode}
+use Rattle.bgpdump_tool.specs.declared.usage.Mode.TheVariants as mode
+use Rattle.bgpdump_tool.specs.declared.usage.Settings.{Settings}
+use Rattle.bgpdump_tool.specs.declared.usage.UsageFault.{UsageFault}
+use Rattle.bgpdump_tool.specs.declared.usage.UsageFault.TheVariants as usage
+
+-- ---- the command line: `bgpdump (-m | --play SCRIPT) [-t dump|change] [-O FILE] INPUT`
+
+-- -m
+abbrev pub lines_rule : Rule
+lines_rule = record (new_rule (codes "lines")) { short = Some 109; action = Some SetTrue }
+
+-- --play SCRIPT
+abbrev pub script_rule : Rule
+script_rule = record (new_rule (codes "script")) { long = Some (codes "play"); value_names = 1 }
+
+-- -t TIME, which is `dump` where it isn't given
+abbrev pub times_rule : ValueParser → Rule
+times_rule times = record (new_rule (codes "times")) { short = Some 116; value_names = 1; parser = Some times; defaults = codes "dump" ∷ [] }
+
+-- -O FILE
+abbrev pub output_rule : Rule
+output_rule = record (new_rule (codes "output")) { short = Some 79; value_names = 1 }
+
+-- INPUT, which has to be there
+abbrev pub input_rule : Rule
+input_rule = record (new_rule (codes "input")) { value_names = 1; required = true; action = Some Set }
+
+-- the command, by what the value of -t has to be
+abbrev pub command_line : ValueParser → App
+command_line times =
+    with_rule (with_rule (with_rule (with_rule (with_rule (new_app (codes "bgpdump")) lines_rule) script_rule) (times_rule times)) output_rule) input_rule
+
+-- the value has to be one of these names
+abbrev pub TakesNames : List Text → ValueParser → Type 0
+TakesNames names (parser.Names taken) = map (λ name. name.now) taken.now ≡ names
+TakesNames names other = ⊥
+
+-- -t takes `dump` and `change`
+abbrev pub TakesTimes : ValueParser → Type 0
+TakesTimes = TakesNames (codes "dump" ∷ codes "change" ∷ [])
+
+abbrev pub IsTimesRule : Rule → Type 0
+IsTimesRule rule = (times : ValueParser) × TakesTimes times × (rule ≡ times_rule times)
+
+abbrev pub IsCommandLine : App → Type 0
+IsCommandLine app = (times : ValueParser) × TakesTimes times × (app ≡ command_line times)
+
+-- the argument excludes no other, and no other command has it
+abbrev pub StandsAlone : Arg → Type 0
+StandsAlone argument = IsPlainArg argument × (argument.global ≡ false)
+
+-- each parse gives the input a value
+abbrev pub TakesInput : Command → Type 0
+TakesInput command = (matches : ArgMatches) → IsParsedFrom command matches → is_some (first_value (found_of matches) (codes "input")) ≡ true
+
+-- ---- what the matches of a command line ask for
+
+abbrev pub is_text : Text → Option Text → Bool
+is_text text found = option_map_or (bytes_eq text) found false
+
+abbrev pub asks_lines : List Row → Bool
+asks_lines rows = is_text (codes "true") (one_of (codes "lines") rows)
+
+abbrev pub script_of : List Row → Option Text
+script_of = first_of (codes "script")
+
+abbrev pub input_of : List Row → Option Text
+input_of = first_of (codes "input")
+
+abbrev pub stamp_of : List Row → Stamp
+stamp_of rows = if is_text (codes "change") (first_of (codes "times") rows) then Change else Dump
+
+-- just one of -m and --play is there
+abbrev pub has_one_mode : List Row → Bool
+has_one_mode rows = if asks_lines rows then not (is_some (script_of rows)) else is_some (script_of rows)
+
+-- both the script and the input are standard input
+abbrev pub has_two_inputs : List Row → Bool
+has_two_inputs rows = is_text (codes "-") (script_of rows) && is_text (codes "-") (input_of rows)
+
+-- the mode is the one that is there
+abbrev pub IsMode : List Row → Mode → Type 0
+IsMode rows mode.Lines = asks_lines rows ≡ true
+IsMode rows (mode.Play script) = script_of rows ≡ Some (string_bytes script)
+
+-- each field is what the matches have of it
+pub record AreSettings (rows : List Row) (settings : Settings) : Type 0 where
+  pub mode : IsMode rows settings.mode
+  pub stamp : settings.stamp ≡ stamp_of rows
+  pub output : option_map string_bytes settings.output ≡ first_of (codes "output") rows
+  pub input : input_of rows ≡ Some (string_bytes settings.input)
+
+-- what the matches give; want of memory may stand in place of it
+abbrev pub Gives : List Row → Result Settings UsageFault → Type 0
+Gives rows (Ok settings) = (has_one_mode rows ≡ true) × (has_two_inputs rows ≡ false) × AreSettings rows settings
+Gives rows (Err usage.Mode) = has_one_mode rows ≡ false
+Gives rows (Err usage.TwoInputs) = (has_one_mode rows ≡ true) × (has_two_inputs rows ≡ true)
+Gives rows (Err usage.Memory) = ⊤
+Gives rows (Err fault) = ⊥
+
+-- the mode of the matches, where there is just one
+abbrev pub GivesMode : List Row → Result Mode UsageFault → Type 0
+GivesMode rows (Ok mode) = (has_one_mode rows ≡ true) × IsMode rows mode
+GivesMode rows (Err usage.Mode) = has_one_mode rows ≡ false
+GivesMode rows (Err usage.Memory) = ⊤
+GivesMode rows (Err fault) = ⊥
+
+-- ---- what the words give
+
+-- the fault of a parse that had an error of this kind
+abbrev pub IsFaultOf : ErrorKind → UsageFault → Type 0
+IsFaultOf kind (usage.Help text) = kind ≡ DisplayHelp
+IsFaultOf kind (usage.Words text) = (kind ≢ DisplayHelp) × (kind ≢ OutOfMemory)
+IsFaultOf kind usage.Memory = ⊤
+IsFaultOf kind fault = ⊥
+
+-- the kinds of fault that the parse of the words may have: none where it succeeds
+abbrev pub faults : ValueParser → List Text → Kinds
+faults times words = fault_of (command_line times) words
+
+-- what words give but for want of memory: what their matches give, where the parse has no fault;
+-- help or a usage fault only by a fault of its kind
+abbrev pub AnswersBy : ValueParser → List Text → Result Settings UsageFault → Type 0
+AnswersBy times words (Err (usage.Help text)) = IsAmong DisplayHelp (faults times words)
+AnswersBy times words (Err (usage.Words text)) = (kind : ErrorKind) × IsAmong kind (faults times words) × (kind ≢ DisplayHelp)
+AnswersBy times words result = (faults times words ≡ []) × Gives (matches_of (command_line times) words) result
+
+-- and want of memory in place of any of it
+abbrev pub Answers : List Text → Result Settings UsageFault → Type 0
+Answers words (Err usage.Memory) = ⊤
+Answers words result = (times : ValueParser) × TakesTimes times × AnswersBy times words result

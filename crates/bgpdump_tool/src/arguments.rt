@@ -1,0 +1,115 @@
+//! The arguments of the command line.
+
+ghost use Rattle.std.specs.Prelude.{◌≡◌, IfOk};
+ghost use Rattle.clap.specs.Built.{TakesValue};
+ghost use Rattle.clap.specs.Words.{app_of, rule_of};
+ghost use Rattle.bgpdump_tool.specs.CommandLine.{IsCommandLine, IsTimesRule, StandsAlone};
+ghost use Rattle.bgpdump_tool.specs.CommandLine.{TakesInput, input_rule, lines_rule, output_rule, script_rule};
+
+use clap::{Arg, ArgAction, Command};
+use std::alloc::{AllocError, Global};
+
+/// The ids of the arguments.
+pub(crate) const LINES: &str = "lines";
+
+pub(crate) const SCRIPT: &str = "script";
+
+pub(crate) const TIMES: &str = "times";
+
+pub(crate) const OUTPUT: &str = "output";
+
+pub(crate) const INPUT: &str = "input";
+
+/// The values of `-t`.
+pub(crate) const DUMP: &str = "dump";
+
+pub(crate) const CHANGE: &str = "change";
+
+const TIMES_TAKEN: &[&str] = &[DUMP, CHANGE];
+
+const ABOUT: &str = "Reads what BGP routers write of their tables and sessions (MRT, RFC 6396).";
+
+const USAGE: &str = "bgpdump (-m | --play SCRIPT) [-t dump|change] [-O FILE] INPUT";
+
+const MORE: &str = "\
+Examples:
+  bgpdump -m table.mrt            the lines of a file
+  zcat updates.gz | bgpdump -m -  those of what another program gives
+  bgpdump --play steps table.mrt  the replies to the commands in `steps`
+
+`man bgpdump` tells the fields of the lines, the commands of a script and the statuses.";
+
+/// `-m`.
+fn lines_argument<'a>(alloc: Global) -> Arg<'a>
+    ensures rule { rule_of result ≡ lines_rule }
+    ensures alone { StandsAlone result }
+{
+    Arg::new(alloc, LINES)
+        .short('m')
+        .action(ArgAction::SetTrue)
+        .help("Prints each route and state change as a line")
+}
+
+/// `--play SCRIPT`.
+fn script_argument<'a>(alloc: Global) -> Arg<'a>
+    ensures rule { rule_of result ≡ script_rule }
+    ensures alone { StandsAlone result }
+{
+    Arg::new(alloc, SCRIPT)
+        .long("play")
+        .value_name("SCRIPT")
+        .help("Steps through INPUT as the commands in SCRIPT say, and prints their replies")
+}
+
+/// `-t dump` or `-t change`.
+fn times_argument<'a>(alloc: Global) -> Arg<'a>
+    ensures rule { IsTimesRule (rule_of result) }
+    ensures alone { StandsAlone result }
+{
+    Arg::new(alloc, TIMES)
+        .short('t')
+        .value_name("TIME")
+        .value_parser(TIMES_TAKEN)
+        .default_value(DUMP)
+        .help("The time of a table's routes: when the table was dumped, or when the route changed")
+}
+
+/// `-O FILE`.
+fn output_argument<'a>(alloc: Global) -> Arg<'a>
+    ensures rule { rule_of result ≡ output_rule }
+    ensures alone { StandsAlone result }
+{
+    Arg::new(alloc, OUTPUT)
+        .short('O')
+        .value_name("FILE")
+        .help("Writes to FILE, made new or emptied")
+}
+
+/// `INPUT`.
+fn input_argument<'a>(alloc: Global) -> Arg<'a>
+    ensures rule { rule_of result ≡ input_rule }
+    ensures alone { StandsAlone result }
+    ensures value { TakesValue result }
+{
+    Arg::new(alloc, INPUT)
+        .value_name("INPUT")
+        .required(true)
+        .action(ArgAction::Set)
+        .help("The file to read, or - for standard input")
+}
+
+/// The command with all its arguments.
+pub(crate) fn command<'a>(alloc: Global) -> Result<Command<'a>, AllocError>
+    ensures app { IfOk result (λ command. IsCommandLine (app_of command)) }
+    ensures input { IfOk result TakesInput }
+{
+    Command::new(alloc, "bgpdump")
+        .about(ABOUT)
+        .override_usage(USAGE)
+        .after_help(MORE)
+        .arg(lines_argument(alloc))?
+        .arg(script_argument(alloc))?
+        .arg(times_argument(alloc))?
+        .arg(output_argument(alloc))?
+        .arg(input_argument(alloc))
+}

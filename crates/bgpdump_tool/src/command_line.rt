@@ -1,0 +1,122 @@
+//! Reads the words of a command line.
+
+ghost use Rattle.std.specs.Prelude.{◌≡◌, true, is_some, map, option_map, string_bytes, IfOk};
+ghost use Rattle.clap.specs.Words.{first_of, found_of, kind_of, rows_of};
+ghost use Rattle.bgpdump_tool.specs.CommandLine.{Answers, Gives, GivesMode, IsFaultOf, asks_lines};
+ghost use Rattle.bgpdump_tool.specs.CommandLine.{has_two_inputs, input_of, is_text, stamp_of};
+
+use crate::arguments::{CHANGE, INPUT, LINES, OUTPUT, SCRIPT, TIMES, command};
+use crate::usage::{Mode, STANDARD_INPUT, Settings, UsageFault};
+use clap::ArgMatches;
+use clap::error::ErrorKind;
+use mrt_wire::Stamp;
+use std::alloc::{AllocError, Global};
+
+/// What the words ask for. The first of them is the program's own name.
+pub fn settings(alloc: Global, words: Vec<String>) -> Result<Settings, UsageFault>
+    ensures answers { Answers (map string_bytes words.items) result }
+{
+    match command(alloc)?.try_get_matches_from(words.as_slice()) {
+        Ok(matches) => settings_of(alloc, &matches),
+        Err(error) => Err(parse_fault(alloc, &error)),
+    }
+}
+
+/// The fault that an error of the parse is.
+fn parse_fault(alloc: Global, error: &clap::Error) -> UsageFault
+    ensures { IsFaultOf (kind_of error.now) result }
+{
+    match error.kind() {
+        ErrorKind::OutOfMemory => UsageFault::Memory,
+        kind => match error.to_string(alloc) {
+            Ok(text) if kind == ErrorKind::DisplayHelp => UsageFault::Help(text),
+            Ok(text) => UsageFault::Words(text),
+            Err(_) => UsageFault::Memory,
+        },
+    }
+}
+
+/// What the matches ask for.
+fn settings_of(alloc: Global, matches: &ArgMatches<'_>) -> Result<Settings, UsageFault>
+    requires input { is_some (input_of (rows_of (found_of matches.now))) ≡ true }
+    ensures gives { Gives (rows_of (found_of matches.now)) result }
+{
+    let mode = mode_of(alloc, matches)?;
+    if has_two_inputs(matches) {
+        return Err(UsageFault::TwoInputs);
+    }
+    let Some(input) = value_of(matches, INPUT) else {
+        unreachable!()
+    };
+    Ok(Settings {
+        mode,
+        stamp: stamp_of(matches),
+        output: owned(alloc, value_of(matches, OUTPUT))?,
+        input: String::from_str(alloc, input)?,
+    })
+}
+
+/// The one of the two modes that the matches ask for.
+fn mode_of(alloc: Global, matches: &ArgMatches<'_>) -> Result<Mode, UsageFault>
+    ensures { GivesMode (rows_of (found_of matches.now)) result }
+{
+    match (asks_lines(matches), value_of(matches, SCRIPT)) {
+        (true, None) => Ok(Mode::Lines),
+        (false, Some(script)) => Ok(Mode::Play(String::from_str(alloc, script)?)),
+        _ => Err(UsageFault::Mode),
+    }
+}
+
+/// Whether the matches ask for lines.
+fn asks_lines(matches: &ArgMatches<'_>) -> bool
+    ensures { result ≡ asks_lines (rows_of (found_of matches.now)) }
+{
+    matches.get_one::<bool>(LINES).unwrap_or(false)
+}
+
+/// Whether both the script and the input are standard input.
+fn has_two_inputs(matches: &ArgMatches<'_>) -> bool
+    ensures { result ≡ has_two_inputs (rows_of (found_of matches.now)) }
+{
+    is_value(matches, SCRIPT, STANDARD_INPUT) && is_value(matches, INPUT, STANDARD_INPUT)
+}
+
+/// Which time the routes of a table get.
+fn stamp_of(matches: &ArgMatches<'_>) -> Stamp
+    ensures { result ≡ stamp_of (rows_of (found_of matches.now)) }
+{
+    if is_value(matches, TIMES, CHANGE) {
+        Stamp::Change
+    } else {
+        Stamp::Dump
+    }
+}
+
+/// Whether the argument has this value.
+fn is_value(matches: &ArgMatches<'_>, argument: &str, value: &str) -> bool
+    ensures { result ≡ is_text value.now (first_of argument.now (rows_of (found_of matches.now))) }
+{
+    match value_of(matches, argument) {
+        Some(text) => text == value,
+        None => false,
+    }
+}
+
+/// The value of the argument, if it has one.
+fn value_of<'a>(matches: &ArgMatches<'a>, argument: &str) -> Option<&'a str>
+    ensures { option_map (λ text. text.now) result
+        ≡ first_of argument.now (rows_of (found_of matches.now)) }
+{
+    matches.get_str(argument)
+}
+
+/// The text, if there is one, as its own.
+fn owned(alloc: Global, text: Option<&str>) -> Result<Option<String>, AllocError>
+    ensures { IfOk result (λ own.
+        option_map string_bytes own ≡ option_map (λ text. text.now) text.entry) }
+{
+    match text {
+        Some(text) => Ok(Some(String::from_str(alloc, text)?)),
+        None => Ok(None),
+    }
+}
