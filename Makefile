@@ -26,8 +26,9 @@ bench: bin/bgpdump
 	bench/measure.py bin/bgpdump $(FILE)
 
 install: bin/bgpdump
-	mkdir -p "$(DESTDIR)$(PREFIX)/bin"
+	mkdir -p "$(DESTDIR)$(PREFIX)/bin" "$(DESTDIR)$(PREFIX)/share/man/man1"
 	cp bin/bgpdump "$(DESTDIR)$(PREFIX)/bin/bgpdump"
+	cp man/bgpdump.1 "$(DESTDIR)$(PREFIX)/share/man/man1/bgpdump.1"
 
 clean:
 	rm -rf bin crates/*/out

@@ -1,10 +1,14 @@
 #!/usr/bin/env python3
-"""Times the program beside Debian's bgpdump, both as `-m FILE`, in turn.
+"""Times the program beside Debian's bgpdump, both as `-m FILE`, in turn, and then its player.
 
     bench/measure.py PROGRAM [FILE..]
 
 Without files it makes two of about 30 MB, a table and updates, always the same octets. Of seven runs
 of the program, and three of bgpdump, the least processor time counts; output goes to the null device.
+
+The player goes to the end of the file, back to its start, and to the end again, in five runs. Each
+part is timed alone, and the whole with what follows it; the least processor times count, and the
+ratio is to `-m`. Octets are those of the peak memory for each line of `-m`, which in a table is a path.
 """
 import os
 import random
@@ -13,10 +17,14 @@ import struct
 import subprocess
 import sys
 import tempfile
+import time
 from pathlib import Path
 
 SIZE = 30_000_000
 TRANSITS = (174, 209, 286, 701, 1239, 1299, 2914, 3257, 3320, 3356, 6453, 6461, 6762, 6939, 9002, 199524)
+
+# The player's way over a file.
+WAY = ('next', 'back', 'next')
 
 
 def record(seconds, kind, subtype, body):
@@ -137,14 +145,19 @@ def made_files(folder):
     return files
 
 
+def awaited(child):
+    """What a process used, once it has ended."""
+    _, status, usage = os.wait4(child.pid, 0)
+    child.returncode = os.waitstatus_to_exitcode(status)
+    if child.returncode not in (0, 1):
+        sys.exit('%s ended with %d' % (' '.join(child.args), child.returncode))
+    return usage
+
+
 def run(command, out=subprocess.DEVNULL):
     """The processor time of a command in seconds."""
-    before = os.times()
-    done = subprocess.run(command, stdout=out, stderr=subprocess.DEVNULL)
-    if done.returncode not in (0, 1):
-        sys.exit('%s ended with %d' % (' '.join(command), done.returncode))
-    after = os.times()
-    return after.children_user + after.children_system - before.children_user - before.children_system
+    usage = awaited(subprocess.Popen(command, stdout=out, stderr=subprocess.DEVNULL))
+    return usage.ru_utime + usage.ru_stime
 
 
 def peak_memory(command):
@@ -163,29 +176,74 @@ def line_count(command):
         return sum(block.count(b'\n') for block in iter(lambda: out.read(1 << 20), b''))
 
 
+def measure_lines(program, path):
+    """Prints the times of `-m`; the number of lines, and the least time of the program."""
+    commands = {'ours': [program, '-m', str(path)]}
+    rival = shutil.which('bgpdump')
+    if rival:
+        commands['bgpdump'] = [rival, '-q', '-m', str(path)]
+    lines = line_count(commands['ours'])
+    best = {}
+    for turn in range(7):
+        for name, command in commands.items():
+            if name == 'ours' or turn < 3:
+                best[name] = min(best.get(name, 1e9), run(command))
+    for name, seconds in best.items():
+        print('%-14s %-9s %7.3f %9d %10s %7.1f' % (
+            path.name, name, seconds, lines / seconds, peak_memory(commands[name]), seconds / best['ours']))
+    return lines, best['ours']
+
+
+def written_script(folder):
+    """The script of the player's way, with so much to print behind each part that no pipe holds it."""
+    script = folder / 'steps'
+    script.write_text(''.join(part + ' 4294967295\n' + 'where\n' * 20_000 for part in WAY))
+    return str(script)
+
+
+def time_when_waiting(process):
+    """The processor time in seconds of a process that soon waits; the system tells it late before."""
+    time.sleep(0.02)
+    return int(Path('/proc/%d/schedstat' % process).read_text().split()[0]) / 1e9
+
+
+def played(command):
+    """The processor time of each part of the player's way and of all, and the peak memory in KiB."""
+    child = subprocess.Popen(command, stdout=subprocess.PIPE, stderr=subprocess.DEVNULL)
+    # The program waits behind each of these lines, since the pipe is full of what follows.
+    ends = [time_when_waiting(child.pid) for line in child.stdout if b'ahead' not in line]
+    # Its peak is never less than this script's size, which a child begins with.
+    usage = awaited(child)
+    parts = [end - start for start, end in zip([0] + ends, ends)]
+    return parts + [usage.ru_utime + usage.ru_stime], usage.ru_maxrss
+
+
+def measure_player(command, lines, dump):
+    """Prints the times of each part of the player's way and of all, and the memory."""
+    turns = [played(command) for _ in range(5)]
+    peak = max(peak for _, peak in turns)
+    for part, times in zip(WAY + ('all',), zip(*(times for times, _ in turns))):
+        seconds = min(times)
+        print('%-14s %-9s %7.3f %9d %10.1f %7.1f %7d' % (
+            Path(command[-1]).name, part, seconds, lines / seconds, peak / 1024, seconds / dump,
+            peak * 1024 / max(lines, 1)))
+
+
 def main():
     if len(sys.argv) < 2:
         sys.exit(__doc__)
     folder = Path(tempfile.gettempdir()) / 'bgpdump-bench'
     folder.mkdir(exist_ok=True)
+    program = str(Path(sys.argv[1]).resolve())
     files = [Path(word) for word in sys.argv[2:]] or made_files(folder)
-    rival = shutil.which('bgpdump')
     print('file           program   seconds   lines/s   peak MiB   ratio')
-    for path in files:
-        commands = {'ours': [str(Path(sys.argv[1]).resolve()), '-m', str(path)]}
-        if rival:
-            commands['bgpdump'] = [rival, '-q', '-m', str(path)]
-        lines = line_count(commands['ours'])
-        best = {}
-        for turn in range(7):
-            for name, command in commands.items():
-                if name == 'ours' or turn < 3:
-                    best[name] = min(best.get(name, 1e9), run(command))
-        for name, seconds in best.items():
-            print('%-14s %-9s %7.3f %9d %10s %7.1f' % (
-                path.name, name, seconds, lines / seconds, peak_memory(commands[name]), seconds / best['ours']))
-    if not rival:
+    measured = [measure_lines(program, path) for path in files]
+    if not shutil.which('bgpdump'):
         print("Debian's bgpdump isn't here to compare with: apt-get install bgpdump")
+    print('file           player    seconds   lines/s   peak MiB   ratio  octets')
+    script = written_script(folder)
+    for path, (lines, dump) in zip(files, measured):
+        measure_player([program, '--play', script, str(path)], lines, dump)
 
 
 main()

@@ -1,8 +1,7 @@
 //! How the program ends.
 
-ghost use Rattle.std.specs.Prelude.{◌≡◌, ◌<◌, ◌↔◌, IsSome};
-ghost use Rattle.bgpdump_tool.specs.Status.{status_of};
-ghost use Rattle.bgpdump.specs.Statuses.{ending_status};
+ghost use Rattle.std.specs.Prelude.{◌≡◌, option_map};
+ghost use Rattle.bgpdump.specs.Endings.{ending_message, ending_status, outcome_message};
 
 use bgpdump_tool::{Outcome, UsageFault};
 use std::io;
@@ -44,19 +43,31 @@ impl Ending<'_> {
         match self {
             Ending::Usage(UsageFault::Help(text)) => print!(rt; "{text}"),
             Ending::Usage(UsageFault::Words(text)) => eprint!(rt; "{text}"),
-            Ending::Usage(fault) => eprintln!(rt; "bgpdump: {fault}"),
             Ending::NotOpened(name) => eprintln!(rt; "bgpdump: cannot open {name}"),
-            Ending::Ran(outcome) => match last_message(*outcome) {
+            _ => match self.message() {
                 Some(message) => eprintln!(rt; "bgpdump: {message}"),
                 None => Ok(()),
             },
         }
     }
+
+    /// The last message, where it holds no name and no text of `clap`.
+    pub(crate) fn message(&self) -> Option<&'static str>
+        ensures { option_map (λ text. text.now) result ≡ ending_message self.now }
+    {
+        match self {
+            Ending::Usage(UsageFault::Mode) => Some("choose one of -m and --play"),
+            Ending::Usage(UsageFault::TwoInputs) => Some("standard input named twice"),
+            Ending::Usage(UsageFault::Memory) => last_words(Outcome::Memory),
+            Ending::Usage(_) | Ending::NotOpened(_) => None,
+            Ending::Ran(outcome) => last_words(*outcome),
+        }
+    }
 }
 
-/// What a run that ended so says last: something where its status is above 1.
-pub(crate) fn last_message(outcome: Outcome) -> Option<&'static str>
-    ensures { IsSome result ↔ (1 < status_of outcome) }
+/// What a run that ended so says last.
+fn last_words(outcome: Outcome) -> Option<&'static str>
+    ensures { option_map (λ text. text.now) result ≡ outcome_message outcome }
 {
     match outcome {
         Outcome::Done | Outcome::Reported => None,

@@ -1,6 +1,6 @@
 //! The files that the program opens, and the script that it reads.
 
-ghost use Rattle.std.specs.Prelude.{◌≡◌, ◌↔◌};
+ghost use Rattle.std.specs.Prelude.{◌≡◌, ◌↔◌, ◌+◌, ℕ, List, Some, take, IfOk};
 ghost use Rattle.std.specs.IoError.{error_kind};
 
 use crate::ending::Ending;
@@ -9,6 +9,10 @@ use std::alloc::Global;
 use std::fs::{self, File};
 use std::io::{self, ErrorKind, Read};
 use std::os::unix::fs::MetadataExt;
+use std::os::unix::io::{AsRawFd, IntoRawFd};
+
+/// How many standard streams there are. Their numbers are those below.
+const STANDARD_STREAMS: i32 = 3;
 
 /// Where the system has standard input.
 const STANDARD_INPUT_PATH: &str = "/dev/stdin";
@@ -28,6 +32,19 @@ fn not_opened<'a>(name: &'a str, error: &io::Error) -> Ending<'a> {
     match error.kind() {
         ErrorKind::OutOfMemory => Ending::Ran(Outcome::Memory),
         _ => Ending::NotOpened(name),
+    }
+}
+
+/// Takes the numbers of standard streams that are closed, so that no file that is opened later gets
+/// one and is taken for that stream. What is read from a folder, or written to it, fails.
+pub fn hold_standard_streams(rt: &HostRuntime) {
+    for _ in 0..STANDARD_STREAMS {
+        match File::open(rt, "/") {
+            Ok(folder) if folder.as_raw_fd() < STANDARD_STREAMS => {
+                let _ = folder.into_raw_fd();
+            }
+            _ => return,
+        }
     }
 }
 
@@ -73,7 +90,10 @@ fn is_same_file(rt: &HostRuntime, input: &str, output: &str) -> bool {
 }
 
 /// The octets of a script, of one that is too long no more than tell so.
-pub fn read_script<R: Read + Drop>(alloc: Global, reader: R) -> Result<Vec<u8>, Outcome> {
+pub fn read_script<R: Read + Drop>(alloc: Global, reader: R) -> Result<Vec<u8>, Outcome>
+    ensures octets { IfOk result (λ script. (octets : List ℕ) → R.remaining reader ≡ Some octets →
+        script.items ≡ take (LONGEST_SCRIPT + 1) octets) }
+{
     let mut script = Vec::new(alloc);
     let mut front = reader.take(LONGEST_SCRIPT as u64 + 1);
     match front.read_to_end(&mut script) {

@@ -8,13 +8,24 @@ mod run;
 
 use bgpdump_tool::{Mode, Outcome, STANDARD_INPUT, Settings, settings};
 use ending::Ending;
-use files::{create, open, outcome_of, read_script};
-use run::Task;
-use std::io::Read;
+use files::{create, hold_standard_streams, open, outcome_of, read_script};
+use mrt_wire::Stamp;
+use run::{dump, play};
+use std::io::{Read, Write};
 use std::process::ExitCode;
 use std::{env, io};
 
+/// What is done with the input.
+#[derive(Drop)]
+enum Task {
+    /// Its lines are printed.
+    Dump,
+    /// The commands of this script are carried out over it.
+    Play(Vec<u8>),
+}
+
 fn main(rt: HostRuntime) -> ExitCode {
+    hold_standard_streams(&rt);
     match read_settings(&rt) {
         Ok(settings) => match run_settings(&rt, &settings) {
             Ok(outcome) => end(&rt, &Ending::Ran(outcome)),
@@ -45,9 +56,9 @@ fn read_words(rt: &HostRuntime) -> io::Result<Vec<String>> {
 fn run_settings<'a>(rt: &HostRuntime, settings: &'a Settings) -> Result<Outcome, Ending<'a>> {
     let task = task_of(rt, &settings.mode)?;
     if settings.input.as_str() == STANDARD_INPUT {
-        run_over(rt, settings, task, rt.stdin())
+        run_over(rt, settings, &task, rt.stdin())
     } else {
-        run_over(rt, settings, task, open(rt, settings.input.as_str())?)
+        run_over(rt, settings, &task, open(rt, settings.input.as_str())?)
     }
 }
 
@@ -68,15 +79,29 @@ fn task_of<'a>(rt: &HostRuntime, mode: &'a Mode) -> Result<Task, Ending<'a>> {
 fn run_over<'a, R: Read + Drop>(
     rt: &HostRuntime,
     settings: &'a Settings,
-    task: Task,
+    task: &Task,
     input: R,
 ) -> Result<Outcome, Ending<'a>> {
     match &settings.output {
         Some(name) => {
             let out = create(rt, settings, name.as_str())?;
-            Ok(task.run(rt.alloc(), settings.stamp, input, out, rt.stderr()))
+            Ok(run_to(rt, settings.stamp, task, input, out))
         }
-        None => Ok(task.run(rt.alloc(), settings.stamp, input, rt.stdout(), rt.stderr())),
+        None => Ok(run_to(rt, settings.stamp, task, input, rt.stdout())),
+    }
+}
+
+/// Runs over an input and an output that were opened.
+fn run_to<R: Read + Drop, O: Write + Drop>(
+    rt: &HostRuntime,
+    stamp: Stamp,
+    task: &Task,
+    input: R,
+    out: O,
+) -> Outcome {
+    match task {
+        Task::Dump => dump(rt.alloc(), stamp, input, out, rt.stderr()).outcome,
+        Task::Play(script) => play(rt.alloc(), stamp, script, input, out, rt.stderr()).outcome,
     }
 }
 
@@ -91,3 +116,6 @@ fn end(rt: &HostRuntime, ending: &Ending<'_>) -> ExitCode {
     let _ = fault.print(rt);
     ExitCode::from(fault.status())
 }
+
+#[cfg(test)]
+mod tests;

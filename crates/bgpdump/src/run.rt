@@ -1,11 +1,19 @@
-//! A run over readers and writers, through buffers.
+//! Runs over readers and writers, through buffers.
 
-ghost use Rattle.std.specs.Prelude.{◌≡◌, ◌≢◌, ◌⊎◌, []};
-ghost use Rattle.std.specs.Io.Buffered.{writer_buffer, writer_contents};
+ghost use Rattle.std.specs.Prelude.{◌≡◌, ◌≤◌, ◌<◌, ◌⊎◌, ℕ, List, [], ◌++◌, false, Some, None, length};
+ghost use Rattle.std.specs.Prelude.{IfSome, IsNone};
+ghost use Rattle.std.specs.Io.Buffered.{writer_contents};
 ghost use Rattle.std.specs.Io.KnownBytes.{Keeps};
+ghost use Rattle.mrt_wire.specs.Splitting.{Splits};
+ghost use Rattle.mrt_wire.specs.Verdict.{Frame};
+ghost use Rattle.bgpdump_tool.specs.Course.{cut_texts, play_texts};
+ghost use Rattle.bgpdump_tool.specs.Reports.{dump_texts};
+ghost use Rattle.bgpdump_tool.specs.Run.{EndedByInput, EndsSo, Writes, all_results, outputs_of};
+ghost use Rattle.bgpdump_tool.specs.Script.{IsScript, Line};
+ghost use Rattle.bgpdump.specs.Joining.{KeepsBoth, Leaves};
 
-use bgpdump_tool::{Outcome, WriteOutput, run_dump, run_play};
-use mrt_wire::{ReadInput, Route, Stamp};
+use bgpdump_tool::{LONGEST_SCRIPT, Outcome, Output, WriteOutput, run_dump, run_play};
+use mrt_wire::{Input, ReadInput, Route, Stamp};
 use rib_store::MapStore;
 use std::alloc::Global;
 use std::io::{BufReader, BufWriter, Read, Write};
@@ -17,95 +25,187 @@ const BUFFER_SIZE: usize = 65_536;
 /// The store of the player.
 type Routes = MapStore<Rc<Route>>;
 
-/// What is done with the input.
+/// How a run ended, and the writers of lines or replies and of reports, which have all that the run
+/// wrote: None where a writer failed at the end, or memory was refused before the run began.
 #[derive(Drop)]
-pub enum Task {
-    /// Its lines are printed.
-    Dump,
-    /// The commands of this script are carried out over it.
-    Play(Vec<u8>),
+pub struct Ended<O, E> {
+    pub outcome: Outcome,
+    pub writers: Option<(O, E)>,
 }
 
-impl Task {
-    /// Reads the input to its end, or as far as the script says, or to a fault. What the task
-    /// prints goes to `out`, and its reports to `err`.
-    pub fn run<R: Read + Drop, O: Write + Drop, E: Write + Drop>(
-        &self,
-        alloc: Global,
-        stamp: Stamp,
-        reader: R,
-        out: O,
-        err: E,
-    ) -> Outcome {
-        let Ok(mut reader) = BufReader::with_capacity(alloc, BUFFER_SIZE, reader) else {
-            return Outcome::Memory;
-        };
-        let Ok(mut out) = BufWriter::with_capacity(alloc, BUFFER_SIZE, out) else {
-            return Outcome::Memory;
-        };
-        let Ok(mut err) = BufWriter::with_capacity(alloc, BUFFER_SIZE, err) else {
-            return Outcome::Memory;
-        };
-        let outcome = match self {
-            Task::Dump => dump(alloc, stamp, &mut reader, &mut out, &mut err),
-            Task::Play(script) => play(alloc, stamp, script, &mut reader, &mut out, &mut err),
-        };
-        flush(outcome, &mut out, &mut err)
-    }
+/// The input and the outputs of a run, through buffers.
+#[derive(Drop)]
+struct Streams<R, O: Write + Drop, E: Write + Drop> {
+    input: ReadInput<BufReader<R>>,
+    out: WriteOutput<BufWriter<O>>,
+    err: WriteOutput<BufWriter<E>>,
 }
 
-/// The lines of a dump, over a reader and two writers.
-fn dump<R: Read, O: Write, E: Write>(
+/// The lines of a dump, which go to `out`, and its reports, which go to `err`.
+pub fn dump<R: Read + Drop, O: Write + Drop, E: Write + Drop>(
     alloc: Global,
     stamp: Stamp,
-    reader: &mut R,
-    out: &mut O,
-    err: &mut E,
-) -> Outcome {
-    run_dump(
+    reader: R,
+    out: O,
+    err: E,
+) -> Ended<O, E>
+    // Of a reader that tells its octets: their lines and reports are what the writers have got, or
+    // fronts of them.
+    ensures text { (octets : List ℕ) (frames : List Frame) (rest : List ℕ) →
+        R.remaining reader ≡ Some octets → Splits stamp None octets frames rest →
+        Leaves O.contents E.contents
+        (EndsSo result.outcome (dump_texts (all_results stamp frames rest)))
+        out err result.writers }
+
+    // Where the reader failed, or has too much: just those of the records read whole.
+    ensures whole_records { EndedByInput result.outcome →
+        (octets : List ℕ) → R.remaining reader ≡ Some octets →
+        (taken : List ℕ) × (after : List ℕ) × (octets ≡ taken ++ after)
+        × ((frames : List Frame) (rest : List ℕ) → Splits stamp None taken frames rest →
+        Leaves O.contents E.contents (Writes (dump_texts (all_results stamp frames [])))
+        out err result.writers) }
+
+    // Which runs leave no writers.
+    ensures lost { IsNone result.writers →
+        (result.outcome ≡ Outcome.WriteFault) ⊎ (result.outcome ≡ Outcome.Memory) }
+{
+    let Some(mut streams) = open(alloc, reader, out, err) else {
+        return not_begun();
+    };
+    let outcome = run_dump(
         alloc,
-        &mut ReadInput::new(reader),
-        &mut WriteOutput::new(out),
-        &mut WriteOutput::new(err),
+        &mut streams.input,
+        &mut streams.out,
+        &mut streams.err,
         stamp,
-    )
+    );
+    close(streams, outcome)
 }
 
-/// A script over a dump, over a reader and two writers.
-fn play<R: Read, O: Write, E: Write>(
+/// The replies to a script over a dump, which go to `out`, and its reports, which go to `err`.
+pub fn play<R: Read + Drop, O: Write + Drop, E: Write + Drop>(
     alloc: Global,
     stamp: Stamp,
     script: &[u8],
-    reader: &mut R,
-    out: &mut O,
-    err: &mut E,
-) -> Outcome {
-    run_play::<Routes, _, _, _>(
-        alloc,
-        &mut ReadInput::new(reader),
-        script,
-        &mut WriteOutput::new(out),
-        &mut WriteOutput::new(err),
-        stamp,
-    )
-}
-/// Passes on what both writers still hold after a run that ended so, and tells how it ends then.
-fn flush<O: Write + Drop, E: Write + Drop>(
-    outcome: Outcome,
-    out: &mut BufWriter<O>,
-    err: &mut BufWriter<E>,
-) -> Outcome
-    ensures outcome { (result ≡ outcome) ⊎ (result ≡ Outcome.WriteFault) }
-    ensures passed { result ≢ Outcome.WriteFault →
-        (writer_buffer out.new ≡ []) × (writer_buffer err.new ≡ []) }
-    ensures out { Keeps (writer_contents O.contents out.old) (writer_contents O.contents out.new) }
-    ensures err { Keeps (writer_contents E.contents err.old) (writer_contents E.contents err.new) }
+    reader: R,
+    out: O,
+    err: E,
+) -> Ended<O, E>
+    // Of a reader that tells its octets: the replies to the script over them, and its reports, are
+    // what the writers have got, or fronts of them.
+    ensures text { length script.now ≤ LONGEST_SCRIPT →
+        (lines : List Line) → IsScript lines script.now →
+        (octets : List ℕ) (frames : List Frame) (rest : List ℕ) →
+        R.remaining reader ≡ Some octets → Splits stamp None octets frames rest →
+        Leaves O.contents E.contents
+        (EndsSo result.outcome (play_texts lines (all_results stamp frames rest)))
+        out err result.writers }
+
+    // Where the reader failed, or has too much: just those of the commands that ended, and the
+    // reports of the records read whole and of the lines before.
+    ensures whole_records { length script.now ≤ LONGEST_SCRIPT →
+        EndedByInput result.outcome → (lines : List Line) → IsScript lines script.now →
+        (octets : List ℕ) → R.remaining reader ≡ Some octets →
+        (taken : List ℕ) × (after : List ℕ) × (octets ≡ taken ++ after)
+        × ((frames : List Frame) (rest : List ℕ) → Splits stamp None taken frames rest →
+        Leaves O.contents E.contents (Writes (cut_texts lines (all_results stamp frames [])))
+        out err result.writers) }
+
+    // A script that is too long leaves the writers as they were.
+    ensures too_long { LONGEST_SCRIPT < length script.now → Leaves O.contents E.contents
+        (λ old new. (result.outcome ≡ Outcome.ScriptTooLong) × KeepsBoth old new)
+        out err result.writers }
+
+    // Which runs leave no writers.
+    ensures lost { IsNone result.writers →
+        (result.outcome ≡ Outcome.WriteFault) ⊎ (result.outcome ≡ Outcome.Memory) }
 {
-    let out_flushed = out.flush();
-    let err_flushed = err.flush();
-    if out_flushed.is_ok() && err_flushed.is_ok() {
-        outcome
-    } else {
-        Outcome::WriteFault
+    let Some(mut streams) = open(alloc, reader, out, err) else {
+        return not_begun();
+    };
+    let outcome = run_play::<Routes, _, _, _>(
+        alloc,
+        &mut streams.input,
+        script,
+        &mut streams.out,
+        &mut streams.err,
+        stamp,
+    );
+    close(streams, outcome)
+}
+
+/// Puts a buffer before the reader and behind each writer.
+fn open<R: Read + Drop, O: Write + Drop, E: Write + Drop>(
+    alloc: Global,
+    reader: R,
+    out: O,
+    err: E,
+) -> Option<Streams<R, O, E>>
+    ensures left { IfSome result (λ streams.
+        ⟦<ReadInput<BufReader<R>> as Input>⟧.left streams.input ≡ R.remaining reader) }
+    ensures written { IfSome result (λ streams. outputs_of
+        ⟦<WriteOutput<BufWriter<O>> as Output>⟧.written
+        ⟦<WriteOutput<BufWriter<E>> as Output>⟧.written streams.out streams.err
+        ≡ outputs_of O.contents E.contents out err) }
+    ensures input { IfSome result (λ streams.
+        ⟦<ReadInput<BufReader<R>> as Input>⟧.failed streams.input ≡ false) }
+    ensures out { IfSome result (λ streams.
+        ⟦<WriteOutput<BufWriter<O>> as Output>⟧.failed streams.out ≡ false) }
+    ensures err { IfSome result (λ streams.
+        ⟦<WriteOutput<BufWriter<E>> as Output>⟧.failed streams.err ≡ false) }
+{
+    let reader = BufReader::with_capacity(alloc, BUFFER_SIZE, reader).ok()?;
+    let out = BufWriter::with_capacity(alloc, BUFFER_SIZE, out).ok()?;
+    let err = BufWriter::with_capacity(alloc, BUFFER_SIZE, err).ok()?;
+    Some(Streams {
+        input: ReadInput::new(reader),
+        out: WriteOutput::new(out),
+        err: WriteOutput::new(err),
+    })
+}
+
+/// A run that was kept from beginning by want of memory.
+fn not_begun<O, E>() -> Ended<O, E>
+    ensures outcome { result.outcome ≡ Outcome.Memory }
+    ensures writers { result.writers ≡ None }
+{
+    Ended {
+        outcome: Outcome::Memory,
+        writers: None,
     }
+}
+
+/// Passes on what the buffers still hold after a run that ended so.
+fn close<R: Read + Drop, O: Write + Drop, E: Write + Drop>(
+    streams: Streams<R, O, E>,
+    outcome: Outcome,
+) -> Ended<O, E>
+    ensures kept { IfSome result.writers (λ writers. (result.outcome ≡ outcome) × KeepsBoth
+        (outputs_of ⟦<WriteOutput<BufWriter<O>> as Output>⟧.written
+        ⟦<WriteOutput<BufWriter<E>> as Output>⟧.written streams.out streams.err)
+        (outputs_of O.contents E.contents writers.0 writers.1)) }
+    ensures lost { IsNone result.writers → result.outcome ≡ Outcome.WriteFault }
+{
+    match (
+        flushed(streams.out.into_inner()),
+        flushed(streams.err.into_inner()),
+    ) {
+        (Some(out), Some(err)) => Ended {
+            outcome,
+            writers: Some((out, err)),
+        },
+        _ => Ended {
+            outcome: Outcome::WriteFault,
+            writers: None,
+        },
+    }
+}
+
+/// The writer behind a buffer, with what the buffer held, unless it failed to take that.
+fn flushed<W: Write + Drop>(mut buffer: BufWriter<W>) -> Option<W>
+    ensures { IfSome result (λ writer.
+        Keeps (writer_contents W.contents buffer) (W.contents writer)) }
+{
+    buffer.flush().ok()?;
+    buffer.into_inner().ok()
 }

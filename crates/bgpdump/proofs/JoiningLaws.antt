@@ -1,0 +1,103 @@
+-- What a run writes goes through the buffers to the writers.
+use Rattle.std.proofs.Common.{◌≡◌, ◌∙◌, ap, sym, refl, subst, List, [], ◌++◌, ℕ, Option, Some, None, IfSome}
+use Rattle.std.specs.Io.KnownBytes.{Appends, Consumes, Keeps}
+use Rattle.mrt_wire.specs.Next.{Took}
+use Rattle.mrt_wire.specs.Splitting.{Splits}
+use Rattle.mrt_wire.specs.Verdict.{Frame}
+use Rattle.mrt_wire.specs.declared.Stamp.{Stamp}
+use Rattle.bgpdump_tool.specs.Device.{AppendsFront}
+use Rattle.bgpdump_tool.specs.Run.{EndedByInput, EndsSo, MayHold, Outputs, Texts, Writes, WritesFronts, outputs_of}
+use Rattle.bgpdump_tool.specs.declared.Outcome.{Outcome}
+use Rattle.bgpdump_tool.specs.declared.Outcome.TheVariants.{Done, Reported, ReadFault, WriteFault, InputTooLong, ScriptTooLong, Memory}
+use Rattle.bgpdump.specs.Joining.{KeepsBoth, Leaves}
+
+-- ---- what stays behind a text
+
+Appends-kept : (a b c : Option (List ℕ)) (text : List ℕ) → Appends a b text → Keeps b c → Appends a c text
+Appends-kept None b c text appended kept = tt
+Appends-kept (Some xs) None c text appended kept = absurd appended
+Appends-kept (Some xs) (Some ys) None text appended kept = absurd kept
+Appends-kept (Some xs) (Some ys) (Some zs) text appended kept = kept ∙ appended
+
+AppendsFront-kept : (a b c : Option (List ℕ)) (text : List ℕ) → AppendsFront a b text → Keeps b c → AppendsFront a c text
+AppendsFront-kept a b c text appended kept = record { front = appended.front; back = appended.back; whole = appended.whole; appended = Appends-kept a b c appended.front appended.appended kept }
+
+Writes-kept : (texts : Texts) (old mid new : Outputs) → Writes texts old mid → KeepsBoth mid new → Writes texts old new
+Writes-kept texts old mid new wrote kept = (Appends-kept old.out mid.out new.out texts.out wrote.0 kept.0, Appends-kept old.err mid.err new.err texts.err wrote.1 kept.1)
+
+fronts_kept : (texts : Texts) (old mid new : Outputs) → WritesFronts texts old mid → KeepsBoth mid new → WritesFronts texts old new
+fronts_kept texts old mid new wrote kept = (AppendsFront-kept old.out mid.out new.out texts.out wrote.0 kept.0, AppendsFront-kept old.err mid.err new.err texts.err wrote.1 kept.1)
+
+EndsSo-kept : (outcome : Outcome) (texts : Texts) (old mid new : Outputs) → EndsSo outcome texts old mid → KeepsBoth mid new → EndsSo outcome texts old new
+EndsSo-kept Done texts old mid new ends kept = (ends.0, Writes-kept texts old mid new ends.1 kept)
+EndsSo-kept Reported texts old mid new ends kept = (ends.0, Writes-kept texts old mid new ends.1 kept)
+EndsSo-kept ReadFault texts old mid new ends kept = fronts_kept texts old mid new ends kept
+EndsSo-kept WriteFault texts old mid new ends kept = fronts_kept texts old mid new ends kept
+EndsSo-kept InputTooLong texts old mid new ends kept = fronts_kept texts old mid new ends kept
+EndsSo-kept Memory texts old mid new ends kept = fronts_kept texts old mid new ends kept
+EndsSo-kept ScriptTooLong texts old mid new ends kept = absurd ends
+
+-- ---- what was taken of known octets
+
+known_taken : (old new : Option (List ℕ)) (octets taken : List ℕ) → old ≡ Some octets → Consumes old new taken → (after : List ℕ) × Took old new taken after × (octets ≡ taken ++ after)
+known_taken None new octets taken is consumed =
+    let bad : None ≡ Some octets = is in
+    cc
+known_taken (Some xs) None octets taken is consumed = absurd consumed
+known_taken (Some xs) (Some ys) octets taken is consumed =
+    let same : octets ≡ taken ++ ys = ap (λ o. from o) (sym is) ∙ consumed in
+    (ys, record { before = ap (λ o. Some o) consumed; now = refl }, same)
+  where
+    from : Option (List ℕ) → List ℕ
+    from None = []
+    from (Some zs) = zs
+
+-- known octets are what the input holds on the whole
+pub holds_known : (stamp : Stamp) (Saw : List Frame → List ℕ → Type 0) (old new : Option (List ℕ)) (octets taken : List ℕ) → old ≡ Some octets → Consumes old new taken → MayHold stamp Saw old new octets
+holds_known stamp Saw old new octets taken is consumed =
+    let known = known_taken old new octets taken is consumed in
+    record { taken = taken; after = known.0; more = known.0; took = known.1; whole = known.2; follows = λ frames rest splits saw none. none }
+
+-- ---- what the writers are left with
+
+-- the outcome that is told, and the writers, behind a run that ended so
+abbrev pub IsClosed : {O E : Type 0} → (O → Option (List ℕ)) → (E → Option (List ℕ)) → Outcome → Outputs → Outcome → Option (O × E) → Type 0
+IsClosed contents contents' outcome mid told writers = IfSome writers (λ both. (told ≡ outcome) × KeepsBoth mid (outputs_of contents contents' both.0 both.1))
+
+pub leaves_ended : {O E : Type 0} (contents : O → Option (List ℕ)) (contents' : E → Option (List ℕ)) (out : O) (err : E) (old mid : Outputs) (outcome told : Outcome) (texts : Texts) (writers : Option (O × E))
+    → old ≡ outputs_of contents contents' out err → EndsSo outcome texts old mid → IsClosed contents contents' outcome mid told writers → Leaves contents contents' (EndsSo told texts) out err writers
+leaves_ended contents contents' out err old mid outcome told texts None is ends closed = tt
+leaves_ended contents contents' out err old mid outcome told texts (Some both) is ends closed =
+    let new = outputs_of contents contents' both.0 both.1 in
+    subst (λ o. EndsSo told texts o new) is (subst (λ t. EndsSo t texts old new) (sym closed.0) (EndsSo-kept outcome texts old mid new ends closed.1))
+
+pub leaves_written : {O E : Type 0} (contents : O → Option (List ℕ)) (contents' : E → Option (List ℕ)) (out : O) (err : E) (old mid : Outputs) (outcome told : Outcome) (texts : Texts) (writers : Option (O × E))
+    → old ≡ outputs_of contents contents' out err → EndedByInput told → (EndedByInput outcome → Writes texts old mid) → IsClosed contents contents' outcome mid told writers → Leaves contents contents' (Writes texts) out err writers
+leaves_written contents contents' out err old mid outcome told texts None is by wrote closed = tt
+leaves_written contents contents' out err old mid outcome told texts (Some both) is by wrote closed =
+    let new = outputs_of contents contents' both.0 both.1 in
+    subst (λ o. Writes texts o new) is (Writes-kept texts old mid new (wrote (subst EndedByInput closed.0 by)) closed.1)
+
+-- the octets that a run took of known ones, with what the writers are left with by them
+pub leaves_whole : {O E : Type 0} (contents : O → Option (List ℕ)) (contents' : E → Option (List ℕ)) (out : O) (err : E) (old mid : Outputs) (outcome told : Outcome) (writers : Option (O × E))
+    (stamp : Stamp) (texts : List Frame → Texts) (left left' : Option (List ℕ)) (octets taken : List ℕ)
+    → old ≡ outputs_of contents contents' out err → EndedByInput told → left ≡ Some octets → Consumes left left' taken
+    → (EndedByInput outcome → (taken after : List ℕ) (frames : List Frame) (rest : List ℕ) → Took left left' taken after → Splits stamp None taken frames rest → Writes (texts frames) old mid)
+    → IsClosed contents contents' outcome mid told writers
+    → (taken : List ℕ) × (after : List ℕ) × (octets ≡ taken ++ after)
+    × ((frames : List Frame) (rest : List ℕ) → Splits stamp None taken frames rest → Leaves contents contents' (Writes (texts frames)) out err writers)
+leaves_whole contents contents' out err old mid outcome told writers stamp texts left left' octets taken is by known consumed wrote closed =
+    let took = known_taken left left' octets taken known consumed in (
+      taken,
+      took.0,
+      took.2,
+      λ frames rest splits. leaves_written contents contents' out err old mid outcome told (texts frames) writers is by (λ input. wrote input taken took.0 frames rest took.1 splits) closed,
+    )
+
+-- a run that wrote nothing
+pub leaves_untouched : {O E : Type 0} (contents : O → Option (List ℕ)) (contents' : E → Option (List ℕ)) (out : O) (err : E) (old mid : Outputs) (outcome told ended : Outcome) (writers : Option (O × E))
+    → old ≡ outputs_of contents contents' out err → mid ≡ old → outcome ≡ ended → IsClosed contents contents' outcome mid told writers → Leaves contents contents' (λ before behind. (told ≡ ended) × KeepsBoth before behind) out err writers
+leaves_untouched contents contents' out err old mid outcome told ended None is stays by closed = tt
+leaves_untouched contents contents' out err old mid outcome told ended (Some both) is stays by closed =
+    let new = outputs_of contents contents' both.0 both.1 in
+    (closed.0 ∙ by, subst (λ o. KeepsBoth o new) (stays ∙ is) closed.1)

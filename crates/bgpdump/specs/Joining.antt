@@ -1,0 +1,12 @@
+-- What a run of the program leaves with its writers.
+use Rattle.std.specs.Prelude.{◌≡◌, ℕ, List, Option, Some, None, ⊤, IfSome}
+use Rattle.std.specs.Io.KnownBytes.{Keeps}
+use Rattle.bgpdump_tool.specs.Run.{Outputs, outputs_of}
+
+-- what the writers hold that came back relates so to what they held before; None came back where one failed at the end, or the run was kept from beginning
+abbrev pub Leaves : {O E : Type 0} → (O → Option (List ℕ)) → (E → Option (List ℕ)) → (Outputs → Outputs → Type 0) → O → E → Option (O × E) → Type 0
+Leaves contents contents' Relates out err writers = IfSome writers (λ both. Relates (outputs_of contents contents' out err) (outputs_of contents contents' both.0 both.1))
+
+-- known octets stay in both outputs
+abbrev pub KeepsBoth : Outputs → Outputs → Type 0
+KeepsBoth old new = Keeps old.out new.out × Keeps old.err new.err
