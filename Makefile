@@ -4,12 +4,16 @@ PREFIX ?= /usr/local
 
 SOURCES := crates.txt $(shell find crates -name out -prune -o -type f -print)
 
-.PHONY: all demo test bench install clean
+# What the checks of the built program run.
+PROGRAM ?= bin/bgpdump
+
+.PHONY: all demo test checks bench install clean
 
 all: bin/bgpdump
 
 # rt leaves the program where it ran it, here on an empty input.
 bin/bgpdump: $(SOURCES)
+	@echo "rt proves what it builds: some ten minutes the first time, on four cores."
 	cd crates/bgpdump && rt run -- -m /dev/null
 	mkdir -p bin
 	cp crates/bgpdump/out/bgpdump $@
@@ -18,8 +22,16 @@ bin/bgpdump: $(SOURCES)
 demo: bin/bgpdump
 	examples/demo.sh bin/bgpdump
 
+# rt ci leaves the program that it proved and built.
 test:
 	rt ci
+	$(MAKE) --no-print-directory checks PROGRAM=crates/bgpdump/out/bgpdump
+
+# Its texts and statuses, over examples/ and inputs of their own, and the commands of the cookbook.
+checks: $(PROGRAM)
+	examples/demo.sh $(PROGRAM) >/dev/null
+	checks/program.py $(PROGRAM)
+	examples/cookbook.py $(PROGRAM)
 
 # FILE=.. measures over that file alone.
 bench: bin/bgpdump

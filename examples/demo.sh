@@ -27,5 +27,9 @@ show "Announcements (examples/updates.mrt):" grep -m 2 '|A|' "$out/updates.lines
 show "Withdrawals:" grep -m 2 '|W|' "$out/updates.lines"
 show "A state change:" grep -m 1 '|STATE|' "$out/updates.lines"
 show "Reports of faulty records (examples/damaged.mrt):" cat "$out/damaged.reports"
+# The two last commands ask what the peer of AS 65536 has for an address during a hijack, and before.
+printf 'goto 9\npeers\ngoto 20\nlookup 192.0.2.3 65536 198.51.100.1\nback 3\nlookup 192.0.2.3 65536 198.51.100.1\n' >"$out/script"
+show "A script (for examples/incident.mrt):" cat "$out/script"
+show "Its replies:" "$program" --play "$out/script" "$here/incident.mrt"
 echo
 echo "All lines and reports are those stored in examples/."
