@@ -1,8 +1,10 @@
 mod adapters;
+mod command_lines;
 mod commands;
 mod devices;
 mod faults;
 mod generated_scripts;
+mod large_scripts;
 mod lines;
 mod memory;
 mod moves;
