@@ -27,11 +27,13 @@ test:
 	rt ci
 	$(MAKE) --no-print-directory checks PROGRAM=crates/bgpdump/out/bgpdump
 
-# Its texts and statuses, over examples/ and inputs of their own, and the commands of the cookbook.
+# Its texts and statuses, over examples/ and inputs of their own, the commands of the cookbook, and
+# the form of the manual page, where mandoc is there.
 checks: $(PROGRAM)
 	examples/demo.sh $(PROGRAM) >/dev/null
 	checks/program.py $(PROGRAM)
 	examples/cookbook.py $(PROGRAM)
+	if command -v mandoc >/dev/null; then mandoc -T lint -W warning man/bgpdump.1; fi
 
 # FILE=.. measures over that file alone.
 bench: bin/bgpdump

@@ -1,5 +1,5 @@
 -- The octets of a script.
-use Rattle.std.proofs.Common.{◌≡◌, ◌∙◌, ap, List, [], ◌++◌, ℕ, Option, Some, None, option_map, take, IfSome, subst}
+use Rattle.std.proofs.Common.{◌≡◌, ◌∙◌, ap, List, [], ◌++◌, ℕ, Option, Some, option_map, take, IfSome, subst}
 
 -- what is read of known octets up to a limit
 pub script_read : (remaining : Option (List ℕ)) (limit most : ℕ) (octets old new : List ℕ) → remaining ≡ Some octets → limit ≡ most

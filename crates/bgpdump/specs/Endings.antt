@@ -1,5 +1,5 @@
 -- How the program ends: its exit status, and its last message.
-use Rattle.std.specs.Prelude.{ℕ, List, Option, Some, None, codes}
+use Rattle.std.specs.Prelude.{◌≡◌, ◌⊎◌, ℕ, List, Option, Some, None, codes}
 use Rattle.bgpdump_tool.specs.Status.{status_of}
 use Rattle.bgpdump_tool.specs.declared.Outcome.{Outcome}
 use Rattle.bgpdump_tool.specs.declared.Outcome.TheVariants.{Done, Reported, ReadFault, WriteFault, InputTooLong, ScriptTooLong, Memory}
@@ -19,6 +19,10 @@ abbrev pub ending_status : Ending → ℕ
 ending_status (Usage fault) = usage_status fault
 ending_status (NotOpened name) = 3
 ending_status (Ran outcome) = status_of outcome
+
+-- how a run ends that was kept from beginning by what it was to read
+abbrev pub IsReadOutcome : Outcome → Type 0
+IsReadOutcome outcome = (outcome ≡ ReadFault) ⊎ (outcome ≡ Memory)
 
 -- what a run that ended so says last
 abbrev pub outcome_message : Outcome → Option (List ℕ)

@@ -1,5 +1,5 @@
 -- What a run of the program leaves with its writers.
-use Rattle.std.specs.Prelude.{◌≡◌, ℕ, List, Option, Some, None, ⊤, IfSome}
+use Rattle.std.specs.Prelude.{ℕ, List, Option, IfSome}
 use Rattle.std.specs.Io.KnownBytes.{Keeps}
 use Rattle.bgpdump_tool.specs.Run.{Outputs, outputs_of}
 

@@ -1,7 +1,8 @@
 //! The files that the program opens, and the script that it reads.
 
-ghost use Rattle.std.specs.Prelude.{◌≡◌, ◌↔◌, ◌+◌, ℕ, List, Some, take, IfOk};
+ghost use Rattle.std.specs.Prelude.{◌≡◌, ◌↔◌, ◌+◌, ℕ, List, Some, take, IfOk, IfErr};
 ghost use Rattle.std.specs.IoError.{error_kind};
+ghost use Rattle.bgpdump.specs.Endings.{IsReadOutcome};
 
 use crate::ending::Ending;
 use bgpdump_tool::{LONGEST_SCRIPT, Mode, Outcome, STANDARD_INPUT, Settings};
@@ -17,9 +18,10 @@ const STANDARD_STREAMS: i32 = 3;
 /// Where the system has standard input.
 const STANDARD_INPUT_PATH: &str = "/dev/stdin";
 
-/// How a run ends that this error keeps from beginning.
-pub fn outcome_of(error: &io::Error) -> Outcome
-    ensures { (result ≡ Outcome.Memory) ↔ (error_kind error.now ≡ ErrorKind.OutOfMemory) }
+/// How a run ends that this error of reading keeps from beginning.
+pub fn read_outcome(error: &io::Error) -> Outcome
+    ensures memory { (result ≡ Outcome.Memory) ↔ (error_kind error.now ≡ ErrorKind.OutOfMemory) }
+    ensures other { IsReadOutcome result }
 {
     match error.kind() {
         ErrorKind::OutOfMemory => Outcome::Memory,
@@ -93,11 +95,12 @@ fn is_same_file(rt: &HostRuntime, input: &str, output: &str) -> bool {
 pub fn read_script<R: Read + Drop>(alloc: Global, reader: R) -> Result<Vec<u8>, Outcome>
     ensures octets { IfOk result (λ script. (octets : List ℕ) → R.remaining reader ≡ Some octets →
         script.items ≡ take (LONGEST_SCRIPT + 1) octets) }
+    ensures fault { IfErr result IsReadOutcome }
 {
     let mut script = Vec::new(alloc);
     let mut front = reader.take(LONGEST_SCRIPT as u64 + 1);
     match front.read_to_end(&mut script) {
         Ok(_) => Ok(script),
-        Err(error) => Err(outcome_of(&error)),
+        Err(error) => Err(read_outcome(&error)),
     }
 }

@@ -8,7 +8,7 @@ mod run;
 
 use bgpdump_tool::{Mode, Outcome, STANDARD_INPUT, Settings, settings};
 use ending::Ending;
-use files::{create, hold_standard_streams, open, outcome_of, read_script};
+use files::{create, hold_standard_streams, open, read_outcome, read_script};
 use mrt_wire::Stamp;
 use run::{dump, play};
 use std::io::{Read, Write};
@@ -39,7 +39,7 @@ fn main(rt: HostRuntime) -> ExitCode {
 fn read_settings<'a>(rt: &HostRuntime) -> Result<Settings, Ending<'a>> {
     let words = match read_words(rt) {
         Ok(words) => words,
-        Err(error) => return Err(Ending::Ran(outcome_of(&error))),
+        Err(error) => return Err(Ending::Ran(read_outcome(&error))),
     };
     match settings(rt.alloc(), words) {
         Ok(settings) => Ok(settings),

@@ -1,7 +1,7 @@
 //! Runs over readers and writers, through buffers.
 
-ghost use Rattle.std.specs.Prelude.{◌≡◌, ◌≤◌, ◌<◌, ◌⊎◌, ℕ, List, [], ◌++◌, false, Some, None, length};
-ghost use Rattle.std.specs.Prelude.{IfSome, IsNone};
+ghost use Rattle.std.specs.Prelude.{◌≡◌, ◌≤◌, ◌<◌, ◌⊎◌, ◌++◌, ℕ, List, [], false, length};
+ghost use Rattle.std.specs.Prelude.{Some, None, IfSome, IsNone};
 ghost use Rattle.std.specs.Io.Buffered.{writer_contents};
 ghost use Rattle.std.specs.Io.KnownBytes.{Keeps};
 ghost use Rattle.mrt_wire.specs.Splitting.{Splits};
@@ -69,7 +69,7 @@ pub fn dump<R: Read + Drop, O: Write + Drop, E: Write + Drop>(
     ensures lost { IsNone result.writers →
         (result.outcome ≡ Outcome.WriteFault) ⊎ (result.outcome ≡ Outcome.Memory) }
 {
-    let Some(mut streams) = open(alloc, reader, out, err) else {
+    let Some(mut streams) = through_buffers(alloc, reader, out, err) else {
         return not_begun();
     };
     let outcome = run_dump(
@@ -112,7 +112,7 @@ pub fn play<R: Read + Drop, O: Write + Drop, E: Write + Drop>(
         out err result.writers) }
 
     // A script that is too long leaves the writers as they were.
-    ensures too_long { LONGEST_SCRIPT < length script.now → Leaves O.contents E.contents
+    ensures script_too_long { LONGEST_SCRIPT < length script.now → Leaves O.contents E.contents
         (λ old new. (result.outcome ≡ Outcome.ScriptTooLong) × KeepsBoth old new)
         out err result.writers }
 
@@ -120,7 +120,7 @@ pub fn play<R: Read + Drop, O: Write + Drop, E: Write + Drop>(
     ensures lost { IsNone result.writers →
         (result.outcome ≡ Outcome.WriteFault) ⊎ (result.outcome ≡ Outcome.Memory) }
 {
-    let Some(mut streams) = open(alloc, reader, out, err) else {
+    let Some(mut streams) = through_buffers(alloc, reader, out, err) else {
         return not_begun();
     };
     let outcome = run_play::<Routes, _, _, _>(
@@ -135,7 +135,7 @@ pub fn play<R: Read + Drop, O: Write + Drop, E: Write + Drop>(
 }
 
 /// Puts a buffer before the reader and behind each writer.
-fn open<R: Read + Drop, O: Write + Drop, E: Write + Drop>(
+fn through_buffers<R: Read + Drop, O: Write + Drop, E: Write + Drop>(
     alloc: Global,
     reader: R,
     out: O,
@@ -184,7 +184,8 @@ fn close<R: Read + Drop, O: Write + Drop, E: Write + Drop>(
         (outputs_of ⟦<WriteOutput<BufWriter<O>> as Output>⟧.written
         ⟦<WriteOutput<BufWriter<E>> as Output>⟧.written streams.out streams.err)
         (outputs_of O.contents E.contents writers.0 writers.1)) }
-    ensures lost { IsNone result.writers → result.outcome ≡ Outcome.WriteFault }
+    ensures lost { IsNone result.writers →
+        (result.outcome ≡ Outcome.WriteFault) ⊎ (result.outcome ≡ Outcome.Memory) }
 {
     match (
         flushed(streams.out.into_inner()),
@@ -195,9 +196,20 @@ fn close<R: Read + Drop, O: Write + Drop, E: Write + Drop>(
             writers: Some((out, err)),
         },
         _ => Ended {
-            outcome: Outcome::WriteFault,
+            outcome: lost_outcome(outcome),
             writers: None,
         },
+    }
+}
+
+/// How a run ends that ended so, and whose writers failed at the end. Want of memory stands in place
+/// of any other answer.
+fn lost_outcome(outcome: Outcome) -> Outcome
+    ensures { (result ≡ Outcome.WriteFault) ⊎ (result ≡ Outcome.Memory) }
+{
+    match outcome {
+        Outcome::Memory => Outcome::Memory,
+        _ => Outcome::WriteFault,
     }
 }
 

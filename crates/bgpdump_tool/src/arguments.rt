@@ -71,7 +71,7 @@ fn times_argument<'a>(alloc: Global) -> Arg<'a>
         .value_name("TIME")
         .value_parser(TIMES_TAKEN)
         .default_value(DUMP)
-        .help("The time of a table's routes: when the table was dumped, or when the route changed")
+        .help("The time of a table's routes: when the table was dumped, or the route originated")
 }
 
 /// `-O FILE`.

@@ -1,6 +1,6 @@
-use Rattle.std.proofs.Common.{◌∙◌, [], subst}
+use Rattle.std.proofs.Common.{◌∙◌, []}
 use Rattle.bgpdump_tool.specs.Reports.{dump_texts}
-use Rattle.bgpdump_tool.specs.Run.{all_results, outputs_of}
+use Rattle.bgpdump_tool.specs.Run.{all_results}
 use Rattle.bgpdump.proofs.JoiningLaws.{holds_known, leaves_ended, leaves_whole}
 use Rattle.bgpdump.proofs.run.dump.Goals as goal
 

@@ -22,8 +22,8 @@ returns-clause-whole_records g c short by lines reads octets known =
     c.in-Some.ensures.written by (c.in-Some.ensures.left ∙ known) taken.1
     (λ input. c.run_play-outcome.ensures.whole_records input lines reads) c.close.ensures.kept
 
-pub returns-clause-too_long : goal.returns-clause-too_long
-returns-clause-too_long g c long =
+pub returns-clause-script_too_long : goal.returns-clause-script_too_long
+returns-clause-script_too_long g c long =
     let outcome = c.run_play-outcome.ensures.script_too_long.1 long in
     let untouched = c.run_play-outcome.ensures.untouched outcome in
     leaves_untouched g.O.Write.contents g.E.Write.contents c.args.out c.args.err _ _ c.run_play-outcome.result c.close.result.outcome ScriptTooLong c.close.result.writers
