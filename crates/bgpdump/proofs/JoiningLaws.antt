@@ -1,5 +1,5 @@
 -- What a run writes goes through the buffers to the writers.
-use Rattle.std.proofs.Common.{◌≡◌, ◌∙◌, ap, sym, refl, subst, List, [], ◌++◌, ℕ, Option, Some, None, IfSome}
+use Rattle.std.proofs.Common.{◌≡◌, ◌∙◌, ◌⊎◌, ap, sym, refl, subst, inl, inr, IsNone, List, [], ◌++◌, ℕ, Option, Some, None, IfSome}
 use Rattle.std.specs.Io.KnownBytes.{Appends, Consumes, Keeps}
 use Rattle.mrt_wire.specs.Next.{Took}
 use Rattle.mrt_wire.specs.Splitting.{Splits}
@@ -78,22 +78,6 @@ leaves_written contents contents' out err old mid outcome told texts (Some both)
     let new = outputs_of contents contents' both.0 both.1 in
     subst (λ o. Writes texts o new) is (Writes-kept texts old mid new (wrote (subst EndedByInput closed.0 by)) closed.1)
 
--- the octets that a run took of known ones, with what the writers are left with by them
-pub leaves_whole : {O E : Type 0} (contents : O → Option (List ℕ)) (contents' : E → Option (List ℕ)) (out : O) (err : E) (old mid : Outputs) (outcome told : Outcome) (writers : Option (O × E))
-    (stamp : Stamp) (texts : List Frame → Texts) (left left' : Option (List ℕ)) (octets taken : List ℕ)
-    → old ≡ outputs_of contents contents' out err → EndedByInput told → left ≡ Some octets → Consumes left left' taken
-    → (EndedByInput outcome → (taken after : List ℕ) (frames : List Frame) (rest : List ℕ) → Took left left' taken after → Splits stamp None taken frames rest → Writes (texts frames) old mid)
-    → IsClosed contents contents' outcome mid told writers
-    → (taken : List ℕ) × (after : List ℕ) × (octets ≡ taken ++ after)
-    × ((frames : List Frame) (rest : List ℕ) → Splits stamp None taken frames rest → Leaves contents contents' (Writes (texts frames)) out err writers)
-leaves_whole contents contents' out err old mid outcome told writers stamp texts left left' octets taken is by known consumed wrote closed =
-    let took = known_taken left left' octets taken known consumed in (
-      taken,
-      took.0,
-      took.2,
-      λ frames rest splits. leaves_written contents contents' out err old mid outcome told (texts frames) writers is by (λ input. wrote input taken took.0 frames rest took.1 splits) closed,
-    )
-
 -- a run that wrote nothing
 pub leaves_untouched : {O E : Type 0} (contents : O → Option (List ℕ)) (contents' : E → Option (List ℕ)) (out : O) (err : E) (old mid : Outputs) (outcome told ended : Outcome) (writers : Option (O × E))
     → old ≡ outputs_of contents contents' out err → mid ≡ old → outcome ≡ ended → IsClosed contents contents' outcome mid told writers → Leaves contents contents' (λ before behind. (told ≡ ended) × KeepsBoth before behind) out err writers
@@ -101,3 +85,16 @@ leaves_untouched contents contents' out err old mid outcome told ended None is s
 leaves_untouched contents contents' out err old mid outcome told ended (Some both) is stays by closed =
     let new = outputs_of contents contents' both.0 both.1 in
     (closed.0 ∙ by, subst (λ o. KeepsBoth o new) (stays ∙ is) closed.1)
+
+-- what holds of an input that came back
+pub of_input : {I : Type 0} (P : I → Type 0) (input : Option I) (left : I) → input ≡ Some left → P left → IfSome input P
+of_input P input left is holds = subst (λ i. IfSome i P) (sym is) holds
+
+-- a run that the input ended is told as such
+pub told_by_input : {O E : Type 0} (contents : O → Option (List ℕ)) (contents' : E → Option (List ℕ)) (mid : Outputs) (outcome told : Outcome) (writers : Option (O × E))
+    → IsClosed contents contents' outcome mid told writers → (IsNone writers → (told ≡ WriteFault) ⊎ (told ≡ Memory)) → EndedByInput told → told ≡ outcome
+told_by_input contents contents' mid outcome told (Some both) closed lost by = closed.0
+told_by_input contents contents' mid outcome told None closed lost by = elim (lost refl) [
+  | inl fault ↦ absurd (subst EndedByInput fault by)
+  | inr memory ↦ absurd (subst EndedByInput memory by)
+]

@@ -1,16 +1,17 @@
 //! Runs over readers and writers, through buffers.
 
-ghost use Rattle.std.specs.Prelude.{◌≡◌, ◌≤◌, ◌<◌, ◌⊎◌, ◌++◌, ℕ, List, [], false, length};
+ghost use Rattle.std.specs.Prelude.{◌≡◌, ◌≤◌, ◌<◌, ◌⊎◌, ◌^◌, ℕ, List, [], false, length};
 ghost use Rattle.std.specs.Prelude.{Some, None, IfSome, IsNone};
 ghost use Rattle.std.specs.Io.Buffered.{writer_contents};
-ghost use Rattle.std.specs.Io.KnownBytes.{Keeps};
+ghost use Rattle.std.specs.Io.KnownBytes.{Consumes, Keeps};
+ghost use Rattle.mrt_wire.specs.Next.{Took};
 ghost use Rattle.mrt_wire.specs.Splitting.{Splits};
 ghost use Rattle.mrt_wire.specs.Verdict.{Frame};
 ghost use Rattle.bgpdump_tool.specs.Course.{cut_texts, play_texts};
 ghost use Rattle.bgpdump_tool.specs.Reports.{dump_texts};
 ghost use Rattle.bgpdump_tool.specs.Run.{EndedByInput, EndsSo, Writes, all_results, outputs_of};
 ghost use Rattle.bgpdump_tool.specs.Script.{IsScript, Line};
-ghost use Rattle.bgpdump.specs.Joining.{KeepsBoth, Leaves};
+ghost use Rattle.bgpdump.specs.Joining.{KeepsBoth, Leaves, has_failed, left_of};
 
 use bgpdump_tool::{LONGEST_SCRIPT, Outcome, Output, WriteOutput, run_dump, run_play};
 use mrt_wire::{Input, ReadInput, Route, Stamp};
@@ -25,11 +26,13 @@ const BUFFER_SIZE: usize = 65_536;
 /// The store of the player.
 type Routes = MapStore<Rc<Route>>;
 
-/// How a run ended, and the writers of lines or replies and of reports, which have all that the run
-/// wrote: None where a writer failed at the end, or memory was refused before the run began.
+/// How a run ended. The input has what the run left of it: None where memory was refused before the
+/// run began. The writers of lines or replies and of reports have all that the run wrote: None also
+/// where a writer failed at the end.
 #[derive(Drop)]
-pub struct Ended<O, E> {
+pub struct Ended<R, O, E> {
     pub outcome: Outcome,
+    pub input: Option<ReadInput<BufReader<R>>>,
     pub writers: Option<(O, E)>,
 }
 
@@ -48,7 +51,7 @@ pub fn dump<R: Read + Drop, O: Write + Drop, E: Write + Drop>(
     reader: R,
     out: O,
     err: E,
-) -> Ended<O, E>
+) -> Ended<R, O, E>
     // Of a reader that tells its octets: their lines and reports are what the writers have got, or
     // fronts of them.
     ensures text { (octets : List ℕ) (frames : List Frame) (rest : List ℕ) →
@@ -58,14 +61,23 @@ pub fn dump<R: Read + Drop, O: Write + Drop, E: Write + Drop>(
         out err result.writers }
 
     // Where the reader failed, or has too much: just those of the records read whole.
-    ensures whole_records { EndedByInput result.outcome →
-        (octets : List ℕ) → R.remaining reader ≡ Some octets →
-        (taken : List ℕ) × (after : List ℕ) × (octets ≡ taken ++ after)
-        × ((frames : List Frame) (rest : List ℕ) → Splits stamp None taken frames rest →
+    ensures whole_records { EndedByInput result.outcome → IfSome result.input (λ input.
+        (taken after : List ℕ) (frames : List Frame) (rest : List ℕ) →
+        Took (R.remaining reader) (left_of R.remaining input) taken after →
+        Splits stamp None taken frames rest →
         Leaves O.contents E.contents (Writes (dump_texts (all_results stamp frames [])))
         out err result.writers) }
 
-    // Which runs leave no writers.
+    // What was read.
+    ensures taken { IfSome result.input (λ input. (taken : List ℕ)
+        × Consumes (R.remaining reader) (left_of R.remaining input) taken) }
+    ensures too_long { result.outcome ≡ Outcome.InputTooLong → IfSome result.input (λ input.
+        (taken after : List ℕ) → Took (R.remaining reader) (left_of R.remaining input) taken after →
+        length taken ≡ 2 ^ 40) }
+
+    // Which runs end by a read fault, which aren't begun, and which leave no writers.
+    ensures read_fault { result.outcome ≡ Outcome.ReadFault → IfSome result.input has_failed }
+    ensures not_begun { IsNone result.input → result.outcome ≡ Outcome.Memory }
     ensures lost { IsNone result.writers →
         (result.outcome ≡ Outcome.WriteFault) ⊎ (result.outcome ≡ Outcome.Memory) }
 {
@@ -90,7 +102,7 @@ pub fn play<R: Read + Drop, O: Write + Drop, E: Write + Drop>(
     reader: R,
     out: O,
     err: E,
-) -> Ended<O, E>
+) -> Ended<R, O, E>
     // Of a reader that tells its octets: the replies to the script over them, and its reports, are
     // what the writers have got, or fronts of them.
     ensures text { length script.now ≤ LONGEST_SCRIPT →
@@ -103,20 +115,30 @@ pub fn play<R: Read + Drop, O: Write + Drop, E: Write + Drop>(
 
     // Where the reader failed, or has too much: just those of the commands that ended, and the
     // reports of the records read whole and of the lines before.
-    ensures whole_records { length script.now ≤ LONGEST_SCRIPT →
-        EndedByInput result.outcome → (lines : List Line) → IsScript lines script.now →
-        (octets : List ℕ) → R.remaining reader ≡ Some octets →
-        (taken : List ℕ) × (after : List ℕ) × (octets ≡ taken ++ after)
-        × ((frames : List Frame) (rest : List ℕ) → Splits stamp None taken frames rest →
+    ensures whole_records { EndedByInput result.outcome → IfSome result.input (λ input.
+        (lines : List Line) → IsScript lines script.now →
+        (taken after : List ℕ) (frames : List Frame) (rest : List ℕ) →
+        Took (R.remaining reader) (left_of R.remaining input) taken after →
+        Splits stamp None taken frames rest →
         Leaves O.contents E.contents (Writes (cut_texts lines (all_results stamp frames [])))
         out err result.writers) }
+
+    // What was read.
+    ensures taken { length script.now ≤ LONGEST_SCRIPT → IfSome result.input (λ input.
+        (taken : List ℕ)
+        × Consumes (R.remaining reader) (left_of R.remaining input) taken) }
+    ensures too_long { result.outcome ≡ Outcome.InputTooLong → IfSome result.input (λ input.
+        (taken after : List ℕ) → Took (R.remaining reader) (left_of R.remaining input) taken after →
+        length taken ≡ 2 ^ 40) }
 
     // A script that is too long leaves the writers as they were.
     ensures script_too_long { LONGEST_SCRIPT < length script.now → Leaves O.contents E.contents
         (λ old new. (result.outcome ≡ Outcome.ScriptTooLong) × KeepsBoth old new)
         out err result.writers }
 
-    // Which runs leave no writers.
+    // Which runs end by a read fault, which aren't begun, and which leave no writers.
+    ensures read_fault { result.outcome ≡ Outcome.ReadFault → IfSome result.input has_failed }
+    ensures not_begun { IsNone result.input → result.outcome ≡ Outcome.Memory }
     ensures lost { IsNone result.writers →
         (result.outcome ≡ Outcome.WriteFault) ⊎ (result.outcome ≡ Outcome.Memory) }
 {
@@ -165,12 +187,14 @@ fn through_buffers<R: Read + Drop, O: Write + Drop, E: Write + Drop>(
 }
 
 /// A run that was kept from beginning by want of memory.
-fn not_begun<O, E>() -> Ended<O, E>
+fn not_begun<R, O, E>() -> Ended<R, O, E>
     ensures outcome { result.outcome ≡ Outcome.Memory }
+    ensures input { result.input ≡ None }
     ensures writers { result.writers ≡ None }
 {
     Ended {
         outcome: Outcome::Memory,
+        input: None,
         writers: None,
     }
 }
@@ -179,7 +203,8 @@ fn not_begun<O, E>() -> Ended<O, E>
 fn close<R: Read + Drop, O: Write + Drop, E: Write + Drop>(
     streams: Streams<R, O, E>,
     outcome: Outcome,
-) -> Ended<O, E>
+) -> Ended<R, O, E>
+    ensures input { result.input ≡ Some streams.input }
     ensures kept { IfSome result.writers (λ writers. (result.outcome ≡ outcome) × KeepsBoth
         (outputs_of ⟦<WriteOutput<BufWriter<O>> as Output>⟧.written
         ⟦<WriteOutput<BufWriter<E>> as Output>⟧.written streams.out streams.err)
@@ -193,10 +218,12 @@ fn close<R: Read + Drop, O: Write + Drop, E: Write + Drop>(
     ) {
         (Some(out), Some(err)) => Ended {
             outcome,
+            input: Some(streams.input),
             writers: Some((out, err)),
         },
         _ => Ended {
             outcome: lost_outcome(outcome),
+            input: Some(streams.input),
             writers: None,
         },
     }

@@ -41,9 +41,9 @@ impl Write for FullWriter {
 }
 
 /// Fails unless a run ended so and left these texts.
-fn assert_left(
+fn assert_left<R: Drop>(
     rt: &impl Abort,
-    ended: Ended<Vec<u8>, Vec<u8>>,
+    ended: Ended<R, Vec<u8>, Vec<u8>>,
     outcome: Outcome,
     out: &[u8],
     err: &[u8],

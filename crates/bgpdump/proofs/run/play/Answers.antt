@@ -1,9 +1,12 @@
-use Rattle.std.proofs.Common.{◌∙◌, []}
+use Rattle.std.proofs.Common.{◌∙◌, [], subst, sym}
 use Rattle.std.specs.Io.Buffered.{writer_contents}
+use Rattle.std.specs.Io.KnownBytes.{Consumes}
+use Rattle.mrt_wire.specs.Next.{Took}
+use Rattle.bgpdump.specs.Joining.{left_of}
 use Rattle.bgpdump_tool.specs.Course.{cut_texts, play_texts}
-use Rattle.bgpdump_tool.specs.Run.{all_results, outputs_of}
+use Rattle.bgpdump_tool.specs.Run.{EndedByInput, all_results, outputs_of}
 use Rattle.bgpdump_tool.specs.declared.Outcome.TheVariants.{ScriptTooLong}
-use Rattle.bgpdump.proofs.JoiningLaws.{holds_known, leaves_ended, leaves_untouched, leaves_whole}
+use Rattle.bgpdump.proofs.JoiningLaws.{holds_known, leaves_ended, leaves_untouched, leaves_written, of_input, told_by_input}
 use Rattle.bgpdump.proofs.run.play.Goals as goal
 
 pub returns-clause-text : goal.returns-clause-text
@@ -15,12 +18,26 @@ returns-clause-text g c short lines reads octets frames rest known splits =
     c.close.ensures.kept
 
 pub returns-clause-whole_records : goal.returns-clause-whole_records
-returns-clause-whole_records g c short by lines reads octets known =
-    let taken = c.run_play-outcome.ensures.taken short in
-    leaves_whole g.O.Write.contents g.E.Write.contents c.args.out c.args.err _ _ c.run_play-outcome.result c.close.result.outcome c.close.result.writers
-    c.args.stamp (λ frames. cut_texts lines (all_results c.args.stamp frames [])) _ _ octets taken.0
-    c.in-Some.ensures.written by (c.in-Some.ensures.left ∙ known) taken.1
-    (λ input. c.run_play-outcome.ensures.whole_records input lines reads) c.close.ensures.kept
+returns-clause-whole_records g c by = of_input _ c.close.result.input c.run_play-outcome.new.input c.close.ensures.input (λ lines reads taken after frames rest took splits.
+    leaves_written g.O.Write.contents g.E.Write.contents c.args.out c.args.err _ _ c.run_play-outcome.result c.close.result.outcome (cut_texts lines (all_results c.args.stamp frames [])) c.close.result.writers
+    c.in-Some.ensures.written by
+    (λ input. c.run_play-outcome.ensures.whole_records input lines reads taken after frames rest (subst (λ old. Took old (left_of g.R.Read.remaining c.run_play-outcome.new.input) taken after) (sym c.in-Some.ensures.left) took) splits)
+    c.close.ensures.kept)
+
+pub returns-clause-taken : goal.returns-clause-taken
+returns-clause-taken g c short = of_input _ c.close.result.input c.run_play-outcome.new.input c.close.ensures.input
+    ((c.run_play-outcome.ensures.taken short).0, subst (λ old. Consumes old (left_of g.R.Read.remaining c.run_play-outcome.new.input) (c.run_play-outcome.ensures.taken short).0) c.in-Some.ensures.left (c.run_play-outcome.ensures.taken short).1)
+
+pub returns-clause-too_long : goal.returns-clause-too_long
+returns-clause-too_long g c long = of_input _ c.close.result.input c.run_play-outcome.new.input c.close.ensures.input (λ taken after took.
+    c.run_play-outcome.ensures.too_long
+    (sym (told_by_input g.O.Write.contents g.E.Write.contents _ c.run_play-outcome.result c.close.result.outcome c.close.result.writers c.close.ensures.kept c.close.ensures.lost (subst EndedByInput (sym long) tt)) ∙ long)
+    taken after (subst (λ old. Took old (left_of g.R.Read.remaining c.run_play-outcome.new.input) taken after) (sym c.in-Some.ensures.left) took))
+
+pub returns-clause-read_fault : goal.returns-clause-read_fault
+returns-clause-read_fault g c fault = of_input _ c.close.result.input c.run_play-outcome.new.input c.close.ensures.input
+    (c.run_play-outcome.ensures.read_fault.0
+    (sym (told_by_input g.O.Write.contents g.E.Write.contents _ c.run_play-outcome.result c.close.result.outcome c.close.result.writers c.close.ensures.kept c.close.ensures.lost (subst EndedByInput (sym fault) tt)) ∙ fault))
 
 pub returns-clause-script_too_long : goal.returns-clause-script_too_long
 returns-clause-script_too_long g c long =
