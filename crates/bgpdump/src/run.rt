@@ -229,8 +229,8 @@ fn close<R: Read + Drop, O: Write + Drop, E: Write + Drop>(
     }
 }
 
-/// How a run ends that ended so, and whose writers failed at the end. Want of memory stands in place
-/// of any other answer.
+/// How a run ends that ended so, and whose writers failed at the end. Want of memory stands in
+/// place of any other answer.
 fn lost_outcome(outcome: Outcome) -> Outcome
     ensures { (result ≡ Outcome.WriteFault) ⊎ (result ≡ Outcome.Memory) }
 {
