@@ -1,4 +1,4 @@
--- What a run of the program leaves with its writers.
+-- What a run of the program leaves with its writers, and of its input.
 use Rattle.std.specs.Prelude.{ℕ, List, Option, IfSome, IsTrue}
 use Rattle.std.specs.Io.KnownBytes.{Keeps}
 use Rattle.std.specs.Io.Buffered.{reader_remaining}
@@ -7,7 +7,7 @@ use Rattle.std.specs.declared.alloc.Global.{Global}
 use Rattle.mrt_wire.specs.declared.ReadInput.{ReadInput}
 use Rattle.bgpdump_tool.specs.Run.{Outputs, outputs_of}
 
--- what the writers hold that came back relates so to what they held before; None came back where one failed at the end, or the run was kept from beginning
+-- what the writers hold that came back relates so to what they held before; nothing is said where none came back
 abbrev pub Leaves : {O E : Type 0} → (O → Option (List ℕ)) → (E → Option (List ℕ)) → (Outputs → Outputs → Type 0) → O → E → Option (O × E) → Type 0
 Leaves contents contents' Relates out err writers = IfSome writers (λ both. Relates (outputs_of contents contents' out err) (outputs_of contents contents' both.0 both.1))
 

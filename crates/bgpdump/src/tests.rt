@@ -111,6 +111,32 @@ fn a_script_leaves_replies_and_reports(rt: HostRuntime) -> Result<(), Fail> {
     assert_left(&rt, broken, Outcome::ReadFault, b"at 1\n", b"")
 }
 
+/// Octets that stand so many times in a row.
+fn repeated(alloc: Global, octets: &[u8], times: usize) -> Result<Vec<u8>, AllocError> {
+    let mut all = Vec::new(alloc);
+    for _ in 0..times {
+        all.extend_from_slice(octets)?;
+    }
+    Ok(all)
+}
+
+/// More than the buffers hold, of each kind.
+#[test]
+fn long_texts_go_through_the_buffers(rt: HostRuntime) -> Result<(), Fail> {
+    let alloc = rt.alloc();
+    let none = || Vec::new(alloc);
+    let file = repeated(alloc, STATE_CHANGE, 5_000)?;
+    let lines = repeated(alloc, LINE, 5_000)?;
+    let dumped = dump(alloc, Stamp::Dump, file.as_slice(), none(), none());
+    assert_left(&rt, dumped, Outcome::Done, lines.as_slice(), b"")?;
+    let mut script = repeated(alloc, b"where\n", 10_000)?;
+    script.extend_from_slice(b"next 5000\nback 4999\nwhere")?;
+    let mut replies = repeated(alloc, b"at 0 ahead 0\n", 10_000)?;
+    replies.extend_from_slice(b"at 5000\nat 1\nat 1 ahead 4999\n")?;
+    let played = play(alloc, Stamp::Dump, &script, file.as_slice(), none(), none());
+    assert_left(&rt, played, Outcome::Done, replies.as_slice(), b"")
+}
+
 #[test]
 fn a_late_write_fault_is_told(rt: HostRuntime) {
     let none = || Vec::new(rt.alloc());

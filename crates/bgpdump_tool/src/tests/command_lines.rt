@@ -67,8 +67,8 @@ const PLAIN: [Row; 13] = [
     // No command has this name.
     (&["-m", "help"], Asked::Lines(Stamp::Dump, None, "help")),
     (
-        &["-m", "/tmp/r\u{e9}seau 1.mrt"],
-        Asked::Lines(Stamp::Dump, None, "/tmp/r\u{e9}seau 1.mrt"),
+        &["-m", "r\u{e9}seau/1 mai.mrt"],
+        Asked::Lines(Stamp::Dump, None, "r\u{e9}seau/1 mai.mrt"),
     ),
 ];
 
@@ -342,6 +342,35 @@ fn the_order_of_the_words_means_nothing(rt: HostRuntime) -> Result<(), Fail> {
             assert!(rt; is_asked, "{words:?}: {found:?}");
         }
     }
+    Ok(())
+}
+
+/// A name of as many marks as this.
+fn long_name(alloc: Global, marks: usize) -> Result<String, AllocError> {
+    let mut name = String::new(alloc);
+    for _ in 0..marks {
+        name.push('x')?;
+    }
+    Ok(name)
+}
+
+#[test]
+fn long_names_and_many_words_are_read(rt: HostRuntime) -> Result<(), Fail> {
+    let alloc = rt.alloc();
+    let name = long_name(alloc, 100_000)?;
+    let words = ["--play", name.as_str(), "-O", name.as_str(), name.as_str()];
+    let want = Settings {
+        mode: Mode::Play(long_name(alloc, 100_000)?),
+        stamp: Stamp::Dump,
+        output: Some(long_name(alloc, 100_000)?),
+        input: long_name(alloc, 100_000)?,
+    };
+    assert_eq!(rt; ask(alloc, &words)?, Ok(want));
+    let mut many = Vec::new(alloc);
+    for _ in 0..5_000 {
+        many.push("-m")?;
+    }
+    assert!(rt; matches!(ask(alloc, &many)?, Err(UsageFault::Words(_))));
     Ok(())
 }
 
