@@ -36,8 +36,13 @@ checks: $(PROGRAM)
 	if command -v mandoc >/dev/null; then mandoc -T lint -W warning man/bgpdump.1; fi
 
 # FILE=.. measures over that file alone.
-bench: bin/bgpdump
-	bench/measure.py bin/bgpdump $(FILE)
+bench: bin/bgpdump bin/store_bench
+	bench/measure.py bin/bgpdump bin/store_bench $(FILE)
+
+bin/store_bench: $(SOURCES)
+	cd crates/store_bench && rt run
+	mkdir -p bin
+	cp crates/store_bench/out/store_bench $@
 
 install: bin/bgpdump
 	mkdir -p "$(DESTDIR)$(PREFIX)/bin" "$(DESTDIR)$(PREFIX)/share/man/man1"

@@ -1,7 +1,7 @@
 #!/usr/bin/env python3
 """Times the program beside Debian's bgpdump, both as `-m FILE`, in turn, and then its player.
 
-    bench/measure.py PROGRAM [FILE..]
+    bench/measure.py PROGRAM STORES [FILE..]
 
 Without files it makes two of about 30 MB, a table and updates, always the same octets. Of seven runs
 of the program, and three of bgpdump, the least processor time counts; output goes to the null device.
@@ -9,6 +9,11 @@ of the program, and three of bgpdump, the least processor time counts; output go
 The player goes to the end of the file, back to its start, and to the end again, in five runs. Each
 part is timed alone, and the whole with what follows it; the least processor times count, and the
 ratio is to `-m`. Octets are those of the peak memory for each line of `-m`, which in a table is a path.
+
+STORES is the program of crates/store_bench: it plays a table of 360,000 routes of one peer over both
+stores, undoes and redoes it, and looks a million addresses up. Of five runs the least time of each
+part counts. Octets are those of the peak memory for each key of a store that holds keys alone, with
+the allocator's share, and without what the program holds besides.
 """
 import os
 import random
@@ -229,13 +234,29 @@ def measure_player(command, lines, dump):
             peak * 1024 / max(lines, 1)))
 
 
+def measure_stores(program):
+    """Prints the times of each part over both stores, and the memory of a key."""
+    held = int(peak_kib([program, 'none']))
+    for store in ('map', 'radix'):
+        turns = [subprocess.run([program, store], capture_output=True, text=True).stdout.split() for _ in range(5)]
+        times = [min(int(turn[part]) for turn in turns) for part in range(4)]
+        keys = int(subprocess.run([program, store + '-keys'], capture_output=True, text=True).stdout)
+        octets = (peak_kib([program, store + '-keys']) - held) * 1024 / keys
+        print('%-14s %7d %7d %7d %9d %8.0f' % (store, *times, octets))
+
+
+def peak_kib(command):
+    """The peak memory of a command in KiB."""
+    return awaited(subprocess.Popen(command, stdout=subprocess.DEVNULL)).ru_maxrss
+
+
 def main():
-    if len(sys.argv) < 2:
+    if len(sys.argv) < 3:
         sys.exit(__doc__)
     folder = Path(tempfile.gettempdir()) / 'bgpdump-bench'
     folder.mkdir(exist_ok=True)
     program = str(Path(sys.argv[1]).resolve())
-    files = [Path(word) for word in sys.argv[2:]] or made_files(folder)
+    files = [Path(word) for word in sys.argv[3:]] or made_files(folder)
     print('file           program   seconds   lines/s   peak MiB   ratio')
     measured = [measure_lines(program, path) for path in files]
     if not shutil.which('bgpdump'):
@@ -244,6 +265,8 @@ def main():
     script = written_script(folder)
     for path, (lines, dump) in zip(files, measured):
         measure_player([program, '--play', script, str(path)], lines, dump)
+    print('store, in ms      play    undo    redo   longest   octets')
+    measure_stores(str(Path(sys.argv[2]).resolve()))
 
 
 main()

@@ -15,7 +15,7 @@ ghost use Rattle.bgpdump.specs.Joining.{KeepsBoth, Leaves, has_failed, left_of};
 
 use bgpdump_tool::{LONGEST_SCRIPT, Outcome, Output, WriteOutput, run_dump, run_play};
 use mrt_wire::{Input, ReadInput, Route, Stamp};
-use rib_store::MapStore;
+use rib_store::RadixStore;
 use std::alloc::Global;
 use std::io::{BufReader, BufWriter, Read, Write};
 use std::rc::Rc;
@@ -24,7 +24,7 @@ use std::rc::Rc;
 const BUFFER_SIZE: usize = 65_536;
 
 /// The store of the player.
-type Routes = MapStore<Rc<Route>>;
+type Routes = RadixStore<Rc<Route>>;
 
 /// How a run ended. The input has what the run left of it: None where memory was refused before the
 /// run began. The writers of lines or replies and of reports have all that the run wrote: None also

@@ -16,12 +16,12 @@ use Rattle.mrt_wire.specs.Results.{Finding}
 use Rattle.mrt_wire.specs.Place.{Place}
 use Rattle.bgpdump_tool.specs.declared.command.Command.{Command}
 use Rattle.bgpdump_tool.specs.declared.command.Command.TheVariants.{Next, Back, Goto, Position, Lose}
-use Rattle.bgpdump_tool.specs.declared.fault.WriteFault.{WriteFault}
-use Rattle.bgpdump_tool.specs.declared.fault.WriteFault.TheVariants as write
-use Rattle.bgpdump_tool.specs.declared.outcome.Outcome.{Outcome}
-use Rattle.bgpdump_tool.specs.Device.{AppendsFront}
-use Rattle.bgpdump_tool.specs.Ending.{write_outcome, outcome_result}
-use Rattle.bgpdump_tool.specs.Reports.{reports}
+use Rattle.bgpdump_lines.specs.declared.fault.WriteFault.{WriteFault}
+use Rattle.bgpdump_lines.specs.declared.fault.WriteFault.TheVariants as write
+use Rattle.bgpdump_lines.specs.declared.outcome.Outcome.{Outcome}
+use Rattle.bgpdump_lines.specs.Device.{AppendsFront}
+use Rattle.bgpdump_lines.specs.Ending.{write_outcome, outcome_result}
+use Rattle.bgpdump_lines.specs.Reports.{reports}
 use Rattle.bgpdump_tool.specs.Replies.{at_text, counted_text}
 use Rattle.bgpdump_tool.specs.State.{events, needed, loss}
 use Rattle.bgpdump_tool.specs.Meaning.{answer, advance, meaning, meets_end, faults_taken}
@@ -29,9 +29,9 @@ use Rattle.bgpdump_tool.specs.Standing.{Standing, Scene, Taking, Stands, state_o
 use Rattle.bgpdump_tool.specs.Moves.{GoesOn, Stops, ForwardDoes, OnwardDoes}
 use Rattle.bgpdump_tool.specs.Carrying.{Leads, IsLed, CarryingDoes, Travels}
 use Rattle.bgpdump_tool.specs.Losing.{loss_text, Loses}
-use Rattle.bgpdump_tool.specs.Writing.{Puts, PutsPart}
+use Rattle.bgpdump_lines.specs.Writing.{Puts, PutsPart}
 use Rattle.bgpdump_tool.proofs.MoveLaws.{Stands-inside, reports-append, needed_beyond}
-use Rattle.bgpdump_tool.proofs.WritingLaws.{AppendsFront-none, AppendsFront-longer}
+use Rattle.bgpdump_lines.proofs.WritingLaws.{AppendsFront-none, AppendsFront-longer}
 
 or_false : (b : Bool) → (b || false) ≡ b
 or_false true = refl

@@ -1,7 +1,3 @@
-pub mod LineLaws
-pub mod HeldLaws
-pub mod EndLaws
-pub mod RunLaws
 pub mod StepLaws
 pub mod MoveLaws
 pub mod BackLaws
@@ -9,7 +5,6 @@ pub mod CarryLaws
 pub mod PlayLaws
 pub mod ScriptLaws
 pub mod PlayEndLaws
-pub mod WritingLaws
 pub mod DecimalLaws
 pub mod WordLaws
 pub mod CommandLaws

@@ -9,16 +9,16 @@ use Rattle.mrt_wire.specs.declared.event.Event.{Event}
 use Rattle.mrt_wire.specs.declared.fault.SourceFault.{SourceFault}
 use Rattle.mrt_wire.specs.Results.{Finding, Found, Bad}
 use Rattle.mrt_wire.specs.Place.{Place}
-use Rattle.bgpdump_tool.specs.declared.outcome.Outcome.{Outcome}
-use Rattle.bgpdump_tool.specs.Device.{AppendsFront}
-use Rattle.bgpdump_tool.specs.Going.{IsFaulty}
-use Rattle.bgpdump_tool.specs.Reports.{finding_report, reports}
+use Rattle.bgpdump_lines.specs.declared.outcome.Outcome.{Outcome}
+use Rattle.bgpdump_lines.specs.Device.{AppendsFront}
+use Rattle.bgpdump_lines.specs.Going.{IsFaulty}
+use Rattle.bgpdump_lines.specs.Reports.{finding_report, reports}
 use Rattle.bgpdump_tool.specs.State.{event_of, events, needed}
 use Rattle.bgpdump_tool.specs.Standing.{Standing, Scene, Taking, Stands, Follows, standing_on, IsOnward}
 use Rattle.bgpdump_tool.specs.Moves.{GoesOn, StopsReading, StopsWriting, Stops, StepDoes, ForwardDoes, OnwardDoes, Moves}
-use Rattle.bgpdump_tool.specs.Writing.{is_any_bad}
-use Rattle.bgpdump_tool.proofs.RunLaws.{is_any_bad-append}
-use Rattle.bgpdump_tool.proofs.WritingLaws.{AppendsFront-behind}
+use Rattle.bgpdump_lines.specs.Writing.{is_any_bad}
+use Rattle.bgpdump_lines.proofs.RunLaws.{is_any_bad-append}
+use Rattle.bgpdump_lines.proofs.WritingLaws.{AppendsFront-behind}
 
 pub events-append : (found more : List Finding) → events (found ++ more) ≡ events found ++ events more
 events-append found more = flat_map-append event_of found more

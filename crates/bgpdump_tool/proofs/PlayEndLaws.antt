@@ -16,21 +16,21 @@ use Rattle.mrt_wire.specs.Results.{Finding, rest_kind}
 use Rattle.mrt_wire.specs.Place.{Place, start_place, results}
 use Rattle.mrt_wire.specs.Next.{Took}
 use Rattle.mrt_wire.proofs.SoFarLaws.{FirstSoFar}
-use Rattle.bgpdump_tool.specs.declared.dump.TheConstants.{LIMIT}
-use Rattle.bgpdump_tool.specs.declared.fault.WriteFault.{WriteFault}
-use Rattle.bgpdump_tool.specs.declared.fault.WriteFault.TheVariants as write
-use Rattle.bgpdump_tool.specs.declared.outcome.Outcome.{Outcome}
-use Rattle.bgpdump_tool.specs.declared.outcome.Outcome.TheVariants as outcome
-use Rattle.bgpdump_tool.specs.Ending.{outcome_of, source_outcome, write_outcome}
-use Rattle.bgpdump_tool.specs.Going.{IsFaulty}
-use Rattle.bgpdump_tool.specs.Run.{Texts, Outputs, MayHold, Writes, WritesFronts, EndsSo, EndedByInput, IsTaken, IsLast, all_results}
+use Rattle.bgpdump_lines.specs.declared.dump.TheConstants.{LIMIT}
+use Rattle.bgpdump_lines.specs.declared.fault.WriteFault.{WriteFault}
+use Rattle.bgpdump_lines.specs.declared.fault.WriteFault.TheVariants as write
+use Rattle.bgpdump_lines.specs.declared.outcome.Outcome.{Outcome}
+use Rattle.bgpdump_lines.specs.declared.outcome.Outcome.TheVariants as outcome
+use Rattle.bgpdump_lines.specs.Ending.{outcome_of, source_outcome, write_outcome}
+use Rattle.bgpdump_lines.specs.Going.{IsFaulty}
+use Rattle.bgpdump_lines.specs.Run.{Texts, Outputs, MayHold, Writes, WritesFronts, EndsSo, EndedByInput, IsTaken, IsLast, all_results}
 use Rattle.bgpdump_tool.specs.Script.{Line, AreLines, IsScript, script_lines}
 use Rattle.bgpdump_tool.specs.Course.{course, play_texts, cut_course, cut_texts, TakesWanted, IsEndSeen, PlaySawEnd}
 use Rattle.bgpdump_tool.specs.Standing.{Scene, Taking}
 use Rattle.bgpdump_tool.specs.Playing.{is_some_text, Plays, PlaysCutOff, PlaysBrokenOff, PlaysScript}
-use Rattle.bgpdump_tool.proofs.WritingLaws.{WritesFronts-whole}
-use Rattle.bgpdump_tool.proofs.HeldLaws.{rest_so_far, first_held, front_held, untold_held, whole_found, IsTaken-told, IsTaken-faulty, length-faulty}
-use Rattle.bgpdump_tool.proofs.EndLaws.{cases_none, written_all, EndsSo-source, Writes-kept}
+use Rattle.bgpdump_lines.proofs.WritingLaws.{WritesFronts-whole}
+use Rattle.bgpdump_lines.proofs.HeldLaws.{rest_so_far, first_held, front_held, untold_held, whole_found, IsTaken-told, IsTaken-faulty, length-faulty}
+use Rattle.bgpdump_lines.proofs.EndLaws.{cases_none, written_all, EndsSo-source, Writes-kept}
 use Rattle.bgpdump_tool.proofs.ScriptLaws.{one_reading, first_reading}
 
 -- ---- what the input may hold

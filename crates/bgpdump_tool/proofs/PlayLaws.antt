@@ -13,20 +13,20 @@ use Rattle.mrt_wire.proofs.SoFarLaws.{SoFar-start}
 use Rattle.rib_player.specs.Timeline.{Timeline, fresh, StandsFor}
 use Rattle.rib_player.proofs.TimelineLaws.{StandsFor-fresh}
 use Rattle.bgpdump_tool.specs.declared.command.Command.{Command}
-use Rattle.bgpdump_tool.specs.declared.dump.TheConstants.{LIMIT}
-use Rattle.bgpdump_tool.specs.declared.outcome.Outcome.{Outcome}
-use Rattle.bgpdump_tool.specs.Device.{AppendsFront}
-use Rattle.bgpdump_tool.specs.Reports.{reports}
-use Rattle.bgpdump_tool.specs.Run.{Texts, joined_texts, Outputs, Writes, WritesFronts}
-use Rattle.bgpdump_tool.specs.Writing.{is_any_bad}
+use Rattle.bgpdump_lines.specs.declared.dump.TheConstants.{LIMIT}
+use Rattle.bgpdump_lines.specs.declared.outcome.Outcome.{Outcome}
+use Rattle.bgpdump_lines.specs.Device.{AppendsFront}
+use Rattle.bgpdump_lines.specs.Reports.{reports, line_report}
+use Rattle.bgpdump_lines.specs.Run.{Texts, joined_texts, Outputs, Writes, WritesFronts}
+use Rattle.bgpdump_lines.specs.Writing.{is_any_bad}
 use Rattle.bgpdump_tool.specs.Script.{Line, Empty, Asks, NoCommand, IsLine, AreLines, script_lines}
 use Rattle.bgpdump_tool.specs.State.{State, start}
 use Rattle.bgpdump_tool.specs.Meaning.{meaning, meets_end, faults_taken}
-use Rattle.bgpdump_tool.specs.Course.{Course, course_behind, course_from, course, cut_course, play_texts, line_report}
+use Rattle.bgpdump_tool.specs.Course.{Course, course_behind, course_from, course, cut_course, play_texts}
 use Rattle.bgpdump_tool.specs.Standing.{Scene, Taking, Stands, Follows, HasRoom, state_of}
 use Rattle.bgpdump_tool.specs.Carrying.{IsCarriedOut, IsCutOff, IsBrokenOff}
 use Rattle.bgpdump_tool.specs.Playing.{LineDoes, CarriesLine, is_some_text, Plays, PlaysCutOff, PlaysBrokenOff, PlayDoes, PlaysScript}
-use Rattle.bgpdump_tool.proofs.WritingLaws.{AppendsFront-none, Writes-append, WritesFronts-behind, WritesFronts-longer, AppendsFront-longer}
+use Rattle.bgpdump_lines.proofs.WritingLaws.{AppendsFront-none, Writes-append, WritesFronts-behind, WritesFronts-longer, AppendsFront-longer}
 use Rattle.bgpdump_tool.proofs.CarryLaws.{AppendsFront-whole, take_over}
 use Rattle.bgpdump_tool.proofs.MoveLaws.{reports-append}
 

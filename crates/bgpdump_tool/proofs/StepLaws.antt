@@ -2,6 +2,7 @@
 use Rattle.std.proofs.Common.{◌≡◌, inl, inr, ℕ, ◌+◌, ◌<◌, ◌≤◌, ◌||◌, Bool, true, false, Result, Ok, Err, List, [], ◌∷◌, ◌++◌, length, take, nat_lt, Option, refl, sym, ap, subst, ◌∙◌, arith, append-nil}
 use Rattle.std.proofs.lemmas.Bool.Decides.{nat_tests}
 use Rattle.std.proofs.lemmas.List.{take_all}
+use Rattle.std.specs.Result.{is_ok, OnOk}
 use Rattle.std.specs.Io.KnownBytes.{Consumes, Appends}
 use Rattle.std.proofs.KnownBytes.{Appends-nil}
 use Rattle.mrt_wire.specs.declared.event.Event.{Event}
@@ -17,18 +18,18 @@ use Rattle.mrt_wire.specs.SoFar.{is_nothing}
 use Rattle.mrt_wire.proofs.SoFarLaws.{Promises, SoFar-answer, SoFar-told, ends_with_none}
 use Rattle.rib_player.specs.Timeline.{Timeline, StandsFor, end_of, after_play, after_redo}
 use Rattle.rib_player.proofs.TimelineLaws.{StandsFor-after_play, StandsFor-after_redo, StandsFor-end}
-use Rattle.bgpdump_tool.specs.declared.fault.WriteFault.{WriteFault}
-use Rattle.bgpdump_tool.specs.declared.fault.WriteFault.TheVariants as write
-use Rattle.bgpdump_tool.specs.declared.outcome.Outcome.TheVariants as outcome
-use Rattle.bgpdump_tool.specs.Device.{AppendsFront}
-use Rattle.bgpdump_tool.specs.Ending.{source_outcome, write_outcome}
-use Rattle.bgpdump_tool.specs.Going.{IsFaulty}
-use Rattle.bgpdump_tool.specs.Reports.{fault_report, reports}
-use Rattle.bgpdump_tool.specs.Writing.{Puts}
+use Rattle.bgpdump_lines.specs.declared.fault.WriteFault.{WriteFault}
+use Rattle.bgpdump_lines.specs.declared.fault.WriteFault.TheVariants as write
+use Rattle.bgpdump_lines.specs.declared.outcome.Outcome.TheVariants as outcome
+use Rattle.bgpdump_lines.specs.Device.{AppendsFront}
+use Rattle.bgpdump_lines.specs.Ending.{source_outcome, write_outcome}
+use Rattle.bgpdump_lines.specs.Going.{IsFaulty}
+use Rattle.bgpdump_lines.specs.Reports.{fault_report, reports}
+use Rattle.bgpdump_lines.specs.Writing.{Puts}
 use Rattle.bgpdump_tool.specs.Standing.{Standing, Scene, Taking, Stands, Follows}
 use Rattle.bgpdump_tool.specs.Moves.{GoesOn, StepDoes}
-use Rattle.bgpdump_tool.proofs.RunLaws.{IsFaulty-behind}
-use Rattle.bgpdump_tool.proofs.WritingLaws.{AppendsFront-none}
+use Rattle.bgpdump_lines.proofs.RunLaws.{IsFaulty-behind}
+use Rattle.bgpdump_lines.proofs.WritingLaws.{AppendsFront-none}
 
 or_false : (b : Bool) → (b || false) ≡ b
 or_false true = refl
@@ -50,6 +51,11 @@ pub redo_off : (t : Timeline) → ¬ (t.cursor < end_of t) → after_redo t ≡ 
 redo_off t h =
     let off : nat_lt t.cursor (end_of t) ≡ false = grind (arith, nat_tests) in
     rw off refl
+
+-- what holds of a call's answers holds where it has one
+pub after_ok : {A E P : Type 0} (r : Result A E) → is_ok r ≡ true → OnOk r P → P
+after_ok (Ok a) is p = p
+after_ok (Err e) is p = cc
 
 -- there the cursor stands behind the history
 pub cursor_at_end : (from : Place) (left : Option (List ℕ)) (scene : Scene) (s : Standing) → Stands from left scene s → ¬ (scene.player.cursor < end_of scene.player) → s.cursor ≡ length s.history

@@ -9,12 +9,12 @@ use Rattle.std.proofs.lemmas.Option.{same_Some}
 use Rattle.std.proofs.lemmas.Grind.{flat_map-append}
 use Rattle.mrt_wire.specs.declared.peer.Peer.{Peer}
 use Rattle.rib_player.specs.Tables.{Routes}
-use Rattle.bgpdump_tool.specs.declared.fault.WriteFault.{WriteFault}
-use Rattle.bgpdump_tool.specs.declared.fault.WriteFault.TheVariants.{Write, Memory}
-use Rattle.bgpdump_tool.specs.Device.{AppendsFront}
+use Rattle.bgpdump_lines.specs.declared.fault.WriteFault.{WriteFault}
+use Rattle.bgpdump_lines.specs.declared.fault.WriteFault.TheVariants.{Write, Memory}
+use Rattle.bgpdump_lines.specs.Device.{AppendsFront}
 use Rattle.bgpdump_tool.specs.Replies.{peer_line, peer_lines}
-use Rattle.bgpdump_tool.specs.Writing.{Puts, PutsPart}
-use Rattle.bgpdump_tool.proofs.WritingLaws.{AppendsFront-none, AppendsFront-behind, AppendsFront-longer}
+use Rattle.bgpdump_lines.specs.Writing.{Puts, PutsPart}
+use Rattle.bgpdump_lines.proofs.WritingLaws.{AppendsFront-none, AppendsFront-behind, AppendsFront-longer}
 
 -- of all items the lines of those done were written; the others are ahead
 pub record Walked {A : Type 0} (line : A → List ℕ) (all ahead : List A) (old new : Option (List ℕ)) : Type 0 where

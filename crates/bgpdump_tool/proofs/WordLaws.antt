@@ -4,7 +4,7 @@ use Rattle.std.proofs.lemmas.List.Elements.{All-from_all_within}
 use Rattle.std.proofs.lemmas.List.Splits.{slice_split_none, slice_split_first, length-slice_split}
 use Rattle.std.proofs.lemmas.List.Sums.{position_or_len_is}
 use Rattle.std.specs.List.{AllWithin, HoldsAt, position_or_len}
-use Rattle.bgpdump_tool.specs.Lines.{space}
+use Rattle.bgpdump_lines.specs.Lines.{space}
 use Rattle.bgpdump_tool.specs.Command.{pieces, words}
 
 abbrev pub IsMark : ℕ → ℕ → Type 0

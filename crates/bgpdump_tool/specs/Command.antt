@@ -5,7 +5,7 @@ use Rattle.ip_prefix.specs.Spelling.{SpellsAddress, SpellsPrefix}
 use Rattle.mrt_wire.specs.declared.peer.Peer.{Peer}
 use Rattle.bgpdump_tool.specs.declared.command.Command.{Command}
 use Rattle.bgpdump_tool.specs.declared.command.Command.TheVariants.{Next, Back, Goto, Position, Peers, Table, Route, Lookup, Lose}
-use Rattle.bgpdump_tool.specs.Lines.{space}
+use Rattle.bgpdump_lines.specs.Lines.{space}
 
 -- what stands before the marks in a text, between them and behind them, empty pieces too
 abbrev pub pieces : ℕ → List ℕ → List (List ℕ)

@@ -4,10 +4,10 @@ use Rattle.mrt_wire.specs.declared.event.Stamp.{Stamp}
 use Rattle.mrt_wire.specs.declared.fault.RecordKind.TheVariants.{CutRecord}
 use Rattle.mrt_wire.specs.Verdict.{Frame}
 use Rattle.mrt_wire.specs.Results.{Finding, rest_kind}
-use Rattle.bgpdump_tool.specs.declared.outcome.Outcome.{Outcome}
-use Rattle.bgpdump_tool.specs.declared.outcome.Outcome.TheVariants.{Done, Reported, ReadFault, WriteFault, InputTooLong, ScriptTooLong, Memory}
-use Rattle.bgpdump_tool.specs.Reports.{reports}
-use Rattle.bgpdump_tool.specs.Run.{Texts, joined_texts, all_results}
+use Rattle.bgpdump_lines.specs.declared.outcome.Outcome.{Outcome}
+use Rattle.bgpdump_lines.specs.declared.outcome.Outcome.TheVariants.{Done, Reported, ReadFault, WriteFault, InputTooLong, ScriptTooLong, Memory}
+use Rattle.bgpdump_lines.specs.Reports.{reports, line_report}
+use Rattle.bgpdump_lines.specs.Run.{Texts, joined_texts, all_results}
 use Rattle.bgpdump_tool.specs.Script.{Line, Empty, Asks, NoCommand}
 use Rattle.bgpdump_tool.specs.State.{State, start}
 use Rattle.bgpdump_tool.specs.Meaning.{meaning, meets_end, faults_taken}
@@ -21,10 +21,6 @@ pub record Course : Type 0 where
 -- a course behind what was written before it
 abbrev pub course_behind : Texts → Bool → Course → Course
 course_behind texts ended course = record { texts = joined_texts texts course.texts; ended = ended || course.ended; left = course.left }
-
--- the report of a line that is no command
-abbrev pub line_report : ℕ → List ℕ
-line_report number = codes "bgpdump: script line " ++ (decimal number ++ codes ": bad command\n")
 
 -- the course of lines, the first of which has this number, from where the script stands. Where the results are cut off by a fault of the input, the command that wants more gives no reply, but the reports of what it took, and nothing comes behind it
 abbrev pub course_from : Bool → ℕ → List Line → State → Course

@@ -2,10 +2,10 @@
 use Rattle.std.specs.Prelude.{◌≡◌, ℕ, ◌⊎◌, List, Option, Result, Err, codes}
 use Rattle.mrt_wire.specs.declared.peer.Peer.{Peer}
 use Rattle.rib_player.specs.Timeline.{Timeline, after_play, ahead_of}
-use Rattle.bgpdump_tool.specs.declared.fault.WriteFault.{WriteFault}
+use Rattle.bgpdump_lines.specs.declared.fault.WriteFault.{WriteFault}
 use Rattle.bgpdump_tool.specs.Replies.{counted_text}
 use Rattle.bgpdump_tool.specs.State.{loss}
-use Rattle.bgpdump_tool.specs.Writing.{PutsPart}
+use Rattle.bgpdump_lines.specs.Writing.{PutsPart}
 
 -- the reply to the loss of a session
 abbrev pub loss_text : Timeline → Timeline → List ℕ

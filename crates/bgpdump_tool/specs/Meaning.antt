@@ -2,7 +2,7 @@
 use Rattle.std.specs.Prelude.{ℕ, ◌-◌, min, max, Bool, false, List, length, take, nat_lt, if◌then◌else◌, codes}
 use Rattle.bgpdump_tool.specs.declared.command.Command.{Command}
 use Rattle.bgpdump_tool.specs.declared.command.Command.TheVariants.{Next, Back, Goto, Position, Peers, Table, Route, Lookup, Lose}
-use Rattle.bgpdump_tool.specs.Reports.{reports}
+use Rattle.bgpdump_lines.specs.Reports.{reports}
 use Rattle.bgpdump_tool.specs.State.{State, steps_ahead, steps_behind, routes_at, moved_to, gone_on, needed, loss, played}
 use Rattle.bgpdump_tool.specs.Replies.{at_text, counted_text, peers_text, table_text, route_text, best_text}
 

@@ -5,13 +5,13 @@ use Rattle.mrt_wire.specs.declared.fault.SourceFault.{SourceFault}
 use Rattle.mrt_wire.specs.declared.next.Phase.TheVariants.{Ended}
 use Rattle.mrt_wire.specs.Results.{Finding}
 use Rattle.mrt_wire.specs.Place.{Place}
-use Rattle.bgpdump_tool.specs.declared.fault.WriteFault.{WriteFault}
-use Rattle.bgpdump_tool.specs.declared.outcome.Outcome.{Outcome}
-use Rattle.bgpdump_tool.specs.Device.{AppendsFront}
-use Rattle.bgpdump_tool.specs.Ending.{source_outcome, write_outcome}
-use Rattle.bgpdump_tool.specs.Going.{IsFaulty}
-use Rattle.bgpdump_tool.specs.Reports.{reports}
-use Rattle.bgpdump_tool.specs.Writing.{is_any_bad}
+use Rattle.bgpdump_lines.specs.declared.fault.WriteFault.{WriteFault}
+use Rattle.bgpdump_lines.specs.declared.outcome.Outcome.{Outcome}
+use Rattle.bgpdump_lines.specs.Device.{AppendsFront}
+use Rattle.bgpdump_lines.specs.Ending.{source_outcome, write_outcome}
+use Rattle.bgpdump_lines.specs.Going.{IsFaulty}
+use Rattle.bgpdump_lines.specs.Reports.{reports}
+use Rattle.bgpdump_lines.specs.Writing.{is_any_bad}
 use Rattle.bgpdump_tool.specs.Standing.{Standing, Scene, Taking, Stands, Follows, standing_on, IsOnward}
 use Rattle.bgpdump_tool.specs.State.{needed}
 

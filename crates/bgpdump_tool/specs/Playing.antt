@@ -5,15 +5,16 @@ use Rattle.mrt_wire.specs.declared.fault.SourceFault.{SourceFault}
 use Rattle.mrt_wire.specs.declared.next.Phase.TheVariants.{Ended}
 use Rattle.mrt_wire.specs.Results.{Finding}
 use Rattle.mrt_wire.specs.Place.{Place}
-use Rattle.bgpdump_tool.specs.declared.fault.WriteFault.{WriteFault}
-use Rattle.bgpdump_tool.specs.declared.outcome.Outcome.{Outcome}
-use Rattle.bgpdump_tool.specs.Device.{AppendsFront}
-use Rattle.bgpdump_tool.specs.Ending.{source_outcome, write_outcome}
-use Rattle.bgpdump_tool.specs.Going.{IsFaulty}
-use Rattle.bgpdump_tool.specs.Run.{Texts, Outputs, Writes, WritesFronts}
+use Rattle.bgpdump_lines.specs.declared.fault.WriteFault.{WriteFault}
+use Rattle.bgpdump_lines.specs.declared.outcome.Outcome.{Outcome}
+use Rattle.bgpdump_lines.specs.Device.{AppendsFront}
+use Rattle.bgpdump_lines.specs.Ending.{source_outcome, write_outcome}
+use Rattle.bgpdump_lines.specs.Going.{IsFaulty}
+use Rattle.bgpdump_lines.specs.Reports.{line_report}
+use Rattle.bgpdump_lines.specs.Run.{Texts, Outputs, Writes, WritesFronts}
 use Rattle.bgpdump_tool.specs.Script.{Line, Empty, Asks, NoCommand, IsLine, AreLines, script_lines}
 use Rattle.bgpdump_tool.specs.State.{start}
-use Rattle.bgpdump_tool.specs.Course.{course_behind, course_from, course, play_texts, cut_course, cut_texts, line_report}
+use Rattle.bgpdump_tool.specs.Course.{course_behind, course_from, course, play_texts, cut_course, cut_texts}
 use Rattle.bgpdump_tool.specs.Standing.{Standing, Scene, Taking, Stands, state_of}
 use Rattle.bgpdump_tool.specs.Carrying.{CarryingDoes}
 

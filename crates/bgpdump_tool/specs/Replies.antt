@@ -12,7 +12,7 @@ use Rattle.rib_store.specs.Stored.{counted}
 use Rattle.rib_player.specs.History.{pair_of}
 use Rattle.rib_player.specs.Tables.{Routes}
 use Rattle.rib_player.specs.Store.{peer_routes, routed_peers}
-use Rattle.bgpdump_tool.specs.Lines.{line_feed, line_of, attribute_fields}
+use Rattle.bgpdump_lines.specs.Lines.{line_feed, line_of, attribute_fields}
 
 -- `at`, the position, and whether the end was met
 abbrev pub at_text : ℕ → Bool → List ℕ

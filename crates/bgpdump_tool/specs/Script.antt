@@ -1,7 +1,7 @@
 -- The lines of a script, and what each of them asks for.
 use Rattle.std.specs.Prelude.{◌≡◌, ◌≢◌, ℕ, List, [], ◌∷◌}
 use Rattle.bgpdump_tool.specs.declared.command.Command.{Command}
-use Rattle.bgpdump_tool.specs.Lines.{line_feed}
+use Rattle.bgpdump_lines.specs.Lines.{line_feed}
 use Rattle.bgpdump_tool.specs.Command.{pieces, SpellsCommand}
 
 -- the lines of a script: what stands before its line feeds, between them and behind them. Behind a line feed at its end stands an empty line, which asks for nothing

@@ -1,8 +1,6 @@
 //! What the definitions name, and that no line spells two commands.
 
-ghost use Rattle.std.specs.Prelude.{◌≡◌, ℕ, ◌^◌, List, [], ◌∷◌, codes};
-ghost use Rattle.bgpdump_tool.specs.declared.dump.TheConstants.{LIMIT};
-ghost use Rattle.bgpdump_tool.specs.declared.lines.TheConstants.{MICROS_DIGITS};
+ghost use Rattle.std.specs.Prelude.{◌≡◌, ℕ, ◌^◌, List, [], ◌∷◌};
 ghost use Rattle.bgpdump_tool.specs.declared.script.TheConstants.{LONGEST_SCRIPT};
 ghost use Rattle.bgpdump_tool.specs.declared.commands.lose.TheConstants.{ESTABLISHED, IDLE};
 ghost use Rattle.bgpdump_tool.specs.declared.command.Command.{Command};
@@ -13,17 +11,12 @@ ghost use Rattle.rib_player.specs.Tables.{Routes};
 ghost use Rattle.rib_player.specs.Store.{IsBest};
 ghost use Rattle.bgpdump_tool.specs.Replies.{best};
 ghost use Rattle.bgpdump_tool.specs.Script.{Line, IsScript};
-ghost use Rattle.bgpdump_tool.specs.Lines.{bar, line_feed, dot, zero_digit, space};
 
-/// The numbers that the definitions name: how many octets a run takes at most, how many digits
-/// microseconds have at least, how many octets a script has at most, and the states of a lost
-/// session (RFC 6396, section 4.4.1); and the marks of lines.
+/// The numbers that the definitions name: how many octets a script has at most, and the states of a
+/// lost session (RFC 6396, section 4.4.1).
 pub fn run_numbers()
-    ensures limit { LIMIT ≡ 2 ^ 40 }
-    ensures micros { MICROS_DIGITS ≡ 6 }
     ensures script { LONGEST_SCRIPT ≡ 2 ^ 20 }
     ensures states { ESTABLISHED ∷ IDLE ∷ [] ≡ 6 ∷ 1 ∷ [] }
-    ensures marks { bar ∷ line_feed ∷ dot ∷ zero_digit ∷ space ∷ [] ≡ codes "|\n.0 " }
 {}
 
 /// No line spells two commands.

@@ -7,24 +7,21 @@ ghost use Rattle.mrt_wire.specs.Splitting.{Splits};
 ghost use Rattle.mrt_wire.specs.Place.{start_place};
 ghost use Rattle.mrt_wire.specs.Next.{Took};
 ghost use Rattle.rib_player.specs.Timeline.{fresh};
-ghost use Rattle.bgpdump_tool.specs.declared.dump.TheConstants.{LIMIT};
-ghost use Rattle.bgpdump_tool.specs.Ending.{is_read_fault, is_write_fault};
-ghost use Rattle.bgpdump_tool.specs.Run.{IsTaken, MayHold, outputs_of, Writes, EndsSo, EndedByInput, all_results};
+ghost use Rattle.bgpdump_lines.specs.declared.dump.TheConstants.{LIMIT};
+ghost use Rattle.bgpdump_lines.specs.Ending.{is_read_fault, is_write_fault};
+ghost use Rattle.bgpdump_lines.specs.Reports.{line_report};
+ghost use Rattle.bgpdump_lines.specs.Run.{IsTaken, MayHold, outputs_of, Writes, EndsSo, EndedByInput, all_results};
 ghost use Rattle.bgpdump_tool.specs.Script.{Line, IsScript};
-ghost use Rattle.bgpdump_tool.specs.Course.{play_texts, cut_texts, TakesWanted, line_report, PlaySawEnd};
+ghost use Rattle.bgpdump_tool.specs.Course.{play_texts, cut_texts, TakesWanted, PlaySawEnd};
 ghost use Rattle.bgpdump_tool.specs.Standing.{HasRoom, scene_of};
 ghost use Rattle.bgpdump_tool.specs.Playing.{CarriesLine, PlaysScript};
-ghost use Rattle.bgpdump_tool.specs.Writing.{Puts, is_write};
+ghost use Rattle.bgpdump_lines.specs.Writing.{Puts, is_write};
 
 use crate::command::read_command;
 use crate::commands::carry_out;
-use crate::fault::WriteFault;
-use crate::finish::finish;
-use crate::outcome::Outcome;
-use crate::output::{Output, put_all};
-use crate::reports::put_line_report;
 use crate::script::{LONGEST_SCRIPT, split_line};
 use crate::session::Session;
+use bgpdump_lines::{Outcome, Output, WriteFault, finish_outputs, put_all, put_line_report};
 use mrt_wire::{Input, Route, Stamp};
 use rib_store::PrefixStore;
 use std::alloc::Global;
@@ -98,7 +95,7 @@ pub fn run_play<S: PrefixStore<Rc<Route>>, I: Input, O: Output, E: Output>(
     }
     let mut session: Session<S> = Session::new(alloc, stamp);
     match play_lines(&mut session, input, script, out, err) {
-        Ok(()) => finish(out, err, session.reported),
+        Ok(()) => finish_outputs(out, err, session.reported),
         Err(outcome) => outcome,
     }
 }

@@ -2,11 +2,11 @@
 
 ghost use Rattle.std.specs.Prelude.{◌≡◌, ◌++◌, ◌||◌, OnOk};
 ghost use Rattle.bgpdump_tool.specs.Replies.{at_text, counted_text, none_text, rib_line};
-ghost use Rattle.bgpdump_tool.specs.Writing.{Puts, is_write};
+ghost use Rattle.bgpdump_lines.specs.Writing.{Puts, is_write};
 
-use crate::fault::WriteFault;
-use crate::fields::{put_attributes, put_number, put_peer, put_prefix};
-use crate::output::{Output, put_all};
+use bgpdump_lines::{
+    Output, WriteFault, put_all, put_attributes, put_number, put_peer, put_prefix,
+};
 use ip_prefix::{Prefix, put_decimal};
 use mrt_wire::{Peer, Route};
 use std::alloc::AllocError;

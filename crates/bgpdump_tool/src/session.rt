@@ -3,16 +3,13 @@
 ghost use Rattle.std.specs.Prelude.{◌≡◌, ◌<◌, ◌+◌, ◌||◌, ℕ, false, IfOk};
 ghost use Rattle.rib_player.specs.Timeline.{fresh, ahead_of};
 ghost use Rattle.mrt_wire.specs.Place.{start_place};
-ghost use Rattle.bgpdump_tool.specs.declared.dump.TheConstants.{LIMIT};
-ghost use Rattle.bgpdump_tool.specs.Ending.{is_read_fault, is_write_fault};
+ghost use Rattle.bgpdump_lines.specs.declared.dump.TheConstants.{LIMIT};
+ghost use Rattle.bgpdump_lines.specs.Ending.{is_read_fault, is_write_fault};
 ghost use Rattle.bgpdump_tool.specs.declared.script.TheConstants.{LONGEST_SCRIPT};
 ghost use Rattle.bgpdump_tool.specs.Standing.{HasRoom, scene_of};
 ghost use Rattle.bgpdump_tool.specs.Moves.{Moves, StepDoes};
 
-use crate::dump::LIMIT;
-use crate::outcome::Outcome;
-use crate::output::Output;
-use crate::write::write_report;
+use bgpdump_lines::{LIMIT, Outcome, Output, write_report};
 use mrt_wire::{Input, Next, Route, Source, Stamp};
 use rib_player::Player;
 use rib_store::PrefixStore;
@@ -75,7 +72,7 @@ impl<S: PrefixStore<Rc<Route>>> Session<S> {
         }
         match self.source.next(input)? {
             Next::Event(event) => {
-                self.player.play(&event)?;
+                self.player.play(&event).map_err(|_| Outcome::Memory)?;
                 Ok(false)
             }
             Next::Bad(fault) => {

@@ -1,31 +1,23 @@
-mod adapters;
 mod command_lines;
 mod commands;
 mod devices;
-mod faults;
 mod generated_scripts;
 mod large_scripts;
-mod lines;
 mod memory;
 mod moves;
 mod plain;
 mod playing;
-mod reading;
-mod records;
 mod replies;
 mod script_faults;
 mod scripts;
+mod taking;
 
-use crate::{Outcome, WriteOutput, run_dump};
-use mrt_wire::{ReadInput, Stamp};
+use crate::Outcome;
 use std::alloc::{AllocError, Global};
 
 /// A state change of an IPv4 peer, of 32 octets.
 const STATE_CHANGE: &str =
     "00000064 0010 0000 00000014 FBF4 FBF5 0000 0001 C0000201 C0000202 0006 0001";
-
-/// Its line.
-const LINE: &str = "BGP4MP|100|STATE|192.0.2.1|64500|6|1\n";
 
 /// A part of a multicast table, of 31 octets.
 const MULTICAST: &str = "000000C8 000D 0003 00000013 C6336401 0000 0001 00 C0000201 C0000201 FBF4";
@@ -39,25 +31,6 @@ struct Run {
     out: Vec<u8>,
     err: Vec<u8>,
     outcome: Outcome,
-}
-
-/// Runs over these octets.
-fn dump(alloc: Global, octets: &[u8]) -> Run {
-    dump_by(alloc, Stamp::Dump, octets)
-}
-
-/// Runs over these octets, with this time of a table's entries.
-fn dump_by(alloc: Global, stamp: Stamp, octets: &[u8]) -> Run {
-    let mut out = Vec::new(alloc);
-    let mut err = Vec::new(alloc);
-    let outcome = run_dump(
-        alloc,
-        &mut ReadInput::new(octets),
-        &mut WriteOutput::new(&mut out),
-        &mut WriteOutput::new(&mut err),
-        stamp,
-    );
-    Run { out, err, outcome }
 }
 
 /// The value of a hexadecimal digit.

@@ -9,6 +9,8 @@ pub mod Masks
 mod Octets
 pub mod Beginning
 pub mod Containing
+mod Shared
+pub mod Turns
 pub mod Numbers
 pub mod Sequences
 pub mod Fields

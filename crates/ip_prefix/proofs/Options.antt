@@ -1,6 +1,6 @@
 -- Whether a value is there, and what follows from it.
 use Rattle.std.proofs.Common.{◌≡◌, Bool, true, false, cond, ◌||◌, Option, Some, None, refl}
-use Rattle.std.specs.Option.{is_some, option_map, IfNone}
+use Rattle.std.specs.Option.{is_some, option_map}
 
 -- a function of a value that was found keeps whether one was
 pub is_some-option_map : {A B : Type 0} (f : A → B) (found : Option A) → is_some (option_map f found) ≡ is_some found

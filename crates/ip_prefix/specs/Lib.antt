@@ -2,6 +2,7 @@ pub mod Bits
 pub mod Highest
 pub mod Address
 pub mod Network
+pub mod Turns
 pub mod BitLemmas
 pub mod Aligned
 pub mod Masked

@@ -33,7 +33,7 @@ same_family V6 V4 = false
 same_family V6 V6 = true
 
 -- whether two bits are one
-abbrev same_bit : Bool → Bool → Bool
+abbrev pub same_bit : Bool → Bool → Bool
 same_bit true bit = bit
 same_bit false bit = not bit
 

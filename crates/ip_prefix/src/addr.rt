@@ -43,6 +43,19 @@ pub enum Family {
     V6,
 }
 
+impl Family {
+    /// How many bits an address of the family has.
+    #[inline]
+    pub fn width(self) -> u8
+        ensures { result ≡ bit_count self }
+    {
+        match self {
+            Family::V4 => V4_BITS,
+            Family::V6 => V6_BITS,
+        }
+    }
+}
+
 /// An address. It is kept as one number of 128 bits whose highest bits are those of the address,
 /// for either family, so that masks and comparisons are single operations.
 #[derive(Clone, Copy, Debug)]

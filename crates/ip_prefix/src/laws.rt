@@ -1,6 +1,6 @@
-//! Laws of the orders, of the texts and of what is sent.
+//! Laws of the orders, of the turns, of the texts and of what is sent.
 
-ghost use Rattle.std.specs.Prelude.{◌≡◌, ◌≤◌, ◌↔◌, ℕ, List, [], ◌∷◌, codes, length, IsTrue};
+ghost use Rattle.std.specs.Prelude.{◌≡◌, ◌≤◌, ◌↔◌, ℕ, true, false, List, [], ◌∷◌, codes, length, IsTrue};
 ghost use Rattle.std.specs.Cmp.{IsTotalOrder};
 ghost use Rattle.std.specs.FinMap.{IsAntisymmetric};
 ghost use Rattle.std.specs.Net.Text.{longest_zero_run};
@@ -8,11 +8,13 @@ ghost use Rattle.ip_prefix.specs.declared.addr.Family.{Family};
 ghost use Rattle.ip_prefix.specs.declared.addr.TheConstants.{NUMBER_BITS, V4_OCTETS, V6_OCTETS, V4_BITS, V6_BITS};
 ghost use Rattle.ip_prefix.specs.declared.addr.TheConstants.{OCTET_BITS, GROUP_BITS, GROUP_COUNT};
 ghost use Rattle.ip_prefix.specs.declared.text.TheConstants.{DOT, COLON, SLASH};
+ghost use Rattle.ip_prefix.specs.declared.turn.Turn.TheVariants.{Outside, Here, Left, Right};
 ghost use Rattle.ip_prefix.specs.Address.{Address, IsAddress};
 ghost use Rattle.ip_prefix.specs.Network.{Network, IsNetwork, IsFront, ContainsAllOf, contains, covers};
 ghost use Rattle.ip_prefix.specs.Order.{address_cmp, network_cmp, filled_cmp};
 ghost use Rattle.ip_prefix.specs.Spelling.{SpellsAddress, SpellsPrefix};
 ghost use Rattle.ip_prefix.specs.Text.{address_text, network_text};
+ghost use Rattle.ip_prefix.specs.Turns.{way, turn_of, half, common};
 ghost use Rattle.ip_prefix.specs.ZeroRun.{IsFirstLongestRun};
 ghost use Rattle.ip_prefix.specs.Sequences.{SpellsAll, IsCode};
 ghost use Rattle.ip_prefix.specs.Wire.{SpellsNetwork};
@@ -59,6 +61,27 @@ pub fn nested_prefixes()
         → length m.bits ≤ length n.bits → IsTrue (covers m n) }
     ensures one { (m n : Network) (a : Address) → IsTrue (contains m a) → IsTrue (contains n a)
         → length m.bits ≡ length n.bits → m ≡ n }
+{}
+
+/// A prefix lies outside another that doesn't cover it, here if it is the other, and else on the
+/// side of the half that covers it.
+pub fn turns_by_bits()
+    ensures outside { (m n : Network)
+        → ((turn_of (way m) (way n) ≡ Outside) ↔ (covers m n ≡ false)) }
+    ensures here { (m n : Network) → ((turn_of (way m) (way n) ≡ Here) ↔ (m ≡ n)) }
+    ensures left { (m n : Network)
+        → ((turn_of (way m) (way n) ≡ Left) ↔ IsTrue (covers (half m false) n)) }
+    ensures right { (m n : Network)
+        → ((turn_of (way m) (way n) ≡ Right) ↔ IsTrue (covers (half m true) n)) }
+{}
+
+/// The prefix of the bits that two of one family share covers both, and each prefix that covers
+/// both covers it.
+pub fn common_prefix()
+    ensures both { (m n : Network) → m.family ≡ n.family
+        → IsTrue (covers (common m n) m) × IsTrue (covers (common m n) n) }
+    ensures longest { (m n other : Network) → IsTrue (covers other m) → IsTrue (covers other n)
+        → IsTrue (covers other (common m n)) }
 {}
 
 /// The text of an address is a spelling of it, and the text of a prefix one of the prefix.

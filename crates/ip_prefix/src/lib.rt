@@ -7,14 +7,16 @@ mod laws;
 mod parse;
 mod prefix;
 mod text;
+mod turn;
 
 pub use addr::{Addr, Family, V4_BITS, V4_OCTETS, V6_BITS, V6_OCTETS};
 pub use decimal::put_decimal;
 pub use laws::{
-    address_numbers, address_order, containment, covering_order, nested_prefixes, one_network,
-    one_spelling, prefix_order, shortened_run, text_spells,
+    address_numbers, address_order, common_prefix, containment, covering_order, nested_prefixes,
+    one_network, one_spelling, prefix_order, shortened_run, text_spells, turns_by_bits,
 };
 pub use prefix::Prefix;
+pub use turn::Turn;
 
 #[cfg(test)]
 mod tests;

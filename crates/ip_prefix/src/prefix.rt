@@ -1,15 +1,14 @@
 //! Prefixes of both families.
 
-ghost use Rattle.std.specs.Prelude.{◌≡◌, ◌<◌, ◌≤◌, MatchOption, IfSome, IfNone, length, take};
+ghost use Rattle.std.specs.Prelude.{◌≡◌, ◌-◌, ◌<◌, ◌≤◌, ◌++◌, false, MatchOption, IfSome, IfNone, length, replicate, take};
 ghost use Rattle.ip_prefix.specs.Address.{IsAddress, bit_count};
+ghost use Rattle.ip_prefix.specs.Bits.{bits_of};
 ghost use Rattle.ip_prefix.specs.Highest.{highest_part};
 ghost use Rattle.ip_prefix.specs.Network.{IsNetwork, network_of, least_address, contains, covers};
 ghost use Rattle.ip_prefix.specs.Sequences.{BeginsWithNone};
 ghost use Rattle.ip_prefix.specs.Wire.{SpellsNetwork};
 
-use crate::addr::{
-    Addr, Family, NUMBER_BITS, OCTET_BITS, V4_BITS, V6_BITS, V6_OCTETS, compare_families,
-};
+use crate::addr::{Addr, Family, NUMBER_BITS, OCTET_BITS, V6_OCTETS, compare_families};
 use std::cmp::Ordering;
 use std::marker::Model;
 
@@ -55,7 +54,7 @@ impl Prefix {
             (λ prefix. (len ≤ bit_count addr.family) × (prefix ≡ network_of addr len)) }
     {
         let family = addr.family();
-        if len > width(family) {
+        if len > family.width() {
             return None;
         }
         Some(Prefix {
@@ -63,6 +62,19 @@ impl Prefix {
             len,
             family,
         })
+    }
+
+    /// The prefix of the address alone, of all its bits.
+    #[inline]
+    pub fn host(addr: Addr) -> Prefix
+        ensures { result ≡ record { family = addr.family; bits = addr.bits } }
+    {
+        let family = addr.family();
+        Prefix {
+            number: addr.number(),
+            len: family.width(),
+            family,
+        }
     }
 
     /// The family that it is of.
@@ -79,6 +91,28 @@ impl Prefix {
         ensures whole { IsAddress result }
     {
         Addr::aligned(self.number, self.family)
+    }
+
+    /// The number that the prefix is kept as: its bits are the highest, and zeros stand below.
+    #[inline]
+    pub(crate) fn number(&self) -> u128
+        ensures { bits_of NUMBER_BITS result
+            ≡ self.now.bits ++ replicate (NUMBER_BITS - length self.now.bits) false }
+    {
+        self.number
+    }
+
+    /// The prefix of its first bits, as many as are named.
+    #[inline]
+    pub(crate) fn front(&self, len: u8) -> Prefix
+        requires { len ≤ length self.now.bits }
+        ensures { result ≡ record { family = self.now.family; bits = take len self.now.bits } }
+    {
+        Prefix {
+            number: highest(self.number, len),
+            len,
+            family: self.family,
+        }
     }
 
     /// Whether the address is of the prefix's family and begins with its bits.
@@ -107,7 +141,7 @@ impl Prefix {
         ensures none { IfNone result (BeginsWithNone (SpellsNetwork family) octets.now) }
     {
         let (&len, rest) = octets.split_first()?;
-        if width(family) < len {
+        if family.width() < len {
             return None;
         }
         let size = usize::from(len).div_ceil(OCTET_BITS);
@@ -194,17 +228,6 @@ impl Ord for Prefix {
         compare_families(self.family, other.family)
             .then(self.number.cmp(&other.number))
             .then(self.len.cmp(&other.len))
-    }
-}
-
-// How many bits an address of the family has.
-#[inline]
-fn width(family: Family) -> u8
-    ensures { result ≡ bit_count family }
-{
-    match family {
-        Family::V4 => V4_BITS,
-        Family::V6 => V6_BITS,
     }
 }
 

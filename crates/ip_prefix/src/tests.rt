@@ -1,3 +1,5 @@
+mod turns;
+
 use super::*;
 use std::test::Fail;
 

@@ -14,7 +14,7 @@ mod walks;
 use crate::{PlayFault, Player};
 use ip_prefix::{Addr, Prefix};
 use mrt_wire::{Event, Item, Items, Next, Peer, ReadInput, Route, Source, Stamp, Tag, Time};
-use rib_store::{GREATEST_COUNT, MapStore, PrefixStore};
+use rib_store::{GREATEST_COUNT, MapStore, PrefixStore, RadixStore};
 use std::alloc::Global;
 use std::process::Abort;
 use std::rc::Rc;
@@ -22,6 +22,27 @@ use std::test::Fail;
 
 /// A player over the store that is an ordered map.
 type MapPlayer = Player<MapStore<Rc<Route>>>;
+
+/// A player over the store that is a radix tree for each family.
+type RadixPlayer = Player<RadixStore<Rc<Route>>>;
+
+/// A store that may have nodes.
+trait HasNodes {
+    /// How many nodes it has, where it has any.
+    fn node_count(&self) -> Option<u64>;
+}
+
+impl HasNodes for MapStore<Rc<Route>> {
+    fn node_count(&self) -> Option<u64> {
+        None
+    }
+}
+
+impl HasNodes for RadixStore<Rc<Route>> {
+    fn node_count(&self) -> Option<u64> {
+        Some(self.nodes())
+    }
+}
 
 /// A record behind its time: the peer 192.0.2.1 of AS 64500 announces 10.0.0.0/8 with the origin
 /// IGP, the path 64500 and the next hop 192.0.2.9.
@@ -239,8 +260,22 @@ fn counts<S: PrefixStore<Rc<Route>>>(player: &Player<S>) -> Counts {
     (player.at(), player.ahead(), player.named(), keys)
 }
 
+/// Asserts that the peer's store, where there is one, has no more than two nodes a key.
+fn assert_few_nodes<S: PrefixStore<Rc<Route>> + HasNodes>(
+    rt: &impl Abort,
+    player: &Player<S>,
+    peer: &Peer,
+) {
+    let Some(store) = player.table().store(peer) else {
+        return;
+    };
+    if let Some(nodes) = store.node_count() {
+        assert!(rt; nodes <= store.key_count().saturating_mul(2));
+    }
+}
+
 /// Makes the calls one after another, and compares what they answer and leave.
-fn follow<S: PrefixStore<Rc<Route>>>(
+fn follow<S: PrefixStore<Rc<Route>> + HasNodes>(
     rt: &impl Abort,
     alloc: Global,
     player: &mut Player<S>,
@@ -249,12 +284,13 @@ fn follow<S: PrefixStore<Rc<Route>>>(
     for (made, answer, time) in rows {
         assert_eq!(rt; make_call(alloc, player, *made)?, *answer);
         assert_eq!(rt; time_of(player, &peer(), &eight(10)), *time);
+        assert_few_nodes(rt, player, &peer());
     }
     Ok(())
 }
 
 /// Makes the calls one after another, and compares what they answer and the counts.
-fn count<S: PrefixStore<Rc<Route>>>(
+fn count<S: PrefixStore<Rc<Route>> + HasNodes>(
     rt: &impl Abort,
     alloc: Global,
     player: &mut Player<S>,
@@ -263,6 +299,7 @@ fn count<S: PrefixStore<Rc<Route>>>(
     for (made, answer, wanted) in rows {
         assert_eq!(rt; make_call(alloc, player, *made)?, *answer);
         assert_eq!(rt; counts(player), *wanted);
+        assert_few_nodes(rt, player, &peer());
     }
     Ok(())
 }

@@ -1,11 +1,12 @@
 -- How many routes there are.
 use mir.Val.{bool_byte}
-use Rattle.std.proofs.Common.{◌≡◌, ℕ, suc, ◌+◌, ◌≤◌, ◌<◌, ◌^◌, Bool, true, false, [], ◌∷◌, length, Option, is_some, arith}
+use Rattle.std.proofs.Common.{◌≡◌, ℕ, zero, suc, ◌+◌, ◌-◌, ◌≤◌, ◌<◌, ◌^◌, Bool, true, false, not, cond, [], ◌∷◌, length, Option, is_some, refl, sym, ap, ◌∙◌, arith}
+use Rattle.std.specs.FinSet as set
 use Rattle.std.specs.FinMap.{get, len, len-empty}
 use Rattle.ip_prefix.specs.Network.{Network}
 use Rattle.ip_prefix.specs.Order.{network_cmp}
 use Rattle.ip_prefix.specs.OrderLaws.{network_cmp_total}
-use Rattle.rib_store.specs.Stored.{Routes, put, counted}
+use Rattle.rib_store.specs.Stored.{Keys, Routes, put, counted}
 use Rattle.rib_store.proofs.PutLaws.{len-put}
 use Rattle.rib_store.specs.Slots.{Slots, routes_in}
 
@@ -13,6 +14,31 @@ use Rattle.rib_store.specs.Slots.{Slots, routes_in}
 pub len-exchanged : {R : Type 0} (old new : Routes R) (prefix : Network) (brought given : Option R) → new ≡ put old prefix brought → given ≡ get old prefix
     → len new + bool_byte (is_some given) ≡ len old + bool_byte (is_some brought)
 len-exchanged old new prefix brought given is found = rw (is, found) (len-put network_cmp_total old prefix brought)
+
+-- a set with a key isn't empty
+len-some : (keys : Keys) (prefix : Network) → set.contains keys prefix ≡ true → 1 ≤ set.len keys
+len-some keys prefix key = at (set.len keys) refl
+  where
+    at : (size : ℕ) → set.len keys ≡ size → 1 ≤ size
+    at zero e =
+        let none : set.contains keys prefix ≡ false = ap (λ s. set.contains s prefix) (set.empty_of_len keys e) ∙ set.contains-empty network_cmp prefix in
+        let wrong : true ≡ false = sym key ∙ none in
+        cc
+    at (suc size) e = omega arith
+
+-- how many keys there are once one is there, and once one is gone
+pub len-ensured : (old new : Keys) (prefix : Network) → new ≡ set.insert old prefix → set.len new ≡ set.len old + bool_byte (not (set.contains old prefix))
+len-ensured old new prefix is = ap set.len is ∙ set.len-insert network_cmp_total old prefix ∙ known (set.contains old prefix)
+  where
+    known : (b : Bool) → cond b (set.len old) (set.len old + 1) ≡ set.len old + bool_byte (not b)
+    known true = omega arith
+    known false = refl
+
+pub len-removed : (old new : Keys) (prefix : Network) → set.contains old prefix ≡ true → new ≡ set.remove old prefix → set.len new + 1 ≡ set.len old
+len-removed old new prefix key is =
+    let gone = ap set.len is ∙ set.len-remove network_cmp_total old prefix ∙ ap (λ b. cond b (set.len old - 1) (set.len old)) key in
+    let some = len-some old prefix key in
+    omega (arith, gone, some)
 
 -- no more routes than slots
 pub few_routes : {R : Type 0} (slots : Slots R) → len (routes_in slots) ≤ length slots

@@ -4,11 +4,10 @@ ghost use Rattle.std.specs.Prelude.{◌≡◌, ◌-◌, ◌||◌, min, false};
 ghost use Rattle.rib_player.specs.Timeline.{behind};
 ghost use Rattle.bgpdump_tool.specs.Replies.{at_text};
 ghost use Rattle.bgpdump_tool.specs.Standing.{at_cursor};
-ghost use Rattle.bgpdump_tool.specs.Writing.{Puts, is_write};
+ghost use Rattle.bgpdump_lines.specs.Writing.{Puts, is_write};
 
-use crate::fault::WriteFault;
-use crate::output::Output;
 use crate::replies::write_position;
+use bgpdump_lines::{Output, WriteFault};
 use mrt_wire::Route;
 use rib_player::Player;
 use rib_store::PrefixStore;

@@ -4,12 +4,11 @@ ghost use Rattle.std.specs.Prelude.{◌≡◌, ◌<◌, ◌||◌, IfOk, OnErr, O
 ghost use Rattle.rib_store.specs.declared.store.TheConstants.{GREATEST_COUNT};
 ghost use Rattle.rib_player.specs.Timeline.{after_play, ahead_of};
 ghost use Rattle.bgpdump_tool.specs.State.{loss};
-ghost use Rattle.bgpdump_tool.specs.Writing.{is_write};
+ghost use Rattle.bgpdump_lines.specs.Writing.{is_write};
 ghost use Rattle.bgpdump_tool.specs.Losing.{Loses};
 
-use crate::fault::WriteFault;
-use crate::output::Output;
 use crate::replies::write_counted;
+use bgpdump_lines::{Output, WriteFault};
 use mrt_wire::{Event, Item, Items, Peer, Route, Tag, Time};
 use rib_player::Player;
 use rib_store::PrefixStore;
@@ -50,7 +49,7 @@ fn play_loss<S: PrefixStore<Rc<Route>>>(
     ensures refused { OnErr result ((player.new ≡ player.old) × (result ≡ Err WriteFault.Memory)) }
 {
     let event = loss_of(alloc, peer)?;
-    Ok(player.play(&event)?)
+    player.play(&event).map_err(|_| WriteFault::Memory)
 }
 
 /// Plays the loss of the session with the peer in place of the steps ahead, and writes where the

@@ -2,16 +2,15 @@
 
 ghost use Rattle.std.specs.Prelude.{◌≡◌, ◌||◌, ℕ};
 ghost use Rattle.bgpdump_tool.specs.declared.script.TheConstants.{LONGEST_SCRIPT};
-ghost use Rattle.bgpdump_tool.specs.Ending.{is_read_fault, is_write_fault};
+ghost use Rattle.bgpdump_lines.specs.Ending.{is_read_fault, is_write_fault};
 ghost use Rattle.bgpdump_tool.specs.Standing.{HasRoom, scene_of};
 ghost use Rattle.bgpdump_tool.specs.Moves.{Moves, ForwardDoes};
 ghost use Rattle.bgpdump_tool.specs.declared.command.Command.{Command};
 ghost use Rattle.bgpdump_tool.specs.Carrying.{CarriesOut};
 
-use crate::outcome::Outcome;
-use crate::output::Output;
 use crate::replies::write_position;
 use crate::session::Session;
+use bgpdump_lines::{Outcome, Output};
 use mrt_wire::{Input, Route};
 use rib_store::PrefixStore;
 use std::rc::Rc;

@@ -3,12 +3,10 @@
 ghost use Rattle.std.specs.Prelude.{◌≡◌, ◌++◌, ◌||◌, OnOk};
 ghost use Rattle.std.specs.FinMap as finite;
 ghost use Rattle.bgpdump_tool.specs.Replies.{peer_line_of, peers_text};
-ghost use Rattle.bgpdump_tool.specs.Writing.{Puts, PutsPart, is_write};
+ghost use Rattle.bgpdump_lines.specs.Writing.{Puts, PutsPart, is_write};
 
-use crate::fault::WriteFault;
-use crate::fields::{put_number, put_peer};
-use crate::output::{Output, put_all};
 use crate::replies::write_none;
+use bgpdump_lines::{Output, WriteFault, put_all, put_number, put_peer};
 use mrt_wire::{Peer, Route};
 use rib_player::Table;
 use rib_store::PrefixStore;

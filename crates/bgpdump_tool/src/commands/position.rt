@@ -3,11 +3,10 @@
 ghost use Rattle.std.specs.Prelude.{◌≡◌, ◌||◌, codes};
 ghost use Rattle.rib_player.specs.Timeline.{ahead_of};
 ghost use Rattle.bgpdump_tool.specs.Replies.{counted_text};
-ghost use Rattle.bgpdump_tool.specs.Writing.{Puts, is_write};
+ghost use Rattle.bgpdump_lines.specs.Writing.{Puts, is_write};
 
-use crate::fault::WriteFault;
-use crate::output::Output;
 use crate::replies::write_counted;
+use bgpdump_lines::{Output, WriteFault};
 use mrt_wire::Route;
 use rib_player::Player;
 use rib_store::PrefixStore;

@@ -2,11 +2,10 @@
 
 ghost use Rattle.std.specs.Prelude.{◌≡◌, ◌||◌};
 ghost use Rattle.bgpdump_tool.specs.Replies.{route_text};
-ghost use Rattle.bgpdump_tool.specs.Writing.{Puts, is_write};
+ghost use Rattle.bgpdump_lines.specs.Writing.{Puts, is_write};
 
-use crate::fault::WriteFault;
-use crate::output::Output;
 use crate::replies::{write_none, write_rib_line};
+use bgpdump_lines::{Output, WriteFault};
 use ip_prefix::Prefix;
 use mrt_wire::{Peer, Route};
 use rib_player::Table;

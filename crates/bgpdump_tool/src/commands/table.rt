@@ -2,11 +2,10 @@
 
 ghost use Rattle.std.specs.Prelude.{◌≡◌, ◌++◌, ◌||◌, OnOk};
 ghost use Rattle.bgpdump_tool.specs.Replies.{routes_line, table_text};
-ghost use Rattle.bgpdump_tool.specs.Writing.{Puts, PutsPart, is_write};
+ghost use Rattle.bgpdump_lines.specs.Writing.{Puts, PutsPart, is_write};
 
-use crate::fault::WriteFault;
-use crate::output::{Output, put_all};
 use crate::replies::write_rib_line;
+use bgpdump_lines::{Output, WriteFault, put_all};
 use ip_prefix::put_decimal;
 use mrt_wire::{Peer, Route};
 use rib_player::Table;

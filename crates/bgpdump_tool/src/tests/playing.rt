@@ -3,14 +3,14 @@
 use super::{MULTICAST, Run, STATE_CHANGE, octets_of};
 use crate::{Outcome, WriteOutput, run_play};
 use mrt_wire::{ReadInput, Route, Stamp};
-use rib_store::MapStore;
+use rib_store::{MapStore, PrefixStore, RadixStore};
 use std::alloc::{AllocError, Global};
 use std::process::Abort;
 use std::rc::Rc;
 use std::test::Fail;
 
-/// The store of the runs.
-pub(super) type Routes = MapStore<Rc<Route>>;
+/// The store of the runs, that of the program.
+pub(super) type Routes = RadixStore<Rc<Route>>;
 
 /// The sessions with the peers 192.0.2.1 of AS 64500, 192.0.2.1 of AS 64501, and 2001:db8::1 of
 /// AS 64500, in front of a message.
@@ -173,9 +173,19 @@ pub(super) fn file_of(alloc: Global, records: &[Record]) -> Result<Vec<u8>, Allo
 
 /// Carries out a script over these octets, with this time of a table's entries.
 pub(super) fn play(alloc: Global, stamp: Stamp, octets: &[u8], script: &[u8]) -> Run {
+    play_with::<Routes>(alloc, stamp, octets, script)
+}
+
+/// The same, with a store.
+fn play_with<S: PrefixStore<Rc<Route>>>(
+    alloc: Global,
+    stamp: Stamp,
+    octets: &[u8],
+    script: &[u8],
+) -> Run {
     let mut out = Vec::new(alloc);
     let mut err = Vec::new(alloc);
-    let outcome = run_play::<Routes, _, _, _>(
+    let outcome = run_play::<S, _, _, _>(
         alloc,
         &mut ReadInput::new(octets),
         script,
@@ -219,7 +229,7 @@ pub(super) fn assert_replied(
 /// Records, a script, the replies to it and the reports.
 pub(super) type Row = (&'static [Record], &'static str, &'static str, &'static str);
 
-/// Asserts what scripts give, with this time of a table's entries.
+/// Asserts what scripts give over either store, with this time of a table's entries.
 pub(super) fn assert_rows(
     rt: &impl Abort,
     alloc: Global,
@@ -229,6 +239,8 @@ pub(super) fn assert_rows(
     for (records, script, replies, reports) in rows {
         let octets = file_of(alloc, records)?;
         let run = play(alloc, stamp, &octets, script.as_bytes());
+        assert_replied(rt, &run, script, replies, reports);
+        let run = play_with::<MapStore<Rc<Route>>>(alloc, stamp, &octets, script.as_bytes());
         assert_replied(rt, &run, script, replies, reports);
     }
     Ok(())

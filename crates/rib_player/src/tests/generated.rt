@@ -3,18 +3,23 @@
 use super::plain::{PEERS, PREFIXES, Plain, prefix_at};
 use super::stores::Refusing;
 use super::{
-    Answer, Who, announcement, answer_to, event_of, has_key, keys_of, peer_of, shift, time_of,
+    Answer, HasNodes, Who, announcement, answer_to, assert_few_nodes, event_of, has_key, keys_of,
+    peer_of, shift, time_of,
 };
 use crate::Player;
 use ip_prefix::Prefix;
 use mrt_wire::{Event, Item, Peer, Route};
-use rib_store::MapStore;
+use rib_store::{MapStore, PrefixStore, RadixStore};
 use std::alloc::Global;
 use std::process::Abort;
 use std::rc::Rc;
 use std::test::Fail;
 
-type RefusingPlayer = Player<Refusing<MapStore<Rc<Route>>>>;
+/// A player over an ordered map, for which a prefix is refused.
+type RefusingMapPlayer = Player<Refusing<MapStore<Rc<Route>>>>;
+
+/// A player over a radix tree for each family, for which a prefix is refused.
+type RefusingRadixPlayer = Player<Refusing<RadixStore<Rc<Route>>>>;
 
 /// How many calls are made.
 const CALLS: u32 = 1_000;
@@ -105,9 +110,9 @@ fn is_drop(answer: Answer) -> bool {
 }
 
 /// Plays an event on both, and asserts that they answer alike.
-fn play(
+fn play<S: PrefixStore<Rc<Route>>>(
     rt: &impl Abort,
-    player: &mut RefusingPlayer,
+    player: &mut Player<S>,
     plain: &mut Plain,
     event: Event,
 ) -> Result<Answer, Fail> {
@@ -117,9 +122,9 @@ fn play(
 }
 
 /// Makes a step back or forth on both, and asserts that they answer alike.
-fn shift_both(
+fn shift_both<S: PrefixStore<Rc<Route>>>(
     rt: &impl Abort,
-    player: &mut RefusingPlayer,
+    player: &mut Player<S>,
     plain: &mut Plain,
     back: bool,
 ) -> Answer {
@@ -129,7 +134,12 @@ fn shift_both(
 }
 
 /// Asserts that both have the same routes and keys of the peer.
-fn compare_peer(rt: &impl Abort, player: &RefusingPlayer, plain: &Plain, peer: &Peer) {
+fn compare_peer<S: PrefixStore<Rc<Route>> + HasNodes>(
+    rt: &impl Abort,
+    player: &Player<S>,
+    plain: &Plain,
+    peer: &Peer,
+) {
     for number in 0..PREFIXES {
         let prefix = prefix_at(number);
         assert_eq!(rt;
@@ -142,10 +152,15 @@ fn compare_peer(rt: &impl Abort, player: &RefusingPlayer, plain: &Plain, peer: &
         );
     }
     assert_eq!(rt; keys_of(player, peer), plain.keys_of(peer));
+    assert_few_nodes(rt, player, peer);
 }
 
 /// Asserts that both are alike.
-fn compare(rt: &impl Abort, player: &RefusingPlayer, plain: &Plain) {
+fn compare<S: PrefixStore<Rc<Route>> + HasNodes>(
+    rt: &impl Abort,
+    player: &Player<S>,
+    plain: &Plain,
+) {
     assert_eq!(rt; player.at(), plain.at());
     assert_eq!(rt; player.ahead(), plain.ahead());
     assert_eq!(rt; player.named(), plain.named());
@@ -156,10 +171,12 @@ fn compare(rt: &impl Abort, player: &RefusingPlayer, plain: &Plain) {
 
 /// Steps are undone more often than redone, so that there are few most of the time, and keys come
 /// and go.
-#[test]
-fn answers_as_a_plain_one_does(rt: HostRuntime) -> Result<(), Fail> {
-    let mut player: RefusingPlayer = Player::new(rt.alloc());
-    let mut plain = Plain::new(rt.alloc());
+fn answers_as_a_plain_one_does<S: PrefixStore<Rc<Route>> + HasNodes>(
+    rt: &impl Abort,
+    alloc: Global,
+    mut player: Player<S>,
+) -> Result<(), Fail> {
+    let mut plain = Plain::new(alloc);
     let mut drawn = Drawn { state: 1 };
     let mut tally = Tally {
         refused: 0,
@@ -169,16 +186,26 @@ fn answers_as_a_plain_one_does(rt: HostRuntime) -> Result<(), Fail> {
     for number in 0..CALLS {
         let kind = drawn.below(8);
         let answer = if kind < 3 {
-            let event = drawn.event(rt.alloc(), number.saturating_mul(4))?;
-            play(&rt, &mut player, &mut plain, event)?
+            let event = drawn.event(alloc, number.saturating_mul(4))?;
+            play(rt, &mut player, &mut plain, event)?
         } else {
-            shift_both(&rt, &mut player, &mut plain, kind < 7)
+            shift_both(rt, &mut player, &mut plain, kind < 7)
         };
-        compare(&rt, &player, &plain);
+        compare(rt, &player, &plain);
         tally = tally.with(answer);
     }
     assert!(rt; tally.refused >= 20, "{} were refused", tally.refused);
     assert!(rt; tally.dropped >= 50, "{} dropped steps", tally.dropped);
     assert!(rt; tally.nothing >= 20, "{} had no step", tally.nothing);
     Ok(())
+}
+
+#[test]
+fn map_store_answers_as_a_plain_one_does(rt: HostRuntime) -> Result<(), Fail> {
+    answers_as_a_plain_one_does(&rt, rt.alloc(), RefusingMapPlayer::new(rt.alloc()))
+}
+
+#[test]
+fn radix_store_answers_as_a_plain_one_does(rt: HostRuntime) -> Result<(), Fail> {
+    answers_as_a_plain_one_does(&rt, rt.alloc(), RefusingRadixPlayer::new(rt.alloc()))
 }

@@ -1,19 +1,25 @@
 //! Which keys are kept, and how many pairs the steps name.
 
 use super::{
-    Answer, Call, MapPlayer, Say, Who, assert_times, count, keys_of, make_call, peer, peer_of,
+    Answer, Call, HasNodes, MapPlayer, RadixPlayer, Say, Who, assert_times, count, keys_of,
+    make_call, peer, peer_of,
 };
 use crate::Player;
+use mrt_wire::Route;
+use rib_store::PrefixStore;
 use std::alloc::Global;
 use std::process::Abort;
+use std::rc::Rc;
 use std::test::Fail;
 
 /// 10.1.0.0/16.
 const LONG: &str = "10.1.0.0/16";
 
-#[test]
-fn keeps_just_the_wanted_keys(rt: HostRuntime) -> Result<(), Fail> {
-    let mut player: MapPlayer = Player::new(rt.alloc());
+fn keeps_just_the_wanted_keys<S: PrefixStore<Rc<Route>> + HasNodes>(
+    rt: &impl Abort,
+    alloc: Global,
+    mut player: Player<S>,
+) -> Result<(), Fail> {
     let second = [Say::AnnounceOf(Who::Peer, LONG, 2)];
     let third = [Say::AnnounceOf(Who::Peer, LONG, 3)];
     let played = [
@@ -26,27 +32,39 @@ fn keeps_just_the_wanted_keys(rt: HostRuntime) -> Result<(), Fail> {
         (Call::Undo, Answer::Done, (1, 1, 2, Some(2))),
         (Call::Play(&third), Answer::Dropped(1), (2, 0, 2, Some(2))),
     ];
-    count(&rt, rt.alloc(), &mut player, &played)?;
+    count(rt, alloc, &mut player, &played)?;
     let times = [
         (Who::Peer, "10.0.0.0/8", Some(1)),
         (Who::Peer, LONG, Some(3)),
     ];
-    assert_times(&rt, &player, &times)?;
+    assert_times(rt, &player, &times)?;
     let back = [
         (Call::Undo, Answer::Done, (1, 1, 2, Some(2))),
         (Call::Undo, Answer::Done, (0, 2, 2, Some(2))),
     ];
-    count(&rt, rt.alloc(), &mut player, &back)?;
+    count(rt, alloc, &mut player, &back)?;
     let none = [(Who::Peer, "10.0.0.0/8", None), (Who::Peer, LONG, None)];
-    assert_times(&rt, &player, &none)?;
+    assert_times(rt, &player, &none)?;
     let dropped = [(Call::Play(&[]), Answer::Dropped(2), (1, 0, 0, None))];
-    count(&rt, rt.alloc(), &mut player, &dropped)
+    count(rt, alloc, &mut player, &dropped)
+}
+
+#[test]
+fn map_store_keeps_just_the_wanted_keys(rt: HostRuntime) -> Result<(), Fail> {
+    keeps_just_the_wanted_keys(&rt, rt.alloc(), MapPlayer::new(rt.alloc()))
+}
+
+#[test]
+fn radix_store_keeps_just_the_wanted_keys(rt: HostRuntime) -> Result<(), Fail> {
+    keeps_just_the_wanted_keys(&rt, rt.alloc(), RadixPlayer::new(rt.alloc()))
 }
 
 /// A route that comes and goes in one event is none before it and none after it.
-#[test]
-fn names_no_pair_without_routes(rt: HostRuntime) -> Result<(), Fail> {
-    let mut player: MapPlayer = Player::new(rt.alloc());
+fn names_no_pair_without_routes<S: PrefixStore<Rc<Route>> + HasNodes>(
+    rt: &impl Abort,
+    alloc: Global,
+    mut player: Player<S>,
+) -> Result<(), Fail> {
     let rows = [
         (
             Call::Play(&[Say::Announce(1), Say::Withdraw]),
@@ -60,12 +78,49 @@ fn names_no_pair_without_routes(rt: HostRuntime) -> Result<(), Fail> {
         ),
         (Call::Undo, Answer::Done, (1, 1, 0, None)),
     ];
-    count(&rt, rt.alloc(), &mut player, &rows)
+    count(rt, alloc, &mut player, &rows)
 }
 
 #[test]
-fn stays_as_it_is_at_the_ends(rt: HostRuntime) -> Result<(), Fail> {
-    let mut player: MapPlayer = Player::new(rt.alloc());
+fn map_store_names_no_pair_without_routes(rt: HostRuntime) -> Result<(), Fail> {
+    names_no_pair_without_routes(&rt, rt.alloc(), MapPlayer::new(rt.alloc()))
+}
+
+#[test]
+fn radix_store_names_no_pair_without_routes(rt: HostRuntime) -> Result<(), Fail> {
+    names_no_pair_without_routes(&rt, rt.alloc(), RadixPlayer::new(rt.alloc()))
+}
+
+/// A route that comes and goes in one event leaves nothing but the step.
+fn comes_and_goes_at_once<S: PrefixStore<Rc<Route>>>(
+    rt: &impl Abort,
+    alloc: Global,
+    mut player: Player<S>,
+) -> Result<(), Fail> {
+    let says = [Say::Announce(1), Say::Withdraw];
+    let played = make_call(alloc, &mut player, Call::Play(&says))?;
+    assert_eq!(rt; played, Answer::Dropped(0));
+    assert_eq!(rt; player.at(), 1);
+    assert_eq!(rt; player.named(), 0);
+    assert!(rt; player.table().store(&peer()).is_none());
+    Ok(())
+}
+
+#[test]
+fn map_store_comes_and_goes_at_once(rt: HostRuntime) -> Result<(), Fail> {
+    comes_and_goes_at_once(&rt, rt.alloc(), MapPlayer::new(rt.alloc()))
+}
+
+#[test]
+fn radix_store_comes_and_goes_at_once(rt: HostRuntime) -> Result<(), Fail> {
+    comes_and_goes_at_once(&rt, rt.alloc(), RadixPlayer::new(rt.alloc()))
+}
+
+fn stays_as_it_is_at_the_ends<S: PrefixStore<Rc<Route>> + HasNodes>(
+    rt: &impl Abort,
+    alloc: Global,
+    mut player: Player<S>,
+) -> Result<(), Fail> {
     let rows = [
         (Call::Undo, Answer::Nothing, (0, 0, 0, None)),
         (Call::Redo, Answer::Nothing, (0, 0, 0, None)),
@@ -79,15 +134,25 @@ fn stays_as_it_is_at_the_ends(rt: HostRuntime) -> Result<(), Fail> {
         (Call::Undo, Answer::Nothing, (0, 1, 1, Some(1))),
         (Call::Redo, Answer::Done, (1, 0, 1, Some(1))),
     ];
-    count(&rt, rt.alloc(), &mut player, &rows)?;
-    assert_times(&rt, &player, &[(Who::Peer, "10.0.0.0/8", Some(1))])
+    count(rt, alloc, &mut player, &rows)?;
+    assert_times(rt, &player, &[(Who::Peer, "10.0.0.0/8", Some(1))])
+}
+
+#[test]
+fn map_store_stays_as_it_is_at_the_ends(rt: HostRuntime) -> Result<(), Fail> {
+    stays_as_it_is_at_the_ends(&rt, rt.alloc(), MapPlayer::new(rt.alloc()))
+}
+
+#[test]
+fn radix_store_stays_as_it_is_at_the_ends(rt: HostRuntime) -> Result<(), Fail> {
+    stays_as_it_is_at_the_ends(&rt, rt.alloc(), RadixPlayer::new(rt.alloc()))
 }
 
 /// Plays two events, undoes as many steps, and plays a third.
-fn play_over(
+fn play_over<S: PrefixStore<Rc<Route>>>(
     rt: &impl Abort,
     alloc: Global,
-    player: &mut MapPlayer,
+    player: &mut Player<S>,
     played: [&[Say]; 2],
     undone: u64,
     last: &[Say],
@@ -117,8 +182,12 @@ type Over = (
     (u64, Option<u64>, Option<u64>),
 );
 
-fn assert_over(rt: &impl Abort, alloc: Global, row: &Over) -> Result<(), Fail> {
-    let mut player: MapPlayer = Player::new(alloc);
+fn assert_over<S: PrefixStore<Rc<Route>>>(
+    rt: &impl Abort,
+    alloc: Global,
+    mut player: Player<S>,
+    row: &Over,
+) -> Result<(), Fail> {
     let (played, undone, last, wanted) = row;
     play_over(rt, alloc, &mut player, *played, *undone, last)?;
     let neighbour = keys_of(&player, &peer_of(Who::Neighbour));
@@ -177,9 +246,17 @@ const OVER: [Over; 14] = [
 ];
 
 #[test]
-fn steps_ahead_give_up_their_keys(rt: HostRuntime) -> Result<(), Fail> {
+fn map_store_steps_ahead_give_up_their_keys(rt: HostRuntime) -> Result<(), Fail> {
     for row in &OVER {
-        assert_over(&rt, rt.alloc(), row)?;
+        assert_over(&rt, rt.alloc(), MapPlayer::new(rt.alloc()), row)?;
+    }
+    Ok(())
+}
+
+#[test]
+fn radix_store_steps_ahead_give_up_their_keys(rt: HostRuntime) -> Result<(), Fail> {
+    for row in &OVER {
+        assert_over(&rt, rt.alloc(), RadixPlayer::new(rt.alloc()), row)?;
     }
     Ok(())
 }

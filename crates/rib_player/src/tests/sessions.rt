@@ -1,12 +1,22 @@
 //! Which routes belong together: those of a peer, and those of a family.
 
-use super::{Answer, Call, MapPlayer, Say, Who, assert_times, keys_of, make_call, peer_of};
+use super::{
+    Answer, Call, MapPlayer, RadixPlayer, Say, Who, assert_times, keys_of, make_call, peer_of,
+};
 use crate::Player;
+use mrt_wire::Route;
+use rib_store::PrefixStore;
 use std::alloc::Global;
 use std::process::Abort;
+use std::rc::Rc;
 use std::test::Fail;
 
-fn play(rt: &impl Abort, alloc: Global, player: &mut MapPlayer, says: &[Say]) -> Result<(), Fail> {
+fn play<S: PrefixStore<Rc<Route>>>(
+    rt: &impl Abort,
+    alloc: Global,
+    player: &mut Player<S>,
+    says: &[Say],
+) -> Result<(), Fail> {
     assert_eq!(rt;
         make_call(alloc, player, Call::Play(says))?,
         Answer::Dropped(0)
@@ -48,26 +58,31 @@ const LEFT_TIMES: [(Who, &str, Option<u32>); 8] = [
     (Who::Neighbour, "a00::/8", None),
 ];
 
-/// A player with these routes.
-fn filled(rt: &impl Abort, alloc: Global) -> Result<MapPlayer, Fail> {
-    let mut player: MapPlayer = Player::new(alloc);
-    play(rt, alloc, &mut player, &ALL)?;
-    assert_times(rt, &player, &ALL_TIMES)?;
-    Ok(player)
+/// Brings these routes to a new player.
+fn fill<S: PrefixStore<Rc<Route>>>(
+    rt: &impl Abort,
+    alloc: Global,
+    player: &mut Player<S>,
+) -> Result<(), Fail> {
+    play(rt, alloc, player, &ALL)?;
+    assert_times(rt, player, &ALL_TIMES)
 }
 
-fn undo(rt: &impl Abort, player: &mut MapPlayer) {
+fn undo<S: PrefixStore<Rc<Route>>>(rt: &impl Abort, player: &mut Player<S>) {
     assert!(rt; player.undo().is_ok());
 }
 
-#[test]
-fn peers_and_families_do_not_meet(rt: HostRuntime) -> Result<(), Fail> {
-    let mut player = filled(&rt, rt.alloc())?;
+fn peers_and_families_do_not_meet<S: PrefixStore<Rc<Route>>>(
+    rt: &impl Abort,
+    alloc: Global,
+    mut player: Player<S>,
+) -> Result<(), Fail> {
+    fill(rt, alloc, &mut player)?;
     let says = [
         Say::WithdrawOf(Who::Neighbour, "10.0.0.0/8"),
         Say::WithdrawOf(Who::Peer, "::/8"),
     ];
-    play(&rt, rt.alloc(), &mut player, &says)?;
+    play(rt, alloc, &mut player, &says)?;
     let times = [
         (Who::Peer, "0.0.0.0/8", Some(1)),
         (Who::Peer, "::/8", None),
@@ -76,38 +91,86 @@ fn peers_and_families_do_not_meet(rt: HostRuntime) -> Result<(), Fail> {
         (Who::Neighbour, "10.0.0.0/8", None),
         (Who::Neighbour, "::/8", Some(6)),
     ];
-    assert_times(&rt, &player, &times)?;
-    undo(&rt, &mut player);
-    assert_times(&rt, &player, &ALL_TIMES)
+    assert_times(rt, &player, &times)?;
+    undo(rt, &mut player);
+    assert_times(rt, &player, &ALL_TIMES)
 }
 
 #[test]
-fn a_lost_session_clears_both_families(rt: HostRuntime) -> Result<(), Fail> {
-    for state in [1, 2, 3, 4, 5, 7] {
-        let mut player = filled(&rt, rt.alloc())?;
-        play(&rt, rt.alloc(), &mut player, &[Say::State(6, state)])?;
-        assert_times(&rt, &player, &LEFT_TIMES)?;
-        undo(&rt, &mut player);
-        assert_times(&rt, &player, &ALL_TIMES)?;
+fn map_store_peers_and_families_do_not_meet(rt: HostRuntime) -> Result<(), Fail> {
+    peers_and_families_do_not_meet(&rt, rt.alloc(), MapPlayer::new(rt.alloc()))
+}
+
+#[test]
+fn radix_store_peers_and_families_do_not_meet(rt: HostRuntime) -> Result<(), Fail> {
+    peers_and_families_do_not_meet(&rt, rt.alloc(), RadixPlayer::new(rt.alloc()))
+}
+
+/// The states that a session falls to.
+const FALLEN: [u16; 6] = [1, 2, 3, 4, 5, 7];
+
+fn a_lost_session_clears_both_families<S: PrefixStore<Rc<Route>>>(
+    rt: &impl Abort,
+    alloc: Global,
+    mut player: Player<S>,
+    state: u16,
+) -> Result<(), Fail> {
+    fill(rt, alloc, &mut player)?;
+    play(rt, alloc, &mut player, &[Say::State(6, state)])?;
+    assert_times(rt, &player, &LEFT_TIMES)?;
+    undo(rt, &mut player);
+    assert_times(rt, &player, &ALL_TIMES)
+}
+
+#[test]
+fn map_store_a_lost_session_clears_both_families(rt: HostRuntime) -> Result<(), Fail> {
+    for state in FALLEN {
+        let player = MapPlayer::new(rt.alloc());
+        a_lost_session_clears_both_families(&rt, rt.alloc(), player, state)?;
     }
     Ok(())
 }
 
 #[test]
-fn other_states_clear_nothing(rt: HostRuntime) -> Result<(), Fail> {
-    let mut player = filled(&rt, rt.alloc())?;
+fn radix_store_a_lost_session_clears_both_families(rt: HostRuntime) -> Result<(), Fail> {
+    for state in FALLEN {
+        let player = RadixPlayer::new(rt.alloc());
+        a_lost_session_clears_both_families(&rt, rt.alloc(), player, state)?;
+    }
+    Ok(())
+}
+
+fn other_states_clear_nothing<S: PrefixStore<Rc<Route>>>(
+    rt: &impl Abort,
+    alloc: Global,
+    mut player: Player<S>,
+) -> Result<(), Fail> {
+    fill(rt, alloc, &mut player)?;
     for (old, new) in [(6, 6), (5, 6), (1, 6), (5, 1), (0, 1), (7, 1), (262, 1)] {
-        play(&rt, rt.alloc(), &mut player, &[Say::State(old, new)])?;
-        assert_times(&rt, &player, &ALL_TIMES)?;
+        play(rt, alloc, &mut player, &[Say::State(old, new)])?;
+        assert_times(rt, &player, &ALL_TIMES)?;
     }
     assert_eq!(rt; (player.at(), player.named()), (8, 6));
     Ok(())
 }
 
-/// Of the items that concern a pair the last decides, whether it names the prefix or the session.
 #[test]
-fn a_loss_stands_between_items(rt: HostRuntime) -> Result<(), Fail> {
-    let mut player = filled(&rt, rt.alloc())?;
+fn map_store_other_states_clear_nothing(rt: HostRuntime) -> Result<(), Fail> {
+    other_states_clear_nothing(&rt, rt.alloc(), MapPlayer::new(rt.alloc()))
+}
+
+#[test]
+fn radix_store_other_states_clear_nothing(rt: HostRuntime) -> Result<(), Fail> {
+    other_states_clear_nothing(&rt, rt.alloc(), RadixPlayer::new(rt.alloc()))
+}
+
+/// Of the items that concern a pair the last decides, whether it names the prefix or the session.
+fn a_loss_stands_between_items<S: PrefixStore<Rc<Route>>>(
+    rt: &impl Abort,
+    alloc: Global,
+    mut player: Player<S>,
+) -> Result<(), Fail> {
+    fill(rt, alloc, &mut player)?;
     let says = [
         Say::AnnounceOf(Who::Peer, "10.0.0.0/8", 11),
         Say::AnnounceOf(Who::Peer, "12.0.0.0/8", 12),
@@ -117,7 +180,7 @@ fn a_loss_stands_between_items(rt: HostRuntime) -> Result<(), Fail> {
         Say::AnnounceOf(Who::Peer, "13.0.0.0/8", 15),
         Say::WithdrawOf(Who::Peer, "13.0.0.0/8"),
     ];
-    play(&rt, rt.alloc(), &mut player, &says)?;
+    play(rt, alloc, &mut player, &says)?;
     let times = [
         (Who::Peer, "0.0.0.0/8", None),
         (Who::Peer, "::/8", None),
@@ -128,10 +191,20 @@ fn a_loss_stands_between_items(rt: HostRuntime) -> Result<(), Fail> {
         (Who::Neighbour, "10.0.0.0/8", Some(13)),
         (Who::Neighbour, "::/8", Some(6)),
     ];
-    assert_times(&rt, &player, &times)?;
+    assert_times(rt, &player, &times)?;
     // the four of the peer and one of the neighbour, and the six of the first step
     assert_eq!(rt; player.named(), 11);
     assert_eq!(rt; keys_of(&player, &peer_of(Who::Peer)), Some(4));
-    undo(&rt, &mut player);
-    assert_times(&rt, &player, &ALL_TIMES)
+    undo(rt, &mut player);
+    assert_times(rt, &player, &ALL_TIMES)
+}
+
+#[test]
+fn map_store_a_loss_stands_between_items(rt: HostRuntime) -> Result<(), Fail> {
+    a_loss_stands_between_items(&rt, rt.alloc(), MapPlayer::new(rt.alloc()))
+}
+
+#[test]
+fn radix_store_a_loss_stands_between_items(rt: HostRuntime) -> Result<(), Fail> {
+    a_loss_stands_between_items(&rt, rt.alloc(), RadixPlayer::new(rt.alloc()))
 }

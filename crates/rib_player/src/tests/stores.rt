@@ -1,5 +1,6 @@
 //! Stores that stand before another one.
 
+use super::HasNodes;
 use ip_prefix::{Addr, Prefix};
 use mrt_wire::Route;
 use rib_store::PrefixStore;
@@ -147,5 +148,11 @@ impl<S: PrefixStore<Rc<Route>>> PrefixStore<Rc<Route>> for Refusing<S> {
 
     fn route_count(&self) -> u64 {
         self.inner.route_count()
+    }
+}
+
+impl<S: HasNodes> HasNodes for Refusing<S> {
+    fn node_count(&self) -> Option<u64> {
+        self.inner.node_count()
     }
 }

@@ -1,9 +1,10 @@
 //! Generated calls of all kinds, which a store and a slow one answer alike.
 
 use super::listed::Listed;
-use super::{after, longest};
-use crate::{MapStore, PrefixStore};
+use super::{HasNodes, after, longest};
+use crate::{MapStore, PrefixStore, RadixStore};
 use ip_prefix::{Addr, Prefix};
+use std::alloc::Global;
 use std::process::Abort;
 use std::test::Fail;
 
@@ -12,11 +13,15 @@ const CALLS: u32 = 2000;
 
 /// Numbers that look drawn (Knuth's generator for MMIX).
 #[derive(Drop)]
-struct Drawn {
+pub(super) struct Drawn {
     state: u64,
 }
 
 impl Drawn {
+    pub(super) fn new(state: u64) -> Self {
+        Drawn { state }
+    }
+
     fn next(&mut self) -> u32 {
         self.state = self
             .state
@@ -29,7 +34,7 @@ impl Drawn {
         (self.next() & 0x81) as u8
     }
 
-    fn addr(&mut self) -> Addr {
+    pub(super) fn addr(&mut self) -> Addr {
         let (one, two) = (self.octet(), self.octet());
         if self.next() % 2 == 0 {
             Addr::v4([one, two, 0, 0])
@@ -38,20 +43,20 @@ impl Drawn {
         }
     }
 
-    fn prefix(&mut self) -> Result<Prefix, Fail> {
+    pub(super) fn prefix(&mut self) -> Result<Prefix, Fail> {
         let addr = self.addr();
         let len = (self.next() % 17) as u8;
         Ok(Prefix::new(addr, len).ok_or("a length that fits")?)
     }
 
-    fn route(&mut self) -> Option<u32> {
+    pub(super) fn route(&mut self) -> Option<u32> {
         let number = self.next();
         if number % 3 == 0 { None } else { Some(number) }
     }
 }
 
 /// Makes a change to both stores, and asserts that they answer alike.
-fn change<S: PrefixStore<u32>>(
+pub(super) fn change<S: PrefixStore<u32>>(
     rt: &impl Abort,
     store: &mut S,
     listed: &mut Listed,
@@ -112,15 +117,70 @@ fn compare<S: PrefixStore<u32>>(
     assert_eq!(rt; store.route_count(), listed.route_count());
 }
 
-#[test]
-fn answers_as_a_list_does(rt: HostRuntime) -> Result<(), Fail> {
-    let mut store = MapStore::new(rt.alloc());
-    let mut listed = Listed::new(rt.alloc());
-    let mut drawn = Drawn { state: 1 };
+/// Asserts that there are no more than two nodes a key.
+fn assert_few_nodes<S: PrefixStore<u32> + HasNodes>(rt: &impl Abort, store: &S) {
+    if let Some(nodes) = store.node_count() {
+        assert!(rt; nodes <= store.key_count().saturating_mul(2));
+    }
+}
+
+/// Walks over both stores from the least route to the end, and asserts that they come to the same.
+fn compare_walks<S: PrefixStore<u32>>(
+    rt: &impl Abort,
+    store: &S,
+    listed: &Listed,
+) -> Result<(), Fail> {
+    let mut last = None;
+    for _ in 0..listed.route_count() {
+        let found = after(store, last.as_ref());
+        assert!(rt; found == listed.after(last.as_ref()));
+        let (prefix, _) = found.ok_or("a route")?;
+        last = Some(prefix);
+    }
+    assert!(rt; after(store, last.as_ref()).is_none());
+    Ok(())
+}
+
+/// Takes the routes and the keys out of both stores, one key after another.
+fn take_all_out<S: PrefixStore<u32> + HasNodes>(
+    rt: &impl Abort,
+    store: &mut S,
+    listed: &mut Listed,
+) -> Result<(), Fail> {
+    for _ in 0..listed.key_count() {
+        let prefix = listed.any_key().ok_or("a key")?;
+        exchange(rt, store, listed, &prefix, None);
+        discard(rt, store, listed, &prefix);
+        assert_eq!(rt; store.key_count(), listed.key_count());
+        assert_few_nodes(rt, store);
+    }
+    assert_eq!(rt; store.key_count(), 0);
+    Ok(())
+}
+
+fn answers_as_a_list_does<S: PrefixStore<u32> + HasNodes>(
+    rt: &impl Abort,
+    alloc: Global,
+    mut store: S,
+) -> Result<(), Fail> {
+    let mut listed = Listed::new(alloc);
+    let mut drawn = Drawn::new(1);
     for _ in 0..CALLS {
         let prefix = drawn.prefix()?;
-        change(&rt, &mut store, &mut listed, &prefix, drawn.route())?;
-        compare(&rt, &store, &listed, &drawn.prefix()?, &drawn.addr());
+        change(rt, &mut store, &mut listed, &prefix, drawn.route())?;
+        compare(rt, &store, &listed, &drawn.prefix()?, &drawn.addr());
+        assert_few_nodes(rt, &store);
     }
-    Ok(())
+    compare_walks(rt, &store, &listed)?;
+    take_all_out(rt, &mut store, &mut listed)
+}
+
+#[test]
+fn map_store_answers_as_a_list_does(rt: HostRuntime) -> Result<(), Fail> {
+    answers_as_a_list_does(&rt, rt.alloc(), MapStore::new(rt.alloc()))
+}
+
+#[test]
+fn radix_store_answers_as_a_list_does(rt: HostRuntime) -> Result<(), Fail> {
+    answers_as_a_list_does(&rt, rt.alloc(), RadixStore::new(rt.alloc()))
 }

@@ -47,6 +47,14 @@ impl Listed {
         self.slots.iter().any(|slot| slot.0 == *prefix)
     }
 
+    /// A key, where there is one.
+    pub(super) fn any_key(&self) -> Option<Prefix> {
+        match self.slots.last() {
+            Some(slot) => Some(slot.0),
+            None => None,
+        }
+    }
+
     pub(super) fn ensure(&mut self, prefix: Prefix) -> Result<bool, AllocError> {
         let new = !self.has_key(&prefix);
         if new {

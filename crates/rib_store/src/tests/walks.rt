@@ -1,7 +1,8 @@
 //! Walks from the least route to the greatest.
 
 use super::{add, after, prefix_of};
-use crate::{MapStore, PrefixStore};
+use crate::{MapStore, PrefixStore, RadixStore};
+use std::process::Abort;
 use std::test::Fail;
 
 /// Prefixes in order, IPv4 first, a prefix before those that it covers. Those without a route are
@@ -19,11 +20,9 @@ const IN_ORDER: [(&str, Option<u32>); 10] = [
     ("ffff:ffff:ffff:ffff:ffff:ffff:ffff:ffff/128", None),
 ];
 
-#[test]
-fn walks_in_order(rt: HostRuntime) -> Result<(), Fail> {
-    let mut store = MapStore::new(rt.alloc());
+fn walks_in_order<S: PrefixStore<u32>>(rt: &impl Abort, mut store: S) -> Result<(), Fail> {
     for (text, route) in IN_ORDER.iter().rev() {
-        add(&rt, &mut store, &prefix_of(text)?, *route)?;
+        add(rt, &mut store, &prefix_of(text)?, *route)?;
     }
     let mut last = None;
     for (text, route) in IN_ORDER {
@@ -40,10 +39,18 @@ fn walks_in_order(rt: HostRuntime) -> Result<(), Fail> {
 }
 
 #[test]
-fn starts_anywhere(rt: HostRuntime) -> Result<(), Fail> {
-    let mut store = MapStore::new(rt.alloc());
+fn map_store_walks_in_order(rt: HostRuntime) -> Result<(), Fail> {
+    walks_in_order(&rt, MapStore::new(rt.alloc()))
+}
+
+#[test]
+fn radix_store_walks_in_order(rt: HostRuntime) -> Result<(), Fail> {
+    walks_in_order(&rt, RadixStore::new(rt.alloc()))
+}
+
+fn starts_anywhere<S: PrefixStore<u32>>(rt: &impl Abort, mut store: S) -> Result<(), Fail> {
     for (text, route) in IN_ORDER {
-        add(&rt, &mut store, &prefix_of(text)?, route)?;
+        add(rt, &mut store, &prefix_of(text)?, route)?;
     }
     for (low, text, route) in [
         ("0.0.0.0/0", "10.0.0.0/8", 1),
@@ -60,4 +67,14 @@ fn starts_anywhere(rt: HostRuntime) -> Result<(), Fail> {
     let low = prefix_of("2001:db8::/33")?;
     assert!(rt; after(&store, Some(&low)).is_none());
     Ok(())
+}
+
+#[test]
+fn map_store_starts_anywhere(rt: HostRuntime) -> Result<(), Fail> {
+    starts_anywhere(&rt, MapStore::new(rt.alloc()))
+}
+
+#[test]
+fn radix_store_starts_anywhere(rt: HostRuntime) -> Result<(), Fail> {
+    starts_anywhere(&rt, RadixStore::new(rt.alloc()))
 }

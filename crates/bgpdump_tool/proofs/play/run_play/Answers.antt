@@ -4,11 +4,11 @@ use Rattle.bgpdump_tool.proofs.play.run_play.Goals as goal
 
 pub returns-in-Ok-clause-text : goal.returns-in-Ok-clause-text
 returns-in-Ok-clause-text g c = λ short.
-    PlayEnds-finished c.args.stamp _ _ c.args.script.now _ _ _ _ (g.O.Output.failed c.finish.new.out || g.E.Output.failed c.finish.new.err) c.finish.result c.new-session.ensures.source c.in-Ok.ensures.plays c.finish.ensures.outcome c.finish.ensures.out c.finish.ensures.err
+    PlayEnds-finished c.args.stamp _ _ c.args.script.now _ _ _ _ (g.O.Output.failed c.finish_outputs.new.out || g.E.Output.failed c.finish_outputs.new.err) c.finish_outputs.result c.new-session.ensures.source c.in-Ok.ensures.plays c.finish_outputs.ensures.outcome c.finish_outputs.ensures.out c.finish_outputs.ensures.err
 
 pub returns-in-Ok-clause-taken : goal.returns-in-Ok-clause-taken
 returns-in-Ok-clause-taken g c = λ short.
-    IsTaken-finished c.args.stamp _ _ c.args.script.now _ _ _ (g.O.Output.failed c.finish.new.out || g.E.Output.failed c.finish.new.err) c.finish.result c.new-session.ensures.source c.in-Ok.ensures.plays c.finish.ensures.outcome
+    IsTaken-finished c.args.stamp _ _ c.args.script.now _ _ _ (g.O.Output.failed c.finish_outputs.new.out || g.E.Output.failed c.finish_outputs.new.err) c.finish_outputs.result c.new-session.ensures.source c.in-Ok.ensures.plays c.finish_outputs.ensures.outcome
 
 pub returns-clause-text : goal.returns-clause-text
 returns-clause-text g c = λ short. PlayEnds-stopped c.args.stamp _ _ c.args.script.now _ _ _ c.in-Err.outcome c.new-session.ensures.source c.in-Err.ensures.plays
@@ -24,7 +24,7 @@ returns-clause-too_long g c = length-ended c.args.stamp _ _ c.args.script.now _ 
 
 pub returns-in-Ok-clause-wanted : goal.returns-in-Ok-clause-wanted
 returns-in-Ok-clause-wanted g c =
-    TakesWanted-finished c.args.stamp _ _ c.args.script.now _ _ _ (g.O.Output.failed c.finish.new.out || g.E.Output.failed c.finish.new.err) c.finish.result c.new-session.ensures.source c.in-Ok.ensures.plays c.finish.ensures.outcome
+    TakesWanted-finished c.args.stamp _ _ c.args.script.now _ _ _ (g.O.Output.failed c.finish_outputs.new.out || g.E.Output.failed c.finish_outputs.new.err) c.finish_outputs.result c.new-session.ensures.source c.in-Ok.ensures.plays c.finish_outputs.ensures.outcome
 
 pub returns-clause-wanted : goal.returns-clause-wanted
 returns-clause-wanted g c = TakesWanted-stopped c.args.stamp _ _ c.args.script.now _ _ _ c.in-Err.outcome c.new-session.ensures.source c.in-Err.ensures.plays

@@ -2,7 +2,7 @@
 use Rattle.std.proofs.Common.{◌≡◌, ℕ, ◌+◌, ◌-◌, List, Option}
 use Rattle.mrt_wire.specs.Place.{Place}
 use Rattle.rib_player.specs.Timeline.{ahead_of}
-use Rattle.bgpdump_tool.specs.declared.dump.TheConstants.{LIMIT}
+use Rattle.bgpdump_lines.specs.declared.dump.TheConstants.{LIMIT}
 use Rattle.bgpdump_tool.specs.Standing.{Standing, Stands, HasRoom, scene_of}
 use Rattle.bgpdump_tool.proofs.MoveLaws.{Reaches}
 use Rattle.bgpdump_tool.proofs.commands.goto.onward.Given as goal

@@ -1,6 +1,6 @@
 use Rattle.std.proofs.Common.{inl, subst, codes}
 use Rattle.bgpdump_tool.specs.Replies.{counted_text}
-use Rattle.bgpdump_tool.specs.Writing.{PutsPart}
+use Rattle.bgpdump_lines.specs.Writing.{PutsPart}
 use Rattle.bgpdump_tool.proofs.CarryLaws.{PutsPart-put}
 use Rattle.bgpdump_tool.proofs.commands.lose.lose.Goals as goal
 

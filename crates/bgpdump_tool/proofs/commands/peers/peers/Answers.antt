@@ -8,9 +8,9 @@ use Rattle.rib_store.proofs.AboveLaws.{none-above}
 use Rattle.rib_store.specs.Stored.{counted}
 use Rattle.rib_player.specs.Store.{peer_routes, routed_peers, peers_above}
 use Rattle.rib_player.proofs.PeerLaws.{all-peers, peers-next, peers-in_order}
-use Rattle.bgpdump_tool.specs.Device.{AppendsFront}
+use Rattle.bgpdump_lines.specs.Device.{AppendsFront}
 use Rattle.bgpdump_tool.specs.Replies.{peer_line, peer_line_of}
-use Rattle.bgpdump_tool.specs.Writing.{Puts}
+use Rattle.bgpdump_lines.specs.Writing.{Puts}
 use Rattle.bgpdump_tool.proofs.WalkLaws.{Walked-start, Walked-next, Walked-end, Walked-stops, found_with, some_first, lines_of_some}
 use Rattle.bgpdump_tool.proofs.commands.peers.peers.Given.{Over}
 use Rattle.bgpdump_tool.proofs.commands.peers.peers.Goals as goal

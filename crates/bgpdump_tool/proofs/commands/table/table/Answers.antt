@@ -11,8 +11,8 @@ use Rattle.rib_store.specs.Stored.{above, counted}
 use Rattle.rib_store.proofs.AboveLaws.{above-none, above-next, none-above, routes_sorted}
 use Rattle.rib_player.specs.Store.{peer_routes}
 use Rattle.bgpdump_tool.specs.Replies.{rib_line, routes_line}
-use Rattle.bgpdump_tool.specs.Writing.{Puts}
-use Rattle.bgpdump_tool.proofs.WritingLaws.{AppendsFront-longer}
+use Rattle.bgpdump_lines.specs.Writing.{Puts}
+use Rattle.bgpdump_lines.proofs.WritingLaws.{AppendsFront-longer}
 use Rattle.bgpdump_tool.proofs.WalkLaws.{Walked-start, Walked-next, Walked-end, Walked-stops, PutsPart-behind}
 use Rattle.bgpdump_tool.proofs.commands.table.table.Given.{Over}
 use Rattle.bgpdump_tool.proofs.commands.table.table.Goals as goal

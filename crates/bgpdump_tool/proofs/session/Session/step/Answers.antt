@@ -1,10 +1,12 @@
-use Rattle.std.proofs.Common.{rules, arith, ap, subst, refl, ◌∙◌, ◌<◌, [], ◌∷◌}
+use Rattle.std.proofs.Common.{rules, arith, ap, subst, refl, ◌≡◌, ◌∙◌, ◌<◌, true, [], ◌∷◌}
 use Rattle.std.proofs.lemmas.Result.{err_from_is_err_and}
+use Rattle.std.specs.Result.{is_ok}
 use Rattle.mrt_wire.specs.declared.next.Next.TheVariants as next
 use Rattle.mrt_wire.specs.Results.{Found, Bad}
 use Rattle.mrt_wire.proofs.SoFarLaws.{Promises, told_by}
 use Rattle.rib_player.specs.Timeline.{end_of}
-use Rattle.bgpdump_tool.proofs.StepLaws.{redo_off, step_over, step_found, step_bad, step_end, step_stops_reading, step_stops_playing, step_stops_reporting}
+use Rattle.bgpdump_lines.specs.declared.outcome.Outcome.TheVariants as outcome
+use Rattle.bgpdump_tool.proofs.StepLaws.{redo_off, after_ok, step_over, step_found, step_bad, step_end, step_stops_reading, step_stops_playing, step_stops_reporting}
 use Rattle.bgpdump_tool.proofs.session.Session.step.Goals as goal
 
 pub returns-then-is_ok-clause-moves : goal.returns-then-is_ok-clause-moves
@@ -23,15 +25,16 @@ play-requires g c =
     let off : ¬ (c.args.self.now.player.cursor < end_of c.args.self.now.player) = search rules in
     omega (arith, c.requires.room.cursor, c.requires.room.steps, c.requires.room.within, c.requires.room.limit, ap (λ t. t.cursor) (c.redo.ensures.after_redo ∙ redo_off c.args.self.now.player off))
 
-pub returns-in_err-play-in-Event-clause-moves : goal.returns-in_err-play-in-Event-clause-moves
-returns-in_err-play-in-Event-clause-moves g c = λ from left s stands.
+pub returns-in_err-map_err-in-Event-clause-moves : goal.returns-in_err-map_err-in-Event-clause-moves
+returns-in_err-map_err-in-Event-clause-moves g c = λ from left s stands.
     let off : ¬ (c.args.self.now.player.cursor < end_of c.args.self.now.player) = search rules in
-    let p = err_from_is_err_and c.from_residual-in_err-play-in-Event.result c.from_residual-in_err-play-in-Event.ensures.1 in
+    let p = err_from_is_err_and c.from_residual-in_err-map_err-in-Event.result c.from_residual-in_err-map_err-in-Event.ensures.1 in
     let promised : Promises c.args.self.now.source c.next.new.self (g.I.Input.left c.args.input.now) (g.I.Input.left c.next.new.input) c.in_ok-event.field-0 =
     (c.in_ok-event.ensures.next, λ e. (ap told_by (c.in_ok-event.ensures.ended e).0, (c.in_ok-event.ensures.ended e).1, ap g.I.Input.left (c.in_ok-event.ensures.ended e).2)) in
     let promised' : Promises c.args.self.now.source c.next.new.self (g.I.Input.left c.args.input.now) (g.I.Input.left c.next.new.input) (next.Event c.in-Event.event) =
     subst (Promises c.args.self.now.source c.next.new.self (g.I.Input.left c.args.input.now) (g.I.Input.left c.next.new.input)) c.in-Event.is promised in
-    rw (p.1, p.2) (step_stops_playing from left _ s c.play.new.self c.next.new.self (g.I.Input.left c.next.new.input) c.in-Event.event stands off promised' c.next.ensures.within)
+    let memory : c.in_err-map_err-in-Event.field-0.0 ≡ outcome.Memory = search rules in
+    rw (p.1, p.2, memory) (step_stops_playing from left _ s c.play.new.self c.next.new.self (g.I.Input.left c.next.new.input) c.in-Event.event stands off promised' c.next.ensures.within)
 
 pub returns-in_err-write_report-in-Bad-clause-moves :
     goal.returns-in_err-write_report-in-Bad-clause-moves
@@ -44,14 +47,15 @@ returns-in_err-write_report-in-Bad-clause-moves g c = λ from left s stands.
     subst (Promises c.args.self.now.source c.next.new.self (g.I.Input.left c.args.input.now) (g.I.Input.left c.next.new.input)) c.in-Bad.is promised in
     rw (p.1, p.2) (step_stops_reporting from left _ s c.redo.new.self c.next.new.self (g.I.Input.left c.next.new.input) (g.E.Output.written c.write_report.new.err) c.in-Bad.fault c.in_err-write_report-in-Bad.field-0.0 stands off promised' c.next.ensures.within c.in_err-write_report-in-Bad.ensures.text)
 
-pub returns-in_ok-play-in-Event-clause-moves : goal.returns-in_ok-play-in-Event-clause-moves
-returns-in_ok-play-in-Event-clause-moves g c = λ from left s stands.
+pub returns-in_ok-map_err-in-Event-clause-moves : goal.returns-in_ok-map_err-in-Event-clause-moves
+returns-in_ok-map_err-in-Event-clause-moves g c = λ from left s stands.
     let off : ¬ (c.args.self.now.player.cursor < end_of c.args.self.now.player) = search rules in
     let promised : Promises c.args.self.now.source c.next.new.self (g.I.Input.left c.args.input.now) (g.I.Input.left c.next.new.input) c.in_ok-event.field-0 =
     (c.in_ok-event.ensures.next, λ e. (ap told_by (c.in_ok-event.ensures.ended e).0, (c.in_ok-event.ensures.ended e).1, ap g.I.Input.left (c.in_ok-event.ensures.ended e).2)) in
     let promised' : Promises c.args.self.now.source c.next.new.self (g.I.Input.left c.args.input.now) (g.I.Input.left c.next.new.input) (next.Event c.in-Event.event) =
     subst (Promises c.args.self.now.source c.next.new.self (g.I.Input.left c.args.input.now) (g.I.Input.left c.next.new.input)) c.in-Event.is promised in
-    (0, Found c.in-Event.event ∷ [], refl, step_found from left _ s c.redo.new.self c.play.new.self c.next.new.self (g.I.Input.left c.next.new.input) c.in-Event.event stands c.redo.ensures.after_redo off c.in_ok-play-in-Event.ensures.after_play promised' c.next.ensures.within)
+    let played : is_ok c.play.result ≡ true = search rules in
+    (0, Found c.in-Event.event ∷ [], refl, step_found from left _ s c.redo.new.self c.play.new.self c.next.new.self (g.I.Input.left c.next.new.input) c.in-Event.event stands c.redo.ensures.after_redo off (after_ok c.play.result played c.play.ensures.after_play) promised' c.next.ensures.within)
 
 pub returns-in_ok-write_report-in-Bad-clause-moves :
     goal.returns-in_ok-write_report-in-Bad-clause-moves

@@ -1,0 +1,5 @@
+pub mod LineLaws
+pub mod HeldLaws
+pub mod EndLaws
+pub mod RunLaws
+pub mod WritingLaws

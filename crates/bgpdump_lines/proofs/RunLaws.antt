@@ -1,0 +1,140 @@
+-- A run goes on.
+use Rattle.std.proofs.Common.{◌≡◌, inl, inr, ℕ, ◌+◌, ◌≤◌, length, Result, Ok, Err, arith, append-nil, Bool, true, false, List, [], ◌∷◌, ◌++◌, ◌||◌, Option, sym, ap, ◌∙◌, refl, subst}
+use Rattle.std.proofs.KnownBytes.{Appends-nil}
+use Rattle.mrt_wire.specs.declared.next.Next.{Next}
+use Rattle.std.specs.Io.KnownBytes.{Consumes}
+use Rattle.mrt_wire.specs.declared.fault.SourceFault.{SourceFault}
+use Rattle.mrt_wire.specs.declared.next.Next.TheVariants as next
+use Rattle.mrt_wire.specs.declared.next.Phase.{Phase}
+use Rattle.mrt_wire.specs.declared.next.Phase.TheVariants.{Reading, Ended, Spent}
+use Rattle.mrt_wire.specs.Device.{Stops}
+use Rattle.mrt_wire.specs.Results.{Finding, Found, Bad}
+use Rattle.mrt_wire.specs.Place.{Place}
+use Rattle.mrt_wire.specs.Next.{answer_findings, Nexts}
+use Rattle.mrt_wire.specs.SoFar.{SoFar, RestSoFar, is_nothing}
+use Rattle.mrt_wire.proofs.SoFarLaws.{SoFar-start, SoFar-answer, ends_with_none, Promises}
+use Rattle.bgpdump_lines.specs.declared.fault.WriteFault.{WriteFault}
+use Rattle.bgpdump_lines.specs.declared.fault.WriteFault.TheVariants.{Write, Memory}
+use Rattle.bgpdump_lines.specs.Reports.{dump_texts}
+use Rattle.bgpdump_lines.specs.Run.{Outputs, Writes, WritesFronts}
+use Rattle.bgpdump_lines.specs.Writing.{PutsFound, is_any_bad}
+use Rattle.bgpdump_lines.specs.Going.{Going, Untold, IsFaulty, StopsAtSource, StopsAtWriting}
+use Rattle.bgpdump_lines.proofs.WritingLaws.{dump_texts-append, Writes-append, WritesFronts-behind}
+
+pub is_any_bad-append : (found more : List Finding) → is_any_bad (found ++ more) ≡ (is_any_bad found || is_any_bad more)
+is_any_bad-append [] more = refl
+is_any_bad-append (Found event ∷ found) more = is_any_bad-append found more
+is_any_bad-append (Bad fault ∷ found) more = refl
+
+pub Going-start : (p q : Place) (left : Option (List ℕ)) (outputs : Outputs) → q ≡ p → p.phase ≡ Reading → p.offset ≤ p.limit → Going p q left left outputs outputs false
+Going-start p q left outputs same reading within = subst (λ q. Going p q left left outputs outputs false) (sym same) (record {
+  found = [];
+  so_far = SoFar-start p left reading;
+  written = (Appends-nil outputs.out, Appends-nil outputs.err);
+  reported_is = refl;
+  within = within;
+})
+
+-- an answer more was written
+pub Going-answer : (p q q' : Place) (left left' left'' : Option (List ℕ)) (a b c : Outputs) (reported now : Bool) (answer : Next) → Going p q left left' a b reported → Promises q q' left' left'' answer
+    → Writes (dump_texts (answer_findings answer)) b c → now ≡ is_any_bad (answer_findings answer) → q'.offset ≤ q'.limit → Going p q' left left'' a c (reported || now)
+Going-answer p q q' left left' left'' a b c reported now answer g promised writes is_now within =
+    let so_far = SoFar-answer p q q' left left' left'' g.found answer g.so_far promised in
+    record {
+      found = g.found ++ answer_findings answer;
+      so_far = so_far;
+      written = subst (λ t. Writes t a c) (dump_texts-append g.found (answer_findings answer)) (Writes-append (dump_texts g.found) (dump_texts (answer_findings answer)) a b c g.written writes);
+      reported_is = (λ i. g.reported_is i || is_now i) ∙ sym (is_any_bad-append g.found (answer_findings answer));
+      within = omega (arith, within, so_far.limit);
+    }
+
+-- an answer that tells nothing ends the run
+pub Going-end : (p q q' : Place) (left left' left'' : Option (List ℕ)) (a b : Outputs) (reported : Bool) (answer : Next) → Going p q left left' a b reported → Promises q q' left' left'' answer
+    → is_nothing (answer_findings answer) ≡ true → q'.offset ≤ q'.limit → (x : Place) × (x.phase ≡ Ended) × Going p x left left'' a b reported
+Going-end p q q' left left' left'' a b reported answer g promised none within =
+    let nothing : answer_findings answer ≡ [] = none_told (answer_findings answer) none in
+    let so_far = subst (λ f. SoFar p q' left left'' f) (ap (λ l. g.found ++ l) nothing ∙ append-nil g.found) (SoFar-answer p q q' left left' left'' g.found answer g.so_far promised) in (
+      q',
+      ends_with_none p q q' left left' left'' g.found answer g.so_far promised none,
+      record { found = g.found; so_far = so_far; written = g.written; reported_is = g.reported_is; within = omega (arith, within, so_far.limit) },
+    )
+  where
+    none_told : (found : List Finding) → is_nothing found ≡ true → found ≡ []
+    none_told [] e = refl
+    none_told (f ∷ found) e = cc
+
+-- octets more were taken, of which nothing is told
+abbrev pub Untold-behind : (p q : Place) (left left' left'' : Option (List ℕ)) (found : List Finding) (octets : List ℕ) → SoFar p q left left' found → q.phase ≡ Reading → Consumes left' left'' octets
+    → q.offset + length octets ≤ p.limit → Untold p left left'' found
+Untold-behind p q left left' left'' found octets s reading taken within = record {
+  place = q;
+  mid = left';
+  so_far = s;
+  reading = reading;
+  octets = octets;
+  consumed = taken;
+  within = within;
+}
+
+-- the source stops
+pub IsFaulty-behind : (p q q' : Place) (left left' left'' : Option (List ℕ)) (found : List Finding) (fault : SourceFault) → SoFar p q left left' found
+    → (q.phase ≡ Reading → (octets : List ℕ) × Consumes left' left'' octets × Nexts q q' left'' octets (Err fault)) → (q.phase ≡ Ended → ◌≡◌ {A = Result Next SourceFault} (Err fault) (Ok next.End)) → q'.offset ≤ q'.limit
+    → IsFaulty p left left'' found fault
+IsFaulty-behind p q q' left left' left'' found fault s promised ended within = by_phase q.phase refl s.rest_is
+  where
+    at : q.phase ≡ Reading → (octets : List ℕ) × Consumes left' left'' octets × Nexts q q' left'' octets (Err fault) → IsFaulty p left left'' found fault
+    at is (octets, taken, (left_over, stops, place)) = record {
+      untold = Untold-behind p q left left' left'' found octets s is taken (omega (arith, within, ap (λ x. x.offset) place, ap (λ x. x.limit) place, s.limit));
+      left_over = left_over;
+      full = subst (λ n. Stops fault n p.limit) (ap (λ x. x.offset) place) (subst (λ n. Stops fault q'.offset n) s.limit stops);
+    }
+
+    by_phase : (phase : Phase) → q.phase ≡ phase → RestSoFar phase left' s.rest → IsFaulty p left left'' found fault
+    by_phase Reading is rest = at is (promised is)
+    by_phase Ended is rest = absurd (clash (ended is))
+      where
+        clash : ◌≡◌ {A = Result Next SourceFault} (Err fault) (Ok next.End) → ⊥
+        clash e = cc
+    by_phase Spent is rest = absurd rest
+
+-- and with it the run
+pub Stops-source : (p q q' : Place) (left left' left'' : Option (List ℕ)) (a b : Outputs) (reported : Bool) (fault : SourceFault) → Going p q left left' a b reported
+    → (q.phase ≡ Reading → (octets : List ℕ) × Consumes left' left'' octets × Nexts q q' left'' octets (Err fault)) → (q.phase ≡ Ended → ◌≡◌ {A = Result Next SourceFault} (Err fault) (Ok next.End)) → q'.offset ≤ q'.limit
+    → StopsAtSource p left left'' a b fault
+Stops-source p q q' left left' left'' a b reported fault g promised ended within = record {
+  found = g.found;
+  faulty = IsFaulty-behind p q q' left left' left'' g.found fault g.so_far promised ended within;
+  written = g.written;
+}
+
+-- the writing stops the run, at an answer that tells something
+pub Stops-writing : (p q q' : Place) (left left' left'' : Option (List ℕ)) (a b c : Outputs) (reported : Bool) (answer : Next) (fault : WriteFault) → Going p q left left' a b reported → Promises q q' left' left'' answer
+    → is_nothing (answer_findings answer) ≡ false → PutsFound {A = Bool} (answer_findings answer) b c (Err fault) → q'.offset ≤ q'.limit → StopsAtWriting p left left'' a c fault
+Stops-writing p q q' left left' left'' a b c reported answer Write g promised some fronts within =
+    let so_far = SoFar-answer p q q' left left' left'' g.found answer g.so_far promised in
+    record {
+      place = q';
+      found = g.found ++ answer_findings answer;
+      so_far = so_far;
+      within = omega (arith, within, so_far.limit);
+      fronts = subst (λ t. WritesFronts t a c) (dump_texts-append g.found (answer_findings answer)) (WritesFronts-behind (dump_texts g.found) (dump_texts (answer_findings answer)) a b c g.written fronts);
+    }
+Stops-writing p q q' left left' left'' a b c reported answer Memory g promised some same within = subst (λ x. StopsAtWriting p left left'' a x Memory) (sym same) (by_phase q.phase refl g.so_far.rest_is)
+  where
+    by_answer : q.phase ≡ Reading → (octets : List ℕ) × Consumes left' left'' octets × Nexts q q' left'' octets (Ok answer) → StopsAtWriting p left left'' a b Memory
+    by_answer is (octets, taken, inl (frame, at)) = (
+      record { found = g.found; untold = Untold-behind p q left left' left'' g.found octets g.so_far is taken (omega (arith, within, ap length at.whole, ap (λ x. x.offset) at.place, ap (λ x. x.limit) at.place, g.so_far.limit)); written = g.written },
+      inr (frame.mrt, at.is_record, at.whole),
+    )
+    by_answer is (octets, taken, inr at) = (
+      record { found = g.found; untold = Untold-behind p q left left' left'' g.found octets g.so_far is taken (omega (arith, within, ap (λ x. x.offset) at.place, ap (λ x. x.limit) at.place, g.so_far.limit)); written = g.written },
+      inl at.ends.rest,
+    )
+
+    by_phase : (phase : Phase) → q.phase ≡ phase → RestSoFar phase left' g.so_far.rest → StopsAtWriting p left left'' a b Memory
+    by_phase Reading is rest = by_answer is (promised.0 is)
+    by_phase Ended is rest = absurd (none (sym (ap is_nothing (promised.1 is).0) ∙ some))
+      where
+        none : true ≡ false → ⊥
+        none e = cc
+    by_phase Spent is rest = absurd rest

@@ -1,0 +1,77 @@
+-- What lines and reports do to two outputs.
+use Rattle.std.proofs.Common.{◌≡◌, ℕ, Bool, List, [], ◌∷◌, ◌++◌, Option, Err, sym, ap, ◌∙◌, refl, subst, append-nil}
+use Rattle.std.proofs.lemmas.List.{append_assoc}
+use Rattle.std.proofs.lemmas.Grind.{flat_map-append}
+use Rattle.std.specs.Io.KnownBytes.{Appends}
+use Rattle.std.proofs.KnownBytes.{Appends-nil, Appends-trans}
+use Rattle.mrt_wire.specs.declared.event.Event.{Event}
+use Rattle.mrt_wire.specs.declared.fault.RecordFault.{RecordFault}
+use Rattle.mrt_wire.specs.Results.{Finding, Found, Bad}
+use Rattle.bgpdump_lines.specs.declared.fault.WriteFault.{WriteFault}
+use Rattle.bgpdump_lines.specs.declared.fault.WriteFault.TheVariants.{Write, Memory}
+use Rattle.bgpdump_lines.specs.Device.{AppendsFront}
+use Rattle.bgpdump_lines.specs.Lines.{event_lines}
+use Rattle.bgpdump_lines.specs.Reports.{fault_report, finding_lines, finding_report, dump_texts}
+use Rattle.bgpdump_lines.specs.Run.{Texts, joined_texts, Outputs, Writes, WritesFronts}
+use Rattle.bgpdump_lines.specs.Writing.{Puts, PutsFound}
+
+-- an output that was left alone has a front of any text
+pub AppendsFront-none : (known : Option (List ℕ)) (text : List ℕ) → AppendsFront known known text
+AppendsFront-none known text = record { front = []; back = text; whole = refl; appended = Appends-nil known }
+
+-- the texts of what was found first, and of what was found then
+pub dump_texts-append : (found more : List Finding) → joined_texts (dump_texts found) (dump_texts more) ≡ dump_texts (found ++ more)
+dump_texts-append found more = λ i. record { out = sym (flat_map-append finding_lines found more) i; err = sym (flat_map-append finding_report found more) i }
+
+pub Writes-report : (out err err' : Option (List ℕ)) (fault : RecordFault) → Appends err err' (fault_report fault)
+    → Writes (dump_texts (Bad fault ∷ [])) (record { out = out; err = err }) (record { out = out; err = err' })
+Writes-report out err err' fault appended = (Appends-nil out, subst (Appends err err') (sym (append-nil (fault_report fault))) appended)
+
+-- the lines of an event that a fault stopped
+pub PutsFound-lines : (out out' err : Option (List ℕ)) (event : Event) (fault : WriteFault) → Puts {A = Unit {0}} out out' (event_lines event) (Err fault)
+    → PutsFound {A = Bool} (Found event ∷ []) (record { out = out; err = err }) (record { out = out'; err = err }) (Err fault)
+PutsFound-lines out out' err event Write put = (subst (AppendsFront out out') (sym (append-nil (event_lines event))) put, AppendsFront-none err [])
+PutsFound-lines out out' err event Memory same = ap (λ known. record { out = known; err = err }) same
+
+-- the report of a record's fault that a fault of the writing stopped
+pub PutsFound-report : (out err err' : Option (List ℕ)) (bad : RecordFault) (fault : WriteFault) → Puts {A = Unit {0}} err err' (fault_report bad) (Err fault)
+    → PutsFound {A = Bool} (Bad bad ∷ []) (record { out = out; err = err }) (record { out = out; err = err' }) (Err fault)
+PutsFound-report out err err' bad Write put = (AppendsFront-none out [], subst (AppendsFront err err') (sym (append-nil (fault_report bad))) put)
+PutsFound-report out err err' bad Memory same = ap (λ known. record { out = out; err = known }) same
+
+-- texts that were written one behind the other
+pub Writes-append : (t u : Texts) (a b c : Outputs) → Writes t a b → Writes u b c → Writes (joined_texts t u) a c
+Writes-append t u a b c p q = (Appends-trans a.out b.out c.out t.out u.out p.0 q.0, Appends-trans a.err b.err c.err t.err u.err p.1 q.1)
+
+-- a front behind a whole text
+pub AppendsFront-behind : (a b c : Option (List ℕ)) (text more : List ℕ) → Appends a b text → AppendsFront b c more → AppendsFront a c (text ++ more)
+AppendsFront-behind a b c text more p q = record {
+  front = text ++ q.front;
+  back = q.back;
+  whole = ap (λ l. text ++ l) q.whole ∙ sym (append_assoc text q.front q.back);
+  appended = Appends-trans a b c text q.front p q.appended;
+}
+
+-- fronts behind whole texts
+pub WritesFronts-behind : (t u : Texts) (a b c : Outputs) → Writes t a b → WritesFronts u b c → WritesFronts (joined_texts t u) a c
+WritesFronts-behind t u a b c p q = (AppendsFront-behind a.out b.out c.out t.out u.out p.0 q.0, AppendsFront-behind a.err b.err c.err t.err u.err p.1 q.1)
+
+-- a front of a text is one of a longer text
+pub AppendsFront-longer : (a b : Option (List ℕ)) (text more : List ℕ) → AppendsFront a b text → AppendsFront a b (text ++ more)
+AppendsFront-longer a b text more p = record {
+  front = p.front;
+  back = p.back ++ more;
+  whole = ap (λ l. l ++ more) p.whole ∙ append_assoc p.front p.back more;
+  appended = p.appended;
+}
+
+-- fronts of texts are fronts of longer ones
+pub WritesFronts-longer : (t u : Texts) (a b : Outputs) → WritesFronts t a b → WritesFronts (joined_texts t u) a b
+WritesFronts-longer t u a b p = (AppendsFront-longer a.out b.out t.out u.out p.0, AppendsFront-longer a.err b.err t.err u.err p.1)
+
+-- whole texts are fronts
+pub WritesFronts-whole : (t : Texts) (a b : Outputs) → Writes t a b → WritesFronts t a b
+WritesFronts-whole t a b p = (
+  record { front = t.out; back = []; whole = sym (append-nil t.out); appended = p.0 },
+  record { front = t.err; back = []; whole = sym (append-nil t.err); appended = p.1 },
+)

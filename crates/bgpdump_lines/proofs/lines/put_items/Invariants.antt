@@ -1,0 +1,12 @@
+-- The lines of the items so far, the last of which the text ends in where it is remembered.
+use Rattle.std.proofs.Common.{◌≡◌, ◌++◌, take}
+use Rattle.std.specs.List.{flat_map}
+use Rattle.std.specs.Option.{IfSome}
+use Rattle.mrt_wire.specs.Event.{saying}
+use Rattle.bgpdump_lines.specs.Lines.{EndsIn, item_line}
+use Rattle.bgpdump_lines.proofs.lines.put_items.Given as goal
+
+abbrev pub invariant-items : goal.invariant-items
+invariant-items l =
+    (l.text.items ≡ l.initial.text.items ++ flat_map (λ item. item_line l.event.time l.event.tag (saying item)) (take l.item-index l.items))
+    × IfSome l.last (λ line. EndsIn l.event.time l.event.tag line l.text.items)

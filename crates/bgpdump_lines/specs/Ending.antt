@@ -1,0 +1,53 @@
+-- How a run ends at a fault.
+use Rattle.std.specs.Prelude.{Bool, true, false, Result, Ok, Err}
+use Rattle.mrt_wire.specs.declared.fault.SourceFault.{SourceFault}
+use Rattle.mrt_wire.specs.declared.fault.SourceFault.TheVariants as source
+use Rattle.bgpdump_lines.specs.declared.fault.WriteFault.{WriteFault}
+use Rattle.bgpdump_lines.specs.declared.fault.WriteFault.TheVariants as write
+use Rattle.bgpdump_lines.specs.declared.outcome.Outcome.{Outcome}
+use Rattle.bgpdump_lines.specs.declared.outcome.Outcome.TheVariants as outcome
+
+-- by a fault of the source
+abbrev pub source_outcome : SourceFault → Outcome
+source_outcome source.Read = outcome.ReadFault
+source_outcome source.InputTooLong = outcome.InputTooLong
+source_outcome source.Memory = outcome.Memory
+source_outcome source.Spent = outcome.Memory
+
+-- by one of the writing
+abbrev pub write_outcome : WriteFault → Outcome
+write_outcome write.Write = outcome.WriteFault
+write_outcome write.Memory = outcome.Memory
+
+-- the same for what was answered
+abbrev pub outcome_result : {A : Type 0} → Result A WriteFault → Result A Outcome
+outcome_result (Ok done) = Ok done
+outcome_result (Err fault) = Err (write_outcome fault)
+
+-- how a run ends that came to its end, by whether an output failed at last and whether something was reported
+abbrev pub outcome_of : Bool → Bool → Outcome
+outcome_of true reported = outcome.WriteFault
+outcome_of false true = outcome.Reported
+outcome_of false false = outcome.Done
+
+-- the run ended by a read fault
+abbrev pub is_read_fault : {A : Type 0} → Result A Outcome → Bool
+is_read_fault (Ok done) = false
+is_read_fault (Err outcome.ReadFault) = true
+is_read_fault (Err outcome.WriteFault) = false
+is_read_fault (Err outcome.InputTooLong) = false
+is_read_fault (Err outcome.Memory) = false
+is_read_fault (Err outcome.Done) = false
+is_read_fault (Err outcome.Reported) = false
+is_read_fault (Err outcome.ScriptTooLong) = false
+
+-- the run ended by a write fault
+abbrev pub is_write_fault : {A : Type 0} → Result A Outcome → Bool
+is_write_fault (Ok done) = false
+is_write_fault (Err outcome.ReadFault) = false
+is_write_fault (Err outcome.WriteFault) = true
+is_write_fault (Err outcome.InputTooLong) = false
+is_write_fault (Err outcome.Memory) = false
+is_write_fault (Err outcome.Done) = false
+is_write_fault (Err outcome.Reported) = false
+is_write_fault (Err outcome.ScriptTooLong) = false

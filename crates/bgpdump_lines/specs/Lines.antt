@@ -1,0 +1,149 @@
+-- The lines of events, one for each item.
+use Rattle.std.specs.Prelude.{◌≡◌, ℕ, ◌-◌, ◌≤◌, if◌then◌else◌, Bool, Option, Some, None, List, [], ◌∷◌, ◌++◌, length, drop, replicate, slice_range, decimal, codes}
+use Rattle.std.specs.Option.{unwrap_or}
+use Rattle.std.specs.List.{flat_map}
+use Rattle.ip_prefix.specs.Address.{Address}
+use Rattle.ip_prefix.specs.Text.{address_text, network_text}
+use Rattle.bgp_wire.specs.declared.attrs.Origin.{Origin}
+use Rattle.bgp_wire.specs.declared.attrs.Origin.TheVariants.{Igp, Egp, Incomplete}
+use Rattle.bgp_wire.specs.declared.attrs.Aggregator.{Aggregator}
+use Rattle.bgp_wire.specs.declared.attrs.Attrs.{Attrs}
+use Rattle.bgp_wire.specs.Text.{path_text, communities_text}
+use Rattle.mrt_wire.specs.declared.peer.Peer.{Peer}
+use Rattle.mrt_wire.specs.declared.event.Route.{Route}
+use Rattle.mrt_wire.specs.declared.event.Time.{Time}
+use Rattle.mrt_wire.specs.declared.event.Tag.{Tag}
+use Rattle.mrt_wire.specs.declared.event.Tag.TheVariants.{TableDump2, Bgp4mp, Bgp4mpEt}
+use Rattle.mrt_wire.specs.declared.event.Event.{Event}
+use Rattle.mrt_wire.specs.Event.{Saying, Announced, Withdrawn, Changed}
+use Rattle.bgpdump_lines.specs.declared.lines.TheConstants.{MICROS_DIGITS}
+use Rattle.bgpdump_lines.specs.declared.lines.Places.{Places}
+use Rattle.bgpdump_lines.specs.declared.lines.LastLine.{LastLine}
+
+-- the marks of lines
+abbrev pub bar : ℕ
+bar = 124
+
+abbrev pub line_feed : ℕ
+line_feed = 10
+
+abbrev pub dot : ℕ
+dot = 46
+
+abbrev pub zero_digit : ℕ
+zero_digit = 48
+
+abbrev pub space : ℕ
+space = 32
+
+-- the fields, each ended by a bar but the last, which a line feed ends
+abbrev pub line_of : List (List ℕ) → List ℕ
+line_of [] = line_feed ∷ []
+line_of (field ∷ []) = field ++ line_feed ∷ []
+line_of (field ∷ next ∷ fields) = field ++ bar ∷ line_of (next ∷ fields)
+
+-- the first field of a line
+abbrev pub word : Tag → List ℕ
+word TableDump2 = codes "TABLE_DUMP2"
+word Bgp4mp = codes "BGP4MP"
+word Bgp4mpEt = codes "BGP4MP_ET"
+
+-- microseconds, filled up with zeros in front
+abbrev pub micros_text : ℕ → List ℕ
+micros_text micros = replicate (MICROS_DIGITS - length (decimal micros)) zero_digit ++ decimal micros
+
+-- the time of a line: the seconds, and where the kind of record has them the microseconds
+abbrev pub time_text : Tag → Time → List ℕ
+time_text TableDump2 time = decimal time.seconds
+time_text Bgp4mp time = decimal time.seconds
+time_text Bgp4mpEt time = decimal time.seconds ++ dot ∷ micros_text (unwrap_or time.micros 0)
+
+-- the time of a route's line: a table's entry has the route's own
+abbrev pub route_time_text : Time → Tag → Route → List ℕ
+route_time_text time TableDump2 route = decimal route.time
+route_time_text time Bgp4mp route = time_text Bgp4mp time
+route_time_text time Bgp4mpEt route = time_text Bgp4mpEt time
+
+-- what a route's line is: an entry of a table, or an announcement
+abbrev pub route_letter : Tag → List ℕ
+route_letter TableDump2 = codes "B"
+route_letter Bgp4mp = codes "A"
+route_letter Bgp4mpEt = codes "A"
+
+-- how a route came into BGP
+abbrev pub origin_text : Option Origin → List ℕ
+origin_text (Some Igp) = codes "IGP"
+origin_text (Some Egp) = codes "EGP"
+origin_text (Some Incomplete) = codes "INCOMPLETE"
+origin_text None = []
+
+-- the address of the next hop
+abbrev pub next_hop_text : Option Address → List ℕ
+next_hop_text (Some address) = address_text address
+next_hop_text None = []
+
+-- a preference or a metric: an absent one as 0
+abbrev pub number_or_zero : Option ℕ → List ℕ
+number_or_zero number = decimal (unwrap_or number 0)
+
+-- whether ATOMIC_AGGREGATE is there
+abbrev pub aggregate_word : Bool → List ℕ
+aggregate_word atomic = if atomic then codes "AG" else codes "NAG"
+
+-- who has formed an aggregate: the AS number, a space and the address
+abbrev pub aggregator_text : Option Aggregator → List ℕ
+aggregator_text (Some aggregator) = decimal aggregator.asn ++ space ∷ address_text aggregator.addr
+aggregator_text None = []
+
+-- the fields of a route's attributes, with an empty one at the end
+abbrev pub attribute_fields : Attrs → List (List ℕ)
+attribute_fields attrs =
+    path_text attrs.path ∷ origin_text attrs.origin ∷ next_hop_text attrs.next_hop
+    ∷ number_or_zero attrs.local_pref ∷ number_or_zero attrs.med ∷ communities_text attrs.communities
+    ∷ aggregate_word attrs.atomic ∷ aggregator_text attrs.aggregator ∷ [] ∷ []
+
+-- what stands in front of the prefix in a route's line, up to a bar
+abbrev pub route_front : Time → Tag → Peer → Route → List ℕ
+route_front time tag peer route =
+    word tag ++ bar ∷ (route_time_text time tag route ++ bar ∷ route_letter tag)
+    ++ (bar ∷ address_text peer.addr ++ bar ∷ decimal peer.asn)
+
+-- what stands behind the prefix in a route's line
+abbrev pub route_tail : Route → List ℕ
+route_tail route = bar ∷ line_of (attribute_fields route.attrs)
+
+-- the places follow one another in the text
+pub record AreOrdered (places : Places) (text : List ℕ) : Type 0 where
+  pub front : places.start ≤ places.front
+  pub tail : places.front ≤ places.tail
+  pub within : places.tail ≤ length text
+
+-- what stands at these places, in front of the prefix
+abbrev pub front_at : Places → List ℕ → List ℕ
+front_at places text = slice_range text places.start places.front
+
+-- and behind it
+abbrev pub tail_at : Places → List ℕ → List ℕ
+tail_at places text = drop places.tail text
+
+-- the text ends in a line, of a route of this peer, with its parts at its places
+pub record EndsIn (time : Time) (tag : Tag) (line : LastLine) (text : List ℕ) : Type 0 where
+  pub ordered : AreOrdered line.places text
+  pub front : front_at line.places text ≡ route_front time tag line.peer.now line.route.now
+  pub tail : tail_at line.places text ≡ route_tail line.route.now
+
+-- the line of what an item says
+abbrev pub item_line : Time → Tag → Saying → List ℕ
+item_line time tag (Announced peer network route) =
+    line_of (word tag ∷ route_time_text time tag route ∷ route_letter tag
+    ∷ address_text peer.addr ∷ decimal peer.asn ∷ network_text network ∷ attribute_fields route.attrs)
+item_line time tag (Withdrawn peer network) =
+    line_of (word tag ∷ time_text tag time ∷ codes "W"
+    ∷ address_text peer.addr ∷ decimal peer.asn ∷ network_text network ∷ [])
+item_line time tag (Changed peer old new) =
+    line_of (word tag ∷ time_text tag time ∷ codes "STATE"
+    ∷ address_text peer.addr ∷ decimal peer.asn ∷ decimal old ∷ decimal new ∷ [])
+
+-- the lines of an event, one for each item
+abbrev pub event_lines : Event → List ℕ
+event_lines event = flat_map (item_line event.time event.tag) event.items

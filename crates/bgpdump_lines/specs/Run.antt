@@ -1,0 +1,104 @@
+-- What a whole run takes from its input and writes to its outputs, where these tell their octets.
+use Rattle.std.specs.Prelude.{◌≡◌, ◌≢◌, ◌⊎◌, ℕ, List, [], ◌++◌, Option, None, ◌≤◌, length}
+use Rattle.std.specs.Io.KnownBytes.{Appends}
+use Rattle.mrt_wire.specs.declared.event.Stamp.{Stamp}
+use Rattle.mrt_wire.specs.Record.{Record, spelling, IsRecord}
+use Rattle.mrt_wire.specs.Verdict.{Frame}
+use Rattle.mrt_wire.specs.Splitting.{AreFrames, Splits, spellings}
+use Rattle.mrt_wire.specs.declared.fault.RecordKind.TheVariants.{CutRecord}
+use Rattle.mrt_wire.specs.Results.{Finding, rest_kind}
+use Rattle.mrt_wire.specs.Taking.{IsRest, IsBegun}
+use Rattle.mrt_wire.specs.Place.{start_place, results}
+use Rattle.mrt_wire.specs.Next.{Took}
+use Rattle.bgpdump_lines.specs.declared.dump.TheConstants.{LIMIT}
+use Rattle.bgpdump_lines.specs.declared.outcome.Outcome.{Outcome}
+use Rattle.bgpdump_lines.specs.declared.outcome.Outcome.TheVariants.{Done, Reported, ReadFault, WriteFault, InputTooLong, ScriptTooLong, Memory}
+use Rattle.bgpdump_lines.specs.Device.{AppendsFront}
+
+-- what a run writes on the whole: lines or replies, and reports
+pub record Texts : Type 0 where
+  pub out : List ℕ
+  pub err : List ℕ
+
+-- the texts of what was written first, and behind them those of what came then
+abbrev pub joined_texts : Texts → Texts → Texts
+joined_texts first then = record { out = first.out ++ then.out; err = first.err ++ then.err }
+
+-- what was written to the output of lines or replies and to that of reports
+pub record Outputs : Type 0 where
+  pub out : Option (List ℕ)
+  pub err : Option (List ℕ)
+
+-- the same of two outputs, by what is known of each kind
+abbrev pub outputs_of : {O E : Type 0} → (O → Option (List ℕ)) → (E → Option (List ℕ)) → O → E → Outputs
+outputs_of written written' out err = record { out = written out; err = written' err }
+
+-- what is found in octets that split so
+abbrev pub all_results : Stamp → List Frame → List ℕ → List Finding
+all_results stamp frames rest = results (start_place stamp LIMIT) frames rest
+
+-- each text went to its output
+abbrev pub Writes : Texts → Outputs → Outputs → Type 0
+Writes texts old new = Appends old.out new.out texts.out × Appends old.err new.err texts.err
+
+-- a front of each text went to its output
+abbrev pub WritesFronts : Texts → Outputs → Outputs → Type 0
+WritesFronts texts old new = AppendsFront old.out new.out texts.out × AppendsFront old.err new.err texts.err
+
+-- a run that has these texts on the whole ended so
+abbrev pub EndsSo : Outcome → Texts → Outputs → Outputs → Type 0
+EndsSo Done texts old new = (texts.err ≡ []) × Writes texts old new
+EndsSo Reported texts old new = (texts.err ≢ []) × Writes texts old new
+EndsSo ReadFault texts old new = WritesFronts texts old new
+EndsSo WriteFault texts old new = WritesFronts texts old new
+EndsSo InputTooLong texts old new = WritesFronts texts old new
+EndsSo Memory texts old new = WritesFronts texts old new
+EndsSo ScriptTooLong texts old new = ⊥
+
+-- the run ended by the input: it failed, or it was too long
+abbrev pub EndedByInput : Outcome → Type 0
+EndedByInput ReadFault = Unit {0}
+EndedByInput InputTooLong = Unit {0}
+EndedByInput Done = ⊥
+EndedByInput Reported = ⊥
+EndedByInput WriteFault = ⊥
+EndedByInput ScriptTooLong = ⊥
+EndedByInput Memory = ⊥
+
+-- the end was seen by a run that ended so and took frames and this behind them: where it read all, unless a header states too much; where an output failed, if a record is cut
+abbrev pub SawEnd : Outcome → List Frame → List ℕ → Type 0
+SawEnd Done frames rest = rest_kind rest ≡ CutRecord
+SawEnd Reported frames rest = rest_kind rest ≡ CutRecord
+SawEnd WriteFault frames rest = (rest_kind rest ≡ CutRecord) × (rest ≢ [])
+SawEnd ReadFault frames rest = ⊥
+SawEnd InputTooLong frames rest = ⊥
+SawEnd Memory frames rest = ⊥
+SawEnd ScriptTooLong frames rest = ⊥
+
+-- octets that the input may hold on the whole: those taken, and any others behind them, but none where by what was taken the end was seen
+pub record MayHold (stamp : Stamp) (Saw : List Frame → List ℕ → Type 0) (old new : Option (List ℕ)) (octets : List ℕ) : Type 0 where
+  pub taken : List ℕ
+  pub after : List ℕ
+  pub more : List ℕ
+  pub took : Took old new taken after
+  pub whole : octets ≡ taken ++ more
+  pub follows : (frames : List Frame) (rest : List ℕ) → Splits stamp None taken frames rest → Saw frames rest → after ≡ [] → more ≡ []
+
+-- octets taken behind the frames: a record has begun in them, where the input ended the run; or they are the rest; or for want of memory a whole record of which nothing is written
+abbrev pub IsLast : Outcome → List ℕ → Type 0
+IsLast Done rest = IsRest rest
+IsLast Reported rest = IsRest rest
+IsLast WriteFault rest = IsRest rest
+IsLast ReadFault rest = IsBegun rest
+IsLast InputTooLong rest = IsBegun rest
+IsLast Memory rest = IsRest rest ⊎ ((r : Record) × IsRecord r × (rest ≡ spelling r))
+IsLast ScriptTooLong rest = ⊥
+
+-- the octets that a run took: those of frames, and then the last
+pub record IsTaken (stamp : Stamp) (outcome : Outcome) (taken : List ℕ) : Type 0 where
+  pub frames : List Frame
+  pub rest : List ℕ
+  pub whole : taken ≡ spellings frames ++ rest
+  pub are_frames : AreFrames stamp None frames
+  pub last : IsLast outcome rest
+  pub few : length taken ≤ LIMIT

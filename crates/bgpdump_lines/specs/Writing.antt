@@ -1,0 +1,38 @@
+-- What was written of a text, or of what was found, and whether a fault is among it.
+use Rattle.std.specs.Prelude.{◌≡◌, ℕ, Bool, true, false, List, [], ◌∷◌, Option, Result, Ok, Err}
+use Rattle.std.specs.Io.KnownBytes.{Appends}
+use Rattle.mrt_wire.specs.Results.{Finding, Found, Bad}
+use Rattle.bgpdump_lines.specs.declared.fault.WriteFault.{WriteFault}
+use Rattle.bgpdump_lines.specs.declared.fault.WriteFault.TheVariants.{Write, Memory}
+use Rattle.bgpdump_lines.specs.Device.{AppendsFront}
+use Rattle.bgpdump_lines.specs.Reports.{dump_texts}
+use Rattle.bgpdump_lines.specs.Run.{Outputs, Writes, WritesFronts}
+
+-- a text was written; or a front of it, where the output failed; or none of it, for want of memory
+abbrev pub Puts : {A : Type 0} → Option (List ℕ) → Option (List ℕ) → List ℕ → Result A WriteFault → Type 0
+Puts old new text (Ok done) = Appends old new text
+Puts old new text (Err Write) = AppendsFront old new text
+Puts old new text (Err Memory) = new ≡ old
+
+-- a text was written; or a front of it, where a fault came
+abbrev pub PutsPart : {A : Type 0} → Option (List ℕ) → Option (List ℕ) → List ℕ → Result A WriteFault → Type 0
+PutsPart old new text (Ok done) = Appends old new text
+PutsPart old new text (Err fault) = AppendsFront old new text
+
+-- what was found was written; or a front of each of its texts, where an output failed; or none of them, for want of memory
+abbrev pub PutsFound : {A : Type 0} → List Finding → Outputs → Outputs → Result A WriteFault → Type 0
+PutsFound found old new (Ok done) = Writes (dump_texts found) old new
+PutsFound found old new (Err Write) = WritesFronts (dump_texts found) old new
+PutsFound found old new (Err Memory) = new ≡ old
+
+-- the writing ended by a fault of the output
+abbrev pub is_write : {A : Type 0} → Result A WriteFault → Bool
+is_write (Ok done) = false
+is_write (Err Write) = true
+is_write (Err Memory) = false
+
+-- whether a fault is among what was found
+abbrev pub is_any_bad : List Finding → Bool
+is_any_bad [] = false
+is_any_bad (Found event ∷ found) = is_any_bad found
+is_any_bad (Bad fault ∷ found) = true

@@ -1,0 +1,111 @@
+//! A whole run: the lines of all events, and the reports of all faulty records.
+
+ghost use Rattle.std.specs.Prelude.{◌≡◌, ◌≢◌, ◌↔◌, ◌^◌, ◌||◌, ℕ, List, None, false, IsTrue, length, []};
+ghost use Rattle.std.specs.Io.KnownBytes.{Consumes};
+ghost use Rattle.mrt_wire.specs.declared.event.Stamp.{Stamp};
+ghost use Rattle.mrt_wire.specs.Verdict.{Frame};
+ghost use Rattle.mrt_wire.specs.Splitting.{Splits};
+ghost use Rattle.mrt_wire.specs.Place.{start_place};
+ghost use Rattle.mrt_wire.specs.Next.{Took, answer_findings};
+ghost use Rattle.mrt_wire.specs.SoFar.{is_nothing};
+ghost use Rattle.bgpdump_lines.specs.Reports.{dump_texts};
+ghost use Rattle.bgpdump_lines.specs.Run.{IsTaken, MayHold, SawEnd, outputs_of, Writes, EndsSo, EndedByInput, all_results};
+ghost use Rattle.bgpdump_lines.specs.Ending.{is_read_fault, is_write_fault};
+ghost use Rattle.bgpdump_lines.specs.Going.{Ends};
+
+use crate::finish::finish_outputs;
+use crate::outcome::Outcome;
+use crate::output::Output;
+use crate::write::write_next;
+use mrt_wire::{Input, Next, Source, Stamp};
+use std::alloc::Global;
+
+/// How many octets a run reads at most.
+pub const LIMIT: u64 = 1 << 40;
+
+/// Reads an input of MRT records (RFC 6396) to its end, or to a header that states too much. The
+/// lines of all events go to `out`, and the reports of all faulty records to `err`. What a record
+/// gives is written before the next one is read. Where the run ends without a fault, both outputs
+/// are finished, `out` first.
+pub fn run_dump<I: Input, O: Output, E: Output>(
+    alloc: Global,
+    input: &mut I,
+    out: &mut O,
+    err: &mut E,
+    stamp: Stamp,
+) -> Outcome
+    requires input_sound { I.failed input.old ≡ false }
+    requires out_sound { O.failed out.old ≡ false }
+    requires err_sound { E.failed err.old ≡ false }
+
+    // Whatever the input may hold on the whole: its lines and reports were written, or fronts of
+    // them.
+    ensures text { (octets : List ℕ) (frames : List Frame) (rest : List ℕ) →
+        MayHold stamp (SawEnd result) (I.left input.old) (I.left input.new) octets →
+        Splits stamp None octets frames rest →
+        EndsSo result (dump_texts (all_results stamp frames rest))
+        (outputs_of O.written E.written out.old err.old)
+        (outputs_of O.written E.written out.new err.new) }
+
+    // A run that the input ended has written all that the records taken whole give, and no more.
+    ensures whole_records { EndedByInput result →
+        (taken after : List ℕ) (frames : List Frame) (rest : List ℕ) →
+        Took (I.left input.old) (I.left input.new) taken after →
+        Splits stamp None taken frames rest →
+        Writes (dump_texts (all_results stamp frames []))
+        (outputs_of O.written E.written out.old err.old)
+        (outputs_of O.written E.written out.new err.new) }
+
+    // At most 2^40 octets are taken: those of frames, and then what stands behind them, none of it
+    // behind a header that states too much.
+    ensures taken { (taken : List ℕ) × Consumes (I.left input.old) (I.left input.new) taken
+        × IsTaken stamp result taken }
+
+    // When each fault comes.
+    ensures read_fault { (result ≡ Outcome.ReadFault) ↔ IsTrue (I.failed input.new) }
+    ensures write_fault { (result ≡ Outcome.WriteFault)
+        ↔ IsTrue (O.failed out.new || E.failed err.new) }
+    ensures too_long { result ≡ Outcome.InputTooLong → (taken after : List ℕ) →
+        Took (I.left input.old) (I.left input.new) taken after → length taken ≡ LIMIT }
+    ensures no_script { result ≢ Outcome.ScriptTooLong }
+{
+    match dump_all(alloc, input, out, err, stamp) {
+        Ok(reported) => finish_outputs(out, err, reported),
+        Err(outcome) => outcome,
+    }
+}
+
+/// Whether nothing is left to read.
+fn is_end(next: &Next) -> bool
+    ensures { result ≡ is_nothing (answer_findings next.now) }
+{
+    matches!(next, Next::End)
+}
+
+/// Reads and writes up to the end of the input or a fault, and answers whether something was
+/// reported.
+fn dump_all<I: Input, O: Output, E: Output>(
+    alloc: Global,
+    input: &mut I,
+    out: &mut O,
+    err: &mut E,
+    stamp: Stamp,
+) -> Result<bool, Outcome>
+    requires sound { (O.failed out.old || E.failed err.old) ≡ false }
+    ensures ends { Ends (start_place stamp LIMIT) (I.left input.old) (I.left input.new)
+        (outputs_of O.written E.written out.old err.old)
+        (outputs_of O.written E.written out.new err.new) result }
+    ensures read { I.failed input.new ≡ (I.failed input.old || is_read_fault result) }
+    ensures wrote { (O.failed out.new || E.failed err.new) ≡ is_write_fault result }
+{
+    let mut source = Source::new(alloc, stamp, LIMIT);
+    let mut text = Vec::new(alloc);
+    let mut reported = false;
+    'steps: loop {
+        let next = source.next(input)?;
+        if is_end(&next) {
+            return Ok(reported);
+        }
+        reported |= write_next(out, err, &mut text, next)?;
+    }
+}

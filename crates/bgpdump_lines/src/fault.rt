@@ -1,0 +1,58 @@
+//! What ends a run.
+
+ghost use Rattle.std.specs.Prelude.{◌≡◌};
+ghost use Rattle.bgpdump_lines.specs.declared.fault.WriteFault.TheVariants.{Write, Memory};
+ghost use Rattle.bgpdump_lines.specs.Ending.{source_outcome, write_outcome};
+
+use crate::outcome::Outcome;
+use crate::output::OutFault;
+use mrt_wire::SourceFault;
+use std::alloc::AllocError;
+
+/// Why a text couldn't be written.
+#[derive(Clone, Copy, Debug, PartialEq, Eq)]
+pub enum WriteFault {
+    /// The output failed.
+    Write,
+    /// Memory was refused.
+    Memory,
+}
+
+impl From<OutFault> for WriteFault {
+    ghost from_gives = { λ _ fault. fault ≡ Write };
+
+    fn from(_: OutFault) -> WriteFault {
+        WriteFault::Write
+    }
+}
+
+impl From<AllocError> for WriteFault {
+    ghost from_gives = { λ _ fault. fault ≡ Memory };
+
+    fn from(_: AllocError) -> WriteFault {
+        WriteFault::Memory
+    }
+}
+
+impl From<SourceFault> for Outcome {
+    ghost from_gives = { λ fault outcome. outcome ≡ source_outcome fault };
+
+    fn from(fault: SourceFault) -> Outcome {
+        match fault {
+            SourceFault::Read => Outcome::ReadFault,
+            SourceFault::InputTooLong => Outcome::InputTooLong,
+            SourceFault::Memory | SourceFault::Spent => Outcome::Memory,
+        }
+    }
+}
+
+impl From<WriteFault> for Outcome {
+    ghost from_gives = { λ fault outcome. outcome ≡ write_outcome fault };
+
+    fn from(fault: WriteFault) -> Outcome {
+        match fault {
+            WriteFault::Write => Outcome::WriteFault,
+            WriteFault::Memory => Outcome::Memory,
+        }
+    }
+}

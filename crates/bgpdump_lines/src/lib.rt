@@ -1,0 +1,30 @@
+//! The lines of the events of routing-table dumps (MRT, RFC 6396), the reports of what is faulty,
+//! and the outputs that both are written to.
+#![tactic(auto)]
+
+mod again;
+mod dump;
+mod fault;
+mod fields;
+mod finish;
+mod laws;
+mod lines;
+mod outcome;
+mod output;
+mod reports;
+mod same;
+mod write;
+
+pub use dump::{LIMIT, run_dump};
+pub use fault::WriteFault;
+pub use fields::{put_attributes, put_number, put_peer, put_prefix};
+pub use finish::finish_outputs;
+pub use laws::line_numbers;
+pub use lines::put_lines;
+pub use outcome::Outcome;
+pub use output::{OutFault, Output, WriteOutput, put_all};
+pub use reports::put_line_report;
+pub use write::write_report;
+
+#[cfg(test)]
+mod tests;

@@ -1,0 +1,345 @@
+//! The lines of events.
+
+ghost use Rattle.std.specs.Prelude.{◌≡◌, ◌∷◌, ◌++◌, [], OnOk, OnErr, IfOk, IfSome, IsSomeAnd};
+ghost use Rattle.ip_prefix.specs.Text.{network_text};
+ghost use Rattle.bgp_wire.specs.Text.{StillBegins};
+ghost use Rattle.mrt_wire.specs.Event.{Announced, Withdrawn, Changed, saying};
+ghost use Rattle.bgpdump_lines.specs.Lines.{bar, word, micros_text, time_text, route_time_text};
+ghost use Rattle.bgpdump_lines.specs.Lines.{route_letter, route_front, route_tail, EndsIn};
+ghost use Rattle.bgpdump_lines.specs.Lines.{AreOrdered, front_at, tail_at, item_line, event_lines};
+
+use crate::again::put_again;
+use crate::fields::{put_attributes, put_number, put_peer, put_prefix};
+use crate::same::{same_peer, same_route};
+use ip_prefix::{Prefix, put_decimal};
+use mrt_wire::{Event, Item, Peer, Route, Tag, Time};
+use std::alloc::AllocError;
+
+/// How many digits the microseconds of a line have at least.
+const MICROS_DIGITS: usize = 6;
+
+/// Where the parts of a route's line stand.
+#[derive(Clone, Copy)]
+struct Places {
+    /// Where it begins.
+    start: usize,
+    /// Where what stands in front of the prefix ends.
+    front: usize,
+    /// Where what stands behind the prefix begins.
+    tail: usize,
+}
+
+/// The line that a text ends in, of a route.
+#[derive(Clone, Copy)]
+struct LastLine<'a> {
+    /// Whose route it is.
+    peer: &'a Peer,
+    /// The route.
+    route: &'a Route,
+    /// Where its parts stand.
+    places: Places,
+}
+
+/// Appends the first field of a line.
+fn put_word(tag: Tag, text: &mut Vec<u8>) -> Result<(), AllocError>
+    ensures appended { OnOk result (text.new.items ≡ text.old.items ++ word tag) }
+    ensures kept { OnErr result (StillBegins text.old.items text.new.items) }
+{
+    match tag {
+        Tag::TableDump2 => text.extend_from_slice(b"TABLE_DUMP2")?,
+        Tag::Bgp4mp => text.extend_from_slice(b"BGP4MP")?,
+        Tag::Bgp4mpEt => text.extend_from_slice(b"BGP4MP_ET")?,
+    }
+    Ok(())
+}
+
+/// Appends microseconds, behind zeros where they have fewer digits than are printed. They are
+/// printed once more, to see how many digits they have.
+fn put_micros(micros: u32, text: &mut Vec<u8>) -> Result<(), AllocError>
+    ensures appended { OnOk result (text.new.items ≡ text.old.items ++ micros_text micros) }
+    ensures kept { OnErr result (StillBegins text.old.items text.new.items) }
+{
+    let front = text.len();
+    put_decimal(u64::from(micros), text)?;
+    let missing = MICROS_DIGITS.saturating_sub(text.len() - front);
+    text.truncate(front);
+    text.resize(front + missing, b'0')?;
+    put_decimal(u64::from(micros), text)?;
+    Ok(())
+}
+
+/// Appends the time of a line.
+fn put_time(time: &Time, tag: Tag, text: &mut Vec<u8>) -> Result<(), AllocError>
+    ensures appended { OnOk result (text.new.items ≡ text.old.items ++ time_text tag time.now) }
+    ensures kept { OnErr result (StillBegins text.old.items text.new.items) }
+{
+    put_decimal(u64::from(time.seconds), text)?;
+    if let Tag::Bgp4mpEt = tag {
+        text.push(b'.')?;
+        put_micros(time.micros.unwrap_or(0), text)?;
+    }
+    Ok(())
+}
+
+/// Appends the first two fields of a line: what kind of record it is from, and its time.
+fn put_head(time: &Time, tag: Tag, text: &mut Vec<u8>) -> Result<(), AllocError>
+    ensures appended { OnOk result (text.new.items ≡
+        text.old.items ++ (word tag ++ bar ∷ time_text tag time.now)) }
+    ensures kept { OnErr result (StillBegins text.old.items text.new.items) }
+{
+    put_word(tag, text)?;
+    text.push(b'|')?;
+    put_time(time, tag, text)?;
+    Ok(())
+}
+
+/// Appends the time of a route's line, which for a table's entry is the route's own.
+fn put_route_time(
+    time: &Time,
+    tag: Tag,
+    route: &Route,
+    text: &mut Vec<u8>,
+) -> Result<(), AllocError>
+    ensures appended { OnOk result (text.new.items ≡
+        text.old.items ++ route_time_text time.now tag route.now) }
+    ensures kept { OnErr result (StillBegins text.old.items text.new.items) }
+{
+    match tag {
+        Tag::TableDump2 => put_decimal(u64::from(route.time), text),
+        Tag::Bgp4mp | Tag::Bgp4mpEt => put_time(time, tag, text),
+    }
+}
+
+/// What a route's line is: an entry of a table, or an announcement.
+fn letter_of(tag: Tag) -> u8
+    ensures { result ∷ [] ≡ route_letter tag }
+{
+    match tag {
+        Tag::TableDump2 => b'B',
+        Tag::Bgp4mp | Tag::Bgp4mpEt => b'A',
+    }
+}
+
+/// Appends the first three fields of a route's line.
+fn put_route_head(
+    time: &Time,
+    tag: Tag,
+    route: &Route,
+    text: &mut Vec<u8>,
+) -> Result<(), AllocError>
+    ensures appended { OnOk result (text.new.items ≡ text.old.items ++ (word tag ++
+        bar ∷ (route_time_text time.now tag route.now ++ bar ∷ route_letter tag))) }
+    ensures kept { OnErr result (StillBegins text.old.items text.new.items) }
+{
+    put_word(tag, text)?;
+    text.push(b'|')?;
+    put_route_time(time, tag, route, text)?;
+    text.push(b'|')?;
+    text.push(letter_of(tag))?;
+    Ok(())
+}
+
+/// Appends what stands in front of the prefix in a route's line.
+fn put_route_front(
+    time: &Time,
+    tag: Tag,
+    peer: &Peer,
+    route: &Route,
+    text: &mut Vec<u8>,
+) -> Result<(), AllocError>
+    ensures appended { OnOk result (text.new.items ≡
+        text.old.items ++ route_front time.now tag peer.now route.now) }
+    ensures kept { OnErr result (StillBegins text.old.items text.new.items) }
+{
+    put_route_head(time, tag, route, text)?;
+    put_peer(peer, text)
+}
+
+/// Appends the line of a route with each part printed. Returned is where they stand.
+fn put_route_anew(
+    time: &Time,
+    tag: Tag,
+    peer: &Peer,
+    prefix: &Prefix,
+    route: &Route,
+    text: &mut Vec<u8>,
+) -> Result<Places, AllocError>
+    ensures appended { OnOk result (text.new.items ≡ text.old.items ++
+        (route_front time.now tag peer.now route.now
+        ++ (bar ∷ network_text prefix.now ++ route_tail route.now))) }
+    ensures ordered { IfOk result (λ places. AreOrdered places text.new.items) }
+    ensures front { IfOk result (λ places. front_at places text.new.items
+        ≡ route_front time.now tag peer.now route.now) }
+    ensures tail { IfOk result (λ places. tail_at places text.new.items ≡ route_tail route.now) }
+    ensures kept { OnErr result (StillBegins text.old.items text.new.items) }
+{
+    let start = text.len();
+    put_route_front(time, tag, peer, route, text)?;
+    let front = text.len();
+    put_prefix(prefix, text)?;
+    let tail = text.len();
+    put_attributes(&route.attrs, text)?;
+    Ok(Places { start, front, tail })
+}
+
+/// Appends the line that the text ends in once more, with another prefix. Returned is where its
+/// parts stand.
+fn put_route_again(last: Places, prefix: &Prefix, text: &mut Vec<u8>) -> Result<Places, AllocError>
+    requires { AreOrdered last text.old.items }
+    ensures appended { OnOk result (text.new.items ≡ text.old.items ++
+        (front_at last text.old.items
+        ++ (bar ∷ network_text prefix.now ++ tail_at last text.old.items))) }
+    ensures ordered { IfOk result (λ places. AreOrdered places text.new.items) }
+    ensures front { IfOk result (λ places. front_at places text.new.items
+        ≡ front_at last text.old.items) }
+    ensures tail { IfOk result (λ places. tail_at places text.new.items
+        ≡ tail_at last text.old.items) }
+    ensures kept { OnErr result (StillBegins text.old.items text.new.items) }
+{
+    let start = text.len();
+    put_again(last.start, last.front, text)?;
+    let front = text.len();
+    put_prefix(prefix, text)?;
+    let tail = text.len();
+    put_again(last.tail, start, text)?;
+    Ok(Places { start, front, tail })
+}
+
+/// Where the parts of the last line stand, if it is of this route.
+fn places_of_same(last: Option<LastLine<'_>>, peer: &Peer, route: &Route) -> Option<Places>
+    ensures { IfSome result (λ places. IsSomeAnd last.entry (λ line. (line.places ≡ places)
+        × (line.peer.now ≡ peer.now) × (line.route.now ≡ route.now))) }
+{
+    let line = last?;
+    if same_peer(line.peer, peer) && same_route(line.route, route) {
+        Some(line.places)
+    } else {
+        None
+    }
+}
+
+/// Appends the line of a route. What the last line says too is copied from there.
+fn put_route<'a>(
+    time: &Time,
+    tag: Tag,
+    peer: &'a Peer,
+    prefix: &Prefix,
+    route: &'a Route,
+    last: Option<LastLine<'a>>,
+    text: &mut Vec<u8>,
+) -> Result<LastLine<'a>, AllocError>
+    requires { IfSome last (λ line. EndsIn time.now tag line text.old.items) }
+    ensures appended { OnOk result (text.new.items ≡ text.old.items ++
+        item_line time.now tag (Announced peer.now prefix.now route.now)) }
+    ensures last { IfOk result (λ line. EndsIn time.now tag line text.new.items) }
+    ensures kept { OnErr result (StillBegins text.old.items text.new.items) }
+{
+    let places = match places_of_same(last, peer, route) {
+        Some(places) => put_route_again(places, prefix, text)?,
+        None => put_route_anew(time, tag, peer, prefix, route, text)?,
+    };
+    Ok(LastLine {
+        peer,
+        route,
+        places,
+    })
+}
+
+/// Appends the line of a withdrawal.
+fn put_withdrawal(
+    time: &Time,
+    tag: Tag,
+    peer: &Peer,
+    prefix: &Prefix,
+    text: &mut Vec<u8>,
+) -> Result<(), AllocError>
+    ensures appended { OnOk result (text.new.items ≡ text.old.items ++
+        item_line time.now tag (Withdrawn peer.now prefix.now)) }
+    ensures kept { OnErr result (StillBegins text.old.items text.new.items) }
+{
+    put_head(time, tag, text)?;
+    text.extend_from_slice(b"|W")?;
+    put_peer(peer, text)?;
+    put_prefix(prefix, text)?;
+    text.push(b'\n')?;
+    Ok(())
+}
+
+/// Appends the line of a state change.
+fn put_change(
+    time: &Time,
+    tag: Tag,
+    peer: &Peer,
+    old: u16,
+    new: u16,
+    text: &mut Vec<u8>,
+) -> Result<(), AllocError>
+    ensures appended { OnOk result (text.new.items ≡ text.old.items ++
+        item_line time.now tag (Changed peer.now old new)) }
+    ensures kept { OnErr result (StillBegins text.old.items text.new.items) }
+{
+    put_head(time, tag, text)?;
+    text.extend_from_slice(b"|STATE")?;
+    put_peer(peer, text)?;
+    put_number(u64::from(old), text)?;
+    put_number(u64::from(new), text)?;
+    text.push(b'\n')?;
+    Ok(())
+}
+
+/// Appends the line of an item. Returned is the line, if it is of a route.
+fn put_item<'a>(
+    time: &Time,
+    tag: Tag,
+    item: &'a Item,
+    last: Option<LastLine<'a>>,
+    text: &mut Vec<u8>,
+) -> Result<Option<LastLine<'a>>, AllocError>
+    requires { IfSome last (λ line. EndsIn time.now tag line text.old.items) }
+    ensures appended { OnOk result (text.new.items ≡
+        text.old.items ++ item_line time.now tag (saying item.now)) }
+    ensures last { IfOk result (λ last. IfSome last (λ line.
+        EndsIn time.now tag line text.new.items)) }
+    ensures kept { OnErr result (StillBegins text.old.items text.new.items) }
+{
+    match item {
+        Item::Announce(peer, prefix, route) => {
+            Ok(Some(put_route(time, tag, peer, prefix, route, last, text)?))
+        }
+        Item::Withdraw(peer, prefix) => {
+            put_withdrawal(time, tag, peer, prefix, text)?;
+            Ok(None)
+        }
+        Item::State(peer, old, new) => {
+            put_change(time, tag, peer, *old, *new, text)?;
+            Ok(None)
+        }
+    }
+}
+
+/// Appends the lines of an event's items.
+fn put_items(event: &Event, text: &mut Vec<u8>) -> Result<(), AllocError>
+    ensures appended { OnOk result (text.new.items ≡ text.old.items ++ event_lines event.now) }
+    ensures kept { OnErr result (StillBegins text.old.items text.new.items) }
+{
+    let items = event.items.as_slice();
+    let mut last = None;
+    'items: for item in items {
+        last = put_item(&event.time, event.tag, item, last, text)?;
+    }
+    Ok(())
+}
+
+/// Appends the lines of an event, one for each item. Refused for want of memory, it leaves the text
+/// as it was.
+pub fn put_lines(event: &Event, text: &mut Vec<u8>) -> Result<(), AllocError>
+    ensures appended { OnOk result (text.new.items ≡ text.old.items ++ event_lines event.now) }
+    ensures unchanged { OnErr result (text.new.items ≡ text.old.items) }
+{
+    let before = text.len();
+    let result = put_items(event, text);
+    if result.is_err() {
+        text.truncate(before);
+    }
+    result
+}

@@ -1,0 +1,100 @@
+//! Where text is written to.
+
+ghost use Rattle.std.specs.Prelude.{◌≡◌, ◌≤◌, ◌<◌, ◌||◌, ℕ, List, Bool, false, Option, length, IfOk, OnOk, is_err};
+ghost use Rattle.std.specs.Io.KnownBytes.{WriteAppends, Appends, Keeps};
+ghost use Rattle.bgpdump_lines.specs.Device.{AppendsFront};
+
+use std::io::Write;
+
+/// A write failed. It appended nothing.
+#[derive(Clone, Copy, Debug, PartialEq, Eq)]
+pub struct OutFault;
+
+/// What text is written to.
+pub trait Output {
+    /// The octets written, where the output tells them.
+    ghost written: { Self → Option (List ℕ) };
+
+    /// True from the first fault on.
+    ghost failed: { Self → Bool };
+
+    /// Writes a front of the octets, at least one where there is one, and answers how many.
+    fn put(&mut self, octets: &[u8]) -> Result<usize, OutFault>
+        ensures bound { IfOk result (λ count. count ≤ length octets.now) }
+        ensures some { IfOk result (λ count. 0 < length octets.now → 0 < count) }
+        ensures octets { WriteAppends (written self.old) (written self.new) result octets.now }
+        ensures failed { failed self.new ≡ (failed self.old || is_err result) };
+
+    /// Passes on what a buffer below still holds.
+    fn finish(&mut self) -> Result<(), OutFault>
+        ensures octets { Keeps (written self.old) (written self.new) }
+        ensures failed { failed self.new ≡ (failed self.old || is_err result) };
+}
+
+/// An output over a writer. Each of the writer's errors is a fault, and so is a write that takes
+/// none of at least one octet.
+#[derive(Drop)]
+pub struct WriteOutput<W> {
+    writer: W,
+    failed: bool,
+}
+
+impl<W: Write> WriteOutput<W> {
+    /// An output that has what the writer has.
+    pub fn new(writer: W) -> Self
+        ensures written { ⟦<WriteOutput<W> as Output>⟧.written result ≡ W.contents writer }
+        ensures failed { ⟦<WriteOutput<W> as Output>⟧.failed result ≡ false }
+    {
+        WriteOutput {
+            writer,
+            failed: false,
+        }
+    }
+
+    /// The writer, which has what was written to the output.
+    pub fn into_inner(self) -> W
+        ensures { W.contents result ≡ ⟦<WriteOutput<W> as Output>⟧.written self }
+    {
+        self.writer
+    }
+}
+
+impl<W: Write> Output for WriteOutput<W> {
+    ghost written = { λ output. W.contents output.writer };
+
+    ghost failed = { λ output. output.failed };
+
+    fn put(&mut self, octets: &[u8]) -> Result<usize, OutFault> {
+        match self.writer.write(octets) {
+            Ok(count) if count > 0 || octets.is_empty() => Ok(count),
+            _ => {
+                self.failed = true;
+                Err(OutFault)
+            }
+        }
+    }
+
+    fn finish(&mut self) -> Result<(), OutFault> {
+        match self.writer.flush() {
+            Ok(()) => Ok(()),
+            Err(_) => {
+                self.failed = true;
+                Err(OutFault)
+            }
+        }
+    }
+}
+
+/// Writes all the octets, in as many calls of `put` as that takes.
+pub fn put_all<W: Output>(output: &mut W, octets: &[u8]) -> Result<(), OutFault>
+    ensures all { OnOk result (Appends (W.written output.old) (W.written output.new) octets.now) }
+    ensures front { AppendsFront (W.written output.old) (W.written output.new) octets.now }
+    ensures failed { W.failed output.new ≡ (W.failed output.old || is_err result) }
+{
+    let mut rest = octets;
+    while !rest.is_empty() {
+        let count = output.put(rest)?;
+        rest = &rest[count..];
+    }
+    Ok(())
+}

@@ -1,0 +1,67 @@
+//! The reports of faulty records, and of lines that are no commands.
+
+ghost use Rattle.std.specs.Prelude.{◌≡◌, ◌++◌, OnOk, decimal};
+ghost use Rattle.bgpdump_lines.specs.Reports.{kind_text, fault_report, line_report};
+
+use ip_prefix::put_decimal;
+use mrt_wire::{RecordFault, RecordKind};
+use std::alloc::AllocError;
+
+/// Appends a word and a number behind it.
+fn put_labelled(word: &[u8], number: u64, text: &mut Vec<u8>) -> Result<(), AllocError>
+    ensures { OnOk result (text.new.items ≡ text.old.items ++ (word.now ++ decimal number)) }
+{
+    text.extend_from_slice(word)?;
+    put_decimal(number, text)?;
+    Ok(())
+}
+
+/// Appends which type and subtype aren't read.
+fn put_unsupported(kind: u16, subtype: u16, text: &mut Vec<u8>) -> Result<(), AllocError>
+    ensures { OnOk result (text.new.items ≡
+        text.old.items ++ kind_text (RecordKind.Unsupported kind subtype)) }
+{
+    put_labelled(b"unsupported type ", u64::from(kind), text)?;
+    put_labelled(b" subtype ", u64::from(subtype), text)?;
+    Ok(())
+}
+
+/// Appends what is wrong with a record. Refused, it may have appended a part.
+fn put_kind(kind: RecordKind, text: &mut Vec<u8>) -> Result<(), AllocError>
+    ensures { OnOk result (text.new.items ≡ text.old.items ++ kind_text kind) }
+{
+    match kind {
+        RecordKind::CutRecord => text.extend_from_slice(b"cut record")?,
+        RecordKind::TooLong(size) => {
+            put_labelled(b"length ", u64::from(size), text)?;
+            text.extend_from_slice(b" too long")?;
+        }
+        RecordKind::Unsupported(kind, subtype) => put_unsupported(kind, subtype, text)?,
+        RecordKind::Malformed => text.extend_from_slice(b"malformed")?,
+        RecordKind::NoIndex => text.extend_from_slice(b"no peer index")?,
+        RecordKind::PeerIndex(number) => put_labelled(b"peer index ", u64::from(number), text)?,
+    }
+    Ok(())
+}
+
+/// Appends the report of a fault. Refused, it may have appended a part.
+pub(crate) fn put_report(fault: RecordFault, text: &mut Vec<u8>) -> Result<(), AllocError>
+    ensures { OnOk result (text.new.items ≡ text.old.items ++ fault_report fault) }
+{
+    put_labelled(b"bgpdump: record ", fault.number, text)?;
+    put_labelled(b", byte ", fault.offset, text)?;
+    text.extend_from_slice(b": ")?;
+    put_kind(fault.kind, text)?;
+    text.push(b'\n')?;
+    Ok(())
+}
+
+/// Appends the report of a line of a script that is no command. Refused, it may have appended a
+/// part.
+pub fn put_line_report(number: u64, text: &mut Vec<u8>) -> Result<(), AllocError>
+    ensures { OnOk result (text.new.items ≡ text.old.items ++ line_report number) }
+{
+    put_labelled(b"bgpdump: script line ", number, text)?;
+    text.extend_from_slice(b": bad command\n")?;
+    Ok(())
+}

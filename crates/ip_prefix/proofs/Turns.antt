@@ -1,0 +1,196 @@
+-- Turns between prefixes, told by their families and bits.
+use Rattle.std.proofs.Common.{◌≡◌, ◌↔◌, Bool, true, false, List, [], ◌∷◌, ◌++◌, refl, ap, sym, ◌∙◌}
+use denote.Enum.Bare.{sameb}
+use Rattle.ip_prefix.specs.Network.{Network, begin_with, covers}
+use Rattle.ip_prefix.specs.declared.addr.Family.{Family}
+use Rattle.ip_prefix.specs.declared.addr.Family.TheVariants.{V4, V6}
+use Rattle.ip_prefix.specs.declared.turn.Turn.{Turn}
+use Rattle.ip_prefix.specs.declared.turn.Turn.TheVariants.{Outside, Here, Left, Right}
+use Rattle.ip_prefix.specs.contracts.addr.Family.{the_type}
+use Rattle.ip_prefix.specs.Turns.{way, turn_of, shared, half, common}
+use Rattle.ip_prefix.proofs.Beginning.{covers_same}
+use Rattle.ip_prefix.proofs.Containing.{covers_parts}
+
+-- ---- families
+
+-- of one family, only the bits count
+pub turn_same : (m n : Network) → m.family ≡ n.family → turn_of (way m) (way n) ≡ turn_of m.bits n.bits
+unfolding way
+turn_same m n e = families m.family n.family e
+  where
+    families : (f g : Family) → f ≡ g → turn_of (way record { family = f; bits = m.bits }) (way record { family = g; bits = n.bits }) ≡ turn_of m.bits n.bits
+    families V4 V4 e = refl
+    families V4 V6 e = cc
+    families V6 V4 e = cc
+    families V6 V6 e = refl
+
+-- a prefix of another family lies outside
+pub turn_other : (m n : Network) → sameb the_type m.family n.family ≡ false → turn_of (way m) (way n) ≡ Outside
+unfolding way
+turn_other m n e = families m.family n.family e
+  where
+    families : (f g : Family) → sameb the_type f g ≡ false → turn_of (way record { family = f; bits = m.bits }) (way record { family = g; bits = n.bits }) ≡ Outside
+    families V4 V4 e = cc
+    families V4 V6 e = refl
+    families V6 V4 e = refl
+    families V6 V6 e = cc
+
+-- ---- what is covered
+
+-- a prefix covers those whose ways begin with its way
+pub covers-way : (m n : Network) → covers m n ≡ begin_with (way m) (way n)
+unfolding way
+covers-way m n = families m.family n.family
+  where
+    families : (f g : Family) → covers record { family = f; bits = m.bits } record { family = g; bits = n.bits } ≡ begin_with (way record { family = f; bits = m.bits }) (way record { family = g; bits = n.bits })
+    families V4 V4 = refl
+    families V4 V6 = refl
+    families V6 V4 = refl
+    families V6 V6 = refl
+
+-- the bits that don't begin with others lie outside
+outside_from : (xs ys : List Bool) → begin_with xs ys ≡ false → turn_of xs ys ≡ Outside
+outside_from [] ys e = cc
+outside_from (x ∷ xs) [] e = refl
+outside_from (true ∷ xs) (true ∷ ys) e = outside_from xs ys e
+outside_from (true ∷ xs) (false ∷ ys) e = refl
+outside_from (false ∷ xs) (true ∷ ys) e = refl
+outside_from (false ∷ xs) (false ∷ ys) e = outside_from xs ys e
+
+-- and only they do
+outside_only : (xs ys : List Bool) → turn_of xs ys ≡ Outside → begin_with xs ys ≡ false
+outside_only [] [] e = cc
+outside_only [] (true ∷ ys) e = cc
+outside_only [] (false ∷ ys) e = cc
+outside_only (x ∷ xs) [] e = refl
+outside_only (true ∷ xs) (true ∷ ys) e = outside_only xs ys e
+outside_only (true ∷ xs) (false ∷ ys) e = refl
+outside_only (false ∷ xs) (true ∷ ys) e = refl
+outside_only (false ∷ xs) (false ∷ ys) e = outside_only xs ys e
+
+-- the turn of bits from themselves
+here_from : (xs : List Bool) → turn_of xs xs ≡ Here
+here_from [] = refl
+here_from (true ∷ xs) = here_from xs
+here_from (false ∷ xs) = here_from xs
+
+-- and from no others
+here_only : (xs ys : List Bool) → turn_of xs ys ≡ Here → xs ≡ ys
+here_only [] [] e = refl
+here_only [] (true ∷ ys) e = cc
+here_only [] (false ∷ ys) e = cc
+here_only (x ∷ xs) [] e = cc
+here_only (true ∷ xs) (true ∷ ys) e = ap (λ l. true ∷ l) (here_only xs ys e)
+here_only (true ∷ xs) (false ∷ ys) e = cc
+here_only (false ∷ xs) (true ∷ ys) e = cc
+here_only (false ∷ xs) (false ∷ ys) e = ap (λ l. false ∷ l) (here_only xs ys e)
+
+-- the turn of a bit
+abbrev side : Bool → Turn
+side false = Left
+side true = Right
+
+-- the turn of bits that begin with others and a bit
+side_from : (xs ys : List Bool) (bit : Bool) → begin_with (xs ++ bit ∷ []) ys ≡ true → turn_of xs ys ≡ side bit
+side_from [] [] bit e = cc
+side_from [] (true ∷ ys) true e = refl
+side_from [] (true ∷ ys) false e = cc
+side_from [] (false ∷ ys) true e = cc
+side_from [] (false ∷ ys) false e = refl
+side_from (x ∷ xs) [] bit e = cc
+side_from (true ∷ xs) (true ∷ ys) bit e = side_from xs ys bit e
+side_from (true ∷ xs) (false ∷ ys) bit e = cc
+side_from (false ∷ xs) (true ∷ ys) bit e = cc
+side_from (false ∷ xs) (false ∷ ys) bit e = side_from xs ys bit e
+
+-- and of no others
+side_only : (xs ys : List Bool) (bit : Bool) → turn_of xs ys ≡ side bit → begin_with (xs ++ bit ∷ []) ys ≡ true
+side_only [] [] true e = cc
+side_only [] [] false e = cc
+side_only [] (true ∷ ys) true e = refl
+side_only [] (true ∷ ys) false e = cc
+side_only [] (false ∷ ys) true e = cc
+side_only [] (false ∷ ys) false e = refl
+side_only (x ∷ xs) [] true e = cc
+side_only (x ∷ xs) [] false e = cc
+side_only (true ∷ xs) (true ∷ ys) bit e = side_only xs ys bit e
+side_only (true ∷ xs) (false ∷ ys) true e = cc
+side_only (true ∷ xs) (false ∷ ys) false e = cc
+side_only (false ∷ xs) (true ∷ ys) true e = cc
+side_only (false ∷ xs) (true ∷ ys) false e = cc
+side_only (false ∷ xs) (false ∷ ys) bit e = side_only xs ys bit e
+
+-- prefixes of one way are the same
+one_way : (m n : Network) → way m ≡ way n → m ≡ n
+unfolding way
+one_way m n e =
+    let parts = families m.family n.family m.bits n.bits e in
+    λ i. record { family = parts.0 i; bits = parts.1 i }
+  where
+    families : (f g : Family) (xs ys : List Bool) → way record { family = f; bits = xs } ≡ way record { family = g; bits = ys } → (f ≡ g) × (xs ≡ ys)
+    families V4 V4 xs ys e = (refl, cc)
+    families V4 V6 xs ys e = cc
+    families V6 V4 xs ys e = cc
+    families V6 V6 xs ys e = (refl, cc)
+
+-- a prefix lies outside exactly where it isn't covered
+pub turn-outside : (m n : Network) → (turn_of (way m) (way n) ≡ Outside) ↔ (covers m n ≡ false)
+turn-outside m n = (λ e. covers-way m n ∙ outside_only (way m) (way n) e, λ e. outside_from (way m) (way n) (sym (covers-way m n) ∙ e))
+
+-- it lies here exactly where it is the other
+pub turn-here : (m n : Network) → (turn_of (way m) (way n) ≡ Here) ↔ (m ≡ n)
+turn-here m n = (λ e. one_way m n (here_only (way m) (way n) e), λ e. ap (λ k. turn_of (way m) (way k)) (sym e) ∙ here_from (way m))
+
+-- it lies on a side exactly where the half of that side covers it
+turn-side : (m n : Network) (bit : Bool) → (turn_of (way m) (way n) ≡ side bit) ↔ (covers (half m bit) n ≡ true)
+unfolding way
+turn-side m n bit = (λ e. covers-way (half m bit) n ∙ side_only (way m) (way n) bit e, λ e. side_from (way m) (way n) bit (sym (covers-way (half m bit) n) ∙ e))
+
+pub turn-left : (m n : Network) → (turn_of (way m) (way n) ≡ Left) ↔ (covers (half m false) n ≡ true)
+turn-left m n = turn-side m n false
+
+pub turn-right : (m n : Network) → (turn_of (way m) (way n) ≡ Right) ↔ (covers (half m true) n ≡ true)
+turn-right m n = turn-side m n true
+
+-- ---- what covers both
+
+-- bits begin with what they share with others
+shared_first : (xs ys : List Bool) → begin_with (shared xs ys) xs ≡ true
+shared_first [] ys = refl
+shared_first (x ∷ xs) [] = refl
+shared_first (true ∷ xs) (true ∷ ys) = shared_first xs ys
+shared_first (true ∷ xs) (false ∷ ys) = refl
+shared_first (false ∷ xs) (true ∷ ys) = refl
+shared_first (false ∷ xs) (false ∷ ys) = shared_first xs ys
+
+-- and so do the others
+shared_second : (xs ys : List Bool) → begin_with (shared xs ys) ys ≡ true
+shared_second [] ys = refl
+shared_second (x ∷ xs) [] = refl
+shared_second (true ∷ xs) (true ∷ ys) = shared_second xs ys
+shared_second (true ∷ xs) (false ∷ ys) = refl
+shared_second (false ∷ xs) (true ∷ ys) = refl
+shared_second (false ∷ xs) (false ∷ ys) = shared_second xs ys
+
+-- what both begin with is in front of what they share
+shared_most : (front xs ys : List Bool) → begin_with front xs ≡ true → begin_with front ys ≡ true → begin_with front (shared xs ys) ≡ true
+shared_most [] xs ys e f = refl
+shared_most (b ∷ front) [] ys e f = cc
+shared_most (b ∷ front) (x ∷ xs) [] e f = cc
+shared_most (true ∷ front) (true ∷ xs) (true ∷ ys) e f = shared_most front xs ys e f
+shared_most (true ∷ front) (true ∷ xs) (false ∷ ys) e f = cc
+shared_most (true ∷ front) (false ∷ xs) (y ∷ ys) e f = cc
+shared_most (false ∷ front) (false ∷ xs) (false ∷ ys) e f = shared_most front xs ys e f
+shared_most (false ∷ front) (false ∷ xs) (true ∷ ys) e f = cc
+shared_most (false ∷ front) (true ∷ xs) (y ∷ ys) e f = cc
+
+-- the prefix of the shared bits covers both
+pub covers-common : (m n : Network) → m.family ≡ n.family → (covers (common m n) m ≡ true) × (covers (common m n) n ≡ true)
+covers-common m n e = (covers_same (common m n) m refl ∙ shared_first m.bits n.bits, covers_same (common m n) n e ∙ shared_second m.bits n.bits)
+
+-- and those that cover both cover it
+pub common_least : (m n other : Network) → covers other m ≡ true → covers other n ≡ true → covers other (common m n) ≡ true
+common_least m n other p q =
+    let one = (covers_parts other m p).0 in
+    let two = (covers_parts other n q).0 in
+    covers_same other (common m n) one ∙ shared_most other.bits m.bits n.bits (sym (covers_same other m one) ∙ p) (sym (covers_same other n two) ∙ q)

@@ -1,0 +1,85 @@
+-- One slot put into a tree, seen from the nodes above it, and nodes split and joined.
+use Rattle.std.proofs.Common.{◌≡◌, Bool, true, false, cond, Option, None, List, refl, ap, sym, ◌∙◌}
+use Rattle.ip_prefix.specs.declared.turn.Turn.{Turn}
+use Rattle.ip_prefix.specs.declared.turn.Turn.TheVariants.{Outside, Here, Left, Right}
+use Rattle.ip_prefix.specs.Network.{Network}
+use Rattle.ip_prefix.specs.Turns.{way, turn_of}
+use Rattle.rib_store.specs.declared.tree.Tree.{Tree}
+use Rattle.rib_store.specs.declared.tree.Tree.TheVariants.{Empty}
+use Rattle.rib_store.specs.Tree.{at, chosen, same_way, IsOn, IsRooted, IsPut}
+use Rattle.rib_store.proofs.WayLaws.{same_is, here_is}
+use Rattle.rib_store.proofs.TreeLaws.{at_left, at_right, at_rooted}
+
+-- put into the left child
+pub put_left : {A : Type 0} (b key : List Bool) (none slot v : A) (l m r : List Bool → A) → turn_of b key ≡ Left → IsPut l key v m
+    → IsPut (λ q. chosen (turn_of b q) none slot (l q) (r q)) key v (λ q. chosen (turn_of b q) none slot (m q) (r q))
+put_left b key none slot v l m r there p q =
+    elim (same_way key q) as (λ s. same_way key q ≡ s → chosen (turn_of b q) none slot (m q) (r q) ≡ cond s v (chosen (turn_of b q) none slot (l q) (r q))) [
+      | true ↦ λ e.
+          ap (λ t. chosen t none slot (m q) (r q)) (ap (turn_of b) (sym (same_is key q e)) ∙ there) ∙ p q ∙ ap (λ s. cond s v (l q)) e
+      | false ↦ λ e. ap (λ x. chosen (turn_of b q) none slot x (r q)) (p q ∙ ap (λ s. cond s v (l q)) e)
+    ] refl
+
+-- put into the right child
+pub put_right : {A : Type 0} (b key : List Bool) (none slot v : A) (l r m : List Bool → A) → turn_of b key ≡ Right → IsPut r key v m
+    → IsPut (λ q. chosen (turn_of b q) none slot (l q) (r q)) key v (λ q. chosen (turn_of b q) none slot (l q) (m q))
+put_right b key none slot v l r m there p q =
+    elim (same_way key q) as (λ s. same_way key q ≡ s → chosen (turn_of b q) none slot (l q) (m q) ≡ cond s v (chosen (turn_of b q) none slot (l q) (r q))) [
+      | true ↦ λ e.
+          ap (λ t. chosen t none slot (l q) (m q)) (ap (turn_of b) (sym (same_is key q e)) ∙ there) ∙ p q ∙ ap (λ s. cond s v (r q)) e
+      | false ↦ λ e. ap (λ x. chosen (turn_of b q) none slot (l q) x) (p q ∙ ap (λ s. cond s v (r q)) e)
+    ] refl
+
+-- put at the node itself
+pub put_here : {A : Type 0} (b key : List Bool) (none slot v : A) (l r : List Bool → A) → turn_of b key ≡ Here
+    → IsPut (λ q. chosen (turn_of b q) none slot (l q) (r q)) key v (λ q. chosen (turn_of b q) none v (l q) (r q))
+put_here b key none slot v l r there q =
+    cases (turn_of b q) ∙ ap (λ (k : List Bool). cond (same_way k q) v (chosen (turn_of b q) none slot (l q) (r q))) (here_is b key there)
+  where
+    cases : (t : Turn) → chosen t none v (l q) (r q) ≡ cond (chosen t false true false false) v (chosen t none slot (l q) (r q))
+    cases Outside = refl
+    cases Here = refl
+    cases Left = refl
+    cases Right = refl
+
+-- nothing put where nothing is
+pub put_outside : {A : Type 0} (b key : List Bool) (none slot : A) (l r : List Bool → A) → turn_of b key ≡ Outside
+    → IsPut (λ q. chosen (turn_of b q) none slot (l q) (r q)) key none (λ q. chosen (turn_of b q) none slot (l q) (r q))
+put_outside b key none slot l r there q =
+    elim (same_way key q) as (λ s. same_way key q ≡ s → chosen (turn_of b q) none slot (l q) (r q) ≡ cond s none (chosen (turn_of b q) none slot (l q) (r q))) [
+      | true ↦ λ e. ap (λ t. chosen t none slot (l q) (r q)) (ap (turn_of b) (sym (same_is key q e)) ∙ there)
+      | false ↦ λ e. refl
+    ] refl
+
+-- what was before may be said in other words
+pub put_from : {A : Type 0} (f g h : List Bool → A) (key : List Bool) (v : A) → ((q : List Bool) → f q ≡ g q) → IsPut g key v h → IsPut f key v h
+put_from f g h key v same p q = p q ∙ ap (λ x. cond (same_way key q) v x) (sym (same q))
+
+-- where only a right child is left, it holds the same
+pub join_right : {R : Type 0} (prefix : Network) (l r child : Tree R) (slot : Option (Option R)) → slot ≡ None → l ≡ Empty → child ≡ r → IsOn (way prefix) true r
+    → (q : List Bool) → at child q ≡ chosen (turn_of (way prefix) q) None slot (at l q) (at r q)
+join_right prefix l r child slot s e h on q =
+    ap (λ t. at t q) h ∙ at_right (way prefix) r on q ∙ (λ i. chosen (turn_of (way prefix) q) None (sym s i) (at (sym e i) q) (at r q))
+
+pub join_left : {R : Type 0} (prefix : Network) (l r child : Tree R) (slot : Option (Option R)) → slot ≡ None → r ≡ Empty → child ≡ l → IsOn (way prefix) false l
+    → (q : List Bool) → at child q ≡ chosen (turn_of (way prefix) q) None slot (at l q) (at r q)
+join_left prefix l r child slot s e h on q =
+    ap (λ t. at t q) h ∙ at_left (way prefix) l on q ∙ (λ i. chosen (turn_of (way prefix) q) None (sym s i) (at l q) (at (sym e i) q))
+
+pub fork_left : {R : Type 0} (old new : Tree R) (prefix : Network) (slot v : Option (Option R)) (l r m : Tree R) (key : List Bool) → IsRooted prefix slot l r old → IsRooted prefix slot m r new
+    → turn_of (way prefix) key ≡ Left → IsPut (at l) key v (at m) → IsPut (at old) key v (at new)
+fork_left {R} old new prefix slot v l r m key was is there p q =
+    at_rooted new prefix slot m r is q
+    ∙ put_from (at old) _ (λ q. chosen (turn_of (way prefix) q) None slot (at m q) (at r q)) key v (at_rooted old prefix slot l r was) (put_left (way prefix) key None slot v (at l) (at m) (at r) there p) q
+
+pub fork_right : {R : Type 0} (old new : Tree R) (prefix : Network) (slot v : Option (Option R)) (l r m : Tree R) (key : List Bool) → IsRooted prefix slot l r old → IsRooted prefix slot l m new
+    → turn_of (way prefix) key ≡ Right → IsPut (at r) key v (at m) → IsPut (at old) key v (at new)
+fork_right {R} old new prefix slot v l r m key was is there p q =
+    at_rooted new prefix slot l m is q
+    ∙ put_from (at old) _ (λ q. chosen (turn_of (way prefix) q) None slot (at l q) (at m q)) key v (at_rooted old prefix slot l r was) (put_right (way prefix) key None slot v (at l) (at r) (at m) there p) q
+
+pub fork_here : {R : Type 0} (old new : Tree R) (prefix : Network) (slot v : Option (Option R)) (l r : Tree R) (key : List Bool) → IsRooted prefix slot l r old → IsRooted prefix v l r new
+    → turn_of (way prefix) key ≡ Here → IsPut (at old) key v (at new)
+fork_here {R} old new prefix slot v l r key was is there q =
+    at_rooted new prefix v l r is q
+    ∙ put_from (at old) _ (λ q. chosen (turn_of (way prefix) q) None v (at l q) (at r q)) key v (at_rooted old prefix slot l r was) (put_here (way prefix) key None slot v (at l) (at r) there) q

@@ -1,0 +1,189 @@
+-- What is found on the way to an address is the longest prefix with a route.
+use Rattle.std.proofs.Common.{◌≡◌, ◌≤◌, Bool, true, false, Option, Some, None, is_some, List, ◌⊎◌, inl, inr, length, refl, ap, sym, ◌∙◌, arith}
+use Rattle.std.specs.FinMap as finite
+use Rattle.ip_prefix.specs.declared.turn.Turn.{Turn}
+use Rattle.ip_prefix.specs.declared.turn.Turn.TheVariants.{Outside, Here, Left, Right}
+use Rattle.ip_prefix.specs.Address.{Address}
+use Rattle.ip_prefix.specs.Network.{Network, begin_with, contains}
+use Rattle.ip_prefix.specs.Turns.{way, turn_of}
+use Rattle.ip_prefix.proofs.Containing.{contains_parts}
+use Rattle.ip_prefix.proofs.Turns.{covers-way}
+use Rattle.rib_store.specs.declared.tree.Tree.{Tree}
+use Rattle.rib_store.specs.declared.tree.Tree.TheVariants.{Empty, Rooted'}
+use Rattle.rib_store.specs.declared.forest.Forest.{Forest}
+use Rattle.rib_store.specs.Stored.{IsLongest, IsLongestOf}
+use Rattle.rib_store.specs.Slots.{route_found, routes_in}
+use Rattle.rib_store.specs.Tree.{at, slot_of, side, chosen, IsShaped}
+use Rattle.rib_store.specs.Walks.{either_of, routed_at, deepest}
+use Rattle.rib_store.specs.Forest.{slots_in, tree_of, IsPlanted}
+use Rattle.rib_store.proofs.WayLaws.{here_is, turn_itself, begin_outside, begin_side, begin_in, turn_longer, length-way}
+use Rattle.rib_store.proofs.TreeLaws.{at_left, at_right}
+use Rattle.rib_store.proofs.SlotLaws.{get-routes_in}
+use Rattle.rib_store.proofs.ForestLaws.{slot_at-tree_of, shaped-family}
+
+-- the slot has the route, and the key begins with its way
+abbrev pub Holds : {R : Type 0} → (List Bool → Option (Option R)) → List Bool → List Bool → R → Type 0
+Holds slots key x route = (begin_with x key ≡ true) × (slots x ≡ Some (Some route))
+
+-- of those slots whose ways the key's begins with, the deepest that has a route, or none
+abbrev pub IsDeepest : {R : Type 0} → (List Bool → Option (Option R)) → List Bool → Option (Network × R) → Type 0
+IsDeepest {R} slots key None = (x : List Bool) (route : R) → Holds slots key x route → ⊥
+IsDeepest {R} slots key (Some found) = Holds slots key (way found.0) found.1 × ((x : List Bool) (route : R) → Holds slots key x route → length x ≤ length (way found.0))
+
+none_some : {R : Type 0} (o : Option (Option R)) (route : R) → o ≡ None → o ≡ Some (Some route) → ⊥
+none_some o route e f = cc
+
+vacant_some : {R : Type 0} (o : Option (Option R)) (route : R) → o ≡ Some None → o ≡ Some (Some route) → ⊥
+vacant_some o route e f = cc
+
+-- a node on the way, over what is found below it on the key's side
+on_way : {R : Type 0} (prefix : Network) (slot : Option (Option R)) (low : List Bool → Option (Option R)) (slots : List Bool → Option (Option R)) (key : List Bool) (s : Bool) (o : Option (Network × R))
+    → turn_of (way prefix) key ≡ side s
+    → ((x : List Bool) → turn_of (way prefix) x ≡ Here → slots x ≡ slot) → ((x : List Bool) → turn_of (way prefix) x ≡ side s → slots x ≡ low x)
+    → ((x : List Bool) (route : R) → low x ≡ Some (Some route) → turn_of (way prefix) x ≡ side s)
+    → ((x : List Bool) (route : R) → Holds slots key x route → (turn_of (way prefix) x ≡ Here) ⊎ (turn_of (way prefix) x ≡ side s))
+    → IsDeepest low key o → IsDeepest slots key (either_of o (routed_at prefix slot))
+on_way prefix slot low slots key s (Some found) there here below lies whence is =
+    let side_is = lies (way found.0) found.1 is.0.1 in (
+      (is.0.0, below (way found.0) side_is ∙ is.0.1),
+      λ x route h. elim (whence x route h) [
+        | inl at_node ↦ let longer = turn_longer (way prefix) (way found.0) s side_is in let same = ap length (here_is (way prefix) x at_node) in omega (arith, longer, same)
+        | inr on ↦ is.1 x route (h.0, sym (below x on) ∙ h.1)
+      ],
+    )
+on_way prefix None low slots key s None there here below lies whence is =
+    λ x route h. elim (whence x route h) [ inl at_node ↦ absurd (none_some (slots x) route (here x at_node) h.1) | inr on ↦ is x route (h.0, sym (below x on) ∙ h.1) ]
+on_way prefix (Some None) low slots key s None there here below lies whence is =
+    λ x route h. elim (whence x route h) [ inl at_node ↦ absurd (vacant_some (slots x) route (here x at_node) h.1) | inr on ↦ is x route (h.0, sym (below x on) ∙ h.1) ]
+on_way prefix (Some (Some found)) low slots key s None there here below lies whence is = (
+  (begin_in (way prefix) key (no s there), here (way prefix) (turn_itself (way prefix))),
+  λ x route h. elim (whence x route h) [
+    | inl at_node ↦ let same = ap length (here_is (way prefix) x at_node) in omega (arith, same)
+    | inr on ↦ absurd (is x route (h.0, sym (below x on) ∙ h.1))
+  ],
+)
+  where
+    no : (s : Bool) → turn_of (way prefix) key ≡ side s → turn_of (way prefix) key ≡ Outside → ⊥
+    no true e f = cc
+    no false e f = cc
+
+false_true : (b : Bool) → b ≡ false → b ≡ true → ⊥
+false_true b e f = cc
+
+-- the node is the key itself
+at_way : {R : Type 0} (prefix : Network) (slot : Option (Option R)) (slots : List Bool → Option (Option R)) (key : List Bool)
+    → begin_with (way prefix) key ≡ true → slots (way prefix) ≡ slot
+    → ((x : List Bool) (route : R) → Holds slots key x route → x ≡ (way prefix)) → IsDeepest slots key (routed_at prefix slot)
+at_way prefix None slots key there here only = λ x route h. none_some (slots x) route (ap slots (only x route h) ∙ here) h.1
+at_way prefix (Some None) slots key there here only = λ x route h. vacant_some (slots x) route (ap slots (only x route h) ∙ here) h.1
+at_way prefix (Some (Some found)) slots key there here only =
+    ((there, here), λ x route h. let e = ap length (only x route h) in omega (arith, e))
+
+-- what is found on the way to a key is the deepest
+pub deepest_is : {R : Type 0} (t : Tree R) (key : List Bool) → IsShaped t → IsDeepest (at t) key (deepest t key)
+deepest_is {R} Empty key shaped = λ x route h. none_some {R = R} None route refl h.1
+deepest_is {R} (Rooted' p prefix slot l r) key shaped =
+    turns (turn_of (way prefix) key) refl (deepest_is l key shaped.2) (deepest_is r key shaped.3)
+  where
+    slots : List Bool → Option (Option R)
+    slots x = chosen (turn_of (way prefix) x) None (slot_of slot) (at l x) (at r x)
+
+    turns : (k : Turn) → turn_of (way prefix) key ≡ k → IsDeepest (at l) key (deepest l key) → IsDeepest (at r) key (deepest r key)
+        → IsDeepest (at (Rooted' p prefix slot l r)) key (chosen k None (routed_at prefix (slot_of slot)) (either_of (deepest l key) (routed_at prefix (slot_of slot))) (either_of (deepest r key) (routed_at prefix (slot_of slot))))
+    turns Outside e f g = λ x route h. away x route h (turn_of (way prefix) x) refl
+      where
+        away : (x : List Bool) (route : R) → Holds (at (Rooted' p prefix slot l r)) key x route → (j : Turn) → turn_of (way prefix) x ≡ j → ⊥
+        away x route h Outside y = none_some (at (Rooted' p prefix slot l r) x) route (ap (λ t. chosen t None (slot_of slot) (at l x) (at r x)) y) h.1
+        away x route h Here y = false_true (begin_with x key) (begin_outside (way prefix) x key e (λ z. cc)) h.0
+        away x route h Left y = false_true (begin_with x key) (begin_outside (way prefix) x key e (λ z. cc)) h.0
+        away x route h Right y = false_true (begin_with x key) (begin_outside (way prefix) x key e (λ z. cc)) h.0
+    turns Here e f g =
+        at_way prefix (slot_of slot) (at (Rooted' p prefix slot l r)) key (begin_in (way prefix) key (λ z. cc))
+        (ap (λ t. chosen t None (slot_of slot) (at l (way prefix)) (at r (way prefix))) (turn_itself (way prefix)))
+        (λ x route h. only x route h (turn_of (way prefix) x) refl)
+      where
+        only : (x : List Bool) (route : R) → Holds (at (Rooted' p prefix slot l r)) key x route → (j : Turn) → turn_of (way prefix) x ≡ j → x ≡ (way prefix)
+        only x route h Outside y = absurd (none_some (at (Rooted' p prefix slot l r) x) route (ap (λ t. chosen t None (slot_of slot) (at l x) (at r x)) y) h.1)
+        only x route h Here y = sym (here_is (way prefix) x y)
+        only x route h Left y = absurd (false_true (begin_with x key) (begin_side (way prefix) x key false y (λ z. cc)) h.0)
+        only x route h Right y = absurd (false_true (begin_with x key) (begin_side (way prefix) x key true y (λ z. cc)) h.0)
+    turns Left e f g =
+        on_way prefix (slot_of slot) (at l) (at (Rooted' p prefix slot l r)) key false (deepest l key) e
+        (λ x y. ap (λ t. chosen t None (slot_of slot) (at l x) (at r x)) y) (λ x y. ap (λ t. chosen t None (slot_of slot) (at l x) (at r x)) y)
+        (λ x route h. lies x route h (turn_of (way prefix) x) refl) (λ x route h. whence x route h (turn_of (way prefix) x) refl) f
+      where
+        lies : (x : List Bool) (route : R) → at l x ≡ Some (Some route) → (j : Turn) → turn_of (way prefix) x ≡ j → turn_of (way prefix) x ≡ Left
+        lies x route h Outside y = absurd (none_some (at l x) route (at_left (way prefix) l shaped.0.left x ∙ ap (λ t. chosen t None None (at l x) None) y) h)
+        lies x route h Here y = absurd (none_some (at l x) route (at_left (way prefix) l shaped.0.left x ∙ ap (λ t. chosen t None None (at l x) None) y) h)
+        lies x route h Left y = y
+        lies x route h Right y = absurd (none_some (at l x) route (at_left (way prefix) l shaped.0.left x ∙ ap (λ t. chosen t None None (at l x) None) y) h)
+
+        whence : (x : List Bool) (route : R) → Holds (at (Rooted' p prefix slot l r)) key x route → (j : Turn) → turn_of (way prefix) x ≡ j → (turn_of (way prefix) x ≡ Here) ⊎ (turn_of (way prefix) x ≡ Left)
+        whence x route h Outside y = absurd (none_some (at (Rooted' p prefix slot l r) x) route (ap (λ t. chosen t None (slot_of slot) (at l x) (at r x)) y) h.1)
+        whence x route h Here y = inl y
+        whence x route h Left y = inr y
+        whence x route h Right y = absurd (false_true (begin_with x key) (begin_side (way prefix) x key true y (λ z. cc)) h.0)
+    turns Right e f g =
+        on_way prefix (slot_of slot) (at r) (at (Rooted' p prefix slot l r)) key true (deepest r key) e
+        (λ x y. ap (λ t. chosen t None (slot_of slot) (at l x) (at r x)) y) (λ x y. ap (λ t. chosen t None (slot_of slot) (at l x) (at r x)) y)
+        (λ x route h. lies x route h (turn_of (way prefix) x) refl) (λ x route h. whence x route h (turn_of (way prefix) x) refl) g
+      where
+        lies : (x : List Bool) (route : R) → at r x ≡ Some (Some route) → (j : Turn) → turn_of (way prefix) x ≡ j → turn_of (way prefix) x ≡ Right
+        lies x route h Outside y = absurd (none_some (at r x) route (at_right (way prefix) r shaped.0.right x ∙ ap (λ t. chosen t None None None (at r x)) y) h)
+        lies x route h Here y = absurd (none_some (at r x) route (at_right (way prefix) r shaped.0.right x ∙ ap (λ t. chosen t None None None (at r x)) y) h)
+        lies x route h Right y = y
+        lies x route h Left y = absurd (none_some (at r x) route (at_right (way prefix) r shaped.0.right x ∙ ap (λ t. chosen t None None None (at r x)) y) h)
+
+        whence : (x : List Bool) (route : R) → Holds (at (Rooted' p prefix slot l r)) key x route → (j : Turn) → turn_of (way prefix) x ≡ j → (turn_of (way prefix) x ≡ Here) ⊎ (turn_of (way prefix) x ≡ Right)
+        whence x route h Outside y = absurd (none_some (at (Rooted' p prefix slot l r) x) route (ap (λ t. chosen t None (slot_of slot) (at l x) (at r x)) y) h.1)
+        whence x route h Here y = inl y
+        whence x route h Right y = inr y
+        whence x route h Left y = absurd (false_true (begin_with x key) (begin_side (way prefix) x key false y (λ z. cc)) h.0)
+
+-- ---- over all routes
+
+-- the prefix of an address alone
+abbrev pub host : Address → Network
+host address = record { family = address.family; bits = address.bits }
+
+-- a prefix contains the address whose way begins with its way
+pub contains-way : (n : Network) (address : Address) → contains n address ≡ begin_with (way n) (way (host address))
+contains-way n address = covers-way n (host address)
+
+-- a route that is in a slot
+in_slot : {R : Type 0} (slot : Option (Option R)) → is_some (route_found slot) ≡ true → (route : R) × (slot ≡ Some (Some route))
+in_slot None e = cc
+in_slot (Some None) e = cc
+in_slot (Some (Some route)) e = (route, refl)
+
+no_route : {R : Type 0} (slot : Option (Option R)) → ((route : R) → slot ≡ Some (Some route) → ⊥) → route_found slot ≡ None
+no_route None none = refl
+no_route (Some None) none = refl
+no_route (Some (Some route)) none = absurd (none route refl)
+
+-- the deepest is the longest that contains the address
+longest_of : {R : Type 0} (slots : List Bool → Option (Option R)) (address : Address) (found : Option (Network × R)) → IsDeepest slots (way (host address)) found
+    → IsLongestOf (λ n. route_found (slots (way n))) address found
+longest_of slots address None is = λ n within. no_route (slots (way n)) (λ route e. is (way n) route (sym (contains-way n address) ∙ within, e))
+longest_of slots address (Some found) is = (
+  contains-way found.0 address ∙ is.0.0,
+  ap route_found is.0.1,
+  λ n within some.
+      let there = in_slot (slots (way n)) some in
+      let shorter = is.1 (way n) there.0 (sym (contains-way n address) ∙ within, there.1) in
+      omega (arith, shorter, length-way n, length-way found.0),
+)
+
+-- by what the prefixes that contain the address have
+longest-same : {R : Type 0} (one other : Network → Option R) (address : Address) (found : Option (Network × R)) → ((n : Network) → contains n address ≡ true → one n ≡ other n)
+    → IsLongestOf one address found → IsLongestOf other address found
+longest-same one other address None same is = λ n within. sym (same n within) ∙ is n within
+longest-same one other address (Some found) same is =
+    (is.0, sym (same found.0 is.0) ∙ is.1, λ n within some. is.2 n within (ap is_some (same n within) ∙ some))
+
+-- that is found in the tree of the address's family
+pub longest-is : {R : Type 0} (f : Forest R) → IsPlanted f → (address : Address) → IsLongest (routes_in (slots_in f)) address (deepest (tree_of address.family f) (way (host address)))
+longest-is f planted address =
+    longest-same (λ n. route_found (at (tree_of address.family f) (way n))) (finite.get (routes_in (slots_in f))) address (deepest (tree_of address.family f) (way (host address)))
+    (λ n within. sym (get-routes_in (slots_in f) n ∙ ap route_found (slot_at-tree_of f planted n address.family (contains_parts n address within).0)))
+    (longest_of (at (tree_of address.family f)) address (deepest (tree_of address.family f) (way (host address))) (deepest_is (tree_of address.family f) (way (host address)) (shaped-family f planted address.family)))

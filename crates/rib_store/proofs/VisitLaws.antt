@@ -1,0 +1,217 @@
+-- How many nodes a look-up meets: those that contain the address, or one more.
+use Rattle.std.proofs.Common.{◌≡◌, ℕ, ◌+◌, ◌≤◌, Bool, true, false, ◌&&◌, ◌||◌, List, [], ◌∷◌, ◌⊎◌, inl, inr, length, refl, ap, sym, ◌∙◌, arith}
+use Rattle.std.specs.Prelude.{IfSome}
+use Rattle.std.specs.declared.cmp.Ordering.TheVariants.{Less}
+use Rattle.std.specs.List.{AllByRecursion}
+use Rattle.std.specs.List.Sorted.{IsStrictlySortedBy}
+use Rattle.std.specs.Ordering.{eq_by_cmp, is_lt}
+use Rattle.std.specs.FinSet as set
+use Rattle.std.specs.FinSet.{contains-from_list}
+use Rattle.std.proofs.lemmas.Map.Keys.{IsDistinct-from_sorted}
+use Rattle.ip_prefix.specs.declared.addr.Family.{Family}
+use Rattle.ip_prefix.specs.declared.addr.Family.TheVariants.{V4, V6}
+use Rattle.ip_prefix.specs.declared.turn.Turn.{Turn}
+use Rattle.ip_prefix.specs.declared.turn.Turn.TheVariants.{Outside, Here, Left, Right}
+use Rattle.ip_prefix.specs.Address.{Address}
+use Rattle.ip_prefix.specs.Network.{Network, begin_with, contains}
+use Rattle.ip_prefix.specs.Order.{network_cmp}
+use Rattle.ip_prefix.specs.OrderLaws.{network_cmp_total}
+use Rattle.ip_prefix.specs.Turns.{way, turn_of}
+use Rattle.ip_prefix.proofs.Containing.{contains_parts}
+use Rattle.rib_store.specs.declared.tree.Tree.{Tree}
+use Rattle.rib_store.specs.declared.tree.Tree.TheVariants.{Empty, Rooted'}
+use Rattle.rib_store.specs.declared.forest.Forest.{Forest}
+use Rattle.rib_store.specs.Stored.{Keys}
+use Rattle.rib_store.specs.Slots.{keys_in}
+use Rattle.rib_store.specs.Tree.{side, chosen, root, IsOn, IsShaped}
+use Rattle.rib_store.specs.Walks.{visits}
+use Rattle.rib_store.specs.Forest.{slots_in, tree_of, IsPlanted}
+use Rattle.rib_store.specs.Nodes.{is_node, AreNodesTo, IsOrOneMore}
+use Rattle.rib_store.proofs.WayLaws.{here_is, turn_through, node_first, begin_outside, begin_side, begin_in, turn_longer, length-way}
+use Rattle.rib_store.proofs.SlotLaws.{len-from_list}
+use Rattle.rib_store.proofs.WalkLaws.{cmp-ways, tied-ways, less_than}
+use Rattle.rib_store.proofs.ForestLaws.{first_side, shaped-family}
+use Rattle.rib_store.proofs.NodeLaws.{node_at}
+use Rattle.rib_store.proofs.NodeSetLaws.{is_in, node-is, node_left, node_right}
+use Rattle.rib_store.proofs.DeepestLaws.{host, contains-way}
+
+-- the way to the root is at least as long
+abbrev pub AtLeast : {R : Type 0} → ℕ → Tree R → Type 0
+AtLeast n t = IfSome (root t) (λ b. n ≤ length b)
+
+on_longer : {R : Type 0} (t : Tree R) (b : List Bool) (bit : Bool) → IsOn b bit t → AtLeast (length b + 1) t
+on_longer Empty b bit on = tt
+on_longer (Rooted' p prefix slot l r) b bit on = omega (arith, turn_longer b (way prefix) bit on)
+
+-- each node that is met is longer than the one above it
+visits_le : {R : Type 0} (t : Tree R) (n : ℕ) (key : List Bool) → IsShaped t → AtLeast n t → n ≤ length key → visits t key + n ≤ length key + 1
+visits_le Empty n key shaped above within = omega arith
+visits_le {R} (Rooted' p prefix slot l r) n key shaped above within =
+    turns (turn_of (way prefix) key) refl
+    (λ h. visits_le l (length (way prefix) + 1) key shaped.2 (on_longer l (way prefix) false shaped.0.left) h)
+    (λ h. visits_le r (length (way prefix) + 1) key shaped.3 (on_longer r (way prefix) true shaped.0.right) h)
+  where
+    turns : (t : Turn) → turn_of (way prefix) key ≡ t
+        → (length (way prefix) + 1 ≤ length key → visits l key + (length (way prefix) + 1) ≤ length key + 1)
+        → (length (way prefix) + 1 ≤ length key → visits r key + (length (way prefix) + 1) ≤ length key + 1)
+        → 1 + chosen t 0 0 (visits l key) (visits r key) + n ≤ length key + 1
+    turns Outside e f g = omega arith
+    turns Here e f g = omega arith
+    turns Left e f g = let longer = turn_longer (way prefix) key false e in let below = f (omega arith) in omega (arith, longer, below, above)
+    turns Right e f g = let longer = turn_longer (way prefix) key true e in let below = g (omega arith) in omega (arith, longer, below, above)
+
+-- a tree of one family is left after as many nodes as the key has bits, and one
+pub visits-most : {R : Type 0} (t : Tree R) (bit : Bool) (key : List Bool) → IsShaped t → IsOn [] bit t → 1 ≤ length key → visits t key ≤ length key
+visits-most t bit key shaped on some = omega (arith, visits_le t 1 key shaped (on_longer t [] bit on) some)
+
+-- ---- the nodes that are met
+
+-- the nodes on the way to a key, whose ways it begins with
+abbrev pub path_in : {R : Type 0} → Tree R → List Bool → List Network
+path_in Empty key = []
+path_in (Rooted' p prefix slot l r) key = chosen (turn_of (way prefix) key) [] (prefix ∷ []) (prefix ∷ path_in l key) (prefix ∷ path_in r key)
+
+-- one node more may be visited
+pub visits_path : {R : Type 0} (t : Tree R) (key : List Bool) → (visits t key ≡ length (path_in t key)) ⊎ (visits t key ≡ length (path_in t key) + 1)
+visits_path Empty key = inl refl
+visits_path {R} (Rooted' p prefix slot l r) key = turns (turn_of (way prefix) key) (visits_path l key) (visits_path r key)
+  where
+    turns : (t : Turn) → (visits l key ≡ length (path_in l key)) ⊎ (visits l key ≡ length (path_in l key) + 1) → (visits r key ≡ length (path_in r key)) ⊎ (visits r key ≡ length (path_in r key) + 1)
+        → (1 + chosen t 0 0 (visits l key) (visits r key) ≡ length (chosen t [] (prefix ∷ []) (prefix ∷ path_in l key) (prefix ∷ path_in r key)))
+        ⊎ (1 + chosen t 0 0 (visits l key) (visits r key) ≡ length (chosen t [] (prefix ∷ []) (prefix ∷ path_in l key) (prefix ∷ path_in r key)) + 1)
+    turns Outside e f = inr (omega arith)
+    turns Here e f = inl (omega arith)
+    turns Left (inl e) f = inl (omega arith)
+    turns Left (inr e) f = inr (omega arith)
+    turns Right e (inl f) = inl (omega arith)
+    turns Right e (inr f) = inr (omega arith)
+
+and_none : (a b : Bool) → b ≡ false → false ≡ (a && b)
+and_none true b e = sym e
+and_none false b e = refl
+
+-- the nodes on the way, at the way of a query
+abbrev on_path : {R : Type 0} → Tree R → List Bool → List Bool → Bool
+on_path t key q = node_at t q && begin_with q key
+
+-- by where the key lies and where the query lies
+pub met : {R : Type 0} (t : Tree R) (key : List Bool) (q : Network) → IsShaped t → is_in (path_in t key) q ≡ on_path t key (way q)
+met Empty key q shaped = refl
+met {R} (Rooted' p prefix slot l r) key q shaped =
+    turns (turn_of (way prefix) key) (turn_of (way prefix) (way q)) refl refl (met l key q shaped.2) (met r key q shaped.3)
+  where
+    head : (j : Turn) → turn_of (way prefix) (way q) ≡ j → eq_by_cmp network_cmp q prefix ≡ chosen j false true false false
+    head j y = tied-ways q prefix ∙ ap (λ t. chosen t false true false false) y
+
+    begins : (k : Turn) → turn_of (way prefix) key ≡ k → turn_of (way prefix) (way q) ≡ Here → (k ≡ Outside → ⊥) → begin_with (way q) key ≡ true
+    begins k x y h = begin_in (way q) key (λ z. h (sym x ∙ ap (λ w. turn_of w key) (here_is (way prefix) (way q) y) ∙ z))
+
+    turns : (k j : Turn) → turn_of (way prefix) key ≡ k → turn_of (way prefix) (way q) ≡ j
+        → is_in (path_in l key) q ≡ on_path l key (way q) → is_in (path_in r key) q ≡ on_path r key (way q)
+        → is_in (chosen k [] (prefix ∷ []) (prefix ∷ path_in l key) (prefix ∷ path_in r key)) q ≡ (chosen j false true (node_at l (way q)) (node_at r (way q)) && begin_with (way q) key)
+    turns Outside Outside x y f g = refl
+    turns Outside Here x y f g = and_none true _ (begin_outside (way prefix) (way q) key x (λ z. cc))
+    turns Outside Left x y f g = and_none (node_at l (way q)) _ (begin_outside (way prefix) (way q) key x (λ z. cc))
+    turns Outside Right x y f g = and_none (node_at r (way q)) _ (begin_outside (way prefix) (way q) key x (λ z. cc))
+    turns Here Outside x y f g = ap (λ h. h || false) (head Outside y)
+    turns Here Here x y f g = ap (λ h. h || false) (head Here y) ∙ sym (begins Here x y (λ z. cc))
+    turns Here Left x y f g = ap (λ h. h || false) (head Left y) ∙ and_none (node_at l (way q)) _ (begin_side (way prefix) (way q) key false y (λ z. cc))
+    turns Here Right x y f g = ap (λ h. h || false) (head Right y) ∙ and_none (node_at r (way q)) _ (begin_side (way prefix) (way q) key true y (λ z. cc))
+    turns Left Outside x y f g = (λ i. head Outside y i || (f ∙ ap (λ h. h && begin_with (way q) key) (node_left (way prefix) l shaped.0.left (way q) ∙ ap (λ t. chosen t false false (node_at l (way q)) false) y)) i)
+    turns Left Here x y f g = ap (λ h. h || is_in (path_in l key) q) (head Here y) ∙ sym (begins Left x y (λ z. cc))
+    turns Left Left x y f g = (λ i. head Left y i || f i)
+    turns Left Right x y f g =
+        (λ i. head Right y i || (f ∙ ap (λ h. h && begin_with (way q) key) (node_left (way prefix) l shaped.0.left (way q) ∙ ap (λ t. chosen t false false (node_at l (way q)) false) y)) i)
+        ∙ and_none (node_at r (way q)) _ (begin_side (way prefix) (way q) key true y (λ z. cc))
+    turns Right Outside x y f g = (λ i. head Outside y i || (g ∙ ap (λ h. h && begin_with (way q) key) (node_right (way prefix) r shaped.0.right (way q) ∙ ap (λ t. chosen t false false false (node_at r (way q))) y)) i)
+    turns Right Here x y f g = ap (λ h. h || is_in (path_in r key) q) (head Here y) ∙ sym (begins Right x y (λ z. cc))
+    turns Right Right x y f g = (λ i. head Right y i || g i)
+    turns Right Left x y f g =
+        (λ i. head Left y i || (g ∙ ap (λ h. h && begin_with (way q) key) (node_right (way prefix) r shaped.0.right (way q) ∙ ap (λ t. chosen t false false false (node_at r (way q))) y)) i)
+        ∙ and_none (node_at l (way q)) _ (begin_side (way prefix) (way q) key false y (λ z. cc))
+
+-- ---- each is met once
+
+path-on : {R : Type 0} (P : Network → Type 0) (from : List Bool) (bit : Bool) → ((n : Network) → turn_of from (way n) ≡ side bit → P n)
+    → (t : Tree R) (key : List Bool) → IsShaped t → IsOn from bit t → AllByRecursion P (path_in t key)
+path-on P from bit holds Empty key shaped on = tt
+path-on {R} P from bit holds (Rooted' p prefix slot l r) key shaped on =
+    turns (turn_of (way prefix) key) (path-on P (way prefix) false (deeper false) l key shaped.2 shaped.0.left) (path-on P (way prefix) true (deeper true) r key shaped.3 shaped.0.right)
+  where
+    deeper : (s : Bool) (n : Network) → turn_of (way prefix) (way n) ≡ side s → P n
+    deeper s n h = holds n (turn_through from (way prefix) (way n) bit s on h)
+
+    turns : (k : Turn) → AllByRecursion P (path_in l key) → AllByRecursion P (path_in r key) → AllByRecursion P (chosen k [] (prefix ∷ []) (prefix ∷ path_in l key) (prefix ∷ path_in r key))
+    turns Outside f g = tt
+    turns Here f g = (holds prefix on, tt)
+    turns Left f g = (holds prefix on, f)
+    turns Right f g = (holds prefix on, g)
+
+sorted-path : {R : Type 0} (t : Tree R) (key : List Bool) → IsShaped t → IsStrictlySortedBy network_cmp (path_in t key)
+unfolding IsStrictlySortedBy
+sorted-path Empty key shaped = tt
+sorted-path {R} (Rooted' p prefix slot l r) key shaped = turns (turn_of (way prefix) key) (sorted-path l key shaped.2) (sorted-path r key shaped.3)
+  where
+    under : (s : Bool) (n : Network) → turn_of (way prefix) (way n) ≡ side s → network_cmp prefix n ≡ Less
+    under s n h = less_than (network_cmp prefix n) (ap is_lt (cmp-ways prefix n) ∙ (node_first (way prefix) (way n) s h).0)
+
+    turns : (k : Turn) → IsStrictlySortedBy network_cmp (path_in l key) → IsStrictlySortedBy network_cmp (path_in r key)
+        → IsStrictlySortedBy network_cmp (chosen k [] (prefix ∷ []) (prefix ∷ path_in l key) (prefix ∷ path_in r key))
+    turns Outside f g = tt
+    turns Here f g = (tt, tt)
+    turns Left f g = (path-on (λ y. network_cmp prefix y ≡ Less) (way prefix) false (under false) l key shaped.2 shaped.0.left, f)
+    turns Right f g = (path-on (λ y. network_cmp prefix y ≡ Less) (way prefix) true (under true) r key shaped.3 shaped.0.right, g)
+
+-- ---- in the tree of the address's family
+
+-- the nodes that contain the address
+abbrev pub met_nodes : {R : Type 0} → Forest R → Address → Keys
+met_nodes f address = set.from_list (path_in (tree_of address.family f) (way (host address)))
+
+len-met : {R : Type 0} (f : Forest R) → IsPlanted f → (address : Address) → set.len (met_nodes f address) ≡ length (path_in (tree_of address.family f) (way (host address)))
+len-met f planted address =
+    len-from_list (path_in (tree_of address.family f) (way (host address)))
+    (IsDistinct-from_sorted network_cmp _ (sorted-path (tree_of address.family f) (way (host address)) (shaped-family f planted address.family)))
+
+or_false : (a : Bool) → (a || false) ≡ a
+or_false true = refl
+or_false false = refl
+
+-- of both trees, the one of the family has the nodes of the family
+in_family : {R : Type 0} (f : Forest R) → IsPlanted f → (q : Network) (family : Family) → q.family ≡ family → (node_at f.v4 (way q) || node_at f.v6 (way q)) ≡ node_at (tree_of family f) (way q)
+in_family f planted q V4 e =
+    ap (λ b. node_at f.v4 (way q) || b) (node_right [] f.v6 planted.sides.right (way q) ∙ ap (λ t. chosen t false false false (node_at f.v6 (way q))) (first_side q V4 e))
+    ∙ or_false (node_at f.v4 (way q))
+in_family f planted q V6 e =
+    ap (λ b. b || node_at f.v6 (way q)) (node_left [] f.v4 planted.sides.left (way q) ∙ ap (λ t. chosen t false false (node_at f.v4 (way q)) false) (first_side q V6 e))
+
+and_same : (a b c : Bool) → (c ≡ true → a ≡ b) → (a && c) ≡ (b && c)
+and_same a b true same = ap (λ x. x && true) (same refl)
+and_same true true false same = refl
+and_same true false false same = refl
+and_same false true false same = refl
+and_same false false false same = refl
+
+pub are_nodes_to : {R : Type 0} (f : Forest R) → IsPlanted f → (address : Address) → AreNodesTo (keys_in (slots_in f)) address (met_nodes f address)
+are_nodes_to f planted address n =
+    contains-from_list network_cmp_total (path_in (tree_of address.family f) (way (host address))) n
+    ∙ met (tree_of address.family f) (way (host address)) n (shaped-family f planted address.family)
+    ∙ ap (λ b. node_at (tree_of address.family f) (way n) && b) (sym (contains-way n address))
+    ∙ and_same (node_at (tree_of address.family f) (way n)) (is_node (keys_in (slots_in f)) n) (contains n address)
+    (λ within. sym (in_family f planted n address.family (contains_parts n address within).0) ∙ node-is f planted n)
+
+-- the counter shows as many, or one more
+pub visits-met : {R : Type 0} (f : Forest R) → IsPlanted f → (address : Address) (old new : ℕ) → new ≡ old + visits (tree_of address.family f) (way (host address)) → IsOrOneMore (old + set.len (met_nodes f address)) new
+visits-met f planted address old new e =
+    let size = len-met f planted address in
+    elim (visits_path (tree_of address.family f) (way (host address))) [ inl h ↦ inl (omega (arith, size, e, h)) | inr h ↦ inr (omega (arith, size, e, h)) ]
+
+pub visits-few : {R : Type 0} (f : Forest R) → IsPlanted f → (address : Address) → visits (tree_of address.family f) (way (host address)) ≤ length address.bits + 1
+visits-few f planted address = families address.family
+  where
+    some : 1 ≤ length (way (host address))
+    some = omega (arith, length-way (host address))
+
+    families : (family : Family) → visits (tree_of family f) (way (host address)) ≤ length address.bits + 1
+    families V4 = omega (arith, length-way (host address), visits-most f.v4 false (way (host address)) planted.v4 planted.sides.left some)
+    families V6 = omega (arith, length-way (host address), visits-most f.v6 true (way (host address)) planted.v6 planted.sides.right some)

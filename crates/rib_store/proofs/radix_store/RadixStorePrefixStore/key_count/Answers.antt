@@ -1,0 +1,8 @@
+use Rattle.std.proofs.Common.{subst}
+use Rattle.rib_store.specs.Stored.{AreAmong}
+use Rattle.rib_store.specs.Forest.{slots_in}
+use Rattle.rib_store.proofs.SlotLaws.{among-slots}
+use Rattle.rib_store.proofs.radix_store.RadixStorePrefixStore.key_count.Goals as goal
+
+pub returns-clause-among : goal.returns-clause-among
+returns-clause-among g c = subst (λ s. AreAmong s.keys s.routes) c.self.view_is (among-slots (slots_in c.self.inside.forest))

@@ -1,0 +1,33 @@
+-- The nodes of a set of keys: its keys, and the prefixes at which it branches.
+use Rattle.std.specs.Prelude.{◌≡◌, ℕ, ◌+◌, ◌⊎◌, Bool, true, false, not, ◌&&◌, ◌||◌}
+use Rattle.std.specs.List.{list_any}
+use Rattle.std.specs.FinSet as set
+use Rattle.ip_prefix.specs.Address.{Address}
+use Rattle.ip_prefix.specs.Network.{Network, covers, contains}
+use Rattle.ip_prefix.specs.Turns.{half}
+use Rattle.rib_store.specs.Stored.{Keys}
+
+-- whether the prefix covers some key
+abbrev pub covers_some : Keys → Network → Bool
+covers_some keys n = list_any (covers n) (set.items keys)
+
+-- whether it isn't a key, and some keys of its family begin with its bits and a 0, others with its bits and a 1
+abbrev pub is_branch_point : Keys → Network → Bool
+is_branch_point keys n =
+    not (set.contains keys n) && (covers_some keys (half n false) && covers_some keys (half n true))
+
+-- whether it is a key or a branch point
+abbrev pub is_node : Keys → Network → Bool
+is_node keys n = set.contains keys n || is_branch_point keys n
+
+-- the set of the nodes
+abbrev pub AreNodes : Keys → Keys → Type 0
+AreNodes keys nodes = (n : Network) → set.contains nodes n ≡ is_node keys n
+
+-- the set of the nodes that contain the address
+abbrev pub AreNodesTo : Keys → Address → Keys → Type 0
+AreNodesTo keys address nodes = (n : Network) → set.contains nodes n ≡ (is_node keys n && contains n address)
+
+-- so many, or one more
+abbrev pub IsOrOneMore : ℕ → ℕ → Type 0
+IsOrOneMore size count = (count ≡ size) ⊎ (count ≡ size + 1)

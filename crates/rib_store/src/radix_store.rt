@@ -1,0 +1,159 @@
+//! A store that is a radix tree for each family.
+
+ghost use mir.Val.{bool_byte};
+ghost use Rattle.std.specs.Prelude.{◌≡◌, ℕ, ◌+◌, ◌*◌, ◌≤◌};
+ghost use Rattle.std.specs.Option.{option_map};
+ghost use Rattle.std.specs.FinMap as finite;
+ghost use Rattle.std.specs.FinSet as set;
+ghost use Rattle.ip_prefix.specs.Address.{bit_count};
+ghost use Rattle.rib_store.specs.Stored.{Keys, counted, IsLongest};
+ghost use Rattle.rib_store.specs.Slots.{keys_in, routes_in};
+ghost use Rattle.rib_store.specs.Forest.{slots_in, IsPlanted};
+ghost use Rattle.rib_store.specs.Nodes.{AreNodes, AreNodesTo, IsOrOneMore};
+
+use crate::forest::Forest;
+use crate::store::{GREATEST_COUNT, PrefixStore};
+use ip_prefix::{Addr, Prefix};
+use std::alloc::{AllocError, Global};
+use std::marker::Model;
+
+/// A store that is a path-compressed radix tree for each family, with counts of the keys and the
+/// routes beside them. Each look-up goes down one way, past at most 33 nodes for IPv4 and 129 for
+/// IPv6; `after` goes down it and on to the next route; the counts take no look-up.
+#[derive(Drop)]
+pub struct RadixStore<R> {
+    alloc: Global,
+    forest: Forest<R>,
+    key_count: u64,
+    route_count: u64,
+}
+
+impl<R> Model for RadixStore<R> {
+    ghost use Rattle.rib_store.specs.Stored.{Contents, coded_contents};
+    ghost use Rattle.rib_store.specs.Forest.{contents_of, IsCounted};
+
+    ghost Value = { Contents R };
+
+    ghost coded = { coded_contents R.code };
+
+    ghost view = { λ s. contents_of s.forest };
+
+    ghost invariant = { λ s. IsCounted s.forest s.key_count s.route_count };
+}
+
+impl<R: Drop> RadixStore<R> {
+    /// How many nodes the trees have: one for each key and each branch point, at most two a key;
+    /// `u64::MAX` where more. It walks over all of them.
+    pub fn nodes(&self) -> u64
+        ensures nodes { (nodes : Keys) × AreNodes self.now.keys nodes ×
+            (result ≡ counted (set.len nodes)) }
+        ensures twice { result ≤ 2 * set.len self.now.keys }
+    {
+        self.forest.node_count()
+    }
+
+    /// The answer of [`PrefixStore::longest`]. Each node that the look-up meets adds one to the
+    /// counter: those that contain the address, and at most one more.
+    pub fn longest_counted(&self, addr: &Addr, met: &mut u32) -> Option<(Prefix, &R)>
+        requires { met.old + bit_count addr.now.family + 1 ≤ u32.MAX }
+        ensures longest { IsLongest self.now.routes addr.now
+            (option_map (λ p. (p.0, p.1.now)) result) }
+        ensures most { met.new ≤ met.old + bit_count addr.now.family + 1 }
+        ensures met { (nodes : Keys) × AreNodesTo self.now.keys addr.now nodes ×
+            IsOrOneMore (met.old + set.len nodes) met.new }
+    {
+        self.forest.longest(addr, met)
+    }
+}
+
+impl<R: Drop> PrefixStore<R> for RadixStore<R> {
+    ghost keys = { λ s. s.keys };
+
+    ghost routes = { λ s. s.routes };
+
+    fn new(alloc: Global) -> Self {
+        RadixStore {
+            alloc,
+            forest: Forest::new(),
+            key_count: 0,
+            route_count: 0,
+        }
+    }
+
+    fn ensure(&mut self, prefix: Prefix) -> Result<bool, AllocError> {
+        let made = self.forest.ensure(self.alloc, &prefix)?;
+        self.key_count = self.key_count.saturating_add(u64::from(made));
+        Ok(made)
+    }
+
+    fn exchange(&mut self, prefix: &Prefix, route: &mut Option<R>) {
+        let brought = route.is_some();
+        self.forest.exchange(prefix, route);
+        self.route_count = routes_after(self.route_count, brought, route.is_some(), &self.forest);
+    }
+
+    fn discard(&mut self, prefix: &Prefix) {
+        self.forest.discard(prefix);
+        self.key_count = keys_less_one(self.key_count, &self.forest);
+    }
+
+    fn has_key(&self, prefix: &Prefix) -> bool {
+        self.forest.has_key(prefix)
+    }
+
+    fn get(&self, prefix: &Prefix) -> Option<&R> {
+        self.forest.get(prefix)
+    }
+
+    fn longest(&self, addr: &Addr) -> Option<(Prefix, &R)> {
+        let mut met = 0;
+        self.forest.longest(addr, &mut met)
+    }
+
+    fn after(&self, prefix: Option<&Prefix>) -> Option<(Prefix, &R)> {
+        match prefix {
+            Some(low) => self.forest.after(low),
+            None => self.forest.first(),
+        }
+    }
+
+    fn key_count(&self) -> u64 {
+        self.key_count
+    }
+
+    fn route_count(&self) -> u64 {
+        self.route_count
+    }
+}
+
+// The count of the routes once one was brought and one given back, where they were. A count that
+// had stopped at the greatest number is made anew.
+fn routes_after<R: Drop>(count: u64, brought: bool, given: bool, forest: &Forest<R>) -> u64
+    requires planted { IsPlanted forest.now }
+    requires count { (old : ℕ) × (count ≡ counted old) ×
+        (finite.len (routes_in (slots_in forest.now)) + bool_byte given ≡ old + bool_byte brought) }
+    ensures { result ≡ counted (finite.len (routes_in (slots_in forest.now))) }
+{
+    if brought == given {
+        return count;
+    }
+    if brought {
+        return count.saturating_add(1);
+    }
+    if count == GREATEST_COUNT {
+        return forest.route_count();
+    }
+    count - 1
+}
+
+// The count of the keys once one is gone.
+fn keys_less_one<R: Drop>(count: u64, forest: &Forest<R>) -> u64
+    requires planted { IsPlanted forest.now }
+    requires count { count ≡ counted (set.len (keys_in (slots_in forest.now)) + 1) }
+    ensures { result ≡ counted (set.len (keys_in (slots_in forest.now))) }
+{
+    if count == GREATEST_COUNT {
+        return forest.key_count();
+    }
+    count - 1
+}
