@@ -4,10 +4,9 @@ use denote.Enum.Bare.{sameb}
 use Rattle.ip_prefix.specs.Network.{Network, begin_with, covers}
 use Rattle.ip_prefix.specs.declared.addr.Family.{Family}
 use Rattle.ip_prefix.specs.declared.addr.Family.TheVariants.{V4, V6}
-use Rattle.ip_prefix.specs.declared.turn.Turn.{Turn}
 use Rattle.ip_prefix.specs.declared.turn.Turn.TheVariants.{Outside, Here, Left, Right}
 use Rattle.ip_prefix.specs.contracts.addr.Family.{the_type}
-use Rattle.ip_prefix.specs.Turns.{way, turn_of, shared, half, common}
+use Rattle.ip_prefix.specs.Turns.{way, turn_of, side, shared, half, common}
 use Rattle.ip_prefix.proofs.Beginning.{covers_same}
 use Rattle.ip_prefix.proofs.Containing.{covers_parts}
 
@@ -69,13 +68,13 @@ outside_only (false ∷ xs) (true ∷ ys) e = refl
 outside_only (false ∷ xs) (false ∷ ys) e = outside_only xs ys e
 
 -- the turn of bits from themselves
-here_from : (xs : List Bool) → turn_of xs xs ≡ Here
+pub here_from : (xs : List Bool) → turn_of xs xs ≡ Here
 here_from [] = refl
 here_from (true ∷ xs) = here_from xs
 here_from (false ∷ xs) = here_from xs
 
 -- and from no others
-here_only : (xs ys : List Bool) → turn_of xs ys ≡ Here → xs ≡ ys
+pub here_only : (xs ys : List Bool) → turn_of xs ys ≡ Here → xs ≡ ys
 here_only [] [] e = refl
 here_only [] (true ∷ ys) e = cc
 here_only [] (false ∷ ys) e = cc
@@ -84,11 +83,6 @@ here_only (true ∷ xs) (true ∷ ys) e = ap (λ l. true ∷ l) (here_only xs ys
 here_only (true ∷ xs) (false ∷ ys) e = cc
 here_only (false ∷ xs) (true ∷ ys) e = cc
 here_only (false ∷ xs) (false ∷ ys) e = ap (λ l. false ∷ l) (here_only xs ys e)
-
--- the turn of a bit
-abbrev side : Bool → Turn
-side false = Left
-side true = Right
 
 -- the turn of bits that begin with others and a bit
 side_from : (xs ys : List Bool) (bit : Bool) → begin_with (xs ++ bit ∷ []) ys ≡ true → turn_of xs ys ≡ side bit

@@ -1,5 +1,6 @@
 pub mod Bits
 pub mod Highest
+pub mod Halves
 pub mod Address
 pub mod Network
 pub mod Turns

@@ -23,6 +23,11 @@ turn_of [] (true ∷ bits) = Right
 turn_of (first ∷ more) [] = Outside
 turn_of (first ∷ more) (bit ∷ bits) = cond (same_bit first bit) (turn_of more bits) Outside
 
+-- the turn by a bit
+abbrev pub side : Bool → Turn
+side false = Left
+side true = Right
+
 -- the bits that both begin with
 abbrev pub shared : List Bool → List Bool → List Bool
 shared [] bits = []

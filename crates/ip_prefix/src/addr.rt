@@ -7,6 +7,7 @@ ghost use Rattle.ip_prefix.specs.Bits.{bits_of_octets};
 ghost use Rattle.ip_prefix.specs.Highest.{highest_bits};
 ghost use Rattle.ip_prefix.specs.Order.{family_cmp};
 
+use crate::number::Number;
 use std::cmp::Ordering;
 use std::marker::Model;
 
@@ -34,6 +35,9 @@ pub(crate) const GROUP_COUNT: usize = 8;
 /// How many bits the numbers have that addresses and prefixes are kept as.
 pub(crate) const NUMBER_BITS: u8 = 128;
 
+/// How many bits half such a number has.
+pub(crate) const HALF_BITS: u8 = 64;
+
 /// The two families of Internet addresses.
 #[derive(Clone, Copy, Debug, PartialEq, Eq, PartialOrd, Ord)]
 pub enum Family {
@@ -60,7 +64,7 @@ impl Family {
 /// for either family, so that masks and comparisons are single operations.
 #[derive(Clone, Copy, Debug)]
 pub struct Addr {
-    number: u128,
+    number: Number,
     family: Family,
 }
 
@@ -97,7 +101,7 @@ impl Addr {
     {
         let number = u128::from(u32::from_be_bytes(octets)) << (NUMBER_BITS - V4_BITS);
         Addr {
-            number,
+            number: Number::new(number),
             family: Family::V4,
         }
     }
@@ -108,7 +112,7 @@ impl Addr {
         ensures { result ≡ record { family = Family.V6; bits = bits_of_octets octets } }
     {
         Addr {
-            number: u128::from_be_bytes(octets),
+            number: Number::new(u128::from_be_bytes(octets)),
             family: Family::V6,
         }
     }
@@ -122,7 +126,10 @@ impl Addr {
           bits = highest_bits (bit_count family) number;
         } }
     {
-        Addr { number, family }
+        Addr {
+            number: Number::new(number),
+            family,
+        }
     }
 
     /// The number that the address is kept as.
@@ -131,7 +138,7 @@ impl Addr {
         ensures aligned { IsAligned self.now.family result }
         ensures bits { self.now.bits ≡ highest_bits (bit_count self.now.family) result }
     {
-        self.number
+        self.number.get()
     }
 
     /// The family that it is of.
@@ -149,7 +156,7 @@ impl Addr {
         requires { place < octet_count self.now.family }
         ensures { result ≡ octet_at self.now place }
     {
-        (self.number >> (NUMBER_BITS as usize - OCTET_BITS - OCTET_BITS * place) & 0xff) as u8
+        (self.number.get() >> (NUMBER_BITS as usize - OCTET_BITS - OCTET_BITS * place) & 0xff) as u8
     }
 
     /// The group of 16 bits at a place, counted from 0 in the order in which they are written.
@@ -158,7 +165,7 @@ impl Addr {
         requires { GROUP_BITS * place + GROUP_BITS ≤ bit_count self.now.family }
         ensures { result ≡ group_at self.now place }
     {
-        (self.number >> (NUMBER_BITS as usize - GROUP_BITS - GROUP_BITS * place) & 0xffff) as u16
+        (self.number.get() >> (NUMBER_BITS as usize - GROUP_BITS - GROUP_BITS * place) & 0xffff) as u16
     }
 
     /// The bit at a place, counted from 0 at the most significant one.
@@ -167,7 +174,7 @@ impl Addr {
         requires { place < bit_count self.now.family }
         ensures { slice_get self.now.bits place ≡ Some result }
     {
-        self.number >> (NUMBER_BITS as usize - 1 - place) & 1 == 1
+        self.number.get() >> (NUMBER_BITS as usize - 1 - place) & 1 == 1
     }
 }
 
@@ -225,7 +232,7 @@ impl Ord for Addr {
 
     #[inline]
     fn cmp(&self, other: &Addr) -> Ordering {
-        compare_families(self.family, other.family).then(self.number.cmp(&other.number))
+        compare_families(self.family, other.family).then(self.number.get().cmp(&other.number.get()))
     }
 }
 

@@ -4,6 +4,7 @@
 mod addr;
 mod decimal;
 mod laws;
+mod number;
 mod parse;
 mod prefix;
 mod text;

@@ -9,6 +9,7 @@ ghost use Rattle.ip_prefix.specs.Sequences.{BeginsWithNone};
 ghost use Rattle.ip_prefix.specs.Wire.{SpellsNetwork};
 
 use crate::addr::{Addr, Family, NUMBER_BITS, OCTET_BITS, V6_OCTETS, compare_families};
+use crate::number::Number;
 use std::cmp::Ordering;
 use std::marker::Model;
 
@@ -16,7 +17,7 @@ use std::marker::Model;
 /// and the number of bits.
 #[derive(Clone, Copy, Debug)]
 pub struct Prefix {
-    number: u128,
+    number: Number,
     len: u8,
     family: Family,
 }
@@ -58,7 +59,7 @@ impl Prefix {
             return None;
         }
         Some(Prefix {
-            number: highest(addr.number(), len),
+            number: Number::new(highest(addr.number(), len)),
             len,
             family,
         })
@@ -71,7 +72,7 @@ impl Prefix {
     {
         let family = addr.family();
         Prefix {
-            number: addr.number(),
+            number: Number::new(addr.number()),
             len: family.width(),
             family,
         }
@@ -90,7 +91,7 @@ impl Prefix {
         ensures value { result ≡ least_address self.now }
         ensures whole { IsAddress result }
     {
-        Addr::aligned(self.number, self.family)
+        Addr::aligned(self.number.get(), self.family)
     }
 
     /// The number that the prefix is kept as: its bits are the highest, and zeros stand below.
@@ -99,7 +100,7 @@ impl Prefix {
         ensures { bits_of NUMBER_BITS result
             ≡ self.now.bits ++ replicate (NUMBER_BITS - length self.now.bits) false }
     {
-        self.number
+        self.number.get()
     }
 
     /// The prefix of its first bits, as many as are named.
@@ -109,7 +110,7 @@ impl Prefix {
         ensures { result ≡ record { family = self.now.family; bits = take len self.now.bits } }
     {
         Prefix {
-            number: highest(self.number, len),
+            number: Number::new(highest(self.number.get(), len)),
             len,
             family: self.family,
         }
@@ -120,7 +121,7 @@ impl Prefix {
     pub fn contains(&self, addr: &Addr) -> bool
         ensures { result ≡ contains self.now addr.now }
     {
-        self.family == addr.family() && highest(addr.number(), self.len) == self.number
+        self.family == addr.family() && highest(addr.number(), self.len) == self.number.get()
     }
 
     /// Whether the other prefix is of the same family and begins with the bits of this one.
@@ -130,7 +131,7 @@ impl Prefix {
     {
         self.family == other.family
             && self.len <= other.len
-            && highest(other.number, self.len) == self.number
+            && highest(other.number.get(), self.len) == self.number.get()
     }
 
     /// The prefix of this family that the octets begin with (RFC 4271, section 4.3), and how many
@@ -153,7 +154,7 @@ impl Prefix {
         let number = highest(u128::from_be_bytes(buffer), len);
         Some((
             Prefix {
-                number,
+                number: Number::new(number),
                 len,
                 family,
             },
@@ -226,7 +227,7 @@ impl Ord for Prefix {
     #[inline]
     fn cmp(&self, other: &Prefix) -> Ordering {
         compare_families(self.family, other.family)
-            .then(self.number.cmp(&other.number))
+            .then(self.number.get().cmp(&other.number.get()))
             .then(self.len.cmp(&other.len))
     }
 }

@@ -3,7 +3,7 @@
 ghost use Rattle.std.specs.Prelude.{◌≡◌, length};
 ghost use Rattle.ip_prefix.specs.declared.addr.TheConstants.{NUMBER_BITS};
 ghost use Rattle.ip_prefix.specs.Bits.{bits_of};
-ghost use Rattle.ip_prefix.specs.Turns.{way, turn_of, shared};
+ghost use Rattle.ip_prefix.specs.Turns.{way, turn_of, shared, common};
 
 use crate::prefix::Prefix;
 
@@ -46,10 +46,7 @@ impl Prefix {
     #[inline]
     pub fn common(&self, other: &Prefix) -> Prefix
         requires { self.now.family ≡ other.now.family }
-        ensures { result ≡ record {
-          family = self.now.family;
-          bits = shared self.now.bits other.now.bits;
-        } }
+        ensures { result ≡ common self.now other.now }
     {
         let shared = shared_bits(self.number(), other.number());
         self.front(shared.min(self.len()).min(other.len()))

@@ -4,10 +4,11 @@ use Rattle.ip_prefix.specs.declared.turn.Turn.{Turn}
 use Rattle.ip_prefix.specs.declared.turn.Turn.TheVariants.{Outside, Here, Left, Right}
 use Rattle.ip_prefix.specs.Network.{Network}
 use Rattle.ip_prefix.specs.Turns.{way, turn_of}
+use Rattle.ip_prefix.proofs.Turns.{here_only}
 use Rattle.rib_store.specs.declared.tree.Tree.{Tree}
 use Rattle.rib_store.specs.declared.tree.Tree.TheVariants.{Empty}
 use Rattle.rib_store.specs.Tree.{at, chosen, same_way, IsOn, IsRooted, IsPut}
-use Rattle.rib_store.proofs.WayLaws.{same_is, here_is}
+use Rattle.rib_store.proofs.WayLaws.{same_is}
 use Rattle.rib_store.proofs.TreeLaws.{at_left, at_right, at_rooted}
 
 -- put into the left child
@@ -34,7 +35,7 @@ put_right b key none slot v l r m there p q =
 pub put_here : {A : Type 0} (b key : List Bool) (none slot v : A) (l r : List Bool → A) → turn_of b key ≡ Here
     → IsPut (λ q. chosen (turn_of b q) none slot (l q) (r q)) key v (λ q. chosen (turn_of b q) none v (l q) (r q))
 put_here b key none slot v l r there q =
-    cases (turn_of b q) ∙ ap (λ (k : List Bool). cond (same_way k q) v (chosen (turn_of b q) none slot (l q) (r q))) (here_is b key there)
+    cases (turn_of b q) ∙ ap (λ (k : List Bool). cond (same_way k q) v (chosen (turn_of b q) none slot (l q) (r q))) (here_only b key there)
   where
     cases : (t : Turn) → chosen t none v (l q) (r q) ≡ cond (chosen t false true false false) v (chosen t none slot (l q) (r q))
     cases Outside = refl

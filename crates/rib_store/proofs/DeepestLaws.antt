@@ -5,18 +5,18 @@ use Rattle.ip_prefix.specs.declared.turn.Turn.{Turn}
 use Rattle.ip_prefix.specs.declared.turn.Turn.TheVariants.{Outside, Here, Left, Right}
 use Rattle.ip_prefix.specs.Address.{Address}
 use Rattle.ip_prefix.specs.Network.{Network, begin_with, contains}
-use Rattle.ip_prefix.specs.Turns.{way, turn_of}
+use Rattle.ip_prefix.specs.Turns.{way, turn_of, side}
 use Rattle.ip_prefix.proofs.Containing.{contains_parts}
-use Rattle.ip_prefix.proofs.Turns.{covers-way}
+use Rattle.ip_prefix.proofs.Turns.{covers-way, here_only, here_from}
 use Rattle.rib_store.specs.declared.tree.Tree.{Tree}
 use Rattle.rib_store.specs.declared.tree.Tree.TheVariants.{Empty, Rooted'}
 use Rattle.rib_store.specs.declared.forest.Forest.{Forest}
 use Rattle.rib_store.specs.Stored.{IsLongest, IsLongestOf}
 use Rattle.rib_store.specs.Slots.{route_found, routes_in}
-use Rattle.rib_store.specs.Tree.{at, slot_of, side, chosen, IsShaped}
+use Rattle.rib_store.specs.Tree.{at, slot_of, chosen, IsShaped}
 use Rattle.rib_store.specs.Walks.{either_of, routed_at, deepest}
 use Rattle.rib_store.specs.Forest.{slots_in, tree_of, IsPlanted}
-use Rattle.rib_store.proofs.WayLaws.{here_is, turn_itself, begin_outside, begin_side, begin_in, turn_longer, length-way}
+use Rattle.rib_store.proofs.WayLaws.{begin_outside, begin_side, begin_in, turn_longer, length-way}
 use Rattle.rib_store.proofs.TreeLaws.{at_left, at_right}
 use Rattle.rib_store.proofs.SlotLaws.{get-routes_in}
 use Rattle.rib_store.proofs.ForestLaws.{slot_at-tree_of, shaped-family}
@@ -47,7 +47,7 @@ on_way prefix slot low slots key s (Some found) there here below lies whence is 
     let side_is = lies (way found.0) found.1 is.0.1 in (
       (is.0.0, below (way found.0) side_is ∙ is.0.1),
       λ x route h. elim (whence x route h) [
-        | inl at_node ↦ let longer = turn_longer (way prefix) (way found.0) s side_is in let same = ap length (here_is (way prefix) x at_node) in omega (arith, longer, same)
+        | inl at_node ↦ let longer = turn_longer (way prefix) (way found.0) s side_is in let same = ap length (here_only (way prefix) x at_node) in omega (arith, longer, same)
         | inr on ↦ is.1 x route (h.0, sym (below x on) ∙ h.1)
       ],
     )
@@ -56,9 +56,9 @@ on_way prefix None low slots key s None there here below lies whence is =
 on_way prefix (Some None) low slots key s None there here below lies whence is =
     λ x route h. elim (whence x route h) [ inl at_node ↦ absurd (vacant_some (slots x) route (here x at_node) h.1) | inr on ↦ is x route (h.0, sym (below x on) ∙ h.1) ]
 on_way prefix (Some (Some found)) low slots key s None there here below lies whence is = (
-  (begin_in (way prefix) key (no s there), here (way prefix) (turn_itself (way prefix))),
+  (begin_in (way prefix) key (no s there), here (way prefix) (here_from (way prefix))),
   λ x route h. elim (whence x route h) [
-    | inl at_node ↦ let same = ap length (here_is (way prefix) x at_node) in omega (arith, same)
+    | inl at_node ↦ let same = ap length (here_only (way prefix) x at_node) in omega (arith, same)
     | inr on ↦ absurd (is x route (h.0, sym (below x on) ∙ h.1))
   ],
 )
@@ -99,12 +99,12 @@ deepest_is {R} (Rooted' p prefix slot l r) key shaped =
         away x route h Right y = false_true (begin_with x key) (begin_outside (way prefix) x key e (λ z. cc)) h.0
     turns Here e f g =
         at_way prefix (slot_of slot) (at (Rooted' p prefix slot l r)) key (begin_in (way prefix) key (λ z. cc))
-        (ap (λ t. chosen t None (slot_of slot) (at l (way prefix)) (at r (way prefix))) (turn_itself (way prefix)))
+        (ap (λ t. chosen t None (slot_of slot) (at l (way prefix)) (at r (way prefix))) (here_from (way prefix)))
         (λ x route h. only x route h (turn_of (way prefix) x) refl)
       where
         only : (x : List Bool) (route : R) → Holds (at (Rooted' p prefix slot l r)) key x route → (j : Turn) → turn_of (way prefix) x ≡ j → x ≡ (way prefix)
         only x route h Outside y = absurd (none_some (at (Rooted' p prefix slot l r) x) route (ap (λ t. chosen t None (slot_of slot) (at l x) (at r x)) y) h.1)
-        only x route h Here y = sym (here_is (way prefix) x y)
+        only x route h Here y = sym (here_only (way prefix) x y)
         only x route h Left y = absurd (false_true (begin_with x key) (begin_side (way prefix) x key false y (λ z. cc)) h.0)
         only x route h Right y = absurd (false_true (begin_with x key) (begin_side (way prefix) x key true y (λ z. cc)) h.0)
     turns Left e f g =

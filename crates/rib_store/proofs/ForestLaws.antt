@@ -13,12 +13,12 @@ use Rattle.ip_prefix.specs.declared.turn.Turn.TheVariants.{Outside, Here, Left, 
 use Rattle.ip_prefix.specs.Network.{Network}
 use Rattle.ip_prefix.specs.Order.{network_cmp}
 use Rattle.ip_prefix.specs.OrderLaws.{network_cmp_total}
-use Rattle.ip_prefix.specs.Turns.{family_bit, way, turn_of}
+use Rattle.ip_prefix.specs.Turns.{family_bit, way, turn_of, side}
 use Rattle.rib_store.specs.declared.tree.Tree.{Tree}
 use Rattle.rib_store.specs.declared.forest.Forest.{Forest}
 use Rattle.rib_store.specs.Stored.{put}
 use Rattle.rib_store.specs.Slots.{Slots, slot_at, keys_in, routes_in, route_found, routed}
-use Rattle.rib_store.specs.Tree.{at, slots_of, side, chosen, kept, same_way, AreOf, IsOn, IsPut, IsShaped}
+use Rattle.rib_store.specs.Tree.{at, slots_of, chosen, kept, same_way, AreOf, IsOn, IsPut, IsShaped}
 use Rattle.rib_store.specs.Walks.{either_of, first, behind}
 use Rattle.rib_store.specs.Forest.{slots_in, tree_of, IsPlanted, ChangesAt}
 use Rattle.rib_store.proofs.WayLaws.{first_turn, left_first}

@@ -3,10 +3,10 @@ use Rattle.std.proofs.Common.{◌≡◌, Bool, true, false, cond, not, Option, S
 use Rattle.ip_prefix.specs.declared.turn.Turn.{Turn}
 use Rattle.ip_prefix.specs.declared.turn.Turn.TheVariants.{Outside, Here, Left, Right}
 use Rattle.ip_prefix.specs.Network.{Network}
-use Rattle.ip_prefix.specs.Turns.{way, turn_of, shared}
+use Rattle.ip_prefix.specs.Turns.{way, turn_of, shared, side}
 use Rattle.rib_store.specs.declared.tree.Tree.{Tree}
 use Rattle.rib_store.specs.declared.tree.Tree.TheVariants.{Empty, Rooted'}
-use Rattle.rib_store.specs.Tree.{at, slot_of, side, chosen, root, kept, joined, IsOn, IsRooted, IsShaped, IsPut, IsGrown, Stands}
+use Rattle.rib_store.specs.Tree.{at, slot_of, chosen, root, kept, joined, IsOn, IsRooted, IsShaped, IsPut, IsGrown, Stands}
 use Rattle.rib_store.proofs.WayLaws.{turn_shared, shared_inside, parts}
 use Rattle.rib_store.proofs.TreeLaws.{at_left, at_right, at_rooted, rooted_shaped, shaped_rooted, root_rooted, some_is, on_side}
 use Rattle.rib_store.proofs.ChangeLaws.{put_left, put_right, put_here, put_from}
@@ -112,9 +112,6 @@ leaf_slots key t is q = at_rooted t key (Some None) Empty Empty is q ∙ put_lea
 
 pub leaf_shaped : {R : Type 0} (key : Network) (t : Tree R) → IsRooted key (Some None) Empty Empty t → IsShaped t
 leaf_shaped key t is = shaped_rooted t key (Some None) Empty Empty is (record { left = tt; right = tt }, tt, tt, tt)
-
-pub grown_leaf : {R : Type 0} {new : Tree R} (key : Network) → IsRooted key (Some None) Empty Empty new → IsGrown (way key) Empty new
-grown_leaf {new = new} key is = record { shaped = leaf_shaped key new is; slots = leaf_slots key new is; roots = root_rooted new key (Some None) Empty Empty is }
 
 -- nothing is at a key outside of the way to the root
 at_outside : {R : Type 0} (t : Tree R) (b key : List Bool) → root t ≡ Some b → turn_of b key ≡ Outside → at t key ≡ None

@@ -1,16 +1,18 @@
 -- A node stands exactly where a key is, or where keys lie on both sides.
 use Rattle.std.proofs.Common.{◌≡◌, Bool, true, false, not, ◌&&◌, ◌||◌, Option, Some, None, is_some, List, ◌⊎◌, inl, inr, refl, ap, sym, subst, ◌∙◌}
+use Rattle.std.proofs.Math.Bool.{or-true}
 use Rattle.std.specs.Prelude.{IsSome}
 use Rattle.ip_prefix.specs.declared.turn.Turn.{Turn}
 use Rattle.ip_prefix.specs.declared.turn.Turn.TheVariants.{Outside, Here, Left, Right}
 use Rattle.ip_prefix.specs.Network.{Network}
-use Rattle.ip_prefix.specs.Turns.{way, turn_of}
+use Rattle.ip_prefix.specs.Turns.{way, turn_of, side}
+use Rattle.ip_prefix.proofs.Turns.{here_only, here_from}
 use Rattle.rib_store.specs.declared.tree.Slot.{Slot}
 use Rattle.rib_store.specs.declared.tree.Slot.TheVariants.{Branch, Vacant, Filled}
 use Rattle.rib_store.specs.declared.tree.Tree.{Tree}
 use Rattle.rib_store.specs.declared.tree.Tree.TheVariants.{Empty, Rooted'}
-use Rattle.rib_store.specs.Tree.{slot_of, side, chosen, root, IsOn, IsShaped, Stands}
-use Rattle.rib_store.proofs.WayLaws.{here_is, turn_itself, turn_through, outside_across, outside_above, outside_below}
+use Rattle.rib_store.specs.Tree.{slot_of, chosen, root, IsOn, IsShaped, Stands}
+use Rattle.rib_store.proofs.WayLaws.{turn_through, outside_across, outside_above, outside_below}
 use Rattle.rib_store.proofs.TreeLaws.{on_below}
 
 -- whether a node stands at a way
@@ -26,10 +28,6 @@ any_key test (Rooted' p prefix slot l r) = (is_some (slot_of slot) && test (way 
 or_none : (a b c d : Bool) → b ≡ false → c ≡ false → d ≡ false → ((a && b) || (c || d)) ≡ false
 or_none true b c d e f g = (λ i. (true && e i) || (f i || g i))
 or_none false b c d e f g = (λ i. (false && e i) || (f i || g i))
-
-or_true : (a : Bool) → (a || true) ≡ true
-or_true true = refl
-or_true false = refl
 
 -- no key passes what none on the side does
 pub any_none : {R : Type 0} (test : List Bool → Bool) (b : List Bool) (bit : Bool) (t : Tree R) → IsOn b bit t → IsShaped t
@@ -110,8 +108,8 @@ told_outside p prefix l r slot q Outside e shaped out =
     let below = λ (k : List Bool) (s : Bool) (h : turn_of (way prefix) k ≡ side s). outside_below q (way prefix) k s e out h in
     nothing _ _ _ (none_of p prefix l r slot q at_here Outside refl shaped e below) (inl (none_of p prefix l r slot q (at_side false) Outside refl shaped e below))
 told_outside p prefix l r slot q Here e shaped out =
-    let same : turn_of (way prefix) (way prefix) ≡ Outside = ap (turn_of (way prefix)) (sym (here_is q (way prefix) e)) ∙ out in
-    absurd (no (sym (turn_itself (way prefix)) ∙ same))
+    let same : turn_of (way prefix) (way prefix) ≡ Outside = ap (turn_of (way prefix)) (sym (here_only q (way prefix) e)) ∙ out in
+    absurd (no (sym (here_from (way prefix)) ∙ same))
   where
     no : Here ≡ Outside → ⊥
     no e = cc
@@ -130,14 +128,14 @@ told_here : {R : Type 0} (b : List Bool) (slot : Option (Option R)) (l r : Tree 
 told_here b (Some route) l r on_l on_r stands sl sr =
     sym (ap (λ (t : Turn). ((true && at_here t) || (any_key (by_turn at_here b) l || any_key (by_turn at_here b) r))
     || (((is_some (Some route) && by_turn (at_side false) b b) || (any_key (by_turn (at_side false) b) l || any_key (by_turn (at_side false) b) r))
-    && ((is_some (Some route) && by_turn (at_side true) b b) || (any_key (by_turn (at_side true) b) l || any_key (by_turn (at_side true) b) r)))) (turn_itself b))
+    && ((is_some (Some route) && by_turn (at_side true) b b) || (any_key (by_turn (at_side true) b) l || any_key (by_turn (at_side true) b) r)))) (here_from b))
 told_here b None l r on_l on_r stands sl sr =
     let left = any_some (by_turn (at_side false) b) b false l on_l sl stands.0 (λ k h. ap (at_side false) h) in
     let right = any_some (by_turn (at_side true) b) b true r on_r sr stands.1 (λ k h. ap (at_side true) h) in
     sym ((λ i. (any_key (by_turn at_here b) l || any_key (by_turn at_here b) r)
     || ((left i || any_key (by_turn (at_side false) b) r) && (any_key (by_turn (at_side true) b) l || right i)))
-    ∙ ap (λ x. (any_key (by_turn at_here b) l || any_key (by_turn at_here b) r) || x) (or_true (any_key (by_turn (at_side true) b) l))
-    ∙ or_true (any_key (by_turn at_here b) l || any_key (by_turn at_here b) r))
+    ∙ ap (λ x. (any_key (by_turn at_here b) l || any_key (by_turn at_here b) r) || x) (or-true (any_key (by_turn (at_side true) b) l))
+    ∙ or-true (any_key (by_turn at_here b) l || any_key (by_turn at_here b) r))
 
 -- a node stands exactly where a key is, or where keys lie on both sides
 pub told : {R : Type 0} (t : Tree R) (q : List Bool) → IsShaped t → Told t q
@@ -150,7 +148,7 @@ told {R} (Rooted' p prefix slot l r) q shaped = turns (turn_of (way prefix) q) r
     turns Outside e f g = told_outside p prefix l r slot q (turn_of q (way prefix)) refl shaped e
     turns Here e f g =
         subst (λ x. true ≡ (any_key (by_turn at_here x) (Rooted' p prefix slot l r) || (any_key (by_turn (at_side false) x) (Rooted' p prefix slot l r) && any_key (by_turn (at_side true) x) (Rooted' p prefix slot l r))))
-        (here_is (way prefix) q e) (told_here (way prefix) (slot_of slot) l r shaped.0.left shaped.0.right shaped.1 shaped.2 shaped.3)
+        (here_only (way prefix) q e) (told_here (way prefix) (slot_of slot) l r shaped.0.left shaped.0.right shaped.1 shaped.2 shaped.3)
     turns Left e f g =
         f ∙ sym (λ i. told_left (way prefix) (slot_of slot) l r q at_here refl shaped.0.right shaped.3 e i
         || (told_left (way prefix) (slot_of slot) l r q (at_side false) refl shaped.0.right shaped.3 e i && told_left (way prefix) (slot_of slot) l r q (at_side true) refl shaped.0.right shaped.3 e i))

@@ -1,5 +1,6 @@
 -- The nodes of two trees as a set: those of the keys, at most two a key.
 use Rattle.std.proofs.Common.{◌≡◌, ℕ, ◌+◌, ◌*◌, ◌≤◌, Bool, true, false, not, ◌&&◌, ◌||◌, List, [], ◌∷◌, ◌++◌, inl, inr, length, map, Option, Some, None, is_some, refl, sym, ap, ◌∙◌, arith, length-append}
+use Rattle.std.proofs.Math.Bool.{or-true, or-false}
 use Rattle.std.specs.Prelude.{IsSome}
 use Rattle.std.specs.declared.cmp.Ordering.TheVariants.{Less}
 use Rattle.std.specs.List.{list_any, AllByRecursion}
@@ -16,7 +17,7 @@ use Rattle.ip_prefix.specs.declared.turn.Turn.TheVariants.{Outside, Here, Left, 
 use Rattle.ip_prefix.specs.Network.{Network, begin_with, covers}
 use Rattle.ip_prefix.specs.Order.{network_cmp}
 use Rattle.ip_prefix.specs.OrderLaws.{network_cmp_total}
-use Rattle.ip_prefix.specs.Turns.{family_bit, half, way, turn_of}
+use Rattle.ip_prefix.specs.Turns.{family_bit, half, way, turn_of, side}
 use Rattle.ip_prefix.proofs.Booleans.{same_tests}
 use Rattle.ip_prefix.proofs.Lists.{AllByRecursion-append}
 use Rattle.ip_prefix.proofs.Turns.{covers-way}
@@ -26,13 +27,14 @@ use Rattle.rib_store.specs.declared.tree.Tree.TheVariants.{Empty, Rooted'}
 use Rattle.rib_store.specs.declared.forest.Forest.{Forest}
 use Rattle.rib_store.specs.Stored.{Keys}
 use Rattle.rib_store.specs.Slots.{Slots, keys_in}
-use Rattle.rib_store.specs.Tree.{own, slots_of, slot_of, side, chosen, same_way, root, AreSides, IsOn, IsShaped}
+use Rattle.rib_store.specs.Tree.{own, slots_of, slot_of, chosen, same_way, root, AreSides, IsOn, IsShaped}
 use Rattle.rib_store.specs.Walks.{node_count}
 use Rattle.rib_store.specs.Forest.{slots_in, IsPlanted}
 use Rattle.rib_store.specs.Nodes.{is_node, AreNodes}
+use Rattle.rib_store.proofs.AboveLaws.{is_less}
 use Rattle.rib_store.proofs.WayLaws.{beyond, turn_through, first_turn, node_first, left_first}
 use Rattle.rib_store.proofs.SlotLaws.{same_prefix, len-from_list, len-keys_in}
-use Rattle.rib_store.proofs.WalkLaws.{cmp-ways, tied-ways, keys_of-append, less_than, sorted-append}
+use Rattle.rib_store.proofs.WalkLaws.{cmp-ways, tied-ways, keys_of-append, sorted-append}
 use Rattle.rib_store.proofs.ForestLaws.{sorted-slots_in}
 use Rattle.rib_store.proofs.NodeLaws.{node_at, any_key, by_turn, at_here, at_side, told, told_left, told_right}
 
@@ -82,16 +84,12 @@ covers-turn q bit n = covers-way (half q bit) n ∙ ap (λ w. begin_with w (way 
 itself : (n : Network) → eq_by_cmp network_cmp n n ≡ true
 itself n = ap is_eq (tied_itself network_cmp_total n)
 
-or_true : (a : Bool) → (a || true) ≡ true
-or_true true = refl
-or_true false = refl
-
 any_at : (p : Network → Bool) (x : Network) (ns : List Network) → p x ≡ true → is_in ns x ≡ true → list_any p ns ≡ true
 any_at p x [] e h = cc
 any_at p x (n ∷ ns) e h =
     elim (eq_by_cmp network_cmp x n) as (λ b. eq_by_cmp network_cmp x n ≡ b → (b || is_in ns x) ≡ true → (p n || list_any p ns) ≡ true) [
       | true ↦ λ t _. ap (λ b. b || list_any p ns) (ap p (sym (same_prefix x n t)) ∙ e)
-      | false ↦ λ _ h. ap (λ b. p n || b) (any_at p x ns e h) ∙ or_true (p n)
+      | false ↦ λ _ h. ap (λ b. p n || b) (any_at p x ns e h) ∙ or-true (p n)
     ] refl h
 
 any_within : (p : Network → Bool) (ns ms : List Network) → ((q : Network) → is_in ns q ≡ true → is_in ms q ≡ true) → list_any p ns ≡ true → list_any p ms ≡ true
@@ -99,7 +97,7 @@ any_within p [] ms h e = cc
 any_within p (n ∷ ns) ms h e =
     elim (p n) as (λ b. p n ≡ b → (b || list_any p ns) ≡ true → list_any p ms ≡ true) [
       | true ↦ λ t _. any_at p n ms t (h n (ap (λ b. b || is_in ns n) (itself n)))
-      | false ↦ λ _ e. any_within p ns ms (λ q g. h q (ap (λ b. eq_by_cmp network_cmp q n || b) g ∙ or_true (eq_by_cmp network_cmp q n))) e
+      | false ↦ λ _ e. any_within p ns ms (λ q g. h q (ap (λ b. eq_by_cmp network_cmp q n || b) g ∙ or-true (eq_by_cmp network_cmp q n))) e
     ] refl e
 
 -- lists with the same members pass the same tests
@@ -198,14 +196,14 @@ sorted-nodes : {R : Type 0} (from : List Bool) (l r : Tree R) → AreSides from 
 sorted-nodes from l r sides ls rs first second =
     sorted-append (nodes_of l) (nodes_of r) first second
     (nodes-on (λ x. AllByRecursion (λ y. network_cmp x y ≡ Less) (nodes_of r)) from false
-    (λ x on. nodes-on (λ y. network_cmp x y ≡ Less) from true (λ y there. less_than (network_cmp x y) (ap is_lt (cmp-ways x y) ∙ (left_first from (way x) (way y) on there).0)) r rs sides.right)
+    (λ x on. nodes-on (λ y. network_cmp x y ≡ Less) from true (λ y there. is_less (network_cmp x y) (ap is_lt (cmp-ways x y) ∙ (left_first from (way x) (way y) on there).0)) r rs sides.right)
     l ls sides.left)
 
 sorted-nodes_of : {R : Type 0} (t : Tree R) → IsShaped t → IsStrictlySortedBy network_cmp (nodes_of t)
 unfolding IsStrictlySortedBy
 sorted-nodes_of Empty shaped = tt
 sorted-nodes_of (Rooted' p prefix slot l r) shaped =
-    let under = λ (s : Bool) (n : Network) (h : turn_of (way prefix) (way n) ≡ side s). less_than (network_cmp prefix n) (ap is_lt (cmp-ways prefix n) ∙ (node_first (way prefix) (way n) s h).0) in (
+    let under = λ (s : Bool) (n : Network) (h : turn_of (way prefix) (way n) ≡ side s). is_less (network_cmp prefix n) (ap is_lt (cmp-ways prefix n) ∙ (node_first (way prefix) (way n) s h).0) in (
       AllByRecursion-append (λ y. network_cmp prefix y ≡ Less) (nodes_of l) (nodes_of r)
           (nodes-on (λ y. network_cmp prefix y ≡ Less) (way prefix) false (under false) l shaped.2 shaped.0.left)
           (nodes-on (λ y. network_cmp prefix y ≡ Less) (way prefix) true (under true) r shaped.3 shaped.0.right),
@@ -228,17 +226,13 @@ len-all_nodes f planted =
 abbrev either_key : {R : Type 0} → (List Bool → Bool) → Forest R → Bool
 either_key test f = any_key test f.v4 || any_key test f.v6
 
-or_false : (a : Bool) → (a || false) ≡ a
-or_false true = refl
-or_false false = refl
-
 -- a node of either tree stands exactly where a key is, or where keys lie on both sides
 told_both : {R : Type 0} (f : Forest R) → IsPlanted f → (q : List Bool) (bit : Bool) → turn_of [] q ≡ side bit
     → (node_at f.v4 q || node_at f.v6 q) ≡ (either_key (by_turn at_here q) f || (either_key (by_turn (at_side false) q) f && either_key (by_turn (at_side true) q) f))
 told_both f planted q false e =
     let only = λ (w : Turn → Bool) (out : w Outside ≡ false). told_left [] None f.v4 f.v6 q w out planted.sides.right planted.v6 e in
     ap (λ b. node_at f.v4 q || b) (node_right [] f.v6 planted.sides.right q ∙ ap (λ t. chosen t false false false (node_at f.v6 q)) e)
-    ∙ or_false (node_at f.v4 q) ∙ told f.v4 q planted.v4
+    ∙ or-false (node_at f.v4 q) ∙ told f.v4 q planted.v4
     ∙ sym (λ i. only at_here refl i || (only (at_side false) refl i && only (at_side true) refl i))
 told_both f planted q true e =
     let only = λ (w : Turn → Bool) (out : w Outside ≡ false). told_right [] None f.v4 f.v6 q w out planted.sides.left planted.v4 e in

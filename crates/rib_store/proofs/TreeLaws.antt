@@ -5,10 +5,10 @@ use Rattle.ip_prefix.specs.declared.turn.Turn.{Turn}
 use Rattle.ip_prefix.specs.declared.turn.Turn.TheVariants.{Outside, Here, Left, Right}
 use Rattle.ip_prefix.specs.declared.addr.Family.{Family}
 use Rattle.ip_prefix.specs.Network.{Network}
-use Rattle.ip_prefix.specs.Turns.{way, turn_of, family_bit}
+use Rattle.ip_prefix.specs.Turns.{way, turn_of, family_bit, side}
 use Rattle.rib_store.specs.declared.tree.Tree.{Tree}
 use Rattle.rib_store.specs.declared.tree.Tree.TheVariants.{Empty, Rooted'}
-use Rattle.rib_store.specs.Tree.{at, slot_of, side, chosen, root, AreSides, AreOf, IsOf, IsOn, IsRooted, IsShaped, Stands}
+use Rattle.rib_store.specs.Tree.{at, slot_of, chosen, root, AreSides, AreOf, IsOf, IsOn, IsRooted, IsShaped, Stands}
 use Rattle.rib_store.proofs.WayLaws.{beyond, turn_through, family_of}
 
 chosen_same : {A : Type 0} (t : Turn) (x : A) → x ≡ chosen t x x x x

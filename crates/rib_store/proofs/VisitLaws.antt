@@ -1,5 +1,6 @@
 -- How many nodes a look-up meets: those that contain the address, or one more.
 use Rattle.std.proofs.Common.{◌≡◌, ℕ, ◌+◌, ◌≤◌, Bool, true, false, ◌&&◌, ◌||◌, List, [], ◌∷◌, ◌⊎◌, inl, inr, length, refl, ap, sym, ◌∙◌, arith}
+use Rattle.std.proofs.Math.Bool.{or-false}
 use Rattle.std.specs.Prelude.{IfSome}
 use Rattle.std.specs.declared.cmp.Ordering.TheVariants.{Less}
 use Rattle.std.specs.List.{AllByRecursion}
@@ -16,20 +17,22 @@ use Rattle.ip_prefix.specs.Address.{Address}
 use Rattle.ip_prefix.specs.Network.{Network, begin_with, contains}
 use Rattle.ip_prefix.specs.Order.{network_cmp}
 use Rattle.ip_prefix.specs.OrderLaws.{network_cmp_total}
-use Rattle.ip_prefix.specs.Turns.{way, turn_of}
+use Rattle.ip_prefix.specs.Turns.{way, turn_of, side}
 use Rattle.ip_prefix.proofs.Containing.{contains_parts}
+use Rattle.ip_prefix.proofs.Turns.{here_only}
 use Rattle.rib_store.specs.declared.tree.Tree.{Tree}
 use Rattle.rib_store.specs.declared.tree.Tree.TheVariants.{Empty, Rooted'}
 use Rattle.rib_store.specs.declared.forest.Forest.{Forest}
 use Rattle.rib_store.specs.Stored.{Keys}
 use Rattle.rib_store.specs.Slots.{keys_in}
-use Rattle.rib_store.specs.Tree.{side, chosen, root, IsOn, IsShaped}
+use Rattle.rib_store.specs.Tree.{chosen, root, IsOn, IsShaped}
 use Rattle.rib_store.specs.Walks.{visits}
 use Rattle.rib_store.specs.Forest.{slots_in, tree_of, IsPlanted}
 use Rattle.rib_store.specs.Nodes.{is_node, AreNodesTo, IsOrOneMore}
-use Rattle.rib_store.proofs.WayLaws.{here_is, turn_through, node_first, begin_outside, begin_side, begin_in, turn_longer, length-way}
+use Rattle.rib_store.proofs.AboveLaws.{is_less}
+use Rattle.rib_store.proofs.WayLaws.{turn_through, node_first, begin_outside, begin_side, begin_in, turn_longer, length-way}
 use Rattle.rib_store.proofs.SlotLaws.{len-from_list}
-use Rattle.rib_store.proofs.WalkLaws.{cmp-ways, tied-ways, less_than}
+use Rattle.rib_store.proofs.WalkLaws.{cmp-ways, tied-ways}
 use Rattle.rib_store.proofs.ForestLaws.{first_side, shaped-family}
 use Rattle.rib_store.proofs.NodeLaws.{node_at}
 use Rattle.rib_store.proofs.NodeSetLaws.{is_in, node-is, node_left, node_right}
@@ -104,7 +107,7 @@ met {R} (Rooted' p prefix slot l r) key q shaped =
     head j y = tied-ways q prefix ∙ ap (λ t. chosen t false true false false) y
 
     begins : (k : Turn) → turn_of (way prefix) key ≡ k → turn_of (way prefix) (way q) ≡ Here → (k ≡ Outside → ⊥) → begin_with (way q) key ≡ true
-    begins k x y h = begin_in (way q) key (λ z. h (sym x ∙ ap (λ w. turn_of w key) (here_is (way prefix) (way q) y) ∙ z))
+    begins k x y h = begin_in (way q) key (λ z. h (sym x ∙ ap (λ w. turn_of w key) (here_only (way prefix) (way q) y) ∙ z))
 
     turns : (k j : Turn) → turn_of (way prefix) key ≡ k → turn_of (way prefix) (way q) ≡ j
         → is_in (path_in l key) q ≡ on_path l key (way q) → is_in (path_in r key) q ≡ on_path r key (way q)
@@ -153,7 +156,7 @@ sorted-path Empty key shaped = tt
 sorted-path {R} (Rooted' p prefix slot l r) key shaped = turns (turn_of (way prefix) key) (sorted-path l key shaped.2) (sorted-path r key shaped.3)
   where
     under : (s : Bool) (n : Network) → turn_of (way prefix) (way n) ≡ side s → network_cmp prefix n ≡ Less
-    under s n h = less_than (network_cmp prefix n) (ap is_lt (cmp-ways prefix n) ∙ (node_first (way prefix) (way n) s h).0)
+    under s n h = is_less (network_cmp prefix n) (ap is_lt (cmp-ways prefix n) ∙ (node_first (way prefix) (way n) s h).0)
 
     turns : (k : Turn) → IsStrictlySortedBy network_cmp (path_in l key) → IsStrictlySortedBy network_cmp (path_in r key)
         → IsStrictlySortedBy network_cmp (chosen k [] (prefix ∷ []) (prefix ∷ path_in l key) (prefix ∷ path_in r key))
@@ -173,15 +176,11 @@ len-met f planted address =
     len-from_list (path_in (tree_of address.family f) (way (host address)))
     (IsDistinct-from_sorted network_cmp _ (sorted-path (tree_of address.family f) (way (host address)) (shaped-family f planted address.family)))
 
-or_false : (a : Bool) → (a || false) ≡ a
-or_false true = refl
-or_false false = refl
-
 -- of both trees, the one of the family has the nodes of the family
 in_family : {R : Type 0} (f : Forest R) → IsPlanted f → (q : Network) (family : Family) → q.family ≡ family → (node_at f.v4 (way q) || node_at f.v6 (way q)) ≡ node_at (tree_of family f) (way q)
 in_family f planted q V4 e =
     ap (λ b. node_at f.v4 (way q) || b) (node_right [] f.v6 planted.sides.right (way q) ∙ ap (λ t. chosen t false false false (node_at f.v6 (way q))) (first_side q V4 e))
-    ∙ or_false (node_at f.v4 (way q))
+    ∙ or-false (node_at f.v4 (way q))
 in_family f planted q V6 e =
     ap (λ b. b || node_at f.v6 (way q)) (node_left [] f.v4 planted.sides.left (way q) ∙ ap (λ t. chosen t false false (node_at f.v4 (way q)) false) (first_side q V6 e))
 

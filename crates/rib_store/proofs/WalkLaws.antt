@@ -2,8 +2,7 @@
 use Rattle.std.proofs.Common.{◌≡◌, ℕ, ◌+◌, Bool, true, false, cond, List, [], ◌∷◌, ◌++◌, length, Option, Some, None, slice_get, refl, sym, ap, subst, ◌∙◌, arith, length-append}
 use Rattle.std.specs.Prelude.{MatchOption}
 use Rattle.std.specs.Option.{option_map}
-use Rattle.std.specs.declared.cmp.Ordering.{Ordering}
-use Rattle.std.specs.declared.cmp.Ordering.TheVariants.{Less, Equal, Greater}
+use Rattle.std.specs.declared.cmp.Ordering.TheVariants.{Less}
 use Rattle.std.specs.List.{AllByRecursion}
 use Rattle.std.specs.List.Sorted.{IsStrictlySortedBy}
 use Rattle.std.specs.Map.{keys_of}
@@ -15,17 +14,19 @@ use Rattle.ip_prefix.specs.declared.turn.Turn.{Turn}
 use Rattle.ip_prefix.specs.declared.turn.Turn.TheVariants.{Outside, Here, Left, Right}
 use Rattle.ip_prefix.specs.Network.{Network}
 use Rattle.ip_prefix.specs.Order.{bits_cmp, network_cmp}
-use Rattle.ip_prefix.specs.Turns.{family_bit, way, turn_of}
+use Rattle.ip_prefix.specs.Turns.{family_bit, way, turn_of, side}
 use Rattle.ip_prefix.proofs.Lists.{AllByRecursion-append}
+use Rattle.ip_prefix.proofs.Turns.{here_only}
 use Rattle.rib_store.specs.declared.tree.Slot.{Slot}
 use Rattle.rib_store.specs.declared.tree.Slot.TheVariants.{Branch, Vacant, Filled}
 use Rattle.rib_store.specs.declared.tree.Tree.{Tree}
 use Rattle.rib_store.specs.declared.tree.Tree.TheVariants.{Empty, Rooted'}
 use Rattle.rib_store.specs.Stored.{is_above, above}
 use Rattle.rib_store.specs.Slots.{Slots, slot_at, routed}
-use Rattle.rib_store.specs.Tree.{at, own, slots_of, slot_of, side, chosen, same_way, AreSides, IsOn, IsRooted, IsShaped}
+use Rattle.rib_store.specs.Tree.{at, own, slots_of, slot_of, chosen, same_way, AreSides, IsOn, IsRooted, IsShaped}
 use Rattle.rib_store.specs.Walks.{either_of, routed_at, first, behind}
-use Rattle.rib_store.proofs.WayLaws.{turn_through, here_is, below, not_itself, node_first, left_first, as_node}
+use Rattle.rib_store.proofs.AboveLaws.{is_less}
+use Rattle.rib_store.proofs.WayLaws.{turn_through, below, not_itself, node_first, left_first, as_node}
 use Rattle.rib_store.proofs.TreeLaws.{at_left, at_right}
 
 -- ---- prefixes by their ways
@@ -55,11 +56,6 @@ cmp-ways m n = families m.family n.family
 -- prefixes tie where their ways are one
 pub tied-ways : (q n : Network) → eq_by_cmp network_cmp q n ≡ same_way (way n) (way q)
 tied-ways q n = ap is_eq (cmp-ways q n) ∙ same_bits_tie (way q) (way n)
-
-pub less_than : (o : Ordering) → is_lt o ≡ true → o ≡ Less
-less_than Less e = refl
-less_than Equal e = cc
-less_than Greater e = cc
 
 -- ---- slots behind one another
 
@@ -163,14 +159,14 @@ sorted-sides from l r sides ls rs first second =
     subst (IsStrictlySortedBy network_cmp) (sym (keys_of-append (slots_of l) (slots_of r)))
     (sorted-append (keys_of (slots_of l)) (keys_of (slots_of r)) first second
     (all-on (λ x. AllByRecursion (λ y. network_cmp x y ≡ Less) (keys_of (slots_of r))) from false
-    (λ x on. all-on (λ y. network_cmp x y ≡ Less) from true (λ y there. less_than (network_cmp x y) (ap is_lt (cmp-ways x y) ∙ (left_first from (way x) (way y) on there).0)) r rs sides.right)
+    (λ x on. all-on (λ y. network_cmp x y ≡ Less) from true (λ y there. is_less (network_cmp x y) (ap is_lt (cmp-ways x y) ∙ (left_first from (way x) (way y) on there).0)) r rs sides.right)
     l ls sides.left))
 
 pub sorted-slots_of : {R : Type 0} (t : Tree R) → IsShaped t → IsStrictlySortedBy network_cmp (keys_of (slots_of t))
 unfolding IsStrictlySortedBy
 sorted-slots_of Empty shaped = tt
 sorted-slots_of (Rooted' p prefix slot l r) shaped =
-    let under = λ (s : Bool) (n : Network) (h : turn_of (way prefix) (way n) ≡ side s). less_than (network_cmp prefix n) (ap is_lt (cmp-ways prefix n) ∙ (node_first (way prefix) (way n) s h).0) in
+    let under = λ (s : Bool) (n : Network) (h : turn_of (way prefix) (way n) ≡ side s). is_less (network_cmp prefix n) (ap is_lt (cmp-ways prefix n) ∙ (node_first (way prefix) (way n) s h).0) in
     sorted-own prefix (slot_of slot) (slots_of l ++ slots_of r)
     (sorted-sides (way prefix) l r shaped.0 shaped.2 shaped.3 (sorted-slots_of l shaped.2) (sorted-slots_of r shaped.3))
     (AllKeys-append (λ y. network_cmp prefix y ≡ Less) (slots_of l) (slots_of r)
@@ -268,7 +264,7 @@ behind-next {R} (Rooted' p prefix slot l r) shaped low = turns (turn_of (way pre
         → chosen k (cond (is_lt (network_cmp low prefix)) (first whole) None) (either_of (first l) (first r)) (either_of (behind l low) (first r)) (behind r low) ≡ next low (slots_of whole)
     turns Outside e f g = outside (is_lt (network_cmp low prefix)) refl e
     turns Here e f g =
-        let same : way prefix ≡ way low = here_is (way prefix) (way low) e in
+        let same : way prefix ≡ way low = here_only (way prefix) (way low) e in
         let under = λ (s : Bool) (n : Network) (h : turn_of (way prefix) (way n) ≡ side s). ap (λ x. below x (way n)) (sym same) ∙ (node_first (way prefix) (way n) s h).0 in
         sides (first l) (first r) (above-ways low prefix ∙ ap (below (way low)) same ∙ not_itself (way low)) (first-next low (way prefix) false l shaped.2 shaped.0.left (under false)) (first-next low (way prefix) true r shaped.3 shaped.0.right (under true))
     turns Left e f g =

@@ -1,31 +1,25 @@
 -- Ways and their turns.
 use Rattle.std.proofs.Common.{◌≡◌, ◌+◌, ◌<◌, Bool, true, false, not, List, [], ◌∷◌, length, ◌⊎◌, inl, inr, refl, ap, sym, ◌∙◌, arith}
 use Rattle.std.specs.Ordering.{is_lt}
+use Rattle.ip_prefix.specs.declared.turn.Turn.{Turn}
 use Rattle.ip_prefix.specs.declared.turn.Turn.TheVariants.{Outside, Here, Left, Right}
 use Rattle.ip_prefix.specs.declared.addr.Family.{Family}
 use Rattle.ip_prefix.specs.declared.addr.Family.TheVariants.{V4, V6}
 use Rattle.ip_prefix.specs.Network.{Network, begin_with}
 use Rattle.ip_prefix.specs.Order.{bits_cmp}
-use Rattle.ip_prefix.specs.Turns.{family_bit, way, turn_of, shared}
-use Rattle.rib_store.specs.Tree.{side, chosen, same_way}
+use Rattle.ip_prefix.specs.Turns.{family_bit, way, turn_of, shared, side}
+use Rattle.ip_prefix.proofs.Turns.{here_from, here_only}
+use Rattle.rib_store.specs.Tree.{chosen, same_way}
 
+-- two ways are one where the turn says so
 pub same_is : (a b : List Bool) → same_way a b ≡ true → a ≡ b
-same_is [] [] e = refl
-same_is [] (true ∷ b) e = cc
-same_is [] (false ∷ b) e = cc
-same_is (x ∷ a) [] e = cc
-same_is (true ∷ a) (true ∷ b) e = ap (λ l. true ∷ l) (same_is a b e)
-same_is (true ∷ a) (false ∷ b) e = cc
-same_is (false ∷ a) (true ∷ b) e = cc
-same_is (false ∷ a) (false ∷ b) e = ap (λ l. false ∷ l) (same_is a b e)
-
-pub turn_itself : (a : List Bool) → turn_of a a ≡ Here
-turn_itself [] = refl
-turn_itself (true ∷ a) = turn_itself a
-turn_itself (false ∷ a) = turn_itself a
-
-pub here_is : (a b : List Bool) → turn_of a b ≡ Here → a ≡ b
-here_is a b e = same_is a b (ap (λ t. chosen t false true false false) e)
+same_is a b e = here_only a b (here (turn_of a b) e)
+  where
+    here : (t : Turn) → chosen t false true false false ≡ true → t ≡ Here
+    here Outside e = cc
+    here Here e = refl
+    here Left e = cc
+    here Right e = cc
 
 -- what doesn't lie on a node's side is outside what lies there
 pub beyond : (b x q : List Bool) (bit : Bool) → turn_of b x ≡ side bit → (turn_of x q ≡ Outside) ⊎ (turn_of b q ≡ side bit)
@@ -122,7 +116,7 @@ outside_across b q k s t e h d = elim (beyond b q k s e) [ inl out ↦ out | inr
     sides false false e d = cc
 
 pub outside_above : (b q : List Bool) (s : Bool) → turn_of b q ≡ side s → turn_of q b ≡ Outside
-outside_above b q s e = elim (beyond b q b s e) [ inl out ↦ out | inr there ↦ absurd (no_side s (sym (turn_itself b) ∙ there)) ]
+outside_above b q s e = elim (beyond b q b s e) [ inl out ↦ out | inr there ↦ absurd (no_side s (sym (here_from b) ∙ there)) ]
   where
     no_side : (s : Bool) → Here ≡ side s → ⊥
     no_side true e = cc

@@ -4,17 +4,12 @@ use Rattle.ip_prefix.specs.declared.addr.Family.{Family}
 use Rattle.ip_prefix.specs.declared.turn.Turn.{Turn}
 use Rattle.ip_prefix.specs.declared.turn.Turn.TheVariants.{Outside, Here, Left, Right}
 use Rattle.ip_prefix.specs.Network.{Network}
-use Rattle.ip_prefix.specs.Turns.{way, turn_of, shared, family_bit}
+use Rattle.ip_prefix.specs.Turns.{way, turn_of, side, shared, family_bit}
 use Rattle.rib_store.specs.declared.tree.Slot.{Slot}
 use Rattle.rib_store.specs.declared.tree.Slot.TheVariants.{Branch, Vacant, Filled}
 use Rattle.rib_store.specs.declared.tree.Tree.{Tree}
 use Rattle.rib_store.specs.declared.tree.Tree.TheVariants.{Empty, Rooted'}
 use Rattle.rib_store.specs.Slots.{Slots}
-
--- the turn by a bit
-abbrev pub side : Bool → Turn
-side false = Left
-side true = Right
 
 -- what a turn chooses
 abbrev pub chosen : {A : Type 0} → Turn → A → A → A → A → A

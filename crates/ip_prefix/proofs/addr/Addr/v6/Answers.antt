@@ -11,5 +11,5 @@ returns c =
     let octets = c.args.octets in
     let read : c.from_be_bytes.result ≡ from_be_bytes w128 octets = c.from_be_bytes.ensures in
     let size : length octets ≡ 16 = search rules in
-    let bits = ap (λ n. bits_of 128 (n / 1)) read ∙ bits_of-from_be_bytes octets size (AllOctets-from octets (search rules)) in
+    let bits = ap (λ n. bits_of 128 (n / 1)) (c.new.ensures ∙ read) ∙ bits_of-from_be_bytes octets size (AllOctets-from octets (search rules)) in
     λ i. record { family = V6; bits = bits i }

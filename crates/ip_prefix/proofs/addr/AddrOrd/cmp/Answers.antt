@@ -1,4 +1,4 @@
-use Rattle.std.proofs.Common.{◌∙◌}
+use Rattle.std.proofs.Common.{◌∙◌, nat_cmp}
 use Rattle.std.specs.Ordering.{ordering_then}
 use Rattle.ip_prefix.specs.Order.{address_cmp}
 use Rattle.ip_prefix.proofs.Comparing.{address_cmp-kept}
@@ -6,5 +6,6 @@ use Rattle.ip_prefix.proofs.addr.AddrOrd.cmp.Goals as goal
 
 pub returns : goal.returns
 returns c =
-    let fields = c.then.ensures ∙ (λ i. ordering_then (c.compare_families.ensures i) (c.cmp.ensures i)) ∙ address_cmp-kept c.self.inside c.other.inside c.self.invariant c.other.invariant in
+    let numbers = c.cmp.ensures ∙ (λ i. nat_cmp (c.get.ensures i) (c.get-2.ensures i)) in
+    let fields = c.then.ensures ∙ (λ i. ordering_then (c.compare_families.ensures i) (numbers i)) ∙ address_cmp-kept c.self.inside c.other.inside c.self.invariant c.other.invariant in
     fields ∙ (λ i. address_cmp (c.self.view_is i) (c.other.view_is i))

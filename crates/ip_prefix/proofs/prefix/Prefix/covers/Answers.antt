@@ -1,6 +1,7 @@
 -- The other prefix has the bits of this one where it is as long and its number, cleared below them, is this one's.
 use Rattle.std.proofs.Common.{◌≡◌, ◌≤◌, ◌<◌, ◌==◌, ◌∙◌, length, ap, sym, arith}
 use Rattle.std.proofs.lemmas.Bool.{leb-true, leb-false}
+use Rattle.ip_prefix.specs.Highest.{highest_part}
 use Rattle.ip_prefix.specs.Masked.{length-masked}
 use Rattle.ip_prefix.specs.Network.{covers}
 use Rattle.ip_prefix.specs.contracts.prefix.Prefix.{the_view}
@@ -18,7 +19,8 @@ returns-then-self-other c =
           let family : p.family ≡ q.family = family_same p.family q.family (sym c.eq.ensures ∙ w.if-eq.true) in
           let within : p.len ≤ q.len = leb-true p.len q.len (sym w.value-is ∙ c.if-self-other.true) in
           let q_len : q.len ≤ 128 = omega (arith, c.other.invariant.1, bit_count_le q.family) in
-          ap (λ n. n == p.number) c.highest.ensures
+          (λ i. c.highest.ensures i == c.get-then-self-other.ensures i)
+          ∙ ap (λ n. highest_part p.len n == p.number) c.get.ensures
           ∙ begin_with-highest p.len q.len p.number q.number within q_len c.self.invariant.0 c.other.invariant.0 c.self.invariant.2
           ∙ sym (covers_same (the_view p) (the_view q) family)
           ∙ (λ i. covers (c.self.view_is i) (c.other.view_is i))

@@ -1,5 +1,6 @@
 -- The first bits are those of the number with zeros below them.
 use Rattle.std.proofs.Common.{◌≡◌, ℕ, ◌-◌, ◌^◌, ◌/◌, ◌≤◌, length, take, ap, sym, subst, ◌∙◌, arith}
+use Rattle.ip_prefix.specs.Highest.{highest_part}
 use Rattle.ip_prefix.specs.declared.prefix.Prefix.TheInside.{Inside}
 use Rattle.ip_prefix.specs.contracts.prefix.Prefix.{the_view}
 use Rattle.ip_prefix.specs.Bits.{bits_of}
@@ -23,7 +24,7 @@ invariant_of-result c =
     let p = c.self.inside in
     let len = c.args.len in
     let fits = within p c.args.self.now len c.self.view_is c.requires in
-    subst (λ number. IsMasked p.family number len) (sym c.highest.ensures) (IsMasked-highest p.family p.number len c.self.invariant.0 (omega (arith, fits, c.self.invariant.1)))
+    subst (λ number. IsMasked p.family number len) (sym (c.new.ensures ∙ c.highest.ensures ∙ ap (highest_part len) c.get.ensures)) (IsMasked-highest p.family p.number len c.self.invariant.0 (omega (arith, fits, c.self.invariant.1)))
 
 pub returns : goal.returns
 returns c =
@@ -31,7 +32,7 @@ returns c =
     let len = c.args.len in
     let fits : p.len ≤ 128 = omega (arith, c.self.invariant.1, bit_count_le p.family) in
     let bits =
-    ap (λ number. bits_of len (number / 2 ^ (128 - len))) c.highest.ensures
+    ap (λ number. bits_of len (number / 2 ^ (128 - len))) (c.new.ensures ∙ c.highest.ensures ∙ ap (highest_part len) c.get.ensures)
     ∙ first_bits p.len p.number len (within p c.args.self.now len c.self.view_is c.requires) fits
     ∙ ap (λ (n : Network). take len n.bits) c.self.view_is in
     λ i. record { family = (c.self.view_is i).family; bits = bits i }

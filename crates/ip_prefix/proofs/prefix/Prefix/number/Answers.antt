@@ -13,7 +13,8 @@ returns c =
     let p = c.self.inside in
     let len : p.len ≤ 128 = omega (arith, c.self.invariant.1, bit_count_le p.family) in
     let all : p.len + (128 - p.len) ≡ 128 = omega arith in
-    ap (λ w. bits_of w p.number) (sym all)
+    ap (bits_of 128) c.get.ensures
+    ∙ ap (λ w. bits_of w p.number) (sym all)
     ∙ sym (bits_of-filled p.len (128 - p.len) p.number c.self.invariant.2)
     ∙ ap (λ k. highest_bits p.len p.number ++ replicate (128 - k) false) (sym (length-masked p.number p.len))
     ∙ ap (λ (n : Network). n.bits ++ replicate (128 - length n.bits) false) c.self.view_is

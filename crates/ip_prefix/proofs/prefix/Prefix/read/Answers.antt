@@ -21,7 +21,7 @@ pub invariant_of-result : goal.invariant_of-result
 invariant_of-result c =
     let len = c.in_ok-len.field-0-0.now in
     let within : len ≤ bit_count c.args.family = omega (arith, c.width.ensures) in
-    subst (λ number. IsMasked c.args.family number len) (sym c.highest-number.ensures) (IsMasked-highest c.args.family c.from_be_bytes.result len c.from_be_bytes.type_inv within)
+    subst (λ number. IsMasked c.args.family number len) (sym (c.new.ensures ∙ c.highest-number.ensures)) (IsMasked-highest c.args.family c.from_be_bytes.result len c.from_be_bytes.type_inv within)
 
 pub returns-clause-some : goal.returns-clause-some
 returns-clause-some c =
@@ -44,8 +44,8 @@ returns-clause-some c =
     let read : c.from_be_bytes.result ≡ from_be_bytes w128 (c.copy_from_slice.new.self ++ zeros) = c.from_be_bytes.ensures in
     let number = read ∙ ap (λ l. from_be_bytes w128 (l ++ zeros)) c.copy_from_slice.ensures.after in
     let bits =
-    ap (λ n. bits_of len (n / 2 ^ (128 - len))) (c.highest-number.ensures ∙ ap (λ n. n / 2 ^ (128 - len) * 2 ^ (128 - len)) number)
+    ap (λ n. bits_of len (n / 2 ^ (128 - len))) (c.new.ensures ∙ c.highest-number.ensures ∙ ap (λ n. n / 2 ^ (128 - len) * 2 ^ (128 - len)) number)
     ∙ bits_read len body zeros (omega arith) all (AllByRecursion-append IsOctet body zeros each (AllByRecursion-drop IsOctet size (replicate 16 0) (AllByRecursion-replicate IsOctet 16 0 (omega arith)))) in
-    let spelled = spelled_by family len body (bits_of len (c.highest-number.result / 2 ^ (128 - len))) within each (omega arith) (omega arith) bits in
+    let spelled = spelled_by family len body (bits_of len (c.new.result / 2 ^ (128 - len))) within each (omega arith) (omega arith) bits in
     let front : take (size + 1) c.args.octets.now ≡ len ∷ body = ap (take (size + 1)) whole ∙ ap (λ k. take k (len ∷ rest)) (add-one size) in
-    (omega (arith, c.in_ok-len.ensures.cases.1), subst (SpellsNetwork family record { family = family; bits = bits_of len (c.highest-number.result / 2 ^ (128 - len)) }) (sym front) spelled)
+    (omega (arith, c.in_ok-len.ensures.cases.1), subst (SpellsNetwork family record { family = family; bits = bits_of len (c.new.result / 2 ^ (128 - len)) }) (sym front) spelled)
