@@ -1,0 +1,57 @@
+//! The numbers that addresses and prefixes are kept as.
+
+ghost use Rattle.std.specs.Prelude.{◌≡◌};
+
+use crate::addr::HALF_BITS;
+use std::marker::Model;
+
+/// A number of 128 bits. It is kept as two halves, so that what holds it is aligned to eight octets
+/// and not to sixteen.
+#[derive(Clone, Copy, Debug)]
+pub(crate) struct Number {
+    high: u64,
+    low: u64,
+}
+
+impl Model for Number {
+    ghost use Rattle.std.specs.Prelude.{ℕ, ◌^◌, ◌/◌, ◌%◌, ◌<◌};
+    ghost use Rattle.ip_prefix.specs.declared.addr.TheConstants.{HALF_BITS};
+    ghost use Rattle.ip_prefix.specs.Halves.{whole, high-again, low-again};
+
+    ghost Value = { ℕ };
+
+    ghost view = { λ n. whole n.high n.low };
+
+    ghost invariant = { λ n. n.low < 2 ^ HALF_BITS };
+
+    ghost inverse = { λ number. record {
+      high = number / 2 ^ HALF_BITS;
+      low = number % 2 ^ HALF_BITS;
+    } };
+
+    ghost inverse_ok = { λ n h i. record {
+      high = high-again n.high n.low h i;
+      low = low-again n.high n.low h i;
+    } };
+}
+
+impl Number {
+    /// It as two halves.
+    #[inline]
+    pub(crate) fn new(number: u128) -> Self
+        ensures { result ≡ number }
+    {
+        Number {
+            high: (number >> HALF_BITS) as u64,
+            low: (number % (1 << HALF_BITS)) as u64,
+        }
+    }
+
+    /// It as one.
+    #[inline]
+    pub(crate) fn get(self) -> u128
+        ensures { result ≡ self }
+    {
+        u128::from(self.high) << HALF_BITS | u128::from(self.low)
+    }
+}
