@@ -1,9 +1,15 @@
 //! How many nodes the trees have.
 
 use super::{assert_had, prefix_of, take_away};
+use crate::tree::Node;
 use crate::{PrefixStore, RadixStore};
+use std::mem::size_of;
 use std::process::Abort;
+use std::rc::Rc;
 use std::test::Fail;
+
+/// How many octets a node takes at most where a route is a pointer.
+const NODE_OCTETS: usize = 72;
 
 /// A call of the store.
 #[derive(Clone, Copy, Debug)]
@@ -141,6 +147,12 @@ fn follow(rt: &impl Abort, store: &mut RadixStore<u32>, rows: &[Row]) -> Result<
         assert_eq!(rt; store.nodes(), *nodes, "{call:?}");
         assert_eq!(rt; store.key_count(), *keys, "{call:?}");
     }
+    Ok(())
+}
+
+#[test]
+fn nodes_are_small(rt: HostRuntime) -> Result<(), Fail> {
+    assert!(rt; size_of::<Node<Rc<u32>>>() <= NODE_OCTETS);
     Ok(())
 }
 
