@@ -165,7 +165,8 @@ impl Addr {
         requires { GROUP_BITS * place + GROUP_BITS ≤ bit_count self.now.family }
         ensures { result ≡ group_at self.now place }
     {
-        (self.number.get() >> (NUMBER_BITS as usize - GROUP_BITS - GROUP_BITS * place) & 0xffff) as u16
+        (self.number.get() >> (NUMBER_BITS as usize - GROUP_BITS - GROUP_BITS * place)
+            & 0xffff) as u16
     }
 
     /// The bit at a place, counted from 0 at the most significant one.
