@@ -31,7 +31,7 @@ pub use message::{Message, Update, read_message};
 pub use path::{AsNumbers, AsPath, AsWidth, Segment, SegmentKind, Segments};
 pub use prefixes::Prefixes;
 pub use rib_entry::read_rib_attrs;
-pub use text::put_communities;
+pub use text::{append_communities, put_communities};
 
 #[cfg(test)]
 mod tests;

@@ -7,7 +7,7 @@ ghost use Rattle.bgp_wire.specs.Text.{halves_text, community_text, communities_t
 ghost use Rattle.bgp_wire.specs.Text.{ended_words, StillBegins};
 
 use crate::path::{AsPath, Segment, SegmentKind};
-use itoa::write_digits;
+use ip_prefix::Text;
 use std::alloc::AllocError;
 
 /// Not to be announced outside the AS, or a confederation (RFC 1997).
@@ -55,9 +55,9 @@ impl AsPath {
     /// Appends the path as a person reads it: the numbers of sequences, and the other segments in
     /// brackets, joined by spaces. Refused for want of memory, it leaves the text as it was.
     #[tactic(auto, unfolding(crate::specs::Text::path_text))]
-    pub fn put_text(&self, text: &mut Vec<u8>) -> Result<(), AllocError>
-        ensures appended { OnOk result (text.new.items ≡ text.old.items ++ path_text self.now) }
-        ensures unchanged { OnErr result (text.new.items ≡ text.old.items) }
+    pub fn append_to(&self, text: &mut Text) -> Result<(), AllocError>
+        ensures appended { OnOk result (text.new ≡ text.old ++ path_text self.now) }
+        ensures unchanged { OnErr result (text.new ≡ text.old) }
     {
         let before = text.len();
         let result = put_segments(self.segments.as_slice(), text);
@@ -68,14 +68,24 @@ impl AsPath {
         drop_separator(before, text);
         result
     }
+
+    /// The same, for a text in a `Vec`.
+    pub fn put_text(&self, text: &mut Vec<u8>) -> Result<(), AllocError>
+        ensures appended { OnOk result (text.new.items ≡ text.old.items ++ path_text self.now) }
+        ensures unchanged { OnErr result (text.new.items ≡ text.old.items) }
+    {
+        let mut whole = Text::taken_from(text);
+        let result = self.append_to(&mut whole);
+        *text = whole.into_vec();
+        result
+    }
 }
 
 /// Appends the communities (RFC 1997) as a person reads them, joined by spaces. Refused for want of
 /// memory, it leaves the text as it was.
-pub fn put_communities(communities: &[u32], text: &mut Vec<u8>) -> Result<(), AllocError>
-    ensures appended { OnOk result
-        (text.new.items ≡ text.old.items ++ communities_text communities.now) }
-    ensures unchanged { OnErr result (text.new.items ≡ text.old.items) }
+pub fn append_communities(communities: &[u32], text: &mut Text) -> Result<(), AllocError>
+    ensures appended { OnOk result (text.new ≡ text.old ++ communities_text communities.now) }
+    ensures unchanged { OnErr result (text.new ≡ text.old) }
 {
     let before = text.len();
     let result = put_each_community(communities, text);
@@ -87,22 +97,34 @@ pub fn put_communities(communities: &[u32], text: &mut Vec<u8>) -> Result<(), Al
     result
 }
 
+/// The same, for a text in a `Vec`.
+pub fn put_communities(communities: &[u32], text: &mut Vec<u8>) -> Result<(), AllocError>
+    ensures appended { OnOk result
+        (text.new.items ≡ text.old.items ++ communities_text communities.now) }
+    ensures unchanged { OnErr result (text.new.items ≡ text.old.items) }
+{
+    let mut whole = Text::taken_from(text);
+    let result = append_communities(communities, &mut whole);
+    *text = whole.into_vec();
+    result
+}
+
 /// Takes away the separator behind the last word, where words were appended to a text of this
 /// length.
-fn drop_separator(before: usize, text: &mut Vec<u8>)
+fn drop_separator(before: usize, text: &mut Text)
     ensures { (old : List ℕ) (separator : ℕ) (words : List (List ℕ)) → length old ≡ before →
-        text.old.items ≡ old ++ ended_words separator words →
-        text.new.items ≡ old ++ join_with_byte separator words }
+        text.old ≡ old ++ ended_words separator words →
+        text.new ≡ old ++ join_with_byte separator words }
 {
     let end = text.len().saturating_sub(1).max(before);
     text.truncate(end);
 }
 
 /// Appends the words of each segment, each with a space behind it.
-fn put_segments(segments: &[Segment], text: &mut Vec<u8>) -> Result<(), AllocError>
-    ensures appended { OnOk result (text.new.items ≡
-        text.old.items ++ ended_words SPACE (flat_map segment_words segments.now)) }
-    ensures kept { OnErr result (StillBegins text.old.items text.new.items) }
+fn put_segments(segments: &[Segment], text: &mut Text) -> Result<(), AllocError>
+    ensures appended { OnOk result (text.new ≡
+        text.old ++ ended_words SPACE (flat_map segment_words segments.now)) }
+    ensures kept { OnErr result (StillBegins text.old text.new) }
 {
     for segment in segments {
         put_segment(segment, text)?;
@@ -111,10 +133,10 @@ fn put_segments(segments: &[Segment], text: &mut Vec<u8>) -> Result<(), AllocErr
 }
 
 /// Appends the words of a segment, each with a space behind it.
-fn put_segment(segment: &Segment, text: &mut Vec<u8>) -> Result<(), AllocError>
+fn put_segment(segment: &Segment, text: &mut Text) -> Result<(), AllocError>
     ensures appended { OnOk result
-        (text.new.items ≡ text.old.items ++ ended_words SPACE (segment_words segment.now)) }
-    ensures kept { OnErr result (StillBegins text.old.items text.new.items) }
+        (text.new ≡ text.old ++ ended_words SPACE (segment_words segment.now)) }
+    ensures kept { OnErr result (StillBegins text.old text.new) }
 {
     let numbers = segment.numbers.as_slice();
     match segment.kind {
@@ -126,10 +148,10 @@ fn put_segment(segment: &Segment, text: &mut Vec<u8>) -> Result<(), AllocError>
 }
 
 /// Appends the numbers in brackets, and a space behind them.
-fn put_bracketed(numbers: &[u32], marks: Marks, text: &mut Vec<u8>) -> Result<(), AllocError>
-    ensures appended { OnOk result (text.new.items ≡
-        text.old.items ++ ended_words SPACE (bracketed_numbers marks numbers.now ∷ [])) }
-    ensures kept { OnErr result (StillBegins text.old.items text.new.items) }
+fn put_bracketed(numbers: &[u32], marks: Marks, text: &mut Text) -> Result<(), AllocError>
+    ensures appended { OnOk result (text.new ≡
+        text.old ++ ended_words SPACE (bracketed_numbers marks numbers.now ∷ [])) }
+    ensures kept { OnErr result (StillBegins text.old text.new) }
 {
     text.push(marks.open)?;
     let before = text.len();
@@ -139,34 +161,22 @@ fn put_bracketed(numbers: &[u32], marks: Marks, text: &mut Vec<u8>) -> Result<()
 }
 
 /// Appends the numbers in decimal, each with the separator behind it.
-fn put_numbers(numbers: &[u32], separator: u8, text: &mut Vec<u8>) -> Result<(), AllocError>
+fn put_numbers(numbers: &[u32], separator: u8, text: &mut Text) -> Result<(), AllocError>
     ensures appended { OnOk result
-        (text.new.items ≡ text.old.items ++ ended_words separator (map decimal numbers.now)) }
-    ensures kept { OnErr result (StillBegins text.old.items text.new.items) }
+        (text.new ≡ text.old ++ ended_words separator (map decimal numbers.now)) }
+    ensures kept { OnErr result (StillBegins text.old text.new) }
 {
     for number in numbers {
-        put_number(*number, separator, text)?;
+        text.put_ended_decimal(*number, separator)?;
     }
     Ok(())
 }
 
-/// Appends the number in decimal, and the separator behind it.
-#[inline]
-fn put_number(number: u32, separator: u8, text: &mut Vec<u8>) -> Result<(), AllocError>
-    ensures appended { OnOk result
-        (text.new.items ≡ text.old.items ++ (decimal number ++ separator ∷ [])) }
-    ensures unchanged { OnErr result (text.new.items ≡ text.old.items) }
-{
-    let mut buffer = [separator; 11];
-    let start = write_digits(u64::from(number), &mut buffer, 10);
-    text.extend_from_slice(&buffer[start..])
-}
-
 /// Appends the text of each community, each with a space behind it.
-fn put_each_community(communities: &[u32], text: &mut Vec<u8>) -> Result<(), AllocError>
-    ensures appended { OnOk result (text.new.items ≡
-        text.old.items ++ ended_words SPACE (map community_text communities.now)) }
-    ensures kept { OnErr result (StillBegins text.old.items text.new.items) }
+fn put_each_community(communities: &[u32], text: &mut Text) -> Result<(), AllocError>
+    ensures appended { OnOk result (text.new ≡
+        text.old ++ ended_words SPACE (map community_text communities.now)) }
+    ensures kept { OnErr result (StillBegins text.old text.new) }
 {
     for community in communities {
         put_community(*community, text)?;
@@ -176,10 +186,10 @@ fn put_each_community(communities: &[u32], text: &mut Vec<u8>) -> Result<(), All
 
 /// Appends the text of a community, and a space behind it.
 #[tactic(auto, unfolding(crate::specs::Text::community_text))]
-fn put_community(community: u32, text: &mut Vec<u8>) -> Result<(), AllocError>
+fn put_community(community: u32, text: &mut Text) -> Result<(), AllocError>
     ensures appended { OnOk result
-        (text.new.items ≡ text.old.items ++ (community_text community ++ SPACE ∷ [])) }
-    ensures unchanged { OnErr result (text.new.items ≡ text.old.items) }
+        (text.new ≡ text.old ++ (community_text community ++ SPACE ∷ [])) }
+    ensures kept { OnErr result (StillBegins text.old text.new) }
 {
     match community {
         NO_EXPORT => text.extend_from_slice(b"no-export "),
@@ -190,14 +200,10 @@ fn put_community(community: u32, text: &mut Vec<u8>) -> Result<(), AllocError>
 }
 
 /// Appends the two halves of a number in decimal, with a colon between them and a space behind.
-fn put_halves(number: u32, text: &mut Vec<u8>) -> Result<(), AllocError>
-    ensures appended { OnOk result
-        (text.new.items ≡ text.old.items ++ (halves_text number ++ SPACE ∷ [])) }
-    ensures unchanged { OnErr result (text.new.items ≡ text.old.items) }
+fn put_halves(number: u32, text: &mut Text) -> Result<(), AllocError>
+    ensures appended { OnOk result (text.new ≡ text.old ++ (halves_text number ++ SPACE ∷ [])) }
+    ensures kept { OnErr result (StillBegins text.old text.new) }
 {
-    let mut buffer = [SPACE; 12];
-    let low = write_digits(u64::from(number % 0x1_0000), &mut buffer, 11);
-    buffer[low - 1] = COLON;
-    let high = write_digits(u64::from(number / 0x1_0000), &mut buffer, low - 1);
-    text.extend_from_slice(&buffer[high..])
+    text.put_ended_decimal(number / 0x1_0000, COLON)?;
+    text.put_ended_decimal(number % 0x1_0000, SPACE)
 }

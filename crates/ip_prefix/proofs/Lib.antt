@@ -3,6 +3,7 @@ pub mod Options
 pub mod Lists
 pub mod BitLists
 pub mod Dots
+pub mod DigitRows
 pub mod Highest
 mod Comparing
 pub mod Masks
@@ -16,6 +17,7 @@ pub mod Sequences
 pub mod Fields
 pub mod Counts
 pub mod Wires
+pub mod Writing
 pub mod Filled
 pub mod HexText
 pub mod ZeroRuns

@@ -15,5 +15,6 @@ pub mod Spelling
 pub mod Sequences
 pub mod Fields
 pub mod Counted
+pub mod Written
 pub mod Wire
 pub mod Codes

@@ -2,7 +2,10 @@
 #![tactic(auto)]
 
 mod addr;
+mod buffer;
+mod cursor;
 mod decimal;
+mod digits;
 mod laws;
 mod number;
 mod parse;
@@ -11,12 +14,15 @@ mod text;
 mod turn;
 
 pub use addr::{Addr, Family, V4_BITS, V4_OCTETS, V6_BITS, V6_OCTETS};
+pub use buffer::Text;
+pub use cursor::{DECIMAL_ROOM, write_decimal};
 pub use decimal::put_decimal;
 pub use laws::{
     address_numbers, address_order, common_prefix, containment, covering_order, nested_prefixes,
     one_network, one_spelling, prefix_order, shortened_run, text_spells, turns_by_bits,
 };
 pub use prefix::Prefix;
+pub use text::{ADDRESS_ROOM, PREFIX_ROOM};
 pub use turn::Turn;
 
 #[cfg(test)]

@@ -1,4 +1,5 @@
 mod turns;
+mod written;
 
 use super::*;
 use std::test::Fail;

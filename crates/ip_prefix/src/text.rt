@@ -1,14 +1,16 @@
 //! The printed texts of addresses and prefixes.
 
-ghost use Rattle.std.specs.Prelude.{◌≡◌, ◌+◌, ◌*◌, ◌<◌, ◌≤◌, ◌∷◌, ◌++◌, OnOk, OnErr, length, take, drop, replicate, decimal};
+ghost use Rattle.std.specs.Prelude.{◌≡◌, ◌+◌, ◌*◌, ◌<◌, ◌≤◌, [], ◌∷◌, ◌++◌, OnOk, OnErr, length, take, drop, replicate, decimal};
 ghost use Rattle.std.specs.Char.{digit_char};
 ghost use Rattle.std.specs.Net.Text as Hex;
 ghost use Rattle.ip_prefix.specs.declared.addr.Family.TheVariants.{V4, V6};
+ghost use Rattle.ip_prefix.specs.Address.{groups_of};
 ghost use Rattle.ip_prefix.specs.Text.{address_text, network_text, v4_text, v6_text};
+ghost use Rattle.ip_prefix.specs.Written.{IsWritten};
 
 use crate::addr::{Addr, Family, GROUP_COUNT, V4_OCTETS};
+use crate::cursor::{ROW, put_octets, write_short};
 use crate::prefix::Prefix;
-use itoa::write_digits;
 use std::alloc::AllocError;
 
 /// What stands between octets.
@@ -23,112 +25,122 @@ pub(crate) const SLASH: u8 = b'/';
 /// How many digits a length has at most.
 pub(crate) const LENGTH_DIGITS: usize = 3;
 
-/// How many digits an octet has at most.
-const OCTET_DIGITS: usize = 3;
-
 /// How many digits a group has at most.
 const GROUP_DIGITS: usize = 4;
 
 /// How many groups that are 0 have at least to stand in a row for `::` to stand for them.
 const LEAST_RUN: usize = 2;
 
-/// The room for a length and the slash before it.
-const LENGTH_ROOM: usize = LENGTH_DIGITS + 1;
-
-/// The room for an octet and the dot before it.
-const OCTET_ROOM: usize = OCTET_DIGITS + 1;
-
 /// The room for a group and the colon before it.
 const GROUP_ROOM: usize = GROUP_DIGITS + 1;
-
-/// The room for four octets with dots between them.
-const DOTTED_ROOM: usize = OCTET_ROOM * V4_OCTETS - 1;
 
 /// The room for eight groups with colons before them.
 const COLONS_ROOM: usize = GROUP_ROOM * GROUP_COUNT;
 
-/// The room for an address, a slash and a length.
-const PREFIX_ROOM: usize = COLONS_ROOM - 1 + LENGTH_ROOM;
+/// The room for an address.
+pub const ADDRESS_ROOM: usize = COLONS_ROOM;
+
+/// The room for a prefix.
+pub const PREFIX_ROOM: usize = ADDRESS_ROOM + 1 + ROW;
 
 impl Addr {
-    /// Appends the address as a person reads it (RFC 5952, section 4, for IPv6). Refused for want
-    /// of memory, it leaves the text as it was.
+    /// Writes the address at a place as a person reads it (RFC 5952, section 4, for IPv6), and
+    /// answers the place behind it.
+    #[inline]
     #[tactic(auto, unfolding(crate::specs::Text::address_text))]
+    pub fn write_text(&self, text: &mut [u8], at: usize) -> usize
+        requires { at + ADDRESS_ROOM ≤ length text.old }
+        ensures written { IsWritten text.old at (address_text self.now) text.new result }
+        ensures short { result ≤ at + ADDRESS_ROOM }
+    {
+        match self.family() {
+            Family::V4 => write_dotted(self, text, at),
+            Family::V6 => write_colons(self, text, at),
+        }
+    }
+
+    /// Appends the address as a person reads it. Refused for want of memory, it leaves the text as
+    /// it was.
     pub fn put_text(&self, text: &mut Vec<u8>) -> Result<(), AllocError>
         ensures appended { OnOk result (text.new.items ≡ text.old.items ++ address_text self.now) }
         ensures unchanged { OnErr result (text.new.items ≡ text.old.items) }
     {
-        match self.family() {
-            Family::V4 => put_dotted(self, text),
-            Family::V6 => put_colons(self, text),
-        }
+        let mut buffer = [0; ADDRESS_ROOM];
+        let end = self.write_text(&mut buffer, 0);
+        text.extend_from_slice(&buffer[..end])
     }
 }
 
 impl Prefix {
-    /// Appends the prefix as a person reads it: its least address, a slash and its length.
-    /// Refused for want of memory, it leaves the text as it was.
+    /// Writes the prefix at a place as a person reads it, its least address, a slash and its
+    /// length, and answers the place behind it.
+    #[inline]
+    pub fn write_text(&self, text: &mut [u8], at: usize) -> usize
+        requires { at + PREFIX_ROOM ≤ length text.old }
+        ensures written { IsWritten text.old at (network_text self.now) text.new result }
+        ensures short { result ≤ at + PREFIX_ROOM }
+    {
+        let slash = self.addr().write_text(text, at);
+        text[slash] = SLASH;
+        write_short(u32::from(self.len()), text, slash + 1)
+    }
+
+    /// Appends the prefix as a person reads it. Refused for want of memory, it leaves the text as
+    /// it was.
     pub fn put_text(&self, text: &mut Vec<u8>) -> Result<(), AllocError>
         ensures appended { OnOk result (text.new.items ≡ text.old.items ++ network_text self.now) }
         ensures unchanged { OnErr result (text.new.items ≡ text.old.items) }
     {
-        text.reserve(PREFIX_ROOM)?;
-        let before = text.len();
-        self.addr().put_text(text)?;
-        let result = put_length(self.len(), text);
-        if result.is_err() {
-            text.truncate(before);
-        }
-        result
+        let mut buffer = [0; PREFIX_ROOM];
+        let end = self.write_text(&mut buffer, 0);
+        text.extend_from_slice(&buffer[..end])
     }
 }
 
-// Appends a slash and the length of a prefix.
-fn put_length(len: u8, text: &mut Vec<u8>) -> Result<(), AllocError>
-    ensures appended { OnOk result (text.new.items ≡ text.old.items ++ SLASH ∷ decimal len) }
-    ensures unchanged { OnErr result (text.new.items ≡ text.old.items) }
-{
-    let mut buffer = [0; LENGTH_ROOM];
-    let digits = write_digits(u64::from(len), &mut buffer, LENGTH_ROOM);
-    buffer[digits - 1] = SLASH;
-    text.extend_from_slice(&buffer[digits - 1..])
-}
-
-// Appends the four octets of an IPv4 address in decimal, joined by dots.
-fn put_dotted(address: &Addr, text: &mut Vec<u8>) -> Result<(), AllocError>
-    requires { address.now.family ≡ V4 }
-    ensures appended { OnOk result (text.new.items ≡ text.old.items ++ v4_text address.now) }
-    ensures unchanged { OnErr result (text.new.items ≡ text.old.items) }
-{
-    let mut buffer = [DOT; DOTTED_ROOM];
-    let third = write_octet(address.octet(3), &mut buffer, DOTTED_ROOM);
-    let second = write_octet(address.octet(2), &mut buffer, third);
-    let first = write_octet(address.octet(1), &mut buffer, second);
-    let start = write_digits(u64::from(address.octet(0)), &mut buffer, first);
-    text.extend_from_slice(&buffer[start..])
-}
-
-// Writes the octet so that it ends at `end`, in a buffer that has only dots so far before it, and
-// returns where the dot before the octet stands.
+// Writes the four octets of an IPv4 address, joined by dots.
 #[inline]
-fn write_octet(octet: u8, buffer: &mut [u8], end: usize) -> usize
-    requires room { (OCTET_ROOM ≤ end) × (end ≤ length buffer.old) }
-    requires dots { take end buffer.old ≡ replicate end DOT }
-    ensures start { (result < end) × (end ≤ result + OCTET_ROOM) }
-    ensures written { drop result buffer.new ≡ DOT ∷ decimal octet ++ drop end buffer.old }
-    ensures dots { take result buffer.new ≡ replicate result DOT }
+fn write_dotted(address: &Addr, text: &mut [u8], at: usize) -> usize
+    requires { (address.now.family ≡ V4) × (at + V4_OCTETS * ROW ≤ length text.old) }
+    ensures written { IsWritten text.old at (v4_text address.now) text.new result }
+    ensures short { result ≤ at + V4_OCTETS * ROW }
 {
-    write_digits(u64::from(octet), buffer, end) - 1
+    let second = write_octet(address.octet(0), text, at);
+    let third = write_octet(address.octet(1), text, second);
+    let fourth = write_octet(address.octet(2), text, third);
+    write_short(u32::from(address.octet(3)), text, fourth)
 }
 
-// Appends the groups of an IPv6 address in hexadecimal, joined by colons, with `::` in place of
-// the first longest run of two or more groups that are 0.
-fn put_colons(address: &Addr, text: &mut Vec<u8>) -> Result<(), AllocError>
-    requires { address.now.family ≡ V6 }
-    ensures appended { OnOk result (text.new.items ≡ text.old.items ++ v6_text address.now) }
-    ensures unchanged { OnErr result (text.new.items ≡ text.old.items) }
+// Writes an octet and a dot.
+#[inline]
+fn write_octet(octet: u8, text: &mut [u8], at: usize) -> usize
+    requires { at + ROW ≤ length text.old }
+    ensures written { IsWritten text.old at (decimal octet ++ DOT ∷ []) text.new result }
+    ensures short { result ≤ at + ROW }
 {
-    let groups = [
+    let dot = write_short(u32::from(octet), text, at);
+    text[dot] = DOT;
+    dot + 1
+}
+
+// Writes the groups of an IPv6 address, joined by colons and shortened.
+fn write_colons(address: &Addr, text: &mut [u8], at: usize) -> usize
+    requires { (address.now.family ≡ V6) × (at + COLONS_ROOM ≤ length text.old) }
+    ensures written { IsWritten text.old at (v6_text address.now) text.new result }
+    ensures short { result ≤ at + COLONS_ROOM }
+{
+    let mut buffer = [COLON; 2 * COLONS_ROOM];
+    let from = write_shortened(&groups_of(address), &mut buffer[..COLONS_ROOM]);
+    put_octets(&buffer[from..from + COLONS_ROOM], text, at);
+    at + (COLONS_ROOM - from)
+}
+
+// The groups of an IPv6 address.
+#[inline]
+fn groups_of(address: &Addr) -> [u16; GROUP_COUNT]
+    requires { address.now.family ≡ V6 }
+    ensures { result ≡ groups_of address.now }
+{
+    [
         address.group(0),
         address.group(1),
         address.group(2),
@@ -137,10 +149,7 @@ fn put_colons(address: &Addr, text: &mut Vec<u8>) -> Result<(), AllocError>
         address.group(5),
         address.group(6),
         address.group(7),
-    ];
-    let mut buffer = [COLON; COLONS_ROOM];
-    let from = write_shortened(&groups, &mut buffer);
-    text.extend_from_slice(&buffer[from..])
+    ]
 }
 
 // Writes the eight groups at the end of the buffer, and returns where their text starts.

@@ -5,4 +5,4 @@ use Rattle.bgp_wire.proofs.text.put_each_community.Given as goal
 
 -- the communities so far stand behind the text
 abbrev pub invariant-loop-community : goal.invariant-loop-community
-invariant-loop-community l = l.text.items ≡ l.fn.text.items ++ ended_words SPACE (map community_text (take l.community-index l.communities))
+invariant-loop-community l = l.text ≡ l.fn.text ++ ended_words SPACE (map community_text (take l.community-index l.communities))

@@ -6,4 +6,4 @@ use Rattle.bgp_wire.proofs.text.put_segments.Given as goal
 
 -- the words of the segments so far stand behind the text
 abbrev pub invariant-loop-segment : goal.invariant-loop-segment
-invariant-loop-segment l = l.text.items ≡ l.fn.text.items ++ ended_words SPACE (flat_map segment_words (take l.segment-index l.segments))
+invariant-loop-segment l = l.text ≡ l.fn.text ++ ended_words SPACE (flat_map segment_words (take l.segment-index l.segments))

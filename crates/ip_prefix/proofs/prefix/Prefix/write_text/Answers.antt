@@ -1,0 +1,19 @@
+use Rattle.std.proofs.Common.{◌++◌, ◌∷◌, decimal, subst, ◌∙◌, refl, arith, length-set}
+use Rattle.ip_prefix.specs.Text.{address_text, network_text}
+use Rattle.ip_prefix.specs.Written.{IsWritten}
+use Rattle.ip_prefix.proofs.Highest.{bit_count_le}
+use Rattle.ip_prefix.proofs.Writing.{written_marked}
+use Rattle.ip_prefix.proofs.prefix.Prefix.write_text.Goals as goal
+
+pub write_short-requires : goal.write_short-requires
+write_short-requires c = (
+  omega (arith, c.from.ensures, c.len.ensures.value, c.len.ensures.fits, bit_count_le c.args.self.now.family),
+  omega (arith, c.requires, c.write_text-slash.ensures.short, c.write_text-slash.ensures.written.size, length-set c.write_text-slash.new.text c.write_text-slash.result 47),
+)
+
+pub returns-clause-written : goal.returns-clause-written
+unfolding network_text
+returns-clause-written c =
+    let marked = written_marked _ _ _ _ _ _ _ _ 47 _ c.write_text-slash.ensures.written (omega (arith, c.requires, c.write_text-slash.ensures.short, c.write_text-slash.ensures.written.size)) refl c.write_short.ensures.written in
+    subst (λ t. IsWritten c.args.text.now c.args.at t c.write_short.new.text c.write_short.result)
+    (λ i. address_text (c.addr.ensures.value i) ++ 47 ∷ decimal ((c.from.ensures ∙ c.len.ensures.value) i)) marked

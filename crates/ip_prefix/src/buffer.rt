@@ -1,0 +1,226 @@
+//! Texts that grow at their end.
+
+ghost use Rattle.std.specs.Prelude.{◌≡◌, ◌+◌, ◌-◌, ◌≤◌, ◌++◌, ◌∷◌, [], OnOk, OnErr, length, take, drop, slice_range, decimal};
+ghost use Rattle.ip_prefix.specs.Text.{address_text, network_text};
+
+use crate::addr::Addr;
+use crate::cursor::{DECIMAL_ROOM, put_octets, write_decimal};
+use crate::prefix::Prefix;
+use crate::text::{ADDRESS_ROOM, PREFIX_ROOM};
+use itoa::Buffer;
+use std::alloc::{AllocError, Global};
+use std::marker::Model;
+use std::mem;
+
+/// How much room is made at least, where there isn't enough.
+const LEAST_ROOM: usize = 512;
+
+/// A text of octets. It is kept in a buffer that has room behind it, so that what is appended is
+/// written in place.
+#[derive(Drop)]
+pub struct Text {
+    buffer: Vec<u8>,
+    len: usize,
+}
+
+impl Model for Text {
+    ghost use Rattle.std.specs.Prelude.{ℕ, List, ◌≤◌, length, take};
+
+    ghost Value = { List ℕ };
+
+    ghost view = { λ text. take text.len text.buffer.items };
+
+    ghost invariant = { λ text. text.len ≤ length text.buffer.items };
+}
+
+impl Text {
+    /// An empty text.
+    pub fn new(alloc: Global) -> Self
+        ensures { result ≡ [] }
+    {
+        Text {
+            buffer: Vec::new(alloc),
+            len: 0,
+        }
+    }
+
+    /// The text that the octets are, which leaves none of them there.
+    #[inline]
+    pub fn taken_from(octets: &mut Vec<u8>) -> Self
+        ensures taken { result ≡ octets.old.items }
+        ensures left { octets.new.items ≡ [] }
+    {
+        let len = octets.len();
+        let none = Vec::new(*octets.allocator());
+        Text {
+            buffer: mem::replace(octets, none),
+            len,
+        }
+    }
+
+    /// Its octets, without the room behind them.
+    #[inline]
+    pub fn into_vec(self) -> Vec<u8>
+        ensures { result.items ≡ self }
+    {
+        let Text { mut buffer, len } = self;
+        buffer.truncate(len);
+        buffer
+    }
+
+    /// How many octets it has.
+    #[inline]
+    pub fn len(&self) -> usize
+        ensures { result ≡ length self.now }
+    {
+        self.len
+    }
+
+    /// Its octets.
+    #[inline]
+    pub fn as_slice(&self) -> &[u8]
+        ensures { result.now ≡ self.now }
+    {
+        &self.buffer[..self.len]
+    }
+
+    /// Keeps as many of its first octets as are named, or all.
+    #[inline]
+    pub fn truncate(&mut self, len: usize)
+        ensures { self.new ≡ take len self.old }
+    {
+        self.len = self.len.min(len);
+    }
+
+    /// Appends an octet.
+    #[inline]
+    pub fn push(&mut self, octet: u8) -> Result<(), AllocError>
+        ensures appended { OnOk result (self.new ≡ self.old ++ octet ∷ []) }
+        ensures unchanged { OnErr result (self.new ≡ self.old) }
+    {
+        make_room(&mut self.buffer, self.len, 1)?;
+        self.buffer[self.len] = octet;
+        self.len += 1;
+        Ok(())
+    }
+
+    /// Appends the number in decimal, without leading zeros.
+    #[inline]
+    pub fn put_decimal(&mut self, number: u32) -> Result<(), AllocError>
+        ensures appended { OnOk result (self.new ≡ self.old ++ decimal number) }
+        ensures unchanged { OnErr result (self.new ≡ self.old) }
+    {
+        make_room(&mut self.buffer, self.len, DECIMAL_ROOM)?;
+        self.len = write_decimal(number, self.buffer.as_mut_slice(), self.len);
+        Ok(())
+    }
+
+    /// The same, for a number of 64 bits.
+    pub fn put_long_decimal(&mut self, number: u64) -> Result<(), AllocError>
+        ensures appended { OnOk result (self.new ≡ self.old ++ decimal number) }
+        ensures unchanged { OnErr result (self.new ≡ self.old) }
+    {
+        match u32::try_from(number) {
+            Ok(small) => self.put_decimal(small),
+            Err(_) => self.extend_from_slice(Buffer::new().format(number).as_bytes()),
+        }
+    }
+
+    /// Appends the number in decimal, and an octet behind it.
+    #[inline]
+    pub fn put_ended_decimal(&mut self, number: u32, end: u8) -> Result<(), AllocError>
+        ensures appended { OnOk result (self.new ≡ self.old ++ (decimal number ++ end ∷ [])) }
+        ensures unchanged { OnErr result (self.new ≡ self.old) }
+    {
+        make_room(&mut self.buffer, self.len, DECIMAL_ROOM + 1)?;
+        let behind = write_decimal(number, self.buffer.as_mut_slice(), self.len);
+        self.buffer[behind] = end;
+        self.len = behind + 1;
+        Ok(())
+    }
+
+    /// Appends the address as a person reads it.
+    #[inline]
+    pub fn put_address(&mut self, address: &Addr) -> Result<(), AllocError>
+        ensures appended { OnOk result (self.new ≡ self.old ++ address_text address.now) }
+        ensures unchanged { OnErr result (self.new ≡ self.old) }
+    {
+        make_room(&mut self.buffer, self.len, ADDRESS_ROOM)?;
+        self.len = address.write_text(self.buffer.as_mut_slice(), self.len);
+        Ok(())
+    }
+
+    /// Appends the prefix as a person reads it.
+    #[inline]
+    pub fn put_prefix(&mut self, prefix: &Prefix) -> Result<(), AllocError>
+        ensures appended { OnOk result (self.new ≡ self.old ++ network_text prefix.now) }
+        ensures unchanged { OnErr result (self.new ≡ self.old) }
+    {
+        make_room(&mut self.buffer, self.len, PREFIX_ROOM)?;
+        self.len = prefix.write_text(self.buffer.as_mut_slice(), self.len);
+        Ok(())
+    }
+
+    /// Appends the octets.
+    #[inline(always)]
+    pub fn extend_from_slice(&mut self, octets: &[u8]) -> Result<(), AllocError>
+        ensures appended { OnOk result (self.new ≡ self.old ++ octets.now) }
+        ensures unchanged { OnErr result (self.new ≡ self.old) }
+    {
+        make_room(&mut self.buffer, self.len, octets.len())?;
+        put_octets(octets, self.buffer.as_mut_slice(), self.len);
+        self.len += octets.len();
+        Ok(())
+    }
+
+    /// Appends once more what stands from the first place to the second.
+    #[inline]
+    pub fn extend_from_within(&mut self, start: usize, end: usize) -> Result<(), AllocError>
+        requires { (start ≤ end) × (end ≤ length self.old) }
+        ensures appended { OnOk result (self.new ≡ self.old ++ slice_range self.old start end) }
+        ensures unchanged { OnErr result (self.new ≡ self.old) }
+    {
+        let size = end - start;
+        make_room(&mut self.buffer, self.len, size)?;
+        copy_within(self.buffer.as_mut_slice(), start, end, self.len);
+        self.len += size;
+        Ok(())
+    }
+}
+
+// Makes the buffer at least so much longer than a text at its front.
+#[inline]
+fn make_room(buffer: &mut Vec<u8>, len: usize, room: usize) -> Result<(), AllocError>
+    requires { len ≤ length buffer.old.items }
+    ensures room { OnOk result (len + room ≤ length buffer.new.items) }
+    ensures within { len ≤ length buffer.new.items }
+    ensures kept { take len buffer.new.items ≡ take len buffer.old.items }
+{
+    if buffer.len() - len < room {
+        return grow(buffer, len, room);
+    }
+    Ok(())
+}
+
+// The same, where there isn't room.
+fn grow(buffer: &mut Vec<u8>, len: usize, room: usize) -> Result<(), AllocError>
+    requires { len ≤ length buffer.old.items }
+    ensures room { OnOk result (len + room ≤ length buffer.new.items) }
+    ensures within { len ≤ length buffer.new.items }
+    ensures kept { take len buffer.new.items ≡ take len buffer.old.items }
+{
+    let size = len.checked_add(room.max(LEAST_ROOM)).ok_or(AllocError)?;
+    buffer.resize(size, 0)
+}
+
+// Copies octets from the front of a slice to a place behind them.
+#[inline]
+fn copy_within(octets: &mut [u8], start: usize, end: usize, at: usize)
+    requires order { (start ≤ end) × (end ≤ at) }
+    requires room { at + (end - start) ≤ length octets.old }
+    ensures { octets.new ≡ take at octets.old ++ slice_range octets.old start end
+        ++ drop (at + (end - start)) octets.old }
+{
+    let (front, back) = octets.split_at_mut(at);
+    back[..end - start].copy_from_slice(&front[start..end]);
+}

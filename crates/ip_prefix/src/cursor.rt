@@ -1,0 +1,113 @@
+//! Texts written forwards at a place of a slice. What stands behind a text, within the room that it
+//! asks for, may be anything then.
+
+ghost use Rattle.std.specs.Prelude.{◌≡◌, ◌+◌, ◌*◌, ◌<◌, ◌≤◌, ◌++◌, ◌∷◌, [], length, take, drop, decimal};
+ghost use Rattle.ip_prefix.specs.Written.{IsWritten, three_digits, filled};
+
+use crate::digits::{SHORTS, THREES};
+
+/// The room for a number of 32 bits in decimal.
+pub const DECIMAL_ROOM: usize = 12;
+
+/// How many digits a number of 32 bits has at most.
+const DECIMAL_DIGITS: usize = 10;
+
+/// How many octets are written at once.
+pub(crate) const ROW: usize = 4;
+
+/// What stands in a row behind the digits.
+const SPACE: u8 = b' ';
+
+/// A thousand.
+const THOUSAND: u32 = 1000;
+
+/// A million.
+const MILLION: u32 = 1_000_000;
+
+/// Writes the number in decimal, without leading zeros, and answers the place behind it.
+#[inline]
+pub fn write_decimal(number: u32, text: &mut [u8], at: usize) -> usize
+    requires { at + DECIMAL_ROOM ≤ length text.old }
+    ensures written { IsWritten text.old at (decimal number) text.new result }
+    ensures short { result ≤ at + DECIMAL_DIGITS }
+{
+    if number < MILLION {
+        return write_six(number, text, at);
+    }
+    write_long(number, text, at)
+}
+
+// Writes a number of seven digits or more.
+fn write_long(number: u32, text: &mut [u8], at: usize) -> usize
+    requires { (MILLION ≤ number) × (at + DECIMAL_ROOM ≤ length text.old) }
+    ensures written { IsWritten text.old at (decimal number) text.new result }
+    ensures short { result ≤ at + DECIMAL_DIGITS }
+{
+    let low = number % MILLION;
+    let millions = write_six(number / MILLION, text, at);
+    let thousands = write_three(low / THOUSAND, text, millions);
+    write_three(low % THOUSAND, text, thousands)
+}
+
+// Writes a number of up to six digits.
+#[inline]
+fn write_six(number: u32, text: &mut [u8], at: usize) -> usize
+    requires { (number < MILLION) × (at + 3 + ROW ≤ length text.old) }
+    ensures written { IsWritten text.old at (decimal number) text.new result }
+    ensures short { result ≤ at + 6 }
+{
+    if number < THOUSAND {
+        return write_short(number, text, at);
+    }
+    let thousands = write_short(number / THOUSAND, text, at);
+    write_three(number % THOUSAND, text, thousands)
+}
+
+// Writes a number of up to three digits.
+#[inline]
+pub(crate) fn write_short(number: u32, text: &mut [u8], at: usize) -> usize
+    requires { (number < THOUSAND) × (at + ROW ≤ length text.old) }
+    ensures written { IsWritten text.old at (decimal number) text.new result }
+    ensures short { result ≤ at + 3 }
+{
+    let row = short_row(number);
+    put_octets(&row, text, at);
+    at + usize::from(row[3] - b'0')
+}
+
+// Writes a number below a thousand in three digits.
+#[inline]
+fn write_three(number: u32, text: &mut [u8], at: usize) -> usize
+    requires { (number < THOUSAND) × (at + ROW ≤ length text.old) }
+    ensures { IsWritten text.old at (three_digits number) text.new result }
+{
+    put_octets(&three_row(number), text, at);
+    at + 3
+}
+
+// The decimal of a number below a thousand, filled with spaces, and how many digits it has.
+#[inline(always)]
+fn short_row(number: u32) -> [u8; ROW]
+    requires { number < THOUSAND }
+    ensures { result ≡ filled (decimal number) }
+{
+    SHORTS[number as usize]
+}
+
+// A number below a thousand in three digits, and a space.
+#[inline(always)]
+fn three_row(number: u32) -> [u8; ROW]
+    requires { number < THOUSAND }
+    ensures { result ≡ three_digits number ++ SPACE ∷ [] }
+{
+    THREES[number as usize]
+}
+
+// Puts octets there.
+#[inline(always)]
+pub(crate) fn put_octets(octets: &[u8], text: &mut [u8], at: usize)
+    requires { at + length octets.now ≤ length text.old }
+    ensures { text.new ≡ take at text.old ++ octets.now ++ drop (at + length octets.now) text.old }
+{
+    text[at..at + octets.len()].copy_from_slice(octets);
+}
