@@ -2,7 +2,7 @@
 use Rattle.std.proofs.Common.{◌≡◌, ℕ, ◌-◌, List, [], ◌∷◌, ◌++◌, length, take, max, refl, ap, sym, ◌∙◌, arith, append_assoc, append-nil}
 use Rattle.std.specs.List.{join_with_byte}
 use Rattle.std.proofs.lemmas.List.{length-append, take-append-le, take_all}
-use Rattle.bgp_wire.specs.Text.{ended_words}
+use Rattle.ip_prefix.specs.Written.{ended_words}
 
 -- words that each have an end are those that are joined and a last end
 ended_words-joined : (separator : ℕ) (word : List ℕ) (words : List (List ℕ)) → ended_words separator (word ∷ words) ≡ join_with_byte separator (word ∷ words) ++ separator ∷ []

@@ -1,3 +1,4 @@
+pub mod Absent
 pub mod Number
 pub mod Path
 pub mod Attribute

@@ -49,10 +49,6 @@ community_text community =
 abbrev pub communities_text : List ℕ → List ℕ
 communities_text communities = join_with_byte SPACE (map community_text communities)
 
--- words, each ended by an octet
-abbrev pub ended_words : ℕ → List (List ℕ) → List ℕ
-ended_words separator words = flat_map (λ word. word ++ separator ∷ []) words
-
 -- the old text still stands in front of the new one
 abbrev pub StillBegins : List ℕ → List ℕ → Type 0
 StillBegins old new = (more : List ℕ) × (new ≡ old ++ more)

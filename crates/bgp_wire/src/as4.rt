@@ -25,9 +25,11 @@ pub(crate) struct Passed {
 }
 
 /// Who has passed a route on and who has aggregated it, by the attributes of a record with AS
-/// numbers of this width.
+/// numbers of this width. The path is read into the memory of another.
+#[inline(always)]
 pub(crate) fn read_passed(
     alloc: Global,
+    old: AsPath,
     width: AsWidth,
     values: &FirstValues,
 ) -> Result<Passed, WireFault>
@@ -35,29 +37,30 @@ pub(crate) fn read_passed(
         values.now result }
 {
     match width {
-        AsWidth::Two => read_joined(alloc, values),
-        AsWidth::Four => read_own(alloc, values),
+        AsWidth::Two => read_joined(alloc, old, values),
+        AsWidth::Four => read_own(alloc, old, values),
     }
 }
 
 /// Where all AS numbers have four octets.
-fn read_own(alloc: Global, values: &FirstValues) -> Result<Passed, WireFault>
+#[inline(always)]
+fn read_own(alloc: Global, old: AsPath, values: &FirstValues) -> Result<Passed, WireFault>
     ensures { ReadsList (λ passed. SaysOwn passed.path passed.aggregator) values.now result }
 {
     let aggregator = read_aggregator(values.first(AGGREGATOR))?;
-    let path = read_path(alloc, AsWidth::Four, values.octets(AS_PATH))?;
+    let path = read_path(alloc, old, AsWidth::Four, values.octets(AS_PATH))?;
     Ok(Passed { aggregator, path })
 }
 
 /// Where AS4_PATH and AS4_AGGREGATOR stand beside numbers of two octets.
-fn read_joined(alloc: Global, values: &FirstValues) -> Result<Passed, WireFault>
+fn read_joined(alloc: Global, old: AsPath, values: &FirstValues) -> Result<Passed, WireFault>
     ensures { ReadsList (λ passed. SaysJoined passed.path passed.aggregator) values.now result }
 {
     let own = read_aggregator(values.first(AGGREGATOR))?;
     let as4 = read_as4_aggregator(values.first(AS4_AGGREGATOR));
     let ignored = is_ignored(&own, &as4);
     let aggregator = join_aggregator(own, as4);
-    let own_path = read_path(alloc, AsWidth::Two, values.octets(AS_PATH))?;
+    let own_path = read_path(alloc, old, AsWidth::Two, values.octets(AS_PATH))?;
     let path = join_path(alloc, own_path, ignored, values.first(AS4_PATH))?;
     Ok(Passed { aggregator, path })
 }
@@ -100,7 +103,7 @@ fn join_path(
     let Some(octets) = as4 else {
         return Ok(own);
     };
-    match read_path(alloc, AsWidth::Four, octets) {
+    match read_path(alloc, AsPath::none(alloc), AsWidth::Four, octets) {
         Ok(as4) => merge_paths(alloc, &own, &as4),
         Err(WireFault::Malformed) => Ok(own),
         Err(WireFault::Memory) => Err(AllocError),

@@ -1,11 +1,14 @@
 //! The path attributes of a route.
 
-ghost use Rattle.std.specs.Prelude.{◌≡◌};
+ghost use Rattle.std.specs.Prelude.{◌≡◌, [], IfOk};
+ghost use Rattle.bgp_wire.specs.Absent.{no_path, no_attrs, without_lists};
 
 use crate::path::AsPath;
+use crate::replacing::{copy_numbers, copy_path};
 use ip_prefix::Addr;
-use std::alloc::AllocError;
+use std::alloc::{AllocError, Global};
 use std::marker::Model;
+use std::mem;
 
 /// How a route came into BGP (RFC 4271, section 5.1.1).
 #[derive(Clone, Copy, Debug, PartialEq, Eq)]
@@ -77,6 +80,27 @@ impl Clone for Communities {
     }
 }
 
+/// A path and communities that aren't needed any more. Others are read into their memory.
+#[derive(Drop)]
+pub(crate) struct Spare {
+    pub(crate) path: AsPath,
+    pub(crate) communities: Communities,
+}
+
+impl Spare {
+    /// Without any memory.
+    #[inline]
+    pub(crate) fn none(alloc: Global) -> Spare
+        ensures path { result.path ≡ no_path }
+        ensures communities { result.communities ≡ [] }
+    {
+        Spare {
+            path: AsPath::none(alloc),
+            communities: Communities::from_vec(Vec::new(alloc)),
+        }
+    }
+}
+
 /// The path attributes of a route. Those that are absent are `None`, false or empty.
 #[derive(Debug, Drop)]
 pub struct Attrs {
@@ -98,21 +122,68 @@ pub struct Attrs {
     pub atomic: bool,
 }
 
-impl Clone for Attrs {
-    ghost is_clone = { λ attrs copy. copy ≡ attrs };
+impl Attrs {
+    /// Attributes of which none is there.
+    pub fn none(alloc: Global) -> Attrs
+        ensures { result ≡ no_attrs }
+    {
+        Attrs::over(Spare::none(alloc))
+    }
 
-    fn clone(&self) -> Result<Attrs, AllocError> {
-        let path = self.path.clone()?;
-        let communities = self.communities.clone()?;
+    /// This path and these communities alone.
+    #[inline]
+    pub(crate) fn over(spare: Spare) -> Attrs
+        ensures { result ≡ record no_attrs { path = spare.path; communities = spare.communities } }
+    {
+        let Spare { path, communities } = spare;
+        Attrs {
+            next_hop: None,
+            aggregator: None,
+            path,
+            communities,
+            med: None,
+            local_pref: None,
+            origin: None,
+            atomic: false,
+        }
+    }
+
+    /// The same attributes, in memory that is spare.
+    pub(crate) fn copied(&self, alloc: Global, spare: Spare) -> Result<Attrs, AllocError>
+        ensures { IfOk result (λ copy. copy ≡ self.now) }
+    {
+        let path = copy_path(alloc, spare.path, &self.path)?;
+        let communities = copy_numbers(spare.communities.into_vec(), self.communities.as_slice())?;
         Ok(Attrs {
             next_hop: self.next_hop,
             aggregator: self.aggregator,
             path,
-            communities,
+            communities: Communities::from_vec(communities),
             med: self.med,
             local_pref: self.local_pref,
             origin: self.origin,
             atomic: self.atomic,
         })
+    }
+
+    /// The path and the communities, which leaves neither there.
+    #[inline]
+    pub(crate) fn take_spare(&mut self, alloc: Global) -> Spare
+        ensures { self.new ≡ without_lists self.old }
+    {
+        let none = Spare::none(alloc);
+        Spare {
+            path: mem::replace(&mut self.path, none.path),
+            communities: mem::replace(&mut self.communities, none.communities),
+        }
+    }
+}
+
+impl Clone for Attrs {
+    ghost is_clone = { λ attrs copy. copy ≡ attrs };
+
+    fn clone(&self) -> Result<Attrs, AllocError> {
+        let alloc = *self.communities.communities.allocator();
+        self.copied(alloc, Spare::none(alloc))
     }
 }

@@ -1,15 +1,16 @@
 //! Finding the path attributes in their list.
 
-ghost use Rattle.std.specs.Prelude.{◌≡◌, ℕ, ◌<◌, List, [], ◌∷◌, ◌++◌, IfSome, IfNone};
+ghost use Rattle.std.specs.Prelude.{◌≡◌, ℕ, ◌<◌, List, [], ◌∷◌, ◌++◌, OnOk, IfErr, IfSome, IfNone};
 ghost use Rattle.ip_prefix.specs.Sequences.{Begins};
 ghost use Rattle.bgp_wire.specs.Attribute.{Attribute, SpellsAttribute, SpellsAttributes};
 ghost use Rattle.bgp_wire.specs.Attribute.{is_extended, length_octets, length_limit};
 ghost use Rattle.bgp_wire.specs.Attribute.{first_value, repeats};
 ghost use Rattle.bgp_wire.specs.FirstValues.{Holds, octets_of};
 ghost use Rattle.ip_prefix.specs.Sequences.{BeginsWithNone};
-ghost use Rattle.bgp_wire.specs.Reading.{IsNoSpelling};
+ghost use Rattle.bgp_wire.specs.Reading.{Refuses};
 ghost use Rattle.bgp_wire.specs.Value.{octets_or_none};
 
+use crate::fault::WireFault;
 use crate::numbers::{LENGTH_SIZE, read_length};
 use std::marker::Model;
 
@@ -71,6 +72,7 @@ fn split_length(flags: u8, octets: &[u8]) -> Option<(usize, &[u8])>
 }
 
 /// The attribute in front of the octets.
+#[inline]
 fn split_attribute(octets: &[u8]) -> Option<FramedAttribute<'_>>
     ensures some { IfSome result (λ f. (flags : ℕ) × Begins SpellsAttribute
         record { flags = flags; kind = f.kind; value = f.value.now } f.rest.now octets.now) }
@@ -107,7 +109,8 @@ impl<'a> Model for FirstValues<'a> {
 
 impl<'a> FirstValues<'a> {
     /// Those of no attributes.
-    fn none() -> FirstValues<'a>
+    #[inline]
+    pub(crate) fn none() -> FirstValues<'a>
         ensures { Holds result [] }
     {
         FirstValues {
@@ -116,7 +119,26 @@ impl<'a> FirstValues<'a> {
         }
     }
 
+    /// Notes the attributes that the octets spell. They are the first.
+    pub(crate) fn note_all(&mut self, octets: &'a [u8]) -> Result<(), WireFault>
+        requires { Holds self.old [] }
+        ensures noted { OnOk result ((list : List Attribute)
+            × SpellsAttributes list octets.now × Holds self.new list) }
+        ensures refused { IfErr result (Refuses SpellsAttributes octets.now) }
+    {
+        let mut rest = octets;
+        while !rest.is_empty() {
+            let Some(framed) = split_attribute(rest) else {
+                return Err(WireFault::Malformed);
+            };
+            self.note(framed.kind, framed.value);
+            rest = framed.rest;
+        }
+        Ok(())
+    }
+
     /// Notes the next attribute of the list.
+    #[inline]
     fn note(&mut self, kind: u8, value: &'a [u8])
         ensures { (list : List Attribute) (flags : ℕ) → Holds self.old list →
             Holds self.new (list ++ record { flags = flags; kind = kind; value = value.now } ∷ []) }
@@ -164,20 +186,4 @@ impl<'a> FirstValues<'a> {
     {
         self.again[usize::from(kind)]
     }
-}
-
-/// The first values of the attributes that the octets spell.
-pub(crate) fn read_first_values(octets: &[u8]) -> Option<FirstValues<'_>>
-    ensures some { IfSome result (λ values. (list : List Attribute)
-        × SpellsAttributes list octets.now × Holds values list) }
-    ensures none { IfNone result (IsNoSpelling SpellsAttributes octets.now) }
-{
-    let mut values = FirstValues::none();
-    let mut rest = octets;
-    while !rest.is_empty() {
-        let framed = split_attribute(rest)?;
-        values.note(framed.kind, framed.value);
-        rest = framed.rest;
-    }
-    Some(values)
 }

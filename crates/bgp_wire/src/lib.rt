@@ -6,6 +6,7 @@ mod attrs;
 mod fault;
 mod framing;
 mod laws;
+mod memory;
 mod merge;
 mod message;
 mod next_hop;
@@ -14,6 +15,7 @@ mod path;
 mod path_reader;
 mod prefixes;
 mod reach;
+mod replacing;
 mod rib_entry;
 mod shared;
 mod text;
@@ -26,11 +28,12 @@ pub use laws::{
     attribute_numbers, merge_keeps_the_weight, one_attribute_list, one_merge, one_message,
     one_path, one_table_entry, text_marks,
 };
+pub use memory::MessageRoom;
 pub use merge::merge_paths;
-pub use message::{Message, Update, read_message};
+pub use message::{Message, Update, read_message, read_message_into};
 pub use path::{AsNumbers, AsPath, AsWidth, Segment, SegmentKind, Segments};
 pub use prefixes::Prefixes;
-pub use rib_entry::read_rib_attrs;
+pub use rib_entry::{read_rib_attrs, replace_rib_attrs};
 pub use text::{append_communities, put_communities};
 
 #[cfg(test)]

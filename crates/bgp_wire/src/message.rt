@@ -6,6 +6,7 @@ ghost use Rattle.bgp_wire.specs.Reading.{Reads};
 
 use crate::attrs::Attrs;
 use crate::fault::WireFault;
+use crate::memory::MessageRoom;
 use crate::numbers::{LENGTH_SIZE, read_length};
 use crate::path::AsWidth;
 use crate::prefixes::Prefixes;
@@ -78,10 +79,21 @@ fn frame_message(octets: &[u8]) -> Option<FramedMessage<'_>>
 pub fn read_message(alloc: Global, width: AsWidth, octets: &[u8]) -> Result<Message, WireFault>
     ensures { Reads (SpellsMessage width) octets.now result }
 {
+    read_message_into(&mut MessageRoom::new(alloc), width, octets)
+}
+
+/// The same, in the memory of messages before.
+pub fn read_message_into(
+    room: &mut MessageRoom,
+    width: AsWidth,
+    octets: &[u8],
+) -> Result<Message, WireFault>
+    ensures { Reads (SpellsMessage width) octets.now result }
+{
     let framed = frame_message(octets).ok_or(WireFault::Malformed)?;
     if framed.kind != UPDATE {
         return Ok(Message::Other(framed.kind));
     }
-    let update = read_update(alloc, width, framed.body)?;
+    let update = read_update(room, width, framed.body)?;
     Ok(Message::Update(update))
 }

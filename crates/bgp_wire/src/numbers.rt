@@ -1,6 +1,6 @@
 //! Numbers in network byte order.
 
-ghost use Rattle.std.specs.Prelude.{◌≡◌, ◌<◌, ◌^◌, length, IfOk, IfErr};
+ghost use Rattle.std.specs.Prelude.{◌≡◌, ◌<◌, ◌^◌, ◌%◌, [], length, OnOk, IfOk, IfErr};
 ghost use Rattle.std.specs.Int.{to_be_bytes, w16};
 ghost use Rattle.ip_prefix.specs.Sequences.{SpellsAll};
 ghost use Rattle.bgp_wire.specs.Number.{SpellsAsn, octets_at};
@@ -9,7 +9,7 @@ ghost use Rattle.bgp_wire.specs.Reading.{Refuses};
 use crate::fault::WireFault;
 use crate::path::AsWidth;
 use byteorder::{BigEndian, ByteOrder};
-use std::alloc::Global;
+use std::alloc::AllocError;
 
 impl AsWidth {
     /// How many octets a number takes.
@@ -49,10 +49,27 @@ pub(crate) fn read_length(octets: &[u8]) -> usize
     usize::from(BigEndian::read_u16(octets))
 }
 
-/// The numbers that the octets are, one behind the other. There is room for all of them from the
-/// start.
+/// Appends the numbers to none. It is inlined, so that there is a loop for each width.
+#[inline(always)]
+fn push_numbers(width: AsWidth, octets: &[u8], numbers: &mut Vec<u32>) -> Result<(), AllocError>
+    requires whole { length octets.now % octets_at width ≡ 0 }
+    requires none { numbers.old.items ≡ [] }
+    ensures { OnOk result (SpellsAll (SpellsAsn width) numbers.new.items octets.now) }
+{
+    let size = width.octets();
+    let mut rest = octets;
+    while !rest.is_empty() {
+        let (front, more) = rest.split_at(size);
+        numbers.push(width.number(front))?;
+        rest = more;
+    }
+    Ok(())
+}
+
+/// The numbers that the octets are, one behind the other, in the memory of others. There is room
+/// for all of them from the start.
 pub(crate) fn read_numbers(
-    alloc: Global,
+    old: Vec<u32>,
     width: AsWidth,
     octets: &[u8],
 ) -> Result<Vec<u32>, WireFault>
@@ -64,12 +81,12 @@ pub(crate) fn read_numbers(
     if octets.len() % size != 0 {
         return Err(WireFault::Malformed);
     }
-    let mut numbers = Vec::with_capacity(alloc, octets.len() / size)?;
-    let mut rest = octets;
-    while !rest.is_empty() {
-        let (front, more) = rest.split_at(size);
-        numbers.push(width.number(front))?;
-        rest = more;
+    let mut numbers = old;
+    numbers.clear();
+    numbers.reserve(octets.len() / size)?;
+    match width {
+        AsWidth::Two => push_numbers(AsWidth::Two, octets, &mut numbers)?,
+        AsWidth::Four => push_numbers(AsWidth::Four, octets, &mut numbers)?,
     }
     Ok(numbers)
 }

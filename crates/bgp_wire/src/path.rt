@@ -1,8 +1,9 @@
 //! AS paths.
 
 ghost use Rattle.std.specs.Prelude.{◌≡◌};
+ghost use Rattle.bgp_wire.specs.Absent.{no_path};
 
-use std::alloc::AllocError;
+use std::alloc::{AllocError, Global};
 use std::marker::Model;
 
 /// How many octets an AS number takes.
@@ -154,6 +155,18 @@ impl Segments {
 pub struct AsPath {
     /// Its segments, the latest first.
     pub segments: Segments,
+}
+
+impl AsPath {
+    /// A path without segments.
+    #[inline]
+    pub(crate) fn none(alloc: Global) -> AsPath
+        ensures { result ≡ no_path }
+    {
+        AsPath {
+            segments: Segments::from_vec(Vec::new(alloc)),
+        }
+    }
 }
 
 impl Clone for AsPath {

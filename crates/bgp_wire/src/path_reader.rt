@@ -9,6 +9,7 @@ ghost use Rattle.bgp_wire.specs.Reading.{Finds, Reads, RefusesFront};
 use crate::fault::WireFault;
 use crate::numbers::read_numbers;
 use crate::path::{AsNumbers, AsPath, AsWidth, Segment, SegmentKind, Segments};
+use crate::replacing::{put_segment, take_numbers};
 use std::alloc::Global;
 
 /// The type of a set (RFC 4271, section 4.3).
@@ -42,6 +43,7 @@ fn segment_kind(code: u8) -> Option<SegmentKind>
 }
 
 /// The segment in front of the octets.
+#[inline(always)]
 fn frame_segment(width: AsWidth, octets: &[u8]) -> Option<FramedSegment<'_>>
     ensures some { IfSome result (λ f. (count : ℕ)
         × IsFramed width f.kind count f.body.now f.rest.now octets.now) }
@@ -61,14 +63,20 @@ fn frame_segment(width: AsWidth, octets: &[u8]) -> Option<FramedSegment<'_>>
     Some(FramedSegment { body, rest, kind })
 }
 
-/// The segment in front of the octets, and what follows it.
-fn read_segment(alloc: Global, width: AsWidth, octets: &[u8]) -> Result<(Segment, &[u8]), WireFault>
+/// The segment in front of the octets, with its numbers in the memory of others, and what follows
+/// it.
+#[inline(always)]
+fn read_segment(
+    old: Vec<u32>,
+    width: AsWidth,
+    octets: &[u8],
+) -> Result<(Segment, &[u8]), WireFault>
     ensures found { IfOk result
         (λ found. Begins (SpellsSegment width) found.0 found.1.now octets.now) }
     ensures refused { IfErr result (RefusesFront (SpellsSegment width) octets.now) }
 {
     let framed = frame_segment(width, octets).ok_or(WireFault::Malformed)?;
-    let numbers = read_numbers(alloc, width, framed.body)?;
+    let numbers = read_numbers(old, width, framed.body)?;
     let segment = Segment {
         numbers: AsNumbers::from_vec(numbers),
         kind: framed.kind,
@@ -76,18 +84,30 @@ fn read_segment(alloc: Global, width: AsWidth, octets: &[u8]) -> Result<(Segment
     Ok((segment, framed.rest))
 }
 
-/// The path that the octets spell.
-pub(crate) fn read_path(alloc: Global, width: AsWidth, octets: &[u8]) -> Result<AsPath, WireFault>
+/// The path that the octets spell, in the memory of another.
+pub(crate) fn read_path(
+    alloc: Global,
+    old: AsPath,
+    width: AsWidth,
+    octets: &[u8],
+) -> Result<AsPath, WireFault>
     ensures { Reads (SpellsPath width) octets.now result }
 {
-    // most paths have one segment
-    let mut segments = Vec::with_capacity(alloc, octets.len().min(1))?;
+    let mut segments = old.segments.into_vec();
+    if segments.is_empty() {
+        // most paths have one segment
+        segments = Vec::with_capacity(alloc, octets.len().min(1))?;
+    }
+    let mut count = 0;
     let mut rest = octets;
     while !rest.is_empty() {
-        let (segment, more) = read_segment(alloc, width, rest)?;
-        segments.push(segment)?;
+        let numbers = take_numbers(alloc, &mut segments, count);
+        let (segment, more) = read_segment(numbers, width, rest)?;
+        put_segment(&mut segments, count, segment)?;
+        count += 1;
         rest = more;
     }
+    segments.truncate(count);
     Ok(AsPath {
         segments: Segments::from_vec(segments),
     })

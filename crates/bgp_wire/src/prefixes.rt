@@ -1,11 +1,12 @@
 //! Lists of prefixes.
 
-ghost use Rattle.std.specs.Prelude.{◌≡◌};
+ghost use Rattle.std.specs.Prelude.{◌≡◌, []};
 ghost use Rattle.ip_prefix.specs.Sequences.{SpellsAll};
 ghost use Rattle.ip_prefix.specs.Wire.{SpellsNetwork};
 ghost use Rattle.bgp_wire.specs.Reading.{Reads};
 
 use crate::fault::WireFault;
+use crate::memory::MessageRoom;
 use ip_prefix::{Family, Prefix};
 use std::alloc::Global;
 use std::marker::Model;
@@ -34,6 +35,14 @@ impl Prefixes {
         Prefixes { prefixes }
     }
 
+    /// No prefixes.
+    #[inline]
+    pub(crate) fn none(alloc: Global) -> Prefixes
+        ensures { result ≡ [] }
+    {
+        Prefixes::from_vec(Vec::new(alloc))
+    }
+
     /// The prefixes as a vector.
     #[inline]
     pub fn into_vec(self) -> Vec<Prefix>
@@ -54,13 +63,16 @@ impl Prefixes {
 
 /// The prefixes of a family that the octets are, one behind the other (RFC 4271, section 4.3).
 pub(crate) fn read_prefixes(
-    alloc: Global,
+    room: &mut MessageRoom,
     family: Family,
     octets: &[u8],
 ) -> Result<Prefixes, WireFault>
     ensures { Reads (SpellsAll (SpellsNetwork family)) octets.now result }
 {
-    let mut prefixes = Vec::new(alloc);
+    if octets.is_empty() {
+        return Ok(Prefixes::none(room.alloc));
+    }
+    let mut prefixes = room.take_prefixes();
     let mut rest = octets;
     while !rest.is_empty() {
         let (prefix, size) = Prefix::read(family, rest).ok_or(WireFault::Malformed)?;

@@ -8,10 +8,10 @@ ghost use Rattle.bgp_wire.specs.Reach.{SaysReach, SaysUnreach};
 ghost use Rattle.bgp_wire.specs.Reading.{Finds, Reads};
 
 use crate::fault::WireFault;
+use crate::memory::MessageRoom;
 use crate::next_hop::{FAMILY_SIZE, read_next_hop};
 use crate::prefixes::{Prefixes, read_prefixes};
 use ip_prefix::{Addr, Family};
-use std::alloc::Global;
 
 /// The number of IPv4 among address families (RFC 4760, section 3), which is sent in two octets.
 const AFI_IPV4: u8 = 1;
@@ -86,7 +86,10 @@ fn split_next_hop(octets: &[u8]) -> Option<FramedHop<'_>>
 }
 
 /// What MP_REACH_NLRI announces. Nothing is announced where it is absent or of another family.
-pub(crate) fn read_reach(alloc: Global, value: Option<&[u8]>) -> Result<Option<Reach>, WireFault>
+pub(crate) fn read_reach(
+    room: &mut MessageRoom,
+    value: Option<&[u8]>,
+) -> Result<Option<Reach>, WireFault>
     ensures { Reads SaysReach (octets_of value.entry) result }
 {
     let Some(octets) = value else {
@@ -95,20 +98,24 @@ pub(crate) fn read_reach(alloc: Global, value: Option<&[u8]>) -> Result<Option<R
     match read_scope(octets).ok_or(WireFault::Malformed)? {
         Scope::Another => Ok(None),
         Scope::Unicast(family, rest) => {
-            let reach = read_unicast(alloc, family, rest)?;
+            let reach = read_unicast(room, family, rest)?;
             Ok(Some(reach))
         }
     }
 }
 
 /// The prefixes of a family that are announced, and their next hop.
-fn read_unicast(alloc: Global, family: Family, octets: &[u8]) -> Result<Reach, WireFault>
+fn read_unicast(
+    room: &mut MessageRoom,
+    family: Family,
+    octets: &[u8],
+) -> Result<Reach, WireFault>
     ensures { Reads (SpellsUnicast family) octets.now result }
 {
     let Some(framed) = split_next_hop(octets) else {
         return Err(WireFault::Malformed);
     };
-    let prefixes = read_prefixes(alloc, family, framed.rest)?;
+    let prefixes = read_prefixes(room, family, framed.rest)?;
     Ok(Reach {
         hop: framed.hop,
         prefixes,
@@ -117,14 +124,17 @@ fn read_unicast(alloc: Global, family: Family, octets: &[u8]) -> Result<Reach, W
 
 /// The prefixes that MP_UNREACH_NLRI withdraws. There are none where it is absent or of another
 /// family.
-pub(crate) fn read_unreach(alloc: Global, value: Option<&[u8]>) -> Result<Prefixes, WireFault>
+pub(crate) fn read_unreach(
+    room: &mut MessageRoom,
+    value: Option<&[u8]>,
+) -> Result<Prefixes, WireFault>
     ensures { Reads SaysUnreach (octets_of value.entry) result }
 {
     let Some(octets) = value else {
-        return Ok(Prefixes::from_vec(Vec::new(alloc)));
+        return Ok(Prefixes::none(room.alloc));
     };
     match read_scope(octets).ok_or(WireFault::Malformed)? {
-        Scope::Another => Ok(Prefixes::from_vec(Vec::new(alloc))),
-        Scope::Unicast(family, rest) => read_prefixes(alloc, family, rest),
+        Scope::Another => Ok(Prefixes::none(room.alloc)),
+        Scope::Unicast(family, rest) => read_prefixes(room, family, rest),
     }
 }

@@ -1,5 +1,6 @@
 //! Tests. Octets are written in hexadecimal, and attributes as one text.
 
+mod again;
 mod as4;
 mod large;
 mod lists;

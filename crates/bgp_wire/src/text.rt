@@ -4,7 +4,8 @@ ghost use Rattle.std.specs.Prelude.{◌≡◌, ℕ, List, [], ◌∷◌, ◌++�
 ghost use Rattle.std.specs.List.{flat_map, join_with_byte};
 ghost use Rattle.bgp_wire.specs.Text.{bracketed_numbers, segment_words, path_text};
 ghost use Rattle.bgp_wire.specs.Text.{halves_text, community_text, communities_text};
-ghost use Rattle.bgp_wire.specs.Text.{ended_words, StillBegins};
+ghost use Rattle.ip_prefix.specs.Written.{ended_words};
+ghost use Rattle.bgp_wire.specs.Text.{StillBegins};
 
 use crate::path::{AsPath, Segment, SegmentKind};
 use ip_prefix::Text;
@@ -140,7 +141,7 @@ fn put_segment(segment: &Segment, text: &mut Text) -> Result<(), AllocError>
 {
     let numbers = segment.numbers.as_slice();
     match segment.kind {
-        SegmentKind::AsSequence => put_numbers(numbers, SPACE, text),
+        SegmentKind::AsSequence => text.put_ended_decimals(numbers, SPACE),
         SegmentKind::AsSet => put_bracketed(numbers, AS_SET_MARKS, text),
         SegmentKind::ConfedSequence => put_bracketed(numbers, CONFED_SEQUENCE_MARKS, text),
         SegmentKind::ConfedSet => put_bracketed(numbers, CONFED_SET_MARKS, text),
@@ -155,21 +156,9 @@ fn put_bracketed(numbers: &[u32], marks: Marks, text: &mut Text) -> Result<(), A
 {
     text.push(marks.open)?;
     let before = text.len();
-    put_numbers(numbers, marks.separator, text)?;
+    text.put_ended_decimals(numbers, marks.separator)?;
     drop_separator(before, text);
     text.extend_from_slice(&[marks.close, SPACE])
-}
-
-/// Appends the numbers in decimal, each with the separator behind it.
-fn put_numbers(numbers: &[u32], separator: u8, text: &mut Text) -> Result<(), AllocError>
-    ensures appended { OnOk result
-        (text.new ≡ text.old ++ ended_words separator (map decimal numbers.now)) }
-    ensures kept { OnErr result (StillBegins text.old text.new) }
-{
-    for number in numbers {
-        text.put_ended_decimal(*number, separator)?;
-    }
-    Ok(())
 }
 
 /// Appends the text of each community, each with a space behind it.
@@ -186,6 +175,7 @@ fn put_each_community(communities: &[u32], text: &mut Text) -> Result<(), AllocE
 
 /// Appends the text of a community, and a space behind it.
 #[tactic(auto, unfolding(crate::specs::Text::community_text))]
+#[inline(always)]
 fn put_community(community: u32, text: &mut Text) -> Result<(), AllocError>
     ensures appended { OnOk result
         (text.new ≡ text.old ++ (community_text community ++ SPACE ∷ [])) }
@@ -200,10 +190,10 @@ fn put_community(community: u32, text: &mut Text) -> Result<(), AllocError>
 }
 
 /// Appends the two halves of a number in decimal, with a colon between them and a space behind.
+#[inline(always)]
 fn put_halves(number: u32, text: &mut Text) -> Result<(), AllocError>
     ensures appended { OnOk result (text.new ≡ text.old ++ (halves_text number ++ SPACE ∷ [])) }
     ensures kept { OnErr result (StillBegins text.old text.new) }
 {
-    text.put_ended_decimal(number / 0x1_0000, COLON)?;
-    text.put_ended_decimal(number % 0x1_0000, SPACE)
+    text.put_ended_pair(number / 0x1_0000, COLON, number % 0x1_0000, SPACE)
 }

@@ -8,7 +8,8 @@ ghost use Rattle.bgp_wire.specs.Update.{sized_octets, IsUpdate, SaysTogether, Sp
 
 use crate::attrs::Attrs;
 use crate::fault::WireFault;
-use crate::framing::{FirstValues, MP_REACH_NLRI, MP_UNREACH_NLRI, NEXT_HOP, read_first_values};
+use crate::framing::{FirstValues, MP_REACH_NLRI, MP_UNREACH_NLRI, NEXT_HOP};
+use crate::memory::MessageRoom;
 use crate::message::Update;
 use crate::numbers::{LENGTH_SIZE, read_length};
 use crate::path::AsWidth;
@@ -17,7 +18,7 @@ use crate::reach::{Reach, read_reach, read_unreach};
 use crate::shared::read_shared;
 use crate::values::read_ipv4;
 use ip_prefix::Family;
-use std::alloc::{AllocError, Global};
+use std::alloc::AllocError;
 
 /// The body of an UPDATE as it is framed: the octets of its withdrawn prefixes, of its attributes
 /// and of its announced prefixes.
@@ -47,6 +48,7 @@ fn split_sized(octets: &[u8]) -> Option<(&[u8], &[u8])>
 }
 
 /// The parts of an UPDATE's body.
+#[inline]
 fn frame_update(body: &[u8]) -> Option<FramedUpdate<'_>>
     ensures some { IfSome result
         (λ f. IsUpdate f.withdrawn.now f.attributes.now f.announced.now body.now) }
@@ -71,7 +73,12 @@ struct Said {
 }
 
 /// What the attributes of an UPDATE with these values say.
-fn read_said(alloc: Global, width: AsWidth, values: &FirstValues) -> Result<Said, WireFault>
+#[inline]
+fn read_said(
+    room: &mut MessageRoom,
+    width: AsWidth,
+    values: &FirstValues,
+) -> Result<Said, WireFault>
     ensures { ReadsList (λ said. SaysTogether width said.attrs said.reach said.withdrawn)
         values.now result }
 {
@@ -79,9 +86,9 @@ fn read_said(alloc: Global, width: AsWidth, values: &FirstValues) -> Result<Said
         return Err(WireFault::Malformed);
     }
     let next_hop = read_ipv4(values.first(NEXT_HOP))?;
-    let attrs = read_shared(alloc, width, values, next_hop)?;
-    let reach = read_reach(alloc, values.first(MP_REACH_NLRI))?;
-    let withdrawn = read_unreach(alloc, values.first(MP_UNREACH_NLRI))?;
+    let attrs = read_shared(room.alloc, room.take_spare(), width, values, next_hop)?;
+    let reach = read_reach(room, values.first(MP_REACH_NLRI))?;
+    let withdrawn = read_unreach(room, values.first(MP_UNREACH_NLRI))?;
     Ok(Said {
         attrs,
         reach,
@@ -98,8 +105,9 @@ struct MpAnnounced {
 
 /// The prefixes that MP_REACH_NLRI announces. Their attributes are copied from the others, where
 /// there are any prefixes.
+#[inline]
 fn share_attrs(
-    alloc: Global,
+    room: &mut MessageRoom,
     attrs: &Attrs,
     reach: Option<Reach>,
 ) -> Result<MpAnnounced, AllocError>
@@ -109,7 +117,7 @@ fn share_attrs(
     let Some(reach) = reach else {
         return Ok(MpAnnounced {
             attrs: None,
-            prefixes: Prefixes::from_vec(Vec::new(alloc)),
+            prefixes: Prefixes::none(room.alloc),
         });
     };
     let Reach { hop, prefixes } = reach;
@@ -119,7 +127,7 @@ fn share_attrs(
             prefixes,
         });
     }
-    let mut copy = attrs.clone()?;
+    let mut copy = attrs.copied(room.alloc, room.take_spare())?;
     copy.next_hop = Some(hop);
     Ok(MpAnnounced {
         attrs: Some(copy),
@@ -128,19 +136,25 @@ fn share_attrs(
 }
 
 /// The UPDATE whose body the octets are, with AS numbers of this width in AS_PATH.
-pub(crate) fn read_update(alloc: Global, width: AsWidth, body: &[u8]) -> Result<Update, WireFault>
+#[inline]
+pub(crate) fn read_update(
+    room: &mut MessageRoom,
+    width: AsWidth,
+    body: &[u8],
+) -> Result<Update, WireFault>
     ensures { Reads (SpellsUpdate width) body.now result }
 {
     let framed = frame_update(body).ok_or(WireFault::Malformed)?;
-    let withdrawn = read_prefixes(alloc, Family::V4, framed.withdrawn)?;
-    let values = read_first_values(framed.attributes).ok_or(WireFault::Malformed)?;
+    let withdrawn = read_prefixes(room, Family::V4, framed.withdrawn)?;
+    let mut values = FirstValues::none();
+    values.note_all(framed.attributes)?;
     let Said {
         attrs,
         reach,
         withdrawn: mp_withdrawn,
-    } = read_said(alloc, width, &values)?;
-    let announced = read_prefixes(alloc, Family::V4, framed.announced)?;
-    let mp = share_attrs(alloc, &attrs, reach)?;
+    } = read_said(room, width, &values)?;
+    let announced = read_prefixes(room, Family::V4, framed.announced)?;
+    let mp = share_attrs(room, &attrs, reach)?;
     Ok(Update {
         withdrawn,
         mp_withdrawn,

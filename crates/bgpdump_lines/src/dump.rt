@@ -17,6 +17,7 @@ use crate::finish::finish_outputs;
 use crate::outcome::Outcome;
 use crate::output::Output;
 use crate::write::write_next;
+use ip_prefix::Text;
 use mrt_wire::{Input, Next, Source, Stamp};
 use std::alloc::Global;
 
@@ -99,13 +100,14 @@ fn dump_all<I: Input, O: Output, E: Output>(
     ensures wrote { (O.failed out.new || E.failed err.new) ≡ is_write_fault result }
 {
     let mut source = Source::new(alloc, stamp, LIMIT);
-    let mut text = Vec::new(alloc);
+    let mut text = Text::new(alloc);
     let mut reported = false;
     'steps: loop {
         let next = source.next(input)?;
         if is_end(&next) {
             return Ok(reported);
         }
-        reported |= write_next(out, err, &mut text, next)?;
+        reported |= write_next(out, err, &mut text, &next)?;
+        source.take_back(next);
     }
 }

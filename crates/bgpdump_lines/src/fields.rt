@@ -7,54 +7,68 @@ ghost use Rattle.bgpdump_lines.specs.Lines.{bar, line_of, origin_text, next_hop_
 ghost use Rattle.bgpdump_lines.specs.Lines.{number_or_zero, aggregate_word, aggregator_text};
 ghost use Rattle.bgpdump_lines.specs.Lines.{attribute_fields};
 
-use bgp_wire::{Aggregator, AsPath, Attrs, Communities, Origin, put_communities};
-use ip_prefix::{Addr, Prefix, put_decimal};
+use bgp_wire::{Aggregator, AsPath, Attrs, Communities, Origin, append_communities};
+use ip_prefix::{Addr, Prefix, Text};
 use mrt_wire::Peer;
 use std::alloc::AllocError;
 
+/// What stands in front of each field but the first.
+pub(crate) const BAR: u8 = b'|';
+
 /// Appends a bar and a number.
-pub fn put_number(number: u64, text: &mut Vec<u8>) -> Result<(), AllocError>
-    ensures appended { OnOk result (text.new.items ≡ text.old.items ++ (bar ∷ decimal number)) }
-    ensures kept { OnErr result (StillBegins text.old.items text.new.items) }
+pub fn put_number(number: u64, text: &mut Text) -> Result<(), AllocError>
+    ensures appended { OnOk result (text.new ≡ text.old ++ (bar ∷ decimal number)) }
+    ensures kept { OnErr result (StillBegins text.old text.new) }
 {
-    text.push(b'|')?;
-    put_decimal(number, text)
+    text.push(BAR)?;
+    text.put_long_decimal(number)
+}
+
+/// The same, for a number of 32 bits.
+#[inline(always)]
+pub(crate) fn put_field(number: u32, text: &mut Text) -> Result<(), AllocError>
+    ensures appended { OnOk result (text.new ≡ text.old ++ (bar ∷ decimal number)) }
+    ensures kept { OnErr result (StillBegins text.old text.new) }
+{
+    text.put_led_decimal(BAR, number)
 }
 
 /// Appends a bar, the peer's address, a bar, and its AS number.
-pub fn put_peer(peer: &Peer, text: &mut Vec<u8>) -> Result<(), AllocError>
-    ensures appended { OnOk result (text.new.items ≡
-        text.old.items ++ (bar ∷ address_text peer.now.addr ++ bar ∷ decimal peer.now.asn)) }
-    ensures kept { OnErr result (StillBegins text.old.items text.new.items) }
+#[inline(always)]
+pub fn put_peer(peer: &Peer, text: &mut Text) -> Result<(), AllocError>
+    ensures appended { OnOk result (text.new ≡
+        text.old ++ (bar ∷ address_text peer.now.addr ++ bar ∷ decimal peer.now.asn)) }
+    ensures kept { OnErr result (StillBegins text.old text.new) }
 {
-    text.push(b'|')?;
-    peer.addr.put_text(text)?;
-    put_number(u64::from(peer.asn), text)
+    text.put_led_address(BAR, &peer.addr)?;
+    put_field(peer.asn, text)
 }
 
 /// Appends a bar and a prefix.
-pub fn put_prefix(prefix: &Prefix, text: &mut Vec<u8>) -> Result<(), AllocError>
+#[inline(always)]
+pub fn put_prefix(prefix: &Prefix, text: &mut Text) -> Result<(), AllocError>
     ensures appended { OnOk result
-        (text.new.items ≡ text.old.items ++ (bar ∷ network_text prefix.now)) }
-    ensures kept { OnErr result (StillBegins text.old.items text.new.items) }
+        (text.new ≡ text.old ++ (bar ∷ network_text prefix.now)) }
+    ensures kept { OnErr result (StillBegins text.old text.new) }
 {
-    text.push(b'|')?;
-    prefix.put_text(text)
+    text.put_led_prefix(BAR, prefix)
 }
 
 /// Appends a bar and a path.
-fn put_path(path: &AsPath, text: &mut Vec<u8>) -> Result<(), AllocError>
-    ensures appended { OnOk result (text.new.items ≡ text.old.items ++ (bar ∷ path_text path.now)) }
-    ensures kept { OnErr result (StillBegins text.old.items text.new.items) }
+#[inline(always)]
+fn put_path(path: &AsPath, text: &mut Text) -> Result<(), AllocError>
+    ensures appended { OnOk result (text.new ≡ text.old ++ (bar ∷ path_text path.now)) }
+    ensures kept { OnErr result (StillBegins text.old text.new) }
 {
-    text.push(b'|')?;
-    path.put_text(text)
+    text.push(BAR)?;
+    path.append_to(text)
 }
 
 /// Appends a bar and how a route came into BGP.
-fn put_origin(origin: Option<Origin>, text: &mut Vec<u8>) -> Result<(), AllocError>
-    ensures appended { OnOk result (text.new.items ≡ text.old.items ++ (bar ∷ origin_text origin)) }
-    ensures kept { OnErr result (StillBegins text.old.items text.new.items) }
+#[inline(always)]
+fn put_origin(origin: Option<Origin>, text: &mut Text) -> Result<(), AllocError>
+    ensures appended { OnOk result (text.new ≡ text.old ++ (bar ∷ origin_text origin)) }
+    ensures kept { OnErr result (StillBegins text.old text.new) }
 {
     match origin {
         Some(Origin::Igp) => text.extend_from_slice(b"|IGP"),
@@ -65,42 +79,44 @@ fn put_origin(origin: Option<Origin>, text: &mut Vec<u8>) -> Result<(), AllocErr
 }
 
 /// Appends a bar and the address of the next hop.
-fn put_next_hop(next_hop: Option<Addr>, text: &mut Vec<u8>) -> Result<(), AllocError>
+#[inline(always)]
+fn put_next_hop(next_hop: Option<Addr>, text: &mut Text) -> Result<(), AllocError>
     ensures appended { OnOk result
-        (text.new.items ≡ text.old.items ++ (bar ∷ next_hop_text next_hop)) }
-    ensures kept { OnErr result (StillBegins text.old.items text.new.items) }
+        (text.new ≡ text.old ++ (bar ∷ next_hop_text next_hop)) }
+    ensures kept { OnErr result (StillBegins text.old text.new) }
 {
-    text.push(b'|')?;
     match next_hop {
-        Some(addr) => addr.put_text(text),
-        None => Ok(()),
+        Some(addr) => text.put_led_address(BAR, &addr),
+        None => text.push(BAR),
     }
 }
 
 /// Appends a bar and a preference or a metric, an absent one as 0.
-fn put_number_or_zero(number: Option<u32>, text: &mut Vec<u8>) -> Result<(), AllocError>
+#[inline(always)]
+fn put_number_or_zero(number: Option<u32>, text: &mut Text) -> Result<(), AllocError>
     ensures appended { OnOk result
-        (text.new.items ≡ text.old.items ++ (bar ∷ number_or_zero number)) }
-    ensures kept { OnErr result (StillBegins text.old.items text.new.items) }
+        (text.new ≡ text.old ++ (bar ∷ number_or_zero number)) }
+    ensures kept { OnErr result (StillBegins text.old text.new) }
 {
-    put_number(u64::from(number.unwrap_or(0)), text)
+    put_field(number.unwrap_or(0), text)
 }
 
 /// Appends a bar and communities.
-fn put_community_field(communities: &Communities, text: &mut Vec<u8>) -> Result<(), AllocError>
+fn put_community_field(communities: &Communities, text: &mut Text) -> Result<(), AllocError>
     ensures appended { OnOk result
-        (text.new.items ≡ text.old.items ++ (bar ∷ communities_text communities.now)) }
-    ensures kept { OnErr result (StillBegins text.old.items text.new.items) }
+        (text.new ≡ text.old ++ (bar ∷ communities_text communities.now)) }
+    ensures kept { OnErr result (StillBegins text.old text.new) }
 {
-    text.push(b'|')?;
-    put_communities(communities.as_slice(), text)
+    text.push(BAR)?;
+    append_communities(communities.as_slice(), text)
 }
 
 /// Appends a bar and whether ATOMIC_AGGREGATE is there.
-fn put_aggregate(atomic: bool, text: &mut Vec<u8>) -> Result<(), AllocError>
+#[inline(always)]
+fn put_aggregate(atomic: bool, text: &mut Text) -> Result<(), AllocError>
     ensures appended { OnOk result
-        (text.new.items ≡ text.old.items ++ (bar ∷ aggregate_word atomic)) }
-    ensures kept { OnErr result (StillBegins text.old.items text.new.items) }
+        (text.new ≡ text.old ++ (bar ∷ aggregate_word atomic)) }
+    ensures kept { OnErr result (StillBegins text.old text.new) }
 {
     if atomic {
         text.extend_from_slice(b"|AG")
@@ -110,26 +126,26 @@ fn put_aggregate(atomic: bool, text: &mut Vec<u8>) -> Result<(), AllocError>
 }
 
 /// Appends a bar and who has formed an aggregate.
-fn put_aggregator(aggregator: Option<Aggregator>, text: &mut Vec<u8>) -> Result<(), AllocError>
+#[inline(always)]
+fn put_aggregator(aggregator: Option<Aggregator>, text: &mut Text) -> Result<(), AllocError>
     ensures appended { OnOk result
-        (text.new.items ≡ text.old.items ++ (bar ∷ aggregator_text aggregator)) }
-    ensures kept { OnErr result (StillBegins text.old.items text.new.items) }
+        (text.new ≡ text.old ++ (bar ∷ aggregator_text aggregator)) }
+    ensures kept { OnErr result (StillBegins text.old text.new) }
 {
     match aggregator {
         Some(found) => {
-            put_number(u64::from(found.asn), text)?;
-            text.push(b' ')?;
-            found.addr.put_text(text)
+            put_field(found.asn, text)?;
+            text.put_led_address(b' ', &found.addr)
         }
         None => text.extend_from_slice(b"|"),
     }
 }
 
 /// Appends what stands behind the prefix in the line of a route with these attributes.
-pub fn put_attributes(attrs: &Attrs, text: &mut Vec<u8>) -> Result<(), AllocError>
+pub fn put_attributes(attrs: &Attrs, text: &mut Text) -> Result<(), AllocError>
     ensures appended { OnOk result
-        (text.new.items ≡ text.old.items ++ (bar ∷ line_of (attribute_fields attrs.now))) }
-    ensures kept { OnErr result (StillBegins text.old.items text.new.items) }
+        (text.new ≡ text.old ++ (bar ∷ line_of (attribute_fields attrs.now))) }
+    ensures kept { OnErr result (StillBegins text.old text.new) }
 {
     put_path(&attrs.path, text)?;
     put_origin(attrs.origin, text)?;

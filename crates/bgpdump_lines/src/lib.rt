@@ -2,7 +2,6 @@
 //! and the outputs that both are written to.
 #![tactic(auto)]
 
-mod again;
 mod dump;
 mod fault;
 mod fields;

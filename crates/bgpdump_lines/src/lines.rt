@@ -8,10 +8,9 @@ ghost use Rattle.bgpdump_lines.specs.Lines.{bar, word, micros_text, time_text, r
 ghost use Rattle.bgpdump_lines.specs.Lines.{route_letter, route_front, route_tail, EndsIn};
 ghost use Rattle.bgpdump_lines.specs.Lines.{AreOrdered, front_at, tail_at, item_line, event_lines};
 
-use crate::again::put_again;
-use crate::fields::{put_attributes, put_number, put_peer, put_prefix};
+use crate::fields::{put_attributes, put_field, put_peer, put_prefix};
 use crate::same::{same_peer, same_route};
-use ip_prefix::{Prefix, put_decimal};
+use ip_prefix::{Prefix, Text};
 use mrt_wire::{Event, Item, Peer, Route, Tag, Time};
 use std::alloc::AllocError;
 
@@ -41,9 +40,10 @@ struct LastLine<'a> {
 }
 
 /// Appends the first field of a line.
-fn put_word(tag: Tag, text: &mut Vec<u8>) -> Result<(), AllocError>
-    ensures appended { OnOk result (text.new.items ≡ text.old.items ++ word tag) }
-    ensures kept { OnErr result (StillBegins text.old.items text.new.items) }
+#[inline]
+fn put_word(tag: Tag, text: &mut Text) -> Result<(), AllocError>
+    ensures appended { OnOk result (text.new ≡ text.old ++ word tag) }
+    ensures kept { OnErr result (StillBegins text.old text.new) }
 {
     match tag {
         Tag::TableDump2 => text.extend_from_slice(b"TABLE_DUMP2")?,
@@ -55,25 +55,25 @@ fn put_word(tag: Tag, text: &mut Vec<u8>) -> Result<(), AllocError>
 
 /// Appends microseconds, behind zeros where they have fewer digits than are printed. They are
 /// printed once more, to see how many digits they have.
-fn put_micros(micros: u32, text: &mut Vec<u8>) -> Result<(), AllocError>
-    ensures appended { OnOk result (text.new.items ≡ text.old.items ++ micros_text micros) }
-    ensures kept { OnErr result (StillBegins text.old.items text.new.items) }
+fn put_micros(micros: u32, text: &mut Text) -> Result<(), AllocError>
+    ensures appended { OnOk result (text.new ≡ text.old ++ micros_text micros) }
+    ensures kept { OnErr result (StillBegins text.old text.new) }
 {
     let front = text.len();
-    put_decimal(u64::from(micros), text)?;
+    text.put_decimal(micros)?;
     let missing = MICROS_DIGITS.saturating_sub(text.len() - front);
     text.truncate(front);
-    text.resize(front + missing, b'0')?;
-    put_decimal(u64::from(micros), text)?;
+    text.extend_from_slice(&[b'0'; MICROS_DIGITS][..missing])?;
+    text.put_decimal(micros)?;
     Ok(())
 }
 
-/// Appends the time of a line.
-fn put_time(time: &Time, tag: Tag, text: &mut Vec<u8>) -> Result<(), AllocError>
-    ensures appended { OnOk result (text.new.items ≡ text.old.items ++ time_text tag time.now) }
-    ensures kept { OnErr result (StillBegins text.old.items text.new.items) }
+/// Appends a bar and the time of a line.
+fn put_time(time: &Time, tag: Tag, text: &mut Text) -> Result<(), AllocError>
+    ensures appended { OnOk result (text.new ≡ text.old ++ (bar ∷ time_text tag time.now)) }
+    ensures kept { OnErr result (StillBegins text.old text.new) }
 {
-    put_decimal(u64::from(time.seconds), text)?;
+    put_field(time.seconds, text)?;
     if let Tag::Bgp4mpEt = tag {
         text.push(b'.')?;
         put_micros(time.micros.unwrap_or(0), text)?;
@@ -82,74 +82,74 @@ fn put_time(time: &Time, tag: Tag, text: &mut Vec<u8>) -> Result<(), AllocError>
 }
 
 /// Appends the first two fields of a line: what kind of record it is from, and its time.
-fn put_head(time: &Time, tag: Tag, text: &mut Vec<u8>) -> Result<(), AllocError>
-    ensures appended { OnOk result (text.new.items ≡
-        text.old.items ++ (word tag ++ bar ∷ time_text tag time.now)) }
-    ensures kept { OnErr result (StillBegins text.old.items text.new.items) }
+fn put_head(time: &Time, tag: Tag, text: &mut Text) -> Result<(), AllocError>
+    ensures appended { OnOk result (text.new ≡
+        text.old ++ (word tag ++ bar ∷ time_text tag time.now)) }
+    ensures kept { OnErr result (StillBegins text.old text.new) }
 {
     put_word(tag, text)?;
-    text.push(b'|')?;
-    put_time(time, tag, text)?;
-    Ok(())
+    put_time(time, tag, text)
 }
 
-/// Appends the time of a route's line, which for a table's entry is the route's own.
+/// Appends a bar and the time of a route's line, which for a table's entry is the route's own.
+#[inline]
 fn put_route_time(
     time: &Time,
     tag: Tag,
     route: &Route,
-    text: &mut Vec<u8>,
+    text: &mut Text,
 ) -> Result<(), AllocError>
-    ensures appended { OnOk result (text.new.items ≡
-        text.old.items ++ route_time_text time.now tag route.now) }
-    ensures kept { OnErr result (StillBegins text.old.items text.new.items) }
+    ensures appended { OnOk result (text.new ≡
+        text.old ++ (bar ∷ route_time_text time.now tag route.now)) }
+    ensures kept { OnErr result (StillBegins text.old text.new) }
 {
     match tag {
-        Tag::TableDump2 => put_decimal(u64::from(route.time), text),
+        Tag::TableDump2 => put_field(route.time, text),
         Tag::Bgp4mp | Tag::Bgp4mpEt => put_time(time, tag, text),
     }
 }
 
-/// What a route's line is: an entry of a table, or an announcement.
-fn letter_of(tag: Tag) -> u8
-    ensures { result ∷ [] ≡ route_letter tag }
+/// Appends a bar and what a route's line is: an entry of a table, or an announcement.
+#[inline]
+fn put_letter(tag: Tag, text: &mut Text) -> Result<(), AllocError>
+    ensures appended { OnOk result (text.new ≡ text.old ++ (bar ∷ route_letter tag)) }
+    ensures kept { OnErr result (StillBegins text.old text.new) }
 {
     match tag {
-        Tag::TableDump2 => b'B',
-        Tag::Bgp4mp | Tag::Bgp4mpEt => b'A',
+        Tag::TableDump2 => text.extend_from_slice(b"|B"),
+        Tag::Bgp4mp | Tag::Bgp4mpEt => text.extend_from_slice(b"|A"),
     }
 }
 
 /// Appends the first three fields of a route's line.
+#[inline]
 fn put_route_head(
     time: &Time,
     tag: Tag,
     route: &Route,
-    text: &mut Vec<u8>,
+    text: &mut Text,
 ) -> Result<(), AllocError>
-    ensures appended { OnOk result (text.new.items ≡ text.old.items ++ (word tag ++
+    ensures appended { OnOk result (text.new ≡ text.old ++ (word tag ++
         bar ∷ (route_time_text time.now tag route.now ++ bar ∷ route_letter tag))) }
-    ensures kept { OnErr result (StillBegins text.old.items text.new.items) }
+    ensures kept { OnErr result (StillBegins text.old text.new) }
 {
     put_word(tag, text)?;
-    text.push(b'|')?;
     put_route_time(time, tag, route, text)?;
-    text.push(b'|')?;
-    text.push(letter_of(tag))?;
-    Ok(())
+    put_letter(tag, text)
 }
 
 /// Appends what stands in front of the prefix in a route's line.
+#[inline]
 fn put_route_front(
     time: &Time,
     tag: Tag,
     peer: &Peer,
     route: &Route,
-    text: &mut Vec<u8>,
+    text: &mut Text,
 ) -> Result<(), AllocError>
-    ensures appended { OnOk result (text.new.items ≡
-        text.old.items ++ route_front time.now tag peer.now route.now) }
-    ensures kept { OnErr result (StillBegins text.old.items text.new.items) }
+    ensures appended { OnOk result (text.new ≡
+        text.old ++ route_front time.now tag peer.now route.now) }
+    ensures kept { OnErr result (StillBegins text.old text.new) }
 {
     put_route_head(time, tag, route, text)?;
     put_peer(peer, text)
@@ -162,16 +162,16 @@ fn put_route_anew(
     peer: &Peer,
     prefix: &Prefix,
     route: &Route,
-    text: &mut Vec<u8>,
+    text: &mut Text,
 ) -> Result<Places, AllocError>
-    ensures appended { OnOk result (text.new.items ≡ text.old.items ++
+    ensures appended { OnOk result (text.new ≡ text.old ++
         (route_front time.now tag peer.now route.now
         ++ (bar ∷ network_text prefix.now ++ route_tail route.now))) }
-    ensures ordered { IfOk result (λ places. AreOrdered places text.new.items) }
-    ensures front { IfOk result (λ places. front_at places text.new.items
+    ensures ordered { IfOk result (λ places. AreOrdered places text.new) }
+    ensures front { IfOk result (λ places. front_at places text.new
         ≡ route_front time.now tag peer.now route.now) }
-    ensures tail { IfOk result (λ places. tail_at places text.new.items ≡ route_tail route.now) }
-    ensures kept { OnErr result (StillBegins text.old.items text.new.items) }
+    ensures tail { IfOk result (λ places. tail_at places text.new ≡ route_tail route.now) }
+    ensures kept { OnErr result (StillBegins text.old text.new) }
 {
     let start = text.len();
     put_route_front(time, tag, peer, route, text)?;
@@ -184,24 +184,24 @@ fn put_route_anew(
 
 /// Appends the line that the text ends in once more, with another prefix. Returned is where its
 /// parts stand.
-fn put_route_again(last: Places, prefix: &Prefix, text: &mut Vec<u8>) -> Result<Places, AllocError>
-    requires { AreOrdered last text.old.items }
-    ensures appended { OnOk result (text.new.items ≡ text.old.items ++
-        (front_at last text.old.items
-        ++ (bar ∷ network_text prefix.now ++ tail_at last text.old.items))) }
-    ensures ordered { IfOk result (λ places. AreOrdered places text.new.items) }
-    ensures front { IfOk result (λ places. front_at places text.new.items
-        ≡ front_at last text.old.items) }
-    ensures tail { IfOk result (λ places. tail_at places text.new.items
-        ≡ tail_at last text.old.items) }
-    ensures kept { OnErr result (StillBegins text.old.items text.new.items) }
+fn put_route_again(last: Places, prefix: &Prefix, text: &mut Text) -> Result<Places, AllocError>
+    requires { AreOrdered last text.old }
+    ensures appended { OnOk result (text.new ≡ text.old ++
+        (front_at last text.old
+        ++ (bar ∷ network_text prefix.now ++ tail_at last text.old))) }
+    ensures ordered { IfOk result (λ places. AreOrdered places text.new) }
+    ensures front { IfOk result (λ places. front_at places text.new
+        ≡ front_at last text.old) }
+    ensures tail { IfOk result (λ places. tail_at places text.new
+        ≡ tail_at last text.old) }
+    ensures kept { OnErr result (StillBegins text.old text.new) }
 {
     let start = text.len();
-    put_again(last.start, last.front, text)?;
+    text.extend_from_within(last.start, last.front)?;
     let front = text.len();
     put_prefix(prefix, text)?;
     let tail = text.len();
-    put_again(last.tail, start, text)?;
+    text.extend_from_within(last.tail, start)?;
     Ok(Places { start, front, tail })
 }
 
@@ -226,13 +226,13 @@ fn put_route<'a>(
     prefix: &Prefix,
     route: &'a Route,
     last: Option<LastLine<'a>>,
-    text: &mut Vec<u8>,
+    text: &mut Text,
 ) -> Result<LastLine<'a>, AllocError>
-    requires { IfSome last (λ line. EndsIn time.now tag line text.old.items) }
-    ensures appended { OnOk result (text.new.items ≡ text.old.items ++
+    requires { IfSome last (λ line. EndsIn time.now tag line text.old) }
+    ensures appended { OnOk result (text.new ≡ text.old ++
         item_line time.now tag (Announced peer.now prefix.now route.now)) }
-    ensures last { IfOk result (λ line. EndsIn time.now tag line text.new.items) }
-    ensures kept { OnErr result (StillBegins text.old.items text.new.items) }
+    ensures last { IfOk result (λ line. EndsIn time.now tag line text.new) }
+    ensures kept { OnErr result (StillBegins text.old text.new) }
 {
     let places = match places_of_same(last, peer, route) {
         Some(places) => put_route_again(places, prefix, text)?,
@@ -251,11 +251,11 @@ fn put_withdrawal(
     tag: Tag,
     peer: &Peer,
     prefix: &Prefix,
-    text: &mut Vec<u8>,
+    text: &mut Text,
 ) -> Result<(), AllocError>
-    ensures appended { OnOk result (text.new.items ≡ text.old.items ++
+    ensures appended { OnOk result (text.new ≡ text.old ++
         item_line time.now tag (Withdrawn peer.now prefix.now)) }
-    ensures kept { OnErr result (StillBegins text.old.items text.new.items) }
+    ensures kept { OnErr result (StillBegins text.old text.new) }
 {
     put_head(time, tag, text)?;
     text.extend_from_slice(b"|W")?;
@@ -272,17 +272,17 @@ fn put_change(
     peer: &Peer,
     old: u16,
     new: u16,
-    text: &mut Vec<u8>,
+    text: &mut Text,
 ) -> Result<(), AllocError>
-    ensures appended { OnOk result (text.new.items ≡ text.old.items ++
+    ensures appended { OnOk result (text.new ≡ text.old ++
         item_line time.now tag (Changed peer.now old new)) }
-    ensures kept { OnErr result (StillBegins text.old.items text.new.items) }
+    ensures kept { OnErr result (StillBegins text.old text.new) }
 {
     put_head(time, tag, text)?;
     text.extend_from_slice(b"|STATE")?;
     put_peer(peer, text)?;
-    put_number(u64::from(old), text)?;
-    put_number(u64::from(new), text)?;
+    put_field(u32::from(old), text)?;
+    put_field(u32::from(new), text)?;
     text.push(b'\n')?;
     Ok(())
 }
@@ -293,14 +293,14 @@ fn put_item<'a>(
     tag: Tag,
     item: &'a Item,
     last: Option<LastLine<'a>>,
-    text: &mut Vec<u8>,
+    text: &mut Text,
 ) -> Result<Option<LastLine<'a>>, AllocError>
-    requires { IfSome last (λ line. EndsIn time.now tag line text.old.items) }
-    ensures appended { OnOk result (text.new.items ≡
-        text.old.items ++ item_line time.now tag (saying item.now)) }
+    requires { IfSome last (λ line. EndsIn time.now tag line text.old) }
+    ensures appended { OnOk result (text.new ≡
+        text.old ++ item_line time.now tag (saying item.now)) }
     ensures last { IfOk result (λ last. IfSome last (λ line.
-        EndsIn time.now tag line text.new.items)) }
-    ensures kept { OnErr result (StillBegins text.old.items text.new.items) }
+        EndsIn time.now tag line text.new)) }
+    ensures kept { OnErr result (StillBegins text.old text.new) }
 {
     match item {
         Item::Announce(peer, prefix, route) => {
@@ -318,9 +318,9 @@ fn put_item<'a>(
 }
 
 /// Appends the lines of an event's items.
-fn put_items(event: &Event, text: &mut Vec<u8>) -> Result<(), AllocError>
-    ensures appended { OnOk result (text.new.items ≡ text.old.items ++ event_lines event.now) }
-    ensures kept { OnErr result (StillBegins text.old.items text.new.items) }
+fn put_items(event: &Event, text: &mut Text) -> Result<(), AllocError>
+    ensures appended { OnOk result (text.new ≡ text.old ++ event_lines event.now) }
+    ensures kept { OnErr result (StillBegins text.old text.new) }
 {
     let items = event.items.as_slice();
     let mut last = None;
@@ -332,14 +332,25 @@ fn put_items(event: &Event, text: &mut Vec<u8>) -> Result<(), AllocError>
 
 /// Appends the lines of an event, one for each item. Refused for want of memory, it leaves the text
 /// as it was.
-pub fn put_lines(event: &Event, text: &mut Vec<u8>) -> Result<(), AllocError>
-    ensures appended { OnOk result (text.new.items ≡ text.old.items ++ event_lines event.now) }
-    ensures unchanged { OnErr result (text.new.items ≡ text.old.items) }
+pub(crate) fn append_lines(event: &Event, text: &mut Text) -> Result<(), AllocError>
+    ensures appended { OnOk result (text.new ≡ text.old ++ event_lines event.now) }
+    ensures unchanged { OnErr result (text.new ≡ text.old) }
 {
     let before = text.len();
     let result = put_items(event, text);
     if result.is_err() {
         text.truncate(before);
     }
+    result
+}
+
+/// The same, to the octets of a vector.
+pub fn put_lines(event: &Event, text: &mut Vec<u8>) -> Result<(), AllocError>
+    ensures appended { OnOk result (text.new.items ≡ text.old.items ++ event_lines event.now) }
+    ensures unchanged { OnErr result (text.new.items ≡ text.old.items) }
+{
+    let mut longer = Text::taken_from(text);
+    let result = append_lines(event, &mut longer);
+    *text = longer.into_vec();
     result
 }

@@ -3,23 +3,23 @@
 ghost use Rattle.std.specs.Prelude.{◌≡◌, ◌++◌, OnOk, decimal};
 ghost use Rattle.bgpdump_lines.specs.Reports.{kind_text, fault_report, line_report};
 
-use ip_prefix::put_decimal;
+use ip_prefix::Text;
 use mrt_wire::{RecordFault, RecordKind};
 use std::alloc::AllocError;
 
 /// Appends a word and a number behind it.
-fn put_labelled(word: &[u8], number: u64, text: &mut Vec<u8>) -> Result<(), AllocError>
-    ensures { OnOk result (text.new.items ≡ text.old.items ++ (word.now ++ decimal number)) }
+fn put_labelled(word: &[u8], number: u64, text: &mut Text) -> Result<(), AllocError>
+    ensures { OnOk result (text.new ≡ text.old ++ (word.now ++ decimal number)) }
 {
     text.extend_from_slice(word)?;
-    put_decimal(number, text)?;
+    text.put_long_decimal(number)?;
     Ok(())
 }
 
 /// Appends which type and subtype aren't read.
-fn put_unsupported(kind: u16, subtype: u16, text: &mut Vec<u8>) -> Result<(), AllocError>
-    ensures { OnOk result (text.new.items ≡
-        text.old.items ++ kind_text (RecordKind.Unsupported kind subtype)) }
+fn put_unsupported(kind: u16, subtype: u16, text: &mut Text) -> Result<(), AllocError>
+    ensures { OnOk result (text.new ≡
+        text.old ++ kind_text (RecordKind.Unsupported kind subtype)) }
 {
     put_labelled(b"unsupported type ", u64::from(kind), text)?;
     put_labelled(b" subtype ", u64::from(subtype), text)?;
@@ -27,8 +27,8 @@ fn put_unsupported(kind: u16, subtype: u16, text: &mut Vec<u8>) -> Result<(), Al
 }
 
 /// Appends what is wrong with a record. Refused, it may have appended a part.
-fn put_kind(kind: RecordKind, text: &mut Vec<u8>) -> Result<(), AllocError>
-    ensures { OnOk result (text.new.items ≡ text.old.items ++ kind_text kind) }
+fn put_kind(kind: RecordKind, text: &mut Text) -> Result<(), AllocError>
+    ensures { OnOk result (text.new ≡ text.old ++ kind_text kind) }
 {
     match kind {
         RecordKind::CutRecord => text.extend_from_slice(b"cut record")?,
@@ -45,8 +45,8 @@ fn put_kind(kind: RecordKind, text: &mut Vec<u8>) -> Result<(), AllocError>
 }
 
 /// Appends the report of a fault. Refused, it may have appended a part.
-pub(crate) fn put_report(fault: RecordFault, text: &mut Vec<u8>) -> Result<(), AllocError>
-    ensures { OnOk result (text.new.items ≡ text.old.items ++ fault_report fault) }
+pub(crate) fn put_report(fault: RecordFault, text: &mut Text) -> Result<(), AllocError>
+    ensures { OnOk result (text.new ≡ text.old ++ fault_report fault) }
 {
     put_labelled(b"bgpdump: record ", fault.number, text)?;
     put_labelled(b", byte ", fault.offset, text)?;
@@ -58,8 +58,8 @@ pub(crate) fn put_report(fault: RecordFault, text: &mut Vec<u8>) -> Result<(), A
 
 /// Appends the report of a line of a script that is no command. Refused, it may have appended a
 /// part.
-pub fn put_line_report(number: u64, text: &mut Vec<u8>) -> Result<(), AllocError>
-    ensures { OnOk result (text.new.items ≡ text.old.items ++ line_report number) }
+pub fn put_line_report(number: u64, text: &mut Text) -> Result<(), AllocError>
+    ensures { OnOk result (text.new ≡ text.old ++ line_report number) }
 {
     put_labelled(b"bgpdump: script line ", number, text)?;
     text.extend_from_slice(b": bad command\n")?;

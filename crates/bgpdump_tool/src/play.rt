@@ -22,6 +22,7 @@ use crate::commands::carry_out;
 use crate::script::{LONGEST_SCRIPT, split_line};
 use crate::session::Session;
 use bgpdump_lines::{Outcome, Output, WriteFault, finish_outputs, put_all, put_line_report};
+use ip_prefix::Text;
 use mrt_wire::{Input, Route, Stamp};
 use rib_store::PrefixStore;
 use std::alloc::Global;
@@ -166,7 +167,7 @@ fn carry_line<S: PrefixStore<Rc<Route>>, I: Input, O: Output, E: Output>(
 /// Writes the report of a line that is no command. The text is scratch.
 fn write_line_report<E: Output>(
     err: &mut E,
-    text: &mut Vec<u8>,
+    text: &mut Text,
     number: u64,
 ) -> Result<(), WriteFault>
     ensures text { Puts (E.written err.old) (E.written err.new) (line_report number) result }
@@ -174,6 +175,6 @@ fn write_line_report<E: Output>(
 {
     text.clear();
     put_line_report(number, text)?;
-    put_all(err, text)?;
+    put_all(err, text.as_slice())?;
     Ok(())
 }

@@ -7,17 +7,17 @@ ghost use Rattle.bgpdump_lines.specs.Writing.{Puts, is_write};
 use bgpdump_lines::{
     Output, WriteFault, put_all, put_attributes, put_number, put_peer, put_prefix,
 };
-use ip_prefix::{Prefix, put_decimal};
+use ip_prefix::{Prefix, Text};
 use mrt_wire::{Peer, Route};
 use std::alloc::AllocError;
 use std::rc::Rc;
 
 /// Appends where the player stands, and whether the end was met.
-fn put_position(position: u64, ended: bool, text: &mut Vec<u8>) -> Result<(), AllocError>
-    ensures { OnOk result (text.new.items ≡ text.old.items ++ at_text position ended) }
+fn put_position(position: u64, ended: bool, text: &mut Text) -> Result<(), AllocError>
+    ensures { OnOk result (text.new ≡ text.old ++ at_text position ended) }
 {
     text.extend_from_slice(b"at ")?;
-    put_decimal(position, text)?;
+    text.put_long_decimal(position)?;
     if ended {
         text.extend_from_slice(b" end")?;
     }
@@ -30,15 +30,15 @@ fn put_counted(
     position: u64,
     word: &[u8],
     number: u64,
-    text: &mut Vec<u8>,
+    text: &mut Text,
 ) -> Result<(), AllocError>
     ensures { OnOk result
-        (text.new.items ≡ text.old.items ++ counted_text position word.now number) }
+        (text.new ≡ text.old ++ counted_text position word.now number) }
 {
     text.extend_from_slice(b"at ")?;
-    put_decimal(position, text)?;
+    text.put_long_decimal(position)?;
     text.extend_from_slice(word)?;
-    put_decimal(number, text)?;
+    text.put_long_decimal(number)?;
     text.push(b'\n')?;
     Ok(())
 }
@@ -48,10 +48,10 @@ fn put_rib_line(
     peer: &Peer,
     prefix: &Prefix,
     route: &Route,
-    text: &mut Vec<u8>,
+    text: &mut Text,
 ) -> Result<(), AllocError>
     ensures { OnOk result
-        (text.new.items ≡ text.old.items ++ rib_line peer.now (prefix.now, route.now)) }
+        (text.new ≡ text.old ++ rib_line peer.now (prefix.now, route.now)) }
 {
     text.extend_from_slice(b"RIB")?;
     put_number(u64::from(route.time), text)?;
@@ -66,14 +66,14 @@ pub(crate) fn write_position<O: Output>(
     position: u64,
     ended: bool,
     out: &mut O,
-    text: &mut Vec<u8>,
+    text: &mut Text,
 ) -> Result<(), WriteFault>
     ensures text { Puts (O.written out.old) (O.written out.new) (at_text position ended) result }
     ensures failed { O.failed out.new ≡ (O.failed out.old || is_write result) }
 {
     text.clear();
     put_position(position, ended, text)?;
-    put_all(out, text)?;
+    put_all(out, text.as_slice())?;
     Ok(())
 }
 
@@ -83,7 +83,7 @@ pub(crate) fn write_counted<O: Output>(
     word: &[u8],
     number: u64,
     out: &mut O,
-    text: &mut Vec<u8>,
+    text: &mut Text,
 ) -> Result<(), WriteFault>
     ensures text { Puts (O.written out.old) (O.written out.new)
         (counted_text position word.now number) result }
@@ -91,7 +91,7 @@ pub(crate) fn write_counted<O: Output>(
 {
     text.clear();
     put_counted(position, word, number, text)?;
-    put_all(out, text)?;
+    put_all(out, text.as_slice())?;
     Ok(())
 }
 
@@ -110,7 +110,7 @@ pub(crate) fn write_rib_line<O: Output>(
     prefix: &Prefix,
     route: &Rc<Route>,
     out: &mut O,
-    text: &mut Vec<u8>,
+    text: &mut Text,
 ) -> Result<(), WriteFault>
     ensures text { Puts (O.written out.old) (O.written out.new)
         (rib_line peer.now (prefix.now, route.now.value)) result }
@@ -118,6 +118,6 @@ pub(crate) fn write_rib_line<O: Output>(
 {
     text.clear();
     put_rib_line(peer, prefix, route, text)?;
-    put_all(out, text)?;
+    put_all(out, text.as_slice())?;
     Ok(())
 }

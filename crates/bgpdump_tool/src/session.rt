@@ -10,6 +10,7 @@ ghost use Rattle.bgpdump_tool.specs.Standing.{HasRoom, scene_of};
 ghost use Rattle.bgpdump_tool.specs.Moves.{Moves, StepDoes};
 
 use bgpdump_lines::{LIMIT, Outcome, Output, write_report};
+use ip_prefix::Text;
 use mrt_wire::{Input, Next, Route, Source, Stamp};
 use rib_player::Player;
 use rib_store::PrefixStore;
@@ -28,7 +29,7 @@ pub(crate) struct Session<S: PrefixStore<Rc<Route>>> {
     /// Whether something was reported.
     pub(crate) reported: bool,
     /// Room for a text. What stands in it means nothing.
-    pub(crate) text: Vec<u8>,
+    pub(crate) text: Text,
 }
 
 impl<S: PrefixStore<Rc<Route>>> Session<S> {
@@ -43,7 +44,7 @@ impl<S: PrefixStore<Rc<Route>>> Session<S> {
             player: Player::new(alloc),
             source: Source::new(alloc, stamp, LIMIT),
             reported: false,
-            text: Vec::new(alloc),
+            text: Text::new(alloc),
         }
     }
 

@@ -1,5 +1,6 @@
 -- Texts in a slice.
 use Rattle.std.specs.Prelude.{◌≡◌, ℕ, ◌+◌, ◌/◌, ◌%◌, List, [], ◌∷◌, ◌++◌, length, take}
+use Rattle.std.specs.List.{flat_map}
 use Rattle.ip_prefix.specs.declared.cursor.TheConstants.{SPACE}
 
 -- the text stands from a place on, what stood before it stands there, and the end is behind it
@@ -7,6 +8,10 @@ pub record IsWritten (old : List ℕ) (at : ℕ) (text new : List ℕ) (end : �
   pub front : take end new ≡ take at old ++ text
   pub behind : end ≡ at + length text
   pub size : length new ≡ length old
+
+-- words, each ended by an octet
+abbrev pub ended_words : ℕ → List (List ℕ) → List ℕ
+ended_words separator words = flat_map (λ word. word ++ separator ∷ []) words
 
 -- the last three digits of a number
 abbrev pub three_digits : ℕ → List ℕ

@@ -1,10 +1,14 @@
 //! Texts that grow at their end.
 
-ghost use Rattle.std.specs.Prelude.{◌≡◌, ◌+◌, ◌-◌, ◌≤◌, ◌++◌, ◌∷◌, [], OnOk, OnErr, length, take, drop, slice_range, decimal};
+ghost use Rattle.std.specs.Prelude.{◌≡◌, ◌+◌, ◌-◌, ◌≤◌, ◌++◌, ◌∷◌, [], OnOk, OnErr, length, map, take, drop, slice_range, decimal};
 ghost use Rattle.ip_prefix.specs.Text.{address_text, network_text};
+ghost use Rattle.ip_prefix.specs.Written.{ended_words};
 
 use crate::addr::Addr;
-use crate::cursor::{DECIMAL_ROOM, put_octets, write_decimal};
+use crate::cursor::{
+    DECIMAL_ROOM, ENDED_ROOM, put_octets, write_decimal, write_ended_decimal, write_ended_decimals,
+    write_led_decimal,
+};
 use crate::prefix::Prefix;
 use crate::text::{ADDRESS_ROOM, PREFIX_ROOM};
 use itoa::Buffer;
@@ -14,6 +18,9 @@ use std::mem;
 
 /// How much room is made at least, where there isn't enough.
 const LEAST_ROOM: usize = 512;
+
+/// For how many octets a text that is cleared keeps room at most.
+const MOST_KEPT: usize = 1 << 18;
 
 /// A text of octets. It is kept in a buffer that has room behind it, so that what is appended is
 /// written in place.
@@ -92,6 +99,17 @@ impl Text {
         self.len = self.len.min(len);
     }
 
+    /// Takes all octets away. Room for many is let go.
+    #[inline]
+    pub fn clear(&mut self)
+        ensures { self.new ≡ [] }
+    {
+        self.len = 0;
+        if self.buffer.len() > MOST_KEPT {
+            self.buffer = Vec::new(*self.buffer.allocator());
+        }
+    }
+
     /// Appends an octet.
     #[inline]
     pub fn push(&mut self, octet: u8) -> Result<(), AllocError>
@@ -132,10 +150,75 @@ impl Text {
         ensures appended { OnOk result (self.new ≡ self.old ++ (decimal number ++ end ∷ [])) }
         ensures unchanged { OnErr result (self.new ≡ self.old) }
     {
-        make_room(&mut self.buffer, self.len, DECIMAL_ROOM + 1)?;
-        let behind = write_decimal(number, self.buffer.as_mut_slice(), self.len);
-        self.buffer[behind] = end;
-        self.len = behind + 1;
+        make_room(&mut self.buffer, self.len, ENDED_ROOM)?;
+        self.len = write_ended_decimal(number, end, self.buffer.as_mut_slice(), self.len);
+        Ok(())
+    }
+
+    /// Appends an octet, and the number in decimal behind it.
+    #[inline]
+    pub fn put_led_decimal(&mut self, lead: u8, number: u32) -> Result<(), AllocError>
+        ensures appended { OnOk result (self.new ≡ self.old ++ lead ∷ decimal number) }
+        ensures unchanged { OnErr result (self.new ≡ self.old) }
+    {
+        make_room(&mut self.buffer, self.len, ENDED_ROOM)?;
+        self.len = write_led_decimal(lead, number, self.buffer.as_mut_slice(), self.len);
+        Ok(())
+    }
+
+    /// Appends an octet, and the address behind it as a person reads it.
+    #[inline]
+    pub fn put_led_address(&mut self, lead: u8, address: &Addr) -> Result<(), AllocError>
+        ensures appended { OnOk result (self.new ≡ self.old ++ lead ∷ address_text address.now) }
+        ensures unchanged { OnErr result (self.new ≡ self.old) }
+    {
+        make_room(&mut self.buffer, self.len, ADDRESS_ROOM + 1)?;
+        self.buffer[self.len] = lead;
+        self.len = address.write_text(self.buffer.as_mut_slice(), self.len + 1);
+        Ok(())
+    }
+
+    /// Appends an octet, and the prefix behind it as a person reads it.
+    #[inline]
+    pub fn put_led_prefix(&mut self, lead: u8, prefix: &Prefix) -> Result<(), AllocError>
+        ensures appended { OnOk result (self.new ≡ self.old ++ lead ∷ network_text prefix.now) }
+        ensures unchanged { OnErr result (self.new ≡ self.old) }
+    {
+        make_room(&mut self.buffer, self.len, PREFIX_ROOM + 1)?;
+        self.buffer[self.len] = lead;
+        self.len = prefix.write_text(self.buffer.as_mut_slice(), self.len + 1);
+        Ok(())
+    }
+
+    /// Appends the numbers in decimal, and the octet behind each.
+    #[inline]
+    pub fn put_ended_decimals(&mut self, numbers: &[u32], end: u8) -> Result<(), AllocError>
+        ensures appended { OnOk result
+            (self.new ≡ self.old ++ ended_words end (map decimal numbers.now)) }
+        ensures unchanged { OnErr result (self.new ≡ self.old) }
+    {
+        let room = numbers.len().checked_mul(ENDED_ROOM).ok_or(AllocError)?;
+        make_room(&mut self.buffer, self.len, room)?;
+        self.len = write_ended_decimals(numbers, end, self.buffer.as_mut_slice(), self.len);
+        Ok(())
+    }
+
+    /// Appends two numbers in decimal, and an octet behind each.
+    #[inline]
+    pub fn put_ended_pair(
+        &mut self,
+        one: u32,
+        middle: u8,
+        other: u32,
+        end: u8,
+    ) -> Result<(), AllocError>
+        ensures appended { OnOk result (self.new ≡ self.old
+            ++ ((decimal one ++ middle ∷ []) ++ (decimal other ++ end ∷ []))) }
+        ensures unchanged { OnErr result (self.new ≡ self.old) }
+    {
+        make_room(&mut self.buffer, self.len, 2 * ENDED_ROOM)?;
+        let behind = write_ended_decimal(one, middle, self.buffer.as_mut_slice(), self.len);
+        self.len = write_ended_decimal(other, end, self.buffer.as_mut_slice(), behind);
         Ok(())
     }
 

@@ -1,13 +1,16 @@
 //! Texts written forwards at a place of a slice. What stands behind a text, within the room that it
 //! asks for, may be anything then.
 
-ghost use Rattle.std.specs.Prelude.{◌≡◌, ◌+◌, ◌*◌, ◌<◌, ◌≤◌, ◌++◌, ◌∷◌, [], length, take, drop, decimal};
-ghost use Rattle.ip_prefix.specs.Written.{IsWritten, three_digits, filled};
+ghost use Rattle.std.specs.Prelude.{◌≡◌, ◌+◌, ◌*◌, ◌<◌, ◌≤◌, ◌++◌, ◌∷◌, [], length, map, take, drop, decimal};
+ghost use Rattle.ip_prefix.specs.Written.{IsWritten, ended_words, three_digits, filled};
 
 use crate::digits::{SHORTS, THREES};
 
 /// The room for a number of 32 bits in decimal.
 pub const DECIMAL_ROOM: usize = 12;
+
+/// The room for such a number, and an octet behind it.
+pub(crate) const ENDED_ROOM: usize = DECIMAL_ROOM + 1;
 
 /// How many digits a number of 32 bits has at most.
 const DECIMAL_DIGITS: usize = 10;
@@ -35,6 +38,40 @@ pub fn write_decimal(number: u32, text: &mut [u8], at: usize) -> usize
         return write_six(number, text, at);
     }
     write_long(number, text, at)
+}
+
+/// Writes an octet, and the number in decimal behind it, and answers the place behind both.
+#[inline]
+pub(crate) fn write_led_decimal(lead: u8, number: u32, text: &mut [u8], at: usize) -> usize
+    requires { at + ENDED_ROOM ≤ length text.old }
+    ensures { IsWritten text.old at (lead ∷ decimal number) text.new result }
+{
+    text[at] = lead;
+    write_decimal(number, text, at + 1)
+}
+
+/// Writes the number in decimal, and an octet behind it, and answers the place behind both.
+#[inline]
+pub(crate) fn write_ended_decimal(number: u32, end: u8, text: &mut [u8], at: usize) -> usize
+    requires { at + ENDED_ROOM ≤ length text.old }
+    ensures written { IsWritten text.old at (decimal number ++ end ∷ []) text.new result }
+    ensures short { result ≤ at + ENDED_ROOM }
+{
+    let behind = write_decimal(number, text, at);
+    text[behind] = end;
+    behind + 1
+}
+
+/// Writes the numbers in decimal, an octet behind each, and answers the place behind them.
+pub(crate) fn write_ended_decimals(numbers: &[u32], end: u8, text: &mut [u8], at: usize) -> usize
+    requires { at + length numbers.now * ENDED_ROOM ≤ length text.old }
+    ensures { IsWritten text.old at (ended_words end (map decimal numbers.now)) text.new result }
+{
+    let mut place = at;
+    for number in numbers {
+        place = write_ended_decimal(*number, end, text, place);
+    }
+    place
 }
 
 // Writes a number of seven digits or more.

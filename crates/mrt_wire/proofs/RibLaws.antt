@@ -16,9 +16,8 @@ use Rattle.bgp_wire.specs.Number.{SpellsAsn}
 use Rattle.bgp_wire.specs.Reading.{Refuses, RefusesFront}
 use Rattle.bgp_wire.proofs.OneContent.{one_rib_attrs}
 use Rattle.bgp_wire.proofs.OneFront.{number_code}
-use Rattle.mrt_wire.specs.declared.rib.RibEntry.{RibEntry}
 use Rattle.mrt_wire.specs.declared.rib.TheConstants.{SEQUENCE_SIZE}
-use Rattle.mrt_wire.specs.Rib.{AreEntryFields, SpellsEntry, SpellsEntries, SpellsPrefixed, SpellsRib}
+use Rattle.mrt_wire.specs.Rib.{RibEntry, AreEntryFields, SpellsEntry, SpellsEntries, SpellsPrefixed, SpellsRib}
 use Rattle.mrt_wire.proofs.FieldFronts.{octets_front, sized_front, short_front, word_front}
 
 entry_fields_front : OneFront AreEntryFields

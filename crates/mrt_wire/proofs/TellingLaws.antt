@@ -7,7 +7,6 @@ use Rattle.std.proofs.lemmas.Grind.{flat_map-append}
 use Rattle.std.proofs.Math.Seq.{take-suc}
 use Rattle.ip_prefix.specs.Network.{Network}
 use Rattle.mrt_wire.specs.declared.peer.Peer.{Peer}
-use Rattle.mrt_wire.specs.declared.rib.RibEntry.{RibEntry}
 use Rattle.mrt_wire.specs.declared.event.Item.{Item}
 use Rattle.ip_prefix.specs.declared.addr.Family.{Family}
 use Rattle.ip_prefix.specs.Sequences.{Begins, SpellsAll}
@@ -15,7 +14,7 @@ use Rattle.ip_prefix.proofs.Sequences.{one_more}
 use Rattle.mrt_wire.specs.declared.rib.Snapshot.{Snapshot}
 use Rattle.mrt_wire.specs.declared.rib.EntryItems.{EntryItems}
 use Rattle.mrt_wire.specs.Event.{Saying, saying}
-use Rattle.mrt_wire.specs.Rib.{SpellsEntry}
+use Rattle.mrt_wire.specs.Rib.{RibEntry, SpellsEntry}
 use Rattle.mrt_wire.specs.Items.{entry_items, unknown_peer, first_unknown}
 use Rattle.mrt_wire.specs.Judging.{Adds, AreItemsOf}
 

@@ -3,10 +3,9 @@ use Rattle.std.specs.Prelude.{◌≡◌, ℕ, List}
 use Rattle.mrt_wire.specs.declared.peer.Peer.{Peer}
 use Rattle.mrt_wire.specs.declared.profile.Form.{Form}
 use Rattle.mrt_wire.specs.declared.profile.Form.TheVariants as form
-use Rattle.mrt_wire.specs.declared.session.SessionBody.{SessionBody}
 use Rattle.mrt_wire.specs.PeerIndex.{SpellsPeerIndex}
 use Rattle.mrt_wire.specs.Rib.{PrefixEntries, SpellsRib}
-use Rattle.mrt_wire.specs.Session.{SpellsSessionBody}
+use Rattle.mrt_wire.specs.Session.{SessionBody, SpellsSessionBody}
 use Rattle.mrt_wire.specs.Profile.{HasForm}
 
 -- what a body holds

@@ -8,14 +8,12 @@ use Rattle.bgp_wire.specs.declared.message.Message.{Message}
 use Rattle.bgp_wire.specs.declared.message.Message.TheVariants as message
 use Rattle.bgp_wire.specs.declared.message.Update.{Update}
 use Rattle.mrt_wire.specs.declared.peer.Peer.{Peer}
-use Rattle.mrt_wire.specs.declared.rib.RibEntry.{RibEntry}
 use Rattle.mrt_wire.specs.declared.event.Route.{Route}
 use Rattle.mrt_wire.specs.declared.event.Stamp.{Stamp}
 use Rattle.mrt_wire.specs.declared.event.Stamp.TheVariants.{Dump, Change}
-use Rattle.mrt_wire.specs.declared.session.SessionContent.{SessionContent}
-use Rattle.mrt_wire.specs.declared.session.SessionContent.TheVariants as session
 use Rattle.mrt_wire.specs.Event.{Saying, Announced, Withdrawn, Changed}
-use Rattle.mrt_wire.specs.Rib.{PrefixEntries}
+use Rattle.mrt_wire.specs.Rib.{RibEntry, PrefixEntries}
+use Rattle.mrt_wire.specs.Session.{PeerMessage, SessionContent, Change, Receipt}
 
 -- ---- tables
 
@@ -79,7 +77,11 @@ abbrev pub message_items : Peer → ℕ → Message → List Saying
 message_items peer seconds (message.Update update) = update_items peer seconds update
 message_items peer seconds (message.Other kind) = []
 
+-- what a message says that a peer has sent
+abbrev pub receipt_items : ℕ → PeerMessage → List Saying
+receipt_items seconds m = message_items m.peer seconds m.message
+
 -- what is said of a session
 abbrev pub session_items : ℕ → SessionContent → List Saying
-session_items seconds (session.StateChange change) = Changed change.peer change.old change.new ∷ []
-session_items seconds (session.Message m) = message_items m.peer seconds m.message
+session_items seconds (Change change) = Changed change.peer change.old change.new ∷ []
+session_items seconds (Receipt m) = receipt_items seconds m

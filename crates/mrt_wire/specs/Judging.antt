@@ -14,10 +14,13 @@ use Rattle.mrt_wire.specs.declared.next.Next.{Next}
 use Rattle.mrt_wire.specs.declared.next.Next.TheVariants as next
 use Rattle.mrt_wire.specs.declared.rib.Snapshot.{Snapshot}
 use Rattle.mrt_wire.specs.declared.rib.EntryItems.{EntryItems}
+use Rattle.mrt_wire.specs.declared.rib.ReadEntry.{ReadEntry}
+use Rattle.mrt_wire.specs.declared.session.SessionItems.{SessionItems}
 use Rattle.mrt_wire.specs.Record.{Record}
-use Rattle.mrt_wire.specs.Rib.{PrefixEntries}
-use Rattle.mrt_wire.specs.Items.{entries_items, first_unknown}
+use Rattle.mrt_wire.specs.Rib.{RibEntry, PrefixEntries}
+use Rattle.mrt_wire.specs.Items.{entry_time, entries_items, first_unknown, session_items}
 use Rattle.mrt_wire.specs.Event.{Saying, saying}
+use Rattle.mrt_wire.specs.Session.{SessionBody}
 use Rattle.mrt_wire.specs.Content.{Content}
 use Rattle.mrt_wire.specs.Verdict.{Index, Accepted, Refused, ReadsAs, index_after}
 
@@ -43,6 +46,22 @@ judged_answer number offset (Ok event) = Ok (next.Event event)
 judged_answer number offset (Err (refusal.Fault kind)) =
     Ok (next.Bad (record { number = number; offset = offset; kind = kind }))
 judged_answer number offset (Err refusal.Memory) = Err source.Memory
+
+-- octets spell a value, and this is what it says
+abbrev pub Told : {A B C : Type 0} → (A → C → Type 0) → (A → B) → B → C → Type 0
+Told {A} Spells says told octets = (value : A) × Spells value octets × (told ≡ says value)
+
+-- what is read of a session, as far as an event has it
+abbrev pub session_told : ℕ → SessionBody → SessionItems
+session_told seconds body = record { items = session_items seconds body.content; micros = body.micros }
+
+-- the entry that was read so
+abbrev pub entry_read : ReadEntry → RibEntry
+entry_read entry = record { attrs = entry.route.value.attrs; time = entry.originated; index = entry.index }
+
+-- its route has the time that an entry's route is given
+abbrev pub IsTimed : Snapshot → ReadEntry → Type 0
+IsTimed snapshot entry = entry.route.value.time ≡ entry_time snapshot.stamp snapshot.seconds entry.originated
 
 -- entries say this, and this is the first number among them that is no peer's
 pub record AreItemsOf (snapshot : Snapshot) (rib : PrefixEntries) (told : EntryItems) : Type 0 where

@@ -8,9 +8,15 @@ use Rattle.ip_prefix.specs.Counted.{SpellsCounted}
 use Rattle.bgp_wire.specs.declared.path.AsWidth.TheVariants.{Four}
 use Rattle.bgp_wire.specs.Number.{SpellsWord}
 use Rattle.bgp_wire.specs.Content.{SpellsRibAttrs}
-use Rattle.mrt_wire.specs.declared.rib.RibEntry.{RibEntry}
+use Rattle.bgp_wire.specs.declared.attrs.Attrs.{Attrs}
 use Rattle.mrt_wire.specs.declared.rib.TheConstants.{SEQUENCE_SIZE}
 use Rattle.mrt_wire.specs.Fields.{SpellsShort, AreOctets, AreSized}
+
+-- the route of one peer: its attributes, when it was originated, and the number of the peer
+pub record RibEntry : Type 0 where
+  pub attrs : Attrs
+  pub time : ℕ
+  pub index : ℕ
 
 -- a prefix and its entries in a table
 pub record PrefixEntries : Type 0 where

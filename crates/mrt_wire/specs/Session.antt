@@ -4,6 +4,7 @@ use Rattle.ip_prefix.specs.declared.addr.Family.{Family}
 use Rattle.ip_prefix.specs.Address.{Address, octet_count}
 use Rattle.ip_prefix.specs.Fields.{Then, WithMore}
 use Rattle.bgp_wire.specs.declared.path.AsWidth.{AsWidth}
+use Rattle.bgp_wire.specs.declared.message.Message.{Message}
 use Rattle.bgp_wire.specs.Number.{SpellsAsn, SpellsWord, octets_at}
 use Rattle.bgp_wire.specs.Reach.{family_code}
 use Rattle.bgp_wire.specs.Update.{SpellsMessage}
@@ -13,11 +14,22 @@ use Rattle.mrt_wire.specs.declared.profile.SessionKind.TheVariants as kind
 use Rattle.mrt_wire.specs.declared.profile.SessionForm.{SessionForm}
 use Rattle.mrt_wire.specs.declared.session.TheConstants.{INTERFACE_SIZE, MICROS_PER_SECOND}
 use Rattle.mrt_wire.specs.declared.session.StateChange.{StateChange}
-use Rattle.mrt_wire.specs.declared.session.PeerMessage.{PeerMessage}
-use Rattle.mrt_wire.specs.declared.session.SessionContent.{SessionContent}
-use Rattle.mrt_wire.specs.declared.session.SessionContent.TheVariants as content
-use Rattle.mrt_wire.specs.declared.session.SessionBody.{SessionBody}
 use Rattle.mrt_wire.specs.Fields.{SpellsShort, AreOctets, SpellsAddressOf}
+
+-- a message that a peer has sent
+pub record PeerMessage : Type 0 where
+  pub message : Message
+  pub peer : Peer
+
+-- what happened in a session: its state changed, or the peer sent a message
+pub data SessionContent : Type 0 where
+  Change : StateChange → SessionContent
+  Receipt : PeerMessage → SessionContent
+
+-- what happened in a session, and the microseconds, where the body has them
+pub record SessionBody : Type 0 where
+  pub content : SessionContent
+  pub micros : Option ℕ
 
 -- an address family, in two octets
 abbrev pub SpellsFamily : Family → List ℕ → Type 0
@@ -58,9 +70,9 @@ SpellsPeerMessage width m octets =
 -- the octets of what happened in a session
 abbrev pub SpellsHappening : SessionKind → AsWidth → SessionContent → List ℕ → Type 0
 SpellsHappening kind.StateChange width said octets =
-    (change : StateChange) × (said ≡ content.StateChange change) × SpellsStateChange width change octets
+    (change : StateChange) × (said ≡ Change change) × SpellsStateChange width change octets
 SpellsHappening kind.Message width said octets =
-    (message : PeerMessage) × (said ≡ content.Message message) × SpellsPeerMessage width message octets
+    (message : PeerMessage) × (said ≡ Receipt message) × SpellsPeerMessage width message octets
 
 -- the octets of microseconds, which don't make a second
 pub record SpellsMicros (n : ℕ) (octets : List ℕ) : Type 0 where

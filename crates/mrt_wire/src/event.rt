@@ -1,8 +1,11 @@
 //! What accepted records say.
 
+ghost use Rattle.std.specs.Prelude.{◌≡◌};
+
 use crate::peer::Peer;
 use bgp_wire::Attrs;
 use ip_prefix::Prefix;
+use std::alloc::AllocError;
 use std::marker::Model;
 use std::rc::Rc;
 
@@ -45,6 +48,18 @@ pub struct Route {
     pub time: u32,
 }
 
+impl Clone for Route {
+    ghost is_clone = { λ route copy. copy ≡ route };
+
+    fn clone(&self) -> Result<Route, AllocError> {
+        let attrs = self.attrs.clone()?;
+        Ok(Route {
+            attrs,
+            time: self.time,
+        })
+    }
+}
+
 /// One thing that an event says of a peer.
 #[derive(Debug, Drop)]
 pub enum Item {
@@ -73,7 +88,7 @@ impl Model for Items {
 }
 
 impl Items {
-    ghost use Rattle.std.specs.Prelude.{◌≡◌, map};
+    ghost use Rattle.std.specs.Prelude.{map};
     ghost use Rattle.mrt_wire.specs.Event.{saying};
 
     /// The items of the vector.
@@ -81,6 +96,14 @@ impl Items {
         ensures { result ≡ map saying items.items }
     {
         Items { items }
+    }
+
+    /// The items as a vector.
+    pub fn into_vec(self) -> Vec<Item>
+        ensures { map saying result.items ≡ self }
+    {
+        let Items { items } = self;
+        items
     }
 
     /// The items.

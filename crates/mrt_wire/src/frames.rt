@@ -13,6 +13,9 @@ use std::alloc::Global;
 /// The greatest length that a header may state.
 pub(crate) const LONGEST_BODY: u32 = 16_777_216;
 
+/// For how many octets of a body room is kept at most behind a shorter one.
+const MOST_KEPT: usize = 1 << 18;
+
 /// What stands at the front of the octets left: a header or a record, or the rest, with its fault
 /// where it isn't empty.
 #[derive(Clone, Copy)]
@@ -82,6 +85,16 @@ impl FrameReader {
         }))
     }
 
+    /// Lets go of the room of a long body.
+    fn let_go(&mut self)
+        ensures limit { self.new.limit ≡ self.old.limit }
+        ensures taken { self.new.taken ≡ self.old.taken }
+    {
+        if self.body.len() > MOST_KEPT {
+            self.body = Vec::new(*self.body.allocator());
+        }
+    }
+
     /// Takes a body, and answers whether it is whole.
     fn take_body<I: Input>(&mut self, input: &mut I, size: u32) -> Result<bool, SourceFault>
         requires { size ≤ LONGEST_BODY }
@@ -92,6 +105,9 @@ impl FrameReader {
         ensures failed { I.failed input.new ≡ (I.failed input.old || is_read result) }
         ensures limit { self.new.limit ≡ self.old.limit }
     {
+        if size as usize <= MOST_KEPT {
+            self.let_go();
+        }
         let count = fill_body(
             input,
             &mut self.body,

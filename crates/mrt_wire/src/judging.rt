@@ -13,10 +13,10 @@ use crate::fault::RecordKind;
 use crate::header::Header;
 use crate::peer::{Peer, Peers};
 use crate::peer_index::read_peer_index;
+use crate::pool::Pool;
 use crate::profile::{Form, SessionForm, form_of};
 use crate::rib::{Snapshot, read_rib};
 use crate::session::read_session;
-use crate::update::items_of_session;
 use bgp_wire::WireFault;
 use ip_prefix::Family;
 use std::alloc::{AllocError, Global};
@@ -122,6 +122,7 @@ fn judge_index(
 /// Reads the entries of a table for one prefix.
 fn judge_rib(
     alloc: Global,
+    pool: &mut Pool,
     stamp: Stamp,
     index: &Option<Peers>,
     family: Family,
@@ -136,7 +137,7 @@ fn judge_rib(
         seconds: header.seconds,
         stamp,
     };
-    let told = read_rib(alloc, family, snapshot, body)?;
+    let told = read_rib(alloc, pool, family, snapshot, body)?;
     if let Some(kind) = entries_fault(index, told.unknown) {
         return Err(Refusal::Fault(kind));
     }
@@ -146,6 +147,7 @@ fn judge_rib(
 /// Reads what happened in a session.
 fn judge_session(
     alloc: Global,
+    pool: &mut Pool,
     form: SessionForm,
     header: &Header,
     body: &[u8],
@@ -154,15 +156,15 @@ fn judge_session(
     ensures { (stamp : Stamp) (index : Index) →
         Judges stamp index index (record_under header.now body.now) result }
 {
-    let session = read_session(alloc, form, body)?;
-    let items = items_of_session(alloc, header.seconds, session.content)?;
-    Ok(session_event(header.seconds, session.micros, items))
+    let session = read_session(alloc, pool, header.seconds, form, body)?;
+    Ok(session_event(header.seconds, session.micros, session.items))
 }
 
 /// Reads a record. A record that brings an index puts it in the place of the one before, unless
 /// it is refused.
 pub(crate) fn judge(
     alloc: Global,
+    pool: &mut Pool,
     stamp: Stamp,
     index: &mut Option<Peers>,
     header: &Header,
@@ -175,7 +177,7 @@ pub(crate) fn judge(
     };
     match form {
         Form::Peers => judge_index(alloc, index, header, body),
-        Form::Entries(family) => judge_rib(alloc, stamp, index, family, header, body),
-        Form::Session(session) => judge_session(alloc, session, header, body),
+        Form::Entries(family) => judge_rib(alloc, pool, stamp, index, family, header, body),
+        Form::Session(session) => judge_session(alloc, pool, session, header, body),
     }
 }

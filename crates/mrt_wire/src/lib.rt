@@ -14,6 +14,7 @@ mod next;
 mod octets;
 mod peer;
 mod peer_index;
+mod pool;
 mod profile;
 mod rib;
 mod session;

@@ -4,16 +4,16 @@ ghost use Rattle.std.specs.Prelude.{◌≡◌, List, slice_get, OnOk, IfSome, If
 ghost use Rattle.std.specs.Option.{option_or};
 ghost use Rattle.ip_prefix.specs.Sequences.{Begins, BeginsWithNone};
 ghost use Rattle.bgp_wire.specs.Reading.{Refuses, RefusesFront};
-ghost use Rattle.mrt_wire.specs.declared.rib.RibEntry.{RibEntry};
-ghost use Rattle.mrt_wire.specs.Rib.{PrefixEntries, AreEntryFields, SpellsEntry, SpellsEntries};
+ghost use Rattle.mrt_wire.specs.Rib.{RibEntry, PrefixEntries, AreEntryFields, SpellsEntry, SpellsEntries};
 ghost use Rattle.mrt_wire.specs.Rib.{SpellsPrefixed, SpellsRib};
 ghost use Rattle.mrt_wire.specs.Items.{entry_time, entry_items, unknown_peer};
-ghost use Rattle.mrt_wire.specs.Judging.{Adds, AreItemsOf};
+ghost use Rattle.mrt_wire.specs.Judging.{Adds, AreItemsOf, IsTimed, entry_read};
 
-use crate::event::{Item, Items, Route, Stamp};
+use crate::event::{Item, Route, Stamp};
 use crate::fields::{skip, split_short, split_sized, split_word};
 use crate::peer::Peer;
-use bgp_wire::{AsWidth, Attrs, WireFault, read_rib_attrs};
+use crate::pool::Pool;
+use bgp_wire::WireFault;
 use ip_prefix::{Family, Prefix};
 use std::alloc::{AllocError, Global};
 use std::rc::Rc;
@@ -24,13 +24,13 @@ const SEQUENCE_SIZE: usize = 4;
 /// How many octets an entry has at least.
 const SMALLEST_ENTRY: usize = 8;
 
-/// The route of one peer.
-#[derive(Debug, Drop)]
-pub(crate) struct RibEntry {
-    /// Its attributes.
-    pub(crate) attrs: Attrs,
+/// The route of one peer, as it was read.
+#[derive(Drop)]
+pub(crate) struct ReadEntry {
+    /// The route, with the time that it is given.
+    pub(crate) route: Rc<Route>,
     /// When it was originated, in seconds since 1970.
-    pub(crate) time: u32,
+    pub(crate) originated: u32,
     /// The number of the peer in the peer index.
     pub(crate) index: u16,
 }
@@ -61,6 +61,7 @@ struct FramedEntry<'a> {
 }
 
 /// The entry in front, and what follows it.
+#[inline]
 fn frame_entry(octets: &[u8]) -> Option<FramedEntry<'_>>
     ensures some { IfSome result (λ f.
         Begins AreEntryFields (f.index, (f.time, f.attributes.now)) f.rest.now octets.now) }
@@ -78,18 +79,27 @@ fn frame_entry(octets: &[u8]) -> Option<FramedEntry<'_>>
 }
 
 /// The entry in front, and what follows it.
-fn read_entry(alloc: Global, family: Family, octets: &[u8]) -> Result<(RibEntry, &[u8]), WireFault>
+#[inline]
+fn read_entry<'a>(
+    alloc: Global,
+    pool: &mut Pool,
+    family: Family,
+    snapshot: Snapshot<'_>,
+    octets: &'a [u8],
+) -> Result<(ReadEntry, &'a [u8]), WireFault>
     ensures found { IfOk result (λ found.
-        Begins (SpellsEntry family) found.0 found.1.now octets.now) }
+        Begins (SpellsEntry family) (entry_read found.0) found.1.now octets.now) }
+    ensures timed { IfOk result (λ found. IsTimed snapshot.entry found.0) }
     ensures refused { IfErr result (RefusesFront (SpellsEntry family) octets.now) }
 {
     let Some(framed) = frame_entry(octets) else {
         return Err(WireFault::Malformed);
     };
-    let attrs = read_rib_attrs(alloc, family, AsWidth::Four, framed.attributes)?;
-    let entry = RibEntry {
-        attrs,
-        time: framed.time,
+    let time = time_of(snapshot, framed.time);
+    let route = pool.rib_route(alloc, family, time, framed.attributes)?;
+    let entry = ReadEntry {
+        route,
+        originated: framed.time,
         index: framed.index,
     };
     Ok((entry, framed.rest))
@@ -118,25 +128,22 @@ impl EntryItems {
     /// Adds what an entry announces, or notes that its number is no peer's.
     fn add(
         &mut self,
-        alloc: Global,
         snapshot: Snapshot<'_>,
         prefix: Prefix,
-        entry: RibEntry,
+        entry: ReadEntry,
     ) -> Result<(), AllocError>
+        requires { IsTimed snapshot entry }
         ensures items { OnOk result (Adds self.old.items.items self.new.items.items
             (entry_items snapshot.entry.peers.now snapshot.entry.stamp
-            snapshot.entry.seconds prefix entry)) }
+            snapshot.entry.seconds prefix (entry_read entry))) }
         ensures unknown { OnOk result (self.new.unknown ≡
-            option_or self.old.unknown (unknown_peer snapshot.entry.peers.now entry)) }
+            option_or self.old.unknown (unknown_peer snapshot.entry.peers.now (entry_read entry))) }
     {
         let Some(peer) = peer_at(snapshot.peers, entry.index) else {
             self.unknown = self.unknown.or(Some(entry.index));
             return Ok(());
         };
-        let time = time_of(snapshot, entry.time);
-        let attrs = entry.attrs;
-        let route = Rc::new(alloc, Route { attrs, time })?;
-        self.items.push(Item::Announce(peer, prefix, route))?;
+        self.items.push(Item::Announce(peer, prefix, entry.route))?;
         Ok(())
     }
 }
@@ -144,6 +151,7 @@ impl EntryItems {
 /// What the entries say that the octets begin with, behind their number.
 fn read_entries(
     alloc: Global,
+    pool: &mut Pool,
     family: Family,
     snapshot: Snapshot<'_>,
     prefix: Prefix,
@@ -159,13 +167,13 @@ fn read_entries(
     };
     let most = count.rest.len() / SMALLEST_ENTRY;
     let mut told = EntryItems {
-        items: Vec::with_capacity(alloc, most.min(usize::from(count.value)))?,
+        items: pool.take_items(alloc, most.min(usize::from(count.value)))?,
         unknown: None,
     };
     let mut rest = count.rest;
     for _ in 0..count.value {
-        let (entry, more) = read_entry(alloc, family, rest)?;
-        told.add(alloc, snapshot, prefix, entry)?;
+        let (entry, more) = read_entry(alloc, pool, family, snapshot, rest)?;
+        told.add(snapshot, prefix, entry)?;
         rest = more;
     }
     Ok(told)
@@ -174,6 +182,7 @@ fn read_entries(
 /// What the entries of the prefix say that the octets begin with.
 fn read_prefixed(
     alloc: Global,
+    pool: &mut Pool,
     family: Family,
     snapshot: Snapshot<'_>,
     octets: &[u8],
@@ -186,12 +195,13 @@ fn read_prefixed(
         return Err(WireFault::Malformed);
     };
     let (_, rest) = octets.split_at(found.1);
-    read_entries(alloc, family, snapshot, found.0, rest)
+    read_entries(alloc, pool, family, snapshot, found.0, rest)
 }
 
 /// What the entries of RIB_IPV4_UNICAST or of RIB_IPV6_UNICAST say.
 pub(crate) fn read_rib(
     alloc: Global,
+    pool: &mut Pool,
     family: Family,
     snapshot: Snapshot<'_>,
     octets: &[u8],
@@ -203,5 +213,5 @@ pub(crate) fn read_rib(
     let Some(rest) = skip(SEQUENCE_SIZE, octets) else {
         return Err(WireFault::Malformed);
     };
-    read_prefixed(alloc, family, snapshot, rest)
+    read_prefixed(alloc, pool, family, snapshot, rest)
 }

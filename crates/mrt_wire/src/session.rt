@@ -6,12 +6,17 @@ ghost use Rattle.ip_prefix.specs.Sequences.{Begins, BeginsWithNone};
 ghost use Rattle.bgp_wire.specs.Number.{octets_at};
 ghost use Rattle.bgp_wire.specs.Reading.{Finds, Reads};
 ghost use Rattle.mrt_wire.specs.Fields.{FindsField};
+ghost use Rattle.mrt_wire.specs.Items.{receipt_items, session_items};
+ghost use Rattle.mrt_wire.specs.Judging.{Told, session_told};
 ghost use Rattle.mrt_wire.specs.Session.{SpellsFamily, AreSystems, AreAddresses, SpellsSessionPeer, SpellsStateChange, SpellsPeerMessage, SpellsMicros, SpellsHappening, SpellsSessionBody};
 
+use crate::event::Items;
 use crate::fields::{Field, skip, split_address, split_asn, split_short, split_word};
 use crate::peer::Peer;
+use crate::pool::Pool;
 use crate::profile::{SessionForm, SessionKind};
-use bgp_wire::{AsWidth, Message, WireFault, read_message};
+use crate::update::{items_of_change, items_of_message};
+use bgp_wire::{AsWidth, WireFault, read_message_into};
 use ip_prefix::{Addr, Family};
 use std::alloc::Global;
 
@@ -29,24 +34,10 @@ pub(crate) struct StateChange {
     pub(crate) new: u16,
 }
 
-/// A message that a peer has sent.
+/// What is said of a session, and the microseconds, where the body has them.
 #[derive(Debug, Drop)]
-pub(crate) struct PeerMessage {
-    pub(crate) message: Message,
-    pub(crate) peer: Peer,
-}
-
-/// What happened in a session.
-#[derive(Debug, Drop)]
-pub(crate) enum SessionContent {
-    StateChange(StateChange),
-    Message(PeerMessage),
-}
-
-/// What happened in a session, and the microseconds, where the body has them.
-#[derive(Debug, Drop)]
-pub(crate) struct SessionBody {
-    pub(crate) content: SessionContent,
+pub(crate) struct SessionItems {
+    pub(crate) items: Items,
     pub(crate) micros: Option<u32>,
 }
 
@@ -161,18 +152,23 @@ fn read_state_change(width: AsWidth, octets: &[u8]) -> Option<StateChange>
     })
 }
 
-/// The message of a session that the octets are.
-fn read_peer_message(alloc: Global, width: AsWidth, octets: &[u8]) -> Result<PeerMessage, WireFault>
-    ensures { Reads (SpellsPeerMessage width) octets.now result }
+/// What the message of a session says that the octets are.
+#[inline]
+fn read_peer_message(
+    alloc: Global,
+    pool: &mut Pool,
+    seconds: u32,
+    width: AsWidth,
+    octets: &[u8],
+) -> Result<Items, WireFault>
+    ensures { Reads (Told (SpellsPeerMessage width) (receipt_items seconds)) octets.now result }
 {
     let Some(session) = split_session_peer(width, octets) else {
         return Err(WireFault::Malformed);
     };
-    let message = read_message(alloc, width, session.rest)?;
-    Ok(PeerMessage {
-        message,
-        peer: session.value,
-    })
+    let message = read_message_into(&mut pool.room, width, session.rest)?;
+    let items = items_of_message(alloc, pool, &session.value, seconds, message)?;
+    Ok(items)
 }
 
 /// The microseconds in front, and what follows them.
@@ -186,55 +182,59 @@ fn split_micros(octets: &[u8]) -> Option<Field<'_, u32>>
     Some(micros)
 }
 
-/// The state change that the octets are.
-fn read_change(width: AsWidth, octets: &[u8]) -> Result<SessionContent, WireFault>
-    ensures { Reads (SpellsHappening SessionKind.StateChange width) octets.now result }
+/// What the state change says that the octets are.
+fn read_change(alloc: Global, width: AsWidth, octets: &[u8]) -> Result<Items, WireFault>
+    ensures { (seconds : ℕ) → Reads (Told (SpellsHappening SessionKind.StateChange width)
+        (session_items seconds)) octets.now result }
 {
     let Some(change) = read_state_change(width, octets) else {
         return Err(WireFault::Malformed);
     };
-    Ok(SessionContent::StateChange(change))
+    let items = items_of_change(alloc, &change)?;
+    Ok(items)
 }
 
-/// What happened in a session, as the octets say.
+/// What is said of a session, by the octets of what happened there.
+#[inline]
 fn read_happening(
     alloc: Global,
+    pool: &mut Pool,
+    seconds: u32,
     kind: SessionKind,
     width: AsWidth,
     octets: &[u8],
-) -> Result<SessionContent, WireFault>
-    ensures { Reads (SpellsHappening kind width) octets.now result }
+) -> Result<Items, WireFault>
+    ensures { Reads (Told (SpellsHappening kind width) (session_items seconds)) octets.now result }
 {
     match kind {
-        SessionKind::StateChange => read_change(width, octets),
-        SessionKind::Message => {
-            let message = read_peer_message(alloc, width, octets)?;
-            Ok(SessionContent::Message(message))
-        }
+        SessionKind::StateChange => read_change(alloc, width, octets),
+        SessionKind::Message => read_peer_message(alloc, pool, seconds, width, octets),
     }
 }
 
 /// What a body of this form says.
 pub(crate) fn read_session(
     alloc: Global,
+    pool: &mut Pool,
+    seconds: u32,
     form: SessionForm,
     octets: &[u8],
-) -> Result<SessionBody, WireFault>
-    ensures { Reads (SpellsSessionBody form) octets.now result }
+) -> Result<SessionItems, WireFault>
+    ensures { Reads (Told (SpellsSessionBody form) (session_told seconds)) octets.now result }
 {
     if !form.timed {
-        let content = read_happening(alloc, form.kind, form.width, octets)?;
-        return Ok(SessionBody {
-            content,
+        let items = read_happening(alloc, pool, seconds, form.kind, form.width, octets)?;
+        return Ok(SessionItems {
+            items,
             micros: None,
         });
     }
     let Some(micros) = split_micros(octets) else {
         return Err(WireFault::Malformed);
     };
-    let content = read_happening(alloc, form.kind, form.width, micros.rest)?;
-    Ok(SessionBody {
-        content,
+    let items = read_happening(alloc, pool, seconds, form.kind, form.width, micros.rest)?;
+    Ok(SessionItems {
+        items,
         micros: Some(micros.value),
     })
 }

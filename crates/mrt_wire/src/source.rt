@@ -18,11 +18,13 @@ use crate::input::Input;
 use crate::judging::{Refusal, judge};
 use crate::next::{Next, Phase};
 use crate::peer::Peers;
+use crate::pool::Pool;
 use std::alloc::Global;
 use std::marker::Model;
 
 /// Reads events from an input of MRT records (RFC 6396). It doesn't hold its input. The buffer of
-/// bodies, the number and the offset of records, and the peers of the last table are kept in it.
+/// bodies, the number and the offset of records, and the peers of the last table are kept in it, and
+/// routes that it gave out, to be filled again where nobody else holds them any more.
 #[derive(Drop)]
 pub struct Source {
     alloc: Global,
@@ -31,6 +33,7 @@ pub struct Source {
     index: Option<Peers>,
     stamp: Stamp,
     phase: Phase,
+    pool: Pool,
 }
 
 impl Model for Source {
@@ -64,6 +67,7 @@ impl Source {
             index: None,
             stamp,
             phase: Phase::Reading,
+            pool: Pool::new(alloc),
         }
     }
 
@@ -73,6 +77,15 @@ impl Source {
         ensures within { self.now.offset ≤ self.now.limit }
     {
         self.frames.taken()
+    }
+
+    /// Takes an answer back that isn't needed any more, to use its memory for what comes next.
+    pub fn take_back(&mut self, answer: Next)
+        ensures { self.new ≡ self.old }
+    {
+        if let Next::Event(event) = answer {
+            self.pool.keep_items(event.items.into_vec());
+        }
     }
 
     /// What comes next in the input: an event, a faulty record, or the end. Behind the end, and
@@ -122,7 +135,8 @@ impl Source {
         match self.frames.take_record(input)? {
             Front::Record(header) => {
                 let body = self.frames.body(header.size);
-                let judged = judge(self.alloc, self.stamp, &mut self.index, &header, body);
+                self.pool.restart();
+                let judged = judge(self.alloc, &mut self.pool, self.stamp, &mut self.index, &header, body);
                 let answer = record_answer(self.number + 1, offset, judged)?;
                 self.number += 1;
                 Ok(answer)

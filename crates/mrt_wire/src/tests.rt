@@ -1,5 +1,6 @@
 mod devices;
 mod events;
+mod held;
 mod kinds;
 mod large;
 mod messages;

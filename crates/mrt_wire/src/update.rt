@@ -2,12 +2,13 @@
 
 ghost use Rattle.std.specs.Prelude.{◌≡◌, ◌++◌, ◌∷◌, [], map, OnOk, IfOk};
 ghost use Rattle.mrt_wire.specs.Event.{Withdrawn, Changed, saying};
-ghost use Rattle.mrt_wire.specs.Items.{announcements, mp_announcements, message_items, route_of, session_items, update_items};
+ghost use Rattle.mrt_wire.specs.Items.{announcements, mp_announcements, message_items, route_of, update_items};
 ghost use Rattle.mrt_wire.specs.Judging.{Adds};
 
 use crate::event::{Item, Items, Route};
 use crate::peer::Peer;
-use crate::session::{PeerMessage, SessionContent, StateChange};
+use crate::pool::Pool;
+use crate::session::StateChange;
 use bgp_wire::{Attrs, Message, Prefixes, Update};
 use std::alloc::{AllocError, Global};
 use std::rc::Rc;
@@ -47,6 +48,7 @@ fn share_route(
 /// Adds what announcements of the prefixes with these attributes say. No route is made for none.
 fn add_announcements(
     alloc: Global,
+    pool: &mut Pool,
     items: &mut Vec<Item>,
     peer: &Peer,
     seconds: u32,
@@ -57,21 +59,17 @@ fn add_announcements(
         (announcements peer.now (route_of attrs seconds) prefixes.now)) }
 {
     if prefixes.as_slice().is_empty() {
+        pool.room.keep_attrs(attrs);
         return Ok(());
     }
-    let route = Rc::new(
-        alloc,
-        Route {
-            attrs,
-            time: seconds,
-        },
-    )?;
+    let route = pool.route(alloc, attrs, seconds)?;
     share_route(items, peer, &route, prefixes)
 }
 
 /// Adds what MP_REACH_NLRI announces.
 fn add_mp_announcements(
     alloc: Global,
+    pool: &mut Pool,
     items: &mut Vec<Item>,
     peer: &Peer,
     seconds: u32,
@@ -82,14 +80,16 @@ fn add_mp_announcements(
         (mp_announcements peer.now seconds attrs prefixes.now)) }
 {
     match attrs {
-        Some(attrs) => add_announcements(alloc, items, peer, seconds, attrs, prefixes),
+        Some(attrs) => add_announcements(alloc, pool, items, peer, seconds, attrs, prefixes),
         None => Ok(()),
     }
 }
 
 /// What an UPDATE says.
+#[inline]
 fn items_of_update(
     alloc: Global,
+    pool: &mut Pool,
     peer: &Peer,
     seconds: u32,
     update: Update,
@@ -110,17 +110,20 @@ fn items_of_update(
             0usize,
             |count, prefixes| count.saturating_add(prefixes.as_slice().len()),
         );
-    let mut items = Vec::with_capacity(alloc, count)?;
+    let mut items = pool.take_items(alloc, count)?;
     add_withdrawals(&mut items, peer, &withdrawn)?;
     add_withdrawals(&mut items, peer, &mp_withdrawn)?;
-    add_announcements(alloc, &mut items, peer, seconds, attrs, &announced)?;
-    add_mp_announcements(alloc, &mut items, peer, seconds, mp_attrs, &mp_announced)?;
+    add_announcements(alloc, pool, &mut items, peer, seconds, attrs, &announced)?;
+    add_mp_announcements(alloc, pool, &mut items, peer, seconds, mp_attrs, &mp_announced)?;
+    pool.keep_prefixes([withdrawn, mp_withdrawn, announced, mp_announced]);
     Ok(Items::from_vec(items))
 }
 
 /// What a message says.
-fn items_of_message(
+#[inline]
+pub(crate) fn items_of_message(
     alloc: Global,
+    pool: &mut Pool,
     peer: &Peer,
     seconds: u32,
     message: Message,
@@ -128,33 +131,16 @@ fn items_of_message(
     ensures { IfOk result (λ items. items ≡ message_items peer.now seconds message) }
 {
     match message {
-        Message::Update(update) => items_of_update(alloc, peer, seconds, update),
+        Message::Update(update) => items_of_update(alloc, pool, peer, seconds, update),
         Message::Other(_) => Ok(Items::from_vec(Vec::new(alloc))),
     }
 }
 
 /// What a state change says.
-fn items_of_change(alloc: Global, change: &StateChange) -> Result<Items, AllocError>
+pub(crate) fn items_of_change(alloc: Global, change: &StateChange) -> Result<Items, AllocError>
     ensures { IfOk result (λ items.
         items ≡ Changed change.now.peer change.now.old change.now.new ∷ []) }
 {
     let items = vec![in alloc; Item::State(change.peer, change.old, change.new)]?;
     Ok(Items::from_vec(items))
-}
-
-/// What is said of a session.
-pub(crate) fn items_of_session(
-    alloc: Global,
-    seconds: u32,
-    content: SessionContent,
-) -> Result<Items, AllocError>
-    ensures { IfOk result (λ items. items ≡ session_items seconds content) }
-{
-    match content {
-        SessionContent::StateChange(change) => items_of_change(alloc, &change),
-        SessionContent::Message(received) => {
-            let PeerMessage { message, peer } = received;
-            items_of_message(alloc, &peer, seconds, message)
-        }
-    }
 }

@@ -8,6 +8,7 @@ ghost use Rattle.bgpdump_lines.specs.Writing.{Puts, is_write};
 
 use crate::replies::write_position;
 use bgpdump_lines::{Output, WriteFault};
+use ip_prefix::Text;
 use mrt_wire::Route;
 use rib_player::Player;
 use rib_store::PrefixStore;
@@ -31,7 +32,7 @@ pub(crate) fn back<S: PrefixStore<Rc<Route>>, O: Output>(
     player: &mut Player<S>,
     count: u32,
     out: &mut O,
-    text: &mut Vec<u8>,
+    text: &mut Text,
 ) -> Result<(), WriteFault>
     ensures player { player.new ≡
         at_cursor (player.old.cursor - min count (behind player.old)) player.old }

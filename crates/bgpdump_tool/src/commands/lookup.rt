@@ -6,7 +6,7 @@ ghost use Rattle.bgpdump_lines.specs.Writing.{Puts, is_write};
 
 use crate::replies::{write_none, write_rib_line};
 use bgpdump_lines::{Output, WriteFault};
-use ip_prefix::Addr;
+use ip_prefix::{Addr, Text};
 use mrt_wire::{Peer, Route};
 use rib_player::Table;
 use rib_store::PrefixStore;
@@ -19,7 +19,7 @@ pub(crate) fn lookup<S: PrefixStore<Rc<Route>>, O: Output>(
     peer: &Peer,
     addr: &Addr,
     out: &mut O,
-    text: &mut Vec<u8>,
+    text: &mut Text,
 ) -> Result<(), WriteFault>
     ensures text { Puts (O.written out.old) (O.written out.new)
         (best_text table.now.routes peer.now addr.now) result }

@@ -9,6 +9,7 @@ ghost use Rattle.bgpdump_tool.specs.Losing.{Loses};
 
 use crate::replies::write_counted;
 use bgpdump_lines::{Output, WriteFault};
+use ip_prefix::Text;
 use mrt_wire::{Event, Item, Items, Peer, Route, Tag, Time};
 use rib_player::Player;
 use rib_store::PrefixStore;
@@ -59,7 +60,7 @@ pub(crate) fn lose<S: PrefixStore<Rc<Route>>, O: Output>(
     alloc: Global,
     peer: Peer,
     out: &mut O,
-    text: &mut Vec<u8>,
+    text: &mut Text,
 ) -> Result<(), WriteFault>
     requires { player.old.cursor < GREATEST_COUNT }
     ensures loses { Loses peer player.old player.new

@@ -7,6 +7,7 @@ ghost use Rattle.bgpdump_lines.specs.Writing.{Puts, PutsPart, is_write};
 
 use crate::replies::write_none;
 use bgpdump_lines::{Output, WriteFault, put_all, put_number, put_peer};
+use ip_prefix::Text;
 use mrt_wire::{Peer, Route};
 use rib_player::Table;
 use rib_store::PrefixStore;
@@ -14,8 +15,8 @@ use std::alloc::AllocError;
 use std::rc::Rc;
 
 /// Appends a peer, and how many routes it has.
-fn put_peer_line(peer: &Peer, routes: u64, text: &mut Vec<u8>) -> Result<(), AllocError>
-    ensures { OnOk result (text.new.items ≡ text.old.items ++ peer_line_of peer.now routes) }
+fn put_peer_line(peer: &Peer, routes: u64, text: &mut Text) -> Result<(), AllocError>
+    ensures { OnOk result (text.new ≡ text.old ++ peer_line_of peer.now routes) }
 {
     text.extend_from_slice(b"PEER")?;
     put_peer(peer, text)?;
@@ -29,7 +30,7 @@ fn write_peer<O: Output>(
     peer: &Peer,
     routes: u64,
     out: &mut O,
-    text: &mut Vec<u8>,
+    text: &mut Text,
 ) -> Result<(), WriteFault>
     ensures text { Puts (O.written out.old) (O.written out.new) (peer_line_of peer.now routes)
         result }
@@ -37,7 +38,7 @@ fn write_peer<O: Output>(
 {
     text.clear();
     put_peer_line(peer, routes, text)?;
-    put_all(out, text)?;
+    put_all(out, text.as_slice())?;
     Ok(())
 }
 
@@ -45,7 +46,7 @@ fn write_peer<O: Output>(
 pub(crate) fn peers<S: PrefixStore<Rc<Route>>, O: Output>(
     table: &Table<S>,
     out: &mut O,
-    text: &mut Vec<u8>,
+    text: &mut Text,
 ) -> Result<(), WriteFault>
     ensures text { PutsPart (O.written out.old) (O.written out.new) (peers_text table.now.routes)
         result }

@@ -7,6 +7,7 @@ ghost use Rattle.bgpdump_lines.specs.Writing.{Puts, is_write};
 
 use crate::replies::write_counted;
 use bgpdump_lines::{Output, WriteFault};
+use ip_prefix::Text;
 use mrt_wire::Route;
 use rib_player::Player;
 use rib_store::PrefixStore;
@@ -16,7 +17,7 @@ use std::rc::Rc;
 pub(crate) fn position<S: PrefixStore<Rc<Route>>, O: Output>(
     player: &Player<S>,
     out: &mut O,
-    text: &mut Vec<u8>,
+    text: &mut Text,
 ) -> Result<(), WriteFault>
     ensures text { Puts (O.written out.old) (O.written out.new)
         (counted_text player.now.cursor (codes " ahead ") (ahead_of player.now)) result }

@@ -6,7 +6,7 @@ ghost use Rattle.bgpdump_lines.specs.Writing.{Puts, is_write};
 
 use crate::replies::{write_none, write_rib_line};
 use bgpdump_lines::{Output, WriteFault};
-use ip_prefix::Prefix;
+use ip_prefix::{Prefix, Text};
 use mrt_wire::{Peer, Route};
 use rib_player::Table;
 use rib_store::PrefixStore;
@@ -18,7 +18,7 @@ pub(crate) fn route<S: PrefixStore<Rc<Route>>, O: Output>(
     peer: &Peer,
     prefix: &Prefix,
     out: &mut O,
-    text: &mut Vec<u8>,
+    text: &mut Text,
 ) -> Result<(), WriteFault>
     ensures text { Puts (O.written out.old) (O.written out.new)
         (route_text table.now.routes peer.now prefix.now) result }

@@ -6,7 +6,7 @@ ghost use Rattle.bgpdump_lines.specs.Writing.{Puts, PutsPart, is_write};
 
 use crate::replies::write_rib_line;
 use bgpdump_lines::{Output, WriteFault, put_all};
-use ip_prefix::put_decimal;
+use ip_prefix::Text;
 use mrt_wire::{Peer, Route};
 use rib_player::Table;
 use rib_store::PrefixStore;
@@ -14,11 +14,11 @@ use std::alloc::AllocError;
 use std::rc::Rc;
 
 /// Appends how many routes there are.
-fn put_routes_line(routes: u64, text: &mut Vec<u8>) -> Result<(), AllocError>
-    ensures { OnOk result (text.new.items ≡ text.old.items ++ routes_line routes) }
+fn put_routes_line(routes: u64, text: &mut Text) -> Result<(), AllocError>
+    ensures { OnOk result (text.new ≡ text.old ++ routes_line routes) }
 {
     text.extend_from_slice(b"routes ")?;
-    put_decimal(routes, text)?;
+    text.put_long_decimal(routes)?;
     text.push(b'\n')?;
     Ok(())
 }
@@ -27,14 +27,14 @@ fn put_routes_line(routes: u64, text: &mut Vec<u8>) -> Result<(), AllocError>
 fn write_routes_line<O: Output>(
     routes: u64,
     out: &mut O,
-    text: &mut Vec<u8>,
+    text: &mut Text,
 ) -> Result<(), WriteFault>
     ensures text { Puts (O.written out.old) (O.written out.new) (routes_line routes) result }
     ensures failed { O.failed out.new ≡ (O.failed out.old || is_write result) }
 {
     text.clear();
     put_routes_line(routes, text)?;
-    put_all(out, text)?;
+    put_all(out, text.as_slice())?;
     Ok(())
 }
 
@@ -44,7 +44,7 @@ pub(crate) fn table<S: PrefixStore<Rc<Route>>, O: Output>(
     table: &Table<S>,
     peer: &Peer,
     out: &mut O,
-    text: &mut Vec<u8>,
+    text: &mut Text,
 ) -> Result<(), WriteFault>
     ensures text { PutsPart (O.written out.old) (O.written out.new)
         (table_text table.now.routes peer.now) result }

@@ -1,4 +1,4 @@
-use Rattle.std.proofs.Common.{◌≡◌, [], Err, ap, sym, subst, ◌∙◌}
+use Rattle.std.proofs.Common.{◌≡◌, [], ◌∷◌, ◌++◌, Err, take, ap, sym, subst, ◌∙◌}
 use Rattle.std.proofs.lemmas.Result.{err_from_is_err_and}
 use Rattle.ip_prefix.specs.Sequences.{Begins, SpellsAll}
 use Rattle.ip_prefix.proofs.Sequences.{one_more}
@@ -14,8 +14,8 @@ returns-in_err-segment c =
     let width = c.args.width in
     let octets = c.args.octets.now in
     let rest = c.loop-rest.rest.now in
-    let some : rest ≡ [] → ⊥ = λ e. nonempty rest (sym c.is_empty.ensures ∙ c.loop-rest-test.true) e in
-    let refused = refused_rest (SpellsSegment width) (segment_code width) c.loop-rest.segments.items rest octets c.in_err-segment.field-0.0 some c.loop-rest.invariant c.in_err-segment.ensures.refused in
+    let some : rest ≡ [] → ⊥ = λ e. nonempty rest (sym c.is_empty-in-loop-rest.ensures ∙ c.loop-rest-test.true) e in
+    let refused = refused_rest (SpellsSegment width) (segment_code width) (take c.loop-rest.count c.loop-rest.segments.items) rest octets c.in_err-segment.field-0.0 some c.loop-rest.invariant.read c.in_err-segment.ensures.refused in
     let p = err_from_is_err_and c.from_residual-in_err-segment.result c.from_residual-in_err-segment.ensures.1 in
     subst (Reads (SpellsPath width) octets) (sym (p.1 ∙ ap Err p.2))
     (refused_part (SpellsPath width) (SpellsAll (SpellsSegment width)) octets octets c.in_err-segment.field-0.0 (λ path s. (path.segments, s)) refused)
@@ -25,5 +25,10 @@ loop-rest-preserved c =
     let width = c.args.width in
     let octets = c.args.octets.now in
     let more = c.in_ok-segment.more.now in
-    subst (λ segments. Begins (SpellsAll (SpellsSegment width)) segments more octets) (sym c.in_ok-push.ensures.items)
-    (one_more (SpellsSegment width) c.loop-rest.segments.items c.in_ok-segment.segment more c.loop-rest.rest.now octets c.loop-rest.invariant c.in_ok-segment.ensures.found)
+    let segment = c.in_ok-segment.segment in
+    record {
+      within = c.in_ok-put_segment.ensures.within;
+      read = subst (λ segments. Begins (SpellsAll (SpellsSegment width)) segments more octets)
+          (sym (c.in_ok-put_segment.ensures.put ∙ ap (λ l. l ++ segment ∷ []) c.take_numbers-numbers.ensures.kept))
+          (one_more (SpellsSegment width) (take c.loop-rest.count c.loop-rest.segments.items) segment more c.loop-rest.rest.now octets c.loop-rest.invariant.read c.in_ok-segment.ensures.found);
+    }

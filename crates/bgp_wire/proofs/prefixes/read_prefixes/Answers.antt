@@ -15,7 +15,7 @@ returns-in_err-prefix c =
     let family = c.args.family in
     let octets = c.args.octets.now in
     let rest = c.loop-rest.rest.now in
-    let some : rest ≡ [] → ⊥ = λ e. nonempty rest (sym c.is_empty.ensures ∙ c.loop-rest-test.true) e in
+    let some : rest ≡ [] → ⊥ = λ e. nonempty rest (sym c.is_empty-in-loop-rest.ensures ∙ c.loop-rest-test.true) e in
     let none : (n : Network) (more : List ℕ) → Begins (SpellsNetwork family) n more rest → ⊥
     = subst (λ found. IfNone found ((n : Network) (more : List ℕ) → Begins (SpellsNetwork family) n more rest → ⊥)) c.in_err-prefix.ensures.ok_part c.read.ensures.none in
     let p = err_from_is_err_and c.from_residual.result c.from_residual.ensures.1 in

@@ -1,5 +1,5 @@
 use Rattle.std.proofs.Common.{◌≡◌, ◌-◌, ◌++◌, length, take, max, ap, sym, ◌∙◌}
-use Rattle.bgp_wire.specs.Text.{ended_words}
+use Rattle.ip_prefix.specs.Written.{ended_words}
 use Rattle.bgp_wire.proofs.Words.{dropped}
 use Rattle.bgp_wire.proofs.text.drop_separator.Goals as goal
 

@@ -1,6 +1,7 @@
 use Rattle.std.proofs.Common.{◌≡◌, ◌++◌, map, take}
 use Rattle.bgp_wire.specs.declared.text.TheConstants.{SPACE}
-use Rattle.bgp_wire.specs.Text.{ended_words, community_text}
+use Rattle.ip_prefix.specs.Written.{ended_words}
+use Rattle.bgp_wire.specs.Text.{community_text}
 use Rattle.bgp_wire.proofs.text.put_each_community.Given as goal
 
 -- the communities so far stand behind the text

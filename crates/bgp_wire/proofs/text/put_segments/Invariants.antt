@@ -1,7 +1,8 @@
 use Rattle.std.proofs.Common.{◌≡◌, ◌++◌, take}
 use Rattle.std.specs.List.{flat_map}
 use Rattle.bgp_wire.specs.declared.text.TheConstants.{SPACE}
-use Rattle.bgp_wire.specs.Text.{ended_words, segment_words}
+use Rattle.ip_prefix.specs.Written.{ended_words}
+use Rattle.bgp_wire.specs.Text.{segment_words}
 use Rattle.bgp_wire.proofs.text.put_segments.Given as goal
 
 -- the words of the segments so far stand behind the text

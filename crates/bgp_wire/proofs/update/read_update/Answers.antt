@@ -1,4 +1,4 @@
-use Rattle.std.proofs.Common.{List, IfSome, IfNone, Err, ap, sym, subst, ◌∙◌}
+use Rattle.std.proofs.Common.{List, IfSome, Err, ap, sym, subst, ◌∙◌}
 use Rattle.std.proofs.lemmas.Result.{err_from_is_err_and}
 use Rattle.ip_prefix.specs.declared.addr.Family.TheVariants.{V4}
 use Rattle.ip_prefix.specs.Sequences.{SpellsAll}
@@ -10,7 +10,7 @@ use Rattle.bgp_wire.specs.FirstValues.{Holds}
 use Rattle.bgp_wire.specs.Reading.{Reads}
 use Rattle.bgp_wire.specs.Update.{IsUpdate, SaysTogether, SpellsUpdate}
 use Rattle.bgp_wire.proofs.OneFront.{attribute_code}
-use Rattle.bgp_wire.proofs.Refusing.{refused_part, refused_always}
+use Rattle.bgp_wire.proofs.Refusing.{refused_part}
 use Rattle.bgp_wire.proofs.Reaching.{same_update}
 use Rattle.bgp_wire.proofs.update.read_update.Goals as goal
 
@@ -31,19 +31,21 @@ returns-in_err-withdrawn c =
     ))
     c.in_err-withdrawn.ensures)
 
-pub returns-in_err-values : goal.returns-in_err-values
-returns-in_err-values c =
+pub returns-in_err-note_all : goal.returns-in_err-note_all
+returns-in_err-note_all c =
     let body = c.args.body.now in
     let width = c.args.width in
     let f = c.in_ok-framed.framed in
     let framed : IsUpdate f.withdrawn.now f.attributes.now f.announced.now body
     = subst (λ found. IfSome found (λ f. IsUpdate f.withdrawn.now f.attributes.now f.announced.now body)) c.in_ok-framed.ensures.ok_part c.frame_update.ensures.some in
-    let none : (list : List Attribute) → SpellsAttributes list f.attributes.now → ⊥
-    = subst (λ found. IfNone found ((list : List Attribute) → SpellsAttributes list f.attributes.now → ⊥)) c.in_err-values.ensures.ok_part c.read_first_values.ensures.none in
-    let p = err_from_is_err_and c.from_residual-in_err-values.result c.from_residual-in_err-values.ensures.1 in
-    subst (Reads (SpellsUpdate width) body) (sym p.1)
-    (refused_always (SpellsUpdate width) body p.0
-    (λ update s. none s.list (subst (SpellsAttributes s.list) (same_update s.withdrawn s.attributes s.announced f.withdrawn.now f.attributes.now f.announced.now body s.whole framed).1 s.spelled)))
+    let p = err_from_is_err_and c.from_residual-in_err-note_all.result c.from_residual-in_err-note_all.ensures.1 in
+    subst (Reads (SpellsUpdate width) body) (sym (p.1 ∙ ap Err p.2))
+    (refused_part (SpellsUpdate width) SpellsAttributes body f.attributes.now c.in_err-note_all.field-0.0
+    (λ update s. (
+      s.list,
+      subst (SpellsAttributes s.list) (same_update s.withdrawn s.attributes s.announced f.withdrawn.now f.attributes.now f.announced.now body s.whole framed).1 s.spelled,
+    ))
+    c.in_err-note_all.ensures.refused)
 
 pub returns-in_err-attrs : goal.returns-in_err-attrs
 returns-in_err-attrs c =
@@ -53,8 +55,7 @@ returns-in_err-attrs c =
     let octets = f.attributes.now in
     let framed : IsUpdate f.withdrawn.now octets f.announced.now body
     = subst (λ found. IfSome found (λ f. IsUpdate f.withdrawn.now f.attributes.now f.announced.now body)) c.in_ok-framed.ensures.ok_part c.frame_update.ensures.some in
-    let held : (list : List Attribute) × SpellsAttributes list octets × Holds c.in_ok-values.values list
-    = subst (λ found. IfSome found (λ values. (list : List Attribute) × SpellsAttributes list octets × Holds values list)) c.in_ok-values.ensures.ok_part c.read_first_values.ensures.some in
+    let held = c.in_ok-note_all.ensures.noted in
     let Part : Said → List Attribute → Type 0 = λ said list. SaysTogether width said.attrs said.reach said.withdrawn list in
     let p = err_from_is_err_and c.from_residual-in_err-attrs.result c.from_residual-in_err-attrs.ensures.1 in
     subst (Reads (SpellsUpdate width) body) (sym (p.1 ∙ ap Err p.2))

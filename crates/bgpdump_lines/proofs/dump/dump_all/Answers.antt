@@ -46,7 +46,7 @@ pub steps-preserved : goal.steps-preserved
 steps-preserved g c =
     let promised : Promises c.steps.source c.next.new.self (g.I.Input.left c.steps.input) (g.I.Input.left c.next.new.input) c.in_ok-next.next =
     (c.in_ok-next.ensures.next, λ e. (ap told_by (c.in_ok-next.ensures.ended e).0, (c.in_ok-next.ensures.ended e).1, ap g.I.Input.left (c.in_ok-next.ensures.ended e).2)) in
-    record {
+    rw c.take_back.ensures record {
       going = Going-answer (start_place c.args.stamp LIMIT) c.steps.source c.next.new.self _ (g.I.Input.left c.steps.input) _
           (record { out = g.O.Output.written c.args.out.now; err = g.E.Output.written c.args.err.now }) (record { out = g.O.Output.written c.steps.out; err = g.E.Output.written c.steps.err }) (record { out = g.O.Output.written c.write_next.new.out; err = g.E.Output.written c.write_next.new.err })
           c.steps.reported _ c.in_ok-next.next c.steps.invariant.going promised c.in_ok-reported.ensures.found c.in_ok-reported.ensures.reported c.next.ensures.within;
@@ -61,4 +61,4 @@ steps-smaller g c =
     let going = c.steps.invariant.going in
     let some = goes_on_with_some (start_place c.args.stamp LIMIT) c.steps.source c.next.new.self _ _ _ going.found c.in_ok-next.next going.so_far promised (search rules) in
     let so_far = SoFar-answer (start_place c.args.stamp LIMIT) c.steps.source c.next.new.self _ _ _ going.found c.in_ok-next.next going.so_far promised in
-    omega (arith, some, so_far.limit, c.next.ensures.within)
+    omega (arith, some, so_far.limit, c.next.ensures.within, ap (λ source. source.offset) c.take_back.ensures)

@@ -5,7 +5,7 @@ use Rattle.bgpdump_lines.proofs.fields.put_attributes.Goals as goal
 pub returns-clause-appended : goal.returns-clause-appended
 returns-clause-appended c =
     rw (
-      c.in_ok-extend_from_slice.ensures.items,
+      c.in_ok-extend_from_slice.ensures.appended,
       c.in_ok-put_aggregator.ensures.appended,
       append_assoc,
       c.in_ok-put_aggregate.ensures.appended,

@@ -12,8 +12,8 @@ returns-clause-appended c =
     let items = c.as_slice-items.result.now in
     let line = item_line c.args.event.now.time c.args.event.now.tag in
     c.items.invariant.0
-    ∙ ap (λ l. c.args.text.now.items ++ flat_map (λ item. line (saying item)) l) (take_all c.items.item-index items c.items-test.false)
-    ∙ ap (λ l. c.args.text.now.items ++ l) (lines-sayings line items ∙ ap (flat_map line) c.as_slice-items.ensures)
+    ∙ ap (λ l. c.args.text.now ++ flat_map (λ item. line (saying item)) l) (take_all c.items.item-index items c.items-test.false)
+    ∙ ap (λ l. c.args.text.now ++ l) (lines-sayings line items ∙ ap (flat_map line) c.as_slice-items.ensures)
 
 pub returns-in_err-last-clause-kept : goal.returns-in_err-last-clause-kept
 returns-in_err-last-clause-kept c =
@@ -25,5 +25,5 @@ returns-in_err-last-clause-kept c =
       so_far ++ more,
       c.in_err-last.ensures.kept.1
           ∙ ap (λ l. l ++ more) c.items.invariant.0
-          ∙ append_assoc c.args.text.now.items so_far more,
+          ∙ append_assoc c.args.text.now so_far more,
     )

@@ -8,5 +8,5 @@ use Rattle.bgpdump_lines.proofs.lines.put_items.Given as goal
 
 abbrev pub invariant-items : goal.invariant-items
 invariant-items l =
-    (l.text.items ≡ l.initial.text.items ++ flat_map (λ item. item_line l.event.time l.event.tag (saying item)) (take l.item-index l.items))
-    × IfSome l.last (λ line. EndsIn l.event.time l.event.tag line l.text.items)
+    (l.text ≡ l.initial.text ++ flat_map (λ item. item_line l.event.time l.event.tag (saying item)) (take l.item-index l.items))
+    × IfSome l.last (λ line. EndsIn l.event.time l.event.tag line l.text)

@@ -3,6 +3,7 @@ use Rattle.std.specs.Prelude.{IfErr}
 use Rattle.std.proofs.lemmas.Result.{err_from_is_err_and}
 use Rattle.bgp_wire.specs.Reading.{Refuses}
 use Rattle.mrt_wire.specs.Rib.{SpellsEntry, SpellsEntries}
+use Rattle.mrt_wire.specs.Judging.{entry_read}
 use Rattle.mrt_wire.proofs.ReadingLaws.{no_count, counted_refused, counted}
 use Rattle.mrt_wire.proofs.RibLaws.{entry_code}
 use Rattle.mrt_wire.proofs.TellingLaws.{ItemsSoFar-push}
@@ -23,7 +24,7 @@ returns-in_err-entry-clause-refused c =
 
 pub loop-preserved : goal.loop-preserved
 loop-preserved c =
-    ItemsSoFar-push c.args.family c.args.snapshot c.args.prefix c.loop.counter c.loop.told c.add.new.self c.loop.rest.now c.in_ok-entry.more.now c.in-Some.count.rest.now c.in_ok-entry.entry
+    ItemsSoFar-push c.args.family c.args.snapshot c.args.prefix c.loop.counter c.loop.told c.add.new.self c.loop.rest.now c.in_ok-entry.more.now c.in-Some.count.rest.now (entry_read c.in_ok-entry.entry)
     c.loop.invariant c.in_ok-entry.ensures.found c.in_ok-add.ensures.items c.in_ok-add.ensures.unknown
 
 pub returns-clause-told : goal.returns-clause-told

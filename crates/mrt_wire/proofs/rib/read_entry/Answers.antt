@@ -9,12 +9,12 @@ pub returns-in_default-clause-refused : goal.returns-in_default-clause-refused
 returns-in_default-clause-refused c entry rest b =
     c.in_default.ensures.none (entry.index, (entry.time, b.spelled.0)) rest (entry_fields c.args.family entry rest c.args.octets.now b)
 
-pub returns-in_err-attrs-clause-refused : goal.returns-in_err-attrs-clause-refused
-returns-in_err-attrs-clause-refused c =
+pub returns-in_err-route-clause-refused : goal.returns-in_err-route-clause-refused
+returns-in_err-route-clause-refused c =
     let family = c.args.family in
     let octets = c.args.octets.now in
     let f = c.in-Some.framed in
     let p = err_from_is_err_and c.from_residual.result c.from_residual.ensures.1 in
     rw p.1
     (subst (RefusesFront (SpellsEntry family) octets) (sym p.2)
-    (refused_attrs family f.index f.time f.attributes.now f.rest.now octets c.in_err-attrs.field-0.0 c.in-Some.ensures.some c.in_err-attrs.ensures))
+    (refused_attrs family f.index f.time f.attributes.now f.rest.now octets c.in_err-route.field-0.0 c.in-Some.ensures.some c.in_err-route.ensures.refused))

@@ -1,16 +1,26 @@
-use Rattle.std.proofs.Common.{Err, ap, sym, subst, ◌∙◌}
-use Rattle.std.proofs.lemmas.Result.{err_from_is_err_and}
+use Rattle.std.proofs.Common.{refl, sym, subst}
 use Rattle.bgp_wire.specs.Reading.{Reads}
-use Rattle.bgp_wire.proofs.Refusing.{refused_part}
+use Rattle.bgp_wire.proofs.Refusing.{reads_whole}
 use Rattle.mrt_wire.specs.declared.profile.SessionKind.TheVariants.{Message}
-use Rattle.mrt_wire.specs.Session.{SpellsHappening, SpellsPeerMessage}
+use Rattle.mrt_wire.specs.Items.{receipt_items, session_items}
+use Rattle.mrt_wire.specs.Judging.{Told}
+use Rattle.mrt_wire.specs.Session.{Receipt, SpellsHappening, SpellsPeerMessage}
 use Rattle.mrt_wire.proofs.session.read_happening.Goals as goal
 
-pub returns-in_err-message-in-Message : goal.returns-in_err-message-in-Message
-returns-in_err-message-in-Message c =
+pub returns-in-Message : goal.returns-in-Message
+returns-in-Message c =
     let octets = c.args.octets.now in
     let width = c.args.width in
-    let p = err_from_is_err_and c.from_residual.result c.from_residual.ensures.1 in
-    subst (λ kind. Reads (SpellsHappening kind width) octets c.from_residual.result) (sym c.in-Message.is)
-    (subst (Reads (SpellsHappening Message width) octets) (sym (p.1 ∙ ap Err p.2))
-    (refused_part (SpellsHappening Message width) (SpellsPeerMessage width) octets octets c.in_err-message-in-Message.field-0.0 (λ content s. (s.0, s.2)) c.in_err-message-in-Message.ensures))
+    let seconds = c.args.seconds in
+    let Part = Told (SpellsPeerMessage width) (receipt_items seconds) in
+    let Whole = Told (SpellsHappening Message width) (session_items seconds) in
+    subst (λ kind. Reads (Told (SpellsHappening kind width) (session_items seconds)) octets c.read_peer_message.result) (sym c.in-Message.is)
+    (reads_whole Part Whole octets octets c.read_peer_message.result
+    (λ items s. (Receipt s.0, (s.0, refl, s.1), s.2))
+    (λ items s. (receipt_items seconds s.1.0, (s.1.0, s.1.2, refl)))
+    c.read_peer_message.ensures)
+
+pub returns-in-StateChange : goal.returns-in-StateChange
+returns-in-StateChange c =
+    subst (λ kind. Reads (Told (SpellsHappening kind c.args.width) (session_items c.args.seconds)) c.args.octets.now c.read_change.result) (sym c.in-StateChange.is)
+    (c.read_change.ensures c.args.seconds)

@@ -4,13 +4,15 @@ use Rattle.bgp_wire.specs.Reading.{Reads}
 use Rattle.bgp_wire.specs.Update.{SpellsMessage}
 use Rattle.bgp_wire.proofs.Refusing.{refused_part}
 use Rattle.ip_prefix.specs.Fields.{Then}
+use Rattle.mrt_wire.specs.Items.{receipt_items}
+use Rattle.mrt_wire.specs.Judging.{Told}
 use Rattle.mrt_wire.specs.Session.{SpellsSessionPeer, SpellsPeerMessage}
 use Rattle.mrt_wire.proofs.SessionLaws.{session_front}
 use Rattle.mrt_wire.proofs.ReadingLaws.{refused_behind}
 use Rattle.mrt_wire.proofs.session.read_peer_message.Goals as goal
 
 pub returns-in_default : goal.returns-in_default
-returns-in_default c m s = c.in_default.ensures m.peer s.rest s.first
+returns-in_default c items s = c.in_default.ensures s.0.peer s.1.rest s.1.first
 
 pub returns-in_err-message : goal.returns-in_err-message
 returns-in_err-message c =
@@ -18,7 +20,15 @@ returns-in_err-message c =
     let octets = c.args.octets.now in
     let fault = c.in_err-message.field-0.0 in
     let session = c.in-Some.session in
+    let Whole = Told (SpellsPeerMessage width) (receipt_items c.args.seconds) in
     let p = err_from_is_err_and c.from_residual.result c.from_residual.ensures.1 in
-    subst (Reads (SpellsPeerMessage width) octets) (sym (p.1 ∙ ap Err p.2))
-    (refused_part (SpellsPeerMessage width) (Then (SpellsSessionPeer width) (λ peer. SpellsMessage width)) octets octets fault (λ m s. ((m.peer, m.message), s))
+    subst (Reads Whole octets) (sym (p.1 ∙ ap Err p.2))
+    (refused_part Whole (Then (SpellsSessionPeer width) (λ peer. SpellsMessage width)) octets octets fault (λ items s. ((s.0.peer, s.0.message), s.1))
     (refused_behind _ _ (session_front width) session.value session.rest.now octets fault c.in-Some.ensures c.in_err-message.ensures))
+
+pub returns : goal.returns
+returns c = (
+  record { message = c.in_ok-message.message; peer = c.in-Some.session.value },
+  record { rest = c.in-Some.session.rest.now; first = c.in-Some.ensures; second = c.in_ok-message.ensures },
+  c.in_ok-items.ensures,
+)

@@ -1,7 +1,7 @@
 use Rattle.std.proofs.Common.{◌≡◌, ◌%◌, length}
 use Rattle.ip_prefix.specs.Sequences.{Begins, SpellsAll}
 use Rattle.bgp_wire.specs.Number.{SpellsAsn, octets_at}
-use Rattle.bgp_wire.proofs.numbers.read_numbers.Given as goal
+use Rattle.bgp_wire.proofs.numbers.push_numbers.Given as goal
 
 -- the numbers so far are spelled by the octets before the rest, which are a whole number of numbers
 abbrev pub invariant-loop-rest : goal.invariant-loop-rest

@@ -9,7 +9,7 @@ use Rattle.bgp_wire.specs.Reading.{Reads}
 use Rattle.bgp_wire.specs.Update.{IsMessage, SpellsUpdate, SpellsMessage}
 use Rattle.bgp_wire.proofs.Refusing.{refused_part, refused_always}
 use Rattle.bgp_wire.proofs.Reaching.{same_message}
-use Rattle.bgp_wire.proofs.message.read_message.Goals as goal
+use Rattle.bgp_wire.proofs.message.read_message_into.Goals as goal
 
 -- where no message is framed, none is spelled
 unframed : (width : AsWidth) (octets : List ℕ) → ((kind : ℕ) (body : List ℕ) → IsMessage kind body octets → ⊥) → (value : Message) → SpellsMessage width value octets → ⊥

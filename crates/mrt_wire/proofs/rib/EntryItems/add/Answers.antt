@@ -1,0 +1,19 @@
+use Rattle.std.proofs.Common.{◌++◌, ◌∷◌, [], map, ap, sym, ◌∙◌}
+use Rattle.std.proofs.lemmas.List.{map-append}
+use Rattle.mrt_wire.specs.declared.event.Item.TheVariants.{Announce}
+use Rattle.mrt_wire.specs.Event.{Announced, saying}
+use Rattle.mrt_wire.specs.Items.{announced_by, entry_time, route_of}
+use Rattle.mrt_wire.proofs.rib.EntryItems.add.Goals as goal
+
+pub returns-clause-items : goal.returns-clause-items
+returns-clause-items c =
+    let route = c.args.entry.route in
+    let attrs = route.value.attrs in
+    let time = entry_time c.args.snapshot.stamp c.args.snapshot.seconds c.args.entry.originated in
+    let old = c.args.self.now.items.items in
+    let peer = c.in-Some.peer in
+    let prefix = c.args.prefix in
+    ap (map saying) c.in_ok-push.ensures.items
+    ∙ map-append saying old (Announce peer prefix route ∷ [])
+    ∙ ap (λ time. map saying old ++ Announced peer prefix (route_of attrs time) ∷ []) c.requires
+    ∙ ap (λ found. map saying old ++ announced_by found prefix (route_of attrs time)) (sym (sym c.peer_at.ensures ∙ c.in-Some.is))

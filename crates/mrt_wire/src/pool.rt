@@ -1,0 +1,163 @@
+//! Memory that records are read into again.
+
+ghost use Rattle.std.specs.Prelude.{◌≡◌, ◌<◌, [], IfOk, IfErr, IfSome, OnOk, vec_len};
+ghost use Rattle.bgp_wire.specs.declared.path.AsWidth.TheVariants.{Four};
+ghost use Rattle.bgp_wire.specs.Content.{SpellsRibAttrs};
+ghost use Rattle.bgp_wire.specs.Reading.{Refuses};
+ghost use Rattle.mrt_wire.specs.Items.{route_of};
+
+use crate::event::{Item, Route};
+use bgp_wire::{AsWidth, Attrs, MessageRoom, Prefixes, WireFault, replace_rib_attrs};
+use ip_prefix::Family;
+use std::alloc::{AllocError, Global};
+use std::mem;
+use std::rc::Rc;
+
+/// How many routes are kept at most.
+const MOST_ROUTES: usize = 1024;
+
+/// How many octets the attributes of a route that is kept have at most.
+const LONGEST_KEPT: usize = 1024;
+
+/// How many items a vector that is kept has room for at most.
+const MOST_ITEMS: usize = 4096;
+
+/// The routes that were given out, to be filled again where nobody else holds them any more, and
+/// room for items.
+#[derive(Drop)]
+pub(crate) struct Pool {
+    routes: Vec<Rc<Route>>,
+    /// How many of them were given out for the record that is read.
+    given: usize,
+    items: Vec<Item>,
+    /// Where messages are read.
+    pub(crate) room: MessageRoom,
+}
+
+/// A route without attributes.
+fn new_route(alloc: Global) -> Result<Rc<Route>, AllocError> {
+    let attrs = Attrs::none(alloc);
+    Ok(Rc::new(alloc, Route { attrs, time: 0 })?)
+}
+
+/// Reads the attributes of a table's entry into a route.
+fn fill_rib_route(
+    shared: &mut Rc<Route>,
+    alloc: Global,
+    family: Family,
+    time: u32,
+    octets: &[u8],
+) -> Result<(), WireFault>
+    ensures attrs { OnOk result (SpellsRibAttrs family Four shared.new.value.attrs octets.now) }
+    ensures time { OnOk result (shared.new.value.time ≡ time) }
+    ensures refused { IfErr result (Refuses (SpellsRibAttrs family Four) octets.now) }
+{
+    let route = Rc::make_mut(shared)?;
+    replace_rib_attrs(alloc, &mut route.attrs, family, AsWidth::Four, octets)?;
+    route.time = time;
+    Ok(())
+}
+
+impl Pool {
+    /// Without any routes.
+    pub(crate) fn new(alloc: Global) -> Pool {
+        Pool {
+            routes: Vec::new(alloc),
+            given: 0,
+            items: Vec::new(alloc),
+            room: MessageRoom::new(alloc),
+        }
+    }
+
+    /// Another record is read.
+    pub(crate) fn restart(&mut self) {
+        self.given = 0;
+    }
+
+    /// Where the next route stands that may be filled. One that somebody else holds is let go.
+    fn next_place(&mut self, alloc: Global) -> Result<usize, AllocError>
+        ensures { IfOk result (λ place. place < vec_len self.new.routes) }
+    {
+        let place = self.given;
+        if place < self.routes.len() {
+            if Rc::strong_count(&self.routes[place]) != 1 {
+                self.routes[place] = new_route(alloc)?;
+            }
+            self.given = place + 1;
+            return Ok(place);
+        }
+        let place = self.routes.len();
+        self.routes.push(new_route(alloc)?)?;
+        self.given = self.routes.len();
+        Ok(place)
+    }
+
+    /// The route of a table's entry, with this time.
+    pub(crate) fn rib_route(
+        &mut self,
+        alloc: Global,
+        family: Family,
+        time: u32,
+        octets: &[u8],
+    ) -> Result<Rc<Route>, WireFault>
+        ensures attrs { IfOk result (λ route.
+            SpellsRibAttrs family Four route.value.attrs octets.now) }
+        ensures time { IfOk result (λ route. route.value.time ≡ time) }
+        ensures refused { IfErr result (Refuses (SpellsRibAttrs family Four) octets.now) }
+    {
+        if self.given >= MOST_ROUTES || octets.len() > LONGEST_KEPT {
+            let mut route = new_route(alloc)?;
+            fill_rib_route(&mut route, alloc, family, time, octets)?;
+            return Ok(route);
+        }
+        let place = self.next_place(alloc)?;
+        fill_rib_route(&mut self.routes[place], alloc, family, time, octets)?;
+        Ok(self.routes[place].clone()?)
+    }
+
+    /// A route of these attributes and this time. The memory of those that it had is kept.
+    pub(crate) fn route(
+        &mut self,
+        alloc: Global,
+        attrs: Attrs,
+        time: u32,
+    ) -> Result<Rc<Route>, AllocError>
+        ensures { IfOk result (λ route. route.value ≡ route_of attrs time) }
+    {
+        let place = self.next_place(alloc)?;
+        let route = Rc::make_mut(&mut self.routes[place])?;
+        let old = mem::replace(&mut route.attrs, attrs);
+        route.time = time;
+        self.room.keep_attrs(old);
+        self.routes[place].clone()
+    }
+
+    /// An empty vector with room for so many items.
+    pub(crate) fn take_items(
+        &mut self,
+        alloc: Global,
+        count: usize,
+    ) -> Result<Vec<Item>, AllocError>
+        ensures { IfOk result (λ items. items.items ≡ []) }
+    {
+        let mut items = mem::replace(&mut self.items, Vec::new(alloc));
+        items.clear();
+        items.reserve(count)?;
+        Ok(items)
+    }
+
+    /// Keeps the memory of the prefixes of a message.
+    pub(crate) fn keep_prefixes(&mut self, lists: [Prefixes; 4]) {
+        for prefixes in lists {
+            self.room.keep_prefixes(prefixes);
+        }
+    }
+
+    /// Keeps the room of items.
+    pub(crate) fn keep_items(&mut self, items: Vec<Item>) {
+        if items.capacity() <= MOST_ITEMS {
+            self.items = items;
+            self.items.clear();
+        }
+    }
+}
