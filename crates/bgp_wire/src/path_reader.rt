@@ -66,11 +66,7 @@ fn frame_segment(width: AsWidth, octets: &[u8]) -> Option<FramedSegment<'_>>
 /// The segment in front of the octets, with its numbers in the memory of others, and what follows
 /// it.
 #[inline(always)]
-fn read_segment(
-    old: Vec<u32>,
-    width: AsWidth,
-    octets: &[u8],
-) -> Result<(Segment, &[u8]), WireFault>
+fn read_segment(old: Vec<u32>, width: AsWidth, octets: &[u8]) -> Result<(Segment, &[u8]), WireFault>
     ensures found { IfOk result
         (λ found. Begins (SpellsSegment width) found.0 found.1.now octets.now) }
     ensures refused { IfErr result (RefusesFront (SpellsSegment width) octets.now) }

@@ -105,11 +105,7 @@ pub(crate) fn read_reach(
 }
 
 /// The prefixes of a family that are announced, and their next hop.
-fn read_unicast(
-    room: &mut MessageRoom,
-    family: Family,
-    octets: &[u8],
-) -> Result<Reach, WireFault>
+fn read_unicast(room: &mut MessageRoom, family: Family, octets: &[u8]) -> Result<Reach, WireFault>
     ensures { Reads (SpellsUnicast family) octets.now result }
 {
     let Some(framed) = split_next_hop(octets) else {

@@ -93,12 +93,7 @@ fn put_head(time: &Time, tag: Tag, text: &mut Text) -> Result<(), AllocError>
 
 /// Appends a bar and the time of a route's line, which for a table's entry is the route's own.
 #[inline]
-fn put_route_time(
-    time: &Time,
-    tag: Tag,
-    route: &Route,
-    text: &mut Text,
-) -> Result<(), AllocError>
+fn put_route_time(time: &Time, tag: Tag, route: &Route, text: &mut Text) -> Result<(), AllocError>
     ensures appended { OnOk result (text.new ≡
         text.old ++ (bar ∷ route_time_text time.now tag route.now)) }
     ensures kept { OnErr result (StillBegins text.old text.new) }
@@ -123,12 +118,7 @@ fn put_letter(tag: Tag, text: &mut Text) -> Result<(), AllocError>
 
 /// Appends the first three fields of a route's line.
 #[inline]
-fn put_route_head(
-    time: &Time,
-    tag: Tag,
-    route: &Route,
-    text: &mut Text,
-) -> Result<(), AllocError>
+fn put_route_head(time: &Time, tag: Tag, route: &Route, text: &mut Text) -> Result<(), AllocError>
     ensures appended { OnOk result (text.new ≡ text.old ++ (word tag ++
         bar ∷ (route_time_text time.now tag route.now ++ bar ∷ route_letter tag))) }
     ensures kept { OnErr result (StillBegins text.old text.new) }

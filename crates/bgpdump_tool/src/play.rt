@@ -165,11 +165,7 @@ fn carry_line<S: PrefixStore<Rc<Route>>, I: Input, O: Output, E: Output>(
 }
 
 /// Writes the report of a line that is no command. The text is scratch.
-fn write_line_report<E: Output>(
-    err: &mut E,
-    text: &mut Text,
-    number: u64,
-) -> Result<(), WriteFault>
+fn write_line_report<E: Output>(err: &mut E, text: &mut Text, number: u64) -> Result<(), WriteFault>
     ensures text { Puts (E.written err.old) (E.written err.new) (line_report number) result }
     ensures failed { E.failed err.new ≡ (E.failed err.old || is_write result) }
 {

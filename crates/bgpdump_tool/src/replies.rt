@@ -26,12 +26,7 @@ fn put_position(position: u64, ended: bool, text: &mut Text) -> Result<(), Alloc
 }
 
 /// Appends where the player stands, a word, and a number.
-fn put_counted(
-    position: u64,
-    word: &[u8],
-    number: u64,
-    text: &mut Text,
-) -> Result<(), AllocError>
+fn put_counted(position: u64, word: &[u8], number: u64, text: &mut Text) -> Result<(), AllocError>
     ensures { OnOk result
         (text.new ≡ text.old ++ counted_text position word.now number) }
 {

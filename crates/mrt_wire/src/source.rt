@@ -136,7 +136,14 @@ impl Source {
             Front::Record(header) => {
                 let body = self.frames.body(header.size);
                 self.pool.restart();
-                let judged = judge(self.alloc, &mut self.pool, self.stamp, &mut self.index, &header, body);
+                let judged = judge(
+                    self.alloc,
+                    &mut self.pool,
+                    self.stamp,
+                    &mut self.index,
+                    &header,
+                    body,
+                );
                 let answer = record_answer(self.number + 1, offset, judged)?;
                 self.number += 1;
                 Ok(answer)

@@ -114,7 +114,15 @@ fn items_of_update(
     add_withdrawals(&mut items, peer, &withdrawn)?;
     add_withdrawals(&mut items, peer, &mp_withdrawn)?;
     add_announcements(alloc, pool, &mut items, peer, seconds, attrs, &announced)?;
-    add_mp_announcements(alloc, pool, &mut items, peer, seconds, mp_attrs, &mp_announced)?;
+    add_mp_announcements(
+        alloc,
+        pool,
+        &mut items,
+        peer,
+        seconds,
+        mp_attrs,
+        &mp_announced,
+    )?;
     pool.keep_prefixes([withdrawn, mp_withdrawn, announced, mp_announced]);
     Ok(Items::from_vec(items))
 }

@@ -2,8 +2,9 @@
 
 use super::messages::{COMMON, update_of};
 use super::{MALFORMED, NOTHING, octets_of, shown};
-use crate::{AsWidth, Attrs, Message, MessageRoom, Update, WireFault, read_message_into};
-use crate::replace_rib_attrs;
+use crate::{
+    AsWidth, Attrs, Message, MessageRoom, Update, WireFault, read_message_into, replace_rib_attrs,
+};
 use ip_prefix::Family;
 use std::test::Fail;
 
@@ -18,7 +19,10 @@ const ROWS: [(&str, &str); 8] = [
     ("40010100 C00804 00010002", "|IGP||||1:2|NAG|"),
     ("C0FF05 00000000", MALFORMED),
     ("", NOTHING),
-    ("40020A 0202 00000001 00000002 40050400000005", "1 2|||5|||NAG|"),
+    (
+        "40020A 0202 00000001 00000002 40050400000005",
+        "1 2|||5|||NAG|",
+    ),
     ("400206 0300 00000007", MALFORMED),
     ("400206 0101 00000009 400600", "{9}||||||AG|"),
 ];
@@ -61,9 +65,19 @@ const COMMON_SHOWN: &str = "64500|IGP|192.0.2.9||||NAG|";
 const MESSAGES: [(&str, &str, &str, [usize; 3]); 5] = [
     ("080A 080B", "", "", [2, 0, 0]),
     ("", "", "080A 10C000", [0, 2, 0]),
-    ("", "800E1A 000201 10 20010DB8000000000000000000000001 00 2020010DB8", "", [0, 0, 1]),
+    (
+        "",
+        "800E1A 000201 10 20010DB8000000000000000000000001 00 2020010DB8",
+        "",
+        [0, 0, 1],
+    ),
     ("080A", "", "", [1, 0, 0]),
-    ("", "800E1A 000201 10 20010DB8000000000000000000000001 00 2020010DB8", "080A", [0, 1, 1]),
+    (
+        "",
+        "800E1A 000201 10 20010DB8000000000000000000000001 00 2020010DB8",
+        "080A",
+        [0, 1, 1],
+    ),
 ];
 
 #[test]

@@ -24,11 +24,7 @@ fn put_routes_line(routes: u64, text: &mut Text) -> Result<(), AllocError>
 }
 
 /// Writes how many routes there are. The text is scratch.
-fn write_routes_line<O: Output>(
-    routes: u64,
-    out: &mut O,
-    text: &mut Text,
-) -> Result<(), WriteFault>
+fn write_routes_line<O: Output>(routes: u64, out: &mut O, text: &mut Text) -> Result<(), WriteFault>
     ensures text { Puts (O.written out.old) (O.written out.new) (routes_line routes) result }
     ensures failed { O.failed out.new ≡ (O.failed out.old || is_write result) }
 {
