@@ -13,3 +13,4 @@ pub mod As4
 pub mod Reach
 pub mod Update
 pub mod Codes
+pub mod Parts

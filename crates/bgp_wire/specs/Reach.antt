@@ -7,7 +7,6 @@ use Rattle.ip_prefix.specs.Network.{Network}
 use Rattle.ip_prefix.specs.Sequences.{SpellsAll}
 use Rattle.ip_prefix.specs.Wire.{SpellsNetwork}
 use Rattle.bgp_wire.specs.declared.attrs.Attrs.{Attrs}
-use Rattle.bgp_wire.specs.declared.reach.Reach.{Reach}
 use Rattle.bgp_wire.specs.declared.next_hop.TheConstants.{FAMILY_SIZE}
 use Rattle.bgp_wire.specs.declared.reach.TheConstants.{AFI_IPV4, AFI_IPV6, SAFI_UNICAST}
 use Rattle.bgp_wire.specs.declared.reach.Scope.{Scope}
@@ -38,6 +37,11 @@ pub record HopStands (hop : Address) (rest octets : List ℕ) : Type 0 where
   pub spelled : SpellsNextHop hop front
   pub reserved : ℕ
   pub whole : octets ≡ length front ∷ (front ++ (reserved ∷ rest))
+
+-- prefixes that are announced with a next hop of their own
+pub record Reach : Type 0 where
+  pub hop : Address
+  pub prefixes : List Network
 
 -- behind the family, the octets of prefixes that are announced with a next hop
 pub record SpellsUnicast (family : Family) (reach : Reach) (octets : List ℕ) : Type 0 where
@@ -76,14 +80,19 @@ abbrev pub reach_prefixes : Option Reach → List Network
 reach_prefixes None = []
 reach_prefixes (Some reach) = reach.prefixes
 
--- their attributes, where there are any prefixes: the others with the next hop beside the prefixes
-abbrev pub attrs_with : Attrs → Reach → List Network → Option Attrs
-attrs_with attrs reach [] = None
-attrs_with attrs reach (prefix ∷ prefixes) = Some record attrs { next_hop = Some reach.hop }
+-- their next hop
+abbrev pub reach_hop : Option Reach → Option Address
+reach_hop None = None
+reach_hop (Some reach) = Some reach.hop
 
+-- attributes with this next hop, where there are prefixes
+abbrev pub attrs_with : Attrs → Option Address → List Network → Option Attrs
+attrs_with attrs hop [] = None
+attrs_with attrs hop (prefix ∷ prefixes) = Some record attrs { next_hop = hop }
+
+-- the attributes of what is announced, where there are any prefixes: the others with the next hop beside the prefixes
 abbrev pub reach_attrs : Attrs → Option Reach → Option Attrs
-reach_attrs attrs None = None
-reach_attrs attrs (Some reach) = attrs_with attrs reach reach.prefixes
+reach_attrs attrs reach = attrs_with attrs (reach_hop reach) (reach_prefixes reach)
 
 -- how the octets begin, as far as that is told by a family and its use; too few begin with neither
 abbrev pub BeginsIn : List ℕ → Option Scope → Type 0

@@ -7,7 +7,6 @@ use Rattle.ip_prefix.specs.Sequences.{SpellsAll}
 use Rattle.ip_prefix.specs.Wire.{SpellsNetwork}
 use Rattle.bgp_wire.specs.declared.path.AsWidth.{AsWidth}
 use Rattle.bgp_wire.specs.declared.attrs.Attrs.{Attrs}
-use Rattle.bgp_wire.specs.declared.reach.Reach.{Reach}
 use Rattle.bgp_wire.specs.declared.framing.TheConstants.{NEXT_HOP, MP_REACH_NLRI, MP_UNREACH_NLRI}
 use Rattle.bgp_wire.specs.declared.message.TheConstants.{MARKER_SIZE, UPDATE}
 use Rattle.bgp_wire.specs.declared.message.Update.{Update}
@@ -16,7 +15,7 @@ use Rattle.bgp_wire.specs.declared.message.Message.TheVariants as messages
 use Rattle.bgp_wire.specs.Attribute.{Attribute, SpellsAttributes, first_value, repeats}
 use Rattle.bgp_wire.specs.Value.{SpellsOptional, SpellsIPv4}
 use Rattle.bgp_wire.specs.Content.{Says}
-use Rattle.bgp_wire.specs.Reach.{SaysReach, SaysUnreach, reach_prefixes, reach_attrs}
+use Rattle.bgp_wire.specs.Reach.{Reach, SaysReach, SaysUnreach, reach_prefixes, reach_attrs}
 
 -- the octets are a message of a type, with this body; the marker may be any octets
 pub record IsMessage (kind : ℕ) (body octets : List ℕ) : Type 0 where

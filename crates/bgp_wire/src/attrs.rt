@@ -1,6 +1,6 @@
 //! The path attributes of a route.
 
-ghost use Rattle.std.specs.Prelude.{◌≡◌, [], IfOk};
+ghost use Rattle.std.specs.Prelude.{◌≡◌, [], IfOk, OnOk, OnErr};
 ghost use Rattle.bgp_wire.specs.Absent.{no_path, no_attrs, without_lists};
 
 use crate::path::AsPath;
@@ -127,20 +127,11 @@ impl Attrs {
     pub fn none(alloc: Global) -> Attrs
         ensures { result ≡ no_attrs }
     {
-        Attrs::over(Spare::none(alloc))
-    }
-
-    /// This path and these communities alone.
-    #[inline]
-    pub(crate) fn over(spare: Spare) -> Attrs
-        ensures { result ≡ record no_attrs { path = spare.path; communities = spare.communities } }
-    {
-        let Spare { path, communities } = spare;
         Attrs {
             next_hop: None,
             aggregator: None,
-            path,
-            communities,
+            path: AsPath::none(alloc),
+            communities: Communities::from_vec(Vec::new(alloc)),
             med: None,
             local_pref: None,
             origin: None,
@@ -177,6 +168,17 @@ impl Attrs {
             communities: mem::replace(&mut self.communities, none.communities),
         }
     }
+}
+
+/// Copies attributes in place of others, whose memory is used again. Refused, it leaves those
+/// without path and communities.
+pub fn replace_attrs(alloc: Global, attrs: &mut Attrs, other: &Attrs) -> Result<(), AllocError>
+    ensures replaced { OnOk result (attrs.new ≡ other.now) }
+    ensures left { OnErr result (attrs.new ≡ without_lists attrs.old) }
+{
+    let spare = attrs.take_spare(alloc);
+    *attrs = other.copied(alloc, spare)?;
+    Ok(())
 }
 
 impl Clone for Attrs {

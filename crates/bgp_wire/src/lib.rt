@@ -6,11 +6,11 @@ mod attrs;
 mod fault;
 mod framing;
 mod laws;
-mod memory;
 mod merge;
 mod message;
 mod next_hop;
 mod numbers;
+mod parts;
 mod path;
 mod path_reader;
 mod prefixes;
@@ -22,15 +22,15 @@ mod text;
 mod update;
 mod values;
 
-pub use attrs::{Aggregator, Attrs, Communities, Origin};
+pub use attrs::{Aggregator, Attrs, Communities, Origin, replace_attrs};
 pub use fault::WireFault;
 pub use laws::{
     attribute_numbers, merge_keeps_the_weight, one_attribute_list, one_merge, one_message,
     one_path, one_table_entry, text_marks,
 };
-pub use memory::MessageRoom;
 pub use merge::merge_paths;
-pub use message::{Message, Update, read_message, read_message_into};
+pub use message::{Message, Update, read_message, replace_message};
+pub use parts::{MessageKind, UpdateParts};
 pub use path::{AsNumbers, AsPath, AsWidth, Segment, SegmentKind, Segments};
 pub use prefixes::Prefixes;
 pub use rib_entry::{read_rib_attrs, replace_rib_attrs};

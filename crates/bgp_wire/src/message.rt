@@ -1,16 +1,17 @@
 //! BGP messages (RFC 4271, section 4).
 
-ghost use Rattle.std.specs.Prelude.{ℕ, List, IfSome, IfNone};
+ghost use Rattle.std.specs.Prelude.{◌≡◌, ℕ, List, Ok, IfSome, IfNone, IfOk, IfErr, OnErr};
 ghost use Rattle.bgp_wire.specs.Update.{IsMessage, SpellsMessage};
-ghost use Rattle.bgp_wire.specs.Reading.{Reads};
+ghost use Rattle.bgp_wire.specs.Reading.{Reads, Refuses};
+ghost use Rattle.bgp_wire.specs.Parts.{message_in, no_parts};
 
 use crate::attrs::Attrs;
 use crate::fault::WireFault;
-use crate::memory::MessageRoom;
 use crate::numbers::{LENGTH_SIZE, read_length};
+use crate::parts::{MessageKind, UpdateParts};
 use crate::path::AsWidth;
 use crate::prefixes::Prefixes;
-use crate::update::read_update;
+use crate::update::fill_update;
 use std::alloc::Global;
 
 /// A message.
@@ -79,21 +80,55 @@ fn frame_message(octets: &[u8]) -> Option<FramedMessage<'_>>
 pub fn read_message(alloc: Global, width: AsWidth, octets: &[u8]) -> Result<Message, WireFault>
     ensures { Reads (SpellsMessage width) octets.now result }
 {
-    read_message_into(&mut MessageRoom::new(alloc), width, octets)
+    let mut parts = UpdateParts::none(alloc);
+    match fill_message(alloc, &mut parts, width, octets)? {
+        MessageKind::Update => Ok(Message::Update(parts.into_update()?)),
+        MessageKind::Other(kind) => Ok(Message::Other(kind)),
+    }
 }
 
-/// The same, in the memory of messages before.
-pub fn read_message_into(
-    room: &mut MessageRoom,
+/// Makes the parts those of the message that the octets are, if it is an UPDATE. Refused, nothing
+/// is said of them.
+#[inline]
+fn fill_message(
+    alloc: Global,
+    parts: &mut UpdateParts,
     width: AsWidth,
     octets: &[u8],
-) -> Result<Message, WireFault>
-    ensures { Reads (SpellsMessage width) octets.now result }
+) -> Result<MessageKind, WireFault>
+    ensures filled { IfOk result (λ kind.
+        SpellsMessage width (message_in kind parts.new) octets.now) }
+    ensures refused { IfErr result (Refuses (SpellsMessage width) octets.now) }
+    ensures other { (kind : ℕ) → result ≡ Ok (MessageKind.Other kind) → parts.new ≡ parts.old }
 {
-    let framed = frame_message(octets).ok_or(WireFault::Malformed)?;
+    let Some(framed) = frame_message(octets) else {
+        return Err(WireFault::Malformed);
+    };
     if framed.kind != UPDATE {
-        return Ok(Message::Other(framed.kind));
+        return Ok(MessageKind::Other(framed.kind));
     }
-    let update = read_update(room, width, framed.body)?;
-    Ok(Message::Update(update))
+    fill_update(alloc, parts, width, framed.body)?;
+    Ok(MessageKind::Update)
+}
+
+/// Reads the message that the octets are, and puts the parts of an UPDATE in place of those that
+/// aren't needed any more, whose memory is used again. A message of another type leaves them; one
+/// that is refused leaves none.
+pub fn replace_message(
+    alloc: Global,
+    parts: &mut UpdateParts,
+    width: AsWidth,
+    octets: &[u8],
+) -> Result<MessageKind, WireFault>
+    ensures replaced { IfOk result (λ kind.
+        SpellsMessage width (message_in kind parts.new) octets.now) }
+    ensures refused { IfErr result (Refuses (SpellsMessage width) octets.now) }
+    ensures other { (kind : ℕ) → result ≡ Ok (MessageKind.Other kind) → parts.new ≡ parts.old }
+    ensures left { OnErr result (parts.new ≡ no_parts) }
+{
+    let result = fill_message(alloc, parts, width, octets);
+    if result.is_err() {
+        *parts = UpdateParts::none(alloc);
+    }
+    result
 }

@@ -1,12 +1,11 @@
 //! Lists of prefixes.
 
-ghost use Rattle.std.specs.Prelude.{◌≡◌, []};
+ghost use Rattle.std.specs.Prelude.{◌≡◌, [], OnOk, IfErr};
 ghost use Rattle.ip_prefix.specs.Sequences.{SpellsAll};
 ghost use Rattle.ip_prefix.specs.Wire.{SpellsNetwork};
-ghost use Rattle.bgp_wire.specs.Reading.{Reads};
+ghost use Rattle.bgp_wire.specs.Reading.{Refuses};
 
 use crate::fault::WireFault;
-use crate::memory::MessageRoom;
 use ip_prefix::{Family, Prefix};
 use std::alloc::Global;
 use std::marker::Model;
@@ -43,6 +42,14 @@ impl Prefixes {
         Prefixes::from_vec(Vec::new(alloc))
     }
 
+    /// Takes all prefixes away. Their room stays.
+    #[inline]
+    pub(crate) fn clear(&mut self)
+        ensures { self.new ≡ [] }
+    {
+        self.prefixes.clear();
+    }
+
     /// The prefixes as a vector.
     #[inline]
     pub fn into_vec(self) -> Vec<Prefix>
@@ -61,24 +68,24 @@ impl Prefixes {
     }
 }
 
-/// The prefixes of a family that the octets are, one behind the other (RFC 4271, section 4.3).
-pub(crate) fn read_prefixes(
-    room: &mut MessageRoom,
+/// Makes the prefixes those of a family that the octets are, one behind the other (RFC 4271,
+/// section 4.3). Refused, nothing is said of them.
+pub(crate) fn fill_prefixes(
+    prefixes: &mut Prefixes,
     family: Family,
     octets: &[u8],
-) -> Result<Prefixes, WireFault>
-    ensures { Reads (SpellsAll (SpellsNetwork family)) octets.now result }
+) -> Result<(), WireFault>
+    ensures filled { OnOk result (SpellsAll (SpellsNetwork family) prefixes.new octets.now) }
+    ensures refused { IfErr result (Refuses (SpellsAll (SpellsNetwork family)) octets.now) }
 {
-    if octets.is_empty() {
-        return Ok(Prefixes::none(room.alloc));
-    }
-    let mut prefixes = room.take_prefixes();
+    let list = &mut prefixes.prefixes;
+    list.clear();
     let mut rest = octets;
     while !rest.is_empty() {
         let (prefix, size) = Prefix::read(family, rest).ok_or(WireFault::Malformed)?;
-        prefixes.push(prefix)?;
+        list.push(prefix)?;
         let (_, more) = rest.split_at(size);
         rest = more;
     }
-    Ok(Prefixes::from_vec(prefixes))
+    Ok(())
 }

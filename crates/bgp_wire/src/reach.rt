@@ -1,16 +1,15 @@
 //! Reading what MP_REACH_NLRI and MP_UNREACH_NLRI of an UPDATE say (RFC 4760, sections 3 and 4).
 
-ghost use Rattle.std.specs.Prelude.{◌≡◌, ℕ, List, IfSome, IfNone};
+ghost use Rattle.std.specs.Prelude.{◌≡◌, ℕ, List, Option, IfSome, IfNone, IfOk, IfErr, OnOk};
 ghost use Rattle.ip_prefix.specs.Address.{Address};
 ghost use Rattle.bgp_wire.specs.FirstValues.{octets_of};
 ghost use Rattle.bgp_wire.specs.Reach.{unicast_octets, BeginsIn, HopStands, SpellsUnicast};
-ghost use Rattle.bgp_wire.specs.Reach.{SaysReach, SaysUnreach};
-ghost use Rattle.bgp_wire.specs.Reading.{Finds, Reads};
+ghost use Rattle.bgp_wire.specs.Reach.{Reach, SaysReach, SaysUnreach, reach_hop, reach_prefixes};
+ghost use Rattle.bgp_wire.specs.Reading.{Finds, Refuses};
 
 use crate::fault::WireFault;
-use crate::memory::MessageRoom;
 use crate::next_hop::{FAMILY_SIZE, read_next_hop};
-use crate::prefixes::{Prefixes, read_prefixes};
+use crate::prefixes::{Prefixes, fill_prefixes};
 use ip_prefix::{Addr, Family};
 
 /// The number of IPv4 among address families (RFC 4760, section 3), which is sent in two octets.
@@ -19,13 +18,6 @@ const AFI_IPV4: u8 = 1;
 const AFI_IPV6: u8 = 2;
 /// The number of unicast among subsequent address families (RFC 4760, section 6).
 const SAFI_UNICAST: u8 = 1;
-
-/// Prefixes that are announced with a next hop of their own.
-#[derive(Debug, Drop)]
-pub(crate) struct Reach {
-    pub(crate) hop: Addr,
-    pub(crate) prefixes: Prefixes,
-}
 
 /// How the value of MP_REACH_NLRI or of MP_UNREACH_NLRI begins.
 #[derive(Clone, Copy)]
@@ -85,52 +77,57 @@ fn split_next_hop(octets: &[u8]) -> Option<FramedHop<'_>>
     Some(FramedHop { hop, rest })
 }
 
-/// What MP_REACH_NLRI announces. Nothing is announced where it is absent or of another family.
-pub(crate) fn read_reach(
-    room: &mut MessageRoom,
+/// Makes the next hop and the prefixes those that MP_REACH_NLRI announces. There are none where it
+/// is absent or of another family. Refused, nothing is said of them.
+pub(crate) fn fill_reach(
+    next_hop: &mut Option<Addr>,
+    prefixes: &mut Prefixes,
     value: Option<&[u8]>,
-) -> Result<Option<Reach>, WireFault>
-    ensures { Reads SaysReach (octets_of value.entry) result }
+) -> Result<(), WireFault>
+    ensures filled { OnOk result ((reach : Option Reach) × SaysReach reach (octets_of value.entry)
+        × (next_hop.new ≡ reach_hop reach) × (prefixes.new ≡ reach_prefixes reach)) }
+    ensures refused { IfErr result (Refuses SaysReach (octets_of value.entry)) }
 {
+    *next_hop = None;
+    prefixes.clear();
     let Some(octets) = value else {
-        return Ok(None);
+        return Ok(());
     };
     match read_scope(octets).ok_or(WireFault::Malformed)? {
-        Scope::Another => Ok(None),
+        Scope::Another => Ok(()),
         Scope::Unicast(family, rest) => {
-            let reach = read_unicast(room, family, rest)?;
-            Ok(Some(reach))
+            let hop = fill_unicast(prefixes, family, rest)?;
+            *next_hop = Some(hop);
+            Ok(())
         }
     }
 }
 
-/// The prefixes of a family that are announced, and their next hop.
-fn read_unicast(room: &mut MessageRoom, family: Family, octets: &[u8]) -> Result<Reach, WireFault>
-    ensures { Reads (SpellsUnicast family) octets.now result }
+/// Makes the prefixes those of a family that are announced, and answers their next hop.
+fn fill_unicast(prefixes: &mut Prefixes, family: Family, octets: &[u8]) -> Result<Addr, WireFault>
+    ensures filled { IfOk result (λ hop.
+        SpellsUnicast family record { hop = hop; prefixes = prefixes.new } octets.now) }
+    ensures refused { IfErr result (Refuses (SpellsUnicast family) octets.now) }
 {
     let Some(framed) = split_next_hop(octets) else {
         return Err(WireFault::Malformed);
     };
-    let prefixes = read_prefixes(room, family, framed.rest)?;
-    Ok(Reach {
-        hop: framed.hop,
-        prefixes,
-    })
+    fill_prefixes(prefixes, family, framed.rest)?;
+    Ok(framed.hop)
 }
 
-/// The prefixes that MP_UNREACH_NLRI withdraws. There are none where it is absent or of another
-/// family.
-pub(crate) fn read_unreach(
-    room: &mut MessageRoom,
-    value: Option<&[u8]>,
-) -> Result<Prefixes, WireFault>
-    ensures { Reads SaysUnreach (octets_of value.entry) result }
+/// Makes the prefixes those that MP_UNREACH_NLRI withdraws. There are none where it is absent or
+/// of another family. Refused, nothing is said of them.
+pub(crate) fn fill_unreach(prefixes: &mut Prefixes, value: Option<&[u8]>) -> Result<(), WireFault>
+    ensures filled { OnOk result (SaysUnreach prefixes.new (octets_of value.entry)) }
+    ensures refused { IfErr result (Refuses SaysUnreach (octets_of value.entry)) }
 {
+    prefixes.clear();
     let Some(octets) = value else {
-        return Ok(Prefixes::none(room.alloc));
+        return Ok(());
     };
     match read_scope(octets).ok_or(WireFault::Malformed)? {
-        Scope::Another => Ok(Prefixes::none(room.alloc)),
-        Scope::Unicast(family, rest) => read_prefixes(room, family, rest),
+        Scope::Another => Ok(()),
+        Scope::Unicast(family, rest) => fill_prefixes(prefixes, family, rest),
     }
 }

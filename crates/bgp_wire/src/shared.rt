@@ -1,13 +1,13 @@
 //! The values of path attributes that RIB entries and messages share.
 
-ghost use Rattle.std.specs.Prelude.{◌≡◌, List, OnOk, IfErr};
+ghost use Rattle.std.specs.Prelude.{List, OnOk, IfErr};
 ghost use Rattle.bgp_wire.specs.Attribute.{Attribute};
-ghost use Rattle.bgp_wire.specs.Content.{Says, SaysWith};
-ghost use Rattle.bgp_wire.specs.FirstValues.{Holds, ReadsList};
+ghost use Rattle.bgp_wire.specs.Content.{SaysWith};
+ghost use Rattle.bgp_wire.specs.FirstValues.{Holds};
 ghost use Rattle.bgp_wire.specs.Reading.{Refuses};
 
 use crate::as4::read_passed;
-use crate::attrs::{Attrs, Communities, Spare};
+use crate::attrs::{Attrs, Communities};
 use crate::fault::WireFault;
 use crate::framing::{
     ATOMIC_AGGREGATE, COMMUNITIES, FirstValues, LOCAL_PREF, MULTI_EXIT_DISC, ORIGIN,
@@ -46,19 +46,4 @@ pub(crate) fn fill_shared(
     attrs.path = passed.path;
     attrs.communities = Communities::from_vec(communities);
     Ok(())
-}
-
-/// The attributes with these values, and with this next hop, in memory that is spare.
-pub(crate) fn read_shared(
-    alloc: Global,
-    spare: Spare,
-    width: AsWidth,
-    values: &FirstValues,
-    next_hop: Option<Addr>,
-) -> Result<Attrs, WireFault>
-    ensures { ReadsList (SaysWith width next_hop) values.now result }
-{
-    let mut attrs = Attrs::over(spare);
-    fill_shared(alloc, &mut attrs, width, values, next_hop)?;
-    Ok(attrs)
 }

@@ -1,24 +1,23 @@
 //! Reading UPDATE messages (RFC 4271, section 4.3).
 
-ghost use Rattle.std.specs.Prelude.{◌≡◌, ℕ, ◌<◌, ◌^◌, ◌++◌, List, length, IfSome, IfNone, IfOk};
-ghost use Rattle.bgp_wire.specs.FirstValues.{ReadsList};
-ghost use Rattle.bgp_wire.specs.Reach.{reach_prefixes, reach_attrs};
-ghost use Rattle.bgp_wire.specs.Reading.{Reads};
-ghost use Rattle.bgp_wire.specs.Update.{sized_octets, IsUpdate, SaysTogether, SpellsUpdate};
+ghost use Rattle.std.specs.Prelude.{◌≡◌, ℕ, ◌<◌, ◌^◌, ◌++◌, List, length, IfSome, IfNone, IfErr, OnOk};
+ghost use Rattle.bgp_wire.specs.Attribute.{Attribute};
+ghost use Rattle.bgp_wire.specs.FirstValues.{Holds};
+ghost use Rattle.bgp_wire.specs.Parts.{update_in, SaysParts};
+ghost use Rattle.bgp_wire.specs.Reading.{Refuses};
+ghost use Rattle.bgp_wire.specs.Update.{sized_octets, IsUpdate, SpellsUpdate};
 
-use crate::attrs::Attrs;
 use crate::fault::WireFault;
 use crate::framing::{FirstValues, MP_REACH_NLRI, MP_UNREACH_NLRI, NEXT_HOP};
-use crate::memory::MessageRoom;
-use crate::message::Update;
 use crate::numbers::{LENGTH_SIZE, read_length};
+use crate::parts::UpdateParts;
 use crate::path::AsWidth;
-use crate::prefixes::{Prefixes, read_prefixes};
-use crate::reach::{Reach, read_reach, read_unreach};
-use crate::shared::read_shared;
+use crate::prefixes::fill_prefixes;
+use crate::reach::{fill_reach, fill_unreach};
+use crate::shared::fill_shared;
 use crate::values::read_ipv4;
 use ip_prefix::Family;
-use std::alloc::AllocError;
+use std::alloc::Global;
 
 /// The body of an UPDATE as it is framed: the octets of its withdrawn prefixes, of its attributes
 /// and of its announced prefixes.
@@ -64,103 +63,52 @@ fn frame_update(body: &[u8]) -> Option<FramedUpdate<'_>>
     })
 }
 
-/// What the attributes of an UPDATE say: the attributes themselves, and the prefixes in them.
-#[derive(Debug, Drop)]
-struct Said {
-    attrs: Attrs,
-    reach: Option<Reach>,
-    withdrawn: Prefixes,
-}
-
-/// What the attributes of an UPDATE with these values say.
+/// Makes the parts those that attributes with these values say. Refused, nothing is said of them.
 #[inline]
-fn read_said(
-    room: &mut MessageRoom,
+fn fill_said(
+    alloc: Global,
+    parts: &mut UpdateParts,
     width: AsWidth,
     values: &FirstValues,
-) -> Result<Said, WireFault>
-    ensures { ReadsList (λ said. SaysTogether width said.attrs said.reach said.withdrawn)
-        values.now result }
+) -> Result<(), WireFault>
+    ensures filled { OnOk result ((list : List Attribute) → Holds values.now list →
+        SaysParts width parts.new list) }
+    ensures refused { IfErr result (λ fault. (list : List Attribute) → Holds values.now list →
+        Refuses (SaysParts width) list fault) }
 {
     if values.repeats(MP_REACH_NLRI) || values.repeats(MP_UNREACH_NLRI) {
         return Err(WireFault::Malformed);
     }
     let next_hop = read_ipv4(values.first(NEXT_HOP))?;
-    let attrs = read_shared(room.alloc, room.take_spare(), width, values, next_hop)?;
-    let reach = read_reach(room, values.first(MP_REACH_NLRI))?;
-    let withdrawn = read_unreach(room, values.first(MP_UNREACH_NLRI))?;
-    Ok(Said {
-        attrs,
-        reach,
-        withdrawn,
-    })
+    fill_shared(alloc, &mut parts.attrs, width, values, next_hop)?;
+    fill_reach(
+        &mut parts.mp_hop,
+        &mut parts.mp_announced,
+        values.first(MP_REACH_NLRI),
+    )?;
+    fill_unreach(&mut parts.mp_withdrawn, values.first(MP_UNREACH_NLRI))?;
+    Ok(())
 }
 
-/// The prefixes that MP_REACH_NLRI announces, and their attributes, where there are any.
-#[derive(Debug, Drop)]
-struct MpAnnounced {
-    attrs: Option<Attrs>,
-    prefixes: Prefixes,
-}
-
-/// The prefixes that MP_REACH_NLRI announces. Their attributes are copied from the others, where
-/// there are any prefixes.
+/// Makes the parts those of the UPDATE whose body the octets are, with AS numbers of this width in
+/// AS_PATH. Refused, nothing is said of them.
 #[inline]
-fn share_attrs(
-    room: &mut MessageRoom,
-    attrs: &Attrs,
-    reach: Option<Reach>,
-) -> Result<MpAnnounced, AllocError>
-    ensures { IfOk result (λ mp.
-        (mp.prefixes ≡ reach_prefixes reach) × (mp.attrs ≡ reach_attrs attrs.now reach)) }
-{
-    let Some(reach) = reach else {
-        return Ok(MpAnnounced {
-            attrs: None,
-            prefixes: Prefixes::none(room.alloc),
-        });
-    };
-    let Reach { hop, prefixes } = reach;
-    if prefixes.as_slice().is_empty() {
-        return Ok(MpAnnounced {
-            attrs: None,
-            prefixes,
-        });
-    }
-    let mut copy = attrs.copied(room.alloc, room.take_spare())?;
-    copy.next_hop = Some(hop);
-    Ok(MpAnnounced {
-        attrs: Some(copy),
-        prefixes,
-    })
-}
-
-/// The UPDATE whose body the octets are, with AS numbers of this width in AS_PATH.
-#[inline]
-pub(crate) fn read_update(
-    room: &mut MessageRoom,
+pub(crate) fn fill_update(
+    alloc: Global,
+    parts: &mut UpdateParts,
     width: AsWidth,
     body: &[u8],
-) -> Result<Update, WireFault>
-    ensures { Reads (SpellsUpdate width) body.now result }
+) -> Result<(), WireFault>
+    ensures filled { OnOk result (SpellsUpdate width (update_in parts.new) body.now) }
+    ensures refused { IfErr result (Refuses (SpellsUpdate width) body.now) }
 {
-    let framed = frame_update(body).ok_or(WireFault::Malformed)?;
-    let withdrawn = read_prefixes(room, Family::V4, framed.withdrawn)?;
+    let Some(framed) = frame_update(body) else {
+        return Err(WireFault::Malformed);
+    };
     let mut values = FirstValues::none();
     values.note_all(framed.attributes)?;
-    let Said {
-        attrs,
-        reach,
-        withdrawn: mp_withdrawn,
-    } = read_said(room, width, &values)?;
-    let announced = read_prefixes(room, Family::V4, framed.announced)?;
-    let mp = share_attrs(room, &attrs, reach)?;
-    Ok(Update {
-        withdrawn,
-        mp_withdrawn,
-        attrs,
-        announced,
-        mp_attrs: mp.attrs,
-        mp_announced: mp.prefixes,
-    })
+    fill_said(alloc, parts, width, &values)?;
+    fill_prefixes(&mut parts.withdrawn, Family::V4, framed.withdrawn)?;
+    fill_prefixes(&mut parts.announced, Family::V4, framed.announced)?;
+    Ok(())
 }

@@ -7,7 +7,7 @@ ghost use Rattle.bgp_wire.specs.Reading.{Refuses};
 ghost use Rattle.mrt_wire.specs.Items.{route_of};
 
 use crate::event::{Item, Route};
-use bgp_wire::{AsWidth, Attrs, MessageRoom, Prefixes, WireFault, replace_rib_attrs};
+use bgp_wire::{AsWidth, Attrs, UpdateParts, WireFault, replace_attrs, replace_rib_attrs};
 use ip_prefix::Family;
 use std::alloc::{AllocError, Global};
 use std::mem;
@@ -22,16 +22,22 @@ const LONGEST_KEPT: usize = 1024;
 /// How many items a vector that is kept has room for at most.
 const MOST_ITEMS: usize = 4096;
 
-/// The routes that were given out, to be filled again where nobody else holds them any more, and
-/// room for items.
+/// The routes that were given out, to be filled again where nobody else holds them any more.
 #[derive(Drop)]
-pub(crate) struct Pool {
+pub(crate) struct RoutePool {
     routes: Vec<Rc<Route>>,
     /// How many of them were given out for the record that is read.
     given: usize,
-    items: Vec<Item>,
+}
+
+/// What records are read into.
+#[derive(Drop)]
+pub(crate) struct Pool {
+    pub(crate) routes: RoutePool,
     /// Where messages are read.
-    pub(crate) room: MessageRoom,
+    pub(crate) parts: UpdateParts,
+    /// Room for items.
+    items: Vec<Item>,
 }
 
 /// A route without attributes.
@@ -58,17 +64,7 @@ fn fill_rib_route(
     Ok(())
 }
 
-impl Pool {
-    /// Without any routes.
-    pub(crate) fn new(alloc: Global) -> Pool {
-        Pool {
-            routes: Vec::new(alloc),
-            given: 0,
-            items: Vec::new(alloc),
-            room: MessageRoom::new(alloc),
-        }
-    }
-
+impl RoutePool {
     /// Another record is read.
     pub(crate) fn restart(&mut self) {
         self.given = 0;
@@ -115,21 +111,50 @@ impl Pool {
         Ok(self.routes[place].clone()?)
     }
 
-    /// A route of these attributes and this time. The memory of those that it had is kept.
+    /// A route of these attributes and this time. Others that aren't needed are given for them.
     pub(crate) fn route(
         &mut self,
         alloc: Global,
-        attrs: Attrs,
+        attrs: &mut Attrs,
         time: u32,
     ) -> Result<Rc<Route>, AllocError>
-        ensures { IfOk result (λ route. route.value ≡ route_of attrs time) }
+        ensures { IfOk result (λ route. route.value ≡ route_of attrs.old time) }
     {
         let place = self.next_place(alloc)?;
         let route = Rc::make_mut(&mut self.routes[place])?;
-        let old = mem::replace(&mut route.attrs, attrs);
+        mem::swap(&mut route.attrs, attrs);
         route.time = time;
-        self.room.keep_attrs(old);
         self.routes[place].clone()
+    }
+
+    /// A route of these attributes and this time, which are copied.
+    pub(crate) fn route_like(
+        &mut self,
+        alloc: Global,
+        attrs: &Attrs,
+        time: u32,
+    ) -> Result<Rc<Route>, AllocError>
+        ensures { IfOk result (λ route. route.value ≡ route_of attrs.now time) }
+    {
+        let place = self.next_place(alloc)?;
+        let route = Rc::make_mut(&mut self.routes[place])?;
+        replace_attrs(alloc, &mut route.attrs, attrs)?;
+        route.time = time;
+        self.routes[place].clone()
+    }
+}
+
+impl Pool {
+    /// Without any memory.
+    pub(crate) fn new(alloc: Global) -> Pool {
+        Pool {
+            routes: RoutePool {
+                routes: Vec::new(alloc),
+                given: 0,
+            },
+            parts: UpdateParts::none(alloc),
+            items: Vec::new(alloc),
+        }
     }
 
     /// An empty vector with room for so many items.
@@ -138,19 +163,13 @@ impl Pool {
         alloc: Global,
         count: usize,
     ) -> Result<Vec<Item>, AllocError>
-        ensures { IfOk result (λ items. items.items ≡ []) }
+        ensures items { IfOk result (λ items. items.items ≡ []) }
+        ensures parts { self.new.parts ≡ self.old.parts }
     {
         let mut items = mem::replace(&mut self.items, Vec::new(alloc));
         items.clear();
         items.reserve(count)?;
         Ok(items)
-    }
-
-    /// Keeps the memory of the prefixes of a message.
-    pub(crate) fn keep_prefixes(&mut self, lists: [Prefixes; 4]) {
-        for prefixes in lists {
-            self.room.keep_prefixes(prefixes);
-        }
     }
 
     /// Keeps the room of items.

@@ -96,7 +96,9 @@ fn read_entry<'a>(
         return Err(WireFault::Malformed);
     };
     let time = time_of(snapshot, framed.time);
-    let route = pool.rib_route(alloc, family, time, framed.attributes)?;
+    let route = pool
+        .routes
+        .rib_route(alloc, family, time, framed.attributes)?;
     let entry = ReadEntry {
         route,
         originated: framed.time,

@@ -16,7 +16,7 @@ use crate::peer::Peer;
 use crate::pool::Pool;
 use crate::profile::{SessionForm, SessionKind};
 use crate::update::{items_of_change, items_of_message};
-use bgp_wire::{AsWidth, WireFault, read_message_into};
+use bgp_wire::{AsWidth, WireFault, replace_message};
 use ip_prefix::{Addr, Family};
 use std::alloc::Global;
 
@@ -25,6 +25,9 @@ const INTERFACE_SIZE: usize = 2;
 
 /// How many microseconds make a second.
 const MICROS_PER_SECOND: u32 = 1_000_000;
+
+/// How many octets a message and its peer have at most that is read into memory that stays.
+const LONGEST_KEPT: usize = 4096;
 
 /// A peer's old and new state (RFC 4271, section 8.2.2).
 #[derive(Clone, Copy, Debug)]
@@ -166,9 +169,26 @@ fn read_peer_message(
     let Some(session) = split_session_peer(width, octets) else {
         return Err(WireFault::Malformed);
     };
-    let message = read_message_into(&mut pool.room, width, session.rest)?;
-    let items = items_of_message(alloc, pool, &session.value, seconds, message)?;
+    let kind = replace_message(alloc, &mut pool.parts, width, session.rest)?;
+    let items = items_of_message(alloc, pool, &session.value, seconds, kind)?;
     Ok(items)
+}
+
+/// The same. A long message is read into memory of its own, which nobody keeps.
+#[inline]
+fn read_long_or_short(
+    alloc: Global,
+    pool: &mut Pool,
+    seconds: u32,
+    width: AsWidth,
+    octets: &[u8],
+) -> Result<Items, WireFault>
+    ensures { Reads (Told (SpellsPeerMessage width) (receipt_items seconds)) octets.now result }
+{
+    if octets.len() > LONGEST_KEPT {
+        return read_peer_message(alloc, &mut Pool::new(alloc), seconds, width, octets);
+    }
+    read_peer_message(alloc, pool, seconds, width, octets)
 }
 
 /// The microseconds in front, and what follows them.
@@ -208,7 +228,7 @@ fn read_happening(
 {
     match kind {
         SessionKind::StateChange => read_change(alloc, width, octets),
-        SessionKind::Message => read_peer_message(alloc, pool, seconds, width, octets),
+        SessionKind::Message => read_long_or_short(alloc, pool, seconds, width, octets),
     }
 }
 

@@ -135,7 +135,7 @@ impl Source {
         match self.frames.take_record(input)? {
             Front::Record(header) => {
                 let body = self.frames.body(header.size);
-                self.pool.restart();
+                self.pool.routes.restart();
                 let judged = judge(
                     self.alloc,
                     &mut self.pool,

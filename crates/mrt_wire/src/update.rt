@@ -1,15 +1,18 @@
 //! What messages say of routes.
 
-ghost use Rattle.std.specs.Prelude.{◌≡◌, ◌++◌, ◌∷◌, [], map, OnOk, IfOk};
+ghost use Rattle.std.specs.Prelude.{◌≡◌, ◌++◌, ◌∷◌, [], true, map, OnOk, IfOk};
+ghost use Rattle.bgp_wire.specs.Parts.{message_in, update_in};
+ghost use Rattle.bgp_wire.specs.Reach.{attrs_with};
 ghost use Rattle.mrt_wire.specs.Event.{Withdrawn, Changed, saying};
 ghost use Rattle.mrt_wire.specs.Items.{announcements, mp_announcements, message_items, route_of, update_items};
 ghost use Rattle.mrt_wire.specs.Judging.{Adds};
 
 use crate::event::{Item, Items, Route};
 use crate::peer::Peer;
-use crate::pool::Pool;
+use crate::pool::{Pool, RoutePool};
 use crate::session::StateChange;
-use bgp_wire::{Attrs, Message, Prefixes, Update};
+use bgp_wire::{Attrs, MessageKind, Prefixes, UpdateParts};
+use ip_prefix::Addr;
 use std::alloc::{AllocError, Global};
 use std::rc::Rc;
 
@@ -45,102 +48,123 @@ fn share_route(
     Ok(())
 }
 
-/// Adds what announcements of the prefixes with these attributes say. No route is made for none.
+/// Adds what announcements of the prefixes with these attributes say, which are given away unless
+/// they are kept. No route is made for none.
 fn add_announcements(
     alloc: Global,
-    pool: &mut Pool,
+    routes: &mut RoutePool,
     items: &mut Vec<Item>,
     peer: &Peer,
     seconds: u32,
-    attrs: Attrs,
+    attrs: &mut Attrs,
+    is_kept: bool,
     prefixes: &Prefixes,
 ) -> Result<(), AllocError>
-    ensures { OnOk result (Adds items.old.items items.new.items
-        (announcements peer.now (route_of attrs seconds) prefixes.now)) }
+    ensures added { OnOk result (Adds items.old.items items.new.items
+        (announcements peer.now (route_of attrs.old seconds) prefixes.now)) }
+    ensures kept { is_kept ≡ true → attrs.new ≡ attrs.old }
 {
     if prefixes.as_slice().is_empty() {
-        pool.room.keep_attrs(attrs);
         return Ok(());
     }
-    let route = pool.route(alloc, attrs, seconds)?;
+    let route = if is_kept {
+        routes.route_like(alloc, attrs, seconds)?
+    } else {
+        routes.route(alloc, attrs, seconds)?
+    };
     share_route(items, peer, &route, prefixes)
 }
 
-/// Adds what MP_REACH_NLRI announces.
+/// Adds what announcements of the prefixes with these attributes and this next hop say. The
+/// attributes are given away.
 fn add_mp_announcements(
     alloc: Global,
-    pool: &mut Pool,
+    routes: &mut RoutePool,
     items: &mut Vec<Item>,
     peer: &Peer,
     seconds: u32,
-    attrs: Option<Attrs>,
+    attrs: &mut Attrs,
+    next_hop: Option<Addr>,
     prefixes: &Prefixes,
 ) -> Result<(), AllocError>
     ensures { OnOk result (Adds items.old.items items.new.items
-        (mp_announcements peer.now seconds attrs prefixes.now)) }
+        (mp_announcements peer.now seconds (attrs_with attrs.old next_hop prefixes.now)
+        prefixes.now)) }
 {
-    match attrs {
-        Some(attrs) => add_announcements(alloc, pool, items, peer, seconds, attrs, prefixes),
-        None => Ok(()),
+    if prefixes.as_slice().is_empty() {
+        return Ok(());
     }
+    attrs.next_hop = next_hop;
+    add_announcements(alloc, routes, items, peer, seconds, attrs, false, prefixes)
 }
 
-/// What an UPDATE says.
+/// How many prefixes an UPDATE of these parts names, or `usize::MAX` where more.
+#[inline]
+fn prefix_count(parts: &UpdateParts) -> usize {
+    let withdrawn = [&parts.withdrawn, &parts.mp_withdrawn];
+    let announced = [&parts.announced, &parts.mp_announced];
+    withdrawn
+        .into_iter()
+        .chain(announced)
+        .fold(0usize, |count, prefixes| {
+            count.saturating_add(prefixes.as_slice().len())
+        })
+}
+
+/// What the UPDATE says that was read last. Its attributes are given away.
 #[inline]
 fn items_of_update(
     alloc: Global,
     pool: &mut Pool,
     peer: &Peer,
     seconds: u32,
-    update: Update,
 ) -> Result<Items, AllocError>
-    ensures { IfOk result (λ items. items ≡ update_items peer.now seconds update) }
+    ensures { IfOk result (λ items.
+        items ≡ update_items peer.now seconds (update_in pool.old.parts)) }
 {
-    let Update {
-        withdrawn,
-        mp_withdrawn,
-        attrs,
-        announced,
-        mp_attrs,
-        mp_announced,
-    } = update;
-    let count = [&withdrawn, &mp_withdrawn, &announced, &mp_announced]
-        .into_iter()
-        .fold(
-            0usize,
-            |count, prefixes| count.saturating_add(prefixes.as_slice().len()),
-        );
+    let count = prefix_count(&pool.parts);
     let mut items = pool.take_items(alloc, count)?;
-    add_withdrawals(&mut items, peer, &withdrawn)?;
-    add_withdrawals(&mut items, peer, &mp_withdrawn)?;
-    add_announcements(alloc, pool, &mut items, peer, seconds, attrs, &announced)?;
-    add_mp_announcements(
+    add_withdrawals(&mut items, peer, &pool.parts.withdrawn)?;
+    add_withdrawals(&mut items, peer, &pool.parts.mp_withdrawn)?;
+    let is_kept = !pool.parts.mp_announced.as_slice().is_empty();
+    add_announcements(
         alloc,
-        pool,
+        &mut pool.routes,
         &mut items,
         peer,
         seconds,
-        mp_attrs,
-        &mp_announced,
+        &mut pool.parts.attrs,
+        is_kept,
+        &pool.parts.announced,
     )?;
-    pool.keep_prefixes([withdrawn, mp_withdrawn, announced, mp_announced]);
+    add_mp_announcements(
+        alloc,
+        &mut pool.routes,
+        &mut items,
+        peer,
+        seconds,
+        &mut pool.parts.attrs,
+        pool.parts.mp_hop,
+        &pool.parts.mp_announced,
+    )?;
     Ok(Items::from_vec(items))
 }
 
-/// What a message says.
+/// What the message says that was read last.
 #[inline]
 pub(crate) fn items_of_message(
     alloc: Global,
     pool: &mut Pool,
     peer: &Peer,
     seconds: u32,
-    message: Message,
+    kind: MessageKind,
 ) -> Result<Items, AllocError>
-    ensures { IfOk result (λ items. items ≡ message_items peer.now seconds message) }
+    ensures { IfOk result (λ items.
+        items ≡ message_items peer.now seconds (message_in kind pool.old.parts)) }
 {
-    match message {
-        Message::Update(update) => items_of_update(alloc, pool, peer, seconds, update),
-        Message::Other(_) => Ok(Items::from_vec(Vec::new(alloc))),
+    match kind {
+        MessageKind::Update => items_of_update(alloc, pool, peer, seconds),
+        MessageKind::Other(_) => Ok(Items::from_vec(Vec::new(alloc))),
     }
 }
 

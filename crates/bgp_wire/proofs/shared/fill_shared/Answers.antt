@@ -1,7 +1,6 @@
-use Rattle.std.proofs.Common.{◌≡◌, List, Err, IfErr, ap, sym, subst, ◌∙◌}
+use Rattle.std.proofs.Common.{List, Err, IfErr, ap, sym, subst, ◌∙◌}
 use Rattle.std.proofs.lemmas.Result.{err_from_is_err_and}
 use Rattle.ip_prefix.specs.Sequences.{SpellsAll}
-use Rattle.bgp_wire.specs.declared.fault.WireFault.{WireFault}
 use Rattle.bgp_wire.specs.declared.framing.TheConstants.{COMMUNITIES}
 use Rattle.bgp_wire.specs.declared.as4.Passed.{Passed}
 use Rattle.bgp_wire.specs.As4.{SaysPassed}

@@ -14,11 +14,11 @@ returns-in-Message c =
     let seconds = c.args.seconds in
     let Part = Told (SpellsPeerMessage width) (receipt_items seconds) in
     let Whole = Told (SpellsHappening Message width) (session_items seconds) in
-    subst (λ kind. Reads (Told (SpellsHappening kind width) (session_items seconds)) octets c.read_peer_message.result) (sym c.in-Message.is)
-    (reads_whole Part Whole octets octets c.read_peer_message.result
+    subst (λ kind. Reads (Told (SpellsHappening kind width) (session_items seconds)) octets c.read_long_or_short.result) (sym c.in-Message.is)
+    (reads_whole Part Whole octets octets c.read_long_or_short.result
     (λ items s. (Receipt s.0, (s.0, refl, s.1), s.2))
     (λ items s. (receipt_items seconds s.1.0, (s.1.0, s.1.2, refl)))
-    c.read_peer_message.ensures)
+    c.read_long_or_short.ensures)
 
 pub returns-in-StateChange : goal.returns-in-StateChange
 returns-in-StateChange c =
