@@ -1,9 +1,9 @@
 //! Attributes and messages read into the memory of others.
 
-use super::messages::{COMMON, update_of};
+use super::messages::{COMMON, message_of, update_of};
 use super::{MALFORMED, NOTHING, octets_of, shown};
 use crate::{
-    AsWidth, Attrs, Message, MessageRoom, Update, WireFault, read_message_into, replace_rib_attrs,
+    AsWidth, Attrs, MessageKind, UpdateParts, WireFault, replace_message, replace_rib_attrs,
 };
 use ip_prefix::Family;
 use std::test::Fail;
@@ -46,17 +46,6 @@ fn attributes_replace_others(rt: HostRuntime) -> Result<(), Fail> {
     Ok(())
 }
 
-/// Gives back what an UPDATE was read into.
-fn keep(room: &mut MessageRoom, update: Update) {
-    room.keep_attrs(update.attrs);
-    if let Some(attrs) = update.mp_attrs {
-        room.keep_attrs(attrs);
-    }
-    room.keep_prefixes(update.withdrawn);
-    room.keep_prefixes(update.announced);
-    room.keep_prefixes(update.mp_announced);
-}
-
 /// What the attributes of all messages say.
 const COMMON_SHOWN: &str = "64500|IGP|192.0.2.9||||NAG|";
 
@@ -81,26 +70,39 @@ const MESSAGES: [(&str, &str, &str, [usize; 3]); 5] = [
 ];
 
 #[test]
-fn messages_are_read_again(rt: HostRuntime) -> Result<(), Fail> {
+fn messages_replace_others(rt: HostRuntime) -> Result<(), Fail> {
     let alloc = rt.alloc();
-    let mut room = MessageRoom::new(alloc);
+    let mut parts = UpdateParts::none(alloc);
     for (withdrawn, reach, announced, counts) in MESSAGES {
         let octets = update_of(alloc, withdrawn, &[COMMON, reach], announced)?;
-        let read = read_message_into(&mut room, AsWidth::Two, octets.as_slice());
-        let Ok(Message::Update(update)) = read else {
-            assert!(rt; false, "an UPDATE was wanted");
-            return Ok(());
-        };
+        let read = replace_message(alloc, &mut parts, AsWidth::Two, octets.as_slice());
+        assert!(rt; matches!(read, Ok(MessageKind::Update)));
         let found = [
-            update.withdrawn.as_slice().len(),
-            update.announced.as_slice().len(),
-            update.mp_announced.as_slice().len(),
+            parts.withdrawn.as_slice().len(),
+            parts.announced.as_slice().len(),
+            parts.mp_announced.as_slice().len(),
         ];
         assert_eq!(rt; found, counts);
-        assert_eq!(rt; update.mp_attrs.is_some(), counts[2] > 0);
-        let text = shown(alloc, &update.attrs)?;
+        assert_eq!(rt; parts.mp_hop.is_some(), counts[2] > 0);
+        let text = shown(alloc, &parts.attrs)?;
         assert_eq!(rt; text.as_slice(), COMMON_SHOWN.as_bytes());
-        keep(&mut room, update);
     }
+    Ok(())
+}
+
+#[test]
+fn other_messages_leave_the_parts(rt: HostRuntime) -> Result<(), Fail> {
+    let alloc = rt.alloc();
+    let mut parts = UpdateParts::none(alloc);
+    let update = update_of(alloc, "", &[COMMON], "080A")?;
+    let keepalive = message_of(alloc, 4, &[])?;
+    let torn = message_of(alloc, 2, &[0])?;
+    assert!(rt; replace_message(alloc, &mut parts, AsWidth::Two, &update).is_ok());
+    let read = replace_message(alloc, &mut parts, AsWidth::Two, &keepalive);
+    assert!(rt; matches!(read, Ok(MessageKind::Other(4))));
+    assert_eq!(rt; parts.announced.as_slice().len(), 1);
+    let read = replace_message(alloc, &mut parts, AsWidth::Two, &torn);
+    assert!(rt; matches!(read, Err(WireFault::Malformed)));
+    assert_eq!(rt; parts.announced.as_slice().len(), 0);
     Ok(())
 }
