@@ -1,10 +1,11 @@
 #!/usr/bin/env python3
-"""Times the program beside Debian's bgpdump, both as `-m FILE`, in turn, and then its player.
+"""Times the program beside Debian's bgpdump and beside limit.c, all as `-m FILE`, in turn, and then its player.
 
     bench/measure.py PROGRAM STORES [FILE..]
 
-Without files it makes two of about 30 MB, a table and updates, always the same octets. Of seven runs
-of the program, and three of bgpdump, the least processor time counts; output goes to the null device.
+Without files it makes two of about 30 MB, a table and updates, always the same octets. Of fifteen runs
+of the program and of limit, and three of bgpdump, the least processor time counts; output goes to the
+null device. limit decodes without checks or allocation: what one core can do (it takes a C compiler).
 
 The player goes to the end of the file, back to its start, and to the end again, in five runs. Each
 part is timed alone, and the whole with what follows it; the least processor times count, and the
@@ -181,17 +182,29 @@ def line_count(command):
         return sum(block.count(b'\n') for block in iter(lambda: out.read(1 << 20), b''))
 
 
-def measure_lines(program, path):
+def built_limit(folder):
+    """The program of limit.c, where there is a C compiler."""
+    compiler = shutil.which('cc')
+    if not compiler:
+        return None
+    source = Path(__file__).resolve().parent / 'limit.c'
+    subprocess.run([compiler, '-O2', '-o', folder / 'limit', source], check=True)
+    return str(folder / 'limit')
+
+
+def measure_lines(program, limit, path):
     """Prints the times of `-m`; the number of lines, and the least time of the program."""
     commands = {'ours': [program, '-m', str(path)]}
+    if limit:
+        commands['limit'] = [limit, str(path)]
     rival = shutil.which('bgpdump')
     if rival:
         commands['bgpdump'] = [rival, '-q', '-m', str(path)]
     lines = line_count(commands['ours'])
     best = {}
-    for turn in range(7):
+    for turn in range(15):
         for name, command in commands.items():
-            if name == 'ours' or turn < 3:
+            if name != 'bgpdump' or turn < 3:
                 best[name] = min(best.get(name, 1e9), run(command))
     for name, seconds in best.items():
         print('%-14s %-9s %7.3f %9d %10s %7.1f' % (
@@ -258,7 +271,8 @@ def main():
     program = str(Path(sys.argv[1]).resolve())
     files = [Path(word) for word in sys.argv[3:]] or made_files(folder)
     print('file           program   seconds   lines/s   peak MiB   ratio')
-    measured = [measure_lines(program, path) for path in files]
+    limit = built_limit(folder)
+    measured = [measure_lines(program, limit, path) for path in files]
     if not shutil.which('bgpdump'):
         print("Debian's bgpdump isn't here to compare with: apt-get install bgpdump")
     print('file           player    seconds   lines/s   peak MiB   ratio  octets')
@@ -269,4 +283,5 @@ def main():
     measure_stores(str(Path(sys.argv[2]).resolve()))
 
 
-main()
+if __name__ == '__main__':
+    main()
