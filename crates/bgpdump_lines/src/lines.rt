@@ -1,15 +1,16 @@
 //! The lines of events.
 
-ghost use Rattle.std.specs.Prelude.{◌≡◌, ◌∷◌, ◌++◌, [], OnOk, OnErr, IfOk, IfSome, IsSomeAnd};
-ghost use Rattle.ip_prefix.specs.Text.{network_text};
+ghost use Rattle.std.specs.Prelude.{◌≡◌, ◌∷◌, ◌++◌, [], OnOk, OnErr, IfOk, IfSome};
 ghost use Rattle.bgp_wire.specs.Text.{StillBegins};
 ghost use Rattle.mrt_wire.specs.Event.{Announced, Withdrawn, Changed, saying};
 ghost use Rattle.bgpdump_lines.specs.Lines.{bar, word, micros_text, time_text, route_time_text};
-ghost use Rattle.bgpdump_lines.specs.Lines.{route_letter, route_front, route_tail, EndsIn};
-ghost use Rattle.bgpdump_lines.specs.Lines.{AreOrdered, front_at, tail_at, item_line, event_lines};
+ghost use Rattle.bgpdump_lines.specs.Lines.{route_letter, route_head, route_front, route_tail};
+ghost use Rattle.bgpdump_lines.specs.Lines.{peer_fields, prefix_field, AreOrdered, EndsIn, IsLike};
+ghost use Rattle.bgpdump_lines.specs.Lines.{head_at, front_at, prefix_at, tail_at};
+ghost use Rattle.bgpdump_lines.specs.Lines.{item_line, event_lines};
 
 use crate::fields::{put_attributes, put_field, put_peer, put_prefix};
-use crate::same::{same_peer, same_route};
+use crate::same::{same_peer, same_prefix, same_route};
 use ip_prefix::{Prefix, Text};
 use mrt_wire::{Event, Item, Peer, Route, Tag, Time};
 use std::alloc::AllocError;
@@ -22,6 +23,8 @@ const MICROS_DIGITS: usize = 6;
 struct Places {
     /// Where it begins.
     start: usize,
+    /// Where its first three fields end.
+    head: usize,
     /// Where what stands in front of the prefix ends.
     front: usize,
     /// Where what stands behind the prefix begins.
@@ -33,6 +36,8 @@ struct Places {
 struct LastLine<'a> {
     /// Whose route it is.
     peer: &'a Peer,
+    /// The prefix that it leads to.
+    prefix: &'a Prefix,
     /// The route.
     route: &'a Route,
     /// Where its parts stand.
@@ -119,30 +124,12 @@ fn put_letter(tag: Tag, text: &mut Text) -> Result<(), AllocError>
 /// Appends the first three fields of a route's line.
 #[inline]
 fn put_route_head(time: &Time, tag: Tag, route: &Route, text: &mut Text) -> Result<(), AllocError>
-    ensures appended { OnOk result (text.new ≡ text.old ++ (word tag ++
-        bar ∷ (route_time_text time.now tag route.now ++ bar ∷ route_letter tag))) }
+    ensures appended { OnOk result (text.new ≡ text.old ++ route_head time.now tag route.now) }
     ensures kept { OnErr result (StillBegins text.old text.new) }
 {
     put_word(tag, text)?;
     put_route_time(time, tag, route, text)?;
     put_letter(tag, text)
-}
-
-/// Appends what stands in front of the prefix in a route's line.
-#[inline]
-fn put_route_front(
-    time: &Time,
-    tag: Tag,
-    peer: &Peer,
-    route: &Route,
-    text: &mut Text,
-) -> Result<(), AllocError>
-    ensures appended { OnOk result (text.new ≡
-        text.old ++ route_front time.now tag peer.now route.now) }
-    ensures kept { OnErr result (StillBegins text.old text.new) }
-{
-    put_route_head(time, tag, route, text)?;
-    put_peer(peer, text)
 }
 
 /// Appends the line of a route with each part printed. Returned is where they stand.
@@ -156,20 +143,30 @@ fn put_route_anew(
 ) -> Result<Places, AllocError>
     ensures appended { OnOk result (text.new ≡ text.old ++
         (route_front time.now tag peer.now route.now
-        ++ (bar ∷ network_text prefix.now ++ route_tail route.now))) }
+        ++ (prefix_field prefix.now ++ route_tail route.now))) }
     ensures ordered { IfOk result (λ places. AreOrdered places text.new) }
+    ensures head { IfOk result (λ places. head_at places text.new
+        ≡ route_head time.now tag route.now) }
     ensures front { IfOk result (λ places. front_at places text.new
         ≡ route_front time.now tag peer.now route.now) }
+    ensures prefix { IfOk result (λ places. prefix_at places text.new ≡ prefix_field prefix.now) }
     ensures tail { IfOk result (λ places. tail_at places text.new ≡ route_tail route.now) }
     ensures kept { OnErr result (StillBegins text.old text.new) }
 {
     let start = text.len();
-    put_route_front(time, tag, peer, route, text)?;
+    put_route_head(time, tag, route, text)?;
+    let head = text.len();
+    put_peer(peer, text)?;
     let front = text.len();
     put_prefix(prefix, text)?;
     let tail = text.len();
     put_attributes(&route.attrs, text)?;
-    Ok(Places { start, front, tail })
+    Ok(Places {
+        start,
+        head,
+        front,
+        tail,
+    })
 }
 
 /// Appends the line that the text ends in once more, with another prefix. Returned is where its
@@ -177,13 +174,12 @@ fn put_route_anew(
 fn put_route_again(last: Places, prefix: &Prefix, text: &mut Text) -> Result<Places, AllocError>
     requires { AreOrdered last text.old }
     ensures appended { OnOk result (text.new ≡ text.old ++
-        (front_at last text.old
-        ++ (bar ∷ network_text prefix.now ++ tail_at last text.old))) }
+        (front_at last text.old ++ (prefix_field prefix.now ++ tail_at last text.old))) }
     ensures ordered { IfOk result (λ places. AreOrdered places text.new) }
-    ensures front { IfOk result (λ places. front_at places text.new
-        ≡ front_at last text.old) }
-    ensures tail { IfOk result (λ places. tail_at places text.new
-        ≡ tail_at last text.old) }
+    ensures head { IfOk result (λ places. head_at places text.new ≡ head_at last text.old) }
+    ensures front { IfOk result (λ places. front_at places text.new ≡ front_at last text.old) }
+    ensures prefix { IfOk result (λ places. prefix_at places text.new ≡ prefix_field prefix.now) }
+    ensures tail { IfOk result (λ places. tail_at places text.new ≡ tail_at last text.old) }
     ensures kept { OnErr result (StillBegins text.old text.new) }
 {
     let start = text.len();
@@ -192,20 +188,81 @@ fn put_route_again(last: Places, prefix: &Prefix, text: &mut Text) -> Result<Pla
     put_prefix(prefix, text)?;
     let tail = text.len();
     text.extend_from_within(last.tail, start)?;
-    Ok(Places { start, front, tail })
+    let head = start + (last.head - last.start);
+    Ok(Places {
+        start,
+        head,
+        front,
+        tail,
+    })
 }
 
-/// Where the parts of the last line stand, if it is of this route.
-fn places_of_same(last: Option<LastLine<'_>>, peer: &Peer, route: &Route) -> Option<Places>
-    ensures { IfSome result (λ places. IsSomeAnd last.entry (λ line. (line.places ≡ places)
-        × (line.peer.now ≡ peer.now) × (line.route.now ≡ route.now))) }
+/// Appends the line that the text ends in once more, with another peer and other attributes.
+/// Returned is where its parts stand.
+fn put_route_beside(
+    last: Places,
+    peer: &Peer,
+    route: &Route,
+    text: &mut Text,
+) -> Result<Places, AllocError>
+    requires { AreOrdered last text.old }
+    ensures appended { OnOk result (text.new ≡ text.old ++
+        ((head_at last text.old ++ peer_fields peer.now)
+        ++ (prefix_at last text.old ++ route_tail route.now))) }
+    ensures ordered { IfOk result (λ places. AreOrdered places text.new) }
+    ensures head { IfOk result (λ places. head_at places text.new ≡ head_at last text.old) }
+    ensures front { IfOk result (λ places. front_at places text.new
+        ≡ head_at last text.old ++ peer_fields peer.now) }
+    ensures prefix { IfOk result (λ places. prefix_at places text.new ≡ prefix_at last text.old) }
+    ensures tail { IfOk result (λ places. tail_at places text.new ≡ route_tail route.now) }
+    ensures kept { OnErr result (StillBegins text.old text.new) }
 {
-    let line = last?;
-    if same_peer(line.peer, peer) && same_route(line.route, route) {
-        Some(line.places)
-    } else {
-        None
+    let start = text.len();
+    text.extend_from_within(last.start, last.head)?;
+    let head = text.len();
+    put_peer(peer, text)?;
+    let front = text.len();
+    text.extend_from_within(last.front, last.tail)?;
+    let tail = text.len();
+    put_attributes(&route.attrs, text)?;
+    Ok(Places {
+        start,
+        head,
+        front,
+        tail,
+    })
+}
+
+/// What a route's line may take from the line before.
+#[derive(Clone, Copy)]
+enum Likeness {
+    /// All but the prefix.
+    SameRoute(Places),
+    /// The first three fields and the prefix.
+    SamePrefix(Places),
+    /// Nothing.
+    Other,
+}
+
+/// What the line of a route may take from the last one.
+fn likeness_to_last(
+    last: Option<LastLine<'_>>,
+    peer: &Peer,
+    prefix: &Prefix,
+    route: &Route,
+) -> Likeness
+    ensures { IsLike last.entry peer.now prefix.now route.now result }
+{
+    let Some(line) = last else {
+        return Likeness::Other;
+    };
+    if same_prefix(line.prefix, prefix) && line.route.time == route.time {
+        return Likeness::SamePrefix(line.places);
     }
+    if same_peer(line.peer, peer) && same_route(line.route, route) {
+        return Likeness::SameRoute(line.places);
+    }
+    Likeness::Other
 }
 
 /// Appends the line of a route. What the last line says too is copied from there.
@@ -213,7 +270,7 @@ fn put_route<'a>(
     time: &Time,
     tag: Tag,
     peer: &'a Peer,
-    prefix: &Prefix,
+    prefix: &'a Prefix,
     route: &'a Route,
     last: Option<LastLine<'a>>,
     text: &mut Text,
@@ -224,12 +281,14 @@ fn put_route<'a>(
     ensures last { IfOk result (λ line. EndsIn time.now tag line text.new) }
     ensures kept { OnErr result (StillBegins text.old text.new) }
 {
-    let places = match places_of_same(last, peer, route) {
-        Some(places) => put_route_again(places, prefix, text)?,
-        None => put_route_anew(time, tag, peer, prefix, route, text)?,
+    let places = match likeness_to_last(last, peer, prefix, route) {
+        Likeness::SameRoute(places) => put_route_again(places, prefix, text)?,
+        Likeness::SamePrefix(places) => put_route_beside(places, peer, route, text)?,
+        Likeness::Other => put_route_anew(time, tag, peer, prefix, route, text)?,
     };
     Ok(LastLine {
         peer,
+        prefix,
         route,
         places,
     })

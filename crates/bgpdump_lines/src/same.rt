@@ -4,7 +4,7 @@
 ghost use Rattle.std.specs.Prelude.{◌≡◌, IsTrue};
 
 use bgp_wire::{Aggregator, AsPath, Attrs, Communities, Origin, Segment};
-use ip_prefix::Addr;
+use ip_prefix::{Addr, Prefix};
 use mrt_wire::{Peer, Route};
 
 /// Whether two lists of numbers are the same.
@@ -122,4 +122,11 @@ pub(crate) fn same_peer(one: &Peer, other: &Peer) -> bool
     ensures { IsTrue result → one.now ≡ other.now }
 {
     one.asn == other.asn && same_address(one.addr, other.addr)
+}
+
+/// Whether two prefixes are the same.
+pub(crate) fn same_prefix(one: &Prefix, other: &Prefix) -> bool
+    ensures { IsTrue result → one.now ≡ other.now }
+{
+    one == other
 }
