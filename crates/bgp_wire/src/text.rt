@@ -1,14 +1,14 @@
 //! The printed texts of paths and communities.
 
-ghost use Rattle.std.specs.Prelude.{◌≡◌, ℕ, List, [], ◌∷◌, ◌++◌, OnOk, OnErr, length, map, decimal};
+ghost use Rattle.std.specs.Prelude.{◌≡◌, ℕ, ◌+◌, ◌<◌, ◌≤◌, List, [], ◌∷◌, ◌++◌, OnOk, OnErr, length, map, decimal};
 ghost use Rattle.std.specs.List.{flat_map, join_with_byte};
 ghost use Rattle.bgp_wire.specs.Text.{bracketed_numbers, segment_words, path_text};
 ghost use Rattle.bgp_wire.specs.Text.{halves_text, community_text, communities_text};
-ghost use Rattle.ip_prefix.specs.Written.{ended_words};
+ghost use Rattle.ip_prefix.specs.Written.{IsWritten, ended_words};
 ghost use Rattle.bgp_wire.specs.Text.{StillBegins};
 
 use crate::path::{AsPath, Segment, SegmentKind};
-use ip_prefix::Text;
+use ip_prefix::{Text, WORD_ROOM, Word, put_octets, write_ended_pair};
 use std::alloc::AllocError;
 
 /// Not to be announced outside the AS, or a confederation (RFC 1997).
@@ -89,13 +89,9 @@ pub fn append_communities(communities: &[u32], text: &mut Text) -> Result<(), Al
     ensures unchanged { OnErr result (text.new ≡ text.old) }
 {
     let before = text.len();
-    let result = put_each_community(communities, text);
-    if result.is_err() {
-        text.truncate(before);
-        return result;
-    }
+    text.put_ended_words::<CommunityWord>(communities, SPACE)?;
     drop_separator(before, text);
-    result
+    Ok(())
 }
 
 /// The same, for a text in a `Vec`.
@@ -161,39 +157,59 @@ fn put_bracketed(numbers: &[u32], marks: Marks, text: &mut Text) -> Result<(), A
     text.extend_from_slice(&[marks.close, SPACE])
 }
 
-/// Appends the text of each community, each with a space behind it.
-fn put_each_community(communities: &[u32], text: &mut Text) -> Result<(), AllocError>
-    ensures appended { OnOk result (text.new ≡
-        text.old ++ ended_words SPACE (map community_text communities.now)) }
-    ensures kept { OnErr result (StillBegins text.old text.new) }
-{
-    for community in communities {
-        put_community(*community, text)?;
+/// How a community is written as a word.
+struct CommunityWord;
+
+impl Word for CommunityWord {
+    ghost use Rattle.bgp_wire.specs.Text.{community_text};
+
+    ghost word = { community_text };
+
+    #[inline]
+    #[tactic(auto, unfolding(crate::specs::Text::community_text))]
+    fn write_ended(community: u32, end: u8, text: &mut [u8], at: usize) -> usize {
+        if community < NO_EXPORT {
+            return write_halves(community, end, text, at);
+        }
+        write_named(community, end, text, at)
     }
-    Ok(())
 }
 
-/// Appends the text of a community, and a space behind it.
-#[tactic(auto, unfolding(crate::specs::Text::community_text))]
+/// Writes the two halves of a number in decimal, with a colon between them, and an octet behind
+/// both.
 #[inline(always)]
-fn put_community(community: u32, text: &mut Text) -> Result<(), AllocError>
-    ensures appended { OnOk result
-        (text.new ≡ text.old ++ (community_text community ++ SPACE ∷ [])) }
-    ensures kept { OnErr result (StillBegins text.old text.new) }
+fn write_halves(number: u32, end: u8, text: &mut [u8], at: usize) -> usize
+    requires { at + WORD_ROOM ≤ length text.old }
+    ensures written { IsWritten text.old at (halves_text number ++ end ∷ []) text.new result }
+    ensures short { result ≤ at + WORD_ROOM }
+{
+    write_ended_pair(number / 0x1_0000, COLON, number % 0x1_0000, end, text, at)
+}
+
+/// Writes a community, which may be a well-known one, and an octet behind it.
+#[tactic(auto, unfolding(crate::specs::Text::community_text))]
+fn write_named(community: u32, end: u8, text: &mut [u8], at: usize) -> usize
+    requires { at + WORD_ROOM ≤ length text.old }
+    ensures written { IsWritten text.old at (community_text community ++ end ∷ []) text.new result }
+    ensures short { result ≤ at + WORD_ROOM }
 {
     match community {
-        NO_EXPORT => text.extend_from_slice(b"no-export "),
-        NO_ADVERTISE => text.extend_from_slice(b"no-advertise "),
-        NO_EXPORT_SUBCONFED => text.extend_from_slice(b"local-AS "),
-        _ => put_halves(community, text),
+        NO_EXPORT => write_name(b"no-export", end, text, at),
+        NO_ADVERTISE => write_name(b"no-advertise", end, text, at),
+        NO_EXPORT_SUBCONFED => write_name(b"local-AS", end, text, at),
+        _ => write_halves(community, end, text, at),
     }
 }
 
-/// Appends the two halves of a number in decimal, with a colon between them and a space behind.
+/// Writes a name, and an octet behind it.
 #[inline(always)]
-fn put_halves(number: u32, text: &mut Text) -> Result<(), AllocError>
-    ensures appended { OnOk result (text.new ≡ text.old ++ (halves_text number ++ SPACE ∷ [])) }
-    ensures kept { OnErr result (StillBegins text.old text.new) }
+fn write_name(name: &[u8], end: u8, text: &mut [u8], at: usize) -> usize
+    requires { at + length name.now < length text.old }
+    ensures written { IsWritten text.old at (name.now ++ end ∷ []) text.new result }
+    ensures short { result ≡ at + length name.now + 1 }
 {
-    text.put_ended_pair(number / 0x1_0000, COLON, number % 0x1_0000, SPACE)
+    let behind = at + name.len();
+    put_octets(name, text, at);
+    text[behind] = end;
+    behind + 1
 }

@@ -38,9 +38,6 @@ filled_last (a ∷ b ∷ []) h = refl
 filled_last (a ∷ b ∷ c ∷ []) h = refl
 filled_last (a ∷ b ∷ c ∷ d ∷ more) h = absurd (omega (arith, h))
 
-pub filled_count : (digits : List ℕ) → length digits ≤ 3 → get_or (filled digits) 3 0 - 48 ≡ length digits
-filled_count digits h = omega (arith, filled_last digits h)
-
 -- the digits are its first octets
 pub filled_front : (digits : List ℕ) → length digits ≤ 3 → take (length digits) (filled digits) ≡ digits
 filled_front [] h = refl

@@ -6,11 +6,12 @@ ghost use Rattle.ip_prefix.specs.Written.{ended_words};
 
 use crate::addr::Addr;
 use crate::cursor::{
-    DECIMAL_ROOM, ENDED_ROOM, put_octets, write_decimal, write_ended_decimal, write_ended_decimals,
-    write_led_decimal,
+    DECIMAL_ROOM, ENDED_ROOM, PAIR_ROOM, put_octets, write_decimal, write_ended_decimal,
+    write_ended_decimals, write_ended_pair, write_led_decimal,
 };
 use crate::prefix::Prefix;
 use crate::text::{ADDRESS_ROOM, PREFIX_ROOM};
+use crate::words::{WORD_ROOM, Word, write_ended_words};
 use itoa::Buffer;
 use std::alloc::{AllocError, Global};
 use std::marker::Model;
@@ -203,6 +204,19 @@ impl Text {
         Ok(())
     }
 
+    /// Appends the words of the numbers, and the octet behind each.
+    #[inline]
+    pub fn put_ended_words<W: Word>(&mut self, numbers: &[u32], end: u8) -> Result<(), AllocError>
+        ensures appended { OnOk result
+            (self.new ≡ self.old ++ ended_words end (map W.word numbers.now)) }
+        ensures unchanged { OnErr result (self.new ≡ self.old) }
+    {
+        let room = numbers.len().checked_mul(WORD_ROOM).ok_or(AllocError)?;
+        make_room(&mut self.buffer, self.len, room)?;
+        self.len = write_ended_words::<W>(numbers, end, self.buffer.as_mut_slice(), self.len);
+        Ok(())
+    }
+
     /// Appends two numbers in decimal, and an octet behind each.
     #[inline]
     pub fn put_ended_pair(
@@ -216,9 +230,15 @@ impl Text {
             ++ ((decimal one ++ middle ∷ []) ++ (decimal other ++ end ∷ []))) }
         ensures unchanged { OnErr result (self.new ≡ self.old) }
     {
-        make_room(&mut self.buffer, self.len, 2 * ENDED_ROOM)?;
-        let behind = write_ended_decimal(one, middle, self.buffer.as_mut_slice(), self.len);
-        self.len = write_ended_decimal(other, end, self.buffer.as_mut_slice(), behind);
+        make_room(&mut self.buffer, self.len, PAIR_ROOM)?;
+        self.len = write_ended_pair(
+            one,
+            middle,
+            other,
+            end,
+            self.buffer.as_mut_slice(),
+            self.len,
+        );
         Ok(())
     }
 

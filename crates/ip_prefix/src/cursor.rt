@@ -12,6 +12,9 @@ pub const DECIMAL_ROOM: usize = 12;
 /// The room for such a number, and an octet behind it.
 pub(crate) const ENDED_ROOM: usize = DECIMAL_ROOM + 1;
 
+/// The room for two such numbers, and an octet behind each.
+pub const PAIR_ROOM: usize = 2 * ENDED_ROOM;
+
 /// How many digits a number of 32 bits has at most.
 const DECIMAL_DIGITS: usize = 10;
 
@@ -20,6 +23,9 @@ pub(crate) const ROW: usize = 4;
 
 /// What stands in a row behind the digits.
 const SPACE: u8 = b' ';
+
+/// The digit 0.
+const ZERO: usize = b'0' as usize;
 
 /// A thousand.
 const THOUSAND: u32 = 1000;
@@ -60,6 +66,25 @@ pub(crate) fn write_ended_decimal(number: u32, end: u8, text: &mut [u8], at: usi
     let behind = write_decimal(number, text, at);
     text[behind] = end;
     behind + 1
+}
+
+/// Writes two numbers in decimal, and an octet behind each, and answers the place behind them.
+#[inline]
+pub fn write_ended_pair(
+    one: u32,
+    middle: u8,
+    other: u32,
+    end: u8,
+    text: &mut [u8],
+    at: usize,
+) -> usize
+    requires { at + PAIR_ROOM ≤ length text.old }
+    ensures written { IsWritten text.old at
+        ((decimal one ++ middle ∷ []) ++ (decimal other ++ end ∷ [])) text.new result }
+    ensures short { result ≤ at + PAIR_ROOM }
+{
+    let behind = write_ended_decimal(one, middle, text, at);
+    write_ended_decimal(other, end, text, behind)
 }
 
 /// Writes the numbers in decimal, an octet behind each, and answers the place behind them.
@@ -109,7 +134,7 @@ pub(crate) fn write_short(number: u32, text: &mut [u8], at: usize) -> usize
 {
     let row = short_row(number);
     put_octets(&row, text, at);
-    at + usize::from(row[3] - b'0')
+    at + usize::from(row[3]) - ZERO
 }
 
 // Writes a number below a thousand in three digits.
@@ -140,9 +165,9 @@ fn three_row(number: u32) -> [u8; ROW]
     THREES[number as usize]
 }
 
-// Puts octets there.
+/// Puts octets there.
 #[inline(always)]
-pub(crate) fn put_octets(octets: &[u8], text: &mut [u8], at: usize)
+pub fn put_octets(octets: &[u8], text: &mut [u8], at: usize)
     requires { at + length octets.now ≤ length text.old }
     ensures { text.new ≡ take at text.old ++ octets.now ++ drop (at + length octets.now) text.old }
 {

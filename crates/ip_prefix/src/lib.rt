@@ -12,10 +12,11 @@ mod parse;
 mod prefix;
 mod text;
 mod turn;
+mod words;
 
 pub use addr::{Addr, Family, V4_BITS, V4_OCTETS, V6_BITS, V6_OCTETS};
 pub use buffer::Text;
-pub use cursor::{DECIMAL_ROOM, write_decimal};
+pub use cursor::{DECIMAL_ROOM, PAIR_ROOM, put_octets, write_decimal, write_ended_pair};
 pub use decimal::put_decimal;
 pub use laws::{
     address_numbers, address_order, common_prefix, containment, covering_order, nested_prefixes,
@@ -24,6 +25,7 @@ pub use laws::{
 pub use prefix::Prefix;
 pub use text::{ADDRESS_ROOM, PREFIX_ROOM};
 pub use turn::Turn;
+pub use words::{WORD_ROOM, Word};
 
 #[cfg(test)]
 mod tests;
