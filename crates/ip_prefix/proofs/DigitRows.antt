@@ -4,8 +4,8 @@ use Rattle.std.proofs.Math.Dec.{ltb}
 use Rattle.std.proofs.lemmas.Bool.{cond-true, cond-false, lt-ltb, le-ltb, cases_lt}
 use Rattle.std.proofs.lemmas.Fmt.{decimal_digit, decimal_step}
 use lib.Ieee.Fits.{and_l, and_r}
-use Rattle.ip_prefix.specs.declared.digits.TheConstants.{SHORTS, THREES}
-use Rattle.ip_prefix.specs.Written.{three_digits, filled}
+use Rattle.ip_prefix.specs.declared.digits.TheConstants.{SHORTS, THREES, HEX_PAIRS}
+use Rattle.ip_prefix.specs.Written.{three_digits, filled, two_hex_digits}
 
 -- whether two lists are one
 abbrev is_same : List ℕ → List ℕ → Bool
@@ -37,6 +37,10 @@ row_at row start (x ∷ rows) t (suc k) n e h =
 -- a number below a thousand has its three digits
 pub THREES_at : (n : ℕ) → n < 1000 → get_or THREES n [] ≡ three_digits n ++ 32 ∷ []
 THREES_at n h = row_at (λ n. three_digits n ++ 32 ∷ []) 0 THREES tt n n (omega arith) h
+
+-- and one below 256 its two hexadecimal ones
+pub HEX_PAIRS_at : (n : ℕ) → n < 256 → get_or HEX_PAIRS n [] ≡ two_hex_digits n
+HEX_PAIRS_at n h = row_at two_hex_digits 0 HEX_PAIRS tt n n (omega arith) h
 
 -- ---- decimals
 

@@ -1,9 +1,9 @@
--- What is written of groups of hexadecimal digits, from the last to the first.
-use Rattle.std.proofs.Common.{◌≡◌, ℕ, ◌+◌, ◌/◌, ◌%◌, ◌<◌, ◌≤◌, List, [], ◌∷◌, ◌++◌, length, take, drop, get_or, ap, sym, ◌∙◌, arith, le-leb, lt-ltb, le-ltb, append_assoc}
-use Rattle.std.proofs.lemmas.Bool.{lt-leb}
-use Rattle.std.proofs.lemmas.List.{drop_more, drop_all, append-nil}
+-- What is written of groups of hexadecimal digits.
+use Rattle.std.proofs.Common.{◌≡◌, ℕ, ◌+◌, ◌/◌, ◌%◌, ◌<◌, ◌≤◌, List, [], ◌∷◌, ◌++◌, take, drop, ap, sym, ◌∙◌, inl, inr, arith, le-leb, lt-ltb, le-ltb, append_assoc}
+use Rattle.std.proofs.lemmas.Bool.{lt-leb, cases_lt}
 use Rattle.std.specs.Char.{digit_char}
 use Rattle.std.specs.Net.Text.{hex, groups_text, longest_zero_run, hex_groups_text}
+use Rattle.ip_prefix.specs.Written.{two_hex_digits}
 
 -- a group below 16 has one digit
 pub hex_one : (n : ℕ) → n < 16 → hex n ≡ digit_char (n % 16) ∷ []
@@ -25,27 +25,27 @@ pub hex_four : (n : ℕ) → 4096 ≤ n → hex n ≡ digit_char (n / 4096) ∷ 
 unfolding hex
 hex_four n more = rw (le-leb 0x1000 n more)
 
--- the last group stands alone
-pub groups_text_last : (groups : List ℕ) (i : ℕ) → i + 1 ≡ length groups → groups_text (drop i groups) ≡ hex (get_or groups i 0)
-groups_text_last groups i e =
-    let inside : i < length groups = omega arith in
-    let past : length groups ≤ i + 1 = omega arith in
-    rw (drop_more groups i 0 inside, drop_all (i + 1) groups past, append-nil (hex (get_or groups i 0)))
+-- ---- in pairs
 
--- and each other one comes with a colon before the next
-pub groups_text_more : (groups : List ℕ) (i : ℕ) → i + 1 < length groups → groups_text (drop i groups) ≡ hex (get_or groups i 0) ++ 58 ∷ groups_text (drop (i + 1) groups)
-groups_text_more groups i within =
-    let inside : i < length groups = omega arith in
-    rw (drop_more groups i 0 inside, drop_more groups (i + 1) 0 within)
+-- a group of two digits is one pair
+pub hex_pair_only : (n : ℕ) → 16 ≤ n → n < 256 → hex n ≡ two_hex_digits n
+hex_pair_only n more h = hex_two n more h
 
--- what is written of the groups from a place on, and of the one before them with its colon
-pub groups_text_step : (groups rest : List ℕ) (i left : ℕ) → i + 1 ≡ left → left < length groups
-    → hex (get_or groups i 0) ++ 58 ∷ (groups_text (drop left groups) ++ rest) ≡ groups_text (drop i groups) ++ rest
-groups_text_step groups rest i left e within =
-    let group = hex (get_or groups i 0) in
-    sym (ap (λ t. t ++ rest) (groups_text_more groups i (omega arith))
-    ∙ append_assoc group (58 ∷ groups_text (drop (i + 1) groups)) rest
-    ∙ ap (λ k. group ++ 58 ∷ (groups_text (drop k groups) ++ rest)) e)
+-- and one of more ends with a pair
+pub hex_pair_last : (n : ℕ) → 256 ≤ n → n < 65536 → hex n ≡ hex (n / 256) ++ two_hex_digits (n % 256)
+hex_pair_last n more h =
+    let tens : n % 256 / 16 % 16 ≡ n / 16 % 16 = omega arith in
+    let ones : n % 256 % 16 ≡ n % 16 = omega arith in
+    elim (cases_lt n 4096) [
+      | inl three ↦ hex_three n more three ∙ (λ i. digit_char (n / 256 % 16) ∷ digit_char (sym tens i) ∷ digit_char (sym ones i) ∷ [])
+          ∙ sym (ap (λ t. t ++ two_hex_digits (n % 256)) (hex_one (n / 256) (omega arith)))
+      | inr four ↦
+          let first : n / 256 / 16 % 16 ≡ n / 4096 = omega arith in
+          hex_four n four ∙ (λ i. digit_char (sym first i) ∷ digit_char (n / 256 % 16) ∷ digit_char (sym tens i) ∷ digit_char (sym ones i) ∷ [])
+          ∙ sym (ap (λ t. t ++ two_hex_digits (n % 256)) (hex_two (n / 256) (omega arith) (omega arith)))
+    ]
+
+-- ---- groups together
 
 -- without a run of two or more groups that are 0, all groups are written
 pub whole_text : (groups : List ℕ) → (longest_zero_run groups).1 ≤ 1 → hex_groups_text groups ≡ groups_text groups

@@ -1,9 +1,9 @@
 -- Lists: their parts, what is written into them, and what holds of each element.
-use Rattle.std.proofs.Common.{◌≡◌, ℕ, zero, suc, ◌+◌, ◌-◌, ◌<◌, ◌≤◌, Bool, true, false, cond, List, [], ◌∷◌, ◌++◌, length, take, drop, get_or, set, replicate, refl, ap, ap₂, sym, ◌∙◌, arith, append_assoc, length-set, length-take-le, take-append-drop}
+use Rattle.std.proofs.Common.{◌≡◌, ℕ, zero, suc, ◌+◌, ◌-◌, ◌<◌, ◌≤◌, Bool, true, false, cond, List, [], ◌∷◌, ◌++◌, length, take, drop, get_or, set, replicate, refl, ap, ap₂, sym, ◌∙◌, arith, append_assoc, length-take-le, take-append-drop}
 use Rattle.std.specs.Prelude.{slice_get, nat_eq, filter}
 use Rattle.std.specs.List.{AllByRecursion}
 use Rattle.std.proofs.Math.Nat.{add-sub_of_le}
-use Rattle.std.proofs.lemmas.List.{drop-append-le, drop-drop, drop-set, drop-take, length_push, take-append-le, take_all, take_rest, take-take}
+use Rattle.std.proofs.lemmas.List.{drop-append-le, drop-drop, drop-take, length_push, take-append-le, take_all, take_rest, take-take}
 
 -- ---- parts
 
@@ -70,40 +70,6 @@ pub drop_below_pushed : {A : Type 0} (low high : ℕ) (xs : List A) (x : A) → 
 drop_below_pushed low high xs x h k =
     drop-append-le low (take high xs) (x ∷ []) (omega (arith, length-take-le high xs k))
     ∙ ap (λ ys. ys ++ x ∷ []) (ap (λ n. drop low (take n xs)) (sym (add-sub_of_le h)) ∙ drop-take low (high - low) xs)
-
--- ---- elements written from the last to the first
-
--- one that is written before a place comes before what is left from there
-pub written_before : {A : Type 0} (xs : List A) (at next : ℕ) (y : A) → at + 1 ≡ next → next ≤ length xs → drop at (set xs at y) ≡ y ∷ drop next xs
-written_before xs at next y e within =
-    let inside : at < length xs = omega arith in
-    drop-set xs at y inside ∙ ap (λ n. y ∷ drop n xs) e
-
--- and so do two
-pub two_before : {A : Type 0} (xs : List A) (at : ℕ) (x y : A) → 2 ≤ at → at ≤ length xs
-    → drop (at - 2) (set (set xs (at - 1) x) (at - 2) y) ≡ y ∷ x ∷ drop at xs
-two_before xs at x y room within =
-    written_before (set xs (at - 1) x) (at - 2) (at - 1) y (omega arith) (omega (arith, length-set xs (at - 1) x))
-    ∙ ap (λ t. y ∷ t) (written_before xs (at - 1) at x (omega arith) within)
-
--- and three
-pub three_before : {A : Type 0} (xs : List A) (at : ℕ) (x y z : A) → 3 ≤ at → at ≤ length xs
-    → drop (at - 3) (set (set (set xs (at - 1) x) (at - 2) y) (at - 3) z) ≡ z ∷ y ∷ x ∷ drop at xs
-three_before xs at x y z room within =
-    let one = set xs (at - 1) x in
-    let two = set one (at - 2) y in
-    written_before two (at - 3) (at - 2) z (omega arith) (omega (arith, length-set xs (at - 1) x, length-set one (at - 2) y))
-    ∙ ap (λ t. z ∷ t) (two_before xs at x y (omega arith) within)
-
--- and four
-pub four_before : {A : Type 0} (xs : List A) (at : ℕ) (x y z w : A) → 4 ≤ at → at ≤ length xs
-    → drop (at - 4) (set (set (set (set xs (at - 1) x) (at - 2) y) (at - 3) z) (at - 4) w) ≡ w ∷ z ∷ y ∷ x ∷ drop at xs
-four_before xs at x y z w room within =
-    let one = set xs (at - 1) x in
-    let two = set one (at - 2) y in
-    let three = set two (at - 3) z in
-    written_before three (at - 4) (at - 3) w (omega arith) (omega (arith, length-set xs (at - 1) x, length-set one (at - 2) y, length-set two (at - 3) z))
-    ∙ ap (λ t. w ∷ t) (three_before xs at x y z (omega arith) within)
 
 -- ---- what holds of each element
 

@@ -1,7 +1,7 @@
 -- How texts in a slice follow one another.
 use Rattle.std.proofs.Common.{◌≡◌, ℕ, suc, ◌+◌, ◌-◌, ◌<◌, ◌≤◌, decimal, map, append-nil, List, [], ◌∷◌, ◌++◌, length, take, drop, set, refl, ap, sym, ◌∙◌, arith, append_assoc, slice_range, get_or, subst, length-append, length-take-le}
 use Rattle.std.proofs.Math.Seq.{take-append-add, take-suc}
-use Rattle.std.proofs.lemmas.List.{map-append, take-append-le, drop-append-le, length-drop, length-set, take_more_set, take-take, take_all, drop-take}
+use Rattle.std.proofs.lemmas.List.{map-append, take-append-le, length-drop, length-set, take_more_set, take-take, take_all, drop-take}
 use Rattle.std.proofs.lemmas.Grind.{common_steps, flat_map-append}
 use Rattle.ip_prefix.specs.Written.{IsWritten, ended_words, filled}
 
@@ -94,27 +94,6 @@ one_more_ended x numbers i n is less =
     let taken : take i numbers ++ n ∷ [] ≡ take (i + 1) numbers = ap (λ m. take i numbers ++ m ∷ []) is ∙ sym (take-suc numbers i n less) ∙ ap (λ j. take j numbers) next in
     ap (λ l. ended_words x (map decimal l)) (sym taken) ∙ ap (ended_words x) (map-append decimal (take i numbers) (n ∷ []))
     ∙ flat_map-append (λ word. word ++ x ∷ []) so_far (decimal n ∷ []) ∙ ap (λ l. ended_words x so_far ++ l) (append-nil (decimal n ++ x ∷ []))
-
--- ---- from a buffer
-
--- a text at the end of a buffer is the front of what stands there, with anything behind
-end_of_buffer : (front rest : List ℕ) (from size : ℕ) → length front ≡ size → from ≤ size → take (size - from) (take size (drop from (front ++ rest))) ≡ drop from front
-end_of_buffer front rest from size whole within =
-    let text = drop from front in
-    let long : length text ≡ size - from = omega (arith, length-drop from front, whole) in
-    take-take (size - from) size (drop from (front ++ rest)) (omega arith) ∙ ap (take (size - from)) (drop-append-le from front rest (omega (arith, whole, within)))
-    ∙ take-append-le (size - from) text rest (omega (arith, long)) ∙ take_all (size - from) text (omega (arith, long))
-
--- and it is written where so many octets from there are put
-pub written_end : (old new front rest text : List ℕ) (at from size : ℕ) → length front ≡ size → size ≤ length rest → from ≤ size → at + size ≤ length old → drop from front ≡ text
-    → new ≡ take at old ++ take size (drop from (front ++ rest)) ++ drop (at + length (take size (drop from (front ++ rest)))) old
-    → IsWritten old at text new (at + (size - from))
-written_end old new front rest text at from size whole more within room is put =
-    let row = take size (drop from (front ++ rest)) in
-    let left : size ≤ length (drop from (front ++ rest)) = omega (arith, length-drop from (front ++ rest), length-append front rest, whole, more, within) in
-    let long : length row ≡ size = length-take-le size (drop from (front ++ rest)) left in
-    subst (λ t. IsWritten old at t new (at + (size - from))) (end_of_buffer front rest from size whole within ∙ is)
-    (written_row old row new at (size - from) (omega (arith, long, room)) (omega (arith, long)) put)
 
 -- ---- parts once more
 

@@ -1,15 +1,15 @@
 //! The printed texts of addresses and prefixes.
 
 ghost use Rattle.std.specs.Prelude.{◌≡◌, ◌+◌, ◌*◌, ◌<◌, ◌≤◌, [], ◌∷◌, ◌++◌, OnOk, OnErr, length, take, drop, replicate, decimal};
-ghost use Rattle.std.specs.Char.{digit_char};
 ghost use Rattle.std.specs.Net.Text as Hex;
 ghost use Rattle.ip_prefix.specs.declared.addr.Family.TheVariants.{V4, V6};
 ghost use Rattle.ip_prefix.specs.Address.{groups_of};
-ghost use Rattle.ip_prefix.specs.Text.{address_text, network_text, v4_text, v6_text};
-ghost use Rattle.ip_prefix.specs.Written.{IsWritten};
+ghost use Rattle.ip_prefix.specs.Text.{address_text, led_groups, network_text, v4_text, v6_text};
+ghost use Rattle.ip_prefix.specs.Written.{IsWritten, two_hex_digits};
 
 use crate::addr::{Addr, Family, GROUP_COUNT, V4_OCTETS};
 use crate::cursor::{ROW, put_octets, write_short};
+use crate::digits::HEX_PAIRS;
 use crate::prefix::Prefix;
 use std::alloc::AllocError;
 
@@ -27,6 +27,9 @@ pub(crate) const LENGTH_DIGITS: usize = 3;
 
 /// How many digits a group has at most.
 const GROUP_DIGITS: usize = 4;
+
+/// How many digits are written at once.
+const PAIR: usize = 2;
 
 /// How many groups that are 0 have at least to stand in a row for `::` to stand for them.
 const LEAST_RUN: usize = 2;
@@ -128,10 +131,7 @@ fn write_colons(address: &Addr, text: &mut [u8], at: usize) -> usize
     ensures written { IsWritten text.old at (v6_text address.now) text.new result }
     ensures short { result ≤ at + COLONS_ROOM }
 {
-    let mut buffer = [COLON; 2 * COLONS_ROOM];
-    let from = write_shortened(&groups_of(address), &mut buffer[..COLONS_ROOM]);
-    put_octets(&buffer[from..from + COLONS_ROOM], text, at);
-    at + (COLONS_ROOM - from)
+    write_shortened(&groups_of(address), text, at)
 }
 
 // The groups of an IPv6 address.
@@ -152,20 +152,20 @@ fn groups_of(address: &Addr) -> [u16; GROUP_COUNT]
     ]
 }
 
-// Writes the eight groups at the end of the buffer, and returns where their text starts.
-fn write_shortened(groups: &[u16], buffer: &mut [u8]) -> usize
-    requires { (length groups.now ≡ GROUP_COUNT) × (length buffer.old ≡ COLONS_ROOM) }
-    ensures within { result ≤ COLONS_ROOM }
-    ensures written { drop result buffer.new ≡ Hex.hex_groups_text groups.now }
+// Writes the eight groups, shortened.
+#[inline]
+fn write_shortened(groups: &[u16], text: &mut [u8], at: usize) -> usize
+    requires { (length groups.now ≡ GROUP_COUNT) × (at + COLONS_ROOM ≤ length text.old) }
+    ensures written { IsWritten text.old at (Hex.hex_groups_text groups.now) text.new result }
+    ensures short { result ≤ at + COLONS_ROOM }
 {
     let (first, len) = longest_zero_run(groups);
     if len < LEAST_RUN {
-        return write_groups(groups, buffer, COLONS_ROOM);
+        return write_groups(groups, text, at);
     }
-    let after = write_groups(&groups[first + len..], buffer, COLONS_ROOM);
-    buffer[after - 1] = COLON;
-    buffer[after - 2] = COLON;
-    write_groups(&groups[..first], buffer, after - 2)
+    let gap = write_groups(&groups[..first], text, at);
+    put_octets(&[COLON, COLON], text, gap);
+    write_groups(&groups[first + len..], text, gap + 2)
 }
 
 // The start and the length of the longest run of groups that are 0, and of two such runs the
@@ -187,58 +187,88 @@ fn longest_zero_run(groups: &[u16]) -> (usize, usize)
     (start, len)
 }
 
-// Writes the groups, joined by colons, so that they end at `end`, and returns where they start.
-fn write_groups(groups: &[u16], buffer: &mut [u8], end: usize) -> usize
-    requires { (GROUP_ROOM * length groups.now ≤ end) × (end ≤ length buffer.old) }
-    ensures start { (result ≤ end) × (end ≤ result + GROUP_ROOM * length groups.now) }
-    ensures written { drop result buffer.new ≡ Hex.groups_text groups.now ++ drop end buffer.old }
+// Writes the groups, joined by colons.
+fn write_groups(groups: &[u16], text: &mut [u8], at: usize) -> usize
+    requires { at + GROUP_ROOM * length groups.now ≤ length text.old }
+    ensures written { IsWritten text.old at (Hex.groups_text groups.now) text.new result }
+    ensures short { result ≤ at + GROUP_ROOM * length groups.now }
 {
-    if groups.is_empty() {
-        return end;
-    }
-    let mut left = groups.len() - 1;
-    let mut at = write_group(groups[left], buffer, end);
-    while left > 0 {
-        left -= 1;
-        buffer[at - 1] = COLON;
-        at = write_group(groups[left], buffer, at - 1);
-    }
-    at
+    let Some((first, rest)) = groups.split_first() else {
+        return at;
+    };
+    let behind = write_group(*first, text, at);
+    write_led_groups(rest, text, behind)
 }
 
-// Writes a group in lower-case hexadecimal, without leading zeros, so that it ends at `end`, and
-// returns where it starts.
+// Writes the groups, a colon before each.
 #[inline]
-fn write_group(group: u16, buffer: &mut [u8], end: usize) -> usize
-    requires { (GROUP_DIGITS ≤ end) × (end ≤ length buffer.old) }
-    ensures start { (result ≤ end) × (end ≤ result + GROUP_DIGITS) }
-    ensures written { drop result buffer.new ≡ Hex.hex group ++ drop end buffer.old }
+fn write_led_groups(groups: &[u16], text: &mut [u8], at: usize) -> usize
+    requires { at + GROUP_ROOM * length groups.now ≤ length text.old }
+    ensures written { IsWritten text.old at (led_groups groups.now) text.new result }
+    ensures short { result ≤ at + GROUP_ROOM * length groups.now }
 {
-    buffer[end - 1] = hex_digit(group % 16);
-    if group < 0x10 {
-        return end - 1;
+    let mut place = at;
+    for group in groups {
+        place = write_led_group(*group, text, place);
     }
-    buffer[end - 2] = hex_digit(group / 0x10 % 16);
+    place
+}
+
+// Writes a colon and a group.
+#[inline]
+fn write_led_group(group: u16, text: &mut [u8], at: usize) -> usize
+    requires { at + GROUP_ROOM ≤ length text.old }
+    ensures written { IsWritten text.old at (COLON ∷ Hex.hex group) text.new result }
+    ensures short { result ≤ at + GROUP_ROOM }
+{
+    text[at] = COLON;
+    write_group(group, text, at + 1)
+}
+
+// Writes a group in lower-case hexadecimal, without leading zeros.
+#[inline]
+fn write_group(group: u16, text: &mut [u8], at: usize) -> usize
+    requires { at + GROUP_DIGITS ≤ length text.old }
+    ensures written { IsWritten text.old at (Hex.hex group) text.new result }
+    ensures short { result ≤ at + GROUP_DIGITS }
+{
     if group < 0x100 {
-        return end - 2;
+        return write_low_group(group, text, at);
     }
-    buffer[end - 3] = hex_digit(group / 0x100 % 16);
-    if group < 0x1000 {
-        return end - 3;
-    }
-    buffer[end - 4] = hex_digit(group / 0x1000);
-    end - 4
+    let low = write_low_group(group / 0x100, text, at);
+    write_pair(group % 0x100, text, low)
 }
 
-// A hexadecimal digit.
+// Writes a group of up to two digits.
 #[inline]
-fn hex_digit(digit: u16) -> u8
-    requires { digit < 16 }
-    ensures { result ≡ digit_char digit }
+fn write_low_group(group: u16, text: &mut [u8], at: usize) -> usize
+    requires { (group < 0x100) × (at + PAIR ≤ length text.old) }
+    ensures written { IsWritten text.old at (Hex.hex group) text.new result }
+    ensures short { result ≤ at + PAIR }
 {
-    if digit < 10 {
-        b'0' + digit as u8
-    } else {
-        b'a' + (digit - 10) as u8
+    if group < 0x10 {
+        text[at] = hex_pair(group)[1];
+        return at + 1;
     }
+    write_pair(group, text, at)
+}
+
+// Writes a number below 256 in two hexadecimal digits.
+#[inline]
+fn write_pair(number: u16, text: &mut [u8], at: usize) -> usize
+    requires { (number < 0x100) × (at + PAIR ≤ length text.old) }
+    ensures written { IsWritten text.old at (two_hex_digits number) text.new result }
+    ensures short { result ≡ at + PAIR }
+{
+    put_octets(&hex_pair(number), text, at);
+    at + PAIR
+}
+
+// A number below 256 in two hexadecimal digits.
+#[inline(always)]
+fn hex_pair(number: u16) -> [u8; PAIR]
+    requires { number < 0x100 }
+    ensures { result ≡ two_hex_digits number }
+{
+    HEX_PAIRS[number as usize]
 }
