@@ -7,7 +7,7 @@ mod met;
 mod nodes;
 mod walks;
 
-use crate::{MapStore, PrefixStore, RadixStore};
+use crate::{LeftStore, MapStore, PrefixStore, RadixStore};
 use ip_prefix::{Addr, Prefix};
 use std::process::Abort;
 use std::test::Fail;
@@ -27,6 +27,12 @@ impl HasNodes for MapStore<u32> {
 impl HasNodes for RadixStore<u32> {
     fn node_count(&self) -> Option<u64> {
         Some(self.nodes())
+    }
+}
+
+impl<S> HasNodes for LeftStore<S> {
+    fn node_count(&self) -> Option<u64> {
+        None
     }
 }
 
@@ -112,6 +118,11 @@ fn map_store_keys_come_and_go(rt: HostRuntime) -> Result<(), Fail> {
 #[test]
 fn radix_store_keys_come_and_go(rt: HostRuntime) -> Result<(), Fail> {
     keys_come_and_go(&rt, RadixStore::new(rt.alloc()))
+}
+
+#[test]
+fn left_store_keys_come_and_go(rt: HostRuntime) -> Result<(), Fail> {
+    keys_come_and_go(&rt, LeftStore::<MapStore<u32>>::new(rt.alloc()))
 }
 
 fn routes_change_places<S: PrefixStore<u32>>(rt: &impl Abort, mut store: S) -> Result<(), Fail> {

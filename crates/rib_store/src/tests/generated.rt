@@ -2,7 +2,7 @@
 
 use super::listed::Listed;
 use super::{HasNodes, after, longest};
-use crate::{MapStore, PrefixStore, RadixStore};
+use crate::{LeftStore, MapStore, PrefixStore, RadixStore};
 use ip_prefix::{Addr, Prefix};
 use std::alloc::Global;
 use std::process::Abort;
@@ -183,4 +183,13 @@ fn map_store_answers_as_a_list_does(rt: HostRuntime) -> Result<(), Fail> {
 #[test]
 fn radix_store_answers_as_a_list_does(rt: HostRuntime) -> Result<(), Fail> {
     answers_as_a_list_does(&rt, rt.alloc(), RadixStore::new(rt.alloc()))
+}
+
+#[test]
+fn left_store_answers_as_a_list_does(rt: HostRuntime) -> Result<(), Fail> {
+    answers_as_a_list_does(
+        &rt,
+        rt.alloc(),
+        LeftStore::<RadixStore<u32>>::new(rt.alloc()),
+    )
 }

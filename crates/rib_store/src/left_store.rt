@@ -1,0 +1,65 @@
+//! A store whose memory is left to the system.
+
+ghost use Rattle.std.specs.Prelude.{◌≡◌};
+ghost use Rattle.std.specs.Mem.{manually_drop_value};
+
+use crate::store::PrefixStore;
+use ip_prefix::{Addr, Prefix};
+use std::alloc::{AllocError, Global};
+use std::mem::ManuallyDrop;
+
+/// Another store, whose memory is not given back when this one is dropped: the system takes it when
+/// the program ends. So it is for programs that end soon after they drop it, which need not take
+/// the store apart first. Dropped elsewhere, it loses the memory of the store.
+#[derive(Drop)]
+pub struct LeftStore<S> {
+    store: ManuallyDrop<S>,
+}
+
+impl<R, S: PrefixStore<R>> PrefixStore<R> for LeftStore<S> {
+    ghost keys = { λ s. S.keys (manually_drop_value s.store) };
+
+    ghost routes = { λ s. S.routes (manually_drop_value s.store) };
+
+    fn new(alloc: Global) -> Self {
+        LeftStore {
+            store: ManuallyDrop::new(S::new(alloc)),
+        }
+    }
+
+    fn ensure(&mut self, prefix: Prefix) -> Result<bool, AllocError> {
+        self.store.ensure(prefix)
+    }
+
+    fn exchange(&mut self, prefix: &Prefix, route: &mut Option<R>) {
+        self.store.exchange(prefix, route);
+    }
+
+    fn discard(&mut self, prefix: &Prefix) {
+        self.store.discard(prefix);
+    }
+
+    fn has_key(&self, prefix: &Prefix) -> bool {
+        self.store.has_key(prefix)
+    }
+
+    fn get(&self, prefix: &Prefix) -> Option<&R> {
+        self.store.get(prefix)
+    }
+
+    fn longest(&self, addr: &Addr) -> Option<(Prefix, &R)> {
+        self.store.longest(addr)
+    }
+
+    fn after(&self, prefix: Option<&Prefix>) -> Option<(Prefix, &R)> {
+        self.store.after(prefix)
+    }
+
+    fn key_count(&self) -> u64 {
+        self.store.key_count()
+    }
+
+    fn route_count(&self) -> u64 {
+        self.store.route_count()
+    }
+}
