@@ -15,7 +15,7 @@ ghost use Rattle.bgpdump.specs.Joining.{KeepsBoth, Leaves, has_failed, left_of};
 
 use bgpdump_tool::{LONGEST_SCRIPT, Outcome, Output, WriteOutput, run_dump, run_play};
 use mrt_wire::{Input, ReadInput, Route, Stamp};
-use rib_store::RadixStore;
+use rib_store::{LeftStore, RadixStore};
 use std::alloc::Global;
 use std::io::{BufReader, BufWriter, Read, Write};
 use std::rc::Rc;
@@ -23,8 +23,10 @@ use std::rc::Rc;
 /// How many octets each buffer holds.
 const BUFFER_SIZE: usize = 65_536;
 
-/// The store of the player.
-type Routes = RadixStore<Rc<Route>>;
+/// The store of the player. The program ends soon behind a run, so what the player's stores still
+/// hold then is left to the system: to take it apart would take as long again as the run. In the
+/// course of a run the player drops a store only once it has no keys, and then it has no memory.
+type Routes = LeftStore<RadixStore<Rc<Route>>>;
 
 /// How a run ended. The input has what the run left of it: None where memory was refused before the
 /// run began. The writers of lines or replies and of reports have all that the run wrote: None also
