@@ -172,7 +172,7 @@ fn entries_of<S: PrefixStore<Rc<Route>>>(
         ≡ filter (λ side. is_some side.1 || is_some (finite.get table.now.routes side.0))
         (map slot_side routes.entries)) }
 {
-    let mut entries = Vec::new(alloc);
+    let mut entries = Vec::with_capacity(alloc, routes.len())?;
     'routes: for (pair, other) in routes {
         if other.is_some() || table.route(&pair).is_some() {
             entries.push(Entry {
