@@ -75,6 +75,29 @@ noted_effect-put old new peers pair slot q none put =
         ∙ ap (later (effect_of (Some (route_in slot)) false)) (sym (effect_of-none (slot_at old q) (is_lost peers q) here))
     at false e = sym (later-keep (effect_of (found old q) (is_lost peers q)))
 
+-- where the peer isn't lost, what is put into a pair's slot, unless something is there, comes before all that is noted
+pub noted_effect-first : (old new : Slots) (peers : List Peer) (pair : Pair) (slot : Slot) (q : Pair) → is_lost peers pair ≡ false
+    → (is_some (slot_at old pair) ≡ false → (q : Pair) → slot_at new q ≡ cond (eq_by_cmp pair_cmp pair q) (Some slot) (slot_at old q))
+    → (is_some (slot_at old pair) ≡ true → (q : Pair) → slot_at new q ≡ slot_at old q)
+    → effect_of (found new q) (is_lost peers q) ≡ later (where_true (eq_by_cmp pair_cmp q pair) (effect_of (Some (route_in slot)) false)) (effect_of (found old q) (is_lost peers q))
+noted_effect-first old new peers pair slot q held free taken = at (is_some (slot_at old pair)) refl
+  where
+    at : (b : Bool) → is_some (slot_at old pair) ≡ b
+        → effect_of (found new q) (is_lost peers q) ≡ later (where_true (eq_by_cmp pair_cmp q pair) (effect_of (Some (route_in slot)) false)) (effect_of (found old q) (is_lost peers q))
+    at true e =
+        ap (λ s. effect_of (option_map route_in s) (is_lost peers q)) (taken e q)
+        ∙ noted_effect-decided old peers pair (effect_of (Some (route_in slot)) false) q (ap (λ b. b || is_lost peers pair) e)
+    at false e = noted_effect-put old new peers pair slot q (ap (λ b. b || is_lost peers pair) e ∙ held) (free e q)
+
+-- where the peer is lost, an earlier effect changes nothing
+pub noted_effect-lost : (slots : Slots) (peers : List Peer) (pair : Pair) (first : Effect) (q : Pair) → is_lost peers pair ≡ true
+    → effect_of (found slots q) (is_lost peers q) ≡ later (where_true (eq_by_cmp pair_cmp q pair) first) (effect_of (found slots q) (is_lost peers q))
+noted_effect-lost slots peers pair first q lost = noted_effect-decided slots peers pair first q (either (is_some (slot_at slots pair)))
+  where
+    either : (b : Bool) → (b || is_lost peers pair) ≡ true
+    either true = refl
+    either false = lost
+
 -- pairs that lose their route, and then more of them
 or_absent-more : (kept : Option (Option Route)) (some more : Bool) → or_absent (or_absent kept some) more ≡ or_absent kept (some || more)
 or_absent-more (Some route) some more = refl
@@ -115,6 +138,28 @@ found-put old new pair q none put =
     at : (b : Bool) → eq_by_cmp pair_cmp pair q ≡ b → option_map route_in (cond b (Some None) (slot_at old q)) ≡ or_absent (found old q) b
     at true e = or_absent-none (slot_at old q) (ap (λ p. is_some (slot_at old p)) (sym (same_pair pair q e)) ∙ none)
     at false e = or_absent-false (found old q)
+
+-- a pair gets a slot without a route, unless something is there
+pub found-first : (old new : Slots) (pair q : Pair)
+    → (is_some (slot_at old pair) ≡ false → (q : Pair) → slot_at new q ≡ cond (eq_by_cmp pair_cmp pair q) (Some None) (slot_at old q))
+    → (is_some (slot_at old pair) ≡ true → (q : Pair) → slot_at new q ≡ slot_at old q)
+    → found new q ≡ or_absent (found old q) (eq_by_cmp pair_cmp q pair)
+found-first old new pair q free taken = at (is_some (slot_at old pair)) refl
+  where
+    at : (b : Bool) → is_some (slot_at old pair) ≡ b → found new q ≡ or_absent (found old q) (eq_by_cmp pair_cmp q pair)
+    at true e = ap (option_map route_in) (taken e q) ∙ found-there old pair q e
+    at false e = found-put old new pair q e (free e q)
+
+-- what stood in a slot is put back
+pub put-back : (old over new : Slots) (pair : Pair) (slot stood : Slot) → Some stood ≡ slot_at old pair
+    → ((q : Pair) → slot_at over q ≡ cond (eq_by_cmp pair_cmp pair q) (Some slot) (slot_at old q))
+    → ((q : Pair) → slot_at new q ≡ cond (eq_by_cmp pair_cmp pair q) (Some stood) (slot_at over q))
+    → (q : Pair) → slot_at new q ≡ slot_at old q
+put-back old over new pair slot stood there put back q = back q ∙ ap (cond (eq_by_cmp pair_cmp pair q) (Some stood)) (put q) ∙ at (eq_by_cmp pair_cmp pair q) refl
+  where
+    at : (b : Bool) → eq_by_cmp pair_cmp pair q ≡ b → cond b (Some stood) (cond b (Some slot) (slot_at old q)) ≡ slot_at old q
+    at true e = there ∙ ap (slot_at old) (same_pair pair q e)
+    at false e = refl
 
 -- one more of a list of pairs that lose their route
 pub found-more : (pairs : List Pair) (i : ℕ) (pair : Pair) (kept old new : Option (Option Route)) (q : Pair) → i < length pairs → pair ≡ get_or pairs i pair

@@ -1,5 +1,5 @@
 -- What is noted of an event's items, pair by pair.
-use Rattle.std.specs.Prelude.{Bool, true, false, ◌||◌, List, Option, Some, None, is_some}
+use Rattle.std.specs.Prelude.{Bool, true, false, List, Option, Some, None}
 use Rattle.std.specs.List.{list_any}
 use Rattle.std.specs.Option.{option_map}
 use Rattle.std.specs.Ordering.{eq_by_cmp}
@@ -28,10 +28,6 @@ effect_of None lost = where_true lost Clear
 -- what is noted for a pair
 abbrev pub noted_effect : Changes → Pair → Effect
 noted_effect changes pair = effect_of (found changes.routes.entries pair) (is_lost changes.lost.keys pair)
-
--- something is noted for a pair
-abbrev pub decides : Changes → Pair → Bool
-decides changes pair = is_some (slot_at changes.routes.entries pair) || is_lost changes.lost.keys pair
 
 -- what is kept for a pair once it is among those that lose their route
 abbrev pub or_absent : Option (Option Route) → Bool → Option (Option Route)

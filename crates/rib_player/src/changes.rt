@@ -1,6 +1,6 @@
 //! What an event does, pair by pair.
 
-ghost use Rattle.std.specs.Prelude.{◌≡◌, ◌||◌, ◌&&◌, IfOk, OnOk, OnErr, Some, false, is_some, if◌then◌else◌, map};
+ghost use Rattle.std.specs.Prelude.{◌≡◌, ◌||◌, ◌&&◌, IfOk, OnOk, OnErr, Some, true, false, is_some, if◌then◌else◌, map};
 ghost use Rattle.std.specs.List.{list_any, filter, IsDistinct};
 ghost use Rattle.std.specs.Map.{keys_of};
 ghost use Rattle.std.specs.Ordering.{eq_by_cmp};
@@ -10,7 +10,7 @@ ghost use Rattle.rib_player.specs.declared.pair.Pair.{Pair};
 ghost use Rattle.mrt_wire.specs.Peer.{peer_cmp};
 ghost use Rattle.rib_player.specs.History.{pair_cmp, Clear, where_true, item_effect, later, effect};
 ghost use Rattle.rib_player.specs.Store.{route_in, slot_at};
-ghost use Rattle.rib_player.specs.Changes.{noted_effect, decides, found, is_lost, or_absent, effect_of};
+ghost use Rattle.rib_player.specs.Changes.{noted_effect, found, is_lost, or_absent, effect_of};
 ghost use Rattle.rib_player.specs.Journal.{sides_of, slot_side, AreOrdered, IsStepFor};
 
 use crate::journal::Entry;
@@ -36,13 +36,6 @@ pub(crate) struct Changes {
 }
 
 impl Changes {
-    /// Whether an item decides about the pair.
-    fn decides(&self, pair: &Pair) -> bool
-        ensures { result ≡ decides self.now pair.now }
-    {
-        self.routes.contains_key(pair) || self.lost.contains(&pair.peer)
-    }
-
     /// Notes the route that the pair has then, or its absence.
     fn note_route(&mut self, pair: Pair, route: Option<Rc<Route>>) -> Result<(), AllocError>
         ensures { OnOk result ((q : Pair) → noted_effect self.new q
@@ -50,8 +43,8 @@ impl Changes {
             (where_true (eq_by_cmp pair_cmp q pair) (effect_of (Some (route_in route)) false))
             (noted_effect self.old q)) }
     {
-        if !self.decides(&pair) {
-            put_slot(&mut self.routes, pair, route)?;
+        if !self.lost.contains(&pair.peer) {
+            put_first(&mut self.routes, &pair, route)?;
         }
         Ok(())
     }
@@ -112,17 +105,37 @@ fn changes_of(alloc: Global, event: &Event) -> Result<Changes, AllocError>
     Ok(changes)
 }
 
-/// Puts a route, or the absence of one, into the pair's slot.
+/// Puts a route, or the absence of one, into the pair's slot, and answers what stood there.
 fn put_slot(
     slots: &mut BTreeMap<Pair, Option<Rc<Route>>>,
     pair: Pair,
     route: Option<Rc<Route>>,
-) -> Result<(), AllocError>
+) -> Result<Option<Option<Rc<Route>>>, AllocError>
     ensures put { OnOk result ((q : Pair) → slot_at slots.new.entries q
         ≡ (if eq_by_cmp pair_cmp pair q then Some route else slot_at slots.old.entries q)) }
+    ensures stood { IfOk result (λ stood. stood ≡ slot_at slots.old.entries pair) }
     ensures refused { OnErr result (slots.new.entries ≡ slots.old.entries) }
 {
-    slots.insert(pair, route)?;
+    let stood = slots.insert(pair, route)?;
+    Ok(stood)
+}
+
+/// Puts a route, or the absence of one, into the pair's slot, unless something stands there: that
+/// is put back. So a pair that is named once costs one look-up.
+fn put_first(
+    slots: &mut BTreeMap<Pair, Option<Rc<Route>>>,
+    pair: &Pair,
+    route: Option<Rc<Route>>,
+) -> Result<(), AllocError>
+    ensures free { OnOk result (is_some (slot_at slots.old.entries pair.now) ≡ false
+        → (q : Pair) → slot_at slots.new.entries q
+        ≡ (if eq_by_cmp pair_cmp pair.now q then Some route else slot_at slots.old.entries q)) }
+    ensures taken { OnOk result (is_some (slot_at slots.old.entries pair.now) ≡ true
+        → (q : Pair) → slot_at slots.new.entries q ≡ slot_at slots.old.entries q) }
+{
+    if let Some(stood) = put_slot(slots, *pair, route)? {
+        put_slot(slots, *pair, stood)?;
+    }
     Ok(())
 }
 
@@ -135,9 +148,7 @@ fn note_absent(
         ≡ or_absent (found routes.old.entries q) (list_any (eq_by_cmp pair_cmp q) pairs.now)) }
 {
     'pairs: for pair in pairs {
-        if !routes.contains_key(pair) {
-            put_slot(routes, *pair, None)?;
-        }
+        put_first(routes, pair, None)?;
     }
     Ok(())
 }
