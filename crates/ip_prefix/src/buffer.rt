@@ -6,8 +6,8 @@ ghost use Rattle.ip_prefix.specs.Written.{ended_words};
 
 use crate::addr::Addr;
 use crate::cursor::{
-    DECIMAL_ROOM, ENDED_ROOM, PAIR_ROOM, put_octets, write_decimal, write_ended_decimal,
-    write_ended_decimals, write_ended_pair, write_led_decimal,
+    DECIMAL_ROOM, ENDED_ROOM, put_octets, write_decimal, write_ended_decimal, write_ended_decimals,
+    write_led_decimal,
 };
 use crate::prefix::Prefix;
 use crate::text::{ADDRESS_ROOM, PREFIX_ROOM};
@@ -214,31 +214,6 @@ impl Text {
         let room = numbers.len().checked_mul(WORD_ROOM).ok_or(AllocError)?;
         make_room(&mut self.buffer, self.len, room)?;
         self.len = write_ended_words::<W>(numbers, end, self.buffer.as_mut_slice(), self.len);
-        Ok(())
-    }
-
-    /// Appends two numbers in decimal, and an octet behind each.
-    #[inline]
-    pub fn put_ended_pair(
-        &mut self,
-        one: u32,
-        middle: u8,
-        other: u32,
-        end: u8,
-    ) -> Result<(), AllocError>
-        ensures appended { OnOk result (self.new ≡ self.old
-            ++ ((decimal one ++ middle ∷ []) ++ (decimal other ++ end ∷ []))) }
-        ensures unchanged { OnErr result (self.new ≡ self.old) }
-    {
-        make_room(&mut self.buffer, self.len, PAIR_ROOM)?;
-        self.len = write_ended_pair(
-            one,
-            middle,
-            other,
-            end,
-            self.buffer.as_mut_slice(),
-            self.len,
-        );
         Ok(())
     }
 
