@@ -1,6 +1,6 @@
 //! Prefixes of both families.
 
-ghost use Rattle.std.specs.Prelude.{◌≡◌, ◌-◌, ◌<◌, ◌≤◌, ◌++◌, false, MatchOption, IfSome, IfNone, length, replicate, take, drop};
+ghost use Rattle.std.specs.Prelude.{◌≡◌, ◌-◌, ◌<◌, ◌≤◌, ◌++◌, false, MatchOption, IfSome, IfNone, length, replicate, take};
 ghost use Rattle.ip_prefix.specs.Address.{IsAddress, bit_count};
 ghost use Rattle.ip_prefix.specs.Bits.{bits_of};
 ghost use Rattle.ip_prefix.specs.Highest.{highest_part};
@@ -149,7 +149,9 @@ impl Prefix {
         if rest.len() < size {
             return None;
         }
-        let number = highest(u128::from_be_bytes(filled_octets(&rest[..size])), len);
+        let mut buffer = [0; V6_OCTETS];
+        buffer[..size].copy_from_slice(&rest[..size]);
+        let number = highest(u128::from_be_bytes(buffer), len);
         Some((
             Prefix {
                 number: Number::new(number),
@@ -241,27 +243,4 @@ fn highest(number: u128, len: u8) -> u128
     }
     let below = NUMBER_BITS - len;
     number >> below << below
-}
-
-// The octets, filled with zeros to those of an IPv6 address. Few octets, as most prefixes have, are
-// taken one by one, since that is faster than a copy of a length that is not known.
-#[inline]
-fn filled_octets(octets: &[u8]) -> [u8; V6_OCTETS]
-    requires { length octets.now ≤ V6_OCTETS }
-    ensures { result ≡ octets.now ++ drop (length octets.now) (replicate V6_OCTETS 0) }
-{
-    match *octets {
-        [] => [0; V6_OCTETS],
-        [a] => [a, 0, 0, 0, 0, 0, 0, 0, 0, 0, 0, 0, 0, 0, 0, 0],
-        [a, b] => [a, b, 0, 0, 0, 0, 0, 0, 0, 0, 0, 0, 0, 0, 0, 0],
-        [a, b, c] => [a, b, c, 0, 0, 0, 0, 0, 0, 0, 0, 0, 0, 0, 0, 0],
-        [a, b, c, d] => [a, b, c, d, 0, 0, 0, 0, 0, 0, 0, 0, 0, 0, 0, 0],
-        [a, b, c, d, e] => [a, b, c, d, e, 0, 0, 0, 0, 0, 0, 0, 0, 0, 0, 0],
-        [a, b, c, d, e, f] => [a, b, c, d, e, f, 0, 0, 0, 0, 0, 0, 0, 0, 0, 0],
-        _ => {
-            let mut filled = [0; V6_OCTETS];
-            filled[..octets.len()].copy_from_slice(octets);
-            filled
-        }
-    }
 }

@@ -41,11 +41,11 @@ returns-clause-some c =
     let all : length (body ++ zeros) ≡ 16 = omega (arith, length-append body zeros, body_size, length-drop {A = ℕ} size (replicate 16 0)) in
     let octets : (i : ℕ) → get_or c.args.octets.now i 0 < 256 = λ i. omega (arith, c.type_inv.octets i) in
     let each = AllByRecursion-take IsOctet size rest (AllOctets-from (len ∷ rest) (λ i. subst (λ l. get_or l i 0 < 256) whole (octets i))).1 in
-    let front : c.filled_octets.result ≡ body ++ zeros = c.filled_octets.ensures ∙ ap (λ n. body ++ drop n (replicate 16 0)) body_size in
-    let number : c.from_be_bytes.result ≡ from_be_bytes w128 (body ++ zeros) = c.from_be_bytes.ensures ∙ ap (from_be_bytes w128) front in
+    let read : c.from_be_bytes.result ≡ from_be_bytes w128 (c.copy_from_slice.new.self ++ zeros) = c.from_be_bytes.ensures in
+    let number = read ∙ ap (λ l. from_be_bytes w128 (l ++ zeros)) c.copy_from_slice.ensures.after in
     let bits =
     ap (λ n. bits_of len (n / 2 ^ (128 - len))) (c.new.ensures ∙ c.highest-number.ensures ∙ ap (λ n. n / 2 ^ (128 - len) * 2 ^ (128 - len)) number)
     ∙ bits_read len body zeros (omega arith) all (AllByRecursion-append IsOctet body zeros each (AllByRecursion-drop IsOctet size (replicate 16 0) (AllByRecursion-replicate IsOctet 16 0 (omega arith)))) in
     let spelled = spelled_by family len body (bits_of len (c.new.result / 2 ^ (128 - len))) within each (omega arith) (omega arith) bits in
-    let taken : take (size + 1) c.args.octets.now ≡ len ∷ body = ap (take (size + 1)) whole ∙ ap (λ k. take k (len ∷ rest)) (add-one size) in
-    (omega (arith, c.in_ok-len.ensures.cases.1), subst (SpellsNetwork family record { family = family; bits = bits_of len (c.new.result / 2 ^ (128 - len)) }) (sym taken) spelled)
+    let front : take (size + 1) c.args.octets.now ≡ len ∷ body = ap (take (size + 1)) whole ∙ ap (λ k. take k (len ∷ rest)) (add-one size) in
+    (omega (arith, c.in_ok-len.ensures.cases.1), subst (SpellsNetwork family record { family = family; bits = bits_of len (c.new.result / 2 ^ (128 - len)) }) (sym front) spelled)
