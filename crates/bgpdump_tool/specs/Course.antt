@@ -1,5 +1,5 @@
 -- What a script writes over results.
-use Rattle.std.specs.Prelude.{◌≡◌, ◌≢◌, ◌⊎◌, ℕ, ◌+◌, Bool, true, false, ◌&&◌, ◌||◌, List, [], ◌∷◌, ◌++◌, if◌then◌else◌, decimal, codes}
+use Rattle.std.specs.Prelude.{◌≡◌, ◌≢◌, ◌⊎◌, ℕ, ◌+◌, Bool, true, false, ◌&&◌, ◌||◌, List, [], ◌∷◌, if◌then◌else◌}
 use Rattle.mrt_wire.specs.declared.event.Stamp.{Stamp}
 use Rattle.mrt_wire.specs.declared.fault.RecordKind.TheVariants.{CutRecord}
 use Rattle.mrt_wire.specs.Verdict.{Frame}
