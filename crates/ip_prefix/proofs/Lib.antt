@@ -2,7 +2,6 @@ pub mod Booleans
 pub mod Options
 pub mod Lists
 pub mod BitLists
-pub mod Dots
 pub mod DigitRows
 pub mod Highest
 mod Comparing

@@ -1,9 +1,9 @@
 -- How texts in a slice follow one another.
-use Rattle.std.proofs.Common.{◌≡◌, ℕ, suc, ◌+◌, ◌-◌, ◌<◌, ◌≤◌, decimal, map, append-nil, List, [], ◌∷◌, ◌++◌, length, take, drop, set, refl, ap, sym, ◌∙◌, arith, append_assoc, slice_range, get_or, subst, length-append, length-take-le}
-use Rattle.std.proofs.Math.Seq.{take-append-add, take-suc}
-use Rattle.std.proofs.lemmas.List.{map-append, take-append-le, length-drop, length-set, take_more_set, take-take, take_all, drop-take}
-use Rattle.std.proofs.lemmas.Grind.{common_steps, flat_map-append}
-use Rattle.ip_prefix.specs.Written.{IsWritten, ended_words, filled}
+use Rattle.std.proofs.Common.{◌≡◌, ℕ, ◌+◌, ◌-◌, ◌<◌, ◌≤◌, List, [], ◌∷◌, ◌++◌, length, take, drop, set, refl, ap, sym, ◌∙◌, arith, append_assoc, slice_range, get_or, subst, length-append, length-take-le}
+use Rattle.std.proofs.Math.Seq.{take-append-add}
+use Rattle.std.proofs.lemmas.List.{take-append-le, length-drop, length-set, take_more_set, take-take, take_all, drop-take}
+use Rattle.std.proofs.lemmas.Grind.{common_steps}
+use Rattle.ip_prefix.specs.Written.{IsWritten, filled}
 
 -- the first octets of a row stand where it was put
 pub written_row : (old row new : List ℕ) (at n : ℕ) → at + length row ≤ length old → n ≤ length row
@@ -68,12 +68,6 @@ written_then old mid new t u at k end first second = record {
   size = second.size ∙ first.size;
 }
 
--- an octet, and a text behind it
-pub written_led : (one two new u : List ℕ) (at x end : ℕ) → at < length one → two ≡ set one at x → IsWritten two (at + 1) u new end → IsWritten one at (x ∷ u) new end
-written_led one two new u at x end room led behind =
-    let lead : IsWritten one at (x ∷ []) two (at + 1) = subst (λ l. IsWritten one at (x ∷ []) l (at + 1)) (sym led) (written_octet one at x room) in
-    written_then one two new (x ∷ []) u at (at + 1) end lead behind
-
 -- a prefix is an address, a mark and a number
 pub written_marked : (old one two new t u : List ℕ) (at k x end : ℕ) → IsWritten old at t one k → k < length one → two ≡ set one k x
     → IsWritten two (k + 1) u new end → IsWritten old at (t ++ x ∷ u) new end
@@ -84,16 +78,6 @@ written_marked old one two new t u at k x end first room marked second =
 -- four texts with marks between them
 pub four_marked : (a b c d : List ℕ) (x : ℕ) → (((a ++ x ∷ []) ++ (b ++ x ∷ [])) ++ (c ++ x ∷ [])) ++ d ≡ a ++ x ∷ b ++ x ∷ c ++ x ∷ d
 four_marked a b c d x = grind (arith, common_steps)
-
--- words ended by an octet, with a number more
-pub one_more_ended : (x : ℕ) (numbers : List ℕ) (i n : ℕ) → n ≡ get_or numbers i n → i < length numbers
-    → ended_words x (map decimal (take (i + 1) numbers)) ≡ ended_words x (map decimal (take i numbers)) ++ (decimal n ++ x ∷ [])
-one_more_ended x numbers i n is less =
-    let so_far = map decimal (take i numbers) in
-    let next : suc i ≡ i + 1 = omega arith in
-    let taken : take i numbers ++ n ∷ [] ≡ take (i + 1) numbers = ap (λ m. take i numbers ++ m ∷ []) is ∙ sym (take-suc numbers i n less) ∙ ap (λ j. take j numbers) next in
-    ap (λ l. ended_words x (map decimal l)) (sym taken) ∙ ap (ended_words x) (map-append decimal (take i numbers) (n ∷ []))
-    ∙ flat_map-append (λ word. word ++ x ∷ []) so_far (decimal n ∷ []) ∙ ap (λ l. ended_words x so_far ++ l) (append-nil (decimal n ++ x ∷ []))
 
 -- ---- parts once more
 
