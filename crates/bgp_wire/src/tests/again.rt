@@ -3,7 +3,8 @@
 use super::messages::{COMMON, message_of, update_of};
 use super::{MALFORMED, NOTHING, octets_of, shown};
 use crate::{
-    AsWidth, Attrs, MessageKind, UpdateParts, WireFault, replace_message, replace_rib_attrs,
+    AsWidth, Attrs, MessageKind, UpdateParts, WireFault, read_rib_attrs, replace_attrs,
+    replace_message, replace_rib_attrs,
 };
 use ip_prefix::Family;
 use std::test::Fail;
@@ -41,6 +42,20 @@ fn attributes_replace_others(rt: HostRuntime) -> Result<(), Fail> {
                 assert!(rt; attrs.communities.as_slice().is_empty());
             }
             Err(WireFault::Memory) => assert!(rt; false, "there is memory"),
+        }
+    }
+    Ok(())
+}
+
+#[test]
+fn attributes_are_copied_over_others(rt: HostRuntime) -> Result<(), Fail> {
+    let alloc = rt.alloc();
+    let mut copy = Attrs::none(alloc);
+    for (octets, want) in ROWS {
+        let octets = octets_of(alloc, &[octets])?;
+        if let Ok(attrs) = read_rib_attrs(alloc, Family::V4, AsWidth::Four, &octets) {
+            replace_attrs(alloc, &mut copy, &attrs)?;
+            assert_eq!(rt; shown(alloc, &copy)?.as_slice(), want.as_bytes());
         }
     }
     Ok(())
