@@ -3,7 +3,10 @@
 
 use super::messages::{message_of, read_update};
 use super::octets_of;
-use crate::{AsPath, AsWidth, merge_paths, put_communities, read_rib_attrs};
+use crate::{
+    AsPath, AsWidth, Attrs, UpdateParts, merge_paths, put_communities, read_rib_attrs,
+    replace_attrs, replace_message, replace_rib_attrs,
+};
 use ip_prefix::Family;
 use std::alloc::{AllocError, Global};
 use std::process::Abort;
@@ -72,6 +75,26 @@ fn copies_a_path_of_many_segments(rt: HostRuntime) -> Result<(), Fail> {
 }
 
 #[test]
+fn many_segments_replace_others(rt: HostRuntime) -> Result<(), Fail> {
+    let alloc = rt.alloc();
+    let octets = repeated(alloc, WIDE_FRONT, WIDE_SEQUENCE, 1000)?;
+    let mut attrs = Attrs::none(alloc);
+    let mut copy = Attrs::none(alloc);
+    for _ in 0..2 {
+        replace_rib_attrs(
+            alloc,
+            &mut attrs,
+            Family::V4,
+            AsWidth::Four,
+            octets.as_slice(),
+        )?;
+        replace_attrs(alloc, &mut copy, &attrs)?;
+        assert_eq!(rt; copy.path.segments.as_slice().len(), 1000);
+    }
+    Ok(())
+}
+
+#[test]
 fn appends_a_path_of_many_segments(rt: HostRuntime) -> Result<(), Fail> {
     let path = path_of(rt.alloc(), WIDE_FRONT, WIDE_SEQUENCE, 1000)?;
     let mut text = Vec::new(rt.alloc());
@@ -131,6 +154,9 @@ fn reads_many_prefixes(rt: HostRuntime) -> Result<(), Fail> {
         body.append(&mut repeated(alloc, front, PREFIX, 3000)?)?;
     }
     let octets = message_of(alloc, 2, body.as_slice())?;
+    let mut parts = UpdateParts::none(alloc);
+    replace_message(alloc, &mut parts, AsWidth::Four, octets.as_slice())?;
+    assert_eq!(rt; parts.announced.as_slice().len(), 3000);
     let update = read_update(alloc, AsWidth::Four, octets.as_slice())?;
     for prefixes in [
         update.withdrawn,
