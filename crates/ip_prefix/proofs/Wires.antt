@@ -1,13 +1,14 @@
 -- Octets that spell prefixes.
-use Rattle.std.proofs.Common.{◌≡◌, ℕ, ◌+◌, ◌-◌, ◌*◌, ◌^◌, ◌/◌, ◌<◌, ◌≤◌, Bool, List, [], ◌∷◌, ◌++◌, length, take, drop, refl, ap, sym, ◌∙◌, arith, length-drop}
+use Rattle.std.proofs.Common.{◌≡◌, ℕ, ◌+◌, ◌-◌, ◌*◌, ◌^◌, ◌/◌, ◌<◌, ◌≤◌, Bool, List, [], ◌∷◌, ◌++◌, length, take, drop, refl, ap, sym, ◌∙◌, arith, length-drop, take_at}
 use Rattle.std.specs.Int.{w128, from_be_bytes}
-use Rattle.std.proofs.lemmas.List.{length-append, length-take-le, take-append-le, take-append-drop}
+use Rattle.std.proofs.lemmas.List.{length-append, length-take-le, take-append-drop}
 use Rattle.ip_prefix.specs.declared.addr.Family.{Family}
 use Rattle.ip_prefix.specs.Address.{bit_count}
 use Rattle.ip_prefix.specs.Bits.{bits_of, bits_of_octets}
 use Rattle.ip_prefix.specs.Network.{Network}
 use Rattle.ip_prefix.specs.Sequences.{Begins, IsCode}
 use Rattle.ip_prefix.specs.Wire.{SpellsNetwork}
+use Rattle.ip_prefix.proofs.BitLists.{take-bits_of}
 use Rattle.ip_prefix.proofs.Lists.{append_parts}
 use Rattle.ip_prefix.proofs.Masks.{first_bits}
 use Rattle.ip_prefix.proofs.Octets.{AllOctets, length-bits_of_octets, bits_of_octets-append, bits_of-from_be_bytes}
@@ -52,15 +53,26 @@ enough_octets kind n rest octets len more b e =
     let others : more ≡ s.body ++ rest = cc in
     omega (arith, first, ap length others, length-append s.body rest, body_size kind n b.front s)
 
--- the first bits of octets with others behind them, read as one number whose lower bits are cleared
-pub bits_read : (len : ℕ) (body others : List ℕ) → len ≤ 8 * length body → length (body ++ others) ≡ 16 → AllOctets (body ++ others)
-    → bits_of len (from_be_bytes w128 (body ++ others) / 2 ^ (128 - len) * 2 ^ (128 - len) / 2 ^ (128 - len)) ≡ take len (bits_of_octets body)
-bits_read len body others within size h =
-    let held : len ≤ length (bits_of_octets body) = omega (arith, length-bits_of_octets body) in
-    let len_le : len ≤ 128 = omega (arith, size, length-append body others) in
-    first_bits 128 (from_be_bytes w128 (body ++ others)) len len_le (omega arith)
-    ∙ ap (take len) (bits_of-from_be_bytes (body ++ others) size h ∙ bits_of_octets-append body others)
-    ∙ take-append-le len (bits_of_octets body) (bits_of_octets others) held
+-- the highest bits of the number that sixteen octets are, of which the first are those of a list
+pub bits_in_front : (size : ℕ) (octets all : List ℕ) → length all ≡ 16 → AllOctets all → size ≤ 16 → take size all ≡ take size octets
+    → bits_of (8 * size) (from_be_bytes w128 all / 2 ^ (128 - 8 * size)) ≡ bits_of_octets (take size octets)
+bits_in_front size octets all long each within same =
+    let n : ℕ = from_be_bytes w128 all in
+    let j : ℕ = 8 * size in
+    let whole : j + (128 - j) ≡ 128 = omega arith in
+    let one : n / 1 ≡ n = omega arith in
+    let held : length (bits_of_octets (take size all)) ≡ j = omega (arith, length-bits_of_octets (take size all), length-take-le size all (omega (arith, long, within))) in
+    sym (take-bits_of j (128 - j) n) ∙ ap (λ k. take j (bits_of k n)) whole
+    ∙ ap (λ m. take j (bits_of 128 m)) (sym one)
+    ∙ ap (take j) (bits_of-from_be_bytes all long each ∙ ap bits_of_octets (sym (take-append-drop size all)) ∙ bits_of_octets-append (take size all) (drop size all))
+    ∙ take_at (bits_of_octets (take size all)) (bits_of_octets (drop size all)) j held
+    ∙ ap bits_of_octets same
+
+-- the first of these bits, of the number whose lower bits are cleared
+pub bits_read : (len n : ℕ) (body : List ℕ) → len ≤ 8 * length body → 8 * length body ≤ 128
+    → bits_of (8 * length body) (n / 2 ^ (128 - 8 * length body)) ≡ bits_of_octets body
+    → bits_of len (n / 2 ^ (128 - len) * 2 ^ (128 - len) / 2 ^ (128 - len)) ≡ take len (bits_of_octets body)
+bits_read len n body within held e = first_bits (8 * length body) n len within held ∙ ap (take len) e
 
 -- the first bits of the least octets that hold them are spelled by their number and those octets
 pub spelled_by : (kind : Family) (len : ℕ) (body : List ℕ) (bits : List Bool) → len ≤ bit_count kind → AllOctets body → len ≤ 8 * length body → 8 * length body < len + 8

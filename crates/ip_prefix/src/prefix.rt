@@ -1,9 +1,10 @@
 //! Prefixes of both families.
 
-ghost use Rattle.std.specs.Prelude.{◌≡◌, ◌-◌, ◌<◌, ◌≤◌, ◌++◌, false, MatchOption, IfSome, IfNone, length, replicate, take};
+ghost use Rattle.std.specs.Prelude.{◌≡◌, ◌-◌, ◌*◌, ◌^◌, ◌<◌, ◌≤◌, ◌++◌, false, MatchOption, IfSome, IfNone, length, replicate, take};
+ghost use Rattle.std.specs.Int.{w128, from_be_bytes};
 ghost use Rattle.ip_prefix.specs.Address.{IsAddress, bit_count};
-ghost use Rattle.ip_prefix.specs.Bits.{bits_of};
-ghost use Rattle.ip_prefix.specs.Highest.{highest_part};
+ghost use Rattle.ip_prefix.specs.Bits.{bits_of, bits_of_octets};
+ghost use Rattle.ip_prefix.specs.Highest.{highest_bits, highest_part};
 ghost use Rattle.ip_prefix.specs.Network.{IsNetwork, network_of, least_address, contains, covers};
 ghost use Rattle.ip_prefix.specs.Sequences.{BeginsWithNone};
 ghost use Rattle.ip_prefix.specs.Wire.{SpellsNetwork};
@@ -12,6 +13,9 @@ use crate::addr::{Addr, Family, NUMBER_BITS, OCTET_BITS, V6_OCTETS, compare_fami
 use crate::number::Number;
 use std::cmp::Ordering;
 use std::marker::Model;
+
+/// How many octets the most usual prefixes of IPv4 have at most, behind their length.
+const SHORT: usize = 3;
 
 /// A prefix: the addresses of a family that begin with some bits. It is kept as the least of them
 /// and the number of bits.
@@ -136,6 +140,7 @@ impl Prefix {
 
     /// The prefix of this family that the octets begin with (RFC 4271, section 4.3), and how many
     /// octets it takes. The bits behind its length may be any.
+    #[inline]
     pub fn read(family: Family, octets: &[u8]) -> Option<(Prefix, usize)>
         ensures some { IfSome result (λ found. (found.1 ≤ length octets.now)
             × SpellsNetwork family found.0 (take found.1 octets.now)) }
@@ -149,9 +154,7 @@ impl Prefix {
         if rest.len() < size {
             return None;
         }
-        let mut buffer = [0; V6_OCTETS];
-        buffer[..size].copy_from_slice(&rest[..size]);
-        let number = highest(u128::from_be_bytes(buffer), len);
+        let number = highest(number_in_front(rest, size), len);
         Some((
             Prefix {
                 number: Number::new(number),
@@ -243,4 +246,34 @@ fn highest(number: u128, len: u8) -> u128
     }
     let below = NUMBER_BITS - len;
     number >> below << below
+}
+
+// A number whose highest bits are those of the octets in front, as many as are named. Its other bits
+// may be any. Octets are taken at once where enough stand there, or where three hold all.
+#[inline]
+fn number_in_front(octets: &[u8], size: usize) -> u128
+    requires { (size ≤ length octets.now) × (size ≤ V6_OCTETS) }
+    ensures fits { result < 2 ^ NUMBER_BITS }
+    ensures bits { highest_bits (OCTET_BITS * size) result ≡ bits_of_octets (take size octets.now) }
+{
+    if let Some(front) = octets.first_chunk::<V6_OCTETS>() {
+        return u128::from_be_bytes(*front);
+    }
+    if size <= SHORT {
+        if let Some(front) = octets.first_chunk::<SHORT>() {
+            return number_of_short(*front);
+        }
+    }
+    let mut buffer = [0; V6_OCTETS];
+    buffer[..size].copy_from_slice(&octets[..size]);
+    u128::from_be_bytes(buffer)
+}
+
+// The number that begins with three octets, and then has zeros.
+#[inline]
+fn number_of_short(octets: [u8; SHORT]) -> u128
+    ensures { result ≡ from_be_bytes w128 (octets ++ replicate (V6_OCTETS - SHORT) 0) }
+{
+    let [one, two, three] = octets;
+    u128::from_be_bytes([one, two, three, 0, 0, 0, 0, 0, 0, 0, 0, 0, 0, 0, 0, 0])
 }

@@ -1,14 +1,13 @@
--- The octets behind the length, filled with zeros, are the number, and its highest bits are theirs.
-use Rattle.std.proofs.Common.{◌≡◌, ℕ, List, ◌≤◌, ◌<◌, ◌+◌, ◌-◌, ◌*◌, ◌/◌, ◌^◌, ◌∷◌, ◌++◌, ◌∙◌, length, replicate, take, drop, get_or, ap, sym, subst, add-one, arith, length-drop}
-use Rattle.std.specs.Int.{w128, from_be_bytes}
-use Rattle.std.proofs.lemmas.List.{length-append, length-take-le}
+-- The highest bits of the number are those of the octets behind the length.
+use Rattle.std.proofs.Common.{◌≡◌, ℕ, List, ◌≤◌, ◌<◌, ◌+◌, ◌-◌, ◌*◌, ◌/◌, ◌^◌, ◌∷◌, ◌∙◌, length, take, get_or, ap, sym, subst, add-one, arith}
+use Rattle.std.proofs.lemmas.List.{length-take-le}
 use Rattle.ip_prefix.specs.Address.{bit_count}
 use Rattle.ip_prefix.specs.Bits.{bits_of}
 use Rattle.ip_prefix.specs.Masked.{IsMasked}
 use Rattle.ip_prefix.specs.Wire.{SpellsNetwork}
 use Rattle.ip_prefix.proofs.Highest.{bit_count_le}
 use Rattle.ip_prefix.proofs.Masks.{IsMasked-highest}
-use Rattle.ip_prefix.proofs.Lists.{AllByRecursion-append, AllByRecursion-drop, AllByRecursion-replicate, AllByRecursion-take}
+use Rattle.ip_prefix.proofs.Lists.{AllByRecursion-take}
 use Rattle.ip_prefix.proofs.Octets.{IsOctet, AllOctets-from}
 use Rattle.ip_prefix.proofs.Wires.{enough_octets, bits_read, spelled_by}
 use Rattle.ip_prefix.proofs.prefix.Prefix.read.Goals as goal
@@ -17,11 +16,14 @@ pub returns-then-rest-size-clause-none : goal.returns-then-rest-size-clause-none
 returns-then-rest-size-clause-none c = λ n rest b.
     omega (arith, enough_octets c.args.family n rest c.args.octets.now c.in_ok-len.field-0-0.now c.in_ok-len.rest.now b c.in_ok-len.ensures.cases.0)
 
+pub number_in_front-requires : goal.number_in_front-requires
+number_in_front-requires c = (c.if-rest-size.false, omega (arith, bit_count_le c.args.family, c.width.ensures))
+
 pub invariant_of-result : goal.invariant_of-result
 invariant_of-result c =
     let len = c.in_ok-len.field-0-0.now in
     let within : len ≤ bit_count c.args.family = omega (arith, c.width.ensures) in
-    subst (λ number. IsMasked c.args.family number len) (sym (c.new.ensures ∙ c.highest-number.ensures)) (IsMasked-highest c.args.family c.from_be_bytes.result len c.from_be_bytes.type_inv within)
+    subst (λ number. IsMasked c.args.family number len) (sym (c.new.ensures ∙ c.highest-number.ensures)) (IsMasked-highest c.args.family c.number_in_front.result len c.number_in_front.ensures.fits within)
 
 pub returns-clause-some : goal.returns-clause-some
 returns-clause-some c =
@@ -30,22 +32,19 @@ returns-clause-some c =
     let rest = c.in_ok-len.rest.now in
     let size = c.div_ceil-size.result in
     let body : List ℕ = take size rest in
-    let zeros : List ℕ = drop size (replicate 16 0) in
     let whole : c.args.octets.now ≡ len ∷ rest = c.in_ok-len.ensures.cases.0 in
     let within : len ≤ bit_count family = omega (arith, c.width.ensures) in
     let enough : len ≤ 8 * size = omega arith in
     let least : 8 * size < len + 8 = omega arith in
     let size_le : size ≤ 16 = omega (arith, bit_count_le family) in
-    let rest_le : size ≤ length rest = c.if-rest-size.false in
-    let body_size : length body ≡ size = length-take-le size rest rest_le in
-    let all : length (body ++ zeros) ≡ 16 = omega (arith, length-append body zeros, body_size, length-drop {A = ℕ} size (replicate 16 0)) in
+    let body_size : length body ≡ size = length-take-le size rest c.if-rest-size.false in
     let octets : (i : ℕ) → get_or c.args.octets.now i 0 < 256 = λ i. omega (arith, c.type_inv.octets i) in
     let each = AllByRecursion-take IsOctet size rest (AllOctets-from (len ∷ rest) (λ i. subst (λ l. get_or l i 0 < 256) whole (octets i))).1 in
-    let read : c.from_be_bytes.result ≡ from_be_bytes w128 (c.copy_from_slice.new.self ++ zeros) = c.from_be_bytes.ensures in
-    let number = read ∙ ap (λ l. from_be_bytes w128 (l ++ zeros)) c.copy_from_slice.ensures.after in
+    let number = c.number_in_front.result in
+    let held = ap (λ k. bits_of (8 * k) (number / 2 ^ (128 - 8 * k))) body_size ∙ c.number_in_front.ensures.bits in
     let bits =
-    ap (λ n. bits_of len (n / 2 ^ (128 - len))) (c.new.ensures ∙ c.highest-number.ensures ∙ ap (λ n. n / 2 ^ (128 - len) * 2 ^ (128 - len)) number)
-    ∙ bits_read len body zeros (omega arith) all (AllByRecursion-append IsOctet body zeros each (AllByRecursion-drop IsOctet size (replicate 16 0) (AllByRecursion-replicate IsOctet 16 0 (omega arith)))) in
+    ap (λ n. bits_of len (n / 2 ^ (128 - len))) (c.new.ensures ∙ c.highest-number.ensures)
+    ∙ bits_read len number body (omega arith) (omega arith) held in
     let spelled = spelled_by family len body (bits_of len (c.new.result / 2 ^ (128 - len))) within each (omega arith) (omega arith) bits in
     let front : take (size + 1) c.args.octets.now ≡ len ∷ body = ap (take (size + 1)) whole ∙ ap (λ k. take k (len ∷ rest)) (add-one size) in
     (omega (arith, c.in_ok-len.ensures.cases.1), subst (SpellsNetwork family record { family = family; bits = bits_of len (c.new.result / 2 ^ (128 - len)) }) (sym front) spelled)
