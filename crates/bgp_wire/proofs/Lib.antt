@@ -2,6 +2,7 @@ pub mod OneFront
 pub mod Counting
 pub mod Noting
 pub mod Refusing
+pub mod Plainly
 pub mod Hops
 pub mod Words
 pub mod Weights

@@ -1,5 +1,5 @@
 -- What is refused when a part of it is.
-use Rattle.std.proofs.Common.{◌≡◌, ℕ, ◌*◌, Option, Some, None, Result, Ok, Err, List, [], ◌∷◌, ◌++◌, length, get_or, drop, ap, sym, subst, ◌∙◌, arith}
+use Rattle.std.proofs.Common.{◌≡◌, ℕ, ◌*◌, IfErr, OnErr, Option, Some, None, Result, Ok, Err, List, [], ◌∷◌, ◌++◌, length, get_or, drop, ap, sym, subst, ◌∙◌, arith}
 use Rattle.ip_prefix.specs.Sequences.{Begins, SpellsAll, IsCode}
 use Rattle.ip_prefix.proofs.Lists.{append_parts}
 use Rattle.ip_prefix.proofs.Sequences.{none_at_all}
@@ -12,6 +12,7 @@ use Rattle.bgp_wire.specs.declared.path.Segment.{Segment}
 use Rattle.bgp_wire.specs.Number.{octets_at, SpellsAsn}
 use Rattle.bgp_wire.specs.Path.{kind_code, SpellsSegment, IsFramed}
 use Rattle.bgp_wire.specs.Reading.{Finds, Reads, Refuses, RefusesFront}
+use Rattle.bgp_wire.specs.Value.{SpellsOptional}
 use Rattle.bgp_wire.proofs.OneFront.{segment_begun, length-numbers}
 
 -- what is found by a part is found by the whole, where the two spell the same values
@@ -79,3 +80,17 @@ segment_framed width kind count body rest octets ns f s =
       };
       whole = f.whole;
     }
+
+-- a value that is there is spelled
+pub spelled_there : {A : Type 0} (Spells : A → List ℕ → Type 0) (value : Option A) (octets : Option (List ℕ)) (there : List ℕ) → SpellsOptional Spells value octets → octets ≡ Some there
+    → (a : A) × Spells a there
+spelled_there Spells None None there s e = absurd (cc)
+spelled_there Spells (Some a) None there s e = absurd s
+spelled_there Spells None (Some octets) there s e = absurd s
+spelled_there Spells (Some a) (Some octets) there s e = let same : octets ≡ there = cc in (a, subst (Spells a) same s)
+
+-- where nothing is found that the octets spell, nothing is spelled by them
+pub refused_found : {A R : Type 0} (Spells : A → List ℕ → Type 0) (octets : List ℕ) (found : Option A) (answer : Result R WireFault) → Finds Spells octets found → OnErr answer (found ≡ None)
+    → IfErr answer (Refuses Spells octets)
+refused_found Spells octets found (Ok r) f none = tt
+refused_found {A} Spells octets found (Err fault) f none = refused_always Spells octets fault (subst (Finds Spells octets) none f)

@@ -2,7 +2,9 @@ pub mod Absent
 pub mod Number
 pub mod Path
 pub mod Attribute
-pub mod FirstValues
+pub mod Lent
+pub mod SeenTypes
+pub mod PlainValues
 pub mod Value
 pub mod NextHop
 pub mod Content

@@ -1,5 +1,5 @@
 -- An UPDATE in parts.
-use Rattle.std.specs.Prelude.{◌≡◌, List, [], Option, None}
+use Rattle.std.specs.Prelude.{◌≡◌, ℕ, List, [], Option, None}
 use Rattle.bgp_wire.specs.declared.path.AsWidth.{AsWidth}
 use Rattle.bgp_wire.specs.declared.message.Message.{Message}
 use Rattle.bgp_wire.specs.declared.message.Message.TheVariants as messages
@@ -8,7 +8,7 @@ use Rattle.bgp_wire.specs.declared.parts.UpdateParts.{UpdateParts}
 use Rattle.bgp_wire.specs.declared.parts.MessageKind.{MessageKind}
 use Rattle.bgp_wire.specs.declared.parts.MessageKind.TheVariants as kinds
 use Rattle.bgp_wire.specs.Absent.{no_attrs}
-use Rattle.bgp_wire.specs.Attribute.{Attribute}
+use Rattle.bgp_wire.specs.Attribute.{Attribute, SpellsAttributes}
 use Rattle.bgp_wire.specs.Reach.{Reach, reach_hop, reach_prefixes, attrs_with}
 use Rattle.bgp_wire.specs.Update.{SaysTogether}
 
@@ -45,3 +45,9 @@ pub record SaysParts (width : AsWidth) (parts : UpdateParts) (list : List Attrib
   pub together : SaysTogether width parts.attrs reach parts.mp_withdrawn list
   pub hop : parts.mp_hop ≡ reach_hop reach
   pub announced : parts.mp_announced ≡ reach_prefixes reach
+
+-- the octets of attributes that say this
+pub record SpellsParts (width : AsWidth) (parts : UpdateParts) (octets : List ℕ) : Type 0 where
+  pub list : List Attribute
+  pub spelled : SpellsAttributes list octets
+  pub said : SaysParts width parts list

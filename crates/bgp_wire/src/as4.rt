@@ -1,68 +1,58 @@
 //! AS4_PATH and AS4_AGGREGATOR beside AS numbers of two octets (RFC 6793, section 4.2.3).
 
-ghost use Rattle.std.specs.Prelude.{◌≡◌, IfOk};
-ghost use Rattle.bgp_wire.specs.FirstValues.{ReadsList, octets_of};
+ghost use Rattle.std.specs.Prelude.{◌≡◌, List, IfOk, OnOk};
+ghost use Rattle.bgp_wire.specs.declared.path.AsWidth.TheVariants.{Two};
 ghost use Rattle.bgp_wire.specs.As4.{ignores_as4, joined_aggregator, IsJoined};
-ghost use Rattle.bgp_wire.specs.As4.{SaysJoined, SaysOwn, SaysPassed};
+ghost use Rattle.bgp_wire.specs.Attribute.{Attribute};
+ghost use Rattle.bgp_wire.specs.Content.{Says};
+ghost use Rattle.bgp_wire.specs.Lent.{octets_of};
+ghost use Rattle.bgp_wire.specs.PlainValues.{firsts_of, SaysPlainly, AreLater};
 
-use crate::attrs::Aggregator;
+use crate::attribute_list::LaterValues;
+use crate::attrs::{Aggregator, Attrs};
 use crate::fault::WireFault;
-use crate::framing::{AGGREGATOR, AS_PATH, AS4_AGGREGATOR, AS4_PATH, FirstValues};
 use crate::merge::merge_paths;
 use crate::path::{AsPath, AsWidth};
-use crate::path_reader::read_path;
-use crate::values::{read_aggregator, read_as4_aggregator};
+use crate::values::read_as4_aggregator;
 use std::alloc::{AllocError, Global};
+use std::mem;
 
 /// The AS number that stands for one that takes four octets (RFC 6793, section 9).
 const AS_TRANS: u32 = 23456;
 
-/// Who has passed a route on, and who has aggregated it.
-#[derive(Debug, Drop)]
-pub(crate) struct Passed {
-    pub(crate) aggregator: Option<Aggregator>,
-    pub(crate) path: AsPath,
-}
-
-/// Who has passed a route on and who has aggregated it, by the attributes of a record with AS
-/// numbers of this width. The path is read into the memory of another.
+/// Joins the path and the aggregator with those of AS4_PATH and AS4_AGGREGATOR, where AS numbers have
+/// two octets. Refused, nothing is said of the attributes.
 #[inline(always)]
-pub(crate) fn read_passed(
+pub(crate) fn join_passed(
     alloc: Global,
-    old: AsPath,
+    attrs: &mut Attrs,
     width: AsWidth,
-    values: &FirstValues,
-) -> Result<Passed, WireFault>
-    ensures { ReadsList (λ passed. SaysPassed width passed.path passed.aggregator)
-        values.now result }
+    later: &LaterValues,
+) -> Result<(), AllocError>
+    ensures said { OnOk result ((list : List Attribute) →
+        SaysPlainly width attrs.old (firsts_of list) → AreLater later.now (firsts_of list) →
+        Says width attrs.new list) }
+    ensures kept { attrs.new.next_hop ≡ attrs.old.next_hop }
 {
     match width {
-        AsWidth::Two => read_joined(alloc, old, values),
-        AsWidth::Four => read_own(alloc, old, values),
+        AsWidth::Two => join_as4(alloc, attrs, later),
+        AsWidth::Four => Ok(()),
     }
 }
 
-/// Where all AS numbers have four octets.
-#[inline(always)]
-fn read_own(alloc: Global, old: AsPath, values: &FirstValues) -> Result<Passed, WireFault>
-    ensures { ReadsList (λ passed. SaysOwn passed.path passed.aggregator) values.now result }
-{
-    let aggregator = read_aggregator(values.first(AGGREGATOR))?;
-    let path = read_path(alloc, old, AsWidth::Four, values.octets(AS_PATH))?;
-    Ok(Passed { aggregator, path })
-}
-
 /// Where AS4_PATH and AS4_AGGREGATOR stand beside numbers of two octets.
-fn read_joined(alloc: Global, old: AsPath, values: &FirstValues) -> Result<Passed, WireFault>
-    ensures { ReadsList (λ passed. SaysJoined passed.path passed.aggregator) values.now result }
+fn join_as4(alloc: Global, attrs: &mut Attrs, later: &LaterValues) -> Result<(), AllocError>
+    ensures said { OnOk result ((list : List Attribute) →
+        SaysPlainly Two attrs.old (firsts_of list) → AreLater later.now (firsts_of list) →
+        Says Two attrs.new list) }
+    ensures kept { attrs.new.next_hop ≡ attrs.old.next_hop }
 {
-    let own = read_aggregator(values.first(AGGREGATOR))?;
-    let as4 = read_as4_aggregator(values.first(AS4_AGGREGATOR));
-    let ignored = is_ignored(&own, &as4);
-    let aggregator = join_aggregator(own, as4);
-    let own_path = read_path(alloc, old, AsWidth::Two, values.octets(AS_PATH))?;
-    let path = join_path(alloc, own_path, ignored, values.first(AS4_PATH))?;
-    Ok(Passed { aggregator, path })
+    let as4 = read_as4_aggregator(later.as4_aggregator);
+    let ignored = is_ignored(&attrs.aggregator, &as4);
+    attrs.aggregator = join_aggregator(attrs.aggregator, as4);
+    let own = mem::replace(&mut attrs.path, AsPath::none(alloc));
+    attrs.path = join_path(alloc, own, ignored, later.as4_path)?;
+    Ok(())
 }
 
 /// Whether AS4_AGGREGATOR and AS4_PATH are ignored: where both aggregators are there and the number
@@ -103,8 +93,9 @@ fn join_path(
     let Some(octets) = as4 else {
         return Ok(own);
     };
-    match read_path(alloc, AsPath::none(alloc), AsWidth::Four, octets) {
-        Ok(as4) => merge_paths(alloc, &own, &as4),
+    let mut as4 = AsPath::none(alloc);
+    match as4.fill(alloc, AsWidth::Four, octets) {
+        Ok(()) => merge_paths(alloc, &own, &as4),
         Err(WireFault::Malformed) => Ok(own),
         Err(WireFault::Memory) => Err(AllocError),
     }

@@ -1,9 +1,14 @@
 //! The path attributes of a route.
 
-ghost use Rattle.std.specs.Prelude.{◌≡◌, [], IfOk, OnOk, OnErr};
-ghost use Rattle.bgp_wire.specs.Absent.{no_path, no_attrs, without_lists};
+ghost use Rattle.std.specs.Prelude.{◌≡◌, [], IfOk, IfErr, OnOk, OnErr};
+ghost use Rattle.ip_prefix.specs.Sequences.{SpellsAll};
+ghost use Rattle.bgp_wire.specs.Absent.{no_path, no_attrs, with_lists, without_lists};
+ghost use Rattle.bgp_wire.specs.Number.{SpellsWord};
+ghost use Rattle.bgp_wire.specs.Reading.{Refuses};
 
-use crate::path::AsPath;
+use crate::fault::WireFault;
+use crate::numbers::fill_numbers;
+use crate::path::{AsPath, AsWidth};
 use crate::replacing::{copy_numbers, copy_path};
 use ip_prefix::Addr;
 use std::alloc::{AllocError, Global};
@@ -68,6 +73,23 @@ impl Communities {
         ensures { result.now ≡ self.now }
     {
         self.communities.as_slice()
+    }
+
+    /// Takes all communities away. Their room stays.
+    #[inline]
+    pub(crate) fn clear(&mut self)
+        ensures { self.new ≡ [] }
+    {
+        self.communities.clear();
+    }
+
+    /// Makes them those that the octets are. Refused, nothing is said of them.
+    #[inline]
+    pub(crate) fn fill(&mut self, octets: &[u8]) -> Result<(), WireFault>
+        ensures filled { OnOk result (SpellsAll SpellsWord self.new octets.now) }
+        ensures refused { IfErr result (Refuses (SpellsAll SpellsWord) octets.now) }
+    {
+        fill_numbers(&mut self.communities, AsWidth::Four, octets)
     }
 }
 
@@ -155,6 +177,19 @@ impl Attrs {
             origin: self.origin,
             atomic: self.atomic,
         })
+    }
+
+    /// Takes all away but the path and the communities.
+    #[inline]
+    pub(crate) fn clear_short(&mut self)
+        ensures { self.new ≡ with_lists self.old.path self.old.communities }
+    {
+        self.next_hop = None;
+        self.aggregator = None;
+        self.med = None;
+        self.local_pref = None;
+        self.origin = None;
+        self.atomic = false;
     }
 
     /// The path and the communities, which leaves neither there.

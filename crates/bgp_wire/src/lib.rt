@@ -2,6 +2,7 @@
 #![tactic(auto)]
 
 mod as4;
+mod attribute_list;
 mod attrs;
 mod fault;
 mod framing;
@@ -17,7 +18,7 @@ mod prefixes;
 mod reach;
 mod replacing;
 mod rib_entry;
-mod shared;
+mod seen_types;
 mod text;
 mod update;
 mod values;

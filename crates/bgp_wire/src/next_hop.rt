@@ -3,7 +3,7 @@
 ghost use Rattle.std.specs.Prelude.{◌≡◌, length, IsOkUnless};
 ghost use Rattle.ip_prefix.specs.Bits.{bits_of_octets};
 ghost use Rattle.bgp_wire.specs.declared.fault.WireFault.TheVariants.{Malformed};
-ghost use Rattle.bgp_wire.specs.FirstValues.{octets_of};
+ghost use Rattle.bgp_wire.specs.Lent.{octets_of};
 ghost use Rattle.bgp_wire.specs.Value.{SpellsOptional};
 ghost use Rattle.bgp_wire.specs.NextHop.{SpellsNextHop, SpellsHopAlone, SpellsRibHop, rib_hop};
 ghost use Rattle.bgp_wire.specs.Reading.{Finds, Reads};

@@ -1,6 +1,6 @@
 //! Numbers in network byte order.
 
-ghost use Rattle.std.specs.Prelude.{◌≡◌, ◌<◌, ◌^◌, ◌%◌, [], length, OnOk, IfOk, IfErr};
+ghost use Rattle.std.specs.Prelude.{◌≡◌, ◌<◌, ◌*◌, ◌^◌, length, OnOk, IfErr};
 ghost use Rattle.std.specs.Int.{to_be_bytes, w16};
 ghost use Rattle.ip_prefix.specs.Sequences.{SpellsAll};
 ghost use Rattle.bgp_wire.specs.Number.{SpellsAsn, octets_at};
@@ -9,7 +9,6 @@ ghost use Rattle.bgp_wire.specs.Reading.{Refuses};
 use crate::fault::WireFault;
 use crate::path::AsWidth;
 use byteorder::{BigEndian, ByteOrder};
-use std::alloc::AllocError;
 
 impl AsWidth {
     /// How many octets a number takes.
@@ -49,44 +48,41 @@ pub(crate) fn read_length(octets: &[u8]) -> usize
     usize::from(BigEndian::read_u16(octets))
 }
 
-/// Appends the numbers to none. It is inlined, so that there is a loop for each width.
+/// Writes the numbers that the octets are, one behind the other. It is inlined, so that there is a
+/// loop for each width.
 #[inline(always)]
-fn push_numbers(width: AsWidth, octets: &[u8], numbers: &mut Vec<u32>) -> Result<(), AllocError>
-    requires whole { length octets.now % octets_at width ≡ 0 }
-    requires none { numbers.old.items ≡ [] }
-    ensures { OnOk result (SpellsAll (SpellsAsn width) numbers.new.items octets.now) }
+fn write_numbers(width: AsWidth, octets: &[u8], numbers: &mut [u32])
+    requires { length octets.now ≡ octets_at width * length numbers.old }
+    ensures { SpellsAll (SpellsAsn width) numbers.new octets.now }
 {
     let size = width.octets();
     let mut rest = octets;
-    while !rest.is_empty() {
+    for place in 0..numbers.len() {
         let (front, more) = rest.split_at(size);
-        numbers.push(width.number(front))?;
+        numbers[place] = width.number(front);
         rest = more;
     }
-    Ok(())
 }
 
-/// The numbers that the octets are, one behind the other, in the memory of others. There is room
-/// for all of them from the start.
-pub(crate) fn read_numbers(
-    old: Vec<u32>,
+/// Makes the numbers those that the octets are, one behind the other. Refused, nothing is said of
+/// them.
+#[inline]
+pub(crate) fn fill_numbers(
+    numbers: &mut Vec<u32>,
     width: AsWidth,
     octets: &[u8],
-) -> Result<Vec<u32>, WireFault>
-    ensures found { IfOk result
-        (λ numbers. SpellsAll (SpellsAsn width) numbers.items octets.now) }
+) -> Result<(), WireFault>
+    ensures filled { OnOk result (SpellsAll (SpellsAsn width) numbers.new.items octets.now) }
     ensures refused { IfErr result (Refuses (SpellsAll (SpellsAsn width)) octets.now) }
 {
     let size = width.octets();
     if octets.len() % size != 0 {
         return Err(WireFault::Malformed);
     }
-    let mut numbers = old;
-    numbers.clear();
-    numbers.reserve(octets.len() / size)?;
+    numbers.resize(octets.len() / size, 0)?;
     match width {
-        AsWidth::Two => push_numbers(AsWidth::Two, octets, &mut numbers)?,
-        AsWidth::Four => push_numbers(AsWidth::Four, octets, &mut numbers)?,
+        AsWidth::Two => write_numbers(AsWidth::Two, octets, numbers.as_mut_slice()),
+        AsWidth::Four => write_numbers(AsWidth::Four, octets, numbers.as_mut_slice()),
     }
-    Ok(numbers)
+    Ok(())
 }

@@ -1,8 +1,15 @@
 //! AS paths.
 
-ghost use Rattle.std.specs.Prelude.{◌≡◌};
+ghost use Rattle.std.specs.Prelude.{◌≡◌, [], OnOk, IfErr};
+ghost use Rattle.ip_prefix.specs.Sequences.{SpellsAll};
 ghost use Rattle.bgp_wire.specs.Absent.{no_path};
+ghost use Rattle.bgp_wire.specs.Number.{SpellsAsn};
+ghost use Rattle.bgp_wire.specs.Path.{SpellsSegment, SpellsPath};
+ghost use Rattle.bgp_wire.specs.Reading.{Refuses};
 
+use crate::fault::WireFault;
+use crate::numbers::fill_numbers;
+use crate::path_reader::fill_segments;
 use std::alloc::{AllocError, Global};
 use std::marker::Model;
 
@@ -76,6 +83,15 @@ impl AsNumbers {
     {
         self.numbers.as_slice()
     }
+
+    /// Makes them those that the octets are. Refused, nothing is said of them.
+    #[inline]
+    pub(crate) fn fill(&mut self, width: AsWidth, octets: &[u8]) -> Result<(), WireFault>
+        ensures filled { OnOk result (SpellsAll (SpellsAsn width) self.new octets.now) }
+        ensures refused { IfErr result (Refuses (SpellsAll (SpellsAsn width)) octets.now) }
+    {
+        fill_numbers(&mut self.numbers, width, octets)
+    }
 }
 
 /// A segment of a path.
@@ -148,6 +164,23 @@ impl Segments {
     {
         self.segments.as_slice()
     }
+
+    /// Takes all segments away.
+    #[inline]
+    fn clear(&mut self)
+        ensures { self.new ≡ [] }
+    {
+        self.segments.clear();
+    }
+
+    /// Makes them those that the octets spell. Refused, nothing is said of them.
+    #[inline]
+    fn fill(&mut self, alloc: Global, width: AsWidth, octets: &[u8]) -> Result<(), WireFault>
+        ensures filled { OnOk result (SpellsAll (SpellsSegment width) self.new octets.now) }
+        ensures refused { IfErr result (Refuses (SpellsAll (SpellsSegment width)) octets.now) }
+    {
+        fill_segments(alloc, &mut self.segments, width, octets)
+    }
 }
 
 /// An AS path: the systems that a route has passed.
@@ -166,6 +199,29 @@ impl AsPath {
         AsPath {
             segments: Segments::from_vec(Vec::new(alloc)),
         }
+    }
+
+    /// Takes all segments away.
+    #[inline]
+    pub(crate) fn clear(&mut self)
+        ensures { self.new ≡ no_path }
+    {
+        self.segments.clear();
+    }
+
+    /// Makes it the path that the octets spell, in the memory that it has. Refused, nothing is said
+    /// of it.
+    #[inline]
+    pub(crate) fn fill(
+        &mut self,
+        alloc: Global,
+        width: AsWidth,
+        octets: &[u8],
+    ) -> Result<(), WireFault>
+        ensures filled { OnOk result (SpellsPath width self.new octets.now) }
+        ensures refused { IfErr result (Refuses (SpellsPath width) octets.now) }
+    {
+        self.segments.fill(alloc, width, octets)
     }
 }
 

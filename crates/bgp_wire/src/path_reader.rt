@@ -1,15 +1,13 @@
 //! Reading AS paths.
 
-ghost use Rattle.std.specs.Prelude.{◌≡◌, ℕ, IfOk, IfErr, IfSome, IfNone};
-ghost use Rattle.ip_prefix.specs.Sequences.{Begins};
-ghost use Rattle.bgp_wire.specs.Path.{kind_code, SpellsSegment, SpellsPath, IsFramed};
-ghost use Rattle.ip_prefix.specs.Sequences.{BeginsWithNone};
-ghost use Rattle.bgp_wire.specs.Reading.{Finds, Reads, RefusesFront};
+ghost use Rattle.std.specs.Prelude.{◌≡◌, ◌≤◌, ◌+◌, ◌++◌, ◌∷◌, [], ℕ, List, OnOk, IfErr, IfSome, IfNone, length, take, vec_len};
+ghost use Rattle.ip_prefix.specs.Sequences.{BeginsWithNone, SpellsAll};
+ghost use Rattle.bgp_wire.specs.Number.{SpellsAsn};
+ghost use Rattle.bgp_wire.specs.Path.{kind_code, SpellsSegment, IsFramed};
+ghost use Rattle.bgp_wire.specs.Reading.{Finds, Refuses};
 
 use crate::fault::WireFault;
-use crate::numbers::read_numbers;
-use crate::path::{AsNumbers, AsPath, AsWidth, Segment, SegmentKind, Segments};
-use crate::replacing::{put_segment, take_numbers};
+use crate::path::{AsNumbers, AsWidth, Segment, SegmentKind};
 use std::alloc::Global;
 
 /// The type of a set (RFC 4271, section 4.3).
@@ -63,48 +61,74 @@ fn frame_segment(width: AsWidth, octets: &[u8]) -> Option<FramedSegment<'_>>
     Some(FramedSegment { body, rest, kind })
 }
 
-/// The segment in front of the octets, with its numbers in the memory of others, and what follows
-/// it.
+/// Puts a segment of these numbers at a place, in the memory of the one there, or behind all.
+/// Nothing is said of those behind it.
 #[inline(always)]
-fn read_segment(old: Vec<u32>, width: AsWidth, octets: &[u8]) -> Result<(Segment, &[u8]), WireFault>
-    ensures found { IfOk result
-        (λ found. Begins (SpellsSegment width) found.0 found.1.now octets.now) }
-    ensures refused { IfErr result (RefusesFront (SpellsSegment width) octets.now) }
+fn fill_segment(
+    alloc: Global,
+    segments: &mut Vec<Segment>,
+    place: usize,
+    kind: SegmentKind,
+    width: AsWidth,
+    body: &[u8],
+) -> Result<(), WireFault>
+    requires { place ≤ vec_len segments.old }
+    ensures filled { OnOk result ((numbers : List ℕ) × SpellsAll (SpellsAsn width) numbers body.now
+        × (take (place + 1) segments.new.items ≡ take place segments.old.items
+        ++ record { numbers = numbers; kind = kind } ∷ [])) }
+    ensures within { OnOk result (place + 1 ≤ length segments.new.items) }
+    ensures refused { IfErr result (Refuses (SpellsAll (SpellsAsn width)) body.now) }
 {
-    let framed = frame_segment(width, octets).ok_or(WireFault::Malformed)?;
-    let numbers = read_numbers(old, width, framed.body)?;
-    let segment = Segment {
-        numbers: AsNumbers::from_vec(numbers),
-        kind: framed.kind,
-    };
-    Ok((segment, framed.rest))
+    if place < segments.len() {
+        let segment = &mut segments[place];
+        segment.kind = kind;
+        return segment.numbers.fill(width, body);
+    }
+    push_segment(alloc, segments, kind, width, body)
 }
 
-/// The path that the octets spell, in the memory of another.
-pub(crate) fn read_path(
+/// Puts a segment of these numbers behind all. Most paths have one, so there is room for one first.
+fn push_segment(
     alloc: Global,
-    old: AsPath,
+    segments: &mut Vec<Segment>,
+    kind: SegmentKind,
+    width: AsWidth,
+    body: &[u8],
+) -> Result<(), WireFault>
+    ensures pushed { OnOk result ((numbers : List ℕ) × SpellsAll (SpellsAsn width) numbers body.now
+        × (segments.new.items ≡ segments.old.items
+        ++ record { numbers = numbers; kind = kind } ∷ [])) }
+    ensures refused { IfErr result (Refuses (SpellsAll (SpellsAsn width)) body.now) }
+{
+    let mut numbers = AsNumbers::from_vec(Vec::new(alloc));
+    numbers.fill(width, body)?;
+    if segments.capacity() == 0 {
+        segments.reserve_exact(1)?;
+    }
+    segments.push(Segment { numbers, kind })?;
+    Ok(())
+}
+
+/// Makes the segments those that the octets spell. Refused, nothing is said of them.
+pub(crate) fn fill_segments(
+    alloc: Global,
+    segments: &mut Vec<Segment>,
     width: AsWidth,
     octets: &[u8],
-) -> Result<AsPath, WireFault>
-    ensures { Reads (SpellsPath width) octets.now result }
+) -> Result<(), WireFault>
+    ensures filled { OnOk result (SpellsAll (SpellsSegment width) segments.new.items octets.now) }
+    ensures refused { IfErr result (Refuses (SpellsAll (SpellsSegment width)) octets.now) }
 {
-    let mut segments = old.segments.into_vec();
-    if segments.is_empty() {
-        // most paths have one segment
-        segments = Vec::with_capacity(alloc, octets.len().min(1))?;
-    }
     let mut count = 0;
     let mut rest = octets;
     while !rest.is_empty() {
-        let numbers = take_numbers(alloc, &mut segments, count);
-        let (segment, more) = read_segment(numbers, width, rest)?;
-        put_segment(&mut segments, count, segment)?;
+        let Some(framed) = frame_segment(width, rest) else {
+            return Err(WireFault::Malformed);
+        };
+        fill_segment(alloc, segments, count, framed.kind, width, framed.body)?;
         count += 1;
-        rest = more;
+        rest = framed.rest;
     }
     segments.truncate(count);
-    Ok(AsPath {
-        segments: Segments::from_vec(segments),
-    })
+    Ok(())
 }

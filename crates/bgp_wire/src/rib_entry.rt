@@ -1,35 +1,19 @@
 //! The path attributes of RIB entries.
 
-ghost use Rattle.std.specs.Prelude.{◌≡◌, IsOkUnless, OnOk, OnErr, IfErr};
-ghost use Rattle.bgp_wire.specs.declared.fault.WireFault.TheVariants.{Malformed};
-ghost use Rattle.bgp_wire.specs.Content.{SaysRibHop, SpellsRibAttrs};
-ghost use Rattle.bgp_wire.specs.FirstValues.{ReadsList};
+ghost use Rattle.std.specs.Prelude.{◌≡◌, OnOk, OnErr, IfErr};
+ghost use Rattle.bgp_wire.specs.Content.{SpellsRibAttrs};
 ghost use Rattle.bgp_wire.specs.Absent.{no_attrs};
 ghost use Rattle.bgp_wire.specs.Reading.{Reads, Refuses};
 
+use crate::as4::join_passed;
+use crate::attribute_list::read_list;
 use crate::attrs::Attrs;
 use crate::fault::WireFault;
-use crate::framing::{FirstValues, MP_REACH_NLRI, NEXT_HOP};
+use crate::framing::MP_REACH_NLRI;
 use crate::next_hop::{choose_rib_hop, read_rib_hop};
 use crate::path::AsWidth;
-use crate::shared::fill_shared;
-use crate::values::read_ipv4;
-use ip_prefix::{Addr, Family};
+use ip_prefix::Family;
 use std::alloc::Global;
-
-/// The next hop of a RIB entry with these values.
-#[inline]
-fn read_next_hops(family: Family, values: &FirstValues) -> Result<Option<Addr>, WireFault>
-    ensures read { ReadsList (SaysRibHop family) values.now result }
-    ensures fault { IsOkUnless result Malformed }
-{
-    if values.repeats(MP_REACH_NLRI) {
-        return Err(WireFault::Malformed);
-    }
-    let own = read_ipv4(values.first(NEXT_HOP))?;
-    let reached = read_rib_hop(values.first(MP_REACH_NLRI))?;
-    Ok(choose_rib_hop(family, own, reached))
-}
 
 /// Makes the attributes those of a RIB entry. Refused, nothing is said of them.
 #[inline]
@@ -43,10 +27,13 @@ fn fill_rib_attrs(
     ensures filled { OnOk result (SpellsRibAttrs family width attrs.new octets.now) }
     ensures refused { IfErr result (Refuses (SpellsRibAttrs family width) octets.now) }
 {
-    let mut values = FirstValues::none();
-    values.note_all(octets)?;
-    let next_hop = read_next_hops(family, &values)?;
-    fill_shared(alloc, attrs, width, &values, next_hop)?;
+    let kept = read_list(alloc, attrs, width, octets)?;
+    if kept.types.repeats(MP_REACH_NLRI) {
+        return Err(WireFault::Malformed);
+    }
+    let reached = read_rib_hop(kept.later.reach)?;
+    join_passed(alloc, attrs, width, &kept.later)?;
+    attrs.next_hop = choose_rib_hop(family, attrs.next_hop, reached);
     Ok(())
 }
 

@@ -1,21 +1,19 @@
 //! Reading UPDATE messages (RFC 4271, section 4.3).
 
 ghost use Rattle.std.specs.Prelude.{◌≡◌, ℕ, ◌<◌, ◌^◌, ◌++◌, List, length, IfSome, IfNone, IfErr, OnOk};
-ghost use Rattle.bgp_wire.specs.Attribute.{Attribute};
-ghost use Rattle.bgp_wire.specs.FirstValues.{Holds};
-ghost use Rattle.bgp_wire.specs.Parts.{update_in, SaysParts};
+ghost use Rattle.bgp_wire.specs.Parts.{update_in, SpellsParts};
 ghost use Rattle.bgp_wire.specs.Reading.{Refuses};
 ghost use Rattle.bgp_wire.specs.Update.{sized_octets, IsUpdate, SpellsUpdate};
 
+use crate::as4::join_passed;
+use crate::attribute_list::read_list;
 use crate::fault::WireFault;
-use crate::framing::{FirstValues, MP_REACH_NLRI, MP_UNREACH_NLRI, NEXT_HOP};
+use crate::framing::{MP_REACH_NLRI, MP_UNREACH_NLRI};
 use crate::numbers::{LENGTH_SIZE, read_length};
 use crate::parts::UpdateParts;
 use crate::path::AsWidth;
 use crate::prefixes::fill_prefixes;
 use crate::reach::{fill_reach, fill_unreach};
-use crate::shared::fill_shared;
-use crate::values::read_ipv4;
 use ip_prefix::Family;
 use std::alloc::Global;
 
@@ -63,30 +61,24 @@ fn frame_update(body: &[u8]) -> Option<FramedUpdate<'_>>
     })
 }
 
-/// Makes the parts those that attributes with these values say. Refused, nothing is said of them.
+/// Makes the parts those that the octets of attributes say. Refused, nothing is said of them.
 #[inline]
 fn fill_said(
     alloc: Global,
     parts: &mut UpdateParts,
     width: AsWidth,
-    values: &FirstValues,
+    octets: &[u8],
 ) -> Result<(), WireFault>
-    ensures filled { OnOk result ((list : List Attribute) → Holds values.now list →
-        SaysParts width parts.new list) }
-    ensures refused { IfErr result (λ fault. (list : List Attribute) → Holds values.now list →
-        Refuses (SaysParts width) list fault) }
+    ensures filled { OnOk result (SpellsParts width parts.new octets.now) }
+    ensures refused { IfErr result (Refuses (SpellsParts width) octets.now) }
 {
-    if values.repeats(MP_REACH_NLRI) || values.repeats(MP_UNREACH_NLRI) {
+    let kept = read_list(alloc, &mut parts.attrs, width, octets)?;
+    if kept.types.repeats(MP_REACH_NLRI) || kept.types.repeats(MP_UNREACH_NLRI) {
         return Err(WireFault::Malformed);
     }
-    let next_hop = read_ipv4(values.first(NEXT_HOP))?;
-    fill_shared(alloc, &mut parts.attrs, width, values, next_hop)?;
-    fill_reach(
-        &mut parts.mp_hop,
-        &mut parts.mp_announced,
-        values.first(MP_REACH_NLRI),
-    )?;
-    fill_unreach(&mut parts.mp_withdrawn, values.first(MP_UNREACH_NLRI))?;
+    join_passed(alloc, &mut parts.attrs, width, &kept.later)?;
+    fill_reach(&mut parts.mp_hop, &mut parts.mp_announced, kept.later.reach)?;
+    fill_unreach(&mut parts.mp_withdrawn, kept.later.unreach)?;
     Ok(())
 }
 
@@ -105,9 +97,7 @@ pub(crate) fn fill_update(
     let Some(framed) = frame_update(body) else {
         return Err(WireFault::Malformed);
     };
-    let mut values = FirstValues::none();
-    values.note_all(framed.attributes)?;
-    fill_said(alloc, parts, width, &values)?;
+    fill_said(alloc, parts, width, framed.attributes)?;
     fill_prefixes(&mut parts.withdrawn, Family::V4, framed.withdrawn)?;
     fill_prefixes(&mut parts.announced, Family::V4, framed.announced)?;
     Ok(())

@@ -1,13 +1,13 @@
 //! Reading the values of path attributes, each where it is there.
 
-ghost use Rattle.std.specs.Prelude.{◌≡◌, ◌+◌, length, IsOkUnless};
+ghost use Rattle.std.specs.Prelude.{◌≡◌, ◌+◌, length, Some, None, IsSome, IfErr, OnOk, OnErr, IsOkUnless};
 ghost use Rattle.bgp_wire.specs.declared.fault.WireFault.TheVariants.{Malformed};
-ghost use Rattle.bgp_wire.specs.FirstValues.{octets_of};
+ghost use Rattle.bgp_wire.specs.Lent.{octets_of};
 ghost use Rattle.bgp_wire.specs.As4.{SpellsWhereFormed};
 ghost use Rattle.bgp_wire.specs.Number.{SpellsWord, octets_at};
-ghost use Rattle.bgp_wire.specs.Value.{SpellsOptional, SpellsPresence, SpellsOrigin, SpellsIPv4};
+ghost use Rattle.bgp_wire.specs.Value.{SpellsPresence, SpellsOrigin, SpellsIPv4};
 ghost use Rattle.bgp_wire.specs.Value.{SpellsAggregatorAt, SpellsAggregator};
-ghost use Rattle.bgp_wire.specs.Reading.{Reads};
+ghost use Rattle.bgp_wire.specs.Reading.{Finds, Refuses};
 
 use crate::attrs::{Aggregator, Origin};
 use crate::fault::WireFault;
@@ -34,72 +34,79 @@ const AGGREGATOR_SIZE: usize = 6;
 /// How many octets it has with one of four, and AS4_AGGREGATOR (RFC 6793, section 3).
 const AS4_AGGREGATOR_SIZE: usize = 8;
 
-/// The value of ORIGIN (RFC 4271, section 4.3).
-pub(crate) fn read_origin(value: Option<&[u8]>) -> Result<Option<Origin>, WireFault>
-    ensures read { Reads (SpellsOptional SpellsOrigin) (octets_of value.entry) result }
-    ensures fault { IsOkUnless result Malformed }
+/// The origin that the value of ORIGIN says (RFC 4271, section 4.3).
+#[inline]
+pub(crate) fn read_origin(value: &[u8]) -> Option<Origin>
+    ensures { Finds SpellsOrigin value.now result }
 {
     match value {
-        None => Ok(None),
-        Some([ORIGIN_IGP]) => Ok(Some(Origin::Igp)),
-        Some([ORIGIN_EGP]) => Ok(Some(Origin::Egp)),
-        Some([ORIGIN_INCOMPLETE]) => Ok(Some(Origin::Incomplete)),
-        Some(_) => Err(WireFault::Malformed),
+        [ORIGIN_IGP] => Some(Origin::Igp),
+        [ORIGIN_EGP] => Some(Origin::Egp),
+        [ORIGIN_INCOMPLETE] => Some(Origin::Incomplete),
+        _ => None,
     }
 }
 
-/// The value of MULTI_EXIT_DISC or of LOCAL_PREF (RFC 4271, section 4.3).
-pub(crate) fn read_word(value: Option<&[u8]>) -> Result<Option<u32>, WireFault>
-    ensures read { Reads (SpellsOptional SpellsWord) (octets_of value.entry) result }
-    ensures fault { IsOkUnless result Malformed }
+/// The number that the value of MULTI_EXIT_DISC or of LOCAL_PREF says (RFC 4271, section 4.3).
+#[inline]
+pub(crate) fn read_word(value: &[u8]) -> Option<u32>
+    ensures { Finds SpellsWord value.now result }
 {
-    match value {
-        None => Ok(None),
-        Some(octets) if octets.len() == WORD_SIZE => Ok(Some(AsWidth::Four.number(octets))),
-        Some(_) => Err(WireFault::Malformed),
+    if value.len() != WORD_SIZE {
+        return None;
+    }
+    Some(AsWidth::Four.number(value))
+}
+
+/// The address that the value of NEXT_HOP says (RFC 4271, section 4.3).
+#[inline]
+pub(crate) fn read_ipv4(value: &[u8]) -> Option<Addr>
+    ensures { Finds SpellsIPv4 value.now result }
+{
+    if value.len() != IPV4_SIZE {
+        return None;
+    }
+    Some(ipv4(value))
+}
+
+/// The aggregator that the value of AGGREGATOR says (RFC 4271, section 4.3; RFC 6793, section 3). Its
+/// length tells the width of the AS number.
+pub(crate) fn read_aggregator(value: &[u8]) -> Option<Aggregator>
+    ensures { Finds SpellsAggregator value.now result }
+{
+    match value.len() {
+        AGGREGATOR_SIZE => Some(aggregator(AsWidth::Two, value)),
+        AS4_AGGREGATOR_SIZE => Some(aggregator(AsWidth::Four, value)),
+        _ => None,
     }
 }
 
-/// Whether ATOMIC_AGGREGATE is there (RFC 4271, section 4.3).
-pub(crate) fn read_presence(value: Option<&[u8]>) -> Result<bool, WireFault>
-    ensures read { Reads SpellsPresence (octets_of value.entry) result }
+/// Puts what was found in a place, or refuses where nothing was.
+#[inline(always)]
+pub(crate) fn put_found<T: Copy>(place: &mut Option<T>, found: Option<T>) -> Result<(), WireFault>
+    ensures put { OnOk result (IsSome found × (place.new ≡ found)) }
+    ensures none { OnErr result (found ≡ None) }
     ensures fault { IsOkUnless result Malformed }
 {
-    match value {
-        None => Ok(false),
-        Some([]) => Ok(true),
-        Some(_) => Err(WireFault::Malformed),
+    if found.is_none() {
+        return Err(WireFault::Malformed);
     }
+    *place = found;
+    Ok(())
 }
 
-/// The value of NEXT_HOP (RFC 4271, section 4.3).
-pub(crate) fn read_ipv4(value: Option<&[u8]>) -> Result<Option<Addr>, WireFault>
-    ensures read { Reads (SpellsOptional SpellsIPv4) (octets_of value.entry) result }
+/// Notes that ATOMIC_AGGREGATE is there, with this value (RFC 4271, section 4.3).
+#[inline]
+pub(crate) fn fill_presence(atomic: &mut bool, value: &[u8]) -> Result<(), WireFault>
+    ensures filled { OnOk result (SpellsPresence atomic.new (Some value.now)) }
+    ensures refused { IfErr result (Refuses SpellsPresence (Some value.now)) }
     ensures fault { IsOkUnless result Malformed }
 {
-    match value {
-        None => Ok(None),
-        Some(octets) if octets.len() == IPV4_SIZE => Ok(Some(ipv4(octets))),
-        Some(_) => Err(WireFault::Malformed),
+    if !value.is_empty() {
+        return Err(WireFault::Malformed);
     }
-}
-
-/// The value of AGGREGATOR (RFC 4271, section 4.3; RFC 6793, section 3). Its length tells the width
-/// of the AS number.
-pub(crate) fn read_aggregator(value: Option<&[u8]>) -> Result<Option<Aggregator>, WireFault>
-    ensures read { Reads (SpellsOptional SpellsAggregator) (octets_of value.entry) result }
-    ensures fault { IsOkUnless result Malformed }
-{
-    match value {
-        None => Ok(None),
-        Some(octets) if octets.len() == AGGREGATOR_SIZE => {
-            Ok(Some(aggregator(AsWidth::Two, octets)))
-        }
-        Some(octets) if octets.len() == AS4_AGGREGATOR_SIZE => {
-            Ok(Some(aggregator(AsWidth::Four, octets)))
-        }
-        Some(_) => Err(WireFault::Malformed),
-    }
+    *atomic = true;
+    Ok(())
 }
 
 /// The value of AS4_AGGREGATOR (RFC 6793, section 3). One that isn't of its form is as one that

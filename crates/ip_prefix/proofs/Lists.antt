@@ -1,5 +1,5 @@
 -- Lists: their parts, what is written into them, and what holds of each element.
-use Rattle.std.proofs.Common.{◌≡◌, ℕ, zero, suc, ◌+◌, ◌-◌, ◌<◌, ◌≤◌, Bool, true, false, cond, List, [], ◌∷◌, ◌++◌, length, take, drop, get_or, set, replicate, refl, ap, ap₂, sym, ◌∙◌, arith, append_assoc, length-take-le, take-append-drop}
+use Rattle.std.proofs.Common.{◌≡◌, ℕ, zero, suc, ◌+◌, ◌-◌, ◌<◌, ◌≤◌, Bool, true, false, cond, List, [], ◌∷◌, ◌++◌, length, take, drop, get_or, set, replicate, refl, ap, ap₂, sym, ◌∙◌, arith, append_assoc, length-take-le, take-append-drop, eqb-true}
 use Rattle.std.specs.Prelude.{slice_get, nat_eq, filter}
 use Rattle.std.specs.List.{AllByRecursion}
 use Rattle.std.proofs.Math.Nat.{add-sub_of_le}
@@ -26,6 +26,11 @@ nothing_before (x ∷ front) rest e = cc
 -- a list that has elements isn't empty
 pub nonempty : {A : Type 0} (xs : List A) → nat_eq (length xs) 0 ≡ false → xs ≡ [] → ⊥
 nonempty xs e h = let f : nat_eq 0 0 ≡ false = sym (ap (λ l. nat_eq (length l) 0) h) ∙ e in cc
+
+-- and one of none is
+pub no_elements : {A : Type 0} (xs : List A) → nat_eq (length xs) 0 ≡ true → xs ≡ []
+no_elements [] e = refl
+no_elements (x ∷ xs) e = let none : length (x ∷ xs) ≡ 0 = eqb-true (length (x ∷ xs)) 0 e in absurd (omega arith)
 
 -- the first elements of a front are those of the whole
 pub take_kept : {A : Type 0} (at k : ℕ) (old grown new : List A) → at ≤ k → take k grown ≡ old → take at new ≡ take at grown → take at new ≡ take at old

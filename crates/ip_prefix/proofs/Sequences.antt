@@ -61,6 +61,18 @@ after Spells code (value ∷ values) (other ∷ others) front rest p q =
     let one = code.same value other (p.0 ++ rest) q.0 (front ++ rest) (longer Spells value p.0 front rest p.1) q.1 in
     after Spells code values others p.0 rest p.2 (subst (SpellsAll Spells others) (sym one.1) q.2)
 
+-- and it is those and more
+pub goes_on : {A : Type 0} (Spells : A → List ℕ → Type 0) → IsCode Spells → (values others : List A) (rest octets : List ℕ) → Begins (SpellsAll Spells) values rest octets → SpellsAll Spells others octets
+    → (more : List A) × (others ≡ values ++ more)
+goes_on Spells code values others rest octets b s =
+    let left = after Spells code values others b.front rest b.spelled (subst (SpellsAll Spells others) b.whole s) in
+    let whole = subst (SpellsAll Spells (values ++ left.0)) (sym b.whole) (both Spells values left.0 b.front rest b.spelled left.1) in
+    (left.0, one_list Spells code octets others (values ++ left.0) s whole)
+
+-- where nothing is left, a list that was read is all
+pub all_read : {A : Type 0} (Spells : A → List ℕ → Type 0) (values : List A) (rest octets : List ℕ) → Begins (SpellsAll Spells) values rest octets → rest ≡ [] → SpellsAll Spells values octets
+all_read Spells values rest octets b e = subst (SpellsAll Spells values) (sym (b.whole ∙ ap (λ l. b.front ++ l) e ∙ append-nil b.front)) b.spelled
+
 -- where no value stands in front of what is left, and something is, no list is spelled
 pub none_at_all : {A : Type 0} (Spells : A → List ℕ → Type 0) → IsCode Spells → (values : List A) (rest octets : List ℕ) → (rest ≡ [] → ⊥) → Begins (SpellsAll Spells) values rest octets
     → BeginsWithNone Spells rest → (others : List A) → SpellsAll Spells others octets → ⊥

@@ -1,6 +1,6 @@
 use Rattle.std.proofs.Common.{◌≡◌, ◌++◌, Some, Err, IfErr, refl, ap, sym, subst, ◌∙◌}
 use Rattle.std.proofs.lemmas.Result.{err_from_is_err_and}
-use Rattle.bgp_wire.specs.FirstValues.{octets_of}
+use Rattle.bgp_wire.specs.Lent.{octets_of}
 use Rattle.bgp_wire.specs.Reach.{Reach, unicast_octets, BeginsIn, SpellsUnicast, SpellsReach, SaysReach}
 use Rattle.bgp_wire.specs.Reading.{Refuses}
 use Rattle.bgp_wire.proofs.Refusing.{refused_part}

@@ -3,45 +3,24 @@ use Rattle.std.proofs.lemmas.Result.{err_from_is_err_and}
 use Rattle.ip_prefix.specs.declared.addr.Family.TheVariants.{V4}
 use Rattle.ip_prefix.specs.Sequences.{SpellsAll}
 use Rattle.ip_prefix.specs.Wire.{SpellsNetwork}
-use Rattle.ip_prefix.proofs.Sequences.{one_list}
-use Rattle.bgp_wire.specs.Attribute.{SpellsAttribute, SpellsAttributes}
-use Rattle.bgp_wire.specs.Parts.{SaysParts}
+use Rattle.bgp_wire.specs.Attribute.{SpellsAttributes}
+use Rattle.bgp_wire.specs.Parts.{SpellsParts}
 use Rattle.bgp_wire.specs.Reach.{reach_hop, reach_prefixes}
 use Rattle.bgp_wire.specs.Reading.{Refuses}
-use Rattle.bgp_wire.specs.Update.{SaysTogether, SpellsUpdate}
-use Rattle.bgp_wire.proofs.OneFront.{attribute_code}
+use Rattle.bgp_wire.specs.Update.{SpellsUpdate}
 use Rattle.bgp_wire.proofs.Refusing.{refused_part}
 use Rattle.bgp_wire.proofs.Reaching.{same_update}
 use Rattle.bgp_wire.proofs.update.fill_update.Goals as goal
 
-pub returns-in_err-note_all-clause-refused : goal.returns-in_err-note_all-clause-refused
-returns-in_err-note_all-clause-refused c =
+pub returns-in_err-fill_said-clause-refused : goal.returns-in_err-fill_said-clause-refused
+returns-in_err-fill_said-clause-refused c =
     let body = c.args.body.now in
     let Whole = SpellsUpdate c.args.width in
     let f = c.in-Some.framed in
     let p = err_from_is_err_and c.from_residual.result c.from_residual.ensures.1 in
     subst (λ answer. IfErr answer (Refuses Whole body)) (sym (p.1 ∙ ap Err p.2))
-    (refused_part Whole SpellsAttributes body f.attributes.now c.in_err-note_all.field-0.0
+    (refused_part Whole (SpellsParts c.args.width) body f.attributes.now c.in_err-fill_said.field-0.0
     (λ update s. (
-      s.list,
-      subst (SpellsAttributes s.list) (same_update s.withdrawn s.attributes s.announced f.withdrawn.now f.attributes.now f.announced.now body s.whole c.in-Some.ensures.some).1 s.spelled,
-    ))
-    c.in_err-note_all.ensures.refused)
-
-pub returns-in_err-fill_said-clause-refused : goal.returns-in_err-fill_said-clause-refused
-returns-in_err-fill_said-clause-refused c =
-    let body = c.args.body.now in
-    let width = c.args.width in
-    let Whole = SpellsUpdate width in
-    let f = c.in-Some.framed in
-    let octets = f.attributes.now in
-    let held = c.in_ok-note_all.ensures.noted in
-    let p = err_from_is_err_and c.from_residual-in_err-fill_said.result c.from_residual-in_err-fill_said.ensures.1 in
-    subst (λ answer. IfErr answer (Refuses Whole body)) (sym (p.1 ∙ ap Err p.2))
-    (refused_part Whole (SaysParts width) body held.0 c.in_err-fill_said.field-0.0
-    (λ update s.
-    let parts = same_update s.withdrawn s.attributes s.announced f.withdrawn.now octets f.announced.now body s.whole c.in-Some.ensures.some in
-    let lists = one_list SpellsAttribute attribute_code octets s.list held.0 (subst (SpellsAttributes s.list) parts.1 s.spelled) held.1 in (
       record {
         withdrawn = update.withdrawn;
         mp_withdrawn = update.mp_withdrawn;
@@ -51,13 +30,12 @@ returns-in_err-fill_said-clause-refused c =
         mp_announced = reach_prefixes s.said.reach;
       },
       record {
-        reach = s.said.reach;
-        together = subst (SaysTogether width update.attrs s.said.reach update.mp_withdrawn) lists s.said.together;
-        hop = refl;
-        announced = refl;
+        list = s.list;
+        spelled = subst (SpellsAttributes s.list) (same_update s.withdrawn s.attributes s.announced f.withdrawn.now f.attributes.now f.announced.now body s.whole c.in-Some.ensures.some).1 s.spelled;
+        said = record { reach = s.said.reach; together = s.said.together; hop = refl; announced = refl };
       },
     ))
-    (c.in_err-fill_said.ensures.refused held.0 held.2))
+    c.in_err-fill_said.ensures.refused)
 
 pub returns-in_err-fill_prefixes-clause-refused : goal.returns-in_err-fill_prefixes-clause-refused
 returns-in_err-fill_prefixes-clause-refused c =

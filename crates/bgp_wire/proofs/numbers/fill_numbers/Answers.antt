@@ -1,6 +1,6 @@
 use Rattle.std.proofs.Common.{◌%◌, length, ap, ◌∙◌}
 use Rattle.bgp_wire.proofs.Counting.{whole_numbers}
-use Rattle.bgp_wire.proofs.numbers.read_numbers.Goals as goal
+use Rattle.bgp_wire.proofs.numbers.fill_numbers.Goals as goal
 
 pub returns-then-octets-size-ne0-clause-refused : goal.returns-then-octets-size-ne0-clause-refused
 returns-then-octets-size-ne0-clause-refused c ns s =

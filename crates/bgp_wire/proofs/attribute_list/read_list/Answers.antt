@@ -1,0 +1,85 @@
+use Rattle.std.proofs.Common.{◌≡◌, ℕ, List, [], ◌∷◌, ◌++◌, Some, None, Err, IfErr, ap, sym, subst, ◌∙◌, refl}
+use Rattle.std.proofs.lemmas.Result.{err_from_is_err_and}
+use Rattle.ip_prefix.specs.Sequences.{Begins, SpellsAll}
+use Rattle.ip_prefix.proofs.Lists.{nonempty, no_elements}
+use Rattle.ip_prefix.proofs.Sequences.{one_more, none_at_all, goes_on, all_read}
+use Rattle.bgp_wire.specs.declared.fault.WireFault.{WireFault}
+use Rattle.bgp_wire.specs.declared.fault.WireFault.TheVariants.{Malformed, Memory}
+use Rattle.bgp_wire.specs.declared.path.AsWidth.{AsWidth}
+use Rattle.bgp_wire.specs.Attribute.{Attribute, SpellsAttribute, first_value}
+use Rattle.bgp_wire.specs.PlainValues.{FirstOf, firsts_of, with_value, ReadSoFar, SaysPlainly, SpellsPlainly}
+use Rattle.bgp_wire.specs.Reading.{Refuses}
+use Rattle.bgp_wire.proofs.Noting.{firsts_of-more, later_value, first_of_type, first_value-front}
+use Rattle.bgp_wire.proofs.OneFront.{attribute_code}
+use Rattle.bgp_wire.proofs.attribute_list.read_list.Goals as goal
+use Rattle.bgp_wire.proofs.attribute_list.read_list.Goals.{then-not-note+in_ok-read_first, else-not-note}
+
+pub returns-in_default-clause-refused : goal.returns-in_default-clause-refused
+returns-in_default-clause-refused c attrs s =
+    let rest = c.loop-rest.rest.now in
+    let done = c.loop-rest.invariant in
+    let some : rest ≡ [] → ⊥ = λ e. nonempty rest (sym c.is_empty.ensures ∙ c.loop-rest-test.true) e in
+    none_at_all SpellsAttribute attribute_code done.0 rest c.args.octets.now some done.1 c.in_default.ensures.none s.list s.spelled
+
+-- where the first value of a type is refused, so is the whole list
+refused_list : (width : AsWidth) (octets : List ℕ) (read : List Attribute) (rest : List ℕ) (kind : ℕ) (value : List ℕ) (fault : WireFault)
+    → Begins (SpellsAll SpellsAttribute) read rest octets → first_value kind read ≡ Some value
+    → ((first : FirstOf) → first kind ≡ Some value → Refuses (SaysPlainly width) first fault) → Refuses (SpellsPlainly width) octets fault
+refused_list width octets read rest kind value Malformed b e none = λ attrs s.
+    let on = goes_on SpellsAttribute attribute_code read s.list rest octets b s.spelled in
+    none (firsts_of s.list) (ap (first_value kind) on.1 ∙ first_value-front kind read on.0 value e) attrs s.said
+refused_list width octets read rest kind value Memory b e none = tt
+
+pub returns-in_err-read_first-clause-refused : goal.returns-in_err-read_first-clause-refused
+returns-in_err-read_first-clause-refused c =
+    let width = c.args.width in
+    let octets = c.args.octets.now in
+    let done = c.loop-rest.invariant in
+    let f = c.in-Some.framed in
+    let front = c.in-Some.ensures.some in
+    let next : Attribute = record { flags = front.0; kind = f.kind; value = f.value.now } in
+    let read = one_more SpellsAttribute done.0 next f.rest.now c.loop-rest.rest.now octets done.1 front.1 in
+    let none : first_value f.kind done.0 ≡ None = c.note.ensures.first done.0 done.3 c.if-not-note.true c.in_err-read_first.ensures.known in
+    let first : first_value f.kind (done.0 ++ next ∷ []) ≡ Some f.value.now =
+    ap (λ g. g f.kind) (firsts_of-more done.0 next) ∙ first_of_type f.kind f.value.now (firsts_of done.0) none in
+    let fault = c.in_err-read_first.field-0.0 in
+    let p = err_from_is_err_and c.from_residual.result c.from_residual.ensures.1 in
+    subst (λ answer. IfErr answer (Refuses (SpellsPlainly width) octets)) (sym (p.1 ∙ ap Err p.2))
+    (refused_list width octets (done.0 ++ next ∷ []) f.rest.now f.kind f.value.now fault read first c.in_err-read_first.ensures.refused)
+
+pub loop-rest-preserved : goal.loop-rest-preserved
+loop-rest-preserved c =
+    let width = c.args.width in
+    let done = c.loop-rest.invariant in
+    let f = c.in-Some.framed in
+    let front = c.in-Some.ensures.some in
+    let next : Attribute = record { flags = front.0; kind = f.kind; value = f.value.now } in
+    let now : ReadSoFar width c.if-not-note.attrs c.if-not-note.later (with_value f.kind f.value.now (firsts_of done.0)) =
+    elim c.if-not-note.branch [
+      | then-not-note+in_ok-read_first w ↦
+          subst (λ a. ReadSoFar width a c.if-not-note.later (with_value f.kind f.value.now (firsts_of done.0))) (sym w.attrs-is)
+          (subst (λ l. ReadSoFar width w.read_first.new.attrs l (with_value f.kind f.value.now (firsts_of done.0))) (sym w.later-is)
+          (w.in_ok-read_first.ensures.read (firsts_of done.0) (λ within. c.note.ensures.first done.0 done.3 w.if-not-note.true within) done.2))
+      | else-not-note w ↦
+          subst (λ a. ReadSoFar width a c.if-not-note.later (with_value f.kind f.value.now (firsts_of done.0))) (sym w.attrs-is)
+          (subst (λ l. ReadSoFar width c.loop-rest.attrs l (with_value f.kind f.value.now (firsts_of done.0))) (sym w.later-is)
+          (subst (ReadSoFar width c.loop-rest.attrs c.loop-rest.later) (sym (later_value f.kind f.value.now (firsts_of done.0) (c.note.ensures.later done.0 done.3 w.if-not-note.false))) done.2))
+    ] in (
+      done.0 ++ next ∷ [],
+      one_more SpellsAttribute done.0 next f.rest.now c.loop-rest.rest.now c.args.octets.now done.1 front.1,
+      subst (ReadSoFar width c.if-not-note.attrs c.if-not-note.later) (sym (firsts_of-more done.0 next)) now,
+      c.note.ensures.noted done.0 next refl done.3,
+    )
+
+pub returns-clause-read : goal.returns-clause-read
+returns-clause-read c =
+    let done = c.loop-rest.invariant in
+    let rest = c.loop-rest.rest.now in
+    let nothing = no_elements rest (sym c.loop-rest-test.ensures) in
+    record {
+      list = done.0;
+      spelled = all_read SpellsAttribute done.0 rest c.args.octets.now done.1 nothing;
+      said = c.clear_unseen.ensures c.args.width c.loop-rest.later done.0 done.3 done.2;
+      later = done.2.kept;
+      types = done.3;
+    }

@@ -1,0 +1,87 @@
+-- The values of attributes, each read by itself.
+use Rattle.std.specs.Prelude.{◌≡◌, ℕ, if◌then◌else◌, ◌==◌, List, Option, Some, None}
+use Rattle.ip_prefix.specs.Sequences.{SpellsAll}
+use Rattle.bgp_wire.specs.declared.framing.TheConstants.{ORIGIN, AS_PATH, NEXT_HOP, MULTI_EXIT_DISC, LOCAL_PREF, ATOMIC_AGGREGATE, AGGREGATOR, COMMUNITIES, MP_REACH_NLRI, MP_UNREACH_NLRI, AS4_PATH, AS4_AGGREGATOR}
+use Rattle.bgp_wire.specs.declared.path.AsWidth.{AsWidth}
+use Rattle.bgp_wire.specs.declared.attrs.Attrs.{Attrs}
+use Rattle.bgp_wire.specs.declared.attribute_list.LaterValues.{LaterValues}
+use Rattle.bgp_wire.specs.declared.attribute_list.ReadList.{ReadList}
+use Rattle.bgp_wire.specs.Attribute.{Attribute, SpellsAttributes, first_value}
+use Rattle.bgp_wire.specs.Lent.{octets_of}
+use Rattle.bgp_wire.specs.Number.{SpellsWord}
+use Rattle.bgp_wire.specs.Path.{SpellsPath}
+use Rattle.bgp_wire.specs.SeenTypes.{Tells}
+use Rattle.bgp_wire.specs.Value.{SpellsOptional, octets_or_none, SpellsPresence, SpellsOrigin, SpellsIPv4, SpellsAggregator}
+
+-- by the types of attributes, the first value of each
+abbrev pub FirstOf : Type 0
+FirstOf = ℕ → Option (List ℕ)
+
+-- those of a list
+abbrev pub firsts_of : List Attribute → FirstOf
+firsts_of list kind = first_value kind list
+
+-- what these values say, each by itself: the path with numbers of this width, the aggregator of AGGREGATOR and the next hop of NEXT_HOP
+pub record SaysPlainly (width : AsWidth) (attrs : Attrs) (first : FirstOf) : Type 0 where
+  pub origin : SpellsOptional SpellsOrigin attrs.origin (first ORIGIN)
+  pub path : SpellsPath width attrs.path (octets_or_none (first AS_PATH))
+  pub next_hop : SpellsOptional SpellsIPv4 attrs.next_hop (first NEXT_HOP)
+  pub med : SpellsOptional SpellsWord attrs.med (first MULTI_EXIT_DISC)
+  pub local_pref : SpellsOptional SpellsWord attrs.local_pref (first LOCAL_PREF)
+  pub atomic : SpellsPresence attrs.atomic (first ATOMIC_AGGREGATE)
+  pub aggregator : SpellsOptional SpellsAggregator attrs.aggregator (first AGGREGATOR)
+  pub communities : SpellsAll SpellsWord attrs.communities (octets_or_none (first COMMUNITIES))
+
+-- the octets of attributes that say this plainly
+pub record SpellsPlainly (width : AsWidth) (attrs : Attrs) (octets : List ℕ) : Type 0 where
+  pub list : List Attribute
+  pub spelled : SpellsAttributes list octets
+  pub said : SaysPlainly width attrs (firsts_of list)
+
+-- these are the values that can't be read alone
+pub record AreLater (later : LaterValues) (first : FirstOf) : Type 0 where
+  pub reach : octets_of later.reach ≡ first MP_REACH_NLRI
+  pub unreach : octets_of later.unreach ≡ first MP_UNREACH_NLRI
+  pub as4_path : octets_of later.as4_path ≡ first AS4_PATH
+  pub as4_aggregator : octets_of later.as4_aggregator ≡ first AS4_AGGREGATOR
+
+-- the octets are the attributes of a list; these attributes say what its values say plainly, and this was kept of it
+pub record ReadsList (width : AsWidth) (attrs : Attrs) (kept : ReadList) (octets : List ℕ) : Type 0 where
+  pub list : List Attribute
+  pub spelled : SpellsAttributes list octets
+  pub said : SaysPlainly width attrs (firsts_of list)
+  pub later : AreLater kept.later (firsts_of list)
+  pub types : Tells kept.types list
+
+-- ---- as far as a list is read
+
+-- the value spells the content, where it is there
+abbrev pub SpellsThere : {A : Type 0} → (A → List ℕ → Type 0) → A → Option (List ℕ) → Type 0
+SpellsThere {A} Spells content None = Unit {0}
+SpellsThere {A} Spells content (Some octets) = Spells content octets
+
+-- these values were read; a path and communities whose value isn't there may be any
+pub record ReadSoFar (width : AsWidth) (attrs : Attrs) (later : LaterValues) (first : FirstOf) : Type 0 where
+  pub origin : SpellsOptional SpellsOrigin attrs.origin (first ORIGIN)
+  pub path : SpellsThere (SpellsPath width) attrs.path (first AS_PATH)
+  pub next_hop : SpellsOptional SpellsIPv4 attrs.next_hop (first NEXT_HOP)
+  pub med : SpellsOptional SpellsWord attrs.med (first MULTI_EXIT_DISC)
+  pub local_pref : SpellsOptional SpellsWord attrs.local_pref (first LOCAL_PREF)
+  pub atomic : SpellsPresence attrs.atomic (first ATOMIC_AGGREGATE)
+  pub aggregator : SpellsOptional SpellsAggregator attrs.aggregator (first AGGREGATOR)
+  pub communities : SpellsThere (SpellsAll SpellsWord) attrs.communities (first COMMUNITIES)
+  pub kept : AreLater later first
+
+-- a value, or another where there is none
+abbrev pub value_or : Option (List ℕ) → Option (List ℕ) → Option (List ℕ)
+value_or old None = old
+value_or None (Some octets) = Some octets
+value_or (Some first) (Some octets) = Some first
+
+-- what a value of one type is of another
+abbrev pub value_at : ℕ → List ℕ → ℕ → Option (List ℕ)
+value_at kind octets wanted = if kind == wanted then Some octets else None
+
+-- the first values, with one value more
+abbrev pub with_value : ℕ → List ℕ → FirstOf → FirstOf
+with_value kind octets first wanted = value_or (first wanted) (value_at kind octets wanted)

@@ -1,0 +1,133 @@
+//! Reading a list of path attributes in one walk, of each type the first.
+
+ghost use Rattle.std.specs.Prelude.{◌≡◌, ◌<◌, List, Some, None, OnOk, OnErr, IfOk, IfErr};
+ghost use Rattle.bgp_wire.specs.declared.framing.TheConstants.{KINDS};
+ghost use Rattle.bgp_wire.specs.Attribute.{Attribute};
+ghost use Rattle.bgp_wire.specs.PlainValues.{FirstOf, firsts_of, with_value, AreLater, ReadSoFar};
+ghost use Rattle.bgp_wire.specs.PlainValues.{SaysPlainly, SpellsPlainly, ReadsList};
+ghost use Rattle.bgp_wire.specs.Reading.{Refuses};
+ghost use Rattle.bgp_wire.specs.SeenTypes.{Tells};
+
+use crate::attrs::Attrs;
+use crate::fault::WireFault;
+use crate::framing::{
+    AGGREGATOR, AS_PATH, AS4_AGGREGATOR, AS4_PATH, ATOMIC_AGGREGATE, COMMUNITIES, LOCAL_PREF,
+    MP_REACH_NLRI, MP_UNREACH_NLRI, MULTI_EXIT_DISC, NEXT_HOP, ORIGIN, split_attribute,
+};
+use crate::path::AsWidth;
+use crate::seen_types::SeenTypes;
+use crate::values::{fill_presence, put_found, read_aggregator, read_ipv4, read_origin, read_word};
+use std::alloc::Global;
+
+/// The first values that others or their place have a say in, as octets.
+#[derive(Clone, Copy)]
+pub(crate) struct LaterValues<'a> {
+    pub(crate) reach: Option<&'a [u8]>,
+    pub(crate) unreach: Option<&'a [u8]>,
+    pub(crate) as4_path: Option<&'a [u8]>,
+    pub(crate) as4_aggregator: Option<&'a [u8]>,
+}
+
+/// What is kept of a list beside the values that were read.
+#[derive(Drop)]
+pub(crate) struct ReadList<'a> {
+    pub(crate) later: LaterValues<'a>,
+    pub(crate) types: SeenTypes,
+}
+
+/// Reads the value of the first attribute of its type. Refused, nothing is said of the attributes.
+#[inline(always)]
+fn read_first<'a>(
+    alloc: Global,
+    width: AsWidth,
+    kind: u8,
+    value: &'a [u8],
+    attrs: &mut Attrs,
+    later: &mut LaterValues<'a>,
+) -> Result<(), WireFault>
+    ensures read { OnOk result ((first : FirstOf) → (kind < KINDS → first kind ≡ None) →
+        ReadSoFar width attrs.old later.old first →
+        ReadSoFar width attrs.new later.new (with_value kind value.now first)) }
+    ensures refused { IfErr result (λ fault. (first : FirstOf) → first kind ≡ Some value.now →
+        Refuses (SaysPlainly width) first fault) }
+    ensures known { OnErr result (kind < KINDS) }
+{
+    match kind {
+        ORIGIN => put_found(&mut attrs.origin, read_origin(value)),
+        AS_PATH => attrs.path.fill(alloc, width, value),
+        NEXT_HOP => put_found(&mut attrs.next_hop, read_ipv4(value)),
+        MULTI_EXIT_DISC => put_found(&mut attrs.med, read_word(value)),
+        LOCAL_PREF => put_found(&mut attrs.local_pref, read_word(value)),
+        ATOMIC_AGGREGATE => fill_presence(&mut attrs.atomic, value),
+        AGGREGATOR => put_found(&mut attrs.aggregator, read_aggregator(value)),
+        COMMUNITIES => attrs.communities.fill(value),
+        _ => {
+            keep_later(kind, value, later);
+            Ok(())
+        }
+    }
+}
+
+/// Keeps the value of the first attribute of its type, if it is one of those that are read later.
+#[inline(always)]
+fn keep_later<'a>(kind: u8, value: &'a [u8], later: &mut LaterValues<'a>)
+    ensures { (first : FirstOf) → (kind < KINDS → first kind ≡ None) →
+        AreLater later.old first → AreLater later.new (with_value kind value.now first) }
+{
+    match kind {
+        MP_REACH_NLRI => later.reach = Some(value),
+        MP_UNREACH_NLRI => later.unreach = Some(value),
+        AS4_PATH => later.as4_path = Some(value),
+        AS4_AGGREGATOR => later.as4_aggregator = Some(value),
+        _ => {}
+    }
+}
+
+/// Takes the path and the communities away that were there before, where the list has none.
+#[inline]
+fn clear_unseen(attrs: &mut Attrs, types: &SeenTypes)
+    ensures { (width : AsWidth) (later : LaterValues) (list : List Attribute) →
+        Tells types.now list → ReadSoFar width attrs.old later (firsts_of list) →
+        SaysPlainly width attrs.new (firsts_of list) }
+{
+    if !types.has(AS_PATH) {
+        attrs.path.clear();
+    }
+    if !types.has(COMMUNITIES) {
+        attrs.communities.clear();
+    }
+}
+
+/// Makes the attributes what the octets say of the values that are read each by itself, in the
+/// memory that they have, and answers what is kept besides. Refused, nothing is said of them.
+#[inline]
+pub(crate) fn read_list<'a>(
+    alloc: Global,
+    attrs: &mut Attrs,
+    width: AsWidth,
+    octets: &'a [u8],
+) -> Result<ReadList<'a>, WireFault>
+    ensures read { IfOk result (λ kept. ReadsList width attrs.new kept octets.now) }
+    ensures refused { IfErr result (Refuses (SpellsPlainly width) octets.now) }
+{
+    attrs.clear_short();
+    let mut types = SeenTypes::none();
+    let mut later = LaterValues {
+        reach: None,
+        unreach: None,
+        as4_path: None,
+        as4_aggregator: None,
+    };
+    let mut rest = octets;
+    while !rest.is_empty() {
+        let Some(framed) = split_attribute(rest) else {
+            return Err(WireFault::Malformed);
+        };
+        if !types.note(framed.kind) {
+            read_first(alloc, width, framed.kind, framed.value, attrs, &mut later)?;
+        }
+        rest = framed.rest;
+    }
+    clear_unseen(attrs, &types);
+    Ok(ReadList { later, types })
+}
