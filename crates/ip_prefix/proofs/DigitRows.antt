@@ -25,7 +25,7 @@ abbrev are_rows : (ℕ → List ℕ) → ℕ → List (List ℕ) → Bool
 are_rows row n [] = true
 are_rows row n (x ∷ rows) = is_same x (row n) && are_rows row (suc n) rows
 
-row_at : (row : ℕ → List ℕ) (start : ℕ) (rows : List (List ℕ)) → T (are_rows row start rows) → (k n : ℕ) → start + k ≡ n → k < length rows
+pub row_at : (row : ℕ → List ℕ) (start : ℕ) (rows : List (List ℕ)) → T (are_rows row start rows) → (k n : ℕ) → start + k ≡ n → k < length rows
     → get_or rows k [] ≡ row n
 row_at row start [] t k n e h = absurd (omega (arith, h))
 row_at row start (x ∷ rows) t zero n e h =

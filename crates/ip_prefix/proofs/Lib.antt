@@ -20,6 +20,7 @@ pub mod Writing
 pub mod Filled
 pub mod HexText
 pub mod ZeroRuns
+pub mod RunRows
 pub mod Dotless
 pub mod Chunks
 pub mod Lengths

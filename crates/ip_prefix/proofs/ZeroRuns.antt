@@ -66,3 +66,11 @@ pub longest_zero_run_is : (groups : List ℕ) → IsFirstLongestRun groups (long
 longest_zero_run_is [] = record { zeros = refl; longest = run_size; first = λ start size run long. omega arith }
 longest_zero_run_is (g ∷ groups) =
     longest_of (nat_le (longest_zero_run groups).1 (zero_run (g ∷ groups))) g groups (longest_zero_run groups) (longest_zero_run_is groups) refl
+
+-- it lies within the groups
+pub run_within : (groups : List ℕ) → (longest_zero_run groups).0 + (longest_zero_run groups).1 ≤ length groups
+run_within groups =
+    let run = longest_zero_run groups in
+    let h = longest_zero_run_is groups in
+    let none : run.1 ≤ 0 → run.0 ≤ 0 = h.first 0 0 refl in
+    grind (arith, none, ap length h.zeros, length-take {A = ℕ} run.1 (drop run.0 groups), length-drop {A = ℕ} run.0 groups, length-replicate {A = ℕ} run.1 0)

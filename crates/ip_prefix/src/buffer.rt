@@ -267,7 +267,7 @@ impl Text {
 }
 
 // Makes the buffer at least so much longer than a text at its front.
-#[inline]
+#[inline(always)]
 fn make_room(buffer: &mut Vec<u8>, len: usize, room: usize) -> Result<(), AllocError>
     requires { len ≤ length buffer.old.items }
     ensures room { OnOk result (len + room ≤ length buffer.new.items) }
@@ -281,6 +281,8 @@ fn make_room(buffer: &mut Vec<u8>, len: usize, room: usize) -> Result<(), AllocE
 }
 
 // The same, where there isn't room.
+#[cold]
+#[inline(never)]
 fn grow(buffer: &mut Vec<u8>, len: usize, room: usize) -> Result<(), AllocError>
     requires { len ≤ length buffer.old.items }
     ensures room { OnOk result (len + room ≤ length buffer.new.items) }

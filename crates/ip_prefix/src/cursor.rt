@@ -99,7 +99,9 @@ pub(crate) fn write_ended_decimals(numbers: &[u32], end: u8, text: &mut [u8], at
     place
 }
 
-// Writes a number of seven digits or more.
+// Writes a number of seven digits or more. Few numbers have so many, so that callers needn't hold
+// its code.
+#[inline(never)]
 fn write_long(number: u32, text: &mut [u8], at: usize) -> usize
     requires { (MILLION ≤ number) × (at + DECIMAL_ROOM ≤ length text.old) }
     ensures written { IsWritten text.old at (decimal number) text.new result }
@@ -112,7 +114,7 @@ fn write_long(number: u32, text: &mut [u8], at: usize) -> usize
 }
 
 // Writes a number of up to six digits.
-#[inline]
+#[inline(always)]
 fn write_six(number: u32, text: &mut [u8], at: usize) -> usize
     requires { (number < MILLION) × (at + 3 + ROW ≤ length text.old) }
     ensures written { IsWritten text.old at (decimal number) text.new result }
@@ -126,7 +128,7 @@ fn write_six(number: u32, text: &mut [u8], at: usize) -> usize
 }
 
 // Writes a number of up to three digits.
-#[inline]
+#[inline(always)]
 pub(crate) fn write_short(number: u32, text: &mut [u8], at: usize) -> usize
     requires { (number < THOUSAND) × (at + ROW ≤ length text.old) }
     ensures written { IsWritten text.old at (decimal number) text.new result }
@@ -138,7 +140,7 @@ pub(crate) fn write_short(number: u32, text: &mut [u8], at: usize) -> usize
 }
 
 // Writes a number below a thousand in three digits.
-#[inline]
+#[inline(always)]
 fn write_three(number: u32, text: &mut [u8], at: usize) -> usize
     requires { (number < THOUSAND) × (at + ROW ≤ length text.old) }
     ensures { IsWritten text.old at (three_digits number) text.new result }

@@ -13,6 +13,7 @@ mod prefix;
 mod text;
 mod turn;
 mod words;
+mod zero_runs;
 
 pub use addr::{Addr, Family, V4_BITS, V4_OCTETS, V6_BITS, V6_OCTETS};
 pub use buffer::Text;

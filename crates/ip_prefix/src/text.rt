@@ -1,16 +1,18 @@
 //! The printed texts of addresses and prefixes.
 
-ghost use Rattle.std.specs.Prelude.{◌≡◌, ◌+◌, ◌*◌, ◌<◌, ◌≤◌, [], ◌∷◌, ◌++◌, OnOk, OnErr, length, take, drop, replicate, decimal};
+ghost use Rattle.std.specs.Prelude.{◌≡◌, ◌+◌, ◌*◌, ◌^◌, ◌<◌, ◌≤◌, [], ◌∷◌, ◌++◌, OnOk, OnErr, length, take, drop, replicate, decimal};
 ghost use Rattle.std.specs.Net.Text as Hex;
 ghost use Rattle.ip_prefix.specs.declared.addr.Family.TheVariants.{V4, V6};
 ghost use Rattle.ip_prefix.specs.Address.{groups_of};
 ghost use Rattle.ip_prefix.specs.Text.{address_text, led_groups, network_text, v4_text, v6_text};
 ghost use Rattle.ip_prefix.specs.Written.{IsWritten, two_hex_digits};
+ghost use Rattle.ip_prefix.specs.ZeroRun.{zero_mask, run_row};
 
 use crate::addr::{Addr, Family, GROUP_COUNT, V4_OCTETS};
 use crate::cursor::{ROW, put_octets, write_short};
 use crate::digits::HEX_PAIRS;
 use crate::prefix::Prefix;
+use crate::zero_runs::ZERO_RUNS;
 use std::alloc::AllocError;
 
 /// What stands between octets.
@@ -154,8 +156,8 @@ fn groups_of(address: &Addr) -> [u16; GROUP_COUNT]
 
 // Writes the eight groups, shortened.
 #[inline]
-fn write_shortened(groups: &[u16], text: &mut [u8], at: usize) -> usize
-    requires { (length groups.now ≡ GROUP_COUNT) × (at + COLONS_ROOM ≤ length text.old) }
+fn write_shortened(groups: &[u16; GROUP_COUNT], text: &mut [u8], at: usize) -> usize
+    requires { at + COLONS_ROOM ≤ length text.old }
     ensures written { IsWritten text.old at (Hex.hex_groups_text groups.now) text.new result }
     ensures short { result ≤ at + COLONS_ROOM }
 {
@@ -170,21 +172,38 @@ fn write_shortened(groups: &[u16], text: &mut [u8], at: usize) -> usize
 
 // The start and the length of the longest run of groups that are 0, and of two such runs the
 // first.
-fn longest_zero_run(groups: &[u16]) -> (usize, usize)
+#[inline(always)]
+fn longest_zero_run(groups: &[u16; GROUP_COUNT]) -> (usize, usize)
     ensures value { result ≡ Hex.longest_zero_run groups.now }
     ensures within { result.0 + result.1 ≤ length groups.now }
 {
-    let mut start = groups.len();
-    let mut len = 0;
-    let mut run = 0;
-    for i in (0..groups.len()).rev() {
-        run = if groups[i] == 0 { run + 1 } else { 0 };
-        if run >= len {
-            start = i;
-            len = run;
-        }
-    }
-    (start, len)
+    let row = zero_run_row(zero_mask(groups));
+    (usize::from(row[0]), usize::from(row[1]))
+}
+
+// Which groups are 0, the first in the lowest bit.
+#[inline(always)]
+fn zero_mask(groups: &[u16; GROUP_COUNT]) -> usize
+    ensures value { result ≡ zero_mask groups.now }
+    ensures within { result < 2 ^ GROUP_COUNT }
+{
+    usize::from(groups[0] == 0)
+        + 2 * usize::from(groups[1] == 0)
+        + 4 * usize::from(groups[2] == 0)
+        + 8 * usize::from(groups[3] == 0)
+        + 16 * usize::from(groups[4] == 0)
+        + 32 * usize::from(groups[5] == 0)
+        + 64 * usize::from(groups[6] == 0)
+        + 128 * usize::from(groups[7] == 0)
+}
+
+// The longest run of the groups whose bits are set.
+#[inline(always)]
+fn zero_run_row(mask: usize) -> [u8; 2]
+    requires { mask < 2 ^ GROUP_COUNT }
+    ensures { result ≡ run_row mask }
+{
+    ZERO_RUNS[mask]
 }
 
 // Writes the groups, joined by colons.

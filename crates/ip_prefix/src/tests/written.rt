@@ -91,6 +91,40 @@ fn writes_addresses_in_place(rt: HostRuntime) -> Result<(), Fail> {
     Ok(())
 }
 
+/// Each choice of groups that are 0, the others 1, beside the first longest run that a plain search
+/// finds.
+#[test]
+fn shortens_the_first_longest_run(rt: HostRuntime) -> Result<(), Fail> {
+    for zeros in 0u32..256 {
+        let mut octets = [0; 16];
+        let (mut first, mut len) = (8, 1);
+        for i in (0u32..8).rev() {
+            octets[2 * i as usize + 1] = (!zeros >> i & 1) as u8;
+            let run = (zeros >> i).trailing_ones();
+            if run > 1 && run >= len {
+                (first, len) = (i, run);
+            }
+        }
+        let mut wanted = Text::new(rt.alloc());
+        for i in 0u32..8 {
+            let behind = i.wrapping_sub(first);
+            if behind == 0 {
+                wanted.extend_from_slice(b"::")?;
+            }
+            if behind >= len {
+                if i > 0 && behind != len {
+                    wanted.push(b':')?;
+                }
+                wanted.push(if zeros >> i & 1 == 1 { b'0' } else { b'1' })?;
+            }
+        }
+        let mut text = Text::new(rt.alloc());
+        text.put_address(&Addr::v6(octets))?;
+        assert_eq!(rt; text.as_slice(), wanted.as_slice(), "{zeros:#b}");
+    }
+    Ok(())
+}
+
 #[test]
 fn writes_prefixes_in_place(rt: HostRuntime) -> Result<(), Fail> {
     for text in PREFIXES {

@@ -2,7 +2,7 @@
 use Rattle.std.proofs.Common.{rules, ◌≡◌, ℕ, List, ◌≤◌, ◌-◌, ◌*◌, ◌/◌, ◌^◌, ◌++◌, ◌∙◌, length, replicate, take, drop, ap, arith, length-drop}
 use Rattle.std.specs.Int.{w128, from_be_bytes}
 use Rattle.std.proofs.lemmas.List.{length-append, length-take-le, take-append-le, take-take, take_at}
-use Rattle.ip_prefix.specs.Bits.{bits_of, bits_of_octets}
+use Rattle.ip_prefix.specs.Bits.{bits_of}
 use Rattle.ip_prefix.proofs.Lists.{AllByRecursion-append, AllByRecursion-drop, AllByRecursion-replicate, AllByRecursion-take}
 use Rattle.ip_prefix.proofs.Octets.{IsOctet, AllOctets, AllOctets-from}
 use Rattle.ip_prefix.proofs.Wires.{bits_in_front}

@@ -1,13 +1,20 @@
--- The run and the longest one are those of the groups from the place on.
-use Rattle.std.proofs.Common.{arith}
-use Rattle.std.proofs.lemmas.Grind.{common_steps}
+use Rattle.std.proofs.Common.{◌≡◌, get_or, ap, ◌∙◌, arith}
+use Rattle.std.specs.Net.Text.{longest_zero_run}
+use Rattle.ip_prefix.specs.ZeroRun.{run_row}
+use Rattle.ip_prefix.proofs.RunRows.{masked_run}
+use Rattle.ip_prefix.proofs.ZeroRuns.{run_within}
 use Rattle.ip_prefix.proofs.text.longest_zero_run.Goals as goal
 
-pub loop-i-init : goal.loop-i-init
-loop-i-init c = grind (arith, common_steps)
+abbrev is_run : (c : goal.After-from-2) → (c.from.result, c.from-2.result) ≡ longest_zero_run c.args.groups.now
+is_run c =
+    let row = c.zero_run_row-row.ensures ∙ ap run_row c.zero_mask.ensures.value in
+    let first = c.from.ensures ∙ ap (λ r. get_or r 0 0) row in
+    let size = c.from-2.ensures ∙ ap (λ r. get_or r 1 0) row in
+    (λ i. (first i, size i)) ∙ masked_run c.args.groups.now (omega arith)
 
-pub loop-i-preserved-then-run-len : goal.loop-i-preserved-then-run-len
-loop-i-preserved-then-run-len c = grind (arith, common_steps)
+pub returns-clause-value : goal.returns-clause-value
+returns-clause-value c = is_run c
 
-pub loop-i-preserved : goal.loop-i-preserved
-loop-i-preserved c = grind (arith, common_steps)
+pub returns-clause-within : goal.returns-clause-within
+returns-clause-within c =
+    omega (arith, ap (λ r. r.0) (is_run c), ap (λ r. r.1) (is_run c), run_within c.args.groups.now)

@@ -1,5 +1,5 @@
 -- The groups on each side of the run, and two colons between them.
-use Rattle.std.proofs.Common.{◌≡◌, ◌+◌, ◌≤◌, ◌<◌, ◌++◌, ◌∷◌, [], length, drop, take, ap, subst, ◌∙◌, sym, append_assoc, arith}
+use Rattle.std.proofs.Common.{◌≡◌, ◌+◌, ◌-◌, ◌≤◌, ◌<◌, ◌++◌, ◌∷◌, [], length, drop, take, ap, subst, ◌∙◌, sym, append_assoc, arith}
 use Rattle.std.proofs.lemmas.List.{take_rest, length-take-le}
 use Rattle.std.specs.Net.Text.{groups_text, longest_zero_run}
 use Rattle.ip_prefix.specs.Written.{IsWritten}
@@ -23,11 +23,12 @@ returns-clause-written c =
     let same = c.longest_zero_run-first.ensures.value in
     let front = groups_text (take run.0 groups) in
     let long : 1 < (longest_zero_run groups).1 = omega (arith, ap (λ p. p.1) same) in
+    let eight : length groups ≡ 8 = omega arith in
     let size : length (take run.0 groups) ≡ run.0 = length-take-le run.0 groups (omega (arith, c.longest_zero_run-first.ensures.within)) in
-    let room : gap + 2 ≤ length mid = omega (arith, size, c.requires.0, c.requires.1, c.longest_zero_run-first.ensures.within, c.write_groups-gap.ensures.short, c.write_groups-gap.ensures.written.size) in
+    let room : gap + 2 ≤ length mid = omega (arith, size, c.requires, c.longest_zero_run-first.ensures.within, c.write_groups-gap.ensures.short, c.write_groups-gap.ensures.written.size) in
     let colons = written_row mid (58 ∷ 58 ∷ []) c.put_octets.new.text gap 2 room (omega arith) c.put_octets.ensures in
     let whole = append_assoc front (58 ∷ 58 ∷ []) _
-    ∙ ap (λ t. front ++ 58 ∷ 58 ∷ groups_text t) (take_rest groups (run.0 + run.1))
+    ∙ ap (λ t. front ++ 58 ∷ 58 ∷ groups_text t) (ap (λ n. take (n - (run.0 + run.1)) (drop (run.0 + run.1) groups)) (sym eight) ∙ take_rest groups (run.0 + run.1))
     ∙ ap (λ p. groups_text (take p.0 groups) ++ 58 ∷ 58 ∷ groups_text (drop (p.0 + p.1) groups)) same
     ∙ sym (shortened_text groups long) in
     subst (λ t. IsWritten c.args.text.now c.args.at t c.write_groups-2.new.text c.write_groups-2.result) whole
