@@ -157,7 +157,7 @@ impl Text {
     }
 
     /// Appends an octet, and the number in decimal behind it.
-    #[inline]
+    #[inline(always)]
     pub fn put_led_decimal(&mut self, lead: u8, number: u32) -> Result<(), AllocError>
         ensures appended { OnOk result (self.new ≡ self.old ++ lead ∷ decimal number) }
         ensures unchanged { OnErr result (self.new ≡ self.old) }
@@ -280,7 +280,7 @@ fn make_room(buffer: &mut Vec<u8>, len: usize, room: usize) -> Result<(), AllocE
     Ok(())
 }
 
-// The same, where there isn't room.
+// The same, where there isn't room, out of line.
 #[cold]
 #[inline(never)]
 fn grow(buffer: &mut Vec<u8>, len: usize, room: usize) -> Result<(), AllocError>

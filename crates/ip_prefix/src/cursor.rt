@@ -47,7 +47,7 @@ pub fn write_decimal(number: u32, text: &mut [u8], at: usize) -> usize
 }
 
 /// Writes an octet, and the number in decimal behind it, and answers the place behind both.
-#[inline]
+#[inline(always)]
 pub(crate) fn write_led_decimal(lead: u8, number: u32, text: &mut [u8], at: usize) -> usize
     requires { at + ENDED_ROOM ≤ length text.old }
     ensures { IsWritten text.old at (lead ∷ decimal number) text.new result }
@@ -99,8 +99,7 @@ pub(crate) fn write_ended_decimals(numbers: &[u32], end: u8, text: &mut [u8], at
     place
 }
 
-// Writes a number of seven digits or more. Few numbers have so many, so that callers needn't hold
-// its code.
+// Writes a number of seven digits or more. It stands out of line, since few numbers have so many.
 #[inline(never)]
 fn write_long(number: u32, text: &mut [u8], at: usize) -> usize
     requires { (MILLION ≤ number) × (at + DECIMAL_ROOM ≤ length text.old) }
