@@ -34,15 +34,7 @@ first_value-more wanted (x ∷ list) a =
 pub firsts_of-more : (list : List Attribute) (a : Attribute) → firsts_of (list ++ a ∷ []) ≡ with_value a.kind a.value (firsts_of list)
 firsts_of-more list a = λ i wanted. first_value-more wanted list a i
 
--- a value of another type has no part in it
-pub other_value : (kind wanted : ℕ) (octets : List ℕ) (first : FirstOf) → (kind ≡ wanted → ⊥) → with_value kind octets first wanted ≡ first wanted
-other_value kind wanted octets first other =
-    elim (eqb_tells kind wanted) as (λ _. with_value kind octets first wanted ≡ first wanted) [
-      | inl h ↦ absurd (other h.1)
-      | inr h ↦ ap (λ test. value_or (first wanted) (if test then Some octets else None)) h.0
-    ]
-
--- nor has a later one of a type
+-- a later value of a type has no part in it
 pub later_value : (kind : ℕ) (octets : List ℕ) (first : FirstOf) → is_some (first kind) ≡ true → with_value kind octets first ≡ first
 later_value kind octets first some = λ i wanted. kept wanted i
   where
