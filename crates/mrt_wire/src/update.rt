@@ -101,14 +101,14 @@ fn add_mp_announcements(
 /// How many prefixes an UPDATE of these parts names, or `usize::MAX` where more.
 #[inline]
 fn prefix_count(parts: &UpdateParts) -> usize {
-    let withdrawn = [&parts.withdrawn, &parts.mp_withdrawn];
-    let announced = [&parts.announced, &parts.mp_announced];
+    let withdrawn = parts.withdrawn.as_slice().len();
+    let mp_withdrawn = parts.mp_withdrawn.as_slice().len();
+    let announced = parts.announced.as_slice().len();
+    let mp_announced = parts.mp_announced.as_slice().len();
     withdrawn
-        .into_iter()
-        .chain(announced)
-        .fold(0usize, |count, prefixes| {
-            count.saturating_add(prefixes.as_slice().len())
-        })
+        .saturating_add(mp_withdrawn)
+        .saturating_add(announced)
+        .saturating_add(mp_announced)
 }
 
 /// What the UPDATE says that was read last. Its attributes are given away.
