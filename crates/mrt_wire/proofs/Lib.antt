@@ -12,6 +12,7 @@ pub mod NextLaws
 pub mod RestLaws
 pub mod RibLaws
 pub mod SessionLaws
+pub mod SharedLaws
 pub mod SoFarLaws
 pub mod SplitLaws
 pub mod TellingLaws

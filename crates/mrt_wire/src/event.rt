@@ -72,37 +72,58 @@ pub enum Item {
     State(Peer, u16, u16),
 }
 
+/// A range of items that announce prefixes of one peer with one route.
+#[derive(Clone, Copy, Debug, PartialEq, Eq)]
+pub struct Shared {
+    /// The place of the first.
+    pub start: usize,
+    /// The place behind the last.
+    pub end: usize,
+}
+
 /// Items in order. Contracts see what they say, each route by its value.
 #[derive(Debug, Drop)]
 pub struct Items {
     items: Vec<Item>,
+    shared: Shared,
 }
 
 impl Model for Items {
     ghost use Rattle.std.specs.Prelude.{List, map};
-    ghost use Rattle.mrt_wire.specs.Event.{Saying, saying};
+    ghost use Rattle.mrt_wire.specs.Event.{Saying, saying, IsSharedIn};
 
     ghost Value = { List Saying };
 
     ghost view = { λ a. map saying a.items.items };
+
+    ghost invariant = { λ a. IsSharedIn a.shared (map saying a.items.items) };
 }
 
 impl Items {
-    ghost use Rattle.std.specs.Prelude.{map};
-    ghost use Rattle.mrt_wire.specs.Event.{saying};
+    ghost use Rattle.std.specs.Prelude.{◌≤◌, length, map, slice_range};
+    ghost use Rattle.mrt_wire.specs.Event.{saying, AreOfOneRoute, IsSharedIn};
 
-    /// The items of the vector.
+    /// The items of the vector, of which nothing is known.
     pub fn from_vec(items: Vec<Item>) -> Items
         ensures { result ≡ map saying items.items }
     {
-        Items { items }
+        let shared = Shared { start: 0, end: 0 };
+        Items { items, shared }
+    }
+
+    /// The items of the vector, of which those in the range are known to share a route.
+    pub(crate) fn sharing(items: Vec<Item>, shared: Shared) -> Items
+        requires { IsSharedIn shared (map saying items.items) }
+        ensures { result ≡ map saying items.items }
+    {
+        Items { items, shared }
     }
 
     /// The items as a vector.
     pub fn into_vec(self) -> Vec<Item>
         ensures { map saying result.items ≡ self }
     {
-        let Items { items } = self;
+        let Items { items, .. } = self;
         items
     }
 
@@ -111,6 +132,16 @@ impl Items {
         ensures { map saying result.now ≡ self.now }
     {
         &self.items
+    }
+
+    /// Which of the items are known to announce prefixes of one peer with one route. It may be
+    /// none, also where several do.
+    pub fn shared(&self) -> Shared
+        ensures ordered { result.start ≤ result.end }
+        ensures within { result.end ≤ length self.now }
+        ensures alike { AreOfOneRoute (slice_range self.now result.start result.end) }
+    {
+        self.shared
     }
 }
 

@@ -21,7 +21,7 @@ mod session;
 mod source;
 mod update;
 
-pub use event::{Event, Item, Items, Route, Stamp, Tag, Time};
+pub use event::{Event, Item, Items, Route, Shared, Stamp, Tag, Time};
 pub use fault::{RecordFault, RecordKind, SourceFault};
 pub use input::{InFault, Input, ReadInput};
 pub use laws::{no_octets_without_a_split, one_content, one_split, peer_order, record_numbers};

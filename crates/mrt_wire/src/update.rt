@@ -1,13 +1,13 @@
 //! What messages say of routes.
 
-ghost use Rattle.std.specs.Prelude.{◌≡◌, ◌++◌, ◌∷◌, [], true, map, OnOk, IfOk};
+ghost use Rattle.std.specs.Prelude.{◌≡◌, ◌⊎◌, ◌++◌, ◌∷◌, [], true, map, OnOk, IfOk};
 ghost use Rattle.bgp_wire.specs.Parts.{message_in, update_in};
 ghost use Rattle.bgp_wire.specs.Reach.{attrs_with};
 ghost use Rattle.mrt_wire.specs.Event.{Withdrawn, Changed, saying};
 ghost use Rattle.mrt_wire.specs.Items.{announcements, mp_announcements, message_items, route_of, update_items};
 ghost use Rattle.mrt_wire.specs.Judging.{Adds};
 
-use crate::event::{Item, Items, Route};
+use crate::event::{Item, Items, Route, Shared};
 use crate::peer::Peer;
 use crate::pool::{Pool, RoutePool};
 use crate::session::StateChange;
@@ -101,14 +101,26 @@ fn add_mp_announcements(
 /// How many prefixes an UPDATE of these parts names, or `usize::MAX` where more.
 #[inline]
 fn prefix_count(parts: &UpdateParts) -> usize {
-    let withdrawn = [&parts.withdrawn, &parts.mp_withdrawn];
-    let announced = [&parts.announced, &parts.mp_announced];
+    let withdrawn = parts.withdrawn.as_slice().len();
+    let mp_withdrawn = parts.mp_withdrawn.as_slice().len();
+    let announced = parts.announced.as_slice().len();
+    let mp_announced = parts.mp_announced.as_slice().len();
     withdrawn
-        .into_iter()
-        .chain(announced)
-        .fold(0usize, |count, prefixes| {
-            count.saturating_add(prefixes.as_slice().len())
-        })
+        .saturating_add(mp_withdrawn)
+        .saturating_add(announced)
+        .saturating_add(mp_announced)
+}
+
+/// Which of two ranges that follow one another is longer, or the first.
+#[inline]
+fn longer_range(start: usize, middle: usize, end: usize) -> Shared
+    ensures { (result ≡ record { start = start; end = middle })
+        ⊎ (result ≡ record { start = middle; end = end }) }
+{
+    if end.saturating_sub(middle) > middle.saturating_sub(start) {
+        return Shared { start: middle, end };
+    }
+    Shared { start, end: middle }
 }
 
 /// What the UPDATE says that was read last. Its attributes are given away.
@@ -126,6 +138,7 @@ fn items_of_update(
     let mut items = pool.take_items(alloc, count)?;
     add_withdrawals(&mut items, peer, &pool.parts.withdrawn)?;
     add_withdrawals(&mut items, peer, &pool.parts.mp_withdrawn)?;
+    let start = items.len();
     let is_kept = !pool.parts.mp_announced.as_slice().is_empty();
     add_announcements(
         alloc,
@@ -137,6 +150,7 @@ fn items_of_update(
         is_kept,
         &pool.parts.announced,
     )?;
+    let middle = items.len();
     add_mp_announcements(
         alloc,
         &mut pool.routes,
@@ -147,7 +161,9 @@ fn items_of_update(
         pool.parts.mp_hop,
         &pool.parts.mp_announced,
     )?;
-    Ok(Items::from_vec(items))
+    let end = items.len();
+    let shared = longer_range(start, middle, end);
+    Ok(Items::sharing(items, shared))
 }
 
 /// What the message says that was read last.

@@ -4,7 +4,7 @@
 use super::messages::message_of;
 use super::octets_of;
 use super::shown::{assert_octets, put_record, records_of, shown_item};
-use crate::{Event, Item, Next, ReadInput, Route, Source, Stamp};
+use crate::{Event, Item, Items, Next, ReadInput, Route, Shared, Source, Stamp};
 use std::alloc::{AllocError, Global};
 use std::process::Abort;
 use std::rc::Rc;
@@ -201,6 +201,44 @@ fn prefixes_of_one_list_share_their_route(rt: HostRuntime) -> Result<(), Fail> {
             shared.push(if shares(item, route) { b'1' } else { b'0' })?;
         }
         assert_eq!(rt; shared.as_slice(), want.as_bytes());
+    }
+    Ok(())
+}
+
+/// Records, and which of the items of each are known to share a route.
+const SHARED: [(&str, usize, usize); 3] = [
+    // a withdrawal, three prefixes, and two of MP_REACH_NLRI
+    (
+        "0010 0001 FBF4 FBF5 0000 0001 C0000201 C0000202 \
+         FFFFFFFFFFFFFFFFFFFFFFFFFFFFFFFF 002D 02 0002 080D 000F \
+         800E0C 000101 04 C000020B 00 00 080A 00 080B 080C",
+        1,
+        4,
+    ),
+    // two of MP_REACH_NLRI alone
+    (
+        "0010 0001 FBF4 FBF5 0000 0001 C0000201 C0000202 \
+         FFFFFFFFFFFFFFFFFFFFFFFFFFFFFFFF 0026 02 0000 000F \
+         800E0C 000101 04 C000020B 00 00 080A",
+        0,
+        2,
+    ),
+    // a state change
+    (
+        "0010 0000 FBF4 FBF5 0000 0001 C0000201 C0000202 0006 0001",
+        0,
+        0,
+    ),
+];
+
+#[test]
+fn events_tell_which_items_share_a_route(rt: HostRuntime) -> Result<(), Fail> {
+    for (record, start, end) in SHARED {
+        let octets = records_of(rt.alloc(), &[record])?;
+        let event = last_event(rt.alloc(), octets.as_slice()).ok_or("an event was wanted")?;
+        assert_eq!(rt; event.items.shared(), Shared { start, end });
+        let items = Items::from_vec(event.items.into_vec());
+        assert_eq!(rt; items.shared(), Shared { start: 0, end: 0 });
     }
     Ok(())
 }

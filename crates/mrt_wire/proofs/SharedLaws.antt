@@ -1,0 +1,52 @@
+-- Which items of a message share a route.
+use Rattle.std.proofs.Common.{◌≡◌, ◌⊎◌, inl, inr, ℕ, ◌+◌, ◌-◌, ◌≤◌, map, take, drop, List, [], ◌∷◌, ◌++◌, length, length-append, All, Option, Some, None, refl, ap, sym, subst, ◌∙◌, arith, append_assoc, append-nil}
+use Rattle.std.proofs.lemmas.List.{take_at, drop_at, length-map}
+use Rattle.std.proofs.lemmas.List.Elements.{All-map}
+use Rattle.ip_prefix.specs.Network.{Network}
+use Rattle.bgp_wire.specs.declared.attrs.Attrs.{Attrs}
+use Rattle.mrt_wire.specs.declared.peer.Peer.{Peer}
+use Rattle.mrt_wire.specs.declared.event.Route.{Route}
+use Rattle.mrt_wire.specs.declared.event.Item.{Item}
+use Rattle.mrt_wire.specs.declared.event.Shared.{Shared}
+use Rattle.mrt_wire.specs.Event.{Saying, Announced, saying, Announces, AreOfOneRoute, IsSharedIn}
+use Rattle.mrt_wire.specs.Items.{announcements, mp_announcements, route_of}
+use Rattle.mrt_wire.specs.Judging.{Adds}
+
+-- announcements with one route are all with this route
+all_announce : (peer : Peer) (route : Route) (prefixes : List Network) → All (Announces peer route) (announcements peer route prefixes)
+all_announce peer route prefixes = All-map (Announces peer route) (λ prefix. Announced peer prefix route) prefixes (λ k d less. (refl, refl))
+
+pub one_route : (peer : Peer) (route : Route) (prefixes : List Network) → AreOfOneRoute (announcements peer route prefixes)
+one_route peer route [] = tt
+one_route peer route (prefix ∷ prefixes) = all_announce peer route prefixes
+
+-- those of MP_REACH_NLRI too
+pub one_mp_route : (peer : Peer) (seconds : ℕ) (attrs : Option Attrs) (prefixes : List Network) → AreOfOneRoute (mp_announcements peer seconds attrs prefixes)
+one_mp_route peer seconds None prefixes = tt
+one_mp_route peer seconds (Some attrs) prefixes = one_route peer (route_of attrs seconds) prefixes
+
+-- a part of what is said, of one route, between others
+part_shared : (before part behind : List Saying) (a b : ℕ) → a ≡ length before → b ≡ length before + length part → AreOfOneRoute part → IsSharedIn (record { start = a; end = b }) (before ++ (part ++ behind))
+part_shared before part behind a b start end one =
+    let size : length part ≡ b - a = omega (arith, start, end) in
+    record {
+      ordered = omega (arith, start, end);
+      within = omega (arith, start, end, length-append before (part ++ behind), length-append part behind);
+      alike = subst AreOfOneRoute (sym (ap (take (b - a)) (drop_at before (part ++ behind) a (sym start)) ∙ take_at part behind (b - a) size)) one;
+    }
+
+-- how many say so much more
+added_count : (old new : List Item) (more : List Saying) → Adds old new more → length new ≡ length (map saying old) + length more
+added_count old new more adds = sym (length-map new saying) ∙ ap length adds ∙ length-append (map saying old) more
+
+-- the range of one of two kinds of announcements that were added
+pub shared_range : (old between new : List Item) (first second : List Saying) (a b c : ℕ) (shared : Shared) → a ≡ length old → b ≡ length between → c ≡ length new → Adds old between first → Adds between new second
+    → AreOfOneRoute first → AreOfOneRoute second → (shared ≡ record { start = a; end = b }) ⊎ (shared ≡ record { start = b; end = c }) → IsSharedIn shared (map saying new)
+shared_range old between new first second a b c shared start middle end adds adds' one one' (inl e) =
+    let said : map saying new ≡ map saying old ++ (first ++ second) = adds' ∙ ap (λ l. l ++ second) adds ∙ append_assoc (map saying old) first second in
+    let part = part_shared (map saying old) first second a b (start ∙ sym (length-map old saying)) (middle ∙ added_count old between first adds) one in
+    subst (λ s. IsSharedIn s (map saying new)) (sym e) (subst (λ l. IsSharedIn (record { start = a; end = b }) l) (sym said) part)
+shared_range old between new first second a b c shared start middle end adds adds' one one' (inr e) =
+    let said : map saying new ≡ map saying between ++ (second ++ []) = adds' ∙ ap (λ l. map saying between ++ l) (sym (append-nil second)) in
+    let part = part_shared (map saying between) second [] b c (middle ∙ sym (length-map between saying)) (end ∙ added_count between new second adds') one' in
+    subst (λ s. IsSharedIn s (map saying new)) (sym e) (subst (λ l. IsSharedIn (record { start = b; end = c }) l) (sym said) part)
