@@ -1,10 +1,38 @@
 -- What items say, in order.
-use Rattle.std.proofs.Common.{◌≡◌, ℕ, List, [], ◌∷◌, ◌++◌, map, refl, ap}
+use Rattle.std.proofs.Common.{◌≡◌, ℕ, ◌+◌, ◌-◌, ◌≤◌, List, [], ◌∷◌, ◌++◌, map, take, drop, refl, ap, sym, subst, ◌∙◌, arith, append_assoc}
+use Rattle.std.proofs.lemmas.List.{map-append, drop-drop, take-append-drop, take-map, drop-map}
+use Rattle.std.proofs.lemmas.Grind.{flat_map-append}
 use Rattle.std.specs.List.{flat_map}
 use Rattle.mrt_wire.specs.declared.event.Item.{Item}
-use Rattle.mrt_wire.specs.Event.{Saying, saying}
+use Rattle.mrt_wire.specs.Event.{Saying, saying, AreOfOneRoute}
 
 -- the lines of what items say are those of the items
 pub lines-sayings : (line : Saying → List ℕ) (items : List Item) → flat_map (λ item. line (saying item)) items ≡ flat_map line (map saying items)
 lines-sayings line [] = refl
 lines-sayings line (item ∷ items) = ap (λ l. line (saying item) ++ l) (lines-sayings line items)
+
+-- a list is its beginning, a part behind it, and the rest
+parts : (items : List Item) (a b : ℕ) → a ≤ b → take a items ++ (take (b - a) (drop a items) ++ drop b items) ≡ items
+parts items a b le =
+    let e : a + (b - a) ≡ b = omega (arith, le) in
+    ap (λ l. take a items ++ (take (b - a) (drop a items) ++ l)) (ap (λ n. drop n items) (sym e) ∙ sym (drop-drop (b - a) a items))
+    ∙ ap (λ l. take a items ++ l) (take-append-drop (b - a) (drop a items)) ∙ take-append-drop a items
+
+-- the lines of items and of others behind them
+lines-append : (line : Saying → List ℕ) (one other : List Item) → flat_map line (map saying (one ++ other)) ≡ flat_map line (map saying one) ++ flat_map line (map saying other)
+lines-append line one other = ap (flat_map line) (map-append saying one other) ∙ flat_map-append line (map saying one) (map saying other)
+
+-- the lines of three parts of items are those of all
+pub lines-parts : (line : Saying → List ℕ) (items : List Item) (a b : ℕ) (old first second new : List ℕ) → a ≤ b → first ≡ old ++ flat_map line (map saying (take a items))
+    → second ≡ first ++ flat_map line (map saying (take (b - a) (drop a items))) → new ≡ second ++ flat_map line (map saying (drop b items)) → new ≡ old ++ flat_map line (map saying items)
+lines-parts line items a b old first second new le p q r =
+    let f : List Item → List ℕ = λ l. flat_map line (map saying l) in
+    let A = take a items in
+    let B = take (b - a) (drop a items) in
+    let C = drop b items in
+    r ∙ ap (λ t. t ++ f C) (q ∙ ap (λ t. t ++ f B) p) ∙ append_assoc (old ++ f A) (f B) (f C) ∙ append_assoc old (f A) (f B ++ f C)
+    ∙ ap (λ l. old ++ (f A ++ l)) (sym (lines-append line B C)) ∙ ap (λ l. old ++ l) (sym (lines-append line A (B ++ C))) ∙ ap (λ l. old ++ f l) (parts items a b le)
+
+-- what the items in a range say stands in that range of what all say
+pub said_range : (items : List Item) (said : List Saying) (a n : ℕ) → map saying items ≡ said → AreOfOneRoute (take n (drop a said)) → AreOfOneRoute (map saying (take n (drop a items)))
+said_range items said a n e one = subst AreOfOneRoute (ap (λ l. take n (drop a l)) (sym e) ∙ ap (take n) (drop-map saying a items) ∙ take-map saying n (drop a items)) one

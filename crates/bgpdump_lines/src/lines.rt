@@ -1,8 +1,10 @@
 //! The lines of events.
 
-ghost use Rattle.std.specs.Prelude.{◌≡◌, ◌∷◌, ◌++◌, [], OnOk, OnErr, IfOk, IfSome};
+ghost use Rattle.std.specs.Prelude.{◌≡◌, ◌∷◌, ◌++◌, [], map, All, OnOk, OnErr, IfOk, IfSome};
+ghost use Rattle.std.specs.List.{flat_map};
 ghost use Rattle.bgp_wire.specs.Text.{StillBegins};
 ghost use Rattle.mrt_wire.specs.Event.{Announced, Withdrawn, Changed, saying};
+ghost use Rattle.mrt_wire.specs.Event.{Announces, AreOfOneRoute};
 ghost use Rattle.bgpdump_lines.specs.Lines.{bar, word, micros_text, time_text, route_time_text};
 ghost use Rattle.bgpdump_lines.specs.Lines.{route_letter, route_head, route_front, route_tail};
 ghost use Rattle.bgpdump_lines.specs.Lines.{peer_fields, prefix_field, AreOrdered, EndsIn, IsLike};
@@ -366,16 +368,104 @@ fn put_item<'a>(
     }
 }
 
+/// Appends the lines of items, each of which takes what it can from the one before.
+fn put_each(time: &Time, tag: Tag, items: &[Item], text: &mut Text) -> Result<(), AllocError>
+    ensures appended { OnOk result (text.new ≡ text.old ++
+        flat_map (item_line time.now tag) (map saying items.now)) }
+    ensures kept { OnErr result (StillBegins text.old text.new) }
+{
+    let mut last = None;
+    'items: for item in items {
+        last = put_item(time, tag, item, last, text)?;
+    }
+    Ok(())
+}
+
+/// Appends the line of one more announcement of the route whose line the text ends in. Returned is
+/// where its parts stand.
+#[inline(always)]
+fn put_other(
+    time: &Time,
+    tag: Tag,
+    peer: &Peer,
+    route: &Route,
+    last: Places,
+    item: &Item,
+    text: &mut Text,
+) -> Result<Places, AllocError>
+    requires ordered { AreOrdered last text.old }
+    requires front { front_at last text.old ≡ route_front time.now tag peer.now route.now }
+    requires tail { tail_at last text.old ≡ route_tail route.now }
+    requires alike { Announces peer.now route.now (saying item.now) }
+    ensures appended { OnOk result (text.new ≡
+        text.old ++ item_line time.now tag (saying item.now)) }
+    ensures ordered { IfOk result (λ places. AreOrdered places text.new) }
+    ensures front { IfOk result (λ places. front_at places text.new
+        ≡ route_front time.now tag peer.now route.now) }
+    ensures tail { IfOk result (λ places. tail_at places text.new ≡ route_tail route.now) }
+    ensures kept { OnErr result (StillBegins text.old text.new) }
+{
+    match item {
+        Item::Announce(_, prefix, _) => put_route_again(last, prefix, text),
+        Item::Withdraw(_, _) => unreachable!(),
+        Item::State(_, _, _) => unreachable!(),
+    }
+}
+
+/// Appends the lines of further announcements of the route whose line the text ends in.
+fn put_others(
+    time: &Time,
+    tag: Tag,
+    peer: &Peer,
+    route: &Route,
+    places: Places,
+    items: &[Item],
+    text: &mut Text,
+) -> Result<(), AllocError>
+    requires ordered { AreOrdered places text.old }
+    requires front { front_at places text.old ≡ route_front time.now tag peer.now route.now }
+    requires tail { tail_at places text.old ≡ route_tail route.now }
+    requires alike { All (Announces peer.now route.now) (map saying items.now) }
+    ensures appended { OnOk result (text.new ≡ text.old ++
+        flat_map (item_line time.now tag) (map saying items.now)) }
+    ensures kept { OnErr result (StillBegins text.old text.new) }
+{
+    let mut places = places;
+    'items: for item in items {
+        places = put_other(time, tag, peer, route, places, item, text)?;
+    }
+    Ok(())
+}
+
+/// Appends the lines of announcements that share a peer and a route.
+fn put_shared(time: &Time, tag: Tag, items: &[Item], text: &mut Text) -> Result<(), AllocError>
+    requires { AreOfOneRoute (map saying items.now) }
+    ensures appended { OnOk result (text.new ≡ text.old ++
+        flat_map (item_line time.now tag) (map saying items.now)) }
+    ensures kept { OnErr result (StillBegins text.old text.new) }
+{
+    let [Item::Announce(peer, prefix, route), rest @ ..] = items else {
+        return Ok(());
+    };
+    let places = put_route_anew(time, tag, peer, prefix, route, text)?;
+    put_others(time, tag, peer, route, places, rest, text)
+}
+
 /// Appends the lines of an event's items.
 fn put_items(event: &Event, text: &mut Text) -> Result<(), AllocError>
     ensures appended { OnOk result (text.new ≡ text.old ++ event_lines event.now) }
     ensures kept { OnErr result (StillBegins text.old text.new) }
 {
     let items = event.items.as_slice();
-    let mut last = None;
-    'items: for item in items {
-        last = put_item(&event.time, event.tag, item, last, text)?;
-    }
+    let shared = event.items.shared();
+    put_each(&event.time, event.tag, &items[..shared.start], text)?;
+    put_shared(
+        &event.time,
+        event.tag,
+        &items[shared.start..shared.end],
+        text,
+    )?;
+    put_each(&event.time, event.tag, &items[shared.end..], text)?;
     Ok(())
 }
 

@@ -1,29 +1,19 @@
-use Rattle.std.proofs.Common.{◌++◌, ◌∙◌, ap, append_assoc, take}
+use Rattle.std.proofs.Common.{◌++◌, ◌∙◌, ap, map, drop, length-drop, arith}
 use Rattle.std.proofs.lemmas.List.{take_all}
-use Rattle.std.proofs.lemmas.Result.{err_from_is_err_and}
-use Rattle.std.specs.List.{flat_map}
 use Rattle.mrt_wire.specs.Event.{saying}
+use Rattle.std.specs.List.{flat_map}
 use Rattle.bgpdump_lines.specs.Lines.{item_line}
-use Rattle.bgpdump_lines.proofs.LineLaws.{lines-sayings}
+use Rattle.bgpdump_lines.proofs.LineLaws.{lines-parts, said_range}
 use Rattle.bgpdump_lines.proofs.lines.put_items.Goals as goal
+
+pub put_shared-requires : goal.put_shared-requires
+put_shared-requires c =
+    said_range c.as_slice-items.result.now _ c.shared-shared.result.start _ c.as_slice-items.ensures c.shared-shared.ensures.alike
 
 pub returns-clause-appended : goal.returns-clause-appended
 returns-clause-appended c =
-    let items = c.as_slice-items.result.now in
     let line = item_line c.args.event.now.time c.args.event.now.tag in
-    c.items.invariant.0
-    ∙ ap (λ l. c.args.text.now ++ flat_map (λ item. line (saying item)) l) (take_all c.items.item-index items c.items-test.false)
-    ∙ ap (λ l. c.args.text.now ++ l) (lines-sayings line items ∙ ap (flat_map line) c.as_slice-items.ensures)
-
-pub returns-in_err-last-clause-kept : goal.returns-in_err-last-clause-kept
-returns-in_err-last-clause-kept c =
-    let line = item_line c.args.event.now.time c.args.event.now.tag in
-    let so_far = flat_map (λ item. line (saying item)) (take c.items.item-index c.as_slice-items.result.now) in
-    let more = c.in_err-last.ensures.kept.0 in
-    let p = err_from_is_err_and c.from_residual.result c.from_residual.ensures.1 in
-    rw p.1 (
-      so_far ++ more,
-      c.in_err-last.ensures.kept.1
-          ∙ ap (λ l. l ++ more) c.items.invariant.0
-          ∙ append_assoc c.args.text.now so_far more,
-    )
+    lines-parts line c.as_slice-items.result.now c.shared-shared.result.start c.shared-shared.result.end _ _ _ _
+    c.shared-shared.ensures.ordered c.in_ok-put_each.ensures.appended c.in_ok-put_shared.ensures.appended
+    (c.in_ok-put_each-2.ensures.appended ∙ ap (λ l. c.put_shared.new.text ++ flat_map line (map saying l)) (take_all _ (drop c.shared-shared.result.end c.as_slice-items.result.now) (omega (arith, length-drop c.shared-shared.result.end c.as_slice-items.result.now))))
+    ∙ ap (λ l. c.args.text.now ++ flat_map line l) c.as_slice-items.ensures

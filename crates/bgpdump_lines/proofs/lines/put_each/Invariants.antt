@@ -4,9 +4,9 @@ use Rattle.std.specs.List.{flat_map}
 use Rattle.std.specs.Option.{IfSome}
 use Rattle.mrt_wire.specs.Event.{saying}
 use Rattle.bgpdump_lines.specs.Lines.{EndsIn, item_line}
-use Rattle.bgpdump_lines.proofs.lines.put_items.Given as goal
+use Rattle.bgpdump_lines.proofs.lines.put_each.Given as goal
 
 abbrev pub invariant-items : goal.invariant-items
 invariant-items l =
-    (l.text ≡ l.initial.text ++ flat_map (λ item. item_line l.event.time l.event.tag (saying item)) (take l.item-index l.items))
-    × IfSome l.last (λ line. EndsIn l.event.time l.event.tag line l.text)
+    (l.text ≡ l.initial.text ++ flat_map (λ item. item_line l.time l.tag (saying item)) (take l.item-index l.items))
+    × IfSome l.last (λ line. EndsIn l.time l.tag line l.text)
