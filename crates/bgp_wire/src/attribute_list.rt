@@ -100,7 +100,7 @@ fn clear_unseen(attrs: &mut Attrs, types: &SeenTypes)
 
 /// Makes the attributes what the octets say of the values that are read each by itself, in the
 /// memory that they have, and answers what is kept besides. Refused, nothing is said of them.
-#[inline]
+#[inline(always)]
 pub(crate) fn read_list<'a>(
     alloc: Global,
     attrs: &mut Attrs,

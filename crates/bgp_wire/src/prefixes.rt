@@ -70,7 +70,25 @@ impl Prefixes {
 
 /// Makes the prefixes those of a family that the octets are, one behind the other (RFC 4271,
 /// section 4.3). Refused, nothing is said of them.
+#[inline(always)]
 pub(crate) fn fill_prefixes(
+    prefixes: &mut Prefixes,
+    family: Family,
+    octets: &[u8],
+) -> Result<(), WireFault>
+    ensures filled { OnOk result (SpellsAll (SpellsNetwork family) prefixes.new octets.now) }
+    ensures refused { IfErr result (Refuses (SpellsAll (SpellsNetwork family)) octets.now) }
+{
+    if octets.is_empty() {
+        prefixes.clear();
+        return Ok(());
+    }
+    fill_some_prefixes(prefixes, family, octets)
+}
+
+/// The same, out of line: of most UPDATEs some lists are empty.
+#[inline(never)]
+fn fill_some_prefixes(
     prefixes: &mut Prefixes,
     family: Family,
     octets: &[u8],

@@ -135,6 +135,7 @@ fn put_route_head(time: &Time, tag: Tag, route: &Route, text: &mut Text) -> Resu
 }
 
 /// Appends the line of a route with each part printed. Returned is where they stand.
+#[inline(always)]
 fn put_route_anew(
     time: &Time,
     tag: Tag,
@@ -173,6 +174,7 @@ fn put_route_anew(
 
 /// Appends the line that the text ends in once more, with another prefix. Returned is where its
 /// parts stand.
+#[inline(always)]
 fn put_route_again(last: Places, prefix: &Prefix, text: &mut Text) -> Result<Places, AllocError>
     requires { AreOrdered last text.old }
     ensures appended { OnOk result (text.new ≡ text.old ++
@@ -369,7 +371,21 @@ fn put_item<'a>(
 }
 
 /// Appends the lines of items, each of which takes what it can from the one before.
+#[inline(always)]
 fn put_each(time: &Time, tag: Tag, items: &[Item], text: &mut Text) -> Result<(), AllocError>
+    ensures appended { OnOk result (text.new ≡ text.old ++
+        flat_map (item_line time.now tag) (map saying items.now)) }
+    ensures kept { OnErr result (StillBegins text.old text.new) }
+{
+    if items.is_empty() {
+        return Ok(());
+    }
+    put_some(time, tag, items, text)
+}
+
+/// The same, out of line: of most events all items share a route, or none do.
+#[inline(never)]
+fn put_some(time: &Time, tag: Tag, items: &[Item], text: &mut Text) -> Result<(), AllocError>
     ensures appended { OnOk result (text.new ≡ text.old ++
         flat_map (item_line time.now tag) (map saying items.now)) }
     ensures kept { OnErr result (StillBegins text.old text.new) }

@@ -4,7 +4,7 @@ use Rattle.std.specs.List.{flat_map}
 use Rattle.std.specs.Option.{IfSome}
 use Rattle.mrt_wire.specs.Event.{saying}
 use Rattle.bgpdump_lines.specs.Lines.{EndsIn, item_line}
-use Rattle.bgpdump_lines.proofs.lines.put_each.Given as goal
+use Rattle.bgpdump_lines.proofs.lines.put_some.Given as goal
 
 abbrev pub invariant-items : goal.invariant-items
 invariant-items l =

@@ -1,7 +1,7 @@
 use Rattle.std.proofs.Common.{length}
 use Rattle.ip_prefix.specs.Sequences.{Begins, SpellsAll}
 use Rattle.ip_prefix.specs.Wire.{SpellsNetwork}
-use Rattle.bgp_wire.proofs.prefixes.fill_prefixes.Given as goal
+use Rattle.bgp_wire.proofs.prefixes.fill_some_prefixes.Given as goal
 
 -- the prefixes so far are spelled by the octets before the rest
 abbrev pub invariant-loop-list : goal.invariant-loop-list

@@ -7,7 +7,7 @@ use Rattle.ip_prefix.proofs.Wires.{network_code}
 use Rattle.ip_prefix.proofs.Sequences.{one_more, none_at_all}
 use Rattle.bgp_wire.specs.Reading.{Refuses}
 use Rattle.bgp_wire.proofs.Refusing.{refused_always}
-use Rattle.bgp_wire.proofs.prefixes.fill_prefixes.Goals as goal
+use Rattle.bgp_wire.proofs.prefixes.fill_some_prefixes.Goals as goal
 use Rattle.ip_prefix.proofs.Lists.{nonempty}
 
 pub returns-in_err-prefix-clause-refused : goal.returns-in_err-prefix-clause-refused

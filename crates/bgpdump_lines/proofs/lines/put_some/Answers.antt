@@ -5,7 +5,7 @@ use Rattle.std.specs.List.{flat_map}
 use Rattle.mrt_wire.specs.Event.{saying}
 use Rattle.bgpdump_lines.specs.Lines.{item_line}
 use Rattle.bgpdump_lines.proofs.LineLaws.{lines-sayings}
-use Rattle.bgpdump_lines.proofs.lines.put_each.Goals as goal
+use Rattle.bgpdump_lines.proofs.lines.put_some.Goals as goal
 
 pub returns-clause-appended : goal.returns-clause-appended
 returns-clause-appended c =
