@@ -47,7 +47,7 @@ struct LastLine<'a> {
 }
 
 /// Appends the first field of a line.
-#[inline]
+#[inline(always)]
 fn put_word(tag: Tag, text: &mut Text) -> Result<(), AllocError>
     ensures appended { OnOk result (text.new ≡ text.old ++ word tag) }
     ensures kept { OnErr result (StillBegins text.old text.new) }
@@ -76,6 +76,7 @@ fn put_micros(micros: u32, text: &mut Text) -> Result<(), AllocError>
 }
 
 /// Appends a bar and the time of a line.
+#[inline(always)]
 fn put_time(time: &Time, tag: Tag, text: &mut Text) -> Result<(), AllocError>
     ensures appended { OnOk result (text.new ≡ text.old ++ (bar ∷ time_text tag time.now)) }
     ensures kept { OnErr result (StillBegins text.old text.new) }
@@ -89,6 +90,7 @@ fn put_time(time: &Time, tag: Tag, text: &mut Text) -> Result<(), AllocError>
 }
 
 /// Appends the first two fields of a line: what kind of record it is from, and its time.
+#[inline(always)]
 fn put_head(time: &Time, tag: Tag, text: &mut Text) -> Result<(), AllocError>
     ensures appended { OnOk result (text.new ≡
         text.old ++ (word tag ++ bar ∷ time_text tag time.now)) }
@@ -124,7 +126,7 @@ fn put_letter(tag: Tag, text: &mut Text) -> Result<(), AllocError>
 }
 
 /// Appends the first three fields of a route's line.
-#[inline]
+#[inline(always)]
 fn put_route_head(time: &Time, tag: Tag, route: &Route, text: &mut Text) -> Result<(), AllocError>
     ensures appended { OnOk result (text.new ≡ text.old ++ route_head time.now tag route.now) }
     ensures kept { OnErr result (StillBegins text.old text.new) }

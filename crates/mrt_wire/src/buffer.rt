@@ -13,6 +13,7 @@ const FIRST_GROWTH: usize = 4096;
 
 /// Fills the buffer as far as the input goes, and answers how far that is. What is taken is
 /// counted.
+#[inline(always)]
 fn fill<I: Input>(input: &mut I, buffer: &mut [u8], taken: &mut u64) -> Result<usize, InFault>
     requires room { taken.old + length buffer.old < 2 ^ 64 }
     ensures octets { Fills (I.left input.old) (I.left input.new) taken.old taken.new

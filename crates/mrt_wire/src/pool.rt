@@ -71,6 +71,7 @@ impl RoutePool {
     }
 
     /// Where the next route stands that may be filled. One that somebody else holds is let go.
+    #[inline(always)]
     fn next_place(&mut self, alloc: Global) -> Result<usize, AllocError>
         ensures { IfOk result (λ place. place < vec_len self.new.routes) }
     {
@@ -158,6 +159,7 @@ impl Pool {
     }
 
     /// An empty vector with room for so many items.
+    #[inline(always)]
     pub(crate) fn take_items(
         &mut self,
         alloc: Global,

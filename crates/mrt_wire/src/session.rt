@@ -215,7 +215,7 @@ fn read_change(alloc: Global, width: AsWidth, octets: &[u8]) -> Result<Items, Wi
 }
 
 /// What is said of a session, by the octets of what happened there.
-#[inline]
+#[inline(always)]
 fn read_happening(
     alloc: Global,
     pool: &mut Pool,

@@ -32,6 +32,7 @@ fn add_withdrawals(
 }
 
 /// Adds what announcements of the prefixes with one route say, which they share.
+#[inline(always)]
 fn share_route(
     items: &mut Vec<Item>,
     peer: &Peer,
@@ -50,6 +51,7 @@ fn share_route(
 
 /// Adds what announcements of the prefixes with these attributes say, which are given away unless
 /// they are kept. No route is made for none.
+#[inline(always)]
 fn add_announcements(
     alloc: Global,
     routes: &mut RoutePool,
@@ -77,6 +79,7 @@ fn add_announcements(
 
 /// Adds what announcements of the prefixes with these attributes and this next hop say. The
 /// attributes are given away.
+#[inline(always)]
 fn add_mp_announcements(
     alloc: Global,
     routes: &mut RoutePool,
