@@ -98,7 +98,10 @@ fn put_number_or_zero(number: Option<u32>, text: &mut Text) -> Result<(), AllocE
         (text.new ≡ text.old ++ (bar ∷ number_or_zero number)) }
     ensures kept { OnErr result (StillBegins text.old text.new) }
 {
-    put_field(number.unwrap_or(0), text)
+    match number {
+        Some(number) => put_field(number, text),
+        None => text.extend_from_slice(b"|0"),
+    }
 }
 
 /// Appends a bar and communities.

@@ -101,7 +101,7 @@ fn put_head(time: &Time, tag: Tag, text: &mut Text) -> Result<(), AllocError>
 }
 
 /// Appends a bar and the time of a route's line, which for a table's entry is the route's own.
-#[inline]
+#[inline(always)]
 fn put_route_time(time: &Time, tag: Tag, route: &Route, text: &mut Text) -> Result<(), AllocError>
     ensures appended { OnOk result (text.new ≡
         text.old ++ (bar ∷ route_time_text time.now tag route.now)) }

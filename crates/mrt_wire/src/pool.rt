@@ -113,6 +113,7 @@ impl RoutePool {
     }
 
     /// A route of these attributes and this time. Others that aren't needed are given for them.
+    #[inline(always)]
     pub(crate) fn route(
         &mut self,
         alloc: Global,

@@ -175,7 +175,7 @@ fn read_peer_message(
 }
 
 /// The same. A long message is read into memory of its own, which nobody keeps.
-#[inline]
+#[inline(always)]
 fn read_long_or_short(
     alloc: Global,
     pool: &mut Pool,
