@@ -64,6 +64,22 @@ fn fill_rib_route(
     Ok(())
 }
 
+/// Makes the attributes the others, which get the memory of these. It is done part by part, since
+/// only paths and communities have memory.
+#[inline(always)]
+fn exchange_attrs(attrs: &mut Attrs, others: &mut Attrs)
+    ensures { attrs.new ≡ others.old }
+{
+    mem::swap(&mut attrs.path, &mut others.path);
+    mem::swap(&mut attrs.communities, &mut others.communities);
+    attrs.next_hop = others.next_hop;
+    attrs.aggregator = others.aggregator;
+    attrs.med = others.med;
+    attrs.local_pref = others.local_pref;
+    attrs.origin = others.origin;
+    attrs.atomic = others.atomic;
+}
+
 impl RoutePool {
     /// Another record is read.
     pub(crate) fn restart(&mut self) {
@@ -124,7 +140,7 @@ impl RoutePool {
     {
         let place = self.next_place(alloc)?;
         let route = Rc::make_mut(&mut self.routes[place])?;
-        mem::swap(&mut route.attrs, attrs);
+        exchange_attrs(&mut route.attrs, attrs);
         route.time = time;
         self.routes[place].clone()
     }
