@@ -30,10 +30,10 @@ pub enum RecordKind {
 pub struct RecordFault {
     /// Its number from 1. Every record counts.
     pub number: u64,
-    /// How many octets stand before its header.
-    pub offset: u64,
     /// What is wrong.
     pub kind: RecordKind,
+    /// How many octets stand before its header.
+    pub offset: u64,
 }
 
 /// Why a source stopped before the end of its input.

@@ -125,10 +125,17 @@ fn ipv6(octets: &[u8]) -> Addr
     Addr::v6(buffer)
 }
 
-/// The address of this family in front, and what follows it.
+/// Makes the address that of this family in front, and answers what follows it. Where none stands
+/// there, it stays.
 #[inline]
-pub(crate) fn split_address(family: Family, octets: &[u8]) -> Option<Field<'_, Addr>>
-    ensures { FindsField (SpellsAddressOf family) octets.now result }
+pub(crate) fn fill_address<'a>(
+    addr: &mut Addr,
+    family: Family,
+    octets: &'a [u8],
+) -> Option<&'a [u8]>
+    ensures some { IfSome result (λ rest.
+        Begins (SpellsAddressOf family) addr.new rest.now octets.now) }
+    ensures none { IfNone result (BeginsWithNone (SpellsAddressOf family) octets.now) }
 {
     match family {
         Family::V4 => {
@@ -136,20 +143,16 @@ pub(crate) fn split_address(family: Family, octets: &[u8]) -> Option<Field<'_, A
                 return None;
             }
             let (front, rest) = octets.split_at(4);
-            Some(Field {
-                value: ipv4(front),
-                rest,
-            })
+            *addr = ipv4(front);
+            Some(rest)
         }
         Family::V6 => {
             if octets.len() < 16 {
                 return None;
             }
             let (front, rest) = octets.split_at(16);
-            Some(Field {
-                value: ipv6(front),
-                rest,
-            })
+            *addr = ipv6(front);
+            Some(rest)
         }
     }
 }

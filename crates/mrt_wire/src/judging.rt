@@ -178,6 +178,9 @@ pub(crate) fn judge(
     match form {
         Form::Peers => judge_index(alloc, index, header, body),
         Form::Entries(family) => judge_rib(alloc, pool, stamp, index, family, header, body),
-        Form::Session(session) => judge_session(alloc, pool, session, header, body),
+        Form::Session(SessionForm { kind, width, timed }) => {
+            let session = SessionForm { kind, width, timed };
+            judge_session(alloc, pool, session, header, body)
+        }
     }
 }

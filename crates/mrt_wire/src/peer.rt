@@ -2,7 +2,7 @@
 
 ghost use Rattle.std.specs.Prelude.{◌≡◌};
 
-use ip_prefix::Addr;
+use ip_prefix::{Addr, V4_OCTETS};
 use std::marker::Model;
 
 /// A peer: its address and its AS number. Peers are ordered by address, then by number.
@@ -12,6 +12,17 @@ pub struct Peer {
     pub addr: Addr,
     /// The number of the autonomous system that it belongs to.
     pub asn: u32,
+}
+
+impl Peer {
+    /// A peer that isn't known yet.
+    #[inline]
+    pub(crate) fn unknown() -> Peer {
+        Peer {
+            addr: Addr::v4([0; V4_OCTETS]),
+            asn: 0,
+        }
+    }
 }
 
 /// The peers of a table, by their numbers.

@@ -8,7 +8,7 @@ ghost use Rattle.bgp_wire.specs.Reading.{Reads};
 ghost use Rattle.mrt_wire.specs.Fields.{FindsField};
 ghost use Rattle.mrt_wire.specs.PeerIndex.{peer_family, peer_width, SpellsPeer, SpellsView, SpellsPeerIndex};
 
-use crate::fields::{Field, skip, split_address, split_asn, split_octet, split_short, split_sized};
+use crate::fields::{Field, fill_address, skip, split_asn, split_octet, split_short, split_sized};
 use crate::peer::{Peer, Peers};
 use bgp_wire::{AsWidth, WireFault};
 use ip_prefix::Family;
@@ -54,15 +54,14 @@ fn split_peer(octets: &[u8]) -> Option<Field<'_, Peer>>
 {
     let kind = split_octet(octets)?;
     let after_id = skip(ID_SIZE, kind.rest)?;
-    let Some(addr) = split_address(peer_family(kind.value), after_id) else {
+    let mut peer = Peer::unknown();
+    let Some(after_addr) = fill_address(&mut peer.addr, peer_family(kind.value), after_id) else {
         return None;
     };
-    let asn = split_asn(peer_width(kind.value), addr.rest)?;
+    let asn = split_asn(peer_width(kind.value), after_addr)?;
+    peer.asn = asn.value;
     Some(Field {
-        value: Peer {
-            addr: addr.value,
-            asn: asn.value,
-        },
+        value: peer,
         rest: asn.rest,
     })
 }

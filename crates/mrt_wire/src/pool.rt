@@ -46,7 +46,7 @@ fn new_route(alloc: Global) -> Result<Rc<Route>, AllocError> {
     Ok(Rc::new(alloc, Route { attrs, time: 0 })?)
 }
 
-/// Reads the attributes of a table's entry into a route.
+/// Reads the attributes of a table's entry into a route that nobody else holds.
 fn fill_rib_route(
     shared: &mut Rc<Route>,
     alloc: Global,
@@ -58,7 +58,9 @@ fn fill_rib_route(
     ensures time { OnOk result (shared.new.value.time ≡ time) }
     ensures refused { IfErr result (Refuses (SpellsRibAttrs family Four) octets.now) }
 {
-    let route = Rc::make_mut(shared)?;
+    let Some(route) = Rc::get_mut(shared) else {
+        return Err(WireFault::Memory);
+    };
     replace_rib_attrs(alloc, &mut route.attrs, family, AsWidth::Four, octets)?;
     route.time = time;
     Ok(())
@@ -86,14 +88,15 @@ impl RoutePool {
         self.given = 0;
     }
 
-    /// Where the next route stands that may be filled. One that somebody else holds is let go.
+    /// Where the next route stands that may be filled, which nobody else holds. One that somebody
+    /// else holds is let go.
     #[inline(always)]
     fn next_place(&mut self, alloc: Global) -> Result<usize, AllocError>
         ensures { IfOk result (λ place. place < vec_len self.new.routes) }
     {
         let place = self.given;
         if place < self.routes.len() {
-            if Rc::strong_count(&self.routes[place]) != 1 {
+            if Rc::get_mut(&mut self.routes[place]).is_none() {
                 self.routes[place] = new_route(alloc)?;
             }
             self.given = place + 1;
@@ -139,7 +142,9 @@ impl RoutePool {
         ensures { IfOk result (λ route. route.value ≡ route_of attrs.old time) }
     {
         let place = self.next_place(alloc)?;
-        let route = Rc::make_mut(&mut self.routes[place])?;
+        let Some(route) = Rc::get_mut(&mut self.routes[place]) else {
+            return Err(AllocError);
+        };
         exchange_attrs(&mut route.attrs, attrs);
         route.time = time;
         self.routes[place].clone()
@@ -155,7 +160,9 @@ impl RoutePool {
         ensures { IfOk result (λ route. route.value ≡ route_of attrs.now time) }
     {
         let place = self.next_place(alloc)?;
-        let route = Rc::make_mut(&mut self.routes[place])?;
+        let Some(route) = Rc::get_mut(&mut self.routes[place]) else {
+            return Err(AllocError);
+        };
         replace_attrs(alloc, &mut route.attrs, attrs)?;
         route.time = time;
         self.routes[place].clone()

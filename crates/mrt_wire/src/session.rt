@@ -11,7 +11,7 @@ ghost use Rattle.mrt_wire.specs.Judging.{Told, session_told};
 ghost use Rattle.mrt_wire.specs.Session.{SpellsFamily, AreSystems, AreAddresses, SpellsSessionPeer, SpellsStateChange, SpellsPeerMessage, SpellsMicros, SpellsHappening, SpellsSessionBody};
 
 use crate::event::Items;
-use crate::fields::{Field, skip, split_address, split_asn, split_short, split_word};
+use crate::fields::{Field, fill_address, skip, split_asn, split_short, split_word};
 use crate::peer::Peer;
 use crate::pool::Pool;
 use crate::profile::{SessionForm, SessionKind};
@@ -26,7 +26,7 @@ const INTERFACE_SIZE: usize = 2;
 /// How many microseconds make a second.
 const MICROS_PER_SECOND: u32 = 1_000_000;
 
-/// How many octets a message and its peer have at most that is read into memory that stays.
+/// How many octets a message and its peer have at most whose memory stays.
 const LONGEST_KEPT: usize = 4096;
 
 /// A peer's old and new state (RFC 4271, section 8.2.2).
@@ -105,58 +105,55 @@ fn split_systems(width: AsWidth, octets: &[u8]) -> Option<Field<'_, u32>>
     })
 }
 
-/// The peer's address behind the address family in front, and what follows the local address.
-fn split_addresses(octets: &[u8]) -> Option<Field<'_, Addr>>
-    ensures some { IfSome result (λ f. (family : Family) × (local : List ℕ)
-        × Begins AreAddresses (family, (f.value, local)) f.rest.now octets.now) }
+/// Makes the address the peer's behind the address family in front, and answers what follows the
+/// local address. Where none stands there, nothing is said of it.
+fn fill_peer_address<'a>(addr: &mut Addr, octets: &'a [u8]) -> Option<&'a [u8]>
+    ensures some { IfSome result (λ rest. (family : Family) × (local : List ℕ)
+        × Begins AreAddresses (family, (addr.new, local)) rest.now octets.now) }
     ensures none { IfNone result (BeginsWithNone AreAddresses octets.now) }
 {
     let family = split_family(octets)?;
-    let Some(addr) = split_address(family.value, family.rest) else {
+    let Some(after_peer) = fill_address(addr, family.value, family.rest) else {
         return None;
     };
-    let rest = skip(address_octets(family.value), addr.rest)?;
-    Some(Field {
-        value: addr.value,
-        rest,
-    })
+    let rest = skip(address_octets(family.value), after_peer)?;
+    Some(rest)
 }
 
-/// The session in front, and what follows it.
-fn split_session_peer(width: AsWidth, octets: &[u8]) -> Option<Field<'_, Peer>>
-    ensures { FindsField (SpellsSessionPeer width) octets.now result }
+/// Makes the peer that of the session in front, and answers what follows it. Where none stands
+/// there, nothing is said of it.
+fn fill_session_peer<'a>(peer: &mut Peer, width: AsWidth, octets: &'a [u8]) -> Option<&'a [u8]>
+    ensures some { IfSome result (λ rest.
+        Begins (SpellsSessionPeer width) peer.new rest.now octets.now) }
+    ensures none { IfNone result (BeginsWithNone (SpellsSessionPeer width) octets.now) }
 {
     let asn = split_systems(width, octets)?;
-    let Some(addr) = split_addresses(asn.rest) else {
+    let Some(rest) = fill_peer_address(&mut peer.addr, asn.rest) else {
         return None;
     };
-    Some(Field {
-        value: Peer {
-            addr: addr.value,
-            asn: asn.value,
-        },
-        rest: addr.rest,
-    })
+    peer.asn = asn.value;
+    Some(rest)
 }
 
 /// The state change that the octets begin with.
 fn read_state_change(width: AsWidth, octets: &[u8]) -> Option<StateChange>
     ensures { Finds (SpellsStateChange width) octets.now result }
 {
-    let Some(session) = split_session_peer(width, octets) else {
+    let mut peer = Peer::unknown();
+    let Some(rest) = fill_session_peer(&mut peer, width, octets) else {
         return None;
     };
-    let old = split_short(session.rest)?;
+    let old = split_short(rest)?;
     let new = split_short(old.rest)?;
     Some(StateChange {
-        peer: session.value,
+        peer,
         old: old.value,
         new: new.value,
     })
 }
 
 /// What the message of a session says that the octets are.
-#[inline]
+#[inline(never)]
 fn read_peer_message(
     alloc: Global,
     pool: &mut Pool,
@@ -166,15 +163,16 @@ fn read_peer_message(
 ) -> Result<Items, WireFault>
     ensures { Reads (Told (SpellsPeerMessage width) (receipt_items seconds)) octets.now result }
 {
-    let Some(session) = split_session_peer(width, octets) else {
+    let mut peer = Peer::unknown();
+    let Some(rest) = fill_session_peer(&mut peer, width, octets) else {
         return Err(WireFault::Malformed);
     };
-    let kind = replace_message(alloc, &mut pool.parts, width, session.rest)?;
-    let items = items_of_message(alloc, pool, &session.value, seconds, kind)?;
+    let kind = replace_message(alloc, &mut pool.parts, width, rest)?;
+    let items = items_of_message(alloc, pool, &peer, seconds, kind)?;
     Ok(items)
 }
 
-/// The same. A long message is read into memory of its own, which nobody keeps.
+/// The same. What a long message was read into isn't kept.
 #[inline(always)]
 fn read_long_or_short(
     alloc: Global,
@@ -185,10 +183,11 @@ fn read_long_or_short(
 ) -> Result<Items, WireFault>
     ensures { Reads (Told (SpellsPeerMessage width) (receipt_items seconds)) octets.now result }
 {
+    let result = read_peer_message(alloc, pool, seconds, width, octets);
     if octets.len() > LONGEST_KEPT {
-        return read_peer_message(alloc, &mut Pool::new(alloc), seconds, width, octets);
+        *pool = Pool::new(alloc);
     }
-    read_peer_message(alloc, pool, seconds, width, octets)
+    result
 }
 
 /// The microseconds in front, and what follows them.

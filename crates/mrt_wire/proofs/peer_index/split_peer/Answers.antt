@@ -18,24 +18,26 @@ returns-in_default c =
     let behind = c.in_ok-after_id.after_id.now in
     let id = c.in_ok-after_id.ensures.some in
     no_address c.in_ok-kind.kind.value id.0 c.in_ok-kind.kind.rest.now behind c.args.octets.now c.in_ok-kind.ensures id.1
-    (subst (λ f. BeginsWithNone (SpellsAddressOf f) behind) c.peer_family.ensures c.in_default.ensures)
+    (subst (λ f. BeginsWithNone (SpellsAddressOf f) behind) c.peer_family.ensures c.in_default.ensures.none)
 
 pub returns-in_err-asn : goal.returns-in_err-asn
 returns-in_err-asn c =
     let behind = c.in_ok-after_id.after_id.now in
-    let addr = c.in-Some.addr in
+    let addr = c.fill_address.new.addr in
+    let after = c.in-Some.after_addr.now in
     let id = c.in_ok-after_id.ensures.some in
     rw c.from_residual-in_err-asn.ensures
-    (no_asn c.in_ok-kind.kind.value id.0 addr.value c.in_ok-kind.kind.rest.now behind addr.rest.now c.args.octets.now c.in_ok-kind.ensures id.1
-    (subst (λ f. Begins (SpellsAddressOf f) addr.value addr.rest.now behind) c.peer_family.ensures c.in-Some.ensures)
-    (subst (λ w. BeginsWithNone (SpellsAsn w) addr.rest.now) c.peer_width.ensures c.in_err-asn.ensures))
+    (no_asn c.in_ok-kind.kind.value id.0 addr c.in_ok-kind.kind.rest.now behind after c.args.octets.now c.in_ok-kind.ensures id.1
+    (subst (λ f. Begins (SpellsAddressOf f) addr after behind) c.peer_family.ensures c.in-Some.ensures.some)
+    (subst (λ w. BeginsWithNone (SpellsAsn w) after) c.peer_width.ensures c.in_err-asn.ensures))
 
 pub returns : goal.returns
 returns c =
     let behind = c.in_ok-after_id.after_id.now in
-    let addr = c.in-Some.addr in
+    let addr = c.fill_address.new.addr in
+    let after = c.in-Some.after_addr.now in
     let asn = c.in_ok-asn.asn in
     let id = c.in_ok-after_id.ensures.some in
-    a_peer c.in_ok-kind.kind.value id.0 addr.value asn.value c.in_ok-kind.kind.rest.now behind addr.rest.now asn.rest.now c.args.octets.now c.in_ok-kind.ensures id.1
-    (subst (λ f. Begins (SpellsAddressOf f) addr.value addr.rest.now behind) c.peer_family.ensures c.in-Some.ensures)
-    (subst (λ w. Begins (SpellsAsn w) asn.value asn.rest.now addr.rest.now) c.peer_width.ensures c.in_ok-asn.ensures)
+    a_peer c.in_ok-kind.kind.value id.0 addr asn.value c.in_ok-kind.kind.rest.now behind after asn.rest.now c.args.octets.now c.in_ok-kind.ensures id.1
+    (subst (λ f. Begins (SpellsAddressOf f) addr after behind) c.peer_family.ensures c.in-Some.ensures.some)
+    (subst (λ w. Begins (SpellsAsn w) asn.value asn.rest.now after) c.peer_width.ensures c.in_ok-asn.ensures)

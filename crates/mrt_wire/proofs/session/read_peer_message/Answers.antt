@@ -13,23 +13,23 @@ use Rattle.mrt_wire.proofs.ReadingLaws.{refused_behind}
 use Rattle.mrt_wire.proofs.session.read_peer_message.Goals as goal
 
 pub returns-in_default : goal.returns-in_default
-returns-in_default c items s = c.in_default.ensures s.0.peer s.1.rest s.1.first
+returns-in_default c items s = c.in_default.ensures.none s.0.peer s.1.rest s.1.first
 
 pub returns-in_err-kind : goal.returns-in_err-kind
 returns-in_err-kind c =
     let width = c.args.width in
     let octets = c.args.octets.now in
     let fault = c.in_err-kind.field-0.0 in
-    let session = c.in-Some.session in
+    let peer = c.fill_session_peer.new.peer in
     let Whole = Told (SpellsPeerMessage width) (receipt_items c.args.seconds) in
     let p = err_from_is_err_and c.from_residual.result c.from_residual.ensures.1 in
     subst (Reads Whole octets) (sym (p.1 ∙ ap Err p.2))
     (refused_part Whole (Then (SpellsSessionPeer width) (λ peer. SpellsMessage width)) octets octets fault (λ items s. ((s.0.peer, s.0.message), s.1))
-    (refused_behind _ _ (session_front width) session.value session.rest.now octets fault c.in-Some.ensures c.in_err-kind.ensures.refused))
+    (refused_behind _ _ (session_front width) peer c.in-Some.rest.now octets fault c.in-Some.ensures.some c.in_err-kind.ensures.refused))
 
 pub returns : goal.returns
 returns c = (
-  record { message = message_in c.in_ok-kind.kind c.replace_message.new.parts; peer = c.in-Some.session.value },
-  record { rest = c.in-Some.session.rest.now; first = c.in-Some.ensures; second = c.in_ok-kind.ensures.replaced },
+  record { message = message_in c.in_ok-kind.kind c.replace_message.new.parts; peer = c.fill_session_peer.new.peer },
+  record { rest = c.in-Some.rest.now; first = c.in-Some.ensures.some; second = c.in_ok-kind.ensures.replaced },
   c.in_ok-items.ensures,
 )
