@@ -1,10 +1,15 @@
 -- How many numbers octets hold.
-use Rattle.std.proofs.Common.{◌≡◌, ℕ, ◌*◌, ◌%◌, List, length, ap, ◌∙◌, arith}
+use Rattle.std.proofs.Common.{◌≡◌, ℕ, ◌+◌, ◌*◌, ◌%◌, List, length, ap, ◌∙◌, arith}
 use Rattle.ip_prefix.specs.Sequences.{SpellsAll}
 use Rattle.bgp_wire.specs.declared.path.AsWidth.{AsWidth}
 use Rattle.bgp_wire.specs.declared.path.AsWidth.TheVariants.{Two, Four}
 use Rattle.bgp_wire.specs.Number.{octets_at, SpellsAsn}
 use Rattle.bgp_wire.proofs.OneFront.{length-numbers}
+
+-- with one less it is still whole
+pub less_one : (width : AsWidth) (size left : ℕ) → size % octets_at width ≡ 0 → left + octets_at width ≡ size → left % octets_at width ≡ 0
+less_one Two size left e h = omega (arith, e, h)
+less_one Four size left e h = omega (arith, e, h)
 
 whole_count : (width : AsWidth) (count : ℕ) → (octets_at width * count) % octets_at width ≡ 0
 whole_count Two count = omega arith

@@ -1,6 +1,6 @@
 //! Numbers in network byte order.
 
-ghost use Rattle.std.specs.Prelude.{◌≡◌, ◌<◌, ◌*◌, ◌^◌, length, OnOk, IfErr};
+ghost use Rattle.std.specs.Prelude.{◌≡◌, ◌<◌, ◌%◌, ◌^◌, [], length, OnOk, IfErr};
 ghost use Rattle.std.specs.Int.{to_be_bytes, w16};
 ghost use Rattle.ip_prefix.specs.Sequences.{SpellsAll};
 ghost use Rattle.bgp_wire.specs.Number.{SpellsAsn, octets_at};
@@ -9,6 +9,7 @@ ghost use Rattle.bgp_wire.specs.Reading.{Refuses};
 use crate::fault::WireFault;
 use crate::path::AsWidth;
 use byteorder::{BigEndian, ByteOrder};
+use std::alloc::AllocError;
 
 impl AsWidth {
     /// How many octets a number takes.
@@ -48,24 +49,26 @@ pub(crate) fn read_length(octets: &[u8]) -> usize
     usize::from(BigEndian::read_u16(octets))
 }
 
-/// Writes the numbers that the octets are, one behind the other. It is inlined, so that there is a
-/// loop for each width.
+/// Appends the numbers that the octets are, one behind the other, to none. It is inlined, so that
+/// there is a loop for each width.
 #[inline(always)]
-fn write_numbers(width: AsWidth, octets: &[u8], numbers: &mut [u32])
-    requires { length octets.now ≡ octets_at width * length numbers.old }
-    ensures { SpellsAll (SpellsAsn width) numbers.new octets.now }
+fn push_numbers(width: AsWidth, octets: &[u8], numbers: &mut Vec<u32>) -> Result<(), AllocError>
+    requires whole { length octets.now % octets_at width ≡ 0 }
+    requires none { numbers.old.items ≡ [] }
+    ensures { OnOk result (SpellsAll (SpellsAsn width) numbers.new.items octets.now) }
 {
     let size = width.octets();
     let mut rest = octets;
-    for place in 0..numbers.len() {
+    while !rest.is_empty() {
         let (front, more) = rest.split_at(size);
-        numbers[place] = width.number(front);
+        numbers.push(width.number(front))?;
         rest = more;
     }
+    Ok(())
 }
 
-/// Makes the numbers those that the octets are, one behind the other. Refused, nothing is said of
-/// them.
+/// Makes the numbers those that the octets are, one behind the other. There is room for all of them
+/// from the start. Refused, nothing is said of them.
 #[inline]
 pub(crate) fn fill_numbers(
     numbers: &mut Vec<u32>,
@@ -79,10 +82,11 @@ pub(crate) fn fill_numbers(
     if octets.len() % size != 0 {
         return Err(WireFault::Malformed);
     }
-    numbers.resize(octets.len() / size, 0)?;
+    numbers.clear();
+    numbers.reserve(octets.len() / size)?;
     match width {
-        AsWidth::Two => write_numbers(AsWidth::Two, octets, numbers.as_mut_slice()),
-        AsWidth::Four => write_numbers(AsWidth::Four, octets, numbers.as_mut_slice()),
+        AsWidth::Two => push_numbers(AsWidth::Two, octets, numbers)?,
+        AsWidth::Four => push_numbers(AsWidth::Four, octets, numbers)?,
     }
     Ok(())
 }
