@@ -1,6 +1,6 @@
 -- What items say, in order.
-use Rattle.std.proofs.Common.{◌≡◌, ℕ, ◌+◌, ◌-◌, ◌≤◌, List, [], ◌∷◌, ◌++◌, map, take, drop, refl, ap, sym, subst, ◌∙◌, arith, append_assoc}
-use Rattle.std.proofs.lemmas.List.{map-append, drop-drop, take-append-drop, take-map, drop-map}
+use Rattle.std.proofs.Common.{◌≡◌, ℕ, ◌+◌, ◌-◌, ◌≤◌, List, [], ◌∷◌, ◌++◌, map, length, take, drop, refl, ap, sym, subst, ◌∙◌, arith, append_assoc}
+use Rattle.std.proofs.lemmas.List.{map-append, drop-drop, take-append-drop, take_all, take-map, drop-map}
 use Rattle.std.proofs.lemmas.Grind.{flat_map-append}
 use Rattle.std.specs.List.{flat_map}
 use Rattle.mrt_wire.specs.declared.event.Item.{Item}
@@ -10,6 +10,12 @@ use Rattle.mrt_wire.specs.Event.{Saying, saying, AreOfOneRoute}
 pub lines-sayings : (line : Saying → List ℕ) (items : List Item) → flat_map (λ item. line (saying item)) items ≡ flat_map line (map saying items)
 lines-sayings line [] = refl
 lines-sayings line (item ∷ items) = ap (λ l. line (saying item) ++ l) (lines-sayings line items)
+
+-- what is printed once all items are is the lines of what they say
+pub lines_of_all : (line : Saying → List ℕ) (items : List Item) (count : ℕ) (old new : List ℕ) → new ≡ old ++ flat_map (λ item. line (saying item)) (take count items)
+    → length items ≤ count → new ≡ old ++ flat_map line (map saying items)
+lines_of_all line items count old new e le =
+    e ∙ ap (λ l. old ++ flat_map (λ item. line (saying item)) l) (take_all count items le) ∙ ap (λ l. old ++ l) (lines-sayings line items)
 
 -- a list is its beginning, a part behind it, and the rest
 parts : (items : List Item) (a b : ℕ) → a ≤ b → take a items ++ (take (b - a) (drop a items) ++ drop b items) ≡ items

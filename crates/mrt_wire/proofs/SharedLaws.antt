@@ -1,5 +1,5 @@
 -- Which items of a message share a route.
-use Rattle.std.proofs.Common.{◌≡◌, ◌⊎◌, inl, inr, ℕ, ◌+◌, ◌-◌, ◌≤◌, map, take, drop, List, [], ◌∷◌, ◌++◌, length, length-append, All, Option, Some, None, refl, ap, sym, subst, ◌∙◌, arith, append_assoc, append-nil}
+use Rattle.std.proofs.Common.{◌≡◌, ◌⊎◌, inl, inr, ℕ, ◌+◌, ◌-◌, map, take, List, [], ◌∷◌, ◌++◌, length, length-append, All, Option, Some, None, refl, ap, sym, subst, ◌∙◌, arith, append_assoc, append-nil}
 use Rattle.std.proofs.lemmas.List.{take_at, drop_at, length-map}
 use Rattle.std.proofs.lemmas.List.Elements.{All-map}
 use Rattle.ip_prefix.specs.Network.{Network}

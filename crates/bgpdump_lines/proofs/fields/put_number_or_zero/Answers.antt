@@ -1,4 +1,4 @@
-use Rattle.std.proofs.Common.{◌≡◌, ◌+◌, ◌++◌, ◌∷◌, OnOk, sym, subst, arith}
+use Rattle.std.proofs.Common.{◌≡◌, ◌++◌, ◌∷◌, OnOk, sym, subst, arith}
 use Rattle.std.proofs.lemmas.Fmt.{decimal_digit}
 use Rattle.bgpdump_lines.specs.Lines.{bar, number_or_zero}
 use Rattle.bgpdump_lines.proofs.fields.put_number_or_zero.Goals as goal

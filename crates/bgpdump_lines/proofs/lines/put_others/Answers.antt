@@ -1,10 +1,9 @@
-use Rattle.std.proofs.Common.{◌++◌, ◌∙◌, ap, sym, subst, map, arith}
-use Rattle.std.proofs.lemmas.List.{take_all, get_or-map, length-map}
+use Rattle.std.proofs.Common.{◌∙◌, ap, sym, subst, map, arith}
+use Rattle.std.proofs.lemmas.List.{get_or-map, length-map}
 use Rattle.std.proofs.lemmas.List.Elements.{All-get_or}
-use Rattle.std.specs.List.{flat_map}
 use Rattle.mrt_wire.specs.Event.{Announces, saying}
 use Rattle.bgpdump_lines.specs.Lines.{item_line}
-use Rattle.bgpdump_lines.proofs.LineLaws.{lines-sayings}
+use Rattle.bgpdump_lines.proofs.LineLaws.{lines_of_all}
 use Rattle.bgpdump_lines.proofs.lines.put_others.Goals as goal
 
 pub put_other-requires-clause-alike : goal.put_other-requires-clause-alike
@@ -20,8 +19,4 @@ put_other-requires-clause-alike c =
 
 pub returns-clause-appended : goal.returns-clause-appended
 returns-clause-appended c =
-    let items = c.args.items.now in
-    let line = item_line c.args.time.now c.args.tag in
-    c.items.invariant.0
-    ∙ ap (λ l. c.args.text.now ++ flat_map (λ item. line (saying item)) l) (take_all c.items.item-index items c.items-test.false)
-    ∙ ap (λ l. c.args.text.now ++ l) (lines-sayings line items)
+    lines_of_all (item_line c.args.time.now c.args.tag) c.args.items.now c.items.item-index c.args.text.now c.items.text c.items.invariant.0 c.items-test.false

@@ -1,7 +1,4 @@
 use Rattle.std.proofs.Common.{arith}
-use Rattle.bgp_wire.specs.Parts.{update_in}
-use Rattle.bgp_wire.specs.Reach.{attrs_with}
-use Rattle.mrt_wire.specs.Items.{announcements, mp_announcements, route_of}
 use Rattle.mrt_wire.proofs.SharedLaws.{one_route, one_mp_route, shared_range}
 use Rattle.mrt_wire.proofs.update.items_of_update.Goals as goal
 
