@@ -431,6 +431,7 @@ fn put_other(
 }
 
 /// Appends the lines of further announcements of the route whose line the text ends in.
+#[inline(always)]
 fn put_others(
     time: &Time,
     tag: Tag,
@@ -456,6 +457,7 @@ fn put_others(
 }
 
 /// Appends the lines of announcements that share a peer and a route.
+#[inline(always)]
 fn put_shared(time: &Time, tag: Tag, items: &[Item], text: &mut Text) -> Result<(), AllocError>
     requires { AreOfOneRoute (map saying items.now) }
     ensures appended { OnOk result (text.new ≡ text.old ++
@@ -470,6 +472,7 @@ fn put_shared(time: &Time, tag: Tag, items: &[Item], text: &mut Text) -> Result<
 }
 
 /// Appends the lines of an event's items.
+#[inline(always)]
 fn put_items(event: &Event, text: &mut Text) -> Result<(), AllocError>
     ensures appended { OnOk result (text.new ≡ text.old ++ event_lines event.now) }
     ensures kept { OnErr result (StillBegins text.old text.new) }
@@ -489,6 +492,7 @@ fn put_items(event: &Event, text: &mut Text) -> Result<(), AllocError>
 
 /// Appends the lines of an event, one for each item. Refused for want of memory, it leaves the text
 /// as it was.
+#[inline(always)]
 pub(crate) fn append_lines(event: &Event, text: &mut Text) -> Result<(), AllocError>
     ensures appended { OnOk result (text.new ≡ text.old ++ event_lines event.now) }
     ensures unchanged { OnErr result (text.new ≡ text.old) }

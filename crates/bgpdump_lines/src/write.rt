@@ -15,6 +15,7 @@ use ip_prefix::Text;
 use mrt_wire::{Event, Next, RecordFault};
 
 /// Writes the lines of an event. The text is scratch.
+#[inline(always)]
 fn write_lines<O: Output>(out: &mut O, text: &mut Text, event: &Event) -> Result<(), WriteFault>
     ensures text { Puts (O.written out.old) (O.written out.new) (event_lines event.now) result }
     ensures failed { O.failed out.new ≡ (O.failed out.old || is_write result) }
@@ -41,6 +42,7 @@ pub fn write_report<E: Output>(
 }
 
 /// Writes what a source told, and answers whether that is a fault. The text is scratch.
+#[inline(always)]
 pub(crate) fn write_next<O: Output, E: Output>(
     out: &mut O,
     err: &mut E,

@@ -66,6 +66,7 @@ impl FrameReader {
     }
 
     /// Takes the next header.
+    #[inline(always)]
     fn take_header<I: Input>(&mut self, input: &mut I) -> Result<Front, SourceFault>
         ensures octets { (octets : List ℕ)
             × Takes (I.left input.old) (I.left input.new) self.old.taken self.new.taken octets
@@ -96,6 +97,7 @@ impl FrameReader {
     }
 
     /// Takes a body, and answers whether it is whole.
+    #[inline(always)]
     fn take_body<I: Input>(&mut self, input: &mut I, size: u32) -> Result<bool, SourceFault>
         requires { size ≤ LONGEST_BODY }
         ensures octets { (octets : List ℕ)
@@ -119,6 +121,7 @@ impl FrameReader {
     }
 
     /// Takes the next record.
+    #[inline(always)]
     pub(crate) fn take_record<I: Input>(&mut self, input: &mut I) -> Result<Front, SourceFault>
         ensures octets { (octets : List ℕ)
             × Takes (I.left input.old) (I.left input.new) self.old.taken self.new.taken octets

@@ -145,6 +145,7 @@ fn judge_rib(
 }
 
 /// Reads what happened in a session.
+#[inline(always)]
 fn judge_session(
     alloc: Global,
     pool: &mut Pool,
@@ -162,6 +163,7 @@ fn judge_session(
 
 /// Reads a record. A record that brings an index puts it in the place of the one before, unless
 /// it is refused.
+#[inline(always)]
 pub(crate) fn judge(
     alloc: Global,
     pool: &mut Pool,

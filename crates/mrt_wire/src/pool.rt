@@ -199,6 +199,7 @@ impl Pool {
     }
 
     /// Keeps the room of items.
+    #[inline(always)]
     pub(crate) fn keep_items(&mut self, items: Vec<Item>) {
         if items.capacity() <= MOST_ITEMS {
             self.items = items;

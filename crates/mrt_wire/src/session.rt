@@ -232,6 +232,7 @@ fn read_happening(
 }
 
 /// What a body of this form says.
+#[inline(always)]
 pub(crate) fn read_session(
     alloc: Global,
     pool: &mut Pool,

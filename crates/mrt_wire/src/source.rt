@@ -80,6 +80,7 @@ impl Source {
     }
 
     /// Takes an answer back that isn't needed any more, to use its memory for what comes next.
+    #[inline(always)]
     pub fn take_back(&mut self, answer: Next)
         ensures { self.new ≡ self.old }
     {
@@ -90,6 +91,7 @@ impl Source {
 
     /// What comes next in the input: an event, a faulty record, or the end. Behind the end, and
     /// behind a fault of the source, the input isn't asked any more.
+    #[inline(always)]
     pub fn next<I: Input>(&mut self, input: &mut I) -> Result<Next, SourceFault>
         // Octets are taken: those of a record, which is judged, or the rest; or a fault came.
         ensures next { self.old.phase ≡ Phase.Reading → (octets : List ℕ)
@@ -126,6 +128,7 @@ impl Source {
     }
 
     /// The same for a source that reads. A fault leaves it as if it still did.
+    #[inline(always)]
     fn read<I: Input>(&mut self, input: &mut I) -> Result<Next, SourceFault>
         ensures next { (octets : List ℕ) × Consumes (I.left input.old) (I.left input.new) octets
             × Nexts self.old (spent_place self.new result) (I.left input.new) octets result }
