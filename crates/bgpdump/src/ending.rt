@@ -4,6 +4,7 @@ ghost use Rattle.std.specs.Prelude.{◌≡◌, option_map};
 ghost use Rattle.bgpdump.specs.Endings.{ending_message, ending_status, outcome_message};
 
 use bgpdump_tool::{Outcome, UsageFault};
+use std::alloc::AllocFailed;
 use std::io;
 
 /// How the program ends.
@@ -20,6 +21,12 @@ pub enum Ending<'a> {
 impl From<Outcome> for Ending<'_> {
     fn from(outcome: Outcome) -> Self {
         Ending::Ran(outcome)
+    }
+}
+
+impl<T: Drop> From<AllocFailed<T>> for Ending<'_> {
+    fn from(_: AllocFailed<T>) -> Self {
+        Ending::Ran(Outcome::Memory)
     }
 }
 

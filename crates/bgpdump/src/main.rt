@@ -52,14 +52,20 @@ fn read_words(rt: &HostRuntime) -> io::Result<Vec<String>> {
     Ok(env::args(rt)?.collect(rt.alloc())?)
 }
 
-/// Opens what the settings name, the output last, and runs over it.
+/// Opens what the settings name, the output last, and runs over it. In their boxes all streams have
+/// one type, so that the run's code stands in the program once.
 fn run_settings<'a>(rt: &HostRuntime, settings: &'a Settings) -> Result<Outcome, Ending<'a>> {
     let task = task_of(rt, &settings.mode)?;
-    if settings.input.as_str() == STANDARD_INPUT {
-        run_over(rt, settings, &task, rt.stdin())
+    let input: Box<dyn Read + Drop> = if settings.input.as_str() == STANDARD_INPUT {
+        Box::new(rt.alloc(), rt.stdin())?
     } else {
-        run_over(rt, settings, &task, open(rt, settings.input.as_str())?)
-    }
+        Box::new(rt.alloc(), open(rt, settings.input.as_str())?)?
+    };
+    let out: Box<dyn Write + Drop> = match &settings.output {
+        Some(name) => Box::new(rt.alloc(), create(rt, settings, name.as_str())?)?,
+        None => Box::new(rt.alloc(), rt.stdout())?,
+    };
+    Ok(run_task(rt, settings.stamp, &task, input, out))
 }
 
 /// What is to be done, with the script where there is one.
@@ -75,29 +81,13 @@ fn task_of<'a>(rt: &HostRuntime, mode: &'a Mode) -> Result<Task, Ending<'a>> {
     }
 }
 
-/// Runs over an input that was opened.
-fn run_over<'a, R: Read + Drop>(
-    rt: &HostRuntime,
-    settings: &'a Settings,
-    task: &Task,
-    input: R,
-) -> Result<Outcome, Ending<'a>> {
-    match &settings.output {
-        Some(name) => {
-            let out = create(rt, settings, name.as_str())?;
-            Ok(run_to(rt, settings.stamp, task, input, out))
-        }
-        None => Ok(run_to(rt, settings.stamp, task, input, rt.stdout())),
-    }
-}
-
 /// Runs over an input and an output that were opened.
-fn run_to<R: Read + Drop, O: Write + Drop>(
+fn run_task(
     rt: &HostRuntime,
     stamp: Stamp,
     task: &Task,
-    input: R,
-    out: O,
+    input: Box<dyn Read + Drop>,
+    out: Box<dyn Write + Drop>,
 ) -> Outcome {
     match task {
         Task::Dump => dump(rt.alloc(), stamp, input, out, rt.stderr()).outcome,

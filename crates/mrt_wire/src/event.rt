@@ -145,13 +145,14 @@ impl Items {
     }
 }
 
-/// What one accepted record says.
+/// What one accepted record says. In this order of the fields no gap stands in front of the items,
+/// so that an event is moved in whole words.
 #[derive(Debug, Drop)]
 pub struct Event {
-    /// When the record was written.
-    pub time: Time,
     /// Which kind of record it is.
     pub tag: Tag,
+    /// When the record was written.
+    pub time: Time,
     /// What it says, in order.
     pub items: Items,
 }
