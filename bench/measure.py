@@ -87,24 +87,31 @@ def prefix(chance, size):
 
 
 def write_table(out, chance):
-    """An index of 40 IPv4 and 20 IPv6 peers, and prefixes with up to 40 entries each, every sixth of IPv6."""
+    """An index of 40 IPv4 and 20 IPv6 peers, and prefixes with up to 40 entries each, every sixth of IPv6.
+
+    Prefixes come in their order, those of IPv4 first, as collectors write them.
+    """
     peers = [(size, chance.choice(TRANSITS), address(chance, size)) for size in [4] * 40 + [16] * 20]
     index = b''.join(struct.pack('>BI', 2 if size == 4 else 3, n) + addr + struct.pack('>I', asn)
                      for n, (size, asn, addr) in enumerate(peers))
     written = out.write(record(1700000000, 13, 1, struct.pack('>IHH', 1, 0, 60) + index))
-    sequence = 0
+    tables = []
     while written < SIZE:
-        size = 16 if sequence % 6 == 5 else 4
+        size = 16 if len(tables) % 6 == 5 else 4
         first, last = (40, 60) if size == 16 else (0, 40)
         chosen = chance.sample(range(first, last), chance.randint((last - first) // 2, last - first))
-        body = struct.pack('>I', sequence) + prefix(chance, size) + struct.pack('>H', len(chosen))
+        spelled = prefix(chance, size)
+        entries = struct.pack('>H', len(chosen))
         for peer in chosen:
             addr = peers[peer][2]
             reach = attribute(3, addr) if size == 4 else attribute(14, bytes([16]) + addr)
             found = attributes(chance, reach)
-            body += struct.pack('>HIH', peer, 1690000000 + sequence, len(found)) + found
-        written += out.write(record(1700000000, 13, 2 if size == 4 else 4, body))
-        sequence += 1
+            entries += struct.pack('>HIH', peer, 1690000000 + len(tables), len(found)) + found
+        tables.append((size, spelled[1:].ljust(size, b'\0'), spelled, entries))
+        written += len(record(0, 0, 0, struct.pack('>I', 0) + spelled + entries))
+    for sequence, (size, _, spelled, entries) in enumerate(sorted(tables)):
+        body = struct.pack('>I', sequence) + spelled + entries
+        out.write(record(1700000000, 13, 2 if size == 4 else 4, body))
 
 
 def update(chance, size, addr):
