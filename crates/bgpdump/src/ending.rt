@@ -1,6 +1,8 @@
 //! How the program ends.
 
 ghost use Rattle.std.specs.Prelude.{◌≡◌, option_map};
+ghost use Rattle.bgpdump.specs.declared.ending.Ending.TheVariants.{Ran};
+ghost use Rattle.bgpdump_tool.specs.declared.Outcome.TheVariants.{Memory};
 ghost use Rattle.bgpdump.specs.Endings.{ending_message, ending_status, outcome_message};
 
 use bgpdump_tool::{Outcome, UsageFault};
@@ -19,12 +21,16 @@ pub enum Ending<'a> {
 }
 
 impl From<Outcome> for Ending<'_> {
+    ghost from_gives = { λ outcome ending. ending ≡ Ran outcome };
+
     fn from(outcome: Outcome) -> Self {
         Ending::Ran(outcome)
     }
 }
 
 impl<T: Drop> From<AllocFailed<T>> for Ending<'_> {
+    ghost from_gives = { λ _ ending. ending ≡ Ran Memory };
+
     fn from(_: AllocFailed<T>) -> Self {
         Ending::Ran(Outcome::Memory)
     }
