@@ -28,13 +28,15 @@ const BUFFER_SIZE: usize = 65_536;
 /// course of a run the player drops a store only once it has no keys, and then it has no memory.
 type Routes = LeftStore<RadixStore<Rc<Route>>>;
 
-/// How a run ended. The input has what the run left of it: None where memory was refused before the
-/// run began. The writers of lines or replies and of reports have all that the run wrote: None also
-/// where a writer failed at the end.
+/// How a run ended, with its input and its writers.
 #[derive(Drop)]
 pub struct Ended<R, O, E> {
+    /// How it ended.
     pub outcome: Outcome,
+    /// The input, with what the run left of it: None where memory was refused before the run began.
     pub input: Option<ReadInput<BufReader<R>>>,
+    /// The writers of lines or replies and of reports, with all that the run wrote: None also where
+    /// a writer failed at the end.
     pub writers: Option<(O, E)>,
 }
 

@@ -10,28 +10,37 @@ ghost use Rattle.bgpdump_tool.specs.CommandLine.{script_rule};
 use clap::{Arg, ArgAction, Command};
 use std::alloc::{AllocError, Global};
 
-/// The ids of the arguments.
+/// The id of the argument `-m`.
 pub(crate) const LINES: &str = "lines";
 
+/// The id of the argument `--play`.
 pub(crate) const SCRIPT: &str = "script";
 
+/// The id of the argument `-t`.
 pub(crate) const TIMES: &str = "times";
 
+/// The id of the argument `-O`.
 pub(crate) const OUTPUT: &str = "output";
 
+/// The id of the argument INPUT.
 pub(crate) const INPUT: &str = "input";
 
-/// The values of `-t`.
+/// The value of `-t` for the time of the dump.
 pub(crate) const DUMP: &str = "dump";
 
+/// The value of `-t` for the time at which a route originated.
 pub(crate) const CHANGE: &str = "change";
 
+/// The values that `-t` takes.
 const TIMES_TAKEN: &[&str] = &[DUMP, CHANGE];
 
+/// What the program does, as its help says.
 const ABOUT: &str = "Reads what BGP routers write of their tables and sessions (MRT, RFC 6396).";
 
+/// How it is called.
 const USAGE: &str = "bgpdump (-m | --play SCRIPT) [-t dump|change] [-O FILE] INPUT";
 
+/// What stands at the end of its help.
 const MORE: &str = "\
 Examples:
   bgpdump -m table.mrt            the lines of a file

@@ -34,7 +34,8 @@ pub fn one_script()
 {}
 
 /// What a lookup replies with is the longest match of the table: what the definition of replies
-/// finds, `Table::longest` answers.
+/// finds meets the clause of `Table::longest`, which one answer alone does (`routes_of_peers`,
+/// `one_longest`).
 pub fn best_match()
     ensures { (routes : Routes) (peer : Peer) (address : Address) →
         IsBest routes peer address (best routes peer address) }
