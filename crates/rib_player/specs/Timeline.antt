@@ -103,7 +103,7 @@ pub data Call : Type 0 where
   PlayRefused : Event → Call
   Undo : Call
   Redo : Call
-  -- `at`, `ahead` or `table`
+  -- `at`, `ahead`, `named` or `table`
   Look : Call
 
 -- what a call makes of a player

@@ -23,7 +23,7 @@ pub(crate) struct Forest<R> {
 }
 
 impl<R: Drop> Forest<R> {
-    // No keys.
+    /// No keys.
     pub(crate) fn new() -> Self
         ensures planted { IsPlanted result }
         ensures slots { slots_in result ≡ [] }
@@ -34,7 +34,7 @@ impl<R: Drop> Forest<R> {
         }
     }
 
-    // Makes the prefix a key, and answers whether it is new.
+    /// Makes the prefix a key, and answers whether it is new.
     pub(crate) fn ensure(&mut self, alloc: Global, prefix: &Prefix) -> Result<bool, AllocError>
         requires { IsPlanted self.old }
         ensures planted { OnOk result (IsPlanted self.new) }
@@ -52,7 +52,7 @@ impl<R: Drop> Forest<R> {
         Ok(made)
     }
 
-    // The key's route, or its absence, and the argument change places.
+    /// The key's route, or its absence, and the argument change places.
     pub(crate) fn exchange(&mut self, prefix: &Prefix, route: &mut Option<R>)
         requires planted { IsPlanted self.old }
         requires key { is_some (slot_at (slots_in self.old) prefix.now) ≡ true }
@@ -67,7 +67,7 @@ impl<R: Drop> Forest<R> {
         }
     }
 
-    // The prefix is no key any more.
+    /// The prefix is no key any more.
     pub(crate) fn discard(&mut self, prefix: &Prefix)
         requires { IsPlanted self.old }
         ensures planted { IsPlanted self.new }
@@ -81,7 +81,7 @@ impl<R: Drop> Forest<R> {
 }
 
 impl<R> Forest<R> {
-    // The tree of the family.
+    /// The tree of the family.
     #[inline]
     fn tree(&self, family: Family) -> &Tree<R>
         ensures { result.now ≡ tree_of family self.now }
@@ -92,7 +92,7 @@ impl<R> Forest<R> {
         }
     }
 
-    // Whether the prefix is a key.
+    /// Whether the prefix is a key.
     pub(crate) fn has_key(&self, prefix: &Prefix) -> bool
         requires { IsPlanted self.now }
         ensures { result ≡ is_some (slot_at (slots_in self.now) prefix.now) }
@@ -103,7 +103,7 @@ impl<R> Forest<R> {
         }
     }
 
-    // The key's route.
+    /// The key's route.
     pub(crate) fn get(&self, prefix: &Prefix) -> Option<&R>
         requires { IsPlanted self.now }
         ensures { option_copied result ≡ route_found (slot_at (slots_in self.now) prefix.now) }
@@ -111,8 +111,8 @@ impl<R> Forest<R> {
         self.tree(prefix.family()).slot(prefix)?.route()
     }
 
-    // The longest prefix with a route that contains the address, and its route. Each node that is
-    // met adds one to the counter.
+    /// The longest prefix with a route that contains the address, and its route. Each node that is
+    /// met adds one to the counter.
     pub(crate) fn longest(&self, addr: &Addr, met: &mut u32) -> Option<(Prefix, &R)>
         requires planted { IsPlanted self.now }
         requires room { met.old + bit_count addr.now.family + 1 ≤ u32.MAX }
@@ -126,7 +126,7 @@ impl<R> Forest<R> {
         self.tree(addr.family()).longest(&key, met)
     }
 
-    // The least prefix with a route, and its route.
+    /// The least prefix with a route, and its route.
     pub(crate) fn first(&self) -> Option<(Prefix, &R)>
         ensures { option_map (λ p. (p.0, p.1.now)) result ≡
             slice_get (routed (slots_in self.now)) 0 }
@@ -137,7 +137,7 @@ impl<R> Forest<R> {
         }
     }
 
-    // The least prefix with a route above the other, and its route.
+    /// The least prefix with a route above the other, and its route.
     pub(crate) fn after(&self, low: &Prefix) -> Option<(Prefix, &R)>
         requires { IsPlanted self.now }
         ensures { option_map (λ p. (p.0, p.1.now)) result ≡
@@ -152,7 +152,7 @@ impl<R> Forest<R> {
         }
     }
 
-    // How many nodes there are, as far as the number goes: one for each node of the keys.
+    /// How many nodes there are, as far as the number goes: one for each node of the keys.
     pub(crate) fn node_count(&self) -> u64
         requires { IsPlanted self.now }
         ensures nodes { (nodes : Keys) × AreNodes (keys_in (slots_in self.now)) nodes ×
@@ -162,14 +162,14 @@ impl<R> Forest<R> {
         self.v4.node_count().saturating_add(self.v6.node_count())
     }
 
-    // How many keys there are, as far as the number goes.
+    /// How many keys there are, as far as the number goes.
     pub(crate) fn key_count(&self) -> u64
         ensures { result ≡ counted (length (slots_in self.now)) }
     {
         self.v4.key_count().saturating_add(self.v6.key_count())
     }
 
-    // How many routes there are, as far as the number goes.
+    /// How many routes there are, as far as the number goes.
     pub(crate) fn route_count(&self) -> u64
         ensures { result ≡ counted (length (routed (slots_in self.now))) }
     {

@@ -126,8 +126,8 @@ impl<R: Drop> PrefixStore<R> for RadixStore<R> {
     }
 }
 
-// The count of the routes once one was brought and one given back, where they were. A count that
-// had stopped at the greatest number is made anew.
+/// The count of the routes once one was brought and one given back, where they were. A count that
+/// had stopped at the greatest number is made anew.
 fn routes_after<R: Drop>(count: u64, brought: bool, given: bool, forest: &Forest<R>) -> u64
     requires planted { IsPlanted forest.now }
     requires count { (old : ℕ) × (count ≡ counted old) ×
@@ -146,7 +146,7 @@ fn routes_after<R: Drop>(count: u64, brought: bool, given: bool, forest: &Forest
     count - 1
 }
 
-// The count of the keys once one is gone.
+/// The count of the keys once one is gone.
 fn keys_less_one<R: Drop>(count: u64, forest: &Forest<R>) -> u64
     requires planted { IsPlanted forest.now }
     requires count { count ≡ counted (set.len (keys_in (slots_in forest.now)) + 1) }

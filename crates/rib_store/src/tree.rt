@@ -42,7 +42,7 @@ pub(crate) enum Slot<R> {
 }
 
 impl<R> Slot<R> {
-    // Whether it is a key's.
+    /// Whether it is a key's.
     pub(crate) fn is_key(&self) -> bool
         ensures { result ≡ is_some (slot_of self.now) }
     {
@@ -52,7 +52,7 @@ impl<R> Slot<R> {
         }
     }
 
-    // The route in it.
+    /// The route in it.
     pub(crate) fn route(&self) -> Option<&R>
         ensures { option_copied result ≡ route_found (slot_of self.now) }
     {
@@ -64,7 +64,7 @@ impl<R> Slot<R> {
 }
 
 impl<R> Node<R> {
-    // The node's prefix and its route, where it has one.
+    /// The node's prefix and its route, where it has one.
     #[inline]
     fn route(&self) -> Option<(Prefix, &R)>
         ensures { MatchOption result (routed_at self.now.prefix (slot_of self.now.slot) ≡ None)

@@ -177,7 +177,8 @@ fn lookups<S: PrefixStore<Rc<Route>>>(player: &Player<S>) -> u32 {
     found
 }
 
-/// Makes the prefixes of the table keys of a store, beside the events, and prints how many they are.
+/// Makes the prefixes of the table keys of a store, beside the events, and prints how many they
+/// are.
 fn hold_keys<S: PrefixStore<Rc<Route>>>(rt: &HostRuntime) -> Result<(), Fault> {
     let mut store: S = S::new(rt.alloc());
     for number in 0..ROUTES {

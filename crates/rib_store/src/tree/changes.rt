@@ -14,7 +14,7 @@ use std::alloc::{AllocError, Global};
 use std::mem;
 
 impl<R: Drop> Tree<R> {
-    // The key's route, or its absence, and the argument change places.
+    /// The key's route, or its absence, and the argument change places.
     pub(crate) fn exchange(&mut self, key: &Prefix, route: &mut Option<R>)
         requires shaped { IsShaped self.old }
         requires key { IsSome (at self.old (way key.now)) }
@@ -33,7 +33,7 @@ impl<R: Drop> Tree<R> {
         }
     }
 
-    // Makes the prefix a key, and answers whether it is new.
+    /// Makes the prefix a key, and answers whether it is new.
     pub(crate) fn ensure(&mut self, alloc: Global, key: &Prefix) -> Result<bool, AllocError>
         requires shaped { IsShaped self.old }
         requires family { AreOf key.now.family self.old }
@@ -68,7 +68,7 @@ impl<R: Drop> Tree<R> {
         }
     }
 
-    // The prefix is no key any more.
+    /// The prefix is no key any more.
     pub(crate) fn discard(&mut self, key: &Prefix)
         requires { IsShaped self.old }
         ensures shaped { IsShaped self.new }
@@ -89,7 +89,7 @@ impl<R: Drop> Tree<R> {
 }
 
 impl<R: Drop> Slot<R> {
-    // A key's route, or its absence, and the argument change places.
+    /// A key's route, or its absence, and the argument change places.
     fn exchange(&mut self, route: &mut Option<R>)
         requires { IsSome (slot_of self.old) }
         ensures slot { slot_of self.new ≡ Some route.old }
@@ -104,7 +104,7 @@ impl<R: Drop> Slot<R> {
         }
     }
 
-    // A key's slot, without a route where it is new, and whether it is.
+    /// A key's slot, without a route where it is new, and whether it is.
     fn occupy(&mut self) -> bool
         ensures slot { slot_of self.new ≡ kept (slot_of self.old) }
         ensures made { result ≡ not (is_some (slot_of self.old)) }
@@ -116,7 +116,7 @@ impl<R: Drop> Slot<R> {
         false
     }
 
-    // No key's slot.
+    /// No key's slot.
     fn vacate(&mut self)
         ensures { slot_of self.new ≡ None }
     {
@@ -124,14 +124,14 @@ impl<R: Drop> Slot<R> {
     }
 }
 
-// A tree of one key without a route.
+/// A tree of one key without a route.
 fn leaf<R: Drop>(alloc: Global, key: &Prefix) -> Result<Tree<R>, AllocError>
     ensures { IfOk result (λ tree. IsRooted key.now (Some None) Empty Empty tree) }
 {
     Ok(Tree::Rooted(childless(alloc, key, Slot::Vacant)?))
 }
 
-// A node without children.
+/// A node without children.
 fn childless<R: Drop>(
     alloc: Global,
     prefix: &Prefix,
@@ -151,7 +151,7 @@ fn childless<R: Drop>(
     Ok(node)
 }
 
-// Puts a key that the node's prefix doesn't cover above the node or beside it.
+/// Puts a key that the node's prefix doesn't cover above the node or beside it.
 fn split<R: Drop>(node: &mut Box<Node<R>>, alloc: Global, key: &Prefix) -> Result<(), AllocError>
     requires shaped { IsShaped (Rooted node.old) }
     requires family { node.old.value.prefix.family ≡ key.now.family }
@@ -173,7 +173,7 @@ fn split<R: Drop>(node: &mut Box<Node<R>>, alloc: Global, key: &Prefix) -> Resul
     Ok(())
 }
 
-// Puts a node above another, which comes to lie on a side of it, and a tree on the other side.
+/// Puts a node above another, which comes to lie on a side of it, and a tree on the other side.
 fn put_above<R: Drop>(node: &mut Box<Node<R>>, above: Box<Node<R>>, beside: Tree<R>, side: Turn)
     ensures { IsRooted above.value.prefix (slot_of above.value.slot)
         (chosen side beside beside (Rooted node.old) beside)
@@ -190,7 +190,7 @@ fn put_above<R: Drop>(node: &mut Box<Node<R>>, above: Box<Node<R>>, beside: Tree
     }
 }
 
-// Takes the root away where it is neither a key nor a branch.
+/// Takes the root away where it is neither a key nor a branch.
 fn join<R: Drop>(tree: &mut Tree<R>)
     requires { IsNearlyShaped tree.old }
     ensures shaped { IsShaped tree.new }

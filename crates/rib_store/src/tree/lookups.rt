@@ -12,7 +12,7 @@ use crate::tree::{Slot, Tree};
 use ip_prefix::{Prefix, Turn};
 
 impl<R> Tree<R> {
-    // The key's slot, where it is a key.
+    /// The key's slot, where it is a key.
     pub(crate) fn slot(&self, key: &Prefix) -> Option<&Slot<R>>
         ensures { MatchOption result (at self.now (way key.now) ≡ None)
             (λ slot. at self.now (way key.now) ≡ slot_of slot.now) }
@@ -28,8 +28,8 @@ impl<R> Tree<R> {
         }
     }
 
-    // The longest prefix with a route that covers the key, and its route. Each node that is met
-    // adds one to the counter.
+    /// The longest prefix with a route that covers the key, and its route. Each node that is met
+    /// adds one to the counter.
     pub(crate) fn longest(&self, key: &Prefix, met: &mut u32) -> Option<(Prefix, &R)>
         requires { met.old + visits self.now (way key.now) ≤ u32.MAX }
         ensures found { option_map (λ p. (p.0, p.1.now)) result ≡ deepest self.now (way key.now) }
@@ -55,7 +55,7 @@ impl<R> Tree<R> {
         found
     }
 
-    // The least prefix with a route, and its route.
+    /// The least prefix with a route, and its route.
     pub(crate) fn first(&self) -> Option<(Prefix, &R)>
         ensures { MatchOption result (first self.now ≡ None)
             (λ found. first self.now ≡ Some (found.0, found.1.now)) }
@@ -72,7 +72,7 @@ impl<R> Tree<R> {
         }
     }
 
-    // The least prefix with a route above the other, and its route.
+    /// The least prefix with a route above the other, and its route.
     pub(crate) fn after(&self, low: &Prefix) -> Option<(Prefix, &R)>
         ensures { MatchOption result (behind self.now low.now ≡ None)
             (λ found. behind self.now low.now ≡ Some (found.0, found.1.now)) }
@@ -99,7 +99,7 @@ impl<R> Tree<R> {
         }
     }
 
-    // How many nodes there are, as far as the number goes. It walks over all of them.
+    /// How many nodes there are, as far as the number goes. It walks over all of them.
     pub(crate) fn node_count(&self) -> u64
         ensures { result ≡ counted (node_count self.now) }
     {
@@ -113,7 +113,7 @@ impl<R> Tree<R> {
         }
     }
 
-    // How many keys there are, as far as the number goes. It walks over all nodes.
+    /// How many keys there are, as far as the number goes. It walks over all nodes.
     pub(crate) fn key_count(&self) -> u64
         ensures { result ≡ counted (length (slots_of self.now)) }
     {
@@ -129,7 +129,7 @@ impl<R> Tree<R> {
         }
     }
 
-    // How many routes there are, as far as the number goes. It walks over all nodes.
+    /// How many routes there are, as far as the number goes. It walks over all nodes.
     pub(crate) fn route_count(&self) -> u64
         ensures { result ≡ counted (length (routed (slots_of self.now))) }
     {
