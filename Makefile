@@ -22,8 +22,9 @@ bin/bgpdump: $(SOURCES)
 demo: bin/bgpdump
 	examples/demo.sh bin/bgpdump
 
-# rt ci leaves the program that it proved and built.
+# First what takes seconds. rt ci leaves the program that it proved and built.
 test:
+	checks/quick.py
 	rt ci
 	$(MAKE) --no-print-directory checks PROGRAM=crates/bgpdump/out/bgpdump
 

@@ -36,6 +36,3 @@ pub use path::{AsNumbers, AsPath, AsWidth, Segment, SegmentKind, Segments};
 pub use prefixes::Prefixes;
 pub use rib_entry::{read_rib_attrs, replace_rib_attrs};
 pub use text::{append_communities, put_communities};
-
-#[cfg(test)]
-mod tests;

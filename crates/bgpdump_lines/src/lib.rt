@@ -24,6 +24,3 @@ pub use outcome::Outcome;
 pub use output::{OutFault, Output, WriteOutput, put_all};
 pub use reports::put_line_report;
 pub use write::write_report;
-
-#[cfg(test)]
-mod tests;

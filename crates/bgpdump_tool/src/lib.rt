@@ -23,6 +23,3 @@ pub use laws::{best_match, one_command, one_script, run_numbers};
 pub use play::run_play;
 pub use script::LONGEST_SCRIPT;
 pub use usage::{Mode, STANDARD_INPUT, Settings, UsageFault};
-
-#[cfg(test)]
-mod tests;

@@ -27,6 +27,3 @@ pub use prefix::Prefix;
 pub use text::{ADDRESS_ROOM, PREFIX_ROOM};
 pub use turn::Turn;
 pub use words::{WORD_ROOM, Word};
-
-#[cfg(test)]
-mod tests;

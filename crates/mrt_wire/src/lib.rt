@@ -28,6 +28,3 @@ pub use laws::{no_octets_without_a_split, one_content, one_split, peer_order, re
 pub use next::{Next, Phase};
 pub use peer::Peer;
 pub use source::Source;
-
-#[cfg(test)]
-mod tests;

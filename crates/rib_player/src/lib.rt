@@ -15,6 +15,3 @@ pub use laws::{
 };
 pub use player::{Nothing, PlayFault, Player};
 pub use table::Table;
-
-#[cfg(test)]
-mod tests;

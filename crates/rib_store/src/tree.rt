@@ -10,6 +10,8 @@ mod changes;
 mod lookups;
 
 use ip_prefix::Prefix;
+use std::mem::size_of;
+use std::rc::Rc;
 
 /// A tree: a node and what lies below it, if it has a key.
 #[cycle(tree)]
@@ -29,6 +31,11 @@ pub(crate) struct Node<R> {
     left: Tree<R>,
     right: Tree<R>,
 }
+
+/// How many octets a node takes at most where a route is a pointer.
+const NODE_OCTETS: usize = 72;
+
+const _: () = prove!(size_of::<Node<Rc<u32>>>() <= NODE_OCTETS);
 
 /// What a node has.
 #[derive(Drop)]

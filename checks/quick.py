@@ -1,0 +1,137 @@
+#!/usr/bin/env python3
+"""What takes seconds to check and would fail the gate an hour later.
+
+    checks/quick.py
+
+Each must-fail edit still applies, and is named by the file and the function that it turns; `rt fmt`
+changes nothing; tests stand in crates of their own; links between documents lead somewhere; the
+texts of each example are there. The status is 1 where something is wrong, and each fault is told on
+a line of its own.
+"""
+import re
+import shutil
+import subprocess
+import sys
+import tempfile
+from pathlib import Path
+
+TOP = Path(__file__).resolve().parent.parent
+PARTS = ('src', 'specs', 'proofs')
+
+
+def without_space(text):
+    """The text without comments and white space."""
+    return re.sub(r'\s', '', re.sub(r'//.*', '', text))
+
+
+def changes_of(edit):
+    """The file that an edit names, and its pairs of old and new texts."""
+    path, old, pairs = None, None, []
+    for line in edit.read_text().splitlines():
+        key, _, text = line.partition(':')
+        if key == 'file':
+            path = text.strip()
+        elif key == 'old':
+            old = text[1:]
+        elif key == 'new':
+            pairs.append((path, old, text[1:]))
+    return pairs
+
+
+def item_before(text, end):
+    """The name of the last function, constant or table that begins before this place."""
+    names = re.findall(r'\b(?:fn|static|const(?! fn\b)) (\w+)', text[:end])
+    return names[-1] if names else None
+
+
+def faults_of_edit(edit):
+    texts, crate = {}, edit.parent.parent
+    for path, old, new in changes_of(edit):
+        if not (crate / path).is_file():
+            return [f'there is no file {path}']
+        text = texts.get(path) or (crate / path).read_text()
+        if text.count(old) != 1:
+            return [f'its old text stands {text.count(old)} times in {path}: {old.strip()[:80]}']
+        if not texts:
+            place = path.removeprefix('src/').removesuffix('.rt').replace('/', '_')
+            wanted = f'{place}-{item_before(text, text.index(old) + len(old))}-'
+            if not edit.name.startswith(wanted):
+                return [f'its name should begin with {wanted}']
+        if without_space(old) == without_space(new):
+            return ['it changes nothing']
+        texts[path] = text.replace(old, new)
+    return [] if texts else ['it names no change']
+
+
+def faults_of_edits():
+    for edit in sorted(TOP.glob('crates/*/must-fail/*.edit')):
+        yield from ((edit, fault) for fault in faults_of_edit(edit))
+
+
+def faults_of_format():
+    """The files that `rt fmt` would change, tried on a copy."""
+    with tempfile.TemporaryDirectory() as room:
+        for crate in sorted((TOP / 'crates').iterdir()):
+            there = Path(room, crate.name)
+            for part in PARTS:
+                if (crate / part).is_dir():
+                    shutil.copytree(crate / part, there / part)
+            subprocess.run(['rt', 'fmt'], cwd=there, check=True, stdout=subprocess.DEVNULL)
+            for file in sorted(there.rglob('*')):
+                if file.is_file() and file.read_bytes() != (crate / file.relative_to(there)).read_bytes():
+                    yield crate / file.relative_to(there), 'rt fmt lays it out otherwise'
+
+
+def faults_of_crates():
+    listed = set(re.findall(r'^(\w+)[^:#\n]*:', (TOP / 'crates.txt').read_text(), re.M))
+    for crate in sorted((TOP / 'crates').iterdir()):
+        if crate.name not in listed:
+            yield crate, 'crates.txt does not list it'
+        is_tests = crate.name.endswith('_tests')
+        if (crate / 'src/lib.rt').is_file() and not is_tests:
+            for file in sorted((crate / 'src').rglob('*.rt')):
+                if '#[test]' in file.read_text():
+                    yield file, f'tests of a library stand in {crate.name}_tests'
+
+
+def anchors_of(document):
+    """The anchors of a document's headings, as its readers make them."""
+    for heading in re.findall(r'^#+ (.*)$', document.read_text(), re.M):
+        yield re.sub(r'[^\w\- ]', '', heading.lower()).replace(' ', '-')
+
+
+def faults_of_links():
+    for document in sorted([*TOP.glob('*.md'), *TOP.glob('docs/*.md'), *TOP.glob('examples/*.md')]):
+        text = re.sub(r'```.*?```', '', document.read_text(), flags=re.S)
+        for link in re.findall(r'\]\(([^)\s]+)\)', text):
+            path, _, anchor = link.partition('#')
+            target = (document.parent / path).resolve() if path else document
+            if '://' in link:
+                continue
+            if not target.exists():
+                yield document, f'its link to {link} leads nowhere'
+            elif anchor and target.suffix == '.md' and anchor not in anchors_of(target):
+                yield document, f'its link to {link} names no heading'
+
+
+def faults_of_examples():
+    files = {it.name for it in (TOP / 'examples').iterdir()}
+    for name in sorted({it.rpartition('.')[0] for it in files if it.endswith(('.mrt', '.lines', '.reports'))}):
+        for kind in ('mrt', 'lines', 'reports'):
+            if f'{name}.{kind}' not in files:
+                yield TOP / 'examples', f'it has no {name}.{kind}'
+
+
+def main():
+    found = [
+        (place, fault)
+        for faults in (faults_of_edits, faults_of_format, faults_of_crates, faults_of_links, faults_of_examples)
+        for place, fault in faults()
+    ]
+    for place, fault in found:
+        print(f'{place.relative_to(TOP)}: {fault}')
+    print(f'quick checks: {len(found) or "no"} faults')
+    sys.exit(bool(found))
+
+
+main()

@@ -1,0 +1,5 @@
+//! Tests of `bgp_wire`.
+#![tactic(auto)]
+
+#[cfg(test)]
+mod tests;

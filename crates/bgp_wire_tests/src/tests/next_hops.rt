@@ -1,0 +1,174 @@
+//! The next hops of RIB entries (RFC 6396, section 4.3.4; RFC 4760, section 3; RFC 2545,
+//! section 3).
+
+use super::{MALFORMED, assert_rows, read_shown};
+use bgp_wire::{AsWidth, WireFault};
+use ip_prefix::Family;
+use std::alloc::Global;
+use std::test::Fail;
+use test_octets::octets_of;
+
+/// An IPv6 address and a link-local one, and octets to be ignored.
+const HOPS: &str = "20010DB8000000000001000000000001 FE800000000000000000000000000001 \
+                    FFFFFFFFFFFFFFFFFFFFFFFFFFFFFFFF";
+
+/// What is shown where the next hop has 4 octets of those, and where it has 16 or 32.
+const SHORT: &str = "||32.1.13.184||||NAG|";
+
+const LONG: &str = "||2001:db8::1:0:0:1||||NAG|";
+
+/// What stands in front of a next hop's length: nothing, or three octets of which only the first
+/// is looked at.
+const FRONTS: [&str; 6] = ["", "000201", "000101", "000000", "00FFFF", "004602"];
+
+/// What follows a next hop.
+const BEHIND: [&str; 4] = ["", "00", "00 20 20010DB8", "FF04C0000209"];
+
+/// One of the two attributes that name a next hop.
+const ALONE: [(&str, &str); 9] = [
+    ("40010100", "|IGP|||||NAG|"),
+    ("400304 C0000209", "||192.0.2.9||||NAG|"),
+    ("800E05 04 C000020B", "||192.0.2.11||||NAG|"),
+    ("800E11 10 20010DB8000000000001000000000001", LONG),
+    (
+        "800E15 0002 01 10 20010DB8000000000001000000000001 00",
+        LONG,
+    ),
+    (
+        "800E21 20 20010DB8000000000001000000000001 FE800000000000000000000000000001",
+        LONG,
+    ),
+    // A first octet of 0, and what would be a length of 4 behind it.
+    ("800E08 0004C0 04 00020900", "||0.2.9.0||||NAG|"),
+    ("800E08 0004C0 00 02090004", MALFORMED),
+    // No octets at all.
+    ("800E00", MALFORMED),
+];
+
+/// Both, with what is shown of an IPv4 entry and of an IPv6 one.
+const BOTH: [(&str, &str, &str); 8] = [
+    (
+        "400304 C0000209 800E05 04 C000020B",
+        "||192.0.2.9||||NAG|",
+        "||192.0.2.11||||NAG|",
+    ),
+    (
+        "800E05 04 C000020B 400304 C0000209",
+        "||192.0.2.9||||NAG|",
+        "||192.0.2.11||||NAG|",
+    ),
+    (
+        "400304 C0000209 800E15 0002 01 10 20010DB8000000000001000000000001 00",
+        "||192.0.2.9||||NAG|",
+        LONG,
+    ),
+    // The one that doesn't count has to be well-formed too.
+    ("400303 C00002 800E05 04 C000020B", MALFORMED, MALFORMED),
+    ("800E05 04 C000020B 400303 C00002", MALFORMED, MALFORMED),
+    ("400304 C0000209 800E05 05 C000020B", MALFORMED, MALFORMED),
+    ("400304 C0000209 800E00", MALFORMED, MALFORMED),
+    ("400304 C0000209 800E01 00", MALFORMED, MALFORMED),
+];
+
+/// Whole values of MP_REACH_NLRI.
+const WHOLE: [(&str, &str); 6] = [
+    ("04 20010DB8", SHORT),
+    ("10 20010DB8000000000001000000000001", LONG),
+    (
+        "20 20010DB8000000000001000000000001 FE800000000000000000000000000001",
+        LONG,
+    ),
+    ("000201 04 20010DB8", SHORT),
+    ("000101 10 20010DB8000000000001000000000001", LONG),
+    (
+        "000201 20 20010DB8000000000001000000000001 FE800000000000000000000000000001",
+        LONG,
+    ),
+];
+
+/// What is shown of MP_REACH_NLRI alone, with this value.
+fn reached(alloc: Global, family: Family, value: &[u8]) -> Result<Vec<u8>, WireFault> {
+    let mut octets = octets_of(alloc, &["80 0E"])?;
+    let len = u8::try_from(value.len()).unwrap_or(u8::MAX);
+    octets.extend_from_slice(&[len])?;
+    octets.extend_from_slice(value)?;
+    read_shown(alloc, family, AsWidth::Four, &octets)
+}
+
+/// What is shown where the next hop has this length.
+fn hop_of_length(len: u8) -> &'static str {
+    match len {
+        4 => SHORT,
+        16 | 32 => LONG,
+        _ => MALFORMED,
+    }
+}
+
+#[test]
+fn reads_next_hops(rt: HostRuntime) -> Result<(), Fail> {
+    for family in [Family::V4, Family::V6] {
+        assert_rows(&rt, rt.alloc(), family, AsWidth::Four, &ALONE)?;
+    }
+    Ok(())
+}
+
+#[test]
+fn chooses_a_next_hop(rt: HostRuntime) -> Result<(), Fail> {
+    for (octets, v4, v6) in BOTH {
+        assert_rows(&rt, rt.alloc(), Family::V4, AsWidth::Four, &[(octets, v4)])?;
+        assert_rows(&rt, rt.alloc(), Family::V6, AsWidth::Four, &[(octets, v6)])?;
+    }
+    Ok(())
+}
+
+/// All lengths from 0 to 40, in both forms and both families. A length of 0 without octets in front
+/// and with three or more behind it would be the full form.
+#[test]
+fn reads_next_hops_of_three_lengths(rt: HostRuntime) -> Result<(), Fail> {
+    let hops = octets_of(rt.alloc(), &[HOPS])?;
+    assert_eq!(rt; hops.len(), 48);
+    for front in FRONTS {
+        for len in 0..41 {
+            let mut value = octets_of(rt.alloc(), &[front])?;
+            value.extend_from_slice(&[len])?;
+            value.extend_from_slice(&hops[..usize::from(len)])?;
+            for family in [Family::V4, Family::V6] {
+                let text = reached(rt.alloc(), family, &value)?;
+                assert_eq!(rt;
+                    text.as_slice(),
+                    hop_of_length(len).as_bytes(),
+                    "{front} and {len} octets"
+                );
+            }
+        }
+    }
+    Ok(())
+}
+
+#[test]
+fn ignores_what_follows_a_next_hop(rt: HostRuntime) -> Result<(), Fail> {
+    for (value, want) in WHOLE {
+        for behind in BEHIND {
+            let octets = octets_of(rt.alloc(), &[value, behind])?;
+            let text = reached(rt.alloc(), Family::V6, &octets)?;
+            assert_eq!(rt; text.as_slice(), want.as_bytes(), "{value} {behind}");
+        }
+    }
+    Ok(())
+}
+
+#[test]
+fn refuses_a_cut_next_hop(rt: HostRuntime) -> Result<(), Fail> {
+    for (value, _) in WHOLE {
+        let octets = octets_of(rt.alloc(), &[value])?;
+        for len in 0..octets.len() {
+            let text = reached(rt.alloc(), Family::V4, &octets[..len])?;
+            assert_eq!(rt;
+                text.as_slice(),
+                MALFORMED.as_bytes(),
+                "{len} octets of {value}"
+            );
+        }
+    }
+    Ok(())
+}

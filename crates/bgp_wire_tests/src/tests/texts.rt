@@ -1,0 +1,184 @@
+//! The printed texts of paths and communities, and the types that hold lists.
+
+use bgp_wire::{
+    AsNumbers, AsPath, Communities, Segment, SegmentKind, Segments, WireFault, put_communities,
+};
+use std::alloc::{AllocError, Global};
+use std::test::Fail;
+
+/// Communities with their texts (RFC 1997).
+const COMMUNITIES: [(&[u32], &str); 10] = [
+    (&[], ""),
+    (&[0xFFFF_FF01], "no-export"),
+    (
+        &[0xFFFF_FF03, 0xFFFF_FF02, 0x0000_FFFF],
+        "local-AS no-advertise 0:65535",
+    ),
+    (&[0xFFFF_FF00, 0xFFFF_FF04], "65535:65280 65535:65284"),
+    (&[0], "0:0"),
+    (&[0xFFFF_FFFF], "65535:65535"),
+    (&[0xFFFF_0000, 0x0001_0000], "65535:0 1:0"),
+    (&[0xFBF4_0001, 0xFFFF_FF01], "64500:1 no-export"),
+    (&[0x0001_FF01, 0x000A_0064], "1:65281 10:100"),
+    (&[7, 7, 7], "0:7 0:7 0:7"),
+];
+
+/// A path, as the kinds and numbers of its segments.
+type Path = &'static [(SegmentKind, &'static [u32])];
+
+/// Paths with their texts.
+const PATHS: [(Path, &str); 14] = [
+    (&[], ""),
+    (&[(SegmentKind::AsSequence, &[1, 2, 3])], "1 2 3"),
+    (&[(SegmentKind::AsSet, &[1, 2, 3])], "{1,2,3}"),
+    (&[(SegmentKind::ConfedSequence, &[1, 2, 3])], "(1 2 3)"),
+    (&[(SegmentKind::ConfedSet, &[1, 2, 3])], "[1,2,3]"),
+    (&[(SegmentKind::AsSet, &[0])], "{0}"),
+    (
+        &[(SegmentKind::AsSequence, &[0, 4_294_967_295, 65536])],
+        "0 4294967295 65536",
+    ),
+    (
+        &[
+            (SegmentKind::AsSequence, &[1, 2]),
+            (SegmentKind::AsSequence, &[3]),
+        ],
+        "1 2 3",
+    ),
+    (
+        &[
+            (SegmentKind::AsSet, &[2, 1]),
+            (SegmentKind::AsSet, &[1, 2]),
+            (SegmentKind::ConfedSet, &[9]),
+            (SegmentKind::ConfedSequence, &[8]),
+            (SegmentKind::AsSequence, &[7]),
+        ],
+        "{2,1} {1,2} [9] (8) 7",
+    ),
+    // Segments without numbers.
+    (&[(SegmentKind::AsSequence, &[])], ""),
+    (&[(SegmentKind::AsSet, &[])], "{}"),
+    (&[(SegmentKind::ConfedSequence, &[])], "()"),
+    (&[(SegmentKind::ConfedSet, &[])], "[]"),
+    (
+        &[
+            (SegmentKind::AsSequence, &[]),
+            (SegmentKind::AsSet, &[1]),
+            (SegmentKind::AsSequence, &[]),
+            (SegmentKind::AsSequence, &[]),
+            (SegmentKind::AsSequence, &[2]),
+            (SegmentKind::AsSequence, &[]),
+        ],
+        "{1} 2",
+    ),
+];
+
+/// What stands in front of a text.
+const OLD: [&str; 3] = ["", "path ", "bar|"];
+
+/// The path of these segments.
+fn path_of(alloc: Global, path: Path) -> Result<AsPath, AllocError> {
+    let mut segments = Vec::new(alloc);
+    for (kind, numbers) in path {
+        segments.push(Segment {
+            numbers: AsNumbers::from_vec(Vec::from_slice(alloc, numbers)?),
+            kind: *kind,
+        })?;
+    }
+    Ok(AsPath {
+        segments: Segments::from_vec(segments),
+    })
+}
+
+#[test]
+fn appends_communities(rt: HostRuntime) -> Result<(), Fail> {
+    for (communities, want) in COMMUNITIES {
+        for old in OLD {
+            let mut text = Vec::from_slice(rt.alloc(), old.as_bytes())?;
+            put_communities(communities, &mut text)?;
+            let whole = format!(in rt.alloc(); "{old}{want}")?;
+            assert_eq!(rt; text.as_slice(), whole.as_bytes());
+        }
+    }
+    Ok(())
+}
+
+#[test]
+fn appends_paths(rt: HostRuntime) -> Result<(), Fail> {
+    for (path, want) in PATHS {
+        for old in OLD {
+            let mut text = Vec::from_slice(rt.alloc(), old.as_bytes())?;
+            path_of(rt.alloc(), path)?.put_text(&mut text)?;
+            let whole = format!(in rt.alloc(); "{old}{want}")?;
+            assert_eq!(rt; text.as_slice(), whole.as_bytes());
+        }
+    }
+    Ok(())
+}
+
+#[test]
+fn lists_are_as_made(rt: HostRuntime) -> Result<(), Fail> {
+    for numbers in [[1, 2].as_slice(), &[], &[0, 4_294_967_295, 0]] {
+        let own = AsNumbers::from_vec(Vec::from_slice(rt.alloc(), numbers)?);
+        assert_eq!(rt; own.as_slice(), numbers);
+        assert_eq!(rt; own.clone()?.as_slice(), numbers);
+        assert_eq!(rt; own.into_vec().as_slice(), numbers);
+        let communities = Communities::from_vec(Vec::from_slice(rt.alloc(), numbers)?);
+        assert_eq!(rt; communities.as_slice(), numbers);
+        assert_eq!(rt; communities.clone()?.as_slice(), numbers);
+        assert_eq!(rt; communities.into_vec().as_slice(), numbers);
+    }
+    Ok(())
+}
+
+#[test]
+fn segments_are_as_made(rt: HostRuntime) -> Result<(), Fail> {
+    let made = path_of(rt.alloc(), &[(SegmentKind::AsSet, &[7, 8])])?.segments;
+    assert_eq!(rt; made.as_slice().len(), 1);
+    let segments = made.into_vec();
+    assert_eq!(rt; segments.len(), 1);
+    assert_eq!(rt; segments[0].kind, SegmentKind::AsSet);
+    assert_eq!(rt; segments[0].numbers.as_slice(), [7, 8].as_slice());
+    Ok(())
+}
+
+#[test]
+fn copies_paths(rt: HostRuntime) -> Result<(), Fail> {
+    let path = path_of(rt.alloc(), &[(SegmentKind::AsSet, &[7, 8])])?;
+    for copy in [
+        path.clone()?,
+        AsPath {
+            segments: path.segments.clone()?,
+        },
+    ] {
+        let mut text = Vec::new(rt.alloc());
+        copy.put_text(&mut text)?;
+        assert_eq!(rt; text.as_slice(), b"{7,8}".as_slice());
+    }
+    Ok(())
+}
+
+#[test]
+fn copies_segments(rt: HostRuntime) -> Result<(), Fail> {
+    for segment in path_of(rt.alloc(), &[(SegmentKind::ConfedSet, &[7, 8])])?
+        .segments
+        .as_slice()
+    {
+        let copy = segment.clone()?;
+        assert_eq!(rt; copy.kind, SegmentKind::ConfedSet);
+        assert_eq!(rt; copy.numbers.as_slice(), [7, 8].as_slice());
+    }
+    Ok(())
+}
+
+#[test]
+fn faults_have_texts(rt: HostRuntime) -> Result<(), Fail> {
+    for (fault, want) in [
+        (WireFault::Malformed, "malformed"),
+        (WireFault::Memory, "out of memory"),
+    ] {
+        let text = format!(in rt.alloc(); "{fault}")?;
+        assert_eq!(rt; text.as_bytes(), want.as_bytes());
+    }
+    Ok(())
+}

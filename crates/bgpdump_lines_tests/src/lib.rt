@@ -1,0 +1,5 @@
+//! Tests of `bgpdump_lines`.
+#![tactic(auto)]
+
+#[cfg(test)]
+mod tests;

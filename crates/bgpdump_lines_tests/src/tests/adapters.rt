@@ -1,0 +1,75 @@
+//! What outputs over writers pass on, and when a run reads and writes.
+
+ghost use Rattle.std.specs.Prelude.{◌≡◌, None, false};
+
+use super::LINE;
+use bgpdump_lines::{OutFault, Outcome, Output, WriteOutput, put_all, run_dump};
+use mrt_wire::Stamp;
+use std::alloc::{AllocError, Global};
+use std::cell::Cell;
+use std::io::{self, ErrorKind, Write};
+use std::test::Fail;
+use test_devices::{CountedOutput, SlowInput, SlowOutput, WatchingInput};
+use test_octets::{MULTICAST, MULTICAST_REPORT, STATE_CHANGE, octets_of};
+
+/// A writer that takes nothing, and whose `flush` fails.
+#[derive(Drop)]
+struct StuckWriter;
+
+impl Write for StuckWriter {
+    fn write(&mut self, octets: &[u8]) -> io::Result<usize> {
+        Ok(0)
+    }
+
+    fn flush(&mut self) -> io::Result<()> {
+        Err(io::Error::from(ErrorKind::BrokenPipe))
+    }
+}
+
+#[test]
+fn a_stuck_writer_is_a_fault(rt: HostRuntime) {
+    assert_eq!(rt; WriteOutput::new(StuckWriter).put(b"text"), Err(OutFault));
+    assert_eq!(rt; WriteOutput::new(StuckWriter).put(b""), Ok(0));
+    assert_eq!(rt; WriteOutput::new(StuckWriter).finish(), Err(OutFault));
+}
+
+#[test]
+fn put_all_finishes_nothing(rt: HostRuntime) {
+    let mut output = SlowOutput::new(rt.alloc(), 4, 9, false);
+    assert_eq!(rt; put_all(&mut output, b"nine puts"), Ok(()));
+    assert_eq!(rt; output.finish_calls, 0);
+}
+
+#[test]
+fn nothing_is_read_behind_a_header_that_is_too_long(rt: HostRuntime) -> Result<(), Fail> {
+    let octets = octets_of(rt.alloc(), &["00000064 0010 0000 01000001"])?;
+    let mut input = SlowInput::new(&octets, usize::MAX, 12);
+    let mut out = SlowOutput::new(rt.alloc(), usize::MAX, usize::MAX, true);
+    let mut err = SlowOutput::new(rt.alloc(), usize::MAX, usize::MAX, true);
+    let outcome = run_dump(rt.alloc(), &mut input, &mut out, &mut err, Stamp::Dump);
+    assert_eq!(rt; outcome, Outcome::Reported);
+    let report = b"bgpdump: record 1, byte 0: length 16777217 too long\n";
+    assert_eq!(rt; err.text.as_slice(), report.as_slice());
+    Ok(())
+}
+
+/// Runs over a record and a state change, and tells how the run ended and how much was written
+/// when the second one was asked for.
+fn written_before_the_second(alloc: Global, record: &str) -> Result<(Outcome, usize), AllocError> {
+    let octets = octets_of(alloc, &[record, STATE_CHANGE])?;
+    let written = Cell::new(0);
+    let mut input = WatchingInput::new(&octets, &written);
+    let mut out = CountedOutput::new(&written);
+    let mut err = CountedOutput::new(&written);
+    let outcome = run_dump(alloc, &mut input, &mut out, &mut err, Stamp::Dump);
+    Ok((outcome, input.seen))
+}
+
+#[test]
+fn all_is_written_before_the_next_record_is_read(rt: HostRuntime) -> Result<(), Fail> {
+    let line = written_before_the_second(rt.alloc(), STATE_CHANGE)?;
+    assert_eq!(rt; line, (Outcome::Done, LINE.len()));
+    let report = written_before_the_second(rt.alloc(), MULTICAST)?;
+    assert_eq!(rt; report, (Outcome::Reported, MULTICAST_REPORT.len()));
+    Ok(())
+}

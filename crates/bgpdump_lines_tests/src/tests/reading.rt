@@ -1,0 +1,170 @@
+//! What runs write over inputs and outputs that are sound.
+
+use super::{LINE, Run, dump};
+use bgpdump_lines::Outcome;
+use std::process::Abort;
+use std::test::Fail;
+use test_octets::{MULTICAST, STATE_CHANGE, octets_of};
+
+/// Records, with their lines and reports.
+const READ: [(&str, &str, &str); 6] = [
+    ("", "", ""),
+    (STATE_CHANGE, LINE, ""),
+    // Two octets more in the body.
+    (
+        "00000064 0010 0000 00000016 FBF4 FBF5 0000 0001 C0000201 C0000202 0006 0001 FFFF",
+        LINE,
+        "",
+    ),
+    // The greatest numbers, and the least.
+    (
+        "FFFFFFFF 0010 0000 00000014 FFFF FBF5 0000 0001 FFFFFFFF C0000202 FFFF FFFF",
+        "BGP4MP|4294967295|STATE|255.255.255.255|65535|65535|65535\n",
+        "",
+    ),
+    (
+        "00000000 0010 0000 00000014 0000 FBF5 0000 0001 00000000 C0000202 0000 0000",
+        "BGP4MP|0|STATE|0.0.0.0|0|0|0\n",
+        "",
+    ),
+    // A prefix of a table, with one entry.
+    (
+        "000000C8 000C 0001 00000028 0000 0000 0A000000 08 01 00000032 C0000201 FBF4 0012 \
+         40010100 400204 0201 FBF4 400304 C0000209",
+        "",
+        "bgpdump: record 1, byte 0: unsupported type 12 subtype 1\n",
+    ),
+];
+
+/// Whole records that give no line, with what is reported of them.
+const FAULTY: [(&str, &str); 8] = [
+    (MULTICAST, "unsupported type 13 subtype 3"),
+    // Seven octets of body, and eight.
+    ("00000064 0010 0000 00000007 FBF4 FBF5 0000 00", "malformed"),
+    (
+        "00000064 0010 0000 00000008 FBF4 FBF5 0000 0002",
+        "malformed",
+    ),
+    // Too few octets for the address family, and one that isn't used.
+    (
+        "00000064 0010 0000 00000014 FBF4 FBF5 0000 0002 C0000201 C0000202 0006 0001",
+        "malformed",
+    ),
+    (
+        "00000064 0010 0000 00000014 FBF4 FBF5 0000 0003 C0000201 C0000202 0006 0001",
+        "malformed",
+    ),
+    // A body that is one octet short.
+    (
+        "00000064 0010 0000 00000013 FBF4 FBF5 0000 0001 C0000201 C0000202 0006 00",
+        "malformed",
+    ),
+    // Another subtype, and another type.
+    (
+        "00000064 0010 0002 00000014 FBF4 FBF5 0000 0001 C0000201 C0000202 0006 0001",
+        "unsupported type 16 subtype 2",
+    ),
+    (
+        "00000064 0012 0000 00000014 FBF4 FBF5 0000 0001 C0000201 C0000202 0006 0001",
+        "unsupported type 18 subtype 0",
+    ),
+];
+
+/// A header that states a length past the limit, its report, and one that states the limit.
+const TOO_LONG: &str = "00000064 0010 0000 01000001";
+
+const TOO_LONG_REPORT: &str = "bgpdump: record 1, byte 0: length 16777217 too long\n";
+
+const LONGEST: &str = "00000064 0010 0000 01000000";
+
+/// The reports of a cut first record, and of a second one behind 32 octets.
+const CUT_REPORT: &str = "bgpdump: record 1, byte 0: cut record\n";
+
+const SECOND_CUT_REPORT: &str = "bgpdump: record 2, byte 32: cut record\n";
+
+/// How a run without a fault ends that has these reports.
+fn outcome_of(reports: &str) -> Outcome {
+    if reports.is_empty() {
+        Outcome::Done
+    } else {
+        Outcome::Reported
+    }
+}
+
+/// Asserts what a run without a fault wrote.
+fn assert_wrote(rt: &impl Abort, run: &Run, lines: &str, reports: &str, case: &str) {
+    assert_eq!(rt; run.out.as_slice(), lines.as_bytes(), "lines of {case}");
+    assert_eq!(rt; run.err.as_slice(), reports.as_bytes(), "reports of {case}");
+    assert_eq!(rt; run.outcome, outcome_of(reports), "outcome of {case}");
+}
+
+#[test]
+fn writes_what_records_give(rt: HostRuntime) -> Result<(), Fail> {
+    let alloc = rt.alloc();
+    for (octets, lines, reports) in READ {
+        let run = dump(alloc, &octets_of(alloc, &[octets])?);
+        assert_wrote(&rt, &run, lines, reports, octets);
+    }
+    Ok(())
+}
+
+#[test]
+fn reads_on_behind_a_faulty_record(rt: HostRuntime) -> Result<(), Fail> {
+    let alloc = rt.alloc();
+    for (octets, kind) in FAULTY {
+        let run = dump(alloc, &octets_of(alloc, &[octets, STATE_CHANGE])?);
+        let reports = format!(in alloc; "bgpdump: record 1, byte 0: {kind}\n")?;
+        assert_wrote(&rt, &run, LINE, reports.as_str(), octets);
+    }
+    Ok(())
+}
+
+#[test]
+fn ends_behind_a_header_that_is_too_long(rt: HostRuntime) -> Result<(), Fail> {
+    let alloc = rt.alloc();
+    for (octets, behind, reports) in [
+        (TOO_LONG, "", TOO_LONG_REPORT),
+        (TOO_LONG, STATE_CHANGE, TOO_LONG_REPORT),
+        (LONGEST, "", CUT_REPORT),
+    ] {
+        let run = dump(alloc, &octets_of(alloc, &[octets, behind])?);
+        assert_wrote(&rt, &run, "", reports, octets);
+    }
+    Ok(())
+}
+
+#[test]
+fn reports_a_cut_record(rt: HostRuntime) -> Result<(), Fail> {
+    let alloc = rt.alloc();
+    let octets = octets_of(alloc, &[STATE_CHANGE, STATE_CHANGE])?;
+    assert_eq!(rt; octets.len(), 64);
+    for length in 0..64 {
+        let (lines, reports) = match length {
+            0 => ("", ""),
+            1..32 => ("", CUT_REPORT),
+            32 => (LINE, ""),
+            _ => (LINE, SECOND_CUT_REPORT),
+        };
+        let case = format!(in alloc; "{length} octets")?;
+        let run = dump(alloc, &octets[..length]);
+        assert_wrote(&rt, &run, lines, reports, case.as_str());
+    }
+    Ok(())
+}
+
+#[test]
+fn writes_the_lines_of_thousands_of_records(rt: HostRuntime) -> Result<(), Fail> {
+    let alloc = rt.alloc();
+    let record = octets_of(alloc, &[STATE_CHANGE])?;
+    let mut octets = Vec::new(alloc);
+    let mut lines = Vec::new(alloc);
+    for _ in 0..5_000u32 {
+        octets.extend_from_slice(&record)?;
+        lines.extend_from_slice(LINE.as_bytes())?;
+    }
+    let run = dump(alloc, &octets);
+    assert_eq!(rt; run.outcome, Outcome::Done);
+    assert!(rt; run.out == lines);
+    assert!(rt; run.err.is_empty());
+    Ok(())
+}

@@ -1,0 +1,5 @@
+//! Tests of `bgpdump_tool`.
+#![tactic(auto)]
+
+#[cfg(test)]
+mod tests;

@@ -1,0 +1,22 @@
+mod command_lines;
+mod commands;
+mod generated_scripts;
+mod large_scripts;
+mod memory;
+mod moves;
+mod plain;
+mod playing;
+mod replies;
+mod script_faults;
+mod scripts;
+mod taking;
+
+use bgpdump_tool::Outcome;
+
+/// What a run wrote, and how it ended.
+#[derive(Drop)]
+struct Run {
+    out: Vec<u8>,
+    err: Vec<u8>,
+    outcome: Outcome,
+}

@@ -1,0 +1,5 @@
+//! Tests of `ip_prefix`.
+#![tactic(auto)]
+
+#[cfg(test)]
+mod tests;

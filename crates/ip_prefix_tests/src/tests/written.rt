@@ -1,0 +1,204 @@
+//! Texts written in place.
+
+use ip_prefix::{ADDRESS_ROOM, Addr, DECIMAL_ROOM, PREFIX_ROOM, Prefix, Text, write_decimal};
+use std::process::Abort;
+use std::test::Fail;
+
+/// What stands in front of a text.
+const FRONT: &[u8] = b"front|";
+
+/// Numbers of each size.
+const NUMBERS: [(u32, &str); 16] = [
+    (0, "0"),
+    (9, "9"),
+    (10, "10"),
+    (99, "99"),
+    (100, "100"),
+    (999, "999"),
+    (1000, "1000"),
+    (1001, "1001"),
+    (64_496, "64496"),
+    (999_999, "999999"),
+    (1_000_000, "1000000"),
+    (1_001_001, "1001001"),
+    (16_777_216, "16777216"),
+    (1_000_000_000, "1000000000"),
+    (1_780_315_200, "1780315200"),
+    (4_294_967_295, "4294967295"),
+];
+
+/// Addresses, each as its text.
+const ADDRESSES: [&str; 10] = [
+    "0.0.0.0",
+    "1.20.255.9",
+    "255.255.255.255",
+    "::",
+    "::1",
+    "2001:db8::",
+    "2001:db8:0:1:1:1:1:1",
+    "2001:0:0:1::1",
+    "fe80::1:0:0:1",
+    "ffff:ffff:ffff:ffff:ffff:ffff:ffff:ffff",
+];
+
+/// Prefixes, each as its text.
+const PREFIXES: [&str; 6] = [
+    "0.0.0.0/0",
+    "10.0.0.0/8",
+    "192.0.2.1/32",
+    "::/0",
+    "2001:db8::/32",
+    "ffff:ffff:ffff:ffff:ffff:ffff:ffff:ffff/128",
+];
+
+/// A buffer that begins with what stands in front.
+fn buffer_with_front() -> [u8; 64] {
+    let mut buffer = [b'#'; 64];
+    buffer[..FRONT.len()].copy_from_slice(FRONT);
+    buffer
+}
+
+/// The text stands behind what stood in front of it, up to the end.
+fn assert_written(rt: &impl Abort, buffer: &[u8], end: usize, text: &str) {
+    assert_eq!(rt; end, FRONT.len() + text.len(), "{text}");
+    assert!(rt; buffer.starts_with(FRONT), "{text}");
+    assert!(rt;
+        buffer.get(FRONT.len()..end) == Some(text.as_bytes()),
+        "{text}"
+    );
+}
+
+#[test]
+fn writes_numbers_in_place(rt: HostRuntime) -> Result<(), Fail> {
+    for (number, text) in NUMBERS {
+        let mut buffer = buffer_with_front();
+        assert!(rt; FRONT.len() + DECIMAL_ROOM <= buffer.len());
+        let end = write_decimal(number, &mut buffer, FRONT.len());
+        assert_written(&rt, &buffer, end, text);
+    }
+    Ok(())
+}
+
+#[test]
+fn writes_addresses_in_place(rt: HostRuntime) -> Result<(), Fail> {
+    for text in ADDRESSES {
+        let address = Addr::parse(text.as_bytes()).ok_or("an address")?;
+        let mut buffer = buffer_with_front();
+        assert!(rt; FRONT.len() + ADDRESS_ROOM <= buffer.len());
+        let end = address.write_text(&mut buffer, FRONT.len());
+        assert_written(&rt, &buffer, end, text);
+    }
+    Ok(())
+}
+
+/// Each choice of groups that are 0, the others 1, beside the first longest run that a plain search
+/// finds.
+#[test]
+fn shortens_the_first_longest_run(rt: HostRuntime) -> Result<(), Fail> {
+    for zeros in 0u32..256 {
+        let mut octets = [0; 16];
+        let (mut first, mut len) = (8, 1);
+        for i in (0u32..8).rev() {
+            octets[2 * i as usize + 1] = (!zeros >> i & 1) as u8;
+            let run = (zeros >> i).trailing_ones();
+            if run > 1 && run >= len {
+                (first, len) = (i, run);
+            }
+        }
+        let mut wanted = Text::new(rt.alloc());
+        for i in 0u32..8 {
+            let behind = i.wrapping_sub(first);
+            if behind == 0 {
+                wanted.extend_from_slice(b"::")?;
+            }
+            if behind >= len {
+                if i > 0 && behind != len {
+                    wanted.push(b':')?;
+                }
+                wanted.push(if zeros >> i & 1 == 1 { b'0' } else { b'1' })?;
+            }
+        }
+        let mut text = Text::new(rt.alloc());
+        text.put_address(&Addr::v6(octets))?;
+        assert_eq!(rt; text.as_slice(), wanted.as_slice(), "{zeros:#b}");
+    }
+    Ok(())
+}
+
+#[test]
+fn writes_prefixes_in_place(rt: HostRuntime) -> Result<(), Fail> {
+    for text in PREFIXES {
+        let prefix = Prefix::parse(text.as_bytes()).ok_or("a prefix")?;
+        let mut buffer = buffer_with_front();
+        assert!(rt; FRONT.len() + PREFIX_ROOM <= buffer.len());
+        let end = prefix.write_text(&mut buffer, FRONT.len());
+        assert_written(&rt, &buffer, end, text);
+    }
+    Ok(())
+}
+
+#[test]
+fn texts_grow_at_their_end(rt: HostRuntime) -> Result<(), Fail> {
+    let address = Addr::parse(b"2001:db8::1").ok_or("an address")?;
+    let prefix = Prefix::parse(b"192.0.2.0/24").ok_or("a prefix")?;
+    let mut text = Text::new(rt.alloc());
+    assert_eq!(rt; text.as_slice(), b"".as_slice());
+    text.extend_from_slice(b"A|")?;
+    text.put_decimal(64_496)?;
+    text.push(b'|')?;
+    text.put_address(&address)?;
+    text.push(b'|')?;
+    text.put_prefix(&prefix)?;
+    assert_eq!(rt;
+        text.as_slice(),
+        b"A|64496|2001:db8::1|192.0.2.0/24".as_slice()
+    );
+    assert_eq!(rt; text.len(), 32);
+    text.truncate(40);
+    assert_eq!(rt; text.len(), 32);
+    text.truncate(7);
+    assert_eq!(rt; text.as_slice(), b"A|64496".as_slice());
+    text.truncate(0);
+    assert_eq!(rt; text.as_slice(), b"".as_slice());
+    Ok(())
+}
+
+#[test]
+fn long_texts_are_kept_as_they_grow(rt: HostRuntime) -> Result<(), Fail> {
+    let mut text = Text::new(rt.alloc());
+    for number in 0..1000 {
+        text.put_decimal(number)?;
+        text.push(b' ')?;
+    }
+    assert_eq!(rt; text.len(), 3890);
+    assert_eq!(rt; &text.as_slice()[..12], b"0 1 2 3 4 5 ".as_slice());
+    assert_eq!(rt; &text.as_slice()[3878..], b"997 998 999 ".as_slice());
+    Ok(())
+}
+
+#[test]
+fn texts_repeat_their_parts(rt: HostRuntime) -> Result<(), Fail> {
+    let mut text = Text::new(rt.alloc());
+    text.put_ended_decimal(64_496, b' ')?;
+    text.put_long_decimal(18_446_744_073_709_551_615)?;
+    text.put_long_decimal(7)?;
+    assert_eq!(rt; text.as_slice(), b"64496 184467440737095516157".as_slice());
+    text.extend_from_within(2, 6)?;
+    text.extend_from_within(0, 0)?;
+    text.extend_from_within(0, 31)?;
+    assert_eq!(rt; text.len(), 62);
+    assert_eq!(rt; &text.as_slice()[27..37], b"496 64496 ".as_slice());
+    Ok(())
+}
+
+#[test]
+fn texts_take_octets_and_give_them_back(rt: HostRuntime) -> Result<(), Fail> {
+    let mut octets = Vec::new(rt.alloc());
+    octets.extend_from_slice(b"AS")?;
+    let mut text = Text::taken_from(&mut octets);
+    assert!(rt; octets.is_empty());
+    text.put_decimal(64_496)?;
+    let octets = text.into_vec();
+    assert_eq!(rt; octets.as_slice(), b"AS64496".as_slice());
+    Ok(())
+}

@@ -1,0 +1,5 @@
+//! Tests of `mrt_wire`.
+#![tactic(auto)]
+
+#[cfg(test)]
+mod tests;

@@ -1,0 +1,9 @@
+mod events;
+mod held;
+mod kinds;
+mod large;
+mod messages;
+mod sessions;
+mod shown;
+mod sources;
+mod tables;

@@ -1,0 +1,75 @@
+//! Routes that somebody holds while a source reads on.
+
+use super::shown::records_of;
+use mrt_wire::{Input, Item, Next, ReadInput, Route, Source, Stamp};
+use std::alloc::{AllocError, Global};
+use std::rc::Rc;
+use std::test::Fail;
+
+/// An index of the peer 192.0.2.1 of AS 64500.
+const INDEX: &str = "000D 0001 C6336401 0000 0001 00 C0000201 C0000201 FBF4";
+
+/// Entries of that peer for 10.0.0.0/8, with the preferences 5, 6 and 7.
+const ENTRIES: [&str; 3] = [
+    "000D 0002 00000000 080A 0001 0000 00000032 0007 40050400000005",
+    "000D 0002 00000000 080A 0001 0000 00000032 0007 40050400000006",
+    "000D 0002 00000000 080A 0001 0000 00000032 0007 40050400000007",
+];
+
+/// UPDATEs that announce 10.0.0.0/8, with the same preferences.
+const UPDATES: [&str; 3] = [
+    "0010 0001 FBF4 FBF5 0000 0001 C0000201 C0000202 FFFFFFFFFFFFFFFFFFFFFFFFFFFFFFFF 0020 02 \
+     0000 0007 40050400000005 080A",
+    "0010 0001 FBF4 FBF5 0000 0001 C0000201 C0000202 FFFFFFFFFFFFFFFFFFFFFFFFFFFFFFFF 0020 02 \
+     0000 0007 40050400000006 080A",
+    "0010 0001 FBF4 FBF5 0000 0001 C0000201 C0000202 FFFFFFFFFFFFFFFFFFFFFFFFFFFFFFFF 0020 02 \
+     0000 0007 40050400000007 080A",
+];
+
+/// The route that the next record announces. The answer is given back.
+fn next_route<I: Input>(
+    source: &mut Source,
+    input: &mut I,
+) -> Result<Option<Rc<Route>>, AllocError> {
+    let Ok(answer) = source.next(input) else {
+        return Err(AllocError);
+    };
+    let mut found = None;
+    if let Next::Event(event) = &answer {
+        if let [Item::Announce(_, _, route)] = event.items.as_slice() {
+            found = Some(route.clone()?);
+        }
+    }
+    source.take_back(answer);
+    Ok(found)
+}
+
+/// The preference of a route.
+fn preference(route: &Option<Rc<Route>>) -> Option<u32> {
+    match route {
+        Some(route) => route.attrs.local_pref,
+        None => None,
+    }
+}
+
+/// The preferences of three routes that follow one another, of which the first and the last are
+/// held until all are read.
+fn preferences(alloc: Global, octets: &[u8]) -> Result<[Option<u32>; 3], AllocError> {
+    let mut input = ReadInput::new(octets);
+    let mut source = Source::new(alloc, Stamp::Dump, 1 << 40);
+    let _index = next_route(&mut source, &mut input)?;
+    let first = next_route(&mut source, &mut input)?;
+    let second = preference(&next_route(&mut source, &mut input)?);
+    let third = next_route(&mut source, &mut input)?;
+    Ok([preference(&first), second, preference(&third)])
+}
+
+#[test]
+fn held_routes_stay(rt: HostRuntime) -> Result<(), Fail> {
+    for [first, second, third] in [ENTRIES, UPDATES] {
+        let octets = records_of(rt.alloc(), &[INDEX, first, second, third])?;
+        let found = preferences(rt.alloc(), octets.as_slice())?;
+        assert_eq!(rt; found, [Some(5), Some(6), Some(7)]);
+    }
+    Ok(())
+}

@@ -1,0 +1,244 @@
+//! Large records, and routes that are shared. No contract says that memory is enough for them, nor
+//! that routes are shared.
+
+use super::messages::message_of;
+use super::shown::{assert_octets, put_record, records_of, shown_item};
+use mrt_wire::{Event, Item, Items, Next, ReadInput, Route, Shared, Source, Stamp};
+use std::alloc::{AllocError, Global};
+use std::process::Abort;
+use std::rc::Rc;
+use std::test::Fail;
+use test_octets::octets_of;
+
+/// The session of the peer 192.0.2.1 of AS 64500, in a MESSAGE.
+const SESSION: &str = "0010 0001 FBF4 FBF5 0000 0001 C0000201 C0000202";
+
+/// Appends so many times the octets of the text.
+fn put_repeated(
+    alloc: Global,
+    text: &str,
+    count: usize,
+    octets: &mut Vec<u8>,
+) -> Result<(), AllocError> {
+    let part = octets_of(alloc, &[text])?;
+    for _ in 0..count {
+        octets.extend_from_slice(part.as_slice())?;
+    }
+    Ok(())
+}
+
+/// The last event of a source over the octets, where it answers events alone up to the end.
+fn last_event(alloc: Global, octets: &[u8]) -> Option<Event> {
+    let mut source = Source::new(alloc, Stamp::Dump, 1 << 40);
+    let mut input = ReadInput::new(octets);
+    let mut last = None;
+    for _ in 0..4 {
+        match source.next(&mut input) {
+            Ok(Next::Event(event)) => last = Some(event),
+            Ok(Next::End) => break,
+            Ok(Next::Bad(_)) | Err(_) => return None,
+        }
+    }
+    last
+}
+
+/// Asserts how many items the last event over the octets has, and what the last of them says.
+fn assert_last(
+    rt: &impl Abort,
+    alloc: Global,
+    octets: &[u8],
+    count: usize,
+    want: &str,
+) -> Result<(), Fail> {
+    let event = last_event(alloc, octets).ok_or("an event was wanted")?;
+    let items = event.items.as_slice();
+    assert_eq!(rt; items.len(), count);
+    let text = shown_item(alloc, items.last().ok_or("an item was wanted")?)?;
+    assert_eq!(rt; text.as_slice(), want.as_bytes(), "{want}");
+    Ok(())
+}
+
+#[test]
+fn tables_have_many_entries(rt: HostRuntime) -> Result<(), Fail> {
+    let alloc = rt.alloc();
+    let index = "000D 0001 C6336401 0000 0002 00 C0000201 C0000201 FBF4 00 C0000202 C0000202 FBF5";
+    for (number, before, count) in [("EA60", 59_999, 60_000), ("FFFF", 65_534, 65_535)] {
+        let mut record = octets_of(alloc, &["000D 0002 00000000 080A", number])?;
+        put_repeated(alloc, "0000 00000032 0000", before, &mut record)?;
+        put_repeated(alloc, "0001 00000033 0000", 1, &mut record)?;
+        let mut octets = records_of(alloc, &[index])?;
+        put_record(record.as_slice(), &mut octets)?;
+        let want = "+192.0.2.2 64501 10.0.0.0/8 at 200";
+        assert_last(&rt, alloc, octets.as_slice(), count, want)?;
+    }
+    Ok(())
+}
+
+#[test]
+fn indexes_have_many_peers(rt: HostRuntime) -> Result<(), Fail> {
+    let alloc = rt.alloc();
+    let mut index = octets_of(alloc, &["000D 0001 C6336401 0000 FFFF"])?;
+    put_repeated(alloc, "00 C0000201 C0000201 FBF4", 65_534, &mut index)?;
+    put_repeated(alloc, "00 C0000202 C0000202 FBF5", 1, &mut index)?;
+    let mut octets = Vec::new(alloc);
+    put_record(index.as_slice(), &mut octets)?;
+    let entry = records_of(alloc, &["000D 0002 00000000 080A 0001 FFFE 00000032 0000"])?;
+    octets.extend_from_slice(entry.as_slice())?;
+    let want = "+192.0.2.2 64501 10.0.0.0/8 at 200";
+    assert_last(&rt, alloc, octets.as_slice(), 1, want)
+}
+
+/// The record of an UPDATE that announces so many times one prefix, and then another.
+fn announcing(
+    alloc: Global,
+    prefix: &str,
+    count: usize,
+    last: &str,
+) -> Result<Vec<u8>, AllocError> {
+    let mut body = octets_of(alloc, &["0000 0000"])?;
+    put_repeated(alloc, prefix, count, &mut body)?;
+    put_repeated(alloc, last, 1, &mut body)?;
+    let record = message_of(alloc, SESSION, 2, body.as_slice())?;
+    let mut octets = Vec::new(alloc);
+    put_record(record.as_slice(), &mut octets)?;
+    Ok(octets)
+}
+
+/// A prefix and how many times it is announced, a last prefix, how many octets the record takes,
+/// how many items the event has, and what the last of them says.
+const ANNOUNCED: [(&str, usize, &str, usize, usize, &str); 4] = [
+    // 10,000 prefixes, and messages of 4,096 and of 65,535 octets. Those before a message are 28.
+    (
+        "080A",
+        9_999,
+        "0814",
+        20_051,
+        10_000,
+        "+192.0.2.1 64500 20.0.0.0/8 at 200",
+    ),
+    (
+        "00",
+        4_071,
+        "0814",
+        4_124,
+        4_072,
+        "+192.0.2.1 64500 20.0.0.0/8 at 200",
+    ),
+    (
+        "00",
+        65_510,
+        "0814",
+        65_563,
+        65_511,
+        "+192.0.2.1 64500 20.0.0.0/8 at 200",
+    ),
+    (
+        "00",
+        65_511,
+        "00",
+        65_563,
+        65_512,
+        "+192.0.2.1 64500 0.0.0.0/0 at 200",
+    ),
+];
+
+#[test]
+fn updates_have_many_prefixes(rt: HostRuntime) -> Result<(), Fail> {
+    let alloc = rt.alloc();
+    for (prefix, count, last, size, items, want) in ANNOUNCED {
+        let octets = announcing(alloc, prefix, count, last)?;
+        assert_eq!(rt; octets.len(), size);
+        assert_last(&rt, alloc, octets.as_slice(), items, want)?;
+    }
+    Ok(())
+}
+
+#[test]
+fn longer_messages_are_malformed(rt: HostRuntime) -> Result<(), Fail> {
+    let alloc = rt.alloc();
+    // one octet past the greatest length, and lengths that read as 23 and as 65,535 then
+    for count in [65_512, 65_535, 131_047] {
+        let octets = announcing(alloc, "00", count, "00")?;
+        assert_octets(
+            &rt,
+            alloc,
+            Stamp::Dump,
+            octets.as_slice(),
+            "1 0 Malformed; end",
+        )?;
+    }
+    Ok(())
+}
+
+/// Whether an announcement's route is this one, and not another that equals it.
+fn shares(item: &Item, route: &Rc<Route>) -> bool {
+    match item {
+        Item::Announce(_, _, other) => Rc::ptr_eq(other, route),
+        _ => false,
+    }
+}
+
+#[test]
+fn prefixes_of_one_list_share_their_route(rt: HostRuntime) -> Result<(), Fail> {
+    // three prefixes, and two of MP_REACH_NLRI
+    let record = "0010 0001 FBF4 FBF5 0000 0001 C0000201 C0000202 \
+         FFFFFFFFFFFFFFFFFFFFFFFFFFFFFFFF 002B 02 0000 000F \
+         800E0C 000101 04 C000020B 00 00 080A 00 080B 080C";
+    let octets = records_of(rt.alloc(), &[record])?;
+    let event = last_event(rt.alloc(), octets.as_slice()).ok_or("an event was wanted")?;
+    let items = event.items.as_slice();
+    let [first, .., last] = items else {
+        assert!(rt; false, "two items were wanted");
+        return Ok(());
+    };
+    for (route, want) in [(first, "11100"), (last, "00011")] {
+        let Item::Announce(_, _, route) = route else {
+            assert!(rt; false, "a route was wanted");
+            return Ok(());
+        };
+        let mut shared = Vec::new(rt.alloc());
+        for item in items {
+            shared.push(if shares(item, route) { b'1' } else { b'0' })?;
+        }
+        assert_eq!(rt; shared.as_slice(), want.as_bytes());
+    }
+    Ok(())
+}
+
+/// Records, and which of the items of each are known to share a route.
+const SHARED: [(&str, usize, usize); 3] = [
+    // a withdrawal, three prefixes, and two of MP_REACH_NLRI
+    (
+        "0010 0001 FBF4 FBF5 0000 0001 C0000201 C0000202 \
+         FFFFFFFFFFFFFFFFFFFFFFFFFFFFFFFF 002D 02 0002 080D 000F \
+         800E0C 000101 04 C000020B 00 00 080A 00 080B 080C",
+        1,
+        4,
+    ),
+    // two of MP_REACH_NLRI alone
+    (
+        "0010 0001 FBF4 FBF5 0000 0001 C0000201 C0000202 \
+         FFFFFFFFFFFFFFFFFFFFFFFFFFFFFFFF 0026 02 0000 000F \
+         800E0C 000101 04 C000020B 00 00 080A",
+        0,
+        2,
+    ),
+    // a state change
+    (
+        "0010 0000 FBF4 FBF5 0000 0001 C0000201 C0000202 0006 0001",
+        0,
+        0,
+    ),
+];
+
+#[test]
+fn events_tell_which_items_share_a_route(rt: HostRuntime) -> Result<(), Fail> {
+    for (record, start, end) in SHARED {
+        let octets = records_of(rt.alloc(), &[record])?;
+        let event = last_event(rt.alloc(), octets.as_slice()).ok_or("an event was wanted")?;
+        assert_eq!(rt; event.items.shared(), Shared { start, end });
+        let items = Items::from_vec(event.items.into_vec());
+        assert_eq!(rt; items.shared(), Shared { start: 0, end: 0 });
+    }
+    Ok(())
+}

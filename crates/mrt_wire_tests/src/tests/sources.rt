@@ -1,0 +1,246 @@
+//! What sources answer, call by call.
+
+use mrt_wire::{Input, Next, ReadInput, Source, Stamp};
+use std::alloc::{AllocError, Global};
+use std::process::Abort;
+use std::test::Fail;
+use test_devices::{LateZeros, SlowInput, Zeros};
+use test_octets::{STATE_CHANGE, octets_of};
+
+/// A number of octets that no test reaches.
+const MANY: usize = usize::MAX;
+
+/// The greatest limit of a run.
+const FAR: u64 = 1 << 40;
+
+/// What a source answers next, and how many octets it has taken then.
+fn answer<I: Input>(
+    alloc: Global,
+    source: &mut Source,
+    input: &mut I,
+) -> Result<String, AllocError> {
+    let next = source.next(input);
+    let taken = source.offset();
+    match next {
+        Ok(Next::Event(event)) => {
+            format!(in alloc; "{} item at {taken}", event.items.as_slice().len())
+        }
+        Ok(Next::Bad(fault)) => {
+            format!(in alloc;
+                "{}, {}: {:?} at {taken}",
+                fault.number, fault.offset, fault.kind
+            )
+        }
+        Ok(Next::End) => format!(in alloc; "end at {taken}"),
+        Err(fault) => format!(in alloc; "{fault:?} at {taken}"),
+    }
+}
+
+/// Asserts what a source answers to as many calls as there are answers.
+fn assert_answers<I: Input>(
+    rt: &impl Abort,
+    alloc: Global,
+    limit: u64,
+    input: &mut I,
+    want: &[&str],
+) -> Result<(), AllocError> {
+    let mut source = Source::new(alloc, Stamp::Dump, limit);
+    assert_eq!(rt; source.offset(), 0);
+    for text in want {
+        let got = answer(alloc, &mut source, input)?;
+        assert_eq!(rt; got.as_str(), *text);
+    }
+    Ok(())
+}
+
+/// Octets, and what a source with a far limit answers to calls one behind the other.
+const WHOLE: [(&str, [&str; 4]); 7] = [
+    ("", ["end at 0", "end at 0", "end at 0", "end at 0"]),
+    (
+        STATE_CHANGE,
+        ["1 item at 32", "end at 32", "end at 32", "end at 32"],
+    ),
+    // Eleven octets, a header alone, and a body that lacks an octet.
+    (
+        "00000064 0010 0000 000000",
+        [
+            "1, 0: CutRecord at 11",
+            "end at 11",
+            "end at 11",
+            "end at 11",
+        ],
+    ),
+    (
+        "00000064 0010 0000 00000014",
+        [
+            "1, 0: CutRecord at 12",
+            "end at 12",
+            "end at 12",
+            "end at 12",
+        ],
+    ),
+    (
+        "00000064 0010 0000 00000014 FBF4 FBF5 0000 0001 C0000201 C0000202 0006 00",
+        [
+            "1, 0: CutRecord at 31",
+            "end at 31",
+            "end at 31",
+            "end at 31",
+        ],
+    ),
+    // A header that states too much, with octets behind it.
+    (
+        "00000064 0010 0000 01000001 00000000 00000000 00000000",
+        [
+            "1, 0: TooLong(16777217) at 12",
+            "end at 12",
+            "end at 12",
+            "end at 12",
+        ],
+    ),
+    // An unsupported record, a malformed one, and a cut one.
+    (
+        "000000C8 000C 0001 00000002 0000 00000064 0010 0000 00000001 FB 00",
+        [
+            "1, 0: Unsupported(12, 1) at 14",
+            "2, 14: Malformed at 27",
+            "3, 27: CutRecord at 28",
+            "end at 28",
+        ],
+    ),
+];
+
+#[test]
+fn sources_read_to_the_end(rt: HostRuntime) -> Result<(), Fail> {
+    let alloc = rt.alloc();
+    for (texts, want) in WHOLE {
+        let octets = octets_of(alloc, &[texts])?;
+        assert_answers(
+            &rt,
+            alloc,
+            FAR,
+            &mut ReadInput::new(octets.as_slice()),
+            &want,
+        )?;
+        assert_answers(
+            &rt,
+            alloc,
+            FAR,
+            &mut SlowInput::new(&octets, 1, MANY),
+            &want,
+        )?;
+    }
+    Ok(())
+}
+
+/// How many octets are sound, a limit, and what a source answers to calls over two state changes.
+const STOPPED: [(usize, u64, [&str; 4]); 6] = [
+    (
+        0,
+        FAR,
+        ["Read at 0", "Spent at 0", "Spent at 0", "Spent at 0"],
+    ),
+    (
+        12,
+        FAR,
+        ["Read at 12", "Spent at 12", "Spent at 12", "Spent at 12"],
+    ),
+    (
+        40,
+        FAR,
+        ["1 item at 32", "Read at 40", "Spent at 40", "Spent at 40"],
+    ),
+    (
+        MANY,
+        32,
+        [
+            "1 item at 32",
+            "InputTooLong at 32",
+            "Spent at 32",
+            "Spent at 32",
+        ],
+    ),
+    (
+        MANY,
+        64,
+        [
+            "1 item at 32",
+            "1 item at 64",
+            "InputTooLong at 64",
+            "Spent at 64",
+        ],
+    ),
+    (
+        MANY,
+        65,
+        ["1 item at 32", "1 item at 64", "end at 64", "end at 64"],
+    ),
+];
+
+#[test]
+fn faults_and_limits_stop_sources(rt: HostRuntime) -> Result<(), Fail> {
+    let alloc = rt.alloc();
+    let octets = octets_of(alloc, &[STATE_CHANGE, STATE_CHANGE])?;
+    for (sound, limit, want) in STOPPED {
+        for step in [1, MANY] {
+            let mut input = SlowInput::new(&octets, step, sound);
+            assert_answers(&rt, alloc, limit, &mut input, &want)?;
+        }
+    }
+    Ok(())
+}
+
+#[test]
+fn an_endless_input_is_too_long(rt: HostRuntime) -> Result<(), Fail> {
+    assert_answers(
+        &rt,
+        rt.alloc(),
+        32,
+        &mut Zeros,
+        &[
+            "1, 0: Unsupported(0, 0) at 12",
+            "2, 12: Unsupported(0, 0) at 24",
+            "InputTooLong at 32",
+            "Spent at 32",
+        ],
+    )?;
+    Ok(())
+}
+
+#[test]
+fn an_input_is_not_asked_behind_its_end(rt: HostRuntime) -> Result<(), Fail> {
+    assert_answers(
+        &rt,
+        rt.alloc(),
+        FAR,
+        &mut LateZeros::new(),
+        &["end at 0", "end at 0"],
+    )?;
+    Ok(())
+}
+
+/// A state change with so many octets behind it that are ignored.
+fn long_state_change(alloc: Global, behind: u32) -> Result<Vec<u8>, AllocError> {
+    let size = behind.saturating_add(20).to_be_bytes();
+    let change = octets_of(alloc, &["FBF4 FBF5 0000 0001 C0000201 C0000202 0006 0001"])?;
+    let mut octets = octets_of(alloc, &["00000064 0010 0000"])?;
+    octets.extend_from_slice(&size)?;
+    octets.extend_from_slice(&change)?;
+    octets.resize(octets.len().saturating_add(behind as usize), 0xFF)?;
+    Ok(octets)
+}
+
+#[test]
+fn long_bodies_are_read(rt: HostRuntime) -> Result<(), Fail> {
+    let alloc = rt.alloc();
+    for (behind, want) in [
+        (4_076, "1 item at 4108"),
+        (4_077, "1 item at 4109"),
+        (1_000_000, "1 item at 1000032"),
+    ] {
+        let octets = long_state_change(alloc, behind)?;
+        let mut input = SlowInput::new(&octets, 1_500, MANY);
+        assert_answers(&rt, alloc, FAR, &mut input, &[want])?;
+    }
+    Ok(())
+}

@@ -1,0 +1,5 @@
+//! Tests of `rib_player`.
+#![tactic(auto)]
+
+#[cfg(test)]
+mod tests;

@@ -1,0 +1,5 @@
+//! Tests of `rib_store`.
+#![tactic(auto)]
+
+#[cfg(test)]
+mod tests;

@@ -1,0 +1,134 @@
+//! Inputs.
+
+ghost use Rattle.std.specs.Prelude.{◌≡◌, None, false};
+
+use mrt_wire::{InFault, Input};
+use std::cell::Cell;
+
+/// An input over octets that gives at most `step` of them a call, and fails after `sound` of them.
+#[derive(Drop)]
+pub struct SlowInput<'a> {
+    octets: &'a [u8],
+    step: usize,
+    sound: usize,
+    failed: bool,
+}
+
+impl<'a> SlowInput<'a> {
+    /// An input that hasn't failed.
+    pub fn new(octets: &'a [u8], step: usize, sound: usize) -> Self
+        ensures { ⟦<SlowInput<'a> as Input>⟧.failed result ≡ false }
+    {
+        SlowInput {
+            octets,
+            step,
+            sound,
+            failed: false,
+        }
+    }
+}
+
+impl Input for SlowInput<'_> {
+    ghost left = { λ _. None };
+
+    ghost failed = { λ input. input.failed };
+
+    fn take(&mut self, buffer: &mut [u8]) -> Result<usize, InFault> {
+        if self.sound == 0 {
+            self.failed = true;
+            return Err(InFault);
+        }
+        let most = self.step.min(self.sound).min(self.octets.len());
+        let count = most.min(buffer.len());
+        let (front, rest) = self.octets.split_at(count);
+        buffer[..count].copy_from_slice(front);
+        self.octets = rest;
+        self.sound -= count;
+        Ok(count)
+    }
+}
+
+/// An input of zeros without end.
+#[derive(Drop)]
+pub struct Zeros;
+
+impl Input for Zeros {
+    ghost left = { λ _. None };
+
+    ghost failed = { λ _. false };
+
+    fn take(&mut self, buffer: &mut [u8]) -> Result<usize, InFault> {
+        for octet in buffer.iter_mut() {
+            *octet = 0;
+        }
+        Ok(buffer.len())
+    }
+}
+
+/// An input that ends where it is first asked, and has zeros without end behind that.
+#[derive(Drop)]
+pub struct LateZeros {
+    ended: bool,
+}
+
+impl LateZeros {
+    /// One that wasn't asked yet.
+    pub fn new() -> Self
+        ensures { ⟦<LateZeros as Input>⟧.failed result ≡ false }
+    {
+        LateZeros { ended: false }
+    }
+}
+
+impl Input for LateZeros {
+    ghost left = { λ _. None };
+
+    ghost failed = { λ _. false };
+
+    fn take(&mut self, buffer: &mut [u8]) -> Result<usize, InFault> {
+        if self.ended {
+            return Zeros.take(buffer);
+        }
+        self.ended = true;
+        Ok(0)
+    }
+}
+
+/// An input that notes how much was written when the second of its two records is asked for.
+#[derive(Drop)]
+pub struct WatchingInput<'a> {
+    octets: &'a [u8],
+    written: &'a Cell<usize>,
+    /// How much that was.
+    pub seen: usize,
+}
+
+impl<'a> WatchingInput<'a> {
+    /// One that notes what stands in `written`, where a `CountedOutput` counts.
+    pub fn new(octets: &'a [u8], written: &'a Cell<usize>) -> Self
+        ensures { ⟦<WatchingInput<'a> as Input>⟧.failed result ≡ false }
+    {
+        WatchingInput {
+            octets,
+            written,
+            seen: 0,
+        }
+    }
+}
+
+impl Input for WatchingInput<'_> {
+    ghost left = { λ _. None };
+
+    ghost failed = { λ _. false };
+
+    fn take(&mut self, buffer: &mut [u8]) -> Result<usize, InFault> {
+        if self.octets.len() == 32 {
+            self.seen = self.written.get();
+        }
+        let count = self.octets.len().min(buffer.len());
+        let (front, rest) = self.octets.split_at(count);
+        buffer[..count].copy_from_slice(front);
+        self.octets = rest;
+        Ok(count)
+    }
+}

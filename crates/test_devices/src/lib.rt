@@ -1,0 +1,9 @@
+//! Inputs and outputs for tests: some move few octets a call and fail where they are told to, some
+//! count their calls, some never end.
+#![tactic(auto)]
+
+mod inputs;
+mod outputs;
+
+pub use inputs::{LateZeros, SlowInput, WatchingInput, Zeros};
+pub use outputs::{CountedOutput, SlowOutput};
