@@ -2,20 +2,54 @@ mod turns;
 mod written;
 
 use ip_prefix::{Addr, Family, Prefix, Text, put_decimal};
+use std::alloc::Global;
+use std::process::Abort;
 use std::test::Fail;
+
+/// The address of a text.
+fn address_of(text: &str) -> Result<Addr, Fail> {
+    Ok(Addr::parse(text.as_bytes()).ok_or("an address")?)
+}
+
+/// The prefix of a text.
+fn prefix_of(text: &str) -> Result<Prefix, Fail> {
+    Ok(Prefix::parse(text.as_bytes()).ok_or("a prefix")?)
+}
+
+/// The text of an address behind another text.
+fn address_behind(alloc: Global, front: &str, address: Addr) -> Result<Vec<u8>, Fail> {
+    let mut text = Vec::from_slice(alloc, front.as_bytes())?;
+    address.put_text(&mut text)?;
+    Ok(text)
+}
+
+/// The text of a prefix behind another text.
+fn prefix_behind(alloc: Global, front: &str, prefix: Prefix) -> Result<Vec<u8>, Fail> {
+    let mut text = Vec::from_slice(alloc, front.as_bytes())?;
+    prefix.put_text(&mut text)?;
+    Ok(text)
+}
+
+/// What was written is the text behind what stood in front of it.
+fn assert_behind(rt: &impl Abort, written: &[u8], front: &str, text: &str) {
+    assert!(rt; written.starts_with(front.as_bytes()), "{text}");
+    assert_eq!(rt; written.get(front.len()..), Some(text.as_bytes()), "{text}");
+}
+
+/// Octets, and the text of their address.
+const APPENDED: &[([u8; 4], &str)] = &[
+    ([0, 0, 0, 0], "0.0.0.0"),
+    ([255, 255, 255, 255], "255.255.255.255"),
+    ([192, 0, 2, 1], "192.0.2.1"),
+    ([10, 0, 100, 9], "10.0.100.9"),
+    ([1, 20, 255, 0], "1.20.255.0"),
+];
 
 #[test]
 fn appends_addresses(rt: HostRuntime) -> Result<(), Fail> {
-    for (octets, want) in [
-        ([0, 0, 0, 0], "via 0.0.0.0"),
-        ([255, 255, 255, 255], "via 255.255.255.255"),
-        ([192, 0, 2, 1], "via 192.0.2.1"),
-        ([10, 0, 100, 9], "via 10.0.100.9"),
-        ([1, 20, 255, 0], "via 1.20.255.0"),
-    ] {
-        let mut text = Vec::from_slice(rt.alloc(), b"via ")?;
-        Addr::v4(octets).put_text(&mut text)?;
-        assert_eq!(rt; text.as_slice(), want.as_bytes());
+    for &(octets, want) in APPENDED {
+        let out = address_behind(rt.alloc(), "via ", Addr::v4(octets))?;
+        assert_behind(&rt, &out, "via ", want);
     }
     Ok(())
 }
@@ -41,10 +75,10 @@ fn appends_numbers(rt: HostRuntime) -> Result<(), Fail> {
 fn gives_the_parts_of_an_address(rt: HostRuntime) {
     let address = Addr::v4([192, 0, 2, 1]);
     assert_eq!(rt; address.family(), Family::V4);
-    for (place, want) in [(0, 192), (1, 0), (2, 2), (3, 1)] {
+    for &(place, want) in &[(0, 192), (1, 0), (2, 2), (3, 1)] {
         assert_eq!(rt; address.octet(place), want, "octet {place}");
     }
-    for (place, want) in [(0, true), (1, true), (2, false), (30, false), (31, true)] {
+    for &(place, want) in &[(0, true), (1, true), (2, false), (30, false), (31, true)] {
         assert_eq!(rt; address.bit(place), want, "bit {place}");
     }
 }
@@ -59,15 +93,18 @@ fn compares_addresses(rt: HostRuntime) {
     assert!(rt; Addr::v4([200, 0, 0, 0]) > Addr::v4([100, 0, 0, 0]));
 }
 
+/// Octets, a length, and the octets of their prefix.
+const CLEARED: &[([u8; 4], u8, [u8; 4])] = &[
+    ([10, 1, 2, 3], 8, [10, 0, 0, 0]),
+    ([10, 255, 2, 3], 9, [10, 128, 0, 0]),
+    ([10, 1, 2, 3], 31, [10, 1, 2, 2]),
+    ([10, 1, 2, 3], 32, [10, 1, 2, 3]),
+    ([255, 255, 255, 255], 0, [0, 0, 0, 0]),
+];
+
 #[test]
 fn clears_the_bits_behind_a_prefix(rt: HostRuntime) -> Result<(), Fail> {
-    for (octets, len, want) in [
-        ([10, 1, 2, 3], 8, [10, 0, 0, 0]),
-        ([10, 255, 2, 3], 9, [10, 128, 0, 0]),
-        ([10, 1, 2, 3], 31, [10, 1, 2, 2]),
-        ([10, 1, 2, 3], 32, [10, 1, 2, 3]),
-        ([255, 255, 255, 255], 0, [0, 0, 0, 0]),
-    ] {
+    for &(octets, len, want) in CLEARED {
         let prefix = Prefix::new(Addr::v4(octets), len).ok_or("a length that fits")?;
         assert!(rt; prefix.addr() == Addr::v4(want), "length {len}");
         assert_eq!(rt; prefix.len(), len);
@@ -190,136 +227,87 @@ fn orders_prefixes_of_both_families(rt: HostRuntime) -> Result<(), Fail> {
     Ok(())
 }
 
+/// Prefixes, each with an address, and whether it contains it.
+const CONTAINED: &[(&str, &str, bool)] = &[
+    ("10.0.0.0/8", "10.255.255.255", true),
+    ("10.0.0.0/8", "11.0.0.0", false),
+    ("10.0.0.0/8", "9.255.255.255", false),
+    ("192.0.2.1/32", "192.0.2.1", true),
+    ("192.0.2.1/32", "192.0.2.0", false),
+    ("192.0.2.1/31", "192.0.2.0", true),
+    ("0.0.0.0/0", "255.255.255.255", true),
+    ("0.0.0.0/0", "::", false),
+    ("::/0", "0.0.0.0", false),
+    ("::/0", "ffff:ffff:ffff:ffff:ffff:ffff:ffff:ffff", true),
+    (
+        "ffff:ffff:ffff:ffff:ffff:ffff:ffff:ffff/128",
+        "ffff:ffff:ffff:ffff:ffff:ffff:ffff:ffff",
+        true,
+    ),
+    (
+        "ffff:ffff:ffff:ffff:ffff:ffff:ffff:ffff/128",
+        "ffff:ffff:ffff:ffff:ffff:ffff:ffff:fffe",
+        false,
+    ),
+];
+
 #[test]
 fn contains_addresses(rt: HostRuntime) -> Result<(), Fail> {
-    for (address, len, other, want) in [
-        (
-            Addr::v4([10, 0, 0, 0]),
-            8,
-            Addr::v4([10, 255, 255, 255]),
-            true,
-        ),
-        (Addr::v4([10, 0, 0, 0]), 8, Addr::v4([11, 0, 0, 0]), false),
-        (
-            Addr::v4([10, 0, 0, 0]),
-            8,
-            Addr::v4([9, 255, 255, 255]),
-            false,
-        ),
-        (Addr::v4([192, 0, 2, 1]), 32, Addr::v4([192, 0, 2, 1]), true),
-        (
-            Addr::v4([192, 0, 2, 1]),
-            32,
-            Addr::v4([192, 0, 2, 0]),
-            false,
-        ),
-        (Addr::v4([192, 0, 2, 1]), 31, Addr::v4([192, 0, 2, 0]), true),
-        (
-            Addr::v4([0, 0, 0, 0]),
-            0,
-            Addr::v4([255, 255, 255, 255]),
-            true,
-        ),
-        (Addr::v4([0, 0, 0, 0]), 0, Addr::v6([0; 16]), false),
-        (Addr::v6([0; 16]), 0, Addr::v4([0, 0, 0, 0]), false),
-        (Addr::v6([0; 16]), 0, Addr::v6([255; 16]), true),
-        (Addr::v6([255; 16]), 128, Addr::v6([255; 16]), true),
-        (
-            Addr::v6([255; 16]),
-            128,
-            Addr::v6([
-                255, 255, 255, 255, 255, 255, 255, 255, 255, 255, 255, 255, 255, 255, 255, 254,
-            ]),
-            false,
-        ),
-    ] {
-        let prefix = Prefix::new(address, len).ok_or("a length that fits")?;
-        assert_eq!(rt; prefix.contains(&other), want, "length {len}");
+    for &(prefix, address, want) in CONTAINED {
+        let found = prefix_of(prefix)?.contains(&address_of(address)?);
+        assert_eq!(rt; found, want, "{address} in {prefix}");
     }
     Ok(())
 }
+
+/// Prefixes, each with another, and whether it covers it.
+const COVERED: &[(&str, &str, bool)] = &[
+    ("10.0.0.0/8", "10.1.0.0/16", true),
+    ("10.0.0.0/8", "10.0.0.0/8", true),
+    ("10.0.0.0/8", "10.0.0.0/7", false),
+    ("10.1.0.0/16", "10.0.0.0/8", false),
+    ("10.0.0.0/8", "11.0.0.0/16", false),
+    ("0.0.0.0/0", "192.0.2.1/32", true),
+    ("0.0.0.0/0", "::/0", false),
+    ("::/0", "0.0.0.0/0", false),
+    ("::/0", "ffff:ffff:ffff:ffff:ffff:ffff:ffff:ffff/128", true),
+    ("::/127", "::/128", true),
+];
 
 #[test]
 fn covers_prefixes(rt: HostRuntime) -> Result<(), Fail> {
-    for (one, one_len, other, other_len, want) in [
-        (
-            Addr::v4([10, 0, 0, 0]),
-            8,
-            Addr::v4([10, 1, 0, 0]),
-            16,
-            true,
-        ),
-        (Addr::v4([10, 0, 0, 0]), 8, Addr::v4([10, 0, 0, 0]), 8, true),
-        (
-            Addr::v4([10, 0, 0, 0]),
-            8,
-            Addr::v4([10, 0, 0, 0]),
-            7,
-            false,
-        ),
-        (
-            Addr::v4([10, 1, 0, 0]),
-            16,
-            Addr::v4([10, 0, 0, 0]),
-            8,
-            false,
-        ),
-        (
-            Addr::v4([10, 0, 0, 0]),
-            8,
-            Addr::v4([11, 0, 0, 0]),
-            16,
-            false,
-        ),
-        (
-            Addr::v4([0, 0, 0, 0]),
-            0,
-            Addr::v4([192, 0, 2, 1]),
-            32,
-            true,
-        ),
-        (Addr::v4([0, 0, 0, 0]), 0, Addr::v6([0; 16]), 0, false),
-        (Addr::v6([0; 16]), 0, Addr::v4([0, 0, 0, 0]), 0, false),
-        (Addr::v6([0; 16]), 0, Addr::v6([255; 16]), 128, true),
-        (Addr::v6([0; 16]), 127, Addr::v6([0; 16]), 128, true),
-    ] {
-        let first = Prefix::new(one, one_len).ok_or("a length that fits")?;
-        let second = Prefix::new(other, other_len).ok_or("a length that fits")?;
-        assert_eq!(rt;
-            first.covers(&second),
-            want,
-            "length {one_len} and {other_len}"
-        );
+    for &(one, other, want) in COVERED {
+        let found = prefix_of(one)?.covers(&prefix_of(other)?);
+        assert_eq!(rt; found, want, "{other} under {one}");
     }
     Ok(())
 }
 
+/// Octets, each with the prefix in front of them, and how many it takes.
+const READ: &[(Family, &[u8], &str, usize)] = &[
+    (Family::V4, &[9, 10, 255, 119, 1], "10.128.0.0/9", 3),
+    (Family::V4, &[0, 10, 255, 119, 1], "0.0.0.0/0", 1),
+    (Family::V4, &[1, 255, 255, 119, 1], "128.0.0.0/1", 2),
+    (Family::V4, &[24, 192, 0, 2, 1], "192.0.2.0/24", 4),
+    (Family::V4, &[32, 192, 0, 2, 1], "192.0.2.1/32", 5),
+    (Family::V4, &[9, 10, 255, 119], "10.128.0.0/9", 3),
+    (
+        Family::V6,
+        &[
+            128, 255, 255, 255, 255, 255, 255, 255, 255, 255, 255, 255, 255, 255, 255, 255, 255, 7,
+        ],
+        "ffff:ffff:ffff:ffff:ffff:ffff:ffff:ffff/128",
+        17,
+    ),
+];
+
 #[test]
 fn reads_prefixes(rt: HostRuntime) -> Result<(), Fail> {
-    for (octets, address, len, size) in [
-        ([9, 10, 255, 119, 1], [10, 128, 0, 0], 9, 3),
-        ([0, 10, 255, 119, 1], [0, 0, 0, 0], 0, 1),
-        ([1, 255, 255, 119, 1], [128, 0, 0, 0], 1, 2),
-        ([24, 192, 0, 2, 1], [192, 0, 2, 0], 24, 4),
-        ([32, 192, 0, 2, 1], [192, 0, 2, 1], 32, 5),
-    ] {
-        let want = Prefix::new(Addr::v4(address), len).ok_or("a length that fits")?;
-        let (prefix, taken) = Prefix::read(Family::V4, &octets).ok_or("a prefix")?;
-        assert!(rt; prefix == want, "length {len}");
-        assert_eq!(rt; taken, size, "length {len}");
+    for &(family, octets, text, size) in READ {
+        let (prefix, taken) = Prefix::read(family, octets).ok_or("a prefix")?;
+        assert!(rt; prefix == prefix_of(text)?, "{text}");
+        assert_eq!(rt; taken, size, "{text}");
     }
-    let four = [9, 10, 255, 119];
-    let want = Prefix::new(Addr::v4([10, 128, 0, 0]), 9).ok_or("a length that fits")?;
-    let (prefix, taken) = Prefix::read(Family::V4, &four).ok_or("a prefix")?;
-    assert!(rt; prefix == want);
-    assert_eq!(rt; taken, 3);
-    let whole = Prefix::new(Addr::v6([255; 16]), 128).ok_or("a length that fits")?;
-    let octets = [
-        128, 255, 255, 255, 255, 255, 255, 255, 255, 255, 255, 255, 255, 255, 255, 255, 255, 7,
-    ];
-    let (prefix, taken) = Prefix::read(Family::V6, &octets).ok_or("a prefix")?;
-    assert!(rt; prefix == whole);
-    assert_eq!(rt; taken, 17);
     Ok(())
 }
 
@@ -336,33 +324,33 @@ fn refuses_what_begins_with_no_prefix(rt: HostRuntime) {
     assert!(rt; Prefix::read(Family::V6, &[255]).is_none());
 }
 
+/// Addresses, each with the text that it gets.
+const ADDRESSES: &[(&str, &str)] = &[
+    ("0.0.0.0", "0.0.0.0"),
+    ("255.249.10.99", "255.249.10.99"),
+    ("0:0:1::", "0:0:1::"),
+    ("1:0:0:2:0:0:0:3", "1:0:0:2::3"),
+    ("1:0:0:2:3:0:0:4", "1::2:3:0:0:4"),
+    ("2001:DB8::A", "2001:db8::a"),
+    ("1:2:3:4:5:6:7::", "1:2:3:4:5:6:7:0"),
+    ("1:0:0:0:0:0:0:0", "1::"),
+    ("::", "::"),
+    ("::1", "::1"),
+    ("0:0:0:0:0:0:0:0", "::"),
+    ("0000:00ab:0abc::", "0:ab:abc::"),
+    (
+        "ffff:ffff:ffff:ffff:ffff:ffff:ffff:ffff",
+        "ffff:ffff:ffff:ffff:ffff:ffff:ffff:ffff",
+    ),
+    ("2001:db8:0:1:1:1:1:1", "2001:db8:0:1:1:1:1:1"),
+    ("::ffff:102:304", "::ffff:102:304"),
+];
+
 #[test]
 fn reads_and_prints_addresses(rt: HostRuntime) -> Result<(), Fail> {
-    for (text, want) in [
-        ("0.0.0.0", "0.0.0.0"),
-        ("255.249.10.99", "255.249.10.99"),
-        ("0:0:1::", "0:0:1::"),
-        ("1:0:0:2:0:0:0:3", "1:0:0:2::3"),
-        ("1:0:0:2:3:0:0:4", "1::2:3:0:0:4"),
-        ("2001:DB8::A", "2001:db8::a"),
-        ("1:2:3:4:5:6:7::", "1:2:3:4:5:6:7:0"),
-        ("1:0:0:0:0:0:0:0", "1::"),
-        ("::", "::"),
-        ("::1", "::1"),
-        ("0:0:0:0:0:0:0:0", "::"),
-        ("0000:00ab:0abc::", "0:ab:abc::"),
-        (
-            "ffff:ffff:ffff:ffff:ffff:ffff:ffff:ffff",
-            "ffff:ffff:ffff:ffff:ffff:ffff:ffff:ffff",
-        ),
-        ("2001:db8:0:1:1:1:1:1", "2001:db8:0:1:1:1:1:1"),
-        ("::ffff:102:304", "::ffff:102:304"),
-    ] {
-        let address = Addr::parse(text.as_bytes()).ok_or("a spelling")?;
-        let mut out = Vec::from_slice(rt.alloc(), b"via ")?;
-        address.put_text(&mut out)?;
-        assert_eq!(rt; &out[..4], "via ".as_bytes());
-        assert_eq!(rt; &out[4..], want.as_bytes(), "{text}");
+    for &(text, want) in ADDRESSES {
+        let out = address_behind(rt.alloc(), "via ", address_of(text)?)?;
+        assert_behind(&rt, &out, "via ", want);
     }
     Ok(())
 }
@@ -395,22 +383,22 @@ fn reads_no_address(rt: HostRuntime) {
     }
 }
 
+/// Prefixes, each with the text that it gets.
+const PREFIXES: &[(&str, &str)] = &[
+    ("10.1.2.3/8", "10.0.0.0/8"),
+    ("10.1.2.3/32", "10.1.2.3/32"),
+    ("192.0.2.255/25", "192.0.2.128/25"),
+    ("0.0.0.0/0", "0.0.0.0/0"),
+    ("2001:db8:ffff::/32", "2001:db8::/32"),
+    ("2001:DB8::1/128", "2001:db8::1/128"),
+    ("::/0", "::/0"),
+];
+
 #[test]
 fn reads_and_prints_prefixes(rt: HostRuntime) -> Result<(), Fail> {
-    for (text, want) in [
-        ("10.1.2.3/8", "10.0.0.0/8"),
-        ("10.1.2.3/32", "10.1.2.3/32"),
-        ("192.0.2.255/25", "192.0.2.128/25"),
-        ("0.0.0.0/0", "0.0.0.0/0"),
-        ("2001:db8:ffff::/32", "2001:db8::/32"),
-        ("2001:DB8::1/128", "2001:db8::1/128"),
-        ("::/0", "::/0"),
-    ] {
-        let prefix = Prefix::parse(text.as_bytes()).ok_or("a spelling")?;
-        let mut out = Vec::from_slice(rt.alloc(), b"to ")?;
-        prefix.put_text(&mut out)?;
-        assert_eq!(rt; &out[..3], "to ".as_bytes());
-        assert_eq!(rt; &out[3..], want.as_bytes(), "{text}");
+    for &(text, want) in PREFIXES {
+        let out = prefix_behind(rt.alloc(), "to ", prefix_of(text)?)?;
+        assert_behind(&rt, &out, "to ", want);
     }
     Ok(())
 }
@@ -437,70 +425,70 @@ fn reads_no_prefix(rt: HostRuntime) {
 }
 
 /// The examples of RFC 5952, sections 1, 2 and 4, each with the text that it recommends.
+const RECOMMENDED: &[(&str, &str)] = &[
+    ("2001:db8:0:0:1:0:0:1", "2001:db8::1:0:0:1"),
+    ("2001:0db8:0:0:1:0:0:1", "2001:db8::1:0:0:1"),
+    ("2001:db8::1:0:0:1", "2001:db8::1:0:0:1"),
+    ("2001:db8::0:1:0:0:1", "2001:db8::1:0:0:1"),
+    ("2001:0db8::1:0:0:1", "2001:db8::1:0:0:1"),
+    ("2001:db8:0:0:1::1", "2001:db8::1:0:0:1"),
+    ("2001:db8:0000:0:1::1", "2001:db8::1:0:0:1"),
+    ("2001:DB8:0:0:1::1", "2001:db8::1:0:0:1"),
+    (
+        "2001:db8:aaaa:bbbb:cccc:dddd:eeee:0001",
+        "2001:db8:aaaa:bbbb:cccc:dddd:eeee:1",
+    ),
+    (
+        "2001:db8:aaaa:bbbb:cccc:dddd:eeee:01",
+        "2001:db8:aaaa:bbbb:cccc:dddd:eeee:1",
+    ),
+    (
+        "2001:db8:aaaa:bbbb:cccc:dddd::1",
+        "2001:db8:aaaa:bbbb:cccc:dddd:0:1",
+    ),
+    ("2001:db8:0:0:0::1", "2001:db8::1"),
+    ("2001:db8:0:0::1", "2001:db8::1"),
+    ("2001:db8:0::1", "2001:db8::1"),
+    ("2001:db8::1", "2001:db8::1"),
+    ("2001:db8::aaaa:0:0:1", "2001:db8::aaaa:0:0:1"),
+    ("2001:db8:0:0:aaaa::1", "2001:db8::aaaa:0:0:1"),
+    (
+        "2001:db8:aaaa:bbbb:cccc:dddd:eeee:AaAa",
+        "2001:db8:aaaa:bbbb:cccc:dddd:eeee:aaaa",
+    ),
+    ("2001:0db8::0001", "2001:db8::1"),
+    ("2001:db8:0:0:0:0:2:1", "2001:db8::2:1"),
+    ("2001:db8::0:1", "2001:db8::1"),
+    ("2001:db8::1:1:1:1:1", "2001:db8:0:1:1:1:1:1"),
+    ("2001:0:0:1:0:0:0:1", "2001:0:0:1::1"),
+];
+
 #[test]
 fn shortens_the_examples_of_the_recommendation(rt: HostRuntime) -> Result<(), Fail> {
-    for (text, want) in [
-        ("2001:db8:0:0:1:0:0:1", "2001:db8::1:0:0:1"),
-        ("2001:0db8:0:0:1:0:0:1", "2001:db8::1:0:0:1"),
-        ("2001:db8::1:0:0:1", "2001:db8::1:0:0:1"),
-        ("2001:db8::0:1:0:0:1", "2001:db8::1:0:0:1"),
-        ("2001:0db8::1:0:0:1", "2001:db8::1:0:0:1"),
-        ("2001:db8:0:0:1::1", "2001:db8::1:0:0:1"),
-        ("2001:db8:0000:0:1::1", "2001:db8::1:0:0:1"),
-        ("2001:DB8:0:0:1::1", "2001:db8::1:0:0:1"),
-        (
-            "2001:db8:aaaa:bbbb:cccc:dddd:eeee:0001",
-            "2001:db8:aaaa:bbbb:cccc:dddd:eeee:1",
-        ),
-        (
-            "2001:db8:aaaa:bbbb:cccc:dddd:eeee:01",
-            "2001:db8:aaaa:bbbb:cccc:dddd:eeee:1",
-        ),
-        (
-            "2001:db8:aaaa:bbbb:cccc:dddd::1",
-            "2001:db8:aaaa:bbbb:cccc:dddd:0:1",
-        ),
-        ("2001:db8:0:0:0::1", "2001:db8::1"),
-        ("2001:db8:0:0::1", "2001:db8::1"),
-        ("2001:db8:0::1", "2001:db8::1"),
-        ("2001:db8::1", "2001:db8::1"),
-        ("2001:db8::aaaa:0:0:1", "2001:db8::aaaa:0:0:1"),
-        ("2001:db8:0:0:aaaa::1", "2001:db8::aaaa:0:0:1"),
-        (
-            "2001:db8:aaaa:bbbb:cccc:dddd:eeee:AaAa",
-            "2001:db8:aaaa:bbbb:cccc:dddd:eeee:aaaa",
-        ),
-        ("2001:0db8::0001", "2001:db8::1"),
-        ("2001:db8:0:0:0:0:2:1", "2001:db8::2:1"),
-        ("2001:db8::0:1", "2001:db8::1"),
-        ("2001:db8::1:1:1:1:1", "2001:db8:0:1:1:1:1:1"),
-        ("2001:0:0:1:0:0:0:1", "2001:0:0:1::1"),
-    ] {
-        let address = Addr::parse(text.as_bytes()).ok_or("a spelling")?;
-        let mut out = Vec::new(rt.alloc());
-        address.put_text(&mut out)?;
-        assert_eq!(rt; out.as_slice(), want.as_bytes(), "{text}");
+    for &(text, want) in RECOMMENDED {
+        let out = address_behind(rt.alloc(), "", address_of(text)?)?;
+        assert_behind(&rt, &out, "", want);
     }
     Ok(())
 }
 
+/// Addresses, each with its octets.
+const SPELLED: &[(&str, [u8; 16])] = &[
+    ("::", [0; 16]),
+    (
+        "102:304:506:708:90a:b0c:d0e:f10",
+        [1, 2, 3, 4, 5, 6, 7, 8, 9, 10, 11, 12, 13, 14, 15, 16],
+    ),
+];
+
 #[test]
 fn reads_the_octets_of_texts(rt: HostRuntime) -> Result<(), Fail> {
-    for (text, octets) in [
-        ("::", [0; 16]),
-        (
-            "102:304:506:708:90a:b0c:d0e:f10",
-            [1, 2, 3, 4, 5, 6, 7, 8, 9, 10, 11, 12, 13, 14, 15, 16],
-        ),
-    ] {
-        let address = Addr::parse(text.as_bytes()).ok_or("a spelling")?;
-        assert!(rt; address == Addr::v6(octets), "{text}");
+    for &(text, octets) in SPELLED {
+        assert!(rt; address_of(text)? == Addr::v6(octets), "{text}");
     }
-    let address = Addr::parse("10.1.2.3".as_bytes()).ok_or("a spelling")?;
-    assert!(rt; address == Addr::v4([10, 1, 2, 3]));
-    let prefix = Prefix::parse("10.1.2.3/8".as_bytes()).ok_or("a spelling")?;
+    assert!(rt; address_of("10.1.2.3")? == Addr::v4([10, 1, 2, 3]));
     let want = Prefix::new(Addr::v4([10, 0, 0, 0]), 8).ok_or("a length that fits")?;
-    assert!(rt; prefix == want);
+    assert!(rt; prefix_of("10.1.2.3/8")? == want);
     for text in ["1:2:3:4::5:6:7:8", "::1:2:3:4:5:6:7:8", "01.2.3.4"] {
         assert!(rt; Addr::parse(text.as_bytes()).is_none(), "{text}");
     }

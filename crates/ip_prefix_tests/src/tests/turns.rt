@@ -11,58 +11,61 @@ fn spelled(text: &str) -> Result<Prefix, Fail> {
     Ok(Prefix::parse(text.as_bytes()).ok_or("a spelling")?)
 }
 
+/// Two prefixes, where the second lies, seen from the first, and the first from the second.
+const TURNS: &[(&str, &str, Turn, Turn)] = &[
+    ("10.0.0.0/8", "10.0.0.0/8", Turn::Here, Turn::Here),
+    ("10.0.0.0/8", "10.0.0.0/9", Turn::Left, Turn::Outside),
+    ("10.0.0.0/8", "10.128.0.0/9", Turn::Right, Turn::Outside),
+    ("10.0.0.0/8", "10.0.0.0/24", Turn::Left, Turn::Outside),
+    ("10.0.0.0/8", "10.1.0.0/16", Turn::Left, Turn::Outside),
+    ("10.0.0.0/8", "10.200.0.0/16", Turn::Right, Turn::Outside),
+    ("10.0.0.0/8", "11.0.0.0/8", Turn::Outside, Turn::Outside),
+    ("10.0.0.0/8", "11.0.0.0/16", Turn::Outside, Turn::Outside),
+    ("0.0.0.0/0", "0.0.0.0/0", Turn::Here, Turn::Here),
+    ("0.0.0.0/0", "10.0.0.0/8", Turn::Left, Turn::Outside),
+    ("0.0.0.0/0", "0.0.0.0/32", Turn::Left, Turn::Outside),
+    (
+        "0.0.0.0/0",
+        "255.255.255.255/32",
+        Turn::Right,
+        Turn::Outside,
+    ),
+    ("192.0.2.0/31", "192.0.2.0/32", Turn::Left, Turn::Outside),
+    ("192.0.2.0/31", "192.0.2.1/32", Turn::Right, Turn::Outside),
+    ("192.0.2.0/32", "192.0.2.1/32", Turn::Outside, Turn::Outside),
+    ("192.0.2.1/32", "192.0.2.1/32", Turn::Here, Turn::Here),
+    ("::/0", "::/0", Turn::Here, Turn::Here),
+    ("::/0", "::/128", Turn::Left, Turn::Outside),
+    ("::/0", "8000::/1", Turn::Right, Turn::Outside),
+    ("2001:db8::/31", "2001:db9::/32", Turn::Right, Turn::Outside),
+    (
+        "2001:db8::/32",
+        "2001:db9::/32",
+        Turn::Outside,
+        Turn::Outside,
+    ),
+    (
+        "2001:db8::/127",
+        "2001:db8::/128",
+        Turn::Left,
+        Turn::Outside,
+    ),
+    (
+        "2001:db8::/127",
+        "2001:db8::1/128",
+        Turn::Right,
+        Turn::Outside,
+    ),
+    ("2001:db8::1/128", "2001:db8::1/128", Turn::Here, Turn::Here),
+    ("10.0.0.0/8", "::/0", Turn::Outside, Turn::Outside),
+    ("0.0.0.0/0", "::/0", Turn::Outside, Turn::Outside),
+    ("0.0.0.0/0", "::/128", Turn::Outside, Turn::Outside),
+    ("0.0.0.0/32", "::/32", Turn::Outside, Turn::Outside),
+];
+
 #[test]
 fn turns_to_prefixes(rt: HostRuntime) -> Result<(), Fail> {
-    for (one, other, there, back) in [
-        ("10.0.0.0/8", "10.0.0.0/8", Turn::Here, Turn::Here),
-        ("10.0.0.0/8", "10.0.0.0/9", Turn::Left, Turn::Outside),
-        ("10.0.0.0/8", "10.128.0.0/9", Turn::Right, Turn::Outside),
-        ("10.0.0.0/8", "10.0.0.0/24", Turn::Left, Turn::Outside),
-        ("10.0.0.0/8", "10.1.0.0/16", Turn::Left, Turn::Outside),
-        ("10.0.0.0/8", "10.200.0.0/16", Turn::Right, Turn::Outside),
-        ("10.0.0.0/8", "11.0.0.0/8", Turn::Outside, Turn::Outside),
-        ("10.0.0.0/8", "11.0.0.0/16", Turn::Outside, Turn::Outside),
-        ("0.0.0.0/0", "0.0.0.0/0", Turn::Here, Turn::Here),
-        ("0.0.0.0/0", "10.0.0.0/8", Turn::Left, Turn::Outside),
-        ("0.0.0.0/0", "0.0.0.0/32", Turn::Left, Turn::Outside),
-        (
-            "0.0.0.0/0",
-            "255.255.255.255/32",
-            Turn::Right,
-            Turn::Outside,
-        ),
-        ("192.0.2.0/31", "192.0.2.0/32", Turn::Left, Turn::Outside),
-        ("192.0.2.0/31", "192.0.2.1/32", Turn::Right, Turn::Outside),
-        ("192.0.2.0/32", "192.0.2.1/32", Turn::Outside, Turn::Outside),
-        ("192.0.2.1/32", "192.0.2.1/32", Turn::Here, Turn::Here),
-        ("::/0", "::/0", Turn::Here, Turn::Here),
-        ("::/0", "::/128", Turn::Left, Turn::Outside),
-        ("::/0", "8000::/1", Turn::Right, Turn::Outside),
-        ("2001:db8::/31", "2001:db9::/32", Turn::Right, Turn::Outside),
-        (
-            "2001:db8::/32",
-            "2001:db9::/32",
-            Turn::Outside,
-            Turn::Outside,
-        ),
-        (
-            "2001:db8::/127",
-            "2001:db8::/128",
-            Turn::Left,
-            Turn::Outside,
-        ),
-        (
-            "2001:db8::/127",
-            "2001:db8::1/128",
-            Turn::Right,
-            Turn::Outside,
-        ),
-        ("2001:db8::1/128", "2001:db8::1/128", Turn::Here, Turn::Here),
-        ("10.0.0.0/8", "::/0", Turn::Outside, Turn::Outside),
-        ("0.0.0.0/0", "::/0", Turn::Outside, Turn::Outside),
-        ("0.0.0.0/0", "::/128", Turn::Outside, Turn::Outside),
-        ("0.0.0.0/32", "::/32", Turn::Outside, Turn::Outside),
-    ] {
+    for &(one, other, there, back) in TURNS {
         let (first, second) = (spelled(one)?, spelled(other)?);
         assert_eq!(rt; first.turn(&second), there, "{other} from {one}");
         assert_eq!(rt; second.turn(&first), back, "{one} from {other}");
@@ -70,46 +73,47 @@ fn turns_to_prefixes(rt: HostRuntime) -> Result<(), Fail> {
     Ok(())
 }
 
+/// Two prefixes, and the one that they share.
+const SHARED: &[(&str, &str, &str)] = &[
+    ("10.0.0.0/16", "10.1.0.0/16", "10.0.0.0/15"),
+    ("10.1.2.0/24", "10.1.3.128/25", "10.1.2.0/23"),
+    ("10.0.0.0/8", "10.0.0.0/24", "10.0.0.0/8"),
+    ("10.0.0.0/8", "10.1.0.0/16", "10.0.0.0/8"),
+    ("10.64.0.0/10", "10.96.0.0/11", "10.64.0.0/10"),
+    ("0.0.0.0/0", "255.255.255.255/32", "0.0.0.0/0"),
+    ("0.0.0.0/1", "128.0.0.0/1", "0.0.0.0/0"),
+    ("192.0.2.1/32", "192.0.2.1/32", "192.0.2.1/32"),
+    ("192.0.2.1/32", "192.0.2.2/32", "192.0.2.0/30"),
+    ("2001:db8::/32", "2001:db9::/32", "2001:db8::/31"),
+    ("2001:db8::/32", "2001:db8::1/128", "2001:db8::/32"),
+    ("2001:db8::/128", "2001:db8::1/128", "2001:db8::/127"),
+    ("2001:db8::1/128", "2001:db8::1/128", "2001:db8::1/128"),
+    ("::/0", "ffff::/16", "::/0"),
+];
+
 #[test]
 fn finds_what_prefixes_share(rt: HostRuntime) -> Result<(), Fail> {
-    for (one, other, want) in [
-        ("10.0.0.0/16", "10.1.0.0/16", "10.0.0.0/15"),
-        ("10.1.2.0/24", "10.1.3.128/25", "10.1.2.0/23"),
-        ("10.0.0.0/8", "10.0.0.0/24", "10.0.0.0/8"),
-        ("10.0.0.0/8", "10.1.0.0/16", "10.0.0.0/8"),
-        ("10.64.0.0/10", "10.96.0.0/11", "10.64.0.0/10"),
-        ("0.0.0.0/0", "255.255.255.255/32", "0.0.0.0/0"),
-        ("0.0.0.0/1", "128.0.0.0/1", "0.0.0.0/0"),
-        ("192.0.2.1/32", "192.0.2.1/32", "192.0.2.1/32"),
-        ("192.0.2.1/32", "192.0.2.2/32", "192.0.2.0/30"),
-        ("2001:db8::/32", "2001:db9::/32", "2001:db8::/31"),
-        ("2001:db8::/32", "2001:db8::1/128", "2001:db8::/32"),
-        ("2001:db8::/128", "2001:db8::1/128", "2001:db8::/127"),
-        ("2001:db8::1/128", "2001:db8::1/128", "2001:db8::1/128"),
-        ("::/0", "ffff::/16", "::/0"),
-    ] {
+    for &(one, other, want) in SHARED {
         let (first, second) = (spelled(one)?, spelled(other)?);
         assert!(rt; first.family() == second.family());
-        assert!(rt;
-            first.common(&second) == spelled(want)?,
-            "{one} and {other}"
-        );
-        assert!(rt;
-            second.common(&first) == spelled(want)?,
-            "{other} and {one}"
-        );
+        let want = spelled(want)?;
+        assert!(rt; first.common(&second) == want, "{one} and {other}");
+        assert!(rt; second.common(&first) == want, "{other} and {one}");
     }
     Ok(())
 }
 
+/// Addresses, each with the length of its prefix, and that prefix.
+const HOSTS: &[(&str, u8, &str)] = &[
+    ("0.0.0.0", 32, "0.0.0.0/32"),
+    ("192.0.2.1", 32, "192.0.2.1/32"),
+    ("::", 128, "::/128"),
+    ("2001:db8::1", 128, "2001:db8::1/128"),
+];
+
 #[test]
 fn gives_the_prefix_of_an_address(rt: HostRuntime) -> Result<(), Fail> {
-    for (text, len, want) in [
-        ("0.0.0.0", 32, "0.0.0.0/32"),
-        ("192.0.2.1", 32, "192.0.2.1/32"),
-        ("::", 128, "::/128"),
-        ("2001:db8::1", 128, "2001:db8::1/128"),
-    ] {
+    for &(text, len, want) in HOSTS {
         let address = Addr::parse(text.as_bytes()).ok_or("a spelling")?;
         let host = Prefix::host(address);
         assert!(rt; host == spelled(want)?, "{text}");

@@ -1,6 +1,7 @@
 //! Texts written in place.
 
 use ip_prefix::{ADDRESS_ROOM, Addr, DECIMAL_ROOM, PREFIX_ROOM, Prefix, Text, write_decimal};
+use std::alloc::{AllocError, Global};
 use std::process::Abort;
 use std::test::Fail;
 
@@ -91,35 +92,54 @@ fn writes_addresses_in_place(rt: HostRuntime) -> Result<(), Fail> {
     Ok(())
 }
 
-/// Each choice of groups that are 0, the others 1, beside the first longest run that a plain search
-/// finds.
+/// The first longest run of ones among the eight lowest bits, where it has two and more: its first
+/// bit and its length, else 8 and 1. A plain search.
+fn longest_run(zeros: u32) -> (u32, u32) {
+    let (mut first, mut len) = (8, 1);
+    for i in (0u32..8).rev() {
+        let run = (zeros >> i).trailing_ones();
+        if run > 1 && run >= len {
+            (first, len) = (i, run);
+        }
+    }
+    (first, len)
+}
+
+/// The octets of groups that are 0 where the bit is set, and 1 elsewhere.
+fn octets_of_groups(zeros: u32) -> [u8; 16] {
+    let mut octets = [0; 16];
+    for i in 0u32..8 {
+        octets[2 * i as usize + 1] = (!zeros >> i & 1) as u8;
+    }
+    octets
+}
+
+/// The text of these groups.
+fn shortened(alloc: Global, zeros: u32) -> Result<Text, AllocError> {
+    let (first, len) = longest_run(zeros);
+    let mut text = Text::new(alloc);
+    for i in 0u32..8 {
+        let behind = i.wrapping_sub(first);
+        if behind == 0 {
+            text.extend_from_slice(b"::")?;
+        }
+        if behind >= len {
+            if i > 0 && behind != len {
+                text.push(b':')?;
+            }
+            text.push(if zeros >> i & 1 == 1 { b'0' } else { b'1' })?;
+        }
+    }
+    Ok(text)
+}
+
+/// Each choice of groups that are 0, the others 1.
 #[test]
 fn shortens_the_first_longest_run(rt: HostRuntime) -> Result<(), Fail> {
     for zeros in 0u32..256 {
-        let mut octets = [0; 16];
-        let (mut first, mut len) = (8, 1);
-        for i in (0u32..8).rev() {
-            octets[2 * i as usize + 1] = (!zeros >> i & 1) as u8;
-            let run = (zeros >> i).trailing_ones();
-            if run > 1 && run >= len {
-                (first, len) = (i, run);
-            }
-        }
-        let mut wanted = Text::new(rt.alloc());
-        for i in 0u32..8 {
-            let behind = i.wrapping_sub(first);
-            if behind == 0 {
-                wanted.extend_from_slice(b"::")?;
-            }
-            if behind >= len {
-                if i > 0 && behind != len {
-                    wanted.push(b':')?;
-                }
-                wanted.push(if zeros >> i & 1 == 1 { b'0' } else { b'1' })?;
-            }
-        }
+        let wanted = shortened(rt.alloc(), zeros)?;
         let mut text = Text::new(rt.alloc());
-        text.put_address(&Addr::v6(octets))?;
+        text.put_address(&Addr::v6(octets_of_groups(zeros)))?;
         assert_eq!(rt; text.as_slice(), wanted.as_slice(), "{zeros:#b}");
     }
     Ok(())
@@ -137,26 +157,32 @@ fn writes_prefixes_in_place(rt: HostRuntime) -> Result<(), Fail> {
     Ok(())
 }
 
+/// Appends a word, a number, an address and a prefix, with bars between them.
+fn put_fields(text: &mut Text, address: &Addr, prefix: &Prefix) -> Result<(), AllocError> {
+    text.extend_from_slice(b"A|")?;
+    text.put_decimal(64_496)?;
+    text.push(b'|')?;
+    text.put_address(address)?;
+    text.push(b'|')?;
+    text.put_prefix(prefix)
+}
+
 #[test]
 fn texts_grow_at_their_end(rt: HostRuntime) -> Result<(), Fail> {
     let address = Addr::parse(b"2001:db8::1").ok_or("an address")?;
     let prefix = Prefix::parse(b"192.0.2.0/24").ok_or("a prefix")?;
     let mut text = Text::new(rt.alloc());
     assert_eq!(rt; text.as_slice(), b"".as_slice());
-    text.extend_from_slice(b"A|")?;
-    text.put_decimal(64_496)?;
-    text.push(b'|')?;
-    text.put_address(&address)?;
-    text.push(b'|')?;
-    text.put_prefix(&prefix)?;
+    put_fields(&mut text, &address, &prefix)?;
     assert_eq!(rt;
         text.as_slice(),
         b"A|64496|2001:db8::1|192.0.2.0/24".as_slice()
     );
     assert_eq!(rt; text.len(), 32);
-    text.truncate(40);
-    assert_eq!(rt; text.len(), 32);
-    text.truncate(7);
+    for (len, want) in [(40, 32), (7, 7)] {
+        text.truncate(len);
+        assert_eq!(rt; text.len(), want);
+    }
     assert_eq!(rt; text.as_slice(), b"A|64496".as_slice());
     text.truncate(0);
     assert_eq!(rt; text.as_slice(), b"".as_slice());
@@ -176,18 +202,24 @@ fn long_texts_are_kept_as_they_grow(rt: HostRuntime) -> Result<(), Fail> {
     Ok(())
 }
 
+/// Appends 64496 and a space, the greatest number of 64 bits, and 7.
+fn put_numbers(text: &mut Text) -> Result<(), AllocError> {
+    text.put_ended_decimal(64_496, b' ')?;
+    text.put_long_decimal(18_446_744_073_709_551_615)?;
+    text.put_long_decimal(7)
+}
+
 #[test]
 fn texts_repeat_their_parts(rt: HostRuntime) -> Result<(), Fail> {
     let mut text = Text::new(rt.alloc());
-    text.put_ended_decimal(64_496, b' ')?;
-    text.put_long_decimal(18_446_744_073_709_551_615)?;
-    text.put_long_decimal(7)?;
+    put_numbers(&mut text)?;
     assert_eq!(rt; text.as_slice(), b"64496 184467440737095516157".as_slice());
-    text.extend_from_within(2, 6)?;
-    text.extend_from_within(0, 0)?;
-    text.extend_from_within(0, 31)?;
+    for (start, end) in [(2, 6), (0, 0), (0, 31)] {
+        assert!(rt; start <= end && end <= text.len());
+        text.extend_from_within(start, end)?;
+    }
     assert_eq!(rt; text.len(), 62);
-    assert_eq!(rt; &text.as_slice()[27..37], b"496 64496 ".as_slice());
+    assert_eq!(rt; text.as_slice().get(27..37), Some(b"496 64496 ".as_slice()));
     Ok(())
 }
 
