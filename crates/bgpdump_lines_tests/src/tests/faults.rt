@@ -3,7 +3,7 @@
 ghost use Rattle.std.specs.Prelude.{◌≡◌, false};
 
 use super::LINE;
-use bgpdump_lines::{OutFault, Outcome, put_all, run_dump};
+use bgpdump_lines::{OutFault, Outcome, Output, put_all, run_dump};
 use mrt_wire::Stamp;
 use std::alloc::Global;
 use std::test::Fail;
@@ -15,7 +15,7 @@ const MANY: usize = usize::MAX;
 
 /// An output that takes all that it is given.
 fn sound_output(alloc: Global) -> SlowOutput
-    ensures { result.failed ≡ false }
+    ensures { ⟦<SlowOutput as Output>⟧.failed result ≡ false }
 {
     SlowOutput::new(alloc, MANY, MANY, true)
 }

@@ -1,8 +1,7 @@
 //! What runs write over inputs and outputs that are sound.
 
-use super::{LINE, Run, dump};
+use super::{LINE, assert_wrote, dump};
 use bgpdump_lines::Outcome;
-use std::process::Abort;
 use std::test::Fail;
 use test_octets::{MULTICAST, STATE_CHANGE, octets_of};
 
@@ -81,22 +80,6 @@ const LONGEST: &str = "00000064 0010 0000 01000000";
 const CUT_REPORT: &str = "bgpdump: record 1, byte 0: cut record\n";
 
 const SECOND_CUT_REPORT: &str = "bgpdump: record 2, byte 32: cut record\n";
-
-/// How a run without a fault ends that has these reports.
-fn outcome_of(reports: &str) -> Outcome {
-    if reports.is_empty() {
-        Outcome::Done
-    } else {
-        Outcome::Reported
-    }
-}
-
-/// Asserts what a run without a fault wrote.
-fn assert_wrote(rt: &impl Abort, run: &Run, lines: &str, reports: &str, case: &str) {
-    assert_eq!(rt; run.out.as_slice(), lines.as_bytes(), "lines of {case}");
-    assert_eq!(rt; run.err.as_slice(), reports.as_bytes(), "reports of {case}");
-    assert_eq!(rt; run.outcome, outcome_of(reports), "outcome of {case}");
-}
 
 #[test]
 fn writes_what_records_give(rt: HostRuntime) -> Result<(), Fail> {
