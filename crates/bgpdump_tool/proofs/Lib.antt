@@ -8,7 +8,5 @@ pub mod PlayEndLaws
 pub mod DecimalLaws
 pub mod WordLaws
 pub mod CommandLaws
-pub mod CommandLineLaws
-pub mod ArgumentLaws
 pub mod BestLaws
 pub mod WalkLaws

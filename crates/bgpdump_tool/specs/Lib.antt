@@ -7,7 +7,7 @@ pub use Rattle.bgpdump_lines.specs.Writing
 pub use Rattle.bgpdump_lines.specs.Going
 pub use Rattle.bgpdump_lines.specs.Status
 pub mod Command
-pub mod CommandLine
+pub use Rattle.bgpdump_command_line.specs.CommandLine
 pub mod Script
 pub mod Replies
 pub mod State

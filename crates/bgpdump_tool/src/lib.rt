@@ -2,24 +2,20 @@
 //! forwards and backwards, and command lines that ask for that or for their lines.
 #![tactic(auto)]
 
-mod arguments;
 mod command;
-mod command_line;
 mod commands;
 mod laws;
 mod play;
 mod replies;
 mod script;
 mod session;
-mod usage;
 mod words;
 
+pub use bgpdump_command_line::{Mode, STANDARD_INPUT, Settings, UsageFault, settings};
 pub use bgpdump_lines::{
     OutFault, Outcome, Output, WriteOutput, line_numbers, put_all, put_lines, run_dump,
 };
 pub use command::{Command, read_command};
-pub use command_line::settings;
 pub use laws::{best_match, one_command, one_script, run_numbers};
 pub use play::run_play;
 pub use script::LONGEST_SCRIPT;
-pub use usage::{Mode, STANDARD_INPUT, Settings, UsageFault};

@@ -1,4 +1,3 @@
-mod command_lines;
 mod commands;
 mod generated_scripts;
 mod large_scripts;

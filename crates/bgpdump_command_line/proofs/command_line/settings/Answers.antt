@@ -1,9 +1,9 @@
 use Rattle.std.proofs.Common.{map, string_bytes, subst}
 use Rattle.std.specs.Prelude.{Err}
 use Rattle.clap.specs.Words.{app_of}
-use Rattle.bgpdump_tool.specs.CommandLine.{Answers}
-use Rattle.bgpdump_tool.proofs.CommandLineLaws.{answers_failed, answers_parsed, input_given}
-use Rattle.bgpdump_tool.proofs.command_line.settings.Goals as goal
+use Rattle.bgpdump_command_line.specs.CommandLine.{Answers}
+use Rattle.bgpdump_command_line.proofs.CommandLineLaws.{answers_failed, answers_parsed, input_given}
+use Rattle.bgpdump_command_line.proofs.command_line.settings.Goals as goal
 
 pub settings_of-requires : goal.settings_of-requires
 settings_of-requires c = record { input = input_given c.in-Ok.matches (c.in_ok-command.ensures.input c.in-Ok.matches c.in-Ok.ensures.parsed) }

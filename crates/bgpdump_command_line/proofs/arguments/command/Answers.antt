@@ -3,8 +3,8 @@ use Rattle.std.proofs.lemmas.Result.{IfOk-weaker}
 use Rattle.clap.proofs.CallerLemmas.{required_in_chain}
 use Rattle.clap.specs.Words.{AddsArg, first_value, found_of}
 use Rattle.clap.specs.declared.Command.{Command}
-use Rattle.bgpdump_tool.proofs.ArgumentLaws.{AreAdded, AreArguments, chain_of, command_made, fit_together}
-use Rattle.bgpdump_tool.proofs.arguments.command.Goals as goal
+use Rattle.bgpdump_command_line.proofs.ArgumentLaws.{AreAdded, AreArguments, chain_of, command_made, fit_together}
+use Rattle.bgpdump_command_line.proofs.arguments.command.Goals as goal
 
 abbrev arguments : (c : goal.After-arg-5) → AreArguments c.lines_argument.result c.script_argument.result c.times_argument.result c.output_argument.result c.input_argument.result
 arguments c = record {

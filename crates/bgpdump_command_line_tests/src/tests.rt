@@ -1,6 +1,6 @@
 //! What command lines ask for.
 
-use bgpdump_tool::{Mode, Settings, UsageFault, settings};
+use bgpdump_command_line::{Mode, Settings, UsageFault, settings};
 use mrt_wire::Stamp;
 use std::alloc::{AllocError, Global};
 use std::process::Abort;

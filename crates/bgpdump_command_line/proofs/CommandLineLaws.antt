@@ -9,10 +9,10 @@ use Rattle.clap.specs.declared.ArgMatches.{ArgMatches}
 use Rattle.clap.specs.declared.Error.{Error}
 use Rattle.clap.specs.declared.error.ErrorKind.TheVariants.{DisplayHelp, OutOfMemory}
 use Rattle.clap.specs.declared.builder.value_parser.ValueParser.{ValueParser}
-use Rattle.bgpdump_tool.specs.CommandLine.{Answers, Gives, IsCommandLine, IsFaultOf, TakesTimes, command_line, faults, input_of, is_text}
-use Rattle.bgpdump_tool.specs.declared.usage.Settings.{Settings}
-use Rattle.bgpdump_tool.specs.declared.usage.UsageFault.{UsageFault}
-use Rattle.bgpdump_tool.specs.declared.usage.UsageFault.TheVariants as usage
+use Rattle.bgpdump_command_line.specs.CommandLine.{Answers, Gives, IsCommandLine, IsFaultOf, TakesTimes, command_line, faults, input_of, is_text}
+use Rattle.bgpdump_command_line.specs.declared.usage.Settings.{Settings}
+use Rattle.bgpdump_command_line.specs.declared.usage.UsageFault.{UsageFault}
+use Rattle.bgpdump_command_line.specs.declared.usage.UsageFault.TheVariants as usage
 
 -- a flag is up where its text is `true`
 pub flag_read : (E : Type 0) (text : Option Text) (flag : Option Bool) → (text ≡ None → flag ≡ None) → ((t : Text) → text ≡ Some t → ReadsOne {E = E} ParsesBool t flag)

@@ -2,9 +2,9 @@ use Rattle.std.proofs.Common.{◌∙◌, ap}
 use Rattle.clap.proofs.WalkLemmas.{one_text-rows}
 use Rattle.clap.specs.Words.{found_of, one_text}
 use Rattle.std.specs.Prelude.{codes}
-use Rattle.bgpdump_tool.specs.CommandLine.{is_text}
-use Rattle.bgpdump_tool.proofs.CommandLineLaws.{flag_read}
-use Rattle.bgpdump_tool.proofs.command_line.asks_lines.Goals as goal
+use Rattle.bgpdump_command_line.specs.CommandLine.{is_text}
+use Rattle.bgpdump_command_line.proofs.CommandLineLaws.{flag_read}
+use Rattle.bgpdump_command_line.proofs.command_line.asks_lines.Goals as goal
 
 pub returns : goal.returns
 returns c =

@@ -13,11 +13,11 @@ use Rattle.clap.specs.declared.error.ErrorKind.{ErrorKind}
 use Rattle.clap.specs.declared.error.ErrorKind.TheVariants.{DisplayHelp, OutOfMemory}
 use Rattle.mrt_wire.specs.declared.Stamp.{Stamp}
 use Rattle.mrt_wire.specs.declared.Stamp.TheVariants.{Dump, Change}
-use Rattle.bgpdump_tool.specs.declared.usage.Mode.{Mode}
-use Rattle.bgpdump_tool.specs.declared.usage.Mode.TheVariants as mode
-use Rattle.bgpdump_tool.specs.declared.usage.Settings.{Settings}
-use Rattle.bgpdump_tool.specs.declared.usage.UsageFault.{UsageFault}
-use Rattle.bgpdump_tool.specs.declared.usage.UsageFault.TheVariants as usage
+use Rattle.bgpdump_command_line.specs.declared.usage.Mode.{Mode}
+use Rattle.bgpdump_command_line.specs.declared.usage.Mode.TheVariants as mode
+use Rattle.bgpdump_command_line.specs.declared.usage.Settings.{Settings}
+use Rattle.bgpdump_command_line.specs.declared.usage.UsageFault.{UsageFault}
+use Rattle.bgpdump_command_line.specs.declared.usage.UsageFault.TheVariants as usage
 
 -- ---- the command line: `bgpdump (-m | --play SCRIPT) [-t dump|change] [-O FILE] INPUT`
 

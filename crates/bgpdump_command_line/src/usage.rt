@@ -1,7 +1,7 @@
 //! What the words of a command line ask for, and why they may ask for nothing.
 
 ghost use Rattle.std.specs.Prelude.{◌≡◌};
-ghost use Rattle.bgpdump_tool.specs.declared.usage.UsageFault.TheVariants.{Memory};
+ghost use Rattle.bgpdump_command_line.specs.declared.usage.UsageFault.TheVariants.{Memory};
 
 use mrt_wire::Stamp;
 use std::alloc::AllocError;

@@ -1,0 +1,2 @@
+pub mod CommandLineLaws
+pub mod ArgumentLaws

@@ -1,0 +1,5 @@
+//! Tests of `bgpdump_command_line`.
+#![tactic(auto)]
+
+#[cfg(test)]
+mod tests;
