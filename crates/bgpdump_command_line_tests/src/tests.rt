@@ -217,38 +217,47 @@ fn owned(alloc: Global, words: &[&str]) -> Result<Vec<String>, AllocError> {
     Ok(own)
 }
 
-/// A name that is there, as its own text.
-fn owned_name(alloc: Global, name: Option<&str>) -> Result<Option<String>, AllocError> {
-    match name {
-        Some(name) => Ok(Some(String::from_str(alloc, name)?)),
-        None => Ok(None),
+/// Whether this is the mode of a script of this name, or of lines where there is none.
+fn is_mode(mode: &Mode, script: Option<&str>) -> bool {
+    match mode {
+        Mode::Lines => script.is_none(),
+        Mode::Play(name) => script == Some(name.as_str()),
     }
 }
 
+/// Whether the settings have this script, time, output and input.
+fn are_settings(
+    found: &Settings,
+    script: Option<&str>,
+    stamp: Stamp,
+    output: Option<&str>,
+    input: &str,
+) -> bool {
+    let has_output = match &found.output {
+        Some(name) => output == Some(name.as_str()),
+        None => output.is_none(),
+    };
+    is_mode(&found.mode, script)
+        && found.stamp == stamp
+        && has_output
+        && found.input.as_str() == input
+}
+
 /// Whether this is what was asked.
-fn is_asked(
-    alloc: Global,
-    found: &Result<Settings, UsageFault>,
-    asked: Asked,
-) -> Result<bool, AllocError> {
-    let (mode, stamp, output, input) = match asked {
-        Asked::Lines(stamp, output, input) => (Mode::Lines, stamp, output, input),
-        Asked::Play(script, stamp, output, input) => {
-            let mode = Mode::Play(String::from_str(alloc, script)?);
-            (mode, stamp, output, input)
+fn is_asked(found: &Result<Settings, UsageFault>, asked: Asked) -> bool {
+    match (found, asked) {
+        (Ok(found), Asked::Lines(stamp, output, input)) => {
+            are_settings(found, None, stamp, output, input)
         }
-        Asked::Words => return Ok(matches!(found, Err(UsageFault::Words(_)))),
-        Asked::Mode => return Ok(matches!(found, Err(UsageFault::Mode))),
-        Asked::TwoInputs => return Ok(matches!(found, Err(UsageFault::TwoInputs))),
-        Asked::Help => return Ok(matches!(found, Err(UsageFault::Help(_)))),
-    };
-    let want = Settings {
-        mode,
-        stamp,
-        output: owned_name(alloc, output)?,
-        input: String::from_str(alloc, input)?,
-    };
-    Ok(matches!(found, Ok(settings) if *settings == want))
+        (Ok(found), Asked::Play(script, stamp, output, input)) => {
+            are_settings(found, Some(script), stamp, output, input)
+        }
+        (Err(UsageFault::Words(_)), Asked::Words) => true,
+        (Err(UsageFault::Mode), Asked::Mode) => true,
+        (Err(UsageFault::TwoInputs), Asked::TwoInputs) => true,
+        (Err(UsageFault::Help(_)), Asked::Help) => true,
+        _ => false,
+    }
 }
 
 /// What these words ask for, behind the program's name.
@@ -262,8 +271,7 @@ fn ask(alloc: Global, words: &[&str]) -> Result<Result<Settings, UsageFault>, Al
 fn assert_asked(rt: &impl Abort, alloc: Global, rows: &[Row]) -> Result<(), Fail> {
     for (words, asked) in rows {
         let found = ask(alloc, words)?;
-        let is_asked = is_asked(alloc, &found, *asked)?;
-        assert!(rt; is_asked, "{words:?}: {found:?}");
+        assert!(rt; is_asked(&found, *asked), "{words:?}: {found:?}");
     }
     Ok(())
 }
@@ -285,21 +293,21 @@ fn other_words_ask_for_nothing(rt: HostRuntime) -> Result<(), Fail> {
     assert_asked(&rt, rt.alloc(), &HELP)
 }
 
+/// All words of a call, and what they ask for.
+const CALLS: &[Row] = &[
+    (&[], Asked::Words),
+    (&["-m", "f"], Asked::Mode),
+    (&["--help"], Asked::Words),
+    (&["-x", "-m", "f"], Asked::Lines(Stamp::Dump, None, "f")),
+    (&["", "-m", "f"], Asked::Lines(Stamp::Dump, None, "f")),
+];
+
 /// The first word is the program's name, whatever it says.
 #[test]
 fn the_first_word_is_not_read(rt: HostRuntime) -> Result<(), Fail> {
-    let alloc = rt.alloc();
-    let rows: [Row; 5] = [
-        (&[], Asked::Words),
-        (&["-m", "f"], Asked::Mode),
-        (&["--help"], Asked::Words),
-        (&["-x", "-m", "f"], Asked::Lines(Stamp::Dump, None, "f")),
-        (&["", "-m", "f"], Asked::Lines(Stamp::Dump, None, "f")),
-    ];
-    for (words, asked) in rows {
-        let found = settings(alloc, owned(alloc, words)?);
-        let is_asked = is_asked(alloc, &found, asked)?;
-        assert!(rt; is_asked, "{words:?}: {found:?}");
+    for &(words, asked) in CALLS {
+        let found = settings(rt.alloc(), owned(rt.alloc(), words)?);
+        assert!(rt; is_asked(&found, asked), "{words:?}: {found:?}");
     }
     Ok(())
 }
@@ -338,8 +346,7 @@ fn the_order_of_the_words_means_nothing(rt: HostRuntime) -> Result<(), Fail> {
             let words = in_order(alloc, &parts, number)?;
             assert_eq!(rt; words.len(), mode.len() + 5);
             let found = ask(alloc, &words)?;
-            let is_asked = is_asked(alloc, &found, asked)?;
-            assert!(rt; is_asked, "{words:?}: {found:?}");
+            assert!(rt; is_asked(&found, asked), "{words:?}: {found:?}");
         }
     }
     Ok(())
@@ -354,23 +361,33 @@ fn long_name(alloc: Global, marks: usize) -> Result<String, AllocError> {
     Ok(name)
 }
 
+/// What a script, an output and an input with names of so many marks ask for.
+fn long_settings(alloc: Global, marks: usize) -> Result<Settings, AllocError> {
+    Ok(Settings {
+        mode: Mode::Play(long_name(alloc, marks)?),
+        stamp: Stamp::Dump,
+        output: Some(long_name(alloc, marks)?),
+        input: long_name(alloc, marks)?,
+    })
+}
+
 #[test]
-fn long_names_and_many_words_are_read(rt: HostRuntime) -> Result<(), Fail> {
+fn long_names_are_read(rt: HostRuntime) -> Result<(), Fail> {
     let alloc = rt.alloc();
     let name = long_name(alloc, 100_000)?;
     let words = ["--play", name.as_str(), "-O", name.as_str(), name.as_str()];
-    let want = Settings {
-        mode: Mode::Play(long_name(alloc, 100_000)?),
-        stamp: Stamp::Dump,
-        output: Some(long_name(alloc, 100_000)?),
-        input: long_name(alloc, 100_000)?,
-    };
-    assert_eq!(rt; ask(alloc, &words)?, Ok(want));
-    let mut many = Vec::new(alloc);
+    let want = Ok(long_settings(alloc, 100_000)?);
+    assert_eq!(rt; ask(alloc, &words)?, want);
+    Ok(())
+}
+
+#[test]
+fn many_words_are_read(rt: HostRuntime) -> Result<(), Fail> {
+    let mut many = Vec::new(rt.alloc());
     for _ in 0..5_000 {
         many.push("-m")?;
     }
-    assert!(rt; matches!(ask(alloc, &many)?, Err(UsageFault::Words(_))));
+    assert!(rt; is_asked(&ask(rt.alloc(), &many)?, Asked::Words));
     Ok(())
 }
 
@@ -388,34 +405,49 @@ fn faults_have_texts(rt: HostRuntime) -> Result<(), Fail> {
     Ok(())
 }
 
+/// How the program is called, as help and the faults of words tell it.
+const USAGE: &str = "Usage: bgpdump (-m | --play SCRIPT) [-t dump|change] [-O FILE] INPUT\n";
+
+/// Words, and two parts of the text that they give.
+const TEXTS: &[(&[&str], &str, &str)] = &[
+    (&["-m", "--help"], USAGE, "Steps through INPUT"),
+    (
+        &["-m", "--Help"],
+        USAGE,
+        "error: unexpected argument '--Help' found\n",
+    ),
+    (
+        &["-mt", "none"],
+        "error: invalid value 'none'",
+        "[possible values: dump, change]",
+    ),
+];
+
+/// The fault that these words give.
+fn fault_of(alloc: Global, words: &[&str]) -> Result<UsageFault, Fail> {
+    match ask(alloc, words)? {
+        Ok(_) => Err(Fail::from("settings")),
+        Err(fault) => Ok(fault),
+    }
+}
+
+/// The text that a fault carries.
+fn own_text(fault: &UsageFault) -> Option<&str> {
+    match fault {
+        UsageFault::Words(text) | UsageFault::Help(text) => Some(text.as_str()),
+        _ => None,
+    }
+}
+
 /// What `clap` says of words, and its help, come as they are.
 #[test]
 fn texts_of_words_and_help_are_those_that_were_made(rt: HostRuntime) -> Result<(), Fail> {
-    let alloc = rt.alloc();
-    let usage = "Usage: bgpdump (-m | --play SCRIPT) [-t dump|change] [-O FILE] INPUT\n";
-    for (words, part, further) in [
-        (["-m", "--help"], usage, "Steps through INPUT"),
-        (
-            ["-m", "--Help"],
-            usage,
-            "error: unexpected argument '--Help' found\n",
-        ),
-        (
-            ["-mt", "none"],
-            "error: invalid value 'none'",
-            "[possible values: dump, change]",
-        ),
-    ] {
-        let Err(fault) = ask(alloc, &words)? else {
-            return Err(Fail::from("settings"));
-        };
-        let text = format!(in alloc; "{fault}")?;
+    for &(words, part, further) in TEXTS {
+        let fault = fault_of(rt.alloc(), words)?;
+        let text = format!(in rt.alloc(); "{fault}")?;
         let has_both = text.as_str().contains(part) && text.as_str().contains(further);
         assert!(rt; has_both, "{words:?}: {text}");
-        let (UsageFault::Words(own) | UsageFault::Help(own)) = fault else {
-            return Err(Fail::from("another fault"));
-        };
-        assert_eq!(rt; own.as_str(), text.as_str());
+        assert_eq!(rt; own_text(&fault), Some(text.as_str()));
     }
     Ok(())
 }

@@ -1,4 +1,5 @@
 mod commands;
+mod devices;
 mod generated_scripts;
 mod large_scripts;
 mod memory;

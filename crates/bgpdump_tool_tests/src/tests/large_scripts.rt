@@ -59,7 +59,7 @@ fn table_reply(alloc: Global, asn: u32, at: u32) -> Result<String, AllocError> {
 /// records the tables of both peers are asked for.
 type Part = (&'static str, &'static str, u32);
 
-const PARTS: [Part; 6] = [
+const PARTS: &[Part] = &[
     (
         "next 5000\nwhere\npeers\n",
         "at 5000\nat 5000 ahead 0\nPEER|192.0.2.1|64500|500\nPEER|192.0.2.1|64501|500\n",
@@ -108,22 +108,36 @@ const LOST_REPLIES: &str = "at 500\n\
                             PEER|192.0.2.1|64501|250\n\
                             at 500 ahead 1\n";
 
-#[test]
-fn replies_over_thousands_of_records(rt: HostRuntime) -> Result<(), Fail> {
-    let alloc = rt.alloc();
-    let octets = announcements(alloc)?;
+/// The whole script.
+fn script_of_parts(alloc: Global) -> Result<String, AllocError> {
     let mut script = String::new(alloc);
-    let mut replies = String::new(alloc);
-    for (commands, first_replies, at) in PARTS {
+    for &(commands, _, _) in PARTS {
         script.push_str(commands)?;
         script.push_str(TABLES)?;
-        replies.push_str(first_replies)?;
-        replies.push_str(table_reply(alloc, 64500, at)?.as_str())?;
-        replies.push_str(table_reply(alloc, 64501, at)?.as_str())?;
     }
     script.push_str(LOST)?;
+    Ok(script)
+}
+
+/// The replies to it.
+fn replies_to_parts(alloc: Global) -> Result<String, AllocError> {
+    let mut replies = String::new(alloc);
+    for &(_, first_replies, at) in PARTS {
+        replies.push_str(first_replies)?;
+        for asn in [64500, 64501] {
+            replies.push_str(table_reply(alloc, asn, at)?.as_str())?;
+        }
+    }
     replies.push_str(LOST_REPLIES)?;
-    let run = play(alloc, Stamp::Dump, &octets, script.as_str().as_bytes());
+    Ok(replies)
+}
+
+#[test]
+fn replies_over_thousands_of_records(rt: HostRuntime) -> Result<(), Fail> {
+    let octets = announcements(rt.alloc())?;
+    let script = script_of_parts(rt.alloc())?;
+    let replies = replies_to_parts(rt.alloc())?;
+    let run = play(rt.alloc(), Stamp::Dump, &octets, script.as_str().as_bytes());
     assert_replied(&rt, &run, script.as_str(), replies.as_str(), "");
     Ok(())
 }

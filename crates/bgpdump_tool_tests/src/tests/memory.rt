@@ -2,6 +2,7 @@
 
 ghost use Rattle.std.specs.Prelude.{◌≡◌, None, false};
 
+use super::devices::{Played, SOUND, assert_played, play_on};
 use super::playing::{ANNOUNCED, FIRST, OTHER_HOP, Record, Routes, UNREAD, file_of, outcome_of};
 use bgpdump_tool::{OutFault, Outcome, Output, run_play};
 use ip_prefix::{Addr, Prefix};
@@ -11,7 +12,6 @@ use std::alloc::{AllocError, Global};
 use std::process::Abort;
 use std::rc::Rc;
 use std::test::Fail;
-use test_devices::SlowOutput;
 
 /// A store that makes no new key where it has so many.
 #[derive(Drop)]
@@ -70,38 +70,23 @@ impl<S: PrefixStore<Rc<Route>>, const MOST: u64> PrefixStore<Rc<Route>> for Scar
     }
 }
 
-/// What outputs were given, and how a run over them ended.
-#[derive(Drop)]
-struct Played {
-    out: SlowOutput,
-    err: SlowOutput,
-    outcome: Outcome,
-}
-
 /// Carries out a script over these octets, with a store that has no more keys than this.
 fn play<const MOST: u64>(alloc: Global, octets: &[u8], script: &str) -> Played {
-    let mut out = SlowOutput::new(alloc, usize::MAX, usize::MAX, true);
-    let mut err = SlowOutput::new(alloc, usize::MAX, usize::MAX, true);
-    let outcome = run_play::<Scarce<Routes, MOST>, _, _, _>(
-        alloc,
-        &mut ReadInput::new(octets),
-        script.as_bytes(),
-        &mut out,
-        &mut err,
-        Stamp::Dump,
-    );
-    Played { out, err, outcome }
+    play_on::<Scarce<Routes, MOST>>(alloc, octets, script.as_bytes(), SOUND)
 }
 
 /// Asserts what such a run wrote. It finishes its outputs unless memory was refused.
-fn assert_played(rt: &impl Abort, played: &Played, outcome: Outcome, replies: &str, reports: &str) {
+fn assert_ended(rt: &impl Abort, played: &Played, outcome: Outcome, replies: &str, reports: &str) {
     assert_eq!(rt; played.outcome, outcome);
-    assert_eq!(rt; played.out.text.as_slice(), replies.as_bytes());
-    assert_eq!(rt; played.err.text.as_slice(), reports.as_bytes());
     let finishes = u64::from(outcome != Outcome::Memory);
-    assert_eq!(rt;
-        (played.out.finish_calls, played.err.finish_calls),
-        (finishes, finishes)
+    let (replies, reports) = (replies.as_bytes(), reports.as_bytes());
+    assert_played(
+        rt,
+        played,
+        replies,
+        reports,
+        (finishes, finishes),
+        replies.len(),
     );
 }
 
@@ -117,7 +102,7 @@ fn a_store_that_refuses_all_keys_ends_a_script(rt: HostRuntime) -> Result<(), Fa
     let script =
         "next 2\nroute 192.0.2.1 64500 10.0.0.0/8\nback\nroute 192.0.2.1 64500 10.0.0.0/8\n";
     let played = play::<0>(rt.alloc(), &octets, script);
-    assert_played(&rt, &played, Outcome::Memory, "", "");
+    assert_ended(&rt, &played, Outcome::Memory, "", "");
     Ok(())
 }
 
@@ -157,9 +142,9 @@ fn a_refused_key_leaves_the_replies_before(rt: HostRuntime) -> Result<(), Fail> 
     let octets = file_of(rt.alloc(), &FURTHER)?;
     for (script, before, all, reports) in REFUSED {
         let played = play::<1>(rt.alloc(), &octets, script);
-        assert_played(&rt, &played, Outcome::Memory, before, reports);
+        assert_ended(&rt, &played, Outcome::Memory, before, reports);
         let played = play::<2>(rt.alloc(), &octets, script);
-        assert_played(&rt, &played, outcome_of(reports), all, reports);
+        assert_ended(&rt, &played, outcome_of(reports), all, reports);
     }
     Ok(())
 }
@@ -170,7 +155,7 @@ fn a_loss_wants_no_key(rt: HostRuntime) -> Result<(), Fail> {
     let script = "next 2\nlose 192.0.2.1 64500\npeers\nback\npeers\n";
     let played = play::<1>(rt.alloc(), &octets, script);
     let replies = "at 2\nat 3 dropped 0\nnone\nat 2\nPEER|192.0.2.1|64500|1\n";
-    assert_played(&rt, &played, Outcome::Done, replies, "");
+    assert_ended(&rt, &played, Outcome::Done, replies, "");
     Ok(())
 }
 

@@ -1,17 +1,13 @@
 //! Scripts over inputs and outputs that move few octets at a time, or fail.
 
+use super::devices::{Devices, MANY, SOUND, assert_played, play_on};
 use super::playing::{
     CUT, ENTRY, FIRST, INDEX, LOSS, NINE, Record, Routes, UNREAD, file_of, outcome_of,
 };
-use bgpdump_tool::{Outcome, run_play};
-use mrt_wire::Stamp;
+use bgpdump_tool::Outcome;
 use std::alloc::Global;
 use std::process::Abort;
 use std::test::Fail;
-use test_devices::{SlowInput, SlowOutput};
-
-/// A number of octets that no test reaches.
-const MANY: usize = usize::MAX;
 
 /// An index of a peer, an entry of its table, an UPDATE, and a record that is cut: 206 octets.
 const DAMAGED: [Record; 4] = [
@@ -34,82 +30,13 @@ const FIRST_REPLY: usize = 9;
 
 const FIRST_REPORT: usize = 40;
 
-/// What devices do: how many octets each moves a call, after how many the input and each output
-/// fail, and which outputs finish.
-#[derive(Clone, Copy)]
-struct Devices {
-    step: usize,
-    input: usize,
-    out: usize,
-    err: usize,
-    out_finishes: bool,
-    err_finishes: bool,
-}
-
-/// Devices that never fail.
-const SOUND: Devices = Devices {
-    step: MANY,
-    input: MANY,
-    out: MANY,
-    err: MANY,
-    out_finishes: true,
-    err_finishes: true,
-};
-
-/// What outputs were given, and how a run over them ended.
-#[derive(Drop)]
-struct Played {
-    out: SlowOutput,
-    err: SlowOutput,
-    outcome: Outcome,
-}
-
-/// Carries out a script over devices.
-fn play(alloc: Global, octets: &[u8], script: &[u8], devices: Devices) -> Played {
-    let mut input = SlowInput::new(octets, devices.step, devices.input);
-    let mut out = SlowOutput::new(alloc, devices.step, devices.out, devices.out_finishes);
-    let mut err = SlowOutput::new(alloc, devices.step, devices.err, devices.err_finishes);
-    let outcome = run_play::<Routes, _, _, _>(
-        alloc,
-        &mut input,
-        script,
-        &mut out,
-        &mut err,
-        Stamp::Dump,
-    );
-    Played { out, err, outcome }
-}
-
-/// Asserts what was written, and how often each output was finished.
-fn assert_played(
-    rt: &impl Abort,
-    played: &Played,
-    replies: &[u8],
-    reports: &[u8],
-    finishes: (u64, u64),
-    case: usize,
-) {
-    assert_eq!(rt; played.out.text.as_slice(), replies, "replies of {case}");
-    assert_eq!(rt; played.err.text.as_slice(), reports, "reports of {case}");
-    assert_eq!(rt;
-        played.out.finish_calls,
-        finishes.0,
-        "replies finished, of {case}"
-    );
-    assert_eq!(rt;
-        played.err.finish_calls,
-        finishes.1,
-        "reports finished, of {case}"
-    );
-}
-
 #[test]
 fn carries_out_octet_by_octet(rt: HostRuntime) -> Result<(), Fail> {
     let octets = file_of(rt.alloc(), &DAMAGED)?;
     assert_eq!(rt; octets.len(), 206);
     for step in [MANY, 7, 1] {
         let devices = Devices { step, ..SOUND };
-        let played = play(rt.alloc(), &octets, SCRIPT, devices);
+        let played = play_on::<Routes>(rt.alloc(), &octets, SCRIPT, devices);
         assert_eq!(rt; played.outcome, Outcome::Reported);
         assert_played(&rt, &played, REPLIES, REPORTS, (1, 1), step);
     }
@@ -132,7 +59,7 @@ fn assert_cut(
             input,
             ..SOUND
         };
-        let played = play(alloc, octets, script, devices);
+        let played = play_on::<Routes>(alloc, octets, script, devices);
         assert_eq!(rt; played.outcome, Outcome::ReadFault, "after {input} octets");
         assert_played(rt, &played, replies, reports, (0, 0), input);
     }
@@ -190,7 +117,7 @@ fn a_read_fault_leaves_the_reports_of_what_was_taken(rt: HostRuntime) -> Result<
             reports,
         );
     }
-    let played = play(rt.alloc(), &octets, FAULTY_SCRIPT, SOUND);
+    let played = play_on::<Routes>(rt.alloc(), &octets, FAULTY_SCRIPT, SOUND);
     assert_eq!(rt; played.outcome, Outcome::Reported);
     assert_played(&rt, &played, FAULTY_REPLIES, FAULTY_REPORTS, (1, 1), 126);
     Ok(())
@@ -205,7 +132,7 @@ fn assert_stuck(
     replied: usize,
     reported: usize,
 ) {
-    let played = play(alloc, octets, SCRIPT, devices);
+    let played = play_on::<Routes>(alloc, octets, SCRIPT, devices);
     let replies = REPLIES.get(..replied).unwrap_or(REPLIES);
     let reports = REPORTS.get(..reported).unwrap_or(REPORTS);
     assert_eq!(rt; played.outcome, Outcome::WriteFault);
@@ -255,7 +182,7 @@ fn a_fault_at_the_finish_leaves_the_whole_texts(rt: HostRuntime) -> Result<(), F
             err_finishes,
             ..SOUND
         };
-        let played = play(rt.alloc(), &octets, SCRIPT, devices);
+        let played = play_on::<Routes>(rt.alloc(), &octets, SCRIPT, devices);
         assert_eq!(rt; played.outcome, Outcome::WriteFault);
         let finishes = (1, u64::from(out_finishes));
         assert_played(&rt, &played, REPLIES, REPORTS, finishes, case);
@@ -306,7 +233,7 @@ fn records_that_no_command_takes_are_left(rt: HostRuntime) -> Result<(), Fail> {
     let octets = file_of(rt.alloc(), &FAULTY)?;
     for (input, script, replies, reports) in UNTAKEN {
         let devices = Devices { input, ..SOUND };
-        let played = play(rt.alloc(), &octets, script.as_bytes(), devices);
+        let played = play_on::<Routes>(rt.alloc(), &octets, script.as_bytes(), devices);
         assert_eq!(rt; played.outcome, outcome_of(reports), "of {script}");
         assert_played(
             &rt,

@@ -1,12 +1,12 @@
 //! The lines of scripts: those that are commands, those that aren't, and too many.
 
+use super::devices::{Devices, assert_played, play_on};
 use super::playing::{LOSS, Routes, Row, UNREAD, assert_rows};
-use bgpdump_tool::{Outcome, run_play};
+use bgpdump_tool::Outcome;
 use mrt_wire::Stamp;
 use std::alloc::{AllocError, Global};
 use std::process::Abort;
 use std::test::Fail;
-use test_devices::{SlowInput, SlowOutput};
 
 /// The longest script.
 const LONGEST: usize = 1_048_576;
@@ -119,23 +119,22 @@ fn reports_lines_that_are_no_commands(rt: HostRuntime) -> Result<(), Fail> {
     assert_rows(&rt, rt.alloc(), Stamp::Dump, &BAD_LINES)
 }
 
+/// An input that fails at once, and outputs of which each `put` fails.
+const STUCK: Devices = Devices {
+    step: 1,
+    input: 0,
+    out: 0,
+    err: 0,
+    out_finishes: true,
+    err_finishes: true,
+};
+
 /// Asserts how a run ends that neither reads nor writes, and how often it finishes each output.
-/// The input fails at once, and so does each `put`.
 fn assert_idle(rt: &impl Abort, alloc: Global, script: &[u8], want: Outcome, finishes: u64) {
-    let mut input = SlowInput::new(b"", 1, 0);
-    let mut out = SlowOutput::new(alloc, 1, 0, true);
-    let mut err = SlowOutput::new(alloc, 1, 0, true);
-    let outcome = run_play::<Routes, _, _, _>(
-        alloc,
-        &mut input,
-        script,
-        &mut out,
-        &mut err,
-        Stamp::Dump,
-    );
-    assert_eq!(rt; outcome, want);
-    assert_eq!(rt; (out.put_calls, err.put_calls), (0, 0));
-    assert_eq!(rt; (out.finish_calls, err.finish_calls), (finishes, finishes));
+    let played = play_on::<Routes>(alloc, b"", script, STUCK);
+    assert_eq!(rt; played.outcome, want);
+    assert_eq!(rt; (played.out.put_calls, played.err.put_calls), (0, 0));
+    assert_played(rt, &played, b"", b"", (finishes, finishes), script.len());
 }
 
 /// So many line feeds.
