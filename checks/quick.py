@@ -40,7 +40,7 @@ def changes_of(edit):
 
 def item_before(text, end):
     """The name of the last function, constant or table that begins before this place."""
-    names = re.findall(r'\b(?:fn|static|const(?! fn\b)) (\w+)', text[:end])
+    names = re.findall(r"\b(?:fn|(?<!')static|const(?! fn\b)) (\w+)", text[:end])
     return names[-1] if names else None
 
 
