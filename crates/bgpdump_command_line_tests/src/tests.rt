@@ -23,7 +23,7 @@ enum Asked {
 type Row = (&'static [&'static str], Asked);
 
 /// The plain ones.
-const PLAIN: [Row; 13] = [
+const PLAIN: &[Row] = &[
     (&["-m", "f"], Asked::Lines(Stamp::Dump, None, "f")),
     (&["-m", "-"], Asked::Lines(Stamp::Dump, None, "-")),
     (
@@ -74,7 +74,7 @@ const PLAIN: [Row; 13] = [
 
 /// Values that are joined to their options, options that are joined to each other, empty names, and
 /// names that look like options.
-const SPELLINGS: [Row; 16] = [
+const SPELLINGS: &[Row] = &[
     (
         &["-mt", "change", "f"],
         Asked::Lines(Stamp::Change, None, "f"),
@@ -122,7 +122,7 @@ const SPELLINGS: [Row; 16] = [
 ];
 
 /// Neither mode or both, and standard input in two places. The mode comes first.
-const MODES: [Row; 11] = [
+const MODES: &[Row] = &[
     (&["f"], Asked::Mode),
     (&["-"], Asked::Mode),
     (&["-t", "change", "-O", "o", "f"], Asked::Mode),
@@ -140,7 +140,7 @@ const MODES: [Row; 11] = [
 ];
 
 /// Words that aren't the command line's.
-const WRONG: [Row; 36] = [
+const WRONG: &[Row] = &[
     (&[], Asked::Words),
     (&["-m"], Asked::Words),
     (&["--play", "s"], Asked::Words),
@@ -188,7 +188,7 @@ const WRONG: [Row; 36] = [
 /// Help, and what is wrong in front of it: words are read in order, and the first that is wrong or
 /// asks for help ends that. A value is looked at where the next option or input is met. What misses
 /// is looked for behind all of them.
-const HELP: [Row; 17] = [
+const HELP: &[Row] = &[
     (&["--help"], Asked::Help),
     (&["-h"], Asked::Help),
     (&["-m", "--help", "f"], Asked::Help),
@@ -278,19 +278,19 @@ fn assert_asked(rt: &impl Abort, alloc: Global, rows: &[Row]) -> Result<(), Fail
 
 #[test]
 fn words_ask_for_a_mode_a_time_an_output_and_an_input(rt: HostRuntime) -> Result<(), Fail> {
-    assert_asked(&rt, rt.alloc(), &PLAIN)?;
-    assert_asked(&rt, rt.alloc(), &SPELLINGS)
+    assert_asked(&rt, rt.alloc(), PLAIN)?;
+    assert_asked(&rt, rt.alloc(), SPELLINGS)
 }
 
 #[test]
 fn words_ask_for_one_mode_and_one_standard_input(rt: HostRuntime) -> Result<(), Fail> {
-    assert_asked(&rt, rt.alloc(), &MODES)
+    assert_asked(&rt, rt.alloc(), MODES)
 }
 
 #[test]
 fn other_words_ask_for_nothing(rt: HostRuntime) -> Result<(), Fail> {
-    assert_asked(&rt, rt.alloc(), &WRONG)?;
-    assert_asked(&rt, rt.alloc(), &HELP)
+    assert_asked(&rt, rt.alloc(), WRONG)?;
+    assert_asked(&rt, rt.alloc(), HELP)
 }
 
 /// All words of a call, and what they ask for.

@@ -57,7 +57,7 @@ fn event_of(alloc: Global, tag: Tag, micros: Option<u32>) -> Result<Event, Alloc
 }
 
 /// A tag and microseconds, with the lines of that event.
-const LINES: [(Tag, Option<u32>, &str); 5] = [
+const LINES: &[(Tag, Option<u32>, &str)] = &[
     (
         Tag::TableDump2,
         None,
@@ -97,7 +97,7 @@ const LINES: [(Tag, Option<u32>, &str); 5] = [
 
 #[test]
 fn each_item_has_a_line(rt: HostRuntime) -> Result<(), Fail> {
-    for (tag, micros, want) in LINES {
+    for &(tag, micros, want) in LINES {
         let event = event_of(rt.alloc(), tag, micros)?;
         let mut text = Vec::new(rt.alloc());
         put_lines(&event, &mut text)?;
@@ -108,7 +108,7 @@ fn each_item_has_a_line(rt: HostRuntime) -> Result<(), Fail> {
 
 /// Entries of tables: the time of the route, the prefix, the attributes with AS numbers of four
 /// octets, and the line.
-const ENTRIES: [(u32, &str, &str, &str); 7] = [
+const ENTRIES: &[(u32, &str, &str, &str)] = &[
     (
         200,
         "10.0.0.0/8",
@@ -159,7 +159,7 @@ const ENTRIES: [(u32, &str, &str, &str); 7] = [
 
 /// Announcements of 10.128.0.0/9 at 100 seconds: the attributes with AS numbers of two octets, and
 /// the line.
-const ANNOUNCEMENTS: [(&str, &str); 4] = [
+const ANNOUNCEMENTS: &[(&str, &str)] = &[
     (
         "40010100 400204 0201 FBF4 400304 C0000209",
         "BGP4MP|100|A|192.0.2.1|64500|10.128.0.0/9|64500|IGP|192.0.2.9|0|0||NAG||\n",
@@ -227,7 +227,7 @@ fn lines_of(
 
 #[test]
 fn entries_show_their_attributes(rt: HostRuntime) -> Result<(), Fail> {
-    for (time, prefix, octets, want) in ENTRIES {
+    for &(time, prefix, octets, want) in ENTRIES {
         let tag = Tag::TableDump2;
         let text = lines_of(rt.alloc(), tag, 200, time, prefix, AsWidth::Four, octets)?;
         assert_eq!(rt; text.as_slice(), want.as_bytes());
@@ -237,7 +237,7 @@ fn entries_show_their_attributes(rt: HostRuntime) -> Result<(), Fail> {
 
 #[test]
 fn announcements_show_their_attributes(rt: HostRuntime) -> Result<(), Fail> {
-    for (octets, want) in ANNOUNCEMENTS {
+    for &(octets, want) in ANNOUNCEMENTS {
         let tag = Tag::Bgp4mp;
         let prefix = "10.128.0.0/9";
         let text = lines_of(rt.alloc(), tag, 100, 100, prefix, AsWidth::Two, octets)?;

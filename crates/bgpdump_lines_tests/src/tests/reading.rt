@@ -6,7 +6,7 @@ use std::test::Fail;
 use test_octets::{MULTICAST, STATE_CHANGE, octets_of};
 
 /// Records, with their lines and reports.
-const READ: [(&str, &str, &str); 6] = [
+const READ: &[(&str, &str, &str)] = &[
     ("", "", ""),
     (STATE_CHANGE, LINE, ""),
     // Two octets more in the body.
@@ -36,7 +36,7 @@ const READ: [(&str, &str, &str); 6] = [
 ];
 
 /// Whole records that give no line, with what is reported of them.
-const FAULTY: [(&str, &str); 8] = [
+const FAULTY: &[(&str, &str)] = &[
     (MULTICAST, "unsupported type 13 subtype 3"),
     // Seven octets of body, and eight.
     ("00000064 0010 0000 00000007 FBF4 FBF5 0000 00", "malformed"),
@@ -84,7 +84,7 @@ const SECOND_CUT_REPORT: &str = "bgpdump: record 2, byte 32: cut record\n";
 #[test]
 fn writes_what_records_give(rt: HostRuntime) -> Result<(), Fail> {
     let alloc = rt.alloc();
-    for (octets, lines, reports) in READ {
+    for &(octets, lines, reports) in READ {
         let run = dump(alloc, &octets_of(alloc, &[octets])?);
         assert_wrote(&rt, &run, lines, reports, octets);
     }
@@ -94,7 +94,7 @@ fn writes_what_records_give(rt: HostRuntime) -> Result<(), Fail> {
 #[test]
 fn reads_on_behind_a_faulty_record(rt: HostRuntime) -> Result<(), Fail> {
     let alloc = rt.alloc();
-    for (octets, kind) in FAULTY {
+    for &(octets, kind) in FAULTY {
         let run = dump(alloc, &octets_of(alloc, &[octets, STATE_CHANGE])?);
         let reports = format!(in alloc; "bgpdump: record 1, byte 0: {kind}\n")?;
         assert_wrote(&rt, &run, LINE, reports.as_str(), octets);

@@ -36,7 +36,7 @@ fn ten() -> Prefix {
 }
 
 /// Too few words and too many, and other names.
-const OTHER_WORDS: [&str; 30] = [
+const OTHER_WORDS: &[&str] = &[
     "",
     "next 1 2",
     "back 1 2",
@@ -70,7 +70,7 @@ const OTHER_WORDS: [&str; 30] = [
 ];
 
 /// Spaces in other places, and octets that belong to their words.
-const OTHER_SPACES: [&str; 16] = [
+const OTHER_SPACES: &[&str] = &[
     " ",
     "  ",
     " where",
@@ -90,7 +90,7 @@ const OTHER_SPACES: [&str; 16] = [
 ];
 
 /// Other numbers, addresses and prefixes.
-const OTHER_VALUES: [&str; 23] = [
+const OTHER_VALUES: &[&str] = &[
     "next 0",
     "back 0",
     "next 01",
@@ -163,13 +163,13 @@ fn reads_what_is_asked_of_a_peer(rt: HostRuntime) {
 
 #[test]
 fn reads_no_other_line(rt: HostRuntime) {
-    for line in OTHER_WORDS {
+    for &line in OTHER_WORDS {
         assert_eq!(rt; read_command(line.as_bytes()), None, "{line}");
     }
-    for line in OTHER_SPACES {
+    for &line in OTHER_SPACES {
         assert_eq!(rt; read_command(line.as_bytes()), None, "{line}");
     }
-    for line in OTHER_VALUES {
+    for &line in OTHER_VALUES {
         assert_eq!(rt; read_command(line.as_bytes()), None, "{line}");
     }
     assert_eq!(rt; read_command(b"next 1\xFF"), None);

@@ -91,14 +91,14 @@ fn assert_ended(rt: &impl Abort, played: &Played, outcome: Outcome, replies: &st
 }
 
 /// The announcement of 10.0.0.0/8, and of another route to it.
-const REPLACED: [Record; 2] = [
+const REPLACED: &[Record] = &[
     ANNOUNCED,
     Record::Update(FIRST, 101, "080A", &[OTHER_HOP], "080A"),
 ];
 
 #[test]
 fn a_store_that_refuses_all_keys_ends_a_script(rt: HostRuntime) -> Result<(), Fail> {
-    let octets = file_of(rt.alloc(), &REPLACED)?;
+    let octets = file_of(rt.alloc(), REPLACED)?;
     let script =
         "next 2\nroute 192.0.2.1 64500 10.0.0.0/8\nback\nroute 192.0.2.1 64500 10.0.0.0/8\n";
     let played = play::<0>(rt.alloc(), &octets, script);
@@ -107,7 +107,7 @@ fn a_store_that_refuses_all_keys_ends_a_script(rt: HostRuntime) -> Result<(), Fa
 }
 
 /// A faulty record between two, of which the second announces a further prefix.
-const FURTHER: [Record; 3] = [
+const FURTHER: &[Record] = &[
     ANNOUNCED,
     UNREAD,
     Record::Update(FIRST, 101, "", &[OTHER_HOP], "080A 100A01"),
@@ -115,7 +115,7 @@ const FURTHER: [Record; 3] = [
 
 /// Scripts over them, whose last commands play the second announcement, in one way and another;
 /// the replies that stand where it is refused, and all; and the reports, which stand in each case.
-const REFUSED: [(&str, &str, &str, &str); 3] = [
+const REFUSED: &[(&str, &str, &str, &str)] = &[
     (
         "next\nfoo\nnext\nwhere\nnext\n",
         "at 1\nat 1\nat 1 ahead 0\n",
@@ -139,8 +139,8 @@ const REFUSED: [(&str, &str, &str, &str); 3] = [
 
 #[test]
 fn a_refused_key_leaves_the_replies_before(rt: HostRuntime) -> Result<(), Fail> {
-    let octets = file_of(rt.alloc(), &FURTHER)?;
-    for (script, before, all, reports) in REFUSED {
+    let octets = file_of(rt.alloc(), FURTHER)?;
+    for &(script, before, all, reports) in REFUSED {
         let played = play::<1>(rt.alloc(), &octets, script);
         assert_ended(&rt, &played, Outcome::Memory, before, reports);
         let played = play::<2>(rt.alloc(), &octets, script);
@@ -151,7 +151,7 @@ fn a_refused_key_leaves_the_replies_before(rt: HostRuntime) -> Result<(), Fail> 
 
 #[test]
 fn a_loss_wants_no_key(rt: HostRuntime) -> Result<(), Fail> {
-    let octets = file_of(rt.alloc(), &REPLACED)?;
+    let octets = file_of(rt.alloc(), REPLACED)?;
     let script = "next 2\nlose 192.0.2.1 64500\npeers\nback\npeers\n";
     let played = play::<1>(rt.alloc(), &octets, script);
     let replies = "at 2\nat 3 dropped 0\nnone\nat 2\nPEER|192.0.2.1|64500|1\n";

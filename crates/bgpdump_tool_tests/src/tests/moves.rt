@@ -24,7 +24,7 @@ const REPLACED: Record = Record::Update(FIRST, 101, "", &[OTHER_HOP], "080A");
 const WITHDRAWN: Record = Record::Update(FIRST, 102, "080A", &[], "");
 
 /// Steps on and back, over records without faults.
-const STEPS: [Row; 12] = [
+const STEPS: &[Row] = &[
     (
         &[LOSS; 3],
         "next 2\nback 5\nback 5\nnext 3\nnext\n",
@@ -94,7 +94,7 @@ const STEPS: [Row; 12] = [
 ];
 
 /// To positions, over records without faults.
-const POSITIONS: [Row; 5] = [
+const POSITIONS: &[Row] = &[
     (
         &[LOSS; 3],
         "goto 2\ngoto 9\ngoto 0\ngoto 3\ngoto 4\n",
@@ -139,7 +139,7 @@ const TWO_UNREAD: &str = "bgpdump: record 1, byte 0: unsupported type 13 subtype
                           bgpdump: record 3, byte 63: unsupported type 13 subtype 3\n";
 
 /// Moves over faulty records.
-const FAULTY: [Row; 14] = [
+const FAULTY: &[Row] = &[
     (
         &[MALFORMED, LOSS],
         "next\nnext\nnext\n",
@@ -232,7 +232,7 @@ const FAULTY: [Row; 14] = [
 ];
 
 /// Losses of sessions.
-const LOSSES: [Row; 9] = [
+const LOSSES: &[Row] = &[
     (
         &[LOSS; 3],
         "next 3\nback 2\nlose 192.0.2.1 64500\nwhere\n",
@@ -300,20 +300,20 @@ const LOSSES: [Row; 9] = [
 
 #[test]
 fn goes_on_and_back(rt: HostRuntime) -> Result<(), Fail> {
-    assert_rows(&rt, rt.alloc(), Stamp::Dump, &STEPS)
+    assert_rows(&rt, rt.alloc(), Stamp::Dump, STEPS)
 }
 
 #[test]
 fn goes_to_positions(rt: HostRuntime) -> Result<(), Fail> {
-    assert_rows(&rt, rt.alloc(), Stamp::Dump, &POSITIONS)
+    assert_rows(&rt, rt.alloc(), Stamp::Dump, POSITIONS)
 }
 
 #[test]
 fn goes_over_faulty_records(rt: HostRuntime) -> Result<(), Fail> {
-    assert_rows(&rt, rt.alloc(), Stamp::Dump, &FAULTY)
+    assert_rows(&rt, rt.alloc(), Stamp::Dump, FAULTY)
 }
 
 #[test]
 fn loses_sessions(rt: HostRuntime) -> Result<(), Fail> {
-    assert_rows(&rt, rt.alloc(), Stamp::Dump, &LOSSES)
+    assert_rows(&rt, rt.alloc(), Stamp::Dump, LOSSES)
 }

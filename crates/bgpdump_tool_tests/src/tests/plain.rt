@@ -7,7 +7,7 @@ use std::alloc::{AllocError, Global};
 pub(super) type Who = (&'static str, u32, &'static str);
 
 /// The peers, in order.
-const PEERS: [Who; 3] = [
+const PEERS: &[Who] = &[
     ("192.0.2.1", 64500, FIRST),
     ("192.0.2.1", 64501, SECOND),
     ("2001:db8::1", 64500, WIDE),
@@ -23,7 +23,7 @@ pub(super) type Prefix = (
 );
 
 /// The prefixes, in order.
-const PREFIXES: [Prefix; 5] = [
+const PREFIXES: &[Prefix] = &[
     ("0.0.0.0/0", "192.0.2.9", ("00", ""), ("00", "")),
     ("10.0.0.0/8", "192.0.2.9", ("080A", ""), ("080A", "")),
     ("10.1.0.0/16", "192.0.2.9", ("100A01", ""), ("100A01", "")),
@@ -42,7 +42,7 @@ const PREFIXES: [Prefix; 5] = [
 ];
 
 /// Addresses, each with the prefixes that contain it, the longest first.
-const ADDRESSES: [(&str, &[usize]); 6] = [
+const ADDRESSES: &[(&str, &[usize])] = &[
     ("10.1.2.3", &[2, 1, 0]),
     ("10.2.0.0", &[1, 0]),
     ("11.0.0.1", &[0]),

@@ -14,7 +14,7 @@ const REPLACED: Record = Record::Update(FIRST, 101, "080A", &[OTHER_HOP], "080A"
 const THREE: Record = Record::Update(FIRST, 100, "", &[NINE, WIDE_0], "080A 100A01");
 
 /// Routes to prefixes.
-const ROUTES: [Row; 5] = [
+const ROUTES: &[Row] = &[
     (
         &[ANNOUNCED, REPLACED],
         "next 2\nroute 192.0.2.1 64500 10.0.0.0/8\nback\nroute 192.0.2.1 64500 10.0.0.0/8\n",
@@ -67,7 +67,7 @@ const ROUTES: [Row; 5] = [
 ];
 
 /// The longest matches of addresses.
-const MATCHES: [Row; 4] = [
+const MATCHES: &[Row] = &[
     (
         &[THREE, Record::Update(FIRST, 101, "100A01", &[], "")],
         "next 2\nlookup 192.0.2.1 64500 10.1.2.3\nback\nlookup 192.0.2.1 64500 10.1.2.3\n\
@@ -114,7 +114,7 @@ const MATCHES: [Row; 4] = [
 ];
 
 /// Tables of peers.
-const TABLES: [Row; 3] = [
+const TABLES: &[Row] = &[
     (
         &[THREE],
         "next\ntable 192.0.2.1 64500\ntable 192.0.2.1 1\n",
@@ -164,7 +164,7 @@ const LATE_LOSS: Record = Record::Octets(
 );
 
 /// Peers that have routes.
-const PEERS: [Row; 5] = [
+const PEERS: &[Row] = &[
     // Two of one address.
     (
         &[
@@ -239,7 +239,7 @@ const PEERS: [Row; 5] = [
 ];
 
 /// All that is asked at each position round the loss of a session, also from behind.
-const AROUND_A_LOSS: [Row; 2] = [
+const AROUND_A_LOSS: &[Row] = &[
     (
         &[
             THREE,
@@ -301,7 +301,7 @@ const AROUND_A_LOSS: [Row; 2] = [
 ];
 
 /// A table's entry and a message, at the time of the dump.
-const DUMPED: [Row; 1] = [(
+const DUMPED: &[Row] = &[(
     &[INDEX, ENTRY, REPLACED],
     "next 2\nroute 192.0.2.1 64500 10.0.0.0/8\nnext\nlookup 192.0.2.1 64500 10.0.0.1\n",
     "at 2\n\
@@ -312,7 +312,7 @@ const DUMPED: [Row; 1] = [(
 )];
 
 /// The same where entries have the time at which they were originated.
-const CHANGED: [Row; 1] = [(
+const CHANGED: &[Row] = &[(
     &[INDEX, ENTRY, REPLACED],
     "next 2\nroute 192.0.2.1 64500 10.0.0.0/8\nnext\nlookup 192.0.2.1 64500 10.0.0.1\nback\n\
      table 192.0.2.1 64500\n",
@@ -328,31 +328,31 @@ const CHANGED: [Row; 1] = [(
 
 #[test]
 fn replies_with_routes(rt: HostRuntime) -> Result<(), Fail> {
-    assert_rows(&rt, rt.alloc(), Stamp::Dump, &ROUTES)
+    assert_rows(&rt, rt.alloc(), Stamp::Dump, ROUTES)
 }
 
 #[test]
 fn replies_with_longest_matches(rt: HostRuntime) -> Result<(), Fail> {
-    assert_rows(&rt, rt.alloc(), Stamp::Dump, &MATCHES)
+    assert_rows(&rt, rt.alloc(), Stamp::Dump, MATCHES)
 }
 
 #[test]
 fn replies_with_tables(rt: HostRuntime) -> Result<(), Fail> {
-    assert_rows(&rt, rt.alloc(), Stamp::Dump, &TABLES)
+    assert_rows(&rt, rt.alloc(), Stamp::Dump, TABLES)
 }
 
 #[test]
 fn replies_with_peers(rt: HostRuntime) -> Result<(), Fail> {
-    assert_rows(&rt, rt.alloc(), Stamp::Dump, &PEERS)
+    assert_rows(&rt, rt.alloc(), Stamp::Dump, PEERS)
 }
 
 #[test]
 fn replies_around_a_loss(rt: HostRuntime) -> Result<(), Fail> {
-    assert_rows(&rt, rt.alloc(), Stamp::Dump, &AROUND_A_LOSS)
+    assert_rows(&rt, rt.alloc(), Stamp::Dump, AROUND_A_LOSS)
 }
 
 #[test]
 fn replies_with_the_times_of_entries(rt: HostRuntime) -> Result<(), Fail> {
-    assert_rows(&rt, rt.alloc(), Stamp::Dump, &DUMPED)?;
-    assert_rows(&rt, rt.alloc(), Stamp::Change, &CHANGED)
+    assert_rows(&rt, rt.alloc(), Stamp::Dump, DUMPED)?;
+    assert_rows(&rt, rt.alloc(), Stamp::Change, CHANGED)
 }

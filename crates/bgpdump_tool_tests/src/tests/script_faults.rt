@@ -10,7 +10,7 @@ use std::process::Abort;
 use std::test::Fail;
 
 /// An index of a peer, an entry of its table, an UPDATE, and a record that is cut: 206 octets.
-const DAMAGED: [Record; 4] = [
+const DAMAGED: &[Record] = &[
     INDEX,
     ENTRY,
     Record::Update(FIRST, 100, "", &[NINE], "090AFF"),
@@ -32,7 +32,7 @@ const FIRST_REPORT: usize = 40;
 
 #[test]
 fn carries_out_octet_by_octet(rt: HostRuntime) -> Result<(), Fail> {
-    let octets = file_of(rt.alloc(), &DAMAGED)?;
+    let octets = file_of(rt.alloc(), DAMAGED)?;
     assert_eq!(rt; octets.len(), 206);
     for step in [MANY, 7, 1] {
         let devices = Devices { step, ..SOUND };
@@ -67,7 +67,7 @@ fn assert_cut(
 
 #[test]
 fn a_read_fault_ends_a_script(rt: HostRuntime) -> Result<(), Fail> {
-    let octets = file_of(rt.alloc(), &DAMAGED)?;
+    let octets = file_of(rt.alloc(), DAMAGED)?;
     for input in 0..207 {
         assert_cut(&rt, rt.alloc(), &octets, SCRIPT, input, b"", b"");
     }
@@ -75,7 +75,7 @@ fn a_read_fault_ends_a_script(rt: HostRuntime) -> Result<(), Fail> {
 }
 
 /// A part of a multicast table, a state change, such a part, and a record that is cut: 125 octets.
-const FAULTY: [Record; 4] = [UNREAD, LOSS, UNREAD, CUT];
+const FAULTY: &[Record] = &[UNREAD, LOSS, UNREAD, CUT];
 
 /// A script over it, the replies and the reports.
 const FAULTY_SCRIPT: &[u8] = b"next 2\nfoo\nnext 9\nwhere\n";
@@ -96,7 +96,7 @@ const THREE: usize = 151;
 
 #[test]
 fn a_read_fault_leaves_the_reports_of_what_was_taken(rt: HostRuntime) -> Result<(), Fail> {
-    let octets = file_of(rt.alloc(), &FAULTY)?;
+    let octets = file_of(rt.alloc(), FAULTY)?;
     assert_eq!(rt; octets.len(), 125);
     for input in 0..126 {
         let (replied, reported) = match input {
@@ -141,7 +141,7 @@ fn assert_stuck(
 
 #[test]
 fn a_fault_of_the_replies_ends_a_script(rt: HostRuntime) -> Result<(), Fail> {
-    let octets = file_of(rt.alloc(), &DAMAGED)?;
+    let octets = file_of(rt.alloc(), DAMAGED)?;
     for out in 0..REPLIES.len() {
         let reported = if out < FIRST_REPLY {
             FIRST_REPORT
@@ -158,7 +158,7 @@ fn a_fault_of_the_replies_ends_a_script(rt: HostRuntime) -> Result<(), Fail> {
 
 #[test]
 fn a_fault_of_the_reports_ends_a_script(rt: HostRuntime) -> Result<(), Fail> {
-    let octets = file_of(rt.alloc(), &DAMAGED)?;
+    let octets = file_of(rt.alloc(), DAMAGED)?;
     for err in 0..REPORTS.len() {
         let replied = if err < FIRST_REPORT { 0 } else { FIRST_REPLY };
         for step in [MANY, 4, 1] {
@@ -171,7 +171,7 @@ fn a_fault_of_the_reports_ends_a_script(rt: HostRuntime) -> Result<(), Fail> {
 
 #[test]
 fn a_fault_at_the_finish_leaves_the_whole_texts(rt: HostRuntime) -> Result<(), Fail> {
-    let octets = file_of(rt.alloc(), &DAMAGED)?;
+    let octets = file_of(rt.alloc(), DAMAGED)?;
     for (case, out_finishes, err_finishes) in [
         (0, false, false),
         (0, false, true),
@@ -192,7 +192,7 @@ fn a_fault_at_the_finish_leaves_the_whole_texts(rt: HostRuntime) -> Result<(), F
 
 /// How many octets are there to be taken, and scripts that take no more, nor look for the end,
 /// with the replies and the reports.
-const UNTAKEN: [(usize, &str, &str, &str); 6] = [
+const UNTAKEN: &[(usize, &str, &str, &str)] = &[
     (0, "", "", ""),
     (
         0,
@@ -230,8 +230,8 @@ const UNTAKEN: [(usize, &str, &str, &str); 6] = [
 
 #[test]
 fn records_that_no_command_takes_are_left(rt: HostRuntime) -> Result<(), Fail> {
-    let octets = file_of(rt.alloc(), &FAULTY)?;
-    for (input, script, replies, reports) in UNTAKEN {
+    let octets = file_of(rt.alloc(), FAULTY)?;
+    for &(input, script, replies, reports) in UNTAKEN {
         let devices = Devices { input, ..SOUND };
         let played = play_on::<Routes>(rt.alloc(), &octets, script.as_bytes(), devices);
         assert_eq!(rt; played.outcome, outcome_of(reports), "of {script}");

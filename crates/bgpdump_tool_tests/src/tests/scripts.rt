@@ -12,7 +12,7 @@ use std::test::Fail;
 const LONGEST: usize = 1_048_576;
 
 /// Scripts of no line but empty ones, and ones whose last line has no line feed.
-const ENDS: [Row; 8] = [
+const ENDS: &[Row] = &[
     (&[LOSS], "", "", ""),
     (&[LOSS], "\n", "", ""),
     (&[LOSS], "\n\n\n\n", "", ""),
@@ -34,7 +34,7 @@ const ENDS: [Row; 8] = [
 ];
 
 /// Scripts with lines that are no commands.
-const BAD_LINES: [Row; 8] = [
+const BAD_LINES: &[Row] = &[
     (
         &[LOSS],
         "next\nfoo\n\nwhere\n",
@@ -111,12 +111,12 @@ const BAD_LINES: [Row; 8] = [
 
 #[test]
 fn lines_end_with_line_feeds(rt: HostRuntime) -> Result<(), Fail> {
-    assert_rows(&rt, rt.alloc(), Stamp::Dump, &ENDS)
+    assert_rows(&rt, rt.alloc(), Stamp::Dump, ENDS)
 }
 
 #[test]
 fn reports_lines_that_are_no_commands(rt: HostRuntime) -> Result<(), Fail> {
-    assert_rows(&rt, rt.alloc(), Stamp::Dump, &BAD_LINES)
+    assert_rows(&rt, rt.alloc(), Stamp::Dump, BAD_LINES)
 }
 
 /// An input that fails at once, and outputs of which each `put` fails.

@@ -9,7 +9,7 @@ use std::test::Fail;
 const FRONT: &[u8] = b"front|";
 
 /// Numbers of each size.
-const NUMBERS: [(u32, &str); 16] = [
+const NUMBERS: &[(u32, &str)] = &[
     (0, "0"),
     (9, "9"),
     (10, "10"),
@@ -29,7 +29,7 @@ const NUMBERS: [(u32, &str); 16] = [
 ];
 
 /// Addresses, each as its text.
-const ADDRESSES: [&str; 10] = [
+const ADDRESSES: &[&str] = &[
     "0.0.0.0",
     "1.20.255.9",
     "255.255.255.255",
@@ -43,7 +43,7 @@ const ADDRESSES: [&str; 10] = [
 ];
 
 /// Prefixes, each as its text.
-const PREFIXES: [&str; 6] = [
+const PREFIXES: &[&str] = &[
     "0.0.0.0/0",
     "10.0.0.0/8",
     "192.0.2.1/32",
@@ -71,7 +71,7 @@ fn assert_written(rt: &impl Abort, buffer: &[u8], end: usize, text: &str) {
 
 #[test]
 fn writes_numbers_in_place(rt: HostRuntime) -> Result<(), Fail> {
-    for (number, text) in NUMBERS {
+    for &(number, text) in NUMBERS {
         let mut buffer = buffer_with_front();
         assert!(rt; FRONT.len() + DECIMAL_ROOM <= buffer.len());
         let end = write_decimal(number, &mut buffer, FRONT.len());
@@ -82,7 +82,7 @@ fn writes_numbers_in_place(rt: HostRuntime) -> Result<(), Fail> {
 
 #[test]
 fn writes_addresses_in_place(rt: HostRuntime) -> Result<(), Fail> {
-    for text in ADDRESSES {
+    for &text in ADDRESSES {
         let address = Addr::parse(text.as_bytes()).ok_or("an address")?;
         let mut buffer = buffer_with_front();
         assert!(rt; FRONT.len() + ADDRESS_ROOM <= buffer.len());
@@ -147,7 +147,7 @@ fn shortens_the_first_longest_run(rt: HostRuntime) -> Result<(), Fail> {
 
 #[test]
 fn writes_prefixes_in_place(rt: HostRuntime) -> Result<(), Fail> {
-    for text in PREFIXES {
+    for &text in PREFIXES {
         let prefix = Prefix::parse(text.as_bytes()).ok_or("a prefix")?;
         let mut buffer = buffer_with_front();
         assert!(rt; FRONT.len() + PREFIX_ROOM <= buffer.len());
