@@ -3,6 +3,7 @@
 use bgpdump_tool::{Command, read_command};
 use ip_prefix::{Addr, Prefix};
 use mrt_wire::Peer;
+use std::process::Abort;
 
 /// The address 192.0.2.1.
 fn address() -> Addr {
@@ -161,16 +162,17 @@ fn reads_what_is_asked_of_a_peer(rt: HostRuntime) {
     }
 }
 
+/// Asserts that none of these lines is a command.
+fn assert_no_commands(rt: &impl Abort, lines: &[&str]) {
+    for line in lines {
+        assert_eq!(rt; read_command(line.as_bytes()), None, "{line}");
+    }
+}
+
 #[test]
 fn reads_no_other_line(rt: HostRuntime) {
-    for &line in OTHER_WORDS {
-        assert_eq!(rt; read_command(line.as_bytes()), None, "{line}");
-    }
-    for &line in OTHER_SPACES {
-        assert_eq!(rt; read_command(line.as_bytes()), None, "{line}");
-    }
-    for &line in OTHER_VALUES {
-        assert_eq!(rt; read_command(line.as_bytes()), None, "{line}");
-    }
+    assert_no_commands(&rt, OTHER_WORDS);
+    assert_no_commands(&rt, OTHER_SPACES);
+    assert_no_commands(&rt, OTHER_VALUES);
     assert_eq!(rt; read_command(b"next 1\xFF"), None);
 }
