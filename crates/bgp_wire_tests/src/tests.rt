@@ -59,36 +59,88 @@ fn put_aggregator(aggregator: Option<Aggregator>, text: &mut Vec<u8>) -> Result<
     aggregator.addr.put_text(text)
 }
 
-/// What attributes say: path, origin, next hop, local preference, metric, communities, AG or NAG,
-/// aggregator. Nothing stands for what is absent.
-fn shown(alloc: Global, attrs: &Attrs) -> Result<Vec<u8>, AllocError> {
-    let mut text = Vec::new(alloc);
-    attrs.path.put_text(&mut text)?;
+/// Appends what attributes say: path, origin, next hop, local preference, metric, communities, AG
+/// or NAG, aggregator. Nothing stands for what is absent.
+fn put_attrs(attrs: &Attrs, text: &mut Vec<u8>) -> Result<(), AllocError> {
+    attrs.path.put_text(text)?;
     text.extend_from_slice(b"|")?;
     text.extend_from_slice(origin_word(attrs.origin).as_bytes())?;
     text.extend_from_slice(b"|")?;
-    put_address(attrs.next_hop, &mut text)?;
-    put_number(attrs.local_pref, &mut text)?;
-    put_number(attrs.med, &mut text)?;
-    bgp_wire::put_communities(attrs.communities.as_slice(), &mut text)?;
+    put_address(attrs.next_hop, text)?;
+    put_number(attrs.local_pref, text)?;
+    put_number(attrs.med, text)?;
+    bgp_wire::put_communities(attrs.communities.as_slice(), text)?;
     let atomic = if attrs.atomic { "|AG|" } else { "|NAG|" };
     text.extend_from_slice(atomic.as_bytes())?;
-    put_aggregator(attrs.aggregator, &mut text)?;
-    Ok(text)
+    put_aggregator(attrs.aggregator, text)
 }
 
-/// What the octets say as attributes of a RIB entry, shown of a copy.
+/// Asserts what attributes say.
+fn assert_shown(
+    rt: &impl Abort,
+    alloc: Global,
+    attrs: &Attrs,
+    want: &str,
+) -> Result<(), AllocError> {
+    let mut text = Vec::new(alloc);
+    put_attrs(attrs, &mut text)?;
+    assert_eq!(rt; text.as_slice(), want.as_bytes(), "{want}");
+    Ok(())
+}
+
+/// Appends what the octets say as attributes of a RIB entry, shown of a copy.
+fn put_read(
+    alloc: Global,
+    family: Family,
+    width: AsWidth,
+    octets: &[u8],
+    text: &mut Vec<u8>,
+) -> Result<(), WireFault> {
+    let attrs = read_rib_attrs(alloc, family, width, octets)?;
+    put_attrs(&attrs.clone()?, text)?;
+    Ok(())
+}
+
+/// What the octets say as attributes of a RIB entry.
 fn read_shown(
     alloc: Global,
     family: Family,
     width: AsWidth,
     octets: &[u8],
 ) -> Result<Vec<u8>, WireFault> {
-    match read_rib_attrs(alloc, family, width, octets) {
-        Ok(attrs) => Ok(shown(alloc, &attrs.clone()?)?),
-        Err(WireFault::Malformed) => Ok(Vec::from_slice(alloc, MALFORMED.as_bytes())?),
-        Err(WireFault::Memory) => Err(WireFault::Memory),
+    let mut text = Vec::new(alloc);
+    match put_read(alloc, family, width, octets, &mut text) {
+        Err(WireFault::Malformed) => text.extend_from_slice(MALFORMED.as_bytes())?,
+        read => read?,
     }
+    Ok(text)
+}
+
+/// Asserts what octets say.
+fn assert_read(
+    rt: &impl Abort,
+    alloc: Global,
+    family: Family,
+    width: AsWidth,
+    octets: &[u8],
+    want: &str,
+) -> Result<(), WireFault> {
+    let text = read_shown(alloc, family, width, octets)?;
+    assert_eq!(rt; text.as_slice(), want.as_bytes(), "{octets:?}");
+    Ok(())
+}
+
+/// Asserts what octets say that are written in hexadecimal, one text behind the other.
+fn assert_texts(
+    rt: &impl Abort,
+    alloc: Global,
+    family: Family,
+    width: AsWidth,
+    texts: &[&str],
+    want: &str,
+) -> Result<(), WireFault> {
+    let octets = octets_of(alloc, texts)?;
+    assert_read(rt, alloc, family, width, &octets, want)
 }
 
 /// Asserts what octets say, which are written in hexadecimal.
@@ -100,8 +152,21 @@ fn assert_rows(
     rows: &[(&str, &str)],
 ) -> Result<(), WireFault> {
     for (octets, want) in rows {
-        let text = read_shown(alloc, family, width, &octets_of(alloc, &[octets])?)?;
-        assert_eq!(rt; text.as_slice(), want.as_bytes(), "{octets}");
+        assert_texts(rt, alloc, family, width, &[octets], want)?;
+    }
+    Ok(())
+}
+
+/// Asserts that octets are no list of attributes, which are written in hexadecimal.
+fn assert_refused(
+    rt: &impl Abort,
+    alloc: Global,
+    family: Family,
+    width: AsWidth,
+    rows: &[&str],
+) -> Result<(), WireFault> {
+    for octets in rows {
+        assert_texts(rt, alloc, family, width, &[octets], MALFORMED)?;
     }
     Ok(())
 }

@@ -1,12 +1,14 @@
 //! Attributes and messages read into the memory of others.
 
 use super::messages::{COMMON, message_of, update_of};
-use super::{MALFORMED, NOTHING, shown};
+use super::{MALFORMED, NOTHING, assert_shown, put_attrs};
 use bgp_wire::{
     AsWidth, Attrs, MessageKind, UpdateParts, WireFault, read_rib_attrs, replace_attrs,
     replace_message, replace_rib_attrs,
 };
 use ip_prefix::Family;
+use std::alloc::{AllocError, Global};
+use std::process::Abort;
 use std::test::Fail;
 use test_octets::octets_of;
 
@@ -29,23 +31,61 @@ const ROWS: [(&str, &str); 8] = [
     ("400206 0101 00000009 400600", "{9}||||||AG|"),
 ];
 
+/// Reads the octets in place of attributes, and appends what those say then.
+fn put_replaced(
+    alloc: Global,
+    attrs: &mut Attrs,
+    octets: &[u8],
+    text: &mut Vec<u8>,
+) -> Result<(), WireFault> {
+    match replace_rib_attrs(alloc, attrs, Family::V4, AsWidth::Four, octets) {
+        Err(WireFault::Malformed) => text.extend_from_slice(MALFORMED.as_bytes())?,
+        read => {
+            read?;
+            put_attrs(attrs, text)?;
+        }
+    }
+    Ok(())
+}
+
+/// Whether attributes have a path or communities.
+fn has_lists(attrs: &Attrs) -> bool {
+    !attrs.path.segments.as_slice().is_empty() || !attrs.communities.as_slice().is_empty()
+}
+
+/// Asserts what attributes say once the octets were read in place of them. Refused, they have
+/// neither a path nor communities.
+fn assert_replaced(
+    rt: &impl Abort,
+    alloc: Global,
+    attrs: &mut Attrs,
+    octets: &[u8],
+    want: &str,
+) -> Result<(), WireFault> {
+    let mut text = Vec::new(alloc);
+    put_replaced(alloc, attrs, octets, &mut text)?;
+    assert_eq!(rt; text.as_slice(), want.as_bytes(), "{want}");
+    assert!(rt; want != MALFORMED || !has_lists(attrs));
+    Ok(())
+}
+
 #[test]
 fn attributes_replace_others(rt: HostRuntime) -> Result<(), Fail> {
     let alloc = rt.alloc();
     let mut attrs = Attrs::none(alloc);
     for (octets, want) in ROWS {
-        let octets = octets_of(alloc, &[octets])?;
-        match replace_rib_attrs(alloc, &mut attrs, Family::V4, AsWidth::Four, &octets) {
-            Ok(()) => assert_eq!(rt; shown(alloc, &attrs)?.as_slice(), want.as_bytes()),
-            Err(WireFault::Malformed) => {
-                assert_eq!(rt; want, MALFORMED);
-                assert!(rt; attrs.path.segments.as_slice().is_empty());
-                assert!(rt; attrs.communities.as_slice().is_empty());
-            }
-            Err(WireFault::Memory) => assert!(rt; false, "there is memory"),
-        }
+        assert_replaced(&rt, alloc, &mut attrs, &octets_of(alloc, &[octets])?, want)?;
     }
     Ok(())
+}
+
+/// Copies what the octets say over other attributes, where they say anything.
+fn copy_read(alloc: Global, copy: &mut Attrs, octets: &[u8]) -> Result<bool, AllocError> {
+    let Ok(attrs) = read_rib_attrs(alloc, Family::V4, AsWidth::Four, octets) else {
+        return Ok(false);
+    };
+    replace_attrs(alloc, copy, &attrs)?;
+    Ok(true)
 }
 
 #[test]
@@ -53,10 +93,8 @@ fn attributes_are_copied_over_others(rt: HostRuntime) -> Result<(), Fail> {
     let alloc = rt.alloc();
     let mut copy = Attrs::none(alloc);
     for (octets, want) in ROWS {
-        let octets = octets_of(alloc, &[octets])?;
-        if let Ok(attrs) = read_rib_attrs(alloc, Family::V4, AsWidth::Four, &octets) {
-            replace_attrs(alloc, &mut copy, &attrs)?;
-            assert_eq!(rt; shown(alloc, &copy)?.as_slice(), want.as_bytes());
+        if copy_read(alloc, &mut copy, &octets_of(alloc, &[octets])?)? {
+            assert_shown(&rt, alloc, &copy, want)?;
         }
     }
     Ok(())
@@ -85,40 +123,73 @@ const MESSAGES: [(&str, &str, &str, [usize; 3]); 5] = [
     ),
 ];
 
+/// The words of what is read in place of parts.
+const UPDATE: &str = "an UPDATE";
+
+const KEEPALIVE: &str = "a KEEPALIVE";
+
+/// The word of what is read in place of parts.
+fn read_word(alloc: Global, parts: &mut UpdateParts, octets: &[u8]) -> &'static str {
+    match replace_message(alloc, parts, AsWidth::Two, octets) {
+        Ok(MessageKind::Update) => UPDATE,
+        Ok(MessageKind::Other(4)) => KEEPALIVE,
+        Ok(MessageKind::Other(_)) => "another message",
+        Err(WireFault::Malformed) => MALFORMED,
+        Err(WireFault::Memory) => "out of memory",
+    }
+}
+
+/// Asserts what parts say: how many prefixes are withdrawn, announced, and announced by
+/// MP_REACH_NLRI, and the common attributes.
+fn assert_parts(
+    rt: &impl Abort,
+    alloc: Global,
+    parts: &UpdateParts,
+    counts: [usize; 3],
+) -> Result<(), AllocError> {
+    let found = [
+        parts.withdrawn.as_slice().len(),
+        parts.announced.as_slice().len(),
+        parts.mp_announced.as_slice().len(),
+    ];
+    assert_eq!(rt; found, counts);
+    assert_eq!(rt; parts.mp_hop.is_some(), counts[2] > 0);
+    assert_shown(rt, alloc, &parts.attrs, COMMON_SHOWN)
+}
+
 #[test]
 fn messages_replace_others(rt: HostRuntime) -> Result<(), Fail> {
     let alloc = rt.alloc();
     let mut parts = UpdateParts::none(alloc);
     for (withdrawn, reach, announced, counts) in MESSAGES {
         let octets = update_of(alloc, withdrawn, &[COMMON, reach], announced)?;
-        let read = replace_message(alloc, &mut parts, AsWidth::Two, octets.as_slice());
-        assert!(rt; matches!(read, Ok(MessageKind::Update)));
-        let found = [
-            parts.withdrawn.as_slice().len(),
-            parts.announced.as_slice().len(),
-            parts.mp_announced.as_slice().len(),
-        ];
-        assert_eq!(rt; found, counts);
-        assert_eq!(rt; parts.mp_hop.is_some(), counts[2] > 0);
-        let text = shown(alloc, &parts.attrs)?;
-        assert_eq!(rt; text.as_slice(), COMMON_SHOWN.as_bytes());
+        assert_eq!(rt; read_word(alloc, &mut parts, &octets), UPDATE);
+        assert_parts(&rt, alloc, &parts, counts)?;
     }
     Ok(())
 }
+
+/// Messages one behind the other, by their types and bodies, the word of what is read, and how many
+/// prefixes are announced then.
+const KINDS: [(u8, &str, &str, usize); 3] = [
+    (
+        2,
+        "0000 0012 400101 00 400204 0201 FBF4 400304 C0000209 080A",
+        UPDATE,
+        1,
+    ),
+    (4, "", KEEPALIVE, 1),
+    (2, "00", MALFORMED, 0),
+];
 
 #[test]
 fn other_messages_leave_the_parts(rt: HostRuntime) -> Result<(), Fail> {
     let alloc = rt.alloc();
     let mut parts = UpdateParts::none(alloc);
-    let update = update_of(alloc, "", &[COMMON], "080A")?;
-    let keepalive = message_of(alloc, 4, &[])?;
-    let torn = message_of(alloc, 2, &[0])?;
-    assert!(rt; replace_message(alloc, &mut parts, AsWidth::Two, &update).is_ok());
-    let read = replace_message(alloc, &mut parts, AsWidth::Two, &keepalive);
-    assert!(rt; matches!(read, Ok(MessageKind::Other(4))));
-    assert_eq!(rt; parts.announced.as_slice().len(), 1);
-    let read = replace_message(alloc, &mut parts, AsWidth::Two, &torn);
-    assert!(rt; matches!(read, Err(WireFault::Malformed)));
-    assert_eq!(rt; parts.announced.as_slice().len(), 0);
+    for (kind, body, want, announced) in KINDS {
+        let octets = message_of(alloc, kind, &octets_of(alloc, &[body])?)?;
+        assert_eq!(rt; read_word(alloc, &mut parts, &octets), want);
+        assert_eq!(rt; parts.announced.as_slice().len(), announced);
+    }
     Ok(())
 }

@@ -3,8 +3,8 @@
 
 use super::messages::{message_of, read_update};
 use bgp_wire::{
-    AsPath, AsWidth, Attrs, UpdateParts, merge_paths, put_communities, read_rib_attrs,
-    replace_attrs, replace_message, replace_rib_attrs,
+    AsPath, AsWidth, Attrs, Communities, Update, UpdateParts, WireFault, merge_paths,
+    put_communities, read_rib_attrs, replace_attrs, replace_message, replace_rib_attrs,
 };
 use ip_prefix::Family;
 use std::alloc::{AllocError, Global};
@@ -33,7 +33,12 @@ const SET: &str = "0102 00000004 00000005";
 const PREFIX: &str = "18 0A0001";
 
 /// The octets of the first text, and behind them so many times those of the second.
-fn repeated(alloc: Global, front: &str, part: &str, count: usize) -> Result<Vec<u8>, AllocError> {
+pub(super) fn repeated(
+    alloc: Global,
+    front: &str,
+    part: &str,
+    count: usize,
+) -> Result<Vec<u8>, AllocError> {
     let mut octets = octets_of(alloc, &[front])?;
     let part = octets_of(alloc, &[part])?;
     for _ in 0..count {
@@ -48,17 +53,23 @@ fn path_of(alloc: Global, front: &str, part: &str, count: usize) -> Result<AsPat
     Ok(read_rib_attrs(alloc, Family::V4, AsWidth::Four, octets.as_slice())?.path)
 }
 
-/// Asserts that 1000 sequences have been cut by 400 numbers, and that 400 sets stand behind them.
+/// The numbers of a segment where 1000 sequences were cut by 400 numbers, and 400 sets stand behind
+/// them.
+fn merged_numbers(place: usize) -> &'static [u32] {
+    match place {
+        0..=865 => &[1, 2, 3],
+        866 => &[1, 2],
+        _ => &[4, 5],
+    }
+}
+
+/// Asserts that a path has those segments.
 fn assert_merged(rt: &impl Abort, path: &AsPath) {
     let segments = path.segments.as_slice();
     assert_eq!(rt; segments.len(), 1267);
-    for (place, segment) in segments.iter().enumerate() {
-        let want: &[u32] = match place {
-            0..=865 => &[1, 2, 3],
-            866 => &[1, 2],
-            _ => &[4, 5],
-        };
-        assert_eq!(rt; segment.numbers.as_slice(), want, "segment {place}");
+    for place in 0..segments.len() {
+        let numbers = segments[place].numbers.as_slice();
+        assert_eq!(rt; numbers, merged_numbers(place), "segment {place}");
     }
 }
 
@@ -74,6 +85,18 @@ fn copies_a_path_of_many_segments(rt: HostRuntime) -> Result<(), Fail> {
     Ok(())
 }
 
+/// Reads the octets in place of attributes, and copies those over others.
+fn replace_both(
+    alloc: Global,
+    attrs: &mut Attrs,
+    copy: &mut Attrs,
+    octets: &[u8],
+) -> Result<(), WireFault> {
+    replace_rib_attrs(alloc, attrs, Family::V4, AsWidth::Four, octets)?;
+    replace_attrs(alloc, copy, attrs)?;
+    Ok(())
+}
+
 #[test]
 fn many_segments_replace_others(rt: HostRuntime) -> Result<(), Fail> {
     let alloc = rt.alloc();
@@ -81,14 +104,7 @@ fn many_segments_replace_others(rt: HostRuntime) -> Result<(), Fail> {
     let mut attrs = Attrs::none(alloc);
     let mut copy = Attrs::none(alloc);
     for _ in 0..2 {
-        replace_rib_attrs(
-            alloc,
-            &mut attrs,
-            Family::V4,
-            AsWidth::Four,
-            octets.as_slice(),
-        )?;
-        replace_attrs(alloc, &mut copy, &attrs)?;
+        replace_both(alloc, &mut attrs, &mut copy, &octets)?;
         assert_eq!(rt; copy.path.segments.as_slice().len(), 1000);
     }
     Ok(())
@@ -124,15 +140,26 @@ fn joins_paths_of_many_segments(rt: HostRuntime) -> Result<(), Fail> {
     Ok(())
 }
 
+/// A copy of the communities that the octets say.
+fn communities_of(alloc: Global, octets: &[u8]) -> Result<Communities, WireFault> {
+    let attrs = read_rib_attrs(alloc, Family::V6, AsWidth::Two, octets)?;
+    Ok(attrs.communities.clone()?)
+}
+
+/// The text of communities, and a space behind it.
+fn communities_text(alloc: Global, communities: &[u32]) -> Result<Vec<u8>, AllocError> {
+    let mut text = Vec::new(alloc);
+    put_communities(communities, &mut text)?;
+    text.push(b' ')?;
+    Ok(text)
+}
+
 #[test]
 fn reads_many_communities(rt: HostRuntime) -> Result<(), Fail> {
     let octets = repeated(rt.alloc(), "D0084E20", "FBF40001", 5000)?;
-    let attrs = read_rib_attrs(rt.alloc(), Family::V6, AsWidth::Two, octets.as_slice())?;
-    let communities = attrs.communities.clone()?;
+    let communities = communities_of(rt.alloc(), &octets)?;
     assert_eq!(rt; communities.as_slice().len(), 5000);
-    let mut text = Vec::new(rt.alloc());
-    put_communities(communities.as_slice(), &mut text)?;
-    text.push(b' ')?;
+    let text = communities_text(rt.alloc(), communities.as_slice())?;
     assert_eq!(rt; text.len(), 40000);
     for words in text.chunks(8) {
         assert_eq!(rt; words, b"64500:1 ".as_slice());
@@ -140,11 +167,10 @@ fn reads_many_communities(rt: HostRuntime) -> Result<(), Fail> {
     Ok(())
 }
 
-#[test]
-fn reads_many_prefixes(rt: HostRuntime) -> Result<(), Fail> {
-    let alloc = rt.alloc();
+/// An UPDATE with 3000 prefixes in each of its lists: withdrawn, announced by MP_REACH_NLRI,
+/// withdrawn by MP_UNREACH_NLRI, and announced.
+fn many_prefixes(alloc: Global) -> Result<Vec<u8>, AllocError> {
     let mut body = Vec::new(alloc);
-    // withdrawn, announced by MP_REACH_NLRI, withdrawn by MP_UNREACH_NLRI, and announced
     for front in [
         "2EE0",
         "5DD4 900E2EE9 000101 04 C000020B 00",
@@ -153,18 +179,31 @@ fn reads_many_prefixes(rt: HostRuntime) -> Result<(), Fail> {
     ] {
         body.append(&mut repeated(alloc, front, PREFIX, 3000)?)?;
     }
-    let octets = message_of(alloc, 2, body.as_slice())?;
+    message_of(alloc, 2, &body)
+}
+
+/// How many prefixes are announced where the message is read into parts.
+fn announced_in(alloc: Global, octets: &[u8]) -> Result<usize, WireFault> {
     let mut parts = UpdateParts::none(alloc);
-    replace_message(alloc, &mut parts, AsWidth::Four, octets.as_slice())?;
-    assert_eq!(rt; parts.announced.as_slice().len(), 3000);
-    let update = read_update(alloc, AsWidth::Four, octets.as_slice())?;
-    for prefixes in [
-        update.withdrawn,
-        update.mp_announced,
-        update.mp_withdrawn,
-        update.announced,
-    ] {
-        assert_eq!(rt; prefixes.as_slice().len(), 3000);
-    }
+    replace_message(alloc, &mut parts, AsWidth::Four, octets)?;
+    Ok(parts.announced.as_slice().len())
+}
+
+/// How many prefixes stand in each list of an UPDATE.
+fn counts_of(update: &Update) -> [usize; 4] {
+    [
+        update.withdrawn.as_slice().len(),
+        update.mp_announced.as_slice().len(),
+        update.mp_withdrawn.as_slice().len(),
+        update.announced.as_slice().len(),
+    ]
+}
+
+#[test]
+fn reads_many_prefixes(rt: HostRuntime) -> Result<(), Fail> {
+    let octets = many_prefixes(rt.alloc())?;
+    assert_eq!(rt; announced_in(rt.alloc(), &octets)?, 3000);
+    let update = read_update(rt.alloc(), AsWidth::Four, &octets)?;
+    assert_eq!(rt; counts_of(&update), [3000; 4]);
     Ok(())
 }

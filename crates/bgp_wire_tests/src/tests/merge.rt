@@ -2,10 +2,11 @@
 
 use bgp_wire::{AsNumbers, AsPath, Segment, SegmentKind, Segments, merge_paths};
 use std::alloc::{AllocError, Global};
+use std::process::Abort;
 use std::test::Fail;
 
 /// The segments of a path.
-type Parts<'a> = &'a [(SegmentKind, &'a [u32])];
+type Parts = &'static [(SegmentKind, &'static [u32])];
 
 const SEQUENCE: SegmentKind = SegmentKind::AsSequence;
 
@@ -39,121 +40,140 @@ fn joined_text(alloc: Global, first: Parts, second: Parts) -> Result<Vec<u8>, Al
     Ok(text)
 }
 
+/// Asserts the text of two paths joined.
+fn assert_joined(
+    rt: &impl Abort,
+    alloc: Global,
+    first: Parts,
+    second: Parts,
+    want: &str,
+) -> Result<(), AllocError> {
+    let text = joined_text(alloc, first, second)?;
+    assert_eq!(rt; text.as_slice(), want.as_bytes(), "{want}");
+    Ok(())
+}
+
+/// Paths, each with its text where the number 70000 is joined to it.
+const LAST_REPLACED: [(Parts, &str); 10] = [
+    (&[(SEQUENCE, &[1, 2, 3]), (SET, &[4, 5])], "1 2 3 70000"),
+    (
+        &[(SEQUENCE, &[1]), (SET, &[4, 5]), (SEQUENCE, &[2])],
+        "1 {4,5} 70000",
+    ),
+    (&[(SET, &[]), (SEQUENCE, &[1])], "{} 70000"),
+    (
+        &[(CONFED_SEQUENCE, &[65001]), (SEQUENCE, &[23456])],
+        "(65001) 70000",
+    ),
+    (
+        &[(CONFED_SEQUENCE, &[65001]), (SEQUENCE, &[64500, 23456])],
+        "(65001) 64500 70000",
+    ),
+    (
+        &[
+            (SEQUENCE, &[1, 2]),
+            (CONFED_SEQUENCE, &[65001]),
+            (SEQUENCE, &[3]),
+        ],
+        "1 2 (65001) 70000",
+    ),
+    (&[(SEQUENCE, &[1, 2]), (CONFED_SET, &[65001])], "1 70000"),
+    (
+        &[(SEQUENCE, &[1]), (CONFED_SET, &[65001, 65002]), (SET, &[])],
+        "1 [65001,65002] 70000",
+    ),
+    (&[(CONFED_SEQUENCE, &[65001])], "(65001)"),
+    (&[], ""),
+];
+
 #[test]
 fn replaces_the_last_number(rt: HostRuntime) -> Result<(), Fail> {
-    let rows: [(Parts, &str); 10] = [
-        (&[(SEQUENCE, &[1, 2, 3]), (SET, &[4, 5])], "1 2 3 70000"),
-        (
-            &[(SEQUENCE, &[1]), (SET, &[4, 5]), (SEQUENCE, &[2])],
-            "1 {4,5} 70000",
-        ),
-        (&[(SET, &[]), (SEQUENCE, &[1])], "{} 70000"),
-        (
-            &[(CONFED_SEQUENCE, &[65001]), (SEQUENCE, &[23456])],
-            "(65001) 70000",
-        ),
-        (
-            &[(CONFED_SEQUENCE, &[65001]), (SEQUENCE, &[64500, 23456])],
-            "(65001) 64500 70000",
-        ),
-        (
-            &[
-                (SEQUENCE, &[1, 2]),
-                (CONFED_SEQUENCE, &[65001]),
-                (SEQUENCE, &[3]),
-            ],
-            "1 2 (65001) 70000",
-        ),
-        (&[(SEQUENCE, &[1, 2]), (CONFED_SET, &[65001])], "1 70000"),
-        (
-            &[(SEQUENCE, &[1]), (CONFED_SET, &[65001, 65002]), (SET, &[])],
-            "1 [65001,65002] 70000",
-        ),
-        (&[(CONFED_SEQUENCE, &[65001])], "(65001)"),
-        (&[], ""),
-    ];
-    for (first, want) in rows {
-        let text = joined_text(rt.alloc(), first, &[(SEQUENCE, &[70000])])?;
-        assert_eq!(rt; text.as_slice(), want.as_bytes());
+    for (first, want) in LAST_REPLACED {
+        assert_joined(&rt, rt.alloc(), first, &[(SEQUENCE, &[70000])], want)?;
     }
     Ok(())
 }
+
+/// A path of four numbers.
+const FOUR: Parts = &[(SEQUENCE, &[64500, 23456, 23456, 64501])];
+
+/// Two paths, and the text of both joined.
+const REPLACED: [(Parts, Parts, &str); 8] = [
+    (
+        &[(SEQUENCE, &[64500, 23456])],
+        &[(CONFED_SEQUENCE, &[65001]), (SEQUENCE, &[70000])],
+        "64500 70000",
+    ),
+    (FOUR, &[], "64500 23456 23456 64501"),
+    (FOUR, &[(SET, &[7, 8, 9])], "64500 23456 23456 {7,8,9}"),
+    (
+        FOUR,
+        &[(SEQUENCE, &[70000]), (CONFED_SET, &[65001]), (SET, &[1, 2])],
+        "64500 23456 70000 {1,2}",
+    ),
+    (
+        FOUR,
+        &[(SET, &[]), (SEQUENCE, &[70000])],
+        "64500 23456 {} 70000",
+    ),
+    (
+        FOUR,
+        &[(SEQUENCE, &[65536, 70000, 64501])],
+        "64500 65536 70000 64501",
+    ),
+    (
+        FOUR,
+        &[(SEQUENCE, &[64500, 65536, 70000, 64501])],
+        "64500 65536 70000 64501",
+    ),
+    (
+        FOUR,
+        &[(SEQUENCE, &[1, 2, 3, 4, 5])],
+        "64500 23456 23456 64501",
+    ),
+];
 
 #[test]
 fn replaces_as_much_as_the_second_has(rt: HostRuntime) -> Result<(), Fail> {
-    let four: Parts = &[(SEQUENCE, &[64500, 23456, 23456, 64501])];
-    let rows: [(Parts, Parts, &str); 8] = [
-        (
-            &[(SEQUENCE, &[64500, 23456])],
-            &[(CONFED_SEQUENCE, &[65001]), (SEQUENCE, &[70000])],
-            "64500 70000",
-        ),
-        (four, &[], "64500 23456 23456 64501"),
-        (four, &[(SET, &[7, 8, 9])], "64500 23456 23456 {7,8,9}"),
-        (
-            four,
-            &[(SEQUENCE, &[70000]), (CONFED_SET, &[65001]), (SET, &[1, 2])],
-            "64500 23456 70000 {1,2}",
-        ),
-        (
-            four,
-            &[(SET, &[]), (SEQUENCE, &[70000])],
-            "64500 23456 {} 70000",
-        ),
-        (
-            four,
-            &[(SEQUENCE, &[65536, 70000, 64501])],
-            "64500 65536 70000 64501",
-        ),
-        (
-            four,
-            &[(SEQUENCE, &[64500, 65536, 70000, 64501])],
-            "64500 65536 70000 64501",
-        ),
-        (
-            four,
-            &[(SEQUENCE, &[1, 2, 3, 4, 5])],
-            "64500 23456 23456 64501",
-        ),
-    ];
-    for (first, second, want) in rows {
-        let text = joined_text(rt.alloc(), first, second)?;
-        assert_eq!(rt; text.as_slice(), want.as_bytes());
+    for (first, second, want) in REPLACED {
+        assert_joined(&rt, rt.alloc(), first, second, want)?;
     }
     Ok(())
 }
 
+/// Two paths, and how many segments both have joined.
+const APART: [(Parts, Parts, usize); 6] = [
+    (
+        &[(SEQUENCE, &[1]), (SEQUENCE, &[2, 3])],
+        &[(SEQUENCE, &[9])],
+        3,
+    ),
+    (
+        &[(SEQUENCE, &[]), (SEQUENCE, &[1, 2])],
+        &[(SEQUENCE, &[9])],
+        2,
+    ),
+    (&[(SEQUENCE, &[1]), (SEQUENCE, &[])], &[(SEQUENCE, &[9])], 1),
+    (
+        &[(SEQUENCE, &[1]), (SEQUENCE, &[])],
+        &[(SEQUENCE, &[8, 9])],
+        2,
+    ),
+    (
+        &[(SEQUENCE, &[1, 2])],
+        &[(SEQUENCE, &[]), (SEQUENCE, &[9])],
+        3,
+    ),
+    (
+        &[(SEQUENCE, &[1])],
+        &[(CONFED_SEQUENCE, &[65001]), (CONFED_SET, &[65002])],
+        1,
+    ),
+];
+
 #[test]
 fn joins_no_segments(rt: HostRuntime) -> Result<(), Fail> {
-    let rows: [(Parts, Parts, usize); 6] = [
-        (
-            &[(SEQUENCE, &[1]), (SEQUENCE, &[2, 3])],
-            &[(SEQUENCE, &[9])],
-            3,
-        ),
-        (
-            &[(SEQUENCE, &[]), (SEQUENCE, &[1, 2])],
-            &[(SEQUENCE, &[9])],
-            2,
-        ),
-        (&[(SEQUENCE, &[1]), (SEQUENCE, &[])], &[(SEQUENCE, &[9])], 1),
-        (
-            &[(SEQUENCE, &[1]), (SEQUENCE, &[])],
-            &[(SEQUENCE, &[8, 9])],
-            2,
-        ),
-        (
-            &[(SEQUENCE, &[1, 2])],
-            &[(SEQUENCE, &[]), (SEQUENCE, &[9])],
-            3,
-        ),
-        (
-            &[(SEQUENCE, &[1])],
-            &[(CONFED_SEQUENCE, &[65001]), (CONFED_SET, &[65002])],
-            1,
-        ),
-    ];
-    for (first, second, want) in rows {
+    for (first, second, want) in APART {
         let path = joined(rt.alloc(), first, second)?;
         assert_eq!(rt; path.segments.as_slice().len(), want);
     }

@@ -2,6 +2,7 @@
 
 use bgp_wire::*;
 use std::alloc::{AllocError, Global};
+use std::process::Abort;
 use std::test::Fail;
 use test_octets::octets_of;
 
@@ -76,159 +77,185 @@ fn put_hop(word: &[u8], attrs: &Attrs, text: &mut Vec<u8>) -> Result<(), AllocEr
     Ok(())
 }
 
-/// The prefixes and next hops of an UPDATE.
-fn summary(alloc: Global, update: &Update) -> Result<Vec<u8>, AllocError> {
-    let mut text = Vec::new(alloc);
-    put_prefixes(b"-", &update.withdrawn, &mut text)?;
-    put_prefixes(b"mp -", &update.mp_withdrawn, &mut text)?;
-    put_prefixes(b"+", &update.announced, &mut text)?;
-    put_hop(b"via ", &update.attrs, &mut text)?;
-    put_prefixes(b"mp +", &update.mp_announced, &mut text)?;
+/// Appends the prefixes and next hops of an UPDATE.
+fn put_summary(update: &Update, text: &mut Vec<u8>) -> Result<(), AllocError> {
+    put_prefixes(b"-", &update.withdrawn, text)?;
+    put_prefixes(b"mp -", &update.mp_withdrawn, text)?;
+    put_prefixes(b"+", &update.announced, text)?;
+    put_hop(b"via ", &update.attrs, text)?;
+    put_prefixes(b"mp +", &update.mp_announced, text)?;
     if let Some(attrs) = &update.mp_attrs {
-        put_hop(b"mp via ", attrs, &mut text)?;
+        put_hop(b"mp via ", attrs, text)?;
     }
-    Ok(text)
+    Ok(())
 }
 
-/// The summary of the UPDATE that the octets are.
-fn summary_of(alloc: Global, octets: &[u8]) -> Result<Vec<u8>, Fail> {
+/// Appends the summary of the UPDATE that the octets are.
+fn put_summary_of(alloc: Global, octets: &[u8], text: &mut Vec<u8>) -> Result<(), Fail> {
     let update = read_update(alloc, AsWidth::Two, octets)?;
-    Ok(summary(alloc, &update)?)
+    put_summary(&update, text)?;
+    Ok(())
 }
 
-fn is_malformed(alloc: Global, octets: &[u8]) -> bool {
-    read_message(alloc, AsWidth::Two, octets).err() == Some(WireFault::Malformed)
+/// Asserts the summary of the UPDATE that the octets are.
+fn assert_summary(rt: &impl Abort, alloc: Global, octets: &[u8], want: &str) -> Result<(), Fail> {
+    let mut text = Vec::new(alloc);
+    put_summary_of(alloc, octets, &mut text)?;
+    assert_eq!(rt; text.as_slice(), want.as_bytes(), "{want}");
+    Ok(())
 }
+
+/// Asserts the summaries of UPDATEs, by the prefixes that are withdrawn, attributes, and the
+/// prefixes that are announced. The attributes of a row stand behind others.
+fn assert_summaries(
+    rt: &impl Abort,
+    alloc: Global,
+    front: &str,
+    rows: &[(&str, &str, &str, &str)],
+) -> Result<(), Fail> {
+    for (withdrawn, attributes, announced, want) in rows {
+        let octets = update_of(alloc, withdrawn, &[front, attributes], announced)?;
+        assert_summary(rt, alloc, &octets, want)?;
+    }
+    Ok(())
+}
+
+/// Whether the octets are no message, read with AS numbers of two octets.
+pub(crate) fn is_malformed(alloc: Global, octets: &[u8]) -> bool {
+    matches!(
+        read_message(alloc, AsWidth::Two, octets),
+        Err(WireFault::Malformed)
+    )
+}
+
+/// Withdrawn prefixes, attributes behind the common ones, announced prefixes, and the summary.
+const WITH_NEXT_HOP: [(&str, &str, &str, &str); 10] = [
+    ("", "", "090AFF", "+10.128.0.0/9;via 192.0.2.9;"),
+    ("", "", "00", "+0.0.0.0/0;via 192.0.2.9;"),
+    ("080A", "", "080A", "-10.0.0.0/8;+10.0.0.0/8;via 192.0.2.9;"),
+    (
+        "100A01 20C0000201 00",
+        "",
+        "080A 100A01",
+        "-10.1.0.0/16;-192.0.2.1/32;-0.0.0.0/0;+10.0.0.0/8;+10.1.0.0/16;via 192.0.2.9;",
+    ),
+    (
+        "",
+        "800E0B 000101 04 C000020B 00 080A",
+        "080A",
+        "+10.0.0.0/8;via 192.0.2.9;mp +10.0.0.0/8;mp via 192.0.2.11;",
+    ),
+    (
+        "",
+        MP_REACH,
+        "080A",
+        "+10.0.0.0/8;via 192.0.2.9;mp +2001:db8::/32;mp via 2001:db8::1;",
+    ),
+    (
+        "",
+        MP_REACH_ALL,
+        "080A 100A01",
+        "+10.0.0.0/8;+10.1.0.0/16;via 192.0.2.9;mp +::/0;mp via 2001:db8::1;",
+    ),
+    (
+        "080B",
+        "800F08 000201 2020010DB8",
+        "080A",
+        "-11.0.0.0/8;mp -2001:db8::/32;+10.0.0.0/8;via 192.0.2.9;",
+    ),
+    (
+        "080B",
+        "800F09 000101 090AFF 00 080C",
+        "",
+        "-11.0.0.0/8;mp -10.128.0.0/9;mp -0.0.0.0/0;mp -12.0.0.0/8;via 192.0.2.9;",
+    ),
+    ("", "800F03 000201", "", "via 192.0.2.9;"),
+];
 
 #[test]
 fn reads_prefixes_and_next_hops(rt: HostRuntime) -> Result<(), Fail> {
-    let alloc = rt.alloc();
-    // withdrawn prefixes, attributes behind the common ones, announced prefixes, and the summary
-    let rows: [(&str, &str, &str, &str); 10] = [
-        ("", "", "090AFF", "+10.128.0.0/9;via 192.0.2.9;"),
-        ("", "", "00", "+0.0.0.0/0;via 192.0.2.9;"),
-        ("080A", "", "080A", "-10.0.0.0/8;+10.0.0.0/8;via 192.0.2.9;"),
-        (
-            "100A01 20C0000201 00",
-            "",
-            "080A 100A01",
-            "-10.1.0.0/16;-192.0.2.1/32;-0.0.0.0/0;+10.0.0.0/8;+10.1.0.0/16;via 192.0.2.9;",
-        ),
-        (
-            "",
-            "800E0B 000101 04 C000020B 00 080A",
-            "080A",
-            "+10.0.0.0/8;via 192.0.2.9;mp +10.0.0.0/8;mp via 192.0.2.11;",
-        ),
-        (
-            "",
-            MP_REACH,
-            "080A",
-            "+10.0.0.0/8;via 192.0.2.9;mp +2001:db8::/32;mp via 2001:db8::1;",
-        ),
-        (
-            "",
-            MP_REACH_ALL,
-            "080A 100A01",
-            "+10.0.0.0/8;+10.1.0.0/16;via 192.0.2.9;mp +::/0;mp via 2001:db8::1;",
-        ),
-        (
-            "080B",
-            "800F08 000201 2020010DB8",
-            "080A",
-            "-11.0.0.0/8;mp -2001:db8::/32;+10.0.0.0/8;via 192.0.2.9;",
-        ),
-        (
-            "080B",
-            "800F09 000101 090AFF 00 080C",
-            "",
-            "-11.0.0.0/8;mp -10.128.0.0/9;mp -0.0.0.0/0;mp -12.0.0.0/8;via 192.0.2.9;",
-        ),
-        ("", "800F03 000201", "", "via 192.0.2.9;"),
-    ];
-    for (withdrawn, more, announced, want) in rows {
-        let octets = update_of(alloc, withdrawn, &[COMMON, more], announced)?;
-        let text = summary_of(alloc, octets.as_slice())?;
-        assert_eq!(rt; text.as_slice(), want.as_bytes());
-    }
-    Ok(())
+    assert_summaries(&rt, rt.alloc(), COMMON, &WITH_NEXT_HOP)
 }
+
+/// The same without the common attributes.
+const WITHOUT_NEXT_HOP: [(&str, &str, &str, &str); 7] = [
+    ("", "", "", "via ;"),
+    ("100A01", "", "", "-10.1.0.0/16;via ;"),
+    ("", "", "080A", "+10.0.0.0/8;via ;"),
+    (
+        "",
+        MP_REACH,
+        "",
+        "via ;mp +2001:db8::/32;mp via 2001:db8::1;",
+    ),
+    (
+        "",
+        MP_REACH_ALL,
+        "080A",
+        "+10.0.0.0/8;via ;mp +::/0;mp via 2001:db8::1;",
+    ),
+    ("", "800F03 000101", "", "via ;"),
+    (
+        "",
+        "800F05 000101 080A",
+        "080A",
+        "mp -10.0.0.0/8;+10.0.0.0/8;via ;",
+    ),
+];
 
 #[test]
 fn reads_messages_without_next_hop(rt: HostRuntime) -> Result<(), Fail> {
-    let alloc = rt.alloc();
-    let rows: [(&str, &str, &str, &str); 7] = [
-        ("", "", "", "via ;"),
-        ("100A01", "", "", "-10.1.0.0/16;via ;"),
-        ("", "", "080A", "+10.0.0.0/8;via ;"),
-        (
-            "",
-            MP_REACH,
-            "",
-            "via ;mp +2001:db8::/32;mp via 2001:db8::1;",
-        ),
-        (
-            "",
-            MP_REACH_ALL,
-            "080A",
-            "+10.0.0.0/8;via ;mp +::/0;mp via 2001:db8::1;",
-        ),
-        ("", "800F03 000101", "", "via ;"),
-        (
-            "",
-            "800F05 000101 080A",
-            "080A",
-            "mp -10.0.0.0/8;+10.0.0.0/8;via ;",
-        ),
-    ];
-    for (withdrawn, attributes, announced, want) in rows {
-        let octets = update_of(alloc, withdrawn, &[attributes], announced)?;
-        let text = summary_of(alloc, octets.as_slice())?;
-        assert_eq!(rt; text.as_slice(), want.as_bytes());
+    assert_summaries(&rt, rt.alloc(), "", &WITHOUT_NEXT_HOP)
+}
+
+/// Whole messages with their summaries.
+const WHOLE: [(&str, &str); 3] = [
+    (
+        "FFFFFFFFFFFFFFFFFFFFFFFFFFFFFFFF 002C 02 0000 0012 400101 00 400204 0201 FBF4 \
+             400304 C0000209 090AFF",
+        "+10.128.0.0/9;via 192.0.2.9;",
+    ),
+    (
+        "FFFFFFFFFFFFFFFFFFFFFFFFFFFFFFFF 0017 02 0000 0000",
+        "via ;",
+    ),
+    // the marker may be any octets
+    (
+        "000102030405060708090A0B0C0D0E0F 0019 02 0002 080A 0000",
+        "-10.0.0.0/8;via ;",
+    ),
+];
+
+#[test]
+fn reads_whole_messages(rt: HostRuntime) -> Result<(), Fail> {
+    for (octets, want) in WHOLE {
+        assert_summary(&rt, rt.alloc(), &octets_of(rt.alloc(), &[octets])?, want)?;
     }
     Ok(())
 }
 
-#[test]
-fn reads_whole_messages(rt: HostRuntime) -> Result<(), Fail> {
-    let rows: [(&str, &str); 3] = [
-        (
-            "FFFFFFFFFFFFFFFFFFFFFFFFFFFFFFFF 002C 02 0000 0012 400101 00 400204 0201 FBF4 \
-             400304 C0000209 090AFF",
-            "+10.128.0.0/9;via 192.0.2.9;",
-        ),
-        (
-            "FFFFFFFFFFFFFFFFFFFFFFFFFFFFFFFF 0017 02 0000 0000",
-            "via ;",
-        ),
-        // the marker may be any octets
-        (
-            "000102030405060708090A0B0C0D0E0F 0019 02 0002 080A 0000",
-            "-10.0.0.0/8;via ;",
-        ),
-    ];
-    for (octets, want) in rows {
-        let octets = octets_of(rt.alloc(), &[octets])?;
-        let text = summary_of(rt.alloc(), octets.as_slice())?;
-        assert_eq!(rt; text.as_slice(), want.as_bytes());
+/// The type of a message that is no UPDATE.
+fn other_kind(alloc: Global, octets: &[u8]) -> Result<Option<u8>, WireFault> {
+    match read_message(alloc, AsWidth::Two, octets)? {
+        Message::Other(kind) => Ok(Some(kind)),
+        Message::Update(_) => Ok(None),
+    }
+}
+
+/// Asserts that messages of other types are read, whatever their body.
+fn assert_others(rt: &impl Abort, alloc: Global, body: &[u8]) -> Result<(), WireFault> {
+    for kind in [0, 1, 3, 4, 5, 18, 255] {
+        let octets = message_of(alloc, kind, body)?;
+        let read = other_kind(alloc, &octets)?;
+        assert_eq!(rt; read, Some(kind), "{} octets", body.len());
     }
     Ok(())
 }
 
 #[test]
 fn reads_no_other_bodies(rt: HostRuntime) -> Result<(), Fail> {
-    let alloc = rt.alloc();
-    let bodies: [&str; 5] = ["", "00", "00000000", "00000000 21", "FFFFFF"];
-    for body in bodies {
-        let body = octets_of(alloc, &[body])?;
-        for kind in [0, 1, 3, 4, 5, 18, 255] {
-            let octets = message_of(alloc, kind, body.as_slice())?;
-            let read = match read_message(alloc, AsWidth::Two, octets.as_slice())? {
-                Message::Other(kind) => Some(kind),
-                Message::Update(_) => None,
-            };
-            assert_eq!(rt; read, Some(kind), "{} octets", body.len());
-        }
+    for body in ["", "00", "00000000", "00000000 21", "FFFFFF"] {
+        assert_others(&rt, rt.alloc(), &octets_of(rt.alloc(), &[body])?)?;
     }
     Ok(())
 }
@@ -294,179 +321,178 @@ fn refuses_cut_updates(rt: HostRuntime) -> Result<(), Fail> {
     Ok(())
 }
 
+/// Bodies that are no UPDATE.
+const ILL_FORMED: [&str; 19] = [
+    // without the length of the attributes
+    "0000",
+    "000000",
+    "0002 080A",
+    "0003 080A 0000",
+    // lengths past the end
+    "0001 0000",
+    "0003 080A",
+    "FFFF 0000 0000",
+    "0000 0001",
+    "0000 0005 80040000",
+    "0000 FFFF 00",
+    // withdrawn prefixes
+    "0001 08 0000",
+    "0006 210A00000000 0000",
+    "0002 100A 0000",
+    // attributes
+    "0000 0002 8004",
+    "0000 0004 8004040A 000000",
+    // announced prefixes
+    "0000 0000 08",
+    "0000 0000 080A 210A00000000",
+    "0000 0000 200A0000",
+    "0000 0012 400101 00 400204 0201 FBF4 400304 C0000209 210A00000000",
+];
+
 #[test]
 fn refuses_ill_formed_updates(rt: HostRuntime) -> Result<(), Fail> {
-    let alloc = rt.alloc();
-    let bodies: [&str; 19] = [
-        // without the length of the attributes
-        "0000",
-        "000000",
-        "0002 080A",
-        "0003 080A 0000",
-        // lengths past the end
-        "0001 0000",
-        "0003 080A",
-        "FFFF 0000 0000",
-        "0000 0001",
-        "0000 0005 80040000",
-        "0000 FFFF 00",
-        // withdrawn prefixes
-        "0001 08 0000",
-        "0006 210A00000000 0000",
-        "0002 100A 0000",
-        // attributes
-        "0000 0002 8004",
-        "0000 0004 8004040A 000000",
-        // announced prefixes
-        "0000 0000 08",
-        "0000 0000 080A 210A00000000",
-        "0000 0000 200A0000",
-        "0000 0012 400101 00 400204 0201 FBF4 400304 C0000209 210A00000000",
-    ];
-    for (place, body) in bodies.iter().enumerate() {
-        let octets = message_of(alloc, 2, octets_of(alloc, &[body])?.as_slice())?;
-        assert!(rt; is_malformed(alloc, octets.as_slice()), "body {place}");
+    for body in ILL_FORMED {
+        let octets = message_of(rt.alloc(), 2, &octets_of(rt.alloc(), &[body])?)?;
+        assert!(rt; is_malformed(rt.alloc(), &octets), "{body}");
     }
     Ok(())
 }
+
+/// MP_REACH_NLRI and MP_UNREACH_NLRI of other families.
+const OTHER_FAMILIES: [&str; 12] = [
+    "800E03 001941",
+    "800F03 001941",
+    "800E03 000102",
+    "800E06 000102 FF FFFF",
+    "800E0B 000102 04 C000020B 00 080A",
+    "800E03 000301",
+    "800E05 000301 00 00",
+    "800E05 010201 00 00",
+    "800E04 020001 21",
+    "800F05 000102 080A",
+    "800F05 000001 080A",
+    "800F04 000204 FF",
+];
 
 #[test]
 fn ignores_other_families(rt: HostRuntime) -> Result<(), Fail> {
-    let alloc = rt.alloc();
-    let rows: [&str; 12] = [
-        "800E03 001941",
-        "800F03 001941",
-        "800E03 000102",
-        "800E06 000102 FF FFFF",
-        "800E0B 000102 04 C000020B 00 080A",
-        "800E03 000301",
-        "800E05 000301 00 00",
-        "800E05 010201 00 00",
-        "800E04 020001 21",
-        "800F05 000102 080A",
-        "800F05 000001 080A",
-        "800F04 000204 FF",
-    ];
-    for (place, more) in rows.iter().enumerate() {
-        let octets = update_of(alloc, "", &[COMMON, more], "080A")?;
-        let text = summary_of(alloc, octets.as_slice())?;
-        assert_eq!(rt;
-            text.as_slice(),
-            b"+10.0.0.0/8;via 192.0.2.9;".as_slice(),
-            "row {place}"
-        );
+    for more in OTHER_FAMILIES {
+        let octets = update_of(rt.alloc(), "", &[COMMON, more], "080A")?;
+        assert_summary(&rt, rt.alloc(), &octets, "+10.0.0.0/8;via 192.0.2.9;")?;
     }
     Ok(())
 }
+
+/// MP_REACH_NLRI behind the common attributes, and what the summary says of it.
+const MP_NEXT_HOPS: [(&str, &str); 8] = [
+    // an address, and also a link-local one
+    (
+        "800E2A 000201 20 20010DB8000000000000000000000001 \
+             FE800000000000000000000000000001 00 2020010DB8",
+        "mp +2001:db8::/32;mp via 2001:db8::1;",
+    ),
+    // of the other family
+    (
+        "800E0E 000201 04 C000020B 00 2020010DB8",
+        "mp +2001:db8::/32;mp via 192.0.2.11;",
+    ),
+    (
+        "800E17 000101 10 20010DB8000000000000000000000001 00 080A",
+        "mp +10.0.0.0/8;mp via 2001:db8::1;",
+    ),
+    // the reserved octet may be any
+    (
+        "800E0D 000101 04 C000020B 01 080A 080B",
+        "mp +10.0.0.0/8;mp +11.0.0.0/8;mp via 192.0.2.11;",
+    ),
+    (
+        "800E0A 000101 04 C000020B FF 00",
+        "mp +0.0.0.0/0;mp via 192.0.2.11;",
+    ),
+    // with a length of two octets
+    (
+        "900E000B 000101 04 C000020B 00 080A",
+        "mp +10.0.0.0/8;mp via 192.0.2.11;",
+    ),
+    // without prefixes
+    ("800E09 000101 04 C000020B 00", ""),
+    ("800E15 000201 10 20010DB8000000000000000000000001 FF", ""),
+];
 
 #[test]
 fn reads_next_hops_of_mp_reach(rt: HostRuntime) -> Result<(), Fail> {
-    let alloc = rt.alloc();
-    let rows: [(&str, &str); 8] = [
-        // an address, and also a link-local one
-        (
-            "800E2A 000201 20 20010DB8000000000000000000000001 \
-             FE800000000000000000000000000001 00 2020010DB8",
-            "mp +2001:db8::/32;mp via 2001:db8::1;",
-        ),
-        // of the other family
-        (
-            "800E0E 000201 04 C000020B 00 2020010DB8",
-            "mp +2001:db8::/32;mp via 192.0.2.11;",
-        ),
-        (
-            "800E17 000101 10 20010DB8000000000000000000000001 00 080A",
-            "mp +10.0.0.0/8;mp via 2001:db8::1;",
-        ),
-        // the reserved octet may be any
-        (
-            "800E0D 000101 04 C000020B 01 080A 080B",
-            "mp +10.0.0.0/8;mp +11.0.0.0/8;mp via 192.0.2.11;",
-        ),
-        (
-            "800E0A 000101 04 C000020B FF 00",
-            "mp +0.0.0.0/0;mp via 192.0.2.11;",
-        ),
-        // with a length of two octets
-        (
-            "900E000B 000101 04 C000020B 00 080A",
-            "mp +10.0.0.0/8;mp via 192.0.2.11;",
-        ),
-        // without prefixes
-        ("800E09 000101 04 C000020B 00", ""),
-        ("800E15 000201 10 20010DB8000000000000000000000001 FF", ""),
-    ];
-    for (more, mp) in rows {
-        let octets = update_of(alloc, "", &[COMMON, more], "")?;
-        let text = summary_of(alloc, octets.as_slice())?;
-        let want = format!(in alloc; "via 192.0.2.9;{mp}")?;
-        assert_eq!(rt; text.as_slice(), want.as_bytes());
+    for (more, mp) in MP_NEXT_HOPS {
+        let octets = update_of(rt.alloc(), "", &[COMMON, more], "")?;
+        let want = format!(in rt.alloc(); "via 192.0.2.9;{mp}")?;
+        assert_summary(&rt, rt.alloc(), &octets, &want)?;
     }
     Ok(())
 }
+
+/// Ill-formed ones.
+const ILL_FORMED_MP: [&str; 26] = [
+    // less than a family
+    "800E00",
+    "800E01 00",
+    "800E02 0019",
+    "800E02 0001",
+    "800F00",
+    "800F01 00",
+    "800F02 0019",
+    "800F02 0002",
+    // no next hop, or one of another length
+    "800E03 000101",
+    "800E03 000201",
+    "800E05 000101 00 00",
+    "800E08 000101 03 C00002 00",
+    "800E0A 000101 05 C000020B00 00",
+    "800E0D 000201 08 0000000000000000 00",
+    "800E16 000201 11 0000000000000000000000000000000000 00",
+    "800E1D 000201 18 000000000000000000000000000000000000000000000000 00",
+    // a next hop past the end, or with nothing behind it
+    "800E06 000101 04 C000",
+    "800E08 000101 04 C000020B",
+    "800E14 000201 10 20010DB8000000000000000000000001",
+    // ill-formed prefixes
+    "800E0A 000101 04 C000020B 00 08",
+    "800E0F 000101 04 C000020B 00 210A00000000",
+    "800E0D 000201 04 C000020B 00 2020010D",
+    "800E1B 000201 04 C000020B 00 810000000000000000000000000000000000",
+    "800F04 000101 08",
+    "800F09 000101 210A00000000",
+    "800F07 000201 2020010D",
+];
 
 #[test]
 fn refuses_ill_formed_mp_attributes(rt: HostRuntime) -> Result<(), Fail> {
-    let alloc = rt.alloc();
-    let rows: [&str; 26] = [
-        // less than a family
-        "800E00",
-        "800E01 00",
-        "800E02 0019",
-        "800E02 0001",
-        "800F00",
-        "800F01 00",
-        "800F02 0019",
-        "800F02 0002",
-        // no next hop, or one of another length
-        "800E03 000101",
-        "800E03 000201",
-        "800E05 000101 00 00",
-        "800E08 000101 03 C00002 00",
-        "800E0A 000101 05 C000020B00 00",
-        "800E0D 000201 08 0000000000000000 00",
-        "800E16 000201 11 0000000000000000000000000000000000 00",
-        "800E1D 000201 18 000000000000000000000000000000000000000000000000 00",
-        // a next hop past the end, or with nothing behind it
-        "800E06 000101 04 C000",
-        "800E08 000101 04 C000020B",
-        "800E14 000201 10 20010DB8000000000000000000000001",
-        // ill-formed prefixes
-        "800E0A 000101 04 C000020B 00 08",
-        "800E0F 000101 04 C000020B 00 210A00000000",
-        "800E0D 000201 04 C000020B 00 2020010D",
-        "800E1B 000201 04 C000020B 00 810000000000000000000000000000000000",
-        "800F04 000101 08",
-        "800F09 000101 210A00000000",
-        "800F07 000201 2020010D",
-    ];
-    for (place, more) in rows.iter().enumerate() {
-        let octets = update_of(alloc, "", &[COMMON, more], "080A")?;
-        assert!(rt; is_malformed(alloc, octets.as_slice()), "row {place}");
+    for more in ILL_FORMED_MP {
+        let octets = update_of(rt.alloc(), "", &[COMMON, more], "080A")?;
+        assert!(rt; is_malformed(rt.alloc(), &octets), "{more}");
     }
     Ok(())
 }
 
+/// Two of them around the common attributes, and whether that is malformed.
+const TWO_OF_MP: [(&str, &str, bool); 11] = [
+    (MP_REACH, MP_REACH, true),
+    (MP_REACH, MP_REACH_ALL, true),
+    (MP_REACH, "800E03 001941", true),
+    ("800E03 001941", MP_REACH, true),
+    ("800E03 001941", "800E00", true),
+    ("800F03 000201", "800F03 000201", true),
+    ("800F03 000201", "800F03 000101", true),
+    ("800F03 001941", "800F03 001941", true),
+    ("800F03 001941", "800F00", true),
+    (MP_REACH, "800F03 000201", false),
+    ("800F03 001941", MP_REACH, false),
+];
+
 #[test]
 fn refuses_a_second_mp_attribute(rt: HostRuntime) -> Result<(), Fail> {
-    let alloc = rt.alloc();
-    let rows: [(&str, &str, bool); 11] = [
-        (MP_REACH, MP_REACH, true),
-        (MP_REACH, MP_REACH_ALL, true),
-        (MP_REACH, "800E03 001941", true),
-        ("800E03 001941", MP_REACH, true),
-        ("800E03 001941", "800E00", true),
-        ("800F03 000201", "800F03 000201", true),
-        ("800F03 000201", "800F03 000101", true),
-        ("800F03 001941", "800F03 001941", true),
-        ("800F03 001941", "800F00", true),
-        (MP_REACH, "800F03 000201", false),
-        ("800F03 001941", MP_REACH, false),
-    ];
-    for (place, (first, second, want)) in rows.iter().enumerate() {
-        let octets = update_of(alloc, "", &[first, COMMON, second], "080A")?;
-        let malformed = is_malformed(alloc, octets.as_slice());
-        assert_eq!(rt; malformed, *want, "row {place}");
+    for (first, second, want) in TWO_OF_MP {
+        let octets = update_of(rt.alloc(), "", &[first, COMMON, second], "080A")?;
+        let malformed = is_malformed(rt.alloc(), &octets);
+        assert_eq!(rt; malformed, want, "{first}, {second}");
     }
     Ok(())
 }

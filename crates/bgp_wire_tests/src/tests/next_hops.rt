@@ -1,10 +1,11 @@
 //! The next hops of RIB entries (RFC 6396, section 4.3.4; RFC 4760, section 3; RFC 2545,
 //! section 3).
 
-use super::{MALFORMED, assert_rows, read_shown};
+use super::{MALFORMED, assert_read, assert_rows, assert_texts};
 use bgp_wire::{AsWidth, WireFault};
 use ip_prefix::Family;
 use std::alloc::Global;
+use std::process::Abort;
 use std::test::Fail;
 use test_octets::octets_of;
 
@@ -86,13 +87,18 @@ const WHOLE: [(&str, &str); 6] = [
     ),
 ];
 
-/// What is shown of MP_REACH_NLRI alone, with this value.
-fn reached(alloc: Global, family: Family, value: &[u8]) -> Result<Vec<u8>, WireFault> {
-    let mut octets = octets_of(alloc, &["80 0E"])?;
+/// Asserts what is shown of MP_REACH_NLRI alone, with this value.
+fn assert_reached(
+    rt: &impl Abort,
+    alloc: Global,
+    family: Family,
+    value: &[u8],
+    want: &str,
+) -> Result<(), WireFault> {
     let len = u8::try_from(value.len()).unwrap_or(u8::MAX);
-    octets.extend_from_slice(&[len])?;
+    let mut octets = Vec::from_slice(alloc, &[0x80, 0x0E, len])?;
     octets.extend_from_slice(value)?;
-    read_shown(alloc, family, AsWidth::Four, &octets)
+    assert_read(rt, alloc, family, AsWidth::Four, &octets, want)
 }
 
 /// What is shown where the next hop has this length.
@@ -115,8 +121,26 @@ fn reads_next_hops(rt: HostRuntime) -> Result<(), Fail> {
 #[test]
 fn chooses_a_next_hop(rt: HostRuntime) -> Result<(), Fail> {
     for (octets, v4, v6) in BOTH {
-        assert_rows(&rt, rt.alloc(), Family::V4, AsWidth::Four, &[(octets, v4)])?;
-        assert_rows(&rt, rt.alloc(), Family::V6, AsWidth::Four, &[(octets, v6)])?;
+        assert_texts(&rt, rt.alloc(), Family::V4, AsWidth::Four, &[octets], v4)?;
+        assert_texts(&rt, rt.alloc(), Family::V6, AsWidth::Four, &[octets], v6)?;
+    }
+    Ok(())
+}
+
+/// Asserts what is shown where these octets, the length and so many octets of a next hop are the
+/// value of MP_REACH_NLRI.
+fn assert_length(
+    rt: &impl Abort,
+    alloc: Global,
+    front: &str,
+    hop: &[u8],
+    len: u8,
+) -> Result<(), WireFault> {
+    let mut value = octets_of(alloc, &[front])?;
+    value.push(len)?;
+    value.extend_from_slice(hop)?;
+    for family in [Family::V4, Family::V6] {
+        assert_reached(rt, alloc, family, &value, hop_of_length(len))?;
     }
     Ok(())
 }
@@ -129,17 +153,7 @@ fn reads_next_hops_of_three_lengths(rt: HostRuntime) -> Result<(), Fail> {
     assert_eq!(rt; hops.len(), 48);
     for front in FRONTS {
         for len in 0..41 {
-            let mut value = octets_of(rt.alloc(), &[front])?;
-            value.extend_from_slice(&[len])?;
-            value.extend_from_slice(&hops[..usize::from(len)])?;
-            for family in [Family::V4, Family::V6] {
-                let text = reached(rt.alloc(), family, &value)?;
-                assert_eq!(rt;
-                    text.as_slice(),
-                    hop_of_length(len).as_bytes(),
-                    "{front} and {len} octets"
-                );
-            }
+            assert_length(&rt, rt.alloc(), front, &hops[..usize::from(len)], len)?;
         }
     }
     Ok(())
@@ -150,8 +164,7 @@ fn ignores_what_follows_a_next_hop(rt: HostRuntime) -> Result<(), Fail> {
     for (value, want) in WHOLE {
         for behind in BEHIND {
             let octets = octets_of(rt.alloc(), &[value, behind])?;
-            let text = reached(rt.alloc(), Family::V6, &octets)?;
-            assert_eq!(rt; text.as_slice(), want.as_bytes(), "{value} {behind}");
+            assert_reached(&rt, rt.alloc(), Family::V6, &octets, want)?;
         }
     }
     Ok(())
@@ -162,12 +175,7 @@ fn refuses_a_cut_next_hop(rt: HostRuntime) -> Result<(), Fail> {
     for (value, _) in WHOLE {
         let octets = octets_of(rt.alloc(), &[value])?;
         for len in 0..octets.len() {
-            let text = reached(rt.alloc(), Family::V4, &octets[..len])?;
-            assert_eq!(rt;
-                text.as_slice(),
-                MALFORMED.as_bytes(),
-                "{len} octets of {value}"
-            );
+            assert_reached(&rt, rt.alloc(), Family::V4, &octets[..len], MALFORMED)?;
         }
     }
     Ok(())

@@ -1,8 +1,9 @@
 //! AS paths as they are sent, with AS numbers of both widths (RFC 4271, section 4.3; RFC 5065,
 //! section 3; RFC 6793, section 3).
 
-use super::{MALFORMED, NOTHING, assert_rows, read_shown};
-use bgp_wire::{AsPath, AsWidth, SegmentKind, read_rib_attrs};
+use super::large::repeated;
+use super::{MALFORMED, NOTHING, assert_read, assert_rows};
+use bgp_wire::{AsPath, AsWidth, SegmentKind, WireFault, read_rib_attrs};
 use ip_prefix::Family;
 use std::alloc::Global;
 use std::process::Abort;
@@ -82,19 +83,19 @@ const SEGMENTS: [(SegmentKind, &[u32]); 5] = [
     (SegmentKind::ConfedSequence, &[65535]),
 ];
 
-/// The path that octets say at a width.
-fn path(alloc: Global, width: AsWidth, octets: &str) -> Result<AsPath, bgp_wire::WireFault> {
-    let octets = octets_of(alloc, &[octets])?;
-    Ok(read_rib_attrs(alloc, Family::V4, width, &octets)?.path)
+/// The path that the octets say.
+fn path_of(alloc: Global, width: AsWidth, octets: &[u8]) -> Result<AsPath, WireFault> {
+    Ok(read_rib_attrs(alloc, Family::V4, width, octets)?.path)
 }
 
 /// Asserts that a path has the segments of the table.
 fn assert_segments(rt: &impl Abort, path: &AsPath) {
     let segments = path.segments.as_slice();
     assert_eq!(rt; segments.len(), SEGMENTS.len());
-    for (segment, (kind, numbers)) in segments.iter().zip(SEGMENTS) {
-        assert_eq!(rt; segment.kind, kind);
-        assert_eq!(rt; segment.numbers.as_slice(), numbers);
+    for place in 0..SEGMENTS.len() {
+        let (kind, numbers) = SEGMENTS[place];
+        assert_eq!(rt; segments[place].kind, kind);
+        assert_eq!(rt; segments[place].numbers.as_slice(), numbers);
     }
 }
 
@@ -109,12 +110,28 @@ fn reads_paths_of_both_widths(rt: HostRuntime) -> Result<(), Fail> {
 
 #[test]
 fn keeps_segments_apart(rt: HostRuntime) -> Result<(), Fail> {
-    let two = "40021A 0202 0001 0002 0201 0003 0402 0004 0004 0102 0006 0005 0301 FFFF";
-    assert_segments(&rt, &path(rt.alloc(), AsWidth::Two, two)?);
-    let four = "40022A 0202 00000001 00000002 0201 00000003 0402 00000004 00000004 \
-                0102 00000006 00000005 0301 0000FFFF";
-    assert_segments(&rt, &path(rt.alloc(), AsWidth::Four, four)?);
+    for (width, texts) in [
+        (
+            AsWidth::Two,
+            "40021A 0202 0001 0002 0201 0003 0402 0004 0004 0102 0006 0005 0301 FFFF",
+        ),
+        (
+            AsWidth::Four,
+            "40022A 0202 00000001 00000002 0201 00000003 0402 00000004 00000004 \
+             0102 00000006 00000005 0301 0000FFFF",
+        ),
+    ] {
+        let octets = octets_of(rt.alloc(), &[texts])?;
+        assert_segments(&rt, &path_of(rt.alloc(), width, &octets)?);
+    }
     Ok(())
+}
+
+/// Asserts that a path has one segment, of 255 times the number 7.
+fn assert_sevens(rt: &impl Abort, path: &AsPath) {
+    let segments = path.segments.as_slice();
+    assert_eq!(rt; segments.len(), 1);
+    assert_eq!(rt; segments[0].numbers.as_slice(), [7; 255].as_slice());
 }
 
 /// A segment of 255 numbers, and the same without its last octet.
@@ -124,17 +141,17 @@ fn reads_a_segment_of_many_numbers(rt: HostRuntime) -> Result<(), Fail> {
         (AsWidth::Two, "50020200 02FF", "0007"),
         (AsWidth::Four, "500203FE 02FF", "00000007"),
     ] {
-        let mut octets = octets_of(rt.alloc(), &[front])?;
-        for _ in 0..255 {
-            octets.append(&mut octets_of(rt.alloc(), &[number])?)?;
-        }
-        let attrs = read_rib_attrs(rt.alloc(), Family::V4, width, &octets)?;
-        let segments = attrs.path.segments.into_vec();
-        assert_eq!(rt; segments.len(), 1);
-        assert_eq!(rt; segments[0].numbers.as_slice(), [7; 255].as_slice());
-        octets.pop();
-        let text = read_shown(rt.alloc(), Family::V4, width, &octets)?;
-        assert_eq!(rt; text.as_slice(), MALFORMED.as_bytes());
+        let octets = repeated(rt.alloc(), front, number, 255)?;
+        assert_sevens(&rt, &path_of(rt.alloc(), width, &octets)?);
+        let cut = octets.len().saturating_sub(1);
+        assert_read(
+            &rt,
+            rt.alloc(),
+            Family::V4,
+            width,
+            &octets[..cut],
+            MALFORMED,
+        )?;
     }
     Ok(())
 }

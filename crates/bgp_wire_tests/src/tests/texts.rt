@@ -4,6 +4,7 @@ use bgp_wire::{
     AsNumbers, AsPath, Communities, Segment, SegmentKind, Segments, WireFault, put_communities,
 };
 use std::alloc::{AllocError, Global};
+use std::process::Abort;
 use std::test::Fail;
 
 /// Communities with their texts (RFC 1997).
@@ -90,15 +91,42 @@ fn path_of(alloc: Global, path: Path) -> Result<AsPath, AllocError> {
     })
 }
 
+/// Asserts that a text is two others, one behind the other.
+fn assert_whole(
+    rt: &impl Abort,
+    alloc: Global,
+    text: &[u8],
+    old: &str,
+    want: &str,
+) -> Result<(), AllocError> {
+    let whole = format!(in alloc; "{old}{want}")?;
+    assert_eq!(rt; text, whole.as_bytes(), "{whole}");
+    Ok(())
+}
+
 #[test]
 fn appends_communities(rt: HostRuntime) -> Result<(), Fail> {
     for (communities, want) in COMMUNITIES {
         for old in OLD {
             let mut text = Vec::from_slice(rt.alloc(), old.as_bytes())?;
             put_communities(communities, &mut text)?;
-            let whole = format!(in rt.alloc(); "{old}{want}")?;
-            assert_eq!(rt; text.as_slice(), whole.as_bytes());
+            assert_whole(&rt, rt.alloc(), &text, old, want)?;
         }
+    }
+    Ok(())
+}
+
+/// Asserts that the text of a path is appended to each of the others.
+fn assert_path(
+    rt: &impl Abort,
+    alloc: Global,
+    path: &AsPath,
+    want: &str,
+) -> Result<(), AllocError> {
+    for old in OLD {
+        let mut text = Vec::from_slice(alloc, old.as_bytes())?;
+        path.put_text(&mut text)?;
+        assert_whole(rt, alloc, &text, old, want)?;
     }
     Ok(())
 }
@@ -106,68 +134,86 @@ fn appends_communities(rt: HostRuntime) -> Result<(), Fail> {
 #[test]
 fn appends_paths(rt: HostRuntime) -> Result<(), Fail> {
     for (path, want) in PATHS {
-        for old in OLD {
-            let mut text = Vec::from_slice(rt.alloc(), old.as_bytes())?;
-            path_of(rt.alloc(), path)?.put_text(&mut text)?;
-            let whole = format!(in rt.alloc(); "{old}{want}")?;
-            assert_eq!(rt; text.as_slice(), whole.as_bytes());
-        }
+        assert_path(&rt, rt.alloc(), &path_of(rt.alloc(), path)?, want)?;
     }
+    Ok(())
+}
+
+/// Asserts that AS numbers are as they were made, a copy of them, and what is left of both.
+fn assert_numbers(rt: &impl Abort, alloc: Global, numbers: &[u32]) -> Result<(), AllocError> {
+    let own = AsNumbers::from_vec(Vec::from_slice(alloc, numbers)?);
+    assert_eq!(rt; own.as_slice(), numbers);
+    assert_eq!(rt; own.clone()?.as_slice(), numbers);
+    assert_eq!(rt; own.into_vec().as_slice(), numbers);
+    Ok(())
+}
+
+/// The same of communities.
+fn assert_communities(rt: &impl Abort, alloc: Global, numbers: &[u32]) -> Result<(), AllocError> {
+    let own = Communities::from_vec(Vec::from_slice(alloc, numbers)?);
+    assert_eq!(rt; own.as_slice(), numbers);
+    assert_eq!(rt; own.clone()?.as_slice(), numbers);
+    assert_eq!(rt; own.into_vec().as_slice(), numbers);
     Ok(())
 }
 
 #[test]
 fn lists_are_as_made(rt: HostRuntime) -> Result<(), Fail> {
     for numbers in [[1, 2].as_slice(), &[], &[0, 4_294_967_295, 0]] {
-        let own = AsNumbers::from_vec(Vec::from_slice(rt.alloc(), numbers)?);
-        assert_eq!(rt; own.as_slice(), numbers);
-        assert_eq!(rt; own.clone()?.as_slice(), numbers);
-        assert_eq!(rt; own.into_vec().as_slice(), numbers);
-        let communities = Communities::from_vec(Vec::from_slice(rt.alloc(), numbers)?);
-        assert_eq!(rt; communities.as_slice(), numbers);
-        assert_eq!(rt; communities.clone()?.as_slice(), numbers);
-        assert_eq!(rt; communities.into_vec().as_slice(), numbers);
+        assert_numbers(&rt, rt.alloc(), numbers)?;
+        assert_communities(&rt, rt.alloc(), numbers)?;
     }
     Ok(())
+}
+
+/// Asserts that there is one segment, of this kind and the numbers 7 and 8.
+fn assert_segment(rt: &impl Abort, segments: &[Segment], kind: SegmentKind) {
+    assert_eq!(rt; segments.len(), 1);
+    assert_eq!(rt; segments[0].kind, kind);
+    assert_eq!(rt; segments[0].numbers.as_slice(), [7, 8].as_slice());
 }
 
 #[test]
 fn segments_are_as_made(rt: HostRuntime) -> Result<(), Fail> {
     let made = path_of(rt.alloc(), &[(SegmentKind::AsSet, &[7, 8])])?.segments;
     assert_eq!(rt; made.as_slice().len(), 1);
-    let segments = made.into_vec();
-    assert_eq!(rt; segments.len(), 1);
-    assert_eq!(rt; segments[0].kind, SegmentKind::AsSet);
-    assert_eq!(rt; segments[0].numbers.as_slice(), [7, 8].as_slice());
+    assert_segment(&rt, &made.into_vec(), SegmentKind::AsSet);
     Ok(())
+}
+
+/// The path {7,8}.
+fn pair(alloc: Global) -> Result<AsPath, AllocError> {
+    path_of(alloc, &[(SegmentKind::AsSet, &[7, 8])])
+}
+
+/// Its segments, copied.
+fn copied_segments(alloc: Global) -> Result<AsPath, AllocError> {
+    let segments = pair(alloc)?.segments.clone()?;
+    Ok(AsPath { segments })
 }
 
 #[test]
 fn copies_paths(rt: HostRuntime) -> Result<(), Fail> {
-    let path = path_of(rt.alloc(), &[(SegmentKind::AsSet, &[7, 8])])?;
-    for copy in [
-        path.clone()?,
-        AsPath {
-            segments: path.segments.clone()?,
-        },
-    ] {
-        let mut text = Vec::new(rt.alloc());
-        copy.put_text(&mut text)?;
-        assert_eq!(rt; text.as_slice(), b"{7,8}".as_slice());
-    }
+    let copy = pair(rt.alloc())?.clone()?;
+    assert_path(&rt, rt.alloc(), &copy, "{7,8}")?;
+    assert_path(&rt, rt.alloc(), &copied_segments(rt.alloc())?, "{7,8}")?;
     Ok(())
+}
+
+/// Copies of segments.
+fn copies_of(alloc: Global, segments: &[Segment]) -> Result<Vec<Segment>, AllocError> {
+    let mut copies = Vec::new(alloc);
+    for segment in segments {
+        copies.push(segment.clone()?)?;
+    }
+    Ok(copies)
 }
 
 #[test]
 fn copies_segments(rt: HostRuntime) -> Result<(), Fail> {
-    for segment in path_of(rt.alloc(), &[(SegmentKind::ConfedSet, &[7, 8])])?
-        .segments
-        .as_slice()
-    {
-        let copy = segment.clone()?;
-        assert_eq!(rt; copy.kind, SegmentKind::ConfedSet);
-        assert_eq!(rt; copy.numbers.as_slice(), [7, 8].as_slice());
-    }
+    let path = path_of(rt.alloc(), &[(SegmentKind::ConfedSet, &[7, 8])])?;
+    let copies = copies_of(rt.alloc(), path.segments.as_slice())?;
+    assert_segment(&rt, &copies, SegmentKind::ConfedSet);
     Ok(())
 }
 

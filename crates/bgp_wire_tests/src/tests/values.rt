@@ -1,6 +1,6 @@
 //! The value of each attribute, but for paths and MP_REACH_NLRI.
 
-use super::{MALFORMED, assert_rows};
+use super::{assert_refused, assert_rows};
 use bgp_wire::AsWidth;
 use ip_prefix::Family;
 use std::test::Fail;
@@ -88,10 +88,8 @@ fn reads_values(rt: HostRuntime) -> Result<(), Fail> {
 
 #[test]
 fn refuses_values(rt: HostRuntime) -> Result<(), Fail> {
-    for row in REFUSED {
-        for width in [AsWidth::Two, AsWidth::Four] {
-            assert_rows(&rt, rt.alloc(), Family::V6, width, &[(row, MALFORMED)])?;
-        }
+    for width in [AsWidth::Two, AsWidth::Four] {
+        assert_refused(&rt, rt.alloc(), Family::V6, width, &REFUSED)?;
     }
     Ok(())
 }
