@@ -1,31 +1,45 @@
 //! What the events of sources say, and what inputs pass on.
 
 use ip_prefix::Addr;
-use mrt_wire::{InFault, Input, Item, Next, ReadInput, Source, Stamp, Tag, Time};
+use mrt_wire::{Event, InFault, Input, Item, Next, Peer, ReadInput, Source, Stamp, Tag, Time};
+use std::alloc::Global;
 use std::io::{self, ErrorKind, Read};
 use std::test::Fail;
 use test_octets::{STATE_CHANGE, octets_of};
 
+/// The first event that a source answers over octets.
+fn first_event(alloc: Global, octets: &[u8]) -> Option<Event> {
+    let mut source = Source::new(alloc, Stamp::Change, 1 << 40);
+    match source.next(&mut ReadInput::new(octets)) {
+        Ok(Next::Event(event)) => Some(event),
+        _ => None,
+    }
+}
+
+/// The peer and the states of an only item, where that is a state change.
+fn only_change(items: &[Item]) -> Option<(Peer, u16, u16)> {
+    match items {
+        [Item::State(peer, old, new)] => Some((*peer, *old, *new)),
+        _ => None,
+    }
+}
+
 #[test]
 fn a_state_change_is_an_event(rt: HostRuntime) -> Result<(), Fail> {
     let octets = octets_of(rt.alloc(), &[STATE_CHANGE])?;
-    let mut source = Source::new(rt.alloc(), Stamp::Change, 1 << 40);
-    let Ok(Next::Event(event)) = source.next(&mut ReadInput::new(octets.as_slice())) else {
-        assert!(rt; false, "an event was wanted");
-        return Ok(());
-    };
+    let event = first_event(rt.alloc(), &octets).ok_or("an event was wanted")?;
     let time = Time {
         seconds: 100,
         micros: None,
     };
     assert_eq!(rt; event.time, time);
     assert_eq!(rt; event.tag, Tag::Bgp4mp);
-    let [Item::State(peer, 6, 1)] = event.items.as_slice() else {
-        assert!(rt; false, "one state change was wanted");
-        return Ok(());
+    let peer = Peer {
+        addr: Addr::v4([192, 0, 2, 1]),
+        asn: 64500,
     };
-    assert_eq!(rt; peer.addr, Addr::v4([192, 0, 2, 1]));
-    assert_eq!(rt; peer.asn, 64500);
+    let change = only_change(event.items.as_slice());
+    assert_eq!(rt; change, Some((peer, 6, 1)));
     Ok(())
 }
 

@@ -26,6 +26,17 @@ const UPDATES: [&str; 3] = [
      0000 0007 40050400000007 080A",
 ];
 
+/// The route that an answer announces alone.
+fn announced(answer: &Next) -> Result<Option<Rc<Route>>, AllocError> {
+    let Next::Event(event) = answer else {
+        return Ok(None);
+    };
+    match event.items.as_slice() {
+        [Item::Announce(_, _, route)] => Ok(Some(route.clone()?)),
+        _ => Ok(None),
+    }
+}
+
 /// The route that the next record announces. The answer is given back.
 fn next_route<I: Input>(
     source: &mut Source,
@@ -34,14 +45,9 @@ fn next_route<I: Input>(
     let Ok(answer) = source.next(input) else {
         return Err(AllocError);
     };
-    let mut found = None;
-    if let Next::Event(event) = &answer {
-        if let [Item::Announce(_, _, route)] = event.items.as_slice() {
-            found = Some(route.clone()?);
-        }
-    }
+    let found = announced(&answer);
     source.take_back(answer);
-    Ok(found)
+    found
 }
 
 /// The preference of a route.
@@ -52,16 +58,33 @@ fn preference(route: &Option<Rc<Route>>) -> Option<u32> {
     }
 }
 
+/// The preference of the route that the next record announces, which is held no longer.
+fn next_preference<I: Input>(
+    source: &mut Source,
+    input: &mut I,
+) -> Result<Option<u32>, AllocError> {
+    let route = next_route(source, input)?;
+    Ok(preference(&route))
+}
+
 /// The preferences of three routes that follow one another, of which the first and the last are
 /// held until all are read.
+fn held_preferences<I: Input>(
+    source: &mut Source,
+    input: &mut I,
+) -> Result<[Option<u32>; 3], AllocError> {
+    let first = next_route(source, input)?;
+    let second = next_preference(source, input)?;
+    let third = next_route(source, input)?;
+    Ok([preference(&first), second, preference(&third)])
+}
+
+/// Those of the routes behind an index.
 fn preferences(alloc: Global, octets: &[u8]) -> Result<[Option<u32>; 3], AllocError> {
     let mut input = ReadInput::new(octets);
     let mut source = Source::new(alloc, Stamp::Dump, 1 << 40);
-    let _index = next_route(&mut source, &mut input)?;
-    let first = next_route(&mut source, &mut input)?;
-    let second = preference(&next_route(&mut source, &mut input)?);
-    let third = next_route(&mut source, &mut input)?;
-    Ok([preference(&first), second, preference(&third)])
+    next_preference(&mut source, &mut input)?;
+    held_preferences(&mut source, &mut input)
 }
 
 #[test]

@@ -1,7 +1,7 @@
 //! Types and subtypes that aren't read.
 
 use super::shown::assert_texts;
-use std::alloc::Global;
+use std::alloc::{AllocError, Global};
 use std::process::Abort;
 use std::test::Fail;
 
@@ -54,7 +54,12 @@ const BODIES: [&str; 6] = [
 ];
 
 /// Asserts that a record of this type and subtype is unsupported, whatever its body.
-fn assert_unread(rt: &impl Abort, alloc: Global, kind: &str, shown: &str) -> Result<(), Fail> {
+fn assert_unread(
+    rt: &impl Abort,
+    alloc: Global,
+    kind: &str,
+    shown: &str,
+) -> Result<(), AllocError> {
     let want = format!(in alloc; "1 0 Unsupported({shown}); end")?;
     for body in BODIES {
         assert_texts(rt, alloc, &[kind, body], want.as_str())?;

@@ -27,16 +27,31 @@ fn put_repeated(
     Ok(())
 }
 
+/// Reads the next event in place of another, and answers whether there was one. There is no answer
+/// where a record or the source has a fault.
+fn read_event(
+    source: &mut Source,
+    input: &mut ReadInput<&[u8]>,
+    last: &mut Option<Event>,
+) -> Option<bool> {
+    match source.next(input) {
+        Ok(Next::Event(event)) => {
+            *last = Some(event);
+            Some(true)
+        }
+        Ok(Next::End) => Some(false),
+        Ok(Next::Bad(_)) | Err(_) => None,
+    }
+}
+
 /// The last event of a source over the octets, where it answers events alone up to the end.
 fn last_event(alloc: Global, octets: &[u8]) -> Option<Event> {
     let mut source = Source::new(alloc, Stamp::Dump, 1 << 40);
     let mut input = ReadInput::new(octets);
     let mut last = None;
     for _ in 0..4 {
-        match source.next(&mut input) {
-            Ok(Next::Event(event)) => last = Some(event),
-            Ok(Next::End) => break,
-            Ok(Next::Bad(_)) | Err(_) => return None,
+        if !read_event(&mut source, &mut input, &mut last)? {
+            break;
         }
     }
     last
@@ -58,34 +73,45 @@ fn assert_last(
     Ok(())
 }
 
+/// An index of the peers 192.0.2.1 of AS 64500 and 192.0.2.2 of AS 64501.
+const TWO_PEERS: &str =
+    "000D 0001 C6336401 0000 0002 00 C0000201 C0000201 FBF4 00 C0000202 C0000202 FBF5";
+
+/// A table of so many entries of the first peer, and one of the second, with the number of all.
+fn table_of(alloc: Global, number: &str, before: usize) -> Result<Vec<u8>, AllocError> {
+    let mut record = octets_of(alloc, &["000D 0002 00000000 080A", number])?;
+    put_repeated(alloc, "0000 00000032 0000", before, &mut record)?;
+    put_repeated(alloc, "0001 00000033 0000", 1, &mut record)?;
+    Ok(record)
+}
+
 #[test]
 fn tables_have_many_entries(rt: HostRuntime) -> Result<(), Fail> {
-    let alloc = rt.alloc();
-    let index = "000D 0001 C6336401 0000 0002 00 C0000201 C0000201 FBF4 00 C0000202 C0000202 FBF5";
     for (number, before, count) in [("EA60", 59_999, 60_000), ("FFFF", 65_534, 65_535)] {
-        let mut record = octets_of(alloc, &["000D 0002 00000000 080A", number])?;
-        put_repeated(alloc, "0000 00000032 0000", before, &mut record)?;
-        put_repeated(alloc, "0001 00000033 0000", 1, &mut record)?;
-        let mut octets = records_of(alloc, &[index])?;
-        put_record(record.as_slice(), &mut octets)?;
+        let mut octets = records_of(rt.alloc(), &[TWO_PEERS])?;
+        put_record(&table_of(rt.alloc(), number, before)?, &mut octets)?;
         let want = "+192.0.2.2 64501 10.0.0.0/8 at 200";
-        assert_last(&rt, alloc, octets.as_slice(), count, want)?;
+        assert_last(&rt, rt.alloc(), &octets, count, want)?;
     }
     Ok(())
 }
 
-#[test]
-fn indexes_have_many_peers(rt: HostRuntime) -> Result<(), Fail> {
-    let alloc = rt.alloc();
+/// An index of 65,534 times one peer, and then another.
+fn index_of_many(alloc: Global) -> Result<Vec<u8>, AllocError> {
     let mut index = octets_of(alloc, &["000D 0001 C6336401 0000 FFFF"])?;
     put_repeated(alloc, "00 C0000201 C0000201 FBF4", 65_534, &mut index)?;
     put_repeated(alloc, "00 C0000202 C0000202 FBF5", 1, &mut index)?;
-    let mut octets = Vec::new(alloc);
-    put_record(index.as_slice(), &mut octets)?;
-    let entry = records_of(alloc, &["000D 0002 00000000 080A 0001 FFFE 00000032 0000"])?;
-    octets.extend_from_slice(entry.as_slice())?;
+    Ok(index)
+}
+
+#[test]
+fn indexes_have_many_peers(rt: HostRuntime) -> Result<(), Fail> {
+    let entry = "000D 0002 00000000 080A 0001 FFFE 00000032 0000";
+    let mut octets = Vec::new(rt.alloc());
+    put_record(&index_of_many(rt.alloc())?, &mut octets)?;
+    put_record(&octets_of(rt.alloc(), &[entry])?, &mut octets)?;
     let want = "+192.0.2.2 64501 10.0.0.0/8 at 200";
-    assert_last(&rt, alloc, octets.as_slice(), 1, want)
+    assert_last(&rt, rt.alloc(), &octets, 1, want)
 }
 
 /// The record of an UPDATE that announces so many times one prefix, and then another.
@@ -170,12 +196,21 @@ fn longer_messages_are_malformed(rt: HostRuntime) -> Result<(), Fail> {
     Ok(())
 }
 
-/// Whether an announcement's route is this one, and not another that equals it.
-fn shares(item: &Item, route: &Rc<Route>) -> bool {
-    match item {
-        Item::Announce(_, _, other) => Rc::ptr_eq(other, route),
+/// Whether two announcements have one route, and not two that are equal.
+fn share(item: &Item, other: &Item) -> bool {
+    match (item, other) {
+        (Item::Announce(_, _, route), Item::Announce(_, _, second)) => Rc::ptr_eq(route, second),
         _ => false,
     }
+}
+
+/// A digit for each item: 1 where it shares the route of another item.
+fn sharers(alloc: Global, items: &[Item], other: &Item) -> Result<Vec<u8>, AllocError> {
+    let mut shared = Vec::new(alloc);
+    for item in items {
+        shared.push(if share(item, other) { b'1' } else { b'0' })?;
+    }
+    Ok(shared)
 }
 
 #[test]
@@ -185,21 +220,11 @@ fn prefixes_of_one_list_share_their_route(rt: HostRuntime) -> Result<(), Fail> {
          FFFFFFFFFFFFFFFFFFFFFFFFFFFFFFFF 002B 02 0000 000F \
          800E0C 000101 04 C000020B 00 00 080A 00 080B 080C";
     let octets = records_of(rt.alloc(), &[record])?;
-    let event = last_event(rt.alloc(), octets.as_slice()).ok_or("an event was wanted")?;
+    let event = last_event(rt.alloc(), &octets).ok_or("an event was wanted")?;
     let items = event.items.as_slice();
-    let [first, .., last] = items else {
-        assert!(rt; false, "two items were wanted");
-        return Ok(());
-    };
-    for (route, want) in [(first, "11100"), (last, "00011")] {
-        let Item::Announce(_, _, route) = route else {
-            assert!(rt; false, "a route was wanted");
-            return Ok(());
-        };
-        let mut shared = Vec::new(rt.alloc());
-        for item in items {
-            shared.push(if shares(item, route) { b'1' } else { b'0' })?;
-        }
+    assert_eq!(rt; items.len(), 5);
+    for (place, want) in [(0, "11100"), (4, "00011")] {
+        let shared = sharers(rt.alloc(), items, &items[place])?;
         assert_eq!(rt; shared.as_slice(), want.as_bytes());
     }
     Ok(())
@@ -231,14 +256,19 @@ const SHARED: [(&str, usize, usize); 3] = [
     ),
 ];
 
+/// Asserts which items are known to share a route, and that none are where they are made anew.
+fn assert_shared(rt: &impl Abort, items: Items, want: Shared) {
+    assert_eq!(rt; items.shared(), want);
+    let made = Items::from_vec(items.into_vec());
+    assert_eq!(rt; made.shared(), Shared { start: 0, end: 0 });
+}
+
 #[test]
 fn events_tell_which_items_share_a_route(rt: HostRuntime) -> Result<(), Fail> {
     for (record, start, end) in SHARED {
         let octets = records_of(rt.alloc(), &[record])?;
-        let event = last_event(rt.alloc(), octets.as_slice()).ok_or("an event was wanted")?;
-        assert_eq!(rt; event.items.shared(), Shared { start, end });
-        let items = Items::from_vec(event.items.into_vec());
-        assert_eq!(rt; items.shared(), Shared { start: 0, end: 0 });
+        let event = last_event(rt.alloc(), &octets).ok_or("an event was wanted")?;
+        assert_shared(&rt, event.items, Shared { start, end });
     }
     Ok(())
 }

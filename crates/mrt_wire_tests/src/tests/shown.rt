@@ -1,7 +1,7 @@
 //! Records of octets that are written in hexadecimal, and what a source answers over them, as text.
 
-use ip_prefix::put_decimal;
-use mrt_wire::{Event, Item, Next, Peer, ReadInput, Route, Source, Stamp, Tag};
+use ip_prefix::{Prefix, put_decimal};
+use mrt_wire::{Event, Item, Next, Peer, ReadInput, RecordFault, Route, Source, Stamp, Tag};
 use std::alloc::{AllocError, Global};
 use std::process::Abort;
 use test_octets::octets_of;
@@ -52,30 +52,38 @@ fn put_route(route: &Route, text: &mut Vec<u8>) -> Result<(), AllocError> {
     Ok(())
 }
 
+/// Appends a mark, a peer, a space and a prefix.
+fn put_prefix(
+    mark: u8,
+    peer: &Peer,
+    prefix: &Prefix,
+    text: &mut Vec<u8>,
+) -> Result<(), AllocError> {
+    text.push(mark)?;
+    put_peer(peer, text)?;
+    text.push(b' ')?;
+    prefix.put_text(text)
+}
+
+/// Appends `=`, a peer and two states, with spaces between them.
+fn put_states(peer: &Peer, old: u16, new: u16, text: &mut Vec<u8>) -> Result<(), AllocError> {
+    text.push(b'=')?;
+    put_peer(peer, text)?;
+    text.push(b' ')?;
+    put_decimal(u64::from(old), text)?;
+    text.push(b' ')?;
+    put_decimal(u64::from(new), text)
+}
+
 /// Appends an item: `+` and a route, `-` and a prefix, or `=` and two states, each with its peer.
 fn put_item(item: &Item, text: &mut Vec<u8>) -> Result<(), AllocError> {
     match item {
         Item::Announce(peer, prefix, route) => {
-            text.push(b'+')?;
-            put_peer(peer, text)?;
-            text.push(b' ')?;
-            prefix.put_text(text)?;
+            put_prefix(b'+', peer, prefix, text)?;
             put_route(route, text)
         }
-        Item::Withdraw(peer, prefix) => {
-            text.push(b'-')?;
-            put_peer(peer, text)?;
-            text.push(b' ')?;
-            prefix.put_text(text)
-        }
-        Item::State(peer, old, new) => {
-            text.push(b'=')?;
-            put_peer(peer, text)?;
-            text.push(b' ')?;
-            put_decimal(u64::from(*old), text)?;
-            text.push(b' ')?;
-            put_decimal(u64::from(*new), text)
-        }
+        Item::Withdraw(peer, prefix) => put_prefix(b'-', peer, prefix, text),
+        Item::State(peer, old, new) => put_states(peer, *old, *new, text),
     }
 }
 
@@ -110,14 +118,17 @@ fn put_event(event: &Event, text: &mut Vec<u8>) -> Result<(), AllocError> {
     Ok(())
 }
 
+/// Appends the number, the place and the kind of a faulty record.
+fn put_fault(alloc: Global, fault: &RecordFault, text: &mut Vec<u8>) -> Result<(), AllocError> {
+    let shown = format!(in alloc; "{} {} {:?}", fault.number, fault.offset, fault.kind)?;
+    text.extend_from_slice(shown.as_bytes())
+}
+
 /// Appends what a source answered, and answers whether it goes on.
 fn put_answer(alloc: Global, next: &Next, text: &mut Vec<u8>) -> Result<bool, AllocError> {
     match next {
         Next::Event(event) => put_event(event, text)?,
-        Next::Bad(fault) => {
-            let shown = format!(in alloc; "{} {} {:?}", fault.number, fault.offset, fault.kind)?;
-            text.extend_from_slice(shown.as_bytes())?;
-        }
+        Next::Bad(fault) => put_fault(alloc, fault, text)?,
         Next::End => {
             text.extend_from_slice(b"end")?;
             return Ok(false);
@@ -127,20 +138,35 @@ fn put_answer(alloc: Global, next: &Next, text: &mut Vec<u8>) -> Result<bool, Al
     Ok(true)
 }
 
-/// What a source answers over the octets up to the end, or up to a fault of its own.
-fn shown(alloc: Global, stamp: Stamp, octets: &[u8]) -> Result<Vec<u8>, AllocError> {
+/// Appends what a source answers next, and answers whether it goes on. It doesn't behind a fault of
+/// its own.
+fn put_next(
+    alloc: Global,
+    source: &mut Source,
+    input: &mut ReadInput<&[u8]>,
+    text: &mut Vec<u8>,
+) -> Result<bool, AllocError> {
+    match source.next(input) {
+        Ok(next) => put_answer(alloc, &next, text),
+        Err(_) => Ok(false),
+    }
+}
+
+/// Appends what a source answers over the octets up to the end, or up to a fault of its own.
+fn put_answers(
+    alloc: Global,
+    stamp: Stamp,
+    octets: &[u8],
+    text: &mut Vec<u8>,
+) -> Result<(), AllocError> {
     let mut source = Source::new(alloc, stamp, 1 << 40);
     let mut input = ReadInput::new(octets);
-    let mut text = Vec::new(alloc);
     for _ in 0..MOST_ANSWERS {
-        let Ok(next) = source.next(&mut input) else {
-            break;
-        };
-        if !put_answer(alloc, &next, &mut text)? {
+        if !put_next(alloc, &mut source, &mut input, text)? {
             break;
         }
     }
-    Ok(text)
+    Ok(())
 }
 
 /// Asserts what a source answers over octets.
@@ -151,7 +177,8 @@ pub(super) fn assert_octets(
     octets: &[u8],
     want: &str,
 ) -> Result<(), AllocError> {
-    let text = shown(alloc, stamp, octets)?;
+    let mut text = Vec::new(alloc);
+    put_answers(alloc, stamp, octets, &mut text)?;
     assert_eq!(rt; text.as_slice(), want.as_bytes(), "{want}");
     Ok(())
 }
@@ -176,6 +203,19 @@ pub(super) fn assert_texts(
     want: &str,
 ) -> Result<(), AllocError> {
     assert_record(rt, alloc, octets_of(alloc, texts)?.as_slice(), want)
+}
+
+/// Asserts that records are malformed which begin with one text and go on with another.
+pub(super) fn assert_malformed(
+    rt: &impl Abort,
+    alloc: Global,
+    front: &str,
+    rests: &[&str],
+) -> Result<(), AllocError> {
+    for rest in rests {
+        assert_texts(rt, alloc, &[front, rest], "1 0 Malformed; end")?;
+    }
+    Ok(())
 }
 
 /// Asserts what sources answer over records.

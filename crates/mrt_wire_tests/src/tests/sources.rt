@@ -1,6 +1,6 @@
 //! What sources answer, call by call.
 
-use mrt_wire::{Input, Next, ReadInput, Source, Stamp};
+use mrt_wire::{Input, Next, ReadInput, Source, SourceFault, Stamp};
 use std::alloc::{AllocError, Global};
 use std::process::Abort;
 use std::test::Fail;
@@ -13,15 +13,13 @@ const MANY: usize = usize::MAX;
 /// The greatest limit of a run.
 const FAR: u64 = 1 << 40;
 
-/// What a source answers next, and how many octets it has taken then.
-fn answer<I: Input>(
+/// What a source has answered, and how many octets it has taken then.
+fn shown(
     alloc: Global,
-    source: &mut Source,
-    input: &mut I,
+    answer: &Result<Next, SourceFault>,
+    taken: u64,
 ) -> Result<String, AllocError> {
-    let next = source.next(input);
-    let taken = source.offset();
-    match next {
+    match answer {
         Ok(Next::Event(event)) => {
             format!(in alloc; "{} item at {taken}", event.items.as_slice().len())
         }
@@ -36,6 +34,29 @@ fn answer<I: Input>(
     }
 }
 
+/// What a source answers next.
+fn next_shown<I: Input>(
+    alloc: Global,
+    source: &mut Source,
+    input: &mut I,
+) -> Result<String, AllocError> {
+    let answer = source.next(input);
+    shown(alloc, &answer, source.offset())
+}
+
+/// Asserts what a source answers next.
+fn assert_next<I: Input>(
+    rt: &impl Abort,
+    alloc: Global,
+    source: &mut Source,
+    input: &mut I,
+    want: &str,
+) -> Result<(), AllocError> {
+    let got = next_shown(alloc, source, input)?;
+    assert_eq!(rt; got.as_str(), want);
+    Ok(())
+}
+
 /// Asserts what a source answers to as many calls as there are answers.
 fn assert_answers<I: Input>(
     rt: &impl Abort,
@@ -47,8 +68,7 @@ fn assert_answers<I: Input>(
     let mut source = Source::new(alloc, Stamp::Dump, limit);
     assert_eq!(rt; source.offset(), 0);
     for text in want {
-        let got = answer(alloc, &mut source, input)?;
-        assert_eq!(rt; got.as_str(), *text);
+        assert_next(rt, alloc, &mut source, input, text)?;
     }
     Ok(())
 }
@@ -110,25 +130,21 @@ const WHOLE: [(&str, [&str; 4]); 7] = [
     ),
 ];
 
+/// Asserts what a source with a far limit answers over octets, at once and one by one.
+fn assert_whole(
+    rt: &impl Abort,
+    alloc: Global,
+    octets: &[u8],
+    want: &[&str],
+) -> Result<(), AllocError> {
+    assert_answers(rt, alloc, FAR, &mut ReadInput::new(octets), want)?;
+    assert_answers(rt, alloc, FAR, &mut SlowInput::new(octets, 1, MANY), want)
+}
+
 #[test]
 fn sources_read_to_the_end(rt: HostRuntime) -> Result<(), Fail> {
-    let alloc = rt.alloc();
     for (texts, want) in WHOLE {
-        let octets = octets_of(alloc, &[texts])?;
-        assert_answers(
-            &rt,
-            alloc,
-            FAR,
-            &mut ReadInput::new(octets.as_slice()),
-            &want,
-        )?;
-        assert_answers(
-            &rt,
-            alloc,
-            FAR,
-            &mut SlowInput::new(&octets, 1, MANY),
-            &want,
-        )?;
+        assert_whole(&rt, rt.alloc(), &octets_of(rt.alloc(), &[texts])?, &want)?;
     }
     Ok(())
 }
