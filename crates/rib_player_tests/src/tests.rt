@@ -7,6 +7,7 @@ mod kept;
 mod lookups;
 mod plain;
 mod refused;
+mod seen;
 mod sessions;
 mod stores;
 mod walks;
@@ -15,15 +16,14 @@ use ip_prefix::{Addr, Prefix};
 use mrt_wire::{Event, Item, Items, Next, Peer, ReadInput, Route, Source, Stamp, Tag, Time};
 use rib_player::{PlayFault, Player};
 use rib_store::{GREATEST_COUNT, MapStore, PrefixStore, RadixStore};
-use std::alloc::Global;
+use seen::{Seen, assert_few_nodes, assert_seen};
+use std::alloc::{AllocError, Global};
 use std::process::Abort;
 use std::rc::Rc;
 use std::test::Fail;
+use test_octets::octets_of;
 
-/// A player over the store that is an ordered map.
-type MapPlayer = Player<MapStore<Rc<Route>>>;
-
-/// A player over the store that is a radix tree for each family.
+/// A player over the store that the program runs, a radix tree for each family.
 type RadixPlayer = Player<RadixStore<Rc<Route>>>;
 
 /// A store that may have nodes.
@@ -46,11 +46,9 @@ impl HasNodes for RadixStore<Rc<Route>> {
 
 /// A record behind its time: the peer 192.0.2.1 of AS 64500 announces 10.0.0.0/8 with the origin
 /// IGP, the path 64500 and the next hop 192.0.2.9.
-const UPDATE: &[u8] = b"\x00\x10\x00\x01\x00\x00\x00\x3b\
-    \xfb\xf4\xfb\xf5\x00\x00\x00\x01\xc0\x00\x02\x01\xc0\x00\x02\x02\
-    \xff\xff\xff\xff\xff\xff\xff\xff\xff\xff\xff\xff\xff\xff\xff\xff\x00\x2b\x02\
-    \x00\x00\x00\x12\x40\x01\x01\x00\x40\x02\x04\x02\x01\xfb\xf4\x40\x03\x04\xc0\x00\x02\x09\
-    \x08\x0a";
+const UPDATE: &str = "0010 0001 0000003B FBF4 FBF5 0000 0001 C0000201 C0000202 \
+    FFFFFFFF FFFFFFFF FFFFFFFF FFFFFFFF 002B 02 \
+    0000 0012 40010100 40020402 01FBF4 400304 C0000209 080A";
 
 /// How many octets a source may keep.
 const LIMIT: u64 = 1 << 20;
@@ -85,6 +83,8 @@ enum Call<'a> {
     Play(&'a [Say]),
     Undo,
     Redo,
+    /// No call.
+    Stay,
 }
 
 /// What a call answers.
@@ -96,15 +96,8 @@ enum Answer {
     Nothing,
 }
 
-/// A call, what it answers, and the time of the peer's route to 10.0.0.0/8 then.
-type Row<'a> = (Call<'a>, Answer, Option<u32>);
-
-/// The steps before and after the cursor, the pairs that steps name, and the keys of the peer's
-/// store.
-type Counts = (u64, u64, u64, Option<u64>);
-
-/// A call, what it answers, and the counts then.
-type CountRow<'a> = (Call<'a>, Answer, Counts);
+/// A call, what it answers, and what is seen of the player then.
+type Row<'a> = (Call<'a>, Answer, &'a [Seen]);
 
 fn peer_of(who: Who) -> Peer {
     let (last, asn) = match who {
@@ -146,16 +139,35 @@ fn announced(event: &Event) -> Result<Rc<Route>, Fail> {
     Ok(route.clone()?)
 }
 
-/// A route of this time.
-fn route_at(alloc: Global, time: u32) -> Result<Rc<Route>, Fail> {
-    let mut record = Vec::new(alloc);
-    record.extend_from_slice(&time.to_be_bytes())?;
-    record.extend_from_slice(UPDATE)?;
-    let mut source = Source::new(alloc, Stamp::Change, LIMIT);
-    match source.next(&mut ReadInput::new(record.as_slice()))? {
-        Next::Event(event) => announced(&event),
+/// The route that comes next.
+fn brought(next: &Next) -> Result<Rc<Route>, Fail> {
+    match next {
+        Next::Event(event) => announced(event),
         _ => Err("an event was wanted")?,
     }
+}
+
+/// A record of this time, with the octets behind it.
+fn record_at(alloc: Global, time: u32, octets: &[u8]) -> Result<Vec<u8>, AllocError> {
+    let mut record = Vec::from_slice(alloc, &time.to_be_bytes())?;
+    record.extend_from_slice(octets)?;
+    Ok(record)
+}
+
+/// The route that the record brings.
+fn route_in(source: &mut Source, record: &[u8]) -> Result<Rc<Route>, Fail> {
+    let next = source.next(&mut ReadInput::new(record))?;
+    brought(&next)
+}
+
+/// A route of this time.
+fn route_at(alloc: Global, time: u32) -> Result<Rc<Route>, Fail> {
+    let update = octets_of(alloc, &[UPDATE])?;
+    let record = record_at(alloc, time, update.as_slice())?;
+    route_in(
+        &mut Source::new(alloc, Stamp::Change, LIMIT),
+        record.as_slice(),
+    )
 }
 
 fn announcement(alloc: Global, peer: Peer, prefix: Prefix, time: u32) -> Result<Item, Fail> {
@@ -194,6 +206,26 @@ fn event(alloc: Global, says: &[Say]) -> Result<Event, Fail> {
     Ok(event_of(items))
 }
 
+/// Appends the announcement of a prefix by the peer.
+fn push_announcement(
+    items: &mut Vec<Item>,
+    peer: Peer,
+    prefix: Prefix,
+    time: u32,
+) -> Result<(), Fail> {
+    let item = announcement(*items.allocator(), peer, prefix, time)?;
+    Ok(items.push(item)?)
+}
+
+/// The event that announces the first of the numbered prefixes, each number as the route's time.
+fn numbered_event(alloc: Global, count: u32) -> Result<Event, Fail> {
+    let mut items = Vec::new(alloc);
+    for number in 0..count {
+        push_announcement(&mut items, peer(), numbered(number), number)?;
+    }
+    Ok(event_of(items))
+}
+
 fn answer_to<S: PrefixStore<Rc<Route>>>(player: &mut Player<S>, event: &Event) -> Answer {
     if player.at() < GREATEST_COUNT {
         match player.play(event) {
@@ -224,6 +256,7 @@ fn make_call<S: PrefixStore<Rc<Route>>>(
         Call::Play(items) => Ok(answer_to(player, &event(alloc, items)?)),
         Call::Undo => Ok(shift(player, true)),
         Call::Redo => Ok(shift(player, false)),
+        Call::Stay => Ok(Answer::Nothing),
     }
 }
 
@@ -255,23 +288,20 @@ fn keys_of<S: PrefixStore<Rc<Route>>>(player: &Player<S>, peer: &Peer) -> Option
     }
 }
 
-fn counts<S: PrefixStore<Rc<Route>>>(player: &Player<S>) -> Counts {
-    let keys = keys_of(player, &peer());
-    (player.at(), player.ahead(), player.named(), keys)
-}
-
-/// Asserts that the peer's store, where there is one, has no more than two nodes a key.
-fn assert_few_nodes<S: PrefixStore<Rc<Route>> + HasNodes>(
+/// Makes a call, and compares what it answers and what is seen then.
+fn assert_row<S: PrefixStore<Rc<Route>> + HasNodes>(
     rt: &impl Abort,
-    player: &Player<S>,
-    peer: &Peer,
-) {
-    let Some(store) = player.table().store(peer) else {
-        return;
-    };
-    if let Some(nodes) = store.node_count() {
-        assert!(rt; nodes <= store.key_count().saturating_mul(2));
+    alloc: Global,
+    player: &mut Player<S>,
+    row: &Row,
+) -> Result<(), Fail> {
+    let (call, answer, all_seen) = row;
+    assert_eq!(rt; make_call(alloc, player, *call)?, *answer);
+    assert_few_nodes(rt, player, &peer());
+    for seen in *all_seen {
+        assert_seen(rt, player, *seen)?;
     }
+    Ok(())
 }
 
 /// Makes the calls one after another, and compares what they answer and leave.
@@ -281,41 +311,14 @@ fn follow<S: PrefixStore<Rc<Route>> + HasNodes>(
     player: &mut Player<S>,
     rows: &[Row],
 ) -> Result<(), Fail> {
-    for (made, answer, time) in rows {
-        assert_eq!(rt; make_call(alloc, player, *made)?, *answer);
-        assert_eq!(rt; time_of(player, &peer(), &eight(10)), *time);
-        assert_few_nodes(rt, player, &peer());
+    for row in rows {
+        assert_row(rt, alloc, player, row)?;
     }
     Ok(())
 }
 
-/// Makes the calls one after another, and compares what they answer and the counts.
-fn count<S: PrefixStore<Rc<Route>> + HasNodes>(
-    rt: &impl Abort,
-    alloc: Global,
-    player: &mut Player<S>,
-    rows: &[CountRow],
-) -> Result<(), Fail> {
-    for (made, answer, wanted) in rows {
-        assert_eq!(rt; make_call(alloc, player, *made)?, *answer);
-        assert_eq!(rt; counts(player), *wanted);
-        assert_few_nodes(rt, player, &peer());
-    }
-    Ok(())
-}
-
-/// Compares the times of routes, or that there is none.
-fn assert_times<S: PrefixStore<Rc<Route>>>(
-    rt: &impl Abort,
-    player: &Player<S>,
-    rows: &[(Who, &str, Option<u32>)],
-) -> Result<(), Fail> {
-    for (who, text, time) in rows {
-        assert_eq!(rt;
-            time_of(player, &peer_of(*who), &prefix_of(text)?),
-            *time,
-            "{text}"
-        );
-    }
-    Ok(())
+/// Makes the calls of a new player.
+fn follow_anew(rt: &impl Abort, alloc: Global, rows: &[Row]) -> Result<(), Fail> {
+    let mut player = RadixPlayer::new(alloc);
+    follow(rt, alloc, &mut player, rows)
 }

@@ -1,10 +1,11 @@
 //! What events do to routes, forth and back.
 
+use super::seen::{Seen, assert_few_nodes};
 use super::{
-    Answer, Call, HasNodes, MapPlayer, RadixPlayer, Row, Say, Who, announcement, answer_to,
-    assert_times, eight, event, event_of, follow, make_call, numbered, peer, peer_of, time_of,
+    Answer, Call, HasNodes, RadixPlayer, Row, Say, Who, announcement, answer_to, eight, event,
+    event_of, follow_anew, make_call, numbered, numbered_event, peer, peer_of, shift, time_of,
 };
-use mrt_wire::{Peer, Route};
+use mrt_wire::{Event, Peer, Route};
 use rib_player::Player;
 use rib_store::PrefixStore;
 use std::alloc::Global;
@@ -12,8 +13,11 @@ use std::process::Abort;
 use std::rc::Rc;
 use std::test::Fail;
 
+/// A call, what it answers, and the time of the peer's route to 10.0.0.0/8 then.
+type Step<'a> = (Call<'a>, Answer, Option<u32>);
+
 /// Calls of a new player, and the steps before and after the cursor then.
-type Course = (&'static [Row<'static>], u64, u64);
+type Course = (&'static [Step<'static>], u64, u64);
 
 const COURSES: [Course; 8] = [
     (OVER_A_WITHDRAWAL, 2, 0),
@@ -27,7 +31,7 @@ const COURSES: [Course; 8] = [
 ];
 
 /// A withdrawal and an announcement in one event.
-const OVER_A_WITHDRAWAL: &[Row] = &[
+const OVER_A_WITHDRAWAL: &[Step] = &[
     (Call::Play(&[Say::Announce(1)]), Answer::Dropped(0), Some(1)),
     (
         Call::Play(&[Say::Withdraw, Say::Announce(2)]),
@@ -39,7 +43,7 @@ const OVER_A_WITHDRAWAL: &[Row] = &[
 ];
 
 /// Two announcements in one event, of which the last is taken.
-const TWO_AT_ONCE: &[Row] = &[
+const TWO_AT_ONCE: &[Step] = &[
     (
         Call::Play(&[Say::Announce(1), Say::Announce(2)]),
         Answer::Dropped(0),
@@ -50,7 +54,7 @@ const TWO_AT_ONCE: &[Row] = &[
 ];
 
 /// An announcement over a route, and two over one another.
-const OVER_ONE_ANOTHER: &[Row] = &[
+const OVER_ONE_ANOTHER: &[Step] = &[
     (Call::Play(&[Say::Announce(1)]), Answer::Dropped(0), Some(1)),
     (Call::Play(&[Say::Announce(2)]), Answer::Dropped(0), Some(2)),
     (
@@ -65,14 +69,14 @@ const OVER_ONE_ANOTHER: &[Row] = &[
     (Call::Undo, Answer::Done, Some(2)),
 ];
 
-const A_LOST_SESSION: &[Row] = &[
+const A_LOST_SESSION: &[Step] = &[
     (Call::Play(&[Say::Announce(1)]), Answer::Dropped(0), Some(1)),
     (Call::Play(&[Say::State(6, 1)]), Answer::Dropped(0), None),
     (Call::Undo, Answer::Done, Some(1)),
 ];
 
 /// State changes that lose no session.
-const OTHER_STATES: &[Row] = &[
+const OTHER_STATES: &[Step] = &[
     (Call::Play(&[Say::Announce(1)]), Answer::Dropped(0), Some(1)),
     (Call::Play(&[Say::State(6, 6)]), Answer::Dropped(0), Some(1)),
     (Call::Play(&[Say::State(1, 6)]), Answer::Dropped(0), Some(1)),
@@ -81,7 +85,7 @@ const OTHER_STATES: &[Row] = &[
 ];
 
 /// Calls for which no step stands there.
-const NO_STEP: &[Row] = &[
+const NO_STEP: &[Step] = &[
     (Call::Undo, Answer::Nothing, None),
     (Call::Redo, Answer::Nothing, None),
     (Call::Play(&[Say::Announce(1)]), Answer::Dropped(0), Some(1)),
@@ -91,7 +95,7 @@ const NO_STEP: &[Row] = &[
 ];
 
 /// Steps ahead that are dropped.
-const STEPS_AHEAD: &[Row] = &[
+const STEPS_AHEAD: &[Step] = &[
     (Call::Play(&[Say::Announce(1)]), Answer::Dropped(0), Some(1)),
     (Call::Play(&[Say::Announce(2)]), Answer::Dropped(0), Some(2)),
     (Call::Play(&[Say::Announce(3)]), Answer::Dropped(0), Some(3)),
@@ -103,7 +107,7 @@ const STEPS_AHEAD: &[Row] = &[
 ];
 
 /// Many steps back and forth, twice.
-const BACK_AND_FORTH: &[Row] = &[
+const BACK_AND_FORTH: &[Step] = &[
     (Call::Play(&[Say::Announce(1)]), Answer::Dropped(0), Some(1)),
     (Call::Play(&[]), Answer::Dropped(0), Some(1)),
     (Call::Play(&[Say::Withdraw]), Answer::Dropped(0), None),
@@ -131,83 +135,96 @@ const BACK_AND_FORTH: &[Row] = &[
     (Call::Redo, Answer::Done, Some(5)),
 ];
 
+/// Makes the call, and compares what it answers and leaves.
+fn assert_step<S: PrefixStore<Rc<Route>> + HasNodes>(
+    rt: &impl Abort,
+    alloc: Global,
+    player: &mut Player<S>,
+    step: &Step,
+) -> Result<(), Fail> {
+    let (made, answer, time) = step;
+    assert_eq!(rt; make_call(alloc, player, *made)?, *answer);
+    assert_eq!(rt; time_of(player, &peer(), &eight(10)), *time);
+    assert_few_nodes(rt, player, &peer());
+    Ok(())
+}
+
 fn follow_course<S: PrefixStore<Rc<Route>> + HasNodes>(
     rt: &impl Abort,
     alloc: Global,
-    mut player: Player<S>,
+    player: &mut Player<S>,
     course: &Course,
 ) -> Result<(), Fail> {
-    let (rows, at, ahead) = course;
-    follow(rt, alloc, &mut player, rows)?;
-    assert_eq!(rt; (player.at(), player.ahead()), (*at, *ahead));
+    let (steps, at, ahead) = course;
+    for step in *steps {
+        assert_step(rt, alloc, player, step)?;
+    }
+    assert_eq!(rt; player.at(), *at);
+    assert_eq!(rt; player.ahead(), *ahead);
     Ok(())
 }
 
-#[test]
-fn map_store_takes_each_course(rt: HostRuntime) -> Result<(), Fail> {
-    for course in &COURSES {
-        follow_course(&rt, rt.alloc(), MapPlayer::new(rt.alloc()), course)?;
+/// Takes each course with a new player.
+fn follow_all(rt: &impl Abort, alloc: Global, courses: &[Course]) -> Result<(), Fail> {
+    for course in courses {
+        follow_course(rt, alloc, &mut RadixPlayer::new(alloc), course)?;
     }
     Ok(())
 }
 
 #[test]
-fn radix_store_takes_each_course(rt: HostRuntime) -> Result<(), Fail> {
-    for course in &COURSES {
-        follow_course(&rt, rt.alloc(), RadixPlayer::new(rt.alloc()), course)?;
-    }
-    Ok(())
+fn takes_each_course(rt: HostRuntime) -> Result<(), Fail> {
+    follow_all(&rt, rt.alloc(), &COURSES)
 }
 
-fn takes_the_last_item_of_a_pair<S: PrefixStore<Rc<Route>> + HasNodes>(
-    rt: &impl Abort,
-    alloc: Global,
-    mut player: Player<S>,
-) -> Result<(), Fail> {
-    let items = [
-        Say::Announce(2),
-        Say::AnnounceOf(Who::Peer, "11.0.0.0/8", 3),
-        Say::State(6, 1),
-        Say::AnnounceOf(Who::Peer, "12.0.0.0/8", 4),
-    ];
-    let rows = [
-        (
-            Call::Play(&[Say::Announce(1), Say::Withdraw]),
-            Answer::Dropped(0),
-            None,
-        ),
-        (Call::Play(&items), Answer::Dropped(0), None),
-    ];
-    follow(rt, alloc, &mut player, &rows)?;
-    let times = [
-        (Who::Peer, "11.0.0.0/8", None),
-        (Who::Peer, "12.0.0.0/8", Some(4)),
-    ];
-    assert_times(rt, &player, &times)
-}
+/// Events that name a pair more than once.
+const NAMED_AGAIN: &[Row] = &[
+    (
+        Call::Play(&[Say::Announce(1), Say::Withdraw]),
+        Answer::Dropped(0),
+        &[Seen::Times(&[(Who::Peer, "10.0.0.0/8", None)])],
+    ),
+    (
+        Call::Play(&[
+            Say::Announce(2),
+            Say::AnnounceOf(Who::Peer, "11.0.0.0/8", 3),
+            Say::State(6, 1),
+            Say::AnnounceOf(Who::Peer, "12.0.0.0/8", 4),
+        ]),
+        Answer::Dropped(0),
+        &[Seen::Times(&[
+            (Who::Peer, "10.0.0.0/8", None),
+            (Who::Peer, "11.0.0.0/8", None),
+            (Who::Peer, "12.0.0.0/8", Some(4)),
+        ])],
+    ),
+];
 
 #[test]
-fn map_store_takes_the_last_item_of_a_pair(rt: HostRuntime) -> Result<(), Fail> {
-    takes_the_last_item_of_a_pair(&rt, rt.alloc(), MapPlayer::new(rt.alloc()))
+fn takes_the_last_item_of_a_pair(rt: HostRuntime) -> Result<(), Fail> {
+    follow_anew(&rt, rt.alloc(), NAMED_AGAIN)
 }
 
-#[test]
-fn radix_store_takes_the_last_item_of_a_pair(rt: HostRuntime) -> Result<(), Fail> {
-    takes_the_last_item_of_a_pair(&rt, rt.alloc(), RadixPlayer::new(rt.alloc()))
-}
-
-/// Plays the announcements of the prefixes 1.0.0.0/8 to 50.0.0.0/8 by the peer.
-fn announce_fifty<S: PrefixStore<Rc<Route>>>(
-    alloc: Global,
-    player: &mut Player<S>,
-    peer: Peer,
-    time: u32,
-) -> Result<Answer, Fail> {
+/// The announcements of the prefixes 1.0.0.0/8 to 50.0.0.0/8 by the peer.
+fn fifty(alloc: Global, peer: Peer, time: u32) -> Result<Event, Fail> {
     let mut items = Vec::new(alloc);
     for octet in 1..=50u8 {
         items.push(announcement(alloc, peer, eight(octet), time)?)?;
     }
-    Ok(answer_to(player, &event_of(items)))
+    Ok(event_of(items))
+}
+
+/// Plays these announcements by each of three peers.
+fn play_fifties<S: PrefixStore<Rc<Route>>>(
+    rt: &impl Abort,
+    alloc: Global,
+    player: &mut Player<S>,
+) -> Result<(), Fail> {
+    for (who, time) in [(Who::Peer, 1), (Who::Neighbour, 2), (Who::Sibling, 3)] {
+        let event = fifty(alloc, peer_of(who), time)?;
+        assert_eq!(rt; answer_to(player, &event), Answer::Dropped(0));
+    }
+    Ok(())
 }
 
 /// Whether the peer has a route of this time, or none, to each of these prefixes.
@@ -215,64 +232,55 @@ fn has_fifty<S: PrefixStore<Rc<Route>>>(player: &Player<S>, who: Who, time: Opti
     (1..=50u8).all(|octet| time_of(player, &peer_of(who), &eight(octet)) == time)
 }
 
-fn clears_the_lost_peer_alone<S: PrefixStore<Rc<Route>>>(
+/// The session of one peer is lost, and the loss is undone.
+fn lose_one<S: PrefixStore<Rc<Route>>>(rt: &impl Abort, player: &mut Player<S>, lost: &Event) {
+    assert_eq!(rt; answer_to(player, lost), Answer::Dropped(0));
+    for (who, time) in [
+        (Who::Peer, None),
+        (Who::Neighbour, Some(2)),
+        (Who::Sibling, Some(3)),
+    ] {
+        assert!(rt; has_fifty(player, who, time));
+    }
+    assert_eq!(rt; shift(player, true), Answer::Done);
+    assert!(rt; has_fifty(player, Who::Peer, Some(1)));
+}
+
+fn clear_one<S: PrefixStore<Rc<Route>>>(
     rt: &impl Abort,
     alloc: Global,
-    mut player: Player<S>,
+    player: &mut Player<S>,
 ) -> Result<(), Fail> {
-    for (who, time) in [(Who::Peer, 1), (Who::Neighbour, 2), (Who::Sibling, 3)] {
-        let answer = announce_fifty(alloc, &mut player, peer_of(who), time)?;
-        assert_eq!(rt; answer, Answer::Dropped(0));
-    }
-    let lost = make_call(alloc, &mut player, Call::Play(&[Say::State(6, 1)]))?;
-    assert_eq!(rt; lost, Answer::Dropped(0));
-    assert!(rt; has_fifty(&player, Who::Peer, None));
-    assert!(rt; has_fifty(&player, Who::Neighbour, Some(2)));
-    assert!(rt; has_fifty(&player, Who::Sibling, Some(3)));
-    let undone = make_call(alloc, &mut player, Call::Undo)?;
-    assert_eq!(rt; undone, Answer::Done);
-    assert!(rt; has_fifty(&player, Who::Peer, Some(1)));
+    play_fifties(rt, alloc, player)?;
+    lose_one(rt, player, &event(alloc, &[Say::State(6, 1)])?);
     Ok(())
 }
 
 #[test]
-fn map_store_clears_the_lost_peer_alone(rt: HostRuntime) -> Result<(), Fail> {
-    clears_the_lost_peer_alone(&rt, rt.alloc(), MapPlayer::new(rt.alloc()))
+fn clears_the_lost_peer_alone(rt: HostRuntime) -> Result<(), Fail> {
+    let mut player = RadixPlayer::new(rt.alloc());
+    clear_one(&rt, rt.alloc(), &mut player)
 }
 
-#[test]
-fn radix_store_clears_the_lost_peer_alone(rt: HostRuntime) -> Result<(), Fail> {
-    clears_the_lost_peer_alone(&rt, rt.alloc(), RadixPlayer::new(rt.alloc()))
-}
-
-fn plays_events_of_thousands_of_prefixes<S: PrefixStore<Rc<Route>>>(
+/// Plays an event, and compares the time of the last prefix of five thousand.
+fn play_many<S: PrefixStore<Rc<Route>>>(
     rt: &impl Abort,
-    alloc: Global,
-    mut player: Player<S>,
-) -> Result<(), Fail> {
-    let mut items = Vec::new(alloc);
-    for number in 0..5_000u32 {
-        items.push(announcement(alloc, peer(), numbered(number), number)?)?;
-    }
-    assert_eq!(rt;
-        answer_to(&mut player, &event_of(items)),
-        Answer::Dropped(0)
-    );
-    assert_eq!(rt; time_of(&player, &peer(), &numbered(4_999)), Some(4_999));
-    let lost = event(alloc, &[Say::State(6, 1)])?;
-    assert_eq!(rt; answer_to(&mut player, &lost), Answer::Dropped(0));
-    assert_eq!(rt; time_of(&player, &peer(), &numbered(4_999)), None);
+    player: &mut Player<S>,
+    event: &Event,
+    time: Option<u32>,
+) {
+    assert_eq!(rt; answer_to(player, event), Answer::Dropped(0));
+    assert_eq!(rt; time_of(player, &peer(), &numbered(4_999)), time);
+}
+
+#[test]
+fn plays_events_of_thousands_of_prefixes(rt: HostRuntime) -> Result<(), Fail> {
+    let many = numbered_event(rt.alloc(), 5_000)?;
+    let lost = event(rt.alloc(), &[Say::State(6, 1)])?;
+    let mut player = RadixPlayer::new(rt.alloc());
+    play_many(&rt, &mut player, &many, Some(4_999));
+    play_many(&rt, &mut player, &lost, None);
     Ok(())
-}
-
-#[test]
-fn map_store_plays_events_of_thousands_of_prefixes(rt: HostRuntime) -> Result<(), Fail> {
-    plays_events_of_thousands_of_prefixes(&rt, rt.alloc(), MapPlayer::new(rt.alloc()))
-}
-
-#[test]
-fn radix_store_plays_events_of_thousands_of_prefixes(rt: HostRuntime) -> Result<(), Fail> {
-    plays_events_of_thousands_of_prefixes(&rt, rt.alloc(), RadixPlayer::new(rt.alloc()))
 }
 
 #[test]

@@ -1,10 +1,11 @@
 //! Generated calls, which a player and a plain one answer alike.
 
 use super::plain::{PEERS, PREFIXES, Plain, prefix_at};
+use super::seen::assert_few_nodes;
 use super::stores::Refusing;
 use super::{
-    Answer, HasNodes, Who, announcement, answer_to, assert_few_nodes, event_of, has_key, keys_of,
-    peer_of, shift, time_of,
+    Answer, HasNodes, Who, announcement, answer_to, event_of, has_key, keys_of, peer_of, shift,
+    time_of,
 };
 use ip_prefix::Prefix;
 use mrt_wire::{Event, Item, Peer, Route};
@@ -85,6 +86,13 @@ struct Tally {
     dropped: u32,
     nothing: u32,
 }
+
+/// The tally of no calls.
+const NO_CALLS: Tally = Tally {
+    refused: 0,
+    dropped: 0,
+    nothing: 0,
+};
 
 impl Tally {
     fn with(self, answer: Answer) -> Tally {
@@ -169,31 +177,48 @@ fn compare<S: PrefixStore<Rc<Route>> + HasNodes>(
     }
 }
 
-/// Steps are undone more often than redone, so that there are few most of the time, and keys come
-/// and go.
+/// Makes a drawn call on both, and asserts that they answer alike. Steps are undone more often than
+/// redone, so that there are few most of the time, and keys come and go.
+fn make_drawn<S: PrefixStore<Rc<Route>>>(
+    rt: &impl Abort,
+    alloc: Global,
+    player: &mut Player<S>,
+    plain: &mut Plain,
+    drawn: &mut Drawn,
+    time: u32,
+) -> Result<Answer, Fail> {
+    let kind = drawn.below(8);
+    if kind < 3 {
+        play(rt, player, plain, drawn.event(alloc, time)?)
+    } else {
+        Ok(shift_both(rt, player, plain, kind < 7))
+    }
+}
+
+/// Makes drawn calls on both, and asserts that they are alike behind each.
+fn make_all<S: PrefixStore<Rc<Route>> + HasNodes>(
+    rt: &impl Abort,
+    alloc: Global,
+    player: &mut Player<S>,
+    plain: &mut Plain,
+) -> Result<Tally, Fail> {
+    let mut drawn = Drawn { state: 1 };
+    let mut tally = NO_CALLS;
+    for number in 0..CALLS {
+        let time = number.saturating_mul(4);
+        let answer = make_drawn(rt, alloc, player, plain, &mut drawn, time)?;
+        compare(rt, player, plain);
+        tally = tally.with(answer);
+    }
+    Ok(tally)
+}
+
 fn answers_as_a_plain_one_does<S: PrefixStore<Rc<Route>> + HasNodes>(
     rt: &impl Abort,
     alloc: Global,
-    mut player: Player<S>,
+    player: &mut Player<S>,
 ) -> Result<(), Fail> {
-    let mut plain = Plain::new(alloc);
-    let mut drawn = Drawn { state: 1 };
-    let mut tally = Tally {
-        refused: 0,
-        dropped: 0,
-        nothing: 0,
-    };
-    for number in 0..CALLS {
-        let kind = drawn.below(8);
-        let answer = if kind < 3 {
-            let event = drawn.event(alloc, number.saturating_mul(4))?;
-            play(rt, &mut player, &mut plain, event)?
-        } else {
-            shift_both(rt, &mut player, &mut plain, kind < 7)
-        };
-        compare(rt, &player, &plain);
-        tally = tally.with(answer);
-    }
+    let tally = make_all(rt, alloc, player, &mut Plain::new(alloc))?;
     assert!(rt; tally.refused >= 20, "{} were refused", tally.refused);
     assert!(rt; tally.dropped >= 50, "{} dropped steps", tally.dropped);
     assert!(rt; tally.nothing >= 20, "{} had no step", tally.nothing);
@@ -202,10 +227,12 @@ fn answers_as_a_plain_one_does<S: PrefixStore<Rc<Route>> + HasNodes>(
 
 #[test]
 fn map_store_answers_as_a_plain_one_does(rt: HostRuntime) -> Result<(), Fail> {
-    answers_as_a_plain_one_does(&rt, rt.alloc(), RefusingMapPlayer::new(rt.alloc()))
+    let mut player = RefusingMapPlayer::new(rt.alloc());
+    answers_as_a_plain_one_does(&rt, rt.alloc(), &mut player)
 }
 
 #[test]
 fn radix_store_answers_as_a_plain_one_does(rt: HostRuntime) -> Result<(), Fail> {
-    answers_as_a_plain_one_does(&rt, rt.alloc(), RefusingRadixPlayer::new(rt.alloc()))
+    let mut player = RefusingRadixPlayer::new(rt.alloc());
+    answers_as_a_plain_one_does(&rt, rt.alloc(), &mut player)
 }

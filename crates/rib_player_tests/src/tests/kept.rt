@@ -1,8 +1,8 @@
 //! Which keys are kept, and how many pairs the steps name.
 
+use super::seen::{Seen, TimeRow};
 use super::{
-    Answer, Call, HasNodes, MapPlayer, RadixPlayer, Say, Who, assert_times, count, keys_of,
-    make_call, peer, peer_of,
+    Answer, Call, RadixPlayer, Row, Say, Who, follow_anew, keys_of, make_call, peer, peer_of, shift,
 };
 use mrt_wire::Route;
 use rib_player::Player;
@@ -15,194 +15,15 @@ use std::test::Fail;
 /// 10.1.0.0/16.
 const LONG: &str = "10.1.0.0/16";
 
-fn keeps_just_the_wanted_keys<S: PrefixStore<Rc<Route>> + HasNodes>(
-    rt: &impl Abort,
-    alloc: Global,
-    mut player: Player<S>,
-) -> Result<(), Fail> {
-    let second = [Say::AnnounceOf(Who::Peer, LONG, 2)];
-    let third = [Say::AnnounceOf(Who::Peer, LONG, 3)];
-    let played = [
-        (
-            Call::Play(&[Say::Announce(1)]),
-            Answer::Dropped(0),
-            (1, 0, 1, Some(1)),
-        ),
-        (Call::Play(&second), Answer::Dropped(0), (2, 0, 2, Some(2))),
-        (Call::Undo, Answer::Done, (1, 1, 2, Some(2))),
-        (Call::Play(&third), Answer::Dropped(1), (2, 0, 2, Some(2))),
-    ];
-    count(rt, alloc, &mut player, &played)?;
-    let times = [
-        (Who::Peer, "10.0.0.0/8", Some(1)),
-        (Who::Peer, LONG, Some(3)),
-    ];
-    assert_times(rt, &player, &times)?;
-    let back = [
-        (Call::Undo, Answer::Done, (1, 1, 2, Some(2))),
-        (Call::Undo, Answer::Done, (0, 2, 2, Some(2))),
-    ];
-    count(rt, alloc, &mut player, &back)?;
-    let none = [(Who::Peer, "10.0.0.0/8", None), (Who::Peer, LONG, None)];
-    assert_times(rt, &player, &none)?;
-    let dropped = [(Call::Play(&[]), Answer::Dropped(2), (1, 0, 0, None))];
-    count(rt, alloc, &mut player, &dropped)
-}
-
-#[test]
-fn map_store_keeps_just_the_wanted_keys(rt: HostRuntime) -> Result<(), Fail> {
-    keeps_just_the_wanted_keys(&rt, rt.alloc(), MapPlayer::new(rt.alloc()))
-}
-
-#[test]
-fn radix_store_keeps_just_the_wanted_keys(rt: HostRuntime) -> Result<(), Fail> {
-    keeps_just_the_wanted_keys(&rt, rt.alloc(), RadixPlayer::new(rt.alloc()))
-}
-
-/// A route that comes and goes in one event is none before it and none after it.
-fn names_no_pair_without_routes<S: PrefixStore<Rc<Route>> + HasNodes>(
-    rt: &impl Abort,
-    alloc: Global,
-    mut player: Player<S>,
-) -> Result<(), Fail> {
-    let rows = [
-        (
-            Call::Play(&[Say::Announce(1), Say::Withdraw]),
-            Answer::Dropped(0),
-            (1, 0, 0, None),
-        ),
-        (
-            Call::Play(&[Say::Withdraw, Say::State(6, 1)]),
-            Answer::Dropped(0),
-            (2, 0, 0, None),
-        ),
-        (Call::Undo, Answer::Done, (1, 1, 0, None)),
-    ];
-    count(rt, alloc, &mut player, &rows)
-}
-
-#[test]
-fn map_store_names_no_pair_without_routes(rt: HostRuntime) -> Result<(), Fail> {
-    names_no_pair_without_routes(&rt, rt.alloc(), MapPlayer::new(rt.alloc()))
-}
-
-#[test]
-fn radix_store_names_no_pair_without_routes(rt: HostRuntime) -> Result<(), Fail> {
-    names_no_pair_without_routes(&rt, rt.alloc(), RadixPlayer::new(rt.alloc()))
-}
-
-/// A route that comes and goes in one event leaves nothing but the step.
-fn comes_and_goes_at_once<S: PrefixStore<Rc<Route>>>(
-    rt: &impl Abort,
-    alloc: Global,
-    mut player: Player<S>,
-) -> Result<(), Fail> {
-    let says = [Say::Announce(1), Say::Withdraw];
-    let played = make_call(alloc, &mut player, Call::Play(&says))?;
-    assert_eq!(rt; played, Answer::Dropped(0));
-    assert_eq!(rt; player.at(), 1);
-    assert_eq!(rt; player.named(), 0);
-    assert!(rt; player.table().store(&peer()).is_none());
-    Ok(())
-}
-
-#[test]
-fn map_store_comes_and_goes_at_once(rt: HostRuntime) -> Result<(), Fail> {
-    comes_and_goes_at_once(&rt, rt.alloc(), MapPlayer::new(rt.alloc()))
-}
-
-#[test]
-fn radix_store_comes_and_goes_at_once(rt: HostRuntime) -> Result<(), Fail> {
-    comes_and_goes_at_once(&rt, rt.alloc(), RadixPlayer::new(rt.alloc()))
-}
-
-fn stays_as_it_is_at_the_ends<S: PrefixStore<Rc<Route>> + HasNodes>(
-    rt: &impl Abort,
-    alloc: Global,
-    mut player: Player<S>,
-) -> Result<(), Fail> {
-    let rows = [
-        (Call::Undo, Answer::Nothing, (0, 0, 0, None)),
-        (Call::Redo, Answer::Nothing, (0, 0, 0, None)),
-        (
-            Call::Play(&[Say::Announce(1)]),
-            Answer::Dropped(0),
-            (1, 0, 1, Some(1)),
-        ),
-        (Call::Redo, Answer::Nothing, (1, 0, 1, Some(1))),
-        (Call::Undo, Answer::Done, (0, 1, 1, Some(1))),
-        (Call::Undo, Answer::Nothing, (0, 1, 1, Some(1))),
-        (Call::Redo, Answer::Done, (1, 0, 1, Some(1))),
-    ];
-    count(rt, alloc, &mut player, &rows)?;
-    assert_times(rt, &player, &[(Who::Peer, "10.0.0.0/8", Some(1))])
-}
-
-#[test]
-fn map_store_stays_as_it_is_at_the_ends(rt: HostRuntime) -> Result<(), Fail> {
-    stays_as_it_is_at_the_ends(&rt, rt.alloc(), MapPlayer::new(rt.alloc()))
-}
-
-#[test]
-fn radix_store_stays_as_it_is_at_the_ends(rt: HostRuntime) -> Result<(), Fail> {
-    stays_as_it_is_at_the_ends(&rt, rt.alloc(), RadixPlayer::new(rt.alloc()))
-}
-
-/// Plays two events, undoes as many steps, and plays a third.
-fn play_over<S: PrefixStore<Rc<Route>>>(
-    rt: &impl Abort,
-    alloc: Global,
-    player: &mut Player<S>,
-    played: [&[Say]; 2],
-    undone: u64,
-    last: &[Say],
-) -> Result<(), Fail> {
-    for says in played {
-        assert_eq!(rt;
-            make_call(alloc, player, Call::Play(says))?,
-            Answer::Dropped(0)
-        );
-    }
-    for _ in 0..undone {
-        assert_eq!(rt; make_call(alloc, player, Call::Undo)?, Answer::Done);
-    }
-    assert_eq!(rt;
-        make_call(alloc, player, Call::Play(last))?,
-        Answer::Dropped(undone)
-    );
-    Ok(())
-}
-
-/// Two events, how many steps are undone, a third event, and then the pairs that steps name and
-/// the keys of the peer and of the neighbour.
-type Over = (
-    [&'static [Say]; 2],
-    u64,
-    &'static [Say],
-    (u64, Option<u64>, Option<u64>),
-);
-
-fn assert_over<S: PrefixStore<Rc<Route>>>(
-    rt: &impl Abort,
-    alloc: Global,
-    mut player: Player<S>,
-    row: &Over,
-) -> Result<(), Fail> {
-    let (played, undone, last, wanted) = row;
-    play_over(rt, alloc, &mut player, *played, *undone, last)?;
-    let neighbour = keys_of(&player, &peer_of(Who::Neighbour));
-    assert_eq!(rt;
-        (player.named(), keys_of(&player, &peer()), neighbour),
-        *wanted
-    );
-    Ok(())
-}
-
 const ONE: &[Say] = &[Say::Announce(1)];
 
 const ONE_AGAIN: &[Say] = &[Say::Announce(4)];
 
 const OTHER: &[Say] = &[Say::AnnounceOf(Who::Peer, LONG, 2)];
+
+const OTHER_AGAIN: &[Say] = &[Say::AnnounceOf(Who::Peer, LONG, 3)];
+
+const AT_ONCE: &[Say] = &[Say::Announce(1), Say::Withdraw];
 
 const BOTH: &[Say] = &[Say::Announce(1), Say::AnnounceOf(Who::Peer, LONG, 2)];
 
@@ -222,6 +43,182 @@ const ONE_OF_EACH: &[Say] = &[
     Say::Announce(4),
     Say::AnnounceOf(Who::Neighbour, "10.0.0.0/8", 3),
 ];
+
+/// An event in place of the step behind another, both steps back, and a third event.
+const KEPT: &[Row] = &[
+    (
+        Call::Play(ONE),
+        Answer::Dropped(0),
+        &[Seen::Steps(1, 0, 1), Seen::Keys(Who::Peer, Some(1))],
+    ),
+    (
+        Call::Play(OTHER),
+        Answer::Dropped(0),
+        &[Seen::Steps(2, 0, 2), Seen::Keys(Who::Peer, Some(2))],
+    ),
+    (
+        Call::Undo,
+        Answer::Done,
+        &[Seen::Steps(1, 1, 2), Seen::Keys(Who::Peer, Some(2))],
+    ),
+    (
+        Call::Play(OTHER_AGAIN),
+        Answer::Dropped(1),
+        &[
+            Seen::Steps(2, 0, 2),
+            Seen::Keys(Who::Peer, Some(2)),
+            Seen::Times(KEPT_TIMES),
+        ],
+    ),
+    (
+        Call::Undo,
+        Answer::Done,
+        &[Seen::Steps(1, 1, 2), Seen::Keys(Who::Peer, Some(2))],
+    ),
+    (
+        Call::Undo,
+        Answer::Done,
+        &[
+            Seen::Steps(0, 2, 2),
+            Seen::Keys(Who::Peer, Some(2)),
+            Seen::Times(NO_TIMES),
+        ],
+    ),
+    (
+        Call::Play(&[]),
+        Answer::Dropped(2),
+        &[Seen::Steps(1, 0, 0), Seen::Keys(Who::Peer, None)],
+    ),
+];
+
+const KEPT_TIMES: &[TimeRow] = &[
+    (Who::Peer, "10.0.0.0/8", Some(1)),
+    (Who::Peer, LONG, Some(3)),
+];
+
+const NO_TIMES: &[TimeRow] = &[(Who::Peer, "10.0.0.0/8", None), (Who::Peer, LONG, None)];
+
+#[test]
+fn keeps_just_the_wanted_keys(rt: HostRuntime) -> Result<(), Fail> {
+    follow_anew(&rt, rt.alloc(), KEPT)
+}
+
+/// A route that comes and goes in one event is none before it and none after it.
+const NO_ROUTES: &[Row] = &[
+    (
+        Call::Play(AT_ONCE),
+        Answer::Dropped(0),
+        &[Seen::Steps(1, 0, 0), Seen::Keys(Who::Peer, None)],
+    ),
+    (
+        Call::Play(&[Say::Withdraw, Say::State(6, 1)]),
+        Answer::Dropped(0),
+        &[Seen::Steps(2, 0, 0), Seen::Keys(Who::Peer, None)],
+    ),
+    (
+        Call::Undo,
+        Answer::Done,
+        &[Seen::Steps(1, 1, 0), Seen::Keys(Who::Peer, None)],
+    ),
+];
+
+#[test]
+fn names_no_pair_without_routes(rt: HostRuntime) -> Result<(), Fail> {
+    follow_anew(&rt, rt.alloc(), NO_ROUTES)
+}
+
+/// A route that comes and goes in one event leaves nothing but the step.
+#[test]
+fn comes_and_goes_at_once(rt: HostRuntime) -> Result<(), Fail> {
+    let nothing = [Seen::Steps(1, 0, 0), Seen::Keys(Who::Peer, None)];
+    let row = (Call::Play(AT_ONCE), Answer::Dropped(0), nothing.as_slice());
+    follow_anew(&rt, rt.alloc(), &[row])
+}
+
+/// Steps forth and back where there are none.
+const ENDS: &[Row] = &[
+    (
+        Call::Undo,
+        Answer::Nothing,
+        &[Seen::Steps(0, 0, 0), Seen::Keys(Who::Peer, None)],
+    ),
+    (
+        Call::Redo,
+        Answer::Nothing,
+        &[Seen::Steps(0, 0, 0), Seen::Keys(Who::Peer, None)],
+    ),
+    (
+        Call::Play(ONE),
+        Answer::Dropped(0),
+        &[Seen::Steps(1, 0, 1), Seen::Keys(Who::Peer, Some(1))],
+    ),
+    (
+        Call::Redo,
+        Answer::Nothing,
+        &[Seen::Steps(1, 0, 1), Seen::Keys(Who::Peer, Some(1))],
+    ),
+    (
+        Call::Undo,
+        Answer::Done,
+        &[Seen::Steps(0, 1, 1), Seen::Keys(Who::Peer, Some(1))],
+    ),
+    (
+        Call::Undo,
+        Answer::Nothing,
+        &[Seen::Steps(0, 1, 1), Seen::Keys(Who::Peer, Some(1))],
+    ),
+    (
+        Call::Redo,
+        Answer::Done,
+        &[
+            Seen::Steps(1, 0, 1),
+            Seen::Keys(Who::Peer, Some(1)),
+            Seen::Times(ONE_TIMES),
+        ],
+    ),
+];
+
+const ONE_TIMES: &[TimeRow] = &[(Who::Peer, "10.0.0.0/8", Some(1))];
+
+#[test]
+fn stays_as_it_is_at_the_ends(rt: HostRuntime) -> Result<(), Fail> {
+    follow_anew(&rt, rt.alloc(), ENDS)
+}
+
+/// Plays two events, undoes as many steps, plays a third, and compares what is left.
+fn play_over<S: PrefixStore<Rc<Route>>>(
+    rt: &impl Abort,
+    alloc: Global,
+    player: &mut Player<S>,
+    row: &Over,
+) -> Result<(), Fail> {
+    let (played, undone, last, wanted) = row;
+    for says in played {
+        let answer = make_call(alloc, player, Call::Play(says))?;
+        assert_eq!(rt; answer, Answer::Dropped(0));
+    }
+    for _ in 0..*undone {
+        assert_eq!(rt; shift(player, true), Answer::Done);
+    }
+    let answer = make_call(alloc, player, Call::Play(last))?;
+    assert_eq!(rt; answer, Answer::Dropped(*undone));
+    assert_left(rt, player, *wanted);
+    Ok(())
+}
+
+/// Compares the pairs that steps name, and the keys of the peer and of the neighbour.
+fn assert_left<S: PrefixStore<Rc<Route>>>(rt: &impl Abort, player: &Player<S>, wanted: Left) {
+    let (named, keys, of_neighbour) = wanted;
+    assert_eq!(rt; player.named(), named);
+    assert_eq!(rt; keys_of(player, &peer()), keys);
+    assert_eq!(rt; keys_of(player, &peer_of(Who::Neighbour)), of_neighbour);
+}
+
+/// The pairs that steps name, and the keys of the peer and of the neighbour.
+type Left = (u64, Option<u64>, Option<u64>);
+
+/// Two events, how many steps are undone, a third event, and what is left then.
+type Over = ([&'static [Say]; 2], u64, &'static [Say], Left);
 
 const OVER: [Over; 14] = [
     // nothing is dropped
@@ -245,18 +242,15 @@ const OVER: [Over; 14] = [
     ([ONE_OF_EACH, LOST], 1, LOST_AND_ONE, (3, Some(1), Some(1))),
 ];
 
-#[test]
-fn map_store_steps_ahead_give_up_their_keys(rt: HostRuntime) -> Result<(), Fail> {
-    for row in &OVER {
-        assert_over(&rt, rt.alloc(), MapPlayer::new(rt.alloc()), row)?;
+/// Plays each row with a new player.
+fn play_all_over(rt: &impl Abort, alloc: Global, rows: &[Over]) -> Result<(), Fail> {
+    for row in rows {
+        play_over(rt, alloc, &mut RadixPlayer::new(alloc), row)?;
     }
     Ok(())
 }
 
 #[test]
-fn radix_store_steps_ahead_give_up_their_keys(rt: HostRuntime) -> Result<(), Fail> {
-    for row in &OVER {
-        assert_over(&rt, rt.alloc(), RadixPlayer::new(rt.alloc()), row)?;
-    }
-    Ok(())
+fn steps_ahead_give_up_their_keys(rt: HostRuntime) -> Result<(), Fail> {
+    play_all_over(&rt, rt.alloc(), &OVER)
 }

@@ -1,77 +1,29 @@
 //! The longest prefixes with a route.
 
-use super::{
-    Answer, Call, MapPlayer, RadixPlayer, Say, Who, keys_of, make_call, peer, peer_of, prefix_of,
-};
-use ip_prefix::{Addr, Prefix};
-use mrt_wire::Route;
-use rib_player::Player;
-use rib_store::PrefixStore;
-use std::alloc::Global;
-use std::process::Abort;
-use std::rc::Rc;
+use super::seen::Seen;
+use super::{Answer, Call, Row, Say, Who, follow_anew};
 use std::test::Fail;
 
-/// The longest prefix of the peer that contains the address, and the time of its route.
-fn longest<S: PrefixStore<Rc<Route>>>(
-    player: &Player<S>,
-    who: Who,
-    addr: [u8; 4],
-) -> Option<(Prefix, u32)> {
-    match player.table().longest(&peer_of(who), &Addr::v4(addr)) {
-        Some((prefix, route)) => Some((prefix, route.time)),
-        None => None,
-    }
-}
-
-fn assert_longest<S: PrefixStore<Rc<Route>>>(
-    rt: &impl Abort,
-    player: &Player<S>,
-    who: Who,
-    addr: [u8; 4],
-    want: Option<(&str, u32)>,
-) -> Result<(), Fail> {
-    let want = match want {
-        Some((text, time)) => Some((prefix_of(text)?, time)),
-        None => None,
-    };
-    assert!(rt; longest(player, who, addr) == want);
-    Ok(())
-}
-
-fn finds_the_longest_with_a_route<S: PrefixStore<Rc<Route>>>(
-    rt: &impl Abort,
-    alloc: Global,
-    mut player: Player<S>,
-) -> Result<(), Fail> {
-    let says = [
+const NESTED: &[Row] = &[(
+    Call::Play(&[
         Say::Announce(1),
         Say::AnnounceOf(Who::Peer, "10.1.0.0/16", 2),
         Say::AnnounceOf(Who::Neighbour, "10.1.2.0/24", 3),
-    ];
-    let played = make_call(alloc, &mut player, Call::Play(&says))?;
-    assert_eq!(rt; played, Answer::Dropped(0));
-    for (who, addr, want) in [
-        (Who::Peer, [10, 1, 2, 3], Some(("10.1.0.0/16", 2))),
-        (Who::Peer, [10, 2, 2, 3], Some(("10.0.0.0/8", 1))),
-        (Who::Peer, [11, 1, 2, 3], None),
-        (Who::Neighbour, [10, 1, 2, 3], Some(("10.1.2.0/24", 3))),
-        (Who::Neighbour, [10, 1, 3, 3], None),
-        (Who::Sibling, [10, 1, 2, 3], None),
-    ] {
-        assert_longest(rt, &player, who, addr, want)?;
-    }
-    Ok(())
-}
+    ]),
+    Answer::Dropped(0),
+    &[
+        Seen::Longest(Who::Peer, [10, 1, 2, 3], Some(("10.1.0.0/16", 2))),
+        Seen::Longest(Who::Peer, [10, 2, 2, 3], Some(("10.0.0.0/8", 1))),
+        Seen::Longest(Who::Peer, [11, 1, 2, 3], None),
+        Seen::Longest(Who::Neighbour, [10, 1, 2, 3], Some(("10.1.2.0/24", 3))),
+        Seen::Longest(Who::Neighbour, [10, 1, 3, 3], None),
+        Seen::Longest(Who::Sibling, [10, 1, 2, 3], None),
+    ],
+)];
 
 #[test]
-fn map_store_finds_the_longest_with_a_route(rt: HostRuntime) -> Result<(), Fail> {
-    finds_the_longest_with_a_route(&rt, rt.alloc(), MapPlayer::new(rt.alloc()))
-}
-
-#[test]
-fn radix_store_finds_the_longest_with_a_route(rt: HostRuntime) -> Result<(), Fail> {
-    finds_the_longest_with_a_route(&rt, rt.alloc(), RadixPlayer::new(rt.alloc()))
+fn finds_the_longest_with_a_route(rt: HostRuntime) -> Result<(), Fail> {
+    follow_anew(&rt, rt.alloc(), NESTED)
 }
 
 const BOTH: &[Say] = &[
@@ -79,33 +31,27 @@ const BOTH: &[Say] = &[
     Say::AnnounceOf(Who::Peer, "10.1.0.0/16", 2),
 ];
 
+const BOTH_SEEN: &[Seen] = &[
+    Seen::Longest(Who::Peer, [10, 1, 2, 3], Some(("10.1.0.0/16", 2))),
+    Seen::Keys(Who::Peer, Some(2)),
+];
+
 const GONE: &[Say] = &[Say::WithdrawOf(Who::Peer, "10.1.0.0/16")];
 
+const GONE_SEEN: &[Seen] = &[
+    Seen::Longest(Who::Peer, [10, 1, 2, 3], Some(("10.0.0.0/8", 1))),
+    Seen::Keys(Who::Peer, Some(2)),
+];
+
 /// A key without a route is passed over.
-fn passes_over_a_withdrawn_prefix<S: PrefixStore<Rc<Route>>>(
-    rt: &impl Abort,
-    alloc: Global,
-    mut player: Player<S>,
-) -> Result<(), Fail> {
-    for (call, want) in [
-        (Call::Play(BOTH), Some(("10.1.0.0/16", 2))),
-        (Call::Play(GONE), Some(("10.0.0.0/8", 1))),
-        (Call::Undo, Some(("10.1.0.0/16", 2))),
-        (Call::Redo, Some(("10.0.0.0/8", 1))),
-    ] {
-        assert!(rt; make_call(alloc, &mut player, call)? != Answer::Nothing);
-        assert_longest(rt, &player, Who::Peer, [10, 1, 2, 3], want)?;
-        assert_eq!(rt; keys_of(&player, &peer()), Some(2));
-    }
-    Ok(())
-}
+const WITHDRAWN: &[Row] = &[
+    (Call::Play(BOTH), Answer::Dropped(0), BOTH_SEEN),
+    (Call::Play(GONE), Answer::Dropped(0), GONE_SEEN),
+    (Call::Undo, Answer::Done, BOTH_SEEN),
+    (Call::Redo, Answer::Done, GONE_SEEN),
+];
 
 #[test]
-fn map_store_passes_over_a_withdrawn_prefix(rt: HostRuntime) -> Result<(), Fail> {
-    passes_over_a_withdrawn_prefix(&rt, rt.alloc(), MapPlayer::new(rt.alloc()))
-}
-
-#[test]
-fn radix_store_passes_over_a_withdrawn_prefix(rt: HostRuntime) -> Result<(), Fail> {
-    passes_over_a_withdrawn_prefix(&rt, rt.alloc(), RadixPlayer::new(rt.alloc()))
+fn passes_over_a_withdrawn_prefix(rt: HostRuntime) -> Result<(), Fail> {
+    follow_anew(&rt, rt.alloc(), WITHDRAWN)
 }

@@ -1,10 +1,11 @@
 //! Events for which a store refuses memory.
 
+use super::seen::{Seen, TimeRow};
 use super::stores::Refusing;
-use super::{Answer, Call, Say, Who, assert_times, count, counts, keys_of, make_call, peer_of};
+use super::{Answer, Call, HasNodes, Row, Say, Who, assert_row, follow};
 use mrt_wire::Route;
 use rib_player::Player;
-use rib_store::MapStore;
+use rib_store::{MapStore, PrefixStore};
 use std::alloc::Global;
 use std::process::Abort;
 use std::rc::Rc;
@@ -44,25 +45,37 @@ const EVENTS: [&[Say]; 7] = [
     ],
 ];
 
-/// Plays two events and undoes the second.
-fn played(rt: &impl Abort, alloc: Global) -> Result<RefusingPlayer, Fail> {
-    let mut player: RefusingPlayer = Player::new(alloc);
-    let other = [Say::AnnounceOf(Who::Peer, "10.1.0.0/16", 2)];
-    let rows = [
-        (
-            Call::Play(&[Say::Announce(1)]),
-            Answer::Dropped(0),
-            (1, 0, 1, Some(1)),
-        ),
-        (Call::Play(&other), Answer::Dropped(0), (2, 0, 2, Some(2))),
-        (Call::Undo, Answer::Done, (1, 1, 2, Some(2))),
-    ];
-    count(rt, alloc, &mut player, &rows)?;
-    Ok(player)
-}
+/// What is seen where the second of two steps is undone.
+const ONE_AHEAD: &[Seen] = &[Seen::Steps(1, 1, 2), Seen::Keys(Who::Peer, Some(2))];
 
-/// The routes where the second is undone.
-const UNDONE: [(Who, &str, Option<u32>); 8] = [
+/// What is seen at the second step.
+const AT_SECOND: &[Seen] = &[Seen::Steps(2, 0, 2), Seen::Keys(Who::Peer, Some(2))];
+
+/// Two events, of which the second is undone.
+const PLAYED: &[Row] = &[
+    (
+        Call::Play(&[Say::Announce(1)]),
+        Answer::Dropped(0),
+        &[Seen::Steps(1, 0, 1), Seen::Keys(Who::Peer, Some(1))],
+    ),
+    (
+        Call::Play(&[Say::AnnounceOf(Who::Peer, "10.1.0.0/16", 2)]),
+        Answer::Dropped(0),
+        AT_SECOND,
+    ),
+    (Call::Undo, Answer::Done, ONE_AHEAD),
+];
+
+/// The player as it was.
+const UNDONE: &[Seen] = &[
+    Seen::Steps(1, 1, 2),
+    Seen::Keys(Who::Peer, Some(2)),
+    Seen::Keys(Who::Neighbour, None),
+    Seen::Keys(Who::Sibling, None),
+    Seen::Times(&UNDONE_TIMES),
+];
+
+const UNDONE_TIMES: [TimeRow; 8] = [
     (Who::Peer, "9.0.0.0/8", None),
     (Who::Peer, "10.0.0.0/8", Some(1)),
     (Who::Peer, "10.1.0.0/16", None),
@@ -73,56 +86,78 @@ const UNDONE: [(Who, &str, Option<u32>); 8] = [
     (Who::Sibling, "66.0.0.0/8", None),
 ];
 
-/// Asserts that the player is as it was.
-fn assert_undone(rt: &impl Abort, player: &RefusingPlayer) -> Result<(), Fail> {
-    assert_eq!(rt; counts(player), (1, 1, 2, Some(2)));
-    for who in [Who::Neighbour, Who::Sibling] {
-        assert_eq!(rt; keys_of(player, &peer_of(who)), None);
-    }
-    assert_times(rt, player, &UNDONE)
-}
+/// The step ahead as it was, forth and back.
+const AHEAD: &[Row] = &[
+    (Call::Redo, Answer::Done, AT_SECOND),
+    (Call::Redo, Answer::Nothing, AT_SECOND),
+    (
+        Call::Stay,
+        Answer::Nothing,
+        &[Seen::Times(&[
+            (Who::Peer, "10.0.0.0/8", Some(1)),
+            (Who::Peer, "10.1.0.0/16", Some(2)),
+        ])],
+    ),
+    (Call::Undo, Answer::Done, ONE_AHEAD),
+];
 
-/// Asserts that the step ahead is as it was.
-fn assert_ahead(rt: &impl Abort, alloc: Global, player: &mut RefusingPlayer) -> Result<(), Fail> {
-    let rows = [
-        (Call::Redo, Answer::Done, (2, 0, 2, Some(2))),
-        (Call::Redo, Answer::Nothing, (2, 0, 2, Some(2))),
-    ];
-    count(rt, alloc, player, &rows)?;
-    let times = [
-        (Who::Peer, "10.0.0.0/8", Some(1)),
-        (Who::Peer, "10.1.0.0/16", Some(2)),
-    ];
-    assert_times(rt, player, &times)?;
-    count(
+/// Asserts that the event is refused, and that nothing changes.
+fn refuse<S: PrefixStore<Rc<Route>> + HasNodes>(
+    rt: &impl Abort,
+    alloc: Global,
+    player: &mut Player<S>,
+    says: &[Say],
+) -> Result<(), Fail> {
+    assert_row(
         rt,
         alloc,
         player,
-        &[(Call::Undo, Answer::Done, (1, 1, 2, Some(2)))],
-    )
+        &(Call::Play(says), Answer::Refused, UNDONE),
+    )?;
+    follow(rt, alloc, player, AHEAD)
+}
+
+fn refuse_all<S: PrefixStore<Rc<Route>> + HasNodes>(
+    rt: &impl Abort,
+    alloc: Global,
+    player: &mut Player<S>,
+) -> Result<(), Fail> {
+    follow(rt, alloc, player, PLAYED)?;
+    for says in &EVENTS {
+        refuse(rt, alloc, player, says)?;
+    }
+    Ok(())
 }
 
 #[test]
 fn a_refused_event_changes_nothing(rt: HostRuntime) -> Result<(), Fail> {
-    let mut player = played(&rt, rt.alloc())?;
-    for says in &EVENTS {
-        let answer = make_call(rt.alloc(), &mut player, Call::Play(says))?;
-        assert_eq!(rt; answer, Answer::Refused);
-        assert_undone(&rt, &player)?;
-        assert_ahead(&rt, rt.alloc(), &mut player)?;
-    }
-    Ok(())
+    let mut player: RefusingPlayer = Player::new(rt.alloc());
+    refuse_all(&rt, rt.alloc(), &mut player)
+}
+
+/// An event that takes back what it says of a refused prefix.
+const TAKEN_BACK: &[Row] = &[(
+    Call::Play(&[
+        Say::AnnounceOf(Who::Peer, "66.0.0.0/8", 9),
+        Say::AnnounceOf(Who::Peer, "10.2.0.0/16", 9),
+        Say::WithdrawOf(Who::Peer, "66.0.0.0/8"),
+    ]),
+    Answer::Dropped(1),
+    AT_SECOND,
+)];
+
+fn play_taken_back<S: PrefixStore<Rc<Route>> + HasNodes>(
+    rt: &impl Abort,
+    alloc: Global,
+    player: &mut Player<S>,
+) -> Result<(), Fail> {
+    follow(rt, alloc, player, PLAYED)?;
+    follow(rt, alloc, player, TAKEN_BACK)
 }
 
 /// Then no key is made, so none is refused.
 #[test]
 fn an_event_that_names_no_refused_prefix_is_played(rt: HostRuntime) -> Result<(), Fail> {
-    let mut player = played(&rt, rt.alloc())?;
-    let says = [
-        Say::AnnounceOf(Who::Peer, "66.0.0.0/8", 9),
-        Say::AnnounceOf(Who::Peer, "10.2.0.0/16", 9),
-        Say::WithdrawOf(Who::Peer, "66.0.0.0/8"),
-    ];
-    let rows = [(Call::Play(&says), Answer::Dropped(1), (2, 0, 2, Some(2)))];
-    count(&rt, rt.alloc(), &mut player, &rows)
+    let mut player: RefusingPlayer = Player::new(rt.alloc());
+    play_taken_back(&rt, rt.alloc(), &mut player)
 }

@@ -1,28 +1,10 @@
 //! Which routes belong together: those of a peer, and those of a family.
 
-use super::{
-    Answer, Call, MapPlayer, RadixPlayer, Say, Who, assert_times, keys_of, make_call, peer_of,
-};
-use mrt_wire::Route;
-use rib_player::Player;
-use rib_store::PrefixStore;
+use super::seen::{Seen, TimeRow};
+use super::{Answer, Call, Row, Say, Who, follow_anew};
 use std::alloc::Global;
 use std::process::Abort;
-use std::rc::Rc;
 use std::test::Fail;
-
-fn play<S: PrefixStore<Rc<Route>>>(
-    rt: &impl Abort,
-    alloc: Global,
-    player: &mut Player<S>,
-    says: &[Say],
-) -> Result<(), Fail> {
-    assert_eq!(rt;
-        make_call(alloc, player, Call::Play(says))?,
-        Answer::Dropped(0)
-    );
-    Ok(())
-}
 
 /// Routes to prefixes of the same number in both families, of two peers of the same address.
 const ALL: [Say; 6] = [
@@ -35,7 +17,7 @@ const ALL: [Say; 6] = [
 ];
 
 /// The times of these routes.
-const ALL_TIMES: [(Who, &str, Option<u32>); 8] = [
+const ALL_TIMES: [TimeRow; 8] = [
     (Who::Peer, "0.0.0.0/8", Some(1)),
     (Who::Peer, "::/8", Some(2)),
     (Who::Peer, "10.0.0.0/8", Some(3)),
@@ -47,7 +29,7 @@ const ALL_TIMES: [(Who, &str, Option<u32>); 8] = [
 ];
 
 /// The times of those that are left without the peer's session.
-const LEFT_TIMES: [(Who, &str, Option<u32>); 8] = [
+const LEFT_TIMES: [TimeRow; 8] = [
     (Who::Peer, "0.0.0.0/8", None),
     (Who::Peer, "::/8", None),
     (Who::Peer, "10.0.0.0/8", None),
@@ -58,153 +40,133 @@ const LEFT_TIMES: [(Who, &str, Option<u32>); 8] = [
     (Who::Neighbour, "a00::/8", None),
 ];
 
-/// Brings these routes to a new player.
-fn fill<S: PrefixStore<Rc<Route>>>(
+/// What is seen behind these routes.
+const ALL_SEEN: &[Seen] = &[Seen::Times(&ALL_TIMES)];
+
+/// Plays an event on a new player behind these routes, compares what is seen then, and undoes it.
+fn play_behind(
     rt: &impl Abort,
     alloc: Global,
-    player: &mut Player<S>,
+    says: &[Say],
+    all_seen: &[Seen],
 ) -> Result<(), Fail> {
-    play(rt, alloc, player, &ALL)?;
-    assert_times(rt, player, &ALL_TIMES)
+    let rows = [
+        (Call::Play(&ALL), Answer::Dropped(0), ALL_SEEN),
+        (Call::Play(says), Answer::Dropped(0), all_seen),
+        (Call::Undo, Answer::Done, ALL_SEEN),
+    ];
+    follow_anew(rt, alloc, &rows)
 }
 
-fn undo<S: PrefixStore<Rc<Route>>>(rt: &impl Abort, player: &mut Player<S>) {
-    assert!(rt; player.undo().is_ok());
-}
+const APART: [Say; 2] = [
+    Say::WithdrawOf(Who::Neighbour, "10.0.0.0/8"),
+    Say::WithdrawOf(Who::Peer, "::/8"),
+];
 
-fn peers_and_families_do_not_meet<S: PrefixStore<Rc<Route>>>(
-    rt: &impl Abort,
-    alloc: Global,
-    mut player: Player<S>,
-) -> Result<(), Fail> {
-    fill(rt, alloc, &mut player)?;
-    let says = [
-        Say::WithdrawOf(Who::Neighbour, "10.0.0.0/8"),
-        Say::WithdrawOf(Who::Peer, "::/8"),
-    ];
-    play(rt, alloc, &mut player, &says)?;
-    let times = [
-        (Who::Peer, "0.0.0.0/8", Some(1)),
-        (Who::Peer, "::/8", None),
-        (Who::Peer, "10.0.0.0/8", Some(3)),
-        (Who::Peer, "a00::/8", Some(4)),
-        (Who::Neighbour, "10.0.0.0/8", None),
-        (Who::Neighbour, "::/8", Some(6)),
-    ];
-    assert_times(rt, &player, &times)?;
-    undo(rt, &mut player);
-    assert_times(rt, &player, &ALL_TIMES)
-}
+const APART_TIMES: [TimeRow; 6] = [
+    (Who::Peer, "0.0.0.0/8", Some(1)),
+    (Who::Peer, "::/8", None),
+    (Who::Peer, "10.0.0.0/8", Some(3)),
+    (Who::Peer, "a00::/8", Some(4)),
+    (Who::Neighbour, "10.0.0.0/8", None),
+    (Who::Neighbour, "::/8", Some(6)),
+];
 
 #[test]
-fn map_store_peers_and_families_do_not_meet(rt: HostRuntime) -> Result<(), Fail> {
-    peers_and_families_do_not_meet(&rt, rt.alloc(), MapPlayer::new(rt.alloc()))
-}
-
-#[test]
-fn radix_store_peers_and_families_do_not_meet(rt: HostRuntime) -> Result<(), Fail> {
-    peers_and_families_do_not_meet(&rt, rt.alloc(), RadixPlayer::new(rt.alloc()))
+fn peers_and_families_do_not_meet(rt: HostRuntime) -> Result<(), Fail> {
+    play_behind(&rt, rt.alloc(), &APART, &[Seen::Times(&APART_TIMES)])
 }
 
 /// The states that a session falls to.
 const FALLEN: [u16; 6] = [1, 2, 3, 4, 5, 7];
 
-fn a_lost_session_clears_both_families<S: PrefixStore<Rc<Route>>>(
-    rt: &impl Abort,
-    alloc: Global,
-    mut player: Player<S>,
-    state: u16,
-) -> Result<(), Fail> {
-    fill(rt, alloc, &mut player)?;
-    play(rt, alloc, &mut player, &[Say::State(6, state)])?;
-    assert_times(rt, &player, &LEFT_TIMES)?;
-    undo(rt, &mut player);
-    assert_times(rt, &player, &ALL_TIMES)
-}
-
 #[test]
-fn map_store_a_lost_session_clears_both_families(rt: HostRuntime) -> Result<(), Fail> {
+fn a_lost_session_clears_both_families(rt: HostRuntime) -> Result<(), Fail> {
     for state in FALLEN {
-        let player = MapPlayer::new(rt.alloc());
-        a_lost_session_clears_both_families(&rt, rt.alloc(), player, state)?;
+        let lost = [Say::State(6, state)];
+        play_behind(&rt, rt.alloc(), &lost, &[Seen::Times(&LEFT_TIMES)])?;
     }
     Ok(())
 }
 
+/// State changes that lose no session.
+const OTHER_STATES: &[Row] = &[
+    (Call::Play(&ALL), Answer::Dropped(0), ALL_SEEN),
+    (
+        Call::Play(&[Say::State(6, 6)]),
+        Answer::Dropped(0),
+        ALL_SEEN,
+    ),
+    (
+        Call::Play(&[Say::State(5, 6)]),
+        Answer::Dropped(0),
+        ALL_SEEN,
+    ),
+    (
+        Call::Play(&[Say::State(1, 6)]),
+        Answer::Dropped(0),
+        ALL_SEEN,
+    ),
+    (
+        Call::Play(&[Say::State(5, 1)]),
+        Answer::Dropped(0),
+        ALL_SEEN,
+    ),
+    (
+        Call::Play(&[Say::State(0, 1)]),
+        Answer::Dropped(0),
+        ALL_SEEN,
+    ),
+    (
+        Call::Play(&[Say::State(7, 1)]),
+        Answer::Dropped(0),
+        ALL_SEEN,
+    ),
+    (
+        Call::Play(&[Say::State(262, 1)]),
+        Answer::Dropped(0),
+        ALL_SEEN,
+    ),
+    (Call::Stay, Answer::Nothing, &[Seen::Steps(8, 0, 6)]),
+];
+
 #[test]
-fn radix_store_a_lost_session_clears_both_families(rt: HostRuntime) -> Result<(), Fail> {
-    for state in FALLEN {
-        let player = RadixPlayer::new(rt.alloc());
-        a_lost_session_clears_both_families(&rt, rt.alloc(), player, state)?;
-    }
-    Ok(())
+fn other_states_clear_nothing(rt: HostRuntime) -> Result<(), Fail> {
+    follow_anew(&rt, rt.alloc(), OTHER_STATES)
 }
 
-fn other_states_clear_nothing<S: PrefixStore<Rc<Route>>>(
-    rt: &impl Abort,
-    alloc: Global,
-    mut player: Player<S>,
-) -> Result<(), Fail> {
-    fill(rt, alloc, &mut player)?;
-    for (old, new) in [(6, 6), (5, 6), (1, 6), (5, 1), (0, 1), (7, 1), (262, 1)] {
-        play(rt, alloc, &mut player, &[Say::State(old, new)])?;
-        assert_times(rt, &player, &ALL_TIMES)?;
-    }
-    assert_eq!(rt; (player.at(), player.named()), (8, 6));
-    Ok(())
-}
+/// A loss between announcements.
+const BETWEEN: [Say; 7] = [
+    Say::AnnounceOf(Who::Peer, "10.0.0.0/8", 11),
+    Say::AnnounceOf(Who::Peer, "12.0.0.0/8", 12),
+    Say::AnnounceOf(Who::Neighbour, "10.0.0.0/8", 13),
+    Say::State(6, 1),
+    Say::AnnounceOf(Who::Peer, "a00::/8", 14),
+    Say::AnnounceOf(Who::Peer, "13.0.0.0/8", 15),
+    Say::WithdrawOf(Who::Peer, "13.0.0.0/8"),
+];
 
-#[test]
-fn map_store_other_states_clear_nothing(rt: HostRuntime) -> Result<(), Fail> {
-    other_states_clear_nothing(&rt, rt.alloc(), MapPlayer::new(rt.alloc()))
-}
+const BETWEEN_TIMES: [TimeRow; 8] = [
+    (Who::Peer, "0.0.0.0/8", None),
+    (Who::Peer, "::/8", None),
+    (Who::Peer, "10.0.0.0/8", None),
+    (Who::Peer, "12.0.0.0/8", None),
+    (Who::Peer, "13.0.0.0/8", None),
+    (Who::Peer, "a00::/8", Some(14)),
+    (Who::Neighbour, "10.0.0.0/8", Some(13)),
+    (Who::Neighbour, "::/8", Some(6)),
+];
 
-#[test]
-fn radix_store_other_states_clear_nothing(rt: HostRuntime) -> Result<(), Fail> {
-    other_states_clear_nothing(&rt, rt.alloc(), RadixPlayer::new(rt.alloc()))
-}
+/// The pairs that steps name are the four of the peer and one of the neighbour, and the six of the
+/// first step.
+const BETWEEN_SEEN: &[Seen] = &[
+    Seen::Times(&BETWEEN_TIMES),
+    Seen::Steps(2, 0, 11),
+    Seen::Keys(Who::Peer, Some(4)),
+];
 
 /// Of the items that concern a pair the last decides, whether it names the prefix or the session.
-fn a_loss_stands_between_items<S: PrefixStore<Rc<Route>>>(
-    rt: &impl Abort,
-    alloc: Global,
-    mut player: Player<S>,
-) -> Result<(), Fail> {
-    fill(rt, alloc, &mut player)?;
-    let says = [
-        Say::AnnounceOf(Who::Peer, "10.0.0.0/8", 11),
-        Say::AnnounceOf(Who::Peer, "12.0.0.0/8", 12),
-        Say::AnnounceOf(Who::Neighbour, "10.0.0.0/8", 13),
-        Say::State(6, 1),
-        Say::AnnounceOf(Who::Peer, "a00::/8", 14),
-        Say::AnnounceOf(Who::Peer, "13.0.0.0/8", 15),
-        Say::WithdrawOf(Who::Peer, "13.0.0.0/8"),
-    ];
-    play(rt, alloc, &mut player, &says)?;
-    let times = [
-        (Who::Peer, "0.0.0.0/8", None),
-        (Who::Peer, "::/8", None),
-        (Who::Peer, "10.0.0.0/8", None),
-        (Who::Peer, "12.0.0.0/8", None),
-        (Who::Peer, "13.0.0.0/8", None),
-        (Who::Peer, "a00::/8", Some(14)),
-        (Who::Neighbour, "10.0.0.0/8", Some(13)),
-        (Who::Neighbour, "::/8", Some(6)),
-    ];
-    assert_times(rt, &player, &times)?;
-    // the four of the peer and one of the neighbour, and the six of the first step
-    assert_eq!(rt; player.named(), 11);
-    assert_eq!(rt; keys_of(&player, &peer_of(Who::Peer)), Some(4));
-    undo(rt, &mut player);
-    assert_times(rt, &player, &ALL_TIMES)
-}
-
 #[test]
-fn map_store_a_loss_stands_between_items(rt: HostRuntime) -> Result<(), Fail> {
-    a_loss_stands_between_items(&rt, rt.alloc(), MapPlayer::new(rt.alloc()))
-}
-
-#[test]
-fn radix_store_a_loss_stands_between_items(rt: HostRuntime) -> Result<(), Fail> {
-    a_loss_stands_between_items(&rt, rt.alloc(), RadixPlayer::new(rt.alloc()))
+fn a_loss_stands_between_items(rt: HostRuntime) -> Result<(), Fail> {
+    play_behind(&rt, rt.alloc(), &BETWEEN, BETWEEN_SEEN)
 }

@@ -8,6 +8,12 @@ use std::alloc::{AllocError, Global};
 use std::cell::Cell;
 use std::rc::Rc;
 
+/// A store that knows how often it was called.
+pub(super) trait HasCalls {
+    /// How many calls there were.
+    fn calls(&self) -> u64;
+}
+
 /// A store that counts its calls.
 #[derive(Drop)]
 pub(super) struct Counting<S> {
@@ -15,12 +21,13 @@ pub(super) struct Counting<S> {
     calls: Cell<u64>,
 }
 
-impl<S> Counting<S> {
-    /// How many calls there were.
-    pub(super) fn calls(&self) -> u64 {
+impl<S> HasCalls for Counting<S> {
+    fn calls(&self) -> u64 {
         self.calls.get()
     }
+}
 
+impl<S> Counting<S> {
     fn tick(&self) {
         self.calls.set(self.calls.get().saturating_add(1));
     }
