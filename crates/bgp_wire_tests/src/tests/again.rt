@@ -14,7 +14,7 @@ use test_octets::octets_of;
 
 /// Attributes, each in place of those before: with more and with fewer segments, numbers and
 /// communities, and octets that are none.
-const ROWS: [(&str, &str); 8] = [
+const ROWS: &[(&str, &str)] = &[
     (
         "400210 0201 0000FBF4 0102 00000001 00000002 C00808 FBF40001 FFFFFF01",
         "64500 {1,2}|||||64500:1 no-export|NAG|",
@@ -55,7 +55,7 @@ fn has_lists(attrs: &Attrs) -> bool {
 
 /// Asserts what attributes say once the octets were read in place of them. Refused, they have
 /// neither a path nor communities.
-fn assert_replaced(
+fn assert_replacement(
     rt: &impl Abort,
     alloc: Global,
     attrs: &mut Attrs,
@@ -69,13 +69,23 @@ fn assert_replaced(
     Ok(())
 }
 
+/// Asserts what attributes say by and by where the octets of each row are read in place of them.
+fn assert_replacements(
+    rt: &impl Abort,
+    alloc: Global,
+    attrs: &mut Attrs,
+    rows: &[(&str, &str)],
+) -> Result<(), WireFault> {
+    for (octets, want) in rows {
+        assert_replacement(rt, alloc, attrs, &octets_of(alloc, &[octets])?, want)?;
+    }
+    Ok(())
+}
+
 #[test]
 fn attributes_replace_others(rt: HostRuntime) -> Result<(), Fail> {
-    let alloc = rt.alloc();
-    let mut attrs = Attrs::none(alloc);
-    for (octets, want) in ROWS {
-        assert_replaced(&rt, alloc, &mut attrs, &octets_of(alloc, &[octets])?, want)?;
-    }
+    let mut attrs = Attrs::none(rt.alloc());
+    assert_replacements(&rt, rt.alloc(), &mut attrs, ROWS)?;
     Ok(())
 }
 
@@ -88,15 +98,25 @@ fn copy_read(alloc: Global, copy: &mut Attrs, octets: &[u8]) -> Result<bool, All
     Ok(true)
 }
 
-#[test]
-fn attributes_are_copied_over_others(rt: HostRuntime) -> Result<(), Fail> {
-    let alloc = rt.alloc();
-    let mut copy = Attrs::none(alloc);
-    for (octets, want) in ROWS {
-        if copy_read(alloc, &mut copy, &octets_of(alloc, &[octets])?)? {
-            assert_shown(&rt, alloc, &copy, want)?;
+/// Asserts what attributes say by and by where those of each row are copied over them.
+fn assert_copies(
+    rt: &impl Abort,
+    alloc: Global,
+    copy: &mut Attrs,
+    rows: &[(&str, &str)],
+) -> Result<(), AllocError> {
+    for (octets, want) in rows {
+        if copy_read(alloc, copy, &octets_of(alloc, &[octets])?)? {
+            assert_shown(rt, alloc, copy, want)?;
         }
     }
+    Ok(())
+}
+
+#[test]
+fn attributes_are_copied_over_others(rt: HostRuntime) -> Result<(), Fail> {
+    let mut copy = Attrs::none(rt.alloc());
+    assert_copies(&rt, rt.alloc(), &mut copy, ROWS)?;
     Ok(())
 }
 
@@ -105,7 +125,7 @@ const COMMON_SHOWN: &str = "64500|IGP|192.0.2.9||||NAG|";
 
 /// Messages by their withdrawn prefixes, attributes and announced prefixes, and how many prefixes
 /// are withdrawn, announced, and announced by MP_REACH_NLRI.
-const MESSAGES: [(&str, &str, &str, [usize; 3]); 5] = [
+const MESSAGES: &[(&str, &str, &str, [usize; 3])] = &[
     ("080A 080B", "", "", [2, 0, 0]),
     ("", "", "080A 10C000", [0, 2, 0]),
     (
@@ -157,21 +177,31 @@ fn assert_parts(
     assert_shown(rt, alloc, &parts.attrs, COMMON_SHOWN)
 }
 
+/// Asserts what parts say by and by where the message of each row is read in place of them.
+fn assert_messages(
+    rt: &impl Abort,
+    alloc: Global,
+    parts: &mut UpdateParts,
+    rows: &[(&str, &str, &str, [usize; 3])],
+) -> Result<(), AllocError> {
+    for (withdrawn, reach, announced, counts) in rows {
+        let octets = update_of(alloc, withdrawn, &[COMMON, reach], announced)?;
+        assert_eq!(rt; read_word(alloc, parts, &octets), UPDATE);
+        assert_parts(rt, alloc, parts, *counts)?;
+    }
+    Ok(())
+}
+
 #[test]
 fn messages_replace_others(rt: HostRuntime) -> Result<(), Fail> {
-    let alloc = rt.alloc();
-    let mut parts = UpdateParts::none(alloc);
-    for (withdrawn, reach, announced, counts) in MESSAGES {
-        let octets = update_of(alloc, withdrawn, &[COMMON, reach], announced)?;
-        assert_eq!(rt; read_word(alloc, &mut parts, &octets), UPDATE);
-        assert_parts(&rt, alloc, &parts, counts)?;
-    }
+    let mut parts = UpdateParts::none(rt.alloc());
+    assert_messages(&rt, rt.alloc(), &mut parts, MESSAGES)?;
     Ok(())
 }
 
 /// Messages one behind the other, by their types and bodies, the word of what is read, and how many
 /// prefixes are announced then.
-const KINDS: [(u8, &str, &str, usize); 3] = [
+const KINDS: &[(u8, &str, &str, usize)] = &[
     (
         2,
         "0000 0012 400101 00 400204 0201 FBF4 400304 C0000209 080A",
@@ -182,14 +212,24 @@ const KINDS: [(u8, &str, &str, usize); 3] = [
     (2, "00", MALFORMED, 0),
 ];
 
+/// Asserts what is read by and by in place of parts, and how many prefixes are announced then.
+fn assert_kinds(
+    rt: &impl Abort,
+    alloc: Global,
+    parts: &mut UpdateParts,
+    rows: &[(u8, &str, &str, usize)],
+) -> Result<(), AllocError> {
+    for (kind, body, want, announced) in rows {
+        let octets = message_of(alloc, *kind, &octets_of(alloc, &[body])?)?;
+        assert_eq!(rt; read_word(alloc, parts, &octets), *want);
+        assert_eq!(rt; parts.announced.as_slice().len(), *announced);
+    }
+    Ok(())
+}
+
 #[test]
 fn other_messages_leave_the_parts(rt: HostRuntime) -> Result<(), Fail> {
-    let alloc = rt.alloc();
-    let mut parts = UpdateParts::none(alloc);
-    for (kind, body, want, announced) in KINDS {
-        let octets = message_of(alloc, kind, &octets_of(alloc, &[body])?)?;
-        assert_eq!(rt; read_word(alloc, &mut parts, &octets), want);
-        assert_eq!(rt; parts.announced.as_slice().len(), announced);
-    }
+    let mut parts = UpdateParts::none(rt.alloc());
+    assert_kinds(&rt, rt.alloc(), &mut parts, KINDS)?;
     Ok(())
 }

@@ -1,6 +1,6 @@
 //! AS4_PATH and AS4_AGGREGATOR beside AS numbers of two octets, and the attributes of messages.
 
-use super::messages::{COMMON, is_malformed, read_update, update_of};
+use super::messages::{COMMON, assert_refused_behind, read_update, update_of};
 use super::{assert_shown, assert_texts};
 use bgp_wire::{AsWidth, Update, WireFault};
 use ip_prefix::Family;
@@ -41,35 +41,53 @@ const PATH_CUT: &str = "C01105 0201 000111";
 /// What OWN_PATH and TRANS say.
 const OWN_SHOWN: &str = "64500 23456||||||NAG|23456 192.0.2.99";
 
-/// Attributes one behind the other, and what they say.
-type Row = (&'static [&'static str], &'static str);
-
-/// Asserts what a RIB entry with these attributes says.
-fn assert_entry(
+/// Asserts what RIB entries with these attributes say.
+fn assert_entries(
     rt: &impl Abort,
     alloc: Global,
     width: AsWidth,
-    parts: &[&str],
-    want: &str,
+    rows: &[(&[&str], &str)],
 ) -> Result<(), WireFault> {
-    assert_texts(rt, alloc, Family::V4, width, parts, want)
+    for (parts, want) in rows {
+        assert_texts(rt, alloc, Family::V4, width, parts, want)?;
+    }
+    Ok(())
 }
 
-/// Asserts what the attributes of an UPDATE with these attributes and the prefix 10.0.0.0/8 say.
+/// Asserts what the attributes of the UPDATE say that the octets are.
 fn assert_update(
     rt: &impl Abort,
     alloc: Global,
     width: AsWidth,
-    parts: &[&str],
+    octets: &[u8],
     want: &str,
 ) -> Result<(), Fail> {
-    let octets = update_of(alloc, "", parts, "080A")?;
-    let update = read_update(alloc, width, &octets)?;
-    Ok(assert_shown(rt, alloc, &update.attrs, want)?)
+    let update = read_update(alloc, width, octets)?;
+    assert_shown(rt, alloc, &update.attrs, want)?;
+    Ok(())
+}
+
+/// Asserts what the attributes of UPDATEs with these attributes and the prefix 10.0.0.0/8 say.
+fn assert_updates(
+    rt: &impl Abort,
+    alloc: Global,
+    width: AsWidth,
+    rows: &[(&[&str], &str)],
+) -> Result<(), Fail> {
+    for (parts, want) in rows {
+        assert_update(
+            rt,
+            alloc,
+            width,
+            &update_of(alloc, "", parts, "080A")?,
+            want,
+        )?;
+    }
+    Ok(())
 }
 
 /// Attributes of messages.
-const OF_MESSAGES: [Row; 9] = [
+const OF_MESSAGES: &[(&[&str], &str)] = &[
     (&[], "||||||NAG|"),
     (&[COMMON], "64500|IGP|192.0.2.9||||NAG|"),
     // the first of two metrics counts, and the second isn't read
@@ -117,10 +135,7 @@ const OF_MESSAGES: [Row; 9] = [
 
 #[test]
 fn reads_attributes_of_messages(rt: HostRuntime) -> Result<(), Fail> {
-    for (parts, want) in OF_MESSAGES {
-        assert_update(&rt, rt.alloc(), AsWidth::Two, parts, want)?;
-    }
-    Ok(())
+    assert_updates(&rt, rt.alloc(), AsWidth::Two, OF_MESSAGES)
 }
 
 /// Attributes beside a next hop, OWN_PATH, FOUR_PATH, TRANS and FOUR.
@@ -131,14 +146,14 @@ const SHARED: &str = "400101 01 800404 0000000A 400504 00000064 400600 \
 const SHARED_SHOWN: &str =
     "64500 70000|EGP|192.0.2.11|100|10|64500:1 no-export|AG|70000 192.0.2.100";
 
-/// The next hop beside them, and what they say of the other prefixes.
-const SHARED_HOPS: [(&str, &str); 2] = [
+/// Those and the others, with a next hop and without, and what they say of the other prefixes.
+const SHARED_HOPS: &[(&[&str], &str)] = &[
     (
-        "400304 C0000209",
+        &[SHARED, OWN_PATH, TRANS, FOUR, FOUR_PATH, "400304 C0000209"],
         "64500 70000|EGP|192.0.2.9|100|10|64500:1 no-export|AG|70000 192.0.2.100",
     ),
     (
-        "",
+        &[SHARED, OWN_PATH, TRANS, FOUR, FOUR_PATH],
         "64500 70000|EGP||100|10|64500:1 no-export|AG|70000 192.0.2.100",
     ),
 ];
@@ -158,119 +173,108 @@ fn assert_both(
     }
 }
 
+/// Asserts the same of the UPDATE that the octets are.
+fn assert_shared(rt: &impl Abort, alloc: Global, octets: &[u8], want: &str) -> Result<(), Fail> {
+    let update = read_update(alloc, AsWidth::Two, octets)?;
+    assert_both(rt, alloc, &update, want)?;
+    Ok(())
+}
+
 #[test]
 fn shares_attributes(rt: HostRuntime) -> Result<(), Fail> {
-    let alloc = rt.alloc();
-    for (own_hop, want) in SHARED_HOPS {
-        let parts = [SHARED, OWN_PATH, TRANS, FOUR, FOUR_PATH, own_hop];
-        let octets = update_of(alloc, "", &parts, "080A")?;
-        let update = read_update(alloc, AsWidth::Two, &octets)?;
-        assert_both(&rt, alloc, &update, want)?;
+    for (parts, want) in SHARED_HOPS {
+        let octets = update_of(rt.alloc(), "", parts, "080A")?;
+        assert_shared(&rt, rt.alloc(), &octets, want)?;
     }
     Ok(())
 }
 
-/// AGGREGATOR and AS4_AGGREGATOR, and what is said without AS4_PATH and with it.
-const AGGREGATORS: [(&str, &str, &str, &str); 9] = [
-    ("", "", "64500 23456||||||NAG|", "64500 70000||||||NAG|"),
-    (
-        "",
-        FOUR_CUT,
-        "64500 23456||||||NAG|",
-        "64500 70000||||||NAG|",
-    ),
-    ("", FOUR, "64500 23456||||||NAG|", "64500 70000||||||NAG|"),
-    (
-        TRANS,
-        "",
-        "64500 23456||||||NAG|23456 192.0.2.99",
-        "64500 70000||||||NAG|23456 192.0.2.99",
-    ),
-    (
-        TRANS,
-        FOUR_CUT,
-        "64500 23456||||||NAG|23456 192.0.2.99",
-        "64500 70000||||||NAG|23456 192.0.2.99",
-    ),
-    (
-        TRANS,
-        FOUR,
-        "64500 23456||||||NAG|70000 192.0.2.100",
-        "64500 70000||||||NAG|70000 192.0.2.100",
-    ),
-    (
-        ANOTHER,
-        "",
-        "64500 23456||||||NAG|64500 192.0.2.99",
-        "64500 70000||||||NAG|64500 192.0.2.99",
-    ),
-    (
-        ANOTHER,
-        FOUR_CUT,
-        "64500 23456||||||NAG|64500 192.0.2.99",
-        "64500 70000||||||NAG|64500 192.0.2.99",
-    ),
-    (
-        ANOTHER,
-        FOUR,
-        "64500 23456||||||NAG|64500 192.0.2.99",
-        "64500 23456||||||NAG|64500 192.0.2.99",
-    ),
+/// AGGREGATOR and AS4_AGGREGATOR, and what is said without AS4_PATH.
+const WITHOUT_FOUR_PATH: &[(&str, &str, &str)] = &[
+    ("", "", "64500 23456||||||NAG|"),
+    ("", FOUR_CUT, "64500 23456||||||NAG|"),
+    ("", FOUR, "64500 23456||||||NAG|"),
+    (TRANS, "", "64500 23456||||||NAG|23456 192.0.2.99"),
+    (TRANS, FOUR_CUT, "64500 23456||||||NAG|23456 192.0.2.99"),
+    (TRANS, FOUR, "64500 23456||||||NAG|70000 192.0.2.100"),
+    (ANOTHER, "", "64500 23456||||||NAG|64500 192.0.2.99"),
+    (ANOTHER, FOUR_CUT, "64500 23456||||||NAG|64500 192.0.2.99"),
+    (ANOTHER, FOUR, "64500 23456||||||NAG|64500 192.0.2.99"),
 ];
+
+/// The same with FOUR_PATH.
+const WITH_FOUR_PATH: &[(&str, &str, &str)] = &[
+    ("", "", "64500 70000||||||NAG|"),
+    ("", FOUR_CUT, "64500 70000||||||NAG|"),
+    ("", FOUR, "64500 70000||||||NAG|"),
+    (TRANS, "", "64500 70000||||||NAG|23456 192.0.2.99"),
+    (TRANS, FOUR_CUT, "64500 70000||||||NAG|23456 192.0.2.99"),
+    (TRANS, FOUR, "64500 70000||||||NAG|70000 192.0.2.100"),
+    (ANOTHER, "", "64500 70000||||||NAG|64500 192.0.2.99"),
+    (ANOTHER, FOUR_CUT, "64500 70000||||||NAG|64500 192.0.2.99"),
+    (ANOTHER, FOUR, "64500 23456||||||NAG|64500 192.0.2.99"),
+];
+
+/// Asserts what RIB entries with both aggregators and this AS4_PATH say.
+fn assert_aggregators(
+    rt: &impl Abort,
+    alloc: Global,
+    path: &str,
+    rows: &[(&str, &str, &str)],
+) -> Result<(), WireFault> {
+    for (own, four, want) in rows {
+        let parts = [path, OWN_PATH, four, own];
+        assert_texts(rt, alloc, Family::V4, AsWidth::Two, &parts, want)?;
+    }
+    Ok(())
+}
 
 #[test]
 fn joins_by_both_aggregators(rt: HostRuntime) -> Result<(), Fail> {
-    let alloc = rt.alloc();
-    for (own, four, want, want_joined) in AGGREGATORS {
-        // absent, without segments, and ill-formed
-        for path in ["", "C01100", PATH_CUT] {
-            assert_entry(&rt, alloc, AsWidth::Two, &[path, OWN_PATH, four, own], want)?;
-        }
-        let parts = [FOUR_PATH, OWN_PATH, four, own];
-        assert_entry(&rt, alloc, AsWidth::Two, &parts, want_joined)?;
+    // absent, without segments, and ill-formed
+    for path in ["", "C01100", PATH_CUT] {
+        assert_aggregators(&rt, rt.alloc(), path, WITHOUT_FOUR_PATH)?;
     }
+    assert_aggregators(&rt, rt.alloc(), FOUR_PATH, WITH_FOUR_PATH)?;
     Ok(())
 }
 
-/// AGGREGATOR with numbers around 23456, and what is said of it beside the others.
-const NUMBERS: [(&str, &str); 6] = [
+/// AGGREGATOR with numbers around 23456 beside the others, and what is said.
+const NUMBERS: &[(&[&str], &str)] = &[
     (
-        "C00708 00005BA0 C0000263",
+        &[OWN_PATH, "C00708 00005BA0 C0000263", FOUR, FOUR_PATH],
         "64500 70000||||||NAG|70000 192.0.2.100",
     ),
     (
-        "C00708 00015BA0 C0000263",
+        &[OWN_PATH, "C00708 00015BA0 C0000263", FOUR, FOUR_PATH],
         "64500 23456||||||NAG|88992 192.0.2.99",
     ),
     (
-        "C00708 5BA00000 C0000263",
+        &[OWN_PATH, "C00708 5BA00000 C0000263", FOUR, FOUR_PATH],
         "64500 23456||||||NAG|1537212416 192.0.2.99",
     ),
     (
-        "C00708 00011170 C0000263",
+        &[OWN_PATH, "C00708 00011170 C0000263", FOUR, FOUR_PATH],
         "64500 23456||||||NAG|70000 192.0.2.99",
     ),
     (
-        "C00706 5BA1 C0000263",
+        &[OWN_PATH, "C00706 5BA1 C0000263", FOUR, FOUR_PATH],
         "64500 23456||||||NAG|23457 192.0.2.99",
     ),
     (
-        "C00706 A05B C0000263",
+        &[OWN_PATH, "C00706 A05B C0000263", FOUR, FOUR_PATH],
         "64500 23456||||||NAG|41051 192.0.2.99",
     ),
 ];
 
 #[test]
 fn compares_the_whole_number(rt: HostRuntime) -> Result<(), Fail> {
-    for (own, want) in NUMBERS {
-        let parts = [OWN_PATH, own, FOUR, FOUR_PATH];
-        assert_entry(&rt, rt.alloc(), AsWidth::Two, &parts, want)?;
-    }
+    assert_entries(&rt, rt.alloc(), AsWidth::Two, NUMBERS)?;
     Ok(())
 }
 
 /// Two attributes of a type.
-const REPEATED: [Row; 6] = [
+const REPEATED: &[(&[&str], &str)] = &[
     // a discarded one isn't there, whatever follows
     (
         &[OWN_PATH, TRANS, FOUR_CUT, FOUR, FOUR_PATH],
@@ -306,14 +310,12 @@ const REPEATED: [Row; 6] = [
 
 #[test]
 fn counts_the_first_of_a_type(rt: HostRuntime) -> Result<(), Fail> {
-    for (parts, want) in REPEATED {
-        assert_entry(&rt, rt.alloc(), AsWidth::Two, parts, want)?;
-    }
+    assert_entries(&rt, rt.alloc(), AsWidth::Two, REPEATED)?;
     Ok(())
 }
 
 /// AS4_PATH and AS4_AGGREGATOR that are discarded.
-const DISCARDED: [&str; 16] = [
+const DISCARDED: &[&str] = &[
     // AS4_PATH
     "C01101 02",
     "C01102 0200",
@@ -334,95 +336,110 @@ const DISCARDED: [&str; 16] = [
     "C01204 00011170",
 ];
 
-#[test]
-fn discards_what_is_ill_formed(rt: HostRuntime) -> Result<(), Fail> {
-    let alloc = rt.alloc();
-    for more in DISCARDED {
+/// Asserts that RIB entries say what OWN_PATH and TRANS say, with these in front.
+fn assert_discarded(rt: &impl Abort, alloc: Global, rows: &[&str]) -> Result<(), WireFault> {
+    for more in rows {
         let parts = [more, OWN_PATH, TRANS];
-        assert_entry(&rt, alloc, AsWidth::Two, &parts, OWN_SHOWN)?;
-        let parts = [OWN_PATH, TRANS, more];
-        assert_update(&rt, alloc, AsWidth::Two, &parts, OWN_SHOWN)?;
+        assert_texts(rt, alloc, Family::V4, AsWidth::Two, &parts, OWN_SHOWN)?;
     }
     Ok(())
 }
 
+/// The same of UPDATEs, with these behind them.
+fn assert_discarded_of_updates(rt: &impl Abort, alloc: Global, rows: &[&str]) -> Result<(), Fail> {
+    for more in rows {
+        let octets = update_of(alloc, "", &[OWN_PATH, TRANS, more], "080A")?;
+        assert_update(rt, alloc, AsWidth::Two, &octets, OWN_SHOWN)?;
+    }
+    Ok(())
+}
+
+#[test]
+fn discards_what_is_ill_formed(rt: HostRuntime) -> Result<(), Fail> {
+    assert_discarded(&rt, rt.alloc(), DISCARDED)?;
+    assert_discarded_of_updates(&rt, rt.alloc(), DISCARDED)
+}
+
 /// AS_PATH and AS4_PATH, and what is said of both.
-const PATHS: [(&str, &str, &str); 9] = [
+const PATHS: &[(&[&str], &str)] = &[
     // confederation segments of AS4_PATH are dropped
     (
-        OWN_PATH,
-        "C0110C 0301 0000FDE9 0201 00011170",
+        &[OWN_PATH, "C0110C 0301 0000FDE9 0201 00011170"],
         "64500 70000||||||NAG|",
     ),
     (
-        OWN_PATH,
-        "C0110C 0201 00011170 0401 0000FDE9",
+        &[OWN_PATH, "C0110C 0201 00011170 0401 0000FDE9"],
         "64500 70000||||||NAG|",
     ),
-    (OWN_PATH, "C01106 0301 0000FDE9", "64500 23456||||||NAG|"),
+    (&[OWN_PATH, "C01106 0301 0000FDE9"], "64500 23456||||||NAG|"),
     // those of AS_PATH are kept
     (
-        "40020A 0301 FDE9 0202 FBF4 5BA0",
-        FOUR_PATH,
+        &["40020A 0301 FDE9 0202 FBF4 5BA0", FOUR_PATH],
         "(65001) 64500 70000||||||NAG|",
     ),
     // a set counts as one
     (
-        OWN_PATH,
-        "C0110A 0102 00011170 00011171",
+        &[OWN_PATH, "C0110A 0102 00011170 00011171"],
         "64500 {70000,70001}||||||NAG|",
     ),
     (
-        "40020A 0201 FBF4 0102 5BA0 5BA0",
-        FOUR_PATH,
+        &["40020A 0201 FBF4 0102 5BA0 5BA0", FOUR_PATH],
         "64500 70000||||||NAG|",
     ),
     // of one length, and a shorter AS_PATH
     (
-        OWN_PATH,
-        "C0110A 0202 00010000 00011170",
+        &[OWN_PATH, "C0110A 0202 00010000 00011170"],
         "65536 70000||||||NAG|",
     ),
-    ("", FOUR_PATH, "||||||NAG|"),
-    ("400200", "C01100", "||||||NAG|"),
+    (&["", FOUR_PATH], "||||||NAG|"),
+    (&["400200", "C01100"], "||||||NAG|"),
 ];
 
 #[test]
 fn joins_paths(rt: HostRuntime) -> Result<(), Fail> {
-    for (own, four, want) in PATHS {
-        assert_entry(&rt, rt.alloc(), AsWidth::Two, &[own, four], want)?;
-    }
+    assert_entries(&rt, rt.alloc(), AsWidth::Two, PATHS)?;
     Ok(())
 }
 
-/// Attributes beside WIDE_PATH.
-const WIDE: [([&str; 3], &str); 4] = [
-    ([FOUR_PATH, "", ""], "64500 23456||||||NAG|"),
+/// WIDE_PATH in front of others, and what is said.
+const BEHIND_WIDE: &[(&[&str], &str)] = &[
+    (&[WIDE_PATH, FOUR_PATH], "64500 23456||||||NAG|"),
     (
-        [FOUR_PATH, TRANS, FOUR],
+        &[WIDE_PATH, FOUR_PATH, TRANS, FOUR],
         "64500 23456||||||NAG|23456 192.0.2.99",
     ),
     (
-        ["C00708 00005BA0 C0000263", FOUR, ""],
+        &[WIDE_PATH, "C00708 00005BA0 C0000263", FOUR],
         "64500 23456||||||NAG|23456 192.0.2.99",
     ),
-    (["C01101 02", "", "C01200"], "64500 23456||||||NAG|"),
+    (&[WIDE_PATH, "C01101 02", "C01200"], "64500 23456||||||NAG|"),
+];
+
+/// The same with WIDE_PATH behind them.
+const BEFORE_WIDE: &[(&[&str], &str)] = &[
+    (&[FOUR_PATH, WIDE_PATH], "64500 23456||||||NAG|"),
+    (
+        &[FOUR_PATH, TRANS, FOUR, WIDE_PATH],
+        "64500 23456||||||NAG|23456 192.0.2.99",
+    ),
+    (
+        &["C00708 00005BA0 C0000263", FOUR, WIDE_PATH],
+        "64500 23456||||||NAG|23456 192.0.2.99",
+    ),
+    (&["C01101 02", "C01200", WIDE_PATH], "64500 23456||||||NAG|"),
 ];
 
 #[test]
 fn passes_over_them_at_four_octets(rt: HostRuntime) -> Result<(), Fail> {
-    let alloc = rt.alloc();
-    for ([first, second, third], want) in WIDE {
-        let parts = [WIDE_PATH, first, second, third];
-        assert_entry(&rt, alloc, AsWidth::Four, &parts, want)?;
-        let parts = [first, second, third, WIDE_PATH];
-        assert_update(&rt, alloc, AsWidth::Four, &parts, want)?;
-    }
-    Ok(())
+    assert_entries(&rt, rt.alloc(), AsWidth::Four, BEHIND_WIDE)?;
+    assert_updates(&rt, rt.alloc(), AsWidth::Four, BEFORE_WIDE)
 }
 
-/// Attributes that are refused beside an AS4_PATH and an AS4_AGGREGATOR of their form.
-const REFUSED: [&str; 9] = [
+/// FOUR_PATH and FOUR.
+const BOTH_FOUR: &str = "C01106 0201 00011170 C01208 00011170 C0000264";
+
+/// Attributes that are refused behind them.
+const REFUSED: &[&str] = &[
     "400205 0201 FBF4 00",
     "400202 0200",
     "400206 0201 0000 FBF4",
@@ -437,9 +454,6 @@ const REFUSED: [&str; 9] = [
 
 #[test]
 fn refuses_ill_formed_attributes(rt: HostRuntime) -> Result<(), Fail> {
-    for more in REFUSED {
-        let octets = update_of(rt.alloc(), "", &[FOUR_PATH, FOUR, more], "080A")?;
-        assert!(rt; is_malformed(rt.alloc(), &octets), "{more}");
-    }
+    assert_refused_behind(&rt, rt.alloc(), BOTH_FOUR, REFUSED)?;
     Ok(())
 }

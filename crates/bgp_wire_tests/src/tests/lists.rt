@@ -14,10 +14,10 @@ const WHOLE: &str = "40010100 400210 0201 0000FBF4 0102 00000001 00000002 400304
 
 const WHOLE_SHOWN: &str = "64500 {1,2}|IGP|192.0.2.9|||64500:1 no-export|AG|";
 
-const ENDS: [usize; 6] = [0, 4, 23, 30, 33, 44];
+const ENDS: &[usize] = &[0, 4, 23, 30, 33, 44];
 
 /// Flags and lengths.
-const FRAMED: [(&str, &str); 23] = [
+const FRAMED: &[(&str, &str)] = &[
     ("", NOTHING),
     (WHOLE, WHOLE_SHOWN),
     // A length of two octets, for a short value and for none.
@@ -47,7 +47,7 @@ const FRAMED: [(&str, &str); 23] = [
 ];
 
 /// Two attributes of a type: the first one counts, and the other isn't read.
-const REPEATED: [(&str, &str); 24] = [
+const REPEATED: &[(&str, &str)] = &[
     ("40010100 40010101", "|IGP|||||NAG|"),
     ("40010102 40010103", "|INCOMPLETE|||||NAG|"),
     ("40010101 400100", "|EGP|||||NAG|"),
@@ -81,7 +81,7 @@ const REPEATED: [(&str, &str); 24] = [
 ];
 
 /// Two of MP_REACH_NLRI.
-const REACHED_TWICE: [&str; 6] = [
+const REACHED_TWICE: &[&str] = &[
     "800E05 04 C0000209 800E05 04 C0000209",
     "800E05 04 C0000209 400304 C0000209 800E05 04 C000020A",
     "800E05 04 C0000209 800E00",
@@ -91,12 +91,12 @@ const REACHED_TWICE: [&str; 6] = [
 ];
 
 /// Types that aren't read, with MP_UNREACH_NLRI, AS4_PATH and AS4_AGGREGATOR among them.
-const OTHERS: [u8; 17] = [
+const OTHERS: &[u8] = &[
     0, 9, 10, 11, 12, 13, 15, 16, 17, 18, 19, 32, 33, 65, 128, 129, 255,
 ];
 
 /// Flags with lengths and values.
-const OTHER_VALUES: [(u8, &str); 7] = [
+const OTHER_VALUES: &[(u8, &str)] = &[
     (0x00, "00"),
     (0xC0, "01 FF"),
     (0x80, "03 000201"),
@@ -108,7 +108,7 @@ const OTHER_VALUES: [(u8, &str); 7] = [
 
 /// Attributes that aren't read beside AS numbers of four octets (RFC 6793, section 4.1), nor in a
 /// table.
-const PASSED_OVER: [(&str, &str); 4] = [
+const PASSED_OVER: &[(&str, &str)] = &[
     (
         "400206 0201 0000FBF4 C01106 0201 00011170",
         "64500||||||NAG|",
@@ -123,8 +123,8 @@ const PASSED_OVER: [(&str, &str); 4] = [
 
 #[test]
 fn frames_attributes(rt: HostRuntime) -> Result<(), Fail> {
-    assert_rows(&rt, rt.alloc(), Family::V4, AsWidth::Four, &FRAMED)?;
-    assert_rows(&rt, rt.alloc(), Family::V4, AsWidth::Four, &PASSED_OVER)?;
+    assert_rows(&rt, rt.alloc(), Family::V4, AsWidth::Four, FRAMED)?;
+    assert_rows(&rt, rt.alloc(), Family::V4, AsWidth::Four, PASSED_OVER)?;
     Ok(())
 }
 
@@ -163,14 +163,14 @@ fn reads_a_value_of_many_octets(rt: HostRuntime) -> Result<(), Fail> {
 
 #[test]
 fn counts_the_first_of_a_type(rt: HostRuntime) -> Result<(), Fail> {
-    assert_rows(&rt, rt.alloc(), Family::V4, AsWidth::Four, &REPEATED)?;
+    assert_rows(&rt, rt.alloc(), Family::V4, AsWidth::Four, REPEATED)?;
     Ok(())
 }
 
 #[test]
 fn refuses_a_second_reach(rt: HostRuntime) -> Result<(), Fail> {
     for family in [Family::V4, Family::V6] {
-        assert_refused(&rt, rt.alloc(), family, AsWidth::Four, &REACHED_TWICE)?;
+        assert_refused(&rt, rt.alloc(), family, AsWidth::Four, REACHED_TWICE)?;
     }
     Ok(())
 }
@@ -195,7 +195,7 @@ fn assert_skipped(
 fn skips_other_types(rt: HostRuntime) -> Result<(), Fail> {
     for kind in OTHERS {
         for (flags, value) in OTHER_VALUES {
-            assert_skipped(&rt, rt.alloc(), kind, flags, value)?;
+            assert_skipped(&rt, rt.alloc(), *kind, *flags, value)?;
         }
     }
     Ok(())

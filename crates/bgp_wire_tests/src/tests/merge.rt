@@ -40,33 +40,43 @@ fn joined_text(alloc: Global, first: Parts, second: Parts) -> Result<Vec<u8>, Al
     Ok(text)
 }
 
-/// Asserts the text of two paths joined.
+/// Asserts the texts of two paths joined.
 fn assert_joined(
     rt: &impl Abort,
     alloc: Global,
-    first: Parts,
-    second: Parts,
-    want: &str,
+    rows: &[(Parts, Parts, &str)],
 ) -> Result<(), AllocError> {
-    let text = joined_text(alloc, first, second)?;
-    assert_eq!(rt; text.as_slice(), want.as_bytes(), "{want}");
+    for (first, second, want) in rows {
+        let text = joined_text(alloc, first, second)?;
+        assert_eq!(rt; text.as_slice(), want.as_bytes(), "{want}");
+    }
     Ok(())
 }
 
-/// Paths, each with its text where the number 70000 is joined to it.
-const LAST_REPLACED: [(Parts, &str); 10] = [
-    (&[(SEQUENCE, &[1, 2, 3]), (SET, &[4, 5])], "1 2 3 70000"),
+/// The path of the number 70000.
+const LAST: Parts = &[(SEQUENCE, &[70000])];
+
+/// Two paths, and the text of both joined, where the second is that path.
+const LAST_REPLACED: &[(Parts, Parts, &str)] = &[
+    (
+        &[(SEQUENCE, &[1, 2, 3]), (SET, &[4, 5])],
+        LAST,
+        "1 2 3 70000",
+    ),
     (
         &[(SEQUENCE, &[1]), (SET, &[4, 5]), (SEQUENCE, &[2])],
+        LAST,
         "1 {4,5} 70000",
     ),
-    (&[(SET, &[]), (SEQUENCE, &[1])], "{} 70000"),
+    (&[(SET, &[]), (SEQUENCE, &[1])], LAST, "{} 70000"),
     (
         &[(CONFED_SEQUENCE, &[65001]), (SEQUENCE, &[23456])],
+        LAST,
         "(65001) 70000",
     ),
     (
         &[(CONFED_SEQUENCE, &[65001]), (SEQUENCE, &[64500, 23456])],
+        LAST,
         "(65001) 64500 70000",
     ),
     (
@@ -75,30 +85,34 @@ const LAST_REPLACED: [(Parts, &str); 10] = [
             (CONFED_SEQUENCE, &[65001]),
             (SEQUENCE, &[3]),
         ],
+        LAST,
         "1 2 (65001) 70000",
     ),
-    (&[(SEQUENCE, &[1, 2]), (CONFED_SET, &[65001])], "1 70000"),
+    (
+        &[(SEQUENCE, &[1, 2]), (CONFED_SET, &[65001])],
+        LAST,
+        "1 70000",
+    ),
     (
         &[(SEQUENCE, &[1]), (CONFED_SET, &[65001, 65002]), (SET, &[])],
+        LAST,
         "1 [65001,65002] 70000",
     ),
-    (&[(CONFED_SEQUENCE, &[65001])], "(65001)"),
-    (&[], ""),
+    (&[(CONFED_SEQUENCE, &[65001])], LAST, "(65001)"),
+    (&[], LAST, ""),
 ];
 
 #[test]
 fn replaces_the_last_number(rt: HostRuntime) -> Result<(), Fail> {
-    for (first, want) in LAST_REPLACED {
-        assert_joined(&rt, rt.alloc(), first, &[(SEQUENCE, &[70000])], want)?;
-    }
+    assert_joined(&rt, rt.alloc(), LAST_REPLACED)?;
     Ok(())
 }
 
 /// A path of four numbers.
 const FOUR: Parts = &[(SEQUENCE, &[64500, 23456, 23456, 64501])];
 
-/// Two paths, and the text of both joined.
-const REPLACED: [(Parts, Parts, &str); 8] = [
+/// Two paths, and the text of both joined, where the second replaces as much as it has.
+const REPLACED: &[(Parts, Parts, &str)] = &[
     (
         &[(SEQUENCE, &[64500, 23456])],
         &[(CONFED_SEQUENCE, &[65001]), (SEQUENCE, &[70000])],
@@ -135,14 +149,12 @@ const REPLACED: [(Parts, Parts, &str); 8] = [
 
 #[test]
 fn replaces_as_much_as_the_second_has(rt: HostRuntime) -> Result<(), Fail> {
-    for (first, second, want) in REPLACED {
-        assert_joined(&rt, rt.alloc(), first, second, want)?;
-    }
+    assert_joined(&rt, rt.alloc(), REPLACED)?;
     Ok(())
 }
 
 /// Two paths, and how many segments both have joined.
-const APART: [(Parts, Parts, usize); 6] = [
+const APART: &[(Parts, Parts, usize)] = &[
     (
         &[(SEQUENCE, &[1]), (SEQUENCE, &[2, 3])],
         &[(SEQUENCE, &[9])],
@@ -171,11 +183,21 @@ const APART: [(Parts, Parts, usize); 6] = [
     ),
 ];
 
+/// Asserts how many segments two paths have joined.
+fn assert_counts(
+    rt: &impl Abort,
+    alloc: Global,
+    rows: &[(Parts, Parts, usize)],
+) -> Result<(), AllocError> {
+    for (first, second, want) in rows {
+        let path = joined(alloc, first, second)?;
+        assert_eq!(rt; path.segments.as_slice().len(), *want);
+    }
+    Ok(())
+}
+
 #[test]
 fn joins_no_segments(rt: HostRuntime) -> Result<(), Fail> {
-    for (first, second, want) in APART {
-        let path = joined(rt.alloc(), first, second)?;
-        assert_eq!(rt; path.segments.as_slice().len(), want);
-    }
+    assert_counts(&rt, rt.alloc(), APART)?;
     Ok(())
 }

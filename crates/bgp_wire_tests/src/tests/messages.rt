@@ -90,15 +90,21 @@ fn put_summary(update: &Update, text: &mut Vec<u8>) -> Result<(), AllocError> {
     Ok(())
 }
 
-/// Appends the summary of the UPDATE that the octets are.
-fn put_summary_of(alloc: Global, octets: &[u8], text: &mut Vec<u8>) -> Result<(), Fail> {
-    let update = read_update(alloc, AsWidth::Two, octets)?;
-    put_summary(&update, text)?;
-    Ok(())
+/// Appends the summary of the UPDATE that the octets are, and nothing where they are another message.
+fn put_summary_of(alloc: Global, octets: &[u8], text: &mut Vec<u8>) -> Result<(), WireFault> {
+    match read_message(alloc, AsWidth::Two, octets)? {
+        Message::Update(update) => Ok(put_summary(&update, text)?),
+        Message::Other(_) => Ok(()),
+    }
 }
 
 /// Asserts the summary of the UPDATE that the octets are.
-fn assert_summary(rt: &impl Abort, alloc: Global, octets: &[u8], want: &str) -> Result<(), Fail> {
+fn assert_summary(
+    rt: &impl Abort,
+    alloc: Global,
+    octets: &[u8],
+    want: &str,
+) -> Result<(), WireFault> {
     let mut text = Vec::new(alloc);
     put_summary_of(alloc, octets, &mut text)?;
     assert_eq!(rt; text.as_slice(), want.as_bytes(), "{want}");
@@ -112,7 +118,7 @@ fn assert_summaries(
     alloc: Global,
     front: &str,
     rows: &[(&str, &str, &str, &str)],
-) -> Result<(), Fail> {
+) -> Result<(), WireFault> {
     for (withdrawn, attributes, announced, want) in rows {
         let octets = update_of(alloc, withdrawn, &[front, attributes], announced)?;
         assert_summary(rt, alloc, &octets, want)?;
@@ -121,15 +127,29 @@ fn assert_summaries(
 }
 
 /// Whether the octets are no message, read with AS numbers of two octets.
-pub(crate) fn is_malformed(alloc: Global, octets: &[u8]) -> bool {
+fn is_malformed(alloc: Global, octets: &[u8]) -> bool {
     matches!(
         read_message(alloc, AsWidth::Two, octets),
         Err(WireFault::Malformed)
     )
 }
 
+/// Asserts that UPDATEs of two attributes and the prefix 10.0.0.0/8 are malformed.
+pub(crate) fn assert_refused_behind(
+    rt: &impl Abort,
+    alloc: Global,
+    front: &str,
+    rows: &[&str],
+) -> Result<(), AllocError> {
+    for more in rows {
+        let octets = update_of(alloc, "", &[front, more], "080A")?;
+        assert!(rt; is_malformed(alloc, &octets), "{more}");
+    }
+    Ok(())
+}
+
 /// Withdrawn prefixes, attributes behind the common ones, announced prefixes, and the summary.
-const WITH_NEXT_HOP: [(&str, &str, &str, &str); 10] = [
+const WITH_NEXT_HOP: &[(&str, &str, &str, &str)] = &[
     ("", "", "090AFF", "+10.128.0.0/9;via 192.0.2.9;"),
     ("", "", "00", "+0.0.0.0/0;via 192.0.2.9;"),
     ("080A", "", "080A", "-10.0.0.0/8;+10.0.0.0/8;via 192.0.2.9;"),
@@ -174,11 +194,12 @@ const WITH_NEXT_HOP: [(&str, &str, &str, &str); 10] = [
 
 #[test]
 fn reads_prefixes_and_next_hops(rt: HostRuntime) -> Result<(), Fail> {
-    assert_summaries(&rt, rt.alloc(), COMMON, &WITH_NEXT_HOP)
+    assert_summaries(&rt, rt.alloc(), COMMON, WITH_NEXT_HOP)?;
+    Ok(())
 }
 
 /// The same without the common attributes.
-const WITHOUT_NEXT_HOP: [(&str, &str, &str, &str); 7] = [
+const WITHOUT_NEXT_HOP: &[(&str, &str, &str, &str)] = &[
     ("", "", "", "via ;"),
     ("100A01", "", "", "-10.1.0.0/16;via ;"),
     ("", "", "080A", "+10.0.0.0/8;via ;"),
@@ -205,11 +226,12 @@ const WITHOUT_NEXT_HOP: [(&str, &str, &str, &str); 7] = [
 
 #[test]
 fn reads_messages_without_next_hop(rt: HostRuntime) -> Result<(), Fail> {
-    assert_summaries(&rt, rt.alloc(), "", &WITHOUT_NEXT_HOP)
+    assert_summaries(&rt, rt.alloc(), "", WITHOUT_NEXT_HOP)?;
+    Ok(())
 }
 
 /// Whole messages with their summaries.
-const WHOLE: [(&str, &str); 3] = [
+const WHOLE: &[(&str, &str)] = &[
     (
         "FFFFFFFFFFFFFFFFFFFFFFFFFFFFFFFF 002C 02 0000 0012 400101 00 400204 0201 FBF4 \
              400304 C0000209 090AFF",
@@ -226,11 +248,17 @@ const WHOLE: [(&str, &str); 3] = [
     ),
 ];
 
+/// Asserts the summaries of whole messages.
+fn assert_whole(rt: &impl Abort, alloc: Global, rows: &[(&str, &str)]) -> Result<(), WireFault> {
+    for (octets, want) in rows {
+        assert_summary(rt, alloc, &octets_of(alloc, &[octets])?, want)?;
+    }
+    Ok(())
+}
+
 #[test]
 fn reads_whole_messages(rt: HostRuntime) -> Result<(), Fail> {
-    for (octets, want) in WHOLE {
-        assert_summary(&rt, rt.alloc(), &octets_of(rt.alloc(), &[octets])?, want)?;
-    }
+    assert_whole(&rt, rt.alloc(), WHOLE)?;
     Ok(())
 }
 
@@ -322,7 +350,7 @@ fn refuses_cut_updates(rt: HostRuntime) -> Result<(), Fail> {
 }
 
 /// Bodies that are no UPDATE.
-const ILL_FORMED: [&str; 19] = [
+const ILL_FORMED: &[&str] = &[
     // without the length of the attributes
     "0000",
     "000000",
@@ -349,17 +377,23 @@ const ILL_FORMED: [&str; 19] = [
     "0000 0012 400101 00 400204 0201 FBF4 400304 C0000209 210A00000000",
 ];
 
-#[test]
-fn refuses_ill_formed_updates(rt: HostRuntime) -> Result<(), Fail> {
-    for body in ILL_FORMED {
-        let octets = message_of(rt.alloc(), 2, &octets_of(rt.alloc(), &[body])?)?;
-        assert!(rt; is_malformed(rt.alloc(), &octets), "{body}");
+/// Asserts that UPDATEs of these bodies are malformed.
+fn assert_bodies_refused(rt: &impl Abort, alloc: Global, rows: &[&str]) -> Result<(), AllocError> {
+    for body in rows {
+        let octets = message_of(alloc, 2, &octets_of(alloc, &[body])?)?;
+        assert!(rt; is_malformed(alloc, &octets), "{body}");
     }
     Ok(())
 }
 
+#[test]
+fn refuses_ill_formed_updates(rt: HostRuntime) -> Result<(), Fail> {
+    assert_bodies_refused(&rt, rt.alloc(), ILL_FORMED)?;
+    Ok(())
+}
+
 /// MP_REACH_NLRI and MP_UNREACH_NLRI of other families.
-const OTHER_FAMILIES: [&str; 12] = [
+const OTHER_FAMILIES: &[&str] = &[
     "800E03 001941",
     "800F03 001941",
     "800E03 000102",
@@ -374,63 +408,82 @@ const OTHER_FAMILIES: [&str; 12] = [
     "800F04 000204 FF",
 ];
 
-#[test]
-fn ignores_other_families(rt: HostRuntime) -> Result<(), Fail> {
-    for more in OTHER_FAMILIES {
-        let octets = update_of(rt.alloc(), "", &[COMMON, more], "080A")?;
-        assert_summary(&rt, rt.alloc(), &octets, "+10.0.0.0/8;via 192.0.2.9;")?;
+/// Asserts that an UPDATE says nothing more where these stand behind the common attributes.
+fn assert_ignored(rt: &impl Abort, alloc: Global, rows: &[&str]) -> Result<(), WireFault> {
+    for more in rows {
+        let octets = update_of(alloc, "", &[COMMON, more], "080A")?;
+        assert_summary(rt, alloc, &octets, "+10.0.0.0/8;via 192.0.2.9;")?;
     }
     Ok(())
 }
 
-/// MP_REACH_NLRI behind the common attributes, and what the summary says of it.
-const MP_NEXT_HOPS: [(&str, &str); 8] = [
+#[test]
+fn ignores_other_families(rt: HostRuntime) -> Result<(), Fail> {
+    assert_ignored(&rt, rt.alloc(), OTHER_FAMILIES)?;
+    Ok(())
+}
+
+/// The same with next hops of MP_REACH_NLRI, and without other prefixes.
+const MP_NEXT_HOPS: &[(&str, &str, &str, &str)] = &[
     // an address, and also a link-local one
     (
+        "",
         "800E2A 000201 20 20010DB8000000000000000000000001 \
              FE800000000000000000000000000001 00 2020010DB8",
-        "mp +2001:db8::/32;mp via 2001:db8::1;",
+        "",
+        "via 192.0.2.9;mp +2001:db8::/32;mp via 2001:db8::1;",
     ),
     // of the other family
     (
+        "",
         "800E0E 000201 04 C000020B 00 2020010DB8",
-        "mp +2001:db8::/32;mp via 192.0.2.11;",
+        "",
+        "via 192.0.2.9;mp +2001:db8::/32;mp via 192.0.2.11;",
     ),
     (
+        "",
         "800E17 000101 10 20010DB8000000000000000000000001 00 080A",
-        "mp +10.0.0.0/8;mp via 2001:db8::1;",
+        "",
+        "via 192.0.2.9;mp +10.0.0.0/8;mp via 2001:db8::1;",
     ),
     // the reserved octet may be any
     (
+        "",
         "800E0D 000101 04 C000020B 01 080A 080B",
-        "mp +10.0.0.0/8;mp +11.0.0.0/8;mp via 192.0.2.11;",
+        "",
+        "via 192.0.2.9;mp +10.0.0.0/8;mp +11.0.0.0/8;mp via 192.0.2.11;",
     ),
     (
+        "",
         "800E0A 000101 04 C000020B FF 00",
-        "mp +0.0.0.0/0;mp via 192.0.2.11;",
+        "",
+        "via 192.0.2.9;mp +0.0.0.0/0;mp via 192.0.2.11;",
     ),
     // with a length of two octets
     (
+        "",
         "900E000B 000101 04 C000020B 00 080A",
-        "mp +10.0.0.0/8;mp via 192.0.2.11;",
+        "",
+        "via 192.0.2.9;mp +10.0.0.0/8;mp via 192.0.2.11;",
     ),
     // without prefixes
-    ("800E09 000101 04 C000020B 00", ""),
-    ("800E15 000201 10 20010DB8000000000000000000000001 FF", ""),
+    ("", "800E09 000101 04 C000020B 00", "", "via 192.0.2.9;"),
+    (
+        "",
+        "800E15 000201 10 20010DB8000000000000000000000001 FF",
+        "",
+        "via 192.0.2.9;",
+    ),
 ];
 
 #[test]
 fn reads_next_hops_of_mp_reach(rt: HostRuntime) -> Result<(), Fail> {
-    for (more, mp) in MP_NEXT_HOPS {
-        let octets = update_of(rt.alloc(), "", &[COMMON, more], "")?;
-        let want = format!(in rt.alloc(); "via 192.0.2.9;{mp}")?;
-        assert_summary(&rt, rt.alloc(), &octets, &want)?;
-    }
+    assert_summaries(&rt, rt.alloc(), COMMON, MP_NEXT_HOPS)?;
     Ok(())
 }
 
 /// Ill-formed ones.
-const ILL_FORMED_MP: [&str; 26] = [
+const ILL_FORMED_MP: &[&str] = &[
     // less than a family
     "800E00",
     "800E01 00",
@@ -465,15 +518,12 @@ const ILL_FORMED_MP: [&str; 26] = [
 
 #[test]
 fn refuses_ill_formed_mp_attributes(rt: HostRuntime) -> Result<(), Fail> {
-    for more in ILL_FORMED_MP {
-        let octets = update_of(rt.alloc(), "", &[COMMON, more], "080A")?;
-        assert!(rt; is_malformed(rt.alloc(), &octets), "{more}");
-    }
+    assert_refused_behind(&rt, rt.alloc(), COMMON, ILL_FORMED_MP)?;
     Ok(())
 }
 
 /// Two of them around the common attributes, and whether that is malformed.
-const TWO_OF_MP: [(&str, &str, bool); 11] = [
+const TWO_OF_MP: &[(&str, &str, bool)] = &[
     (MP_REACH, MP_REACH, true),
     (MP_REACH, MP_REACH_ALL, true),
     (MP_REACH, "800E03 001941", true),
@@ -487,12 +537,22 @@ const TWO_OF_MP: [(&str, &str, bool); 11] = [
     ("800F03 001941", MP_REACH, false),
 ];
 
+/// Asserts which of two attributes around the common ones are malformed.
+fn assert_two(
+    rt: &impl Abort,
+    alloc: Global,
+    rows: &[(&str, &str, bool)],
+) -> Result<(), AllocError> {
+    for (first, second, want) in rows {
+        let octets = update_of(alloc, "", &[first, COMMON, second], "080A")?;
+        let malformed = is_malformed(alloc, &octets);
+        assert_eq!(rt; malformed, *want, "{first}, {second}");
+    }
+    Ok(())
+}
+
 #[test]
 fn refuses_a_second_mp_attribute(rt: HostRuntime) -> Result<(), Fail> {
-    for (first, second, want) in TWO_OF_MP {
-        let octets = update_of(rt.alloc(), "", &[first, COMMON, second], "080A")?;
-        let malformed = is_malformed(rt.alloc(), &octets);
-        assert_eq!(rt; malformed, want, "{first}, {second}");
-    }
+    assert_two(&rt, rt.alloc(), TWO_OF_MP)?;
     Ok(())
 }

@@ -1,7 +1,7 @@
 //! The next hops of RIB entries (RFC 6396, section 4.3.4; RFC 4760, section 3; RFC 2545,
 //! section 3).
 
-use super::{MALFORMED, assert_read, assert_rows, assert_texts};
+use super::{MALFORMED, assert_read, assert_rows};
 use bgp_wire::{AsWidth, WireFault};
 use ip_prefix::Family;
 use std::alloc::Global;
@@ -20,13 +20,13 @@ const LONG: &str = "||2001:db8::1:0:0:1||||NAG|";
 
 /// What stands in front of a next hop's length: nothing, or three octets of which only the first
 /// is looked at.
-const FRONTS: [&str; 6] = ["", "000201", "000101", "000000", "00FFFF", "004602"];
+const FRONTS: &[&str] = &["", "000201", "000101", "000000", "00FFFF", "004602"];
 
 /// What follows a next hop.
-const BEHIND: [&str; 4] = ["", "00", "00 20 20010DB8", "FF04C0000209"];
+const BEHIND: &[&str] = &["", "00", "00 20 20010DB8", "FF04C0000209"];
 
 /// One of the two attributes that name a next hop.
-const ALONE: [(&str, &str); 9] = [
+const ALONE: &[(&str, &str)] = &[
     ("40010100", "|IGP|||||NAG|"),
     ("400304 C0000209", "||192.0.2.9||||NAG|"),
     ("800E05 04 C000020B", "||192.0.2.11||||NAG|"),
@@ -46,33 +46,39 @@ const ALONE: [(&str, &str); 9] = [
     ("800E00", MALFORMED),
 ];
 
-/// Both, with what is shown of an IPv4 entry and of an IPv6 one.
-const BOTH: [(&str, &str, &str); 8] = [
-    (
-        "400304 C0000209 800E05 04 C000020B",
-        "||192.0.2.9||||NAG|",
-        "||192.0.2.11||||NAG|",
-    ),
-    (
-        "800E05 04 C000020B 400304 C0000209",
-        "||192.0.2.9||||NAG|",
-        "||192.0.2.11||||NAG|",
-    ),
+/// Both, with what is shown of an IPv4 entry.
+const BOTH_OF_V4: &[(&str, &str)] = &[
+    ("400304 C0000209 800E05 04 C000020B", "||192.0.2.9||||NAG|"),
+    ("800E05 04 C000020B 400304 C0000209", "||192.0.2.9||||NAG|"),
     (
         "400304 C0000209 800E15 0002 01 10 20010DB8000000000001000000000001 00",
         "||192.0.2.9||||NAG|",
-        LONG,
     ),
     // The one that doesn't count has to be well-formed too.
-    ("400303 C00002 800E05 04 C000020B", MALFORMED, MALFORMED),
-    ("800E05 04 C000020B 400303 C00002", MALFORMED, MALFORMED),
-    ("400304 C0000209 800E05 05 C000020B", MALFORMED, MALFORMED),
-    ("400304 C0000209 800E00", MALFORMED, MALFORMED),
-    ("400304 C0000209 800E01 00", MALFORMED, MALFORMED),
+    ("400303 C00002 800E05 04 C000020B", MALFORMED),
+    ("800E05 04 C000020B 400303 C00002", MALFORMED),
+    ("400304 C0000209 800E05 05 C000020B", MALFORMED),
+    ("400304 C0000209 800E00", MALFORMED),
+    ("400304 C0000209 800E01 00", MALFORMED),
+];
+
+/// The same, with what is shown of an IPv6 one.
+const BOTH_OF_V6: &[(&str, &str)] = &[
+    ("400304 C0000209 800E05 04 C000020B", "||192.0.2.11||||NAG|"),
+    ("800E05 04 C000020B 400304 C0000209", "||192.0.2.11||||NAG|"),
+    (
+        "400304 C0000209 800E15 0002 01 10 20010DB8000000000001000000000001 00",
+        LONG,
+    ),
+    ("400303 C00002 800E05 04 C000020B", MALFORMED),
+    ("800E05 04 C000020B 400303 C00002", MALFORMED),
+    ("400304 C0000209 800E05 05 C000020B", MALFORMED),
+    ("400304 C0000209 800E00", MALFORMED),
+    ("400304 C0000209 800E01 00", MALFORMED),
 ];
 
 /// Whole values of MP_REACH_NLRI.
-const WHOLE: [(&str, &str); 6] = [
+const WHOLE: &[(&str, &str)] = &[
     ("04 20010DB8", SHORT),
     ("10 20010DB8000000000001000000000001", LONG),
     (
@@ -113,17 +119,15 @@ fn hop_of_length(len: u8) -> &'static str {
 #[test]
 fn reads_next_hops(rt: HostRuntime) -> Result<(), Fail> {
     for family in [Family::V4, Family::V6] {
-        assert_rows(&rt, rt.alloc(), family, AsWidth::Four, &ALONE)?;
+        assert_rows(&rt, rt.alloc(), family, AsWidth::Four, ALONE)?;
     }
     Ok(())
 }
 
 #[test]
 fn chooses_a_next_hop(rt: HostRuntime) -> Result<(), Fail> {
-    for (octets, v4, v6) in BOTH {
-        assert_texts(&rt, rt.alloc(), Family::V4, AsWidth::Four, &[octets], v4)?;
-        assert_texts(&rt, rt.alloc(), Family::V6, AsWidth::Four, &[octets], v6)?;
-    }
+    assert_rows(&rt, rt.alloc(), Family::V4, AsWidth::Four, BOTH_OF_V4)?;
+    assert_rows(&rt, rt.alloc(), Family::V6, AsWidth::Four, BOTH_OF_V6)?;
     Ok(())
 }
 
@@ -159,13 +163,32 @@ fn reads_next_hops_of_three_lengths(rt: HostRuntime) -> Result<(), Fail> {
     Ok(())
 }
 
+/// Asserts what is shown of whole values with these octets behind them.
+fn assert_followed(
+    rt: &impl Abort,
+    alloc: Global,
+    behind: &str,
+    rows: &[(&str, &str)],
+) -> Result<(), WireFault> {
+    for (value, want) in rows {
+        let octets = octets_of(alloc, &[value, behind])?;
+        assert_reached(rt, alloc, Family::V6, &octets, want)?;
+    }
+    Ok(())
+}
+
 #[test]
 fn ignores_what_follows_a_next_hop(rt: HostRuntime) -> Result<(), Fail> {
-    for (value, want) in WHOLE {
-        for behind in BEHIND {
-            let octets = octets_of(rt.alloc(), &[value, behind])?;
-            assert_reached(&rt, rt.alloc(), Family::V6, &octets, want)?;
-        }
+    for behind in BEHIND {
+        assert_followed(&rt, rt.alloc(), behind, WHOLE)?;
+    }
+    Ok(())
+}
+
+/// Asserts that each front of a value is malformed.
+fn assert_fronts(rt: &impl Abort, alloc: Global, value: &[u8]) -> Result<(), WireFault> {
+    for len in 0..value.len() {
+        assert_reached(rt, alloc, Family::V4, &value[..len], MALFORMED)?;
     }
     Ok(())
 }
@@ -173,10 +196,7 @@ fn ignores_what_follows_a_next_hop(rt: HostRuntime) -> Result<(), Fail> {
 #[test]
 fn refuses_a_cut_next_hop(rt: HostRuntime) -> Result<(), Fail> {
     for (value, _) in WHOLE {
-        let octets = octets_of(rt.alloc(), &[value])?;
-        for len in 0..octets.len() {
-            assert_reached(&rt, rt.alloc(), Family::V4, &octets[..len], MALFORMED)?;
-        }
+        assert_fronts(&rt, rt.alloc(), &octets_of(rt.alloc(), &[value])?)?;
     }
     Ok(())
 }

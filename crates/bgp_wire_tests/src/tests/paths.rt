@@ -3,7 +3,7 @@
 
 use super::large::repeated;
 use super::{MALFORMED, NOTHING, assert_read, assert_rows};
-use bgp_wire::{AsPath, AsWidth, SegmentKind, WireFault, read_rib_attrs};
+use bgp_wire::{AsPath, AsWidth, Segment, SegmentKind, WireFault, read_rib_attrs};
 use ip_prefix::Family;
 use std::alloc::Global;
 use std::process::Abort;
@@ -11,7 +11,7 @@ use std::test::Fail;
 use test_octets::octets_of;
 
 /// Paths whose numbers have two octets.
-const OF_TWO: [(&str, &str); 24] = [
+const OF_TWO: &[(&str, &str)] = &[
     ("400200", NOTHING),
     (
         "400214 0302FDE9FDEA 0201FBF4 010200010002 0401FDEB",
@@ -46,7 +46,7 @@ const OF_TWO: [(&str, &str); 24] = [
 ];
 
 /// Paths whose numbers have four octets.
-const OF_FOUR: [(&str, &str); 24] = [
+const OF_FOUR: &[(&str, &str)] = &[
     ("400200", NOTHING),
     ("400206 0201 00000000", "0||||||NAG|"),
     ("400206 0201 0000FFFF", "65535||||||NAG|"),
@@ -75,7 +75,7 @@ const OF_FOUR: [(&str, &str); 24] = [
 ];
 
 /// The segments of a path, the numbers of each.
-const SEGMENTS: [(SegmentKind, &[u32]); 5] = [
+const SEGMENTS: &[(SegmentKind, &[u32])] = &[
     (SegmentKind::AsSequence, &[1, 2]),
     (SegmentKind::AsSequence, &[3]),
     (SegmentKind::ConfedSet, &[4, 4]),
@@ -88,22 +88,31 @@ fn path_of(alloc: Global, width: AsWidth, octets: &[u8]) -> Result<AsPath, WireF
     Ok(read_rib_attrs(alloc, Family::V4, width, octets)?.path)
 }
 
-/// Asserts that a path has the segments of the table.
-fn assert_segments(rt: &impl Abort, path: &AsPath) {
+/// Asserts the kind and the numbers of a segment.
+pub(super) fn assert_segment(
+    rt: &impl Abort,
+    segment: &Segment,
+    kind: SegmentKind,
+    numbers: &[u32],
+) {
+    assert_eq!(rt; segment.kind, kind);
+    assert_eq!(rt; segment.numbers.as_slice(), numbers);
+}
+
+/// Asserts that a path has these segments.
+fn assert_segments(rt: &impl Abort, path: &AsPath, rows: &[(SegmentKind, &[u32])]) {
     let segments = path.segments.as_slice();
-    assert_eq!(rt; segments.len(), SEGMENTS.len());
-    for place in 0..SEGMENTS.len() {
-        let (kind, numbers) = SEGMENTS[place];
-        assert_eq!(rt; segments[place].kind, kind);
-        assert_eq!(rt; segments[place].numbers.as_slice(), numbers);
+    assert_eq!(rt; segments.len(), rows.len());
+    for (place, (kind, numbers)) in rows.iter().enumerate() {
+        assert_segment(rt, &segments[place], *kind, numbers);
     }
 }
 
 #[test]
 fn reads_paths_of_both_widths(rt: HostRuntime) -> Result<(), Fail> {
     for family in [Family::V4, Family::V6] {
-        assert_rows(&rt, rt.alloc(), family, AsWidth::Two, &OF_TWO)?;
-        assert_rows(&rt, rt.alloc(), family, AsWidth::Four, &OF_FOUR)?;
+        assert_rows(&rt, rt.alloc(), family, AsWidth::Two, OF_TWO)?;
+        assert_rows(&rt, rt.alloc(), family, AsWidth::Four, OF_FOUR)?;
     }
     Ok(())
 }
@@ -122,7 +131,7 @@ fn keeps_segments_apart(rt: HostRuntime) -> Result<(), Fail> {
         ),
     ] {
         let octets = octets_of(rt.alloc(), &[texts])?;
-        assert_segments(&rt, &path_of(rt.alloc(), width, &octets)?);
+        assert_segments(&rt, &path_of(rt.alloc(), width, &octets)?, SEGMENTS);
     }
     Ok(())
 }

@@ -8,7 +8,7 @@ use std::process::Abort;
 use std::test::Fail;
 
 /// Communities with their texts (RFC 1997).
-const COMMUNITIES: [(&[u32], &str); 10] = [
+const COMMUNITIES: &[(&[u32], &str)] = &[
     (&[], ""),
     (&[0xFFFF_FF01], "no-export"),
     (
@@ -28,7 +28,7 @@ const COMMUNITIES: [(&[u32], &str); 10] = [
 type Path = &'static [(SegmentKind, &'static [u32])];
 
 /// Paths with their texts.
-const PATHS: [(Path, &str); 14] = [
+const PATHS: &[(Path, &str)] = &[
     (&[], ""),
     (&[(SegmentKind::AsSequence, &[1, 2, 3])], "1 2 3"),
     (&[(SegmentKind::AsSet, &[1, 2, 3])], "{1,2,3}"),
@@ -75,7 +75,7 @@ const PATHS: [(Path, &str); 14] = [
 ];
 
 /// What stands in front of a text.
-const OLD: [&str; 3] = ["", "path ", "bar|"];
+const OLD: &[&str] = &["", "path ", "bar|"];
 
 /// The path of these segments.
 fn path_of(alloc: Global, path: Path) -> Result<AsPath, AllocError> {
@@ -104,14 +104,25 @@ fn assert_whole(
     Ok(())
 }
 
+/// Asserts that the text of communities is appended to another.
+fn assert_communities_behind(
+    rt: &impl Abort,
+    alloc: Global,
+    old: &str,
+    rows: &[(&[u32], &str)],
+) -> Result<(), AllocError> {
+    for (communities, want) in rows {
+        let mut text = Vec::from_slice(alloc, old.as_bytes())?;
+        put_communities(communities, &mut text)?;
+        assert_whole(rt, alloc, &text, old, want)?;
+    }
+    Ok(())
+}
+
 #[test]
 fn appends_communities(rt: HostRuntime) -> Result<(), Fail> {
-    for (communities, want) in COMMUNITIES {
-        for old in OLD {
-            let mut text = Vec::from_slice(rt.alloc(), old.as_bytes())?;
-            put_communities(communities, &mut text)?;
-            assert_whole(&rt, rt.alloc(), &text, old, want)?;
-        }
+    for old in OLD {
+        assert_communities_behind(&rt, rt.alloc(), old, COMMUNITIES)?;
     }
     Ok(())
 }
@@ -131,29 +142,40 @@ fn assert_path(
     Ok(())
 }
 
-#[test]
-fn appends_paths(rt: HostRuntime) -> Result<(), Fail> {
-    for (path, want) in PATHS {
-        assert_path(&rt, rt.alloc(), &path_of(rt.alloc(), path)?, want)?;
+/// Asserts that the texts of paths are appended to others.
+fn assert_paths(rt: &impl Abort, alloc: Global, rows: &[(Path, &str)]) -> Result<(), AllocError> {
+    for (path, want) in rows {
+        assert_path(rt, alloc, &path_of(alloc, path)?, want)?;
     }
     Ok(())
+}
+
+#[test]
+fn appends_paths(rt: HostRuntime) -> Result<(), Fail> {
+    assert_paths(&rt, rt.alloc(), PATHS)?;
+    Ok(())
+}
+
+/// Asserts what numbers are.
+fn assert_list(rt: &impl Abort, numbers: &[u32], want: &[u32]) {
+    assert_eq!(rt; numbers, want);
 }
 
 /// Asserts that AS numbers are as they were made, a copy of them, and what is left of both.
 fn assert_numbers(rt: &impl Abort, alloc: Global, numbers: &[u32]) -> Result<(), AllocError> {
     let own = AsNumbers::from_vec(Vec::from_slice(alloc, numbers)?);
-    assert_eq!(rt; own.as_slice(), numbers);
-    assert_eq!(rt; own.clone()?.as_slice(), numbers);
-    assert_eq!(rt; own.into_vec().as_slice(), numbers);
+    assert_list(rt, own.as_slice(), numbers);
+    assert_list(rt, own.clone()?.as_slice(), numbers);
+    assert_list(rt, &own.into_vec(), numbers);
     Ok(())
 }
 
 /// The same of communities.
 fn assert_communities(rt: &impl Abort, alloc: Global, numbers: &[u32]) -> Result<(), AllocError> {
     let own = Communities::from_vec(Vec::from_slice(alloc, numbers)?);
-    assert_eq!(rt; own.as_slice(), numbers);
-    assert_eq!(rt; own.clone()?.as_slice(), numbers);
-    assert_eq!(rt; own.into_vec().as_slice(), numbers);
+    assert_list(rt, own.as_slice(), numbers);
+    assert_list(rt, own.clone()?.as_slice(), numbers);
+    assert_list(rt, &own.into_vec(), numbers);
     Ok(())
 }
 

@@ -6,7 +6,7 @@ use ip_prefix::Family;
 use std::test::Fail;
 
 /// Values that are read (RFC 4271, section 4.3; RFC 1997; RFC 6793, section 3).
-const READ: [(&str, &str); 22] = [
+const READ: &[(&str, &str)] = &[
     ("40010100", "|IGP|||||NAG|"),
     ("40010101", "|EGP|||||NAG|"),
     ("40010102", "|INCOMPLETE|||||NAG|"),
@@ -35,7 +35,7 @@ const READ: [(&str, &str); 22] = [
 ];
 
 /// Values of other lengths, and an origin that isn't known.
-const REFUSED: [&str; 26] = [
+const REFUSED: &[&str] = &[
     "400100",
     "400102 0000",
     "40010103",
@@ -65,7 +65,7 @@ const REFUSED: [&str; 26] = [
 ];
 
 /// All the attributes at once, in the order of their types, and from behind.
-const ALL: [(&str, &str); 2] = [
+const ALL: &[(&str, &str)] = &[
     (
         "40010101 400206 0201 00000001 400304 C0000209 800404 0000000A 400504 00000064 400600 \
          C00706 FBF4 C0000263 C00804 00050006",
@@ -81,7 +81,7 @@ const ALL: [(&str, &str); 2] = [
 #[test]
 fn reads_values(rt: HostRuntime) -> Result<(), Fail> {
     for width in [AsWidth::Two, AsWidth::Four] {
-        assert_rows(&rt, rt.alloc(), Family::V4, width, &READ)?;
+        assert_rows(&rt, rt.alloc(), Family::V4, width, READ)?;
     }
     Ok(())
 }
@@ -89,7 +89,7 @@ fn reads_values(rt: HostRuntime) -> Result<(), Fail> {
 #[test]
 fn refuses_values(rt: HostRuntime) -> Result<(), Fail> {
     for width in [AsWidth::Two, AsWidth::Four] {
-        assert_refused(&rt, rt.alloc(), Family::V6, width, &REFUSED)?;
+        assert_refused(&rt, rt.alloc(), Family::V6, width, REFUSED)?;
     }
     Ok(())
 }
@@ -97,7 +97,7 @@ fn refuses_values(rt: HostRuntime) -> Result<(), Fail> {
 #[test]
 fn reads_all_attributes(rt: HostRuntime) -> Result<(), Fail> {
     for family in [Family::V4, Family::V6] {
-        assert_rows(&rt, rt.alloc(), family, AsWidth::Four, &ALL)?;
+        assert_rows(&rt, rt.alloc(), family, AsWidth::Four, ALL)?;
     }
     Ok(())
 }

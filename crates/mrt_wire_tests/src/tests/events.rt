@@ -1,19 +1,27 @@
 //! What the events of sources say, and what inputs pass on.
 
 use ip_prefix::Addr;
-use mrt_wire::{Event, InFault, Input, Item, Next, Peer, ReadInput, Source, Stamp, Tag, Time};
+use mrt_wire::{
+    Event, InFault, Input, Item, Next, Peer, ReadInput, Source, SourceFault, Stamp, Tag, Time,
+};
 use std::alloc::Global;
 use std::io::{self, ErrorKind, Read};
+use std::process::Abort;
 use std::test::Fail;
 use test_octets::{STATE_CHANGE, octets_of};
+
+/// The event of an answer.
+fn event_of(answer: Result<Next, SourceFault>) -> Option<Event> {
+    match answer {
+        Ok(Next::Event(event)) => Some(event),
+        _ => None,
+    }
+}
 
 /// The first event that a source answers over octets.
 fn first_event(alloc: Global, octets: &[u8]) -> Option<Event> {
     let mut source = Source::new(alloc, Stamp::Change, 1 << 40);
-    match source.next(&mut ReadInput::new(octets)) {
-        Ok(Next::Event(event)) => Some(event),
-        _ => None,
-    }
+    event_of(source.next(&mut ReadInput::new(octets)))
 }
 
 /// The peer and the states of an only item, where that is a state change.
@@ -24,10 +32,8 @@ fn only_change(items: &[Item]) -> Option<(Peer, u16, u16)> {
     }
 }
 
-#[test]
-fn a_state_change_is_an_event(rt: HostRuntime) -> Result<(), Fail> {
-    let octets = octets_of(rt.alloc(), &[STATE_CHANGE])?;
-    let event = first_event(rt.alloc(), &octets).ok_or("an event was wanted")?;
+/// Asserts what the event of the state change says.
+fn assert_change(rt: &impl Abort, event: &Event) {
     let time = Time {
         seconds: 100,
         micros: None,
@@ -40,6 +46,13 @@ fn a_state_change_is_an_event(rt: HostRuntime) -> Result<(), Fail> {
     };
     let change = only_change(event.items.as_slice());
     assert_eq!(rt; change, Some((peer, 6, 1)));
+}
+
+#[test]
+fn a_state_change_is_an_event(rt: HostRuntime) -> Result<(), Fail> {
+    let octets = octets_of(rt.alloc(), &[STATE_CHANGE])?;
+    let event = first_event(rt.alloc(), &octets).ok_or("an event was wanted")?;
+    assert_change(&rt, &event);
     Ok(())
 }
 

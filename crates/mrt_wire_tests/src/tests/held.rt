@@ -67,24 +67,23 @@ fn next_preference<I: Input>(
     Ok(preference(&route))
 }
 
-/// The preferences of three routes that follow one another, of which the first and the last are
-/// held until all are read.
+/// The preferences of three routes behind an index, of which the first and the last are held until
+/// all are read.
 fn held_preferences<I: Input>(
     source: &mut Source,
     input: &mut I,
 ) -> Result<[Option<u32>; 3], AllocError> {
+    next_preference(source, input)?;
     let first = next_route(source, input)?;
     let second = next_preference(source, input)?;
     let third = next_route(source, input)?;
     Ok([preference(&first), second, preference(&third)])
 }
 
-/// Those of the routes behind an index.
+/// Those of a source over octets.
 fn preferences(alloc: Global, octets: &[u8]) -> Result<[Option<u32>; 3], AllocError> {
-    let mut input = ReadInput::new(octets);
     let mut source = Source::new(alloc, Stamp::Dump, 1 << 40);
-    next_preference(&mut source, &mut input)?;
-    held_preferences(&mut source, &mut input)
+    held_preferences(&mut source, &mut ReadInput::new(octets))
 }
 
 #[test]

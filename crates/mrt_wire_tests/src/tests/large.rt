@@ -3,7 +3,7 @@
 
 use super::messages::message_of;
 use super::shown::{assert_octets, put_record, records_of, shown_item};
-use mrt_wire::{Event, Item, Items, Next, ReadInput, Route, Shared, Source, Stamp};
+use mrt_wire::{Event, Item, Items, Next, ReadInput, Shared, Source, SourceFault, Stamp};
 use std::alloc::{AllocError, Global};
 use std::process::Abort;
 use std::rc::Rc;
@@ -27,14 +27,10 @@ fn put_repeated(
     Ok(())
 }
 
-/// Reads the next event in place of another, and answers whether there was one. There is no answer
-/// where a record or the source has a fault.
-fn read_event(
-    source: &mut Source,
-    input: &mut ReadInput<&[u8]>,
-    last: &mut Option<Event>,
-) -> Option<bool> {
-    match source.next(input) {
+/// Puts the event of an answer in place of another, and answers whether there was one. There is no
+/// answer where a record or the source has a fault.
+fn put_event(answer: Result<Next, SourceFault>, last: &mut Option<Event>) -> Option<bool> {
+    match answer {
         Ok(Next::Event(event)) => {
             *last = Some(event);
             Some(true)
@@ -44,17 +40,56 @@ fn read_event(
     }
 }
 
-/// The last event of a source over the octets, where it answers events alone up to the end.
-fn last_event(alloc: Global, octets: &[u8]) -> Option<Event> {
-    let mut source = Source::new(alloc, Stamp::Dump, 1 << 40);
-    let mut input = ReadInput::new(octets);
-    let mut last = None;
+/// Reads on to the last event, where events alone are answered up to the end.
+fn read_events(
+    source: &mut Source,
+    input: &mut ReadInput<&[u8]>,
+    last: &mut Option<Event>,
+) -> Option<()> {
     for _ in 0..4 {
-        if !read_event(&mut source, &mut input, &mut last)? {
+        if !put_event(source.next(input), last)? {
             break;
         }
     }
+    Some(())
+}
+
+/// The last event of a source over the octets, where it answers events alone up to the end.
+fn last_event(alloc: Global, octets: &[u8]) -> Option<Event> {
+    let mut source = Source::new(alloc, Stamp::Dump, 1 << 40);
+    let mut last = None;
+    read_events(&mut source, &mut ReadInput::new(octets), &mut last)?;
     last
+}
+
+/// The items of an event, where there is one.
+fn items_of(event: &Option<Event>) -> &[Item] {
+    match event {
+        Some(event) => event.items.as_slice(),
+        None => &[],
+    }
+}
+
+/// What the last of items says.
+fn last_shown(alloc: Global, items: &[Item]) -> Result<Vec<u8>, AllocError> {
+    match items.last() {
+        Some(item) => shown_item(alloc, item),
+        None => Ok(Vec::new(alloc)),
+    }
+}
+
+/// Asserts how many items there are, and what the last of them says.
+fn assert_items(
+    rt: &impl Abort,
+    alloc: Global,
+    items: &[Item],
+    count: usize,
+    want: &str,
+) -> Result<(), AllocError> {
+    assert_eq!(rt; items.len(), count);
+    let text = last_shown(alloc, items)?;
+    assert_eq!(rt; text.as_slice(), want.as_bytes(), "{want}");
+    Ok(())
 }
 
 /// Asserts how many items the last event over the octets has, and what the last of them says.
@@ -64,13 +99,9 @@ fn assert_last(
     octets: &[u8],
     count: usize,
     want: &str,
-) -> Result<(), Fail> {
-    let event = last_event(alloc, octets).ok_or("an event was wanted")?;
-    let items = event.items.as_slice();
-    assert_eq!(rt; items.len(), count);
-    let text = shown_item(alloc, items.last().ok_or("an item was wanted")?)?;
-    assert_eq!(rt; text.as_slice(), want.as_bytes(), "{want}");
-    Ok(())
+) -> Result<(), AllocError> {
+    let event = last_event(alloc, octets);
+    assert_items(rt, alloc, items_of(&event), count, want)
 }
 
 /// An index of the peers 192.0.2.1 of AS 64500 and 192.0.2.2 of AS 64501.
@@ -111,7 +142,8 @@ fn indexes_have_many_peers(rt: HostRuntime) -> Result<(), Fail> {
     put_record(&index_of_many(rt.alloc())?, &mut octets)?;
     put_record(&octets_of(rt.alloc(), &[entry])?, &mut octets)?;
     let want = "+192.0.2.2 64501 10.0.0.0/8 at 200";
-    assert_last(&rt, rt.alloc(), &octets, 1, want)
+    assert_last(&rt, rt.alloc(), &octets, 1, want)?;
+    Ok(())
 }
 
 /// The record of an UPDATE that announces so many times one prefix, and then another.
@@ -132,7 +164,17 @@ fn announcing(
 
 /// A prefix and how many times it is announced, a last prefix, how many octets the record takes,
 /// how many items the event has, and what the last of them says.
-const ANNOUNCED: [(&str, usize, &str, usize, usize, &str); 4] = [
+type Announced = (
+    &'static str,
+    usize,
+    &'static str,
+    usize,
+    usize,
+    &'static str,
+);
+
+/// UPDATEs that announce many prefixes.
+const ANNOUNCED: &[Announced] = &[
     // 10,000 prefixes, and messages of 4,096 and of 65,535 octets. Those before a message are 28.
     (
         "080A",
@@ -168,14 +210,19 @@ const ANNOUNCED: [(&str, usize, &str, usize, usize, &str); 4] = [
     ),
 ];
 
+/// Asserts the last event of UPDATEs with many prefixes.
+fn assert_announced(rt: &impl Abort, alloc: Global, rows: &[Announced]) -> Result<(), AllocError> {
+    for (prefix, count, last, size, items, want) in rows {
+        let octets = announcing(alloc, prefix, *count, last)?;
+        assert_eq!(rt; octets.len(), *size);
+        assert_last(rt, alloc, &octets, *items, want)?;
+    }
+    Ok(())
+}
+
 #[test]
 fn updates_have_many_prefixes(rt: HostRuntime) -> Result<(), Fail> {
-    let alloc = rt.alloc();
-    for (prefix, count, last, size, items, want) in ANNOUNCED {
-        let octets = announcing(alloc, prefix, count, last)?;
-        assert_eq!(rt; octets.len(), size);
-        assert_last(&rt, alloc, octets.as_slice(), items, want)?;
-    }
+    assert_announced(&rt, rt.alloc(), ANNOUNCED)?;
     Ok(())
 }
 
@@ -213,6 +260,26 @@ fn sharers(alloc: Global, items: &[Item], other: &Item) -> Result<Vec<u8>, Alloc
     Ok(shared)
 }
 
+/// Asserts which items share the route of one of them.
+fn assert_sharers(
+    rt: &impl Abort,
+    alloc: Global,
+    items: &[Item],
+    item: &Item,
+    want: &str,
+) -> Result<(), AllocError> {
+    let shared = sharers(alloc, items, item)?;
+    assert_eq!(rt; shared.as_slice(), want.as_bytes());
+    Ok(())
+}
+
+/// Asserts that of five items the first three share a route, and the last two another.
+fn assert_routes(rt: &impl Abort, alloc: Global, items: &[Item]) -> Result<(), AllocError> {
+    assert_eq!(rt; items.len(), 5);
+    assert_sharers(rt, alloc, items, &items[0], "11100")?;
+    assert_sharers(rt, alloc, items, &items[4], "00011")
+}
+
 #[test]
 fn prefixes_of_one_list_share_their_route(rt: HostRuntime) -> Result<(), Fail> {
     // three prefixes, and two of MP_REACH_NLRI
@@ -220,18 +287,13 @@ fn prefixes_of_one_list_share_their_route(rt: HostRuntime) -> Result<(), Fail> {
          FFFFFFFFFFFFFFFFFFFFFFFFFFFFFFFF 002B 02 0000 000F \
          800E0C 000101 04 C000020B 00 00 080A 00 080B 080C";
     let octets = records_of(rt.alloc(), &[record])?;
-    let event = last_event(rt.alloc(), &octets).ok_or("an event was wanted")?;
-    let items = event.items.as_slice();
-    assert_eq!(rt; items.len(), 5);
-    for (place, want) in [(0, "11100"), (4, "00011")] {
-        let shared = sharers(rt.alloc(), items, &items[place])?;
-        assert_eq!(rt; shared.as_slice(), want.as_bytes());
-    }
+    let event = last_event(rt.alloc(), &octets);
+    assert_routes(&rt, rt.alloc(), items_of(&event))?;
     Ok(())
 }
 
 /// Records, and which of the items of each are known to share a route.
-const SHARED: [(&str, usize, usize); 3] = [
+const SHARED: &[(&str, usize, usize)] = &[
     // a withdrawal, three prefixes, and two of MP_REACH_NLRI
     (
         "0010 0001 FBF4 FBF5 0000 0001 C0000201 C0000202 \
@@ -268,7 +330,11 @@ fn events_tell_which_items_share_a_route(rt: HostRuntime) -> Result<(), Fail> {
     for (record, start, end) in SHARED {
         let octets = records_of(rt.alloc(), &[record])?;
         let event = last_event(rt.alloc(), &octets).ok_or("an event was wanted")?;
-        assert_shared(&rt, event.items, Shared { start, end });
+        let want = Shared {
+            start: *start,
+            end: *end,
+        };
+        assert_shared(&rt, event.items, want);
     }
     Ok(())
 }

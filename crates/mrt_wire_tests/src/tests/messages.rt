@@ -146,12 +146,22 @@ const UPDATES: &[(&str, &[&str], &str, &str)] = &[
     ("", &["800F03 000201"], "", "200 session; end"),
 ];
 
+/// Asserts what is answered of UPDATEs.
+fn assert_updates(
+    rt: &impl Abort,
+    alloc: Global,
+    rows: &[(&str, &[&str], &str, &str)],
+) -> Result<(), AllocError> {
+    for (withdrawn, attributes, announced, want) in rows {
+        let record = update_of(alloc, SESSION, withdrawn, attributes, announced)?;
+        assert_record(rt, alloc, &record, want)?;
+    }
+    Ok(())
+}
+
 #[test]
 fn updates_have_items_in_order(rt: HostRuntime) -> Result<(), Fail> {
-    for (withdrawn, attributes, announced, want) in UPDATES {
-        let record = update_of(rt.alloc(), SESSION, withdrawn, attributes, announced)?;
-        assert_record(&rt, rt.alloc(), &record, want)?;
-    }
+    assert_updates(&rt, rt.alloc(), UPDATES)?;
     Ok(())
 }
 
@@ -199,17 +209,27 @@ const PEERS_AND_WIDTHS: &[(&str, &str, &str)] = &[
     (AS4_SESSION, "400204 0201 FBF4", "1 0 Malformed; end"),
 ];
 
-#[test]
-fn messages_have_peers_and_widths(rt: HostRuntime) -> Result<(), Fail> {
-    for (session, attributes, want) in PEERS_AND_WIDTHS {
-        let record = update_of(rt.alloc(), session, "", &[attributes], "080A")?;
-        assert_record(&rt, rt.alloc(), &record, want)?;
+/// Asserts what is answered of the UPDATEs of sessions.
+fn assert_sessions(
+    rt: &impl Abort,
+    alloc: Global,
+    rows: &[(&str, &str, &str)],
+) -> Result<(), AllocError> {
+    for (session, attributes, want) in rows {
+        let record = update_of(alloc, session, "", &[attributes], "080A")?;
+        assert_record(rt, alloc, &record, want)?;
     }
     Ok(())
 }
 
+#[test]
+fn messages_have_peers_and_widths(rt: HostRuntime) -> Result<(), Fail> {
+    assert_sessions(&rt, rt.alloc(), PEERS_AND_WIDTHS)?;
+    Ok(())
+}
+
 /// The sessions.
-const SESSIONS: [&str; 4] = [SESSION, AS4_SESSION, IPV6_SESSION, IPV6_AS4_SESSION];
+const SESSIONS: &[&str] = &[SESSION, AS4_SESSION, IPV6_SESSION, IPV6_AS4_SESSION];
 
 /// Asserts that messages of other types have no items, whatever their body.
 fn assert_no_items(

@@ -39,12 +39,18 @@ const WHOLE: &[(&str, &str)] = &[
     ),
 ];
 
+/// Asserts what is answered of whole records.
+fn assert_whole(rt: &impl Abort, alloc: Global, rows: &[(&str, &str)]) -> Result<(), AllocError> {
+    for (record, want) in rows {
+        let octets = octets_of(alloc, &[record])?;
+        assert_octets(rt, alloc, Stamp::Change, &octets, want)?;
+    }
+    Ok(())
+}
+
 #[test]
 fn whole_records_are_read(rt: HostRuntime) -> Result<(), Fail> {
-    for (record, want) in WHOLE {
-        let octets = octets_of(rt.alloc(), &[record])?;
-        assert_octets(&rt, rt.alloc(), Stamp::Change, &octets, want)?;
-    }
+    assert_whole(&rt, rt.alloc(), WHOLE)?;
     Ok(())
 }
 
@@ -90,7 +96,7 @@ fn state_changes_are_read(rt: HostRuntime) -> Result<(), Fail> {
 }
 
 /// What stands behind any microseconds, by subtype, and the item that it makes.
-const HAPPENINGS: [(&str, &str, &str); 4] = [
+const HAPPENINGS: &[(&str, &str, &str)] = &[
     (
         "0000",
         "FBF4 FBF5 0000 0001 C0000201 C0000202 0006 0001",
@@ -117,52 +123,72 @@ const HAPPENINGS: [(&str, &str, &str); 4] = [
 ];
 
 /// Microseconds that are read, with their texts.
-const MICROS: [(&str, &str); 3] = [("00000000", "0"), ("00000005", "5"), ("000F423F", "999999")];
+const MICROS: &[(&str, &str)] = &[("00000000", "0"), ("00000005", "5"), ("000F423F", "999999")];
 
 /// Microseconds that are too many.
-const TOO_MANY: [&str; 4] = ["000F4240", "000F4241", "010F423F", "FFFFFFFF"];
+const TOO_MANY: &[&str] = &["000F4240", "000F4241", "010F423F", "FFFFFFFF"];
 
-/// Asserts what is answered of a record with these microseconds.
+/// Asserts what is answered of records with these microseconds.
 fn assert_micros(
     rt: &impl Abort,
     alloc: Global,
-    happening: (&str, &str, &str),
     micros: &str,
     shown: &str,
+    rows: &[(&str, &str, &str)],
 ) -> Result<(), AllocError> {
-    let (subtype, rest, item) = happening;
-    let want = format!(in alloc; "200.{shown} timed session{item}; end")?;
-    assert_texts(rt, alloc, &["0011", subtype, micros, rest], want.as_str())
+    for (subtype, rest, item) in rows {
+        let want = format!(in alloc; "200.{shown} timed session{item}; end")?;
+        assert_texts(rt, alloc, &["0011", subtype, micros, rest], want.as_str())?;
+    }
+    Ok(())
 }
 
 #[test]
 fn microseconds_are_below_a_million(rt: HostRuntime) -> Result<(), Fail> {
-    for happening in HAPPENINGS {
-        for (micros, shown) in MICROS {
-            assert_micros(&rt, rt.alloc(), happening, micros, shown)?;
-        }
+    for (micros, shown) in MICROS {
+        assert_micros(&rt, rt.alloc(), micros, shown, HAPPENINGS)?;
+    }
+    Ok(())
+}
+
+/// Asserts that records with these microseconds are malformed.
+fn assert_too_many(
+    rt: &impl Abort,
+    alloc: Global,
+    micros: &str,
+    rows: &[(&str, &str, &str)],
+) -> Result<(), AllocError> {
+    for (subtype, rest, _) in rows {
+        let texts = ["0011", subtype, micros, rest];
+        assert_texts(rt, alloc, &texts, "1 0 Malformed; end")?;
     }
     Ok(())
 }
 
 #[test]
 fn a_million_microseconds_are_malformed(rt: HostRuntime) -> Result<(), Fail> {
-    for (subtype, rest, _) in HAPPENINGS {
-        for micros in TOO_MANY {
-            let texts = ["0011", subtype, micros, rest];
-            assert_texts(&rt, rt.alloc(), &texts, "1 0 Malformed; end")?;
-        }
+    for micros in TOO_MANY {
+        assert_too_many(&rt, rt.alloc(), micros, HAPPENINGS)?;
+    }
+    Ok(())
+}
+
+/// Asserts what is answered of records without microseconds.
+fn assert_untimed(
+    rt: &impl Abort,
+    alloc: Global,
+    rows: &[(&str, &str, &str)],
+) -> Result<(), AllocError> {
+    for (subtype, rest, item) in rows {
+        let want = format!(in alloc; "200 session{item}; end")?;
+        assert_texts(rt, alloc, &["0010", subtype, rest], want.as_str())?;
     }
     Ok(())
 }
 
 #[test]
 fn records_without_microseconds_have_none(rt: HostRuntime) -> Result<(), Fail> {
-    let alloc = rt.alloc();
-    for (subtype, rest, item) in HAPPENINGS {
-        let want = format!(in alloc; "200 session{item}; end")?;
-        assert_texts(&rt, alloc, &["0010", subtype, rest], want.as_str())?;
-    }
+    assert_untimed(&rt, rt.alloc(), HAPPENINGS)?;
     Ok(())
 }
 
@@ -175,14 +201,25 @@ fn assert_fronts(rt: &impl Abort, alloc: Global, record: &[u8]) -> Result<(), Al
     Ok(())
 }
 
+/// The same of records of this type, with these microseconds.
+fn assert_cut(
+    rt: &impl Abort,
+    alloc: Global,
+    kind: &str,
+    micros: &str,
+    rows: &[(&str, &str, &str)],
+) -> Result<(), AllocError> {
+    for (subtype, rest, _) in rows {
+        let record = octets_of(alloc, &[kind, subtype, micros, rest])?;
+        assert_fronts(rt, alloc, &record)?;
+    }
+    Ok(())
+}
+
 #[test]
 fn cut_bodies_are_malformed(rt: HostRuntime) -> Result<(), Fail> {
-    for (subtype, rest, _) in HAPPENINGS {
-        for (kind, micros) in [("0010", ""), ("0011", "00000005")] {
-            let record = octets_of(rt.alloc(), &[kind, subtype, micros, rest])?;
-            assert_fronts(&rt, rt.alloc(), &record)?;
-        }
-    }
+    assert_cut(&rt, rt.alloc(), "0010", "", HAPPENINGS)?;
+    assert_cut(&rt, rt.alloc(), "0011", "00000005", HAPPENINGS)?;
     Ok(())
 }
 
@@ -208,13 +245,23 @@ const AROUND_FAMILIES: &[(&str, &str)] = &[
     ),
 ];
 
+/// Asserts that records of this address family are malformed.
+fn assert_no_family(
+    rt: &impl Abort,
+    alloc: Global,
+    family: &str,
+    rows: &[(&str, &str)],
+) -> Result<(), AllocError> {
+    for (front, rest) in rows {
+        assert_texts(rt, alloc, &[front, family, rest], "1 0 Malformed; end")?;
+    }
+    Ok(())
+}
+
 #[test]
 fn other_families_are_malformed(rt: HostRuntime) -> Result<(), Fail> {
-    for (front, rest) in AROUND_FAMILIES {
-        for family in ["0000", "0003", "0100", "0101", "0200", "0102", "FFFF"] {
-            let want = "1 0 Malformed; end";
-            assert_texts(&rt, rt.alloc(), &[front, family, rest], want)?;
-        }
+    for family in ["0000", "0003", "0100", "0101", "0200", "0102", "FFFF"] {
+        assert_no_family(&rt, rt.alloc(), family, AROUND_FAMILIES)?;
     }
     Ok(())
 }

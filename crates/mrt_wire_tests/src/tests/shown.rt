@@ -1,7 +1,9 @@
 //! Records of octets that are written in hexadecimal, and what a source answers over them, as text.
 
 use ip_prefix::{Prefix, put_decimal};
-use mrt_wire::{Event, Item, Next, Peer, ReadInput, RecordFault, Route, Source, Stamp, Tag};
+use mrt_wire::{
+    Event, Item, Next, Peer, ReadInput, RecordFault, Route, Source, SourceFault, Stamp, Tag,
+};
 use std::alloc::{AllocError, Global};
 use std::process::Abort;
 use test_octets::octets_of;
@@ -124,49 +126,61 @@ fn put_fault(alloc: Global, fault: &RecordFault, text: &mut Vec<u8>) -> Result<(
     text.extend_from_slice(shown.as_bytes())
 }
 
-/// Appends what a source answered, and answers whether it goes on.
-fn put_answer(alloc: Global, next: &Next, text: &mut Vec<u8>) -> Result<bool, AllocError> {
-    match next {
-        Next::Event(event) => put_event(event, text)?,
-        Next::Bad(fault) => put_fault(alloc, fault, text)?,
-        Next::End => {
+/// Appends what a source answered, and answers whether it goes on. It doesn't behind a fault of its
+/// own, of which nothing is appended.
+fn put_answer(
+    alloc: Global,
+    answer: &Result<Next, SourceFault>,
+    text: &mut Vec<u8>,
+) -> Result<bool, AllocError> {
+    match answer {
+        Ok(Next::Event(event)) => put_event(event, text)?,
+        Ok(Next::Bad(fault)) => put_fault(alloc, fault, text)?,
+        Ok(Next::End) => {
             text.extend_from_slice(b"end")?;
             return Ok(false);
         }
+        Err(_) => return Ok(false),
     }
     text.extend_from_slice(b"; ")?;
     Ok(true)
 }
 
-/// Appends what a source answers next, and answers whether it goes on. It doesn't behind a fault of
-/// its own.
+/// Appends what a source answers next, and answers whether it goes on.
 fn put_next(
     alloc: Global,
     source: &mut Source,
     input: &mut ReadInput<&[u8]>,
     text: &mut Vec<u8>,
 ) -> Result<bool, AllocError> {
-    match source.next(input) {
-        Ok(next) => put_answer(alloc, &next, text),
-        Err(_) => Ok(false),
-    }
+    let answer = source.next(input);
+    put_answer(alloc, &answer, text)
 }
 
-/// Appends what a source answers over the octets up to the end, or up to a fault of its own.
+/// Appends what a source answers up to the end, or up to a fault of its own.
 fn put_answers(
+    alloc: Global,
+    source: &mut Source,
+    input: &mut ReadInput<&[u8]>,
+    text: &mut Vec<u8>,
+) -> Result<(), AllocError> {
+    for _ in 0..MOST_ANSWERS {
+        if !put_next(alloc, source, input, text)? {
+            break;
+        }
+    }
+    Ok(())
+}
+
+/// Appends what a source answers over octets.
+fn put_shown(
     alloc: Global,
     stamp: Stamp,
     octets: &[u8],
     text: &mut Vec<u8>,
 ) -> Result<(), AllocError> {
     let mut source = Source::new(alloc, stamp, 1 << 40);
-    let mut input = ReadInput::new(octets);
-    for _ in 0..MOST_ANSWERS {
-        if !put_next(alloc, &mut source, &mut input, text)? {
-            break;
-        }
-    }
-    Ok(())
+    put_answers(alloc, &mut source, &mut ReadInput::new(octets), text)
 }
 
 /// Asserts what a source answers over octets.
@@ -178,7 +192,7 @@ pub(super) fn assert_octets(
     want: &str,
 ) -> Result<(), AllocError> {
     let mut text = Vec::new(alloc);
-    put_answers(alloc, stamp, octets, &mut text)?;
+    put_shown(alloc, stamp, octets, &mut text)?;
     assert_eq!(rt; text.as_slice(), want.as_bytes(), "{want}");
     Ok(())
 }

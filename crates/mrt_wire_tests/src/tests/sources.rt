@@ -57,6 +57,21 @@ fn assert_next<I: Input>(
     Ok(())
 }
 
+/// Asserts what a source answers by and by.
+fn assert_all<I: Input>(
+    rt: &impl Abort,
+    alloc: Global,
+    source: &mut Source,
+    input: &mut I,
+    want: &[&str],
+) -> Result<(), AllocError> {
+    assert_eq!(rt; source.offset(), 0);
+    for text in want {
+        assert_next(rt, alloc, source, input, text)?;
+    }
+    Ok(())
+}
+
 /// Asserts what a source answers to as many calls as there are answers.
 fn assert_answers<I: Input>(
     rt: &impl Abort,
@@ -66,15 +81,11 @@ fn assert_answers<I: Input>(
     want: &[&str],
 ) -> Result<(), AllocError> {
     let mut source = Source::new(alloc, Stamp::Dump, limit);
-    assert_eq!(rt; source.offset(), 0);
-    for text in want {
-        assert_next(rt, alloc, &mut source, input, text)?;
-    }
-    Ok(())
+    assert_all(rt, alloc, &mut source, input, want)
 }
 
 /// Octets, and what a source with a far limit answers to calls one behind the other.
-const WHOLE: [(&str, [&str; 4]); 7] = [
+const WHOLE: &[(&str, [&str; 4])] = &[
     ("", ["end at 0", "end at 0", "end at 0", "end at 0"]),
     (
         STATE_CHANGE,
@@ -141,16 +152,26 @@ fn assert_whole(
     assert_answers(rt, alloc, FAR, &mut SlowInput::new(octets, 1, MANY), want)
 }
 
-#[test]
-fn sources_read_to_the_end(rt: HostRuntime) -> Result<(), Fail> {
-    for (texts, want) in WHOLE {
-        assert_whole(&rt, rt.alloc(), &octets_of(rt.alloc(), &[texts])?, &want)?;
+/// Asserts the same over the octets of each row.
+fn assert_rows(
+    rt: &impl Abort,
+    alloc: Global,
+    rows: &[(&str, [&str; 4])],
+) -> Result<(), AllocError> {
+    for (texts, want) in rows {
+        assert_whole(rt, alloc, &octets_of(alloc, &[texts])?, want)?;
     }
     Ok(())
 }
 
+#[test]
+fn sources_read_to_the_end(rt: HostRuntime) -> Result<(), Fail> {
+    assert_rows(&rt, rt.alloc(), WHOLE)?;
+    Ok(())
+}
+
 /// How many octets are sound, a limit, and what a source answers to calls over two state changes.
-const STOPPED: [(usize, u64, [&str; 4]); 6] = [
+const STOPPED: &[(usize, u64, [&str; 4])] = &[
     (
         0,
         FAR,
@@ -193,16 +214,26 @@ const STOPPED: [(usize, u64, [&str; 4]); 6] = [
     ),
 ];
 
+/// Asserts what sources answer over octets that are given in such steps.
+fn assert_stopped(
+    rt: &impl Abort,
+    alloc: Global,
+    octets: &[u8],
+    step: usize,
+    rows: &[(usize, u64, [&str; 4])],
+) -> Result<(), AllocError> {
+    for (sound, limit, want) in rows {
+        let mut input = SlowInput::new(octets, step, *sound);
+        assert_answers(rt, alloc, *limit, &mut input, want)?;
+    }
+    Ok(())
+}
+
 #[test]
 fn faults_and_limits_stop_sources(rt: HostRuntime) -> Result<(), Fail> {
-    let alloc = rt.alloc();
-    let octets = octets_of(alloc, &[STATE_CHANGE, STATE_CHANGE])?;
-    for (sound, limit, want) in STOPPED {
-        for step in [1, MANY] {
-            let mut input = SlowInput::new(&octets, step, sound);
-            assert_answers(&rt, alloc, limit, &mut input, &want)?;
-        }
-    }
+    let octets = octets_of(rt.alloc(), &[STATE_CHANGE, STATE_CHANGE])?;
+    assert_stopped(&rt, rt.alloc(), &octets, 1, STOPPED)?;
+    assert_stopped(&rt, rt.alloc(), &octets, MANY, STOPPED)?;
     Ok(())
 }
 
