@@ -41,6 +41,19 @@ fn prefix_of(text: &str) -> Result<Prefix, Fail> {
     Ok(Prefix::parse(text.as_bytes()).ok_or("a prefix")?)
 }
 
+/// The address that the text spells.
+fn addr_of(text: &str) -> Result<Addr, Fail> {
+    Ok(Addr::parse(text.as_bytes()).ok_or("an address")?)
+}
+
+/// The prefix that the text spells, and its route.
+fn found_of(want: Option<(&str, u32)>) -> Result<Option<(Prefix, u32)>, Fail> {
+    match want {
+        Some((text, route)) => Ok(Some((prefix_of(text)?, route))),
+        None => Ok(None),
+    }
+}
+
 /// The longest prefix with a route that contains the address, and a copy of its route.
 fn longest<S: PrefixStore<u32>>(store: &S, addr: &Addr) -> Option<(Prefix, u32)> {
     match store.longest(addr) {
@@ -84,6 +97,18 @@ fn add<S: PrefixStore<u32>>(
     Ok(())
 }
 
+/// Makes the prefixes keys with these routes.
+fn add_rows<S: PrefixStore<u32>>(
+    rt: &impl Abort,
+    store: &mut S,
+    rows: &[(&str, Option<u32>)],
+) -> Result<(), Fail> {
+    for (text, route) in rows {
+        add(rt, store, &prefix_of(text)?, *route)?;
+    }
+    Ok(())
+}
+
 /// Discards a key that has no route.
 fn take_away<S: PrefixStore<u32>>(rt: &impl Abort, store: &mut S, prefix: &Prefix) {
     assert!(rt; store.has_key(prefix));
@@ -98,47 +123,50 @@ fn assert_counts<S: PrefixStore<u32>>(rt: &impl Abort, store: &S, keys: u64, rou
     assert_eq!(rt; store.route_count(), routes);
 }
 
-fn keys_come_and_go<S: PrefixStore<u32>>(rt: &impl Abort, mut store: S) -> Result<(), Fail> {
+fn keys_come_and_go<S: PrefixStore<u32>>(rt: &impl Abort, store: &mut S) -> Result<(), Fail> {
     let prefix = prefix_of("10.0.0.0/8")?;
-    assert_counts(rt, &store, 0, 0);
+    assert_counts(rt, store, 0, 0);
     assert!(rt; store.ensure(prefix)?);
     assert!(rt; !store.ensure(prefix)?);
-    assert_counts(rt, &store, 1, 0);
-    take_away(rt, &mut store, &prefix);
-    assert_counts(rt, &store, 0, 0);
+    assert_counts(rt, store, 1, 0);
+    take_away(rt, store, &prefix);
+    assert_counts(rt, store, 0, 0);
     assert!(rt; store.ensure(prefix)?);
     Ok(())
 }
 
 #[test]
 fn map_store_keys_come_and_go(rt: HostRuntime) -> Result<(), Fail> {
-    keys_come_and_go(&rt, MapStore::new(rt.alloc()))
+    keys_come_and_go(&rt, &mut MapStore::new(rt.alloc()))
 }
 
 #[test]
 fn radix_store_keys_come_and_go(rt: HostRuntime) -> Result<(), Fail> {
-    keys_come_and_go(&rt, RadixStore::new(rt.alloc()))
+    keys_come_and_go(&rt, &mut RadixStore::new(rt.alloc()))
 }
 
 #[test]
 fn left_store_keys_come_and_go(rt: HostRuntime) -> Result<(), Fail> {
-    keys_come_and_go(&rt, LeftStore::<MapStore<u32>>::new(rt.alloc()))
+    keys_come_and_go(&rt, &mut LeftStore::<MapStore<u32>>::new(rt.alloc()))
 }
 
-fn routes_change_places<S: PrefixStore<u32>>(rt: &impl Abort, mut store: S) -> Result<(), Fail> {
+/// Routes that a key is given one after another, which one it had, and how many there are then.
+const GIVEN: [(Option<u32>, Option<u32>, u64); 6] = [
+    (None, None, 1),
+    (Some(1), None, 2),
+    (Some(2), Some(1), 2),
+    (None, Some(2), 1),
+    (None, None, 1),
+    (Some(3), None, 2),
+];
+
+fn routes_change_places<S: PrefixStore<u32>>(rt: &impl Abort, store: &mut S) -> Result<(), Fail> {
     let prefix = prefix_of("192.0.2.0/24")?;
-    add(rt, &mut store, &prefix_of("192.0.2.0/25")?, Some(9))?;
+    add(rt, store, &prefix_of("192.0.2.0/25")?, Some(9))?;
     assert!(rt; store.ensure(prefix)?);
-    for (route, had, routes) in [
-        (None, None, 1),
-        (Some(1), None, 2),
-        (Some(2), Some(1), 2),
-        (None, Some(2), 1),
-        (None, None, 1),
-        (Some(3), None, 2),
-    ] {
-        assert_had(rt, &mut store, &prefix, route, had);
-        assert_counts(rt, &store, 2, routes);
+    for (route, had, routes) in GIVEN {
+        assert_had(rt, store, &prefix, route, had);
+        assert_counts(rt, store, 2, routes);
     }
     assert!(rt; !store.ensure(prefix)?);
     assert_eq!(rt; store.get(&prefix).copied(), Some(3));
@@ -147,12 +175,12 @@ fn routes_change_places<S: PrefixStore<u32>>(rt: &impl Abort, mut store: S) -> R
 
 #[test]
 fn map_store_routes_change_places(rt: HostRuntime) -> Result<(), Fail> {
-    routes_change_places(&rt, MapStore::new(rt.alloc()))
+    routes_change_places(&rt, &mut MapStore::new(rt.alloc()))
 }
 
 #[test]
 fn radix_store_routes_change_places(rt: HostRuntime) -> Result<(), Fail> {
-    routes_change_places(&rt, RadixStore::new(rt.alloc()))
+    routes_change_places(&rt, &mut RadixStore::new(rt.alloc()))
 }
 
 /// The IPv4 prefix of 16 bits that begins with 10 and this number.
@@ -189,24 +217,24 @@ fn assert_grown<S: PrefixStore<u32>>(rt: &impl Abort, store: &S, count: u8) -> R
 /// Where a growth is refused, as by `rt try --test --fail-alloc`, keys, routes and nodes stay.
 fn a_refused_key_leaves<S: PrefixStore<u32> + HasNodes>(
     rt: &impl Abort,
-    mut store: S,
+    store: &mut S,
 ) -> Result<(), Fail> {
     for number in 0..64u8 {
         let prefix = sixteen(number)?;
-        grow(rt, &mut store, prefix)?;
-        assert_had(rt, &mut store, &prefix, Some(u32::from(number)), None);
-        assert_grown(rt, &store, number)?;
+        grow(rt, store, prefix)?;
+        assert_had(rt, store, &prefix, Some(u32::from(number)), None);
+        assert_grown(rt, store, number)?;
     }
-    assert_counts(rt, &store, 64, 64);
+    assert_counts(rt, store, 64, 64);
     Ok(())
 }
 
 #[test]
 fn a_refused_key_leaves_the_map_store(rt: HostRuntime) -> Result<(), Fail> {
-    a_refused_key_leaves(&rt, MapStore::new(rt.alloc()))
+    a_refused_key_leaves(&rt, &mut MapStore::new(rt.alloc()))
 }
 
 #[test]
 fn a_refused_key_leaves_the_radix_store(rt: HostRuntime) -> Result<(), Fail> {
-    a_refused_key_leaves(&rt, RadixStore::new(rt.alloc()))
+    a_refused_key_leaves(&rt, &mut RadixStore::new(rt.alloc()))
 }

@@ -4,7 +4,6 @@ use super::listed::Listed;
 use super::{HasNodes, after, longest};
 use ip_prefix::{Addr, Prefix};
 use rib_store::{LeftStore, MapStore, PrefixStore, RadixStore};
-use std::alloc::Global;
 use std::process::Abort;
 use std::test::Fail;
 
@@ -158,38 +157,46 @@ fn take_all_out<S: PrefixStore<u32> + HasNodes>(
     Ok(())
 }
 
-fn answers_as_a_list_does<S: PrefixStore<u32> + HasNodes>(
+/// Makes drawn changes to both stores, and asserts behind each that they answer alike.
+fn change_all<S: PrefixStore<u32> + HasNodes>(
     rt: &impl Abort,
-    alloc: Global,
-    mut store: S,
+    store: &mut S,
+    listed: &mut Listed,
 ) -> Result<(), Fail> {
-    let mut listed = Listed::new(alloc);
     let mut drawn = Drawn::new(1);
     for _ in 0..CALLS {
         let prefix = drawn.prefix()?;
-        change(rt, &mut store, &mut listed, &prefix, drawn.route())?;
-        compare(rt, &store, &listed, &drawn.prefix()?, &drawn.addr());
-        assert_few_nodes(rt, &store);
+        change(rt, store, listed, &prefix, drawn.route())?;
+        compare(rt, store, listed, &drawn.prefix()?, &drawn.addr());
+        assert_few_nodes(rt, store);
     }
-    compare_walks(rt, &store, &listed)?;
-    take_all_out(rt, &mut store, &mut listed)
+    Ok(())
+}
+
+fn answers_as_a_list_does<S: PrefixStore<u32> + HasNodes>(
+    rt: &impl Abort,
+    store: &mut S,
+    listed: &mut Listed,
+) -> Result<(), Fail> {
+    change_all(rt, store, listed)?;
+    compare_walks(rt, store, listed)?;
+    take_all_out(rt, store, listed)
 }
 
 #[test]
 fn map_store_answers_as_a_list_does(rt: HostRuntime) -> Result<(), Fail> {
-    answers_as_a_list_does(&rt, rt.alloc(), MapStore::new(rt.alloc()))
+    let mut store = MapStore::new(rt.alloc());
+    answers_as_a_list_does(&rt, &mut store, &mut Listed::new(rt.alloc()))
 }
 
 #[test]
 fn radix_store_answers_as_a_list_does(rt: HostRuntime) -> Result<(), Fail> {
-    answers_as_a_list_does(&rt, rt.alloc(), RadixStore::new(rt.alloc()))
+    let mut store = RadixStore::new(rt.alloc());
+    answers_as_a_list_does(&rt, &mut store, &mut Listed::new(rt.alloc()))
 }
 
 #[test]
 fn left_store_answers_as_a_list_does(rt: HostRuntime) -> Result<(), Fail> {
-    answers_as_a_list_does(
-        &rt,
-        rt.alloc(),
-        LeftStore::<RadixStore<u32>>::new(rt.alloc()),
-    )
+    let mut store = LeftStore::<RadixStore<u32>>::new(rt.alloc());
+    answers_as_a_list_does(&rt, &mut store, &mut Listed::new(rt.alloc()))
 }

@@ -1,6 +1,8 @@
 //! The longest prefix with a route.
 
-use super::{add, after, assert_counts, assert_had, longest, prefix_of};
+use super::{
+    add, add_rows, addr_of, after, assert_counts, assert_had, found_of, longest, prefix_of,
+};
 use ip_prefix::{Addr, Prefix};
 use rib_store::{MapStore, PrefixStore, RadixStore};
 use std::process::Abort;
@@ -50,94 +52,91 @@ fn take_all<S: PrefixStore<u32>>(
     Ok(())
 }
 
+/// Prefixes, and their routes.
+const ROUTES: [(&str, Option<u32>); 4] = [
+    ("::/0", Some(1)),
+    ("10.0.0.0/8", Some(2)),
+    ("10.128.0.0/9", Some(3)),
+    ("10.192.0.0/10", None),
+];
+
+/// Addresses, and what is found for them where the last of these prefixes has the route 4.
+const FOUND: [(&str, Option<(&str, u32)>); 4] = [
+    ("10.200.0.1", Some(("10.192.0.0/10", 4))),
+    ("10.127.0.1", Some(("10.0.0.0/8", 2))),
+    ("11.0.0.1", None),
+    ("2001:db8::1", Some(("::/0", 1))),
+];
+
 fn finds_the_longest_with_a_route<S: PrefixStore<u32>>(
     rt: &impl Abort,
-    mut store: S,
+    store: &mut S,
 ) -> Result<(), Fail> {
-    for (text, route) in [
-        ("::/0", Some(1)),
-        ("10.0.0.0/8", Some(2)),
-        ("10.128.0.0/9", Some(3)),
-        ("10.192.0.0/10", None),
-    ] {
-        add(rt, &mut store, &prefix_of(text)?, route)?;
+    add_rows(rt, store, &ROUTES)?;
+    let above = found_of(Some(("10.128.0.0/9", 3)))?;
+    assert_longest(rt, store, &Addr::v4([10, 200, 0, 1]), above);
+    assert_had(rt, store, &prefix_of("10.192.0.0/10")?, Some(4), None);
+    for (text, want) in FOUND {
+        assert_longest(rt, store, &addr_of(text)?, found_of(want)?);
     }
-    let addr = Addr::v4([10, 200, 0, 1]);
-    let free = prefix_of("10.192.0.0/10")?;
-    assert_longest(rt, &store, &addr, Some((prefix_of("10.128.0.0/9")?, 3)));
-    assert_had(rt, &mut store, &free, Some(4), None);
-    assert_longest(rt, &store, &addr, Some((free, 4)));
-    assert_longest(
-        rt,
-        &store,
-        &Addr::v4([10, 127, 0, 1]),
-        Some((prefix_of("10.0.0.0/8")?, 2)),
-    );
-    assert_longest(rt, &store, &Addr::v4([11, 0, 0, 1]), None);
-    assert!(rt; after(&store, None) == Some((prefix_of("10.0.0.0/8")?, 2)));
-    assert_longest(
-        rt,
-        &store,
-        &Addr::v6(V6_OCTETS),
-        Some((prefix_of("::/0")?, 1)),
-    );
+    assert!(rt; after(store, None) == found_of(Some(("10.0.0.0/8", 2)))?);
     Ok(())
 }
 
 #[test]
 fn map_store_finds_the_longest_with_a_route(rt: HostRuntime) -> Result<(), Fail> {
-    finds_the_longest_with_a_route(&rt, MapStore::new(rt.alloc()))
+    finds_the_longest_with_a_route(&rt, &mut MapStore::new(rt.alloc()))
 }
 
 #[test]
 fn radix_store_finds_the_longest_with_a_route(rt: HostRuntime) -> Result<(), Fail> {
-    finds_the_longest_with_a_route(&rt, RadixStore::new(rt.alloc()))
+    finds_the_longest_with_a_route(&rt, &mut RadixStore::new(rt.alloc()))
 }
 
-fn finds_each_length<S: PrefixStore<u32>>(rt: &impl Abort, mut store: S) -> Result<(), Fail> {
+fn finds_each_length<S: PrefixStore<u32>>(rt: &impl Abort, store: &mut S) -> Result<(), Fail> {
     let short = Addr::v4([10, 1, 2, 3]);
     let wide = Addr::v6(V6_OCTETS);
-    add_all(rt, &mut store, &short, 32)?;
-    assert_counts(rt, &store, 33, 33);
-    add_all(rt, &mut store, &wide, 128)?;
-    assert_counts(rt, &store, 162, 162);
-    take_all(rt, &mut store, &short, 32)?;
-    assert_counts(rt, &store, 162, 129);
-    take_all(rt, &mut store, &wide, 128)?;
-    assert_counts(rt, &store, 162, 0);
+    add_all(rt, store, &short, 32)?;
+    assert_counts(rt, store, 33, 33);
+    add_all(rt, store, &wide, 128)?;
+    assert_counts(rt, store, 162, 162);
+    take_all(rt, store, &short, 32)?;
+    assert_counts(rt, store, 162, 129);
+    take_all(rt, store, &wide, 128)?;
+    assert_counts(rt, store, 162, 0);
     Ok(())
 }
 
 #[test]
 fn map_store_finds_each_length(rt: HostRuntime) -> Result<(), Fail> {
-    finds_each_length(&rt, MapStore::new(rt.alloc()))
+    finds_each_length(&rt, &mut MapStore::new(rt.alloc()))
 }
 
 #[test]
 fn radix_store_finds_each_length(rt: HostRuntime) -> Result<(), Fail> {
-    finds_each_length(&rt, RadixStore::new(rt.alloc()))
+    finds_each_length(&rt, &mut RadixStore::new(rt.alloc()))
 }
 
-fn families_do_not_meet<S: PrefixStore<u32>>(rt: &impl Abort, mut store: S) -> Result<(), Fail> {
+fn families_do_not_meet<S: PrefixStore<u32>>(rt: &impl Abort, store: &mut S) -> Result<(), Fail> {
     let short = prefix_of("32.1.0.0/16")?;
     let wide = prefix_of("2001::/16")?;
-    add(rt, &mut store, &short, Some(4))?;
+    add(rt, store, &short, Some(4))?;
     assert!(rt; !store.has_key(&wide));
-    assert_longest(rt, &store, &Addr::v6(V6_OCTETS), None);
-    add(rt, &mut store, &wide, Some(6))?;
-    assert_longest(rt, &store, &Addr::v6(V6_OCTETS), Some((wide, 6)));
-    assert_longest(rt, &store, &Addr::v4([32, 1, 13, 184]), Some((short, 4)));
-    assert_had(rt, &mut store, &wide, None, Some(6));
+    assert_longest(rt, store, &Addr::v6(V6_OCTETS), None);
+    add(rt, store, &wide, Some(6))?;
+    assert_longest(rt, store, &Addr::v6(V6_OCTETS), Some((wide, 6)));
+    assert_longest(rt, store, &Addr::v4([32, 1, 13, 184]), Some((short, 4)));
+    assert_had(rt, store, &wide, None, Some(6));
     assert_eq!(rt; store.get(&short).copied(), Some(4));
     Ok(())
 }
 
 #[test]
 fn map_store_families_do_not_meet(rt: HostRuntime) -> Result<(), Fail> {
-    families_do_not_meet(&rt, MapStore::new(rt.alloc()))
+    families_do_not_meet(&rt, &mut MapStore::new(rt.alloc()))
 }
 
 #[test]
 fn radix_store_families_do_not_meet(rt: HostRuntime) -> Result<(), Fail> {
-    families_do_not_meet(&rt, RadixStore::new(rt.alloc()))
+    families_do_not_meet(&rt, &mut RadixStore::new(rt.alloc()))
 }

@@ -6,7 +6,7 @@ ghost use Rattle.ip_prefix.specs.Address.{bit_count};
 use super::generated::{Drawn, change};
 use super::listed::Listed;
 use super::lookups::{V6_OCTETS, add_all};
-use super::{add, longest, prefix_of};
+use super::{add_rows, addr_of, found_of, longest};
 use ip_prefix::{Addr, Family, Prefix, V4_BITS, V6_BITS};
 use rib_store::{PrefixStore, RadixStore};
 use std::process::Abort;
@@ -52,11 +52,6 @@ const ROWS: [Row; 13] = [
     (NESTED, "128.0.0.0", 0, Some(("0.0.0.0/0", 1)), 1),
 ];
 
-/// The address that the text spells.
-fn addr_of(text: &str) -> Result<Addr, Fail> {
-    Ok(Addr::parse(text.as_bytes()).ok_or("an address")?)
-}
-
 /// How many bits an address of the family has.
 fn width(family: Family) -> u8
     ensures { result ≡ bit_count family }
@@ -83,17 +78,11 @@ fn look_up(
     }
 }
 
-fn assert_row(rt: &impl Abort, mut store: RadixStore<u32>, row: &Row) -> Result<(), Fail> {
+fn assert_row(rt: &impl Abort, store: &mut RadixStore<u32>, row: &Row) -> Result<(), Fail> {
     let (keys, text, before, want, after) = row;
-    for (key, route) in *keys {
-        add(rt, &mut store, &prefix_of(key)?, *route)?;
-    }
-    let want = match want {
-        Some((found, route)) => Some((prefix_of(found)?, *route)),
-        None => None,
-    };
-    let (found, met) = look_up(rt, &store, &addr_of(text)?, *before);
-    assert!(rt; found == want, "{text}");
+    add_rows(rt, store, keys)?;
+    let (found, met) = look_up(rt, store, &addr_of(text)?, *before);
+    assert!(rt; found == found_of(*want)?, "{text}");
     assert_eq!(rt; met, *after, "{text}");
     Ok(())
 }
@@ -101,8 +90,26 @@ fn assert_row(rt: &impl Abort, mut store: RadixStore<u32>, row: &Row) -> Result<
 #[test]
 fn a_look_up_counts_the_nodes_that_it_meets(rt: HostRuntime) -> Result<(), Fail> {
     for row in &ROWS {
-        assert_row(&rt, RadixStore::new(rt.alloc()), row)?;
+        assert_row(&rt, &mut RadixStore::new(rt.alloc()), row)?;
     }
+    Ok(())
+}
+
+/// Adds all prefixes of an address, and asserts how many nodes a look-up of it meets, and how many
+/// there are.
+fn meet_all(
+    rt: &impl Abort,
+    store: &mut RadixStore<u32>,
+    addr: &Addr,
+    met: u32,
+    nodes: u64,
+) -> Result<(), Fail> {
+    let len = width(addr.family());
+    add_all(rt, store, addr, len)?;
+    let host = Prefix::new(*addr, len).ok_or("a length that fits")?;
+    let found = look_up(rt, store, addr, 0);
+    assert!(rt; found == (Some((host, u32::from(len))), met));
+    assert_eq!(rt; store.nodes(), nodes);
     Ok(())
 }
 
@@ -110,16 +117,22 @@ fn a_look_up_counts_the_nodes_that_it_meets(rt: HostRuntime) -> Result<(), Fail>
 #[test]
 fn a_look_up_meets_each_length(rt: HostRuntime) -> Result<(), Fail> {
     let mut store = RadixStore::new(rt.alloc());
-    for (addr, len, met, nodes) in [
-        (Addr::v4([10, 1, 2, 3]), 32, 33, 33),
-        (Addr::v6(V6_OCTETS), 128, 129, 162),
-    ] {
-        add_all(&rt, &mut store, &addr, len)?;
-        let host = Prefix::new(addr, len).ok_or("a length that fits")?;
-        let found = look_up(&rt, &store, &addr, 0);
-        assert!(rt; found == (Some((host, u32::from(len))), met));
-        assert_eq!(rt; store.nodes(), nodes);
-    }
+    meet_all(&rt, &mut store, &Addr::v4([10, 1, 2, 3]), 33, 33)?;
+    meet_all(&rt, &mut store, &Addr::v6(V6_OCTETS), 129, 162)
+}
+
+/// Makes a drawn change to both stores, and asserts that both look-ups answer alike.
+fn change_and_look_up(
+    rt: &impl Abort,
+    store: &mut RadixStore<u32>,
+    listed: &mut Listed,
+    drawn: &mut Drawn,
+) -> Result<(), Fail> {
+    let prefix = drawn.prefix()?;
+    change(rt, store, listed, &prefix, drawn.route())?;
+    let addr = drawn.addr();
+    let (found, _) = look_up(rt, store, &addr, 0);
+    assert!(rt; found == longest(store, &addr));
     Ok(())
 }
 
@@ -130,11 +143,7 @@ fn a_counted_look_up_answers_as_the_other(rt: HostRuntime) -> Result<(), Fail> {
     let mut listed = Listed::new(rt.alloc());
     let mut drawn = Drawn::new(2);
     for _ in 0..CHANGES {
-        let prefix = drawn.prefix()?;
-        change(&rt, &mut store, &mut listed, &prefix, drawn.route())?;
-        let addr = drawn.addr();
-        let (found, _) = look_up(&rt, &store, &addr, 0);
-        assert!(rt; found == longest(&store, &addr));
+        change_and_look_up(&rt, &mut store, &mut listed, &mut drawn)?;
     }
     Ok(())
 }
