@@ -151,7 +151,7 @@ fn left_store_keys_come_and_go(rt: HostRuntime) -> Result<(), Fail> {
 }
 
 /// Routes that a key is given one after another, which one it had, and how many there are then.
-const GIVEN: [(Option<u32>, Option<u32>, u64); 6] = [
+const GIVEN: &[(Option<u32>, Option<u32>, u64)] = &[
     (None, None, 1),
     (Some(1), None, 2),
     (Some(2), Some(1), 2),
@@ -164,7 +164,7 @@ fn routes_change_places<S: PrefixStore<u32>>(rt: &impl Abort, store: &mut S) -> 
     let prefix = prefix_of("192.0.2.0/24")?;
     add(rt, store, &prefix_of("192.0.2.0/25")?, Some(9))?;
     assert!(rt; store.ensure(prefix)?);
-    for (route, had, routes) in GIVEN {
+    for &(route, had, routes) in GIVEN {
         assert_had(rt, store, &prefix, route, had);
         assert_counts(rt, store, 2, routes);
     }

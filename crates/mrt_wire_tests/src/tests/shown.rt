@@ -9,7 +9,7 @@ use std::process::Abort;
 use test_octets::octets_of;
 
 /// The time of each record: 200.
-const SECONDS: [u8; 4] = [0, 0, 0, 200];
+const SECONDS: &[u8] = &[0, 0, 0, 200];
 
 /// More answers than any text has.
 const MOST_ANSWERS: u32 = 100;
@@ -17,7 +17,7 @@ const MOST_ANSWERS: u32 = 100;
 /// Appends a record, given without its time and its length: type, subtype and body.
 pub(super) fn put_record(record: &[u8], octets: &mut Vec<u8>) -> Result<(), AllocError> {
     let (kinds, body) = record.split_at(record.len().min(4));
-    octets.extend_from_slice(&SECONDS)?;
+    octets.extend_from_slice(SECONDS)?;
     octets.extend_from_slice(kinds)?;
     octets.extend_from_slice(&((body.len() % 0x1_0000_0000) as u32).to_be_bytes())?;
     octets.extend_from_slice(body)

@@ -19,7 +19,7 @@ type Step<'a> = (Call<'a>, Answer, Option<u32>);
 /// Calls of a new player, and the steps before and after the cursor then.
 type Course = (&'static [Step<'static>], u64, u64);
 
-const COURSES: [Course; 8] = [
+const COURSES: &[Course] = &[
     (OVER_A_WITHDRAWAL, 2, 0),
     (TWO_AT_ONCE, 1, 0),
     (OVER_ONE_ANOTHER, 2, 1),
@@ -174,7 +174,7 @@ fn follow_all(rt: &impl Abort, alloc: Global, courses: &[Course]) -> Result<(), 
 
 #[test]
 fn takes_each_course(rt: HostRuntime) -> Result<(), Fail> {
-    follow_all(&rt, rt.alloc(), &COURSES)
+    follow_all(&rt, rt.alloc(), COURSES)
 }
 
 /// Events that name a pair more than once.

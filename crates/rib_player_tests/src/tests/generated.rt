@@ -172,7 +172,7 @@ fn compare<S: PrefixStore<Rc<Route>> + HasNodes>(
     assert_eq!(rt; player.at(), plain.at());
     assert_eq!(rt; player.ahead(), plain.ahead());
     assert_eq!(rt; player.named(), plain.named());
-    for who in PEERS {
+    for &who in PEERS {
         compare_peer(rt, player, plain, &peer_of(who));
     }
 }

@@ -220,7 +220,7 @@ type Left = (u64, Option<u64>, Option<u64>);
 /// Two events, how many steps are undone, a third event, and what is left then.
 type Over = ([&'static [Say]; 2], u64, &'static [Say], Left);
 
-const OVER: [Over; 14] = [
+const OVER: &[Over] = &[
     // nothing is dropped
     ([ONE, GONE], 0, &[], (2, Some(1), None)),
     ([BOTH, GONE], 0, ONE, (4, Some(2), None)),
@@ -252,5 +252,5 @@ fn play_all_over(rt: &impl Abort, alloc: Global, rows: &[Over]) -> Result<(), Fa
 
 #[test]
 fn steps_ahead_give_up_their_keys(rt: HostRuntime) -> Result<(), Fail> {
-    play_all_over(&rt, rt.alloc(), &OVER)
+    play_all_over(&rt, rt.alloc(), OVER)
 }

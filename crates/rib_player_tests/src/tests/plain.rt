@@ -6,7 +6,7 @@ use mrt_wire::{Event, Item, Peer};
 use std::alloc::{AllocError, Global};
 
 /// The peers that are searched for.
-pub(super) const PEERS: [Who; 2] = [Who::Peer, Who::Neighbour];
+pub(super) const PEERS: &[Who] = &[Who::Peer, Who::Neighbour];
 
 /// How many prefixes are searched for.
 pub(super) const PREFIXES: u32 = 5;
@@ -92,7 +92,7 @@ fn naming(events: &[Event], peer: &Peer, prefix: &Prefix) -> u64 {
 
 /// Whether the event announces the prefix that is refused, and nothing in it takes that back.
 fn is_refused(event: &Event) -> bool {
-    for who in PEERS {
+    for &who in PEERS {
         if let Some(Some(_)) = made_of(event, &peer_of(who), &prefix_at(4)) {
             return true;
         }
@@ -162,7 +162,7 @@ impl Plain {
     /// How many pairs the steps name.
     pub(super) fn named(&self) -> u64 {
         let mut named = 0u64;
-        for who in PEERS {
+        for &who in PEERS {
             for number in 0..PREFIXES {
                 let found = naming(&self.events, &peer_of(who), &prefix_at(number));
                 named = named.saturating_add(found);

@@ -14,7 +14,7 @@ use std::test::Fail;
 type RefusingPlayer = Player<Refusing<MapStore<Rc<Route>>>>;
 
 /// Events that name a prefix that is refused.
-const EVENTS: [&[Say]; 7] = [
+const EVENTS: &[&[Say]] = &[
     &[Say::AnnounceOf(Who::Peer, "66.0.0.0/8", 9)],
     &[
         Say::Announce(9),
@@ -72,10 +72,10 @@ const UNDONE: &[Seen] = &[
     Seen::Keys(Who::Peer, Some(2)),
     Seen::Keys(Who::Neighbour, None),
     Seen::Keys(Who::Sibling, None),
-    Seen::Times(&UNDONE_TIMES),
+    Seen::Times(UNDONE_TIMES),
 ];
 
-const UNDONE_TIMES: [TimeRow; 8] = [
+const UNDONE_TIMES: &[TimeRow] = &[
     (Who::Peer, "9.0.0.0/8", None),
     (Who::Peer, "10.0.0.0/8", Some(1)),
     (Who::Peer, "10.1.0.0/16", None),
@@ -123,7 +123,7 @@ fn refuse_all<S: PrefixStore<Rc<Route>> + HasNodes>(
     player: &mut Player<S>,
 ) -> Result<(), Fail> {
     follow(rt, alloc, player, PLAYED)?;
-    for says in &EVENTS {
+    for says in EVENTS {
         refuse(rt, alloc, player, says)?;
     }
     Ok(())

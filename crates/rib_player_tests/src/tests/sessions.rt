@@ -7,7 +7,7 @@ use std::process::Abort;
 use std::test::Fail;
 
 /// Routes to prefixes of the same number in both families, of two peers of the same address.
-const ALL: [Say; 6] = [
+const ALL: &[Say] = &[
     Say::AnnounceOf(Who::Peer, "0.0.0.0/8", 1),
     Say::AnnounceOf(Who::Peer, "::/8", 2),
     Say::AnnounceOf(Who::Peer, "10.0.0.0/8", 3),
@@ -17,7 +17,7 @@ const ALL: [Say; 6] = [
 ];
 
 /// The times of these routes.
-const ALL_TIMES: [TimeRow; 8] = [
+const ALL_TIMES: &[TimeRow] = &[
     (Who::Peer, "0.0.0.0/8", Some(1)),
     (Who::Peer, "::/8", Some(2)),
     (Who::Peer, "10.0.0.0/8", Some(3)),
@@ -29,7 +29,7 @@ const ALL_TIMES: [TimeRow; 8] = [
 ];
 
 /// The times of those that are left without the peer's session.
-const LEFT_TIMES: [TimeRow; 8] = [
+const LEFT_TIMES: &[TimeRow] = &[
     (Who::Peer, "0.0.0.0/8", None),
     (Who::Peer, "::/8", None),
     (Who::Peer, "10.0.0.0/8", None),
@@ -41,7 +41,7 @@ const LEFT_TIMES: [TimeRow; 8] = [
 ];
 
 /// What is seen behind these routes.
-const ALL_SEEN: &[Seen] = &[Seen::Times(&ALL_TIMES)];
+const ALL_SEEN: &[Seen] = &[Seen::Times(ALL_TIMES)];
 
 /// Plays an event on a new player behind these routes, compares what is seen then, and undoes it.
 fn play_behind(
@@ -51,19 +51,19 @@ fn play_behind(
     all_seen: &[Seen],
 ) -> Result<(), Fail> {
     let rows = [
-        (Call::Play(&ALL), Answer::Dropped(0), ALL_SEEN),
+        (Call::Play(ALL), Answer::Dropped(0), ALL_SEEN),
         (Call::Play(says), Answer::Dropped(0), all_seen),
         (Call::Undo, Answer::Done, ALL_SEEN),
     ];
     follow_anew(rt, alloc, &rows)
 }
 
-const APART: [Say; 2] = [
+const APART: &[Say] = &[
     Say::WithdrawOf(Who::Neighbour, "10.0.0.0/8"),
     Say::WithdrawOf(Who::Peer, "::/8"),
 ];
 
-const APART_TIMES: [TimeRow; 6] = [
+const APART_TIMES: &[TimeRow] = &[
     (Who::Peer, "0.0.0.0/8", Some(1)),
     (Who::Peer, "::/8", None),
     (Who::Peer, "10.0.0.0/8", Some(3)),
@@ -74,24 +74,24 @@ const APART_TIMES: [TimeRow; 6] = [
 
 #[test]
 fn peers_and_families_do_not_meet(rt: HostRuntime) -> Result<(), Fail> {
-    play_behind(&rt, rt.alloc(), &APART, &[Seen::Times(&APART_TIMES)])
+    play_behind(&rt, rt.alloc(), APART, &[Seen::Times(APART_TIMES)])
 }
 
 /// The states that a session falls to.
-const FALLEN: [u16; 6] = [1, 2, 3, 4, 5, 7];
+const FALLEN: &[u16] = &[1, 2, 3, 4, 5, 7];
 
 #[test]
 fn a_lost_session_clears_both_families(rt: HostRuntime) -> Result<(), Fail> {
-    for state in FALLEN {
+    for &state in FALLEN {
         let lost = [Say::State(6, state)];
-        play_behind(&rt, rt.alloc(), &lost, &[Seen::Times(&LEFT_TIMES)])?;
+        play_behind(&rt, rt.alloc(), &lost, &[Seen::Times(LEFT_TIMES)])?;
     }
     Ok(())
 }
 
 /// State changes that lose no session.
 const OTHER_STATES: &[Row] = &[
-    (Call::Play(&ALL), Answer::Dropped(0), ALL_SEEN),
+    (Call::Play(ALL), Answer::Dropped(0), ALL_SEEN),
     (
         Call::Play(&[Say::State(6, 6)]),
         Answer::Dropped(0),
@@ -136,7 +136,7 @@ fn other_states_clear_nothing(rt: HostRuntime) -> Result<(), Fail> {
 }
 
 /// A loss between announcements.
-const BETWEEN: [Say; 7] = [
+const BETWEEN: &[Say] = &[
     Say::AnnounceOf(Who::Peer, "10.0.0.0/8", 11),
     Say::AnnounceOf(Who::Peer, "12.0.0.0/8", 12),
     Say::AnnounceOf(Who::Neighbour, "10.0.0.0/8", 13),
@@ -146,7 +146,7 @@ const BETWEEN: [Say; 7] = [
     Say::WithdrawOf(Who::Peer, "13.0.0.0/8"),
 ];
 
-const BETWEEN_TIMES: [TimeRow; 8] = [
+const BETWEEN_TIMES: &[TimeRow] = &[
     (Who::Peer, "0.0.0.0/8", None),
     (Who::Peer, "::/8", None),
     (Who::Peer, "10.0.0.0/8", None),
@@ -160,7 +160,7 @@ const BETWEEN_TIMES: [TimeRow; 8] = [
 /// The pairs that steps name are the four of the peer and one of the neighbour, and the six of the
 /// first step.
 const BETWEEN_SEEN: &[Seen] = &[
-    Seen::Times(&BETWEEN_TIMES),
+    Seen::Times(BETWEEN_TIMES),
     Seen::Steps(2, 0, 11),
     Seen::Keys(Who::Peer, Some(4)),
 ];
@@ -168,5 +168,5 @@ const BETWEEN_SEEN: &[Seen] = &[
 /// Of the items that concern a pair the last decides, whether it names the prefix or the session.
 #[test]
 fn a_loss_stands_between_items(rt: HostRuntime) -> Result<(), Fail> {
-    play_behind(&rt, rt.alloc(), &BETWEEN, BETWEEN_SEEN)
+    play_behind(&rt, rt.alloc(), BETWEEN, BETWEEN_SEEN)
 }

@@ -53,7 +53,7 @@ fn take_all<S: PrefixStore<u32>>(
 }
 
 /// Prefixes, and their routes.
-const ROUTES: [(&str, Option<u32>); 4] = [
+const ROUTES: &[(&str, Option<u32>)] = &[
     ("::/0", Some(1)),
     ("10.0.0.0/8", Some(2)),
     ("10.128.0.0/9", Some(3)),
@@ -61,7 +61,7 @@ const ROUTES: [(&str, Option<u32>); 4] = [
 ];
 
 /// Addresses, and what is found for them where the last of these prefixes has the route 4.
-const FOUND: [(&str, Option<(&str, u32)>); 4] = [
+const FOUND: &[(&str, Option<(&str, u32)>)] = &[
     ("10.200.0.1", Some(("10.192.0.0/10", 4))),
     ("10.127.0.1", Some(("10.0.0.0/8", 2))),
     ("11.0.0.1", None),
@@ -72,11 +72,11 @@ fn finds_the_longest_with_a_route<S: PrefixStore<u32>>(
     rt: &impl Abort,
     store: &mut S,
 ) -> Result<(), Fail> {
-    add_rows(rt, store, &ROUTES)?;
+    add_rows(rt, store, ROUTES)?;
     let above = found_of(Some(("10.128.0.0/9", 3)))?;
     assert_longest(rt, store, &Addr::v4([10, 200, 0, 1]), above);
     assert_had(rt, store, &prefix_of("10.192.0.0/10")?, Some(4), None);
-    for (text, want) in FOUND {
+    for &(text, want) in FOUND {
         assert_longest(rt, store, &addr_of(text)?, found_of(want)?);
     }
     assert!(rt; after(store, None) == found_of(Some(("10.0.0.0/8", 2)))?);

@@ -35,7 +35,7 @@ const NESTED: Keys = &[
     ("10.1.0.0/16", Some(3)),
 ];
 
-const ROWS: [Row; 13] = [
+const ROWS: &[Row] = &[
     (&[], "10.1.0.0", 0, None, 0),
     (&[], "10.1.0.0", 5, None, 5),
     // a node more than contain the address
@@ -89,7 +89,7 @@ fn assert_row(rt: &impl Abort, store: &mut RadixStore<u32>, row: &Row) -> Result
 
 #[test]
 fn a_look_up_counts_the_nodes_that_it_meets(rt: HostRuntime) -> Result<(), Fail> {
-    for row in &ROWS {
+    for row in ROWS {
         assert_row(&rt, &mut RadixStore::new(rt.alloc()), row)?;
     }
     Ok(())

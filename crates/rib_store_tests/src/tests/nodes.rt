@@ -114,7 +114,7 @@ const HOSTS: &[Row] = &[
 ];
 
 /// The calls of new stores.
-const TABLES: [&[Row]; 7] = [
+const TABLES: &[&[Row]] = &[
     ROUTES,
     BRANCHES,
     BRANCH_KEYS,
@@ -146,7 +146,7 @@ fn follow(rt: &impl Abort, store: &mut RadixStore<u32>, rows: &[Row]) -> Result<
 
 #[test]
 fn nodes_are_keys_and_branches(rt: HostRuntime) -> Result<(), Fail> {
-    for rows in TABLES {
+    for &rows in TABLES {
         let mut store = RadixStore::new(rt.alloc());
         assert_eq!(rt; store.nodes(), 0);
         follow(&rt, &mut store, rows)?;

@@ -7,7 +7,7 @@ use std::test::Fail;
 
 /// Prefixes in order, IPv4 first, a prefix before those that it covers. Those without a route are
 /// left out of a walk.
-const IN_ORDER: [(&str, Option<u32>); 10] = [
+const IN_ORDER: &[(&str, Option<u32>)] = &[
     ("0.0.0.0/0", None),
     ("10.0.0.0/8", Some(1)),
     ("10.0.0.0/9", None),
@@ -44,7 +44,7 @@ fn walks_in_order<S: PrefixStore<u32>>(rt: &impl Abort, store: &mut S) -> Result
     for (text, route) in IN_ORDER.iter().rev() {
         add(rt, store, &prefix_of(text)?, *route)?;
     }
-    assert_walk(rt, store, &IN_ORDER)
+    assert_walk(rt, store, IN_ORDER)
 }
 
 #[test]
@@ -58,7 +58,7 @@ fn radix_store_walks_in_order(rt: HostRuntime) -> Result<(), Fail> {
 }
 
 /// Prefixes, and the first above each.
-const STARTS: [(&str, Option<(&str, u32)>); 7] = [
+const STARTS: &[(&str, Option<(&str, u32)>)] = &[
     ("0.0.0.0/0", Some(("10.0.0.0/8", 1))),
     ("10.0.0.0/9", Some(("10.0.0.0/10", 2))),
     ("10.64.0.0/10", Some(("10.128.0.0/9", 3))),
@@ -69,8 +69,8 @@ const STARTS: [(&str, Option<(&str, u32)>); 7] = [
 ];
 
 fn starts_anywhere<S: PrefixStore<u32>>(rt: &impl Abort, store: &mut S) -> Result<(), Fail> {
-    add_rows(rt, store, &IN_ORDER)?;
-    for (text, want) in STARTS {
+    add_rows(rt, store, IN_ORDER)?;
+    for &(text, want) in STARTS {
         let low = prefix_of(text)?;
         assert!(rt; after(store, Some(&low)) == found_of(want)?, "{text}");
     }
