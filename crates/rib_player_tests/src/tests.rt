@@ -23,6 +23,9 @@ use std::rc::Rc;
 use std::test::Fail;
 use test_octets::octets_of;
 
+/// A player over the store that is an ordered map.
+type MapPlayer = Player<MapStore<Rc<Route>>>;
+
 /// A player over the store that the program runs, a radix tree for each family.
 type RadixPlayer = Player<RadixStore<Rc<Route>>>;
 
@@ -317,8 +320,8 @@ fn follow<S: PrefixStore<Rc<Route>> + HasNodes>(
     Ok(())
 }
 
-/// Makes the calls of a new player.
+/// Makes the calls of a new player, over each of the two stores.
 fn follow_anew(rt: &impl Abort, alloc: Global, rows: &[Row]) -> Result<(), Fail> {
-    let mut player = RadixPlayer::new(alloc);
-    follow(rt, alloc, &mut player, rows)
+    follow(rt, alloc, &mut RadixPlayer::new(alloc), rows)?;
+    follow(rt, alloc, &mut MapPlayer::new(alloc), rows)
 }
