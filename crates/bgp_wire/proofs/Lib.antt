@@ -1,14 +1,8 @@
-pub mod OneFront
-pub mod Counting
+pub mod OneAttribute
+pub mod There
 pub mod Noting
-pub mod Refusing
 pub mod Plainly
 pub mod Hops
-pub mod Words
-pub mod Weights
-pub mod Fronts
-pub mod Gathering
-pub mod Merging
 pub mod Reaching
 pub mod OneValue
 pub mod OneContent

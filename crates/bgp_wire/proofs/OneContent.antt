@@ -8,9 +8,9 @@ use Rattle.ip_prefix.specs.Wire.{SpellsNetwork}
 use Rattle.ip_prefix.proofs.Sequences.{one_list}
 use Rattle.ip_prefix.proofs.Wires.{network_code}
 use Rattle.bgp_wire.specs.declared.framing.TheConstants.{ORIGIN, AS_PATH, NEXT_HOP, MULTI_EXIT_DISC, LOCAL_PREF, ATOMIC_AGGREGATE, AGGREGATOR, COMMUNITIES, MP_REACH_NLRI, MP_UNREACH_NLRI, AS4_PATH, AS4_AGGREGATOR}
-use Rattle.bgp_wire.specs.declared.path.AsWidth.{AsWidth}
-use Rattle.bgp_wire.specs.declared.path.AsWidth.TheVariants.{Two, Four}
-use Rattle.bgp_wire.specs.declared.path.AsPath.{AsPath}
+use Rattle.bgp_paths.specs.declared.path.AsWidth.{AsWidth}
+use Rattle.bgp_paths.specs.declared.path.AsWidth.TheVariants.{Two, Four}
+use Rattle.bgp_paths.specs.declared.path.AsPath.{AsPath}
 use Rattle.bgp_wire.specs.declared.attrs.Aggregator.{Aggregator}
 use Rattle.bgp_wire.specs.declared.attrs.Attrs.{Attrs}
 use Rattle.bgp_wire.specs.declared.message.TheConstants.{UPDATE}
@@ -18,24 +18,19 @@ use Rattle.bgp_wire.specs.declared.message.Update.{Update}
 use Rattle.bgp_wire.specs.declared.message.Message.{Message}
 use Rattle.bgp_wire.specs.declared.message.Message.TheVariants as messages
 use Rattle.bgp_wire.specs.Attribute.{Attribute, SpellsAttribute, SpellsAttributes, first_value}
-use Rattle.bgp_wire.specs.Path.{SpellsSegment, SpellsPath}
 use Rattle.bgp_wire.specs.Value.{octets_or_none, SpellsOrigin, SpellsIPv4, SpellsAggregatorAt, SpellsAggregator}
-use Rattle.bgp_wire.specs.Number.{SpellsWord}
+use Rattle.bgp_paths.specs.Number.{SpellsWord}
 use Rattle.bgp_wire.specs.NextHop.{SpellsRibHop, rib_hop}
 use Rattle.bgp_wire.specs.As4.{ignores_as4, joined_aggregator, IsJoined, SaysPassed}
-use Rattle.bgp_wire.specs.Merge.{IsMerge}
+use Rattle.bgp_paths.specs.Merge.{IsMerge}
 use Rattle.bgp_wire.specs.Content.{Says, SaysRibHop, SpellsRibAttrs}
 use Rattle.bgp_wire.specs.Reach.{reach_prefixes, reach_attrs}
 use Rattle.bgp_wire.specs.Update.{SaysInUpdate, SpellsUpdate, SpellsMessage}
-use Rattle.bgp_wire.proofs.OneFront.{segment_code, attribute_code}
-use Rattle.bgp_wire.proofs.Merging.{one_merged}
+use Rattle.bgp_wire.proofs.OneAttribute.{attribute_code}
+use Rattle.bgp_paths.proofs.Merging.{one_merged}
+use Rattle.bgp_paths.proofs.OneFront.{one_path_of}
 use Rattle.bgp_wire.proofs.Reaching.{same_update, same_message}
 use Rattle.bgp_wire.proofs.OneValue.{one_optional, one_where_formed, one_presence, one_origin, one_word, one_words, one_ipv4, one_aggregator, one_aggregator_of, one_rib_hop, one_reach, one_unreach}
-
-pub one_path_of : (width : AsWidth) (octets : List ℕ) (path other : AsPath) → SpellsPath width path octets → SpellsPath width other octets → path ≡ other
-one_path_of width octets path other s t =
-    let segments = one_list (SpellsSegment width) (segment_code width) octets path.segments other.segments s t in
-    λ i. record { segments = segments i }
 
 -- paths are joined in one way
 one_joined : (ignored : Bool) (own : AsPath) (value : Option (List ℕ)) (path other : AsPath) → IsJoined ignored own value path → IsJoined ignored own value other → path ≡ other

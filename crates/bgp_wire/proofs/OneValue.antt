@@ -9,18 +9,18 @@ use Rattle.ip_prefix.specs.Wire.{SpellsNetwork}
 use Rattle.ip_prefix.proofs.Lists.{append_parts}
 use Rattle.ip_prefix.proofs.Sequences.{one_list}
 use Rattle.ip_prefix.proofs.Wires.{network_code}
-use Rattle.bgp_wire.specs.declared.path.AsWidth.{AsWidth}
-use Rattle.bgp_wire.specs.declared.path.AsWidth.TheVariants.{Two, Four}
+use Rattle.bgp_paths.specs.declared.path.AsWidth.{AsWidth}
+use Rattle.bgp_paths.specs.declared.path.AsWidth.TheVariants.{Two, Four}
 use Rattle.bgp_wire.specs.declared.attrs.Origin.{Origin}
 use Rattle.bgp_wire.specs.declared.attrs.Origin.TheVariants.{Igp, Egp, Incomplete}
 use Rattle.bgp_wire.specs.declared.attrs.Aggregator.{Aggregator}
 use Rattle.bgp_wire.specs.declared.values.TheConstants.{IPV4_SIZE}
-use Rattle.bgp_wire.specs.Number.{octets_at, SpellsAsn, SpellsWord}
+use Rattle.bgp_paths.specs.Number.{octets_at, SpellsAsn, SpellsWord}
 use Rattle.bgp_wire.specs.Value.{SpellsOptional, SpellsPresence, origin_code, SpellsOrigin, SpellsAddressOctets, SpellsIPv4, SpellsAggregatorAt, SpellsAggregator}
 use Rattle.bgp_wire.specs.NextHop.{IsLinkLocal, SpellsNextHop, SpellsHopAlone, SpellsRibHop}
 use Rattle.bgp_wire.specs.As4.{SpellsWhereFormed}
 use Rattle.bgp_wire.specs.Reach.{HopStands, SpellsUnicast, SpellsReach, SaysReach, SaysUnreach}
-use Rattle.bgp_wire.proofs.OneFront.{number_code, length-number}
+use Rattle.bgp_paths.proofs.OneFront.{number_code, length-number}
 use Rattle.bgp_wire.proofs.Hops.{length-hop}
 use Rattle.bgp_wire.proofs.Reaching.{same_family, same_unicast, same_stand, not_another}
 use Rattle.ip_prefix.specs.Fields.{IsOne}

@@ -9,7 +9,7 @@ use Rattle.ip_prefix.specs.declared.addr.Family.TheVariants.{V4, V6}
 use Rattle.ip_prefix.specs.Address.{Address}
 use Rattle.ip_prefix.proofs.Lists.{append_parts}
 use Rattle.bgp_wire.specs.declared.message.TheConstants.{MARKER_SIZE}
-use Rattle.bgp_wire.specs.declared.numbers.TheConstants.{LENGTH_SIZE}
+use Rattle.bgp_wire.specs.declared.lengths.TheConstants.{LENGTH_SIZE}
 use Rattle.bgp_wire.specs.NextHop.{SpellsNextHop}
 use Rattle.bgp_wire.specs.Reach.{Reach, family_code, unicast_octets, IsOfAnother, HopStands, SpellsUnicast, SaysReach}
 use Rattle.bgp_wire.specs.Update.{sized_octets, IsUpdate, IsMessage}

@@ -1,11 +1,8 @@
 -- Attributes that aren't there.
 use Rattle.std.specs.Prelude.{ℕ, false, List, [], None}
 use Rattle.bgp_wire.specs.declared.attrs.Attrs.{Attrs}
-use Rattle.bgp_wire.specs.declared.path.AsPath.{AsPath}
-
--- a path without segments
-abbrev pub no_path : AsPath
-no_path = record { segments = [] }
+use Rattle.bgp_paths.specs.declared.path.AsPath.{AsPath}
+use Rattle.bgp_paths.specs.Path.{no_path}
 
 -- attributes of which none is there
 abbrev pub no_attrs : Attrs

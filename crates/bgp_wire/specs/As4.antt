@@ -2,15 +2,15 @@
 use Rattle.std.specs.Prelude.{◌≡◌, ◌⊎◌, ◌==◌, ℕ, Bool, true, false, not, if◌then◌else◌, List, Option, Some, None}
 use Rattle.bgp_wire.specs.declared.as4.TheConstants.{AS_TRANS}
 use Rattle.bgp_wire.specs.declared.framing.TheConstants.{AS_PATH, AGGREGATOR, AS4_PATH, AS4_AGGREGATOR}
-use Rattle.bgp_wire.specs.declared.path.AsWidth.{AsWidth}
-use Rattle.bgp_wire.specs.declared.path.AsWidth.TheVariants.{Two, Four}
-use Rattle.bgp_wire.specs.declared.path.AsPath.{AsPath}
+use Rattle.bgp_paths.specs.declared.path.AsWidth.{AsWidth}
+use Rattle.bgp_paths.specs.declared.path.AsWidth.TheVariants.{Two, Four}
+use Rattle.bgp_paths.specs.declared.path.AsPath.{AsPath}
 use Rattle.bgp_wire.specs.declared.attrs.Aggregator.{Aggregator}
 use Rattle.bgp_wire.specs.Attribute.{Attribute, first_value}
-use Rattle.bgp_wire.specs.Path.{SpellsPath}
+use Rattle.bgp_paths.specs.Path.{SpellsPath}
 use Rattle.bgp_wire.specs.Value.{SpellsOptional, octets_or_none, SpellsAggregatorAt, SpellsAggregator}
-use Rattle.bgp_wire.specs.Merge.{IsMerge}
-use Rattle.bgp_wire.specs.Reading.{IsNoSpelling}
+use Rattle.bgp_paths.specs.Merge.{IsMerge}
+use Rattle.bgp_paths.specs.Reading.{IsNoSpelling}
 
 -- a value that isn't of its form is as one that isn't there
 abbrev pub SpellsWhereFormed : {A : Type 0} → (A → List ℕ → Type 0) → Option A → Option (List ℕ) → Type 0

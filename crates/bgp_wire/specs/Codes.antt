@@ -3,42 +3,12 @@ use Rattle.std.specs.Prelude.{◌≡◌, ℕ, Bool, true, false, List, Option, r
 use Rattle.std.specs.Coded.{Coded, code_by, coded×, coded_ℕ, coded_bool, coded_list, coded_option}
 use Rattle.ip_prefix.specs.Address.{Address}
 use Rattle.ip_prefix.specs.Codes.{coded_address}
-use Rattle.bgp_wire.specs.declared.path.SegmentKind.{SegmentKind}
-use Rattle.bgp_wire.specs.declared.path.SegmentKind.TheVariants.{AsSet, AsSequence, ConfedSequence, ConfedSet}
-use Rattle.bgp_wire.specs.declared.path.Segment.{Segment}
-use Rattle.bgp_wire.specs.declared.path.AsPath.{AsPath}
+use Rattle.bgp_paths.specs.Codes.{coded_as_path}
+use Rattle.bgp_paths.specs.declared.path.AsPath.{AsPath}
 use Rattle.bgp_wire.specs.declared.attrs.Origin.{Origin}
 use Rattle.bgp_wire.specs.declared.attrs.Origin.TheVariants.{Igp, Egp, Incomplete}
 use Rattle.bgp_wire.specs.declared.attrs.Aggregator.{Aggregator}
 use Rattle.bgp_wire.specs.declared.attrs.Attrs.{Attrs}
-
--- whether a segment is of a confederation, and whether its numbers are in order
-abbrev kind_tests : SegmentKind → Bool × Bool
-kind_tests AsSet = (false, false)
-kind_tests AsSequence = (false, true)
-kind_tests ConfedSequence = (true, true)
-kind_tests ConfedSet = (true, false)
-
-abbrev kind_by_tests : Bool → Bool → SegmentKind
-kind_by_tests false false = AsSet
-kind_by_tests false true = AsSequence
-kind_by_tests true true = ConfedSequence
-kind_by_tests true false = ConfedSet
-
-abbrev same_kind : (kind : SegmentKind) → kind_by_tests (kind_tests kind).0 (kind_tests kind).1 ≡ kind
-same_kind AsSet = refl
-same_kind AsSequence = refl
-same_kind ConfedSequence = refl
-same_kind ConfedSet = refl
-
-abbrev pub coded_segment_kind : Coded SegmentKind
-coded_segment_kind = code_by (Bool × Bool) (coded× coded_bool coded_bool) kind_tests (λ p. kind_by_tests p.0 p.1) same_kind
-
-abbrev pub coded_segment : Coded Segment
-coded_segment = code_by (List ℕ × SegmentKind) (coded× (coded_list coded_ℕ) coded_segment_kind) (λ s. (s.numbers, s.kind)) (λ p. record { numbers = p.0; kind = p.1 }) (λ _. refl)
-
-abbrev pub coded_as_path : Coded AsPath
-coded_as_path = code_by (List Segment) (coded_list coded_segment) (λ path. path.segments) (λ segments. record { segments = segments }) (λ _. refl)
 
 -- whether an origin is IGP, and whether it is EGP
 abbrev origin_tests : Origin → Bool × Bool

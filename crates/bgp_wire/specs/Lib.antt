@@ -1,6 +1,6 @@
 pub mod Absent
-pub mod Number
-pub mod Path
+pub use Rattle.bgp_paths.specs.Number
+pub use Rattle.bgp_paths.specs.Path
 pub mod Attribute
 pub mod Lent
 pub mod SeenTypes
@@ -8,9 +8,9 @@ pub mod PlainValues
 pub mod Value
 pub mod NextHop
 pub mod Content
-pub mod Reading
-pub mod Text
-pub mod Merge
+pub use Rattle.bgp_paths.specs.Reading
+pub use Rattle.bgp_paths.specs.Text
+pub use Rattle.bgp_paths.specs.Merge
 pub mod As4
 pub mod Reach
 pub mod Update

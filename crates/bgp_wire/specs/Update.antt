@@ -5,7 +5,7 @@ use Rattle.ip_prefix.specs.declared.addr.Family.TheVariants.{V4}
 use Rattle.ip_prefix.specs.Network.{Network}
 use Rattle.ip_prefix.specs.Sequences.{SpellsAll}
 use Rattle.ip_prefix.specs.Wire.{SpellsNetwork}
-use Rattle.bgp_wire.specs.declared.path.AsWidth.{AsWidth}
+use Rattle.bgp_paths.specs.declared.path.AsWidth.{AsWidth}
 use Rattle.bgp_wire.specs.declared.attrs.Attrs.{Attrs}
 use Rattle.bgp_wire.specs.declared.framing.TheConstants.{NEXT_HOP, MP_REACH_NLRI, MP_UNREACH_NLRI}
 use Rattle.bgp_wire.specs.declared.message.TheConstants.{MARKER_SIZE, UPDATE}

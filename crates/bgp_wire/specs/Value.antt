@@ -3,12 +3,12 @@ use Rattle.std.specs.Prelude.{◌≡◌, ℕ, Bool, true, false, List, [], ◌�
 use Rattle.ip_prefix.specs.declared.addr.Family.TheVariants.{V4}
 use Rattle.ip_prefix.specs.Address.{Address, octet_count}
 use Rattle.ip_prefix.specs.Bits.{bits_of_octets}
-use Rattle.bgp_wire.specs.declared.path.AsWidth.{AsWidth}
+use Rattle.bgp_paths.specs.declared.path.AsWidth.{AsWidth}
 use Rattle.bgp_wire.specs.declared.attrs.Origin.{Origin}
 use Rattle.bgp_wire.specs.declared.attrs.Origin.TheVariants.{Igp, Egp, Incomplete}
 use Rattle.bgp_wire.specs.declared.attrs.Aggregator.{Aggregator}
 use Rattle.bgp_wire.specs.declared.values.TheConstants.{ORIGIN_IGP, ORIGIN_EGP, ORIGIN_INCOMPLETE}
-use Rattle.bgp_wire.specs.Number.{SpellsAsn}
+use Rattle.bgp_paths.specs.Number.{SpellsAsn}
 
 -- the value spells the content, and where one is absent so is the other
 abbrev pub SpellsOptional : {A : Type 0} → (A → List ℕ → Type 0) → Option A → Option (List ℕ) → Type 0

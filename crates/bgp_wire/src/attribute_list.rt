@@ -5,18 +5,17 @@ ghost use Rattle.bgp_wire.specs.declared.framing.TheConstants.{KINDS};
 ghost use Rattle.bgp_wire.specs.Attribute.{Attribute};
 ghost use Rattle.bgp_wire.specs.PlainValues.{FirstOf, firsts_of, with_value, AreLater, ReadSoFar};
 ghost use Rattle.bgp_wire.specs.PlainValues.{SaysPlainly, SpellsPlainly, ReadsList};
-ghost use Rattle.bgp_wire.specs.Reading.{Refuses};
+ghost use Rattle.bgp_paths.specs.Reading.{Refuses};
 ghost use Rattle.bgp_wire.specs.SeenTypes.{Tells};
 
 use crate::attrs::Attrs;
-use crate::fault::WireFault;
 use crate::framing::{
     AGGREGATOR, AS_PATH, AS4_AGGREGATOR, AS4_PATH, ATOMIC_AGGREGATE, COMMUNITIES, LOCAL_PREF,
     MP_REACH_NLRI, MP_UNREACH_NLRI, MULTI_EXIT_DISC, NEXT_HOP, ORIGIN, split_attribute,
 };
-use crate::path::AsWidth;
 use crate::seen_types::SeenTypes;
 use crate::values::{fill_presence, put_found, read_aggregator, read_ipv4, read_origin, read_word};
+use bgp_paths::{AsWidth, WireFault};
 use std::alloc::Global;
 
 /// The first values that others or their place have a say in, as octets.

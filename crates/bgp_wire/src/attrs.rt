@@ -2,14 +2,12 @@
 
 ghost use Rattle.std.specs.Prelude.{◌≡◌, [], IfOk, IfErr, OnOk, OnErr};
 ghost use Rattle.ip_prefix.specs.Sequences.{SpellsAll};
-ghost use Rattle.bgp_wire.specs.Absent.{no_path, no_attrs, with_lists, without_lists};
-ghost use Rattle.bgp_wire.specs.Number.{SpellsWord};
-ghost use Rattle.bgp_wire.specs.Reading.{Refuses};
+ghost use Rattle.bgp_wire.specs.Absent.{no_attrs, with_lists, without_lists};
+ghost use Rattle.bgp_paths.specs.Path.{no_path};
+ghost use Rattle.bgp_paths.specs.Number.{SpellsWord};
+ghost use Rattle.bgp_paths.specs.Reading.{Refuses};
 
-use crate::fault::WireFault;
-use crate::numbers::fill_numbers;
-use crate::path::{AsPath, AsWidth};
-use crate::replacing::{copy_numbers, copy_path};
+use bgp_paths::{AsPath, AsWidth, WireFault, copy_numbers, copy_path, fill_numbers};
 use ip_prefix::Addr;
 use std::alloc::{AllocError, Global};
 use std::marker::Model;

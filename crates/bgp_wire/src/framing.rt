@@ -5,7 +5,7 @@ ghost use Rattle.ip_prefix.specs.Sequences.{Begins, BeginsWithNone};
 ghost use Rattle.bgp_wire.specs.Attribute.{SpellsAttribute};
 ghost use Rattle.bgp_wire.specs.Attribute.{is_extended, length_octets, length_limit};
 
-use crate::numbers::{LENGTH_SIZE, read_length};
+use crate::lengths::{LENGTH_SIZE, read_length};
 
 /// The flag of an attribute whose length has two octets (RFC 4271, section 4.3).
 const EXTENDED_LENGTH: u8 = 0x10;

@@ -2,16 +2,15 @@
 
 ghost use Rattle.std.specs.Prelude.{◌≡◌, ℕ, List, Ok, IfSome, IfNone, IfOk, IfErr, OnErr};
 ghost use Rattle.bgp_wire.specs.Update.{IsMessage, SpellsMessage};
-ghost use Rattle.bgp_wire.specs.Reading.{Reads, Refuses};
+ghost use Rattle.bgp_paths.specs.Reading.{Reads, Refuses};
 ghost use Rattle.bgp_wire.specs.Parts.{message_in, no_parts};
 
 use crate::attrs::Attrs;
-use crate::fault::WireFault;
-use crate::numbers::{LENGTH_SIZE, read_length};
+use crate::lengths::{LENGTH_SIZE, read_length};
 use crate::parts::{MessageKind, UpdateParts};
-use crate::path::AsWidth;
 use crate::prefixes::Prefixes;
 use crate::update::fill_update;
+use bgp_paths::{AsWidth, WireFault};
 use std::alloc::Global;
 
 /// A message.

@@ -2,14 +2,14 @@
 
 ghost use Rattle.std.specs.Prelude.{◌≡◌, length, IsOkUnless};
 ghost use Rattle.ip_prefix.specs.Bits.{bits_of_octets};
-ghost use Rattle.bgp_wire.specs.declared.fault.WireFault.TheVariants.{Malformed};
+ghost use Rattle.bgp_paths.specs.declared.fault.WireFault.TheVariants.{Malformed};
 ghost use Rattle.bgp_wire.specs.Lent.{octets_of};
 ghost use Rattle.bgp_wire.specs.Value.{SpellsOptional};
 ghost use Rattle.bgp_wire.specs.NextHop.{SpellsNextHop, SpellsHopAlone, SpellsRibHop, rib_hop};
-ghost use Rattle.bgp_wire.specs.Reading.{Finds, Reads};
+ghost use Rattle.bgp_paths.specs.Reading.{Finds, Reads};
 
-use crate::fault::WireFault;
 use crate::values::{IPV4_SIZE, ipv4};
+use bgp_paths::WireFault;
 use ip_prefix::{Addr, Family};
 
 /// How many octets an address family and a subsequent one take (RFC 4760, section 3).

@@ -3,9 +3,9 @@
 ghost use Rattle.std.specs.Prelude.{◌≡◌, [], OnOk, IfErr};
 ghost use Rattle.ip_prefix.specs.Sequences.{SpellsAll};
 ghost use Rattle.ip_prefix.specs.Wire.{SpellsNetwork};
-ghost use Rattle.bgp_wire.specs.Reading.{Refuses};
+ghost use Rattle.bgp_paths.specs.Reading.{Refuses};
 
-use crate::fault::WireFault;
+use bgp_paths::WireFault;
 use ip_prefix::{Family, Prefix};
 use std::alloc::Global;
 use std::marker::Model;

@@ -5,11 +5,11 @@ ghost use Rattle.ip_prefix.specs.Address.{Address};
 ghost use Rattle.bgp_wire.specs.Lent.{octets_of};
 ghost use Rattle.bgp_wire.specs.Reach.{unicast_octets, BeginsIn, HopStands, SpellsUnicast};
 ghost use Rattle.bgp_wire.specs.Reach.{Reach, SaysReach, SaysUnreach, reach_hop, reach_prefixes};
-ghost use Rattle.bgp_wire.specs.Reading.{Finds, Refuses};
+ghost use Rattle.bgp_paths.specs.Reading.{Finds, Refuses};
 
-use crate::fault::WireFault;
 use crate::next_hop::{FAMILY_SIZE, read_next_hop};
 use crate::prefixes::{Prefixes, fill_prefixes};
+use bgp_paths::WireFault;
 use ip_prefix::{Addr, Family};
 
 /// The number of IPv4 among address families (RFC 4760, section 3), which is sent in two octets.

@@ -3,15 +3,14 @@
 ghost use Rattle.std.specs.Prelude.{◌≡◌, OnOk, OnErr, IfErr};
 ghost use Rattle.bgp_wire.specs.Content.{SpellsRibAttrs};
 ghost use Rattle.bgp_wire.specs.Absent.{no_attrs};
-ghost use Rattle.bgp_wire.specs.Reading.{Reads, Refuses};
+ghost use Rattle.bgp_paths.specs.Reading.{Reads, Refuses};
 
 use crate::as4::join_passed;
 use crate::attribute_list::read_list;
 use crate::attrs::Attrs;
-use crate::fault::WireFault;
 use crate::framing::MP_REACH_NLRI;
 use crate::next_hop::{choose_rib_hop, read_rib_hop};
-use crate::path::AsWidth;
+use bgp_paths::{AsWidth, WireFault};
 use ip_prefix::Family;
 use std::alloc::Global;
 

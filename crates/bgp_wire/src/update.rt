@@ -2,18 +2,17 @@
 
 ghost use Rattle.std.specs.Prelude.{◌≡◌, ℕ, ◌<◌, ◌^◌, ◌++◌, List, length, IfSome, IfNone, IfErr, OnOk};
 ghost use Rattle.bgp_wire.specs.Parts.{update_in, SpellsParts};
-ghost use Rattle.bgp_wire.specs.Reading.{Refuses};
+ghost use Rattle.bgp_paths.specs.Reading.{Refuses};
 ghost use Rattle.bgp_wire.specs.Update.{sized_octets, IsUpdate, SpellsUpdate};
 
 use crate::as4::join_passed;
 use crate::attribute_list::read_list;
-use crate::fault::WireFault;
 use crate::framing::{MP_REACH_NLRI, MP_UNREACH_NLRI};
-use crate::numbers::{LENGTH_SIZE, read_length};
+use crate::lengths::{LENGTH_SIZE, read_length};
 use crate::parts::UpdateParts;
-use crate::path::AsWidth;
 use crate::prefixes::fill_prefixes;
 use crate::reach::{fill_reach, fill_unreach};
+use bgp_paths::{AsWidth, WireFault};
 use ip_prefix::Family;
 use std::alloc::Global;
 

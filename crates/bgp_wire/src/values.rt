@@ -1,17 +1,16 @@
 //! Reading the values of path attributes, each where it is there.
 
 ghost use Rattle.std.specs.Prelude.{◌≡◌, ◌+◌, length, Some, None, IsSome, IfErr, OnOk, OnErr, IsOkUnless};
-ghost use Rattle.bgp_wire.specs.declared.fault.WireFault.TheVariants.{Malformed};
+ghost use Rattle.bgp_paths.specs.declared.fault.WireFault.TheVariants.{Malformed};
 ghost use Rattle.bgp_wire.specs.Lent.{octets_of};
 ghost use Rattle.bgp_wire.specs.As4.{SpellsWhereFormed};
-ghost use Rattle.bgp_wire.specs.Number.{SpellsWord, octets_at};
+ghost use Rattle.bgp_paths.specs.Number.{SpellsWord, octets_at};
 ghost use Rattle.bgp_wire.specs.Value.{SpellsPresence, SpellsOrigin, SpellsIPv4};
 ghost use Rattle.bgp_wire.specs.Value.{SpellsAggregatorAt, SpellsAggregator};
-ghost use Rattle.bgp_wire.specs.Reading.{Finds, Refuses};
+ghost use Rattle.bgp_paths.specs.Reading.{Finds, Refuses};
 
 use crate::attrs::{Aggregator, Origin};
-use crate::fault::WireFault;
-use crate::path::AsWidth;
+use bgp_paths::{AsWidth, WireFault};
 use byteorder::{BigEndian, ByteOrder};
 use ip_prefix::Addr;
 

@@ -4,11 +4,9 @@ mod again;
 mod as4;
 mod large;
 mod lists;
-mod merge;
 mod messages;
 mod next_hops;
 mod paths;
-mod texts;
 mod values;
 
 use bgp_wire::{Aggregator, AsWidth, Attrs, Origin, WireFault, read_rib_attrs};

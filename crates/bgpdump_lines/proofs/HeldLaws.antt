@@ -3,22 +3,23 @@ use Rattle.std.proofs.Common.{None, ◌≡◌, inl, inr, ℕ, ◌+◌, ◌≤◌
 use Rattle.std.proofs.lemmas.List.{append_assoc}
 use Rattle.std.specs.Io.KnownBytes.{Consumes, IsAtEnd}
 use Rattle.std.proofs.KnownBytes.{Consumes-trans}
-use Rattle.mrt_wire.specs.declared.fault.SourceFault.{SourceFault}
-use Rattle.mrt_wire.specs.declared.fault.SourceFault.TheVariants as source
-use Rattle.mrt_wire.specs.declared.fault.RecordKind.TheVariants.{CutRecord}
+use Rattle.mrt_wire.specs.declared.SourceFault.{SourceFault}
+use Rattle.mrt_wire.specs.declared.SourceFault.TheVariants as source
+use Rattle.mrt_wire.specs.declared.RecordKind.TheVariants.{CutRecord}
 use Rattle.mrt_wire.specs.declared.event.Stamp.{Stamp}
 use Rattle.mrt_wire.specs.declared.next.Phase.{Phase}
 use Rattle.mrt_wire.specs.declared.next.Phase.TheVariants.{Reading, Ended, Spent}
 use Rattle.mrt_wire.specs.Verdict.{Frame}
 use Rattle.mrt_wire.specs.Splitting.{Splits, spellings}
-use Rattle.mrt_wire.specs.Results.{Finding, rest_kind}
+use Rattle.mrt_wire.specs.Rest.{rest_kind}
+use Rattle.mrt_wire.specs.Results.{Finding}
 use Rattle.mrt_wire.specs.Taking.{IsRest, IsBegun}
 use Rattle.mrt_wire.specs.Place.{Place, start_place, results}
 use Rattle.mrt_wire.specs.Next.{Took, IsLeft}
 use Rattle.mrt_wire.specs.Device.{Stops}
 use Rattle.mrt_wire.specs.SoFar.{SoFar, RestSoFar}
 use Rattle.mrt_wire.proofs.FirstLaws.{same_taken}
-use Rattle.mrt_wire.proofs.RecordLaws.{BeginsWithNoRecord-short}
+use Rattle.mrt_frames.proofs.RecordLaws.{BeginsWithNoRecord-short}
 use Rattle.mrt_wire.proofs.SplitLaws.{frames_all}
 use Rattle.mrt_wire.proofs.SoFarLaws.{FirstSoFar, first_so_far, front_so_far, no_rest}
 use Rattle.bgpdump_lines.specs.declared.dump.TheConstants.{LIMIT}

@@ -1,7 +1,7 @@
 -- How a run ends at a fault.
 use Rattle.std.specs.Prelude.{Bool, true, false, Result, Ok, Err}
-use Rattle.mrt_wire.specs.declared.fault.SourceFault.{SourceFault}
-use Rattle.mrt_wire.specs.declared.fault.SourceFault.TheVariants as source
+use Rattle.mrt_wire.specs.declared.SourceFault.{SourceFault}
+use Rattle.mrt_wire.specs.declared.SourceFault.TheVariants as source
 use Rattle.bgpdump_lines.specs.declared.fault.WriteFault.{WriteFault}
 use Rattle.bgpdump_lines.specs.declared.fault.WriteFault.TheVariants as write
 use Rattle.bgpdump_lines.specs.declared.outcome.Outcome.{Outcome}

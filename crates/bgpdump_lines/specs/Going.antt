@@ -1,7 +1,7 @@
 -- What a run has taken and written so far, and where it stopped.
 use Rattle.std.specs.Prelude.{◌≡◌, ℕ, Bool, List, ◌⊎◌, ◌+◌, ◌≤◌, length, Option, Result, Ok, Err}
 use Rattle.std.specs.Io.KnownBytes.{Consumes}
-use Rattle.mrt_wire.specs.declared.fault.SourceFault.{SourceFault}
+use Rattle.mrt_wire.specs.declared.SourceFault.{SourceFault}
 use Rattle.mrt_wire.specs.declared.next.Phase.TheVariants.{Reading, Ended}
 use Rattle.mrt_wire.specs.Device.{Stops}
 use Rattle.mrt_wire.specs.Results.{Finding}

@@ -1,9 +1,9 @@
 -- The reports of faulty records, and the texts of all that is found.
 use Rattle.std.specs.Prelude.{ℕ, List, [], ◌∷◌, ◌++◌, decimal, codes}
 use Rattle.std.specs.List.{flat_map}
-use Rattle.mrt_wire.specs.declared.fault.RecordKind.{RecordKind}
-use Rattle.mrt_wire.specs.declared.fault.RecordKind.TheVariants.{CutRecord, TooLong, Unsupported, Malformed, NoIndex, PeerIndex}
-use Rattle.mrt_wire.specs.declared.fault.RecordFault.{RecordFault}
+use Rattle.mrt_wire.specs.declared.RecordKind.{RecordKind}
+use Rattle.mrt_wire.specs.declared.RecordKind.TheVariants.{CutRecord, TooLong, Unsupported, Malformed, NoIndex, PeerIndex}
+use Rattle.mrt_wire.specs.declared.RecordFault.{RecordFault}
 use Rattle.mrt_wire.specs.Results.{Finding, Found, Bad}
 use Rattle.bgpdump_lines.specs.Lines.{line_feed, event_lines}
 use Rattle.bgpdump_lines.specs.Run.{Texts}

@@ -5,8 +5,9 @@ use Rattle.mrt_wire.specs.declared.event.Stamp.{Stamp}
 use Rattle.mrt_wire.specs.Record.{Record, spelling, IsRecord}
 use Rattle.mrt_wire.specs.Verdict.{Frame}
 use Rattle.mrt_wire.specs.Splitting.{AreFrames, Splits, spellings}
-use Rattle.mrt_wire.specs.declared.fault.RecordKind.TheVariants.{CutRecord}
-use Rattle.mrt_wire.specs.Results.{Finding, rest_kind}
+use Rattle.mrt_wire.specs.declared.RecordKind.TheVariants.{CutRecord}
+use Rattle.mrt_wire.specs.Rest.{rest_kind}
+use Rattle.mrt_wire.specs.Results.{Finding}
 use Rattle.mrt_wire.specs.Taking.{IsRest, IsBegun}
 use Rattle.mrt_wire.specs.Place.{start_place, results}
 use Rattle.mrt_wire.specs.Next.{Took}

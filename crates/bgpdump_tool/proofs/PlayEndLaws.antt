@@ -2,17 +2,18 @@
 use Rattle.std.proofs.Common.{None, ◌≡◌, ◌≢◌, ◌⊎◌, inl, inr, ℕ, ◌||◌, Bool, true, false, Ok, Err, List, [], ◌∷◌, ◌++◌, length, Option, refl, sym, ap, subst, ◌∙◌, append-nil}
 use Rattle.std.specs.Io.KnownBytes.{Consumes, Keeps}
 use Rattle.mrt_wire.specs.declared.event.Stamp.{Stamp}
-use Rattle.mrt_wire.specs.declared.fault.SourceFault.{SourceFault}
-use Rattle.mrt_wire.specs.declared.fault.SourceFault.TheVariants as source
+use Rattle.mrt_wire.specs.declared.SourceFault.{SourceFault}
+use Rattle.mrt_wire.specs.declared.SourceFault.TheVariants as source
 use Rattle.mrt_wire.specs.Taking.{IsRest}
-use Rattle.mrt_wire.specs.declared.fault.RecordKind.TheVariants.{CutRecord}
+use Rattle.mrt_wire.specs.declared.RecordKind.TheVariants.{CutRecord}
 use Rattle.mrt_wire.specs.declared.next.Phase.TheVariants.{Ended}
 use Rattle.mrt_wire.specs.Verdict.{Frame}
 use Rattle.mrt_wire.specs.Splitting.{Splits, spellings}
 use Rattle.mrt_wire.specs.SoFar.{SoFar}
 use Rattle.mrt_wire.proofs.FirstLaws.{same_taken}
 use Rattle.mrt_wire.proofs.SplitLaws.{frames_all}
-use Rattle.mrt_wire.specs.Results.{Finding, rest_kind}
+use Rattle.mrt_wire.specs.Rest.{rest_kind}
+use Rattle.mrt_wire.specs.Results.{Finding}
 use Rattle.mrt_wire.specs.Place.{Place, start_place, results}
 use Rattle.mrt_wire.specs.Next.{Took}
 use Rattle.mrt_wire.proofs.SoFarLaws.{FirstSoFar}

@@ -5,7 +5,7 @@ use Rattle.std.proofs.lemmas.List.{append_assoc}
 use Rattle.std.specs.Io.KnownBytes.{Appends}
 use Rattle.std.proofs.KnownBytes.{Appends-nil}
 use Rattle.mrt_wire.specs.declared.event.Stamp.{Stamp}
-use Rattle.mrt_wire.specs.declared.fault.SourceFault.{SourceFault}
+use Rattle.mrt_wire.specs.declared.SourceFault.{SourceFault}
 use Rattle.mrt_wire.specs.declared.next.Phase.TheVariants.{Ended}
 use Rattle.mrt_wire.specs.Results.{Finding, Found, Bad}
 use Rattle.mrt_wire.specs.Place.{Place, start_place}

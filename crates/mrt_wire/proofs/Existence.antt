@@ -4,17 +4,17 @@ use Rattle.std.proofs.lemmas.Bool.{cases_lt}
 use Rattle.std.proofs.lemmas.List.{append_assoc, length-append, length-take-le, length-drop, get_or-take, get_or-drop, get_or_past, take-append-drop}
 use Rattle.std.proofs.lemmas.Nat.{be_bytes_2, be_bytes_4}
 use Rattle.std.specs.Int.{to_be_bytes, from_be_bytes, w16, w32}
-use Rattle.mrt_wire.specs.declared.fault.RecordKind.TheVariants.{Unsupported, Malformed}
+use Rattle.mrt_frames.specs.declared.fault.RecordKind.TheVariants.{Unsupported, Malformed}
 use Rattle.mrt_wire.specs.declared.event.Stamp.{Stamp}
-use Rattle.mrt_wire.specs.declared.frames.TheConstants.{LONGEST_BODY}
-use Rattle.mrt_wire.specs.Record.{Record, record_of, IsOctets, IsHeader, header_octets, spelling, IsRecord, BeginsWithNoRecord}
-use Rattle.mrt_wire.specs.declared.fault.RecordKind.{RecordKind}
+use Rattle.mrt_frames.specs.declared.frames.TheConstants.{LONGEST_BODY}
+use Rattle.mrt_frames.specs.Record.{Record, record_of, IsOctets, IsHeader, header_octets, spelling, IsRecord, BeginsWithNoRecord}
+use Rattle.mrt_frames.specs.declared.fault.RecordKind.{RecordKind}
 use Rattle.mrt_wire.specs.Content.{Content, IsBody}
 use Rattle.mrt_wire.specs.Verdict.{Verdict, Accepted, Refused, Frame, Index, index_after, content_fault, event_of, ReadsAs}
 use Rattle.mrt_wire.specs.Splitting.{Splits, spellings}
 use Rattle.mrt_wire.proofs.ContentLaws.{cases_form}
 use Rattle.mrt_wire.proofs.JudgingLaws.{fault_of_content}
-use Rattle.mrt_wire.proofs.RecordLaws.{BeginsWithNoRecord-short, BeginsWithNoRecord-cut, BeginsWithNoRecord-too_long}
+use Rattle.mrt_frames.proofs.RecordLaws.{BeginsWithNoRecord-short, BeginsWithNoRecord-cut, BeginsWithNoRecord-too_long}
 use Rattle.ip_prefix.proofs.Lists.{drop_in_parts}
 
 -- a field is put in front

@@ -6,10 +6,10 @@ use Rattle.ip_prefix.specs.Address.{octet_count}
 use Rattle.ip_prefix.specs.Bits.{bits_of_octets}
 use Rattle.ip_prefix.specs.Sequences.{Begins, BeginsWithNone, OneFront}
 use Rattle.ip_prefix.proofs.Lists.{append_parts}
-use Rattle.bgp_wire.specs.declared.path.AsWidth.{AsWidth}
-use Rattle.bgp_wire.specs.declared.path.AsWidth.TheVariants.{Two, Four}
+use Rattle.bgp_wire.specs.declared.AsWidth.{AsWidth}
+use Rattle.bgp_wire.specs.declared.AsWidth.TheVariants.{Two, Four}
 use Rattle.bgp_wire.specs.Number.{SpellsAsn, SpellsWord}
-use Rattle.bgp_wire.proofs.OneFront.{number_code}
+use Rattle.bgp_paths.proofs.OneFront.{number_code}
 use Rattle.bgp_wire.proofs.Reaching.{same_sized}
 use Rattle.mrt_wire.specs.Fields.{SpellsOctet, SpellsShort, AreOctets, AreSized, SpellsAddressOf}
 

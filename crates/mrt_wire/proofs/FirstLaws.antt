@@ -5,18 +5,19 @@ use Rattle.std.proofs.lemmas.List.{append_cancel_right, append_assoc, drop_at, t
 use Rattle.std.proofs.lemmas.Nat.{from_be_bytes-to_be_bytes_4}
 use Rattle.std.specs.Prelude.{nat_lt}
 use Rattle.std.specs.Int.{from_be_bytes, w32}
-use Rattle.mrt_wire.specs.declared.fault.RecordKind.{RecordKind}
-use Rattle.mrt_wire.specs.declared.fault.RecordKind.TheVariants.{CutRecord, TooLong}
+use Rattle.mrt_frames.specs.declared.fault.RecordKind.{RecordKind}
+use Rattle.mrt_frames.specs.declared.fault.RecordKind.TheVariants.{CutRecord, TooLong}
 use Rattle.std.specs.Io.KnownBytes.{Consumes}
-use Rattle.mrt_wire.specs.declared.fault.SourceFault.{SourceFault}
+use Rattle.mrt_frames.specs.declared.fault.SourceFault.{SourceFault}
 use Rattle.mrt_wire.specs.declared.next.Next.{Next}
 use Rattle.mrt_wire.specs.declared.next.Next.TheVariants as next
-use Rattle.mrt_wire.specs.declared.frames.TheConstants.{LONGEST_BODY}
-use Rattle.mrt_wire.specs.Record.{Record, spelling, IsRecord, BeginsWithNoRecord}
+use Rattle.mrt_frames.specs.declared.frames.TheConstants.{LONGEST_BODY}
+use Rattle.mrt_frames.specs.Record.{Record, spelling, IsRecord, BeginsWithNoRecord}
 use Rattle.mrt_wire.specs.Verdict.{Frame}
 use Rattle.mrt_wire.specs.Splitting.{Splits, spellings}
-use Rattle.mrt_wire.specs.Results.{Finding, Found, Bad, stated_size, rest_kind, rest_fault, fault_findings}
-use Rattle.mrt_wire.specs.Taking.{IsRest}
+use Rattle.mrt_frames.specs.Rest.{stated_size, rest_kind, rest_fault}
+use Rattle.mrt_wire.specs.Results.{Finding, Found, Bad, fault_findings}
+use Rattle.mrt_frames.specs.Taking.{IsRest}
 use Rattle.mrt_wire.specs.Place.{Place, results}
 use Rattle.mrt_wire.specs.Next.{Nexts, answer_findings, MayFollow, IsFrameAt, IsRestAt, Took}
 use Rattle.mrt_wire.proofs.SplitLaws.{frames_first, frames_all}

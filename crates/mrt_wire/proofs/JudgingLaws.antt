@@ -1,13 +1,13 @@
 -- What becomes of a record, by what its body was read as.
 use Rattle.std.proofs.Common.{◌≡◌, ℕ, Option, Some, None, Err, refl, subst}
-use Rattle.bgp_wire.specs.declared.fault.WireFault.{WireFault}
-use Rattle.bgp_wire.specs.declared.fault.WireFault.TheVariants as wire
+use Rattle.bgp_wire.specs.declared.WireFault.{WireFault}
+use Rattle.bgp_wire.specs.declared.WireFault.TheVariants as wire
 use Rattle.bgp_wire.specs.Reading.{Refuses, IsNoSpelling}
 use Rattle.mrt_wire.specs.declared.event.Stamp.{Stamp}
-use Rattle.mrt_wire.specs.declared.fault.RecordKind.{RecordKind}
-use Rattle.mrt_wire.specs.declared.fault.RecordKind.TheVariants.{CutRecord, TooLong, Unsupported, Malformed, NoIndex, PeerIndex}
+use Rattle.mrt_frames.specs.declared.fault.RecordKind.{RecordKind}
+use Rattle.mrt_frames.specs.declared.fault.RecordKind.TheVariants.{CutRecord, TooLong, Unsupported, Malformed, NoIndex, PeerIndex}
 use Rattle.mrt_wire.specs.declared.profile.Form.{Form}
-use Rattle.mrt_wire.specs.Record.{Record}
+use Rattle.mrt_frames.specs.Record.{Record}
 use Rattle.mrt_wire.specs.Profile.{HasForm}
 use Rattle.mrt_wire.specs.Content.{Content, Peers, Entries, Session, SpellsContent, IsBody}
 use Rattle.mrt_wire.specs.Verdict.{Index, HasFault, HasContentFault, content_fault, entries_fault}

@@ -1,4 +1,3 @@
-pub mod Buffers
 pub mod ContentLaws
 pub mod Existence
 pub mod FieldFronts
@@ -7,9 +6,7 @@ pub mod JudgingLaws
 pub mod PeerIndexLaws
 pub mod PeerLaws
 pub mod ReadingLaws
-pub mod RecordLaws
 pub mod NextLaws
-pub mod RestLaws
 pub mod RibLaws
 pub mod SessionLaws
 pub mod SharedLaws

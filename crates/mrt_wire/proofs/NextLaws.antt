@@ -2,17 +2,17 @@
 use Rattle.std.proofs.Common.{◌≡◌, inl, ℕ, ◌+◌, List, Option, Result, Ok, Err, length, take, ap, ◌∙◌, refl, subst}
 use Rattle.std.specs.Io.KnownBytes.{Consumes}
 use Rattle.mrt_wire.specs.declared.event.Event.{Event}
-use Rattle.mrt_wire.specs.declared.frames.Front.TheVariants as front
-use Rattle.mrt_wire.specs.declared.header.Header.{Header}
+use Rattle.mrt_frames.specs.declared.frames.Front.TheVariants as front
+use Rattle.mrt_frames.specs.declared.header.Header.{Header}
 use Rattle.mrt_wire.specs.declared.judging.Refusal.{Refusal}
 use Rattle.mrt_wire.specs.declared.judging.Refusal.TheVariants as refusal
 use Rattle.mrt_wire.specs.declared.next.Next.{Next}
 use Rattle.mrt_wire.specs.declared.next.Next.TheVariants as next
-use Rattle.mrt_wire.specs.Device.{Takes}
-use Rattle.mrt_wire.specs.Record.{record_under, spelling}
+use Rattle.mrt_frames.specs.Device.{Takes}
+use Rattle.mrt_frames.specs.Record.{record_under, spelling}
 use Rattle.mrt_wire.specs.Verdict.{Index, Accepted, Refused, Frame, ReadsAs, index_after}
 use Rattle.mrt_wire.specs.Judging.{Judges, judged_answer}
-use Rattle.mrt_wire.specs.Taking.{TakesRecord, record_in}
+use Rattle.mrt_frames.specs.Taking.{TakesRecord, record_in}
 use Rattle.mrt_wire.specs.Place.{Place, place_behind}
 use Rattle.mrt_wire.specs.Next.{Nexts, answer_findings}
 

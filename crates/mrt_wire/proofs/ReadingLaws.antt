@@ -7,8 +7,8 @@ use Rattle.ip_prefix.specs.Fields.{Then, Behind, WithMore}
 use Rattle.ip_prefix.specs.Counted.{SpellsCounted}
 use Rattle.ip_prefix.proofs.Fields.{none_behind}
 use Rattle.ip_prefix.proofs.Counts as counts
-use Rattle.bgp_wire.specs.declared.fault.WireFault.{WireFault}
-use Rattle.bgp_wire.specs.declared.fault.WireFault.TheVariants.{Malformed, Memory}
+use Rattle.bgp_wire.specs.declared.WireFault.{WireFault}
+use Rattle.bgp_wire.specs.declared.WireFault.TheVariants.{Malformed, Memory}
 use Rattle.bgp_wire.specs.Reading.{Reads, Refuses, RefusesFront}
 use Rattle.mrt_wire.specs.Fields.{SpellsShort}
 

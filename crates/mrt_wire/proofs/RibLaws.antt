@@ -8,14 +8,14 @@ use Rattle.ip_prefix.proofs.Fields.{then_front, then_one, more_one, behind_one}
 use Rattle.ip_prefix.proofs.Counts.{counted_code}
 use Rattle.ip_prefix.proofs.Sequences.{never_begins}
 use Rattle.ip_prefix.proofs.Wires.{network_code}
-use Rattle.bgp_wire.specs.declared.fault.WireFault.{WireFault}
-use Rattle.bgp_wire.specs.declared.fault.WireFault.TheVariants.{Malformed, Memory}
-use Rattle.bgp_wire.specs.declared.path.AsWidth.TheVariants.{Two, Four}
+use Rattle.bgp_wire.specs.declared.WireFault.{WireFault}
+use Rattle.bgp_wire.specs.declared.WireFault.TheVariants.{Malformed, Memory}
+use Rattle.bgp_wire.specs.declared.AsWidth.TheVariants.{Two, Four}
 use Rattle.bgp_wire.specs.Content.{SpellsRibAttrs}
 use Rattle.bgp_wire.specs.Number.{SpellsAsn}
 use Rattle.bgp_wire.specs.Reading.{Refuses, RefusesFront}
 use Rattle.bgp_wire.proofs.OneContent.{one_rib_attrs}
-use Rattle.bgp_wire.proofs.OneFront.{number_code}
+use Rattle.bgp_paths.proofs.OneFront.{number_code}
 use Rattle.mrt_wire.specs.declared.rib.TheConstants.{SEQUENCE_SIZE}
 use Rattle.mrt_wire.specs.Rib.{RibEntry, AreEntryFields, SpellsEntry, SpellsEntries, SpellsPrefixed, SpellsRib}
 use Rattle.mrt_wire.proofs.FieldFronts.{octets_front, sized_front, short_front, word_front}

@@ -4,16 +4,17 @@ use Rattle.std.proofs.lemmas.List.{append_assoc}
 use Rattle.std.proofs.lemmas.Grind.{flat_map-append}
 use Rattle.std.specs.Io.KnownBytes.{Consumes, IsAtEnd}
 use Rattle.std.proofs.KnownBytes.{Consumes-nil, Consumes-trans}
-use Rattle.mrt_wire.specs.declared.fault.RecordKind.TheVariants.{CutRecord}
-use Rattle.mrt_wire.specs.declared.fault.SourceFault.{SourceFault}
+use Rattle.mrt_frames.specs.declared.fault.RecordKind.TheVariants.{CutRecord}
+use Rattle.mrt_frames.specs.declared.fault.SourceFault.{SourceFault}
 use Rattle.mrt_wire.specs.declared.next.Next.{Next}
 use Rattle.mrt_wire.specs.declared.next.Phase.{Phase}
 use Rattle.mrt_wire.specs.declared.next.Phase.TheVariants.{Reading, Ended, Spent}
-use Rattle.mrt_wire.specs.Record.{header_octets, spelling, IsRecord, BeginsWithNoRecord}
-use Rattle.mrt_wire.specs.Taking.{EndsAt}
+use Rattle.mrt_frames.specs.Record.{header_octets, spelling, IsRecord, BeginsWithNoRecord}
+use Rattle.mrt_frames.specs.Taking.{EndsAt}
 use Rattle.mrt_wire.specs.Verdict.{Frame, ReadsAs, index_after}
 use Rattle.mrt_wire.specs.Splitting.{AreFrames, Splits, spellings}
-use Rattle.mrt_wire.specs.Results.{Finding, finding, fault_findings, rest_kind, rest_fault}
+use Rattle.mrt_frames.specs.Rest.{rest_kind, rest_fault}
+use Rattle.mrt_wire.specs.Results.{Finding, finding, fault_findings}
 use Rattle.mrt_wire.specs.Place.{Place, place_behind, place_behind_all, results}
 use Rattle.mrt_wire.specs.Next.{Nexts, answer_findings, IsFrameAt, IsRestAt}
 use Rattle.mrt_wire.specs.SoFar.{SoFar, RestSoFar, is_nothing}

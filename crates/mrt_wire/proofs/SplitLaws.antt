@@ -2,17 +2,17 @@
 use Rattle.std.proofs.Common.{◌≡◌, ℕ, List, [], ◌∷◌, ◌++◌, Option, Some, None, sym, ap, ◌∙◌, refl, subst}
 use Rattle.std.specs.List.{AllByRecursion}
 use Rattle.std.proofs.lemmas.List.{append_assoc, append-nil}
-use Rattle.mrt_wire.specs.declared.fault.RecordKind.{RecordKind}
-use Rattle.mrt_wire.specs.declared.fault.RecordKind.TheVariants.{CutRecord, TooLong, Unsupported, Malformed, NoIndex, PeerIndex}
+use Rattle.mrt_frames.specs.declared.fault.RecordKind.{RecordKind}
+use Rattle.mrt_frames.specs.declared.fault.RecordKind.TheVariants.{CutRecord, TooLong, Unsupported, Malformed, NoIndex, PeerIndex}
 use Rattle.mrt_wire.specs.declared.event.Event.{Event}
 use Rattle.mrt_wire.specs.declared.event.Stamp.{Stamp}
-use Rattle.mrt_wire.specs.Record.{Record, spelling, IsRecord, BeginsWithNoRecord}
+use Rattle.mrt_frames.specs.Record.{Record, spelling, IsRecord, BeginsWithNoRecord}
 use Rattle.mrt_wire.specs.Profile.{IsSupported}
 use Rattle.mrt_wire.specs.Content.{Content, IsBody}
 use Rattle.mrt_wire.specs.Verdict.{content_fault, HasFault, HasNoContent, MakesEvent, Verdict, Accepted, Refused, Frame, Index, ReadsAs, Readings, index_after, index_behind, event_of}
 use Rattle.mrt_wire.specs.Splitting.{AreFrames, Splits, spellings}
 use Rattle.mrt_wire.proofs.ContentLaws.{same_content}
-use Rattle.mrt_wire.proofs.RecordLaws.{same_front}
+use Rattle.mrt_frames.proofs.RecordLaws.{same_front}
 
 -- a content's record is supported
 supported_content : (r : Record) (content : Content) → IsBody r.kind r.subtype content r.body → IsSupported r

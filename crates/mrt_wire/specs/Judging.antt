@@ -1,13 +1,13 @@
 -- What the private calls make of a record.
 use Rattle.std.specs.Prelude.{◌≡◌, ℕ, List, ◌++◌, map, Result, Ok, Err}
-use Rattle.bgp_wire.specs.declared.fault.WireFault.{WireFault}
-use Rattle.bgp_wire.specs.declared.fault.WireFault.TheVariants as wire
+use Rattle.bgp_wire.specs.declared.WireFault.{WireFault}
+use Rattle.bgp_wire.specs.declared.WireFault.TheVariants as wire
 use Rattle.mrt_wire.specs.declared.event.Stamp.{Stamp}
 use Rattle.mrt_wire.specs.declared.event.Event.{Event}
 use Rattle.mrt_wire.specs.declared.event.Item.{Item}
-use Rattle.mrt_wire.specs.declared.fault.RecordKind.TheVariants.{Malformed}
-use Rattle.mrt_wire.specs.declared.fault.SourceFault.{SourceFault}
-use Rattle.mrt_wire.specs.declared.fault.SourceFault.TheVariants as source
+use Rattle.mrt_frames.specs.declared.fault.RecordKind.TheVariants.{Malformed}
+use Rattle.mrt_frames.specs.declared.fault.SourceFault.{SourceFault}
+use Rattle.mrt_frames.specs.declared.fault.SourceFault.TheVariants as source
 use Rattle.mrt_wire.specs.declared.judging.Refusal.{Refusal}
 use Rattle.mrt_wire.specs.declared.judging.Refusal.TheVariants as refusal
 use Rattle.mrt_wire.specs.declared.next.Next.{Next}
@@ -16,7 +16,7 @@ use Rattle.mrt_wire.specs.declared.rib.Snapshot.{Snapshot}
 use Rattle.mrt_wire.specs.declared.rib.EntryItems.{EntryItems}
 use Rattle.mrt_wire.specs.declared.rib.ReadEntry.{ReadEntry}
 use Rattle.mrt_wire.specs.declared.session.SessionItems.{SessionItems}
-use Rattle.mrt_wire.specs.Record.{Record}
+use Rattle.mrt_frames.specs.Record.{Record}
 use Rattle.mrt_wire.specs.Rib.{RibEntry, PrefixEntries}
 use Rattle.mrt_wire.specs.Items.{entry_time, entries_items, first_unknown, session_items}
 use Rattle.mrt_wire.specs.Event.{Saying, saying}

@@ -1,5 +1,6 @@
-pub mod Device
-pub mod Record
+pub use Rattle.mrt_frames.specs.Device
+pub use Rattle.mrt_frames.specs.Record
+pub use Rattle.mrt_frames.specs.Rest
 pub mod Fields
 pub mod PeerIndex
 pub mod Rib
@@ -14,7 +15,7 @@ pub mod Splitting
 pub mod Results
 pub mod Place
 pub mod Judging
-pub mod Taking
+pub use Rattle.mrt_frames.specs.Taking
 pub mod Next
 pub mod SoFar
 pub mod Codes

@@ -1,16 +1,17 @@
 -- What a call of `next` takes and answers.
 use Rattle.std.specs.Prelude.{◌≡◌, ◌⊎◌, ◌∷◌, [], ℕ, ◌+◌, ◌++◌, List, Option, Some, Result, Ok, Err}
-use Rattle.mrt_wire.specs.declared.fault.RecordKind.TheVariants.{CutRecord}
-use Rattle.mrt_wire.specs.declared.fault.SourceFault.{SourceFault}
-use Rattle.mrt_wire.specs.declared.fault.SourceFault.TheVariants.{Memory}
+use Rattle.mrt_frames.specs.declared.fault.RecordKind.TheVariants.{CutRecord}
+use Rattle.mrt_frames.specs.declared.fault.SourceFault.{SourceFault}
+use Rattle.mrt_frames.specs.declared.fault.SourceFault.TheVariants.{Memory}
 use Rattle.mrt_wire.specs.declared.next.Phase.TheVariants.{Ended, Spent}
 use Rattle.mrt_wire.specs.declared.next.Next.{Next}
 use Rattle.mrt_wire.specs.declared.next.Next.TheVariants as next
-use Rattle.mrt_wire.specs.Device.{Stops}
-use Rattle.mrt_wire.specs.Record.{Record, spelling, IsRecord}
+use Rattle.mrt_frames.specs.Device.{Stops}
+use Rattle.mrt_frames.specs.Record.{Record, spelling, IsRecord}
 use Rattle.mrt_wire.specs.Verdict.{Frame, ReadsAs}
-use Rattle.mrt_wire.specs.Results.{Finding, Found, Bad, finding, rest_fault, fault_findings}
-use Rattle.mrt_wire.specs.Taking.{IsBegun, EndsAt}
+use Rattle.mrt_frames.specs.Rest.{rest_fault}
+use Rattle.mrt_wire.specs.Results.{Finding, Found, Bad, finding, fault_findings}
+use Rattle.mrt_frames.specs.Taking.{IsBegun, EndsAt}
 use Rattle.mrt_wire.specs.Place.{Place, place_behind, stopped_place}
 
 -- what an answer tells

@@ -5,8 +5,8 @@ use Rattle.ip_prefix.specs.declared.addr.Family.TheVariants.{V4, V6}
 use Rattle.ip_prefix.specs.Address.{Address}
 use Rattle.ip_prefix.specs.Fields.{Then, Behind, WithMore}
 use Rattle.ip_prefix.specs.Counted.{SpellsCounted}
-use Rattle.bgp_wire.specs.declared.path.AsWidth.{AsWidth}
-use Rattle.bgp_wire.specs.declared.path.AsWidth.TheVariants.{Two, Four}
+use Rattle.bgp_wire.specs.declared.AsWidth.{AsWidth}
+use Rattle.bgp_wire.specs.declared.AsWidth.TheVariants.{Two, Four}
 use Rattle.bgp_wire.specs.Number.{SpellsAsn}
 use Rattle.mrt_wire.specs.declared.peer.Peer.{Peer}
 use Rattle.mrt_wire.specs.declared.peer_index.TheConstants.{ID_SIZE, IPV6_PEER, AS4_PEER}

@@ -3,9 +3,10 @@ use Rattle.std.specs.Prelude.{ℕ, ◌+◌, List, [], ◌∷◌, length, None}
 use Rattle.mrt_wire.specs.declared.event.Stamp.{Stamp}
 use Rattle.mrt_wire.specs.declared.next.Phase.{Phase}
 use Rattle.mrt_wire.specs.declared.next.Phase.TheVariants.{Reading}
-use Rattle.mrt_wire.specs.Record.{spelling}
+use Rattle.mrt_frames.specs.Record.{spelling}
 use Rattle.mrt_wire.specs.Verdict.{Index, Frame, index_after}
-use Rattle.mrt_wire.specs.Results.{Finding, finding, fault_findings, rest_fault}
+use Rattle.mrt_frames.specs.Rest.{rest_fault}
+use Rattle.mrt_wire.specs.Results.{Finding, finding, fault_findings}
 
 -- where a source stands: the peer index there, how many records and octets are behind it, how many octets it takes at most, which time entries get, and whether it still reads
 pub record Place : Type 0 where

@@ -1,14 +1,14 @@
 -- What is read: the types and subtypes of records, and the forms of their bodies (RFC 6396, section 4).
 use Rattle.std.specs.Prelude.{◌≡◌, ℕ, ◌==◌, if◌then◌else◌, Bool, true, false, Option, Some, None}
 use Rattle.ip_prefix.specs.declared.addr.Family.TheVariants.{V4, V6}
-use Rattle.bgp_wire.specs.declared.path.AsWidth.{AsWidth}
-use Rattle.bgp_wire.specs.declared.path.AsWidth.TheVariants.{Two, Four}
+use Rattle.bgp_wire.specs.declared.AsWidth.{AsWidth}
+use Rattle.bgp_wire.specs.declared.AsWidth.TheVariants.{Two, Four}
 use Rattle.mrt_wire.specs.declared.profile.Form.{Form}
 use Rattle.mrt_wire.specs.declared.profile.Form.TheVariants.{Peers, Entries, Session}
 use Rattle.mrt_wire.specs.declared.profile.SessionKind.{SessionKind}
 use Rattle.mrt_wire.specs.declared.profile.SessionKind.TheVariants.{StateChange, Message}
 use Rattle.mrt_wire.specs.declared.profile.TheConstants.{TABLE_DUMP_V2, BGP4MP, BGP4MP_ET, PEER_INDEX_TABLE, RIB_IPV4_UNICAST, RIB_IPV6_UNICAST, BGP4MP_STATE_CHANGE, BGP4MP_MESSAGE, BGP4MP_MESSAGE_AS4, BGP4MP_STATE_CHANGE_AS4}
-use Rattle.mrt_wire.specs.Record.{Record}
+use Rattle.mrt_frames.specs.Record.{Record}
 
 -- the forms of parts of tables, by subtype (section 4.3)
 abbrev pub table_form : ℕ → Option Form

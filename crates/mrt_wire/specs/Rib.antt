@@ -5,7 +5,7 @@ use Rattle.ip_prefix.specs.Network.{Network}
 use Rattle.ip_prefix.specs.Wire.{SpellsNetwork}
 use Rattle.ip_prefix.specs.Fields.{Then, Behind, WithMore}
 use Rattle.ip_prefix.specs.Counted.{SpellsCounted}
-use Rattle.bgp_wire.specs.declared.path.AsWidth.TheVariants.{Four}
+use Rattle.bgp_wire.specs.declared.AsWidth.TheVariants.{Four}
 use Rattle.bgp_wire.specs.Number.{SpellsWord}
 use Rattle.bgp_wire.specs.Content.{SpellsRibAttrs}
 use Rattle.bgp_wire.specs.declared.attrs.Attrs.{Attrs}

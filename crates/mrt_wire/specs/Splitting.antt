@@ -2,7 +2,7 @@
 use Rattle.std.specs.Prelude.{◌≡◌, ℕ, List, ◌++◌}
 use Rattle.std.specs.List.{flat_map, AllByRecursion}
 use Rattle.mrt_wire.specs.declared.event.Stamp.{Stamp}
-use Rattle.mrt_wire.specs.Record.{spelling, IsRecord, BeginsWithNoRecord}
+use Rattle.mrt_frames.specs.Record.{spelling, IsRecord, BeginsWithNoRecord}
 use Rattle.mrt_wire.specs.Verdict.{Frame, Index, Readings}
 
 -- the octets of records one behind the other

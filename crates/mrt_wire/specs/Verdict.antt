@@ -1,13 +1,13 @@
 -- What becomes of a record: an event, or the first fault that it has.
 use Rattle.std.specs.Prelude.{◌≡◌, ℕ, List, [], ◌∷◌, Option, Some, None}
-use Rattle.mrt_wire.specs.declared.fault.RecordKind.{RecordKind}
-use Rattle.mrt_wire.specs.declared.fault.RecordKind.TheVariants.{CutRecord, TooLong, Unsupported, Malformed, NoIndex, PeerIndex}
+use Rattle.mrt_frames.specs.declared.fault.RecordKind.{RecordKind}
+use Rattle.mrt_frames.specs.declared.fault.RecordKind.TheVariants.{CutRecord, TooLong, Unsupported, Malformed, NoIndex, PeerIndex}
 use Rattle.mrt_wire.specs.declared.event.Stamp.{Stamp}
 use Rattle.mrt_wire.specs.declared.event.Tag.{Tag}
 use Rattle.mrt_wire.specs.declared.event.Tag.TheVariants.{TableDump2, Bgp4mp, Bgp4mpEt}
 use Rattle.mrt_wire.specs.declared.event.Event.{Event}
 use Rattle.mrt_wire.specs.declared.peer.Peer.{Peer}
-use Rattle.mrt_wire.specs.Record.{Record}
+use Rattle.mrt_frames.specs.Record.{Record}
 use Rattle.mrt_wire.specs.Event.{Saying}
 use Rattle.mrt_wire.specs.Content.{Content, Peers, Entries, Session, IsBody}
 use Rattle.mrt_wire.specs.Items.{first_unknown, entries_items, session_items}

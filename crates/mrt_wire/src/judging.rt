@@ -3,14 +3,12 @@
 ghost use Rattle.std.specs.Prelude.{◌≡◌};
 ghost use Rattle.mrt_wire.specs.declared.judging.Refusal.TheVariants.{Memory};
 ghost use Rattle.mrt_wire.specs.declared.event.Stamp.{Stamp};
-ghost use Rattle.mrt_wire.specs.Record.{record_under};
+ghost use Rattle.mrt_frames.specs.Record.{record_under};
 ghost use Rattle.mrt_wire.specs.Profile.{HasForm};
 ghost use Rattle.mrt_wire.specs.Verdict.{Index, peers_in, entries_fault, table_event, session_tag, session_event};
 ghost use Rattle.mrt_wire.specs.Judging.{Judges, body_refusal};
 
 use crate::event::{Event, Items, Stamp, Tag, Time};
-use crate::fault::RecordKind;
-use crate::header::Header;
 use crate::peer::{Peer, Peers};
 use crate::peer_index::read_peer_index;
 use crate::pool::Pool;
@@ -19,6 +17,7 @@ use crate::rib::{Snapshot, read_rib};
 use crate::session::read_session;
 use bgp_wire::WireFault;
 use ip_prefix::Family;
+use mrt_frames::{Header, RecordKind};
 use std::alloc::{AllocError, Global};
 
 /// Why a record makes no event.

@@ -1,17 +1,11 @@
 //! The records that routers write (MRT, RFC 6396), as events.
 #![tactic(auto)]
 
-mod buffer;
 mod event;
-mod fault;
 mod fields;
-mod frames;
-mod header;
-mod input;
 mod judging;
 mod laws;
 mod next;
-mod octets;
 mod peer;
 mod peer_index;
 mod pool;
@@ -22,9 +16,8 @@ mod source;
 mod update;
 
 pub use event::{Event, Item, Items, Route, Shared, Stamp, Tag, Time};
-pub use fault::{RecordFault, RecordKind, SourceFault};
-pub use input::{InFault, Input, ReadInput};
 pub use laws::{no_octets_without_a_split, one_content, one_split, peer_order, record_numbers};
+pub use mrt_frames::{InFault, Input, ReadInput, RecordFault, RecordKind, SourceFault};
 pub use next::{Next, Phase};
 pub use peer::Peer;
 pub use source::Source;

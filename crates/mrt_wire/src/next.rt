@@ -1,7 +1,7 @@
 //! What a source answers, and whether it goes on.
 
 use crate::event::Event;
-use crate::fault::RecordFault;
+use mrt_frames::RecordFault;
 
 /// What comes next in an input.
 #[derive(Debug, Drop)]

@@ -1,7 +1,7 @@
 //! Memory that records are read into again.
 
 ghost use Rattle.std.specs.Prelude.{◌≡◌, ◌<◌, [], IfOk, IfErr, IfSome, OnOk, vec_len};
-ghost use Rattle.bgp_wire.specs.declared.path.AsWidth.TheVariants.{Four};
+ghost use Rattle.bgp_wire.specs.declared.AsWidth.TheVariants.{Four};
 ghost use Rattle.bgp_wire.specs.Content.{SpellsRibAttrs};
 ghost use Rattle.bgp_wire.specs.Reading.{Refuses};
 ghost use Rattle.mrt_wire.specs.Items.{route_of};

@@ -3,7 +3,7 @@
 ghost use Rattle.std.specs.Prelude.{◌≡◌, ◌≤◌, ◌+◌, ◌||◌, ◌++◌, ℕ, List, Ok, Err, take};
 ghost use Rattle.std.specs.Io.KnownBytes.{Consumes};
 ghost use Rattle.mrt_wire.specs.declared.next.Next.{Next};
-ghost use Rattle.mrt_wire.specs.Device.{is_read};
+ghost use Rattle.mrt_frames.specs.Device.{is_read};
 ghost use Rattle.mrt_wire.specs.Verdict.{Frame};
 ghost use Rattle.mrt_wire.specs.Splitting.{Splits};
 ghost use Rattle.mrt_wire.specs.Results.{fault_findings};
@@ -12,13 +12,11 @@ ghost use Rattle.mrt_wire.specs.Judging.{judged_answer};
 ghost use Rattle.mrt_wire.specs.Next.{Nexts, answer_findings, Took, MayFollow, spent_place};
 
 use crate::event::{Event, Stamp};
-use crate::fault::{RecordFault, RecordKind, SourceFault};
-use crate::frames::{FrameReader, Front};
-use crate::input::Input;
 use crate::judging::{Refusal, judge};
 use crate::next::{Next, Phase};
 use crate::peer::Peers;
 use crate::pool::Pool;
+use mrt_frames::{FrameReader, Front, Input, RecordFault, RecordKind, SourceFault};
 use std::alloc::Global;
 use std::marker::Model;
 
@@ -38,7 +36,7 @@ pub struct Source {
 
 impl Model for Source {
     ghost use Rattle.std.specs.Prelude.{◌*◌, ◌≤◌};
-    ghost use Rattle.mrt_wire.specs.declared.header.TheConstants.{HEADER_SIZE};
+    ghost use Rattle.mrt_frames.specs.declared.header.TheConstants.{HEADER_SIZE};
     ghost use Rattle.mrt_wire.specs.Place.{Place};
 
     ghost Value = { Place };

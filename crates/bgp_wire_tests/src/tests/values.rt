@@ -1,8 +1,10 @@
-//! The value of each attribute, but for paths and MP_REACH_NLRI.
+//! The value of each attribute, but for paths and MP_REACH_NLRI, and the type that holds communities.
 
 use super::{assert_refused, assert_rows};
-use bgp_wire::AsWidth;
+use bgp_wire::{AsWidth, Communities};
 use ip_prefix::Family;
+use std::alloc::{AllocError, Global};
+use std::process::Abort;
 use std::test::Fail;
 
 /// Values that are read (RFC 4271, section 4.3; RFC 1997; RFC 6793, section 3).
@@ -98,6 +100,23 @@ fn refuses_values(rt: HostRuntime) -> Result<(), Fail> {
 fn reads_all_attributes(rt: HostRuntime) -> Result<(), Fail> {
     for family in [Family::V4, Family::V6] {
         assert_rows(&rt, rt.alloc(), family, AsWidth::Four, ALL)?;
+    }
+    Ok(())
+}
+
+/// Asserts that communities are as they were made, a copy of them, and what is left of both.
+fn assert_communities(rt: &impl Abort, alloc: Global, numbers: &[u32]) -> Result<(), AllocError> {
+    let own = Communities::from_vec(Vec::from_slice(alloc, numbers)?);
+    assert_eq!(rt; own.as_slice(), numbers);
+    assert_eq!(rt; own.clone()?.as_slice(), numbers);
+    assert_eq!(rt; own.into_vec().as_slice(), numbers);
+    Ok(())
+}
+
+#[test]
+fn communities_are_as_made(rt: HostRuntime) -> Result<(), Fail> {
+    for numbers in [[1, 2].as_slice(), &[], &[0, 4_294_967_295, 0]] {
+        assert_communities(&rt, rt.alloc(), numbers)?;
     }
     Ok(())
 }

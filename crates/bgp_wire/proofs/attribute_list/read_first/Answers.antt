@@ -1,10 +1,11 @@
 use Rattle.std.proofs.Common.{◌≡◌, Some, Result, Ok, Err, IfErr, ap, sym, ◌∙◌}
-use Rattle.bgp_wire.specs.declared.fault.WireFault.{WireFault}
+use Rattle.bgp_paths.specs.declared.fault.WireFault.{WireFault}
 use Rattle.bgp_wire.specs.declared.framing.TheConstants.{AGGREGATOR}
 use Rattle.bgp_wire.specs.PlainValues.{FirstOf, SaysPlainly}
-use Rattle.bgp_wire.specs.Reading.{Refuses}
+use Rattle.bgp_paths.specs.Reading.{Refuses}
 use Rattle.bgp_wire.specs.Value.{SpellsAggregator}
-use Rattle.bgp_wire.proofs.Refusing.{refused_part, refused_found, spelled_there}
+use Rattle.bgp_paths.proofs.Refusing.{refused_part, refused_found}
+use Rattle.bgp_wire.proofs.There.{spelled_there}
 use Rattle.bgp_wire.proofs.attribute_list.read_first.Goals as goal
 
 pub returns-in-7-clause-refused : goal.returns-in-7-clause-refused

@@ -3,14 +3,14 @@ use Rattle.std.proofs.lemmas.Result.{err_from_is_err_and}
 use Rattle.ip_prefix.specs.Sequences.{Begins, SpellsAll}
 use Rattle.ip_prefix.proofs.Lists.{nonempty, no_elements}
 use Rattle.ip_prefix.proofs.Sequences.{one_more, none_at_all, goes_on, all_read}
-use Rattle.bgp_wire.specs.declared.fault.WireFault.{WireFault}
-use Rattle.bgp_wire.specs.declared.fault.WireFault.TheVariants.{Malformed, Memory}
-use Rattle.bgp_wire.specs.declared.path.AsWidth.{AsWidth}
+use Rattle.bgp_paths.specs.declared.fault.WireFault.{WireFault}
+use Rattle.bgp_paths.specs.declared.fault.WireFault.TheVariants.{Malformed, Memory}
+use Rattle.bgp_paths.specs.declared.path.AsWidth.{AsWidth}
 use Rattle.bgp_wire.specs.Attribute.{Attribute, SpellsAttribute, first_value}
 use Rattle.bgp_wire.specs.PlainValues.{FirstOf, firsts_of, with_value, ReadSoFar, SaysPlainly, SpellsPlainly}
-use Rattle.bgp_wire.specs.Reading.{Refuses}
+use Rattle.bgp_paths.specs.Reading.{Refuses}
 use Rattle.bgp_wire.proofs.Noting.{firsts_of-more, later_value, first_of_type, first_value-front}
-use Rattle.bgp_wire.proofs.OneFront.{attribute_code}
+use Rattle.bgp_wire.proofs.OneAttribute.{attribute_code}
 use Rattle.bgp_wire.proofs.attribute_list.read_list.Goals as goal
 use Rattle.bgp_wire.proofs.attribute_list.read_list.Goals.{then-not-note+in_ok-read_first, else-not-note}
 

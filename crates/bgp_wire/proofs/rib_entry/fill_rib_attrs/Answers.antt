@@ -7,11 +7,11 @@ use Rattle.bgp_wire.specs.Content.{SpellsRibAttrs}
 use Rattle.bgp_wire.specs.Lent.{octets_of}
 use Rattle.bgp_wire.specs.NextHop.{SpellsRibHop}
 use Rattle.bgp_wire.specs.PlainValues.{SpellsPlainly}
-use Rattle.bgp_wire.specs.Reading.{Refuses}
+use Rattle.bgp_paths.specs.Reading.{Refuses}
 use Rattle.bgp_wire.specs.Value.{SpellsOptional}
-use Rattle.bgp_wire.proofs.OneFront.{attribute_code}
+use Rattle.bgp_wire.proofs.OneAttribute.{attribute_code}
 use Rattle.bgp_wire.proofs.Plainly.{rib_plainly}
-use Rattle.bgp_wire.proofs.Refusing.{refused_part}
+use Rattle.bgp_paths.proofs.Refusing.{refused_part}
 use Rattle.bgp_wire.proofs.rib_entry.fill_rib_attrs.Goals as goal
 
 pub returns-in_err-kept-clause-refused : goal.returns-in_err-kept-clause-refused

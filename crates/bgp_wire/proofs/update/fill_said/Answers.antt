@@ -7,10 +7,10 @@ use Rattle.bgp_wire.specs.Lent.{octets_of}
 use Rattle.bgp_wire.specs.Parts.{SpellsParts}
 use Rattle.bgp_wire.specs.PlainValues.{SpellsPlainly}
 use Rattle.bgp_wire.specs.Reach.{SaysReach, SaysUnreach}
-use Rattle.bgp_wire.specs.Reading.{Refuses}
-use Rattle.bgp_wire.proofs.OneFront.{attribute_code}
+use Rattle.bgp_paths.specs.Reading.{Refuses}
+use Rattle.bgp_wire.proofs.OneAttribute.{attribute_code}
 use Rattle.bgp_wire.proofs.Plainly.{parts_plainly}
-use Rattle.bgp_wire.proofs.Refusing.{refused_part}
+use Rattle.bgp_paths.proofs.Refusing.{refused_part}
 use Rattle.bgp_wire.proofs.update.fill_said.Goals as goal
 use Rattle.bgp_wire.proofs.update.fill_said.Goals.{then-repeats-via-then-repeats, then-repeats-via-else-repeats+then-repeats-2}
 

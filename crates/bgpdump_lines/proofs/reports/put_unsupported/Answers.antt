@@ -1,6 +1,6 @@
 use Rattle.std.proofs.Common.{◌++◌, decimal, ap, ap₂, ◌∙◌, codes}
 use Rattle.std.proofs.lemmas.List.{append_assoc}
-use Rattle.mrt_wire.specs.declared.fault.RecordKind.TheVariants.{Unsupported}
+use Rattle.mrt_wire.specs.declared.RecordKind.TheVariants.{Unsupported}
 use Rattle.bgpdump_lines.specs.Reports.{kind_text}
 use Rattle.bgpdump_lines.proofs.reports.put_unsupported.Goals as goal
 

@@ -1,10 +1,10 @@
 use Rattle.std.proofs.Common.{Err, ap, sym, subst, ◌∙◌, refl}
 use Rattle.std.proofs.lemmas.Result.{err_from_is_err_and}
-use Rattle.bgp_wire.proofs.Refusing.{refused_part}
+use Rattle.bgp_paths.proofs.Refusing.{refused_part}
 use Rattle.mrt_wire.specs.declared.profile.Form.TheVariants as form
 use Rattle.mrt_wire.specs.Content.{Entries, SpellsContent}
 use Rattle.mrt_wire.specs.Rib.{SpellsRib}
-use Rattle.mrt_wire.specs.Record.{record_under}
+use Rattle.mrt_frames.specs.Record.{record_under}
 use Rattle.mrt_wire.specs.Items.{first_unknown, entries_items}
 use Rattle.mrt_wire.specs.Verdict.{entries_fault, table_event}
 use Rattle.mrt_wire.specs.Judging.{Judges}

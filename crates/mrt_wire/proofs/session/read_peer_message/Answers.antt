@@ -3,7 +3,7 @@ use Rattle.std.proofs.lemmas.Result.{err_from_is_err_and}
 use Rattle.bgp_wire.specs.Parts.{message_in}
 use Rattle.bgp_wire.specs.Reading.{Reads}
 use Rattle.bgp_wire.specs.Update.{SpellsMessage}
-use Rattle.bgp_wire.proofs.Refusing.{refused_part}
+use Rattle.bgp_paths.proofs.Refusing.{refused_part}
 use Rattle.ip_prefix.specs.Fields.{Then}
 use Rattle.mrt_wire.specs.Items.{receipt_items}
 use Rattle.mrt_wire.specs.Judging.{Told}

@@ -1,0 +1,20 @@
+-- How many numbers octets hold.
+use Rattle.std.proofs.Common.{◌≡◌, ℕ, ◌+◌, ◌*◌, ◌%◌, List, length, ap, ◌∙◌, arith}
+use Rattle.ip_prefix.specs.Sequences.{SpellsAll}
+use Rattle.bgp_paths.specs.declared.path.AsWidth.{AsWidth}
+use Rattle.bgp_paths.specs.declared.path.AsWidth.TheVariants.{Two, Four}
+use Rattle.bgp_paths.specs.Number.{octets_at, SpellsAsn}
+use Rattle.bgp_paths.proofs.OneFront.{length-numbers}
+
+-- with one less it is still whole
+pub less_one : (width : AsWidth) (size left : ℕ) → size % octets_at width ≡ 0 → left + octets_at width ≡ size → left % octets_at width ≡ 0
+less_one Two size left e h = omega (arith, e, h)
+less_one Four size left e h = omega (arith, e, h)
+
+whole_count : (width : AsWidth) (count : ℕ) → (octets_at width * count) % octets_at width ≡ 0
+whole_count Two count = omega arith
+whole_count Four count = omega arith
+
+-- octets that spell numbers hold a whole number of them
+pub whole_numbers : (width : AsWidth) (ns : List ℕ) (octets : List ℕ) → SpellsAll (SpellsAsn width) ns octets → length octets % octets_at width ≡ 0
+whole_numbers width ns octets s = ap (λ n. n % octets_at width) (length-numbers width ns octets s) ∙ whole_count width (length ns)

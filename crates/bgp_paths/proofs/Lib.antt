@@ -1,0 +1,8 @@
+pub mod OneFront
+pub mod Counting
+pub mod Refusing
+pub mod Words
+pub mod Weights
+pub mod Fronts
+pub mod Gathering
+pub mod Merging

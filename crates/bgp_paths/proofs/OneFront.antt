@@ -1,0 +1,100 @@
+-- No octets begin with spellings of two numbers or segments, nor spell two paths.
+use Rattle.std.proofs.Common.{◌≡◌, ℕ, ◌*◌, ◌<◌, List, [], ◌∷◌, ◌++◌, length, refl, ap, sym, subst, ◌∙◌, arith}
+use Rattle.std.specs.Int.{w16, w32, to_be_bytes, from_be_bytes}
+use Rattle.std.proofs.lemmas.Nat.{from_be_bytes-to_be_bytes_2, from_be_bytes-to_be_bytes_4}
+use Rattle.ip_prefix.specs.Sequences.{Begins, SpellsAll, IsCode}
+use Rattle.ip_prefix.proofs.Lists.{append_parts}
+use Rattle.ip_prefix.proofs.Sequences.{one_list}
+use Rattle.ip_prefix.proofs.Sequences.{length_together}
+use Rattle.bgp_paths.specs.declared.path.AsWidth.{AsWidth}
+use Rattle.bgp_paths.specs.declared.path.AsWidth.TheVariants.{Two, Four}
+use Rattle.bgp_paths.specs.declared.path.SegmentKind.{SegmentKind}
+use Rattle.bgp_paths.specs.declared.path.SegmentKind.TheVariants.{AsSet, AsSequence, ConfedSequence, ConfedSet}
+use Rattle.bgp_paths.specs.declared.path.Segment.{Segment}
+use Rattle.bgp_paths.specs.Number.{bits_at, octets_at, limit_at, SpellsAsn}
+use Rattle.bgp_paths.specs.declared.path.AsPath.{AsPath}
+use Rattle.bgp_paths.specs.Path.{kind_code, SpellsPath, SpellsSegment}
+
+-- ---- numbers
+
+-- how many octets a number takes
+pub length-number : (width : AsWidth) (n : ℕ) (octets : List ℕ) → SpellsAsn width n octets → length octets ≡ octets_at width
+length-number Two n octets s = ap length s.whole
+length-number Four n octets s = ap length s.whole
+
+-- numbers of one width with the same octets are one
+same_number : (width : AsWidth) (m n : ℕ) → m < limit_at width → n < limit_at width → to_be_bytes (bits_at width) m ≡ to_be_bytes (bits_at width) n → m ≡ n
+same_number Two m n p q e = sym (from_be_bytes-to_be_bytes_2 m p) ∙ ap (from_be_bytes w16) e ∙ from_be_bytes-to_be_bytes_2 n q
+same_number Four m n p q e = sym (from_be_bytes-to_be_bytes_4 m p) ∙ ap (from_be_bytes w32) e ∙ from_be_bytes-to_be_bytes_4 n q
+
+some_octets : (width : AsWidth) → 0 < octets_at width
+some_octets Two = omega arith
+some_octets Four = omega arith
+
+pub number_code : (width : AsWidth) → IsCode (SpellsAsn width)
+number_code width = record { some = some; same = same }
+  where
+    some : (n : ℕ) → SpellsAsn width n [] → ⊥
+    some n s = omega (arith, length-number width n [] s, some_octets width)
+
+    same : (a b : ℕ) (x y octets : List ℕ) → Begins (SpellsAsn width) a x octets → Begins (SpellsAsn width) b y octets → (a ≡ b) × (x ≡ y)
+    same a b x y octets p q =
+        let sizes : length p.front ≡ length q.front = length-number width a p.front p.spelled ∙ sym (length-number width b q.front q.spelled) in
+        let parts = append_parts p.front q.front x y sizes (sym p.whole ∙ q.whole) in
+        (same_number width a b p.spelled.fits q.spelled.fits (sym p.spelled.whole ∙ parts.0 ∙ q.spelled.whole), parts.1)
+
+-- how many octets numbers take together
+pub length-numbers : (width : AsWidth) (ns : List ℕ) (octets : List ℕ) → SpellsAll (SpellsAsn width) ns octets → length octets ≡ octets_at width * length ns
+length-numbers width ns octets s = length_together (SpellsAsn width) (octets_at width) (length-number width) ns octets s
+
+-- ---- segments
+
+pub same_kind : (a b : SegmentKind) → kind_code a ≡ kind_code b → a ≡ b
+same_kind AsSet AsSet e = refl
+same_kind AsSet AsSequence e = absurd (omega (arith, e))
+same_kind AsSet ConfedSequence e = absurd (omega (arith, e))
+same_kind AsSet ConfedSet e = absurd (omega (arith, e))
+same_kind AsSequence AsSet e = absurd (omega (arith, e))
+same_kind AsSequence AsSequence e = refl
+same_kind AsSequence ConfedSequence e = absurd (omega (arith, e))
+same_kind AsSequence ConfedSet e = absurd (omega (arith, e))
+same_kind ConfedSequence AsSet e = absurd (omega (arith, e))
+same_kind ConfedSequence AsSequence e = absurd (omega (arith, e))
+same_kind ConfedSequence ConfedSequence e = refl
+same_kind ConfedSequence ConfedSet e = absurd (omega (arith, e))
+same_kind ConfedSet AsSet e = absurd (omega (arith, e))
+same_kind ConfedSet AsSequence e = absurd (omega (arith, e))
+same_kind ConfedSet ConfedSequence e = absurd (omega (arith, e))
+same_kind ConfedSet ConfedSet e = refl
+
+-- octets that begin with a segment are its kind, its count, its numbers' octets, and the rest
+pub segment_begun : (width : AsWidth) (s : Segment) (rest octets : List ℕ) (b : Begins (SpellsSegment width) s rest octets) → octets ≡ kind_code s.kind ∷ length s.numbers ∷ (b.spelled.body ++ rest)
+segment_begun width s rest octets b = b.whole ∙ ap (λ l. l ++ rest) b.spelled.whole
+
+pub segment_code : (width : AsWidth) → IsCode (SpellsSegment width)
+segment_code width = record { some = some; same = same }
+  where
+    some : (s : Segment) → SpellsSegment width s [] → ⊥
+    some s p = let e = p.whole in cc
+
+    same : (a b : Segment) (x y octets : List ℕ) → Begins (SpellsSegment width) a x octets → Begins (SpellsSegment width) b y octets → (a ≡ b) × (x ≡ y)
+    same a b x y octets p q =
+        let one : kind_code a.kind ∷ length a.numbers ∷ (p.spelled.body ++ x) ≡ kind_code b.kind ∷ length b.numbers ∷ (q.spelled.body ++ y)
+        = sym (segment_begun width a x octets p) ∙ segment_begun width b y octets q in
+        let kinds : kind_code a.kind ≡ kind_code b.kind = cc in
+        let counts : length a.numbers ≡ length b.numbers = cc in
+        let bodies : p.spelled.body ++ x ≡ q.spelled.body ++ y = cc in
+        let sizes : length p.spelled.body ≡ length q.spelled.body
+        = length-numbers width a.numbers p.spelled.body p.spelled.spelled ∙ ap (λ n. octets_at width * n) counts
+        ∙ sym (length-numbers width b.numbers q.spelled.body q.spelled.spelled) in
+        let parts = append_parts p.spelled.body q.spelled.body x y sizes bodies in
+        let numbers = one_list (SpellsAsn width) (number_code width) q.spelled.body a.numbers b.numbers (subst (SpellsAll (SpellsAsn width) a.numbers) parts.0 p.spelled.spelled) q.spelled.spelled in
+        let kind = same_kind a.kind b.kind kinds in
+        ((λ i. record { numbers = numbers i; kind = kind i }), parts.1)
+
+-- ---- paths
+
+pub one_path_of : (width : AsWidth) (octets : List ℕ) (path other : AsPath) → SpellsPath width path octets → SpellsPath width other octets → path ≡ other
+one_path_of width octets path other s t =
+    let segments = one_list (SpellsSegment width) (segment_code width) octets path.segments other.segments s t in
+    λ i. record { segments = segments i }

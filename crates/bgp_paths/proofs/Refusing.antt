@@ -1,0 +1,87 @@
+-- What is refused when a part of it is.
+use Rattle.std.proofs.Common.{◌≡◌, ℕ, ◌*◌, IfErr, OnErr, Option, Some, None, Result, Ok, Err, List, [], ◌∷◌, ◌++◌, length, get_or, drop, ap, sym, subst, ◌∙◌, arith}
+use Rattle.ip_prefix.specs.Sequences.{Begins, SpellsAll, IsCode}
+use Rattle.ip_prefix.proofs.Lists.{append_parts}
+use Rattle.ip_prefix.proofs.Sequences.{none_at_all}
+use Rattle.bgp_paths.specs.declared.fault.WireFault.{WireFault}
+use Rattle.bgp_paths.specs.declared.fault.WireFault.TheVariants.{Malformed, Memory}
+use Rattle.bgp_paths.specs.declared.path.AsWidth.{AsWidth}
+use Rattle.bgp_paths.specs.declared.path.AsWidth.TheVariants.{Two, Four}
+use Rattle.bgp_paths.specs.declared.path.SegmentKind.{SegmentKind}
+use Rattle.bgp_paths.specs.declared.path.Segment.{Segment}
+use Rattle.bgp_paths.specs.Number.{octets_at, SpellsAsn}
+use Rattle.bgp_paths.specs.Path.{kind_code, SpellsSegment, IsFramed}
+use Rattle.bgp_paths.specs.Reading.{Finds, Reads, Refuses, RefusesFront}
+use Rattle.bgp_paths.proofs.OneFront.{segment_begun, length-numbers}
+
+-- what is found by a part is found by the whole, where the two spell the same values
+pub finds_whole : {A C D : Type 0} (Part : A → D → Type 0) (Whole : A → C → Type 0) (part : D) (octets : C) (answer : Option A)
+    → ((a : A) → Part a part → Whole a octets) → ((a : A) → Whole a octets → Part a part) → Finds Part part answer → Finds Whole octets answer
+finds_whole Part Whole part octets None up down h = λ a s. h a (down a s)
+finds_whole Part Whole part octets (Some a) up down h = up a h
+
+-- a value has a part that the other octets spell, so where none is spelled by those it isn't there
+pub refused_part : {A B C D : Type 0} (Whole : A → C → Type 0) (Part : B → D → Type 0) (octets : C) (part : D) (fault : WireFault)
+    → ((value : A) → Whole value octets → (b : B) × Part b part) → Refuses Part part fault → Refuses Whole octets fault
+refused_part Whole Part octets part Malformed has none = λ value s. none (has value s).0 (has value s).1
+refused_part Whole Part octets part Memory has none = tt
+
+-- where no value is spelled, every fault may be answered
+pub refused_always : {A C : Type 0} (Spells : A → C → Type 0) (octets : C) (fault : WireFault) → ((value : A) → Spells value octets → ⊥) → Refuses Spells octets fault
+refused_always Spells octets Malformed none = none
+refused_always Spells octets Memory none = tt
+
+-- what is read of a part is read of the whole, where one is spelled exactly where the other is
+pub reads_whole : {A C D : Type 0} (Part : A → D → Type 0) (Whole : A → C → Type 0) (part : D) (octets : C) (answer : Result A WireFault)
+    → ((a : A) → Part a part → Whole a octets) → ((a : A) → Whole a octets → (b : A) × Part b part) → Reads Part part answer → Reads Whole octets answer
+reads_whole Part Whole part octets (Ok a) up down h = up a h
+reads_whole Part Whole part octets (Err fault) up down h = refused_part Whole Part octets part fault down h
+
+-- where no value stands in front of what is left of a list, no list is spelled
+pub refused_rest : {A : Type 0} (Spells : A → List ℕ → Type 0) → IsCode Spells → (values : List A) (rest octets : List ℕ) (fault : WireFault) → (rest ≡ [] → ⊥) → Begins (SpellsAll Spells) values rest octets
+    → RefusesFront Spells rest fault → Refuses (SpellsAll Spells) octets fault
+refused_rest Spells code values rest octets Malformed some b none = none_at_all Spells code values rest octets some b none
+refused_rest Spells code values rest octets Memory some b none = tt
+
+-- a segment in front has the numbers that stand where it is framed
+numbers_framed : (width : AsWidth) (kind : SegmentKind) (count : ℕ) (body rest octets : List ℕ) → IsFramed width kind count body rest octets
+    → (segment : Segment) (more : List ℕ) → Begins (SpellsSegment width) segment more octets → SpellsAll (SpellsAsn width) segment.numbers body
+numbers_framed width kind count body rest octets f segment more b =
+    let s = b.spelled in
+    let one : kind_code kind ∷ count ∷ (body ++ rest) ≡ kind_code segment.kind ∷ length segment.numbers ∷ (s.body ++ more) = sym f.whole ∙ segment_begun width segment more octets b in
+    let counts : count ≡ length segment.numbers = ap (λ l. get_or l 1 0) one in
+    let sizes : length body ≡ length s.body = f.size ∙ ap (λ n. octets_at width * n) counts ∙ sym (length-numbers width segment.numbers s.body s.spelled) in
+    let parts = append_parts body s.body rest more sizes (ap (drop 2) one) in
+    subst (SpellsAll (SpellsAsn width) segment.numbers) (sym parts.0) s.spelled
+
+pub refused_numbers : (width : AsWidth) (kind : SegmentKind) (count : ℕ) (body rest octets : List ℕ) (fault : WireFault) → IsFramed width kind count body rest octets
+    → Refuses (SpellsAll (SpellsAsn width)) body fault → RefusesFront (SpellsSegment width) octets fault
+refused_numbers width kind count body rest octets Malformed f none = λ segment more b. none segment.numbers (numbers_framed width kind count body rest octets f segment more b)
+refused_numbers width kind count body rest octets Memory f none = tt
+
+same_count : (width : AsWidth) (m n : ℕ) → octets_at width * m ≡ octets_at width * n → m ≡ n
+same_count Two m n e = omega (arith, e)
+same_count Four m n e = omega (arith, e)
+
+-- a segment that is framed, with its numbers
+pub segment_framed : (width : AsWidth) (kind : SegmentKind) (count : ℕ) (body rest octets : List ℕ) (ns : List ℕ) → IsFramed width kind count body rest octets → SpellsAll (SpellsAsn width) ns body
+    → Begins (SpellsSegment width) record { numbers = ns; kind = kind } rest octets
+segment_framed width kind count body rest octets ns f s =
+    let counts : count ≡ length ns = same_count width count (length ns) (sym f.size ∙ length-numbers width ns body s) in
+    record {
+      front = kind_code kind ∷ count ∷ body;
+      spelled = record {
+        some = omega (arith, f.some, counts);
+        count_fits = omega (arith, f.fits, counts);
+        body = body;
+        spelled = s;
+        whole = ap (λ n. kind_code kind ∷ n ∷ body) counts;
+      };
+      whole = f.whole;
+    }
+
+-- where nothing is found that the octets spell, nothing is spelled by them
+pub refused_found : {A R : Type 0} (Spells : A → List ℕ → Type 0) (octets : List ℕ) (found : Option A) (answer : Result R WireFault) → Finds Spells octets found → OnErr answer (found ≡ None)
+    → IfErr answer (Refuses Spells octets)
+refused_found Spells octets found (Ok r) f none = tt
+refused_found {A} Spells octets found (Err fault) f none = refused_always Spells octets fault (subst (Finds Spells octets) none f)

@@ -1,0 +1,48 @@
+use Rattle.std.proofs.Common.{◌≡◌, ℕ, [], Err, IfErr, take, ap, sym, subst, ◌∙◌}
+use Rattle.std.proofs.lemmas.Result.{err_from_is_err_and}
+use Rattle.ip_prefix.specs.Sequences.{Begins, SpellsAll}
+use Rattle.ip_prefix.proofs.Lists.{nonempty}
+use Rattle.ip_prefix.proofs.Sequences.{one_more, none_at_all}
+use Rattle.bgp_paths.specs.declared.path.Segment.{Segment}
+use Rattle.bgp_paths.specs.Path.{SpellsSegment, IsFramed}
+use Rattle.bgp_paths.specs.Reading.{Refuses}
+use Rattle.bgp_paths.proofs.OneFront.{segment_code}
+use Rattle.bgp_paths.proofs.Refusing.{refused_rest, refused_numbers, segment_framed}
+use Rattle.bgp_paths.proofs.path_reader.fill_segments.Goals as goal
+
+pub returns-in_default-clause-refused : goal.returns-in_default-clause-refused
+returns-in_default-clause-refused c =
+    let width = c.args.width in
+    let rest = c.loop-rest.rest.now in
+    let some : rest ≡ [] → ⊥ = λ e. nonempty rest (sym c.is_empty.ensures ∙ c.loop-rest-test.true) e in
+    none_at_all (SpellsSegment width) (segment_code width) (take c.loop-rest.count c.loop-rest.segments.items) rest c.args.octets.now some c.loop-rest.invariant.read c.in_default.ensures.none
+
+pub returns-in_err-fill_segment-clause-refused : goal.returns-in_err-fill_segment-clause-refused
+returns-in_err-fill_segment-clause-refused c =
+    let width = c.args.width in
+    let octets = c.args.octets.now in
+    let rest = c.loop-rest.rest.now in
+    let f = c.in-Some.framed in
+    let framed : (count : ℕ) × IsFramed width f.kind count f.body.now f.rest.now rest = c.in-Some.ensures.some in
+    let some : rest ≡ [] → ⊥ = λ e. nonempty rest (sym c.is_empty.ensures ∙ c.loop-rest-test.true) e in
+    let fault = c.in_err-fill_segment.field-0.0 in
+    let none = refused_numbers width f.kind framed.0 f.body.now f.rest.now rest fault framed.1 c.in_err-fill_segment.ensures.refused in
+    let p = err_from_is_err_and c.from_residual.result c.from_residual.ensures.1 in
+    subst (λ answer. IfErr answer (Refuses (SpellsAll (SpellsSegment width)) octets)) (sym (p.1 ∙ ap Err p.2))
+    (refused_rest (SpellsSegment width) (segment_code width) (take c.loop-rest.count c.loop-rest.segments.items) rest octets fault some c.loop-rest.invariant.read none)
+
+pub loop-rest-preserved : goal.loop-rest-preserved
+loop-rest-preserved c =
+    let width = c.args.width in
+    let octets = c.args.octets.now in
+    let f = c.in-Some.framed in
+    let count = c.loop-rest.count in
+    let framed : (count : ℕ) × IsFramed width f.kind count f.body.now f.rest.now c.loop-rest.rest.now = c.in-Some.ensures.some in
+    let filled = c.in_ok-fill_segment.ensures.filled in
+    let segment : Segment = record { numbers = filled.0; kind = f.kind } in
+    record {
+      within = c.in_ok-fill_segment.ensures.within;
+      read = subst (λ segments. Begins (SpellsAll (SpellsSegment width)) segments f.rest.now octets) (sym filled.2)
+          (one_more (SpellsSegment width) (take count c.loop-rest.segments.items) segment f.rest.now c.loop-rest.rest.now octets c.loop-rest.invariant.read
+          (segment_framed width f.kind framed.0 f.body.now f.rest.now c.loop-rest.rest.now filled.0 framed.1 filled.1));
+    }

@@ -1,0 +1,47 @@
+//! Laws of the definitions, which call nothing.
+
+ghost use Rattle.std.specs.Prelude.{◌≡◌, ℕ, List, [], ◌∷◌, codes};
+ghost use Rattle.bgp_paths.specs.declared.text.TheConstants.{SPACE, COLON, AS_SET_MARKS, CONFED_SEQUENCE_MARKS, CONFED_SET_MARKS};
+ghost use Rattle.bgp_paths.specs.declared.path_reader.TheConstants.{AS_SET, AS_SEQUENCE, AS_CONFED_SEQUENCE, AS_CONFED_SET};
+ghost use Rattle.bgp_paths.specs.declared.text.TheConstants.{NO_EXPORT, NO_ADVERTISE, NO_EXPORT_SUBCONFED};
+ghost use Rattle.bgp_paths.specs.declared.path.AsWidth.{AsWidth};
+ghost use Rattle.bgp_paths.specs.declared.path.AsPath.{AsPath};
+ghost use Rattle.bgp_paths.specs.Merge.{IsMerge, path_weight};
+ghost use Rattle.bgp_paths.specs.Path.{SpellsPath};
+ghost use Rattle.bgp_paths.specs.Text.{all_marks};
+
+/// No octets spell two paths with AS numbers of one width.
+pub fn one_path()
+    ensures { (width : AsWidth) (octets : List ℕ) (path other : AsPath) →
+        SpellsPath width path octets → SpellsPath width other octets → path ≡ other }
+{}
+
+/// A joined path counts as many systems as the first of the two (RFC 6793, section 4.2.3).
+pub fn merge_keeps_the_weight()
+    ensures { (first second path : AsPath) → IsMerge first second path →
+        path_weight path ≡ path_weight first }
+{}
+
+/// Two paths are joined, and in one way.
+pub fn one_merge()
+    ensures some { (first second : AsPath) → (path : AsPath) × IsMerge first second path }
+    ensures one { (first second path other : AsPath) →
+        IsMerge first second path → IsMerge first second other → path ≡ other }
+{}
+
+/// The marks of texts that the definitions name.
+pub fn text_marks()
+    ensures between { SPACE ∷ COLON ∷ [] ≡ codes " :" }
+    ensures sets { all_marks AS_SET_MARKS ≡ codes "{,}" }
+    ensures confederation_sequences { all_marks CONFED_SEQUENCE_MARKS ≡ codes "( )" }
+    ensures confederation_sets { all_marks CONFED_SET_MARKS ≡ codes "[,]" }
+{}
+
+/// The numbers that the definitions name: of kinds of segments (RFC 4271, section 4.3; RFC 5065,
+/// section 3) and of communities (RFC 1997).
+pub fn path_numbers()
+    ensures segments { (AS_SET ≡ 1) × (AS_SEQUENCE ≡ 2) × (AS_CONFED_SEQUENCE ≡ 3)
+        × (AS_CONFED_SET ≡ 4) }
+    ensures communities { (NO_EXPORT ≡ 4294967041) × (NO_ADVERTISE ≡ 4294967042)
+        × (NO_EXPORT_SUBCONFED ≡ 4294967043) }
+{}

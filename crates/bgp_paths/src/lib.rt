@@ -1,0 +1,20 @@
+//! AS numbers and AS paths of BGP: their octets, how two paths are joined, and the texts of paths
+//! and communities.
+#![tactic(auto)]
+
+mod fault;
+mod laws;
+mod merge;
+mod numbers;
+mod path;
+mod path_reader;
+mod replacing;
+mod text;
+
+pub use fault::WireFault;
+pub use laws::{merge_keeps_the_weight, one_merge, one_path, path_numbers, text_marks};
+pub use merge::merge_paths;
+pub use numbers::fill_numbers;
+pub use path::{AsNumbers, AsPath, AsWidth, Segment, SegmentKind, Segments};
+pub use replacing::{copy_numbers, copy_path};
+pub use text::{append_communities, put_communities};

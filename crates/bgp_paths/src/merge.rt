@@ -1,0 +1,114 @@
+//! Joining a path of two-octet AS numbers with the four-octet one beside it (RFC 6793, section
+//! 4.2.3).
+
+ghost use Rattle.std.specs.Prelude.{◌≡◌, ℕ, ◌≤◌, List, ◌++◌, IfOk, OnOk};
+ghost use Rattle.bgp_paths.specs.Merge.{IsMerge, IsLongest, path_weight, weight_of};
+ghost use Rattle.bgp_paths.specs.Merge.{Hop, hops_by, hops_from, segments_of, plain_segments};
+ghost use Rattle.bgp_paths.specs.declared.path.AsPath.{AsPath};
+
+use crate::path::{AsNumbers, AsPath, Segment, SegmentKind, Segments};
+use std::alloc::{AllocError, Global};
+
+/// AS_PATH joined with AS4_PATH (RFC 6793, section 4.2.3). Segments of a confederation in AS4_PATH
+/// are dropped.
+pub fn merge_paths(alloc: Global, first: &AsPath, second: &AsPath) -> Result<AsPath, AllocError>
+    ensures { IfOk result (IsMerge first.now second.now) }
+{
+    let total = weigh(first);
+    let replaced = weigh(second);
+    if total < replaced {
+        return first.clone();
+    }
+    let front = first.segments.as_slice();
+    let back = second.segments.as_slice();
+    let mut segments = Vec::with_capacity(alloc, front.len().saturating_add(back.len()))?;
+    push_front(alloc, front, total - replaced, &mut segments)?;
+    push_plain(back, &mut segments)?;
+    Ok(AsPath {
+        segments: Segments::from_vec(segments),
+    })
+}
+
+/// How many systems a path counts (RFC 6793, section 4.2.3).
+fn weigh(path: &AsPath) -> u128
+    ensures { result ≡ path_weight path.now }
+{
+    let mut total = 0;
+    for segment in path.segments.as_slice() {
+        total += weigh_segment(segment) as u128;
+    }
+    total
+}
+
+/// How many systems a segment counts: a set is one, and a segment of a confederation none (RFC
+/// 5065, section 5.3).
+fn weigh_segment(segment: &Segment) -> usize
+    ensures { result ≡ weight_of (hops_by segment.now.kind 0 segment.now.numbers) }
+{
+    match segment.kind {
+        SegmentKind::AsSequence => segment.numbers.as_slice().len(),
+        SegmentKind::AsSet => 1,
+        SegmentKind::ConfedSequence | SegmentKind::ConfedSet => 0,
+    }
+}
+
+/// Appends the longest front of the segments that counts so many systems.
+fn push_front(
+    alloc: Global,
+    segments: &[Segment],
+    weight: u128,
+    path: &mut Vec<Segment>,
+) -> Result<(), AllocError>
+    requires { weight ≤ weight_of (hops_from 0 segments.now) }
+    ensures { OnOk result ((front : List Hop) × IsLongest weight (hops_from 0 segments.now) front
+        × (path.new.items ≡ path.old.items ++ segments_of front)) }
+{
+    let mut left = weight;
+    for segment in segments {
+        let numbers = segment.numbers.as_slice();
+        let needed = weigh_segment(segment) as u128;
+        if left < needed {
+            // Only a sequence is cut. Of a set, which needs one, nothing is left.
+            return push_segment(
+                alloc,
+                SegmentKind::AsSequence,
+                &numbers[..left as usize],
+                path,
+            );
+        }
+        push_segment(alloc, segment.kind, numbers, path)?;
+        left -= needed;
+    }
+    Ok(())
+}
+
+/// Appends a segment of these numbers, but no sequence of none.
+fn push_segment(
+    alloc: Global,
+    kind: SegmentKind,
+    numbers: &[u32],
+    path: &mut Vec<Segment>,
+) -> Result<(), AllocError>
+    ensures { OnOk result
+        (path.new.items ≡ path.old.items ++ segments_of (hops_by kind 0 numbers.now)) }
+{
+    if kind == SegmentKind::AsSequence && numbers.is_empty() {
+        return Ok(());
+    }
+    let numbers = AsNumbers::from_vec(Vec::from_slice(alloc, numbers)?);
+    path.push(Segment { numbers, kind })?;
+    Ok(())
+}
+
+/// Appends the segments but those of a confederation.
+fn push_plain(segments: &[Segment], path: &mut Vec<Segment>) -> Result<(), AllocError>
+    ensures { OnOk result (path.new.items ≡ path.old.items ++ plain_segments segments.now) }
+{
+    for segment in segments {
+        match segment.kind {
+            SegmentKind::AsSequence | SegmentKind::AsSet => path.push(segment.clone()?)?,
+            SegmentKind::ConfedSequence | SegmentKind::ConfedSet => {}
+        }
+    }
+    Ok(())
+}

@@ -1,0 +1,134 @@
+//! Reading AS paths.
+
+ghost use Rattle.std.specs.Prelude.{◌≡◌, ◌≤◌, ◌+◌, ◌++◌, ◌∷◌, [], ℕ, List, OnOk, IfErr, IfSome, IfNone, length, take, vec_len};
+ghost use Rattle.ip_prefix.specs.Sequences.{BeginsWithNone, SpellsAll};
+ghost use Rattle.bgp_paths.specs.Number.{SpellsAsn};
+ghost use Rattle.bgp_paths.specs.Path.{kind_code, SpellsSegment, IsFramed};
+ghost use Rattle.bgp_paths.specs.Reading.{Finds, Refuses};
+
+use crate::fault::WireFault;
+use crate::path::{AsNumbers, AsWidth, Segment, SegmentKind};
+use std::alloc::Global;
+
+/// The type of a set (RFC 4271, section 4.3).
+const AS_SET: u8 = 1;
+/// The type of a sequence (RFC 4271, section 4.3).
+const AS_SEQUENCE: u8 = 2;
+/// The type of a sequence of a confederation's members (RFC 5065, section 3).
+const AS_CONFED_SEQUENCE: u8 = 3;
+/// The type of a set of a confederation's members (RFC 5065, section 3).
+const AS_CONFED_SET: u8 = 4;
+
+/// A segment in front of octets: its kind, the octets of its numbers, and what follows it.
+#[derive(Clone, Copy)]
+struct FramedSegment<'a> {
+    body: &'a [u8],
+    rest: &'a [u8],
+    kind: SegmentKind,
+}
+
+/// The kind of segment that a number stands for (RFC 4271, section 4.3; RFC 5065, section 3).
+fn segment_kind(code: u8) -> Option<SegmentKind>
+    ensures { Finds (λ kind code. code ≡ kind_code kind) code result }
+{
+    match code {
+        AS_SET => Some(SegmentKind::AsSet),
+        AS_SEQUENCE => Some(SegmentKind::AsSequence),
+        AS_CONFED_SEQUENCE => Some(SegmentKind::ConfedSequence),
+        AS_CONFED_SET => Some(SegmentKind::ConfedSet),
+        _ => None,
+    }
+}
+
+/// The segment in front of the octets.
+#[inline(always)]
+fn frame_segment(width: AsWidth, octets: &[u8]) -> Option<FramedSegment<'_>>
+    ensures some { IfSome result (λ f. (count : ℕ)
+        × IsFramed width f.kind count f.body.now f.rest.now octets.now) }
+    ensures none { IfNone result (BeginsWithNone (SpellsSegment width) octets.now) }
+{
+    let (&code, after_code) = octets.split_first()?;
+    let (&count, numbers) = after_code.split_first()?;
+    let kind = segment_kind(code)?;
+    if count == 0 {
+        return None;
+    }
+    let size = usize::from(count) * width.octets();
+    if numbers.len() < size {
+        return None;
+    }
+    let (body, rest) = numbers.split_at(size);
+    Some(FramedSegment { body, rest, kind })
+}
+
+/// Puts a segment of these numbers at a place, in the memory of the one there, or behind all.
+/// Nothing is said of those behind it.
+#[inline(always)]
+fn fill_segment(
+    alloc: Global,
+    segments: &mut Vec<Segment>,
+    place: usize,
+    kind: SegmentKind,
+    width: AsWidth,
+    body: &[u8],
+) -> Result<(), WireFault>
+    requires { place ≤ vec_len segments.old }
+    ensures filled { OnOk result ((numbers : List ℕ) × SpellsAll (SpellsAsn width) numbers body.now
+        × (take (place + 1) segments.new.items ≡ take place segments.old.items
+        ++ record { numbers = numbers; kind = kind } ∷ [])) }
+    ensures within { OnOk result (place + 1 ≤ length segments.new.items) }
+    ensures refused { IfErr result (Refuses (SpellsAll (SpellsAsn width)) body.now) }
+{
+    if place < segments.len() {
+        let segment = &mut segments[place];
+        segment.kind = kind;
+        return segment.numbers.fill(width, body);
+    }
+    push_segment(alloc, segments, kind, width, body)
+}
+
+/// Puts a segment of these numbers behind all. Most paths have one, so there is room for one first.
+fn push_segment(
+    alloc: Global,
+    segments: &mut Vec<Segment>,
+    kind: SegmentKind,
+    width: AsWidth,
+    body: &[u8],
+) -> Result<(), WireFault>
+    ensures pushed { OnOk result ((numbers : List ℕ) × SpellsAll (SpellsAsn width) numbers body.now
+        × (segments.new.items ≡ segments.old.items
+        ++ record { numbers = numbers; kind = kind } ∷ [])) }
+    ensures refused { IfErr result (Refuses (SpellsAll (SpellsAsn width)) body.now) }
+{
+    let mut numbers = AsNumbers::from_vec(Vec::new(alloc));
+    numbers.fill(width, body)?;
+    if segments.capacity() == 0 {
+        segments.reserve_exact(1)?;
+    }
+    segments.push(Segment { numbers, kind })?;
+    Ok(())
+}
+
+/// Makes the segments those that the octets spell. Refused, nothing is said of them.
+pub(crate) fn fill_segments(
+    alloc: Global,
+    segments: &mut Vec<Segment>,
+    width: AsWidth,
+    octets: &[u8],
+) -> Result<(), WireFault>
+    ensures filled { OnOk result (SpellsAll (SpellsSegment width) segments.new.items octets.now) }
+    ensures refused { IfErr result (Refuses (SpellsAll (SpellsSegment width)) octets.now) }
+{
+    let mut count = 0;
+    let mut rest = octets;
+    while !rest.is_empty() {
+        let Some(framed) = frame_segment(width, rest) else {
+            return Err(WireFault::Malformed);
+        };
+        fill_segment(alloc, segments, count, framed.kind, width, framed.body)?;
+        count += 1;
+        rest = framed.rest;
+    }
+    segments.truncate(count);
+    Ok(())
+}

@@ -1,0 +1,5 @@
+//! Tests of `bgp_paths`.
+#![tactic(auto)]
+
+#[cfg(test)]
+mod tests;

@@ -1,0 +1,41 @@
+-- What is filled of a buffer, in several reads.
+use Rattle.std.proofs.Common.{◌≡◌, ℕ, ◌+◌, ◌-◌, ◌≤◌, List, ◌++◌, Option, Err, length, take, drop, sym, ap, ◌∙◌, subst, arith, drop_at, take_at, length-take-le}
+use Rattle.std.proofs.lemmas.List.{length-append}
+use Rattle.std.specs.Io.KnownBytes.{Consumes}
+use Rattle.std.proofs.KnownBytes.{Consumes-trans}
+use borrow.Rule.Slice.PartMut.{put_mid, post_of}
+use lib.Seq.{take-add, take-append-le}
+use Rattle.mrt_frames.specs.declared.fault.SourceFault.{SourceFault}
+use Rattle.mrt_frames.specs.Device.{Takes, FillsWithin}
+
+-- the front that was filled, and then the front of what was written behind it
+pub take-put_mid : (at room n : ℕ) (buffer part : List ℕ) → at ≤ length buffer → n ≤ length part → take (at + n) (put_mid at room buffer part) ≡ take at buffer ++ take n part
+take-put_mid at room n buffer part within fits =
+    let after : List ℕ = post_of at room buffer in
+    let front = length-take-le at buffer within in
+    take-add at n (put_mid at room buffer part)
+    ∙ ap (λ l. l ++ take n (drop at (put_mid at room buffer part))) (take_at (take at buffer) (part ++ after) at front)
+    ∙ ap (λ l. take at buffer ++ take n l) (drop_at (take at buffer) (part ++ after) at front)
+    ∙ ap (λ l. take at buffer ++ l) (take-append-le n part after fits)
+
+-- octets taken one behind the other
+pub Takes-trans : (a b c : Option (List ℕ)) (k l m : ℕ) (front more : List ℕ) → Takes a b k l front → Takes b c l m more → Takes a c k m (front ++ more)
+Takes-trans a b c k l m front more p q = (Consumes-trans a b c front more p.0 q.0, omega (arith, p.1, q.1, length-append front more))
+
+-- a front was filled, and n octets behind it were read
+pub Takes-filled : (a b c : Option (List ℕ)) (k l at room n : ℕ) (buffer part : List ℕ) → at ≤ length buffer → n ≤ length part
+    → Takes a b k l (take at buffer) → Consumes b c (take n part) → Takes a c k (l + n) (take (at + n) (put_mid at room buffer part))
+Takes-filled a b c k l at room n buffer part within fits before now =
+    subst (Takes a c k (l + n)) (sym (take-put_mid at room n buffer part within fits))
+    (Takes-trans a b c k l (l + n) (take at buffer) (take n part) before (now, omega (arith, length-take-le n part fits)))
+
+-- what was filled before and now
+pub Takes-parts : (a b c : Option (List ℕ)) (k l m at n : ℕ) (old new : List ℕ) → take at new ≡ take at old → Takes a b k l (take at old) → Takes b c l m (take n (drop at new)) → Takes a c k m (take (at + n) new)
+Takes-parts a b c k l m at n old new kept before now =
+    subst (Takes a c k m) (ap (λ l. l ++ take n (drop at new)) (sym kept) ∙ sym (take-add at n new)) (Takes-trans a b c k l m (take at old) (take n (drop at new)) before now)
+
+-- a fault behind what was filled before
+pub FillsWithin-stopped_place : (a b c : Option (List ℕ)) (k l m : ℕ) (done part whole : List ℕ) (at end size limit : ℕ) (fault : SourceFault) → length done ≡ at → at ≤ end → end ≤ size
+    → Takes a b k l done → FillsWithin b c l m part (end - at) limit (Err fault) → FillsWithin a c k m whole size limit (Err fault)
+FillsWithin-stopped_place a b c k l m done part whole at end size limit fault len ahead within before (front, short, stops, now) =
+    (done ++ front, omega (arith, length-append done front), stops, Takes-trans a b c k l m done front before now)

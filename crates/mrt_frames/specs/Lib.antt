@@ -1,0 +1,4 @@
+pub mod Device
+pub mod Record
+pub mod Rest
+pub mod Taking

@@ -1,0 +1,49 @@
+-- What the reader of records takes from its input, by what it answers.
+use Rattle.std.specs.Prelude.{◌≡◌, ◌⊎◌, ℕ, ◌<◌, Bool, true, false, List, length, take, Option, Result, Ok, Err}
+use Rattle.std.specs.Io.KnownBytes.{IsAtEnd}
+use Rattle.mrt_frames.specs.declared.fault.SourceFault.{SourceFault}
+use Rattle.mrt_frames.specs.declared.fault.RecordKind.TheVariants.{CutRecord}
+use Rattle.mrt_frames.specs.declared.header.Header.{Header}
+use Rattle.mrt_frames.specs.declared.header.TheConstants.{HEADER_SIZE}
+use Rattle.mrt_frames.specs.declared.frames.Front.{Front}
+use Rattle.mrt_frames.specs.declared.frames.Front.TheVariants as front
+use Rattle.mrt_frames.specs.Device.{Stops}
+use Rattle.mrt_frames.specs.Record.{Record, record_under, IsHeader, header_octets, spelling, IsRecord, BeginsWithNoRecord}
+use Rattle.mrt_frames.specs.Rest.{rest_kind, rest_fault}
+
+-- no record stands in front of the octets, and no octets stand behind a header that states too much
+pub record IsRest (octets : List ℕ) : Type 0 where
+  pub none : BeginsWithNoRecord octets
+  pub stops : (rest_kind octets ≡ CutRecord) ⊎ (length octets ≡ HEADER_SIZE)
+
+-- a record has begun in the octets, or not even that, and none stands in front of them
+pub record IsBegun (octets : List ℕ) : Type 0 where
+  pub none : BeginsWithNoRecord octets
+  pub cut : rest_kind octets ≡ CutRecord
+
+-- the octets are the rest; but for a length that is too long, the input ends there
+pub record EndsAt (left : Option (List ℕ)) (octets : List ℕ) : Type 0 where
+  pub rest : IsRest octets
+  pub seen : rest_kind octets ≡ CutRecord → IsAtEnd left
+
+-- the record of a header whose body is at the front of the buffer
+abbrev pub record_in : Header → List ℕ → Record
+record_in header buffer = record_under header (take header.size buffer)
+
+-- the octets of a header, or the rest
+abbrev pub TakesHeader : Option (List ℕ) → ℕ → ℕ → List ℕ → Result Front SourceFault → Type 0
+TakesHeader left taken limit octets (Ok (front.Record header)) = IsHeader header.seconds header.kind header.subtype header.size × (octets ≡ header_octets header.seconds header.kind header.subtype header.size)
+TakesHeader left taken limit octets (Ok (front.Rest kind)) = EndsAt left octets × (kind ≡ rest_fault octets)
+TakesHeader left taken limit octets (Err fault) = IsBegun octets × Stops fault taken limit
+
+-- the octets of a body, which stand at the front of the buffer, or fewer
+abbrev pub TakesBody : Option (List ℕ) → ℕ → ℕ → List ℕ → List ℕ → ℕ → Result Bool SourceFault → Type 0
+TakesBody left taken limit buffer octets size (Ok true) = (octets ≡ take size buffer) × (length octets ≡ size)
+TakesBody left taken limit buffer octets size (Ok false) = IsAtEnd left × (length octets < size)
+TakesBody left taken limit buffer octets size (Err fault) = (length octets < size) × Stops fault taken limit
+
+-- the octets of a record, whose body stands at the front of the buffer, or the rest
+abbrev pub TakesRecord : Option (List ℕ) → ℕ → ℕ → List ℕ → List ℕ → Result Front SourceFault → Type 0
+TakesRecord left taken limit buffer octets (Ok (front.Record header)) = (length (take header.size buffer) ≡ header.size) × IsRecord (record_in header buffer) × (octets ≡ spelling (record_in header buffer))
+TakesRecord left taken limit buffer octets (Ok (front.Rest kind)) = EndsAt left octets × (kind ≡ rest_fault octets)
+TakesRecord left taken limit buffer octets (Err fault) = IsBegun octets × Stops fault taken limit

@@ -1,0 +1,139 @@
+//! Filling buffers from an input.
+
+ghost use Rattle.std.specs.Prelude.{◌≡◌, ◌≤◌, ◌<◌, ◌+◌, ◌-◌, ◌*◌, ◌^◌, ◌||◌, IfOk, OnOk, OnErr, length, max, take, drop, is_err, vec_len};
+ghost use Rattle.mrt_frames.specs.Device.{Fills, FillsWithin, is_read};
+
+use crate::fault::SourceFault;
+use crate::frames::LONGEST_BODY;
+use crate::input::{InFault, Input};
+use std::alloc::AllocError;
+
+/// By how much an empty buffer grows at first. Later it grows by as much as was filled.
+const FIRST_GROWTH: usize = 4096;
+
+/// Fills the buffer as far as the input goes, and answers how far that is. What is taken is
+/// counted.
+#[inline(always)]
+fn fill<I: Input>(input: &mut I, buffer: &mut [u8], taken: &mut u64) -> Result<usize, InFault>
+    requires room { taken.old + length buffer.old < 2 ^ 64 }
+    ensures octets { Fills (I.left input.old) (I.left input.new) taken.old taken.new
+        buffer.new result }
+    ensures failed { I.failed input.new ≡ (I.failed input.old || is_err result) }
+{
+    let mut filled = 0;
+    while filled < buffer.len() {
+        let count = input.take(&mut buffer[filled..])?;
+        if count == 0 {
+            break;
+        }
+        filled += count;
+        *taken += count as u64;
+    }
+    Ok(filled)
+}
+
+/// The same, where at most `limit` octets may be taken in all. An input that has that many, and the
+/// buffer is not full then, is too long.
+pub(crate) fn fill_within<I: Input>(
+    input: &mut I,
+    buffer: &mut [u8],
+    taken: &mut u64,
+    limit: u64,
+) -> Result<usize, SourceFault>
+    requires room { taken.old ≤ limit }
+    ensures octets { FillsWithin (I.left input.old) (I.left input.new) taken.old taken.new
+        buffer.new (length buffer.new) limit result }
+    ensures failed { I.failed input.new ≡ (I.failed input.old || is_read result) }
+{
+    let room = limit - *taken;
+    if buffer.len() as u64 <= room {
+        return Ok(fill(input, buffer, taken)?);
+    }
+    let room = room as usize;
+    let count = fill(input, &mut buffer[..room], taken)?;
+    if count == room {
+        return Err(SourceFault::InputTooLong);
+    }
+    Ok(count)
+}
+
+/// How far to fill the buffer next, of which so much is held and filled: as far as it goes, and
+/// where it is full, as far as it may grow.
+fn next_end(held: usize, filled: usize, size: usize) -> usize
+    requires unfinished { filled < size }
+    requires small { size ≤ LONGEST_BODY }
+    ensures further { filled < result }
+    ensures within { result ≤ size }
+    ensures growth { result ≤ max held (2 * filled + FIRST_GROWTH) }
+{
+    let end = if filled < held {
+        held
+    } else {
+        filled + filled.max(FIRST_GROWTH)
+    };
+    end.min(size)
+}
+
+/// Gives the buffer at least so many octets, and leaves those that it has.
+fn grow(buffer: &mut Vec<u8>, end: usize) -> Result<(), AllocError>
+    ensures kept { take (vec_len buffer.old) buffer.new.items ≡ buffer.old.items }
+    ensures size { OnOk result (vec_len buffer.new ≡ max (vec_len buffer.old) end) }
+    ensures refused { OnErr result (vec_len buffer.new ≡ vec_len buffer.old) }
+{
+    if buffer.len() < end {
+        buffer.resize(end, 0)?;
+    }
+    Ok(())
+}
+
+/// Reads into the part of the buffer from `filled` to `end`, and answers how many octets there are.
+fn fill_part<I: Input>(
+    input: &mut I,
+    buffer: &mut Vec<u8>,
+    filled: usize,
+    end: usize,
+    taken: &mut u64,
+    limit: u64,
+) -> Result<usize, SourceFault>
+    requires ahead { filled ≤ end }
+    requires within { end ≤ vec_len buffer.old }
+    requires room { taken.old ≤ limit }
+    ensures kept { take filled buffer.new.items ≡ take filled buffer.old.items }
+    ensures size { vec_len buffer.new ≡ vec_len buffer.old }
+    ensures octets { FillsWithin (I.left input.old) (I.left input.new) taken.old taken.new
+        (drop filled buffer.new.items) (end - filled) limit result }
+    ensures failed { I.failed input.new ≡ (I.failed input.old || is_read result) }
+{
+    fill_within(input, &mut buffer[filled..end], taken, limit)
+}
+
+/// Reads a body of `size` octets into the front of the buffer, and answers how many there are. At
+/// most `limit` octets may be taken in all. The buffer grows to at most twice what the input gave,
+/// and 4,096.
+pub(crate) fn fill_body<I: Input>(
+    input: &mut I,
+    buffer: &mut Vec<u8>,
+    size: usize,
+    taken: &mut u64,
+    limit: u64,
+) -> Result<usize, SourceFault>
+    requires small { size ≤ LONGEST_BODY }
+    requires room { taken.old ≤ limit }
+    ensures octets { FillsWithin (I.left input.old) (I.left input.new) taken.old taken.new
+        buffer.new.items size limit result }
+    ensures held { IfOk result (λ count. count ≤ vec_len buffer.new) }
+    ensures growth { IfOk result (λ count.
+        vec_len buffer.new ≤ max (vec_len buffer.old) (2 * count + FIRST_GROWTH)) }
+    ensures failed { I.failed input.new ≡ (I.failed input.old || is_read result) }
+{
+    let mut filled = 0;
+    while filled < size {
+        let end = next_end(buffer.len(), filled, size);
+        grow(buffer, end)?;
+        filled += fill_part(input, buffer, filled, end, taken, limit)?;
+        if filled < end {
+            break;
+        }
+    }
+    Ok(filled)
+}

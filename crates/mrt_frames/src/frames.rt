@@ -1,0 +1,147 @@
+//! The records of an input, one behind the other.
+
+ghost use Rattle.std.specs.Prelude.{◌≡◌, ◌+◌, ◌≤◌, ◌||◌, ℕ, List, IfOk, IsTrue, take, length, vec_len};
+ghost use Rattle.mrt_frames.specs.Device.{Takes, is_read};
+ghost use Rattle.mrt_frames.specs.Taking.{TakesHeader, TakesBody, TakesRecord};
+
+use crate::buffer::{fill_body, fill_within};
+use crate::fault::{RecordKind, SourceFault};
+use crate::header::{HEADER_SIZE, Header, read_header};
+use crate::input::Input;
+use std::alloc::Global;
+
+/// The greatest length that a header may state.
+pub const LONGEST_BODY: u32 = 16_777_216;
+
+/// For how many octets of a body room is kept at most behind a shorter one.
+const MOST_KEPT: usize = 1 << 18;
+
+/// What stands at the front of the octets left: a header or a record, or the rest, with its fault
+/// where it isn't empty.
+#[derive(Clone, Copy)]
+pub enum Front {
+    Record(Header),
+    Rest(Option<RecordKind>),
+}
+
+/// Takes records one behind the other.
+#[derive(Drop)]
+pub struct FrameReader {
+    /// The last body, and room behind it that the next may use.
+    body: Vec<u8>,
+    /// How many octets may be taken in all.
+    limit: u64,
+    /// How many octets were taken.
+    taken: u64,
+    ghost within: { taken ≤ limit },
+}
+
+impl FrameReader {
+    /// A reader at the start of its input, which may take `limit` octets.
+    pub fn new(alloc: Global, limit: u64) -> Self
+        ensures limit { result.limit ≡ limit }
+        ensures taken { result.taken ≡ 0 }
+    {
+        FrameReader {
+            body: Vec::new(alloc),
+            limit,
+            taken: 0,
+        }
+    }
+
+    /// How many octets were taken so far.
+    pub fn taken(&self) -> u64
+        ensures taken { result ≡ self.now.taken }
+        ensures within { self.now.taken ≤ self.now.limit }
+    {
+        self.taken
+    }
+
+    /// The body of a record of this size.
+    pub fn body(&self, size: u32) -> &[u8]
+        requires { size ≤ vec_len self.now.body }
+        ensures { result.now ≡ take size self.now.body.items }
+    {
+        &self.body[..size as usize]
+    }
+
+    /// Takes the next header.
+    #[inline(always)]
+    fn take_header<I: Input>(&mut self, input: &mut I) -> Result<Front, SourceFault>
+        ensures octets { (octets : List ℕ)
+            × Takes (I.left input.old) (I.left input.new) self.old.taken self.new.taken octets
+            × TakesHeader (I.left input.new) self.new.taken self.new.limit octets result }
+        ensures failed { I.failed input.new ≡ (I.failed input.old || is_read result) }
+        ensures limit { self.new.limit ≡ self.old.limit }
+    {
+        let mut octets = [0; HEADER_SIZE];
+        let count = fill_within(input, &mut octets, &mut self.taken, self.limit)?;
+        if count == HEADER_SIZE {
+            return Ok(Front::Record(read_header(&octets)));
+        }
+        Ok(Front::Rest(if count == 0 {
+            None
+        } else {
+            Some(RecordKind::CutRecord)
+        }))
+    }
+
+    /// Lets go of the room of a long body.
+    fn let_go(&mut self)
+        ensures limit { self.new.limit ≡ self.old.limit }
+        ensures taken { self.new.taken ≡ self.old.taken }
+    {
+        if self.body.len() > MOST_KEPT {
+            self.body = Vec::new(*self.body.allocator());
+        }
+    }
+
+    /// Takes a body, and answers whether it is whole.
+    #[inline(always)]
+    fn take_body<I: Input>(&mut self, input: &mut I, size: u32) -> Result<bool, SourceFault>
+        requires { size ≤ LONGEST_BODY }
+        ensures octets { (octets : List ℕ)
+            × Takes (I.left input.old) (I.left input.new) self.old.taken self.new.taken octets
+            × TakesBody (I.left input.new) self.new.taken self.new.limit self.new.body.items
+            octets size result }
+        ensures failed { I.failed input.new ≡ (I.failed input.old || is_read result) }
+        ensures limit { self.new.limit ≡ self.old.limit }
+    {
+        if size as usize <= MOST_KEPT {
+            self.let_go();
+        }
+        let count = fill_body(
+            input,
+            &mut self.body,
+            size as usize,
+            &mut self.taken,
+            self.limit,
+        )?;
+        Ok(count == size as usize)
+    }
+
+    /// Takes the next record.
+    #[inline(always)]
+    pub fn take_record<I: Input>(&mut self, input: &mut I) -> Result<Front, SourceFault>
+        ensures octets { (octets : List ℕ)
+            × Takes (I.left input.old) (I.left input.new) self.old.taken self.new.taken octets
+            × TakesRecord (I.left input.new) self.new.taken self.new.limit self.new.body.items
+            octets result }
+        ensures failed { I.failed input.new ≡ (I.failed input.old || is_read result) }
+        ensures limit { self.new.limit ≡ self.old.limit }
+    {
+        match self.take_header(input)? {
+            Front::Record(header) => {
+                if header.size > LONGEST_BODY {
+                    return Ok(Front::Rest(Some(RecordKind::TooLong(header.size))));
+                }
+                if self.take_body(input, header.size)? {
+                    Ok(Front::Record(header))
+                } else {
+                    Ok(Front::Rest(Some(RecordKind::CutRecord)))
+                }
+            }
+            rest => Ok(rest),
+        }
+    }
+}

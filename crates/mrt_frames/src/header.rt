@@ -1,0 +1,35 @@
+//! The header of a record (RFC 6396, section 2).
+
+ghost use Rattle.std.specs.Prelude.{◌≡◌};
+ghost use Rattle.mrt_frames.specs.Record.{IsHeader, header_octets};
+
+use crate::octets::{u16_at, u32_at};
+
+/// How many octets a header has.
+pub const HEADER_SIZE: usize = 12;
+
+/// The fields of a header.
+#[derive(Clone, Copy)]
+pub struct Header {
+    /// Seconds since 1970.
+    pub seconds: u32,
+    /// The type of the record, and its subtype.
+    pub kind: u16,
+    pub subtype: u16,
+    /// How many octets the body has.
+    pub size: u32,
+}
+
+/// The fields that the octets spell.
+pub(crate) fn read_header(octets: &[u8; HEADER_SIZE]) -> Header
+    ensures fits { IsHeader result.seconds result.kind result.subtype result.size }
+    ensures octets { header_octets result.seconds result.kind result.subtype result.size
+        ≡ octets.now }
+{
+    Header {
+        seconds: u32_at(octets, 0),
+        kind: u16_at(octets, 4),
+        subtype: u16_at(octets, 6),
+        size: u32_at(octets, 8),
+    }
+}

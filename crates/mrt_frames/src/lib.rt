@@ -1,0 +1,14 @@
+//! The records of an input of MRT (RFC 6396), one behind the other, as headers and bodies.
+#![tactic(auto)]
+
+mod buffer;
+mod fault;
+mod frames;
+mod header;
+mod input;
+mod octets;
+
+pub use fault::{RecordFault, RecordKind, SourceFault};
+pub use frames::{FrameReader, Front, LONGEST_BODY};
+pub use header::{HEADER_SIZE, Header};
+pub use input::{InFault, Input, ReadInput};
