@@ -14,7 +14,7 @@ use Rattle.mrt_wire.specs.declared.peer.Peer.{Peer}
 use Rattle.mrt_wire.specs.declared.event.Route.{Route}
 use Rattle.mrt_wire.specs.declared.event.Time.{Time}
 use Rattle.mrt_wire.specs.declared.event.Tag.{Tag}
-use Rattle.mrt_wire.specs.declared.event.Tag.TheVariants.{TableDump2, Bgp4mp, Bgp4mpEt}
+use Rattle.mrt_wire.specs.declared.event.Tag.TheVariants.{TableDump, TableDump2, Bgp4mp, Bgp4mpEt}
 use Rattle.mrt_wire.specs.declared.event.Event.{Event}
 use Rattle.mrt_wire.specs.Event.{Saying, Announced, Withdrawn, Changed}
 use Rattle.bgpdump_lines.specs.declared.lines.TheConstants.{MICROS_DIGITS}
@@ -47,6 +47,7 @@ line_of (field ∷ next ∷ fields) = field ++ bar ∷ line_of (next ∷ fields)
 
 -- the first field of a line
 abbrev pub word : Tag → List ℕ
+word TableDump = codes "TABLE_DUMP"
 word TableDump2 = codes "TABLE_DUMP2"
 word Bgp4mp = codes "BGP4MP"
 word Bgp4mpEt = codes "BGP4MP_ET"
@@ -57,18 +58,21 @@ micros_text micros = replicate (MICROS_DIGITS - length (decimal micros)) zero_di
 
 -- the time of a line: the seconds, and where the kind of record has them the microseconds
 abbrev pub time_text : Tag → Time → List ℕ
+time_text TableDump time = decimal time.seconds
 time_text TableDump2 time = decimal time.seconds
 time_text Bgp4mp time = decimal time.seconds
 time_text Bgp4mpEt time = decimal time.seconds ++ dot ∷ micros_text (unwrap_or time.micros 0)
 
 -- the time of a route's line: a table's entry has the route's own
 abbrev pub route_time_text : Time → Tag → Route → List ℕ
+route_time_text time TableDump route = decimal route.time
 route_time_text time TableDump2 route = decimal route.time
 route_time_text time Bgp4mp route = time_text Bgp4mp time
 route_time_text time Bgp4mpEt route = time_text Bgp4mpEt time
 
 -- what a route's line is: an entry of a table, or an announcement
 abbrev pub route_letter : Tag → List ℕ
+route_letter TableDump = codes "B"
 route_letter TableDump2 = codes "B"
 route_letter Bgp4mp = codes "A"
 route_letter Bgp4mpEt = codes "A"

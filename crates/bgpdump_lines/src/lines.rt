@@ -53,6 +53,7 @@ fn put_word(tag: Tag, text: &mut Text) -> Result<(), AllocError>
     ensures kept { OnErr result (StillBegins text.old text.new) }
 {
     match tag {
+        Tag::TableDump => text.extend_from_slice(b"TABLE_DUMP")?,
         Tag::TableDump2 => text.extend_from_slice(b"TABLE_DUMP2")?,
         Tag::Bgp4mp => text.extend_from_slice(b"BGP4MP")?,
         Tag::Bgp4mpEt => text.extend_from_slice(b"BGP4MP_ET")?,
@@ -108,7 +109,7 @@ fn put_route_time(time: &Time, tag: Tag, route: &Route, text: &mut Text) -> Resu
     ensures kept { OnErr result (StillBegins text.old text.new) }
 {
     match tag {
-        Tag::TableDump2 => put_field(route.time, text),
+        Tag::TableDump | Tag::TableDump2 => put_field(route.time, text),
         Tag::Bgp4mp | Tag::Bgp4mpEt => put_time(time, tag, text),
     }
 }
@@ -120,7 +121,7 @@ fn put_letter(tag: Tag, text: &mut Text) -> Result<(), AllocError>
     ensures kept { OnErr result (StillBegins text.old text.new) }
 {
     match tag {
-        Tag::TableDump2 => text.extend_from_slice(b"|B"),
+        Tag::TableDump | Tag::TableDump2 => text.extend_from_slice(b"|B"),
         Tag::Bgp4mp | Tag::Bgp4mpEt => text.extend_from_slice(b"|A"),
     }
 }

@@ -4,10 +4,11 @@ use Rattle.ip_prefix.specs.Fields.{IsOne}
 use Rattle.mrt_wire.specs.declared.profile.Form.{Form}
 use Rattle.mrt_wire.specs.declared.profile.Form.TheVariants as form
 use Rattle.mrt_wire.specs.Profile.{HasForm, form_of}
-use Rattle.mrt_wire.specs.Content.{Content, Peers, Entries, Session, SpellsContent, IsBody}
+use Rattle.mrt_wire.specs.Content.{Content, Entry, Peers, Entries, Session, SpellsContent, IsBody}
 use Rattle.mrt_wire.proofs.PeerIndexLaws.{one_peer_index}
 use Rattle.mrt_wire.proofs.RibLaws.{one_rib}
 use Rattle.mrt_wire.proofs.SessionLaws.{one_session_body}
+use Rattle.mrt_wire.proofs.TableDumpLaws.{one_peer_entry}
 
 -- a type and subtype have a form, or none
 pub cases_form : (kind subtype : ℕ) → ((form : Form) × HasForm kind subtype form) ⊎ ((form : Form) → HasForm kind subtype form → ⊥)
@@ -29,6 +30,7 @@ same_form kind subtype a b p q = same_some (sym p ∙ q)
 
 -- no octets are of two contents of one form
 pub one_content_of : (form : Form) → IsOne (SpellsContent form)
+one_content_of (form.Entry family) a b octets s t = s.1 ∙ ap Entry (one_peer_entry family s.0 t.0 octets s.2 t.2) ∙ sym t.1
 one_content_of form.Peers a b octets s t = s.1 ∙ ap Peers (one_peer_index s.0 t.0 octets s.2 t.2) ∙ sym t.1
 one_content_of (form.Entries family) a b octets s t = s.1 ∙ ap Entries (one_rib family s.0 t.0 octets s.2 t.2) ∙ sym t.1
 one_content_of (form.Session session) a b octets s t = s.1 ∙ ap Session (one_session_body session s.0 t.0 octets s.2 t.2) ∙ sym t.1

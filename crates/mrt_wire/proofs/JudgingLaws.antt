@@ -9,7 +9,7 @@ use Rattle.mrt_frames.specs.declared.fault.RecordKind.TheVariants.{CutRecord, To
 use Rattle.mrt_wire.specs.declared.profile.Form.{Form}
 use Rattle.mrt_frames.specs.Record.{Record}
 use Rattle.mrt_wire.specs.Profile.{HasForm}
-use Rattle.mrt_wire.specs.Content.{Content, Peers, Entries, Session, SpellsContent, IsBody}
+use Rattle.mrt_wire.specs.Content.{Content, Entry, Peers, Entries, Session, SpellsContent, IsBody}
 use Rattle.mrt_wire.specs.Verdict.{Index, HasFault, HasContentFault, content_fault, entries_fault}
 use Rattle.mrt_wire.specs.Judging.{Judges, body_refusal}
 use Rattle.mrt_wire.proofs.ContentLaws.{same_form}
@@ -43,6 +43,7 @@ entries_refused (Some peers) index' (Some number) r (PeerIndex n) is p = p
 
 -- the fault of a content is its record's
 pub fault_of_content : (index : Index) (r : Record) (content : Content) (kind : RecordKind) → IsBody r.kind r.subtype content r.body → content_fault index content ≡ Some kind → HasFault index r kind
+fault_of_content index r (Entry entry) kind is_body is = cc
 fault_of_content index r (Peers peers) kind is_body is = cc
 fault_of_content index r (Entries rib) kind is_body is = entries_refused index index _ r kind is (Entries rib, is_body, is)
 fault_of_content index r (Session body) kind is_body is = cc

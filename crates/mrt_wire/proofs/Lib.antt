@@ -12,4 +12,5 @@ pub mod SessionLaws
 pub mod SharedLaws
 pub mod SoFarLaws
 pub mod SplitLaws
+pub mod TableDumpLaws
 pub mod TellingLaws

@@ -5,11 +5,14 @@ use Rattle.mrt_wire.specs.declared.profile.Form.{Form}
 use Rattle.mrt_wire.specs.declared.profile.Form.TheVariants as form
 use Rattle.mrt_wire.specs.PeerIndex.{SpellsPeerIndex}
 use Rattle.mrt_wire.specs.Rib.{PrefixEntries, SpellsRib}
+use Rattle.mrt_wire.specs.TableDump.{PeerEntry, SpellsPeerEntry}
 use Rattle.mrt_wire.specs.Session.{SessionBody, SpellsSessionBody}
 use Rattle.mrt_wire.specs.Profile.{HasForm}
 
 -- what a body holds
 pub data Content : Type 0 where
+  -- an entry of a table with its peer
+  Entry : PeerEntry → Content
   -- the peers of a table, by their numbers
   Peers : List Peer → Content
   -- a prefix and its entries in a table
@@ -19,6 +22,8 @@ pub data Content : Type 0 where
 
 -- the octets are a body of this form with this content
 abbrev pub SpellsContent : Form → Content → List ℕ → Type 0
+SpellsContent (form.Entry family) content octets =
+    (entry : PeerEntry) × (content ≡ Entry entry) × SpellsPeerEntry family entry octets
 SpellsContent form.Peers content octets =
     (peers : List Peer) × (content ≡ Peers peers) × SpellsPeerIndex peers octets
 SpellsContent (form.Entries family) content octets =

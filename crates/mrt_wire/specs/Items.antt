@@ -13,6 +13,7 @@ use Rattle.mrt_wire.specs.declared.event.Stamp.{Stamp}
 use Rattle.mrt_wire.specs.declared.event.Stamp.TheVariants.{Dump, Change}
 use Rattle.mrt_wire.specs.Event.{Saying, Announced, Withdrawn, Changed}
 use Rattle.mrt_wire.specs.Rib.{RibEntry, PrefixEntries}
+use Rattle.mrt_wire.specs.TableDump.{PeerEntry}
 use Rattle.mrt_wire.specs.Session.{PeerMessage, SessionContent, Change, Receipt}
 
 -- ---- tables
@@ -53,6 +54,11 @@ entry_items peers stamp seconds prefix entry =
 -- what the entries announce, one after the other
 abbrev pub entries_items : List Peer → Stamp → ℕ → PrefixEntries → List Saying
 entries_items peers stamp seconds rib = flat_map (entry_items peers stamp seconds rib.prefix) rib.entries
+
+-- what an entry with its peer announces
+abbrev pub peer_entry_items : Stamp → ℕ → PeerEntry → List Saying
+peer_entry_items stamp seconds entry =
+    Announced entry.peer entry.prefix (route_of entry.attrs (entry_time stamp seconds entry.time)) ∷ []
 
 -- ---- sessions
 

@@ -4,6 +4,7 @@ pub use Rattle.mrt_frames.specs.Rest
 pub mod Fields
 pub mod PeerIndex
 pub mod Rib
+pub mod TableDump
 pub mod Session
 pub mod Content
 pub mod Items

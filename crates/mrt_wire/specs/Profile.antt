@@ -4,11 +4,18 @@ use Rattle.ip_prefix.specs.declared.addr.Family.TheVariants.{V4, V6}
 use Rattle.bgp_wire.specs.declared.AsWidth.{AsWidth}
 use Rattle.bgp_wire.specs.declared.AsWidth.TheVariants.{Two, Four}
 use Rattle.mrt_wire.specs.declared.profile.Form.{Form}
-use Rattle.mrt_wire.specs.declared.profile.Form.TheVariants.{Peers, Entries, Session}
+use Rattle.mrt_wire.specs.declared.profile.Form.TheVariants.{Entry, Peers, Entries, Session}
 use Rattle.mrt_wire.specs.declared.profile.SessionKind.{SessionKind}
 use Rattle.mrt_wire.specs.declared.profile.SessionKind.TheVariants.{StateChange, Message}
-use Rattle.mrt_wire.specs.declared.profile.TheConstants.{TABLE_DUMP_V2, BGP4MP, BGP4MP_ET, PEER_INDEX_TABLE, RIB_IPV4_UNICAST, RIB_IPV6_UNICAST, BGP4MP_STATE_CHANGE, BGP4MP_MESSAGE, BGP4MP_MESSAGE_AS4, BGP4MP_STATE_CHANGE_AS4}
+use Rattle.mrt_wire.specs.declared.profile.TheConstants.{TABLE_DUMP, AFI_IPV4, AFI_IPV6, TABLE_DUMP_V2, BGP4MP, BGP4MP_ET, PEER_INDEX_TABLE, RIB_IPV4_UNICAST, RIB_IPV6_UNICAST, BGP4MP_STATE_CHANGE, BGP4MP_MESSAGE, BGP4MP_MESSAGE_AS4, BGP4MP_STATE_CHANGE_AS4}
 use Rattle.mrt_frames.specs.Record.{Record}
+
+-- the forms of entries of tables in records of their own, by subtype (section 4.2)
+abbrev pub entry_form : ℕ → Option Form
+entry_form subtype =
+    if subtype == AFI_IPV4 then Some (Entry V4)
+    else if subtype == AFI_IPV6 then Some (Entry V6)
+    else None
 
 -- the forms of parts of tables, by subtype (section 4.3)
 abbrev pub table_form : ℕ → Option Form
@@ -34,7 +41,8 @@ session_form timed subtype =
 -- the table of what is read: the form of the bodies of a type and subtype
 abbrev pub form_of : ℕ → ℕ → Option Form
 form_of kind subtype =
-    if kind == TABLE_DUMP_V2 then table_form subtype
+    if kind == TABLE_DUMP then entry_form subtype
+    else if kind == TABLE_DUMP_V2 then table_form subtype
     else if kind == BGP4MP then session_form false subtype
     else if kind == BGP4MP_ET then session_form true subtype
     else None

@@ -4,13 +4,13 @@ use Rattle.mrt_frames.specs.declared.fault.RecordKind.{RecordKind}
 use Rattle.mrt_frames.specs.declared.fault.RecordKind.TheVariants.{CutRecord, TooLong, Unsupported, Malformed, NoIndex, PeerIndex}
 use Rattle.mrt_wire.specs.declared.event.Stamp.{Stamp}
 use Rattle.mrt_wire.specs.declared.event.Tag.{Tag}
-use Rattle.mrt_wire.specs.declared.event.Tag.TheVariants.{TableDump2, Bgp4mp, Bgp4mpEt}
+use Rattle.mrt_wire.specs.declared.event.Tag.TheVariants.{TableDump, TableDump2, Bgp4mp, Bgp4mpEt}
 use Rattle.mrt_wire.specs.declared.event.Event.{Event}
 use Rattle.mrt_wire.specs.declared.peer.Peer.{Peer}
 use Rattle.mrt_frames.specs.Record.{Record}
 use Rattle.mrt_wire.specs.Event.{Saying}
-use Rattle.mrt_wire.specs.Content.{Content, Peers, Entries, Session, IsBody}
-use Rattle.mrt_wire.specs.Items.{first_unknown, entries_items, session_items}
+use Rattle.mrt_wire.specs.Content.{Content, Entry, Peers, Entries, Session, IsBody}
+use Rattle.mrt_wire.specs.Items.{first_unknown, peer_entry_items, entries_items, session_items}
 use Rattle.mrt_wire.specs.Profile.{IsSupported}
 
 -- what becomes of a record
@@ -30,6 +30,7 @@ Index = Option (List Peer)
 
 -- the peer index after a record: its own, where it brings one
 abbrev pub index_after : Index → Verdict → Index
+index_after index (Accepted (Entry entry) event) = index
 index_after index (Accepted (Peers peers) event) = Some peers
 index_after index (Accepted (Entries rib) event) = index
 index_after index (Accepted (Session body) event) = index
@@ -48,15 +49,16 @@ entries_fault (Some peers) (Some number) = Some (PeerIndex number)
 
 -- the fault of a content, with this peer index before it
 abbrev pub content_fault : Index → Content → Option RecordKind
+content_fault index (Entry entry) = None
 content_fault index (Peers peers) = None
 content_fault index (Entries rib) = entries_fault index (first_unknown (peers_in index) rib.entries)
 content_fault index (Session body) = None
 
--- the event of a part of a table
-abbrev pub table_event : ℕ → List Saying → Event
-table_event seconds items = record {
+-- the event of a part of a table, with the tag of its type
+abbrev pub table_event : Tag → ℕ → List Saying → Event
+table_event tag seconds items = record {
   time = record { seconds = seconds; micros = None };
-  tag = TableDump2;
+  tag = tag;
   items = items;
 }
 
@@ -75,8 +77,9 @@ session_event seconds micros items = record {
 
 -- the event of an accepted record, with this peer index before it
 abbrev pub event_of : Stamp → Index → Record → Content → Event
-event_of stamp index r (Peers peers) = table_event r.seconds []
-event_of stamp index r (Entries rib) = table_event r.seconds (entries_items (peers_in index) stamp r.seconds rib)
+event_of stamp index r (Entry entry) = table_event TableDump r.seconds (peer_entry_items stamp r.seconds entry)
+event_of stamp index r (Peers peers) = table_event TableDump2 r.seconds []
+event_of stamp index r (Entries rib) = table_event TableDump2 r.seconds (entries_items (peers_in index) stamp r.seconds rib)
 event_of stamp index r (Session body) = session_event r.seconds body.micros (session_items r.seconds body.content)
 
 -- no content has the record's body for a spelling

@@ -18,6 +18,22 @@ pub enum Stamp {
     Change,
 }
 
+impl Stamp {
+    ghost use Rattle.mrt_wire.specs.Items.{entry_time};
+
+    /// The time of the route of a table's entry, of which the first is that of its record, and the
+    /// second that at which it was originated.
+    #[inline]
+    pub(crate) fn time_of(self, seconds: u32, originated: u32) -> u32
+        ensures { result ≡ entry_time self seconds originated }
+    {
+        match self {
+            Stamp::Dump => seconds,
+            Stamp::Change => originated,
+        }
+    }
+}
+
 /// When a record was written.
 #[derive(Clone, Copy, Debug, PartialEq, Eq)]
 pub struct Time {
@@ -30,6 +46,8 @@ pub struct Time {
 /// Which kind of record an event comes from.
 #[derive(Clone, Copy, Debug, PartialEq, Eq)]
 pub enum Tag {
+    /// An entry of a routing table (RFC 6396, section 4.2).
+    TableDump,
     /// A part of a routing table (RFC 6396, section 4.3).
     TableDump2,
     /// A message or a state change (RFC 6396, section 4.4).

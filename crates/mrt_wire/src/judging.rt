@@ -15,6 +15,7 @@ use crate::pool::Pool;
 use crate::profile::{Form, SessionForm, form_of};
 use crate::rib::{Snapshot, read_rib};
 use crate::session::read_session;
+use crate::table_dump::read_peer_entry;
 use bgp_wire::WireFault;
 use ip_prefix::Family;
 use mrt_frames::{Header, RecordKind};
@@ -67,16 +68,16 @@ fn entries_fault(index: &Option<Peers>, unknown: Option<u16>) -> Option<RecordKi
     Some(RecordKind::PeerIndex(number))
 }
 
-/// The event of a part of a table.
-fn table_event(seconds: u32, items: Items) -> Event
-    ensures { result ≡ table_event seconds items }
+/// The event of a part of a table, with the tag of its type.
+fn table_event(tag: Tag, seconds: u32, items: Items) -> Event
+    ensures { result ≡ table_event tag seconds items }
 {
     Event {
         time: Time {
             seconds,
             micros: None,
         },
-        tag: Tag::TableDump2,
+        tag,
         items,
     }
 }
@@ -102,6 +103,23 @@ fn session_event(seconds: u32, micros: Option<u32>, items: Items) -> Event
     }
 }
 
+/// Reads an entry of a table with its peer.
+fn judge_entry(
+    alloc: Global,
+    pool: &mut Pool,
+    stamp: Stamp,
+    family: Family,
+    header: &Header,
+    body: &[u8],
+) -> Result<Event, Refusal>
+    requires { HasForm header.now.kind header.now.subtype (Form.Entry family) }
+    ensures { (index : Index) →
+        Judges stamp index index (record_under header.now body.now) result }
+{
+    let items = read_peer_entry(alloc, pool, family, stamp, header.seconds, body)?;
+    Ok(table_event(Tag::TableDump, header.seconds, items))
+}
+
 /// Reads the peers of a table, which are put in the place of those before.
 fn judge_index(
     alloc: Global,
@@ -115,7 +133,8 @@ fn judge_index(
 {
     let peers = read_peer_index(alloc, body)?;
     *index = Some(peers);
-    Ok(table_event(header.seconds, Items::from_vec(Vec::new(alloc))))
+    let none = Items::from_vec(Vec::new(alloc));
+    Ok(table_event(Tag::TableDump2, header.seconds, none))
 }
 
 /// Reads the entries of a table for one prefix.
@@ -140,7 +159,8 @@ fn judge_rib(
     if let Some(kind) = entries_fault(index, told.unknown) {
         return Err(Refusal::Fault(kind));
     }
-    Ok(table_event(header.seconds, Items::from_vec(told.items)))
+    let items = Items::from_vec(told.items);
+    Ok(table_event(Tag::TableDump2, header.seconds, items))
 }
 
 /// Reads what happened in a session.
@@ -177,6 +197,7 @@ pub(crate) fn judge(
         return Err(Refusal::Fault(RecordKind::Unsupported(header.kind, header.subtype)));
     };
     match form {
+        Form::Entry(family) => judge_entry(alloc, pool, stamp, family, header, body),
         Form::Peers => judge_index(alloc, index, header, body),
         Form::Entries(family) => judge_rib(alloc, pool, stamp, index, family, header, body),
         Form::Session(SessionForm { kind, width, timed }) => {

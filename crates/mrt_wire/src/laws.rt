@@ -8,9 +8,10 @@ ghost use Rattle.mrt_wire.specs.declared.event.Stamp.{Stamp};
 ghost use Rattle.mrt_frames.specs.declared.frames.TheConstants.{LONGEST_BODY};
 ghost use Rattle.mrt_frames.specs.declared.header.TheConstants.{HEADER_SIZE};
 ghost use Rattle.mrt_wire.specs.declared.peer_index.TheConstants.{ID_SIZE, IPV6_PEER, AS4_PEER};
-ghost use Rattle.mrt_wire.specs.declared.profile.TheConstants.{TABLE_DUMP_V2, BGP4MP, BGP4MP_ET, PEER_INDEX_TABLE, RIB_IPV4_UNICAST, RIB_IPV6_UNICAST, BGP4MP_STATE_CHANGE, BGP4MP_MESSAGE, BGP4MP_MESSAGE_AS4, BGP4MP_STATE_CHANGE_AS4};
+ghost use Rattle.mrt_wire.specs.declared.profile.TheConstants.{TABLE_DUMP, AFI_IPV4, AFI_IPV6, TABLE_DUMP_V2, BGP4MP, BGP4MP_ET, PEER_INDEX_TABLE, RIB_IPV4_UNICAST, RIB_IPV6_UNICAST, BGP4MP_STATE_CHANGE, BGP4MP_MESSAGE, BGP4MP_MESSAGE_AS4, BGP4MP_STATE_CHANGE_AS4};
 ghost use Rattle.mrt_wire.specs.declared.rib.TheConstants.{SEQUENCE_SIZE};
 ghost use Rattle.mrt_wire.specs.declared.session.TheConstants.{INTERFACE_SIZE, MICROS_PER_SECOND};
+ghost use Rattle.mrt_wire.specs.declared.table_dump.TheConstants.{NUMBERS_SIZE, STATUS_SIZE};
 ghost use Rattle.mrt_wire.specs.declared.peer.Peer.{Peer};
 ghost use Rattle.mrt_wire.specs.Content.{Content, IsBody};
 ghost use Rattle.mrt_wire.specs.Peer.{peer_cmp};
@@ -55,12 +56,15 @@ pub fn peer_order()
 /// length that is read.
 pub fn record_numbers()
     ensures sizes { (HEADER_SIZE ≡ 12) × (LONGEST_BODY ≡ 16777216) }
-    ensures types { (TABLE_DUMP_V2 ≡ 13) × (BGP4MP ≡ 16) × (BGP4MP_ET ≡ 17) }
+    ensures types { (TABLE_DUMP ≡ 12) × (TABLE_DUMP_V2 ≡ 13) × (BGP4MP ≡ 16)
+        × (BGP4MP_ET ≡ 17) }
+    ensures entry_subtypes { (AFI_IPV4 ≡ 1) × (AFI_IPV6 ≡ 2) }
     ensures table_subtypes { (PEER_INDEX_TABLE ≡ 1) × (RIB_IPV4_UNICAST ≡ 2)
         × (RIB_IPV6_UNICAST ≡ 4) }
     ensures session_subtypes { (BGP4MP_STATE_CHANGE ≡ 0) × (BGP4MP_MESSAGE ≡ 1)
         × (BGP4MP_MESSAGE_AS4 ≡ 4) × (BGP4MP_STATE_CHANGE_AS4 ≡ 5) }
     ensures peer_types { (IPV6_PEER ≡ 1) × (AS4_PEER ≡ 2) }
-    ensures fields { (ID_SIZE ≡ 4) × (SEQUENCE_SIZE ≡ 4) × (INTERFACE_SIZE ≡ 2) }
+    ensures fields { (ID_SIZE ≡ 4) × (SEQUENCE_SIZE ≡ 4) × (INTERFACE_SIZE ≡ 2)
+        × (NUMBERS_SIZE ≡ 4) × (STATUS_SIZE ≡ 1) }
     ensures microseconds { MICROS_PER_SECOND ≡ 1000000 }
 {}

@@ -13,6 +13,7 @@ mod profile;
 mod rib;
 mod session;
 mod source;
+mod table_dump;
 mod update;
 
 pub use event::{Event, Item, Items, Route, Shared, Stamp, Tag, Time};

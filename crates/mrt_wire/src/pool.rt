@@ -1,12 +1,12 @@
 //! Memory that records are read into again.
 
-ghost use Rattle.std.specs.Prelude.{◌≡◌, ◌<◌, [], IfOk, IfErr, IfSome, OnOk, vec_len};
-ghost use Rattle.bgp_wire.specs.declared.AsWidth.TheVariants.{Four};
+ghost use Rattle.std.specs.Prelude.{◌≡◌, ◌<◌, ◌∷◌, [], IfOk, IfErr, IfSome, OnOk, vec_len};
 ghost use Rattle.bgp_wire.specs.Content.{SpellsRibAttrs};
 ghost use Rattle.bgp_wire.specs.Reading.{Refuses};
+ghost use Rattle.mrt_wire.specs.Event.{saying};
 ghost use Rattle.mrt_wire.specs.Items.{route_of};
 
-use crate::event::{Item, Route};
+use crate::event::{Item, Items, Route};
 use bgp_wire::{AsWidth, Attrs, UpdateParts, WireFault, replace_attrs, replace_rib_attrs};
 use ip_prefix::Family;
 use std::alloc::{AllocError, Global};
@@ -51,17 +51,18 @@ fn fill_rib_route(
     shared: &mut Rc<Route>,
     alloc: Global,
     family: Family,
+    width: AsWidth,
     time: u32,
     octets: &[u8],
 ) -> Result<(), WireFault>
-    ensures attrs { OnOk result (SpellsRibAttrs family Four shared.new.value.attrs octets.now) }
+    ensures attrs { OnOk result (SpellsRibAttrs family width shared.new.value.attrs octets.now) }
     ensures time { OnOk result (shared.new.value.time ≡ time) }
-    ensures refused { IfErr result (Refuses (SpellsRibAttrs family Four) octets.now) }
+    ensures refused { IfErr result (Refuses (SpellsRibAttrs family width) octets.now) }
 {
     let Some(route) = Rc::get_mut(shared) else {
         return Err(WireFault::Memory);
     };
-    replace_rib_attrs(alloc, &mut route.attrs, family, AsWidth::Four, octets)?;
+    replace_rib_attrs(alloc, &mut route.attrs, family, width, octets)?;
     route.time = time;
     Ok(())
 }
@@ -108,26 +109,27 @@ impl RoutePool {
         Ok(place)
     }
 
-    /// The route of a table's entry, with this time.
+    /// The route of a table's entry, with AS numbers of this width, and with this time.
     pub(crate) fn rib_route(
         &mut self,
         alloc: Global,
         family: Family,
+        width: AsWidth,
         time: u32,
         octets: &[u8],
     ) -> Result<Rc<Route>, WireFault>
         ensures attrs { IfOk result (λ route.
-            SpellsRibAttrs family Four route.value.attrs octets.now) }
+            SpellsRibAttrs family width route.value.attrs octets.now) }
         ensures time { IfOk result (λ route. route.value.time ≡ time) }
-        ensures refused { IfErr result (Refuses (SpellsRibAttrs family Four) octets.now) }
+        ensures refused { IfErr result (Refuses (SpellsRibAttrs family width) octets.now) }
     {
         if self.given >= MOST_ROUTES || octets.len() > LONGEST_KEPT {
             let mut route = new_route(alloc)?;
-            fill_rib_route(&mut route, alloc, family, time, octets)?;
+            fill_rib_route(&mut route, alloc, family, width, time, octets)?;
             return Ok(route);
         }
         let place = self.next_place(alloc)?;
-        fill_rib_route(&mut self.routes[place], alloc, family, time, octets)?;
+        fill_rib_route(&mut self.routes[place], alloc, family, width, time, octets)?;
         Ok(self.routes[place].clone()?)
     }
 
@@ -196,6 +198,15 @@ impl Pool {
         items.clear();
         items.reserve(count)?;
         Ok(items)
+    }
+
+    /// An item alone.
+    pub(crate) fn item_alone(&mut self, alloc: Global, item: Item) -> Result<Items, AllocError>
+        ensures { IfOk result (λ items. items ≡ saying item ∷ []) }
+    {
+        let mut items = self.take_items(alloc, 1)?;
+        items.push(item)?;
+        Ok(Items::from_vec(items))
     }
 
     /// Keeps the room of items.

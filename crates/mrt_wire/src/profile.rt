@@ -2,10 +2,18 @@
 //! section 4).
 
 ghost use Rattle.std.specs.Prelude.{◌≡◌};
-ghost use Rattle.mrt_wire.specs.Profile.{form_of, table_form, session_form, happening_form};
+ghost use Rattle.mrt_wire.specs.Profile.{form_of, entry_form, table_form, session_form, happening_form};
 
 use bgp_wire::AsWidth;
 use ip_prefix::Family;
+
+/// The type of the entries of a table, each in a record of its own (section 4.2), and their
+/// subtypes, which are the numbers of families.
+const TABLE_DUMP: u16 = 12;
+
+const AFI_IPV4: u16 = 1;
+
+const AFI_IPV6: u16 = 2;
 
 /// The type of the parts of a table (section 4.3), and their subtypes.
 const TABLE_DUMP_V2: u16 = 13;
@@ -52,6 +60,8 @@ pub(crate) struct SessionForm {
 /// The form of a body.
 #[derive(Clone, Copy)]
 pub(crate) enum Form {
+    /// An entry of a table with its peer, for a prefix of this family (section 4.2).
+    Entry(Family),
     /// The peers of a table (section 4.3.1).
     Peers,
     /// The entries of a table for a prefix of this family (section 4.3.2).
@@ -65,9 +75,21 @@ pub(crate) fn form_of(kind: u16, subtype: u16) -> Option<Form>
     ensures { result ≡ form_of kind subtype }
 {
     match kind {
+        TABLE_DUMP => entry_form(subtype),
         TABLE_DUMP_V2 => table_form(subtype),
         BGP4MP => session_form(false, subtype),
         BGP4MP_ET => session_form(true, subtype),
+        _ => None,
+    }
+}
+
+/// The form of an entry of a table in a record of its own.
+fn entry_form(subtype: u16) -> Option<Form>
+    ensures { result ≡ entry_form subtype }
+{
+    match subtype {
+        AFI_IPV4 => Some(Form::Entry(Family::V4)),
+        AFI_IPV6 => Some(Form::Entry(Family::V6)),
         _ => None,
     }
 }

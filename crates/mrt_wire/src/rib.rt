@@ -6,14 +6,14 @@ ghost use Rattle.ip_prefix.specs.Sequences.{Begins, BeginsWithNone};
 ghost use Rattle.bgp_wire.specs.Reading.{Refuses, RefusesFront};
 ghost use Rattle.mrt_wire.specs.Rib.{RibEntry, PrefixEntries, AreEntryFields, SpellsEntry, SpellsEntries};
 ghost use Rattle.mrt_wire.specs.Rib.{SpellsPrefixed, SpellsRib};
-ghost use Rattle.mrt_wire.specs.Items.{entry_time, entry_items, unknown_peer};
+ghost use Rattle.mrt_wire.specs.Items.{entry_items, unknown_peer};
 ghost use Rattle.mrt_wire.specs.Judging.{Adds, AreItemsOf, IsTimed, entry_read};
 
 use crate::event::{Item, Route, Stamp};
 use crate::fields::{skip, split_short, split_sized, split_word};
 use crate::peer::Peer;
 use crate::pool::Pool;
-use bgp_wire::WireFault;
+use bgp_wire::{AsWidth, WireFault};
 use ip_prefix::{Family, Prefix};
 use std::alloc::{AllocError, Global};
 use std::rc::Rc;
@@ -95,10 +95,10 @@ fn read_entry<'a>(
     let Some(framed) = frame_entry(octets) else {
         return Err(WireFault::Malformed);
     };
-    let time = time_of(snapshot, framed.time);
+    let time = snapshot.stamp.time_of(snapshot.seconds, framed.time);
     let route = pool
         .routes
-        .rib_route(alloc, family, time, framed.attributes)?;
+        .rib_route(alloc, family, AsWidth::Four, time, framed.attributes)?;
     let entry = ReadEntry {
         route,
         originated: framed.time,
@@ -113,17 +113,6 @@ fn peer_at(peers: &[Peer], number: u16) -> Option<Peer>
     ensures { result ≡ slice_get peers.now number }
 {
     peers.get(usize::from(number)).copied()
-}
-
-/// The time of an entry's route.
-#[inline]
-fn time_of(snapshot: Snapshot<'_>, originated: u32) -> u32
-    ensures { result ≡ entry_time snapshot.entry.stamp snapshot.entry.seconds originated }
-{
-    match snapshot.stamp {
-        Stamp::Dump => snapshot.seconds,
-        Stamp::Change => originated,
-    }
 }
 
 impl EntryItems {

@@ -3,6 +3,7 @@ mod held;
 mod kinds;
 mod large;
 mod messages;
+mod old_tables;
 mod sessions;
 mod shown;
 mod sources;

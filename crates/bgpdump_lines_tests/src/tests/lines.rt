@@ -59,6 +59,13 @@ fn event_of(alloc: Global, tag: Tag, micros: Option<u32>) -> Result<Event, Alloc
 /// A tag and microseconds, with the lines of that event.
 const LINES: &[(Tag, Option<u32>, &str)] = &[
     (
+        Tag::TableDump,
+        None,
+        "TABLE_DUMP|50|B|192.0.2.1|64500|10.0.0.0/8||||0|0||NAG||\n\
+         TABLE_DUMP|200|W|192.0.2.1|64500|10.0.0.0/8\n\
+         TABLE_DUMP|200|STATE|192.0.2.1|64500|6|1\n",
+    ),
+    (
         Tag::TableDump2,
         None,
         "TABLE_DUMP2|50|B|192.0.2.1|64500|10.0.0.0/8||||0|0||NAG||\n\

@@ -26,12 +26,12 @@ const READ: &[(&str, &str, &str)] = &[
         "BGP4MP|0|STATE|0.0.0.0|0|0|0\n",
         "",
     ),
-    // A prefix of a table, with one entry.
+    // An entry of a table with its peer.
     (
         "000000C8 000C 0001 00000028 0000 0000 0A000000 08 01 00000032 C0000201 FBF4 0012 \
          40010100 400204 0201 FBF4 400304 C0000209",
+        "TABLE_DUMP|200|B|192.0.2.1|64500|10.0.0.0/8|64500|IGP|192.0.2.9|0|0||NAG||\n",
         "",
-        "bgpdump: record 1, byte 0: unsupported type 12 subtype 1\n",
     ),
 ];
 

@@ -55,6 +55,13 @@ pub(super) const ENTRY: Record = Record::Octets(
      400210 0201 0000FBF4 0102 00000001 00000002 400304 C0000209 400600 C00808 FBF40001 FFFFFF01",
 );
 
+/// An entry of 10.0.0.0/8 with the peer 192.0.2.1 of AS 64500, originated at 50 seconds and dumped
+/// at 200.
+pub(super) const ENTRY_WITH_PEER: Record = Record::Octets(
+    "000000C8 000C 0001 00000028 0000 0000 0A000000 08 01 00000032 C0000201 FBF4 0012 \
+     40010100 400204 0201 FBF4 400304 C0000209",
+);
+
 /// The announcement of 10.0.0.0/8 at 100 seconds.
 pub(super) const ANNOUNCED: Record = Record::Update(FIRST, 100, "", &[NINE], "080A");
 

@@ -1,8 +1,8 @@
 //! The replies to what scripts ask of the routes.
 
 use super::playing::{
-    ANNOUNCED, ENTRY, FIRST, INDEX, LOSS, NINE, OTHER_HOP, Record, Row, SECOND, WIDE, WIDE_0,
-    WIDE_32, assert_rows,
+    ANNOUNCED, ENTRY, ENTRY_WITH_PEER, FIRST, INDEX, LOSS, NINE, OTHER_HOP, Record, Row, SECOND,
+    WIDE, WIDE_0, WIDE_32, assert_rows,
 };
 use mrt_wire::Stamp;
 use std::test::Fail;
@@ -300,31 +300,69 @@ const AROUND_A_LOSS: &[Row] = &[
     ),
 ];
 
-/// A table's entry and a message, at the time of the dump.
-const DUMPED: &[Row] = &[(
-    &[INDEX, ENTRY, REPLACED],
-    "next 2\nroute 192.0.2.1 64500 10.0.0.0/8\nnext\nlookup 192.0.2.1 64500 10.0.0.1\n",
-    "at 2\n\
-     RIB|200|B|192.0.2.1|64500|10.0.0.0/8|64500 {1,2}|IGP|192.0.2.9|0|0|64500:1 no-export|AG||\n\
-     at 3\n\
-     RIB|101|B|192.0.2.1|64500|10.0.0.0/8|64500|IGP|192.0.2.10|0|0||NAG||\n",
-    "",
-)];
+/// Entries of tables, and messages, at the time of the dump.
+const DUMPED: &[Row] = &[
+    (
+        &[INDEX, ENTRY, REPLACED],
+        "next 2\nroute 192.0.2.1 64500 10.0.0.0/8\nnext\nlookup 192.0.2.1 64500 10.0.0.1\n",
+        "at 2\n\
+         RIB|200|B|192.0.2.1|64500|10.0.0.0/8|64500 {1,2}|IGP|192.0.2.9|0|0|64500:1 no-export\
+         |AG||\n\
+         at 3\n\
+         RIB|101|B|192.0.2.1|64500|10.0.0.0/8|64500|IGP|192.0.2.10|0|0||NAG||\n",
+        "",
+    ),
+    (
+        &[ENTRY_WITH_PEER],
+        "next\nroute 192.0.2.1 64500 10.0.0.0/8\nback\npeers\n",
+        "at 1\n\
+         RIB|200|B|192.0.2.1|64500|10.0.0.0/8|64500|IGP|192.0.2.9|0|0||NAG||\n\
+         at 0\n\
+         none\n",
+        "",
+    ),
+    // An entry takes the place of a route, and gives it back.
+    (
+        &[ANNOUNCED, ENTRY_WITH_PEER, LOSS],
+        "next 2\nroute 192.0.2.1 64500 10.0.0.0/8\nnext\npeers\nback\npeers\nback\n\
+         route 192.0.2.1 64500 10.0.0.0/8\n",
+        "at 2\n\
+         RIB|200|B|192.0.2.1|64500|10.0.0.0/8|64500|IGP|192.0.2.9|0|0||NAG||\n\
+         at 3\n\
+         none\n\
+         at 2\n\
+         PEER|192.0.2.1|64500|1\n\
+         at 1\n\
+         RIB|100|B|192.0.2.1|64500|10.0.0.0/8|64500|IGP|192.0.2.9|0|0||NAG||\n",
+        "",
+    ),
+];
 
 /// The same where entries have the time at which they were originated.
-const CHANGED: &[Row] = &[(
-    &[INDEX, ENTRY, REPLACED],
-    "next 2\nroute 192.0.2.1 64500 10.0.0.0/8\nnext\nlookup 192.0.2.1 64500 10.0.0.1\nback\n\
-     table 192.0.2.1 64500\n",
-    "at 2\n\
-     RIB|50|B|192.0.2.1|64500|10.0.0.0/8|64500 {1,2}|IGP|192.0.2.9|0|0|64500:1 no-export|AG||\n\
-     at 3\n\
-     RIB|101|B|192.0.2.1|64500|10.0.0.0/8|64500|IGP|192.0.2.10|0|0||NAG||\n\
-     at 2\n\
-     RIB|50|B|192.0.2.1|64500|10.0.0.0/8|64500 {1,2}|IGP|192.0.2.9|0|0|64500:1 no-export|AG||\n\
-     routes 1\n",
-    "",
-)];
+const CHANGED: &[Row] = &[
+    (
+        &[INDEX, ENTRY, REPLACED],
+        "next 2\nroute 192.0.2.1 64500 10.0.0.0/8\nnext\nlookup 192.0.2.1 64500 10.0.0.1\nback\n\
+         table 192.0.2.1 64500\n",
+        "at 2\n\
+         RIB|50|B|192.0.2.1|64500|10.0.0.0/8|64500 {1,2}|IGP|192.0.2.9|0|0|64500:1 no-export\
+         |AG||\n\
+         at 3\n\
+         RIB|101|B|192.0.2.1|64500|10.0.0.0/8|64500|IGP|192.0.2.10|0|0||NAG||\n\
+         at 2\n\
+         RIB|50|B|192.0.2.1|64500|10.0.0.0/8|64500 {1,2}|IGP|192.0.2.9|0|0|64500:1 no-export\
+         |AG||\n\
+         routes 1\n",
+        "",
+    ),
+    (
+        &[ENTRY_WITH_PEER],
+        "next\nroute 192.0.2.1 64500 10.0.0.0/8\n",
+        "at 1\n\
+         RIB|50|B|192.0.2.1|64500|10.0.0.0/8|64500|IGP|192.0.2.9|0|0||NAG||\n",
+        "",
+    ),
+];
 
 #[test]
 fn replies_with_routes(rt: HostRuntime) -> Result<(), Fail> {

@@ -16,6 +16,13 @@ const ENTRIES: [&str; 3] = [
     "000D 0002 00000000 080A 0001 0000 00000032 0007 40050400000007",
 ];
 
+/// The same in records of their own, with their peers.
+const PEER_ENTRIES: [&str; 3] = [
+    "000C 0001 0000 0000 0A000000 08 01 00000032 C0000201 FBF4 0007 40050400000005",
+    "000C 0001 0000 0001 0A000000 08 01 00000032 C0000201 FBF4 0007 40050400000006",
+    "000C 0001 0000 0002 0A000000 08 01 00000032 C0000201 FBF4 0007 40050400000007",
+];
+
 /// UPDATEs that announce 10.0.0.0/8, with the same preferences.
 const UPDATES: [&str; 3] = [
     "0010 0001 FBF4 FBF5 0000 0001 C0000201 C0000202 FFFFFFFFFFFFFFFFFFFFFFFFFFFFFFFF 0020 02 \
@@ -88,7 +95,7 @@ fn preferences(alloc: Global, octets: &[u8]) -> Result<[Option<u32>; 3], AllocEr
 
 #[test]
 fn held_routes_stay(rt: HostRuntime) -> Result<(), Fail> {
-    for [first, second, third] in [ENTRIES, UPDATES] {
+    for [first, second, third] in [ENTRIES, PEER_ENTRIES, UPDATES] {
         let octets = records_of(rt.alloc(), &[INDEX, first, second, third])?;
         let found = preferences(rt.alloc(), octets.as_slice())?;
         assert_eq!(rt; found, [Some(5), Some(6), Some(7)]);

@@ -10,14 +10,17 @@ const UNREAD: &[(&str, &str)] = &[
     // the types around them
     ("0000 0001", "0, 1"),
     ("000B 0001", "11, 1"),
-    ("000C 0001", "12, 1"),
-    ("000C 0002", "12, 2"),
     ("000E 0001", "14, 1"),
     ("000F 0001", "15, 1"),
     ("0012 0001", "18, 1"),
     ("0030 0001", "48, 1"),
     ("0D00 0001", "3328, 1"),
     ("FFFF FFFF", "65535, 65535"),
+    // the subtypes of entries in records of their own
+    ("000C 0000", "12, 0"),
+    ("000C 0003", "12, 3"),
+    ("000C 0100", "12, 256"),
+    ("000C FFFF", "12, 65535"),
     // the subtypes of tables
     ("000D 0000", "13, 0"),
     ("000D 0003", "13, 3"),
@@ -43,10 +46,12 @@ const UNREAD: &[(&str, &str)] = &[
     ("0011 0401", "17, 1025"),
 ];
 
-/// Bodies: none, too many microseconds, and those of an index, of a table and of state changes.
+/// Bodies: none, too many microseconds, and those of an entry, of an index, of a table and of state
+/// changes.
 const BODIES: &[&str] = &[
     "",
     "000F4240",
+    "0000 0000 0A000000 08 01 00000032 C0000201 FBF4 0000",
     "C6336401 0000 0001 00 C0000201 C0000201 FBF4",
     "00000000 080A 0001 0000 00000032 0000",
     "FBF4 FBF5 0000 0001 C0000201 C0000202 0006 0001",

@@ -99,6 +99,7 @@ pub(super) fn shown_item(alloc: Global, item: &Item) -> Result<Vec<u8>, AllocErr
 /// The word of a tag.
 fn tag_word(tag: Tag) -> &'static str {
     match tag {
+        Tag::TableDump => " entry",
         Tag::TableDump2 => " table",
         Tag::Bgp4mp => " session",
         Tag::Bgp4mpEt => " timed session",

@@ -131,9 +131,9 @@ const WHOLE: &[(&str, [&str; 4])] = &[
     ),
     // An unsupported record, a malformed one, and a cut one.
     (
-        "000000C8 000C 0001 00000002 0000 00000064 0010 0000 00000001 FB 00",
+        "000000C8 000C 0003 00000002 0000 00000064 0010 0000 00000001 FB 00",
         [
-            "1, 0: Unsupported(12, 1) at 14",
+            "1, 0: Unsupported(12, 3) at 14",
             "2, 14: Malformed at 27",
             "3, 27: CutRecord at 28",
             "end at 28",

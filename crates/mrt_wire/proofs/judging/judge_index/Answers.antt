@@ -1,6 +1,7 @@
 use Rattle.std.proofs.Common.{Err, ap, map, sym, subst, ◌∙◌, refl}
 use Rattle.std.proofs.lemmas.Result.{err_from_is_err_and}
 use Rattle.bgp_paths.proofs.Refusing.{refused_part}
+use Rattle.mrt_wire.specs.declared.event.Tag.TheVariants.{TableDump2}
 use Rattle.mrt_wire.specs.declared.profile.Form.TheVariants as form
 use Rattle.mrt_wire.specs.Content.{Peers, SpellsContent}
 use Rattle.mrt_wire.specs.PeerIndex.{SpellsPeerIndex}
@@ -24,6 +25,6 @@ returns-in_err-peers c stamp =
 pub returns : goal.returns
 returns c stamp = (
   Peers c.in_ok-peers.peers,
-  record { is_body = (form.Peers, c.requires, (c.in_ok-peers.peers, refl, c.in_ok-peers.ensures)); sound = refl; made = c.table_event.ensures ∙ ap (table_event c.args.header.now.seconds) (c.from_vec.ensures ∙ ap (map saying) c.new.ensures.items) },
+  record { is_body = (form.Peers, c.requires, (c.in_ok-peers.peers, refl, c.in_ok-peers.ensures)); sound = refl; made = c.table_event.ensures ∙ ap (table_event TableDump2 c.args.header.now.seconds) (c.from_vec-none.ensures ∙ ap (map saying) c.new.ensures.items) },
   refl,
 )

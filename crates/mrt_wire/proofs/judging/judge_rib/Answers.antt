@@ -1,6 +1,7 @@
 use Rattle.std.proofs.Common.{Err, ap, sym, subst, ◌∙◌, refl}
 use Rattle.std.proofs.lemmas.Result.{err_from_is_err_and}
 use Rattle.bgp_paths.proofs.Refusing.{refused_part}
+use Rattle.mrt_wire.specs.declared.event.Tag.TheVariants.{TableDump2}
 use Rattle.mrt_wire.specs.declared.profile.Form.TheVariants as form
 use Rattle.mrt_wire.specs.Content.{Entries, SpellsContent}
 use Rattle.mrt_wire.specs.Rib.{SpellsRib}
@@ -37,12 +38,12 @@ returns c =
     let seconds = c.args.header.now.seconds in
     let (rib, spelled, tells) = c.in_ok-told.ensures.told in
     let unknown = tells.unknown ∙ ap (λ peers. first_unknown peers rib.entries) c.peers_in.ensures in
-    let items = c.from_vec.ensures ∙ tells.items ∙ ap (λ peers. entries_items peers c.args.stamp seconds rib) c.peers_in.ensures in (
+    let items = c.from_vec-items.ensures ∙ tells.items ∙ ap (λ peers. entries_items peers c.args.stamp seconds rib) c.peers_in.ensures in (
       Entries rib,
       record {
         is_body = (form.Entries c.args.family, c.requires, (rib, refl, spelled));
         sound = ap (entries_fault index) (sym unknown) ∙ sym c.entries_fault.ensures ∙ c.in_default.is;
-        made = c.table_event.ensures ∙ ap (table_event seconds) items;
+        made = c.table_event.ensures ∙ ap (table_event TableDump2 seconds) items;
       },
       refl,
     )

@@ -1,0 +1,113 @@
+//! Reading an entry of a table with its peer (RFC 6396, section 4.2).
+
+ghost use Rattle.std.specs.Prelude.{ℕ, List, IfSome, IfNone};
+ghost use Rattle.ip_prefix.specs.Sequences.{Begins, BeginsWithNone};
+ghost use Rattle.bgp_wire.specs.Reading.{Reads};
+ghost use Rattle.mrt_wire.specs.Fields.{FindsField};
+ghost use Rattle.mrt_wire.specs.Items.{peer_entry_items};
+ghost use Rattle.mrt_wire.specs.Judging.{Told};
+ghost use Rattle.mrt_wire.specs.TableDump.{ArePeerEntryFields, SpellsNarrowPeer, SpellsPeerEntry, SpellsPrefix};
+
+use crate::event::{Item, Items, Stamp};
+use crate::fields::{Field, fill_address, skip, split_asn, split_octet, split_sized, split_word};
+use crate::peer::Peer;
+use crate::pool::Pool;
+use bgp_wire::{AsWidth, WireFault};
+use ip_prefix::{Family, Prefix};
+use std::alloc::Global;
+
+/// How many octets the numbers of the view and of the record have.
+const NUMBERS_SIZE: usize = 4;
+
+/// How many octets the status has.
+const STATUS_SIZE: usize = 1;
+
+/// An entry as it is framed.
+#[derive(Clone, Copy)]
+struct FramedEntry<'a> {
+    attributes: &'a [u8],
+    prefix: Prefix,
+    peer: Peer,
+    time: u32,
+}
+
+/// The prefix in front, and what follows it. Its bits stand first in an address of this family,
+/// and their number behind it.
+fn split_prefix(family: Family, octets: &[u8]) -> Option<Field<'_, Prefix>>
+    ensures { FindsField (SpellsPrefix family) octets.now result }
+{
+    let mut peer = Peer::unknown();
+    let Some(after_addr) = fill_address(&mut peer.addr, family, octets) else {
+        return None;
+    };
+    let len = split_octet(after_addr)?;
+    let prefix = Prefix::new(peer.addr, len.value)?;
+    Some(Field {
+        value: prefix,
+        rest: len.rest,
+    })
+}
+
+/// The peer in front, and what follows it.
+fn split_narrow_peer(family: Family, octets: &[u8]) -> Option<Field<'_, Peer>>
+    ensures { FindsField (SpellsNarrowPeer family) octets.now result }
+{
+    let mut peer = Peer::unknown();
+    let Some(after_addr) = fill_address(&mut peer.addr, family, octets) else {
+        return None;
+    };
+    let asn = split_asn(AsWidth::Two, after_addr)?;
+    peer.asn = asn.value;
+    Some(Field {
+        value: peer,
+        rest: asn.rest,
+    })
+}
+
+/// The entry in front.
+fn frame_entry(family: Family, octets: &[u8]) -> Option<FramedEntry<'_>>
+    ensures some { IfSome result (λ f. (numbers status more : List ℕ)
+        × Begins (ArePeerEntryFields family)
+        (numbers, (f.prefix, (status, (f.time, (f.peer, f.attributes.now))))) more octets.now) }
+    ensures none { IfNone result (BeginsWithNone (ArePeerEntryFields family) octets.now) }
+{
+    let after_numbers = skip(NUMBERS_SIZE, octets)?;
+    let Some(prefix) = split_prefix(family, after_numbers) else {
+        return None;
+    };
+    let after_status = skip(STATUS_SIZE, prefix.rest)?;
+    let time = split_word(after_status)?;
+    let Some(peer) = split_narrow_peer(family, time.rest) else {
+        return None;
+    };
+    let (attributes, _) = split_sized(peer.rest)?;
+    Some(FramedEntry {
+        attributes,
+        prefix: prefix.value,
+        peer: peer.value,
+        time: time.value,
+    })
+}
+
+/// What an entry with its peer says.
+pub(crate) fn read_peer_entry(
+    alloc: Global,
+    pool: &mut Pool,
+    family: Family,
+    stamp: Stamp,
+    seconds: u32,
+    octets: &[u8],
+) -> Result<Items, WireFault>
+    ensures { Reads (Told (SpellsPeerEntry family) (peer_entry_items stamp seconds))
+        octets.now result }
+{
+    let Some(entry) = frame_entry(family, octets) else {
+        return Err(WireFault::Malformed);
+    };
+    let time = stamp.time_of(seconds, entry.time);
+    let route = pool
+        .routes
+        .rib_route(alloc, family, AsWidth::Two, time, entry.attributes)?;
+    let items = pool.item_alone(alloc, Item::Announce(entry.peer, entry.prefix, route))?;
+    Ok(items)
+}
