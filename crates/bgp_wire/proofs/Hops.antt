@@ -5,7 +5,7 @@ use Rattle.ip_prefix.specs.declared.addr.Family.{Family}
 use Rattle.ip_prefix.specs.declared.addr.Family.TheVariants.{V4, V6}
 use Rattle.ip_prefix.specs.Address.{Address, octet_count}
 use Rattle.ip_prefix.specs.Bits.{bits_of_octets}
-use Rattle.ip_prefix.proofs.Lists.{append_parts}
+use Rattle.octet_forms.proofs.Lists.{append_parts}
 use Rattle.bgp_wire.specs.declared.next_hop.TheConstants.{FAMILY_SIZE, IPV6_SIZE, BOTH_SIZE}
 use Rattle.bgp_wire.specs.NextHop.{IsLinkLocal, SpellsNextHop, SpellsHopAlone, SpellsRibHop}
 

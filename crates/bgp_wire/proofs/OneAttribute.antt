@@ -3,7 +3,7 @@ use Rattle.std.proofs.Common.{◌≡◌, ℕ, ◌<◌, Bool, true, false, List, 
 use Rattle.std.specs.Int.{w16, to_be_bytes, from_be_bytes}
 use Rattle.std.proofs.lemmas.Nat.{from_be_bytes-to_be_bytes_2}
 use Rattle.ip_prefix.specs.Sequences.{Begins, IsCode}
-use Rattle.ip_prefix.proofs.Lists.{append_parts}
+use Rattle.octet_forms.proofs.Lists.{append_parts}
 use Rattle.bgp_wire.specs.Attribute.{Attribute, is_extended, length_octets, length_limit, SpellsAttribute}
 
 -- ---- attributes

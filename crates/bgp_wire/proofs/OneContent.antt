@@ -5,7 +5,7 @@ use Rattle.ip_prefix.specs.declared.addr.Family.TheVariants.{V4}
 use Rattle.ip_prefix.specs.Address.{Address}
 use Rattle.ip_prefix.specs.Sequences.{SpellsAll}
 use Rattle.ip_prefix.specs.Wire.{SpellsNetwork}
-use Rattle.ip_prefix.proofs.Sequences.{one_list}
+use Rattle.octet_forms.proofs.Sequences.{one_list}
 use Rattle.ip_prefix.proofs.Wires.{network_code}
 use Rattle.bgp_wire.specs.declared.framing.TheConstants.{ORIGIN, AS_PATH, NEXT_HOP, MULTI_EXIT_DISC, LOCAL_PREF, ATOMIC_AGGREGATE, AGGREGATOR, COMMUNITIES, MP_REACH_NLRI, MP_UNREACH_NLRI, AS4_PATH, AS4_AGGREGATOR}
 use Rattle.bgp_paths.specs.declared.path.AsWidth.{AsWidth}

@@ -6,8 +6,8 @@ use Rattle.ip_prefix.specs.declared.addr.Family.TheVariants.{V4, V6}
 use Rattle.ip_prefix.specs.Address.{octet_count}
 use Rattle.ip_prefix.specs.Sequences.{SpellsAll}
 use Rattle.ip_prefix.specs.Wire.{SpellsNetwork}
-use Rattle.ip_prefix.proofs.Lists.{append_parts}
-use Rattle.ip_prefix.proofs.Sequences.{one_list}
+use Rattle.octet_forms.proofs.Lists.{append_parts}
+use Rattle.octet_forms.proofs.Sequences.{one_list}
 use Rattle.ip_prefix.proofs.Wires.{network_code}
 use Rattle.bgp_paths.specs.declared.path.AsWidth.{AsWidth}
 use Rattle.bgp_paths.specs.declared.path.AsWidth.TheVariants.{Two, Four}
@@ -24,7 +24,7 @@ use Rattle.bgp_paths.proofs.OneFront.{number_code, length-number}
 use Rattle.bgp_wire.proofs.Hops.{length-hop}
 use Rattle.bgp_wire.proofs.Reaching.{same_family, same_unicast, same_stand, not_another}
 use Rattle.ip_prefix.specs.Fields.{IsOne}
-use Rattle.ip_prefix.proofs.Fields.{one_of_code}
+use Rattle.octet_forms.proofs.Fields.{one_of_code}
 
 pub one_optional : {A : Type 0} (Spells : A → List ℕ → Type 0) → IsOne Spells → IsOne (SpellsOptional Spells)
 one_optional Spells one None None octets s t = refl

@@ -7,7 +7,7 @@ use Rattle.std.proofs.lemmas.List.{length-append, length-take-le, take-append-dr
 use Rattle.ip_prefix.specs.declared.addr.Family.{Family}
 use Rattle.ip_prefix.specs.declared.addr.Family.TheVariants.{V4, V6}
 use Rattle.ip_prefix.specs.Address.{Address}
-use Rattle.ip_prefix.proofs.Lists.{append_parts}
+use Rattle.octet_forms.proofs.Lists.{append_parts}
 use Rattle.bgp_wire.specs.declared.message.TheConstants.{MARKER_SIZE}
 use Rattle.bgp_wire.specs.declared.lengths.TheConstants.{LENGTH_SIZE}
 use Rattle.bgp_wire.specs.NextHop.{SpellsNextHop}

@@ -40,7 +40,7 @@ pub fn put_peer(peer: &Peer, text: &mut Text) -> Result<(), AllocError>
         text.old ++ (bar ∷ address_text peer.now.addr ++ bar ∷ decimal peer.now.asn)) }
     ensures kept { OnErr result (StillBegins text.old text.new) }
 {
-    text.put_led_address(BAR, &peer.addr)?;
+    text.put_led(BAR, &peer.addr)?;
     put_field(peer.asn, text)
 }
 
@@ -51,7 +51,7 @@ pub fn put_prefix(prefix: &Prefix, text: &mut Text) -> Result<(), AllocError>
         (text.new ≡ text.old ++ (bar ∷ network_text prefix.now)) }
     ensures kept { OnErr result (StillBegins text.old text.new) }
 {
-    text.put_led_prefix(BAR, prefix)
+    text.put_led(BAR, prefix)
 }
 
 /// Appends a bar and a path.
@@ -86,7 +86,7 @@ fn put_next_hop(next_hop: Option<Addr>, text: &mut Text) -> Result<(), AllocErro
     ensures kept { OnErr result (StillBegins text.old text.new) }
 {
     match next_hop {
-        Some(addr) => text.put_led_address(BAR, &addr),
+        Some(addr) => text.put_led(BAR, &addr),
         None => text.push(BAR),
     }
 }
@@ -138,7 +138,7 @@ fn put_aggregator(aggregator: Option<Aggregator>, text: &mut Text) -> Result<(),
     match aggregator {
         Some(found) => {
             put_field(found.asn, text)?;
-            text.put_led_address(b' ', &found.addr)
+            text.put_led(b' ', &found.addr)
         }
         None => text.extend_from_slice(b"|"),
     }

@@ -3,7 +3,7 @@ use Rattle.std.proofs.Common.{◌≡◌, ℕ, ◌+◌, ◌/◌, ◌%◌, ◌<◌
 use Rattle.std.proofs.lemmas.Bool.{lt-leb, cases_lt}
 use Rattle.std.specs.Char.{digit_char}
 use Rattle.std.specs.Net.Text.{hex, groups_text, longest_zero_run, hex_groups_text}
-use Rattle.ip_prefix.specs.Written.{two_hex_digits}
+use Rattle.octet_text.specs.Written.{two_hex_digits}
 
 -- a group below 16 has one digit
 pub hex_one : (n : ℕ) → n < 16 → hex n ≡ digit_char (n % 16) ∷ []

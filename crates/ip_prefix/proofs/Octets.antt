@@ -7,7 +7,7 @@ use Rattle.std.proofs.lemmas.List.{length-append}
 use Rattle.ip_prefix.specs.Bits.{bits_of, bits_of_octets}
 use Rattle.ip_prefix.specs.BitLemmas.{length-bits_of}
 use Rattle.ip_prefix.proofs.BitLists.{bits_of-append}
-use Rattle.ip_prefix.proofs.Lists.{AllByRecursion-from_get_or}
+use Rattle.octet_forms.proofs.Lists.{AllByRecursion-from_get_or}
 
 -- a number that an octet has
 abbrev pub IsOctet : ℕ → Type 0

@@ -5,7 +5,7 @@ use mir.Val.{bool_byte}
 use Rattle.std.specs.Net.Text.{zero_run, longest_zero_run}
 use Rattle.ip_prefix.specs.declared.zero_runs.TheConstants.{ZERO_RUNS}
 use Rattle.ip_prefix.specs.ZeroRun.{zero_mask, masked_groups, run_row}
-use Rattle.ip_prefix.proofs.DigitRows.{row_at}
+use Rattle.octet_text.proofs.DigitRows.{row_at}
 
 -- each mask of eight groups has its run
 pub ZERO_RUNS_at : (mask : ℕ) → mask < 2 ^ 8 → get_or ZERO_RUNS mask [] ≡ run_row mask

@@ -6,10 +6,10 @@ use Rattle.ip_prefix.specs.declared.addr.Family.{Family}
 use Rattle.ip_prefix.specs.Address.{bit_count}
 use Rattle.ip_prefix.specs.Bits.{bits_of, bits_of_octets}
 use Rattle.ip_prefix.specs.Network.{Network}
-use Rattle.ip_prefix.specs.Sequences.{Begins, IsCode}
+use Rattle.octet_forms.specs.Sequences.{Begins, IsCode}
 use Rattle.ip_prefix.specs.Wire.{SpellsNetwork}
 use Rattle.ip_prefix.proofs.BitLists.{take-bits_of}
-use Rattle.ip_prefix.proofs.Lists.{append_parts}
+use Rattle.octet_forms.proofs.Lists.{append_parts}
 use Rattle.ip_prefix.proofs.Masks.{first_bits}
 use Rattle.ip_prefix.proofs.Octets.{AllOctets, length-bits_of_octets, bits_of_octets-append, bits_of-from_be_bytes}
 

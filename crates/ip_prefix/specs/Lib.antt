@@ -12,9 +12,9 @@ pub mod Order
 pub mod Text
 pub mod ZeroRun
 pub mod Spelling
-pub mod Sequences
-pub mod Fields
-pub mod Counted
-pub mod Written
+pub use Rattle.octet_forms.specs.Sequences
+pub use Rattle.octet_forms.specs.Fields
+pub use Rattle.octet_forms.specs.Counted
+pub use Rattle.octet_text.specs.Written
 pub mod Wire
 pub mod Codes

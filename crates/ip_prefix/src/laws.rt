@@ -16,8 +16,8 @@ ghost use Rattle.ip_prefix.specs.Spelling.{SpellsAddress, SpellsPrefix};
 ghost use Rattle.ip_prefix.specs.Text.{address_text, network_text};
 ghost use Rattle.ip_prefix.specs.Turns.{way, turn_of, half, common};
 ghost use Rattle.ip_prefix.specs.ZeroRun.{IsFirstLongestRun};
-ghost use Rattle.ip_prefix.specs.Sequences.{SpellsAll, IsCode};
 ghost use Rattle.ip_prefix.specs.Wire.{SpellsNetwork};
+ghost use Rattle.octet_forms.specs.Sequences.{SpellsAll, IsCode};
 
 /// The order of addresses is total, and only equal ones tie.
 pub fn address_order()

@@ -2,28 +2,23 @@
 #![tactic(auto)]
 
 mod addr;
-mod buffer;
-mod cursor;
-mod decimal;
-mod digits;
 mod laws;
 mod number;
 mod parse;
 mod prefix;
 mod text;
 mod turn;
-mod words;
 mod zero_runs;
 
 pub use addr::{Addr, Family, V4_BITS, V4_OCTETS, V6_BITS, V6_OCTETS};
-pub use buffer::Text;
-pub use cursor::{DECIMAL_ROOM, PAIR_ROOM, put_octets, write_decimal, write_ended_pair};
-pub use decimal::put_decimal;
 pub use laws::{
     address_numbers, address_order, common_prefix, containment, covering_order, nested_prefixes,
     one_network, one_spelling, prefix_order, shortened_run, text_spells, turns_by_bits,
 };
+pub use octet_text::{
+    DECIMAL_ROOM, InPlace, PAIR_ROOM, Text, WORD_ROOM, Word, put_decimal, put_octets,
+    write_decimal, write_ended_pair,
+};
 pub use prefix::Prefix;
 pub use text::{ADDRESS_ROOM, PREFIX_ROOM};
 pub use turn::Turn;
-pub use words::{WORD_ROOM, Word};

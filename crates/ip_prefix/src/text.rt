@@ -5,14 +5,13 @@ ghost use Rattle.std.specs.Net.Text as Hex;
 ghost use Rattle.ip_prefix.specs.declared.addr.Family.TheVariants.{V4, V6};
 ghost use Rattle.ip_prefix.specs.Address.{groups_of};
 ghost use Rattle.ip_prefix.specs.Text.{address_text, led_groups, network_text, v4_text, v6_text};
-ghost use Rattle.ip_prefix.specs.Written.{IsWritten, two_hex_digits};
 ghost use Rattle.ip_prefix.specs.ZeroRun.{zero_mask, run_row};
+ghost use Rattle.octet_text.specs.Written.{IsWritten};
 
 use crate::addr::{Addr, Family, GROUP_COUNT, V4_OCTETS};
-use crate::cursor::{ROW, put_octets, write_short};
-use crate::digits::HEX_PAIRS;
 use crate::prefix::Prefix;
 use crate::zero_runs::ZERO_RUNS;
+use octet_text::{HEX_PAIR, InPlace, ROW, hex_pair, put_octets, write_hex_pair, write_short};
 use std::alloc::AllocError;
 
 /// What stands between octets.
@@ -29,9 +28,6 @@ pub(crate) const LENGTH_DIGITS: usize = 3;
 
 /// How many digits a group has at most.
 const GROUP_DIGITS: usize = 4;
-
-/// How many digits are written at once.
-const PAIR: usize = 2;
 
 /// How many groups that are 0 have at least to stand in a row for `::` to stand for them.
 const LEAST_RUN: usize = 2;
@@ -99,6 +95,36 @@ impl Prefix {
         let mut buffer = [0; PREFIX_ROOM];
         let end = self.write_text(&mut buffer, 0);
         text.extend_from_slice(&buffer[..end])
+    }
+}
+
+impl InPlace for Addr {
+    ghost use Rattle.ip_prefix.specs.declared.text.TheConstants.{ADDRESS_ROOM};
+
+    ghost shown = { address_text };
+
+    ghost ROOM = { ADDRESS_ROOM };
+
+    const ROOM: usize = ADDRESS_ROOM;
+
+    #[inline(always)]
+    fn write_in_place(&self, text: &mut [u8], at: usize) -> usize {
+        self.write_text(text, at)
+    }
+}
+
+impl InPlace for Prefix {
+    ghost use Rattle.ip_prefix.specs.declared.text.TheConstants.{PREFIX_ROOM};
+
+    ghost shown = { network_text };
+
+    ghost ROOM = { PREFIX_ROOM };
+
+    const ROOM: usize = PREFIX_ROOM;
+
+    #[inline(always)]
+    fn write_in_place(&self, text: &mut [u8], at: usize) -> usize {
+        self.write_text(text, at)
     }
 }
 
@@ -255,39 +281,19 @@ fn write_group(group: u16, text: &mut [u8], at: usize) -> usize
         return write_low_group(group, text, at);
     }
     let low = write_low_group(group / 0x100, text, at);
-    write_pair(group % 0x100, text, low)
+    write_hex_pair(group % 0x100, text, low)
 }
 
 // Writes a group of up to two digits.
 #[inline]
 fn write_low_group(group: u16, text: &mut [u8], at: usize) -> usize
-    requires { (group < 0x100) × (at + PAIR ≤ length text.old) }
+    requires { (group < 0x100) × (at + HEX_PAIR ≤ length text.old) }
     ensures written { IsWritten text.old at (Hex.hex group) text.new result }
-    ensures short { result ≤ at + PAIR }
+    ensures short { result ≤ at + HEX_PAIR }
 {
     if group < 0x10 {
         text[at] = hex_pair(group)[1];
         return at + 1;
     }
-    write_pair(group, text, at)
-}
-
-// Writes a number below 256 in two hexadecimal digits.
-#[inline]
-fn write_pair(number: u16, text: &mut [u8], at: usize) -> usize
-    requires { (number < 0x100) × (at + PAIR ≤ length text.old) }
-    ensures written { IsWritten text.old at (two_hex_digits number) text.new result }
-    ensures short { result ≡ at + PAIR }
-{
-    put_octets(&hex_pair(number), text, at);
-    at + PAIR
-}
-
-// A number below 256 in two hexadecimal digits.
-#[inline(always)]
-fn hex_pair(number: u16) -> [u8; PAIR]
-    requires { number < 0x100 }
-    ensures { result ≡ two_hex_digits number }
-{
-    HEX_PAIRS[number as usize]
+    write_hex_pair(group, text, at)
 }

@@ -1,7 +1,7 @@
 mod turns;
 mod written;
 
-use ip_prefix::{Addr, Family, Prefix, Text, put_decimal};
+use ip_prefix::{Addr, Family, Prefix};
 use std::alloc::Global;
 use std::process::Abort;
 use std::test::Fail;
@@ -50,23 +50,6 @@ fn appends_addresses(rt: HostRuntime) -> Result<(), Fail> {
     for &(octets, want) in APPENDED {
         let out = address_behind(rt.alloc(), "via ", Addr::v4(octets))?;
         assert_behind(&rt, &out, "via ", want);
-    }
-    Ok(())
-}
-
-#[test]
-fn appends_numbers(rt: HostRuntime) -> Result<(), Fail> {
-    for (number, want) in [
-        (0, "AS0"),
-        (9, "AS9"),
-        (10, "AS10"),
-        (65535, "AS65535"),
-        (4294967295, "AS4294967295"),
-        (18446744073709551615, "AS18446744073709551615"),
-    ] {
-        let mut text = Vec::from_slice(rt.alloc(), b"AS")?;
-        put_decimal(number, &mut text)?;
-        assert_eq!(rt; text.as_slice(), want.as_bytes());
     }
     Ok(())
 }

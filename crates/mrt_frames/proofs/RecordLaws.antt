@@ -2,8 +2,8 @@
 use Rattle.std.proofs.Common.{◌≡◌, ℕ, ◌<◌, List, ◌++◌, length, take, drop, ap, arith, length-append}
 use Rattle.mrt_frames.specs.declared.frames.TheConstants.{LONGEST_BODY}
 use Rattle.mrt_frames.specs.Record.{Record, IsHeader, header_octets, spelling, IsRecord, BeginsWithNoRecord}
-use Rattle.ip_prefix.proofs.Lists.{append_parts}
-use Rattle.ip_prefix.proofs.Numbers.{same_w16, same_w32}
+use Rattle.octet_forms.proofs.Lists.{append_parts}
+use Rattle.octet_forms.proofs.Numbers.{same_w16, same_w32}
 
 -- two headers are equal, and so is what follows them
 pub record SameHeader (s k t n s' k' t' n' : ℕ) (x y : List ℕ) : Type 0 where

@@ -15,7 +15,7 @@ use Rattle.mrt_wire.specs.Splitting.{Splits, spellings}
 use Rattle.mrt_wire.proofs.ContentLaws.{cases_form}
 use Rattle.mrt_wire.proofs.JudgingLaws.{fault_of_content}
 use Rattle.mrt_frames.proofs.RecordLaws.{BeginsWithNoRecord-short, BeginsWithNoRecord-cut, BeginsWithNoRecord-too_long}
-use Rattle.ip_prefix.proofs.Lists.{drop_in_parts}
+use Rattle.octet_forms.proofs.Lists.{drop_in_parts}
 
 -- a field is put in front
 field_then : (field front octets more : List ℕ) → field ≡ front → octets ≡ more → field ++ octets ≡ front ++ more

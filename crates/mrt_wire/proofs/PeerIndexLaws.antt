@@ -3,8 +3,8 @@ use Rattle.std.proofs.Common.{ℕ, List, [], refl}
 use Rattle.ip_prefix.specs.Address.{Address}
 use Rattle.ip_prefix.specs.Sequences.{Begins, BeginsWithNone, OneFront, IsCode}
 use Rattle.ip_prefix.specs.Fields.{IsOne}
-use Rattle.ip_prefix.proofs.Fields.{both_front, then_front, more_one, behind_one, none_first, none_second}
-use Rattle.ip_prefix.proofs.Counts.{counted_code}
+use Rattle.octet_forms.proofs.Fields.{both_front, then_front, more_one, behind_one, none_first, none_second}
+use Rattle.octet_forms.proofs.Counts.{counted_code}
 use Rattle.bgp_wire.specs.Number.{SpellsAsn}
 use Rattle.mrt_wire.specs.declared.peer.Peer.{Peer}
 use Rattle.mrt_wire.specs.declared.peer_index.TheConstants.{ID_SIZE}

@@ -5,8 +5,8 @@ use Rattle.std.specs.Int.{to_be_bytes, w16}
 use Rattle.ip_prefix.specs.Sequences.{Begins, BeginsWithNone, SpellsAll, OneFront, IsCode}
 use Rattle.ip_prefix.specs.Fields.{Then, Behind, WithMore}
 use Rattle.ip_prefix.specs.Counted.{SpellsCounted}
-use Rattle.ip_prefix.proofs.Fields.{none_behind}
-use Rattle.ip_prefix.proofs.Counts as counts
+use Rattle.octet_forms.proofs.Fields.{none_behind}
+use Rattle.octet_forms.proofs.Counts as counts
 use Rattle.bgp_wire.specs.declared.WireFault.{WireFault}
 use Rattle.bgp_wire.specs.declared.WireFault.TheVariants.{Malformed, Memory}
 use Rattle.bgp_wire.specs.Reading.{Reads, Refuses, RefusesFront}

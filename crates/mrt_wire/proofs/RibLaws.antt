@@ -4,9 +4,9 @@ use Rattle.ip_prefix.specs.declared.addr.Family.{Family}
 use Rattle.ip_prefix.specs.Sequences.{Begins, OneFront, IsCode}
 use Rattle.ip_prefix.specs.Fields.{IsOne}
 use Rattle.ip_prefix.specs.Wire.{SpellsNetwork}
-use Rattle.ip_prefix.proofs.Fields.{then_front, then_one, more_one, behind_one}
-use Rattle.ip_prefix.proofs.Counts.{counted_code}
-use Rattle.ip_prefix.proofs.Sequences.{never_begins}
+use Rattle.octet_forms.proofs.Fields.{then_front, then_one, more_one, behind_one}
+use Rattle.octet_forms.proofs.Counts.{counted_code}
+use Rattle.octet_forms.proofs.Sequences.{never_begins}
 use Rattle.ip_prefix.proofs.Wires.{network_code}
 use Rattle.bgp_wire.specs.declared.WireFault.{WireFault}
 use Rattle.bgp_wire.specs.declared.WireFault.TheVariants.{Malformed, Memory}

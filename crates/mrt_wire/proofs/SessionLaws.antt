@@ -4,7 +4,7 @@ use Rattle.ip_prefix.specs.declared.addr.Family.{Family}
 use Rattle.ip_prefix.specs.Address.{Address, octet_count}
 use Rattle.ip_prefix.specs.Sequences.{Begins, BeginsWithNone, OneFront}
 use Rattle.ip_prefix.specs.Fields.{IsOne, Then}
-use Rattle.ip_prefix.proofs.Fields.{both_front, then_front, then_one, more_one, none_first, none_second}
+use Rattle.octet_forms.proofs.Fields.{both_front, then_front, then_one, more_one, none_first, none_second}
 use Rattle.bgp_wire.specs.declared.AsWidth.{AsWidth}
 use Rattle.bgp_wire.specs.Number.{octets_at}
 use Rattle.bgp_wire.specs.Reach.{family_code}

@@ -5,7 +5,7 @@ use Rattle.ip_prefix.specs.Address.{Address, bit_count}
 use Rattle.ip_prefix.specs.Network.{Network, network_of}
 use Rattle.ip_prefix.specs.Sequences.{Begins, BeginsWithNone, OneFront}
 use Rattle.ip_prefix.specs.Fields.{IsOne, Then}
-use Rattle.ip_prefix.proofs.Fields.{both_front, then_front}
+use Rattle.octet_forms.proofs.Fields.{both_front, then_front}
 use Rattle.bgp_wire.specs.declared.WireFault.{WireFault}
 use Rattle.bgp_wire.specs.declared.WireFault.TheVariants.{Malformed, Memory}
 use Rattle.bgp_wire.specs.declared.AsWidth.TheVariants.{Two}

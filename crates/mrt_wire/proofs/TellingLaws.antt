@@ -10,7 +10,7 @@ use Rattle.mrt_wire.specs.declared.peer.Peer.{Peer}
 use Rattle.mrt_wire.specs.declared.event.Item.{Item}
 use Rattle.ip_prefix.specs.declared.addr.Family.{Family}
 use Rattle.ip_prefix.specs.Sequences.{Begins, SpellsAll}
-use Rattle.ip_prefix.proofs.Sequences.{one_more}
+use Rattle.octet_forms.proofs.Sequences.{one_more}
 use Rattle.mrt_wire.specs.declared.rib.Snapshot.{Snapshot}
 use Rattle.mrt_wire.specs.declared.rib.EntryItems.{EntryItems}
 use Rattle.mrt_wire.specs.Event.{Saying, saying}

@@ -6,7 +6,7 @@ use Rattle.mrt_wire.specs.declared.event.Event.{Event}
 use Rattle.rib_player.specs.Tables.{table}
 use Rattle.rib_player.specs.Timeline.{Timeline, StandsFor, Call, Play, Undo, Redo, end_of, table_at, current, after_play, after_undo, after_redo, after_call, after_calls}
 use Rattle.rib_player.proofs.TimelineLaws.{StandsFor-table, StandsFor-current, StandsFor-end, StandsFor-after_play}
-use Rattle.ip_prefix.proofs.Lists.{take_pushed}
+use Rattle.octet_forms.proofs.Lists.{take_pushed}
 
 -- the player at another position
 abbrev at : Timeline → ℕ → Timeline

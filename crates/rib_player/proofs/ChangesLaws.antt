@@ -17,7 +17,7 @@ use Rattle.rib_player.specs.History.{pair_cmp, Effect, Keep, Clear, Set, where_t
 use Rattle.rib_player.specs.Store.{Slots, slot_at, route_in}
 use Rattle.rib_player.specs.Changes.{found, is_lost, effect_of, or_absent}
 use Rattle.rib_player.proofs.PairLaws.{pair_cmp_total, same_pair}
-use Rattle.ip_prefix.proofs.Options.{is_some-option_map}
+use Rattle.octet_forms.proofs.Options.{is_some-option_map}
 
 -- a slot
 abbrev Slot : Type 0

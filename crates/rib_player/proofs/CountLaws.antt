@@ -7,7 +7,7 @@ use Rattle.std.proofs.lemmas.Bool.{eqb-true}
 use Rattle.std.proofs.lemmas.List.{take-map}
 use Rattle.std.proofs.lemmas.List.Sums.{sum_by-cons}
 use Rattle.std.proofs.lemmas.Map.Keys.{IsDistinct-head, IsDistinct-tail}
-use Rattle.ip_prefix.proofs.Booleans.{same_tests}
+use Rattle.octet_forms.proofs.Booleans.{same_tests}
 use Rattle.rib_store.specs.Stored.{counted}
 use Rattle.rib_store.specs.declared.store.TheConstants.{GREATEST_COUNT}
 use Rattle.rib_player.specs.declared.pair.Pair.{Pair}

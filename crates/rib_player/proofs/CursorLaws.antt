@@ -10,7 +10,7 @@ use Rattle.rib_player.specs.Tables.{Routes, Pairs, table_after, named_pairs}
 use Rattle.rib_player.specs.Timeline.{Timeline, current, after_undo, after_redo, after_play}
 use Rattle.rib_player.specs.Journal.{Side, pairs_in, sides_at, routes_across, sides_across, tables_before, tables_after, timeline_of, IsKept, IsJournal, IsStepFor}
 use Rattle.rib_player.proofs.JournalLaws.{pairs_in-sides_across, kept-sides_across, routes_across-sides_across, routes_across-step}
-use Rattle.ip_prefix.proofs.Lists.{AllByRecursion-get_or, AllByRecursion-set}
+use Rattle.octet_forms.proofs.Lists.{AllByRecursion-get_or, AllByRecursion-set}
 
 -- one table before each step
 length-tables_before : (steps : List (List Side)) (routes : Routes) → length (tables_before steps routes) ≡ length steps

@@ -27,7 +27,7 @@ use Rattle.rib_player.specs.Changes.{found, is_lost, effect_of, noted_effect, or
 use Rattle.rib_player.proofs.PairLaws.{pair_cmp_total, same_pair}
 use Rattle.rib_player.proofs.TableLaws.{get-table_after, contains-named_pairs}
 use Rattle.rib_player.proofs.StoreLaws.{same_pairs}
-use Rattle.ip_prefix.proofs.Booleans.{or-and_false}
+use Rattle.octet_forms.proofs.Booleans.{or-and_false}
 
 -- a side has a route, here or on the other side
 abbrev pub has_route : (Pair → Option Route) → Side → Bool

@@ -21,7 +21,7 @@ use Rattle.rib_player.specs.Store.{route_in}
 use Rattle.rib_player.specs.Journal.{Side, side_of, sides_of, pairs_in, routes_across, sides_across, IsKept, IsStepFor}
 use Rattle.rib_player.proofs.PairLaws.{pair_cmp_total, same_pair}
 use Rattle.rib_player.proofs.TableLaws.{same_routes, get-table_after, contains-named_pairs}
-use Rattle.ip_prefix.proofs.Booleans.{cond-cond, cond_untested}
+use Rattle.octet_forms.proofs.Booleans.{cond-cond, cond_untested}
 
 -- a put at another pair leaves the route
 get-put_elsewhere : (routes : Routes) (pair q : Pair) (new : Option Route) → eq_by_cmp pair_cmp pair q ≡ false → finite.get (put routes pair new) q ≡ finite.get routes q

@@ -21,7 +21,7 @@ use Rattle.rib_player.specs.Journal.{counts_of, AreCounted, Side, Mark, sides_of
 use Rattle.rib_player.proofs.PairLaws.{pair_cmp_total}
 use Rattle.rib_player.proofs.StoreLaws.{same_pairs}
 use Rattle.rib_player.proofs.JournalLaws.{get-restored_elsewhere}
-use Rattle.ip_prefix.proofs.Lists.{AllByRecursion-push}
+use Rattle.octet_forms.proofs.Lists.{AllByRecursion-push}
 use Rattle.rib_player.proofs.CursorLaws.{current-timeline, same-timeline, timeline-after_play, added, length-added}
 use Rattle.rib_player.proofs.MarkLaws.{tied, tied_itself, pairs-same, seen_after-push, seen_after-append, MarkFirst-front, MarkFirst-rest, MarkFirst-push, unseen-before}
 

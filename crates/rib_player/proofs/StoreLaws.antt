@@ -18,7 +18,7 @@ use Rattle.std.proofs.lemmas.Map.{lookup-set_value}
 use Rattle.std.proofs.lemmas.Map.Views.{any-filter_same}
 use Rattle.ip_prefix.specs.Address.{Address}
 use Rattle.ip_prefix.specs.Network.{Network}
-use Rattle.ip_prefix.proofs.Options.{is_some-option_map}
+use Rattle.octet_forms.proofs.Options.{is_some-option_map}
 use Rattle.ip_prefix.specs.Order.{network_cmp}
 use Rattle.ip_prefix.specs.OrderLaws.{network_cmp_total}
 use Rattle.rib_store.specs.Stored as stored
@@ -31,7 +31,7 @@ use Rattle.rib_player.specs.History.{pair_cmp, pair_of}
 use Rattle.rib_store.specs.Stored.{put}
 use Rattle.rib_player.specs.Tables.{Routes, Pairs}
 use Rattle.rib_player.specs.Store.{Stores, store_at, has_key, stored_route, value_of, route_in, keys_in, routes_in, IsHeld, IsLeft, IsBest}
-use Rattle.ip_prefix.proofs.Booleans.{cond_untested}
+use Rattle.octet_forms.proofs.Booleans.{cond_untested}
 use Rattle.mrt_wire.proofs.PeerLaws.{peer_cmp_total, peer_cmp-IsAntisymmetric}
 use Rattle.rib_player.proofs.PairLaws.{pair_cmp_total, pair_cmp-IsAntisymmetric, same_pair}
 use Rattle.rib_player.proofs.TableLaws.{same_routes, get-tabulation}

@@ -17,7 +17,7 @@ use Rattle.mrt_wire.specs.Peer.{peer_cmp}
 use Rattle.rib_player.specs.History.{pair_cmp, pair_of, Effect, Keep, Clear, Set, where_true, is_loss, item_effect, later, last_effect, effect, route_after, route}
 use Rattle.rib_player.specs.Tables.{Routes, tabulation, pairs_announced_by, announced_pairs, table, concerned_pairs, table_after, is_named, named_pairs}
 use Rattle.rib_player.proofs.PairLaws.{pair_cmp_total, pair_cmp-IsAntisymmetric, same_pair}
-use Rattle.ip_prefix.proofs.Booleans.{cond_or, cond_untested}
+use Rattle.octet_forms.proofs.Booleans.{cond_or, cond_untested}
 
 -- whether the pair is among these
 abbrev among : Pair → List Pair → Bool

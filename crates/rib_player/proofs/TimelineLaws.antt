@@ -11,7 +11,7 @@ use Rattle.rib_player.specs.Timeline.{Timeline, StandsFor, Call, Play, PlayRefus
 use Rattle.rib_player.proofs.TableLaws.{get-table}
 use Rattle.rib_player.proofs.HistoryLaws.{table-append}
 use Rattle.rib_player.proofs.AlongHistory.{length-steps_along, tables_along-append, steps_along-append, take-tables_along, take-steps_along, at-tables_along, at-steps_along}
-use Rattle.ip_prefix.proofs.Lists.{take_in_parts, slice_get-drop, take_below_pushed, drop_below_pushed}
+use Rattle.octet_forms.proofs.Lists.{take_in_parts, slice_get-drop, take_below_pushed, drop_below_pushed}
 
 -- the table at a position is that of the events before it
 pub StandsFor-table : (t : Timeline) (history : List Event) → StandsFor t history → (i : ℕ) → t.floor ≤ i → i ≤ length history → table_at t i ≡ table (take i history)

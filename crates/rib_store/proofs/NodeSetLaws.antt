@@ -18,8 +18,8 @@ use Rattle.ip_prefix.specs.Network.{Network, begin_with, covers}
 use Rattle.ip_prefix.specs.Order.{network_cmp}
 use Rattle.ip_prefix.specs.OrderLaws.{network_cmp_total}
 use Rattle.ip_prefix.specs.Turns.{family_bit, half, way, turn_of, side}
-use Rattle.ip_prefix.proofs.Booleans.{same_tests}
-use Rattle.ip_prefix.proofs.Lists.{AllByRecursion-append}
+use Rattle.octet_forms.proofs.Booleans.{same_tests}
+use Rattle.octet_forms.proofs.Lists.{AllByRecursion-append}
 use Rattle.ip_prefix.proofs.Turns.{covers-way}
 use Rattle.rib_store.specs.declared.tree.Slot.TheVariants.{Branch, Vacant, Filled}
 use Rattle.rib_store.specs.declared.tree.Tree.{Tree}

@@ -15,7 +15,7 @@ use Rattle.ip_prefix.specs.declared.turn.Turn.TheVariants.{Outside, Here, Left, 
 use Rattle.ip_prefix.specs.Network.{Network}
 use Rattle.ip_prefix.specs.Order.{bits_cmp, network_cmp}
 use Rattle.ip_prefix.specs.Turns.{family_bit, way, turn_of, side}
-use Rattle.ip_prefix.proofs.Lists.{AllByRecursion-append}
+use Rattle.octet_forms.proofs.Lists.{AllByRecursion-append}
 use Rattle.ip_prefix.proofs.Turns.{here_only}
 use Rattle.rib_store.specs.declared.tree.Slot.{Slot}
 use Rattle.rib_store.specs.declared.tree.Slot.TheVariants.{Branch, Vacant, Filled}

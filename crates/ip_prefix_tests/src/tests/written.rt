@@ -1,32 +1,12 @@
-//! Texts written in place.
+//! Texts of addresses and prefixes, written in place.
 
-use ip_prefix::{ADDRESS_ROOM, Addr, DECIMAL_ROOM, PREFIX_ROOM, Prefix, Text, write_decimal};
+use ip_prefix::{ADDRESS_ROOM, Addr, PREFIX_ROOM, Prefix, Text};
 use std::alloc::{AllocError, Global};
 use std::process::Abort;
 use std::test::Fail;
 
 /// What stands in front of a text.
 const FRONT: &[u8] = b"front|";
-
-/// Numbers of each size.
-const NUMBERS: &[(u32, &str)] = &[
-    (0, "0"),
-    (9, "9"),
-    (10, "10"),
-    (99, "99"),
-    (100, "100"),
-    (999, "999"),
-    (1000, "1000"),
-    (1001, "1001"),
-    (64_496, "64496"),
-    (999_999, "999999"),
-    (1_000_000, "1000000"),
-    (1_001_001, "1001001"),
-    (16_777_216, "16777216"),
-    (1_000_000_000, "1000000000"),
-    (1_780_315_200, "1780315200"),
-    (4_294_967_295, "4294967295"),
-];
 
 /// Addresses, each as its text.
 const ADDRESSES: &[&str] = &[
@@ -67,17 +47,6 @@ fn assert_written(rt: &impl Abort, buffer: &[u8], end: usize, text: &str) {
         buffer.get(FRONT.len()..end) == Some(text.as_bytes()),
         "{text}"
     );
-}
-
-#[test]
-fn writes_numbers_in_place(rt: HostRuntime) -> Result<(), Fail> {
-    for &(number, text) in NUMBERS {
-        let mut buffer = buffer_with_front();
-        assert!(rt; FRONT.len() + DECIMAL_ROOM <= buffer.len());
-        let end = write_decimal(number, &mut buffer, FRONT.len());
-        assert_written(&rt, &buffer, end, text);
-    }
-    Ok(())
 }
 
 #[test]
@@ -139,7 +108,7 @@ fn shortens_the_first_longest_run(rt: HostRuntime) -> Result<(), Fail> {
     for zeros in 0u32..256 {
         let wanted = shortened(rt.alloc(), zeros)?;
         let mut text = Text::new(rt.alloc());
-        text.put_address(&Addr::v6(octets_of_groups(zeros)))?;
+        text.put(&Addr::v6(octets_of_groups(zeros)))?;
         assert_eq!(rt; text.as_slice(), wanted.as_slice(), "{zeros:#b}");
     }
     Ok(())
@@ -162,9 +131,9 @@ fn put_fields(text: &mut Text, address: &Addr, prefix: &Prefix) -> Result<(), Al
     text.extend_from_slice(b"A|")?;
     text.put_decimal(64_496)?;
     text.push(b'|')?;
-    text.put_address(address)?;
+    text.put(address)?;
     text.push(b'|')?;
-    text.put_prefix(prefix)
+    text.put(prefix)
 }
 
 #[test]
@@ -186,51 +155,5 @@ fn texts_grow_at_their_end(rt: HostRuntime) -> Result<(), Fail> {
     assert_eq!(rt; text.as_slice(), b"A|64496".as_slice());
     text.truncate(0);
     assert_eq!(rt; text.as_slice(), b"".as_slice());
-    Ok(())
-}
-
-#[test]
-fn long_texts_are_kept_as_they_grow(rt: HostRuntime) -> Result<(), Fail> {
-    let mut text = Text::new(rt.alloc());
-    for number in 0..1000 {
-        text.put_decimal(number)?;
-        text.push(b' ')?;
-    }
-    assert_eq!(rt; text.len(), 3890);
-    assert_eq!(rt; &text.as_slice()[..12], b"0 1 2 3 4 5 ".as_slice());
-    assert_eq!(rt; &text.as_slice()[3878..], b"997 998 999 ".as_slice());
-    Ok(())
-}
-
-/// Appends 64496 and a space, the greatest number of 64 bits, and 7.
-fn put_numbers(text: &mut Text) -> Result<(), AllocError> {
-    text.put_ended_decimal(64_496, b' ')?;
-    text.put_long_decimal(18_446_744_073_709_551_615)?;
-    text.put_long_decimal(7)
-}
-
-#[test]
-fn texts_repeat_their_parts(rt: HostRuntime) -> Result<(), Fail> {
-    let mut text = Text::new(rt.alloc());
-    put_numbers(&mut text)?;
-    assert_eq!(rt; text.as_slice(), b"64496 184467440737095516157".as_slice());
-    for (start, end) in [(2, 6), (0, 0), (0, 31)] {
-        assert!(rt; start <= end && end <= text.len());
-        text.extend_from_within(start, end)?;
-    }
-    assert_eq!(rt; text.len(), 62);
-    assert_eq!(rt; text.as_slice().get(27..37), Some(b"496 64496 ".as_slice()));
-    Ok(())
-}
-
-#[test]
-fn texts_take_octets_and_give_them_back(rt: HostRuntime) -> Result<(), Fail> {
-    let mut octets = Vec::new(rt.alloc());
-    octets.extend_from_slice(b"AS")?;
-    let mut text = Text::taken_from(&mut octets);
-    assert!(rt; octets.is_empty());
-    text.put_decimal(64_496)?;
-    let octets = text.into_vec();
-    assert_eq!(rt; octets.as_slice(), b"AS64496".as_slice());
     Ok(())
 }

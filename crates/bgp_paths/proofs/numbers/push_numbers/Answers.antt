@@ -1,6 +1,6 @@
 use Rattle.std.proofs.Common.{◌+◌, length, ap, sym, subst, ◌∙◌}
 use Rattle.ip_prefix.specs.Sequences.{Begins, SpellsAll}
-use Rattle.ip_prefix.proofs.Sequences.{one_more}
+use Rattle.octet_forms.proofs.Sequences.{one_more}
 use Rattle.bgp_paths.specs.Number.{SpellsAsn}
 use Rattle.bgp_paths.proofs.Counting.{less_one}
 use Rattle.bgp_paths.proofs.numbers.push_numbers.Goals as goal

@@ -1,8 +1,8 @@
 use Rattle.std.proofs.Common.{◌≡◌, ℕ, [], Err, IfErr, take, ap, sym, subst, ◌∙◌}
 use Rattle.std.proofs.lemmas.Result.{err_from_is_err_and}
 use Rattle.ip_prefix.specs.Sequences.{Begins, SpellsAll}
-use Rattle.ip_prefix.proofs.Lists.{nonempty}
-use Rattle.ip_prefix.proofs.Sequences.{one_more, none_at_all}
+use Rattle.octet_forms.proofs.Lists.{nonempty}
+use Rattle.octet_forms.proofs.Sequences.{one_more, none_at_all}
 use Rattle.bgp_paths.specs.declared.path.Segment.{Segment}
 use Rattle.bgp_paths.specs.Path.{SpellsSegment, IsFramed}
 use Rattle.bgp_paths.specs.Reading.{Refuses}

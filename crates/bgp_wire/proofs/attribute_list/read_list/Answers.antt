@@ -1,8 +1,8 @@
 use Rattle.std.proofs.Common.{◌≡◌, ℕ, List, [], ◌∷◌, ◌++◌, Some, None, Err, IfErr, ap, sym, subst, ◌∙◌, refl}
 use Rattle.std.proofs.lemmas.Result.{err_from_is_err_and}
 use Rattle.ip_prefix.specs.Sequences.{Begins, SpellsAll}
-use Rattle.ip_prefix.proofs.Lists.{nonempty, no_elements}
-use Rattle.ip_prefix.proofs.Sequences.{one_more, none_at_all, goes_on, all_read}
+use Rattle.octet_forms.proofs.Lists.{nonempty, no_elements}
+use Rattle.octet_forms.proofs.Sequences.{one_more, none_at_all, goes_on, all_read}
 use Rattle.bgp_paths.specs.declared.fault.WireFault.{WireFault}
 use Rattle.bgp_paths.specs.declared.fault.WireFault.TheVariants.{Malformed, Memory}
 use Rattle.bgp_paths.specs.declared.path.AsWidth.{AsWidth}

@@ -1,4 +1,4 @@
-use Rattle.ip_prefix.proofs.Sequences.{one_list}
+use Rattle.octet_forms.proofs.Sequences.{one_list}
 use Rattle.bgp_wire.specs.Attribute.{SpellsAttribute}
 use Rattle.bgp_wire.proofs.OneAttribute.{attribute_code}
 use Rattle.bgp_wire.proofs.laws.one_attribute_list.Goals as goal

@@ -2,7 +2,7 @@ use Rattle.std.proofs.Common.{◌≡◌, ◌∷◌, ◌++◌, length, ap, sym, �
 use Rattle.std.specs.Int.{w16, to_be_bytes}
 use Rattle.bgp_wire.proofs.Reaching.{message_parts, octet_behind}
 use Rattle.bgp_wire.proofs.message.frame_message.Goals as goal
-use Rattle.ip_prefix.proofs.Numbers.{same_w16}
+use Rattle.octet_forms.proofs.Numbers.{same_w16}
 
 pub returns-then-read_length-octets-clause-none : goal.returns-then-read_length-octets-clause-none
 returns-then-read_length-octets-clause-none c kind body s =

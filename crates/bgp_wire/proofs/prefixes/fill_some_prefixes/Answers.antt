@@ -4,11 +4,11 @@ use Rattle.ip_prefix.specs.Network.{Network}
 use Rattle.ip_prefix.specs.Sequences.{Begins, SpellsAll}
 use Rattle.ip_prefix.specs.Wire.{SpellsNetwork}
 use Rattle.ip_prefix.proofs.Wires.{network_code}
-use Rattle.ip_prefix.proofs.Sequences.{one_more, none_at_all}
+use Rattle.octet_forms.proofs.Sequences.{one_more, none_at_all}
 use Rattle.bgp_paths.specs.Reading.{Refuses}
 use Rattle.bgp_paths.proofs.Refusing.{refused_always}
 use Rattle.bgp_wire.proofs.prefixes.fill_some_prefixes.Goals as goal
-use Rattle.ip_prefix.proofs.Lists.{nonempty}
+use Rattle.octet_forms.proofs.Lists.{nonempty}
 
 pub returns-in_err-prefix-clause-refused : goal.returns-in_err-prefix-clause-refused
 returns-in_err-prefix-clause-refused c =

@@ -1,6 +1,6 @@
 use Rattle.std.proofs.Common.{◌≡◌, true, false, Err, IfErr, ap, sym, subst, ◌∙◌}
 use Rattle.std.proofs.lemmas.Result.{err_from_is_err_and}
-use Rattle.ip_prefix.proofs.Sequences.{one_list}
+use Rattle.octet_forms.proofs.Sequences.{one_list}
 use Rattle.bgp_wire.specs.declared.framing.TheConstants.{MP_REACH_NLRI}
 use Rattle.bgp_wire.specs.Attribute.{SpellsAttribute, first_value, repeats}
 use Rattle.bgp_wire.specs.Content.{SpellsRibAttrs}

@@ -1,7 +1,7 @@
 use Rattle.std.proofs.Common.{◌++◌, rules, take}
 use Rattle.std.proofs.KnownBytes.{Appends-trans}
 use Rattle.bgpdump_lines.proofs.output.put_all.Goals as goal
-use Rattle.ip_prefix.proofs.Lists.{front_moved}
+use Rattle.octet_forms.proofs.Lists.{front_moved}
 
 pub loop-rest-preserved : goal.loop-rest-preserved
 loop-rest-preserved g c =

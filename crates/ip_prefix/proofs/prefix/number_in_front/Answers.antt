@@ -3,7 +3,7 @@ use Rattle.std.proofs.Common.{rules, ◌≡◌, ℕ, List, ◌≤◌, ◌-◌, �
 use Rattle.std.specs.Int.{w128, from_be_bytes}
 use Rattle.std.proofs.lemmas.List.{length-append, length-take-le, take-append-le, take-take, take_at}
 use Rattle.ip_prefix.specs.Bits.{bits_of}
-use Rattle.ip_prefix.proofs.Lists.{AllByRecursion-append, AllByRecursion-drop, AllByRecursion-replicate, AllByRecursion-take}
+use Rattle.octet_forms.proofs.Lists.{AllByRecursion-append, AllByRecursion-drop, AllByRecursion-replicate, AllByRecursion-take}
 use Rattle.ip_prefix.proofs.Octets.{IsOctet, AllOctets, AllOctets-from}
 use Rattle.ip_prefix.proofs.Wires.{bits_in_front}
 use Rattle.ip_prefix.proofs.prefix.number_in_front.Goals as goal

@@ -1,7 +1,7 @@
 use Rattle.std.proofs.Common.{ap, subst}
 use Rattle.std.specs.Net.Text.{hex_groups_text}
 use Rattle.ip_prefix.specs.Text.{v6_text}
-use Rattle.ip_prefix.specs.Written.{IsWritten}
+use Rattle.octet_text.specs.Written.{IsWritten}
 use Rattle.ip_prefix.proofs.text.write_colons.Goals as goal
 
 pub returns-clause-written : goal.returns-clause-written

@@ -1,7 +1,7 @@
 use Rattle.std.proofs.Common.{◌≡◌, ◌++◌, ◌∷◌, [], decimal, subst, ◌∙◌}
 use Rattle.ip_prefix.specs.Text.{v4_text}
-use Rattle.ip_prefix.specs.Written.{IsWritten}
-use Rattle.ip_prefix.proofs.Writing.{written_then, four_marked}
+use Rattle.octet_text.specs.Written.{IsWritten}
+use Rattle.octet_text.proofs.Writing.{written_then, four_marked}
 use Rattle.ip_prefix.proofs.text.write_dotted.Goals as goal
 
 pub returns-clause-written : goal.returns-clause-written

@@ -1,6 +1,6 @@
 use Rattle.std.proofs.Common.{◌+◌, ◌*◌, ◌≤◌, take}
 use Rattle.ip_prefix.specs.Text.{led_groups}
-use Rattle.ip_prefix.specs.Written.{IsWritten}
+use Rattle.octet_text.specs.Written.{IsWritten}
 use Rattle.ip_prefix.proofs.text.write_led_groups.Given as goal
 
 -- the groups so far are written, within their room

@@ -1,9 +1,9 @@
 use Rattle.std.proofs.Common.{◌≡◌, ◌+◌, ◌%◌, [], ◌∷◌, get_or, sym, ap, subst, ◌∙◌, arith}
 use Rattle.std.specs.Char.{digit_char}
 use Rattle.std.specs.Prelude.{slice_set}
-use Rattle.ip_prefix.specs.Written.{IsWritten}
+use Rattle.octet_text.specs.Written.{IsWritten}
 use Rattle.ip_prefix.proofs.HexText.{hex_one, hex_pair_only}
-use Rattle.ip_prefix.proofs.Writing.{written_octet}
+use Rattle.octet_text.proofs.Writing.{written_octet}
 use Rattle.ip_prefix.proofs.text.write_low_group.Goals as goal
 
 pub returns-then-group-lt16-clause-written : goal.returns-then-group-lt16-clause-written
@@ -17,5 +17,5 @@ returns-then-group-lt16-clause-written c =
 
 pub returns-clause-written : goal.returns-clause-written
 returns-clause-written c =
-    subst (λ t. IsWritten c.args.text.now c.args.at t c.write_pair.new.text c.write_pair.result) (sym (hex_pair_only c.args.group c.if-group-lt16.false c.requires.0))
-    c.write_pair.ensures.written
+    subst (λ t. IsWritten c.args.text.now c.args.at t c.write_hex_pair.new.text c.write_hex_pair.result) (sym (hex_pair_only c.args.group c.if-group-lt16.false c.requires.0))
+    c.write_hex_pair.ensures.written

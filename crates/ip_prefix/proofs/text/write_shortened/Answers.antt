@@ -2,9 +2,9 @@
 use Rattle.std.proofs.Common.{◌≡◌, ◌+◌, ◌-◌, ◌≤◌, ◌<◌, ◌++◌, ◌∷◌, [], length, drop, take, ap, subst, ◌∙◌, sym, append_assoc, arith}
 use Rattle.std.proofs.lemmas.List.{take_rest, length-take-le}
 use Rattle.std.specs.Net.Text.{groups_text, longest_zero_run}
-use Rattle.ip_prefix.specs.Written.{IsWritten}
+use Rattle.octet_text.specs.Written.{IsWritten}
 use Rattle.ip_prefix.proofs.HexText.{whole_text, shortened_text}
-use Rattle.ip_prefix.proofs.Writing.{written_row, written_then}
+use Rattle.octet_text.proofs.Writing.{written_row, written_then}
 use Rattle.ip_prefix.proofs.text.write_shortened.Goals as goal
 
 pub returns-then-len-lt-LEAST_RUN-clause-written : goal.returns-then-len-lt-LEAST_RUN-clause-written

@@ -2,7 +2,7 @@ use Rattle.std.proofs.Common.{rules, ◌≤◌, length, take, drop, arith, lengt
 use Rattle.std.proofs.lemmas.Result.{err_from_is_err_and}
 use Rattle.mrt_frames.proofs.Buffers.{Takes-parts, FillsWithin-stopped_place}
 use Rattle.mrt_frames.proofs.buffer.fill_body.Goals as goal
-use Rattle.ip_prefix.proofs.Lists.{take_kept}
+use Rattle.octet_forms.proofs.Lists.{take_kept}
 
 pub returns-in_err-filled-clause-octets : goal.returns-in_err-filled-clause-octets
 returns-in_err-filled-clause-octets g c =

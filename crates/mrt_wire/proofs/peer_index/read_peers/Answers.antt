@@ -1,7 +1,7 @@
 use Rattle.std.proofs.Common.{◌∷◌, [], ap, sym, subst, length, arith}
 use Rattle.std.proofs.lemmas.List.{length-append}
 use Rattle.ip_prefix.specs.Sequences.{Begins, SpellsAll}
-use Rattle.ip_prefix.proofs.Sequences.{one_more}
+use Rattle.octet_forms.proofs.Sequences.{one_more}
 use Rattle.mrt_wire.specs.PeerIndex.{SpellsPeer}
 use Rattle.ip_prefix.specs.Counted.{SpellsCounted}
 use Rattle.mrt_wire.proofs.ReadingLaws.{no_count, not_counted, counted}

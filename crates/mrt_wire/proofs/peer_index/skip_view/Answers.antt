@@ -1,4 +1,4 @@
-use Rattle.ip_prefix.proofs.Fields.{both_front, none_first, none_second}
+use Rattle.octet_forms.proofs.Fields.{both_front, none_first, none_second}
 use Rattle.mrt_wire.specs.declared.peer_index.TheConstants.{ID_SIZE}
 use Rattle.mrt_wire.proofs.FieldFronts.{octets_front}
 use Rattle.mrt_wire.proofs.peer_index.skip_view.Goals as goal

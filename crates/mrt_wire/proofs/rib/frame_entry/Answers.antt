@@ -1,4 +1,4 @@
-use Rattle.ip_prefix.proofs.Fields.{both_front, none_first, none_second}
+use Rattle.octet_forms.proofs.Fields.{both_front, none_first, none_second}
 use Rattle.mrt_wire.proofs.FieldFronts.{short_front, word_front}
 use Rattle.mrt_wire.proofs.rib.frame_entry.Goals as goal
 

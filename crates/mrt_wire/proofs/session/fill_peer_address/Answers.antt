@@ -2,7 +2,7 @@ use Rattle.std.proofs.Common.{subst}
 use Rattle.ip_prefix.specs.Sequences.{BeginsWithNone}
 use Rattle.ip_prefix.specs.Sequences.{Begins}
 use Rattle.mrt_wire.specs.Fields.{AreOctets}
-use Rattle.ip_prefix.proofs.Fields.{both_front, none_first, none_second}
+use Rattle.octet_forms.proofs.Fields.{both_front, none_first, none_second}
 use Rattle.mrt_wire.proofs.FieldFronts.{address_front}
 use Rattle.mrt_wire.proofs.SessionLaws.{family_front}
 use Rattle.mrt_wire.proofs.session.fill_peer_address.Goals as goal

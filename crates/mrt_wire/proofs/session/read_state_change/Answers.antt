@@ -1,4 +1,4 @@
-use Rattle.ip_prefix.proofs.Fields.{none_behind}
+use Rattle.octet_forms.proofs.Fields.{none_behind}
 use Rattle.mrt_wire.proofs.FieldFronts.{short_front}
 use Rattle.mrt_wire.proofs.SessionLaws.{session_front}
 use Rattle.mrt_wire.proofs.session.read_state_change.Goals as goal

@@ -2,7 +2,7 @@ use Rattle.std.proofs.Common.{subst}
 use Rattle.ip_prefix.specs.Sequences.{BeginsWithNone}
 use Rattle.ip_prefix.specs.Sequences.{Begins}
 use Rattle.mrt_wire.specs.Fields.{AreOctets}
-use Rattle.ip_prefix.proofs.Fields.{both_front, none_first, none_second}
+use Rattle.octet_forms.proofs.Fields.{both_front, none_first, none_second}
 use Rattle.mrt_wire.proofs.FieldFronts.{asn_front, octets_front}
 use Rattle.bgp_wire.specs.Number.{octets_at}
 use Rattle.mrt_wire.proofs.session.split_systems.Goals as goal

@@ -1,4 +1,4 @@
-use Rattle.ip_prefix.proofs.Fields.{both_front, none_first, none_second}
+use Rattle.octet_forms.proofs.Fields.{both_front, none_first, none_second}
 use Rattle.mrt_wire.specs.declared.table_dump.TheConstants.{NUMBERS_SIZE, STATUS_SIZE}
 use Rattle.mrt_wire.proofs.FieldFronts.{octets_front, word_front}
 use Rattle.mrt_wire.proofs.TableDumpLaws.{prefix_front, narrow_peer_front}

@@ -1,4 +1,4 @@
-use Rattle.ip_prefix.proofs.Fields.{none_first, none_second}
+use Rattle.octet_forms.proofs.Fields.{none_first, none_second}
 use Rattle.mrt_wire.proofs.FieldFronts.{address_front}
 use Rattle.mrt_wire.proofs.TableDumpLaws.{no_narrow_peer, a_narrow_peer}
 use Rattle.mrt_wire.proofs.table_dump.split_narrow_peer.Goals as goal

@@ -1,4 +1,4 @@
-use Rattle.ip_prefix.proofs.Fields.{none_first, none_second}
+use Rattle.octet_forms.proofs.Fields.{none_first, none_second}
 use Rattle.mrt_wire.proofs.FieldFronts.{address_front}
 use Rattle.mrt_wire.proofs.TableDumpLaws.{no_prefix, no_such_length, a_prefix}
 use Rattle.mrt_wire.proofs.table_dump.split_prefix.Goals as goal

@@ -11,7 +11,7 @@ use Rattle.rib_player.specs.Timeline.{routed_first}
 use Rattle.rib_player.specs.Journal.{step_sides, AreHeld, sides_of, pairs_in, steps_of, marks_of, trail_of, timeline_of, routes_across, sides_across, seen_after, IsExact, IsKept, AreOrdered}
 use Rattle.rib_player.proofs.JournalLaws.{kept-sides_across}
 use Rattle.rib_player.proofs.KeyLaws.{unheld-route, unseen-route, held-split, held-end, exact-start, exact-has, exact-has-last, all-named_pairs, all-kept, all-distinct}
-use Rattle.ip_prefix.proofs.Lists.{AllByRecursion-take}
+use Rattle.octet_forms.proofs.Lists.{AllByRecursion-take}
 use Rattle.rib_player.proofs.journal.advance.Given.{Over}
 use Rattle.rib_player.proofs.journal.advance.Goals as goal
 use Rattle.rib_player.proofs.journal.advance.Goals.{In_ok-make_keys, After-drop_ahead}

@@ -7,7 +7,7 @@ use Rattle.ip_prefix.specs.Masked.{IsMasked}
 use Rattle.ip_prefix.specs.Wire.{SpellsNetwork}
 use Rattle.ip_prefix.proofs.Highest.{bit_count_le}
 use Rattle.ip_prefix.proofs.Masks.{IsMasked-highest}
-use Rattle.ip_prefix.proofs.Lists.{AllByRecursion-take}
+use Rattle.octet_forms.proofs.Lists.{AllByRecursion-take}
 use Rattle.ip_prefix.proofs.Octets.{IsOctet, AllOctets-from}
 use Rattle.ip_prefix.proofs.Wires.{enough_octets, bits_read, spelled_by}
 use Rattle.ip_prefix.proofs.prefix.Prefix.read.Goals as goal

@@ -1,0 +1,2 @@
+//! How octets spell lists, counted lists, and values one behind the other.
+#![tactic(auto)]

@@ -1,0 +1,2 @@
+pub mod DigitRows
+pub mod Writing

@@ -1,0 +1,281 @@
+//! Texts that grow at their end.
+
+ghost use Rattle.std.specs.Prelude.{◌≡◌, ◌+◌, ◌-◌, ◌≤◌, ◌++◌, ◌∷◌, [], OnOk, OnErr, length, map, take, drop, slice_range, decimal};
+ghost use Rattle.octet_text.specs.Written.{ended_words};
+
+use crate::cursor::{
+    DECIMAL_ROOM, ENDED_ROOM, put_octets, write_decimal, write_ended_decimal, write_ended_decimals,
+    write_led_decimal,
+};
+use crate::in_place::InPlace;
+use crate::words::{WORD_ROOM, Word, write_ended_words};
+use itoa::Buffer;
+use std::alloc::{AllocError, Global};
+use std::marker::Model;
+use std::mem;
+
+/// How much room is made at least, where there isn't enough.
+const LEAST_ROOM: usize = 512;
+
+/// For how many octets a text that is cleared keeps room at most.
+const MOST_KEPT: usize = 1 << 18;
+
+/// A text of octets. It is kept in a buffer that has room behind it, so that what is appended is
+/// written in place.
+#[derive(Drop)]
+pub struct Text {
+    buffer: Vec<u8>,
+    len: usize,
+}
+
+impl Model for Text {
+    ghost use Rattle.std.specs.Prelude.{ℕ, List, ◌≤◌, length, take};
+
+    ghost Value = { List ℕ };
+
+    ghost view = { λ text. take text.len text.buffer.items };
+
+    ghost invariant = { λ text. text.len ≤ length text.buffer.items };
+}
+
+impl Text {
+    /// An empty text.
+    pub fn new(alloc: Global) -> Self
+        ensures { result ≡ [] }
+    {
+        Text {
+            buffer: Vec::new(alloc),
+            len: 0,
+        }
+    }
+
+    /// The text that the octets are, which leaves none of them there.
+    #[inline]
+    pub fn taken_from(octets: &mut Vec<u8>) -> Self
+        ensures taken { result ≡ octets.old.items }
+        ensures left { octets.new.items ≡ [] }
+    {
+        let len = octets.len();
+        let none = Vec::new(*octets.allocator());
+        Text {
+            buffer: mem::replace(octets, none),
+            len,
+        }
+    }
+
+    /// Its octets, without the room behind them.
+    #[inline]
+    pub fn into_vec(self) -> Vec<u8>
+        ensures { result.items ≡ self }
+    {
+        let Text { mut buffer, len } = self;
+        buffer.truncate(len);
+        buffer
+    }
+
+    /// How many octets it has.
+    #[inline]
+    pub fn len(&self) -> usize
+        ensures { result ≡ length self.now }
+    {
+        self.len
+    }
+
+    /// Its octets.
+    #[inline]
+    pub fn as_slice(&self) -> &[u8]
+        ensures { result.now ≡ self.now }
+    {
+        &self.buffer[..self.len]
+    }
+
+    /// Keeps as many of its first octets as are named, or all.
+    #[inline]
+    pub fn truncate(&mut self, len: usize)
+        ensures { self.new ≡ take len self.old }
+    {
+        self.len = self.len.min(len);
+    }
+
+    /// Takes all octets away. Room for many is let go.
+    #[inline]
+    pub fn clear(&mut self)
+        ensures { self.new ≡ [] }
+    {
+        self.len = 0;
+        if self.buffer.len() > MOST_KEPT {
+            self.buffer = Vec::new(*self.buffer.allocator());
+        }
+    }
+
+    /// Appends an octet.
+    #[inline]
+    pub fn push(&mut self, octet: u8) -> Result<(), AllocError>
+        ensures appended { OnOk result (self.new ≡ self.old ++ octet ∷ []) }
+        ensures unchanged { OnErr result (self.new ≡ self.old) }
+    {
+        make_room(&mut self.buffer, self.len, 1)?;
+        self.buffer[self.len] = octet;
+        self.len += 1;
+        Ok(())
+    }
+
+    /// Appends the number in decimal, without leading zeros.
+    #[inline]
+    pub fn put_decimal(&mut self, number: u32) -> Result<(), AllocError>
+        ensures appended { OnOk result (self.new ≡ self.old ++ decimal number) }
+        ensures unchanged { OnErr result (self.new ≡ self.old) }
+    {
+        make_room(&mut self.buffer, self.len, DECIMAL_ROOM)?;
+        self.len = write_decimal(number, self.buffer.as_mut_slice(), self.len);
+        Ok(())
+    }
+
+    /// The same, for a number of 64 bits.
+    pub fn put_long_decimal(&mut self, number: u64) -> Result<(), AllocError>
+        ensures appended { OnOk result (self.new ≡ self.old ++ decimal number) }
+        ensures unchanged { OnErr result (self.new ≡ self.old) }
+    {
+        match u32::try_from(number) {
+            Ok(small) => self.put_decimal(small),
+            Err(_) => self.extend_from_slice(Buffer::new().format(number).as_bytes()),
+        }
+    }
+
+    /// Appends the number in decimal, and an octet behind it.
+    #[inline]
+    pub fn put_ended_decimal(&mut self, number: u32, end: u8) -> Result<(), AllocError>
+        ensures appended { OnOk result (self.new ≡ self.old ++ (decimal number ++ end ∷ [])) }
+        ensures unchanged { OnErr result (self.new ≡ self.old) }
+    {
+        make_room(&mut self.buffer, self.len, ENDED_ROOM)?;
+        self.len = write_ended_decimal(number, end, self.buffer.as_mut_slice(), self.len);
+        Ok(())
+    }
+
+    /// Appends an octet, and the number in decimal behind it.
+    #[inline(always)]
+    pub fn put_led_decimal(&mut self, lead: u8, number: u32) -> Result<(), AllocError>
+        ensures appended { OnOk result (self.new ≡ self.old ++ lead ∷ decimal number) }
+        ensures unchanged { OnErr result (self.new ≡ self.old) }
+    {
+        make_room(&mut self.buffer, self.len, ENDED_ROOM)?;
+        self.len = write_led_decimal(lead, number, self.buffer.as_mut_slice(), self.len);
+        Ok(())
+    }
+
+    /// Appends the numbers in decimal, and the octet behind each.
+    #[inline]
+    pub fn put_ended_decimals(&mut self, numbers: &[u32], end: u8) -> Result<(), AllocError>
+        ensures appended { OnOk result
+            (self.new ≡ self.old ++ ended_words end (map decimal numbers.now)) }
+        ensures unchanged { OnErr result (self.new ≡ self.old) }
+    {
+        let room = numbers.len().checked_mul(ENDED_ROOM).ok_or(AllocError)?;
+        make_room(&mut self.buffer, self.len, room)?;
+        self.len = write_ended_decimals(numbers, end, self.buffer.as_mut_slice(), self.len);
+        Ok(())
+    }
+
+    /// Appends the words of the numbers, and the octet behind each.
+    #[inline]
+    pub fn put_ended_words<W: Word>(&mut self, numbers: &[u32], end: u8) -> Result<(), AllocError>
+        ensures appended { OnOk result
+            (self.new ≡ self.old ++ ended_words end (map W.word numbers.now)) }
+        ensures unchanged { OnErr result (self.new ≡ self.old) }
+    {
+        let room = numbers.len().checked_mul(WORD_ROOM).ok_or(AllocError)?;
+        make_room(&mut self.buffer, self.len, room)?;
+        self.len = write_ended_words::<W>(numbers, end, self.buffer.as_mut_slice(), self.len);
+        Ok(())
+    }
+
+    /// Appends the text of a value.
+    #[inline]
+    pub fn put<V: InPlace>(&mut self, value: &V) -> Result<(), AllocError>
+        ensures appended { OnOk result (self.new ≡ self.old ++ V.shown value.now) }
+        ensures unchanged { OnErr result (self.new ≡ self.old) }
+    {
+        make_room(&mut self.buffer, self.len, V::ROOM)?;
+        self.len = value.write_in_place(self.buffer.as_mut_slice(), self.len);
+        Ok(())
+    }
+
+    /// Appends an octet, and the text of a value behind it.
+    #[inline]
+    pub fn put_led<V: InPlace>(&mut self, lead: u8, value: &V) -> Result<(), AllocError>
+        ensures appended { OnOk result (self.new ≡ self.old ++ lead ∷ V.shown value.now) }
+        ensures unchanged { OnErr result (self.new ≡ self.old) }
+    {
+        let room = V::ROOM.checked_add(1).ok_or(AllocError)?;
+        make_room(&mut self.buffer, self.len, room)?;
+        self.buffer[self.len] = lead;
+        self.len = value.write_in_place(self.buffer.as_mut_slice(), self.len + 1);
+        Ok(())
+    }
+
+    /// Appends the octets.
+    #[inline(always)]
+    pub fn extend_from_slice(&mut self, octets: &[u8]) -> Result<(), AllocError>
+        ensures appended { OnOk result (self.new ≡ self.old ++ octets.now) }
+        ensures unchanged { OnErr result (self.new ≡ self.old) }
+    {
+        make_room(&mut self.buffer, self.len, octets.len())?;
+        put_octets(octets, self.buffer.as_mut_slice(), self.len);
+        self.len += octets.len();
+        Ok(())
+    }
+
+    /// Appends once more what stands from the first place to the second.
+    #[inline]
+    pub fn extend_from_within(&mut self, start: usize, end: usize) -> Result<(), AllocError>
+        requires { (start ≤ end) × (end ≤ length self.old) }
+        ensures appended { OnOk result (self.new ≡ self.old ++ slice_range self.old start end) }
+        ensures unchanged { OnErr result (self.new ≡ self.old) }
+    {
+        let size = end - start;
+        make_room(&mut self.buffer, self.len, size)?;
+        copy_within(self.buffer.as_mut_slice(), start, end, self.len);
+        self.len += size;
+        Ok(())
+    }
+}
+
+// Makes the buffer at least so much longer than a text at its front.
+#[inline(always)]
+fn make_room(buffer: &mut Vec<u8>, len: usize, room: usize) -> Result<(), AllocError>
+    requires { len ≤ length buffer.old.items }
+    ensures room { OnOk result (len + room ≤ length buffer.new.items) }
+    ensures within { len ≤ length buffer.new.items }
+    ensures kept { take len buffer.new.items ≡ take len buffer.old.items }
+{
+    if buffer.len() - len < room {
+        return grow(buffer, len, room);
+    }
+    Ok(())
+}
+
+// The same, where there isn't room, out of line.
+#[cold]
+#[inline(never)]
+fn grow(buffer: &mut Vec<u8>, len: usize, room: usize) -> Result<(), AllocError>
+    requires { len ≤ length buffer.old.items }
+    ensures room { OnOk result (len + room ≤ length buffer.new.items) }
+    ensures within { len ≤ length buffer.new.items }
+    ensures kept { take len buffer.new.items ≡ take len buffer.old.items }
+{
+    let size = len.checked_add(room.max(LEAST_ROOM)).ok_or(AllocError)?;
+    buffer.resize(size, 0)
+}
+
+// Copies octets from the front of a slice to a place behind them.
+#[inline]
+fn copy_within(octets: &mut [u8], start: usize, end: usize, at: usize)
+    requires order { (start ≤ end) × (end ≤ at) }
+    requires room { at + (end - start) ≤ length octets.old }
+    ensures { octets.new ≡ take at octets.old ++ slice_range octets.old start end
+        ++ drop (at + (end - start)) octets.old }
+{
+    let (front, back) = octets.split_at_mut(at);
+    back[..end - start].copy_from_slice(&front[start..end]);
+}

@@ -1,0 +1,176 @@
+//! Texts written forwards at a place of a slice. What stands behind a text, within the room that it
+//! asks for, may be anything then.
+
+ghost use Rattle.std.specs.Prelude.{◌≡◌, ◌+◌, ◌*◌, ◌<◌, ◌≤◌, ◌++◌, ◌∷◌, [], length, map, take, drop, decimal};
+ghost use Rattle.octet_text.specs.Written.{IsWritten, ended_words, three_digits, filled};
+
+use crate::digits::{SHORTS, THREES};
+
+/// The room for a number of 32 bits in decimal.
+pub const DECIMAL_ROOM: usize = 12;
+
+/// The room for such a number, and an octet behind it.
+pub(crate) const ENDED_ROOM: usize = DECIMAL_ROOM + 1;
+
+/// The room for two such numbers, and an octet behind each.
+pub const PAIR_ROOM: usize = 2 * ENDED_ROOM;
+
+/// How many digits a number of 32 bits has at most.
+const DECIMAL_DIGITS: usize = 10;
+
+/// How many octets are written at once.
+pub const ROW: usize = 4;
+
+/// What stands in a row behind the digits.
+const SPACE: u8 = b' ';
+
+/// The digit 0.
+const ZERO: usize = b'0' as usize;
+
+/// A thousand.
+const THOUSAND: u32 = 1000;
+
+/// A million.
+const MILLION: u32 = 1_000_000;
+
+/// Writes the number in decimal, without leading zeros, and answers the place behind it.
+#[inline]
+pub fn write_decimal(number: u32, text: &mut [u8], at: usize) -> usize
+    requires { at + DECIMAL_ROOM ≤ length text.old }
+    ensures written { IsWritten text.old at (decimal number) text.new result }
+    ensures short { result ≤ at + DECIMAL_DIGITS }
+{
+    if number < MILLION {
+        return write_six(number, text, at);
+    }
+    write_long(number, text, at)
+}
+
+/// Writes an octet, and the number in decimal behind it, and answers the place behind both.
+#[inline(always)]
+pub(crate) fn write_led_decimal(lead: u8, number: u32, text: &mut [u8], at: usize) -> usize
+    requires { at + ENDED_ROOM ≤ length text.old }
+    ensures { IsWritten text.old at (lead ∷ decimal number) text.new result }
+{
+    text[at] = lead;
+    write_decimal(number, text, at + 1)
+}
+
+/// Writes the number in decimal, and an octet behind it, and answers the place behind both.
+#[inline]
+pub(crate) fn write_ended_decimal(number: u32, end: u8, text: &mut [u8], at: usize) -> usize
+    requires { at + ENDED_ROOM ≤ length text.old }
+    ensures written { IsWritten text.old at (decimal number ++ end ∷ []) text.new result }
+    ensures short { result ≤ at + ENDED_ROOM }
+{
+    let behind = write_decimal(number, text, at);
+    text[behind] = end;
+    behind + 1
+}
+
+/// Writes two numbers in decimal, and an octet behind each, and answers the place behind them.
+#[inline]
+pub fn write_ended_pair(
+    one: u32,
+    middle: u8,
+    other: u32,
+    end: u8,
+    text: &mut [u8],
+    at: usize,
+) -> usize
+    requires { at + PAIR_ROOM ≤ length text.old }
+    ensures written { IsWritten text.old at
+        ((decimal one ++ middle ∷ []) ++ (decimal other ++ end ∷ [])) text.new result }
+    ensures short { result ≤ at + PAIR_ROOM }
+{
+    let behind = write_ended_decimal(one, middle, text, at);
+    write_ended_decimal(other, end, text, behind)
+}
+
+/// Writes the numbers in decimal, an octet behind each, and answers the place behind them.
+pub(crate) fn write_ended_decimals(numbers: &[u32], end: u8, text: &mut [u8], at: usize) -> usize
+    requires { at + length numbers.now * ENDED_ROOM ≤ length text.old }
+    ensures { IsWritten text.old at (ended_words end (map decimal numbers.now)) text.new result }
+{
+    let mut place = at;
+    for number in numbers {
+        place = write_ended_decimal(*number, end, text, place);
+    }
+    place
+}
+
+// Writes a number of seven digits or more. It stands out of line, since few numbers have so many.
+#[inline(never)]
+fn write_long(number: u32, text: &mut [u8], at: usize) -> usize
+    requires { (MILLION ≤ number) × (at + DECIMAL_ROOM ≤ length text.old) }
+    ensures written { IsWritten text.old at (decimal number) text.new result }
+    ensures short { result ≤ at + DECIMAL_DIGITS }
+{
+    let low = number % MILLION;
+    let millions = write_six(number / MILLION, text, at);
+    let thousands = write_three(low / THOUSAND, text, millions);
+    write_three(low % THOUSAND, text, thousands)
+}
+
+// Writes a number of up to six digits.
+#[inline(always)]
+fn write_six(number: u32, text: &mut [u8], at: usize) -> usize
+    requires { (number < MILLION) × (at + 3 + ROW ≤ length text.old) }
+    ensures written { IsWritten text.old at (decimal number) text.new result }
+    ensures short { result ≤ at + 6 }
+{
+    if number < THOUSAND {
+        return write_short(number, text, at);
+    }
+    let thousands = write_short(number / THOUSAND, text, at);
+    write_three(number % THOUSAND, text, thousands)
+}
+
+/// Writes a number of up to three digits, and answers the place behind it.
+#[inline(always)]
+pub fn write_short(number: u32, text: &mut [u8], at: usize) -> usize
+    requires { (number < THOUSAND) × (at + ROW ≤ length text.old) }
+    ensures written { IsWritten text.old at (decimal number) text.new result }
+    ensures short { result ≤ at + 3 }
+{
+    let row = short_row(number);
+    put_octets(&row, text, at);
+    at + usize::from(row[3]) - ZERO
+}
+
+// Writes a number below a thousand in three digits.
+#[inline(always)]
+fn write_three(number: u32, text: &mut [u8], at: usize) -> usize
+    requires { (number < THOUSAND) × (at + ROW ≤ length text.old) }
+    ensures { IsWritten text.old at (three_digits number) text.new result }
+{
+    put_octets(&three_row(number), text, at);
+    at + 3
+}
+
+// The decimal of a number below a thousand, filled with spaces, and how many digits it has.
+#[inline(always)]
+fn short_row(number: u32) -> [u8; ROW]
+    requires { number < THOUSAND }
+    ensures { result ≡ filled (decimal number) }
+{
+    SHORTS[number as usize]
+}
+
+// A number below a thousand in three digits, and a space.
+#[inline(always)]
+fn three_row(number: u32) -> [u8; ROW]
+    requires { number < THOUSAND }
+    ensures { result ≡ three_digits number ++ SPACE ∷ [] }
+{
+    THREES[number as usize]
+}
+
+/// Puts octets there.
+#[inline(always)]
+pub fn put_octets(octets: &[u8], text: &mut [u8], at: usize)
+    requires { at + length octets.now ≤ length text.old }
+    ensures { text.new ≡ take at text.old ++ octets.now ++ drop (at + length octets.now) text.old }
+{
+    text[at..at + octets.len()].copy_from_slice(octets);
+}

@@ -1,0 +1,39 @@
+//! Words of numbers, written forwards at a place of a slice.
+
+ghost use Rattle.std.specs.Prelude.{◌≡◌, ℕ, List, ◌+◌, ◌*◌, ◌≤◌, ◌++◌, ◌∷◌, [], length, map};
+ghost use Rattle.octet_text.specs.Written.{IsWritten, ended_words};
+
+use crate::cursor::PAIR_ROOM;
+
+/// The room for a word, and an octet behind it.
+pub const WORD_ROOM: usize = PAIR_ROOM;
+
+/// How a number is written as a word.
+pub trait Word {
+    /// The word of a number.
+    ghost word: { ℕ → List ℕ };
+
+    /// Writes the word of a number, and an octet behind it, and answers the place behind both.
+    fn write_ended(number: u32, end: u8, text: &mut [u8], at: usize) -> usize
+        requires { at + WORD_ROOM ≤ length text.old }
+        ensures written { IsWritten text.old at (word number ++ end ∷ []) text.new result }
+        ensures short { result ≤ at + WORD_ROOM };
+}
+
+/// Writes the words of numbers, an octet behind each, and answers the place behind them.
+#[inline]
+pub(crate) fn write_ended_words<W: Word>(
+    numbers: &[u32],
+    end: u8,
+    text: &mut [u8],
+    at: usize,
+) -> usize
+    requires { at + length numbers.now * WORD_ROOM ≤ length text.old }
+    ensures { IsWritten text.old at (ended_words end (map W.word numbers.now)) text.new result }
+{
+    let mut place = at;
+    for number in numbers {
+        place = W::write_ended(*number, end, text, place);
+    }
+    place
+}

@@ -1,0 +1,5 @@
+//! Tests of `octet_text`.
+#![tactic(auto)]
+
+#[cfg(test)]
+mod tests;
