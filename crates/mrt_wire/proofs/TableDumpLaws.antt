@@ -16,7 +16,7 @@ use Rattle.bgp_wire.proofs.OneContent.{one_rib_attrs}
 use Rattle.mrt_wire.specs.declared.peer.Peer.{Peer}
 use Rattle.mrt_wire.specs.declared.table_dump.TheConstants.{NUMBERS_SIZE, STATUS_SIZE}
 use Rattle.mrt_wire.specs.Fields.{SpellsOctet, SpellsAddressOf}
-use Rattle.mrt_wire.specs.TableDump.{PeerEntry, SpellsPrefix, SpellsNarrowPeer, ArePeerEntryFields, SpellsPeerEntry}
+use Rattle.mrt_wire.specs.TableDump.{SpellsPrefix, SpellsNarrowPeer, ArePeerEntryFields, SpellsPeerEntry}
 use Rattle.mrt_wire.proofs.FieldFronts.{octet_front, octets_front, word_front, asn_front, address_front, sized_front}
 
 -- ---- the prefix

@@ -1,5 +1,5 @@
 -- The results of octets: what the reader finds in them, in order, with number and offset.
-use Rattle.std.specs.Prelude.{ℕ, Option, Some, None, List, [], ◌∷◌, length, take, drop, nat_lt, if◌then◌else◌}
+use Rattle.std.specs.Prelude.{ℕ, Option, Some, None, List, [], ◌∷◌}
 use Rattle.mrt_frames.specs.declared.fault.RecordKind.{RecordKind}
 use Rattle.mrt_frames.specs.declared.fault.RecordFault.{RecordFault}
 use Rattle.mrt_wire.specs.declared.event.Event.{Event}
