@@ -4,13 +4,13 @@
  *   ./limit FILE [change] > lines
  *
  * A decoder without allocation, with a window of the input, a buffer of the output and tables of
- * numbers. It reads PEER_INDEX_TABLE, RIB_IPV4_UNICAST, RIB_IPV6_UNICAST, and the messages and
- * state changes of BGP4MP and BGP4MP_ET.
+ * numbers. It reads TABLE_DUMP, PEER_INDEX_TABLE, RIB_IPV4_UNICAST, RIB_IPV6_UNICAST, and the
+ * messages and state changes of BGP4MP and BGP4MP_ET.
  *
  * It measures time, and is no reference for behaviour: it counts and skips records that don't fit,
  * but of an attribute that repeats it takes the last, doesn't join AS4_PATH, and checks the lengths
- * of attributes only where it reads them. Its lines are right for well-formed records with AS
- * numbers of four octets.
+ * of attributes only where it reads them. Its lines are right for well-formed records without
+ * AS4_PATH.
  */
 #include <fcntl.h>
 #include <stdint.h>
@@ -355,6 +355,41 @@ no:
     return 0;
 }
 
+static int entry(u32 time, const u8 *p, const u8 *e, int v6) {
+    u32 al = v6 ? 16 : 4;
+    if ((u32)(e - p) < 14 + 2 * al) return 0;
+    u8 a[16];
+    u32 l = p[4 + al];
+    if (l > 8 * al) return 0;
+    for (u32 i = 0; i < al; i++) a[i] = 8 * i < l ? p[4 + i] : 0;
+    if (l & 7) a[l / 8] &= (u8)(0xFF00 >> (l & 7));
+    p += 6 + al;
+    u32 t = g32(p);
+    const u8 *from = p + 4;
+    p += 4 + al;
+    u32 as = g16(p), n = g16(p + 2);
+    p += 4;
+    if ((u32)(e - p) < n) return 0;
+    Attrs found;
+    if (!attrs(p, p + n, &found, 1)) return 0;
+    char *w = LIT(o, "TABLE_DUMP|");
+    w = dec(w, change ? t : time);
+    w = LIT(w, "|B|");
+    w = v6 ? ip6(w, from) : ip4(w, from);
+    *w++ = '|';
+    w = dec(w, as);
+    *w++ = '|';
+    w = v6 ? ip6(w, a) : ip4(w, a);
+    *w++ = '/';
+    w = dec(w, l);
+    *w++ = '|';
+    if (!(w = path_text(w, &found, 2))) return 0;
+    if (v6) w = found.nh ? nh_text(w, found.nh, found.nh_n) : nh_text(w, found.nh4, found.nh4 ? 4 : 0);
+    else w = found.nh4 ? ip4(w, found.nh4) : nh_text(w, found.nh, found.nh_n);
+    o = tail_text(w, &found);
+    return 1;
+}
+
 static int bgp4mp(u32 time, u32 usec, int et, u32 sub, const u8 *p, const u8 *e) {
     char head[128], *h = head, *kind, *after;
     u32 w = sub >= 4 ? 4 : 2;
@@ -472,7 +507,8 @@ int main(int c, char **v) {
                 u32 time = g32(r), type = g16(r + 4), sub = g16(r + 6);
                 const u8 *b = r + 12, *e = b + n;
                 int ok = 1;
-                if (type == 13 && sub == 1) ok = index_table(b, e);
+                if (type == 12 && sub - 1 < 2) ok = entry(time, b, e, sub == 2);
+                else if (type == 13 && sub == 1) ok = index_table(b, e);
                 else if (type == 13 && (sub == 2 || sub == 4)) ok = rib(time, b, e, sub == 4);
                 else if (type == 16 && (sub < 2 || sub == 4 || sub == 5)) ok = bgp4mp(time, 0, 0, sub, b, e);
                 else if (type == 17 && (sub < 2 || sub == 4 || sub == 5)) {

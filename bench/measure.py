@@ -3,7 +3,7 @@
 
     bench/measure.py PROGRAM STORES [FILE..]
 
-Without files it makes two of about 30 MB, a table and updates, always the same octets. Of fifteen runs
+Without files it makes three of about 30 MB, a table, one of the old kind and updates, always the same octets. Of fifteen runs
 of the program and of limit, and three of bgpdump, the least processor time counts; output goes to the
 null device. limit decodes without checks or allocation: what one core can do (it takes a C compiler).
 
@@ -41,27 +41,29 @@ def attribute(kind, value):
     return struct.pack('>BBB', 0x40, kind, len(value)) + value
 
 
-def as_path(chance):
-    """Three to seven hops, at times with the last one prepended."""
-    numbers = [chance.choice(TRANSITS) for _ in range(chance.randint(2, 6))]
-    numbers += [chance.randrange(1, 64495) if chance.random() < 0.8 else
+def as_path(chance, narrow=False):
+    """Three to seven hops, at times with the last one prepended; with numbers of two octets where narrow."""
+    transits = [it for it in TRANSITS if it < 65536] if narrow else TRANSITS
+    numbers = [chance.choice(transits) for _ in range(chance.randint(2, 6))]
+    numbers += [chance.randrange(1, 64495) if narrow or chance.random() < 0.8 else
                 chance.randrange(131072, 400000)] * (chance.randint(2, 5) if chance.random() < 0.12 else 1)
-    return struct.pack('>BB%dI' % len(numbers), 2, len(numbers), *numbers)
+    return struct.pack('>BB%d%s' % (len(numbers), 'H' if narrow else 'I'), 2, len(numbers), *numbers)
 
 
 def communities(chance, size):
     return bytes(chance.randrange(256) for _ in range(size * chance.randint(1, 10)))
 
 
-def attributes(chance, reach):
+def attributes(chance, reach, narrow=False):
     """The attributes of a route as full tables show them, with this NEXT_HOP or MP_REACH_NLRI."""
-    parts = [attribute(1, b'\0'), attribute(2, as_path(chance)), reach]
+    parts = [attribute(1, b'\0'), attribute(2, as_path(chance, narrow)), reach]
     if chance.random() < 0.25:
         parts.append(attribute(4, struct.pack('>I', chance.randrange(1000))))
     if chance.random() < 0.05:
         parts.append(attribute(6, b''))
     if chance.random() < 0.08:
-        parts.append(attribute(7, struct.pack('>I', chance.choice(TRANSITS)) + address(chance, 4)))
+        number = struct.pack('>H', chance.choice(TRANSITS[:-1])) if narrow else struct.pack('>I', chance.choice(TRANSITS))
+        parts.append(attribute(7, number + address(chance, 4)))
     if chance.random() < 0.9:
         parts.append(attribute(8, communities(chance, 4)))
     if chance.random() < 0.15:
@@ -114,6 +116,33 @@ def write_table(out, chance):
         out.write(record(1700000000, 13, 2 if size == 4 else 4, body))
 
 
+def write_old_table(out, chance):
+    """The entries of prefixes, up to 40 each, every sixth of IPv6, a record each (TABLE_DUMP).
+
+    Prefixes come in their order, those of IPv4 first.
+    """
+    peers = {size: [(chance.choice(TRANSITS[:-1]), address(chance, size)) for _ in range(count)]
+             for size, count in ((4, 40), (16, 20))}
+    written, tables = 0, []
+    while written < SIZE:
+        size = 16 if len(tables) % 6 == 5 else 4
+        spelled = prefix(chance, size)
+        whole = spelled[1:].ljust(size, b'\0')
+        entries = []
+        for asn, addr in chance.sample(peers[size], chance.randint(len(peers[size]) // 2, len(peers[size]))):
+            reach = attribute(3, addr) if size == 4 else attribute(14, bytes([16]) + addr)
+            found = attributes(chance, reach, narrow=True)
+            entries.append(whole + struct.pack('>BBI', spelled[0], 1, 1190000000 + len(tables)) + addr
+                           + struct.pack('>HH', asn, len(found)) + found)
+        tables.append((size, whole, entries))
+        written += sum(len(record(0, 0, 0, bytes(4) + entry)) for entry in entries)
+    number = 0
+    for size, _, entries in sorted(tables):
+        for entry in entries:
+            out.write(record(1200000000, 12, 1 if size == 4 else 2, struct.pack('>HH', 0, number % 65536) + entry))
+            number += 1
+
+
 def update(chance, size, addr):
     """Announcements of one to four prefixes, or withdrawals of as many."""
     prefixes = b''.join(prefix(chance, size) for _ in range(chance.randint(1, 4)))
@@ -145,9 +174,9 @@ def write_updates(out, chance):
 
 
 def made_files(folder):
-    """The two files, made where they aren't there yet."""
+    """The three files, made where they aren't there yet."""
     files = []
-    for name, write in (('table.mrt', write_table), ('updates.mrt', write_updates)):
+    for name, write in (('table.mrt', write_table), ('old-table.mrt', write_old_table), ('updates.mrt', write_updates)):
         path = folder / name
         if not path.exists():
             part = folder / (name + '.part')

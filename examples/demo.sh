@@ -23,6 +23,7 @@ show() {
     "$@"
 }
 show "A table (examples/table.mrt):" head -n 3 "$out/table.lines"
+show "A table of the old kind (examples/old-table.mrt):" head -n 3 "$out/old-table.lines"
 show "Announcements (examples/updates.mrt):" grep -m 2 '|A|' "$out/updates.lines"
 show "Withdrawals:" grep -m 2 '|W|' "$out/updates.lines"
 show "A state change:" grep -m 1 '|STATE|' "$out/updates.lines"
