@@ -1,5 +1,5 @@
 -- The tables and the steps along a history: how many they are, which one is where, and those of a shorter or a longer history.
-use Rattle.std.proofs.Common.{◌≡◌, ℕ, zero, suc, ◌≤◌, List, [], ◌∷◌, ◌++◌, Some, option_map, length, take, slice_get, slice_index_or, refl, sym, ap, ◌∙◌, append_assoc, append-nil, arith}
+use Rattle.std.proofs.Common.{◌≡◌, ℕ, zero, suc, ◌≤◌, List, [], ◌∷◌, ◌++◌, Some, option_map, length, take, drop, slice_get, slice_index_or, refl, sym, ap, ◌∙◌, append_assoc, append-nil, arith}
 use Rattle.mrt_wire.specs.declared.event.Event.{Event}
 use Rattle.rib_player.specs.Tables.{Routes, table, named_pairs}
 use Rattle.rib_player.specs.Timeline.{tables_along, steps_along}
@@ -37,6 +37,22 @@ pub take-steps_along : (k : ℕ) (past events : List Event) → take k (steps_al
 take-steps_along zero past events = refl
 take-steps_along (suc k) past [] = refl
 take-steps_along (suc k) past (event ∷ events) = ap (λ ss. named_pairs (table past) event ∷ ss) (take-steps_along k (past ++ event ∷ []) events)
+
+-- the tables behind the first events are those of the others, with these in the past
+pub drop-tables_along : (k : ℕ) (past events : List Event) → k ≤ length events → drop k (tables_along past events) ≡ tables_along (past ++ take k events) (drop k events)
+drop-tables_along zero past events h = ap (λ before. tables_along before events) (sym (append-nil past))
+drop-tables_along (suc k) past [] h = absurd (omega arith)
+drop-tables_along (suc k) past (event ∷ events) h =
+    drop-tables_along k (past ++ event ∷ []) events (omega arith)
+    ∙ ap (λ before. tables_along before (drop k events)) (append_assoc past (event ∷ []) (take k events))
+
+-- and so with the steps
+pub drop-steps_along : (k : ℕ) (past events : List Event) → drop k (steps_along past events) ≡ steps_along (past ++ take k events) (drop k events)
+drop-steps_along zero past events = ap (λ before. steps_along before events) (sym (append-nil past))
+drop-steps_along (suc k) past [] = refl
+drop-steps_along (suc k) past (event ∷ events) =
+    drop-steps_along k (past ++ event ∷ []) events
+    ∙ ap (λ before. steps_along before (drop k events)) (append_assoc past (event ∷ []) (take k events))
 
 -- the table behind k events is that of the past and these
 pub at-tables_along : (k : ℕ) (past events : List Event) (other : Routes) → k ≤ length events → slice_index_or (tables_along past events) k other ≡ table (past ++ take k events)

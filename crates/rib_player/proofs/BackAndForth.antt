@@ -9,15 +9,15 @@ use Rattle.rib_player.proofs.TimelineLaws.{StandsFor-table, StandsFor-current, S
 use Rattle.octet_forms.proofs.Lists.{take_pushed}
 
 -- the player at another position
-abbrev at : Timeline → ℕ → Timeline
+abbrev pub at : Timeline → ℕ → Timeline
 at t position = record t { cursor = position }
 
 -- an undo goes one step back, where there is one
-after_undo-at : (t : Timeline) → t.floor < t.cursor → after_undo t ≡ at t (t.cursor - 1)
+pub after_undo-at : (t : Timeline) → t.floor < t.cursor → after_undo t ≡ at t (t.cursor - 1)
 after_undo-at t h = cond-true (nat_lt t.floor t.cursor) (at t (t.cursor - 1)) t (lt-ltb t.floor t.cursor h)
 
 -- a redo goes one step on, where there is one
-after_redo-at : (t : Timeline) → t.cursor < end_of t → after_redo t ≡ at t (t.cursor + 1)
+pub after_redo-at : (t : Timeline) → t.cursor < end_of t → after_redo t ≡ at t (t.cursor + 1)
 after_redo-at t h = cond-true (nat_lt t.cursor (end_of t)) (at t (t.cursor + 1)) t (lt-ltb t.cursor (end_of t) h)
 
 -- a redo takes an undo back

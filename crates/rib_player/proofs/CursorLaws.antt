@@ -1,5 +1,5 @@
 -- A player's timeline, and what a step that is crossed, or put behind the cursor, makes of it.
-use Rattle.std.proofs.Common.{◌≡◌, ℕ, ◌+◌, ◌-◌, ◌<◌, ◌≤◌, cond, List, [], ◌∷◌, ◌++◌, map, length, take, drop, set, reverse, arith, refl, sym, ap, subst, ◌∙◌, append_assoc}
+use Rattle.std.proofs.Common.{◌≡◌, ℕ, suc, ◌+◌, ◌-◌, ◌<◌, ◌≤◌, cond, List, [], ◌∷◌, ◌++◌, map, length, length-append, length-drop, take, drop, set, reverse, arith, refl, sym, ap, subst, ◌∙◌, append_assoc}
 use Rattle.std.specs.List.{AllByRecursion}
 use Rattle.std.specs.FinMap as finite
 use Rattle.std.specs.FinSet as names
@@ -27,6 +27,17 @@ earlier cursor steps routes = tables_before (reverse (take cursor steps)) routes
 length-earlier : (cursor : ℕ) (steps : List (List Side)) (routes : Routes) → cursor ≤ length steps → length (earlier cursor steps routes) ≡ cursor
 length-earlier cursor steps routes within =
     length-tables_before (reverse (take cursor steps)) routes ∙ length-reverse (take cursor steps) ∙ length-take-le cursor steps within
+
+-- one table after each step
+length-tables_after : (steps : List (List Side)) (routes : Routes) → length (tables_after steps routes) ≡ length steps
+length-tables_after [] routes = refl
+length-tables_after (sides ∷ steps) routes = ap suc (length-tables_after steps (routes_across sides routes))
+
+-- a player has one table more than steps
+pub length-tables : (cursor : ℕ) (steps : List (List Side)) (routes : Routes) → cursor ≤ length steps → length (timeline_of cursor steps routes).tables ≡ length steps + 1
+length-tables cursor steps routes within =
+    length-append (earlier cursor steps routes) (routes ∷ tables_after (drop cursor steps) routes)
+    ∙ omega (arith, length-earlier cursor steps routes within, length-tables_after (drop cursor steps) routes, length-drop cursor steps)
 
 -- the table at the cursor
 pub current-timeline : (cursor : ℕ) (steps : List (List Side)) (routes : Routes) → cursor ≤ length steps → current (timeline_of cursor steps routes) ≡ routes

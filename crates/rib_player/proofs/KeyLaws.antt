@@ -1,13 +1,14 @@
 -- The keys that a player wants.
-use Rattle.std.proofs.Common.{◌≡◌, ℕ, zero, suc, ◌+◌, ◌-◌, ◌<◌, ◌≤◌, Bool, true, false, cond, not, ◌||◌, List, [], ◌∷◌, ◌++◌, map, length, take, drop, reverse, slice_index_or, Option, Some, None, is_some, refl, sym, ap, ap₂, subst, ◌∙◌, append_assoc, take-append-drop, add-one, arith}
+use Rattle.std.proofs.Common.{◌≡◌, ℕ, zero, suc, ◌+◌, ◌-◌, ◌<◌, ◌≤◌, Bool, true, false, cond, not, ◌||◌, List, [], ◌∷◌, ◌++◌, map, length, length-drop, take, drop, reverse, slice_index_or, Option, Some, None, is_some, refl, sym, ap, ap₂, subst, ◌∙◌, append_assoc, take-append-drop, add-one, arith}
 use Rattle.std.specs.List.{AllByRecursion, list_any, flat_map}
+use Rattle.std.specs.List.Sorted.{IsStrictlySortedBy}
 use Rattle.std.specs.Prelude.{nat_lt}
 use Rattle.std.specs.FinMap as finite
 use Rattle.std.specs.FinMap.{contains_key-keys, get-empty}
 use Rattle.std.specs.FinSet as set
 use Rattle.std.specs.FinSet.{contains-from_list, contains-items, contains-empty}
 use Rattle.std.proofs.lemmas.Bool.{or_parts}
-use Rattle.std.proofs.lemmas.List.{take-map, map-append, reverse-append}
+use Rattle.std.proofs.lemmas.List.{take-map, map-append, reverse-append, length-map, length-take-le}
 use Rattle.std.proofs.lemmas.List.Folds.{list_any-append}
 use Rattle.std.proofs.Math.Bool.{or-true, or-false, or_assoc}
 use Rattle.rib_player.specs.declared.pair.Pair.{Pair}
@@ -17,31 +18,28 @@ use Rattle.rib_player.specs.declared.journal.Step.{Step}
 use Rattle.rib_player.specs.History.{pair_cmp}
 use Rattle.rib_player.specs.Tables.{Routes, Pairs, table_after}
 use Rattle.rib_player.specs.Timeline.{Timeline, end_of, current, table_at, wanted, routed_first, after_play, after_undo, after_redo}
-use Rattle.rib_player.specs.Journal.{counts_of, AreCounted, Side, Mark, sides_of, pairs_in, steps_of, step_sides, marks_of, step_marks, trail_of, routes_across, tables_before, tables_after, timeline_of, named_by, with_named, seen_after, AreFirst, IsExact, IsKept, AreHeld, AreDistinct, IsPlayed, IsAdvanced, IsStepFor, sides_across}
+use Rattle.rib_player.specs.Journal.{any_named, Side, Mark, sides_of, pairs_in, steps_of, step_sides, marks_of, step_marks, trail_of, routes_across, tables_before, tables_after, timeline_of, named_by, with_named, seen_after, AreFirst, IsExact, IsKept, AreHeld, AreDistinct, IsPlayed, IsAdvanced, IsStepFor, sides_across, step_clearings, clearings_of, clearings_by_step, clearing_then, AreClearingsOf, AreCleared, AreOrdered}
 use Rattle.rib_player.proofs.PairLaws.{pair_cmp_total}
 use Rattle.rib_player.proofs.StoreLaws.{same_pairs}
-use Rattle.rib_player.proofs.JournalLaws.{get-restored_elsewhere}
-use Rattle.octet_forms.proofs.Lists.{AllByRecursion-push}
-use Rattle.rib_player.proofs.CursorLaws.{current-timeline, same-timeline, timeline-after_play, added, length-added}
+use Rattle.rib_player.proofs.JournalLaws.{get-restored_elsewhere, pairs_in-sides_across}
+use Rattle.rib_player.proofs.ClearLaws.{cleared-take, cleared-push, clearings-across, tables-front}
+use Rattle.octet_forms.proofs.Lists.{AllByRecursion-push, AllByRecursion-take}
+use Rattle.rib_player.proofs.CursorLaws.{current-timeline, same-timeline, timeline-after_play, added, length-added, length-tables}
 use Rattle.rib_player.proofs.MarkLaws.{tied, tied_itself, pairs-same, seen_after-push, seen_after-append, MarkFirst-front, MarkFirst-rest, MarkFirst-push, unseen-before}
-
--- a step names the pair
-abbrev pub any_named : List (List Mark) → Pair → Bool
-any_named trail q = list_any (λ marks. named_by marks q) trail
 
 pub seen_after-any : (seen : Pair → Bool) (trail : List (List Mark)) (q : Pair) → seen_after seen trail q ≡ (seen q || any_named trail q)
 seen_after-any seen [] q = sym (or-false (seen q))
 seen_after-any seen (marks ∷ trail) q = seen_after-any (with_named seen marks) trail q ∙ or_assoc (seen q) (named_by marks q) (any_named trail q)
 
 -- a step's sides name the pair
-abbrev side_named : Pair → List Side → Bool
+abbrev pub side_named : Pair → List Side → Bool
 side_named q sides = list_any (tied q) (pairs_in sides)
 
-any-sides : (steps : List Step) (q : Pair) → list_any (side_named q) (steps_of steps) ≡ any_named (trail_of steps) q
+pub any-sides : (steps : List Step) (q : Pair) → list_any (side_named q) (steps_of steps) ≡ any_named (trail_of steps) q
 any-sides [] q = refl
 any-sides (step ∷ steps) q = ap₂ (λ a b. a || b) (ap (list_any (tied q)) (sym (pairs-same step.entries.items))) (any-sides steps q)
 
-any-take : {A : Type 0} (p : A → Bool) (n : ℕ) (xs : List A) → list_any p xs ≡ false → list_any p (take n xs) ≡ false
+pub any-take : {A : Type 0} (p : A → Bool) (n : ℕ) (xs : List A) → list_any p xs ≡ false → list_any p (take n xs) ≡ false
 any-take p zero xs e = refl
 any-take p (suc n) [] e = refl
 any-take p (suc n) (x ∷ xs) e =
@@ -78,7 +76,7 @@ first-route cursor steps routes q e =
     (any-reverse (side_named q) (take cursor (steps_of steps))
     ∙ ap (list_any (side_named q)) (take-map step_sides cursor steps) ∙ any-sides (take cursor steps) q ∙ e)
 
-none_from : {A : Type 0} (found : Option A) → is_some found ≡ false → found ≡ None
+pub none_from : {A : Type 0} (found : Option A) → is_some found ≡ false → found ≡ None
 none_from None e = refl
 none_from (Some x) e = cc
 
@@ -142,6 +140,21 @@ pub after_redo-first : (t : Timeline) → routed_first (after_redo t) ≡ routed
 after_redo-first t = at (nat_lt t.cursor (end_of t))
   where
     at : (b : Bool) → routed_first (cond b (record t { cursor = t.cursor + 1 }) t) ≡ routed_first t
+    at true = refl
+    at false = refl
+
+-- and all tables
+pub after_undo-tables : (t : Timeline) → (after_undo t).tables ≡ t.tables
+after_undo-tables t = at (nat_lt t.floor t.cursor)
+  where
+    at : (b : Bool) → (cond b (record t { cursor = t.cursor - 1 }) t).tables ≡ t.tables
+    at true = refl
+    at false = refl
+
+pub after_redo-tables : (t : Timeline) → (after_redo t).tables ≡ t.tables
+after_redo-tables t = at (nat_lt t.cursor (end_of t))
+  where
+    at : (b : Bool) → (cond b (record t { cursor = t.cursor + 1 }) t).tables ≡ t.tables
     at true = refl
     at false = refl
 
@@ -240,20 +253,57 @@ all-distinct keys (sides ∷ steps) all = (all.0.distinct, all-distinct keys ste
 played_fresh : IsPlayed set.empty finite.empty 0 []
 played_fresh = record {
   journal = record { within = omega arith; kept = tt };
-  counts = tt;
+  ordered = tt;
+  cleared = tt;
   held = record { first = tt; held = λ q. contains-empty pair_cmp q ∙ sym (ap is_some (get-empty pair_cmp q)) };
 }
 
 pub after_play-new : (keys : Pairs) (routes : Routes) (steps : List Step) → keys ≡ set.empty → routes ≡ finite.empty → steps ≡ [] → IsPlayed keys routes 0 steps
 after_play-new keys routes steps e f h = subst (λ k. IsPlayed k routes 0 steps) (sym e) (subst (λ r. IsPlayed set.empty r 0 steps) (sym f) (subst (IsPlayed set.empty finite.empty 0) (sym h) played_fresh))
 
+-- a step more is in order
+ordered-added : (cursor : ℕ) (steps steps' : List Step) (sides : List Side) (entries : List Entry) (new : Step) (routes : Routes) → steps' ≡ take cursor steps → new.entries.items ≡ entries → sides_of entries ≡ sides_across routes sides
+    → AreOrdered sides → AllByRecursion AreOrdered (steps_of steps) → AllByRecursion AreOrdered (steps_of (steps' ++ new ∷ []))
+ordered-added cursor steps steps' sides entries new routes left is crossing ordered all =
+    subst (AllByRecursion AreOrdered) (sym (map-append step_sides steps' (new ∷ [])))
+    (AllByRecursion-push AreOrdered (steps_of steps') (step_sides new)
+    (subst (AllByRecursion AreOrdered) (take-map step_sides cursor steps ∙ ap steps_of (sym left)) (AllByRecursion-take AreOrdered cursor (steps_of steps) all))
+    (subst (IsStrictlySortedBy pair_cmp) (sym (ap (λ es. pairs_in (sides_of es)) is ∙ ap pairs_in crossing ∙ pairs_in-sides_across routes sides)) ordered))
+
+-- and says what is right of the table behind it
+cleared-added : (cursor : ℕ) (steps steps' : List Step) (sides : List Side) (entries : List Entry) (new : Step) (routes routes' : Routes) (event : Event)
+    → cursor ≤ length (steps_of steps) → IsStepFor routes event sides → new.entries.items ≡ entries → steps' ≡ take cursor steps
+    → AreCleared (clearings_by_step steps) (drop 1 (timeline_of cursor (steps_of steps) routes).tables) → clearings_of entries ≡ map clearing_then sides
+    → timeline_of (cursor + 1) (steps_of (steps' ++ new ∷ [])) routes' ≡ after_play (timeline_of cursor (steps_of steps) routes) event
+    → AreCleared (clearings_by_step (steps' ++ new ∷ [])) (drop 1 (timeline_of (cursor + 1) (steps_of (steps' ++ new ∷ [])) routes').tables)
+cleared-added cursor steps steps' sides entries new routes routes' event within step is left cleared clearings then =
+    let t : Timeline = timeline_of cursor (steps_of steps) routes in
+    let next : Routes = table_after (current t) event in
+    let now : table_after routes event ≡ next = ap (λ r. table_after r event) (sym (current-timeline cursor (steps_of steps) routes within)) in
+    let long : length t.tables ≡ length (steps_of steps) + 1 = length-tables cursor (steps_of steps) routes within in
+    let as_long : length (take cursor (drop 1 t.tables)) ≡ length (take cursor (clearings_by_step steps)) =
+    length-take-le cursor (drop 1 t.tables) (omega (arith, length-drop 1 t.tables, long)) ∙ sym (length-take-le cursor (clearings_by_step steps) (omega (arith, length-map steps step_clearings, length-map steps step_sides))) in
+    let one : AreClearingsOf next (step_clearings new) =
+    subst (λ r. AreClearingsOf r (step_clearings new)) now
+    (subst (AreClearingsOf (table_after routes event)) (sym (ap clearings_of is ∙ clearings ∙ ap (map clearing_then) step.after)) (clearings-across (table_after routes event) sides)) in
+    let all = cleared-push (take cursor (clearings_by_step steps)) (take cursor (drop 1 t.tables)) (step_clearings new) next as_long (cleared-take cursor (clearings_by_step steps) (drop 1 t.tables) cleared) one in
+    let said : clearings_by_step (steps' ++ new ∷ []) ≡ take cursor (clearings_by_step steps) ++ step_clearings new ∷ [] =
+    map-append step_clearings steps' (new ∷ []) ∙ ap (λ s. s ++ step_clearings new ∷ []) (ap clearings_by_step left ∙ sym (take-map step_clearings cursor steps)) in
+    let tables : drop 1 (timeline_of (cursor + 1) (steps_of (steps' ++ new ∷ [])) routes').tables ≡ take cursor (drop 1 t.tables) ++ next ∷ [] =
+    ap (λ (p : Timeline). drop 1 p.tables) then
+    ∙ tables-front (cursor - 0) t.tables (next ∷ []) (omega (arith, long))
+    ∙ ap (λ n. take n (drop 1 t.tables) ++ next ∷ []) (omega arith) in
+    subst (λ s. AreCleared s (drop 1 (timeline_of (cursor + 1) (steps_of (steps' ++ new ∷ [])) routes').tables)) (sym said)
+    (subst (AreCleared (take cursor (clearings_by_step steps) ++ step_clearings new ∷ [])) (sym tables) all)
+
 -- a step that was put behind the cursor
 pub after_play-on : (keys keys' : Pairs) (routes routes' : Routes) (cursor : ℕ) (steps steps' : List Step) (sides : List Side) (entries : List Entry) (new : Step) (event : Event)
     → cursor ≤ length (steps_of steps) → IsStepFor routes event sides → new.entries.items ≡ entries
     → IsAdvanced (record { keys = keys; routes = routes }) cursor steps sides (record { keys = keys'; routes = routes' }) steps' entries
-    → AreCounted 0 (counts_of (steps' ++ new ∷ []))
+    → AllByRecursion AreOrdered (steps_of steps) → AreCleared (clearings_by_step steps) (drop 1 (timeline_of cursor (steps_of steps) routes).tables)
+    → clearings_of entries ≡ map clearing_then sides
     → (timeline_of (cursor + 1) (steps_of (steps' ++ new ∷ [])) routes' ≡ after_play (timeline_of cursor (steps_of steps) routes) event) × IsPlayed keys' routes' (cursor + 1) (steps' ++ new ∷ [])
-after_play-on keys keys' routes routes' cursor steps steps' sides entries new event within step is advanced counts =
+after_play-on keys keys' routes routes' cursor steps steps' sides entries new event within step is advanced in_order cleared clearings =
     let front : List Step = take cursor steps in
     let same : steps_of (steps' ++ new ∷ []) ≡ added cursor (steps_of steps) (sides_across routes sides) =
     map-append step_sides steps' (new ∷ []) ∙ ap₂ (λ a b. a ++ b ∷ []) (ap steps_of advanced.left ∙ sym (take-map step_sides cursor steps)) (ap sides_of is ∙ advanced.crossing) in
@@ -270,7 +320,8 @@ after_play-on keys keys' routes routes' cursor steps steps' sides entries new ev
           within = omega (arith, ap length same, length-added cursor (steps_of steps) (sides_across routes sides) within);
           kept = kept;
         };
-        counts = counts;
+        ordered = ordered-added cursor steps steps' sides entries new routes advanced.left is advanced.crossing step.ordered in_order;
+        cleared = cleared-added cursor steps steps' sides entries new routes routes' event within step is advanced.left cleared clearings then;
         held = held-same (routed_first (timeline_of cursor (steps_of steps) routes)) _ (trail_of front ++ marks_of entries ∷ []) _ keys' keys'
             (ap routed_first then ∙ after_play-first cursor (steps_of steps) routes event) trail refl advanced.held;
       },

@@ -9,8 +9,13 @@ pub mod BackAndForth
 pub mod JournalLaws
 pub mod CursorLaws
 pub mod ChangesLaws
+pub mod ClearLaws
 pub mod EntryLaws
 pub mod MarkLaws
 pub mod SearchLaws
 pub mod CountLaws
 pub mod KeyLaws
+pub mod PlayedLaws
+pub mod UnseenLaws
+pub mod ForgetLaws
+pub mod FloorLaws

@@ -332,9 +332,13 @@ distinct-before (e ∷ entries) (suc i) d within all =
 pub marks-more : (entries : List Entry) (i : ℕ) (new : Entry) → i < length entries → marks_of (take (i + 1) (set entries i new)) ≡ marks_of (take i entries) ++ mark_of new ∷ []
 marks-more entries i new within = ap marks_of (take_more_set entries i new within) ∙ map-append mark_of (take i entries) (new ∷ [])
 
+-- what a new entry has in common with the one that it replaces stays
+pub same-set : {A : Type 0} (f : Entry → A) (entries : List Entry) (i : ℕ) (new here : Entry) → f new ≡ f here → i < length entries → get_or entries i here ≡ here → map f (set entries i new) ≡ map f entries
+same-set f entries i new here same within is =
+    map-set f entries i new
+    ∙ ap (set (map f entries) i) (same ∙ ap f (sym is) ∙ sym (get_or-map f entries i here (f here) within))
+    ∙ set-get_or (map f entries) i (f here)
+
 -- a new mark leaves the sides
 pub sides-set : (entries : List Entry) (i : ℕ) (new here : Entry) → side_of new ≡ side_of here → i < length entries → get_or entries i here ≡ here → sides_of (set entries i new) ≡ sides_of entries
-sides-set entries i new here same within is =
-    map-set side_of entries i new
-    ∙ ap (set (sides_of entries) i) (same ∙ ap side_of (sym is) ∙ sym (get_or-map side_of entries i here (side_of here) within))
-    ∙ set-get_or (sides_of entries) i (side_of here)
+sides-set = same-set side_of

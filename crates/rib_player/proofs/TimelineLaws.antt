@@ -1,16 +1,17 @@
 -- Players that stand for histories: what they have at each position, and which history they stand for after calls.
 use Rattle.std.proofs.Common.{◌≡◌, ℕ, ◌+◌, ◌-◌, ◌≤◌, List, [], ◌∷◌, ◌++◌, option_map, length, take, drop, slice_get, slice_index_or, nat_lt, refl, sym, ap, ap₂, ◌∙◌, append_assoc, length-drop, length-take-le, add-one, add-sub_of_le, arith}
 use Rattle.std.proofs.lemmas.Bool.{cond_both, ltb-true}
-use Rattle.std.proofs.lemmas.List.{length_push}
+use Rattle.std.proofs.lemmas.List.{length_push, drop-drop}
+use Rattle.std.proofs.Math.Seq.{take-add}
 use Rattle.std.specs.FinMap as finite
 use Rattle.rib_player.specs.declared.pair.Pair.{Pair}
 use Rattle.mrt_wire.specs.declared.event.Event.{Event}
 use Rattle.rib_player.specs.History.{route}
 use Rattle.rib_player.specs.Tables.{table, table_after, named_pairs}
-use Rattle.rib_player.specs.Timeline.{Timeline, StandsFor, Call, Play, PlayRefused, Undo, Redo, Look, end_of, behind, table_at, current, fresh, after_play, after_undo, after_redo, tables_along, steps_along, after_call, after_calls, history_after, history_after_calls}
+use Rattle.rib_player.specs.Timeline.{Timeline, StandsFor, Call, Play, PlayRefused, Undo, Redo, Forget, Look, end_of, behind, table_at, current, fresh, after_play, after_undo, after_redo, without_first, forgettable, after_forget, tables_along, steps_along, after_call, after_calls, history_after, history_after_calls}
 use Rattle.rib_player.proofs.TableLaws.{get-table}
 use Rattle.rib_player.proofs.HistoryLaws.{table-append}
-use Rattle.rib_player.proofs.AlongHistory.{length-steps_along, tables_along-append, steps_along-append, take-tables_along, take-steps_along, at-tables_along, at-steps_along}
+use Rattle.rib_player.proofs.AlongHistory.{length-steps_along, tables_along-append, steps_along-append, take-tables_along, take-steps_along, drop-tables_along, drop-steps_along, at-tables_along, at-steps_along}
 use Rattle.octet_forms.proofs.Lists.{take_in_parts, slice_get-drop, take_below_pushed, drop_below_pushed}
 
 -- the table at a position is that of the events before it
@@ -94,12 +95,30 @@ StandsFor-after_redo t history stands =
     (λ e. record { floor = omega (arith, stands.floor); cursor = omega (arith, ltb-true t.cursor (end_of t) e, StandsFor-end t history stands); tables = stands.tables; steps = stands.steps })
     (λ e. stands)
 
+-- without the first steps a player stands for the same history, where the cursor is behind them
+pub StandsFor-without_first : (t : Timeline) (history : List Event) (count : ℕ) → count ≤ behind t → StandsFor t history → StandsFor (without_first count t) history
+StandsFor-without_first t history count within stands =
+    let taken : take t.floor history ++ take count (drop t.floor history) ≡ take (t.floor + count) history = sym (take-add t.floor count history) in
+    let rest : drop count (drop t.floor history) ≡ drop (t.floor + count) history = drop-drop count t.floor history in
+    record {
+      floor = omega (arith, stands.floor);
+      cursor = stands.cursor;
+      tables = ap (drop count) stands.tables ∙ drop-tables_along count (take t.floor history) (drop t.floor history) (omega (arith, length-drop t.floor history, stands.floor, stands.cursor))
+          ∙ ap₂ tables_along taken rest;
+      steps = ap (drop count) stands.steps ∙ drop-steps_along count (take t.floor history) (drop t.floor history) ∙ ap₂ steps_along taken rest;
+    }
+
+-- so forgetting keeps the history
+pub StandsFor-after_forget : (t : Timeline) (history : List Event) (keep : ℕ) → StandsFor t history → StandsFor (after_forget t keep) history
+StandsFor-after_forget t history keep stands = StandsFor-without_first t history (forgettable t keep) (omega arith) stands
+
 -- after a call, a player stands for the history that the call leaves
 pub StandsFor-after_call : (t : Timeline) (history : List Event) (call : Call) → StandsFor t history → StandsFor (after_call t call) (history_after t.cursor history call)
 StandsFor-after_call t history (Play event) stands = StandsFor-after_play t history event stands
 StandsFor-after_call t history (PlayRefused event) stands = stands
 StandsFor-after_call t history Undo stands = StandsFor-after_undo t history stands
 StandsFor-after_call t history Redo stands = StandsFor-after_redo t history stands
+StandsFor-after_call t history (Forget keep) stands = StandsFor-after_forget t history keep stands
 StandsFor-after_call t history Look stands = stands
 
 -- and so it does after several

@@ -1,5 +1,5 @@
 -- How a player keeps its steps: for each pair that a step names, the route on the other side of the step.
-use Rattle.std.specs.Prelude.{◌≡◌, ℕ, ◌+◌, ◌≤◌, Bool, true, false, ◌||◌, not, None, List, [], ◌∷◌, ◌++◌, map, take, drop, length, reverse, slice_index_or, Option}
+use Rattle.std.specs.Prelude.{◌≡◌, ℕ, ◌+◌, ◌≤◌, if◌then◌else◌, Bool, true, false, ◌||◌, ◌&&◌, not, is_some, None, List, [], ◌∷◌, ◌++◌, map, take, drop, length, reverse, slice_index_or, Option}
 use Rattle.std.specs.List.{AllByRecursion, IsDistinct, list_any}
 use Rattle.std.specs.List.Sorted.{IsStrictlySortedBy}
 use Rattle.std.specs.Ordering.{eq_by_cmp}
@@ -13,7 +13,7 @@ use Rattle.mrt_wire.specs.declared.event.Event.{Event}
 use Rattle.rib_player.specs.declared.journal.Entry.{Entry}
 use Rattle.rib_player.specs.declared.journal.Step.{Step}
 use Rattle.rib_player.specs.History.{pair_cmp}
-use Rattle.rib_store.specs.Stored.{put, counted}
+use Rattle.rib_store.specs.Stored.{put}
 use Rattle.rib_player.specs.Tables.{Routes, Pairs, table_after, named_pairs}
 use Rattle.rib_player.specs.Store.{Contents, route_in}
 use Rattle.rib_player.specs.Timeline.{Timeline, routed_first}
@@ -151,17 +151,53 @@ abbrev pub LeavesExact : List (List Mark) → List Mark → Contents → List Ma
 LeavesExact trail last table last' table' =
     (seen : Pair → Bool) → IsExact seen trail last table.keys table.routes → IsExact seen [] last' table'.keys table'.routes
 
--- how many pairs a step names, and the count that it keeps
-abbrev pub count_of : Step → ℕ × ℕ
-count_of step = (length step.entries.items, step.named_total)
+-- how many pairs a step names
+abbrev pub entry_count : Step → ℕ
+entry_count step = length step.entries.items
 
-abbrev pub counts_of : List Step → List (ℕ × ℕ)
-counts_of steps = map count_of steps
+-- a step names the pair
+abbrev pub any_named : List (List Mark) → Pair → Bool
+any_named trail q = list_any (λ marks. named_by marks q) trail
 
--- each step keeps the count of the pairs that it and the steps before it name
-abbrev pub AreCounted : ℕ → List (ℕ × ℕ) → Type 0
-AreCounted before [] = Unit {0}
-AreCounted before (count ∷ counts) = (count.1 ≡ counted (before + count.0)) × AreCounted (before + count.0) counts
+-- the marks of the step at an index
+abbrev pub marks_at : List (List Mark) → ℕ → List Mark
+marks_at trail index = slice_index_or trail index []
+
+-- the marks with the pair marked in the first step that names it
+abbrev pub marked_first : Pair → List (List Mark) → List (List Mark)
+marked_first pair [] = []
+marked_first pair (marks ∷ trail) =
+    if named_by marks pair then marked pair marks ∷ trail else marks ∷ marked_first pair trail
+
+-- a pair, and whether it has no route behind a step
+abbrev pub Clearing : Type 0
+Clearing = Pair × Bool
+
+abbrev pub clearing_of : Entry → Clearing
+clearing_of entry = (entry.pair, entry.clears)
+
+abbrev pub clearings_of : List Entry → List Clearing
+clearings_of entries = map clearing_of entries
+
+abbrev pub step_clearings : Step → List Clearing
+step_clearings step = clearings_of step.entries.items
+
+abbrev pub clearings_by_step : List Step → List (List Clearing)
+clearings_by_step steps = map step_clearings steps
+
+-- the same of a pair with the route that it has behind a step
+abbrev pub clearing_then : Side → Clearing
+clearing_then side = (side.0, not (is_some side.1))
+
+-- they are of a table
+abbrev pub AreClearingsOf : Routes → List Clearing → Type 0
+AreClearingsOf routes clearings = AllByRecursion (λ clearing. clearing.1 ≡ not (is_some (get routes clearing.0))) clearings
+
+-- those of each step are of the table behind it
+abbrev pub AreCleared : List (List Clearing) → List Routes → Type 0
+AreCleared [] tables = Unit {0}
+AreCleared (clearings ∷ steps) [] = ⊥
+AreCleared (clearings ∷ steps) (routes ∷ tables) = AreClearingsOf routes clearings × AreCleared steps tables
 
 -- the cursor is within the steps, and each of them can be crossed
 pub record IsJournal (keys : Pairs) (cursor : ℕ) (steps : List (List Side)) : Type 0 where
@@ -173,11 +209,38 @@ pub record AreHeld (seen : Pair → Bool) (trail : List (List Mark)) (keys : Pai
   pub first : MarkFirst seen trail
   pub held : (q : Pair) → contains keys q ≡ seen_after seen trail q
 
--- the steps can be crossed, their counts are right, and the keys are those that they and the routes before all of them want
+-- the steps can be crossed, pairs are found in them, it is right what they say of routes behind them, and the keys are those that they and the routes before all of them want
 pub record IsPlayed (keys : Pairs) (routes : Routes) (cursor : ℕ) (steps : List Step) : Type 0 where
   pub journal : IsJournal keys cursor (steps_of steps)
-  pub counts : AreCounted 0 (counts_of steps)
+  pub ordered : AllByRecursion AreOrdered (steps_of steps)
+  pub cleared : AreCleared (clearings_by_step steps) (drop 1 (timeline_of cursor (steps_of steps) routes).tables)
   pub held : AreHeld (routed_first (timeline_of cursor (steps_of steps) routes)) (trail_of steps) keys
+
+-- the pairs that were seen, but for one
+abbrev pub without : Pair → (Pair → Bool) → Pair → Bool
+without pair seen = λ q. seen q && not (eq_by_cmp pair_cmp q pair)
+
+-- the pairs that were seen, but for those without a route behind a step
+abbrev pub unseen_by : List Clearing → (Pair → Bool) → Pair → Bool
+unseen_by [] seen = seen
+unseen_by (clearing ∷ clearings) seen = unseen_by clearings (if clearing.1 then without clearing.0 seen else seen)
+
+-- the keys are right with a step's pairs among those that were seen, and one that it left without a route and no kept step names has none now
+pub record CanForget (clearings : List Clearing) (trail : List (List Mark)) (table : Contents) : Type 0 where
+  pub seen : Pair → Bool
+  pub held : AreHeld seen trail table.keys
+  pub all_seen : AllByRecursion (λ clearing. seen clearing.0 ≡ true) clearings
+  pub free : AllByRecursion (λ clearing. clearing.1 ≡ true → any_named trail clearing.0 ≡ false → get table.routes clearing.0 ≡ None) clearings
+
+-- they are right without those pairs then
+abbrev pub ForgetsExact : List Clearing → List (List Mark) → Contents → List (List Mark) → Contents → Type 0
+ForgetsExact clearings trail table trail' table' =
+    (seen : Pair → Bool) → AreHeld seen trail table.keys → AllByRecursion (λ clearing. seen clearing.0 ≡ true) clearings
+    → AreHeld (unseen_by clearings seen) trail' table'.keys
+
+-- the player with these steps and this table at the cursor, behind so many that were forgotten
+abbrev pub behind_forgotten : ℕ → Timeline → Timeline
+behind_forgotten floor t = record { floor = floor; cursor = floor + t.cursor; tables = t.tables; steps = t.steps }
 
 -- the steps ahead have made room for a step of these sides, which was crossed
 pub record IsAdvanced (table : Contents) (cursor : ℕ) (steps : List Step) (sides : List Side) (table' : Contents) (steps' : List Step) (entries : List Entry) : Type 0 where

@@ -1,4 +1,4 @@
--- What contracts see of a player: the tables by position, and a cursor; what each call does to it, and when it stands for a history.
+-- What contracts see of a player: the tables by position from a floor on, and a cursor; what each call does to it, and when it stands for a history.
 use Rattle.std.specs.Prelude.{◌≡◌, ℕ, Bool, is_some, ◌+◌, ◌-◌, ◌≤◌, List, [], ◌∷◌, ◌++◌, length, take, drop, slice_index_or, nat_lt, if◌then◌else◌, refl}
 use Rattle.std.specs.List.{flat_map, sum_by}
 use Rattle.std.specs.Coded.{Coded, code_by, coded×, coded_ℕ, coded_list}
@@ -12,7 +12,7 @@ use Rattle.rib_player.specs.Tables.{Routes, Pairs, table, table_after, named_pai
 
 -- a player as contracts see it
 pub record Timeline : Type 0 where
-  -- the lowest position that it can go back to, which is 0 so far
+  -- the lowest position that it can go back to: how many steps were forgotten
   pub floor : ℕ
   -- the position that it stands at: how many steps are behind it
   pub cursor : ℕ
@@ -80,6 +80,29 @@ after_undo t = if nat_lt t.floor t.cursor then record t { cursor = t.cursor - 1 
 abbrev pub after_redo : Timeline → Timeline
 after_redo t = if nat_lt t.cursor (end_of t) then record t { cursor = t.cursor + 1 } else t
 
+-- how many steps are forgotten, so that at most so many are kept behind the cursor
+abbrev pub forgettable : Timeline → ℕ → ℕ
+forgettable t keep = behind t - keep
+
+-- the first steps are forgotten, as many as are named
+abbrev pub without_first : ℕ → Timeline → Timeline
+without_first count t = record {
+  floor = t.floor + count;
+  cursor = t.cursor;
+  tables = drop count t.tables;
+  steps = drop count t.steps;
+}
+
+-- the oldest steps are forgotten, so that at most so many are kept behind the cursor
+abbrev pub after_forget : Timeline → ℕ → Timeline
+after_forget t keep = without_first (forgettable t keep) t
+
+-- the cursor stands between the floor and the end, and a table at each position from the floor to the end
+pub record IsWellFormed (t : Timeline) : Type 0 where
+  pub floor : t.floor ≤ t.cursor
+  pub cursor : t.cursor ≤ end_of t
+  pub tables : length t.tables ≡ length t.steps + 1
+
 -- the tables after a past and after each of the events that follow it
 abbrev pub tables_along : List Event → List Event → List Routes
 tables_along past [] = table past ∷ []
@@ -103,7 +126,9 @@ pub data Call : Type 0 where
   PlayRefused : Event → Call
   Undo : Call
   Redo : Call
-  -- `at`, `ahead`, `named` or `table`
+  -- so that at most so many steps are kept behind the cursor
+  Forget : ℕ → Call
+  -- `at`, `ahead`, `floor`, `named` or `table`
   Look : Call
 
 -- what a call makes of a player
@@ -112,6 +137,7 @@ after_call t (Play event) = after_play t event
 after_call t (PlayRefused event) = t
 after_call t Undo = after_undo t
 after_call t Redo = after_redo t
+after_call t (Forget keep) = after_forget t keep
 after_call t Look = t
 
 -- the history after a call, from that before it and the cursor
@@ -120,6 +146,7 @@ history_after cursor history (Play event) = take cursor history ++ event ∷ []
 history_after cursor history (PlayRefused event) = history
 history_after cursor history Undo = history
 history_after cursor history Redo = history
+history_after cursor history (Forget keep) = history
 history_after cursor history Look = history
 
 -- what calls make of a player, one after another

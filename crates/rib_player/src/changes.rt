@@ -11,7 +11,7 @@ ghost use Rattle.mrt_wire.specs.Peer.{peer_cmp};
 ghost use Rattle.rib_player.specs.History.{pair_cmp, Clear, where_true, item_effect, later, effect};
 ghost use Rattle.rib_player.specs.Store.{route_in, slot_at};
 ghost use Rattle.rib_player.specs.Changes.{noted_effect, found, is_lost, or_absent, effect_of};
-ghost use Rattle.rib_player.specs.Journal.{sides_of, slot_side, AreOrdered, IsStepFor};
+ghost use Rattle.rib_player.specs.Journal.{sides_of, slot_side, AreOrdered, IsStepFor, clearings_of, clearing_then};
 
 use crate::journal::Entry;
 use crate::pair::Pair;
@@ -182,14 +182,18 @@ fn entries_of<S: PrefixStore<Rc<Route>>>(
     ensures sides { IfOk result (λ entries. sides_of entries.items
         ≡ filter (λ side. is_some side.1 || is_some (finite.get table.now.routes side.0))
         (map slot_side routes.entries)) }
+    ensures clearings { IfOk result (λ entries.
+        clearings_of entries.items ≡ map clearing_then (sides_of entries.items)) }
 {
     let mut entries = Vec::with_capacity(alloc, routes.len())?;
     'routes: for (pair, other) in routes {
         if other.is_some() || table.route(&pair).is_some() {
+            let clears = other.is_none();
             entries.push(Entry {
                 pair,
                 other,
                 first: false,
+                clears,
             })?;
         }
     }
@@ -202,8 +206,10 @@ pub(crate) fn step_for<S: PrefixStore<Rc<Route>>>(
     event: &Event,
     table: &Table<S>,
 ) -> Result<Vec<Entry>, AllocError>
-    ensures { IfOk result (λ entries.
+    ensures step { IfOk result (λ entries.
         IsStepFor table.now.routes event.now (sides_of entries.items)) }
+    ensures clearings { IfOk result (λ entries.
+        clearings_of entries.items ≡ map clearing_then (sides_of entries.items)) }
 {
     let changes = changes_of(alloc, event)?;
     let routes = routes_then(alloc, changes, table)?;

@@ -1,18 +1,20 @@
 //! The steps that are kept, so that they can be undone and redone.
 
-ghost use Rattle.std.specs.Prelude.{◌≡◌, ◌-◌, ◌<◌, ◌≤◌, [], ◌∷◌, ◌||◌, true, false, None, length, take, drop, set, OnOk, OnErr};
+ghost use Rattle.std.specs.Prelude.{◌≡◌, ◌<◌, ◌≤◌, [], ◌∷◌, ◌||◌, length, take, drop, set, OnOk, OnErr};
 ghost use Rattle.std.specs.List.{AllByRecursion, sum_by};
-ghost use Rattle.std.specs.Vec.{vec_capacity};
+ghost use Rattle.std.specs.VecDeque.{deque_len, deque_capacity};
 ghost use Rattle.std.specs.FinSet as names;
 ghost use Rattle.rib_store.specs.Stored.{counted, AreAmong};
 ghost use Rattle.rib_player.specs.declared.pair.Pair.{Pair};
-ghost use Rattle.rib_player.specs.Journal.{sides_of, sides_at, steps_of, routes_across, sides_across, IsKept, marks_of, trail_of, counts_of, AreCounted, named_by, marked, AreFirst, CanLeave, LeavesExact, AreDistinct, AreOrdered, IsPlayed, IsAdvanced};
+ghost use Rattle.rib_player.specs.Journal.{sides_of, sides_at, steps_of, routes_across, sides_across, IsKept, marks_of, trail_of, entry_count, named_by, marked, AreFirst, CanLeave, LeavesExact, AreDistinct, AreOrdered, IsPlayed, IsAdvanced};
+ghost use Rattle.rib_player.specs.Journal.{clearings_of, clearings_by_step, any_named, marks_at, marked_first, CanForget, ForgetsExact};
 
 use crate::pair::Pair;
 use crate::table::Table;
 use mrt_wire::Route;
 use rib_store::PrefixStore;
 use std::alloc::AllocError;
+use std::collections::VecDeque;
 use std::rc::Rc;
 
 /// A pair that a step names, and its route, or the absence of one, on the other side of the
@@ -24,25 +26,25 @@ pub(crate) struct Entry {
     /// No kept step before this one names the pair, and it has no route before all of them. So
     /// its key goes with this step.
     pub(crate) first: bool,
+    /// The pair has no route behind the step.
+    pub(crate) clears: bool,
 }
 
 /// A step: one entry for each pair that it names.
 #[derive(Drop)]
 pub(crate) struct Step {
     pub(crate) entries: Vec<Entry>,
-    /// How many pairs it and the kept steps before it name, in all; `u64::MAX` where more.
-    pub(crate) named_total: u64,
 }
 
 /// How many pairs the steps name, in all.
-pub(crate) fn named_total(steps: &[Step]) -> u64
-    requires counts { AreCounted 0 (counts_of steps.now) }
-    ensures { result ≡ counted (sum_by (λ count. count.0) (counts_of steps.now)) }
+pub(crate) fn named_total(steps: &VecDeque<Step>) -> u64
+    ensures { result ≡ counted (sum_by entry_count steps.now.items) }
 {
-    match steps.last() {
-        Some(step) => step.named_total,
-        None => 0,
+    let mut total = 0u64;
+    'steps: for index in 0..steps.len() {
+        total = total.saturating_add(steps[index].entries.len() as u64);
     }
+    total
 }
 
 /// Goes from one side of a step to the other. The routes of the table and of the entries change
@@ -53,6 +55,7 @@ pub(crate) fn cross<S: PrefixStore<Rc<Route>>>(table: &mut Table<S>, entries: &m
     ensures routes { table.new.routes ≡ routes_across (sides_of entries.old) table.old.routes }
     ensures entries { sides_of entries.new ≡ sides_across table.old.routes (sides_of entries.old) }
     ensures marks { marks_of entries.new ≡ marks_of entries.old }
+    ensures clearings { clearings_of entries.new ≡ clearings_of entries.old }
 {
     'entries: for entry in entries.iter_mut() {
         table.exchange(&entry.pair, &mut entry.other);
@@ -62,18 +65,18 @@ pub(crate) fn cross<S: PrefixStore<Rc<Route>>>(table: &mut Table<S>, entries: &m
 /// Goes from one side of a step to the other: that which stands at the index.
 pub(crate) fn cross_step<S: PrefixStore<Rc<Route>>>(
     table: &mut Table<S>,
-    steps: &mut [Step],
+    steps: &mut VecDeque<Step>,
     index: usize,
 )
-    requires within { index < length steps.old }
-    requires kept { AllByRecursion (IsKept table.old.keys) (steps_of steps.old) }
+    requires within { index < length steps.old.items }
+    requires kept { AllByRecursion (IsKept table.old.keys) (steps_of steps.old.items) }
     ensures keys { table.new.keys ≡ table.old.keys }
     ensures routes { table.new.routes ≡
-        routes_across (sides_at (steps_of steps.old) index) table.old.routes }
-    ensures steps { steps_of steps.new ≡ set (steps_of steps.old) index
-        (sides_across table.old.routes (sides_at (steps_of steps.old) index)) }
-    ensures trail { trail_of steps.new ≡ trail_of steps.old }
-    ensures counts { counts_of steps.new ≡ counts_of steps.old }
+        routes_across (sides_at (steps_of steps.old.items) index) table.old.routes }
+    ensures steps { steps_of steps.new.items ≡ set (steps_of steps.old.items) index
+        (sides_across table.old.routes (sides_at (steps_of steps.old.items) index)) }
+    ensures trail { trail_of steps.new.items ≡ trail_of steps.old.items }
+    ensures clearings { clearings_by_step steps.new.items ≡ clearings_by_step steps.old.items }
 {
     let step = &mut steps[index];
     cross(table, step.entries.as_mut_slice());
@@ -85,6 +88,7 @@ fn mark(entries: &mut [Entry], pair: &Pair) -> bool
     ensures found { result ≡ named_by (marks_of entries.old) pair.now }
     ensures marks { marks_of entries.new ≡ marked pair.now (marks_of entries.old) }
     ensures sides { sides_of entries.new ≡ sides_of entries.old }
+    ensures clearings { clearings_of entries.new ≡ clearings_of entries.old }
 {
     match entries.binary_search_by_key(pair, |entry| entry.pair) {
         Ok(index) => {
@@ -109,6 +113,7 @@ pub(crate) fn release<S: PrefixStore<Rc<Route>>>(
         (marks_of last.new) table.new }
     ensures routes { table.new.routes ≡ table.old.routes }
     ensures sides { sides_of last.new ≡ sides_of last.old }
+    ensures clearings { clearings_of last.new ≡ clearings_of last.old }
 {
     'entries: for entry in gone {
         if entry.first && !mark(last, &entry.pair) {
@@ -130,6 +135,7 @@ pub(crate) fn make_keys<S: PrefixStore<Rc<Route>>>(
     ensures marks { OnOk result (AreFirst (names.contains table.old.keys) (marks_of entries.new)) }
     ensures routes { table.new.routes ≡ table.old.routes }
     ensures sides { sides_of entries.new ≡ sides_of entries.old }
+    ensures clearings { clearings_of entries.new ≡ clearings_of entries.old }
     ensures refused { OnErr result (table.new.keys ≡ table.old.keys) }
 {
     let mut made = 0;
@@ -150,7 +156,7 @@ pub(crate) fn make_keys<S: PrefixStore<Rc<Route>>>(
 /// step.
 pub(crate) fn drop_ahead<S: PrefixStore<Rc<Route>>>(
     table: &mut Table<S>,
-    steps: &mut Vec<Step>,
+    steps: &mut VecDeque<Step>,
     index: usize,
     last: &mut [Entry],
 )
@@ -163,11 +169,12 @@ pub(crate) fn drop_ahead<S: PrefixStore<Rc<Route>>>(
         table.old (marks_of last.new) table.new }
     ensures routes { table.new.routes ≡ table.old.routes }
     ensures sides { sides_of last.new ≡ sides_of last.old }
+    ensures clearings { clearings_of last.new ≡ clearings_of last.old }
     ensures steps { steps.new.items ≡ take index steps.old.items }
-    ensures capacity { vec_capacity steps.new ≡ vec_capacity steps.old }
+    ensures capacity { deque_capacity steps.new ≡ deque_capacity steps.old }
 {
     'steps: while steps.len() > index {
-        if let Some(step) = steps.pop() {
+        if let Some(step) = steps.pop_back() {
             release(table, &step.entries, last);
         }
     }
@@ -177,7 +184,7 @@ pub(crate) fn drop_ahead<S: PrefixStore<Rc<Route>>>(
 /// Refused, nothing has changed.
 pub(crate) fn advance<S: PrefixStore<Rc<Route>>>(
     table: &mut Table<S>,
-    steps: &mut Vec<Step>,
+    steps: &mut VecDeque<Step>,
     index: usize,
     entries: &mut [Entry],
 ) -> Result<(), AllocError>
@@ -187,11 +194,65 @@ pub(crate) fn advance<S: PrefixStore<Rc<Route>>>(
         (sides_of entries.old) table.new steps.new.items entries.new) }
     ensures keys { OnErr result (table.new.keys ≡ table.old.keys) }
     ensures routes { OnErr result (table.new.routes ≡ table.old.routes) }
+    ensures clearings { clearings_of entries.new ≡ clearings_of entries.old }
     ensures steps { OnErr result (steps.new.items ≡ steps.old.items) }
-    ensures capacity { vec_capacity steps.new ≡ vec_capacity steps.old }
+    ensures capacity { deque_capacity steps.new ≡ deque_capacity steps.old }
 {
     make_keys(table, entries)?;
     drop_ahead(table, steps, index, entries);
     cross(table, entries);
     Ok(())
+}
+
+/// Marks the pair's entry in the step at the index, and answers whether there is one.
+fn mark_in_step(steps: &mut VecDeque<Step>, index: usize, pair: &Pair) -> bool
+    requires within { index < length steps.old.items }
+    requires ordered { AllByRecursion AreOrdered (steps_of steps.old.items) }
+    ensures found { result ≡ named_by (marks_at (trail_of steps.old.items) index) pair.now }
+    ensures trail { trail_of steps.new.items ≡ set (trail_of steps.old.items) index
+        (marked pair.now (marks_at (trail_of steps.old.items) index)) }
+    ensures steps { steps_of steps.new.items ≡ steps_of steps.old.items }
+    ensures clearings { clearings_by_step steps.new.items ≡ clearings_by_step steps.old.items }
+{
+    let step = &mut steps[index];
+    mark(step.entries.as_mut_slice(), pair)
+}
+
+/// Marks the pair's entry in the first of the steps that names it, and answers whether one does.
+fn mark_first(steps: &mut VecDeque<Step>, pair: &Pair) -> bool
+    requires ordered { AllByRecursion AreOrdered (steps_of steps.old.items) }
+    ensures found { result ≡ any_named (trail_of steps.old.items) pair.now }
+    ensures trail { trail_of steps.new.items ≡ marked_first pair.now (trail_of steps.old.items) }
+    ensures steps { steps_of steps.new.items ≡ steps_of steps.old.items }
+    ensures clearings { clearings_by_step steps.new.items ≡ clearings_by_step steps.old.items }
+{
+    'steps: for index in 0..steps.len() {
+        if mark_in_step(steps, index, pair) {
+            return true;
+        }
+    }
+    false
+}
+
+/// Lets go of what the entries of a forgotten step want: of a pair that it left without a route
+/// the first kept step that names it is marked, and where none does its key is dropped.
+pub(crate) fn forget_entries<S: PrefixStore<Rc<Route>>>(
+    table: &mut Table<S>,
+    steps: &mut VecDeque<Step>,
+    forgotten: &[Entry],
+)
+    requires distinct { AreDistinct (sides_of forgotten.now) }
+    requires ordered { AllByRecursion AreOrdered (steps_of steps.old.items) }
+    requires exact { CanForget (clearings_of forgotten.now) (trail_of steps.old.items) table.old }
+    ensures exact { ForgetsExact (clearings_of forgotten.now) (trail_of steps.old.items) table.old
+        (trail_of steps.new.items) table.new }
+    ensures routes { table.new.routes ≡ table.old.routes }
+    ensures steps { steps_of steps.new.items ≡ steps_of steps.old.items }
+    ensures clearings { clearings_by_step steps.new.items ≡ clearings_by_step steps.old.items }
+{
+    'entries: for entry in forgotten {
+        if entry.clears && !mark_first(steps, &entry.pair) {
+            table.discard(&entry.pair);
+        }
+    }
 }

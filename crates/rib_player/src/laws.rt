@@ -1,6 +1,6 @@
 //! Laws of the player's definitions.
 
-ghost use Rattle.std.specs.Prelude.{◌≡◌, ℕ, ◌≤◌, ◌<◌, ◌-◌, ◌++◌, ◌∷◌, ◌||◌, [], List, is_some, length, take, map, replicate, slice_get, nat_lt, Option, Some, None};
+ghost use Rattle.std.specs.Prelude.{◌≡◌, ℕ, ◌≤◌, ◌<◌, ◌-◌, ◌++◌, ◌∷◌, ◌||◌, [], List, is_some, length, take, map, replicate, slice_get, nat_lt, min, Option, Some, None};
 ghost use Rattle.std.specs.List.{list_any};
 ghost use Rattle.std.specs.List.Sorted.{IsStrictlySortedBy};
 ghost use Rattle.std.specs.Option.{option_map};
@@ -18,7 +18,7 @@ ghost use Rattle.rib_player.specs.declared.changes.TheConstants.{ESTABLISHED};
 ghost use Rattle.rib_player.specs.History.{pair_cmp, pair_of, effect, route_after, route};
 ghost use Rattle.rib_player.specs.Tables.{Routes, table, table_after, is_named, named_pairs};
 ghost use Rattle.rib_player.specs.Store.{peer_routes, routed_peers, peers_above};
-ghost use Rattle.rib_player.specs.Timeline.{Timeline, wanted, Call, Play, Undo, Redo, StandsFor, fresh, end_of, table_at, current, after_undo, after_redo, after_play, after_call, after_calls, history_after, history_after_calls};
+ghost use Rattle.rib_player.specs.Timeline.{Timeline, wanted, Call, Play, Undo, Redo, StandsFor, forgettable, after_forget, fresh, end_of, table_at, current, after_undo, after_redo, after_play, after_call, after_calls, history_after, history_after_calls};
 
 /// The number that the definitions name: the state Established (RFC 6396, section 4.4.1).
 pub fn state_numbers()
@@ -119,6 +119,18 @@ pub fn one_step_back()
         current (after_undo (after_play t event)) ≡ current t }
     ensures redo { (t : Timeline) (history : List Event) → StandsFor t history →
         t.floor < t.cursor → after_redo (after_undo t) ≡ t }
+{}
+
+/// Forgetting keeps the table at each position that is left, and so that at the cursor; it lets go
+/// of no step where none is too many; and forgetting twice is forgetting to the smaller number.
+pub fn forgotten_steps()
+    ensures tables { (t : Timeline) (keep : ℕ) → (i : ℕ) → (after_forget t keep).floor ≤ i →
+        table_at (after_forget t keep) i ≡ table_at t i }
+    ensures current { (t : Timeline) (keep : ℕ) → t.floor ≤ t.cursor →
+        current (after_forget t keep) ≡ current t }
+    ensures none { (t : Timeline) (keep : ℕ) → forgettable t keep ≡ 0 → after_forget t keep ≡ t }
+    ensures twice { (t : Timeline) (keep less : ℕ) → t.floor ≤ t.cursor →
+        after_forget (after_forget t keep) less ≡ after_forget t (min keep less) }
 {}
 
 /// Events that were played and undone leave the first table, and redone they leave that of the

@@ -3,14 +3,15 @@
 ghost use Rattle.std.specs.Prelude.{◌≡◌, ◌<◌, ◌↔◌, IfOk, OnOk, OnErr, IsOk};
 ghost use Rattle.rib_store.specs.Stored.{counted};
 ghost use Rattle.rib_store.specs.declared.store.TheConstants.{GREATEST_COUNT};
-ghost use Rattle.rib_player.specs.Timeline.{fresh, ahead_of, end_of, current, wanted, named_count, after_play, after_undo, after_redo};
+ghost use Rattle.rib_player.specs.Timeline.{fresh, ahead_of, end_of, current, wanted, named_count, after_play, after_undo, after_redo, without_first, forgettable, after_forget, IsWellFormed};
 
 use crate::changes::step_for;
-use crate::journal::{Step, advance, cross_step, named_total};
+use crate::journal::{Step, advance, cross_step, forget_entries, named_total};
 use crate::table::Table;
 use mrt_wire::{Event, Route};
 use rib_store::PrefixStore;
 use std::alloc::{AllocError, Global};
+use std::collections::VecDeque;
 use std::marker::Model;
 use std::rc::Rc;
 use thiserror::Error;
@@ -28,13 +29,18 @@ pub enum PlayFault {
 pub struct Nothing;
 
 /// A table of routes that events are played on, one step each, and a cursor that goes back and
-/// forth over these steps. Between the calls the table is that of the steps before the cursor.
+/// forth over these steps. Between the calls the table is that of the steps before the cursor. The
+/// oldest steps can be forgotten: what they did stays, and their memory is given back.
 #[derive(Drop)]
 pub struct Player<S: PrefixStore<Rc<Route>>> {
     alloc: Global,
     table: Table<S>,
-    steps: Vec<Step>,
+    /// The steps that are kept.
+    steps: VecDeque<Step>,
+    /// How many of them stand before the cursor.
     cursor: usize,
+    /// How many were forgotten.
+    floor: u64,
 }
 
 impl<S: PrefixStore<Rc<Route>>> Model for Player<S> {
@@ -44,11 +50,17 @@ impl<S: PrefixStore<Rc<Route>>> Model for Player<S> {
 
     ghost coded = { coded_timeline };
 
-    ghost use Rattle.rib_player.specs.Journal.{timeline_of, steps_of, IsPlayed};
+    ghost use Rattle.std.specs.Prelude.{◌+◌, ◌≤◌, length};
+    ghost use Rattle.rib_store.specs.declared.store.TheConstants.{GREATEST_COUNT};
+    ghost use Rattle.rib_player.specs.Journal.{timeline_of, behind_forgotten, steps_of, IsPlayed};
 
-    ghost view = { λ a. timeline_of a.cursor (steps_of a.steps.items) a.table.routes };
+    ghost view = { λ a. behind_forgotten a.floor
+        (timeline_of a.cursor (steps_of a.steps.items) a.table.routes) };
 
-    ghost invariant = { λ a. IsPlayed a.table.keys a.table.routes a.cursor a.steps.items };
+    ghost invariant = { λ a. record {
+      played : IsPlayed a.table.keys a.table.routes a.cursor a.steps.items;
+      counted : a.floor + length a.steps.items ≤ GREATEST_COUNT;
+    } };
 }
 
 impl<S: PrefixStore<Rc<Route>>> Player<S> {
@@ -59,16 +71,25 @@ impl<S: PrefixStore<Rc<Route>>> Player<S> {
         Player {
             alloc,
             table: Table::new(alloc),
-            steps: Vec::new(alloc),
+            steps: VecDeque::new(alloc),
             cursor: 0,
+            floor: 0,
         }
     }
 
-    /// How many steps stand before the cursor.
+    /// How many steps stand before the cursor, forgotten ones too.
     pub fn at(&self) -> u64
-        ensures { result ≡ self.now.cursor }
+        ensures cursor { result ≡ self.now.cursor }
+        ensures well_formed { IsWellFormed self.now }
     {
-        self.cursor as u64
+        self.floor + self.cursor as u64
+    }
+
+    /// How many steps were forgotten: the lowest position that it can go back to.
+    pub fn floor(&self) -> u64
+        ensures { result ≡ self.now.floor }
+    {
+        self.floor
     }
 
     /// How many steps stand after the cursor.
@@ -109,11 +130,7 @@ impl<S: PrefixStore<Rc<Route>>> Player<S> {
             self.cursor,
             entries.as_mut_slice(),
         )?;
-        let named_total = named_total(&self.steps).saturating_add(entries.len() as u64);
-        self.steps.push_reserved(Step {
-            entries,
-            named_total,
-        });
+        self.steps.push_back_reserved(Step { entries });
         self.cursor += 1;
         Ok(dropped as u64)
     }
@@ -142,6 +159,33 @@ impl<S: PrefixStore<Rc<Route>>> Player<S> {
         cross_step(&mut self.table, &mut self.steps, self.cursor);
         self.cursor += 1;
         Ok(())
+    }
+}
+
+impl<S: PrefixStore<Rc<Route>>> Player<S> {
+    /// Forgets the first of the kept steps.
+    fn forget_first(&mut self)
+        requires { self.old.floor < self.old.cursor }
+        ensures { self.new ≡ without_first 1 self.old }
+    {
+        if let Some(step) = self.steps.pop_front() {
+            forget_entries(&mut self.table, &mut self.steps, &step.entries);
+            self.cursor -= 1;
+            self.floor += 1;
+        }
+    }
+
+    /// Forgets the oldest steps, so that at most so many are kept before the cursor, and answers
+    /// how many it forgot. It takes no memory, and the steps ahead stay.
+    pub fn forget(&mut self, keep: u64) -> u64
+        ensures after_forget { self.new ≡ after_forget self.old keep }
+        ensures forgotten { result ≡ forgettable self.old keep }
+    {
+        let count = (self.cursor as u64).saturating_sub(keep);
+        'steps: for _ in 0..count {
+            self.forget_first();
+        }
+        count
     }
 }
 

@@ -12,7 +12,7 @@ returns-clause-ordered g c =
     let test = has_route (get c.args.table.now.routes) in
     let sorted : IsStrictlySortedBy pair_cmp (keys_of c.args.routes.entries) = c.into_iter-pair-iterator.ensures.into_iter_gives.5 in
     ordered-sides test c.args.routes.entries (sides_of c.routes.entries.items) sorted
-    (sides-done test (sides_of c.routes.entries.items) _ c.routes.pair-iterator c.routes.invariant c.in-None.ensures.steps.0)
+    (sides-done test (sides_of c.routes.entries.items) _ c.routes.pair-iterator c.routes.invariant.sides c.in-None.ensures.steps.0)
 
 pub returns-clause-keys : goal.returns-clause-keys
 returns-clause-keys g c = IsDistinct-from_sorted pair_cmp (keys_of c.args.routes.entries) c.into_iter-pair-iterator.ensures.into_iter_gives.5

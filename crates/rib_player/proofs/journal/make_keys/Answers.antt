@@ -5,8 +5,8 @@ use Rattle.std.specs.List.Sorted.{IsStrictlySortedBy}
 use Rattle.std.specs.FinMap as finite
 use Rattle.std.specs.FinSet as names
 use Rattle.rib_player.specs.declared.journal.Entry.{Entry}
-use Rattle.rib_player.specs.Journal.{Mark, sides_of, pairs_in, marks_of, mark_of, named_by, AreFirst, IsExact}
-use Rattle.rib_player.proofs.MarkLaws.{tied, pairs_in-take, distinct-take, distinct-before, exact-unmake, exact-unmade, same-names, keys-more-marked, first-push, first-made, marks-more, get_or-any, sides-set}
+use Rattle.rib_player.specs.Journal.{Mark, clearing_of, sides_of, pairs_in, marks_of, mark_of, named_by, AreFirst, IsExact}
+use Rattle.rib_player.proofs.MarkLaws.{tied, pairs_in-take, distinct-take, distinct-before, exact-unmake, exact-unmade, same-names, keys-more-marked, first-push, first-made, marks-more, get_or-any, same-set, sides-set}
 use Rattle.rib_player.proofs.journal.make_keys.Given.{Over}
 use Rattle.rib_player.proofs.journal.make_keys.Goals as goal
 use Rattle.rib_player.proofs.journal.make_keys.Goals.{In-Err}
@@ -47,7 +47,7 @@ entries-preserved g c =
     let known = c.entries.invariant in
     let within : made < length entries = omega arith in
     let here : Entry = get_or entries made c.index-entries-made-in-Ok.result in
-    let new : Entry = record { pair = here.pair; other = here.other; first = c.in-Ok.new } in
+    let new : Entry = record { pair = here.pair; other = here.other; first = c.in-Ok.new; clears = here.clears } in
     let seen = names.contains c.args.table.now.keys in
     let marks : List Mark = marks_of (take made entries) in
     let same : c.index-entries-made.result ≡ here = c.index-entries-made.is ∙ get_or-any entries made c.index-entries-made.result c.index-entries-made-in-Ok.result within in
@@ -62,4 +62,5 @@ entries-preserved g c =
           (first-made seen c.entries.table.keys marks here.pair c.in-Ok.new (c.in-Ok.ensures.made ∙ ap (λ (e : Entry). not (names.contains c.entries.table.keys e.pair)) (sym c.index-entries-made.is ∙ same)) known.held apart));
       routes = c.ensure.ensures.routes ∙ known.routes;
       sides = sides-set entries made new here refl within (get_or-any entries made here c.index-entries-made-in-Ok.result within) ∙ known.sides;
+      clearings = same-set clearing_of entries made new here refl within (get_or-any entries made here c.index-entries-made-in-Ok.result within) ∙ known.clearings;
     }

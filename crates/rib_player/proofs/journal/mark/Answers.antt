@@ -4,9 +4,9 @@ use Rattle.std.proofs.lemmas.List.Sorted.{answers_always}
 use Rattle.std.proofs.lemmas.Map.Keys.{IsDistinct-from_sorted}
 use Rattle.rib_player.specs.declared.journal.Entry.{Entry}
 use Rattle.rib_player.specs.History.{pair_cmp}
-use Rattle.rib_player.specs.Journal.{sides_of, pairs_in}
+use Rattle.rib_player.specs.Journal.{clearing_of, sides_of, pairs_in}
 use Rattle.rib_player.proofs.PairLaws.{pair_cmp-IsAntisymmetric}
-use Rattle.rib_player.proofs.MarkLaws.{get_or-any, sides-set}
+use Rattle.rib_player.proofs.MarkLaws.{get_or-any, same-set, sides-set}
 use Rattle.rib_player.proofs.SearchLaws.{IsApart, places_rise, named-at, named-nowhere, marked-at, marked-nowhere, apart-parted}
 use Rattle.rib_player.proofs.journal.mark.Goals as goal
 use Rattle.rib_player.proofs.journal.mark.Goals.{After-index-entries-index, In-Err}
@@ -32,6 +32,11 @@ pub returns-in-Ok-clause-sides : goal.returns-in-Ok-clause-sides
 returns-in-Ok-clause-sides c =
     let here : Entry = get_or c.args.entries.now c.in-Ok.index c.index-entries-index.result in
     sides-set c.args.entries.now c.in-Ok.index _ here refl c.in-Ok.ensures.bound (get_or-any c.args.entries.now c.in-Ok.index here c.index-entries-index.result c.in-Ok.ensures.bound)
+
+pub returns-in-Ok-clause-clearings : goal.returns-in-Ok-clause-clearings
+returns-in-Ok-clause-clearings c =
+    let here : Entry = get_or c.args.entries.now c.in-Ok.index c.index-entries-index.result in
+    same-set clearing_of c.args.entries.now c.in-Ok.index _ here refl c.in-Ok.ensures.bound (get_or-any c.args.entries.now c.in-Ok.index here c.index-entries-index.result c.in-Ok.ensures.bound)
 
 pub returns-in-Err-clause-found : goal.returns-in-Err-clause-found
 returns-in-Err-clause-found c = sym (named-nowhere c.args.pair.now c.args.entries.now (none c))

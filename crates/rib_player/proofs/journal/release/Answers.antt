@@ -2,7 +2,7 @@ use Rattle.std.proofs.Common.{◌≡◌, Bool, [], ◌∷◌, ◌+◌, drop, ari
 use Rattle.std.specs.List.{IsDistinct}
 use Rattle.std.proofs.lemmas.List.{drop_all}
 use Rattle.rib_player.specs.declared.pair.Pair.{Pair}
-use Rattle.rib_player.specs.Journal.{sides_of, marks_of, mark_of, IsExact}
+use Rattle.rib_player.specs.Journal.{sides_of, clearings_of, marks_of, mark_of, IsExact}
 use Rattle.rib_player.proofs.MarkLaws.{tied, pairs_marked, rest_at, distinct-drop, exact-as, exact-seen, exact-handed, exact-key, exact-free, exact-gone, exact-end}
 use Rattle.rib_player.proofs.journal.release.Given.{Over}
 use Rattle.rib_player.proofs.journal.release.Goals as goal
@@ -48,6 +48,7 @@ entries-preserved g c =
             (exact-gone seen m rest last keys w.discard.new.self.keys routes w.if-entry.true (apart g b) (sym w.mark.ensures.found ∙ w.if-not-mark.true) w.discard.ensures.keys (left g b seen ex));
         routes = ap (λ t. t.routes) w.table-is ∙ w.discard.ensures.routes ∙ c.entries.invariant.routes;
         sides = ap sides_of w.last-is ∙ w.mark.ensures.sides ∙ c.entries.invariant.sides;
+        clearings = ap clearings_of w.last-is ∙ w.mark.ensures.clearings ∙ c.entries.invariant.clearings;
       }
       | else-entry w ↦ elim w.else-entry.branch [
         | else-entry-via-then-entry+else-not-mark w' ↦ record {
@@ -56,6 +57,7 @@ entries-preserved g c =
               (exact-handed seen m rest last keys routes w'.if-entry.true (apart g b) (sym w'.mark.ensures.found ∙ w'.if-not-mark.false) (left g b seen ex));
           routes = ap (λ t. t.routes) w.table-is ∙ c.entries.invariant.routes;
           sides = ap sides_of (w.last-is ∙ w'.last-is) ∙ w'.mark.ensures.sides ∙ c.entries.invariant.sides;
+          clearings = ap clearings_of (w.last-is ∙ w'.last-is) ∙ w'.mark.ensures.clearings ∙ c.entries.invariant.clearings;
         }
         | else-entry-via-else-entry w' ↦ record {
           exact = λ seen ex. exact-as seen (rest ∷ []) last (marks_of c.if-entry.last) keys c.if-entry.table.keys routes c.if-entry.table.routes
@@ -63,6 +65,7 @@ entries-preserved g c =
               (exact-seen seen m rest last keys routes w'.if-entry.false (left g b seen ex));
           routes = ap (λ t. t.routes) w.table-is ∙ c.entries.invariant.routes;
           sides = ap sides_of (w.last-is ∙ w'.last-is) ∙ c.entries.invariant.sides;
+          clearings = ap clearings_of (w.last-is ∙ w'.last-is) ∙ c.entries.invariant.clearings;
         }
       ]
     ]

@@ -1,13 +1,12 @@
 use Rattle.std.proofs.Common.{ap, ◌∙◌}
 use Rattle.rib_store.specs.Stored.{counted}
 use Rattle.rib_player.specs.Timeline.{named_count}
-use Rattle.rib_player.specs.Journal.{counts_of, steps_of}
-use Rattle.rib_player.proofs.CountLaws.{total, named-total}
+use Rattle.rib_player.specs.Journal.{steps_of}
+use Rattle.rib_player.proofs.CountLaws.{named-total}
 use Rattle.rib_player.proofs.KeyLaws.{all-distinct}
 use Rattle.rib_player.proofs.player.Player.named.Goals as goal
 
 pub returns : goal.returns
 returns g c =
     c.named_total.ensures
-    ∙ ap (λ s. counted (total (counts_of s))) c.deref.ensures.value
-    ∙ ap counted (named-total c.self.inside.steps.items (all-distinct c.self.inside.table.keys (steps_of c.self.inside.steps.items) c.self.invariant.journal.kept) ∙ ap named_count c.self.view_is)
+    ∙ ap counted (named-total c.self.inside.steps.items (all-distinct c.self.inside.table.keys (steps_of c.self.inside.steps.items) c.self.invariant.played.journal.kept) ∙ ap named_count c.self.view_is)

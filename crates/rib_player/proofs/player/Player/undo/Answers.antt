@@ -1,54 +1,30 @@
-use Rattle.std.proofs.Common.{◌≡◌, ◌-◌, ◌<◌, set, sym, ap, subst, ◌∙◌, arith}
-use Rattle.std.specs.Vec.{with_items}
-use Rattle.std.proofs.lemmas.List.{with_items_is}
-use Rattle.rib_player.specs.Timeline.{after_undo, routed_first}
-use Rattle.rib_player.specs.Journal.{AreHeld, counts_of, AreCounted, trail_of, timeline_of, steps_of, sides_at, routes_across, sides_across}
-use Rattle.rib_player.proofs.CursorLaws.{timeline-after_undo, same-timeline, journal-sides_across}
-use Rattle.rib_player.proofs.KeyLaws.{held-same, after_undo-first}
+use Rattle.std.proofs.Common.{◌≡◌, ◌-◌, length, refl, ap, ◌∙◌, arith}
+use Rattle.std.proofs.lemmas.List.{length-map}
+use Rattle.rib_player.specs.Timeline.{after_undo}
+use Rattle.rib_player.specs.Journal.{step_marks, steps_of, timeline_of, behind_forgotten, IsPlayed}
+use Rattle.rib_player.proofs.PlayedLaws.{after_undo-on}
+use Rattle.rib_player.proofs.FloorLaws.{after_undo-behind}
 use Rattle.rib_player.proofs.player.Player.undo.Goals as goal
 use Rattle.rib_player.proofs.player.Player.undo.Given.{Over}
 use Rattle.rib_player.proofs.player.Player.undo.Goals.{After-cross_step}
 
--- the steps, with that before the cursor crossed
-steps_left : (g : Over) (c : After-cross_step g) → steps_of (with_items c.self.inside.steps c.cross_step.new.steps).items
-    ≡ set (steps_of c.self.inside.steps.items) (c.self.inside.cursor - 1) (sides_across c.self.inside.table.routes (sides_at (steps_of c.self.inside.steps.items) (c.self.inside.cursor - 1)))
-steps_left g c =
-    ap steps_of (with_items_is c.self.inside.steps c.cross_step.new.steps (c.cross_step.auto.steps ∙ c.deref_mut.ensures.len))
-    ∙ c.cross_step.ensures.steps
-    ∙ ap (λ s. set (steps_of s) (c.self.inside.cursor - 1) (sides_across c.self.inside.table.routes (sides_at (steps_of s) (c.self.inside.cursor - 1)))) c.deref_mut.ensures.value
-
 -- the player on the other side of the step
-then : (g : Over) (c : After-cross_step g) → timeline_of (c.self.inside.cursor - 1) (steps_of (with_items c.self.inside.steps c.cross_step.new.steps).items) c.cross_step.new.table.routes ≡ after_undo (timeline_of c.self.inside.cursor (steps_of c.self.inside.steps.items) c.self.inside.table.routes)
+then : (g : Over) (c : After-cross_step g)
+    → (timeline_of (c.self.inside.cursor - 1) (steps_of c.cross_step.new.steps.items) c.cross_step.new.table.routes
+    ≡ after_undo (timeline_of c.self.inside.cursor (steps_of c.self.inside.steps.items) c.self.inside.table.routes))
+    × IsPlayed c.cross_step.new.table.keys c.cross_step.new.table.routes (c.self.inside.cursor - 1) c.cross_step.new.steps.items
 then g c =
-    same-timeline (c.self.inside.cursor - 1) _ _ _ _ (steps_left g c)
-    (c.cross_step.ensures.routes ∙ ap (λ s. routes_across (sides_at (steps_of s) (c.self.inside.cursor - 1)) c.self.inside.table.routes) c.deref_mut.ensures.value)
-    ∙ timeline-after_undo c.self.inside.cursor (steps_of c.self.inside.steps.items) c.self.inside.table.routes (omega arith) c.self.invariant.journal.within
-
-held_then : (g : Over) (c : After-cross_step g) → AreHeld (routed_first (timeline_of (c.self.inside.cursor - 1) (steps_of (with_items c.self.inside.steps c.cross_step.new.steps).items) c.cross_step.new.table.routes))
-    (trail_of (with_items c.self.inside.steps c.cross_step.new.steps).items) c.cross_step.new.table.keys
-held_then g c =
-    held-same (routed_first (timeline_of c.self.inside.cursor (steps_of c.self.inside.steps.items) c.self.inside.table.routes)) _ (trail_of c.self.inside.steps.items) _ c.self.inside.table.keys c.cross_step.new.table.keys
-    (ap routed_first (then g c) ∙ after_undo-first (timeline_of c.self.inside.cursor (steps_of c.self.inside.steps.items) c.self.inside.table.routes))
-    (ap trail_of (with_items_is c.self.inside.steps c.cross_step.new.steps (c.cross_step.auto.steps ∙ c.deref_mut.ensures.len)) ∙ c.cross_step.ensures.trail ∙ ap trail_of c.deref_mut.ensures.value)
-    c.cross_step.ensures.keys c.self.invariant.held
-
-counts_then : (g : Over) (c : After-cross_step g) → AreCounted 0 (counts_of (with_items c.self.inside.steps c.cross_step.new.steps).items)
-counts_then g c =
-    subst (AreCounted 0)
-    (sym (ap counts_of (with_items_is c.self.inside.steps c.cross_step.new.steps (c.cross_step.auto.steps ∙ c.deref_mut.ensures.len)) ∙ c.cross_step.ensures.counts ∙ ap counts_of c.deref_mut.ensures.value))
-    c.self.invariant.counts
+    after_undo-on c.self.inside.table.keys c.cross_step.new.table.keys c.self.inside.table.routes c.cross_step.new.table.routes c.self.inside.cursor c.self.inside.steps.items c.cross_step.new.steps.items
+    (omega arith) c.self.invariant.played c.cross_step.ensures.keys c.cross_step.ensures.routes c.cross_step.ensures.steps c.cross_step.ensures.trail c.cross_step.ensures.clearings
 
 pub invariant_of-self : goal.invariant_of-self
-invariant_of-self g c =
-    let some : 0 < c.self.inside.cursor = omega arith in
-    record {
-      journal =
-          journal-sides_across c.self.inside.table.keys c.cross_step.new.table.keys (steps_of c.self.inside.steps.items) _ c.self.inside.table.routes (c.self.inside.cursor - 1) (c.self.inside.cursor - 1)
-          (omega (arith, c.self.invariant.journal.within)) (omega (arith, c.self.invariant.journal.within)) c.self.invariant.journal.kept c.cross_step.ensures.keys
-          (steps_left g (goal.at.invariant_of-self g c).After-cross_step);
-      counts = counts_then g (goal.at.invariant_of-self g c).After-cross_step;
-      held = held_then g (goal.at.invariant_of-self g c).After-cross_step;
-    }
+invariant_of-self g c = record {
+  played = (then g (goal.at.invariant_of-self g c).After-cross_step).1;
+  counted = omega (arith, c.self.invariant.counted, ap length c.cross_step.ensures.trail, length-map c.cross_step.new.steps.items step_marks, length-map c.self.inside.steps.items step_marks);
+}
 
 pub returns-clause-after_undo : goal.returns-clause-after_undo
-returns-clause-after_undo g c = then g (goal.at.returns-clause-after_undo g c).After-cross_step ∙ ap after_undo c.self.view_is
+returns-clause-after_undo g c =
+    let t = timeline_of c.self.inside.cursor (steps_of c.self.inside.steps.items) c.self.inside.table.routes in
+    ap (behind_forgotten c.self.inside.floor) (then g (goal.at.returns-clause-after_undo g c).After-cross_step).0
+    ∙ after_undo-behind c.self.inside.floor t refl (omega arith) ∙ ap after_undo c.self.view_is

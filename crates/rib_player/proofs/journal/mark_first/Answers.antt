@@ -1,0 +1,62 @@
+use Rattle.std.proofs.Common.{◌≡◌, ℕ, List, [], ◌<◌, ◌≤◌, false, length, take, set, ap, sym, ◌∙◌, arith}
+use Rattle.std.proofs.lemmas.List.{length-map, set-get_or, take_all}
+use Rattle.rib_player.specs.declared.pair.Pair.{Pair}
+use Rattle.rib_player.specs.Journal.{Mark, any_named, marked, marks_at, named_by, step_marks, step_sides, trail_of}
+use Rattle.rib_player.proofs.UnseenLaws.{marked-absent, marked_first-none, marked_first-at, any_named-at, any_named-more}
+use Rattle.rib_player.proofs.journal.mark_first.Goals as goal
+use Rattle.rib_player.proofs.journal.mark_first.Goals.{After-mark_in_step}
+
+-- there is a step at the index
+within : (c : After-mark_in_step) → c.steps.index < length (trail_of c.args.steps.now.items)
+within c = omega (arith, c.steps-test.true, c.len-index-end.ensures, c.args.steps.now.ok.0, length-map c.args.steps.now.items step_marks)
+
+-- its marks are those at first
+found : (c : After-mark_in_step) → c.mark_in_step.result ≡ named_by (marks_at (trail_of c.args.steps.now.items) c.steps.index) c.args.pair.now
+found c = c.mark_in_step.ensures.found ∙ ap (λ t. named_by (marks_at t c.steps.index) c.args.pair.now) c.steps.invariant.trail
+
+-- and are marked then
+trail_then : (c : After-mark_in_step) → trail_of c.mark_in_step.new.steps.items
+    ≡ set (trail_of c.args.steps.now.items) c.steps.index (marked c.args.pair.now (marks_at (trail_of c.args.steps.now.items) c.steps.index))
+trail_then c = c.mark_in_step.ensures.trail ∙ ap (λ t. set t c.steps.index (marked c.args.pair.now (marks_at t c.steps.index))) c.steps.invariant.trail
+
+pub mark_in_step-requires-clause-within : goal.mark_in_step-requires-clause-within
+mark_in_step-requires-clause-within c =
+    omega (arith, c.steps-test.true, c.len-index-end.ensures, c.args.steps.now.ok.0, ap length c.steps.invariant.steps, length-map c.steps.steps.items step_sides, length-map c.args.steps.now.items step_sides)
+
+pub returns-then-mark_in_step-clause-found : goal.returns-then-mark_in_step-clause-found
+returns-then-mark_in_step-clause-found c =
+    let b = (goal.at.returns-then-mark_in_step-clause-found c).After-mark_in_step in
+    sym (any_named-at c.args.pair.now (trail_of c.args.steps.now.items) c.steps.index (within b) (sym (found b) ∙ c.if-mark_in_step.true))
+
+pub returns-then-mark_in_step-clause-trail : goal.returns-then-mark_in_step-clause-trail
+returns-then-mark_in_step-clause-trail c =
+    let b = (goal.at.returns-then-mark_in_step-clause-trail c).After-mark_in_step in
+    trail_then b ∙ sym (marked_first-at c.args.pair.now (trail_of c.args.steps.now.items) c.steps.index (within b) c.steps.invariant.none (sym (found b) ∙ c.if-mark_in_step.true))
+
+pub steps-preserved : goal.steps-preserved
+steps-preserved c =
+    let b = (goal.at.steps-preserved c).After-mark_in_step in
+    let trail = trail_of c.args.steps.now.items in
+    let out : named_by (marks_at trail c.steps.index) c.args.pair.now ≡ false = sym (found b) ∙ c.if-mark_in_step.false in
+    record {
+      none = any_named-more c.args.pair.now trail c.steps.index (within b) c.steps.invariant.none out;
+      trail = trail_then b ∙ ap (set trail c.steps.index) (marked-absent c.args.pair.now (marks_at trail c.steps.index) out) ∙ set-get_or trail c.steps.index [];
+      steps = c.mark_in_step.ensures.steps ∙ c.steps.invariant.steps;
+      clearings = c.mark_in_step.ensures.clearings ∙ c.steps.invariant.clearings;
+    }
+
+-- no step names the pair
+none : (trail : List (List Mark)) (p : Pair) (i : ℕ) → length trail ≤ i → any_named (take i trail) p ≡ false → any_named trail p ≡ false
+none trail p i past out = ap (λ t. any_named t p) (sym (take_all i trail past)) ∙ out
+
+pub returns-clause-found : goal.returns-clause-found
+returns-clause-found c =
+    sym (none (trail_of c.args.steps.now.items) c.args.pair.now c.steps.index
+    (omega (arith, c.steps-test.false, c.len-index-end.ensures, c.args.steps.now.ok.0, length-map c.args.steps.now.items step_marks)) c.steps.invariant.none)
+
+pub returns-clause-trail : goal.returns-clause-trail
+returns-clause-trail c =
+    c.steps.invariant.trail
+    ∙ sym (marked_first-none c.args.pair.now (trail_of c.args.steps.now.items)
+    (none (trail_of c.args.steps.now.items) c.args.pair.now c.steps.index
+    (omega (arith, c.steps-test.false, c.len-index-end.ensures, c.args.steps.now.ok.0, length-map c.args.steps.now.items step_marks)) c.steps.invariant.none))
