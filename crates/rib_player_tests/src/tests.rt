@@ -2,6 +2,7 @@
 
 mod changes;
 mod counted;
+mod forgotten;
 mod generated;
 mod kept;
 mod lookups;
@@ -86,6 +87,8 @@ enum Call<'a> {
     Play(&'a [Say]),
     Undo,
     Redo,
+    /// Of the steps before the cursor but for so many.
+    Forget(u64),
     /// No call.
     Stay,
 }
@@ -94,6 +97,7 @@ enum Call<'a> {
 #[derive(Clone, Copy, Debug, PartialEq, Eq)]
 enum Answer {
     Dropped(u64),
+    Forgot(u64),
     Refused,
     Done,
     Nothing,
@@ -259,6 +263,7 @@ fn make_call<S: PrefixStore<Rc<Route>>>(
         Call::Play(items) => Ok(answer_to(player, &event(alloc, items)?)),
         Call::Undo => Ok(shift(player, true)),
         Call::Redo => Ok(shift(player, false)),
+        Call::Forget(keep) => Ok(Answer::Forgot(player.forget(keep))),
         Call::Stay => Ok(Answer::Nothing),
     }
 }

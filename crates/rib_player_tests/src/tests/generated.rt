@@ -23,7 +23,7 @@ type RefusingMapPlayer = Player<Refusing<MapStore<Rc<Route>>>>;
 type RefusingRadixPlayer = Player<Refusing<RadixStore<Rc<Route>>>>;
 
 /// How many calls are made.
-const CALLS: u32 = 1_000;
+const CALLS: u32 = 2_000;
 
 /// Numbers that look drawn (Knuth's generator for MMIX).
 #[derive(Drop)]
@@ -79,11 +79,12 @@ impl Drawn {
     }
 }
 
-/// How many calls were refused, dropped steps, or had no step to make.
+/// How many calls were refused, dropped steps, forgot some, or had no step to make.
 #[derive(Clone, Copy)]
 struct Tally {
     refused: u32,
     dropped: u32,
+    forgot: u32,
     nothing: u32,
 }
 
@@ -91,6 +92,7 @@ struct Tally {
 const NO_CALLS: Tally = Tally {
     refused: 0,
     dropped: 0,
+    forgot: 0,
     nothing: 0,
 };
 
@@ -99,11 +101,13 @@ impl Tally {
         let Tally {
             refused,
             dropped,
+            forgot,
             nothing,
         } = self;
         Tally {
             refused: refused.saturating_add(u32::from(answer == Answer::Refused)),
             dropped: dropped.saturating_add(u32::from(is_drop(answer))),
+            forgot: forgot.saturating_add(u32::from(has_forgotten(answer))),
             nothing: nothing.saturating_add(u32::from(answer == Answer::Nothing)),
         }
     }
@@ -113,6 +117,14 @@ impl Tally {
 fn is_drop(answer: Answer) -> bool {
     match answer {
         Answer::Dropped(steps) => steps > 0,
+        _ => false,
+    }
+}
+
+/// Whether steps were forgotten.
+fn has_forgotten(answer: Answer) -> bool {
+    match answer {
+        Answer::Forgot(steps) => steps > 0,
         _ => false,
     }
 }
@@ -138,6 +150,18 @@ fn shift_both<S: PrefixStore<Rc<Route>>>(
 ) -> Answer {
     let answer = shift(player, back);
     assert_eq!(rt; answer, plain.shift(back));
+    answer
+}
+
+/// Forgets the steps before the cursor but for so many on both, and asserts that they answer alike.
+fn forget_both<S: PrefixStore<Rc<Route>>>(
+    rt: &impl Abort,
+    player: &mut Player<S>,
+    plain: &mut Plain,
+    keep: u64,
+) -> Answer {
+    let answer = Answer::Forgot(player.forget(keep));
+    assert_eq!(rt; answer, plain.forget(keep));
     answer
 }
 
@@ -170,6 +194,7 @@ fn compare<S: PrefixStore<Rc<Route>> + HasNodes>(
     plain: &Plain,
 ) {
     assert_eq!(rt; player.at(), plain.at());
+    assert_eq!(rt; player.floor(), plain.floor());
     assert_eq!(rt; player.ahead(), plain.ahead());
     assert_eq!(rt; player.named(), plain.named());
     for &who in PEERS {
@@ -178,7 +203,8 @@ fn compare<S: PrefixStore<Rc<Route>> + HasNodes>(
 }
 
 /// Makes a drawn call on both, and asserts that they answer alike. Steps are undone more often than
-/// redone, so that there are few most of the time, and keys come and go.
+/// redone, and forgotten wherever the cursor stands, so that there are few most of the time, and
+/// keys come and go.
 fn make_drawn<S: PrefixStore<Rc<Route>>>(
     rt: &impl Abort,
     alloc: Global,
@@ -187,11 +213,14 @@ fn make_drawn<S: PrefixStore<Rc<Route>>>(
     drawn: &mut Drawn,
     time: u32,
 ) -> Result<Answer, Fail> {
-    let kind = drawn.below(8);
-    if kind < 3 {
-        play(rt, player, plain, drawn.event(alloc, time)?)
-    } else {
-        Ok(shift_both(rt, player, plain, kind < 7))
+    match drawn.below(12) {
+        0..=4 => play(rt, player, plain, drawn.event(alloc, time)?),
+        5..=8 => Ok(shift_both(rt, player, plain, true)),
+        9..=10 => Ok(shift_both(rt, player, plain, false)),
+        _ => {
+            let keep = drawn.below(7);
+            Ok(forget_both(rt, player, plain, u64::from(keep)))
+        }
     }
 }
 
@@ -221,6 +250,7 @@ fn answers_as_a_plain_one_does<S: PrefixStore<Rc<Route>> + HasNodes>(
     let tally = make_all(rt, alloc, player, &mut Plain::new(alloc))?;
     assert!(rt; tally.refused >= 20, "{} were refused", tally.refused);
     assert!(rt; tally.dropped >= 50, "{} dropped steps", tally.dropped);
+    assert!(rt; tally.forgot >= 50, "{} forgot steps", tally.forgot);
     assert!(rt; tally.nothing >= 20, "{} had no step", tally.nothing);
     Ok(())
 }

@@ -79,10 +79,10 @@ fn is_named_by(events: &[Event], number: usize, peer: &Peer, prefix: &Prefix) ->
     }
 }
 
-/// How many steps of these events name the pair.
-fn naming(events: &[Event], peer: &Peer, prefix: &Prefix) -> u64 {
+/// How many steps of these events name the pair, those before the floor left out.
+fn naming(events: &[Event], floor: usize, peer: &Peer, prefix: &Prefix) -> u64 {
     let mut found = 0u64;
-    for number in 0..events.len() {
+    for number in floor..events.len() {
         if is_named_by(events, number, peer, prefix) {
             found = found.saturating_add(1);
         }
@@ -100,11 +100,12 @@ fn is_refused(event: &Event) -> bool {
     false
 }
 
-/// Events, and how many of them stand before the cursor.
+/// Events, how many of them stand before the cursor, and how many of their steps were forgotten.
 #[derive(Drop)]
 pub(super) struct Plain {
     events: Vec<Event>,
     cursor: usize,
+    floor: usize,
 }
 
 impl Plain {
@@ -112,11 +113,16 @@ impl Plain {
         Plain {
             events: Vec::new(alloc),
             cursor: 0,
+            floor: 0,
         }
     }
 
     pub(super) fn at(&self) -> u64 {
         self.cursor as u64
+    }
+
+    pub(super) fn floor(&self) -> u64 {
+        self.floor as u64
     }
 
     pub(super) fn ahead(&self) -> u64 {
@@ -135,10 +141,18 @@ impl Plain {
         Ok(Answer::Dropped(dropped))
     }
 
+    /// Forgets the steps before the cursor but for so many.
+    pub(super) fn forget(&mut self, keep: u64) -> Answer {
+        let old = self.floor();
+        let floor = self.at().saturating_sub(keep).max(old);
+        self.floor = floor as usize;
+        Answer::Forgot(floor.saturating_sub(old))
+    }
+
     /// Makes the step back, or the one forth.
     pub(super) fn shift(&mut self, back: bool) -> Answer {
         let ended = if back {
-            self.cursor == 0
+            self.cursor == self.floor
         } else {
             self.ahead() == 0
         };
@@ -159,21 +173,21 @@ impl Plain {
         time_after(before, peer, prefix)
     }
 
-    /// How many pairs the steps name.
+    /// How many pairs the kept steps name.
     pub(super) fn named(&self) -> u64 {
         let mut named = 0u64;
         for &who in PEERS {
             for number in 0..PREFIXES {
-                let found = naming(&self.events, &peer_of(who), &prefix_at(number));
+                let found = naming(&self.events, self.floor, &peer_of(who), &prefix_at(number));
                 named = named.saturating_add(found);
             }
         }
         named
     }
 
-    /// Whether the pair has a route, or a step names it.
+    /// Whether the pair has a route, or a kept step names it.
     pub(super) fn is_wanted(&self, peer: &Peer, prefix: &Prefix) -> bool {
-        self.time_of(peer, prefix).is_some() || naming(&self.events, peer, prefix) > 0
+        self.time_of(peer, prefix).is_some() || naming(&self.events, self.floor, peer, prefix) > 0
     }
 
     /// How many prefixes are wanted for the peer, where there are any.

@@ -20,6 +20,8 @@ pub(super) type Timed = (&'static str, u32);
 pub(super) enum Seen {
     /// The steps before and after the cursor, and the pairs that steps name.
     Steps(u64, u64, u64),
+    /// How many steps were forgotten.
+    Floor(u64),
     /// How many keys the peer's store has, where there is one.
     Keys(Who, Option<u64>),
     /// The times of routes.
@@ -141,6 +143,7 @@ pub(super) fn assert_seen<S: PrefixStore<Rc<Route>>>(
 ) -> Result<(), Fail> {
     match seen {
         Seen::Steps(at, ahead, named) => assert_steps(rt, player, at, ahead, named),
+        Seen::Floor(floor) => assert_eq!(rt; player.floor(), floor),
         Seen::Keys(who, keys) => assert_eq!(rt; keys_of(player, &peer_of(who)), keys),
         Seen::Times(rows) => return assert_times(rt, player, rows),
         Seen::Walk(who, times) => return assert_walk(rt, player, who, times),

@@ -1,0 +1,226 @@
+//! Steps that are forgotten, and what stays of them.
+
+use super::seen::{Seen, TimeRow};
+use super::{
+    Answer, Call, RadixPlayer, Row, Say, Who, answer_to, event, follow_anew, keys_of, peer, shift,
+};
+use mrt_wire::Event;
+use std::process::Abort;
+use std::test::Fail;
+
+const ONE: &[Say] = &[Say::Announce(100)];
+
+const GONE: &[Say] = &[Say::Withdraw];
+
+const LOST: &[Say] = &[Say::State(6, 1)];
+
+const OTHER: &[Say] = &[Say::AnnounceOf(Who::Peer, "11.0.0.0/8", 7)];
+
+/// The loss of the session of a peer that has no routes.
+const OF_ANOTHER: &[Say] = &[Say::StateOf(Who::Neighbour, 6, 1)];
+
+const WITH_ROUTE: &[TimeRow] = &[(Who::Peer, "10.0.0.0/8", Some(100))];
+
+const WITHOUT_ROUTE: &[TimeRow] = &[(Who::Peer, "10.0.0.0/8", None)];
+
+/// A key goes whose pair only forgotten steps and a dropped one name.
+const KEY_GOES: &[Row] = &[
+    (Call::Play(ONE), Answer::Dropped(0), &[]),
+    (Call::Play(GONE), Answer::Dropped(0), &[]),
+    (
+        Call::Play(&[Say::Announce(102)]),
+        Answer::Dropped(0),
+        &[Seen::Steps(3, 0, 3), Seen::Floor(0)],
+    ),
+    (
+        Call::Forget(1),
+        Answer::Forgot(2),
+        &[
+            Seen::Steps(3, 0, 1),
+            Seen::Floor(2),
+            Seen::Keys(Who::Peer, Some(1)),
+        ],
+    ),
+    (
+        Call::Undo,
+        Answer::Done,
+        &[Seen::Steps(2, 1, 1), Seen::Times(WITHOUT_ROUTE)],
+    ),
+    (Call::Undo, Answer::Nothing, &[Seen::Steps(2, 1, 1)]),
+    (
+        Call::Play(OF_ANOTHER),
+        Answer::Dropped(1),
+        &[
+            Seen::Steps(3, 0, 0),
+            Seen::Floor(2),
+            Seen::Keys(Who::Peer, None),
+        ],
+    ),
+];
+
+/// A dropped step names a pair whose route a forgotten one brought: key and route stay.
+const ROUTE_STAYS: &[Row] = &[
+    (Call::Play(ONE), Answer::Dropped(0), &[]),
+    (
+        Call::Play(LOST),
+        Answer::Dropped(0),
+        &[Seen::Times(WITHOUT_ROUTE)],
+    ),
+    (
+        Call::Forget(1),
+        Answer::Forgot(1),
+        &[Seen::Steps(2, 0, 1), Seen::Floor(1)],
+    ),
+    (
+        Call::Undo,
+        Answer::Done,
+        &[Seen::Steps(1, 1, 1), Seen::Times(WITH_ROUTE)],
+    ),
+    (
+        Call::Play(OF_ANOTHER),
+        Answer::Dropped(1),
+        &[
+            Seen::Steps(2, 0, 0),
+            Seen::Keys(Who::Peer, Some(1)),
+            Seen::Times(WITH_ROUTE),
+        ],
+    ),
+];
+
+/// A route whose step was forgotten stays, and its key with it.
+const NO_STEP_LEFT: &[Row] = &[
+    (Call::Play(ONE), Answer::Dropped(0), &[]),
+    (
+        Call::Forget(0),
+        Answer::Forgot(1),
+        &[
+            Seen::Steps(1, 0, 0),
+            Seen::Floor(1),
+            Seen::Keys(Who::Peer, Some(1)),
+            Seen::Times(WITH_ROUTE),
+        ],
+    ),
+    (Call::Undo, Answer::Nothing, &[Seen::Steps(1, 0, 0)]),
+    (Call::Forget(0), Answer::Forgot(0), &[Seen::Floor(1)]),
+];
+
+/// A withdrawal that is forgotten takes the key, and where a step names the pair yet, ahead of the
+/// cursor too, that step has it.
+const STEPS_AHEAD: &[Row] = &[
+    (Call::Play(ONE), Answer::Dropped(0), &[]),
+    (Call::Play(GONE), Answer::Dropped(0), &[]),
+    (Call::Play(OTHER), Answer::Dropped(0), &[]),
+    (Call::Play(ONE), Answer::Dropped(0), &[]),
+    (Call::Undo, Answer::Done, &[]),
+    (
+        Call::Forget(0),
+        Answer::Forgot(3),
+        &[
+            Seen::Steps(3, 1, 1),
+            Seen::Floor(3),
+            Seen::Keys(Who::Peer, Some(2)),
+            Seen::Times(WITHOUT_ROUTE),
+        ],
+    ),
+    (
+        Call::Redo,
+        Answer::Done,
+        &[Seen::Steps(4, 0, 1), Seen::Times(WITH_ROUTE)],
+    ),
+    (Call::Undo, Answer::Done, &[]),
+    (
+        Call::Play(OF_ANOTHER),
+        Answer::Dropped(1),
+        &[Seen::Steps(4, 0, 0), Seen::Keys(Who::Peer, Some(1))],
+    ),
+];
+
+/// Nothing is forgotten where no step is too many.
+const NOTHING_TO_FORGET: &[Row] = &[
+    (
+        Call::Forget(0),
+        Answer::Forgot(0),
+        &[Seen::Steps(0, 0, 0), Seen::Floor(0)],
+    ),
+    (Call::Play(ONE), Answer::Dropped(0), &[]),
+    (Call::Play(GONE), Answer::Dropped(0), &[]),
+    (
+        Call::Forget(u64::MAX),
+        Answer::Forgot(0),
+        &[Seen::Steps(2, 0, 2), Seen::Floor(0)],
+    ),
+    (
+        Call::Forget(2),
+        Answer::Forgot(0),
+        &[Seen::Steps(2, 0, 2), Seen::Keys(Who::Peer, Some(1))],
+    ),
+    (Call::Undo, Answer::Done, &[]),
+    (
+        Call::Forget(1),
+        Answer::Forgot(0),
+        &[Seen::Steps(1, 1, 2), Seen::Floor(0)],
+    ),
+    (Call::Undo, Answer::Done, &[]),
+    (
+        Call::Forget(0),
+        Answer::Forgot(0),
+        &[Seen::Steps(0, 2, 2), Seen::Floor(0)],
+    ),
+];
+
+#[test]
+fn forgets_the_oldest_steps(rt: HostRuntime) -> Result<(), Fail> {
+    for rows in [
+        KEY_GOES,
+        ROUTE_STAYS,
+        NO_STEP_LEFT,
+        STEPS_AHEAD,
+        NOTHING_TO_FORGET,
+    ] {
+        follow_anew(&rt, rt.alloc(), rows)?;
+    }
+    Ok(())
+}
+
+/// How many events are played, and how many between two calls that forget.
+const EVENTS: u32 = 100_000;
+
+const BETWEEN: u32 = 100;
+
+/// Plays one of the two events as the next step, and forgets all but a hundred steps now and then.
+fn play_one(rt: &impl Abort, player: &mut RadixPlayer, events: &[Event; 2], number: u32) {
+    let event = if number % 2 == 0 {
+        &events[0]
+    } else {
+        &events[1]
+    };
+    assert_eq!(rt; answer_to(player, event), Answer::Dropped(0));
+    if (number + 1) % BETWEEN == 0 {
+        let forgot = if number < BETWEEN { 0 } else { BETWEEN };
+        assert_eq!(rt; player.forget(u64::from(BETWEEN)), u64::from(forgot));
+    }
+}
+
+/// As many steps as are kept, and the keys that a player has that never forgot.
+#[test]
+fn keeps_a_hundred_steps_of_many(rt: HostRuntime) -> Result<(), Fail> {
+    let alloc = rt.alloc();
+    let events = [event(alloc, ONE)?, event(alloc, GONE)?];
+    let mut player = RadixPlayer::new(alloc);
+    for number in 0..EVENTS {
+        play_one(&rt, &mut player, &events, number);
+    }
+    assert_eq!(rt; (player.at(), player.floor()), (100_000, 99_900));
+    assert_eq!(rt; player.named(), 100);
+    for _ in 0..BETWEEN {
+        assert_eq!(rt; shift(&mut player, true), Answer::Done);
+    }
+    assert_eq!(rt; shift(&mut player, true), Answer::Nothing);
+    assert_eq!(rt; keys_of(&player, &peer()), Some(1));
+    assert_eq!(rt;
+        answer_to(&mut player, &event(alloc, &[])?),
+        Answer::Dropped(100)
+    );
+    assert_eq!(rt; keys_of(&player, &peer()), None);
+    Ok(())
+}
