@@ -1,28 +1,28 @@
 -- Commands that are carried out.
-use Rattle.std.proofs.Common.{◌≡◌, inl, inr, ℕ, zero, suc, ◌+◌, ◌-◌, ◌<◌, ◌≤◌, ◌||◌, min, max, Bool, true, false, Result, Ok, Err, List, [], ◌∷◌, ◌++◌, length, take, drop, nat_lt, Option, refl, sym, ap, subst, ◌∙◌, arith, append-nil, length-append, take_at, drop_at}
+use Rattle.std.proofs.Common.{◌≡◌, inl, inr, ℕ, zero, suc, ◌+◌, ◌-◌, ◌<◌, ◌≤◌, ◌||◌, min, max, Bool, true, false, Result, Ok, Err, List, [], ◌∷◌, ◌++◌, length, take, drop, nat_lt, Option, refl, sym, ap, subst, ◌∙◌, arith, append-nil, length-append, length-drop, take_at, drop_at}
 use Rattle.std.proofs.lemmas.Bool.{cases_eq}
 use Rattle.std.proofs.lemmas.Bool.Decides.{nat_tests}
 use Rattle.std.proofs.lemmas.List.{take_all, drop_all}
 use Rattle.std.specs.Prelude.{codes}
-use Rattle.std.proofs.Math.Nat.{min-eq_left, min-eq_right, min-le_right, le-max_right, max-le}
+use Rattle.std.proofs.Math.Nat.{min-eq_left, min-eq_right, min-le_right, le-max_right, max-le, max-eq_left, max-eq_right}
 use Rattle.std.specs.Io.KnownBytes.{Appends}
 use Rattle.std.proofs.KnownBytes.{Appends-nil}
 use Rattle.mrt_wire.specs.declared.peer.Peer.{Peer}
 use Rattle.mrt_wire.specs.declared.event.Event.{Event}
 use Rattle.rib_player.specs.Tables.{Routes, table}
-use Rattle.rib_player.specs.Timeline.{Timeline, StandsFor, behind, ahead_of, current, after_play}
-use Rattle.rib_player.proofs.TimelineLaws.{StandsFor-current, StandsFor-end, StandsFor-after_play}
+use Rattle.rib_player.specs.Timeline.{Timeline, StandsFor, behind, ahead_of, end_of, current, after_play, forgettable, after_forget}
+use Rattle.rib_player.proofs.TimelineLaws.{StandsFor-current, StandsFor-end, StandsFor-after_play, StandsFor-after_forget}
 use Rattle.mrt_wire.specs.Results.{Finding}
 use Rattle.mrt_wire.specs.Place.{Place}
 use Rattle.bgpdump_tool.specs.declared.command.Command.{Command}
-use Rattle.bgpdump_tool.specs.declared.command.Command.TheVariants.{Next, Back, Goto, Position, Lose}
+use Rattle.bgpdump_tool.specs.declared.command.Command.TheVariants.{Next, Back, Goto, Position, Lose, Forget}
 use Rattle.bgpdump_lines.specs.declared.fault.WriteFault.{WriteFault}
 use Rattle.bgpdump_lines.specs.declared.fault.WriteFault.TheVariants as write
 use Rattle.bgpdump_lines.specs.declared.outcome.Outcome.{Outcome}
 use Rattle.bgpdump_lines.specs.Device.{AppendsFront}
 use Rattle.bgpdump_lines.specs.Ending.{write_outcome, outcome_result}
 use Rattle.bgpdump_lines.specs.Reports.{reports}
-use Rattle.bgpdump_tool.specs.Replies.{at_text, counted_text}
+use Rattle.bgpdump_tool.specs.Replies.{at_text, counted_text, forgot_text}
 use Rattle.bgpdump_tool.specs.State.{events, needed, loss}
 use Rattle.bgpdump_tool.specs.Meaning.{answer, advance, meaning, meets_end, faults_taken}
 use Rattle.bgpdump_tool.specs.Standing.{Standing, Scene, Taking, Stands, state_of, at_cursor, standing_on, IsOnward, HasRoom}
@@ -373,6 +373,33 @@ IsLed-lose peer from left s old u stands is =
       sym (λ i. counted_text (cursor i) (codes " dropped ") (ahead i)),
     )
 
+-- the floor stays, or rises to where so many steps are kept
+floor_raised : (floor cursor keep : ℕ) → floor + (cursor - floor - keep) ≡ max floor (cursor - keep)
+floor_raised floor cursor keep = elim (cases_eq (cursor - floor - keep) 0) [
+  | inl none ↦ omega (arith, none) ∙ sym (max-eq_left (omega (arith, none)))
+  | inr some ↦ omega (arith, some) ∙ sym (max-eq_right (omega (arith, some)))
+]
+
+-- `forget`
+pub IsLed-forget : (n : ℕ) (from : Place) (left : Option (List ℕ)) (s : Standing) (old : Scene) (u : Timeline) → Stands from left old s → u ≡ after_forget old.player n
+    → (led : IsLed (Forget n) from left s old (record old { player = u })) × (led.reply ≡ forgot_text u.cursor u.floor (forgettable old.player n))
+IsLed-forget n from left s old u stands is =
+    let raised : ℕ = max s.floor (s.cursor - n) in
+    let same : old.player.floor + forgettable old.player n ≡ raised = floor_raised old.player.floor old.player.cursor n ∙ (λ i. max (stands.floor i) (stands.cursor i - n)) in
+    let number : forgettable old.player n ≡ raised - s.floor = omega (arith, same, stands.floor) in
+    let cursor : u.cursor ≡ s.cursor = ap (λ x. x.cursor) is ∙ stands.cursor in
+    let floor : u.floor ≡ raised = ap (λ x. x.floor) is ∙ same in (
+      IsLed-still (Forget n) from left s (record s { floor = raised }) old u (forgot_text s.cursor raised (raised - s.floor)) refl refl
+          (record {
+            history = subst (λ x. StandsFor x s.history) (sym is) (StandsFor-after_forget old.player s.history n stands.history);
+            cursor = cursor;
+            floor = floor;
+            taking = stands.taking;
+          })
+          (λ more. refl),
+      sym (λ i. forgot_text (cursor i) (floor i) (number i)),
+    )
+
 -- by the answer
 pub Travels-goto : (k : ℕ) (from : Place) (left : Option (List ℕ)) (s : Standing) (old new : Scene) (result : Result Bool Outcome) → s.cursor ≤ k → Stands from left old s → OnwardDoes k from left s old new result
     → Travels (Goto k) from left s old new result
@@ -387,6 +414,14 @@ pub Carrying-back : (n : ℕ) (from : Place) (left : Option (List ℕ)) (s : Sta
 Carrying-back n from left s old u out out' result stands is put =
     let led = IsLed-back n from left s old u stands is in
     Carrying-replied (Back n) from left s old (record old { player = u }) out out' (at_text u.cursor false) result led.0 led.1 (PutsPart-put out out' (at_text u.cursor false) result put)
+
+pub Carrying-forget : (n : ℕ) (from : Place) (left : Option (List ℕ)) (s : Standing) (old : Scene) (u : Timeline) (out out' : Option (List ℕ)) (result : Result (Unit {0}) WriteFault) → Stands from left old s
+    → u ≡ after_forget old.player n → Puts out out' (forgot_text u.cursor u.floor (forgettable old.player n)) result
+    → CarryingDoes (Forget n) from left s old (record old { player = u }) out out' (outcome_result result)
+Carrying-forget n from left s old u out out' result stands is put =
+    let text : List ℕ = forgot_text u.cursor u.floor (forgettable old.player n) in
+    let led = IsLed-forget n from left s old u stands is in
+    Carrying-replied (Forget n) from left s old (record old { player = u }) out out' text result led.0 led.1 (PutsPart-put out out' text result put)
 
 -- nothing was played or written, for want of memory
 Carrying-refused : (command : Command) (from : Place) (left : Option (List ℕ)) (s : Standing) (old new : Scene) (out : Option (List ℕ)) (fault : WriteFault) → Stands from left old s → new ≡ old
@@ -420,3 +455,16 @@ Carrying-lose peer from left s old u out out' result stands (inr (fault, refused
 -- room for one step more
 pub HasRoom-more : (t : Timeline) (q : Place) (lost : ℕ) → HasRoom t q lost → HasRoom t q (lost + 1)
 HasRoom-more t q lost room = record { floor = room.floor; cursor = room.cursor; steps = omega (arith, room.steps); within = room.within; limit = room.limit }
+
+-- where steps were forgotten there is room too
+pub HasRoom-forget : (t u : Timeline) (keep : ℕ) (q : Place) (lost : ℕ) → u ≡ after_forget t keep → HasRoom t q lost → HasRoom u q lost
+HasRoom-forget t u keep q lost is room =
+    let few : forgettable t keep ≤ length t.steps = omega (arith, room.floor, room.cursor) in
+    let end : end_of (after_forget t keep) ≡ end_of t = omega (arith, few, length-drop (forgettable t keep) t.steps) in
+    subst (λ x. HasRoom x q lost) (sym is) (record {
+      floor = omega (arith, room.floor);
+      cursor = omega (arith, room.cursor, end);
+      steps = omega (arith, room.steps, end);
+      within = room.within;
+      limit = room.limit;
+    })

@@ -7,8 +7,8 @@ use Rattle.ip_prefix.proofs.Spelled.{one_address, one_prefix}
 use Rattle.mrt_wire.specs.declared.peer.Peer.{Peer}
 use Rattle.bgp_wire.specs.Reading.{IsNoSpelling}
 use Rattle.bgpdump_tool.specs.declared.command.Command.{Command}
-use Rattle.bgpdump_tool.specs.declared.command.Command.TheVariants.{Next, Back, Goto, Position, Peers, Table, Route, Lookup, Lose}
-use Rattle.bgpdump_tool.specs.Command.{SpellsDecimal, SpellsPeer, SpellsRepeated, SpellsOfPeer, SpellsSought, SpellsWords}
+use Rattle.bgpdump_tool.specs.declared.command.Command.TheVariants.{Next, Back, Goto, Position, Peers, Table, Route, Lookup, Lose, Forget}
+use Rattle.bgpdump_tool.specs.Command.{SpellsDecimal, SpellsPeer, SpellsRepeated, SpellsNumbered, SpellsOfPeer, SpellsSought, SpellsWords}
 
 -- ---- the name of a command
 
@@ -23,6 +23,7 @@ name_of (Table peer) = codes "table"
 name_of (Route peer prefix) = codes "route"
 name_of (Lookup peer address) = codes "lookup"
 name_of (Lose peer) = codes "lose"
+name_of (Forget n) = codes "forget"
 
 -- a number that tells the names apart
 abbrev mark : List ℕ → ℕ
@@ -39,6 +40,9 @@ named_repeated : (name : List ℕ) (n : ℕ) (ws : List (List ℕ)) → SpellsRe
 named_repeated name n ws (inl once) = ([], omega arith, once.1)
 named_repeated name n ws (inr times) = (times.0 ∷ [], omega arith, times.2)
 
+named_numbered : (name : List ℕ) (n : ℕ) (ws : List (List ℕ)) → SpellsNumbered name n ws → IsNamed name ws
+named_numbered name n ws h = (h.0 ∷ [], omega arith, h.2)
+
 named_of_peer : (name : List ℕ) (peer : Peer) (ws : List (List ℕ)) → SpellsOfPeer name peer ws → IsNamed name ws
 named_of_peer name peer ws h = (h.0 ∷ h.1 ∷ [], omega arith, h.3)
 
@@ -49,13 +53,14 @@ named_sought Spells name peer a ws h = (h.0 ∷ h.1 ∷ h.2 ∷ [], omega arith,
 named_words : (c : Command) (ws : List (List ℕ)) → SpellsWords c ws → IsNamed (name_of c) ws
 named_words (Next n) ws h = named_repeated (codes "next") n ws h
 named_words (Back n) ws h = named_repeated (codes "back") n ws h
-named_words (Goto n) ws h = (h.0 ∷ [], omega arith, h.2)
+named_words (Goto n) ws h = named_numbered (codes "goto") n ws h
 named_words Position ws h = ([], omega arith, h)
 named_words Peers ws h = ([], omega arith, h)
 named_words (Table peer) ws h = named_of_peer (codes "table") peer ws h
 named_words (Route peer prefix) ws h = named_sought SpellsPrefix (codes "route") peer prefix ws h
 named_words (Lookup peer address) ws h = named_sought SpellsAddress (codes "lookup") peer address ws h
 named_words (Lose peer) ws h = named_of_peer (codes "lose") peer ws h
+named_words (Forget n) ws h = named_numbered (codes "forget") n ws h
 
 same_first : (v w : List ℕ) (vs ws : List (List ℕ)) → v ∷ vs ≡ w ∷ ws → v ≡ w
 same_first v w vs ws e = cc
@@ -70,6 +75,9 @@ one_times name m n ws (inl once) (inl alone) = cc
 one_times name m n ws (inl once) (inr times) = absurd (cc (once.1, times.2))
 one_times name m n ws (inr times) (inl once) = absurd (cc (once.1, times.2))
 one_times name m n ws (inr times) (inr other) = one_decimal m n times.0 other.0 (cc (times.2, other.2)) times.1.1 other.1.1
+
+one_number : (name : List ℕ) (m n : ℕ) (ws : List (List ℕ)) → SpellsNumbered name m ws → SpellsNumbered name n ws → m ≡ n
+one_number name m n ws h k = one_decimal m n h.0 k.0 (cc (h.2, k.2)) h.1 k.1
 
 one_peer : (p q : Peer) (a b v w : List ℕ) → a ≡ b → v ≡ w → SpellsPeer a p v → SpellsPeer b q w → p ≡ q
 one_peer p q a b v w same equal h k =
@@ -91,11 +99,12 @@ one_sought Spells name p q a b ws one h k = (
 same_name : (a b : Command) (ws : List (List ℕ)) → name_of a ≡ name_of b → SpellsWords a ws → SpellsWords b ws → a ≡ b
 same_name (Next m) (Next n) ws e h k = ap Next (one_times (codes "next") m n ws h k)
 same_name (Back m) (Back n) ws e h k = ap Back (one_times (codes "back") m n ws h k)
-same_name (Goto m) (Goto n) ws e h k = ap Goto (one_decimal m n h.0 k.0 (cc (h.2, k.2)) h.1 k.1)
+same_name (Goto m) (Goto n) ws e h k = ap Goto (one_number (codes "goto") m n ws h k)
 same_name Position Position ws e h k = refl
 same_name Peers Peers ws e h k = refl
 same_name (Table p) (Table q) ws e h k = ap Table (one_of_peer (codes "table") p q ws h k)
 same_name (Lose p) (Lose q) ws e h k = ap Lose (one_of_peer (codes "lose") p q ws h k)
+same_name (Forget m) (Forget n) ws e h k = ap Forget (one_number (codes "forget") m n ws h k)
 same_name (Route p m) (Route q n) ws e h k =
     let same = one_sought SpellsPrefix (codes "route") p q m n ws one_prefix h k in
     λ i. Route (same.0 i) (same.1 i)
@@ -136,6 +145,7 @@ mark_some (Table peer) = omega arith
 mark_some (Route peer prefix) = omega arith
 mark_some (Lookup peer address) = omega arith
 mark_some (Lose peer) = omega arith
+mark_some (Forget n) = omega arith
 
 -- one empty word
 pub empty_word : (ws : List (List ℕ)) → ws ≡ [] ∷ [] → IsNoSpelling SpellsWords ws

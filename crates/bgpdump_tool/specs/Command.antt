@@ -4,7 +4,7 @@ use Rattle.std.specs.List.{slice_split}
 use Rattle.ip_prefix.specs.Spelling.{SpellsAddress, SpellsPrefix}
 use Rattle.mrt_wire.specs.declared.peer.Peer.{Peer}
 use Rattle.bgpdump_tool.specs.declared.command.Command.{Command}
-use Rattle.bgpdump_tool.specs.declared.command.Command.TheVariants.{Next, Back, Goto, Position, Peers, Table, Route, Lookup, Lose}
+use Rattle.bgpdump_tool.specs.declared.command.Command.TheVariants.{Next, Back, Goto, Position, Peers, Table, Route, Lookup, Lose, Forget}
 use Rattle.bgpdump_lines.specs.Lines.{space}
 
 -- what stands before the marks in a text, between them and behind them, empty pieces too
@@ -33,6 +33,10 @@ SpellsRepeated name n words =
     ((n ≡ 1) × (words ≡ name ∷ []))
     ⊎ ((times : List ℕ) × SpellsTimes n times × (words ≡ name ∷ times ∷ []))
 
+-- the name and a number
+abbrev pub SpellsNumbered : List ℕ → ℕ → List (List ℕ) → Type 0
+SpellsNumbered name n words = (number : List ℕ) × SpellsDecimal n number × (words ≡ name ∷ number ∷ [])
+
 -- the name and a peer
 abbrev pub SpellsOfPeer : List ℕ → Peer → List (List ℕ) → Type 0
 SpellsOfPeer name peer words =
@@ -48,13 +52,14 @@ SpellsSought Spells name peer value words =
 abbrev pub SpellsWords : Command → List (List ℕ) → Type 0
 SpellsWords (Next n) words = SpellsRepeated (codes "next") n words
 SpellsWords (Back n) words = SpellsRepeated (codes "back") n words
-SpellsWords (Goto n) words = (number : List ℕ) × SpellsDecimal n number × (words ≡ codes "goto" ∷ number ∷ [])
+SpellsWords (Goto n) words = SpellsNumbered (codes "goto") n words
 SpellsWords Position words = words ≡ codes "where" ∷ []
 SpellsWords Peers words = words ≡ codes "peers" ∷ []
 SpellsWords (Table peer) words = SpellsOfPeer (codes "table") peer words
 SpellsWords (Route peer prefix) words = SpellsSought SpellsPrefix (codes "route") peer prefix words
 SpellsWords (Lookup peer address) words = SpellsSought SpellsAddress (codes "lookup") peer address words
 SpellsWords (Lose peer) words = SpellsOfPeer (codes "lose") peer words
+SpellsWords (Forget n) words = SpellsNumbered (codes "forget") n words
 
 -- the line spells the command
 abbrev pub SpellsCommand : Command → List ℕ → Type 0

@@ -1,10 +1,10 @@
 -- What each command does to where the script stands, and its reply.
 use Rattle.std.specs.Prelude.{ℕ, ◌-◌, min, max, Bool, false, List, length, take, nat_lt, if◌then◌else◌, codes}
 use Rattle.bgpdump_tool.specs.declared.command.Command.{Command}
-use Rattle.bgpdump_tool.specs.declared.command.Command.TheVariants.{Next, Back, Goto, Position, Peers, Table, Route, Lookup, Lose}
+use Rattle.bgpdump_tool.specs.declared.command.Command.TheVariants.{Next, Back, Goto, Position, Peers, Table, Route, Lookup, Lose, Forget}
 use Rattle.bgpdump_lines.specs.Reports.{reports}
-use Rattle.bgpdump_tool.specs.State.{State, steps_ahead, steps_behind, routes_at, moved_to, gone_on, needed, loss, played}
-use Rattle.bgpdump_tool.specs.Replies.{at_text, counted_text, peers_text, table_text, route_text, best_text}
+use Rattle.bgpdump_tool.specs.State.{State, steps_ahead, steps_behind, routes_at, moved_to, gone_on, needed, loss, played, forgotten}
+use Rattle.bgpdump_tool.specs.Replies.{at_text, counted_text, forgot_text, peers_text, table_text, route_text, best_text}
 
 -- how many results a command wants, of which it takes all where fewer are left; where the script stands then; and the reply
 pub record Meaning : Type 0 where
@@ -29,6 +29,10 @@ advance over count s =
 abbrev pub replacement : State → State → Meaning
 replacement s t = record { wanted = 0; after = t; reply = counted_text t.cursor (codes " dropped ") (steps_ahead s) }
 
+-- events before the floor are forgotten
+abbrev pub forgetting : State → State → Meaning
+forgetting s t = record { wanted = 0; after = t; reply = forgot_text t.cursor t.floor (t.floor - s.floor) }
+
 abbrev pub meaning : Command → State → Meaning
 meaning (Next n) s = advance (min n (steps_ahead s)) (n - min n (steps_ahead s)) s
 meaning (Back n) s = retreat (s.cursor - min n (steps_behind s)) s
@@ -41,6 +45,7 @@ meaning (Table peer) s = answer (table_text (routes_at s) peer) s
 meaning (Route peer prefix) s = answer (route_text (routes_at s) peer prefix) s
 meaning (Lookup peer address) s = answer (best_text (routes_at s) peer address) s
 meaning (Lose peer) s = replacement s (played (loss peer) s)
+meaning (Forget n) s = forgetting s (forgotten n s)
 
 -- the command meets the end of the results
 abbrev pub meets_end : Command → State → Bool

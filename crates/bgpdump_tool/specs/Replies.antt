@@ -22,6 +22,11 @@ at_text position ended = codes "at " ++ (decimal position ++ ((if ended then cod
 abbrev pub counted_text : ℕ → List ℕ → ℕ → List ℕ
 counted_text position word number = codes "at " ++ (decimal position ++ (word ++ (decimal number ++ line_feed ∷ [])))
 
+-- `at`, the position, `floor`, the floor, `forgot`, and how many steps were forgotten
+abbrev pub forgot_text : ℕ → ℕ → ℕ → List ℕ
+forgot_text position floor number =
+    codes "at " ++ (decimal position ++ (codes " floor " ++ (decimal floor ++ (codes " forgot " ++ (decimal number ++ line_feed ∷ [])))))
+
 abbrev pub none_text : List ℕ
 none_text = codes "none" ++ line_feed ∷ []
 

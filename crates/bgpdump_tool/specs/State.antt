@@ -1,5 +1,5 @@
 -- Where a script stands, and where its moves lead.
-use Rattle.std.specs.Prelude.{ℕ, zero, suc, ◌+◌, ◌-◌, List, [], ◌∷◌, ◌++◌, length, take, drop, None}
+use Rattle.std.specs.Prelude.{ℕ, zero, suc, ◌+◌, ◌-◌, List, [], ◌∷◌, ◌++◌, length, take, drop, max, None}
 use Rattle.std.specs.List.{flat_map}
 use Rattle.mrt_wire.specs.declared.peer.Peer.{Peer}
 use Rattle.mrt_wire.specs.declared.event.Event.{Event}
@@ -67,3 +67,7 @@ loss peer = record { time = record { seconds = 0; micros = None }; tag = Bgp4mp;
 -- the events ahead are dropped, and this one comes in their place; the cursor stands behind it
 abbrev pub played : Event → State → State
 played event s = record s { history = take s.cursor s.history ++ event ∷ []; cursor = s.cursor + 1 }
+
+-- the oldest events can't be undone any more, so that at most so many can
+abbrev pub forgotten : ℕ → State → State
+forgotten keep s = record s { floor = max s.floor (s.cursor - keep) }

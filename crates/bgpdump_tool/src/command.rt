@@ -29,6 +29,8 @@ pub enum Command {
     Lookup(Peer, Addr),
     /// The session with a peer is lost.
     Lose(Peer),
+    /// The oldest steps are forgotten, until so many at most are left to go back over.
+    Forget(u32),
 }
 
 /// The command that the line spells. A line has no line feed here; an empty one spells none.
@@ -80,6 +82,9 @@ fn with_one(name: &[u8], word: &[u8]) -> Option<Command>
     } else if is(name, b"back") {
         let times = read_times(word)?;
         Some(Command::Back(times))
+    } else if is(name, b"forget") {
+        let keep = read_number(word)?;
+        Some(Command::Forget(keep))
     } else {
         None
     }

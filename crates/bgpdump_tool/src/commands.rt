@@ -1,6 +1,7 @@
 //! The commands of a script, carried out.
 
 mod back;
+mod forget;
 mod goto;
 mod lookup;
 mod lose;
@@ -59,6 +60,7 @@ pub(crate) fn carry_out<S: PrefixStore<Rc<Route>>, I: Input, O: Output, E: Outpu
         Command::Lose(peer) => {
             lose::lose(&mut session.player, session.alloc, peer, out, text)?;
         }
+        Command::Forget(keep) => forget::forget(&mut session.player, keep, out, text)?,
     }
     Ok(())
 }

@@ -2,7 +2,7 @@ use Rattle.std.proofs.Common.{refl, Ok, Err}
 use Rattle.std.proofs.lemmas.Result.{err_from_is_err_and}
 use Rattle.bgpdump_tool.specs.declared.command.Command.TheVariants.{Peers, Table, Route, Lookup}
 use Rattle.bgpdump_tool.specs.Replies.{peers_text, table_text, route_text, best_text}
-use Rattle.bgpdump_tool.proofs.CarryLaws.{PutsPart-put, HasRoom-more, Carrying-back, Carrying-position, Carrying-question, Carrying-lose}
+use Rattle.bgpdump_tool.proofs.CarryLaws.{PutsPart-put, HasRoom-more, HasRoom-forget, Carrying-back, Carrying-position, Carrying-question, Carrying-lose, Carrying-forget}
 use Rattle.bgpdump_tool.proofs.commands.carry_out.Goals as goal
 
 pub returns-in_err-next-in-Next-clause-room : goal.returns-in_err-next-in-Next-clause-room
@@ -101,3 +101,22 @@ pub returns-in_ok-lose-in-Lose-clause-carries_out :
     goal.returns-in_ok-lose-in-Lose-clause-carries_out
 returns-in_ok-lose-in-Lose-clause-carries_out g c = λ from left s stands.
     rw c.in-Lose.is (Carrying-lose c.in-Lose.peer from left s _ c.lose.new.player _ _ (Ok tt) stands c.in_ok-lose-in-Lose.ensures.loses)
+
+pub returns-in_err-forget-in-Forget-clause-room : goal.returns-in_err-forget-in-Forget-clause-room
+returns-in_err-forget-in-Forget-clause-room g c = λ lost room.
+    HasRoom-more _ _ lost (HasRoom-forget _ c.forget.new.player c.in-Forget.keep _ lost c.forget.ensures.player room)
+
+pub returns-in_ok-forget-in-Forget-clause-room : goal.returns-in_ok-forget-in-Forget-clause-room
+returns-in_ok-forget-in-Forget-clause-room g c = λ lost room.
+    HasRoom-more _ _ lost (HasRoom-forget _ c.forget.new.player c.in-Forget.keep _ lost c.forget.ensures.player room)
+
+pub returns-in_err-forget-in-Forget-clause-carries_out :
+    goal.returns-in_err-forget-in-Forget-clause-carries_out
+returns-in_err-forget-in-Forget-clause-carries_out g c = λ from left s stands.
+    let p = err_from_is_err_and c.from_residual-in_err-forget-in-Forget.result c.from_residual-in_err-forget-in-Forget.ensures.1 in
+    rw (c.in-Forget.is, p.1, p.2) (Carrying-forget c.in-Forget.keep from left s _ c.forget.new.player _ _ (Err c.in_err-forget-in-Forget.field-0.0) stands c.forget.ensures.player c.in_err-forget-in-Forget.ensures.text)
+
+pub returns-in_ok-forget-in-Forget-clause-carries_out :
+    goal.returns-in_ok-forget-in-Forget-clause-carries_out
+returns-in_ok-forget-in-Forget-clause-carries_out g c = λ from left s stands.
+    rw c.in-Forget.is (Carrying-forget c.in-Forget.keep from left s _ c.forget.new.player _ _ (Ok tt) stands c.forget.ensures.player c.in_ok-forget-in-Forget.ensures.text)

@@ -8,6 +8,6 @@ pub returns-clause-loses : goal.returns-clause-loses
 returns-clause-loses g c = inl (
   c.in_ok-dropped.ensures.played.0,
   subst (λ text. PutsPart (g.O.Output.written c.args.out.now) (g.O.Output.written c.write_counted.new.out) text c.write_counted.result)
-      (λ i. counted_text (c.at.ensures i) (codes " dropped ") (c.in_ok-dropped.ensures.played.1 i))
+      (λ i. counted_text (c.at.ensures.cursor i) (codes " dropped ") (c.in_ok-dropped.ensures.played.1 i))
       (PutsPart-put (g.O.Output.written c.args.out.now) (g.O.Output.written c.write_counted.new.out) _ c.write_counted.result c.write_counted.ensures.text),
 )

@@ -15,10 +15,10 @@ pub returns-in_err-write_position-clause-carries_out :
 returns-in_err-write_position-clause-carries_out g c = λ from left s stands.
     let p = err_from_is_err_and c.from_residual-in_err-write_position.result c.from_residual-in_err-write_position.ensures.1 in
     let led = IsLed-next c.args.count from left s _ _ c.in_ok-ended.ended (c.in_ok-ended.ensures.moves from left s stands) in
-    rw (p.1, p.2) (Carrying-replied (Next c.args.count) from left s _ _ _ _ _ (Err c.in_err-write_position.field-0.0) led.0 (led.1 ∙ ap (λ n. at_text n c.in_ok-ended.ended) (sym c.at.ensures))
+    rw (p.1, p.2) (Carrying-replied (Next c.args.count) from left s _ _ _ _ _ (Err c.in_err-write_position.field-0.0) led.0 (led.1 ∙ ap (λ n. at_text n c.in_ok-ended.ended) (sym c.at.ensures.cursor))
     (PutsPart-put _ _ _ (Err c.in_err-write_position.field-0.0) c.in_err-write_position.ensures.text))
 
 pub returns-clause-carries_out : goal.returns-clause-carries_out
 returns-clause-carries_out g c = λ from left s stands.
     let led = IsLed-next c.args.count from left s _ _ c.in_ok-ended.ended (c.in_ok-ended.ensures.moves from left s stands) in
-    Carrying-replied (Next c.args.count) from left s _ _ _ _ _ (Ok tt) led.0 (led.1 ∙ ap (λ n. at_text n c.in_ok-ended.ended) (sym c.at.ensures)) c.in_ok-write_position.ensures.text
+    Carrying-replied (Next c.args.count) from left s _ _ _ _ _ (Ok tt) led.0 (led.1 ∙ ap (λ n. at_text n c.in_ok-ended.ended) (sym c.at.ensures.cursor)) c.in_ok-write_position.ensures.text
