@@ -67,7 +67,8 @@ const OTHER_WORDS: &[&str] = &[
     "nex",
     "nextt",
     "forget",
-    "forget 1",
+    "forget 1 2",
+    "forge 1",
 ];
 
 /// Spaces in other places, and octets that belong to their words.
@@ -107,6 +108,9 @@ const OTHER_VALUES: &[&str] = &[
     "goto 4294967296",
     "goto 18446744073709551616",
     "goto 42949672950",
+    "forget 01",
+    "forget -1",
+    "forget 4294967296",
     "table 192.0.2.1 4294967296",
     "table 192.0.2.1 064500",
     "table 192.0.2.01 64500",
@@ -129,6 +133,8 @@ fn reads_moves(rt: HostRuntime) {
         ("goto 4294967295", Command::Goto(4_294_967_295)),
         ("where", Command::Position),
         ("peers", Command::Peers),
+        ("forget 0", Command::Forget(0)),
+        ("forget 4294967295", Command::Forget(4_294_967_295)),
     ] {
         assert_eq!(rt; read_command(line.as_bytes()), Some(want), "{line}");
     }

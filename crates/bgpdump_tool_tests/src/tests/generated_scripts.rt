@@ -13,7 +13,7 @@ use test_octets::{MULTICAST, octets_of};
 
 /// How many files there are, the lines of the script over each, and how many records one has at
 /// most.
-const FILES: u32 = 24;
+const FILES: u32 = 48;
 
 const LINES: u32 = 60;
 
@@ -90,7 +90,8 @@ impl Drawn {
     fn line(&mut self) -> Line {
         match self.below(20) {
             0..=5 => self.move_line(),
-            6..=16 => self.question(),
+            6..=15 => self.question(),
+            16 => Line::Forget(self.below(10)),
             17 => Line::Lose(self.peer()),
             18 => Line::Empty,
             _ => Line::Bad,
@@ -236,6 +237,8 @@ fn replies_as_a_plain_player_does(rt: HostRuntime) -> Result<(), Fail> {
         (" end\n", 100),
         (" dropped 0\n", 30),
         (" dropped 1\n", 5),
+        (" forgot 0\n", 20),
+        (" forgot 2\n", 5),
         ("|10.1.0.0/16|", 20),
         ("|2001:db8::/32|", 20),
     ] {

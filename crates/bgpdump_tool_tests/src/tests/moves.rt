@@ -1,4 +1,4 @@
-//! Scripts that go on, back and to positions, and that lose sessions.
+//! Scripts that go on, back and to positions, that lose sessions, and that forget steps.
 
 use super::playing::{
     ANNOUNCED, CUT, FIRST, INDEX, LOSS, NINE, OTHER_HOP, Record, Row, UNREAD, WIDE_0, assert_rows,
@@ -298,6 +298,53 @@ const LOSSES: &[Row] = &[
     ),
 ];
 
+/// Steps that are forgotten.
+const FORGOTTEN: &[Row] = &[
+    // They aren't gone back over; the steps ahead stay.
+    (
+        &[LOSS; 3],
+        "next 3\nback\nforget 1\nback 5\ngoto 0\nnext 2\n",
+        "at 3\nat 2\nat 2 floor 1 forgot 1\nat 1\nat 1\nat 3\n",
+        "",
+    ),
+    // Fewer steps than may be kept, and then all of them.
+    (
+        &[LOSS; 3],
+        "next 2\nforget 5\nforget 0\nback\nnext\nback 2\n",
+        "at 2\nat 2 floor 0 forgot 0\nat 2 floor 2 forgot 2\nat 2\nat 3\nat 2\n",
+        "",
+    ),
+    // A route that forgotten steps set and cleared is gone with the step that set it again.
+    (
+        &[
+            ANNOUNCED,
+            Record::Update(FIRST, 101, "080A", &[], ""),
+            Record::Update(FIRST, 102, "", &[NINE], "080A"),
+        ],
+        "next 3\nforget 1\nback\nlose 192.0.2.9 1\npeers\n",
+        "at 3\nat 3 floor 2 forgot 2\nat 2\nat 3 dropped 1\nnone\n",
+        "",
+    ),
+    // A route that a forgotten step set stays behind it, whatever comes of the step that cleared it.
+    (
+        &[ANNOUNCED, LOSS],
+        "next 2\nforget 1\nback\nroute 192.0.2.1 64500 10.0.0.0/8\nlose 192.0.2.9 1\n\
+         route 192.0.2.1 64500 10.0.0.0/8\n",
+        "at 2\nat 2 floor 1 forgot 1\nat 1\n\
+         RIB|100|B|192.0.2.1|64500|10.0.0.0/8|64500|IGP|192.0.2.9|0|0||NAG||\n\
+         at 2 dropped 1\n\
+         RIB|100|B|192.0.2.1|64500|10.0.0.0/8|64500|IGP|192.0.2.9|0|0||NAG||\n",
+        "",
+    ),
+    (
+        &[ANNOUNCED],
+        "next\nforget 0\nroute 192.0.2.1 64500 10.0.0.0/8\n",
+        "at 1\nat 1 floor 1 forgot 1\n\
+         RIB|100|B|192.0.2.1|64500|10.0.0.0/8|64500|IGP|192.0.2.9|0|0||NAG||\n",
+        "",
+    ),
+];
+
 #[test]
 fn goes_on_and_back(rt: HostRuntime) -> Result<(), Fail> {
     assert_rows(&rt, rt.alloc(), Stamp::Dump, STEPS)
@@ -316,4 +363,9 @@ fn goes_over_faulty_records(rt: HostRuntime) -> Result<(), Fail> {
 #[test]
 fn loses_sessions(rt: HostRuntime) -> Result<(), Fail> {
     assert_rows(&rt, rt.alloc(), Stamp::Dump, LOSSES)
+}
+
+#[test]
+fn forgets_steps(rt: HostRuntime) -> Result<(), Fail> {
+    assert_rows(&rt, rt.alloc(), Stamp::Dump, FORGOTTEN)
 }

@@ -99,6 +99,7 @@ pub(super) enum Line {
     Route(usize, usize),
     Lookup(usize, usize),
     Lose(usize),
+    Forget(usize),
     Empty,
     Bad,
 }
@@ -135,6 +136,7 @@ pub(super) fn line_text(alloc: Global, line: Line) -> Result<String, AllocError>
         Line::Route(peer, prefix) => route_line(alloc, peer, prefix),
         Line::Lookup(peer, address) => lookup_line(alloc, peer, address),
         Line::Lose(peer) => format!(in alloc; "lose {}\n", words_of(alloc, peer)?),
+        Line::Forget(kept) => format!(in alloc; "forget {kept}\n"),
         Line::Empty => String::from_str(alloc, "\n"),
         Line::Bad => String::from_str(alloc, "next 0\n"),
     }
@@ -160,8 +162,8 @@ fn time_said(said: Said, peer: usize, prefix: usize) -> Option<Option<u32>> {
     }
 }
 
-/// What a file gives and how much of that was taken, the steps and how many of them stand before
-/// the cursor, and what was written.
+/// What a file gives and how much of that was taken, the steps, how many of them stand before the
+/// cursor and how many of these were forgotten, and what was written.
 #[derive(Drop)]
 pub(super) struct Plain {
     alloc: Global,
@@ -169,6 +171,7 @@ pub(super) struct Plain {
     taken: usize,
     steps: Vec<Said>,
     cursor: usize,
+    floor: usize,
     pub(super) out: String,
     pub(super) err: String,
 }
@@ -181,6 +184,7 @@ impl Plain {
             taken: 0,
             steps: Vec::new(alloc),
             cursor: 0,
+            floor: 0,
             out: String::new(alloc),
             err: String::new(alloc),
         }
@@ -224,9 +228,17 @@ impl Plain {
         self.tell(false)
     }
 
+    fn back(&mut self, count: usize) -> Result<(), AllocError> {
+        self.cursor = self.cursor.saturating_sub(count).max(self.floor);
+        self.tell(false)
+    }
+
     /// The files are short, so that as many steps as are tried lead to the position or the end.
     fn goto(&mut self, position: usize) -> Result<(), AllocError> {
-        self.cursor = self.cursor.min(position);
+        if position < self.cursor {
+            self.cursor = position.max(self.floor);
+            return self.tell(false);
+        }
         for _ in 0..1_000u32 {
             if self.cursor == position {
                 return self.tell(false);
@@ -244,6 +256,17 @@ impl Plain {
         self.steps.push(Said::Loss(peer))?;
         self.cursor = self.steps.len();
         let reply = format!(in self.alloc; "at {} dropped {dropped}\n", self.cursor)?;
+        self.out.push_str(reply.as_str())
+    }
+
+    fn forget(&mut self, kept: usize) -> Result<(), AllocError> {
+        let floor = self.floor.max(self.cursor.saturating_sub(kept));
+        let forgotten = floor.saturating_sub(self.floor);
+        self.floor = floor;
+        let reply = format!(in self.alloc;
+            "at {} floor {floor} forgot {forgotten}\n",
+            self.cursor
+        )?;
         self.out.push_str(reply.as_str())
     }
 
@@ -338,10 +361,7 @@ impl Plain {
     pub(super) fn carry_out(&mut self, number: u32, line: Line) -> Result<(), AllocError> {
         match line {
             Line::Next(count) => self.next(count),
-            Line::Back(count) => {
-                self.cursor = self.cursor.saturating_sub(count);
-                self.tell(false)
-            }
+            Line::Back(count) => self.back(count),
             Line::Goto(position) => self.goto(position),
             Line::Position => self.position(),
             Line::Peers => self.peers(),
@@ -349,6 +369,7 @@ impl Plain {
             Line::Route(peer, prefix) => self.route(peer, prefix),
             Line::Lookup(peer, address) => self.lookup(peer, address),
             Line::Lose(peer) => self.lose(peer),
+            Line::Forget(kept) => self.forget(kept),
             Line::Empty => Ok(()),
             Line::Bad => {
                 let report = format!(in self.alloc;

@@ -70,7 +70,7 @@ const BAD_LINES: &[Row] = &[
     ),
     (
         &[LOSS],
-        "next\nforget 1\nwhere\n",
+        "next\nforge 1\nwhere\n",
         "at 1\nat 1 ahead 0\n",
         "bgpdump: script line 2: bad command\n",
     ),
