@@ -197,6 +197,7 @@ fn entries_of<S: PrefixStore<Rc<Route>>>(
             })?;
         }
     }
+    entries.shrink_to_fit();
     Ok(entries)
 }
 
