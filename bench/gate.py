@@ -3,9 +3,9 @@
 
     bench/gate.py [SECONDS]
 
-Each SECONDS (1) it looks at the prover's processes, by the crate and the kind of work that their
-words and folders tell, and at how long they have run; what a process does behind the last look is
-lost, a second or so each. Its own output follows that of `rt ci`, whose status it ends with.
+Each SECONDS (1) it looks at the prover's processes below that run, by the crate and the kind of work
+that their words and folders tell, and at how long they have run; what a process does behind the last
+look is lost, a second or so each. Its own output follows that of `rt ci`, whose status it ends with.
 """
 import collections
 import os
@@ -37,11 +37,23 @@ def work_of(pid):
     return crate, 'build' if '--crate-checked' in words else 'proof'
 
 
+def numbers_of(pid):
+    """What the system tells of a process behind its name: its state, its parent, and so on."""
+    with open(f'/proc/{pid}/stat') as it:
+        return it.read().rpartition(')')[2].split()
+
+
 def seconds_of(pid):
     """The processor time of a process itself, without that of its children."""
-    with open(f'/proc/{pid}/stat') as it:
-        fields = it.read().rpartition(')')[2].split()
+    fields = numbers_of(pid)
     return (int(fields[11]) + int(fields[12])) / TICKS
+
+
+def is_below(pid, root):
+    """Whether the process is the root's child, or a child's child, and so on."""
+    while pid not in ('0', '1', root):
+        pid = numbers_of(pid)[1]
+    return pid == root
 
 
 def stolen():
@@ -54,14 +66,14 @@ def stolen():
 class Looks:
     """What was seen of each process: its work, its processor time, and when it was seen."""
 
-    def __init__(self):
-        self.work, self.seconds, self.span = {}, {}, {}
+    def __init__(self, root):
+        self.root, self.work, self.seconds, self.span = str(root), {}, {}, {}
 
     def look(self, now):
         for pid in filter(str.isdigit, os.listdir('/proc')):
             try:
                 work = work_of(pid)
-                if work:
+                if work and is_below(pid, self.root):
                     self.work[pid] = work
                     self.seconds[pid] = seconds_of(pid)
                     first, _ = self.span.get(work, (now, now))
@@ -94,8 +106,9 @@ def table(looks, begun):
 
 def main():
     every = float(sys.argv[1]) if len(sys.argv) > 1 else 1.0
-    looks, begun, (stolen_before, all_before) = Looks(), time.time(), stolen()
+    begun, (stolen_before, all_before) = time.time(), stolen()
     run = subprocess.Popen(['rt', 'ci'], stdout=subprocess.PIPE, stderr=subprocess.STDOUT, text=True, errors='replace')
+    looks = Looks(run.pid)
 
     def follow():
         for line in run.stdout:
@@ -114,4 +127,5 @@ def main():
     sys.exit(run.returncode)
 
 
-main()
+if __name__ == '__main__':
+    main()
