@@ -4,9 +4,9 @@
     bench/forgetting.py PROGRAM
 
 First the same updates once, twice, four and eight times, with all steps kept and with the last
-thousand alone: processor time and peak memory. Then the updates once, with other numbers of steps
+hundred alone: processor time and peak memory. Then the updates once, with other numbers of steps
 between two calls that forget and of steps kept: processor time, and beside that with none forgotten.
-Of five runs the least time counts.
+Of three runs the least time counts.
 """
 import random
 import struct
@@ -16,10 +16,10 @@ from pathlib import Path
 
 from measure import TRANSITS, address, attribute, attributes, peak_memory, record, run
 
-MESSAGES, PEERS, PREFIXES = 150_000, 10, 20_000
+MESSAGES, PEERS, PREFIXES = 40_000, 10, 5_000
 
 # How many steps are played between two calls that forget, and how many are kept; None: all.
-ROUNDS = ((10_000, None), (10_000, 0), (1_000, None), (1_000, 1_000), (1_000, 10_000), (1_000, 100_000))
+ROUNDS = ((100, None), (100, 0), (100, 100), (1_000, None), (1_000, 0), (1_000, 1_000), (1_000, 10_000))
 
 
 def updates():
@@ -49,7 +49,7 @@ def script(steps, between, kept):
 
 
 def least_time(command):
-    return min(run(command) for _ in range(5))
+    return min(run(command) for _ in range(3))
 
 
 def main():
@@ -63,8 +63,8 @@ def main():
         print('times   steps kept   seconds   peak MiB')
         for times in (1, 2, 4, 8):
             path.write_bytes(once * times)
-            for kept in (None, 1_000):
-                steps.write_text(script(MESSAGES * times, 10_000, kept))
+            for kept in (None, 100):
+                steps.write_text(script(MESSAGES * times, 100, kept))
                 print('%5d   %10s   %7.3f   %8s' % (
                     times, 'all' if kept is None else kept, least_time(command), peak_memory(command)), flush=True)
         path.write_bytes(once)

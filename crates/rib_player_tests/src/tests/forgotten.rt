@@ -195,7 +195,7 @@ fn play_one(rt: &impl Abort, player: &mut RadixPlayer, events: &[Event; 2], numb
         &events[1]
     };
     assert_eq!(rt; answer_to(player, event), Answer::Dropped(0));
-    if (number + 1) % BETWEEN == 0 {
+    if number % BETWEEN == BETWEEN - 1 {
         let forgot = if number < BETWEEN { 0 } else { BETWEEN };
         assert_eq!(rt; player.forget(u64::from(BETWEEN)), u64::from(forgot));
     }
