@@ -20,11 +20,11 @@ length-tables_before (sides ∷ steps) routes =
     ∙ ap (λ n. n + 1) (length-tables_before steps (routes_across sides routes)) ∙ omega arith
 
 -- the tables before the cursor
-abbrev earlier : ℕ → List (List Side) → Routes → List Routes
+abbrev pub earlier : ℕ → List (List Side) → Routes → List Routes
 earlier cursor steps routes = tables_before (reverse (take cursor steps)) routes
 
 -- are as many as the cursor says
-length-earlier : (cursor : ℕ) (steps : List (List Side)) (routes : Routes) → cursor ≤ length steps → length (earlier cursor steps routes) ≡ cursor
+pub length-earlier : (cursor : ℕ) (steps : List (List Side)) (routes : Routes) → cursor ≤ length steps → length (earlier cursor steps routes) ≡ cursor
 length-earlier cursor steps routes within =
     length-tables_before (reverse (take cursor steps)) routes ∙ length-reverse (take cursor steps) ∙ length-take-le cursor steps within
 

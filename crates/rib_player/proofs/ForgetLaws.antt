@@ -1,16 +1,18 @@
 -- What forgetting the first step makes of a player.
-use Rattle.std.proofs.Common.{◌≡◌, ℕ, suc, ◌+◌, Bool, true, false, not, ◌||◌, is_some, None, List, [], ◌∷◌, ◌++◌, length, take, drop, reverse, slice_index_or, refl, sym, ap, subst, ◌∙◌, append_assoc, arith}
+use Rattle.std.proofs.Common.{◌≡◌, ℕ, suc, ◌+◌, Bool, true, false, not, ◌||◌, is_some, None, List, [], ◌∷◌, ◌++◌, length, map, take, drop, reverse, slice_index_or, refl, sym, ap, ap₂, subst, ◌∙◌, append_assoc, arith}
 use Rattle.std.specs.List.{AllByRecursion, list_any}
 use Rattle.std.specs.FinMap as finite
-use Rattle.std.proofs.lemmas.List.{take-map, reverse-append}
+use Rattle.std.specs.FinSet as set
+use Rattle.std.proofs.lemmas.List.{take-map, reverse-append, length-map}
 use Rattle.std.proofs.Math.Bool.{or-true, or-false}
 use Rattle.rib_player.specs.declared.pair.Pair.{Pair}
 use Rattle.rib_player.specs.declared.journal.Entry.{Entry}
 use Rattle.rib_player.specs.declared.journal.Step.{Step}
-use Rattle.rib_player.specs.Tables.{Routes}
+use Rattle.rib_player.specs.Tables.{Routes, Pairs}
 use Rattle.rib_player.specs.Store.{Contents}
 use Rattle.rib_player.specs.Timeline.{Timeline, routed_first, without_first}
-use Rattle.rib_player.specs.Journal.{Side, Mark, step_sides, step_marks, step_clearings, marks_of, clearings_of, clearings_by_step, steps_of, trail_of, routes_across, tables_before, tables_after, timeline_of, behind_forgotten, named_by, any_named, with_named, unseen_by, AreClearingsOf, AreCleared, AreHeld, IsKept, AreOrdered, IsPlayed, CanForget, ForgetsExact}
+use Rattle.rib_player.specs.Journal.{Side, Mark, pairs_in, step_sides, step_marks, step_clearings, marks_of, clearings_of, clearings_by_step, steps_of, trail_of, routes_across, tables_before, tables_after, timeline_of, behind_forgotten, named_by, any_named, with_named, unseen_by, AreClearingsOf, AreCleared, AreHeld, IsKept, AreOrdered, IsPlayed, CanForget, ForgetsExact}
+use Rattle.rib_player.proofs.CursorLaws.{length-earlier}
 use Rattle.rib_player.proofs.JournalLaws.{get-restored_elsewhere}
 use Rattle.rib_player.proofs.MarkLaws.{tied, tied_itself, pairs-same}
 use Rattle.rib_player.proofs.ClearLaws.{cleared-first}
@@ -147,3 +149,36 @@ forgotten-played n first steps steps' table table' played routes same clearings 
       cleared = subst (λ c. AreCleared c (drop 1 t'.tables)) (sym clearings) (subst (λ (p : Timeline). AreCleared (clearings_by_step steps) (drop 1 p.tables)) (sym alike) (clearings-split n first steps table played).1);
       held = held;
     }
+
+-- ---- all steps
+
+past : {A : Type 0} (front rest : List A) → drop (length front) (front ++ rest) ≡ rest
+past [] rest = refl
+past (x ∷ front) rest = past front rest
+
+none_left : {A : Type 0} (xs : List A) → drop (length xs) xs ≡ []
+none_left [] = refl
+none_left (x ∷ xs) = none_left xs
+
+-- the player whose steps are all forgotten, none of which is ahead
+pub timeline-all_forgotten : (floor cursor : ℕ) (steps : List (List Side)) (routes : Routes) → cursor ≡ length steps
+    → behind_forgotten (floor + cursor) (timeline_of 0 [] routes) ≡ without_first cursor (behind_forgotten floor (timeline_of cursor steps routes))
+timeline-all_forgotten floor cursor steps routes all =
+    let cursors : floor + cursor + 0 ≡ floor + cursor = omega arith in
+    let ahead : drop cursor steps ≡ [] = ap (λ n. drop n steps) all ∙ none_left steps in
+    let before : List Routes = tables_before (reverse (take cursor steps)) routes in
+    let count : cursor ≡ length before = sym (length-earlier cursor steps routes (omega (arith, all))) in
+    let tables : routes ∷ [] ≡ drop cursor (before ++ routes ∷ tables_after (drop cursor steps) routes) =
+    sym (ap₂ (λ n back. drop n (before ++ routes ∷ tables_after back routes)) count ahead ∙ past before (routes ∷ [])) in
+    let names : List Pairs = map (λ (sides : List Side). set.from_list (pairs_in sides)) steps in
+    let none : [] ≡ drop cursor names = sym (ap (λ n. drop n names) (all ∙ sym (length-map steps (λ (sides : List Side). set.from_list (pairs_in sides)))) ∙ none_left names) in
+    λ i. record { floor = floor + cursor; cursor = cursors i; tables = tables i; steps = none i }
+
+-- it wants the pairs that have a route
+pub all_forgotten-played : (keys : Pairs) (routes : Routes) (steps : List Step) → steps ≡ [] → ((q : Pair) → set.contains keys q ≡ is_some (finite.get routes q)) → IsPlayed keys routes 0 steps
+all_forgotten-played keys routes steps none held = subst (IsPlayed keys routes 0) (sym none) (record {
+  journal = record { within = omega arith; kept = tt };
+  ordered = tt;
+  cleared = tt;
+  held = record { first = tt; held = held };
+})

@@ -105,23 +105,29 @@ any-names q [] = refl
 any-names q (step ∷ steps) =
     ap₂ (λ a b. a || b) (contains-from_list pair_cmp_total (pairs_in (step_sides step)) q ∙ ap (list_any (tied q)) (sym (pairs-same step.entries.items))) (any-names q steps)
 
-pub held-wanted : (cursor : ℕ) (steps : List Step) (routes : Routes) (keys : Pairs) → cursor ≤ length (steps_of steps)
-    → AreHeld (routed_first (timeline_of cursor (steps_of steps) routes)) (trail_of steps) keys → keys ≡ wanted (timeline_of cursor (steps_of steps) routes)
-held-wanted cursor steps routes keys within held =
+-- the keys are the pairs that have a route at the cursor and those that a step names
+pub held-named : (cursor : ℕ) (steps : List Step) (routes : Routes) (keys : Pairs)
+    → AreHeld (routed_first (timeline_of cursor (steps_of steps) routes)) (trail_of steps) keys → (q : Pair) → set.contains keys q ≡ (is_some (finite.get routes q) || any_named (trail_of steps) q)
+held-named cursor steps routes keys held q =
     let t : Timeline = timeline_of cursor (steps_of steps) routes in
-    same_pairs keys (wanted t) (λ q.
     held.held q ∙ seen_after-any (routed_first t) (trail_of steps) q
-    ∙ at (any_named (trail_of steps) q) (routed_first t q) (is_some (finite.get routes q))
-    (λ e. ap is_some (first-route cursor steps routes q (part q e)))
-    ∙ ap₂ (λ a b. a || b) (ap (λ r. is_some (finite.get r q)) (sym (current-timeline cursor (steps_of steps) routes within))) (sym (any-names q steps))
-    ∙ sym (contains-wanted t q))
+    ∙ at (any_named (trail_of steps) q) (routed_first t q) (is_some (finite.get routes q)) (λ e. ap is_some (first-route cursor steps routes q (part e)))
   where
     at : (n a b : Bool) → (n ≡ false → a ≡ b) → (a || n) ≡ (b || n)
     at true a b same = or-true a ∙ sym (or-true b)
     at false a b same = ap (λ x. x || false) (same refl)
 
-    part : (q : Pair) → any_named (trail_of steps) q ≡ false → any_named (trail_of (take cursor steps)) q ≡ false
-    part q e = ap (λ t. any_named t q) (sym (take-map step_marks cursor steps)) ∙ any-take (λ marks. named_by marks q) cursor (trail_of steps) e
+    part : any_named (trail_of steps) q ≡ false → any_named (trail_of (take cursor steps)) q ≡ false
+    part e = ap (λ t. any_named t q) (sym (take-map step_marks cursor steps)) ∙ any-take (λ marks. named_by marks q) cursor (trail_of steps) e
+
+pub held-wanted : (cursor : ℕ) (steps : List Step) (routes : Routes) (keys : Pairs) → cursor ≤ length (steps_of steps)
+    → AreHeld (routed_first (timeline_of cursor (steps_of steps) routes)) (trail_of steps) keys → keys ≡ wanted (timeline_of cursor (steps_of steps) routes)
+held-wanted cursor steps routes keys within held =
+    let t : Timeline = timeline_of cursor (steps_of steps) routes in
+    same_pairs keys (wanted t) (λ q.
+    held-named cursor steps routes keys held q
+    ∙ ap₂ (λ a b. a || b) (ap (λ r. is_some (finite.get r q)) (sym (current-timeline cursor (steps_of steps) routes within))) (sym (any-names q steps))
+    ∙ sym (contains-wanted t q))
 
 -- what is held is held by a player that is elsewhere on the same steps
 pub held-same : (seen seen' : Pair → Bool) (trail trail' : List (List Mark)) (keys keys' : Pairs) → seen' ≡ seen → trail' ≡ trail → keys' ≡ keys → AreHeld seen trail keys → AreHeld seen' trail' keys'

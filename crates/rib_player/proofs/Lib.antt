@@ -17,5 +17,6 @@ pub mod CountLaws
 pub mod KeyLaws
 pub mod PlayedLaws
 pub mod UnseenLaws
+pub mod DigestLaws
 pub mod ForgetLaws
 pub mod FloorLaws

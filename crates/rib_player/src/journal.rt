@@ -1,14 +1,19 @@
 //! The steps that are kept, so that they can be undone and redone.
 
-ghost use Rattle.std.specs.Prelude.{◌≡◌, ◌<◌, ◌≤◌, [], ◌∷◌, ◌||◌, length, take, drop, set, OnOk, OnErr};
+ghost use Rattle.std.specs.Prelude.{◌≡◌, ◌<◌, ◌≤◌, [], ◌∷◌, ◌||◌, ◌&&◌, not, is_some, length, take, drop, set, OnOk, OnErr};
 ghost use Rattle.std.specs.List.{AllByRecursion, sum_by};
 ghost use Rattle.std.specs.VecDeque.{deque_len, deque_capacity};
+ghost use Rattle.std.specs.Ordering.{eq_by_cmp};
+ghost use Rattle.std.specs.FinMap as finite;
 ghost use Rattle.std.specs.FinSet as names;
 ghost use Rattle.rib_store.specs.Stored.{counted, AreAmong};
 ghost use Rattle.rib_player.specs.declared.pair.Pair.{Pair};
+ghost use Rattle.rib_player.specs.History.{pair_cmp};
 ghost use Rattle.rib_player.specs.Journal.{sides_of, sides_at, steps_of, routes_across, sides_across, IsKept, marks_of, trail_of, entry_count, named_by, marked, AreFirst, CanLeave, LeavesExact, AreDistinct, AreOrdered, IsPlayed, IsAdvanced};
 ghost use Rattle.rib_player.specs.Journal.{clearings_of, clearings_by_step, any_named, marks_at, marked_first, CanForget, ForgetsExact};
+ghost use Rattle.rib_player.specs.Digests.{AreDigestsOf};
 
+use crate::digest::{Digest, bits_of, next_place};
 use crate::pair::Pair;
 use crate::table::Table;
 use mrt_wire::Route;
@@ -219,17 +224,22 @@ fn mark_in_step(steps: &mut VecDeque<Step>, index: usize, pair: &Pair) -> bool
 }
 
 /// Marks the pair's entry in the first of the steps that names it, and answers whether one does.
-fn mark_first(steps: &mut VecDeque<Step>, pair: &Pair) -> bool
+/// Steps whose digest tells that they can't name it are passed by.
+fn mark_first(steps: &mut VecDeque<Step>, digests: &VecDeque<Digest>, pair: &Pair) -> bool
     requires ordered { AllByRecursion AreOrdered (steps_of steps.old.items) }
+    requires digests { AreDigestsOf digests.now.items (trail_of steps.old.items) }
     ensures found { result ≡ any_named (trail_of steps.old.items) pair.now }
     ensures trail { trail_of steps.new.items ≡ marked_first pair.now (trail_of steps.old.items) }
     ensures steps { steps_of steps.new.items ≡ steps_of steps.old.items }
     ensures clearings { clearings_by_step steps.new.items ≡ clearings_by_step steps.old.items }
 {
-    'steps: for index in 0..steps.len() {
-        if mark_in_step(steps, index, pair) {
+    let bits = bits_of(pair);
+    let mut place = next_place(digests, 0, bits);
+    'steps: while place < steps.len() {
+        if mark_in_step(steps, place, pair) {
             return true;
         }
+        place = next_place(digests, place + 1, bits);
     }
     false
 }
@@ -239,20 +249,63 @@ fn mark_first(steps: &mut VecDeque<Step>, pair: &Pair) -> bool
 pub(crate) fn forget_entries<S: PrefixStore<Rc<Route>>>(
     table: &mut Table<S>,
     steps: &mut VecDeque<Step>,
+    digests: &VecDeque<Digest>,
     forgotten: &[Entry],
 )
     requires distinct { AreDistinct (sides_of forgotten.now) }
     requires ordered { AllByRecursion AreOrdered (steps_of steps.old.items) }
+    requires digests { AreDigestsOf digests.now.items (trail_of steps.old.items) }
     requires exact { CanForget (clearings_of forgotten.now) (trail_of steps.old.items) table.old }
     ensures exact { ForgetsExact (clearings_of forgotten.now) (trail_of steps.old.items) table.old
         (trail_of steps.new.items) table.new }
     ensures routes { table.new.routes ≡ table.old.routes }
     ensures steps { steps_of steps.new.items ≡ steps_of steps.old.items }
     ensures clearings { clearings_by_step steps.new.items ≡ clearings_by_step steps.old.items }
+    ensures digests { AreDigestsOf digests.now.items (trail_of steps.new.items) }
 {
     'entries: for entry in forgotten {
-        if entry.clears && !mark_first(steps, &entry.pair) {
+        if entry.clears && !mark_first(steps, digests, &entry.pair) {
             table.discard(&entry.pair);
         }
+    }
+}
+
+/// Drops the key of a pair, where it is one, unless it has a route.
+fn drop_free_key<S: PrefixStore<Rc<Route>>>(table: &mut Table<S>, pair: &Pair)
+    ensures keys { (q : Pair) → names.contains table.new.keys q ≡ (names.contains table.old.keys q
+        && (is_some (finite.get table.old.routes q) || not (eq_by_cmp pair_cmp q pair.now))) }
+    ensures routes { table.new.routes ≡ table.old.routes }
+{
+    if table.route(pair).is_none() && table.has_key(pair) {
+        table.discard(pair);
+    }
+}
+
+/// Drops those keys of a step's pairs that have no route.
+fn drop_free_keys<S: PrefixStore<Rc<Route>>>(table: &mut Table<S>, forgotten: &[Entry])
+    ensures keys { (q : Pair) → names.contains table.new.keys q ≡ (names.contains table.old.keys q
+        && (is_some (finite.get table.old.routes q) || not (named_by (marks_of forgotten.now) q))) }
+    ensures routes { table.new.routes ≡ table.old.routes }
+{
+    'entries: for entry in forgotten {
+        drop_free_key(table, &entry.pair);
+    }
+}
+
+/// Forgets all steps, where each key has a route or is named by one of them: so just the keys with
+/// a route stay.
+pub(crate) fn forget_steps<S: PrefixStore<Rc<Route>>>(
+    table: &mut Table<S>,
+    steps: &mut VecDeque<Step>,
+)
+    requires { (q : Pair) → names.contains table.old.keys q
+        ≡ (is_some (finite.get table.old.routes q) || any_named (trail_of steps.old.items) q) }
+    ensures keys { (q : Pair) → names.contains table.new.keys q
+        ≡ is_some (finite.get table.old.routes q) }
+    ensures routes { table.new.routes ≡ table.old.routes }
+    ensures steps { steps.new.items ≡ [] }
+{
+    'steps: while let Some(step) = steps.pop_front() {
+        drop_free_keys(table, &step.entries);
     }
 }

@@ -2,6 +2,7 @@
 #![tactic(auto)]
 
 mod changes;
+mod digest;
 mod journal;
 mod laws;
 mod pair;

@@ -3,10 +3,11 @@
 ghost use Rattle.std.specs.Prelude.{◌≡◌, ◌<◌, ◌↔◌, IfOk, OnOk, OnErr, IsOk};
 ghost use Rattle.rib_store.specs.Stored.{counted};
 ghost use Rattle.rib_store.specs.declared.store.TheConstants.{GREATEST_COUNT};
-ghost use Rattle.rib_player.specs.Timeline.{fresh, ahead_of, end_of, current, wanted, named_count, after_play, after_undo, after_redo, without_first, forgettable, after_forget, IsWellFormed};
+ghost use Rattle.rib_player.specs.Timeline.{fresh, ahead_of, end_of, current, wanted, named_count, after_play, after_undo, after_redo, behind, without_first, forgettable, after_forget, IsWellFormed};
 
 use crate::changes::step_for;
-use crate::journal::{Step, advance, cross_step, forget_entries, named_total};
+use crate::digest::Digest;
+use crate::journal::{Step, advance, cross_step, forget_entries, forget_steps, named_total};
 use crate::table::Table;
 use mrt_wire::{Event, Route};
 use rib_store::PrefixStore;
@@ -37,6 +38,8 @@ pub struct Player<S: PrefixStore<Rc<Route>>> {
     table: Table<S>,
     /// The steps that are kept.
     steps: VecDeque<Step>,
+    /// What each of them names, in short. They stand apart, so that a search goes over them alone.
+    digests: VecDeque<Digest>,
     /// How many of them stand before the cursor.
     cursor: usize,
     /// How many were forgotten.
@@ -52,7 +55,8 @@ impl<S: PrefixStore<Rc<Route>>> Model for Player<S> {
 
     ghost use Rattle.std.specs.Prelude.{◌+◌, ◌≤◌, length};
     ghost use Rattle.rib_store.specs.declared.store.TheConstants.{GREATEST_COUNT};
-    ghost use Rattle.rib_player.specs.Journal.{timeline_of, behind_forgotten, steps_of, IsPlayed};
+    ghost use Rattle.rib_player.specs.Journal.{timeline_of, behind_forgotten, steps_of, trail_of, IsPlayed};
+    ghost use Rattle.rib_player.specs.Digests.{AreDigestsOf};
 
     ghost view = { λ a. behind_forgotten a.floor
         (timeline_of a.cursor (steps_of a.steps.items) a.table.routes) };
@@ -60,6 +64,7 @@ impl<S: PrefixStore<Rc<Route>>> Model for Player<S> {
     ghost invariant = { λ a. record {
       played : IsPlayed a.table.keys a.table.routes a.cursor a.steps.items;
       counted : a.floor + length a.steps.items ≤ GREATEST_COUNT;
+      digests : AreDigestsOf a.digests.items (trail_of a.steps.items);
     } };
 }
 
@@ -72,6 +77,7 @@ impl<S: PrefixStore<Rc<Route>>> Player<S> {
             alloc,
             table: Table::new(alloc),
             steps: VecDeque::new(alloc),
+            digests: VecDeque::new(alloc),
             cursor: 0,
             floor: 0,
         }
@@ -123,6 +129,7 @@ impl<S: PrefixStore<Rc<Route>>> Player<S> {
     {
         let mut entries = step_for(self.alloc, event, &self.table)?;
         self.steps.reserve(1)?;
+        self.digests.reserve(1)?;
         let dropped = self.steps.len() - self.cursor;
         advance(
             &mut self.table,
@@ -130,7 +137,10 @@ impl<S: PrefixStore<Rc<Route>>> Player<S> {
             self.cursor,
             entries.as_mut_slice(),
         )?;
+        let digest = Digest::of(&entries);
         self.steps.push_back_reserved(Step { entries });
+        self.digests.truncate(self.cursor);
+        self.digests.push_back_reserved(digest);
         self.cursor += 1;
         Ok(dropped as u64)
     }
@@ -169,10 +179,28 @@ impl<S: PrefixStore<Rc<Route>>> Player<S> {
         ensures { self.new ≡ without_first 1 self.old }
     {
         if let Some(step) = self.steps.pop_front() {
-            forget_entries(&mut self.table, &mut self.steps, &step.entries);
+            self.digests.pop_front();
+            forget_entries(
+                &mut self.table,
+                &mut self.steps,
+                &self.digests,
+                &step.entries,
+            );
             self.cursor -= 1;
             self.floor += 1;
         }
+    }
+
+    /// Forgets all steps, where none is ahead. A key is looked up for each pair that they name, and
+    /// nothing is searched.
+    fn forget_all(&mut self)
+        requires { self.old.cursor ≡ end_of self.old }
+        ensures { self.new ≡ without_first (behind self.old) self.old }
+    {
+        forget_steps(&mut self.table, &mut self.steps);
+        self.digests.clear();
+        self.floor += self.cursor as u64;
+        self.cursor = 0;
     }
 
     /// Forgets the oldest steps, so that at most so many are kept before the cursor, and answers
@@ -182,6 +210,10 @@ impl<S: PrefixStore<Rc<Route>>> Player<S> {
         ensures forgotten { result ≡ forgettable self.old keep }
     {
         let count = (self.cursor as u64).saturating_sub(keep);
+        if count == self.steps.len() as u64 {
+            self.forget_all();
+            return count;
+        }
         'steps: for _ in 0..count {
             self.forget_first();
         }

@@ -5,6 +5,8 @@ use Rattle.rib_player.specs.declared.pair.Pair.{Pair}
 use Rattle.rib_player.specs.declared.journal.Entry.{Entry}
 use Rattle.rib_player.specs.Journal.{Clearing, clearing_of, clearings_of, clearings_by_step, any_named, marks_of, named_by, trail_of, steps_of, without, unseen_by}
 use Rattle.octet_forms.proofs.Lists.{AllByRecursion-get_or}
+use Rattle.rib_player.specs.Digests.{AreDigestsOf}
+use Rattle.rib_player.proofs.DigestLaws.{digests-marked}
 use Rattle.rib_player.proofs.MarkLaws.{distinct-before}
 use Rattle.rib_player.proofs.KeyLaws.{held-same, seen_after-any}
 use Rattle.rib_player.proofs.UnseenLaws.{unsee-named, unsee-gone, any-marked, unseen_by-push, unseen_by-other}
@@ -66,6 +68,7 @@ entries-preserved g c =
             (unseen_then g b seen ∙ ap (λ f. cond f (without e.pair (unseen_by before seen)) (unseen_by before seen)) w.if-entry.true)
             (ap (λ s. trail_of s.items) w.steps-is ∙ w.mark_first.ensures.trail) (ap (λ t. t.keys) w.table-is)
             (unsee-gone (unseen_by before seen) e.pair trail keys w.discard.new.self.keys (sym w.mark_first.ensures.found ∙ w.if-not-mark_first.true) w.discard.ensures.keys (known.exact seen ex all));
+        digests = subst (AreDigestsOf c.args.digests.now.items) (sym (ap (λ s. trail_of s.items) w.steps-is ∙ w.mark_first.ensures.trail)) (digests-marked e.pair c.args.digests.now.items trail known.digests);
         names = λ q. ap (λ s. any_named (trail_of s.items) q) w.steps-is ∙ ap (λ t. any_named t q) w.mark_first.ensures.trail ∙ any-marked e.pair trail q ∙ known.names q;
         routes = ap (λ t. t.routes) w.table-is ∙ w.discard.ensures.routes ∙ known.routes;
         steps = ap (λ s. steps_of s.items) w.steps-is ∙ w.mark_first.ensures.steps ∙ known.steps;
@@ -77,6 +80,7 @@ entries-preserved g c =
               (unseen_then g b seen ∙ ap (λ f. cond f (without e.pair (unseen_by before seen)) (unseen_by before seen)) w'.if-entry.true)
               (ap (λ s. trail_of s.items) (w.steps-is ∙ w'.steps-is) ∙ w'.mark_first.ensures.trail) (ap (λ t. t.keys) w.table-is)
               (unsee-named (unseen_by before seen) e.pair trail keys (sym w'.mark_first.ensures.found ∙ w'.if-not-mark_first.false) (known.exact seen ex all));
+          digests = subst (AreDigestsOf c.args.digests.now.items) (sym (ap (λ s. trail_of s.items) (w.steps-is ∙ w'.steps-is) ∙ w'.mark_first.ensures.trail)) (digests-marked e.pair c.args.digests.now.items trail known.digests);
           names = λ q. ap (λ s. any_named (trail_of s.items) q) (w.steps-is ∙ w'.steps-is) ∙ ap (λ t. any_named t q) w'.mark_first.ensures.trail ∙ any-marked e.pair trail q ∙ known.names q;
           routes = ap (λ t. t.routes) w.table-is ∙ known.routes;
           steps = ap (λ s. steps_of s.items) (w.steps-is ∙ w'.steps-is) ∙ w'.mark_first.ensures.steps ∙ known.steps;
@@ -86,6 +90,7 @@ entries-preserved g c =
           exact = λ seen ex all. held-same (unseen_by before seen) _ _ _ keys _
               (unseen_then g b seen ∙ ap (λ f. cond f (without e.pair (unseen_by before seen)) (unseen_by before seen)) w'.if-entry.false)
               (ap (λ s. trail_of s.items) (w.steps-is ∙ w'.steps-is)) (ap (λ t. t.keys) w.table-is) (known.exact seen ex all);
+          digests = subst (AreDigestsOf c.args.digests.now.items) (sym (ap (λ s. trail_of s.items) (w.steps-is ∙ w'.steps-is))) known.digests;
           names = λ q. ap (λ s. any_named (trail_of s.items) q) (w.steps-is ∙ w'.steps-is) ∙ known.names q;
           routes = ap (λ t. t.routes) w.table-is ∙ known.routes;
           steps = ap (λ s. steps_of s.items) (w.steps-is ∙ w'.steps-is) ∙ known.steps;

@@ -1,12 +1,16 @@
-use Rattle.std.proofs.Common.{◌≡◌, false, take}
+use Rattle.std.proofs.Common.{◌≡◌, ◌-◌, ◌≤◌, false, length, take}
 use Rattle.rib_player.specs.Journal.{any_named, trail_of, steps_of, clearings_by_step}
 use Rattle.rib_player.proofs.journal.mark_first.Given as goal
 
 -- no step so far names the pair, and all is as it was
 abbrev pub invariant-steps : goal.invariant-steps
 invariant-steps l = record {
-  none : any_named (take l.index (trail_of l.fn.steps.items)) l.pair ≡ false;
+  within : l.place ≤ length l.digests.items;
+  none : any_named (take l.place (trail_of l.fn.steps.items)) l.pair ≡ false;
   trail : trail_of l.steps.items ≡ trail_of l.fn.steps.items;
   steps : steps_of l.steps.items ≡ steps_of l.fn.steps.items;
   clearings : clearings_by_step l.steps.items ≡ clearings_by_step l.fn.steps.items;
 }
+
+abbrev pub decreases-steps : goal.decreases-steps
+decreases-steps l = length l.digests.items - l.place

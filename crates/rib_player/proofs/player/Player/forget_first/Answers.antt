@@ -1,8 +1,11 @@
-use Rattle.std.proofs.Common.{◌≡◌, suc, ◌+◌, ◌-◌, ◌++◌, ◌∷◌, length, ap, ap₂, sym, subst, ◌∙◌, arith}
+use Rattle.std.proofs.Common.{◌≡◌, suc, ◌+◌, ◌-◌, ◌<◌, ◌++◌, ◌∷◌, Some, length, slice_index_or, ap, ap₂, sym, subst, ◌∙◌, arith}
 use Rattle.std.specs.Option.{option_to_list}
 use Rattle.std.proofs.lemmas.List.{length-map}
 use Rattle.rib_player.specs.Timeline.{without_first}
-use Rattle.rib_player.specs.Journal.{step_sides, step_clearings, clearings_of, steps_of, trail_of, timeline_of, behind_forgotten, IsPlayed, CanForget, ForgetsExact}
+use Rattle.rib_player.specs.Journal.{step_sides, step_marks, step_clearings, clearings_of, steps_of, trail_of, timeline_of, behind_forgotten, IsPlayed, CanForget, ForgetsExact}
+use Rattle.rib_player.specs.declared.digest.Digest.{Digest}
+use Rattle.rib_player.specs.Digests.{AreDigestsOf}
+use Rattle.rib_player.proofs.DigestLaws.{length-digests}
 use Rattle.rib_player.proofs.ForgetLaws.{can_forget, forgotten-played, timeline-forgotten}
 use Rattle.rib_player.proofs.player.Player.forget_first.Given.{Over}
 use Rattle.rib_player.proofs.player.Player.forget_first.Goals as goal
@@ -27,6 +30,20 @@ forget_entries-requires-clause-exact g c =
     subst (λ es. CanForget (clearings_of es) (trail_of c.pop_front.new.self.items) c.self.inside.table) (sym c.deref.ensures.value)
     (can_forget (c.self.inside.cursor - 1) c.in-Some.step c.pop_front.new.self.items c.self.inside.table (played g b))
 
+-- the digests that are left are those of the steps that are left
+digests : (g : Over) (c : After-deref g) → AreDigestsOf c.pop_front-in-Some.new.self.items (trail_of c.pop_front.new.self.items)
+digests g c =
+    let are : AreDigestsOf c.self.inside.digests.items (step_marks c.in-Some.step ∷ trail_of c.pop_front.new.self.items) =
+    subst (λ steps. AreDigestsOf c.self.inside.digests.items (trail_of steps)) (split g c) c.self.invariant.digests in
+    let some : 0 < length c.self.inside.digests.items = omega (arith, length-digests c.self.inside.digests.items _ are) in
+    let none : Digest = record { absent = 0 } in
+    let first = slice_index_or c.self.inside.digests.items 0 none in
+    let gone : c.pop_front-in-Some.result ≡ Some first = c.pop_front-in-Some.ensures.value none (omega (arith, some, c.self.inside.digests.ok.0)) in
+    (subst (λ digests. AreDigestsOf digests (step_marks c.in-Some.step ∷ trail_of c.pop_front.new.self.items)) (c.pop_front-in-Some.ensures.items ∙ ap (λ r. option_to_list r ++ c.pop_front-in-Some.new.self.items) gone) are).1
+
+pub forget_entries-requires-clause-digests : goal.forget_entries-requires-clause-digests
+forget_entries-requires-clause-digests g c = digests g (goal.at.forget_entries-requires-clause-digests g c).After-deref
+
 -- the keys are those that the steps that are left want
 exact : (g : Over) (c : After-forget_entries g) → ForgetsExact (step_clearings c.in-Some.step) (trail_of c.pop_front.new.self.items) c.self.inside.table (trail_of c.forget_entries.new.steps.items) c.forget_entries.new.table
 exact g c =
@@ -39,6 +56,7 @@ invariant_of-self g c =
       played = forgotten-played (c.self.inside.cursor - 1) c.in-Some.step c.pop_front.new.self.items c.forget_entries.new.steps.items c.self.inside.table c.forget_entries.new.table (played g b)
           c.forget_entries.ensures.routes c.forget_entries.ensures.steps c.forget_entries.ensures.clearings (exact g (goal.at.invariant_of-self g c).After-forget_entries);
       counted = omega (arith, c.self.invariant.counted, ap length (split g b), ap length c.forget_entries.ensures.steps, length-map c.forget_entries.new.steps.items step_sides, length-map c.pop_front.new.self.items step_sides);
+      digests = c.forget_entries.ensures.digests;
     }
 
 pub returns-in-Some : goal.returns-in-Some

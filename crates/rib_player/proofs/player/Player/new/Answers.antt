@@ -1,4 +1,6 @@
-use Rattle.std.proofs.Common.{ap, length, arith}
+use Rattle.std.proofs.Common.{[], ap, sym, subst, length, arith}
+use Rattle.rib_player.specs.Journal.{trail_of}
+use Rattle.rib_player.specs.Digests.{AreDigestsOf}
 use Rattle.rib_player.proofs.KeyLaws.{after_play-new}
 use Rattle.rib_player.proofs.player.Player.new.Goals as goal
 
@@ -6,4 +8,5 @@ pub invariant_of-result : goal.invariant_of-result
 invariant_of-result g c = record {
   played = after_play-new c.new.result.keys c.new.result.routes c.new-2.result.items (ap (λ s. s.keys) c.new.ensures) (ap (λ s. s.routes) c.new.ensures) c.new-2.ensures.items;
   counted = omega (arith, ap length c.new-2.ensures.items);
+  digests = subst (λ digests. AreDigestsOf digests (trail_of c.new-2.result.items)) (sym c.new-3.ensures.items) (subst (λ steps. AreDigestsOf [] (trail_of steps)) (sym c.new-2.ensures.items) tt);
 }

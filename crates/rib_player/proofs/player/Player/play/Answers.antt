@@ -1,17 +1,19 @@
-use Rattle.std.proofs.Common.{◌≡◌, ◌+◌, length, take, map, arith, refl, ap, sym, subst, ◌∙◌}
+use Rattle.std.proofs.Common.{◌≡◌, ◌+◌, ◌++◌, ◌∷◌, [], length, take, map, arith, refl, ap, ap₂, sym, subst, ◌∙◌}
 use Rattle.std.specs.Vec.{with_items}
-use Rattle.std.proofs.lemmas.List.{with_items_is, length_push, length-take-le, length-map}
+use Rattle.std.proofs.lemmas.List.{with_items_is, length_push, length-take-le, length-map, map-append, take-map}
 use Rattle.rib_player.specs.declared.journal.Step.{Step}
 use Rattle.rib_player.specs.Timeline.{after_play}
-use Rattle.rib_player.specs.Journal.{step_sides, sides_of, steps_of, timeline_of, behind_forgotten, clearings_of, clearing_then, IsAdvanced, IsPlayed}
+use Rattle.rib_player.specs.Journal.{step_sides, step_marks, sides_of, steps_of, trail_of, marks_of, timeline_of, behind_forgotten, clearings_of, clearing_then, IsAdvanced, IsPlayed}
+use Rattle.rib_player.specs.Digests.{IsDigestOf, AreDigestsOf}
+use Rattle.rib_player.proofs.DigestLaws.{digests-taken, digests-added}
 use Rattle.rib_player.proofs.KeyLaws.{after_play-on}
 use Rattle.rib_player.proofs.FloorLaws.{after_play-behind}
 use Rattle.rib_player.proofs.player.Player.play.Given.{Over}
 use Rattle.rib_player.proofs.player.Player.play.Goals as goal
-use Rattle.rib_player.proofs.player.Player.play.Goals.{After-push_back_reserved}
+use Rattle.rib_player.proofs.player.Player.play.Goals.{After-push_back_reserved, After-push_back_reserved-2}
 
 -- the event's step
-new : (g : Over) (c : After-push_back_reserved g) → Step
+abbrev new : (g : Over) (c : After-push_back_reserved g) → Step
 new g c = record { entries = with_items c.in_ok-entries.entries c.advance.new.entries }
 
 -- its entries tell whether their pairs have a route behind it
@@ -36,6 +38,21 @@ then g c =
     c.in_ok-advance.ensures.advanced))
     c.self.invariant.played.ordered c.self.invariant.played.cleared (clearings g c))
 
+-- the step's entries as they were crossed
+entries_then : (g : Over) (c : After-push_back_reserved g) → (new g c).entries.items ≡ c.advance.new.entries
+entries_then g c = with_items_is c.in_ok-entries.entries c.advance.new.entries (c.advance.auto.entries ∙ c.as_mut_slice.ensures.len)
+
+-- the steps' marks
+trail_then : (g : Over) (c : After-push_back_reserved g) → trail_of c.push_back_reserved.new.self.items ≡ take c.self.inside.cursor (trail_of c.self.inside.steps.items) ++ marks_of c.advance.new.entries ∷ []
+trail_then g c =
+    let left = c.in_ok-advance.ensures.advanced.left ∙ ap (take c.self.inside.cursor) c.reserve.ensures.items in
+    ap trail_of c.push_back_reserved.ensures.items ∙ map-append step_marks c.advance.new.steps.items (new g c ∷ [])
+    ∙ ap₂ (λ front es. front ++ marks_of es ∷ []) (ap trail_of left ∙ sym (take-map step_marks c.self.inside.cursor c.self.inside.steps.items)) (entries_then g c)
+
+-- the steps' digests
+digests_then : (g : Over) (c : After-push_back_reserved-2 g) → c.push_back_reserved-2.new.self.items ≡ take c.self.inside.cursor c.self.inside.digests.items ++ c.of-digest.result ∷ []
+digests_then g c = c.push_back_reserved-2.ensures.items ∙ ap (λ digests. digests ++ c.of-digest.result ∷ []) (c.truncate.ensures.items ∙ ap (take c.self.inside.cursor) c.reserve-2.ensures.items)
+
 pub invariant_of-self-2 : goal.invariant_of-self-2
 invariant_of-self-2 g c =
     let b = (goal.at.invariant_of-self-2 g c).After-push_back_reserved in
@@ -51,6 +68,10 @@ invariant_of-self-2 g c =
         ap length left,
         length-take-le c.self.inside.cursor c.self.inside.steps.items (omega (arith, c.self.invariant.played.journal.within, length-map c.self.inside.steps.items step_sides)),
       );
+      digests = subst (λ digests. AreDigestsOf digests (trail_of c.push_back_reserved.new.self.items)) (sym (digests_then g (goal.at.invariant_of-self-2 g c).After-push_back_reserved-2)) (subst (AreDigestsOf (take c.self.inside.cursor c.self.inside.digests.items ++ c.of-digest.result ∷ [])) (sym (trail_then g b))
+          (digests-added (take c.self.inside.cursor c.self.inside.digests.items) (take c.self.inside.cursor (trail_of c.self.inside.steps.items)) c.of-digest.result (marks_of c.advance.new.entries)
+          (digests-taken c.self.inside.cursor c.self.inside.digests.items (trail_of c.self.inside.steps.items) c.self.invariant.digests)
+          (subst (λ es. IsDigestOf c.of-digest.result (marks_of es)) (c.deref.ensures.value ∙ entries_then g b) c.of-digest.ensures)));
     }
 
 pub returns-clause-after_play : goal.returns-clause-after_play

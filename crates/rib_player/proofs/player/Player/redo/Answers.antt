@@ -1,9 +1,10 @@
-use Rattle.std.proofs.Common.{◌≡◌, ◌+◌, ◌<◌, List, length, refl, ap, ◌∙◌, arith}
+use Rattle.std.proofs.Common.{◌≡◌, ◌+◌, ◌<◌, List, length, refl, ap, sym, subst, ◌∙◌, arith}
 use Rattle.std.specs.FinSet.{from_list}
 use Rattle.std.proofs.lemmas.List.{length-map}
 use Rattle.rib_player.specs.History.{pair_cmp}
 use Rattle.rib_player.specs.Timeline.{after_redo}
 use Rattle.rib_player.specs.Journal.{Side, pairs_in, step_marks, step_sides, steps_of, timeline_of, behind_forgotten, IsPlayed}
+use Rattle.rib_player.specs.Digests.{AreDigestsOf}
 use Rattle.rib_player.proofs.PlayedLaws.{after_redo-on}
 use Rattle.rib_player.proofs.FloorLaws.{after_redo-behind}
 use Rattle.rib_player.proofs.player.Player.redo.Goals as goal
@@ -27,6 +28,7 @@ pub invariant_of-self : goal.invariant_of-self
 invariant_of-self g c = record {
   played = (then g (goal.at.invariant_of-self g c).After-cross_step).1;
   counted = omega (arith, c.self.invariant.counted, ap length c.cross_step.ensures.trail, length-map c.cross_step.new.steps.items step_marks, length-map c.self.inside.steps.items step_marks);
+  digests = subst (AreDigestsOf c.self.inside.digests.items) (sym c.cross_step.ensures.trail) c.self.invariant.digests;
 }
 
 pub returns-clause-after_redo : goal.returns-clause-after_redo

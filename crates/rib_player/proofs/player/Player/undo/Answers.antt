@@ -1,7 +1,8 @@
-use Rattle.std.proofs.Common.{◌≡◌, ◌-◌, length, refl, ap, ◌∙◌, arith}
+use Rattle.std.proofs.Common.{◌≡◌, ◌-◌, length, refl, ap, sym, subst, ◌∙◌, arith}
 use Rattle.std.proofs.lemmas.List.{length-map}
 use Rattle.rib_player.specs.Timeline.{after_undo}
 use Rattle.rib_player.specs.Journal.{step_marks, steps_of, timeline_of, behind_forgotten, IsPlayed}
+use Rattle.rib_player.specs.Digests.{AreDigestsOf}
 use Rattle.rib_player.proofs.PlayedLaws.{after_undo-on}
 use Rattle.rib_player.proofs.FloorLaws.{after_undo-behind}
 use Rattle.rib_player.proofs.player.Player.undo.Goals as goal
@@ -21,6 +22,7 @@ pub invariant_of-self : goal.invariant_of-self
 invariant_of-self g c = record {
   played = (then g (goal.at.invariant_of-self g c).After-cross_step).1;
   counted = omega (arith, c.self.invariant.counted, ap length c.cross_step.ensures.trail, length-map c.cross_step.new.steps.items step_marks, length-map c.self.inside.steps.items step_marks);
+  digests = subst (AreDigestsOf c.self.inside.digests.items) (sym c.cross_step.ensures.trail) c.self.invariant.digests;
 }
 
 pub returns-clause-after_undo : goal.returns-clause-after_undo
