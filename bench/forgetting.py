@@ -4,9 +4,9 @@
     bench/forgetting.py PROGRAM
 
 First the same updates once, twice, four and eight times, with all steps kept and with the last
-hundred alone: processor time and peak memory. Then the updates once, with other numbers of steps
-between two calls that forget and of steps kept: processor time, and beside that with none forgotten.
-Of three runs the least time counts.
+hundred alone: processor time and peak memory. Then the updates once, and eight times, with other
+numbers of steps between two calls that forget and of steps kept: processor time, and beside that with
+none forgotten. Of three runs the least time counts.
 """
 import random
 import struct
@@ -19,7 +19,11 @@ from measure import TRANSITS, address, attribute, attributes, peak_memory, recor
 MESSAGES, PEERS, PREFIXES = 40_000, 10, 5_000
 
 # How many steps are played between two calls that forget, and how many are kept; None: all.
-ROUNDS = ((100, None), (100, 0), (100, 100), (1_000, None), (1_000, 0), (1_000, 1_000), (1_000, 10_000))
+ROUNDS = ((100, None), (100, 0), (100, 100), (1_000, None), (1_000, 0), (1_000, 1_000), (1_000, 10_000),
+          (10_000, None), (10_000, 0))
+
+# The same over the updates eight times.
+LONG_ROUNDS = ((1_000, None), (1_000, 1_000), (1_000, 10_000), (1_000, 100_000))
 
 
 def updates():
@@ -67,15 +71,16 @@ def main():
                 steps.write_text(script(MESSAGES * times, 100, kept))
                 print('%5d   %10s   %7.3f   %8s' % (
                     times, 'all' if kept is None else kept, least_time(command), peak_memory(command)), flush=True)
-        path.write_bytes(once)
-        print('steps between   steps kept   seconds   ratio')
-        alone = {}
-        for between, kept in ROUNDS:
-            steps.write_text(script(MESSAGES, between, kept))
-            seconds = least_time(command)
-            alone.setdefault(between, seconds)
-            print('%13d   %10s   %7.3f   %5.2f' % (
-                between, 'all' if kept is None else kept, seconds, seconds / alone[between]), flush=True)
+        for times, rounds in ((1, ROUNDS), (8, LONG_ROUNDS)):
+            path.write_bytes(once * times)
+            print('times   steps between   steps kept   seconds   ratio')
+            alone = {}
+            for between, kept in rounds:
+                steps.write_text(script(MESSAGES * times, between, kept))
+                seconds = least_time(command)
+                alone.setdefault(between, seconds)
+                print('%5d   %13d   %10s   %7.3f   %5.2f' % (
+                    times, between, 'all' if kept is None else kept, seconds, seconds / alone[between]), flush=True)
 
 
 main()

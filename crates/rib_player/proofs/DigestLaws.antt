@@ -1,14 +1,11 @@
 -- A step whose digest tells so doesn't name the pair, and digests stay right.
-use Rattle.std.proofs.Common.{◌≡◌, ℕ, zero, suc, ◌+◌, ◌-◌, ◌^◌, ◌<◌, ◌≤◌, length, take, Bool, true, false, cond, ◌||◌, List, [], ◌∷◌, ◌++◌, slice_index_or, bit_and, eqb, refl, sym, ap, ap₂, subst, ◌∙◌, arith}
-use Rattle.std.specs.List.{list_any}
+use Rattle.std.proofs.Common.{◌≡◌, ℕ, zero, suc, ◌-◌, ◌^◌, ◌<◌, ◌≤◌, length, take, Bool, true, false, cond, ◌||◌, List, [], ◌∷◌, ◌++◌, bit_and, eqb, refl, sym, ap, ap₂, ◌∙◌, arith}
 use Rattle.std.proofs.lemmas.Bool.{or_parts, eqb-true, eq-eqb}
 use Rattle.std.proofs.lemmas.Nat.{and_comm, and_assoc, and-not, and_or_self}
-use Rattle.std.proofs.lemmas.List.{map-append}
-use Rattle.std.proofs.lemmas.List.Folds.{list_any-append}
 use Rattle.rib_player.specs.declared.pair.Pair.{Pair}
 use Rattle.rib_player.specs.declared.journal.Entry.{Entry}
 use Rattle.rib_player.specs.declared.digest.Digest.{Digest}
-use Rattle.rib_player.specs.Journal.{Mark, marks_of, marks_at, named_by, any_named, marked, marked_first}
+use Rattle.rib_player.specs.Journal.{Mark, marks_of, named_by, any_named, marked, marked_first}
 use Rattle.rib_player.specs.Digests.{bits_of, can_name, IsDigestOf, AreDigestsOf, ArePassed}
 use Rattle.rib_player.proofs.PairLaws.{same_pair}
 use Rattle.rib_player.proofs.MarkLaws.{tied, named_by-marked}

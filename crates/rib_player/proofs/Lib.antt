@@ -11,6 +11,7 @@ pub mod CursorLaws
 pub mod ChangesLaws
 pub mod ClearLaws
 pub mod EntryLaws
+pub mod LostLaws
 pub mod MarkLaws
 pub mod SearchLaws
 pub mod CountLaws

@@ -41,7 +41,7 @@ rise a b pair below = at (pair_cmp b pair) refl
     at Equal e = least (ap (pair_cmp a) (sym (pair_cmp-IsAntisymmetric b pair e)) ∙ below)
     at Greater e = omega (arith, greatest (pair_cmp a pair), ap ordering_index e)
 
-pair-at : (entries : List Entry) (i : ℕ) (d : Entry) → i < length entries → get_or (pairs_in (sides_of entries)) i d.pair ≡ (get_or entries i d).pair
+pub pair-at : (entries : List Entry) (i : ℕ) (d : Entry) → i < length entries → get_or (pairs_in (sides_of entries)) i d.pair ≡ (get_or entries i d).pair
 pair-at [] i d within = absurd (omega arith)
 pair-at (e ∷ entries) zero d within = refl
 pair-at (e ∷ entries) (suc i) d within = pair-at entries i d (omega arith)

@@ -262,6 +262,12 @@ pub store-routes : {S : Type 0} (routes : S → stored.Routes (Rc Route Global))
 store-routes routes stores all peer None is e = tt
 store-routes routes stores all peer (Some store) is e = λ n. get-found routes stores all (pair_of peer n) (Some store.now) is e
 
+-- a peer without a store has no route
+pub store-absent : {S : Type 0} (routes : S → stored.Routes (Rc Route Global)) (stores : Stores S) (all : Routes) (peer : Peer) (found : Option (Bor S)) → option_copied found ≡ store_at stores peer → routes_in routes stores ≡ all
+    → IfNone found ((n : Network) → finite.get all (pair_of peer n) ≡ None)
+store-absent routes stores all peer None is e = λ n. sym (get-found routes stores all (pair_of peer n) None is e)
+store-absent routes stores all peer (Some store) is e = tt
+
 -- a peer without a store has no best route
 pub longest-none : {S : Type 0} (routes : S → stored.Routes (Rc Route Global)) (stores : Stores S) (all : Routes) (peer : Peer) (address : Address) → None ≡ store_at stores peer → routes_in routes stores ≡ all
     → IsBest all peer address None
@@ -399,6 +405,23 @@ peer-pairs routes store peer q =
     at : (found : Option (Rc Route Global)) → is_some found ≡ is_some (option_map value_of found)
     at None = refl
     at (Some shared) = refl
+
+-- so they are those of a store that has the routes of the peer
+pub peer-named : (routes : stored.Routes (Rc Route Global)) (all : Routes) (peer : Peer) → ((n : Network) → option_map value_of (finite.get routes n) ≡ finite.get all (pair_of peer n))
+    → (q : Pair) → list_any (eq_by_cmp pair_cmp q) (map (pair_of peer) (finite.keys routes)) ≡ (same_peer q.peer peer && is_some (finite.get all q))
+peer-named routes all peer has q = peer-pairs (λ (r : stored.Routes (Rc Route Global)). r) routes peer q ∙ at (same_peer q.peer peer) refl
+  where
+    at : (b : Bool) → same_peer q.peer peer ≡ b → (b && is_some (option_map value_of (finite.get routes q.prefix))) ≡ (b && is_some (finite.get all q))
+    at true is = ap is_some (has q.prefix ∙ ap (λ p. finite.get all (pair_of p q.prefix)) (sym (one_peer q.peer peer is)))
+    at false is = refl
+
+-- and a peer without a route has none
+pub none-named : (all : Routes) (peer : Peer) → ((n : Network) → finite.get all (pair_of peer n) ≡ None) → (q : Pair) → false ≡ (same_peer q.peer peer && is_some (finite.get all q))
+none-named all peer none q = at (same_peer q.peer peer) refl
+  where
+    at : (b : Bool) → same_peer q.peer peer ≡ b → false ≡ (b && is_some (finite.get all q))
+    at true is = sym (ap is_some (ap (λ p. finite.get all (pair_of p q.prefix)) (one_peer q.peer peer is) ∙ none q.prefix))
+    at false is = refl
 
 pub none-and : (b : Bool) → false ≡ (b && false)
 none-and b = and-false b

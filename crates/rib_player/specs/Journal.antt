@@ -8,11 +8,13 @@ use Rattle.std.specs.FinSet.{contains, from_list}
 use Rattle.std.specs.declared.alloc.Global.{Global}
 use Rattle.std.specs.declared.rc.Rc.{Rc}
 use Rattle.rib_player.specs.declared.pair.Pair.{Pair}
+use Rattle.ip_prefix.specs.Network.{Network}
+use Rattle.mrt_wire.specs.declared.peer.Peer.{Peer}
 use Rattle.mrt_wire.specs.declared.event.Route.{Route}
 use Rattle.mrt_wire.specs.declared.event.Event.{Event}
 use Rattle.rib_player.specs.declared.journal.Entry.{Entry}
 use Rattle.rib_player.specs.declared.journal.Step.{Step}
-use Rattle.rib_player.specs.History.{pair_cmp}
+use Rattle.rib_player.specs.History.{pair_cmp, pair_of}
 use Rattle.rib_store.specs.Stored.{put}
 use Rattle.rib_player.specs.Tables.{Routes, Pairs, table_after, named_pairs}
 use Rattle.rib_player.specs.Store.{Contents, route_in}
@@ -62,6 +64,10 @@ timeline_of cursor steps routes = record {
   tables = tables_before (reverse (take cursor steps)) routes ++ routes ∷ tables_after (drop cursor steps) routes;
   steps = map (λ sides. from_list (pairs_in sides)) steps;
 }
+
+-- the side of a pair of a peer that has no route there
+abbrev pub cleared_side : Peer → Network → Side
+cleared_side peer prefix = (pair_of peer prefix, None)
 
 -- no pair stands twice
 abbrev pub AreDistinct : List Side → Type 0

@@ -1,7 +1,7 @@
 //! What an event does, pair by pair.
 
-ghost use Rattle.std.specs.Prelude.{◌≡◌, ◌||◌, ◌&&◌, IfOk, OnOk, OnErr, Some, true, false, is_some, if◌then◌else◌, map};
-ghost use Rattle.std.specs.List.{list_any, filter, IsDistinct};
+ghost use Rattle.std.specs.Prelude.{◌≡◌, ◌||◌, ◌&&◌, [], ◌∷◌, IfOk, IfSome, OnOk, OnErr, Some, None, true, false, is_some, if◌then◌else◌, map};
+ghost use Rattle.std.specs.List.{AllByRecursion, list_any, filter, IsDistinct};
 ghost use Rattle.std.specs.Map.{keys_of};
 ghost use Rattle.std.specs.Ordering.{eq_by_cmp};
 ghost use Rattle.std.specs.FinMap as finite;
@@ -11,7 +11,7 @@ ghost use Rattle.mrt_wire.specs.Peer.{peer_cmp};
 ghost use Rattle.rib_player.specs.History.{pair_cmp, Clear, where_true, item_effect, later, effect};
 ghost use Rattle.rib_player.specs.Store.{route_in, slot_at};
 ghost use Rattle.rib_player.specs.Changes.{noted_effect, found, is_lost, or_absent, effect_of};
-ghost use Rattle.rib_player.specs.Journal.{sides_of, slot_side, AreOrdered, IsStepFor, clearings_of, clearing_then};
+ghost use Rattle.rib_player.specs.Journal.{side_of, sides_of, pairs_in, cleared_side, slot_side, AreOrdered, IsStepFor, clearings_of, clearing_then};
 
 use crate::journal::Entry;
 use crate::pair::Pair;
@@ -56,6 +56,17 @@ impl Changes {
     {
         self.lost.insert(peer)?;
         Ok(())
+    }
+
+    /// The peer whose lost session is all that is noted, where it is that.
+    fn only_loss(&self) -> Option<Peer>
+        ensures { IfSome result (λ peer.
+            (self.now.routes.entries ≡ []) × (self.now.lost.keys ≡ peer ∷ [])) }
+    {
+        if !self.routes.is_empty() || self.lost.len() > 1 {
+            return None;
+        }
+        self.lost.first().copied()
     }
 
     /// Notes what the item does, which stands before all that are noted.
@@ -139,16 +150,75 @@ fn put_first(
     Ok(())
 }
 
-/// Notes that the pairs have no route any more, but for those that items name.
+/// The entry of a pair that has no route then.
+fn cleared(pair: Pair) -> Entry
+    ensures side { side_of result ≡ (pair, None) }
+    ensures clears { result.clears ≡ true }
+{
+    Entry {
+        pair,
+        other: None,
+        first: false,
+        clears: true,
+    }
+}
+
+/// The entries of those pairs of a peer that have a route in its store, and none then.
+fn cleared_in<S: PrefixStore<Rc<Route>>>(
+    alloc: Global,
+    store: &S,
+    peer: &Peer,
+) -> Result<Vec<Entry>, AllocError>
+    ensures sides { IfOk result (λ entries. sides_of entries.items
+        ≡ map (cleared_side peer.now) (finite.keys (S.routes store.now))) }
+    ensures clearings { IfOk result (λ entries.
+        clearings_of entries.items ≡ map clearing_then (sides_of entries.items)) }
+{
+    let mut entries = Vec::with_capacity(alloc, store.route_count() as usize)?;
+    let mut last = None;
+    'routes: while let Some(found) = store.after(last.as_ref()) {
+        let pair = Pair {
+            peer: *peer,
+            prefix: found.0,
+        };
+        entries.push(cleared(pair))?;
+        last = Some(found.0);
+    }
+    Ok(entries)
+}
+
+/// The entries of all pairs of a peer that have a route, and none then.
+fn lost_entries<S: PrefixStore<Rc<Route>>>(
+    alloc: Global,
+    peer: &Peer,
+    table: &Table<S>,
+) -> Result<Vec<Entry>, AllocError>
+    ensures named { IfOk result (λ entries. (q : Pair) →
+        list_any (eq_by_cmp pair_cmp q) (pairs_in (sides_of entries.items))
+        ≡ (eq_by_cmp peer_cmp q.peer peer.now && is_some (finite.get table.now.routes q))) }
+    ensures absent { IfOk result (λ entries.
+        AllByRecursion (λ side. side.1 ≡ None) (sides_of entries.items)) }
+    ensures ordered { IfOk result (λ entries. AreOrdered (sides_of entries.items)) }
+    ensures clearings { IfOk result (λ entries.
+        clearings_of entries.items ≡ map clearing_then (sides_of entries.items)) }
+{
+    match table.store(peer) {
+        Some(store) => cleared_in(alloc, store, peer),
+        None => Ok(Vec::new(alloc)),
+    }
+}
+
+/// Notes that the entries' pairs have no route any more, but for those that items name.
 fn note_absent(
     routes: &mut BTreeMap<Pair, Option<Rc<Route>>>,
-    pairs: &[Pair],
+    entries: &[Entry],
 ) -> Result<(), AllocError>
     ensures { OnOk result ((q : Pair) → found routes.new.entries q
-        ≡ or_absent (found routes.old.entries q) (list_any (eq_by_cmp pair_cmp q) pairs.now)) }
+        ≡ or_absent (found routes.old.entries q)
+        (list_any (eq_by_cmp pair_cmp q) (pairs_in (sides_of entries.now)))) }
 {
-    'pairs: for pair in pairs {
-        put_first(routes, pair, None)?;
+    'entries: for entry in entries {
+        put_first(routes, &entry.pair, None)?;
     }
     Ok(())
 }
@@ -165,8 +235,8 @@ fn routes_then<S: PrefixStore<Rc<Route>>>(
 {
     let Changes { mut routes, lost } = changes;
     'peers: for peer in lost {
-        let pairs = table.pairs_of(alloc, &peer)?;
-        note_absent(&mut routes, &pairs)?;
+        let entries = lost_entries(alloc, &peer, table)?;
+        note_absent(&mut routes, &entries)?;
     }
     Ok(routes)
 }
@@ -201,7 +271,8 @@ fn entries_of<S: PrefixStore<Rc<Route>>>(
     Ok(entries)
 }
 
-/// The entries of the event's step over a table.
+/// The entries of the event's step over a table. Those of a lost session alone, which may be many,
+/// are walked from its store, and stand nowhere else.
 pub(crate) fn step_for<S: PrefixStore<Rc<Route>>>(
     alloc: Global,
     event: &Event,
@@ -213,6 +284,9 @@ pub(crate) fn step_for<S: PrefixStore<Rc<Route>>>(
         clearings_of entries.items ≡ map clearing_then (sides_of entries.items)) }
 {
     let changes = changes_of(alloc, event)?;
+    if let Some(peer) = changes.only_loss() {
+        return lost_entries(alloc, &peer, table);
+    }
     let routes = routes_then(alloc, changes, table)?;
     entries_of(alloc, routes, table)
 }

@@ -175,19 +175,10 @@ impl<S: PrefixStore<Rc<Route>>> Table<S> {
         ensures some { IfSome result (λ store. 0 < set.len (S.keys store.now)) }
         ensures none { IfNone result ((n : Network) →
             set.contains self.now.keys (pair_of peer.now n) ≡ false) }
+        ensures absent { IfNone result ((n : Network) →
+            finite.get self.now.routes (pair_of peer.now n) ≡ None) }
     {
         self.stores.get(peer)
-    }
-
-    /// The pairs of the peer that have a route.
-    pub(crate) fn pairs_of(&self, alloc: Global, peer: &Peer) -> Result<Vec<Pair>, AllocError>
-        ensures { IfOk result (λ pairs. (q : Pair) → list_any (eq_by_cmp pair_cmp q) pairs.items
-            ≡ (eq_by_cmp peer_cmp q.peer peer.now && is_some (finite.get self.now.routes q))) }
-    {
-        match self.stores.get(peer) {
-            Some(store) => pairs_in(alloc, store, peer),
-            None => Ok(Vec::new(alloc)),
-        }
     }
 }
 
@@ -213,28 +204,6 @@ fn store_with<S: PrefixStore<Rc<Route>>>(alloc: Global, prefix: Prefix) -> Resul
     let mut store = S::new(alloc);
     store.ensure(prefix)?;
     Ok(store)
-}
-
-/// The pairs of a peer whose prefix has a route in the store.
-fn pairs_in<S: PrefixStore<Rc<Route>>>(
-    alloc: Global,
-    store: &S,
-    peer: &Peer,
-) -> Result<Vec<Pair>, AllocError>
-    ensures { IfOk result (λ pairs. pairs.items
-        ≡ map (λ n. pair_of peer.now n) (finite.keys (S.routes store.now))) }
-{
-    let mut pairs = Vec::new(alloc);
-    let mut last = None;
-    'routes: while let Some(found) = store.after(last.as_ref()) {
-        let pair = Pair {
-            peer: *peer,
-            prefix: found.0,
-        };
-        pairs.push(pair)?;
-        last = Some(found.0);
-    }
-    Ok(pairs)
 }
 
 /// Drops the peer's store.

@@ -2,9 +2,11 @@
 
 use super::seen::{Seen, TimeRow};
 use super::{
-    Answer, Call, RadixPlayer, Row, Say, Who, answer_to, event, follow_anew, keys_of, peer, shift,
+    Answer, Call, RadixPlayer, Row, Say, Who, announcement, answer_to, event, event_of,
+    follow_anew, keys_of, numbered, peer, shift,
 };
-use mrt_wire::Event;
+use mrt_wire::{Event, Item};
+use std::alloc::Global;
 use std::process::Abort;
 use std::test::Fail;
 
@@ -104,6 +106,29 @@ const NO_STEP_LEFT: &[Row] = &[
     (Call::Forget(0), Answer::Forgot(0), &[Seen::Floor(1)]),
 ];
 
+/// A pair that two of the forgotten steps left without a route, and one that has a route.
+const WITHDRAWN_TWICE: &[Row] = &[
+    (Call::Play(ONE), Answer::Dropped(0), &[]),
+    (Call::Play(GONE), Answer::Dropped(0), &[]),
+    (Call::Play(ONE), Answer::Dropped(0), &[]),
+    (Call::Play(OTHER), Answer::Dropped(0), &[]),
+    (
+        Call::Play(GONE),
+        Answer::Dropped(0),
+        &[Seen::Steps(5, 0, 5), Seen::Keys(Who::Peer, Some(2))],
+    ),
+    (
+        Call::Forget(0),
+        Answer::Forgot(5),
+        &[
+            Seen::Steps(5, 0, 0),
+            Seen::Floor(5),
+            Seen::Keys(Who::Peer, Some(1)),
+            Seen::Times(WITHOUT_ROUTE),
+        ],
+    ),
+];
+
 /// A withdrawal that is forgotten takes the key, and where a step names the pair yet, ahead of the
 /// cursor too, that step has it.
 const STEPS_AHEAD: &[Row] = &[
@@ -174,6 +199,7 @@ fn forgets_the_oldest_steps(rt: HostRuntime) -> Result<(), Fail> {
         KEY_GOES,
         ROUTE_STAYS,
         NO_STEP_LEFT,
+        WITHDRAWN_TWICE,
         STEPS_AHEAD,
         NOTHING_TO_FORGET,
     ] {
@@ -221,6 +247,43 @@ fn keeps_a_hundred_steps_of_many(rt: HostRuntime) -> Result<(), Fail> {
         answer_to(&mut player, &event(alloc, &[])?),
         Answer::Dropped(100)
     );
+    assert_eq!(rt; keys_of(&player, &peer()), None);
+    Ok(())
+}
+
+/// How many prefixes are announced and withdrawn again.
+const NAMED: u32 = 300;
+
+/// An event that announces a numbered prefix, or withdraws it.
+fn numbered_change(alloc: Global, number: u32, is_announced: bool) -> Result<Event, Fail> {
+    let mut items = Vec::new(alloc);
+    items.push(if is_announced {
+        announcement(alloc, peer(), numbered(number), number)?
+    } else {
+        Item::Withdraw(peer(), numbered(number))
+    })?;
+    Ok(event_of(items))
+}
+
+/// Of all steps that are kept the last alone names a prefix that was withdrawn before.
+#[test]
+fn finds_the_only_step_that_names_a_prefix(rt: HostRuntime) -> Result<(), Fail> {
+    let alloc = rt.alloc();
+    let mut player = RadixPlayer::new(alloc);
+    for number in 0..NAMED {
+        for is_announced in [true, false] {
+            let event = numbered_change(alloc, number, is_announced)?;
+            assert_eq!(rt; answer_to(&mut player, &event), Answer::Dropped(0));
+        }
+    }
+    let event_again = numbered_change(alloc, 7, true)?;
+    assert_eq!(rt; answer_to(&mut player, &event_again), Answer::Dropped(0));
+    assert_eq!(rt; player.forget(301), 300);
+    assert_eq!(rt; keys_of(&player, &peer()), Some(151));
+    assert_eq!(rt; player.forget(1), 300);
+    assert_eq!(rt; keys_of(&player, &peer()), Some(1));
+    assert_eq!(rt; shift(&mut player, true), Answer::Done);
+    assert_eq!(rt; answer_to(&mut player, &event(alloc, &[])?), Answer::Dropped(1));
     assert_eq!(rt; keys_of(&player, &peer()), None);
     Ok(())
 }

@@ -1,8 +1,8 @@
-use Rattle.std.proofs.Common.{◌≡◌, ◌<◌, ◌-◌, ◌^◌, take, bit_and, sym, ap, subst, ◌++◌, ◌∷◌, [], ◌∙◌, arith}
+use Rattle.std.proofs.Common.{◌<◌, ◌-◌, ◌^◌, take, bit_and, sym, ap, subst, ◌++◌, ◌∷◌, [], ◌∙◌, arith}
 use Rattle.std.proofs.lemmas.List.{take_more}
 use Rattle.rib_player.specs.declared.journal.Entry.{Entry}
 use Rattle.rib_player.specs.Journal.{marks_of}
-use Rattle.rib_player.specs.Digests.{bits_of, IsDigestOf}
+use Rattle.rib_player.specs.Digests.{IsDigestOf}
 use Rattle.rib_player.proofs.DigestLaws.{digest-more}
 use Rattle.rib_player.proofs.digest.Digest.of.Goals as goal
 
