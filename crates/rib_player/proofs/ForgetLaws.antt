@@ -1,5 +1,5 @@
 -- What forgetting the first step makes of a player.
-use Rattle.std.proofs.Common.{◌≡◌, ℕ, suc, ◌+◌, Bool, true, false, not, ◌||◌, is_some, None, List, [], ◌∷◌, ◌++◌, length, map, take, drop, reverse, slice_index_or, refl, sym, ap, ap₂, subst, ◌∙◌, append_assoc, arith}
+use Rattle.std.proofs.Common.{◌≡◌, ℕ, zero, suc, ◌+◌, Bool, true, false, not, ◌||◌, ◌&&◌, is_some, None, List, [], ◌∷◌, ◌++◌, length, map, take, drop, reverse, slice_index_or, refl, sym, ap, ap₂, subst, ◌∙◌, append_assoc, arith}
 use Rattle.std.specs.List.{AllByRecursion, list_any}
 use Rattle.std.specs.FinMap as finite
 use Rattle.std.specs.FinSet as set
@@ -11,13 +11,14 @@ use Rattle.rib_player.specs.declared.journal.Step.{Step}
 use Rattle.rib_player.specs.Tables.{Routes, Pairs}
 use Rattle.rib_player.specs.Store.{Contents}
 use Rattle.rib_player.specs.Timeline.{Timeline, routed_first, without_first}
-use Rattle.rib_player.specs.Journal.{Side, Mark, pairs_in, step_sides, step_marks, step_clearings, marks_of, clearings_of, clearings_by_step, steps_of, trail_of, routes_across, tables_before, tables_after, timeline_of, behind_forgotten, named_by, any_named, with_named, unseen_by, AreClearingsOf, AreCleared, AreHeld, IsKept, AreOrdered, IsPlayed, CanForget, ForgetsExact}
+use Rattle.rib_player.specs.Journal.{Side, Mark, pairs_in, step_sides, step_marks, step_clearings, marks_of, clearings_of, clearings_by_step, steps_of, trail_of, routes_across, tables_before, tables_after, timeline_of, behind_forgotten, named_by, any_named, with_named, unseen_by, cleared_by, any_cleared, AreClearingsOf, AreCleared, AreHeld, IsKept, AreOrdered, IsPlayed, CanForget, ForgetsExact}
 use Rattle.rib_player.proofs.CursorLaws.{length-earlier}
 use Rattle.rib_player.proofs.JournalLaws.{get-restored_elsewhere}
+use Rattle.rib_player.proofs.PairLaws.{same_pair}
 use Rattle.rib_player.proofs.MarkLaws.{tied, tied_itself, pairs-same}
 use Rattle.rib_player.proofs.ClearLaws.{cleared-first}
 use Rattle.rib_player.proofs.KeyLaws.{side_named, any-take, none_from, first-route, held-same, all-kept, seen_after-any}
-use Rattle.rib_player.proofs.UnseenLaws.{unseen_by-named, unseen_by-other}
+use Rattle.rib_player.proofs.UnseenLaws.{and-none, unseen_by-named, unseen_by-other}
 
 -- the tables but for the first are those of the other steps
 tables_before-first : (first : List Side) (back : List (List Side)) (routes : Routes) (rest : List Routes) → drop 1 (tables_before (back ++ first ∷ []) routes ++ rest) ≡ tables_before back routes ++ rest
@@ -59,12 +60,18 @@ routed-elsewhere n first steps routes q out =
     (ap (list_any (tied q)) (sym (pairs-same first.entries.items)) ∙ out))
 
 -- what the first step says is of the first table that is left, and the others of those behind it
+cleared-split : (n : ℕ) (first : Step) (steps : List Step) (routes : Routes)
+    → AreCleared (clearings_by_step (first ∷ steps)) (drop 1 (timeline_of (suc n) (steps_of (first ∷ steps)) routes).tables)
+    → AreClearingsOf (slice_index_or (timeline_of n (steps_of steps) routes).tables 0 finite.empty) (step_clearings first)
+    × AreCleared (clearings_by_step steps) (drop 1 (timeline_of n (steps_of steps) routes).tables)
+cleared-split n first steps routes cleared =
+    cleared-first (step_clearings first) (clearings_by_step steps) (timeline_of n (steps_of steps) routes).tables
+    (subst (AreCleared (step_clearings first ∷ clearings_by_step steps)) (tables-forgotten n (step_sides first) (steps_of steps) routes) cleared)
+
 clearings-split : (n : ℕ) (first : Step) (steps : List Step) (table : Contents) → IsPlayed table.keys table.routes (suc n) (first ∷ steps)
     → AreClearingsOf (slice_index_or (timeline_of n (steps_of steps) table.routes).tables 0 finite.empty) (step_clearings first)
     × AreCleared (clearings_by_step steps) (drop 1 (timeline_of n (steps_of steps) table.routes).tables)
-clearings-split n first steps table played =
-    cleared-first (step_clearings first) (clearings_by_step steps) (timeline_of n (steps_of steps) table.routes).tables
-    (subst (AreCleared (step_clearings first ∷ clearings_by_step steps)) (tables-forgotten n (step_sides first) (steps_of steps) table.routes) played.cleared)
+clearings-split n first steps table played = cleared-split n first steps table.routes played.cleared
 
 -- the pairs that are seen once the first step is past
 abbrev seen_past : ℕ → Step → List Step → Routes → Pair → Bool
@@ -182,3 +189,39 @@ all_forgotten-played keys routes steps none held = subst (IsPlayed keys routes 0
   cleared = tt;
   held = record { first = tt; held = held };
 })
+
+-- where a pair has no route behind a step, the step says so if it names it
+cleared-named : (entries : List Entry) (behind : Routes) (q : Pair) → AreClearingsOf behind (clearings_of entries) → is_some (finite.get behind q) ≡ false → cleared_by (clearings_of entries) q ≡ named_by (marks_of entries) q
+cleared-named [] behind q all none = refl
+cleared-named (e ∷ entries) behind q all none = ap₂ (λ a b. a || b) (at (tied q e.pair) refl) (cleared-named entries behind q all.1 none)
+  where
+    at : (t : Bool) → tied q e.pair ≡ t → (e.clears && t) ≡ t
+    at true tie = ap (λ b. b && true) (all.0 ∙ ap not (ap (λ p. is_some (finite.get behind p)) (sym (same_pair q e.pair tie)) ∙ none))
+    at false tie = and-none e.clears
+
+-- so a pair that has no route behind all steps is named just where one of them says that it left it without
+pub any-cleared : (n : ℕ) (steps : List Step) (routes : Routes) (q : Pair) → n ≡ length steps → AreCleared (clearings_by_step steps) (drop 1 (timeline_of n (steps_of steps) routes).tables)
+    → (is_some (finite.get routes q) || any_named (trail_of steps) q) ≡ (is_some (finite.get routes q) || any_cleared (clearings_by_step steps) q)
+any-cleared n [] routes q all cleared = refl
+any-cleared zero (first ∷ steps) routes q all cleared = absurd (omega (arith, all))
+any-cleared (suc n) (first ∷ steps) routes q all cleared =
+    let parts = cleared-split n first steps routes cleared in
+    at (is_some (finite.get routes q)) refl (any_named (trail_of steps) q) refl (any-cleared n steps routes q (omega (arith, all)) parts.1) parts.0
+  where
+    first_table : Routes
+    first_table = slice_index_or (timeline_of n (steps_of steps) routes).tables 0 finite.empty
+
+    same : any_named (trail_of steps) q ≡ false → finite.get first_table q ≡ finite.get routes q
+    same out = first-route n steps routes q (ap (λ t. any_named t q) (sym (take-map step_marks n steps)) ∙ any-take (λ marks. named_by marks q) n (trail_of steps) out)
+
+    at : (s : Bool) → is_some (finite.get routes q) ≡ s → (r : Bool) → any_named (trail_of steps) q ≡ r → (is_some (finite.get routes q) || any_named (trail_of steps) q) ≡ (is_some (finite.get routes q) || any_cleared (clearings_by_step steps) q)
+        → AreClearingsOf first_table (step_clearings first)
+        → (is_some (finite.get routes q) || (named_by (step_marks first) q || any_named (trail_of steps) q)) ≡ (is_some (finite.get routes q) || (cleared_by (step_clearings first) q || any_cleared (clearings_by_step steps) q))
+    at true has r named later here = ap (λ b. b || (named_by (step_marks first) q || any_named (trail_of steps) q)) has ∙ sym (ap (λ b. b || (cleared_by (step_clearings first) q || any_cleared (clearings_by_step steps) q)) has)
+    at false none true named later here =
+        let rest : any_cleared (clearings_by_step steps) q ≡ true = sym (ap (λ b. b || any_cleared (clearings_by_step steps) q) none) ∙ sym later ∙ ap (λ b. b || any_named (trail_of steps) q) none ∙ named in
+        ap (λ b. is_some (finite.get routes q) || b) (ap (λ b. named_by (step_marks first) q || b) named ∙ or-true (named_by (step_marks first) q)
+        ∙ sym (ap (λ b. cleared_by (step_clearings first) q || b) rest ∙ or-true (cleared_by (step_clearings first) q)))
+    at false none false named later here =
+        let rest : any_cleared (clearings_by_step steps) q ≡ false = sym (ap (λ b. b || any_cleared (clearings_by_step steps) q) none) ∙ sym later ∙ ap (λ b. b || any_named (trail_of steps) q) none ∙ named in
+        ap (λ b. is_some (finite.get routes q) || b) (ap₂ (λ a b. a || b) (sym (cleared-named first.entries.items first_table q here (ap is_some (same named) ∙ none))) (named ∙ sym rest))

@@ -45,7 +45,7 @@ and-one : (b : Bool) → (b && true) ≡ b
 and-one true = refl
 and-one false = refl
 
-and-none : (b : Bool) → (b && false) ≡ false
+pub and-none : (b : Bool) → (b && false) ≡ false
 and-none true = refl
 and-none false = refl
 

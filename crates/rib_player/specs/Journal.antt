@@ -191,6 +191,18 @@ step_clearings step = clearings_of step.entries.items
 abbrev pub clearings_by_step : List Step → List (List Clearing)
 clearings_by_step steps = map step_clearings steps
 
+-- it says that the pair has none
+abbrev pub is_cleared : Pair → Clearing → Bool
+is_cleared q clearing = clearing.1 && eq_by_cmp pair_cmp q clearing.0
+
+-- the pair has no route behind a step that names it
+abbrev pub cleared_by : List Clearing → Pair → Bool
+cleared_by clearings q = list_any (is_cleared q) clearings
+
+-- so it is with one of several steps
+abbrev pub any_cleared : List (List Clearing) → Pair → Bool
+any_cleared steps q = list_any (λ clearings. cleared_by clearings q) steps
+
 -- the same of a pair with the route that it has behind a step
 abbrev pub clearing_then : Side → Clearing
 clearing_then side = (side.0, not (is_some side.1))

@@ -10,7 +10,7 @@ ghost use Rattle.rib_store.specs.Stored.{counted, AreAmong};
 ghost use Rattle.rib_player.specs.declared.pair.Pair.{Pair};
 ghost use Rattle.rib_player.specs.History.{pair_cmp};
 ghost use Rattle.rib_player.specs.Journal.{sides_of, sides_at, steps_of, routes_across, sides_across, IsKept, marks_of, trail_of, entry_count, named_by, marked, AreFirst, CanLeave, LeavesExact, AreDistinct, AreOrdered, IsPlayed, IsAdvanced};
-ghost use Rattle.rib_player.specs.Journal.{clearings_of, clearings_by_step, any_named, marks_at, marked_first, CanForget, ForgetsExact};
+ghost use Rattle.rib_player.specs.Journal.{clearing_of, clearings_of, clearings_by_step, is_cleared, cleared_by, any_cleared, any_named, marks_at, marked_first, CanForget, ForgetsExact};
 ghost use Rattle.rib_player.specs.Digests.{AreDigestsOf};
 
 use crate::digest::{Digest, bits_of, next_place};
@@ -281,31 +281,44 @@ fn drop_free_key<S: PrefixStore<Rc<Route>>>(table: &mut Table<S>, pair: &Pair)
     }
 }
 
-/// Drops those keys of a step's pairs that have no route.
-fn drop_free_keys<S: PrefixStore<Rc<Route>>>(table: &mut Table<S>, forgotten: &[Entry])
+/// Drops the key of an entry's pair, where the step left it without a route and it has none now.
+fn drop_cleared_key<S: PrefixStore<Rc<Route>>>(table: &mut Table<S>, entry: &Entry)
     ensures keys { (q : Pair) → names.contains table.new.keys q ≡ (names.contains table.old.keys q
-        && (is_some (finite.get table.old.routes q) || not (named_by (marks_of forgotten.now) q))) }
+        && (is_some (finite.get table.old.routes q) || not (is_cleared q (clearing_of entry.now)))) }
     ensures routes { table.new.routes ≡ table.old.routes }
 {
-    'entries: for entry in forgotten {
+    if entry.clears {
         drop_free_key(table, &entry.pair);
     }
 }
 
-/// Forgets all steps, where each key has a route or is named by one of them: so just the keys with
-/// a route stay.
+/// Drops the keys of those pairs that a step left without a route and that have none now.
+fn drop_cleared_keys<S: PrefixStore<Rc<Route>>>(table: &mut Table<S>, forgotten: &[Entry])
+    ensures keys { (q : Pair) → names.contains table.new.keys q ≡ (names.contains table.old.keys q
+        && (is_some (finite.get table.old.routes q)
+        || not (cleared_by (clearings_of forgotten.now) q))) }
+    ensures routes { table.new.routes ≡ table.old.routes }
+{
+    'entries: for entry in forgotten {
+        drop_cleared_key(table, entry);
+    }
+}
+
+/// Forgets all steps, where each key has a route or one of them left it without: so just the keys
+/// with a route stay.
 pub(crate) fn forget_steps<S: PrefixStore<Rc<Route>>>(
     table: &mut Table<S>,
     steps: &mut VecDeque<Step>,
 )
     requires { (q : Pair) → names.contains table.old.keys q
-        ≡ (is_some (finite.get table.old.routes q) || any_named (trail_of steps.old.items) q) }
+        ≡ (is_some (finite.get table.old.routes q)
+        || any_cleared (clearings_by_step steps.old.items) q) }
     ensures keys { (q : Pair) → names.contains table.new.keys q
         ≡ is_some (finite.get table.old.routes q) }
     ensures routes { table.new.routes ≡ table.old.routes }
     ensures steps { steps.new.items ≡ [] }
 {
     'steps: while let Some(step) = steps.pop_front() {
-        drop_free_keys(table, &step.entries);
+        drop_cleared_keys(table, &step.entries);
     }
 }

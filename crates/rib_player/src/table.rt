@@ -60,7 +60,7 @@ impl<S: PrefixStore<Rc<Route>>> Table<S> {
     }
 
     /// Makes the pair a key, so that a route can be put there without memory. Answers whether it
-    /// is new.
+    /// is new. Refused, it may drop the store that it made for the key, and that key with it.
     pub(crate) fn ensure(&mut self, pair: &Pair) -> Result<bool, AllocError>
         ensures keys { OnOk result (self.new.keys ≡ set.insert self.old.keys pair.now) }
         ensures made { IfOk result (λ made. made ≡ not (set.contains self.old.keys pair.now)) }

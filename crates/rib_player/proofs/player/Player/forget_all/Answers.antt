@@ -8,7 +8,7 @@ use Rattle.rib_player.specs.Timeline.{Timeline, without_first, behind}
 use Rattle.rib_player.specs.Journal.{Side, pairs_in, step_sides, steps_of, trail_of, timeline_of, behind_forgotten}
 use Rattle.rib_player.specs.Digests.{AreDigestsOf}
 use Rattle.rib_player.proofs.KeyLaws.{held-named}
-use Rattle.rib_player.proofs.ForgetLaws.{timeline-all_forgotten, all_forgotten-played}
+use Rattle.rib_player.proofs.ForgetLaws.{any-cleared, timeline-all_forgotten, all_forgotten-played}
 use Rattle.rib_player.proofs.player.Player.forget_all.Given.{Over}
 use Rattle.rib_player.proofs.player.Player.forget_all.Goals as goal
 use Rattle.rib_player.proofs.player.Player.forget_all.Goals.{After-forget_steps}
@@ -20,7 +20,11 @@ all g c =
     omega (arith, c.requires, ap (λ (t : Timeline). t.floor) c.self.view_is, ap (λ (t : Timeline). t.cursor) c.self.view_is, ap (λ (t : Timeline). length t.steps) c.self.view_is, length-map steps (λ (sides : List Side). from_list {R = pair_cmp} (pairs_in sides)))
 
 pub forget_steps-requires : goal.forget_steps-requires
-forget_steps-requires g c = held-named c.self.inside.cursor c.self.inside.steps.items c.self.inside.table.routes c.self.inside.table.keys c.self.invariant.played.held
+forget_steps-requires g c q =
+    let steps = steps_of c.self.inside.steps.items in
+    let all : c.self.inside.cursor ≡ length c.self.inside.steps.items = omega (arith, c.requires, ap (λ (t : Timeline). t.floor) c.self.view_is, ap (λ (t : Timeline). t.cursor) c.self.view_is, ap (λ (t : Timeline). length t.steps) c.self.view_is, length-map steps (λ (sides : List Side). from_list {R = pair_cmp} (pairs_in sides)), length-map c.self.inside.steps.items step_sides) in
+    held-named c.self.inside.cursor c.self.inside.steps.items c.self.inside.table.routes c.self.inside.table.keys c.self.invariant.played.held q
+    ∙ any-cleared c.self.inside.cursor c.self.inside.steps.items c.self.inside.table.routes q all c.self.invariant.played.cleared
 
 pub invariant_of-self : goal.invariant_of-self
 invariant_of-self g c = record {
