@@ -89,17 +89,17 @@ pub(crate) fn read_rib_hop(value: Option<&[u8]>) -> Result<Option<Addr>, WireFau
     }
 }
 
-/// The next hop of a RIB entry, of that of NEXT_HOP and that of MP_REACH_NLRI.
-#[inline]
-pub(crate) fn choose_rib_hop(
-    family: Family,
-    own: Option<Addr>,
-    reached: Option<Addr>,
-) -> Option<Addr>
-    ensures { result ≡ rib_hop family own reached }
+/// Makes the next hop of NEXT_HOP that of a RIB entry, which may be that of MP_REACH_NLRI. Most
+/// often it stays.
+#[inline(always)]
+pub(crate) fn choose_rib_hop(family: Family, hop: &mut Option<Addr>, reached: Option<Addr>)
+    ensures { hop.new ≡ rib_hop family hop.old reached }
 {
-    match family {
-        Family::V4 => own.or(reached),
-        Family::V6 => reached.or(own),
+    let is_reached = match family {
+        Family::V4 => hop.is_none(),
+        Family::V6 => reached.is_some(),
+    };
+    if is_reached {
+        *hop = reached;
     }
 }
