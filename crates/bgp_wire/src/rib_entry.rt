@@ -9,7 +9,7 @@ use crate::as4::join_passed;
 use crate::attribute_list::{LaterValues, read_list};
 use crate::attrs::Attrs;
 use crate::framing::MP_REACH_NLRI;
-use crate::next_hop::{choose_rib_hop, read_rib_hop};
+use crate::next_hop::fill_rib_hop;
 use crate::seen_types::SeenTypes;
 use bgp_paths::{AsWidth, WireFault};
 use ip_prefix::Family;
@@ -33,9 +33,8 @@ fn fill_rib_attrs(
     if types.repeats(MP_REACH_NLRI) {
         return Err(WireFault::Malformed);
     }
-    let reached = read_rib_hop(later.reach)?;
     join_passed(alloc, attrs, width, &later)?;
-    choose_rib_hop(family, &mut attrs.next_hop, reached);
+    fill_rib_hop(family, &mut attrs.next_hop, later.reach)?;
     Ok(())
 }
 
