@@ -56,7 +56,7 @@ fn push_numbers(width: AsWidth, octets: &[u8], numbers: &mut Vec<u32>) -> Result
 
 /// Makes the numbers those that the octets are, one behind the other. There is room for all of them
 /// from the start. Refused, nothing is said of them.
-#[inline]
+#[inline(always)]
 pub fn fill_numbers(numbers: &mut Vec<u32>, width: AsWidth, octets: &[u8]) -> Result<(), WireFault>
     ensures filled { OnOk result (SpellsAll (SpellsAsn width) numbers.new.items octets.now) }
     ensures refused { IfErr result (Refuses (SpellsAll (SpellsAsn width)) octets.now) }

@@ -85,7 +85,7 @@ impl AsNumbers {
     }
 
     /// Makes them those that the octets are. Refused, nothing is said of them.
-    #[inline]
+    #[inline(always)]
     pub(crate) fn fill(&mut self, width: AsWidth, octets: &[u8]) -> Result<(), WireFault>
         ensures filled { OnOk result (SpellsAll (SpellsAsn width) self.new octets.now) }
         ensures refused { IfErr result (Refuses (SpellsAll (SpellsAsn width)) octets.now) }

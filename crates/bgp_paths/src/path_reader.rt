@@ -88,6 +88,7 @@ fn fill_segment(
 }
 
 /// Puts a segment of these numbers behind all. Most paths have one, so there is room for one first.
+#[inline(never)]
 fn push_segment(
     alloc: Global,
     segments: &mut Vec<Segment>,

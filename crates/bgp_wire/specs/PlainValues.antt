@@ -5,12 +5,11 @@ use Rattle.bgp_wire.specs.declared.framing.TheConstants.{ORIGIN, AS_PATH, NEXT_H
 use Rattle.bgp_paths.specs.declared.path.AsWidth.{AsWidth}
 use Rattle.bgp_wire.specs.declared.attrs.Attrs.{Attrs}
 use Rattle.bgp_wire.specs.declared.attribute_list.LaterValues.{LaterValues}
-use Rattle.bgp_wire.specs.declared.attribute_list.ReadList.{ReadList}
 use Rattle.bgp_wire.specs.Attribute.{Attribute, SpellsAttributes, first_value}
 use Rattle.bgp_wire.specs.Lent.{octets_of}
 use Rattle.bgp_paths.specs.Number.{SpellsWord}
 use Rattle.bgp_paths.specs.Path.{SpellsPath}
-use Rattle.bgp_wire.specs.SeenTypes.{Tells}
+use Rattle.bgp_wire.specs.SeenTypes.{Types, Tells}
 use Rattle.bgp_wire.specs.Value.{SpellsOptional, octets_or_none, SpellsPresence, SpellsOrigin, SpellsIPv4, SpellsAggregator}
 
 -- by the types of attributes, the first value of each
@@ -45,13 +44,13 @@ pub record AreLater (later : LaterValues) (first : FirstOf) : Type 0 where
   pub as4_path : octets_of later.as4_path ≡ first AS4_PATH
   pub as4_aggregator : octets_of later.as4_aggregator ≡ first AS4_AGGREGATOR
 
--- the octets are the attributes of a list; these attributes say what its values say plainly, and this was kept of it
-pub record ReadsList (width : AsWidth) (attrs : Attrs) (kept : ReadList) (octets : List ℕ) : Type 0 where
+-- the octets are the attributes of a list; these attributes say what its values say plainly, and these values and types were kept of it
+pub record ReadsList (width : AsWidth) (attrs : Attrs) (later : LaterValues) (types : Types) (octets : List ℕ) : Type 0 where
   pub list : List Attribute
   pub spelled : SpellsAttributes list octets
   pub said : SaysPlainly width attrs (firsts_of list)
-  pub later : AreLater kept.later (firsts_of list)
-  pub types : Tells kept.types list
+  pub values : AreLater later (firsts_of list)
+  pub seen : Tells types list
 
 -- ---- as far as a list is read
 

@@ -33,12 +33,28 @@ pub(crate) fn join_passed(
     ensures kept { attrs.new.next_hop ≡ attrs.old.next_hop }
 {
     match width {
-        AsWidth::Two => join_as4(alloc, attrs, later),
+        AsWidth::Two => join_there(alloc, attrs, later),
         AsWidth::Four => Ok(()),
     }
 }
 
-/// Where AS4_PATH and AS4_AGGREGATOR stand beside numbers of two octets.
+/// The same beside numbers of two octets. Most often neither AS4_PATH nor AS4_AGGREGATOR is there,
+/// and all stays.
+#[inline(always)]
+fn join_there(alloc: Global, attrs: &mut Attrs, later: &LaterValues) -> Result<(), AllocError>
+    ensures said { OnOk result ((list : List Attribute) →
+        SaysPlainly Two attrs.old (firsts_of list) → AreLater later.now (firsts_of list) →
+        Says Two attrs.new list) }
+    ensures kept { attrs.new.next_hop ≡ attrs.old.next_hop }
+{
+    if later.as4_path.is_none() && later.as4_aggregator.is_none() {
+        return Ok(());
+    }
+    join_as4(alloc, attrs, later)
+}
+
+/// Where AS4_PATH or AS4_AGGREGATOR stands beside numbers of two octets.
+#[inline(never)]
 fn join_as4(alloc: Global, attrs: &mut Attrs, later: &LaterValues) -> Result<(), AllocError>
     ensures said { OnOk result ((list : List Attribute) →
         SaysPlainly Two attrs.old (firsts_of list) → AreLater later.now (firsts_of list) →

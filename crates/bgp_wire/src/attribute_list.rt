@@ -1,6 +1,6 @@
 //! Reading a list of path attributes in one walk, of each type the first.
 
-ghost use Rattle.std.specs.Prelude.{◌≡◌, ◌<◌, List, Some, None, OnOk, OnErr, IfOk, IfErr};
+ghost use Rattle.std.specs.Prelude.{◌≡◌, ◌<◌, List, [], Some, None, OnOk, OnErr, IfErr};
 ghost use Rattle.bgp_wire.specs.declared.framing.TheConstants.{KINDS};
 ghost use Rattle.bgp_wire.specs.Attribute.{Attribute};
 ghost use Rattle.bgp_wire.specs.PlainValues.{FirstOf, firsts_of, with_value, AreLater, ReadSoFar};
@@ -27,11 +27,19 @@ pub(crate) struct LaterValues<'a> {
     pub(crate) as4_aggregator: Option<&'a [u8]>,
 }
 
-/// What is kept of a list beside the values that were read.
-#[derive(Drop)]
-pub(crate) struct ReadList<'a> {
-    pub(crate) later: LaterValues<'a>,
-    pub(crate) types: SeenTypes,
+impl<'a> LaterValues<'a> {
+    /// Those of no attributes.
+    #[inline]
+    pub(crate) fn none() -> LaterValues<'a>
+        ensures { AreLater result (firsts_of []) }
+    {
+        LaterValues {
+            reach: None,
+            unreach: None,
+            as4_path: None,
+            as4_aggregator: None,
+        }
+    }
 }
 
 /// Reads the value of the first attribute of its type. Refused, nothing is said of the attributes.
@@ -98,35 +106,33 @@ fn clear_unseen(attrs: &mut Attrs, types: &SeenTypes)
 }
 
 /// Makes the attributes what the octets say of the values that are read each by itself, in the
-/// memory that they have, and answers what is kept besides. Refused, nothing is said of them.
+/// memory that they have. The values for later and the types are kept besides, where none were
+/// before. Refused, nothing is said of them.
 #[inline(always)]
 pub(crate) fn read_list<'a>(
     alloc: Global,
     attrs: &mut Attrs,
     width: AsWidth,
     octets: &'a [u8],
-) -> Result<ReadList<'a>, WireFault>
-    ensures read { IfOk result (λ kept. ReadsList width attrs.new kept octets.now) }
+    later: &mut LaterValues<'a>,
+    types: &mut SeenTypes,
+) -> Result<(), WireFault>
+    requires no_value { AreLater later.old (firsts_of []) }
+    requires no_type { Tells types.old [] }
+    ensures read { OnOk result (ReadsList width attrs.new later.new types.new octets.now) }
     ensures refused { IfErr result (Refuses (SpellsPlainly width) octets.now) }
 {
     attrs.clear_short();
-    let mut types = SeenTypes::none();
-    let mut later = LaterValues {
-        reach: None,
-        unreach: None,
-        as4_path: None,
-        as4_aggregator: None,
-    };
     let mut rest = octets;
     while !rest.is_empty() {
         let Some(framed) = split_attribute(rest) else {
             return Err(WireFault::Malformed);
         };
         if !types.note(framed.kind) {
-            read_first(alloc, width, framed.kind, framed.value, attrs, &mut later)?;
+            read_first(alloc, width, framed.kind, framed.value, attrs, later)?;
         }
         rest = framed.rest;
     }
-    clear_unseen(attrs, &types);
-    Ok(ReadList { later, types })
+    clear_unseen(attrs, types);
+    Ok(())
 }

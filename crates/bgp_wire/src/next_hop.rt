@@ -1,12 +1,12 @@
 //! Reading next hops (RFC 4760, section 3; RFC 2545, section 3).
 
-ghost use Rattle.std.specs.Prelude.{◌≡◌, length, IsOkUnless};
+ghost use Rattle.std.specs.Prelude.{◌≡◌, if◌then◌else◌, Option, Some, length, OnOk, IfErr};
+ghost use Rattle.ip_prefix.specs.Address.{Address};
 ghost use Rattle.ip_prefix.specs.Bits.{bits_of_octets};
-ghost use Rattle.bgp_paths.specs.declared.fault.WireFault.TheVariants.{Malformed};
 ghost use Rattle.bgp_wire.specs.Lent.{octets_of};
 ghost use Rattle.bgp_wire.specs.Value.{SpellsOptional};
 ghost use Rattle.bgp_wire.specs.NextHop.{SpellsNextHop, SpellsHopAlone, SpellsRibHop, rib_hop};
-ghost use Rattle.bgp_paths.specs.Reading.{Finds, Reads};
+ghost use Rattle.bgp_paths.specs.Reading.{Finds, Refuses};
 
 use crate::values::{IPV4_SIZE, ipv4};
 use bgp_paths::WireFault;
@@ -75,31 +75,40 @@ fn read_rib_value(octets: &[u8]) -> Option<Addr>
     read_hop_alone(rest)
 }
 
-/// The next hop of MP_REACH_NLRI in a RIB entry, where it is there.
-pub(crate) fn read_rib_hop(value: Option<&[u8]>) -> Result<Option<Addr>, WireFault>
-    ensures read { Reads (SpellsOptional SpellsRibHop) (octets_of value.entry) result }
-    ensures fault { IsOkUnless result Malformed }
+/// Whether the next hop of MP_REACH_NLRI is that of a RIB entry, beside one of NEXT_HOP or none.
+#[inline]
+fn is_reached(family: Family, own: &Option<Addr>) -> bool
+    ensures { (reached : Address) →
+        (if result then Some reached else own.now) ≡ rib_hop family own.now (Some reached) }
 {
-    match value {
-        None => Ok(None),
-        Some(octets) => {
-            let hop = read_rib_value(octets).ok_or(WireFault::Malformed)?;
-            Ok(Some(hop))
-        }
+    match family {
+        Family::V4 => own.is_none(),
+        Family::V6 => true,
     }
 }
 
-/// The next hop of a RIB entry, of that of NEXT_HOP and that of MP_REACH_NLRI.
-#[inline]
-pub(crate) fn choose_rib_hop(
+/// Makes the next hop of NEXT_HOP that of a RIB entry, which may be that of MP_REACH_NLRI with this
+/// value. Most often it stays. Refused, it does too.
+#[inline(always)]
+pub(crate) fn fill_rib_hop(
     family: Family,
-    own: Option<Addr>,
-    reached: Option<Addr>,
-) -> Option<Addr>
-    ensures { result ≡ rib_hop family own reached }
+    hop: &mut Option<Addr>,
+    value: Option<&[u8]>,
+) -> Result<(), WireFault>
+    ensures filled { OnOk result ((reached : Option Address)
+        × SpellsOptional SpellsRibHop reached (octets_of value.entry)
+        × (hop.new ≡ rib_hop family hop.old reached)) }
+    ensures refused { IfErr result
+        (Refuses (SpellsOptional SpellsRibHop) (octets_of value.entry)) }
 {
-    match family {
-        Family::V4 => own.or(reached),
-        Family::V6 => reached.or(own),
+    let Some(octets) = value else {
+        return Ok(());
+    };
+    let Some(reached) = read_rib_value(octets) else {
+        return Err(WireFault::Malformed);
+    };
+    if is_reached(family, hop) {
+        *hop = Some(reached);
     }
+    Ok(())
 }

@@ -6,10 +6,11 @@ ghost use Rattle.bgp_wire.specs.Absent.{no_attrs};
 ghost use Rattle.bgp_paths.specs.Reading.{Reads, Refuses};
 
 use crate::as4::join_passed;
-use crate::attribute_list::read_list;
+use crate::attribute_list::{LaterValues, read_list};
 use crate::attrs::Attrs;
 use crate::framing::MP_REACH_NLRI;
-use crate::next_hop::{choose_rib_hop, read_rib_hop};
+use crate::next_hop::fill_rib_hop;
+use crate::seen_types::SeenTypes;
 use bgp_paths::{AsWidth, WireFault};
 use ip_prefix::Family;
 use std::alloc::Global;
@@ -26,13 +27,14 @@ fn fill_rib_attrs(
     ensures filled { OnOk result (SpellsRibAttrs family width attrs.new octets.now) }
     ensures refused { IfErr result (Refuses (SpellsRibAttrs family width) octets.now) }
 {
-    let kept = read_list(alloc, attrs, width, octets)?;
-    if kept.types.repeats(MP_REACH_NLRI) {
+    let mut later = LaterValues::none();
+    let mut types = SeenTypes::none();
+    read_list(alloc, attrs, width, octets, &mut later, &mut types)?;
+    if types.repeats(MP_REACH_NLRI) {
         return Err(WireFault::Malformed);
     }
-    let reached = read_rib_hop(kept.later.reach)?;
-    join_passed(alloc, attrs, width, &kept.later)?;
-    attrs.next_hop = choose_rib_hop(family, attrs.next_hop, reached);
+    join_passed(alloc, attrs, width, &later)?;
+    fill_rib_hop(family, &mut attrs.next_hop, later.reach)?;
     Ok(())
 }
 

@@ -6,12 +6,13 @@ ghost use Rattle.bgp_paths.specs.Reading.{Refuses};
 ghost use Rattle.bgp_wire.specs.Update.{sized_octets, IsUpdate, SpellsUpdate};
 
 use crate::as4::join_passed;
-use crate::attribute_list::read_list;
+use crate::attribute_list::{LaterValues, read_list};
 use crate::framing::{MP_REACH_NLRI, MP_UNREACH_NLRI};
 use crate::lengths::{LENGTH_SIZE, read_length};
 use crate::parts::UpdateParts;
 use crate::prefixes::fill_prefixes;
 use crate::reach::{fill_reach, fill_unreach};
+use crate::seen_types::SeenTypes;
 use bgp_paths::{AsWidth, WireFault};
 use ip_prefix::Family;
 use std::alloc::Global;
@@ -71,13 +72,22 @@ fn fill_said(
     ensures filled { OnOk result (SpellsParts width parts.new octets.now) }
     ensures refused { IfErr result (Refuses (SpellsParts width) octets.now) }
 {
-    let kept = read_list(alloc, &mut parts.attrs, width, octets)?;
-    if kept.types.repeats(MP_REACH_NLRI) || kept.types.repeats(MP_UNREACH_NLRI) {
+    let mut later = LaterValues::none();
+    let mut types = SeenTypes::none();
+    read_list(
+        alloc,
+        &mut parts.attrs,
+        width,
+        octets,
+        &mut later,
+        &mut types,
+    )?;
+    if types.repeats(MP_REACH_NLRI) || types.repeats(MP_UNREACH_NLRI) {
         return Err(WireFault::Malformed);
     }
-    join_passed(alloc, &mut parts.attrs, width, &kept.later)?;
-    fill_reach(&mut parts.mp_hop, &mut parts.mp_announced, kept.later.reach)?;
-    fill_unreach(&mut parts.mp_withdrawn, kept.later.unreach)?;
+    join_passed(alloc, &mut parts.attrs, width, &later)?;
+    fill_reach(&mut parts.mp_hop, &mut parts.mp_announced, later.reach)?;
+    fill_unreach(&mut parts.mp_withdrawn, later.unreach)?;
     Ok(())
 }
 

@@ -47,7 +47,7 @@ pub const PREFIX_ROOM: usize = ADDRESS_ROOM + 1 + ROW;
 impl Addr {
     /// Writes the address at a place as a person reads it (RFC 5952, section 4, for IPv6), and
     /// answers the place behind it.
-    #[inline]
+    #[inline(always)]
     #[tactic(auto, unfolding(crate::specs::Text::address_text))]
     pub fn write_text(&self, text: &mut [u8], at: usize) -> usize
         requires { at + ADDRESS_ROOM ≤ length text.old }
@@ -154,6 +154,7 @@ fn write_octet(octet: u8, text: &mut [u8], at: usize) -> usize
 }
 
 // Writes the groups of an IPv6 address, joined by colons and shortened.
+#[inline(never)]
 fn write_colons(address: &Addr, text: &mut [u8], at: usize) -> usize
     requires { (address.now.family ≡ V6) × (at + COLONS_ROOM ≤ length text.old) }
     ensures written { IsWritten text.old at (v6_text address.now) text.new result }

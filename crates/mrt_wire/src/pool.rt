@@ -3,12 +3,13 @@
 ghost use Rattle.std.specs.Prelude.{◌≡◌, ◌<◌, ◌∷◌, [], IfOk, IfErr, IfSome, OnOk, vec_len};
 ghost use Rattle.bgp_wire.specs.Content.{SpellsRibAttrs};
 ghost use Rattle.bgp_wire.specs.Reading.{Refuses};
-ghost use Rattle.mrt_wire.specs.Event.{saying};
+ghost use Rattle.mrt_wire.specs.Event.{Announced};
 ghost use Rattle.mrt_wire.specs.Items.{route_of};
 
-use crate::event::{Item, Items, Route};
+use crate::event::{Item, Items, Route, Shared};
+use crate::peer::Peer;
 use bgp_wire::{AsWidth, Attrs, UpdateParts, WireFault, replace_attrs, replace_rib_attrs};
-use ip_prefix::Family;
+use ip_prefix::{Family, Prefix};
 use std::alloc::{AllocError, Global};
 use std::mem;
 use std::rc::Rc;
@@ -110,6 +111,7 @@ impl RoutePool {
     }
 
     /// The route of a table's entry, with AS numbers of this width, and with this time.
+    #[inline(always)]
     pub(crate) fn rib_route(
         &mut self,
         alloc: Global,
@@ -184,6 +186,17 @@ impl Pool {
         }
     }
 
+    /// The vector that is kept, without items.
+    #[inline(always)]
+    fn kept_items(&mut self, alloc: Global) -> Vec<Item>
+        ensures items { result.items ≡ [] }
+        ensures parts { self.new.parts ≡ self.old.parts }
+    {
+        let mut items = mem::replace(&mut self.items, Vec::new(alloc));
+        items.clear();
+        items
+    }
+
     /// An empty vector with room for so many items.
     #[inline(always)]
     pub(crate) fn take_items(
@@ -194,27 +207,34 @@ impl Pool {
         ensures items { IfOk result (λ items. items.items ≡ []) }
         ensures parts { self.new.parts ≡ self.old.parts }
     {
-        let mut items = mem::replace(&mut self.items, Vec::new(alloc));
-        items.clear();
+        let mut items = self.kept_items(alloc);
         items.reserve(count)?;
         Ok(items)
     }
 
-    /// An item alone.
-    pub(crate) fn item_alone(&mut self, alloc: Global, item: Item) -> Result<Items, AllocError>
-        ensures { IfOk result (λ items. items ≡ saying item ∷ []) }
+    /// An announcement alone, which shares its route with no other.
+    #[inline(always)]
+    pub(crate) fn announcement_alone(
+        &mut self,
+        alloc: Global,
+        peer: Peer,
+        prefix: Prefix,
+        route: Rc<Route>,
+    ) -> Result<Items, AllocError>
+        ensures { IfOk result (λ items. items ≡ Announced peer prefix route.value ∷ []) }
     {
-        let mut items = self.take_items(alloc, 1)?;
-        items.push(item)?;
-        Ok(Items::from_vec(items))
+        let mut items = self.kept_items(alloc);
+        items.push(Item::Announce(peer, prefix, route))?;
+        Ok(Items::sharing(items, Shared { start: 0, end: 1 }))
     }
 
     /// Keeps the room of items.
     #[inline(always)]
     pub(crate) fn keep_items(&mut self, items: Vec<Item>) {
         if items.capacity() <= MOST_ITEMS {
-            self.items = items;
-            self.items.clear();
+            let mut emptied = items;
+            emptied.clear();
+            self.items = emptied;
         }
     }
 }

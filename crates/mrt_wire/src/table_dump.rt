@@ -8,7 +8,7 @@ ghost use Rattle.mrt_wire.specs.Items.{peer_entry_items};
 ghost use Rattle.mrt_wire.specs.Judging.{Told};
 ghost use Rattle.mrt_wire.specs.TableDump.{ArePeerEntryFields, SpellsNarrowPeer, SpellsPeerEntry, SpellsPrefix};
 
-use crate::event::{Item, Items, Stamp};
+use crate::event::{Items, Stamp};
 use crate::fields::{Field, fill_address, skip, split_asn, split_octet, split_sized, split_word};
 use crate::peer::Peer;
 use crate::pool::Pool;
@@ -33,6 +33,7 @@ struct FramedEntry<'a> {
 
 /// The prefix in front, and what follows it. Its bits stand first in an address of this family,
 /// and their number behind it.
+#[inline(always)]
 fn split_prefix(family: Family, octets: &[u8]) -> Option<Field<'_, Prefix>>
     ensures { FindsField (SpellsPrefix family) octets.now result }
 {
@@ -49,6 +50,7 @@ fn split_prefix(family: Family, octets: &[u8]) -> Option<Field<'_, Prefix>>
 }
 
 /// The peer in front, and what follows it.
+#[inline(always)]
 fn split_narrow_peer(family: Family, octets: &[u8]) -> Option<Field<'_, Peer>>
     ensures { FindsField (SpellsNarrowPeer family) octets.now result }
 {
@@ -65,6 +67,7 @@ fn split_narrow_peer(family: Family, octets: &[u8]) -> Option<Field<'_, Peer>>
 }
 
 /// The entry in front.
+#[inline(always)]
 fn frame_entry(family: Family, octets: &[u8]) -> Option<FramedEntry<'_>>
     ensures some { IfSome result (λ f. (numbers status more : List ℕ)
         × Begins (ArePeerEntryFields family)
@@ -89,8 +92,9 @@ fn frame_entry(family: Family, octets: &[u8]) -> Option<FramedEntry<'_>>
     })
 }
 
-/// What an entry with its peer says.
-pub(crate) fn read_peer_entry(
+/// What an entry with its peer says. It is inlined, so that there is code for each family.
+#[inline(always)]
+fn read_entry_of(
     alloc: Global,
     pool: &mut Pool,
     family: Family,
@@ -108,6 +112,24 @@ pub(crate) fn read_peer_entry(
     let route = pool
         .routes
         .rib_route(alloc, family, AsWidth::Two, time, entry.attributes)?;
-    let items = pool.item_alone(alloc, Item::Announce(entry.peer, entry.prefix, route))?;
+    let items = pool.announcement_alone(alloc, entry.peer, entry.prefix, route)?;
     Ok(items)
+}
+
+/// What an entry with its peer says.
+pub(crate) fn read_peer_entry(
+    alloc: Global,
+    pool: &mut Pool,
+    family: Family,
+    stamp: Stamp,
+    seconds: u32,
+    octets: &[u8],
+) -> Result<Items, WireFault>
+    ensures { Reads (Told (SpellsPeerEntry family) (peer_entry_items stamp seconds))
+        octets.now result }
+{
+    match family {
+        Family::V4 => read_entry_of(alloc, pool, Family::V4, stamp, seconds, octets),
+        Family::V6 => read_entry_of(alloc, pool, Family::V6, stamp, seconds, octets),
+    }
 }

@@ -80,6 +80,6 @@ returns-clause-read c =
       list = done.0;
       spelled = all_read SpellsAttribute done.0 rest c.args.octets.now done.1 nothing;
       said = c.clear_unseen.ensures c.args.width c.loop-rest.later done.0 done.3 done.2;
-      later = done.2.kept;
-      types = done.3;
+      values = done.2.kept;
+      seen = done.3;
     }

@@ -14,35 +14,35 @@ use Rattle.bgp_wire.proofs.Plainly.{rib_plainly}
 use Rattle.bgp_paths.proofs.Refusing.{refused_part}
 use Rattle.bgp_wire.proofs.rib_entry.fill_rib_attrs.Goals as goal
 
-pub returns-in_err-kept-clause-refused : goal.returns-in_err-kept-clause-refused
-returns-in_err-kept-clause-refused c =
+pub returns-in_err-read_list-clause-refused : goal.returns-in_err-read_list-clause-refused
+returns-in_err-read_list-clause-refused c =
     let octets = c.args.octets.now in
     let width = c.args.width in
     let Whole = SpellsRibAttrs c.args.family width in
     let p = err_from_is_err_and c.from_residual.result c.from_residual.ensures.1 in
     subst (λ answer. IfErr answer (Refuses Whole octets)) (sym (p.1 ∙ ap Err p.2))
-    (refused_part Whole (SpellsPlainly width) octets octets c.in_err-kept.field-0.0 (λ attrs s. rib_plainly c.args.family width attrs octets s) c.in_err-kept.ensures.refused)
+    (refused_part Whole (SpellsPlainly width) octets octets c.in_err-read_list.field-0.0 (λ attrs s. rib_plainly c.args.family width attrs octets s) c.in_err-read_list.ensures.refused)
 
 pub returns-then-repeats-clause-refused : goal.returns-then-repeats-clause-refused
 returns-then-repeats-clause-refused c attrs s =
-    let read = c.in_ok-kept.ensures.read in
+    let read = c.in_ok-read_list.ensures.read in
     let lists = one_list SpellsAttribute attribute_code c.args.octets.now s.list read.list s.spelled read.spelled in
     let once : repeats MP_REACH_NLRI read.list ≡ false = subst (λ list. repeats MP_REACH_NLRI list ≡ false) lists s.hop_said.once in
-    let twice : repeats MP_REACH_NLRI read.list ≡ true = sym (c.repeats.ensures read.list read.types) ∙ c.if-repeats.true in
+    let twice : repeats MP_REACH_NLRI read.list ≡ true = sym (c.repeats.ensures read.list read.seen) ∙ c.if-repeats.true in
     cc
 
-pub returns-in_err-reached-clause-refused : goal.returns-in_err-reached-clause-refused
-returns-in_err-reached-clause-refused c =
+pub returns-in_err-fill_rib_hop-clause-refused : goal.returns-in_err-fill_rib_hop-clause-refused
+returns-in_err-fill_rib_hop-clause-refused c =
     let octets = c.args.octets.now in
     let Whole = SpellsRibAttrs c.args.family c.args.width in
-    let read = c.in_ok-kept.ensures.read in
-    let value = octets_of c.in_ok-kept.kept.later.reach in
-    let p = err_from_is_err_and c.from_residual-in_err-reached.result c.from_residual-in_err-reached.ensures.1 in
+    let read = c.in_ok-read_list.ensures.read in
+    let value = octets_of c.read_list.new.later.reach in
+    let p = err_from_is_err_and c.from_residual-in_err-fill_rib_hop.result c.from_residual-in_err-fill_rib_hop.ensures.1 in
     subst (λ answer. IfErr answer (Refuses Whole octets)) (sym (p.1 ∙ ap Err p.2))
-    (refused_part Whole (SpellsOptional SpellsRibHop) octets value c.in_err-reached.field-0.0
+    (refused_part Whole (SpellsOptional SpellsRibHop) octets value c.in_err-fill_rib_hop.field-0.0
     (λ attrs s. (
       s.hop_said.reached,
       subst (SpellsOptional SpellsRibHop s.hop_said.reached)
-          (ap (first_value MP_REACH_NLRI) (one_list SpellsAttribute attribute_code octets s.list read.list s.spelled read.spelled) ∙ sym read.later.reach) s.hop_said.reached_spelled,
+          (ap (first_value MP_REACH_NLRI) (one_list SpellsAttribute attribute_code octets s.list read.list s.spelled read.spelled) ∙ sym read.values.reach) s.hop_said.reached_spelled,
     ))
-    c.in_err-reached.ensures.read)
+    c.in_err-fill_rib_hop.ensures.refused)

@@ -14,13 +14,13 @@ use Rattle.bgp_paths.proofs.Refusing.{refused_part}
 use Rattle.bgp_wire.proofs.update.fill_said.Goals as goal
 use Rattle.bgp_wire.proofs.update.fill_said.Goals.{then-repeats-via-then-repeats, then-repeats-via-else-repeats+then-repeats-2}
 
-pub returns-in_err-kept-clause-refused : goal.returns-in_err-kept-clause-refused
-returns-in_err-kept-clause-refused c =
+pub returns-in_err-read_list-clause-refused : goal.returns-in_err-read_list-clause-refused
+returns-in_err-read_list-clause-refused c =
     let octets = c.args.octets.now in
     let width = c.args.width in
     let p = err_from_is_err_and c.from_residual.result c.from_residual.ensures.1 in
     subst (λ answer. IfErr answer (Refuses (SpellsParts width) octets)) (sym (p.1 ∙ ap Err p.2))
-    (refused_part (SpellsParts width) (SpellsPlainly width) octets octets c.in_err-kept.field-0.0 (λ parts s. parts_plainly width parts octets s) c.in_err-kept.ensures.refused)
+    (refused_part (SpellsParts width) (SpellsPlainly width) octets octets c.in_err-read_list.field-0.0 (λ parts s. parts_plainly width parts octets s) c.in_err-read_list.ensures.refused)
 
 -- a type that stands once in a list doesn't repeat there
 never_twice : (kind : ℕ) (list other : List Attribute) → list ≡ other → repeats kind list ≡ false → repeats kind other ≡ true → ⊥
@@ -28,27 +28,27 @@ never_twice kind list other e once twice = let same : repeats kind list ≡ repe
 
 pub returns-then-repeats-clause-refused : goal.returns-then-repeats-clause-refused
 returns-then-repeats-clause-refused c parts s =
-    let read = c.in_ok-kept.ensures.read in
+    let read = c.in_ok-read_list.ensures.read in
     let lists = one_list SpellsAttribute attribute_code c.args.octets.now s.list read.list s.spelled read.spelled in
     elim c.then-repeats.branch [
       | then-repeats-via-then-repeats w ↦
-          never_twice MP_REACH_NLRI s.list read.list lists s.said.together.reached_once (sym (c.repeats.ensures read.list read.types) ∙ w.if-repeats.true)
+          never_twice MP_REACH_NLRI s.list read.list lists s.said.together.reached_once (sym (c.repeats.ensures read.list read.seen) ∙ w.if-repeats.true)
       | then-repeats-via-else-repeats+then-repeats-2 w ↦
-          never_twice MP_UNREACH_NLRI s.list read.list lists s.said.together.unreached_once (sym (w.repeats-else-repeats.ensures read.list read.types) ∙ w.if-repeats-2.true)
+          never_twice MP_UNREACH_NLRI s.list read.list lists s.said.together.unreached_once (sym (w.repeats-else-repeats.ensures read.list read.seen) ∙ w.if-repeats-2.true)
     ]
 
 pub returns-in_err-fill_reach-clause-refused : goal.returns-in_err-fill_reach-clause-refused
 returns-in_err-fill_reach-clause-refused c =
     let octets = c.args.octets.now in
     let Whole = SpellsParts c.args.width in
-    let read = c.in_ok-kept.ensures.read in
+    let read = c.in_ok-read_list.ensures.read in
     let p = err_from_is_err_and c.from_residual-in_err-fill_reach.result c.from_residual-in_err-fill_reach.ensures.1 in
     subst (λ answer. IfErr answer (Refuses Whole octets)) (sym (p.1 ∙ ap Err p.2))
-    (refused_part Whole SaysReach octets (octets_of c.in_ok-kept.kept.later.reach) c.in_err-fill_reach.field-0.0
+    (refused_part Whole SaysReach octets (octets_of c.read_list.new.later.reach) c.in_err-fill_reach.field-0.0
     (λ parts s. (
       s.said.reach,
       subst (SaysReach s.said.reach)
-          (ap (first_value MP_REACH_NLRI) (one_list SpellsAttribute attribute_code octets s.list read.list s.spelled read.spelled) ∙ sym read.later.reach) s.said.together.reached,
+          (ap (first_value MP_REACH_NLRI) (one_list SpellsAttribute attribute_code octets s.list read.list s.spelled read.spelled) ∙ sym read.values.reach) s.said.together.reached,
     ))
     c.in_err-fill_reach.ensures.refused)
 
@@ -56,13 +56,13 @@ pub returns-in_err-fill_unreach-clause-refused : goal.returns-in_err-fill_unreac
 returns-in_err-fill_unreach-clause-refused c =
     let octets = c.args.octets.now in
     let Whole = SpellsParts c.args.width in
-    let read = c.in_ok-kept.ensures.read in
+    let read = c.in_ok-read_list.ensures.read in
     let p = err_from_is_err_and c.from_residual-in_err-fill_unreach.result c.from_residual-in_err-fill_unreach.ensures.1 in
     subst (λ answer. IfErr answer (Refuses Whole octets)) (sym (p.1 ∙ ap Err p.2))
-    (refused_part Whole SaysUnreach octets (octets_of c.in_ok-kept.kept.later.unreach) c.in_err-fill_unreach.field-0.0
+    (refused_part Whole SaysUnreach octets (octets_of c.read_list.new.later.unreach) c.in_err-fill_unreach.field-0.0
     (λ parts s. (
       parts.mp_withdrawn,
       subst (SaysUnreach parts.mp_withdrawn)
-          (ap (first_value MP_UNREACH_NLRI) (one_list SpellsAttribute attribute_code octets s.list read.list s.spelled read.spelled) ∙ sym read.later.unreach) s.said.together.unreached,
+          (ap (first_value MP_UNREACH_NLRI) (one_list SpellsAttribute attribute_code octets s.list read.list s.spelled read.spelled) ∙ sym read.values.unreach) s.said.together.unreached,
     ))
     c.in_err-fill_unreach.ensures.refused)

@@ -7,7 +7,7 @@ use Rattle.mrt_wire.specs.Items.{peer_entry_items, route_of}
 use Rattle.mrt_wire.specs.Judging.{Told}
 use Rattle.mrt_wire.specs.TableDump.{SpellsPeerEntry}
 use Rattle.mrt_wire.proofs.TableDumpLaws.{refused_attrs}
-use Rattle.mrt_wire.proofs.table_dump.read_peer_entry.Goals as goal
+use Rattle.mrt_wire.proofs.table_dump.read_entry_of.Goals as goal
 
 pub returns-in_default : goal.returns-in_default
 returns-in_default c items s =
