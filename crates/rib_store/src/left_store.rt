@@ -10,7 +10,8 @@ use std::mem::ManuallyDrop;
 
 /// Another store, whose memory is not given back when this one is dropped: the system takes it when
 /// the program ends. So it is for programs that end soon after they drop it, which need not take
-/// the store apart first. Dropped elsewhere, it loses the memory of the store.
+/// the store apart first. Dropped elsewhere, it loses the memory of the store, and each route that
+/// stands in it stays alive.
 #[derive(Drop)]
 pub struct LeftStore<S> {
     store: ManuallyDrop<S>,

@@ -283,7 +283,10 @@ fn finds_the_only_step_that_names_a_prefix(rt: HostRuntime) -> Result<(), Fail> 
     assert_eq!(rt; player.forget(1), 300);
     assert_eq!(rt; keys_of(&player, &peer()), Some(1));
     assert_eq!(rt; shift(&mut player, true), Answer::Done);
-    assert_eq!(rt; answer_to(&mut player, &event(alloc, &[])?), Answer::Dropped(1));
+    assert_eq!(rt;
+        answer_to(&mut player, &event(alloc, &[])?),
+        Answer::Dropped(1)
+    );
     assert_eq!(rt; keys_of(&player, &peer()), None);
     Ok(())
 }
