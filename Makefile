@@ -33,6 +33,7 @@ test:
 checks: $(PROGRAM)
 	examples/demo.sh $(PROGRAM) >/dev/null
 	checks/program.py $(PROGRAM)
+	checks/refusals.py $(PROGRAM)
 	examples/cookbook.py $(PROGRAM)
 	if command -v mandoc >/dev/null; then mandoc -T lint -W warning man/bgpdump.1; fi
 

@@ -1,0 +1,145 @@
+#!/usr/bin/env python3
+"""Runs the built program with each of its requests for memory refused, and each read and write failing.
+
+    checks/refusals.py PROGRAM
+
+A library that is loaded before the C library, refusing.c beside this file, counts the calls and lets
+them fail; it takes a C compiler. Of each call of the program the first request for memory is refused,
+then the second and so on, each alone, and then it and all behind it. Then each read and each write
+fails, or moves a single octet. Whatever fails, the outputs are fronts of the right texts, the status
+is that of the manual page, and the last message is there.
+"""
+import errno
+import mmap
+import os
+import struct
+import subprocess
+import sys
+import tempfile
+from dataclasses import dataclass
+from pathlib import Path
+
+HERE = Path(__file__).resolve().parent
+EXAMPLES = HERE.parent / 'examples'
+
+# The seconds that a call may last, and how many calls all requests are refused from on.
+LONGEST_CALL = 10
+ALL = 1 << 62
+
+SCRIPT = ''.join(line + '\n' for line in (
+    'next 40', 'peers', 'forget 10', 'table 192.0.2.1 64496', 'lookup 192.0.2.3 65536 198.51.100.1', 'back 5',
+    'lose 192.0.2.2 64497', 'foo', 'next 4294967295', 'peers', 'route 192.0.2.1 64496 198.51.100.0/24'))
+
+OUT_OF_MEMORY, READ_FAULT, WRITE_FAULT = (
+    b'bgpdump: %s\n' % what for what in (b'out of memory', b'read fault', b'write fault'))
+
+
+@dataclass
+class Ended:
+    """How a call ended, how many requests, reads and writes it made, and how many of them failed."""
+    status: int
+    out: bytes
+    err: bytes
+    made: dict
+    failed: int
+
+
+class Calls:
+    """Calls of the program with something failing in them."""
+
+    def __init__(self, program, folder):
+        self.program, self.folder = program, folder
+        self.library, self.counts = folder / 'refusing.so', folder / 'counts'
+        subprocess.run(['cc', '-O1', '-shared', '-fPIC', '-o', self.library, HERE / 'refusing.c', '-ldl'], check=True)
+
+    def run(self, words, kind='memory', first=0, last=0, error=0):
+        self.counts.write_bytes(bytes(mmap.PAGESIZE))
+        environment = dict(os.environ, LD_PRELOAD=str(self.library), REFUSING_COUNTS=str(self.counts),
+                           REFUSING_KIND=kind, REFUSING_FIRST=str(first), REFUSING_LAST=str(last),
+                           REFUSING_ERROR=str(error))
+        done = subprocess.run([self.program, *words], env=environment, stdin=subprocess.DEVNULL, capture_output=True,
+                              timeout=LONGEST_CALL, check=False)
+        *made, failed = struct.unpack('4q', self.counts.read_bytes()[:32])
+        return Ended(done.returncode, done.stdout, done.stderr, dict(zip(('memory', 'read', 'write'), made)), failed)
+
+
+def is_whole(ended, right):
+    return (ended.status, ended.out, ended.err) == (right.status, right.out, right.err)
+
+
+def is_front(ended, right, status, message, may_be_lost=False):
+    """Whether the outputs are fronts of the right texts, with the last message behind the reports."""
+    if ended.status != status or not right.out.startswith(ended.out):
+        return False
+    if ended.err.endswith(message) and right.err.startswith(ended.err[:len(ended.err) - len(message)]):
+        return True
+    return may_be_lost and right.err.startswith(ended.err)
+
+
+def fault(words, what, ended):
+    return '%s, %s: status %d, %d octets printed, and last %r' % (
+        ' '.join(words), what, ended.status, len(ended.out), ended.err[-80:])
+
+
+def refuse_memory(calls, words, right):
+    """Refuses each request, alone and with all behind it. What shrinks a block can do without."""
+    refusals = 0
+    for number in range(1, right.made['memory'] + 1):
+        for last in (number, ALL):
+            ended = calls.run(words, 'memory', number, last)
+            if ended.failed == 0:
+                yield fault(words, 'request %d is never made' % number, ended)
+            elif is_front(ended, right, 4, OUT_OF_MEMORY):
+                refusals += 1
+            elif not is_whole(ended, right):
+                others = ' and all behind it' if last == ALL else ''
+                yield fault(words, 'request %d%s refused' % (number, others), ended)
+    if refusals == 0 and right.made['memory'] > 0:
+        yield '%s: no refused request was met' % ' '.join(words)
+
+
+def fail_devices(calls, words, right):
+    """Lets each read and each write fail, and then all of them move one octet."""
+    for kind, message in (('read', READ_FAULT), ('write', WRITE_FAULT)):
+        if right.made[kind] == 0:
+            yield '%s: no %s is counted' % (' '.join(words), kind)
+        for number in range(1, right.made[kind] + 1):
+            for error in (errno.EIO, errno.EINTR):
+                ended = calls.run(words, kind, number, number, error)
+                is_retried = error == errno.EINTR and is_whole(ended, right)
+                if not is_retried and not is_front(ended, right, 3, message, may_be_lost=kind == 'write'):
+                    yield fault(words, '%s %d fails with %s' % (kind, number, errno.errorcode[error]), ended)
+        ended = calls.run(words, kind, 1, ALL)
+        if not is_whole(ended, right):
+            yield fault(words, 'each %s moves one octet' % kind, ended)
+
+
+def calls_over_examples(script):
+    for mode, names in ((('-m',), ('table.mrt', 'old-table.mrt', 'updates.mrt', 'session-changes.mrt', 'damaged.mrt')),
+                        (('-t', 'change', '-m'), ('table.mrt',)),
+                        (('--play', script), ('incident.mrt', 'damaged.mrt'))):
+        for name in names:
+            yield [*mode, str(EXAMPLES / name)]
+
+
+def main():
+    if len(sys.argv) != 2:
+        sys.exit(__doc__)
+    with tempfile.TemporaryDirectory() as folder:
+        calls = Calls(str(Path(sys.argv[1]).resolve()), Path(folder))
+        script = calls.folder / 'script'
+        script.write_text(SCRIPT)
+        faults = []
+        print('requests   reads   writes   call')
+        for words in calls_over_examples(str(script)):
+            right = calls.run(words)
+            print('%8d   %5d   %6d   %s' % (*right.made.values(), ' '.join(Path(word).name for word in words)), flush=True)
+            faults += [*refuse_memory(calls, words, right), *fail_devices(calls, words, right)]
+    for what in faults:
+        print(what)
+    print('refusals: %s' % ('no faults' if not faults else '%d faults' % len(faults)))
+    sys.exit(1 if faults else 0)
+
+
+if __name__ == '__main__':
+    main()

@@ -1,0 +1,105 @@
+/* Loaded before the C library: counts a program's requests for memory, its reads and its writes, and
+   lets some of them fail. checks/refusals.py sets the variables:
+
+     REFUSING_COUNTS   a file, into which the counts are mapped
+     REFUSING_KIND     memory, read or write
+     REFUSING_FIRST    the first of them that fails, from 1; 0: none
+     REFUSING_LAST     the last of them that fails
+     REFUSING_ERROR    the error of a read or a write; 0: it moves one octet */
+#define _GNU_SOURCE
+#include <dlfcn.h>
+#include <errno.h>
+#include <fcntl.h>
+#include <stdlib.h>
+#include <string.h>
+#include <sys/mman.h>
+#include <unistd.h>
+
+enum kind { MEMORY, READ, WRITE, KINDS };
+
+static struct counts {
+    long made[KINDS];
+    long failed;
+} unseen, *counts = &unseen;
+
+static enum kind kind = KINDS;
+static long first, last;
+static int error;
+
+extern void *__libc_malloc(size_t);
+extern void *__libc_realloc(void *, size_t);
+
+__attribute__((constructor)) static void begin(void) {
+    static const char *const names[] = {"memory", "read", "write"};
+    const char *path = getenv("REFUSING_COUNTS"), *named = getenv("REFUSING_KIND");
+    if (path == NULL || named == NULL)
+        return;
+    int file = open(path, O_RDWR);
+    void *shared = mmap(NULL, sizeof *counts, PROT_READ | PROT_WRITE, MAP_SHARED, file, 0);
+    close(file);
+    if (shared == MAP_FAILED)
+        _exit(99);
+    first = atol(getenv("REFUSING_FIRST"));
+    last = atol(getenv("REFUSING_LAST"));
+    error = atoi(getenv("REFUSING_ERROR"));
+    for (int k = 0; k < KINDS; k++)
+        if (strcmp(names[k], named) == 0)
+            kind = k;
+    counts = shared;
+}
+
+/* Counts a call, and tells whether it fails. */
+static int fails(enum kind called) {
+    long number = ++counts->made[called];
+    int hit = called == kind && first <= number && number <= last && first > 0;
+    counts->failed += hit;
+    return hit;
+}
+
+void *malloc(size_t size) {
+    if (fails(MEMORY)) {
+        errno = ENOMEM;
+        return NULL;
+    }
+    return __libc_malloc(size);
+}
+
+void *realloc(void *block, size_t size) {
+    if (fails(MEMORY)) {
+        errno = ENOMEM;
+        return NULL;
+    }
+    return __libc_realloc(block, size);
+}
+
+ssize_t read(int file, void *octets, size_t size) {
+    static ssize_t (*next)(int, void *, size_t);
+    if (next == NULL)
+        next = dlsym(RTLD_NEXT, "read");
+    if (size > 0 && fails(READ)) {
+        if (error != 0) {
+            errno = error;
+            return -1;
+        }
+        size = 1;
+    }
+    return next(file, octets, size);
+}
+
+ssize_t write(int file, const void *octets, size_t size) {
+    static ssize_t (*next)(int, const void *, size_t);
+    if (next == NULL)
+        next = dlsym(RTLD_NEXT, "write");
+    if (size > 0 && fails(WRITE)) {
+        if (error != 0) {
+            errno = error;
+            return -1;
+        }
+        size = 1;
+    }
+    return next(file, octets, size);
+}
+
+ssize_t __write(int file, const void *octets, size_t size) {
+    return write(file, octets, size);
+}
