@@ -1,4 +1,5 @@
 mod adapters;
+mod damage;
 mod faults;
 mod lines;
 mod reading;

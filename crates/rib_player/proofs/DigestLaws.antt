@@ -1,21 +1,66 @@
 -- A step whose digest tells so doesn't name the pair, and digests stay right.
-use Rattle.std.proofs.Common.{◌≡◌, ℕ, zero, suc, ◌-◌, ◌^◌, ◌<◌, ◌≤◌, length, take, Bool, true, false, cond, ◌||◌, List, [], ◌∷◌, ◌++◌, bit_and, eqb, refl, sym, ap, ap₂, ◌∙◌, arith}
-use Rattle.std.proofs.lemmas.Bool.{or_parts, eqb-true, eq-eqb}
-use Rattle.std.proofs.lemmas.Nat.{and_comm, and_assoc, and-not, and_or_self}
+use Rattle.std.proofs.Common.{◌≡◌, ℕ, zero, suc, ◌-◌, ◌*◌, ◌/◌, ◌%◌, ◌^◌, ◌<◌, ◌≤◌, length, take, Bool, true, false, cond, ◌||◌, List, [], ◌∷◌, ◌++◌, bit_and, refl, sym, ap, ap₂, ◌∙◌, arith}
+use Rattle.std.proofs.lemmas.Bool.{or_parts, eq-eqb}
+use Rattle.std.proofs.lemmas.Nat.{and_comm, and_assoc, and-not, and_or_self, or_lt, pow_below, div_below, mod_below}
 use Rattle.rib_player.specs.declared.pair.Pair.{Pair}
 use Rattle.rib_player.specs.declared.journal.Entry.{Entry}
 use Rattle.rib_player.specs.declared.digest.Digest.{Digest}
+use Rattle.rib_player.specs.declared.digest.TheConstants.{MULTIPLIER, DIGEST_BITS, FIRST_SHIFT, SECOND_SHIFT}
 use Rattle.rib_player.specs.Journal.{Mark, marks_of, named_by, any_named, marked, marked_first}
-use Rattle.rib_player.specs.Digests.{bits_of, can_name, IsDigestOf, AreDigestsOf, ArePassed}
+use Rattle.rib_player.specs.Digests.{hashed_number, bits_of, can_name, absent_bits, IsDigestOf, AreDigestsOf, ArePassed}
 use Rattle.rib_player.proofs.PairLaws.{same_pair}
-use Rattle.rib_player.proofs.MarkLaws.{tied, named_by-marked}
+use Rattle.rib_player.proofs.MarkLaws.{tied}
+
+-- ---- the bits of pairs
+
+-- they are among the 64 of a digest
+bits-fit : (p : Pair) → bits_of p < 2 ^ 64
+unfolding bits_of
+bits-fit p =
+    let hash = hashed_number p * MULTIPLIER % 2 ^ DIGEST_BITS in
+    or_lt 64 (2 ^ (hash / 2 ^ FIRST_SHIFT)) (2 ^ (hash / 2 ^ SECOND_SHIFT % DIGEST_BITS))
+    (pow_below (hash / 2 ^ FIRST_SHIFT) 64 (div_below hash (2 ^ FIRST_SHIFT) 64 (omega arith) (mod_below (hashed_number p * MULTIPLIER) (2 ^ DIGEST_BITS) (omega arith))))
+    (pow_below (hash / 2 ^ SECOND_SHIFT % DIGEST_BITS) 64 (mod_below (hash / 2 ^ SECOND_SHIFT) DIGEST_BITS (omega arith)))
+
+-- bits that are absent stay so when others are
+still_apart : (absent bits other : ℕ) → bit_and absent bits ≡ 0 → bit_and (bit_and other absent) bits ≡ 0
+still_apart absent bits other apart = and_assoc bits other absent ∙ ap (bit_and other) apart ∙ and_comm other 0
+
+-- and so are those that are taken away
+now_apart : (absent bits : ℕ) → bits < 2 ^ 64 → bit_and (bit_and (2 ^ 64 - 1 - bits) absent) bits ≡ 0
+now_apart absent bits fits =
+    let same : bit_and bits bits ≡ bits = and_or_self bits 0 in
+    let none : bit_and (2 ^ 64 - 1 - bits) bits ≡ 0 = omega (arith, and-not 64 bits bits fits fits, same) in
+    ap (λ n. bit_and n bits) (and_comm (2 ^ 64 - 1 - bits) absent) ∙ and_assoc bits absent (2 ^ 64 - 1 - bits) ∙ ap (bit_and absent) none ∙ and_comm absent 0
+
+-- no bit of a pair that is named is absent
+apart-named : (marks : List Mark) (p : Pair) → named_by marks p ≡ true → bit_and (absent_bits marks) (bits_of p) ≡ 0
+apart-named [] p there = cc
+apart-named (m ∷ marks) p there = at (apart-named marks p) (tied p m.0) refl there
+  where
+    at : (named_by marks p ≡ true → bit_and (absent_bits marks) (bits_of p) ≡ 0) → (b : Bool) → tied p m.0 ≡ b → (b || named_by marks p) ≡ true → bit_and (bit_and (2 ^ 64 - 1 - bits_of m.0) (absent_bits marks)) (bits_of p) ≡ 0
+    at later true tie there = ap (λ q. bit_and (bit_and (2 ^ 64 - 1 - bits_of m.0) (absent_bits marks)) (bits_of q)) (same_pair p m.0 tie) ∙ now_apart (absent_bits marks) (bits_of m.0) (bits-fit m.0)
+    at later false tie there = still_apart (absent_bits marks) (bits_of p) (2 ^ 64 - 1 - bits_of m.0) (later there)
+
+-- the bits that are absent once the pair of one more entry has taken its own away
+pub absent-more : (entries : List Entry) (e : Entry) → absent_bits (marks_of (entries ++ e ∷ [])) ≡ bit_and (absent_bits (marks_of entries)) (2 ^ 64 - 1 - bits_of e.pair)
+absent-more [] e = and_comm (2 ^ 64 - 1 - bits_of e.pair) (2 ^ 64 - 1)
+absent-more (x ∷ entries) e =
+    ap (bit_and (2 ^ 64 - 1 - bits_of x.pair)) (absent-more entries e)
+    ∙ sym (and_assoc (2 ^ 64 - 1 - bits_of e.pair) (2 ^ 64 - 1 - bits_of x.pair) (absent_bits (marks_of entries)))
+
+absent-marked : (p : Pair) (marks : List Mark) → absent_bits (marked p marks) ≡ absent_bits marks
+absent-marked p [] = refl
+absent-marked p (m ∷ marks) = ap (bit_and (2 ^ 64 - 1 - bits_of m.0)) (absent-marked p marks)
+
+-- ---- the digests of steps
 
 -- a pair that a digest excludes isn't named
 not_named : (digest : Digest) (marks : List Mark) (p : Pair) → IsDigestOf digest marks → can_name digest (bits_of p) ≡ false → named_by marks p ≡ false
 not_named digest marks p is out = at (named_by marks p) refl
   where
     at : (b : Bool) → named_by marks p ≡ b → b ≡ false
-    at true there = sym (is p there) ∙ out
+    at true there = sym (eq-eqb _ 0 (ap (λ n. bit_and n (bits_of p)) is ∙ apart-named marks p there)) ∙ out
     at false there = refl
 
 pub length-digests : (digests : List Digest) (trail : List (List Mark)) → AreDigestsOf digests trail → length digests ≡ length trail
@@ -48,7 +93,7 @@ digests-marked p (d ∷ digests) [] are = absurd are
 digests-marked p (d ∷ digests) (marks ∷ trail) are = at (named_by marks p) (digests-marked p digests trail are.1)
   where
     at : (b : Bool) → AreDigestsOf digests (marked_first p trail) → AreDigestsOf (d ∷ digests) (cond b (marked p marks ∷ trail) (marks ∷ marked_first p trail))
-    at true later = ((λ q there. are.0 q (sym (named_by-marked p marks q) ∙ there)), are.1)
+    at true later = (are.0 ∙ sym (absent-marked p marks), are.1)
     at false later = (are.0, later)
 
 pub digests-taken : (n : ℕ) (digests : List Digest) (trail : List (List Mark)) → AreDigestsOf digests trail → AreDigestsOf (take n digests) (take n trail)
@@ -63,44 +108,3 @@ digests-added [] [] digest new are is = (is, tt)
 digests-added [] (marks ∷ trail) digest new are is = absurd are
 digests-added (d ∷ digests) [] digest new are is = absurd are
 digests-added (d ∷ digests) (marks ∷ trail) digest new are is = (are.0, digests-added digests trail digest new are.1 is)
-
--- ---- the digest of a step
-
--- bits that are absent stay so when others are
-still_apart : (absent bits other : ℕ) → bit_and absent bits ≡ 0 → bit_and (bit_and absent other) bits ≡ 0
-still_apart absent bits other apart =
-    and_assoc bits absent other ∙ ap (bit_and absent) (and_comm other bits) ∙ sym (and_assoc other absent bits) ∙ ap (λ n. bit_and n other) apart
-
--- and so are those that are taken away
-now_apart : (absent bits : ℕ) → bits < 2 ^ 64 → bit_and (bit_and absent (2 ^ 64 - 1 - bits)) bits ≡ 0
-now_apart absent bits fits =
-    let same : bit_and bits bits ≡ bits = and_or_self bits 0 in
-    let none : bit_and (2 ^ 64 - 1 - bits) bits ≡ 0 = omega (arith, and-not 64 bits bits fits fits, same) in
-    and_assoc bits absent (2 ^ 64 - 1 - bits) ∙ ap (bit_and absent) none ∙ and_comm absent 0
-
--- a digest with the bits of one more pair
-pub digest-more : (absent : ℕ) (entries : List Entry) (e : Entry) → bits_of e.pair < 2 ^ 64 → IsDigestOf (record { absent = absent }) (marks_of entries)
-    → IsDigestOf (record { absent = bit_and absent (2 ^ 64 - 1 - bits_of e.pair) }) (marks_of (entries ++ e ∷ []))
-digest-more absent entries e fits is q there = at (named_by (marks_of entries) q) refl
-  where
-    split : named_by (marks_of (entries ++ e ∷ [])) q ≡ (named_by (marks_of entries) q || (tied q e.pair || false))
-    split = named-append entries
-      where
-        named-append : (entries : List Entry) → named_by (marks_of (entries ++ e ∷ [])) q ≡ (named_by (marks_of entries) q || (tied q e.pair || false))
-        named-append [] = refl
-        named-append (x ∷ entries) = ap (λ b. tied q x.pair || b) (named-append entries) ∙ assoc (tied q x.pair)
-          where
-            assoc : (b : Bool) → (b || (named_by (marks_of entries) q || (tied q e.pair || false))) ≡ ((b || named_by (marks_of entries) q) || (tied q e.pair || false))
-            assoc true = refl
-            assoc false = refl
-
-    at : (b : Bool) → named_by (marks_of entries) q ≡ b → eqb (bit_and (bit_and absent (2 ^ 64 - 1 - bits_of e.pair)) (bits_of q)) 0 ≡ true
-    at true before = eq-eqb _ 0 (still_apart absent (bits_of q) (2 ^ 64 - 1 - bits_of e.pair) (eqb-true (bit_and absent (bits_of q)) 0 (is q before)))
-    at false before =
-        let tie : (tied q e.pair || false) ≡ true = ap (λ b. b || (tied q e.pair || false)) (sym before) ∙ sym split ∙ there in
-        let same : q ≡ e.pair = same_pair q e.pair (sym (or_false (tied q e.pair)) ∙ tie) in
-        eq-eqb _ 0 (ap (λ p. bit_and (bit_and absent (2 ^ 64 - 1 - bits_of e.pair)) (bits_of p)) same ∙ now_apart absent (bits_of e.pair) fits)
-      where
-        or_false : (b : Bool) → (b || false) ≡ b
-        or_false true = refl
-        or_false false = refl

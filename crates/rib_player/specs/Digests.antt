@@ -1,5 +1,5 @@
 -- Which pairs a step can't name, by a word of 64 bits.
-use Rattle.std.specs.Prelude.{◌≡◌, ℕ, ◌+◌, ◌*◌, ◌/◌, ◌%◌, ◌^◌, ◌<◌, ◌≤◌, Bool, true, false, nat_eq, bit_and, bit_or, List, [], ◌∷◌, slice_index_or}
+use Rattle.std.specs.Prelude.{◌≡◌, ℕ, ◌+◌, ◌-◌, ◌*◌, ◌/◌, ◌%◌, ◌^◌, ◌<◌, ◌≤◌, Bool, true, false, nat_eq, bit_and, bit_or, List, [], ◌∷◌, slice_index_or}
 use Rattle.std.specs.Int.{w32, from_be_bytes}
 use Rattle.ip_prefix.specs.declared.addr.Family.{Family}
 use Rattle.ip_prefix.specs.declared.addr.Family.TheVariants.{V4, V6}
@@ -8,7 +8,7 @@ use Rattle.ip_prefix.specs.Network.{least_address}
 use Rattle.rib_player.specs.declared.pair.Pair.{Pair}
 use Rattle.rib_player.specs.declared.digest.Digest.{Digest}
 use Rattle.rib_player.specs.declared.digest.TheConstants.{MULTIPLIER, DIGEST_BITS, FIRST_SHIFT, SECOND_SHIFT, ASN_BITS}
-use Rattle.rib_player.specs.Journal.{Mark, named_by}
+use Rattle.rib_player.specs.Journal.{Mark}
 
 -- the place of the first octet of an address that is hashed
 abbrev pub hashed_place : Family → ℕ
@@ -35,9 +35,14 @@ bits_of pair = bit_or (2 ^ (hash_of pair / 2 ^ FIRST_SHIFT)) (2 ^ (hash_of pair 
 abbrev pub can_name : Digest → ℕ → Bool
 can_name digest bits = nat_eq (bit_and digest.absent bits) 0
 
--- no bit of a pair of these marks is absent
+-- the bits that no pair of these marks has
+abbrev pub absent_bits : List Mark → ℕ
+absent_bits [] = 2 ^ DIGEST_BITS - 1
+absent_bits (mark ∷ marks) = bit_and (2 ^ DIGEST_BITS - 1 - bits_of mark.0) (absent_bits marks)
+
+-- the absent bits are those that no pair of these marks has
 abbrev pub IsDigestOf : Digest → List Mark → Type 0
-IsDigestOf digest marks = (q : Pair) → named_by marks q ≡ true → can_name digest (bits_of q) ≡ true
+IsDigestOf digest marks = digest.absent ≡ absent_bits marks
 
 -- so for each step
 abbrev pub AreDigestsOf : List Digest → List (List Mark) → Type 0
@@ -49,3 +54,7 @@ AreDigestsOf (digest ∷ digests) (marks ∷ trail) = IsDigestOf digest marks ×
 -- no digest from the first place on and before the second has all the bits
 abbrev pub ArePassed : ℕ → ℕ → ℕ → List Digest → Type 0
 ArePassed bits low high digests = (i : ℕ) → low ≤ i → i < high → can_name (slice_index_or digests i (record { absent = 0 })) bits ≡ false
+
+-- the digest at the place has none of the bits among those that are absent
+abbrev pub IsCandidate : ℕ → ℕ → List Digest → Type 0
+IsCandidate bits place digests = can_name (slice_index_or digests place (record { absent = 0 })) bits ≡ true

@@ -1,10 +1,10 @@
 //! Words that tell which pairs a step can't name, so that a search passes it by.
 
-ghost use Rattle.std.specs.Prelude.{◌≡◌, ◌≤◌, ◌+◌, [], ◌∷◌, length};
+ghost use Rattle.std.specs.Prelude.{◌≡◌, ◌≤◌, ◌<◌, ◌+◌, [], ◌∷◌, length};
 ghost use Rattle.std.specs.Int.{w32, from_be_bytes};
 ghost use Rattle.ip_prefix.specs.Address.{octet_at, octet_count};
 ghost use Rattle.rib_player.specs.Journal.{marks_of};
-ghost use Rattle.rib_player.specs.Digests.{hashed_place, hashed_number, bits_of, can_name, IsDigestOf, ArePassed};
+ghost use Rattle.rib_player.specs.Digests.{hashed_place, hashed_number, bits_of, can_name, IsDigestOf, ArePassed, IsCandidate};
 
 use crate::journal::Entry;
 use crate::pair::Pair;
@@ -109,6 +109,7 @@ fn place_among(digests: &[Digest], start: usize, bits: u64) -> usize
     ensures further { start ≤ result }
     ensures within { result ≤ length digests.now }
     ensures passed { ArePassed bits start result digests.now }
+    ensures found { result < length digests.now → IsCandidate bits result digests.now }
 {
     let mut place = start;
     'digests: while place < digests.len() && !digests[place].can_name(bits) {
@@ -123,6 +124,7 @@ pub(crate) fn next_place(digests: &VecDeque<Digest>, start: usize, bits: u64) ->
     ensures further { start ≤ result }
     ensures within { result ≤ length digests.now.items }
     ensures passed { ArePassed bits start result digests.now.items }
+    ensures found { result < length digests.now.items → IsCandidate bits result digests.now.items }
 {
     let (front, back) = digests.as_slices();
     if start > front.len() {

@@ -3,6 +3,6 @@ use Rattle.rib_player.specs.Journal.{marks_of}
 use Rattle.rib_player.specs.Digests.{IsDigestOf}
 use Rattle.rib_player.proofs.digest.Digest.of.Given as goal
 
--- no bit of the pairs so far is absent
+-- a digest of the pairs so far
 abbrev pub invariant-entries : goal.invariant-entries
 invariant-entries l = IsDigestOf (record { absent = l.absent }) (marks_of (take l.entry-index l.entries))
