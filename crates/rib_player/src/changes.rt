@@ -1,12 +1,13 @@
 //! What an event does, pair by pair.
 
-ghost use Rattle.std.specs.Prelude.{◌≡◌, ◌||◌, ◌&&◌, [], ◌∷◌, IfOk, IfSome, OnOk, OnErr, Some, None, true, false, is_some, if◌then◌else◌, map};
+ghost use Rattle.std.specs.Prelude.{◌≡◌, ◌||◌, ◌&&◌, [], ◌∷◌, ◌≢◌, IfOk, IfSome, IfNone, OnOk, OnErr, Some, None, true, false, is_some, if◌then◌else◌, map};
 ghost use Rattle.std.specs.List.{AllByRecursion, list_any, filter, IsDistinct};
 ghost use Rattle.std.specs.Map.{keys_of};
 ghost use Rattle.std.specs.Ordering.{eq_by_cmp};
 ghost use Rattle.std.specs.FinMap as finite;
 ghost use Rattle.mrt_wire.specs.Event.{saying};
 ghost use Rattle.rib_player.specs.declared.pair.Pair.{Pair};
+ghost use Rattle.mrt_wire.specs.declared.peer.Peer.{Peer};
 ghost use Rattle.mrt_wire.specs.Peer.{peer_cmp};
 ghost use Rattle.rib_player.specs.History.{pair_cmp, Clear, where_true, item_effect, later, effect};
 ghost use Rattle.rib_player.specs.Store.{route_in, slot_at};
@@ -60,8 +61,10 @@ impl Changes {
 
     /// The peer whose lost session is all that is noted, where it is that.
     fn only_loss(&self) -> Option<Peer>
-        ensures { IfSome result (λ peer.
+        ensures some { IfSome result (λ peer.
             (self.now.routes.entries ≡ []) × (self.now.lost.keys ≡ peer ∷ [])) }
+        ensures none { IfNone result ((peer : Peer) →
+            self.now.routes.entries ≡ [] → self.now.lost.keys ≢ peer ∷ []) }
     {
         if !self.routes.is_empty() || self.lost.len() > 1 {
             return None;

@@ -11,5 +11,5 @@ returns-clause-step g c =
 pub returns-in-Some-clause-step : goal.returns-in-Some-clause-step
 returns-in-Some-clause-step g c =
     IsStepFor-lost_answered c.args.table.now.routes c.args.event.now c.in-Some.peer
-    (lost-alone c.args.event.now c.in_ok-changes.changes c.in-Some.peer c.in_ok-changes.ensures c.in-Some.ensures.0 c.in-Some.ensures.1)
+    (lost-alone c.args.event.now c.in_ok-changes.changes c.in-Some.peer c.in_ok-changes.ensures c.in-Some.ensures.some.0 c.in-Some.ensures.some.1)
     c.lost_entries.result c.lost_entries.ensures.named c.lost_entries.ensures.absent c.lost_entries.ensures.ordered
