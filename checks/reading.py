@@ -18,18 +18,18 @@ RECORDS = {
     (TABLE_DUMP_V2, 1): 'PEER_INDEX_TABLE',
     (TABLE_DUMP_V2, 2): 'RIB_IPV4_UNICAST',
     (TABLE_DUMP_V2, 4): 'RIB_IPV6_UNICAST',
-} | {(BGP4MP, subtype): 'BGP4MP ' + name for subtype, name in SESSION_RECORDS.items()} \
-  | {(BGP4MP_ET, subtype): 'BGP4MP_ET ' + name for subtype, name in SESSION_RECORDS.items()}
+    **{(BGP4MP, subtype): 'BGP4MP ' + name for subtype, name in SESSION_RECORDS.items()},
+    **{(BGP4MP_ET, subtype): 'BGP4MP_ET ' + name for subtype, name in SESSION_RECORDS.items()},
+}
 
-# The octets of an address, by the number of its family, and the numbers of what is read (RFC 4760).
+# The octets of an address by the number of its family, and the name of the family by these octets.
 ADDRESS_SIZES = {1: 4, 2: 16}
 FAMILIES = {4: 'IPv4', 16: 'IPv6'}
+# What prefixes are for (RFC 4760, section 6).
 UNICAST = 1
 
 UPDATE = 2
 MESSAGES = {1: 'OPEN', UPDATE: 'UPDATE', 3: 'NOTIFICATION', 4: 'KEEPALIVE'}
-# The octets of a message in front of its body (RFC 4271, section 4.1).
-MESSAGE_HEADER = 19
 
 ORIGIN, AS_PATH, NEXT_HOP, MULTI_EXIT_DISC, LOCAL_PREF, ATOMIC_AGGREGATE, AGGREGATOR, COMMUNITIES = range(1, 9)
 MP_REACH_NLRI, MP_UNREACH_NLRI, AS4_PATH, AS4_AGGREGATOR = 14, 15, 17, 18
@@ -339,7 +339,7 @@ def read_entry_hop(value, notes):
 # Messages (RFC 4271, section 4).
 
 class Update(NamedTuple):
-    """The prefixes that it withdraws, and those that it announces with the attributes of each."""
+    """The prefixes that an UPDATE withdraws, and lists of those that it announces, each with its attributes."""
     withdrawn: list
     announced: list
     notes: set
@@ -348,6 +348,7 @@ class Update(NamedTuple):
 def read_message(octets, width):
     """The name of a message, and its content where it is an UPDATE."""
     left = Octets(octets, 'message')
+    # The marker, which isn't looked at.
     left.take(16)
     if left.number(2) != len(octets):
         raise malformed('length of a message')
