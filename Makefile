@@ -28,11 +28,12 @@ test:
 	rt ci
 	$(MAKE) --no-print-directory checks PROGRAM=crates/bgpdump/out/bgpdump
 
-# Its texts and statuses, over examples/ and inputs of their own, the commands of the cookbook, and
-# the form of the manual page, where mandoc is there.
+# Its texts and statuses, over examples/, inputs of their own and damaged files, the commands of the
+# cookbook, and the form of the manual page, where mandoc is there.
 checks: $(PROGRAM)
 	examples/demo.sh $(PROGRAM) >/dev/null
 	checks/program.py $(PROGRAM)
+	checks/damage.py $(PROGRAM)
 	checks/refusals.py $(PROGRAM)
 	examples/cookbook.py $(PROGRAM)
 	if command -v mandoc >/dev/null; then mandoc -T lint -W warning man/bgpdump.1; fi
