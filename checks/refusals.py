@@ -133,7 +133,8 @@ def main():
         print('requests   reads   writes   call')
         for words in calls_over_examples(str(script)):
             right = calls.run(words)
-            print('%8d   %5d   %6d   %s' % (*right.made.values(), ' '.join(Path(word).name for word in words)), flush=True)
+            shown = ' '.join(Path(word).name for word in words)
+            print('%8d   %5d   %6d   %s' % (*right.made.values(), shown), flush=True)
             faults += [*refuse_memory(calls, words, right), *fail_devices(calls, words, right)]
     for what in faults:
         print(what)
