@@ -132,10 +132,11 @@ fn eight(octet: u8) -> Prefix {
     Prefix::new(Addr::v4([octet, 0, 0, 0]), 8).unwrap()
 }
 
-/// The IPv4 prefix of 24 bits that begins with 10 and this number in two octets.
+/// The IPv4 prefix of 24 bits that begins with this number in three octets, the first of them
+/// counted from 10.
 fn numbered(number: u32) -> Prefix {
-    let [_, _, high, low] = number.to_be_bytes();
-    Prefix::new(Addr::v4([10, high, low, 0]), 24).unwrap()
+    let [_, first, high, low] = number.to_be_bytes();
+    Prefix::new(Addr::v4([first.saturating_add(10), high, low, 0]), 24).unwrap()
 }
 
 /// The route that an event of one announcement brings.

@@ -3,9 +3,9 @@
 use super::seen::{Seen, assert_few_nodes};
 use super::{
     Answer, Call, HasNodes, RadixPlayer, Row, Say, Who, announcement, answer_to, eight, event,
-    event_of, follow_anew, make_call, numbered, numbered_event, peer, peer_of, shift, time_of,
+    event_of, follow_anew, make_call, numbered, peer, peer_of, route_at, shift, time_of,
 };
-use mrt_wire::{Event, Peer, Route};
+use mrt_wire::{Event, Item, Peer, Route};
 use rib_player::Player;
 use rib_store::PrefixStore;
 use std::alloc::Global;
@@ -262,7 +262,20 @@ fn clears_the_lost_peer_alone(rt: HostRuntime) -> Result<(), Fail> {
     clear_one(&rt, rt.alloc(), &mut player)
 }
 
-/// Plays an event, and compares the time of the last prefix of five thousand.
+/// How many routes a peer has at most in these tests.
+const MANY: u32 = 100_000;
+
+/// An event that announces so many prefixes with one route, of this time.
+fn many_announcements(alloc: Global, time: u32) -> Result<Event, Fail> {
+    let route = route_at(alloc, time)?;
+    let mut items = Vec::new(alloc);
+    for number in 0..MANY {
+        items.push(Item::Announce(peer(), numbered(number), route.clone()?))?;
+    }
+    Ok(event_of(items))
+}
+
+/// Plays an event, and compares the time of the last of so many prefixes.
 fn play_many<S: PrefixStore<Rc<Route>>>(
     rt: &impl Abort,
     player: &mut Player<S>,
@@ -270,16 +283,17 @@ fn play_many<S: PrefixStore<Rc<Route>>>(
     time: Option<u32>,
 ) {
     assert_eq!(rt; answer_to(player, event), Answer::Dropped(0));
-    assert_eq!(rt; time_of(player, &peer(), &numbered(4_999)), time);
+    assert_eq!(rt; time_of(player, &peer(), &numbered(MANY - 1)), time);
 }
 
 #[test]
-fn plays_events_of_thousands_of_prefixes(rt: HostRuntime) -> Result<(), Fail> {
-    let many = numbered_event(rt.alloc(), 5_000)?;
+fn plays_events_of_a_hundred_thousand_prefixes(rt: HostRuntime) -> Result<(), Fail> {
+    let many = many_announcements(rt.alloc(), 7)?;
     let lost = event(rt.alloc(), &[Say::State(6, 1)])?;
     let mut player = RadixPlayer::new(rt.alloc());
-    play_many(&rt, &mut player, &many, Some(4_999));
+    play_many(&rt, &mut player, &many, Some(7));
     play_many(&rt, &mut player, &lost, None);
+    assert_eq!(rt; player.named(), 200_000);
     Ok(())
 }
 
