@@ -4,10 +4,11 @@
     checks/refusals.py PROGRAM
 
 A library that is loaded before the C library, refusing.c beside this file, counts the calls and lets
-them fail; it takes a C compiler. Of each call of the program the first request for memory is refused,
-then the second and so on, each alone, and then it and all behind it. Then each read and each write
-fails, or moves a single octet. Whatever fails, the outputs are fronts of the right texts, the status
-is that of the manual page, and the last message is there.
+them fail; it takes a C compiler. Where nothing fails, `-m` prints what stands beside the example. Of
+each call of the program the first request for memory is refused, then the second and so on, each
+alone, and then it and all behind it. Then each read and each write fails, or moves a single octet.
+Whatever fails, the outputs are fronts of the right texts, the status is that of the manual page, and
+the last message is there.
 """
 import errno
 import mmap
@@ -81,6 +82,15 @@ def fault(words, what, ended):
         ' '.join(words), what, ended.status, len(ended.out), ended.err[-80:])
 
 
+def compare_stored(words, right):
+    """Compares what is printed where nothing fails with the texts that stand beside an example."""
+    example = Path(words[-1])
+    if words[0] == '-m':
+        for what, found in (('.lines', right.out), ('.reports', right.err)):
+            if example.with_suffix(what).read_bytes() != found:
+                yield fault(words, 'its %s differ' % what[1:], right)
+
+
 def refuse_memory(calls, words, right):
     """Refuses each request, alone and with all behind it. What shrinks a block can do without."""
     refusals = 0
@@ -94,7 +104,7 @@ def refuse_memory(calls, words, right):
             elif not is_whole(ended, right):
                 others = ' and all behind it' if last == ALL else ''
                 yield fault(words, 'request %d%s refused' % (number, others), ended)
-    if refusals == 0 and right.made['memory'] > 0:
+    if refusals == 0:
         yield '%s: no refused request was met' % ' '.join(words)
 
 
@@ -135,7 +145,8 @@ def main():
             right = calls.run(words)
             shown = ' '.join(Path(word).name for word in words)
             print('%8d   %5d   %6d   %s' % (*right.made.values(), shown), flush=True)
-            faults += [*refuse_memory(calls, words, right), *fail_devices(calls, words, right)]
+            faults += [*compare_stored(words, right), *refuse_memory(calls, words, right),
+                       *fail_devices(calls, words, right)]
     for what in faults:
         print(what)
     print('refusals: %s' % ('no faults' if not faults else '%d faults' % len(faults)))
