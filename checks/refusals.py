@@ -13,6 +13,7 @@ the last message is there.
 import errno
 import mmap
 import os
+import shutil
 import struct
 import subprocess
 import sys
@@ -45,13 +46,22 @@ class Ended:
     failed: int
 
 
+def compiler():
+    """A C compiler of this machine."""
+    for name in (os.environ.get('CC'), 'cc', 'clang'):
+        if name and shutil.which(name):
+            return name
+    sys.exit('refusals: neither cc nor clang is there')
+
+
 class Calls:
     """Calls of the program with something failing in them."""
 
     def __init__(self, program, folder):
         self.program, self.folder = program, folder
         self.library, self.counts = folder / 'refusing.so', folder / 'counts'
-        subprocess.run(['cc', '-O1', '-shared', '-fPIC', '-o', self.library, HERE / 'refusing.c', '-ldl'], check=True)
+        subprocess.run([compiler(), '-O1', '-shared', '-fPIC', '-o', self.library, HERE / 'refusing.c', '-ldl'],
+                       check=True)
 
     def run(self, words, kind='memory', first=0, last=0, error=0):
         self.counts.write_bytes(bytes(mmap.PAGESIZE))
