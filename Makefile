@@ -4,8 +4,9 @@ PREFIX ?= /usr/local
 
 SOURCES := crates.txt $(shell find crates -name out -prune -o -type f -print)
 
-# What the checks of the built program run.
+# What the checks of the built program run, and that of calls for which memory is refused.
 PROGRAM ?= bin/bgpdump
+CASES ?= bin/refusals
 
 .PHONY: all demo test checks bench install clean
 
@@ -22,19 +23,20 @@ bin/bgpdump: $(SOURCES)
 demo: bin/bgpdump
 	examples/demo.sh bin/bgpdump
 
-# First what takes seconds. rt ci leaves the program that it proved and built.
+# First what takes seconds. rt ci leaves the programs that it proved and built.
 test:
 	checks/quick.py
+	checks/trusted.py
 	rt ci
-	$(MAKE) --no-print-directory checks PROGRAM=crates/bgpdump/out/bgpdump
+	$(MAKE) --no-print-directory checks PROGRAM=crates/bgpdump/out/bgpdump CASES=crates/refusals/out/refusals
 
 # Its texts and statuses, over examples/, inputs of their own and damaged files, the commands of the
 # cookbook, and the form of the manual page, where mandoc is there.
-checks: $(PROGRAM)
+checks: $(PROGRAM) $(CASES)
 	examples/demo.sh $(PROGRAM) >/dev/null
 	checks/program.py $(PROGRAM)
 	checks/damage.py $(PROGRAM)
-	checks/refusals.py $(PROGRAM)
+	checks/refusals.py $(PROGRAM) --cases $(CASES)
 	examples/cookbook.py $(PROGRAM)
 	if command -v mandoc >/dev/null; then mandoc -T lint -W warning man/bgpdump.1; fi
 
@@ -46,6 +48,11 @@ bin/store_bench: $(SOURCES)
 	cd crates/store_bench && rt run
 	mkdir -p bin
 	cp crates/store_bench/out/store_bench $@
+
+bin/refusals: $(SOURCES)
+	cd crates/refusals && rt run
+	mkdir -p bin
+	cp crates/refusals/out/refusals $@
 
 install: bin/bgpdump
 	mkdir -p "$(DESTDIR)$(PREFIX)/bin" "$(DESTDIR)$(PREFIX)/share/man/man1"

@@ -1,7 +1,7 @@
 #!/usr/bin/env python3
-"""Runs the built program with each of its requests for memory refused, and each read and write failing.
+"""Runs the built program, and calls of the libraries, with each request for memory refused and more.
 
-    checks/refusals.py PROGRAM
+    checks/refusals.py [PROGRAM] [--cases CASES]
 
 A library that is loaded before the C library, refusing.c beside this file, counts the calls and lets
 them fail; it takes a C compiler. Where nothing fails, `-m` prints what stands beside the example. Of
@@ -9,24 +9,19 @@ each call of the program the first request for memory is refused, then the secon
 alone, and then it and all behind it. Then each read and each write fails, or moves a single octet.
 Whatever fails, the outputs are fronts of the right texts, the status is that of the manual page, and
 the last message is there.
+
+CASES is the program of crates/refusals: refused_calls.py says what becomes of its calls.
 """
+import argparse
 import errno
-import mmap
-import os
-import shutil
-import struct
-import subprocess
 import sys
 import tempfile
-from dataclasses import dataclass
 from pathlib import Path
 
-HERE = Path(__file__).resolve().parent
-EXAMPLES = HERE.parent / 'examples'
+from calling import ALL, Calls
+from refused_calls import faults_of_cases
 
-# The seconds that a call may last, and how many calls all requests are refused from on.
-LONGEST_CALL = 10
-ALL = 1 << 62
+EXAMPLES = Path(__file__).resolve().parent.parent / 'examples'
 
 SCRIPT = ''.join(line + '\n' for line in (
     'next 40', 'peers', 'forget 10', 'table 192.0.2.1 64496', 'lookup 192.0.2.3 65536 198.51.100.1', 'back 5',
@@ -34,44 +29,6 @@ SCRIPT = ''.join(line + '\n' for line in (
 
 OUT_OF_MEMORY, READ_FAULT, WRITE_FAULT = (
     b'bgpdump: %s\n' % what for what in (b'out of memory', b'read fault', b'write fault'))
-
-
-@dataclass
-class Ended:
-    """How a call ended, how many requests, reads and writes it made, and how many of them failed."""
-    status: int
-    out: bytes
-    err: bytes
-    made: dict
-    failed: int
-
-
-def compiler():
-    """A C compiler of this machine."""
-    for name in (os.environ.get('CC'), 'cc', 'clang'):
-        if name and shutil.which(name):
-            return name
-    sys.exit('refusals: neither cc nor clang is there')
-
-
-class Calls:
-    """Calls of the program with something failing in them."""
-
-    def __init__(self, program, folder):
-        self.program, self.folder = program, folder
-        self.library, self.counts = folder / 'refusing.so', folder / 'counts'
-        subprocess.run([compiler(), '-O1', '-shared', '-fPIC', '-o', self.library, HERE / 'refusing.c', '-ldl'],
-                       check=True)
-
-    def run(self, words, kind='memory', first=0, last=0, error=0):
-        self.counts.write_bytes(bytes(mmap.PAGESIZE))
-        environment = dict(os.environ, LD_PRELOAD=str(self.library), REFUSING_COUNTS=str(self.counts),
-                           REFUSING_KIND=kind, REFUSING_FIRST=str(first), REFUSING_LAST=str(last),
-                           REFUSING_ERROR=str(error))
-        done = subprocess.run([self.program, *words], env=environment, stdin=subprocess.DEVNULL, capture_output=True,
-                              timeout=LONGEST_CALL, check=False)
-        *made, failed = struct.unpack('4q', self.counts.read_bytes()[:32])
-        return Ended(done.returncode, done.stdout, done.stderr, dict(zip(('memory', 'read', 'write'), made)), failed)
 
 
 def is_whole(ended, right):
@@ -142,21 +99,33 @@ def calls_over_examples(script):
             yield [*mode, str(EXAMPLES / name)]
 
 
+def faults_of_program(calls):
+    """Runs the program over examples/, prints how many requests it makes, and gives what is wrong."""
+    script = calls.folder / 'script'
+    script.write_text(SCRIPT)
+    print('requests   reads   writes   call')
+    for words in calls_over_examples(str(script)):
+        right = calls.run(words)
+        shown = ' '.join(Path(word).name for word in words)
+        print('%8d   %5d   %6d   %s' % (*right.made.values(), shown), flush=True)
+        yield from compare_stored(words, right)
+        yield from refuse_memory(calls, words, right)
+        yield from fail_devices(calls, words, right)
+
+
 def main():
-    if len(sys.argv) != 2:
+    words = argparse.ArgumentParser(usage=__doc__, add_help=False)
+    words.add_argument('program', nargs='?', type=Path)
+    words.add_argument('--cases', type=Path)
+    asked = words.parse_args()
+    if asked.program is None and asked.cases is None:
         sys.exit(__doc__)
+    faults = []
     with tempfile.TemporaryDirectory() as folder:
-        calls = Calls(str(Path(sys.argv[1]).resolve()), Path(folder))
-        script = calls.folder / 'script'
-        script.write_text(SCRIPT)
-        faults = []
-        print('requests   reads   writes   call')
-        for words in calls_over_examples(str(script)):
-            right = calls.run(words)
-            shown = ' '.join(Path(word).name for word in words)
-            print('%8d   %5d   %6d   %s' % (*right.made.values(), shown), flush=True)
-            faults += [*compare_stored(words, right), *refuse_memory(calls, words, right),
-                       *fail_devices(calls, words, right)]
+        if asked.program:
+            faults += faults_of_program(Calls(asked.program.resolve(), Path(folder)))
+        if asked.cases:
+            faults += faults_of_cases(Calls(asked.cases.resolve(), Path(folder), marked=True))
     for what in faults:
         print(what)
     print('refusals: %s' % ('no faults' if not faults else '%d faults' % len(faults)))

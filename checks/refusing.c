@@ -5,7 +5,11 @@
      REFUSING_KIND     memory, read or write
      REFUSING_FIRST    the first of them that fails, from 1; 0: none
      REFUSING_LAST     the last of them that fails
-     REFUSING_ERROR    the error of a read or a write; 0: it moves one octet */
+     REFUSING_ERROR    the error of a read or a write; 0: it moves one octet
+     REFUSING_MARKED   1: requests count, and fail, only inside the calls that the program marks
+
+   The program marks them by asking for blocks of these sizes, which count as no requests:
+   crates/refusals/src/marks.rt has the same three. */
 #define _GNU_SOURCE
 #include <dlfcn.h>
 #include <errno.h>
@@ -15,16 +19,25 @@
 #include <sys/mman.h>
 #include <unistd.h>
 
+enum mark { BEGIN = 1000003, REFUSE_ALL = 1000033, END = 1000037 };
+
 enum kind { MEMORY, READ, WRITE, KINDS };
+
+/* A program that marks nothing is inside from its start on. */
+enum place { OUTSIDE, INSIDE, REFUSING_ALL };
 
 static struct counts {
     long made[KINDS];
     long failed;
+    long begun;   /* calls, by their marks */
+    long unaided; /* stretches in which all requests are refused */
+    long asked;   /* requests in these */
 } unseen, *counts = &unseen;
 
+static enum place place = INSIDE;
 static enum kind kind = KINDS;
 static long first, last;
-static int error;
+static int error, marked;
 
 extern void *__libc_malloc(size_t);
 extern void *__libc_realloc(void *, size_t);
@@ -42,6 +55,8 @@ __attribute__((constructor)) static void begin(void) {
     first = atol(getenv("REFUSING_FIRST"));
     last = atol(getenv("REFUSING_LAST"));
     error = atoi(getenv("REFUSING_ERROR"));
+    marked = atoi(getenv("REFUSING_MARKED"));
+    place = marked ? OUTSIDE : INSIDE;
     for (int k = 0; k < KINDS; k++)
         if (strcmp(names[k], named) == 0)
             kind = k;
@@ -56,8 +71,26 @@ static int fails(enum kind called) {
     return hit;
 }
 
+/* Goes where a mark says, and tells whether a block of this size is one. */
+static int marks(size_t size) {
+    if (!marked || (size != BEGIN && size != REFUSE_ALL && size != END))
+        return 0;
+    place = size == BEGIN ? INSIDE : size == REFUSE_ALL ? REFUSING_ALL : OUTSIDE;
+    counts->begun += size == BEGIN;
+    counts->unaided += size == REFUSE_ALL;
+    return 1;
+}
+
+/* Counts a request, and tells whether it is refused. */
+static int refuses(void) {
+    if (place == INSIDE)
+        return fails(MEMORY);
+    counts->asked += place == REFUSING_ALL;
+    return place == REFUSING_ALL;
+}
+
 void *malloc(size_t size) {
-    if (fails(MEMORY)) {
+    if (!marks(size) && refuses()) {
         errno = ENOMEM;
         return NULL;
     }
@@ -65,7 +98,7 @@ void *malloc(size_t size) {
 }
 
 void *realloc(void *block, size_t size) {
-    if (fails(MEMORY)) {
+    if (refuses()) {
         errno = ENOMEM;
         return NULL;
     }

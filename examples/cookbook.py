@@ -1,13 +1,16 @@
 #!/usr/bin/env python3
-"""Runs every command of docs/cookbook.md and fails where one prints anything else than is written there.
+"""Runs every block of commands of docs/cookbook.md and fails where one prints anything else than is written there.
 
     examples/cookbook.py PROGRAM
 
 It also fails where examples/incident.py makes another file than examples/incident.mrt, or
-examples/routes_svg.py another picture than docs/incident.svg.
+examples/routes_svg.py another picture than docs/incident.svg, or answers a missing file by more than a
+sentence, and where the recipe in Python doesn't find what it should in a table of 10,000 prefixes.
 """
 import difflib
 import os
+import re
+import struct
 import subprocess
 import sys
 import tempfile
@@ -17,35 +20,55 @@ ROOT = Path(__file__).resolve().parent.parent
 COOKBOOK = ROOT / 'docs' / 'cookbook.md'
 
 
-def commands(text):
-    """Each command of the blocks marked as console, and the output that is written behind it."""
-    found = []
-    inside = False
-    for line in text.splitlines():
-        if line.startswith('```'):
-            inside = line == '```console'
-        elif inside and line.startswith('$ '):
-            found.append((line[2:], []))
-        elif inside and (line == '>' or line.startswith('> ')) and not found[-1][1]:
-            found[-1] = (found[-1][0] + '\n' + line[2:], [])
-        elif inside:
-            found[-1][1].append(line)
-    return found
+# A block of commands, and behind it, where they print something, a block of that.
+BLOCKS = re.compile(r'^```sh\n(.*?)^```\n(?:\n```text\n(.*?)^```\n)?', re.DOTALL | re.MULTILINE)
 
 
-def run(command, settings):
-    """What the command writes to standard output and standard error."""
-    return subprocess.run(['bash', '-c', command], cwd=ROOT, env=settings, stdin=subprocess.DEVNULL,
+def blocks(text):
+    """Each block of commands, and the output that is written behind it."""
+    return BLOCKS.findall(text)
+
+
+def run(commands, settings):
+    """What the commands write to standard output and standard error."""
+    return subprocess.run(['bash', '-c', commands], cwd=ROOT, env=settings, stdin=subprocess.DEVNULL,
                           stdout=subprocess.PIPE, stderr=subprocess.STDOUT).stdout
 
 
-def differing_commands(text, settings):
-    """The commands that print something else, each with the difference."""
-    for command, written in commands(text):
-        printed = run(command, settings).decode().splitlines()
+def differing_blocks(text, settings):
+    """The blocks that print something else, each with the difference."""
+    for commands, written in blocks(text):
+        printed = run(commands, settings).decode()
         if printed != written:
-            difference = difflib.unified_diff(written, printed, 'written', 'printed', lineterm='')
-            yield '\n'.join(['$ ' + command, *difference])
+            difference = difflib.unified_diff(written.splitlines(), printed.splitlines(), 'written', 'printed',
+                                              lineterm='')
+            yield '\n'.join([commands, *difference])
+
+
+def record(subtype, body):
+    """A record of a table (RFC 6396, section 4.3)."""
+    return struct.pack('>IHHI', 100, 13, subtype, len(body)) + body
+
+
+def large_table():
+    """A table of 10,000 prefixes of 24 bits and 100 of 25, which are parts of some and have another origin."""
+    yield record(1, bytes.fromhex('C0000201 0000 0001 02 C0000201 C0000201 0000FBF4'))
+    for number in range(10_100):
+        length, origin, bits = (24, 64501, number) if number < 10_000 else (25, 64502, number - 10_000)
+        attributes = bytes.fromhex('40010100 40020602010000%04x 400304C0000209' % origin)
+        prefix = bytes([length]) + struct.pack('>I', 10 << 24 | bits << 8)[:(length + 7) // 8]
+        yield record(2, struct.pack('>I', number) + prefix
+                     + struct.pack('>HHIH', 1, 0, 50, len(attributes)) + attributes)
+
+
+def wanting_recipes(text, folder, settings):
+    """The recipe in Python over a large table, if it finds another number of prefixes, or takes long."""
+    recipe = next(commands for commands, _ in blocks(text) if 'import ipaddress' in commands)
+    table = folder / 'large.mrt'
+    table.write_bytes(b''.join(large_table()))
+    printed = run('timeout 30 ' + recipe.replace('examples/incident.mrt', str(table), 1), settings).decode()
+    if len(printed.splitlines()) != 100 or 'from 64502 in 10.0.0.0/24 of 64501\n' not in printed:
+        yield 'the recipe in Python on a table of 10,000 prefixes:\n' + printed
 
 
 def differing_files(folder, settings):
@@ -55,6 +78,8 @@ def differing_files(folder, settings):
     drawn = run('examples/routes_svg.py examples/incident.mrt', settings)
     if drawn != (ROOT / 'docs' / 'incident.svg').read_bytes():
         yield 'examples/routes_svg.py makes another picture than docs/incident.svg'
+    if run('examples/routes_svg.py missing', settings) != b'bgpdump: cannot open missing\n':
+        yield 'examples/routes_svg.py answers a missing file otherwise'
 
 
 def main():
@@ -65,10 +90,11 @@ def main():
         folder = Path(name)
         (folder / 'bgpdump').symlink_to(Path(sys.argv[1]).resolve())
         settings = {**os.environ, 'PATH': name + os.pathsep + os.environ['PATH'], 'LC_ALL': 'C'}
-        faults = [*differing_commands(text, settings), *differing_files(folder, settings)]
+        faults = [*differing_blocks(text, settings), *differing_files(folder, settings),
+                  *wanting_recipes(text, folder, settings)]
     if faults:
         sys.exit('\n\n'.join(faults))
-    print('the %d commands of docs/cookbook.md print what it says' % len(commands(text)))
+    print('the %d blocks of commands of docs/cookbook.md print what it says' % len(blocks(text)))
 
 
 main()

@@ -12,6 +12,8 @@ LEFT, TOP, WIDTH, HEIGHT = 60, 20, 640, 260  # the place of the lines, in pixels
 
 def replies(file, script):
     run = subprocess.run(['bgpdump', '--play', '-', file], input=script, stdout=subprocess.PIPE, text=True)
+    if run.returncode > 1:  # it has said why
+        sys.exit(run.returncode)
     return run.stdout.splitlines()
 
 

@@ -1,5 +1,5 @@
 -- How many numbers octets hold.
-use Rattle.std.proofs.Common.{◌≡◌, ℕ, ◌+◌, ◌*◌, ◌%◌, List, length, ap, ◌∙◌, arith}
+use Rattle.std.proofs.Common.{◌≡◌, ℕ, ◌+◌, ◌*◌, ◌/◌, ◌%◌, List, length, ap, ◌∙◌, arith}
 use Rattle.ip_prefix.specs.Sequences.{SpellsAll}
 use Rattle.bgp_paths.specs.declared.path.AsWidth.{AsWidth}
 use Rattle.bgp_paths.specs.declared.path.AsWidth.TheVariants.{Two, Four}
@@ -10,6 +10,11 @@ use Rattle.bgp_paths.proofs.OneFront.{length-numbers}
 pub less_one : (width : AsWidth) (size left : ℕ) → size % octets_at width ≡ 0 → left + octets_at width ≡ size → left % octets_at width ≡ 0
 less_one Two size left e h = omega (arith, e, h)
 less_one Four size left e h = omega (arith, e, h)
+
+-- and has a number less
+pub number_less : (width : AsWidth) (size left : ℕ) → left + octets_at width ≡ size → size / octets_at width ≡ left / octets_at width + 1
+number_less Two size left h = omega (arith, h)
+number_less Four size left h = omega (arith, h)
 
 whole_count : (width : AsWidth) (count : ℕ) → (octets_at width * count) % octets_at width ≡ 0
 whole_count Two count = omega arith

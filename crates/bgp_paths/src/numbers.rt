@@ -1,6 +1,6 @@
 //! Numbers in network byte order.
 
-ghost use Rattle.std.specs.Prelude.{◌≡◌, ◌<◌, ◌%◌, ◌^◌, [], length, OnOk, IfErr};
+ghost use Rattle.std.specs.Prelude.{◌≡◌, ◌≤◌, ◌<◌, ◌/◌, ◌%◌, ◌^◌, [], length, OnOk, IfErr, vec_capacity};
 ghost use Rattle.std.specs.Int.{to_be_bytes, w16};
 ghost use Rattle.ip_prefix.specs.Sequences.{SpellsAll};
 ghost use Rattle.bgp_paths.specs.Number.{SpellsAsn, octets_at};
@@ -9,7 +9,6 @@ ghost use Rattle.bgp_paths.specs.Reading.{Refuses};
 use crate::fault::WireFault;
 use crate::path::AsWidth;
 use byteorder::{BigEndian, ByteOrder};
-use std::alloc::AllocError;
 
 impl AsWidth {
     /// How many octets a number takes.
@@ -39,19 +38,19 @@ impl AsWidth {
 /// Appends the numbers that the octets are, one behind the other, to none. It is inlined, so that
 /// there is a loop for each width.
 #[inline(always)]
-fn push_numbers(width: AsWidth, octets: &[u8], numbers: &mut Vec<u32>) -> Result<(), AllocError>
+fn push_numbers(width: AsWidth, octets: &[u8], numbers: &mut Vec<u32>)
     requires whole { length octets.now % octets_at width ≡ 0 }
     requires none { numbers.old.items ≡ [] }
-    ensures { OnOk result (SpellsAll (SpellsAsn width) numbers.new.items octets.now) }
+    requires room { length octets.now / octets_at width ≤ vec_capacity numbers.old }
+    ensures { SpellsAll (SpellsAsn width) numbers.new.items octets.now }
 {
     let size = width.octets();
     let mut rest = octets;
     while !rest.is_empty() {
         let (front, more) = rest.split_at(size);
-        numbers.push(width.number(front))?;
+        numbers.push_reserved(width.number(front));
         rest = more;
     }
-    Ok(())
 }
 
 /// Makes the numbers those that the octets are, one behind the other. There is room for all of them
@@ -68,8 +67,8 @@ pub fn fill_numbers(numbers: &mut Vec<u32>, width: AsWidth, octets: &[u8]) -> Re
     numbers.clear();
     numbers.reserve(octets.len() / size)?;
     match width {
-        AsWidth::Two => push_numbers(AsWidth::Two, octets, numbers)?,
-        AsWidth::Four => push_numbers(AsWidth::Four, octets, numbers)?,
+        AsWidth::Two => push_numbers(AsWidth::Two, octets, numbers),
+        AsWidth::Four => push_numbers(AsWidth::Four, octets, numbers),
     }
     Ok(())
 }

@@ -179,7 +179,10 @@ impl Segments {
         ensures filled { OnOk result (SpellsAll (SpellsSegment width) self.new octets.now) }
         ensures refused { IfErr result (Refuses (SpellsAll (SpellsSegment width)) octets.now) }
     {
-        fill_segments(alloc, &mut self.segments, width, octets)
+        match width {
+            AsWidth::Two => fill_segments(alloc, &mut self.segments, AsWidth::Two, octets),
+            AsWidth::Four => fill_segments(alloc, &mut self.segments, AsWidth::Four, octets),
+        }
     }
 }
 

@@ -110,7 +110,9 @@ fn push_segment(
     Ok(())
 }
 
-/// Makes the segments those that the octets spell. Refused, nothing is said of them.
+/// Makes the segments those that the octets spell. Refused, nothing is said of them. It is inlined,
+/// so that there is a loop for each width.
+#[inline(always)]
 pub(crate) fn fill_segments(
     alloc: Global,
     segments: &mut Vec<Segment>,

@@ -1,6 +1,6 @@
 //! Reading next hops (RFC 4760, section 3; RFC 2545, section 3).
 
-ghost use Rattle.std.specs.Prelude.{◌≡◌, if◌then◌else◌, Option, Some, length, OnOk, IfErr};
+ghost use Rattle.std.specs.Prelude.{◌≡◌, if◌then◌else◌, Option, Some, length, OnOk, OnErr, IfErr};
 ghost use Rattle.ip_prefix.specs.Address.{Address};
 ghost use Rattle.ip_prefix.specs.Bits.{bits_of_octets};
 ghost use Rattle.bgp_wire.specs.Lent.{octets_of};
@@ -100,6 +100,7 @@ pub(crate) fn fill_rib_hop(
         × (hop.new ≡ rib_hop family hop.old reached)) }
     ensures refused { IfErr result
         (Refuses (SpellsOptional SpellsRibHop) (octets_of value.entry)) }
+    ensures kept { OnErr result (hop.new ≡ hop.old) }
 {
     let Some(octets) = value else {
         return Ok(());

@@ -9,6 +9,7 @@ use Rattle.bgpdump_tool.specs.Device.{AppendsFront}
 use Rattle.bgpdump_tool.specs.Run.{EndedByInput, EndsSo, MayHold, Outputs, Texts, Writes, WritesFronts, outputs_of}
 use Rattle.bgpdump_tool.specs.declared.Outcome.{Outcome}
 use Rattle.bgpdump_tool.specs.declared.Outcome.TheVariants.{Done, Reported, ReadFault, WriteFault, InputTooLong, ScriptTooLong, Memory}
+use Rattle.bgpdump.specs.Endings.{lost_outcome}
 use Rattle.bgpdump.specs.Joining.{KeepsBoth, Leaves}
 
 -- ---- what stays behind a text
@@ -90,11 +91,27 @@ leaves_untouched contents contents' out err old mid outcome told ended (Some bot
 pub of_input : {I : Type 0} (P : I → Type 0) (input : Option I) (left : I) → input ≡ Some left → P left → IfSome input P
 of_input P input left is holds = subst (λ i. IfSome i P) (sym is) holds
 
+-- without writers a run is told as one of these two
+pub lost_outcomes : (outcome : Outcome) → (lost_outcome outcome ≡ WriteFault) ⊎ (lost_outcome outcome ≡ Memory)
+lost_outcomes Done = inl refl
+lost_outcomes Reported = inl refl
+lost_outcomes ReadFault = inl refl
+lost_outcomes WriteFault = inl refl
+lost_outcomes InputTooLong = inl refl
+lost_outcomes ScriptTooLong = inl refl
+lost_outcomes Memory = inr refl
+
 -- a run that the input ended is told as such
 pub told_by_input : {O E : Type 0} (contents : O → Option (List ℕ)) (contents' : E → Option (List ℕ)) (mid : Outputs) (outcome told : Outcome) (writers : Option (O × E))
-    → IsClosed contents contents' outcome mid told writers → (IsNone writers → (told ≡ WriteFault) ⊎ (told ≡ Memory)) → EndedByInput told → told ≡ outcome
+    → IsClosed contents contents' outcome mid told writers → (IsNone writers → told ≡ lost_outcome outcome) → EndedByInput told → told ≡ outcome
 told_by_input contents contents' mid outcome told (Some both) closed lost by = closed.0
-told_by_input contents contents' mid outcome told None closed lost by = elim (lost refl) [
-  | inl fault ↦ absurd (subst EndedByInput fault by)
-  | inr memory ↦ absurd (subst EndedByInput memory by)
+told_by_input contents contents' mid outcome told None closed lost by = elim (lost_outcomes outcome) [
+  | inl fault ↦ absurd (subst EndedByInput (lost refl ∙ fault) by)
+  | inr memory ↦ absurd (subst EndedByInput (lost refl ∙ memory) by)
 ]
+
+-- and it is, unless the writers are gone
+pub told_unless_lost : {O E : Type 0} (contents : O → Option (List ℕ)) (contents' : E → Option (List ℕ)) (mid : Outputs) (outcome told ended : Outcome) (writers : Option (O × E))
+    → IsClosed contents contents' outcome mid told writers → outcome ≡ ended → (told ≡ ended) ⊎ IsNone writers
+told_unless_lost contents contents' mid outcome told ended (Some both) closed is = inl (closed.0 ∙ is)
+told_unless_lost contents contents' mid outcome told ended None closed is = inr refl

@@ -24,6 +24,11 @@ ending_status (Ran outcome) = status_of outcome
 abbrev pub IsReadOutcome : Outcome → Type 0
 IsReadOutcome outcome = (outcome ≡ ReadFault) ⊎ (outcome ≡ Memory)
 
+-- how a run ends that ended so, and whose writers failed at the end: want of memory stands in place of any other answer
+abbrev pub lost_outcome : Outcome → Outcome
+lost_outcome Memory = Memory
+lost_outcome outcome = WriteFault
+
 -- what a run that ended so says last
 abbrev pub outcome_message : Outcome → Option (List ℕ)
 outcome_message Done = None

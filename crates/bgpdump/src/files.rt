@@ -1,13 +1,13 @@
 //! The files that the program opens, and the script that it reads.
 
-ghost use Rattle.std.specs.Prelude.{◌≡◌, ◌↔◌, ◌+◌, ℕ, List, Some, take, IfOk, IfErr};
+ghost use Rattle.std.specs.Prelude.{◌≡◌, ◌≢◌, ◌↔◌, ◌+◌, ℕ, List, Some, IsTrue, take, IfOk, IfErr};
 ghost use Rattle.std.specs.IoError.{error_kind};
 ghost use Rattle.bgpdump.specs.Endings.{IsReadOutcome};
 
 use crate::ending::Ending;
 use bgpdump_tool::{LONGEST_SCRIPT, Mode, Outcome, STANDARD_INPUT, Settings};
 use std::alloc::Global;
-use std::fs::{self, File};
+use std::fs::{self, File, Metadata};
 use std::io::{self, ErrorKind, Read};
 use std::os::unix::fs::MetadataExt;
 use std::os::unix::io::{AsRawFd, IntoRawFd};
@@ -17,6 +17,13 @@ const STANDARD_STREAMS: i32 = 3;
 
 /// Where the system has standard input.
 const STANDARD_INPUT_PATH: &str = "/dev/stdin";
+
+/// The number that a file has on its device, and nowhere else.
+#[derive(Clone, Copy, PartialEq, Eq)]
+struct FileNumber {
+    device: u64,
+    inode: u64,
+}
 
 /// How a run ends that this error of reading keeps from beginning.
 pub fn read_outcome(error: &io::Error) -> Outcome
@@ -30,7 +37,12 @@ pub fn read_outcome(error: &io::Error) -> Outcome
 }
 
 /// How the program ends where this error kept the file from being opened.
-fn not_opened<'a>(name: &'a str, error: &io::Error) -> Ending<'a> {
+fn not_opened<'a>(name: &'a str, error: &io::Error) -> Ending<'a>
+    ensures memory { error_kind error.now ≡ ErrorKind.OutOfMemory →
+        result ≡ Ending.Ran Outcome.Memory }
+    ensures other { error_kind error.now ≢ ErrorKind.OutOfMemory →
+        result ≡ Ending.NotOpened name.entry }
+{
     match error.kind() {
         ErrorKind::OutOfMemory => Ending::Ran(Outcome::Memory),
         _ => Ending::NotOpened(name),
@@ -61,34 +73,63 @@ pub fn create<'a>(
     settings: &Settings,
     name: &'a str,
 ) -> Result<File, Ending<'a>> {
-    if is_read(rt, settings, name) {
-        return Err(Ending::NotOpened(name));
+    match is_read(rt, settings, name) {
+        Ok(false) => File::create(rt, name).map_err(|error| not_opened(name, &error)),
+        Ok(true) => Err(Ending::NotOpened(name)),
+        Err(error) => Err(not_opened(name, &error)),
     }
-    File::create(rt, name).map_err(|error| not_opened(name, &error))
 }
 
 /// Whether the file is one that the settings have the program read.
-fn is_read(rt: &HostRuntime, settings: &Settings, name: &str) -> bool {
+fn is_read(rt: &HostRuntime, settings: &Settings, name: &str) -> io::Result<bool> {
     let is_script = match &settings.mode {
         Mode::Lines => false,
-        Mode::Play(script) => is_same_file(rt, script.as_str(), name),
+        Mode::Play(script) => is_same_file(rt, script.as_str(), name)?,
     };
-    is_script || is_same_file(rt, settings.input.as_str(), name)
+    Ok(is_script || is_same_file(rt, settings.input.as_str(), name)?)
 }
 
-/// Whether what is read by one name is the regular file of the other.
-fn is_same_file(rt: &HostRuntime, input: &str, output: &str) -> bool {
+/// Whether what is read by one name is the regular file of the other. Where nothing has the other
+/// name yet, it isn't.
+fn is_same_file(rt: &HostRuntime, input: &str, output: &str) -> io::Result<bool> {
     let path = if input == STANDARD_INPUT {
         STANDARD_INPUT_PATH
     } else {
         input
     };
-    match (fs::metadata(rt, path), fs::metadata(rt, output)) {
-        (Ok(input), Ok(output)) => {
-            output.is_file() && input.dev() == output.dev() && input.ino() == output.ino()
-        }
-        _ => false,
+    let Some(output) = described(rt, output)? else {
+        return Ok(false);
+    };
+    let Some(input) = described(rt, path)? else {
+        return Ok(false);
+    };
+    Ok(output.is_file() && is_one_file(FileNumber::of(&input), FileNumber::of(&output)))
+}
+
+/// What the system says of the file of this name, or None where there is none.
+fn described(rt: &HostRuntime, name: &str) -> io::Result<Option<Metadata>> {
+    match fs::metadata(rt, name) {
+        Ok(metadata) => Ok(Some(metadata)),
+        Err(error) if error.kind() == ErrorKind::NotFound => Ok(None),
+        Err(error) => Err(error),
     }
+}
+
+impl FileNumber {
+    /// The number of the file that this is said of.
+    fn of(metadata: &Metadata) -> FileNumber {
+        FileNumber {
+            device: metadata.dev(),
+            inode: metadata.ino(),
+        }
+    }
+}
+
+/// Whether two files are one.
+fn is_one_file(one: FileNumber, other: FileNumber) -> bool
+    ensures { IsTrue result ↔ (one ≡ other) }
+{
+    one == other
 }
 
 /// The octets of a script, of one that is too long no more than tell so.

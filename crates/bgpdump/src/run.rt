@@ -11,6 +11,7 @@ ghost use Rattle.bgpdump_tool.specs.Course.{cut_texts, play_texts};
 ghost use Rattle.bgpdump_tool.specs.Reports.{dump_texts};
 ghost use Rattle.bgpdump_tool.specs.Run.{EndedByInput, EndsSo, Writes, all_results, outputs_of};
 ghost use Rattle.bgpdump_tool.specs.Script.{IsScript, Line};
+ghost use Rattle.bgpdump.specs.Endings.{lost_outcome};
 ghost use Rattle.bgpdump.specs.Joining.{KeepsBoth, Leaves, has_failed, left_of};
 
 use bgpdump_tool::{LONGEST_SCRIPT, Outcome, Output, WriteOutput, run_dump, run_play};
@@ -81,6 +82,8 @@ pub fn dump<R: Read + Drop, O: Write + Drop, E: Write + Drop>(
 
     // Which runs end by a read fault, which aren't begun, and which leave no writers.
     ensures read_fault { result.outcome ≡ Outcome.ReadFault → IfSome result.input has_failed }
+    ensures failed { IfSome result.input (λ input. has_failed input →
+        (result.outcome ≡ Outcome.ReadFault) ⊎ IsNone result.writers) }
     ensures not_begun { IsNone result.input → result.outcome ≡ Outcome.Memory }
     ensures lost { IsNone result.writers →
         (result.outcome ≡ Outcome.WriteFault) ⊎ (result.outcome ≡ Outcome.Memory) }
@@ -142,6 +145,8 @@ pub fn play<R: Read + Drop, O: Write + Drop, E: Write + Drop>(
 
     // Which runs end by a read fault, which aren't begun, and which leave no writers.
     ensures read_fault { result.outcome ≡ Outcome.ReadFault → IfSome result.input has_failed }
+    ensures failed { IfSome result.input (λ input. has_failed input →
+        (result.outcome ≡ Outcome.ReadFault) ⊎ IsNone result.writers) }
     ensures not_begun { IsNone result.input → result.outcome ≡ Outcome.Memory }
     ensures lost { IsNone result.writers →
         (result.outcome ≡ Outcome.WriteFault) ⊎ (result.outcome ≡ Outcome.Memory) }
@@ -213,8 +218,7 @@ fn close<R: Read + Drop, O: Write + Drop, E: Write + Drop>(
         (outputs_of ⟦<WriteOutput<BufWriter<O>> as Output>⟧.written
         ⟦<WriteOutput<BufWriter<E>> as Output>⟧.written streams.out streams.err)
         (outputs_of O.contents E.contents writers.0 writers.1)) }
-    ensures lost { IsNone result.writers →
-        (result.outcome ≡ Outcome.WriteFault) ⊎ (result.outcome ≡ Outcome.Memory) }
+    ensures lost { IsNone result.writers → result.outcome ≡ lost_outcome outcome }
 {
     match (
         flushed(streams.out.into_inner()),
@@ -236,7 +240,7 @@ fn close<R: Read + Drop, O: Write + Drop, E: Write + Drop>(
 /// How a run ends that ended so, and whose writers failed at the end. Want of memory stands in
 /// place of any other answer.
 fn lost_outcome(outcome: Outcome) -> Outcome
-    ensures { (result ≡ Outcome.WriteFault) ⊎ (result ≡ Outcome.Memory) }
+    ensures { result ≡ lost_outcome outcome }
 {
     match outcome {
         Outcome::Memory => Outcome::Memory,

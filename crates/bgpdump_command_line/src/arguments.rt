@@ -47,7 +47,8 @@ Examples:
   zcat updates.gz | bgpdump -m -  those of what another program gives
   bgpdump --play steps table.mrt  the replies to the commands in `steps`
 
-`man bgpdump` tells the fields of the lines, the commands of a script and the statuses.";
+`man bgpdump` tells the fields of the lines, the commands of a script and the
+statuses.";
 
 /// `-m`.
 fn lines_argument<'a>(alloc: Global) -> Arg<'a>
@@ -68,7 +69,7 @@ fn script_argument<'a>(alloc: Global) -> Arg<'a>
     Arg::new(alloc, SCRIPT)
         .long("play")
         .value_name("SCRIPT")
-        .help("Steps through INPUT as the commands in SCRIPT say, and prints their replies")
+        .help("Steps through INPUT as the commands in SCRIPT say")
 }
 
 /// `-t dump` or `-t change`.
@@ -81,7 +82,8 @@ fn times_argument<'a>(alloc: Global) -> Arg<'a>
         .value_name("TIME")
         .value_parser(TIMES_TAKEN)
         .default_value(DUMP)
-        .help("The time of a table's routes: when the table was dumped, or the route originated")
+        .hide_possible_values(true)
+        .help("Time of a table's routes: dump or change")
 }
 
 /// `-O FILE`.

@@ -105,9 +105,12 @@ EndsSo-write : (fault : WriteFault) (stamp : Stamp) (left left' : Option (List �
     → (octets : List ℕ) (frames : List Frame) (rest : List ℕ) → MayHold stamp (SawEnd (write_outcome fault)) left left' octets → Splits stamp None octets frames rest
     → EndsSo (write_outcome fault) (dump_texts (all_results stamp frames rest)) a b
 EndsSo-write write.Write stamp left left' a b stop octets frames rest may split = WritesFronts-held stamp stop.place left left' stop.found a b stop.so_far stop.fronts octets frames rest may split
-EndsSo-write write.Memory stamp left left' a b (stop, last) octets frames rest may split =
+EndsSo-write write.Memory stamp left left' a b (inl (stop, last)) octets frames rest may split =
     let (later, first) = untold_held stamp left left' stop.found (SawEnd outcome.Memory) stop.untold octets frames rest may split in
     WritesFronts-later (all_results stamp frames rest) stop.found later a b first (WritesFronts-whole (dump_texts stop.found) a b stop.written)
+EndsSo-write write.Memory stamp left left' a b (inr (stop, none)) octets frames rest may split =
+    let (later, first) = front_held stamp stop.place left left' stop.found (SawEnd outcome.Memory) stop.so_far none octets frames rest may split in
+    WritesFronts-later (all_results stamp frames rest) stop.found later a b first stop.fronts
 
 -- a run that stopped
 pub EndsSo-stopped : (stamp : Stamp) (left left' : Option (List ℕ)) (a b : Outputs) (outcome : Outcome) → Ends (start_place stamp LIMIT) left left' a b (Err outcome)
@@ -132,7 +135,9 @@ IsTaken-write : (fault : WriteFault) (stamp : Stamp) (left left' : Option (List 
     → (taken : List ℕ) × Consumes left left' taken × IsTaken stamp (write_outcome fault) taken
 IsTaken-write write.Write stamp left left' a b stop =
     IsTaken-told stamp stop.place left left' outcome.WriteFault stop.found stop.so_far stop.within (rest_so_far (start_place stamp LIMIT) stop.place left left' stop.found stop.so_far)
-IsTaken-write write.Memory stamp left left' a b (stop, last) = IsTaken-untold stamp left left' outcome.Memory stop.found stop.untold last
+IsTaken-write write.Memory stamp left left' a b (inl (stop, last)) = IsTaken-untold stamp left left' outcome.Memory stop.found stop.untold last
+IsTaken-write write.Memory stamp left left' a b (inr (stop, none)) =
+    IsTaken-told stamp stop.place left left' outcome.Memory stop.found stop.so_far stop.within (inl (rest_so_far (start_place stamp LIMIT) stop.place left left' stop.found stop.so_far))
 
 -- what was taken by a run that stopped
 pub IsTaken-stopped : (stamp : Stamp) (left left' : Option (List ℕ)) (a b : Outputs) (outcome : Outcome) → Ends (start_place stamp LIMIT) left left' a b (Err outcome)

@@ -1,10 +1,13 @@
 -- What items say, in order.
-use Rattle.std.proofs.Common.{◌≡◌, ℕ, ◌+◌, ◌-◌, ◌≤◌, List, [], ◌∷◌, ◌++◌, map, length, take, drop, refl, ap, sym, subst, ◌∙◌, arith, append_assoc}
+use Rattle.std.proofs.Common.{◌≡◌, ℕ, zero, suc, All, ◌+◌, ◌-◌, ◌≤◌, List, [], ◌∷◌, ◌++◌, map, length, take, drop, refl, ap, sym, subst, ◌∙◌, arith, append_assoc}
 use Rattle.std.proofs.lemmas.List.{map-append, drop-drop, take-append-drop, take_all, take-map, drop-map}
 use Rattle.std.proofs.lemmas.Grind.{flat_map-append}
 use Rattle.std.specs.List.{flat_map}
 use Rattle.mrt_wire.specs.declared.event.Item.{Item}
-use Rattle.mrt_wire.specs.Event.{Saying, saying, AreOfOneRoute}
+use Rattle.std.proofs.lemmas.List.Elements.{All-head, All-tail, All-drop}
+use Rattle.mrt_wire.specs.declared.peer.Peer.{Peer}
+use Rattle.mrt_wire.specs.declared.event.Route.{Route}
+use Rattle.mrt_wire.specs.Event.{Saying, Announced, Withdrawn, Changed, saying, Announces, AreOfOneRoute}
 
 -- the lines of what items say are those of the items
 pub lines-sayings : (line : Saying → List ℕ) (items : List Item) → flat_map (λ item. line (saying item)) items ≡ flat_map line (map saying items)
@@ -25,7 +28,7 @@ parts items a b le =
     ∙ ap (λ l. take a items ++ l) (take-append-drop (b - a) (drop a items)) ∙ take-append-drop a items
 
 -- the lines of items and of others behind them
-lines-append : (line : Saying → List ℕ) (one other : List Item) → flat_map line (map saying (one ++ other)) ≡ flat_map line (map saying one) ++ flat_map line (map saying other)
+pub lines-append : (line : Saying → List ℕ) (one other : List Item) → flat_map line (map saying (one ++ other)) ≡ flat_map line (map saying one) ++ flat_map line (map saying other)
 lines-append line one other = ap (flat_map line) (map-append saying one other) ∙ flat_map-append line (map saying one) (map saying other)
 
 -- the lines of three parts of items are those of all
@@ -39,6 +42,46 @@ lines-parts line items a b old first second new le p q r =
     r ∙ ap (λ t. t ++ f C) (q ∙ ap (λ t. t ++ f B) p) ∙ append_assoc (old ++ f A) (f B) (f C) ∙ append_assoc old (f A) (f B ++ f C)
     ∙ ap (λ l. old ++ (f A ++ l)) (sym (lines-append line B C)) ∙ ap (λ l. old ++ l) (sym (lines-append line A (B ++ C))) ∙ ap (λ l. old ++ f l) (parts items a b le)
 
+-- the lines of what three parts of items say are those of all
+pub lines-three : (line : Saying → List ℕ) (items : List Item) (said : List Saying) (a b : ℕ) → a ≤ b → map saying items ≡ said
+    → flat_map line said ≡ flat_map line (map saying (take a items)) ++ (flat_map line (map saying (take (b - a) (drop a items))) ++ flat_map line (map saying (drop b items)))
+lines-three line items said a b le is =
+    let f : List Item → List ℕ = λ l. flat_map line (map saying l) in
+    let A = take a items in
+    let B = take (b - a) (drop a items) in
+    let C = drop b items in
+    ap (flat_map line) (sym is) ∙ sym (lines-parts line items a b [] (f A) (f A ++ f B) ((f A ++ f B) ++ f C) le refl refl refl) ∙ append_assoc (f A) (f B) (f C)
+
+-- the lines of items that are done, of those of a turn, and of those behind them are those of all
+pub lines-turn : (line : Saying → List ℕ) (done piece more rest items : List Item) → done ++ rest ≡ items → piece ++ more ≡ rest
+    → flat_map line (map saying items) ≡ flat_map line (map saying done) ++ (flat_map line (map saying piece) ++ flat_map line (map saying more))
+lines-turn line done piece more rest items whole part =
+    ap (λ l. flat_map line (map saying l)) (sym whole ∙ ap (λ l. done ++ l) (sym part)) ∙ lines-append line done (piece ++ more)
+    ∙ ap (λ l. flat_map line (map saying done) ++ l) (lines-append line piece more)
+
 -- what the items in a range say stands in that range of what all say
 pub said_range : (items : List Item) (said : List Saying) (a n : ℕ) → map saying items ≡ said → AreOfOneRoute (take n (drop a said)) → AreOfOneRoute (map saying (take n (drop a items)))
 said_range items said a n e one = subst AreOfOneRoute (ap (λ l. take n (drop a l)) (sym e) ∙ ap (take n) (drop-map saying a items) ∙ take-map saying n (drop a items)) one
+
+-- ---- fewer announcements of one route
+
+all_of_one : (peer : Peer) (route : Route) (said : List Saying) → All (Announces peer route) said → AreOfOneRoute said
+all_of_one peer route [] all = tt
+all_of_one peer route (first ∷ rest) all = by first (All-head (Announces peer route) first rest all)
+  where
+    by : (s : Saying) → Announces peer route s → AreOfOneRoute (s ∷ rest)
+    by (Announced other network same) is =
+        subst (λ p. All (Announces p same) rest) (sym is.0) (subst (λ r. All (Announces peer r) rest) (sym is.1) (All-tail (Announces peer route) first rest all))
+    by (Withdrawn other network) is = absurd is
+    by (Changed other old new) is = absurd is
+
+one_route-drop : (n : ℕ) (said : List Saying) → AreOfOneRoute said → AreOfOneRoute (drop n said)
+one_route-drop zero said one = one
+one_route-drop (suc n) [] one = tt
+one_route-drop (suc n) (Announced peer network route ∷ said) one = all_of_one peer route (drop n said) (All-drop (Announces peer route) n said one)
+one_route-drop (suc n) (Withdrawn peer network ∷ said) one = absurd one
+one_route-drop (suc n) (Changed peer old new ∷ said) one = absurd one
+
+-- of items that announce with one route, those behind the first
+pub said_back : (items back : List Item) (n : ℕ) → back ≡ drop n items → AreOfOneRoute (map saying items) → AreOfOneRoute (map saying back)
+said_back items back n is one = subst AreOfOneRoute (drop-map saying n items ∙ sym (ap (map saying) is)) (one_route-drop n (map saying items) one)

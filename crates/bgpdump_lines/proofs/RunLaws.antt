@@ -1,5 +1,5 @@
 -- A run goes on.
-use Rattle.std.proofs.Common.{◌≡◌, inl, inr, ℕ, ◌+◌, ◌≤◌, length, Result, Ok, Err, arith, append-nil, Bool, true, false, List, [], ◌∷◌, ◌++◌, ◌||◌, Option, sym, ap, ◌∙◌, refl, subst}
+use Rattle.std.proofs.Common.{◌≡◌, inl, inr, ℕ, ◌+◌, ◌≤◌, length, Result, Ok, Err, arith, append-nil, Bool, true, false, List, [], ◌∷◌, ◌++◌, ◌||◌, Option, Some, None, sym, ap, ◌∙◌, refl, subst}
 use Rattle.std.proofs.KnownBytes.{Appends-nil}
 use Rattle.mrt_wire.specs.declared.next.Next.{Next}
 use Rattle.std.specs.Io.KnownBytes.{Consumes}
@@ -8,17 +8,19 @@ use Rattle.mrt_wire.specs.declared.next.Next.TheVariants as next
 use Rattle.mrt_wire.specs.declared.next.Phase.{Phase}
 use Rattle.mrt_wire.specs.declared.next.Phase.TheVariants.{Reading, Ended, Spent}
 use Rattle.mrt_wire.specs.Device.{Stops}
-use Rattle.mrt_wire.specs.Results.{Finding, Found, Bad}
+use Rattle.mrt_wire.specs.declared.RecordKind.{RecordKind}
+use Rattle.mrt_wire.specs.declared.RecordFault.{RecordFault}
+use Rattle.mrt_wire.specs.Results.{Finding, Found, Bad, fault_findings}
 use Rattle.mrt_wire.specs.Place.{Place}
 use Rattle.mrt_wire.specs.Next.{answer_findings, Nexts}
 use Rattle.mrt_wire.specs.SoFar.{SoFar, RestSoFar, is_nothing}
-use Rattle.mrt_wire.proofs.SoFarLaws.{SoFar-start, SoFar-answer, ends_with_none, Promises}
+use Rattle.mrt_wire.proofs.SoFarLaws.{no_rest, SoFar-start, SoFar-answer, ends_with_none, Promises}
 use Rattle.bgpdump_lines.specs.declared.fault.WriteFault.{WriteFault}
 use Rattle.bgpdump_lines.specs.declared.fault.WriteFault.TheVariants.{Write, Memory}
 use Rattle.bgpdump_lines.specs.Reports.{dump_texts}
 use Rattle.bgpdump_lines.specs.Run.{Outputs, Writes, WritesFronts}
 use Rattle.bgpdump_lines.specs.Writing.{PutsFound, is_any_bad}
-use Rattle.bgpdump_lines.specs.Going.{Going, Untold, IsFaulty, StopsAtSource, StopsAtWriting}
+use Rattle.bgpdump_lines.specs.Going.{Going, Untold, IsFaulty, StopsAtSource, StopsAtFronts, StopsAtWriting}
 use Rattle.bgpdump_lines.proofs.WritingLaws.{dump_texts-append, Writes-append, WritesFronts-behind}
 
 pub is_any_bad-append : (found more : List Finding) → is_any_bad (found ++ more) ≡ (is_any_bad found || is_any_bad more)
@@ -107,10 +109,10 @@ Stops-source p q q' left left' left'' a b reported fault g promised ended within
   written = g.written;
 }
 
--- the writing stops the run, at an answer that tells something
-pub Stops-writing : (p q q' : Place) (left left' left'' : Option (List ℕ)) (a b c : Outputs) (reported : Bool) (answer : Next) (fault : WriteFault) → Going p q left left' a b reported → Promises q q' left' left'' answer
-    → is_nothing (answer_findings answer) ≡ false → PutsFound {A = Bool} (answer_findings answer) b c (Err fault) → q'.offset ≤ q'.limit → StopsAtWriting p left left'' a c fault
-Stops-writing p q q' left left' left'' a b c reported answer Write g promised some fronts within =
+-- fronts of what an answer tells are written
+abbrev Stops-fronts : (p q q' : Place) (left left' left'' : Option (List ℕ)) (a b c : Outputs) (reported : Bool) (answer : Next) → Going p q left left' a b reported → Promises q q' left' left'' answer
+    → WritesFronts (dump_texts (answer_findings answer)) b c → q'.offset ≤ q'.limit → StopsAtFronts p left left'' a c
+Stops-fronts p q q' left left' left'' a b c reported answer g promised fronts within =
     let so_far = SoFar-answer p q q' left left' left'' g.found answer g.so_far promised in
     record {
       place = q';
@@ -119,19 +121,49 @@ Stops-writing p q q' left left' left'' a b c reported answer Write g promised so
       within = omega (arith, within, so_far.limit);
       fronts = subst (λ t. WritesFronts t a c) (dump_texts-append g.found (answer_findings answer)) (WritesFronts-behind (dump_texts g.found) (dump_texts (answer_findings answer)) a b c g.written fronts);
     }
-Stops-writing p q q' left left' left'' a b c reported answer Memory g promised some same within = subst (λ x. StopsAtWriting p left left'' a x Memory) (sym same) (by_phase q.phase refl g.so_far.rest_is)
+
+-- the writing stops the run, at an answer that tells something
+pub Stops-writing : (p q q' : Place) (left left' left'' : Option (List ℕ)) (a b c : Outputs) (reported : Bool) (answer : Next) (fault : WriteFault) → Going p q left left' a b reported → Promises q q' left' left'' answer
+    → is_nothing (answer_findings answer) ≡ false → PutsFound {A = Bool} (answer_findings answer) b c (Err fault) → q'.offset ≤ q'.limit → StopsAtWriting p left left'' a c fault
+Stops-writing p q q' left left' left'' a b c reported answer Write g promised some fronts within = Stops-fronts p q q' left left' left'' a b c reported answer g promised fronts within
+Stops-writing p q q' left left' left'' a b c reported answer Memory g promised some (inl same) within = subst (λ x. StopsAtWriting p left left'' a x Memory) (sym same) (by_phase q.phase refl g.so_far.rest_is)
   where
     by_answer : q.phase ≡ Reading → (octets : List ℕ) × Consumes left' left'' octets × Nexts q q' left'' octets (Ok answer) → StopsAtWriting p left left'' a b Memory
-    by_answer is (octets, taken, inl (frame, at)) = (
+    by_answer is (octets, taken, inl (frame, at)) = inl (
       record { found = g.found; untold = Untold-behind p q left left' left'' g.found octets g.so_far is taken (omega (arith, within, ap length at.whole, ap (λ x. x.offset) at.place, ap (λ x. x.limit) at.place, g.so_far.limit)); written = g.written },
       inr (frame.mrt, at.is_record, at.whole),
     )
-    by_answer is (octets, taken, inr at) = (
+    by_answer is (octets, taken, inr at) = inl (
       record { found = g.found; untold = Untold-behind p q left left' left'' g.found octets g.so_far is taken (omega (arith, within, ap (λ x. x.offset) at.place, ap (λ x. x.limit) at.place, g.so_far.limit)); written = g.written },
       inl at.ends.rest,
     )
 
     by_phase : (phase : Phase) → q.phase ≡ phase → RestSoFar phase left' g.so_far.rest → StopsAtWriting p left left'' a b Memory
+    by_phase Reading is rest = by_answer is (promised.0 is)
+    by_phase Ended is rest = absurd (none (sym (ap is_nothing (promised.1 is).0) ∙ some))
+      where
+        none : true ≡ false → ⊥
+        none e = cc
+    by_phase Spent is rest = absurd rest
+Stops-writing p q q' left left' left'' a b c reported answer Memory g promised some (inr (event, is_event, fronts)) within =
+    let stop = Stops-fronts p q q' left left' left'' a b c reported answer g promised fronts within in
+    inr (stop, no_rest p q' left left'' stop.found stop.so_far (by_phase q.phase refl g.so_far.rest_is))
+  where
+    by_findings : (found : List Finding) (number offset : ℕ) (kind : Option RecordKind) → found ≡ Found event ∷ [] → found ≡ fault_findings number offset kind → ⊥
+    by_findings found number offset None e f = clash (sym e ∙ f)
+      where
+        clash : ◌≡◌ {A = List Finding} (Found event ∷ []) [] → ⊥
+        clash e = cc
+    by_findings found number offset (Some kind) e f = clash _ (sym e ∙ f)
+      where
+        clash : (bad : RecordFault) → ◌≡◌ {A = List Finding} (Found event ∷ []) (Bad bad ∷ []) → ⊥
+        clash bad e = cc
+
+    by_answer : q.phase ≡ Reading → (octets : List ℕ) × Consumes left' left'' octets × Nexts q q' left'' octets (Ok answer) → q'.phase ≡ Reading
+    by_answer is (octets, taken, inl (frame, at)) = ap (λ x. x.phase) at.place ∙ is
+    by_answer is (octets, taken, inr at) = absurd (by_findings (answer_findings answer) _ _ _ is_event at.tells)
+
+    by_phase : (phase : Phase) → q.phase ≡ phase → RestSoFar phase left' g.so_far.rest → q'.phase ≡ Reading
     by_phase Reading is rest = by_answer is (promised.0 is)
     by_phase Ended is rest = absurd (none (sym (ap is_nothing (promised.1 is).0) ∙ some))
       where

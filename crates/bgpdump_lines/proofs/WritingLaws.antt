@@ -1,6 +1,7 @@
 -- What lines and reports do to two outputs.
-use Rattle.std.proofs.Common.{◌≡◌, ℕ, Bool, List, [], ◌∷◌, ◌++◌, Option, Err, sym, ap, ◌∙◌, refl, subst, append-nil}
-use Rattle.std.proofs.lemmas.List.{append_assoc}
+use Rattle.std.proofs.Common.{◌≡◌, inl, inr, ℕ, Bool, ◌+◌, ◌<◌, List, [], ◌∷◌, ◌++◌, length, take, drop, get_or, Option, Err, sym, ap, ◌∙◌, refl, subst, append-nil}
+use Rattle.std.specs.List.{flat_map}
+use Rattle.std.proofs.lemmas.List.{append_assoc, take_more, take-append-drop}
 use Rattle.std.proofs.lemmas.Grind.{flat_map-append}
 use Rattle.std.specs.Io.KnownBytes.{Appends}
 use Rattle.std.proofs.KnownBytes.{Appends-nil, Appends-trans}
@@ -13,7 +14,7 @@ use Rattle.bgpdump_lines.specs.Device.{AppendsFront}
 use Rattle.bgpdump_lines.specs.Lines.{event_lines}
 use Rattle.bgpdump_lines.specs.Reports.{fault_report, finding_lines, finding_report, dump_texts}
 use Rattle.bgpdump_lines.specs.Run.{Texts, joined_texts, Outputs, Writes, WritesFronts}
-use Rattle.bgpdump_lines.specs.Writing.{Puts, PutsFound}
+use Rattle.bgpdump_lines.specs.Writing.{Puts, PutsFound, PutsPart, Passes}
 
 -- an output that was left alone has a front of any text
 pub AppendsFront-none : (known : Option (List ℕ)) (text : List ℕ) → AppendsFront known known text
@@ -28,16 +29,16 @@ pub Writes-report : (out err err' : Option (List ℕ)) (fault : RecordFault) →
 Writes-report out err err' fault appended = (Appends-nil out, subst (Appends err err') (sym (append-nil (fault_report fault))) appended)
 
 -- the lines of an event that a fault stopped
-pub PutsFound-lines : (out out' err : Option (List ℕ)) (event : Event) (fault : WriteFault) → Puts {A = Unit {0}} out out' (event_lines event) (Err fault)
+pub PutsFound-lines : (out out' err : Option (List ℕ)) (event : Event) (fault : WriteFault) → PutsPart {A = Unit {0}} out out' (event_lines event) (Err fault)
     → PutsFound {A = Bool} (Found event ∷ []) (record { out = out; err = err }) (record { out = out'; err = err }) (Err fault)
 PutsFound-lines out out' err event Write put = (subst (AppendsFront out out') (sym (append-nil (event_lines event))) put, AppendsFront-none err [])
-PutsFound-lines out out' err event Memory same = ap (λ known. record { out = known; err = err }) same
+PutsFound-lines out out' err event Memory put = inr (event, refl, (subst (AppendsFront out out') (sym (append-nil (event_lines event))) put, AppendsFront-none err []))
 
 -- the report of a record's fault that a fault of the writing stopped
 pub PutsFound-report : (out err err' : Option (List ℕ)) (bad : RecordFault) (fault : WriteFault) → Puts {A = Unit {0}} err err' (fault_report bad) (Err fault)
     → PutsFound {A = Bool} (Bad bad ∷ []) (record { out = out; err = err }) (record { out = out; err = err' }) (Err fault)
 PutsFound-report out err err' bad Write put = (AppendsFront-none out [], subst (AppendsFront err err') (sym (append-nil (fault_report bad))) put)
-PutsFound-report out err err' bad Memory same = ap (λ known. record { out = out; err = known }) same
+PutsFound-report out err err' bad Memory same = inl (ap (λ known. record { out = out; err = known }) same)
 
 -- texts that were written one behind the other
 pub Writes-append : (t u : Texts) (a b c : Outputs) → Writes t a b → Writes u b c → Writes (joined_texts t u) a c
@@ -75,3 +76,62 @@ WritesFronts-whole t a b p = (
   record { front = t.out; back = []; whole = sym (append-nil t.out); appended = p.0 },
   record { front = t.err; back = []; whole = sym (append-nil t.err); appended = p.1 },
 )
+
+-- ---- texts that are written as they are made
+
+-- one behind the other
+pub Passes-trans : (a b c : Option (List ℕ)) (before mid after more then : List ℕ) → Passes a b before mid more → Passes b c mid after then → Passes a c before after (more ++ then)
+Passes-trans a b c before mid after more then p q = record {
+  front = p.front ++ q.front;
+  appended = Appends-trans a b c p.front q.front p.appended q.appended;
+  whole = append_assoc p.front q.front after ∙ ap (λ l. p.front ++ l) q.whole ∙ sym (append_assoc p.front mid then) ∙ ap (λ l. l ++ then) p.whole ∙ append_assoc before more then;
+}
+
+-- a fault behind it
+pub Passes-stops : (a b c : Option (List ℕ)) (before mid more then : List ℕ) → Passes a b before mid more → AppendsFront b c (mid ++ then) → AppendsFront a c (before ++ (more ++ then))
+Passes-stops a b c before mid more then p q =
+    subst (AppendsFront a c) (sym (append_assoc p.front mid then) ∙ ap (λ l. l ++ then) p.whole ∙ append_assoc before more then) (AppendsFront-behind a b c p.front (mid ++ then) p.appended q)
+
+-- a front of a text and the first of what follows is one of the text and all of it
+pub AppendsFront-first : (old new : Option (List ℕ)) (text one more all : List ℕ) → all ≡ one ++ more → AppendsFront old new (text ++ one) → AppendsFront old new (text ++ all)
+AppendsFront-first old new text one more all is put =
+    subst (AppendsFront old new) (append_assoc text one more ∙ ap (λ l. text ++ l) (sym is)) (AppendsFront-longer old new (text ++ one) more put)
+
+-- the rest at the end
+pub Passes-end : (a b c : Option (List ℕ)) (text more : List ℕ) → Passes a b [] text more → Appends b c text → Appends a c more
+Passes-end a b c text more p q = subst (Appends a c) p.whole (Appends-trans a b c p.front text p.appended q)
+
+-- or a front of it
+pub Passes-end-stops : (a b c : Option (List ℕ)) (text more : List ℕ) → Passes a b [] text more → AppendsFront b c text → AppendsFront a c more
+Passes-end-stops a b c text more p q = subst (AppendsFront a c) p.whole (AppendsFront-behind a b c p.front text p.appended q)
+
+-- what was written so far is a front, whatever follows
+pub AppendsFront-passed : (old new : Option (List ℕ)) (before after more : List ℕ) → Passes old new before after [] → AppendsFront old new (before ++ more)
+AppendsFront-passed old new before after more p = record {
+  front = p.front;
+  back = after ++ more;
+  whole = ap (λ l. l ++ more) (sym (p.whole ∙ append-nil before)) ∙ append_assoc p.front after more;
+  appended = p.appended;
+}
+
+-- one more item's line
+pub lines_next : {A : Type 0} (line : A → List ℕ) (items : List A) (i : ℕ) (d : A) → i < length items
+    → flat_map line (take (i + 1) items) ≡ flat_map line (take i items) ++ line (get_or items i d)
+lines_next line items i d lt =
+    ap (flat_map line) (take_more items i d lt) ∙ flat_map-append line (take i items) (get_or items i d ∷ []) ∙ ap (λ l. flat_map line (take i items) ++ l) (append-nil (line (get_or items i d)))
+
+-- all items' lines, those of a turn among them
+lines_turn : {A : Type 0} (line : A → List ℕ) (items : List A) (i : ℕ) (d : A) → i < length items
+    → flat_map line items ≡ flat_map line (take i items) ++ (line (get_or items i d) ++ flat_map line (drop (i + 1) items))
+lines_turn line items i d lt =
+    sym (ap (flat_map line) (take-append-drop (i + 1) items)) ∙ flat_map-append line (take (i + 1) items) (drop (i + 1) items)
+    ∙ ap (λ l. l ++ flat_map line (drop (i + 1) items)) (lines_next line items i d lt) ∙ append_assoc (flat_map line (take i items)) (line (get_or items i d)) (flat_map line (drop (i + 1) items))
+
+-- a fault at an item's line leaves a front of all of them
+pub Passes-items : {A : Type 0} (line : A → List ℕ) (items : List A) (i : ℕ) (d : A) (a b c : Option (List ℕ)) (before mid : List ℕ) → i < length items → Passes a b before mid (flat_map line (take i items))
+    → AppendsFront b c (mid ++ line (get_or items i d)) → AppendsFront a c (before ++ flat_map line items)
+Passes-items line items i d a b c before mid lt p q =
+    let after = flat_map line (drop (i + 1) items) in
+    let one = line (get_or items i d) in
+    subst (λ l. AppendsFront a c (before ++ l)) (sym (lines_turn line items i d lt))
+    (Passes-stops a b c before mid (flat_map line (take i items)) (one ++ after) p (subst (AppendsFront b c) (append_assoc mid one after) (AppendsFront-longer b c (mid ++ one) after q)))

@@ -1,5 +1,5 @@
 -- What a run has taken and written so far, and where it stopped.
-use Rattle.std.specs.Prelude.{◌≡◌, ℕ, Bool, List, ◌⊎◌, ◌+◌, ◌≤◌, length, Option, Result, Ok, Err}
+use Rattle.std.specs.Prelude.{◌≡◌, [], ℕ, Bool, List, ◌⊎◌, ◌+◌, ◌≤◌, length, Option, Result, Ok, Err}
 use Rattle.std.specs.Io.KnownBytes.{Consumes}
 use Rattle.mrt_wire.specs.declared.SourceFault.{SourceFault}
 use Rattle.mrt_wire.specs.declared.next.Phase.TheVariants.{Reading, Ended}
@@ -53,18 +53,20 @@ pub record StopsAtSource (p : Place) (left left' : Option (List ℕ)) (old new :
   pub faulty : IsFaulty p left left' found fault
   pub written : Writes (dump_texts found) old new
 
--- an output failed, behind fronts of what was found
-pub record StopsAtOutput (p : Place) (left left' : Option (List ℕ)) (old new : Outputs) : Type 0 where
+-- the writing stopped behind fronts of what was found
+pub record StopsAtFronts (p : Place) (left left' : Option (List ℕ)) (old new : Outputs) : Type 0 where
   pub place : Place
   pub found : List Finding
   pub so_far : SoFar p place left left' found
   pub within : place.offset ≤ p.limit
   pub fronts : WritesFronts (dump_texts found) old new
 
--- the writing stopped at this fault; for want of memory, behind a record or a rest of which nothing is written
+-- the writing stopped at this fault; for want of memory, behind a record or a rest of which nothing is written, or behind a record of which a front is
 abbrev pub StopsAtWriting : Place → Option (List ℕ) → Option (List ℕ) → Outputs → Outputs → WriteFault → Type 0
-StopsAtWriting p left left' old new Write = StopsAtOutput p left left' old new
-StopsAtWriting p left left' old new Memory = (stop : StopsUnwritten p left left' old new) × IsLast outcome.Memory stop.untold.octets
+StopsAtWriting p left left' old new Write = StopsAtFronts p left left' old new
+StopsAtWriting p left left' old new Memory =
+    ((stop : StopsUnwritten p left left' old new) × IsLast outcome.Memory stop.untold.octets)
+    ⊎ ((stop : StopsAtFronts p left left' old new) × (stop.so_far.rest ≡ []))
 
 -- how a run ended before its outputs were finished
 abbrev pub Ends : Place → Option (List ℕ) → Option (List ℕ) → Outputs → Outputs → Result Bool Outcome → Type 0

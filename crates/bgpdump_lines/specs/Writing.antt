@@ -1,6 +1,7 @@
 -- What was written of a text, or of what was found, and whether a fault is among it.
-use Rattle.std.specs.Prelude.{◌≡◌, ℕ, Bool, true, false, List, [], ◌∷◌, Option, Result, Ok, Err}
+use Rattle.std.specs.Prelude.{◌≡◌, ◌⊎◌, ℕ, Bool, true, false, List, [], ◌∷◌, ◌++◌, Option, Result, Ok, Err}
 use Rattle.std.specs.Io.KnownBytes.{Appends}
+use Rattle.mrt_wire.specs.declared.event.Event.{Event}
 use Rattle.mrt_wire.specs.Results.{Finding, Found, Bad}
 use Rattle.bgpdump_lines.specs.declared.fault.WriteFault.{WriteFault}
 use Rattle.bgpdump_lines.specs.declared.fault.WriteFault.TheVariants.{Write, Memory}
@@ -19,11 +20,22 @@ abbrev pub PutsPart : {A : Type 0} → Option (List ℕ) → Option (List ℕ) �
 PutsPart old new text (Ok done) = Appends old new text
 PutsPart old new text (Err fault) = AppendsFront old new text
 
--- what was found was written; or a front of each of its texts, where an output failed; or none of them, for want of memory
+-- more came behind a text; a front of both was written, and the text is what follows it now
+pub record Passes (old new : Option (List ℕ)) (before after more : List ℕ) : Type 0 where
+  pub front : List ℕ
+  pub appended : Appends old new front
+  pub whole : front ++ after ≡ before ++ more
+
+-- the same; or a front of both was written, where a fault came
+abbrev pub PassesPart : {A : Type 0} → Option (List ℕ) → Option (List ℕ) → List ℕ → List ℕ → List ℕ → Result A WriteFault → Type 0
+PassesPart old new before after more (Ok done) = Passes old new before after more
+PassesPart old new before after more (Err fault) = AppendsFront old new (before ++ more)
+
+-- what was found was written; or a front of each of its texts, where an output failed; or for want of memory none of them, or a front of an event's lines
 abbrev pub PutsFound : {A : Type 0} → List Finding → Outputs → Outputs → Result A WriteFault → Type 0
 PutsFound found old new (Ok done) = Writes (dump_texts found) old new
 PutsFound found old new (Err Write) = WritesFronts (dump_texts found) old new
-PutsFound found old new (Err Memory) = new ≡ old
+PutsFound found old new (Err Memory) = (new ≡ old) ⊎ ((event : Event) × (found ≡ Found event ∷ []) × WritesFronts (dump_texts found) old new)
 
 -- the writing ended by a fault of the output
 abbrev pub is_write : {A : Type 0} → Result A WriteFault → Bool

@@ -35,7 +35,7 @@ struct Places {
 
 /// The line that a text ends in, of a route.
 #[derive(Clone, Copy)]
-struct LastLine<'a> {
+pub(crate) struct LastLine<'a> {
     /// Whose route it is.
     peer: &'a Peer,
     /// The prefix that it leads to.
@@ -206,6 +206,7 @@ fn put_route_again(last: Places, prefix: &Prefix, text: &mut Text) -> Result<Pla
 
 /// Appends the line that the text ends in once more, with another peer and other attributes.
 /// Returned is where its parts stand.
+#[inline(always)]
 fn put_route_beside(
     last: Places,
     peer: &Peer,
@@ -252,6 +253,7 @@ enum Likeness {
 }
 
 /// What the line of a route may take from the last one.
+#[inline(always)]
 fn likeness_to_last(
     last: Option<LastLine<'_>>,
     peer: &Peer,
@@ -273,6 +275,7 @@ fn likeness_to_last(
 }
 
 /// Appends the line of a route. What the last line says too is copied from there.
+#[inline(always)]
 fn put_route<'a>(
     time: &Time,
     tag: Tag,
@@ -302,6 +305,7 @@ fn put_route<'a>(
 }
 
 /// Appends the line of a withdrawal.
+#[inline(always)]
 fn put_withdrawal(
     time: &Time,
     tag: Tag,
@@ -322,6 +326,7 @@ fn put_withdrawal(
 }
 
 /// Appends the line of a state change.
+#[inline(always)]
 fn put_change(
     time: &Time,
     tag: Tag,
@@ -344,7 +349,8 @@ fn put_change(
 }
 
 /// Appends the line of an item. Returned is the line, if it is of a route.
-fn put_item<'a>(
+#[inline(always)]
+pub(crate) fn put_item<'a>(
     time: &Time,
     tag: Tag,
     item: &'a Item,
@@ -459,7 +465,12 @@ fn put_others(
 
 /// Appends the lines of announcements that share a peer and a route.
 #[inline(always)]
-fn put_shared(time: &Time, tag: Tag, items: &[Item], text: &mut Text) -> Result<(), AllocError>
+pub(crate) fn put_shared(
+    time: &Time,
+    tag: Tag,
+    items: &[Item],
+    text: &mut Text,
+) -> Result<(), AllocError>
     requires { AreOfOneRoute (map saying items.now) }
     ensures appended { OnOk result (text.new ≡ text.old ++
         flat_map (item_line time.now tag) (map saying items.now)) }

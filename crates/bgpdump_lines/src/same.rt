@@ -21,13 +21,26 @@ fn same_segment(one: &Segment, other: &Segment) -> bool
     one.kind == other.kind && same_numbers(one.numbers.as_slice(), other.numbers.as_slice())
 }
 
-/// Whether two paths are of one segment each, and the same.
+/// Whether two lists of segments are the same.
+fn same_segments(ones: &[Segment], others: &[Segment]) -> bool
+    ensures { IsTrue result → ones.now ≡ others.now }
+{
+    if ones.len() != others.len() {
+        return false;
+    }
+    'segments: for place in 0..ones.len() {
+        if !same_segment(&ones[place], &others[place]) {
+            return false;
+        }
+    }
+    true
+}
+
+/// Whether two paths are the same.
 fn same_path(one: &AsPath, other: &AsPath) -> bool
     ensures { IsTrue result → one.now ≡ other.now }
 {
-    let ones = one.segments.as_slice();
-    let others = other.segments.as_slice();
-    ones.len() == 1 && others.len() == 1 && same_segment(&ones[0], &others[0])
+    same_segments(one.segments.as_slice(), other.segments.as_slice())
 }
 
 /// Whether two lists of communities are the same.

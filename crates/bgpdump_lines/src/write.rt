@@ -1,29 +1,187 @@
 //! Writing what was found.
 
-ghost use Rattle.std.specs.Prelude.{◌≡◌, ◌||◌, IfOk};
+ghost use Rattle.std.specs.Prelude.{◌≡◌, ◌||◌, [], map, IfOk, IfSome};
+ghost use Rattle.std.specs.List.{flat_map};
+ghost use Rattle.mrt_wire.specs.declared.event.Time.{Time};
+ghost use Rattle.mrt_wire.specs.declared.event.Tag.{Tag};
+ghost use Rattle.mrt_wire.specs.Event.{AreOfOneRoute, saying};
 ghost use Rattle.mrt_wire.specs.Next.{answer_findings};
-ghost use Rattle.bgpdump_lines.specs.Lines.{event_lines};
+ghost use Rattle.bgpdump_lines.specs.Lines.{EndsIn, event_lines, item_line};
 ghost use Rattle.bgpdump_lines.specs.Reports.{fault_report};
 ghost use Rattle.bgpdump_lines.specs.Run.{outputs_of};
-ghost use Rattle.bgpdump_lines.specs.Writing.{Puts, PutsFound, is_write, is_any_bad};
+ghost use Rattle.bgpdump_lines.specs.Writing.{PassesPart, Puts, PutsFound, PutsPart, is_write, is_any_bad};
 
 use crate::fault::WriteFault;
-use crate::lines::append_lines;
+use crate::lines::{LastLine, append_lines, put_item, put_shared};
 use crate::output::{Output, put_all};
 use crate::reports::put_report;
 use ip_prefix::Text;
-use mrt_wire::{Event, Next, RecordFault};
+use mrt_wire::{Event, Item, Next, RecordFault, Tag, Time};
 
-/// Writes the lines of an event. The text is scratch.
+/// Of how many items an event has at most whose lines are written at once.
+const FEW: usize = 64;
+
+/// How long a text of lines is at most that another line is appended to, where an event has more.
+const ENOUGH: usize = 1 << 16;
+
+/// Writes the text and clears it, where it is long. Returned is the line that it ends in then.
+fn write_long<'a, O: Output>(
+    out: &mut O,
+    last: Option<LastLine<'a>>,
+    text: &mut Text,
+) -> Result<Option<LastLine<'a>>, WriteFault>
+    ensures text { PassesPart (O.written out.old) (O.written out.new) text.old text.new [] result }
+    ensures last { (time : Time) (tag : Tag) →
+        IfSome last.entry (λ line. EndsIn time tag line text.old) →
+        IfOk result (λ last. IfSome last (λ line. EndsIn time tag line text.new)) }
+    ensures failed { O.failed out.new ≡ (O.failed out.old || is_write result) }
+{
+    if text.len() <= ENOUGH {
+        return Ok(last);
+    }
+    put_all(out, text.as_slice())?;
+    text.clear();
+    Ok(None)
+}
+
+/// Appends the line of an item, once the lines in front of it are written where they are long.
+/// Returned is the line, if it is of a route.
+fn write_item<'a, O: Output>(
+    out: &mut O,
+    time: &Time,
+    tag: Tag,
+    item: &'a Item,
+    last: Option<LastLine<'a>>,
+    text: &mut Text,
+) -> Result<Option<LastLine<'a>>, WriteFault>
+    requires { IfSome last (λ line. EndsIn time.now tag line text.old) }
+    ensures text { PassesPart (O.written out.old) (O.written out.new) text.old text.new
+        (item_line time.now tag (saying item.now)) result }
+    ensures last { IfOk result (λ last. IfSome last (λ line.
+        EndsIn time.now tag line text.new)) }
+    ensures failed { O.failed out.new ≡ (O.failed out.old || is_write result) }
+{
+    let last = write_long(out, last, text)?;
+    let line = put_item(time, tag, item, last, text)?;
+    Ok(line)
+}
+
+/// Appends the lines of items, each once those in front of it are written where they are long.
+fn write_items<O: Output>(
+    out: &mut O,
+    time: &Time,
+    tag: Tag,
+    items: &[Item],
+    text: &mut Text,
+) -> Result<(), WriteFault>
+    ensures text { PassesPart (O.written out.old) (O.written out.new) text.old text.new
+        (flat_map (item_line time.now tag) (map saying items.now)) result }
+    ensures failed { O.failed out.new ≡ (O.failed out.old || is_write result) }
+{
+    let mut last = None;
+    'items: for item in items {
+        last = write_item(out, time, tag, item, last, text)?;
+    }
+    Ok(())
+}
+
+/// Appends the lines of announcements that share a peer and a route, once those in front of them are
+/// written where they are long.
+fn write_piece<O: Output>(
+    out: &mut O,
+    time: &Time,
+    tag: Tag,
+    items: &[Item],
+    text: &mut Text,
+) -> Result<(), WriteFault>
+    requires { AreOfOneRoute (map saying items.now) }
+    ensures text { PassesPart (O.written out.old) (O.written out.new) text.old text.new
+        (flat_map (item_line time.now tag) (map saying items.now)) result }
+    ensures failed { O.failed out.new ≡ (O.failed out.old || is_write result) }
+{
+    write_long(out, None, text)?;
+    put_shared(time, tag, items, text)?;
+    Ok(())
+}
+
+/// The same of any number of such announcements, a few at a time.
+fn write_shared<O: Output>(
+    out: &mut O,
+    time: &Time,
+    tag: Tag,
+    items: &[Item],
+    text: &mut Text,
+) -> Result<(), WriteFault>
+    requires { AreOfOneRoute (map saying items.now) }
+    ensures text { PassesPart (O.written out.old) (O.written out.new) text.old text.new
+        (flat_map (item_line time.now tag) (map saying items.now)) result }
+    ensures failed { O.failed out.new ≡ (O.failed out.old || is_write result) }
+{
+    let mut rest = items;
+    'pieces: while !rest.is_empty() {
+        let (piece, more) = rest.split_at(rest.len().min(FEW));
+        write_piece(out, time, tag, piece, text)?;
+        rest = more;
+    }
+    Ok(())
+}
+
+/// Appends the lines of an event's items, each once those in front of it are written where they are
+/// long.
+fn write_parts<O: Output>(out: &mut O, event: &Event, text: &mut Text) -> Result<(), WriteFault>
+    ensures text { PassesPart (O.written out.old) (O.written out.new) text.old text.new
+        (event_lines event.now) result }
+    ensures failed { O.failed out.new ≡ (O.failed out.old || is_write result) }
+{
+    let items = event.items.as_slice();
+    let shared = event.items.shared();
+    write_items(out, &event.time, event.tag, &items[..shared.start], text)?;
+    write_shared(
+        out,
+        &event.time,
+        event.tag,
+        &items[shared.start..shared.end],
+        text,
+    )?;
+    write_items(out, &event.time, event.tag, &items[shared.end..], text)?;
+    Ok(())
+}
+
+/// Writes the lines of an event as they are made. The text is scratch.
+#[inline(never)]
+fn write_many<O: Output>(out: &mut O, text: &mut Text, event: &Event) -> Result<(), WriteFault>
+    ensures text { PutsPart (O.written out.old) (O.written out.new) (event_lines event.now) result }
+    ensures failed { O.failed out.new ≡ (O.failed out.old || is_write result) }
+{
+    text.clear();
+    write_parts(out, event, text)?;
+    put_all(out, text.as_slice())?;
+    Ok(())
+}
+
+/// Writes the lines of an event at once. The text is scratch.
 #[inline(always)]
-fn write_lines<O: Output>(out: &mut O, text: &mut Text, event: &Event) -> Result<(), WriteFault>
-    ensures text { Puts (O.written out.old) (O.written out.new) (event_lines event.now) result }
+fn write_few<O: Output>(out: &mut O, text: &mut Text, event: &Event) -> Result<(), WriteFault>
+    ensures text { PutsPart (O.written out.old) (O.written out.new) (event_lines event.now) result }
     ensures failed { O.failed out.new ≡ (O.failed out.old || is_write result) }
 {
     text.clear();
     append_lines(event, text)?;
     put_all(out, text.as_slice())?;
     Ok(())
+}
+
+/// Writes the lines of an event. The text is scratch.
+#[inline(always)]
+fn write_lines<O: Output>(out: &mut O, text: &mut Text, event: &Event) -> Result<(), WriteFault>
+    ensures text { PutsPart (O.written out.old) (O.written out.new) (event_lines event.now) result }
+    ensures failed { O.failed out.new ≡ (O.failed out.old || is_write result) }
+{
+    if event.items.as_slice().len() > FEW {
+        write_many(out, text, event)
+    } else {
+        write_few(out, text, event)
+    }
 }
 
 /// Writes the report of a fault. The text is scratch.

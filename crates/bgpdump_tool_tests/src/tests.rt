@@ -1,6 +1,7 @@
 mod commands;
 mod devices;
 mod generated_scripts;
+mod large_replies;
 mod large_scripts;
 mod memory;
 mod moves;

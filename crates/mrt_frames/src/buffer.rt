@@ -34,6 +34,7 @@ fn fill<I: Input>(input: &mut I, buffer: &mut [u8], taken: &mut u64) -> Result<u
 
 /// The same, where at most `limit` octets may be taken in all. An input that has that many, and the
 /// buffer is not full then, is too long.
+#[inline(always)]
 pub(crate) fn fill_within<I: Input>(
     input: &mut I,
     buffer: &mut [u8],
@@ -107,10 +108,9 @@ fn fill_part<I: Input>(
     fill_within(input, &mut buffer[filled..end], taken, limit)
 }
 
-/// Reads a body of `size` octets into the front of the buffer, and answers how many there are. At
-/// most `limit` octets may be taken in all. The buffer grows to at most twice what the input gave,
-/// and 4,096.
-pub(crate) fn fill_body<I: Input>(
+/// The same as `fill_body`. It stands out of line, since few bodies are longer than all before.
+#[inline(never)]
+fn fill_growing<I: Input>(
     input: &mut I,
     buffer: &mut Vec<u8>,
     size: usize,
@@ -136,4 +136,30 @@ pub(crate) fn fill_body<I: Input>(
         }
     }
     Ok(filled)
+}
+
+/// Reads a body of `size` octets into the front of the buffer, and answers how many there are. At
+/// most `limit` octets may be taken in all. The buffer grows to at most twice what the input gave,
+/// and 4,096.
+#[inline(always)]
+pub(crate) fn fill_body<I: Input>(
+    input: &mut I,
+    buffer: &mut Vec<u8>,
+    size: usize,
+    taken: &mut u64,
+    limit: u64,
+) -> Result<usize, SourceFault>
+    requires small { size ≤ LONGEST_BODY }
+    requires room { taken.old ≤ limit }
+    ensures octets { FillsWithin (I.left input.old) (I.left input.new) taken.old taken.new
+        buffer.new.items size limit result }
+    ensures held { IfOk result (λ count. count ≤ vec_len buffer.new) }
+    ensures growth { IfOk result (λ count.
+        vec_len buffer.new ≤ max (vec_len buffer.old) (2 * count + FIRST_GROWTH)) }
+    ensures failed { I.failed input.new ≡ (I.failed input.old || is_read result) }
+{
+    if size <= buffer.len() {
+        return fill_part(input, buffer, 0, size, taken, limit);
+    }
+    fill_growing(input, buffer, size, taken, limit)
 }

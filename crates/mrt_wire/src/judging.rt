@@ -180,8 +180,8 @@ fn judge_session(
     Ok(session_event(header.seconds, session.micros, session.items))
 }
 
-/// Reads a record. A record that brings an index puts it in the place of the one before, unless
-/// it is refused.
+/// Reads a record, for which no route was given out yet. A record that brings an index puts it in
+/// the place of the one before, unless it is refused.
 #[inline(always)]
 pub(crate) fn judge(
     alloc: Global,
@@ -191,6 +191,7 @@ pub(crate) fn judge(
     header: &Header,
     body: &[u8],
 ) -> Result<Event, Refusal>
+    requires { pool.old.routes.given ≡ 0 }
     ensures { Judges stamp index.old index.new (record_under header.now body.now) result }
 {
     let Some(form) = form_of(header.kind, header.subtype) else {

@@ -1,8 +1,9 @@
 //! Memory that records are read into again.
 
-ghost use Rattle.std.specs.Prelude.{◌≡◌, ◌<◌, ◌∷◌, [], IfOk, IfErr, IfSome, OnOk, vec_len};
+ghost use Rattle.std.specs.Prelude.{◌≡◌, ◌≤◌, ◌<◌, ◌+◌, ◌-◌, ◌∷◌, [], min, IfOk, IfErr, IfSome, OnOk, vec_len};
 ghost use Rattle.bgp_wire.specs.Content.{SpellsRibAttrs};
 ghost use Rattle.bgp_wire.specs.Reading.{Refuses};
+ghost use Rattle.mrt_wire.specs.declared.pool.TheConstants.{MOST_ROUTES};
 ghost use Rattle.mrt_wire.specs.Event.{Announced};
 ghost use Rattle.mrt_wire.specs.Items.{route_of};
 
@@ -27,8 +28,12 @@ const MOST_ITEMS: usize = 4096;
 #[derive(Drop)]
 pub(crate) struct RoutePool {
     routes: Vec<Rc<Route>>,
-    /// How many of them were given out for the record that is read.
+    /// How many of them were given out for the record that is read. The last that is kept isn't
+    /// counted, so that it is given out again and again.
     given: usize,
+    ghost counted: { given ≤ vec_len routes },
+    ghost bounded: { vec_len routes ≤ MOST_ROUTES },
+    ghost below: { given < MOST_ROUTES },
 }
 
 /// What records are read into.
@@ -45,6 +50,26 @@ pub(crate) struct Pool {
 fn new_route(alloc: Global) -> Result<Rc<Route>, AllocError> {
     let attrs = Attrs::none(alloc);
     Ok(Rc::new(alloc, Route { attrs, time: 0 })?)
+}
+
+/// How many routes were given out once the one of this number is.
+fn number_behind(place: usize) -> usize
+    requires { place < MOST_ROUTES }
+    ensures { result ≡ min (place + 1) (MOST_ROUTES - 1) }
+{
+    (place + 1).min(MOST_ROUTES - 1)
+}
+
+/// Lets go of the route at the place where somebody else holds it, for one that nobody else does.
+#[inline(always)]
+fn let_go(routes: &mut Vec<Rc<Route>>, alloc: Global, place: usize) -> Result<(), AllocError>
+    requires { place < vec_len routes.old }
+    ensures { vec_len routes.new ≡ vec_len routes.old }
+{
+    if Rc::get_mut(&mut routes[place]).is_none() {
+        routes[place] = new_route(alloc)?;
+    }
+    Ok(())
 }
 
 /// Reads the attributes of a table's entry into a route that nobody else holds.
@@ -86,7 +111,10 @@ fn exchange_attrs(attrs: &mut Attrs, others: &mut Attrs)
 
 impl RoutePool {
     /// Another record is read.
-    pub(crate) fn restart(&mut self) {
+    pub(crate) fn restart(&mut self)
+        ensures given { self.new.given ≡ 0 }
+        ensures routes { self.new.routes ≡ self.old.routes }
+    {
         self.given = 0;
     }
 
@@ -94,19 +122,18 @@ impl RoutePool {
     /// else holds is let go.
     #[inline(always)]
     fn next_place(&mut self, alloc: Global) -> Result<usize, AllocError>
-        ensures { IfOk result (λ place. place < vec_len self.new.routes) }
+        ensures next { IfOk result (λ place. place ≡ self.old.given) }
+        ensures within { IfOk result (λ place. place < vec_len self.new.routes) }
     {
         let place = self.given;
+        let given = number_behind(place);
         if place < self.routes.len() {
-            if Rc::get_mut(&mut self.routes[place]).is_none() {
-                self.routes[place] = new_route(alloc)?;
-            }
-            self.given = place + 1;
+            let_go(&mut self.routes, alloc, place)?;
+            self.given = given;
             return Ok(place);
         }
-        let place = self.routes.len();
         self.routes.push(new_route(alloc)?)?;
-        self.given = self.routes.len();
+        self.given = given;
         Ok(place)
     }
 
@@ -125,7 +152,7 @@ impl RoutePool {
         ensures time { IfOk result (λ route. route.value.time ≡ time) }
         ensures refused { IfErr result (Refuses (SpellsRibAttrs family width) octets.now) }
     {
-        if self.given >= MOST_ROUTES || octets.len() > LONGEST_KEPT {
+        if octets.len() > LONGEST_KEPT {
             let mut route = new_route(alloc)?;
             fill_rib_route(&mut route, alloc, family, width, time, octets)?;
             return Ok(route);

@@ -13,7 +13,7 @@ use crate::fields::{Field, fill_address, skip, split_asn, split_octet, split_siz
 use crate::peer::Peer;
 use crate::pool::Pool;
 use bgp_wire::{AsWidth, WireFault};
-use ip_prefix::{Family, Prefix};
+use ip_prefix::{Addr, Family, Prefix, V4_OCTETS};
 use std::alloc::Global;
 
 /// How many octets the numbers of the view and of the record have.
@@ -37,12 +37,12 @@ struct FramedEntry<'a> {
 fn split_prefix(family: Family, octets: &[u8]) -> Option<Field<'_, Prefix>>
     ensures { FindsField (SpellsPrefix family) octets.now result }
 {
-    let mut peer = Peer::unknown();
-    let Some(after_addr) = fill_address(&mut peer.addr, family, octets) else {
+    let mut addr = Addr::v4([0; V4_OCTETS]);
+    let Some(after_addr) = fill_address(&mut addr, family, octets) else {
         return None;
     };
     let len = split_octet(after_addr)?;
-    let prefix = Prefix::new(peer.addr, len.value)?;
+    let prefix = Prefix::new(addr, len.value)?;
     Some(Field {
         value: prefix,
         rest: len.rest,

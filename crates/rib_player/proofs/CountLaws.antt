@@ -1,15 +1,13 @@
 -- How many pairs steps name.
-use Rattle.std.proofs.Common.{◌≡◌, ℕ, ◌+◌, ◌<◌, ◌==◌, min, length, take, get_or, cond, List, [], ◌∷◌, map, refl, sym, ap, ap₂, ◌∙◌, arith}
+use Rattle.std.proofs.Common.{◌≡◌, ℕ, ◌+◌, ◌==◌, length, cond, List, [], ◌∷◌, map, refl, sym, ap, ap₂, ◌∙◌, arith}
 use Rattle.std.specs.List.{AllByRecursion, IsDistinct, sum_by}
 use Rattle.std.specs.FinSet as set
 use Rattle.std.specs.FinSet.{contains-from_list, len-empty, len-insert}
 use Rattle.std.proofs.lemmas.Bool.{eqb-true}
-use Rattle.std.proofs.lemmas.List.{take_more}
-use Rattle.std.proofs.lemmas.List.Sums.{sum_by-cons, sum_by-append}
+use Rattle.std.proofs.lemmas.List.Sums.{sum_by-cons}
 use Rattle.std.proofs.lemmas.Map.Keys.{IsDistinct-head, IsDistinct-tail}
 use Rattle.octet_forms.proofs.Booleans.{same_tests}
 use Rattle.rib_store.specs.Stored.{counted}
-use Rattle.rib_store.specs.declared.store.TheConstants.{GREATEST_COUNT}
 use Rattle.rib_player.specs.declared.pair.Pair.{Pair}
 use Rattle.rib_player.specs.declared.journal.Step.{Step}
 use Rattle.rib_player.specs.History.{pair_cmp}
@@ -17,16 +15,6 @@ use Rattle.rib_player.specs.Journal.{pairs_in, steps_of, step_sides, entry_count
 use Rattle.rib_player.proofs.PairLaws.{pair_cmp_total}
 use Rattle.rib_player.proofs.MarkLaws.{tied, none-any}
 use Rattle.rib_player.proofs.SearchLaws.{length-pairs}
-
--- how many pairs the first steps name, and one more
-pub count-more : (steps : List Step) (i : ℕ) (d : Step) → i < length steps → sum_by entry_count (take (i + 1) steps) ≡ sum_by entry_count (take i steps) + entry_count (get_or steps i d)
-count-more steps i d within =
-    ap (sum_by entry_count) (take_more steps i d within) ∙ sum_by-append entry_count (take i steps) (get_or steps i d ∷ [])
-    ∙ ap (λ n. sum_by entry_count (take i steps) + n) (sum_by-cons entry_count (get_or steps i d) [] ∙ omega arith)
-
--- a sum that stops where counts do, with one more that stops there
-pub counted-more : (m n : ℕ) → min (counted m + n) GREATEST_COUNT ≡ counted (m + n)
-counted-more m n = omega arith
 
 -- a list without a key twice has as many keys as elements
 pub len-from_list : (pairs : List Pair) → IsDistinct tied pairs → set.len (set.from_list {R = pair_cmp} pairs) ≡ length pairs

@@ -387,29 +387,13 @@ module _ {S : Type 0} (keys : S → stored.Keys) (routes : S → stored.Routes (
   gone-routes new removed e = routes_in-same routes old new pair.peer None (gone new removed)
       (λ x. sym (ap (option_map value_of) (left.among x (no_key e x))) ∙ ap (λ r. option_map value_of (finite.get r x)) left.same ∙ ap (λ s. stored_route routes s x) left.found)
 
--- the pairs of a peer have the routes of its store
-pub peer-routes : {S : Type 0} (routes : S → stored.Routes (Rc Route Global)) (stores : Stores S) (all : Routes) (peer : Peer) (store : Option S) → store ≡ store_at stores peer → routes_in routes stores ≡ all
-    → (q : Pair) → (same_peer q.peer peer && is_some (stored_route routes store q.prefix)) ≡ (same_peer q.peer peer && is_some (finite.get all q))
-peer-routes routes stores all peer store found e q = at (same_peer q.peer peer) refl
-  where
-    at : (b : Bool) → same_peer q.peer peer ≡ b → (b && is_some (stored_route routes store q.prefix)) ≡ (b && is_some (finite.get all q))
-    at true is = ap is_some (get-found routes stores all q store (found ∙ ap (store_at stores) (sym (one_peer q.peer peer is))) e)
-    at false is = refl
-
-pub peer-pairs : {S : Type 0} (routes : S → stored.Routes (Rc Route Global)) (store : S) (peer : Peer) (q : Pair)
-    → list_any (eq_by_cmp pair_cmp q) (map (pair_of peer) (finite.keys (routes store))) ≡ (same_peer q.peer peer && is_some (stored_route routes (Some store) q.prefix))
-peer-pairs routes store peer q =
-    any-pairs q peer (finite.keys (routes store))
-    ∙ ap (λ b. same_peer q.peer peer && b) (sym (contains_key-keys (routes store) q.prefix) ∙ at (finite.get (routes store) q.prefix))
-  where
-    at : (found : Option (Rc Route Global)) → is_some found ≡ is_some (option_map value_of found)
-    at None = refl
-    at (Some shared) = refl
-
--- so they are those of a store that has the routes of the peer
+-- the pairs of a peer are those of a store that has its routes
 pub peer-named : (routes : stored.Routes (Rc Route Global)) (all : Routes) (peer : Peer) → ((n : Network) → option_map value_of (finite.get routes n) ≡ finite.get all (pair_of peer n))
     → (q : Pair) → list_any (eq_by_cmp pair_cmp q) (map (pair_of peer) (finite.keys routes)) ≡ (same_peer q.peer peer && is_some (finite.get all q))
-peer-named routes all peer has q = peer-pairs (λ (r : stored.Routes (Rc Route Global)). r) routes peer q ∙ at (same_peer q.peer peer) refl
+peer-named routes all peer has q =
+    any-pairs q peer (finite.keys routes)
+    ∙ ap (λ b. same_peer q.peer peer && b) (sym (contains_key-keys routes q.prefix) ∙ sym (is_some-option_map value_of (finite.get routes q.prefix)))
+    ∙ at (same_peer q.peer peer) refl
   where
     at : (b : Bool) → same_peer q.peer peer ≡ b → (b && is_some (option_map value_of (finite.get routes q.prefix))) ≡ (b && is_some (finite.get all q))
     at true is = ap is_some (has q.prefix ∙ ap (λ p. finite.get all (pair_of p q.prefix)) (sym (one_peer q.peer peer is)))
@@ -422,9 +406,6 @@ none-named all peer none q = at (same_peer q.peer peer) refl
     at : (b : Bool) → same_peer q.peer peer ≡ b → false ≡ (b && is_some (finite.get all q))
     at true is = sym (ap is_some (ap (λ p. finite.get all (pair_of p q.prefix)) (one_peer q.peer peer is) ∙ none q.prefix))
     at false is = refl
-
-pub none-and : (b : Bool) → false ≡ (b && false)
-none-and b = and-false b
 
 -- the pairs of entries
 pub pairs-entries : {R : Type 0} (peer : Peer) (es : List (Network × R)) → map (pair_of peer) (map (λ (e : Network × R). e.0) es) ≡ map (λ (e : Network × R). pair_of peer e.0) es

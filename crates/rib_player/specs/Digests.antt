@@ -51,7 +51,7 @@ AreDigestsOf [] (marks ∷ trail) = ⊥
 AreDigestsOf (digest ∷ digests) [] = ⊥
 AreDigestsOf (digest ∷ digests) (marks ∷ trail) = IsDigestOf digest marks × AreDigestsOf digests trail
 
--- no digest from the first place on and before the second has all the bits
+-- each digest from the first place on and before the second has one of the bits among those that are absent
 abbrev pub ArePassed : ℕ → ℕ → ℕ → List Digest → Type 0
 ArePassed bits low high digests = (i : ℕ) → low ≤ i → i < high → can_name (slice_index_or digests i (record { absent = 0 })) bits ≡ false
 

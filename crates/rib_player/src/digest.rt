@@ -1,10 +1,9 @@
 //! Words that tell which pairs a step can't name, so that a search passes it by.
 
-ghost use Rattle.std.specs.Prelude.{◌≡◌, ◌≤◌, ◌<◌, ◌+◌, [], ◌∷◌, length};
-ghost use Rattle.std.specs.Int.{w32, from_be_bytes};
-ghost use Rattle.ip_prefix.specs.Address.{octet_at, octet_count};
+ghost use Rattle.std.specs.Prelude.{◌≡◌, ◌≤◌, ◌<◌, ◌+◌, length};
+ghost use Rattle.ip_prefix.specs.Address.{octet_count};
 ghost use Rattle.rib_player.specs.Journal.{marks_of};
-ghost use Rattle.rib_player.specs.Digests.{hashed_place, hashed_number, bits_of, can_name, IsDigestOf, ArePassed, IsCandidate};
+ghost use Rattle.rib_player.specs.Digests.{hashed_place, four_octets, hashed_number, bits_of, can_name, IsDigestOf, ArePassed, IsCandidate};
 
 use crate::journal::Entry;
 use crate::pair::Pair;
@@ -52,8 +51,7 @@ fn hashed_place(family: Family) -> usize
 #[inline]
 fn four_octets(addr: &Addr, place: usize) -> u32
     requires { place + 4 ≤ octet_count addr.now.family }
-    ensures { result ≡ from_be_bytes w32 (octet_at addr.now place ∷ octet_at addr.now (place + 1)
-        ∷ octet_at addr.now (place + 2) ∷ octet_at addr.now (place + 3) ∷ []) }
+    ensures { result ≡ four_octets addr.now place }
 {
     u32::from_be_bytes([
         addr.octet(place),

@@ -191,8 +191,8 @@ impl<S: PrefixStore<Rc<Route>>> Player<S> {
         }
     }
 
-    /// Forgets all steps, where none is ahead. A key is looked up for each pair that they name, and
-    /// nothing is searched.
+    /// Forgets all steps, where none is ahead. What some step left without a route is looked up,
+    /// and nothing is searched.
     fn forget_all(&mut self)
         requires { self.old.cursor ≡ end_of self.old }
         ensures { self.new ≡ without_first (behind self.old) self.old }

@@ -5,8 +5,8 @@ use Rattle.ip_prefix.specs.declared.turn.Turn.TheVariants.{Outside, Here, Left, 
 use Rattle.ip_prefix.specs.Network.{Network}
 use Rattle.ip_prefix.specs.Turns.{way, turn_of}
 use Rattle.ip_prefix.proofs.Turns.{here_only}
-use Rattle.rib_store.specs.declared.tree.Tree.{Tree}
-use Rattle.rib_store.specs.declared.tree.Tree.TheVariants.{Empty}
+use Rattle.rib_store.specs.Shape.{Shape}
+use Rattle.rib_store.specs.Shape.{Empty}
 use Rattle.rib_store.specs.Tree.{at, chosen, same_way, IsOn, IsRooted, IsPut}
 use Rattle.rib_store.proofs.WayLaws.{same_is}
 use Rattle.rib_store.proofs.TreeLaws.{at_left, at_right, at_rooted}
@@ -57,29 +57,29 @@ pub put_from : {A : Type 0} (f g h : List Bool → A) (key : List Bool) (v : A) 
 put_from f g h key v same p q = p q ∙ ap (λ x. cond (same_way key q) v x) (sym (same q))
 
 -- where only a right child is left, it holds the same
-pub join_right : {R : Type 0} (prefix : Network) (l r child : Tree R) (slot : Option (Option R)) → slot ≡ None → l ≡ Empty → child ≡ r → IsOn (way prefix) true r
+pub join_right : {R : Type 0} (prefix : Network) (l r child : Shape R) (slot : Option (Option R)) → slot ≡ None → l ≡ Empty → child ≡ r → IsOn (way prefix) true r
     → (q : List Bool) → at child q ≡ chosen (turn_of (way prefix) q) None slot (at l q) (at r q)
 join_right prefix l r child slot s e h on q =
     ap (λ t. at t q) h ∙ at_right (way prefix) r on q ∙ (λ i. chosen (turn_of (way prefix) q) None (sym s i) (at (sym e i) q) (at r q))
 
-pub join_left : {R : Type 0} (prefix : Network) (l r child : Tree R) (slot : Option (Option R)) → slot ≡ None → r ≡ Empty → child ≡ l → IsOn (way prefix) false l
+pub join_left : {R : Type 0} (prefix : Network) (l r child : Shape R) (slot : Option (Option R)) → slot ≡ None → r ≡ Empty → child ≡ l → IsOn (way prefix) false l
     → (q : List Bool) → at child q ≡ chosen (turn_of (way prefix) q) None slot (at l q) (at r q)
 join_left prefix l r child slot s e h on q =
     ap (λ t. at t q) h ∙ at_left (way prefix) l on q ∙ (λ i. chosen (turn_of (way prefix) q) None (sym s i) (at l q) (at (sym e i) q))
 
-pub fork_left : {R : Type 0} (old new : Tree R) (prefix : Network) (slot v : Option (Option R)) (l r m : Tree R) (key : List Bool) → IsRooted prefix slot l r old → IsRooted prefix slot m r new
+pub fork_left : {R : Type 0} (old new : Shape R) (prefix : Network) (slot v : Option (Option R)) (l r m : Shape R) (key : List Bool) → IsRooted prefix slot l r old → IsRooted prefix slot m r new
     → turn_of (way prefix) key ≡ Left → IsPut (at l) key v (at m) → IsPut (at old) key v (at new)
 fork_left {R} old new prefix slot v l r m key was is there p q =
     at_rooted new prefix slot m r is q
     ∙ put_from (at old) _ (λ q. chosen (turn_of (way prefix) q) None slot (at m q) (at r q)) key v (at_rooted old prefix slot l r was) (put_left (way prefix) key None slot v (at l) (at m) (at r) there p) q
 
-pub fork_right : {R : Type 0} (old new : Tree R) (prefix : Network) (slot v : Option (Option R)) (l r m : Tree R) (key : List Bool) → IsRooted prefix slot l r old → IsRooted prefix slot l m new
+pub fork_right : {R : Type 0} (old new : Shape R) (prefix : Network) (slot v : Option (Option R)) (l r m : Shape R) (key : List Bool) → IsRooted prefix slot l r old → IsRooted prefix slot l m new
     → turn_of (way prefix) key ≡ Right → IsPut (at r) key v (at m) → IsPut (at old) key v (at new)
 fork_right {R} old new prefix slot v l r m key was is there p q =
     at_rooted new prefix slot l m is q
     ∙ put_from (at old) _ (λ q. chosen (turn_of (way prefix) q) None slot (at l q) (at m q)) key v (at_rooted old prefix slot l r was) (put_right (way prefix) key None slot v (at l) (at r) (at m) there p) q
 
-pub fork_here : {R : Type 0} (old new : Tree R) (prefix : Network) (slot v : Option (Option R)) (l r : Tree R) (key : List Bool) → IsRooted prefix slot l r old → IsRooted prefix v l r new
+pub fork_here : {R : Type 0} (old new : Shape R) (prefix : Network) (slot v : Option (Option R)) (l r : Shape R) (key : List Bool) → IsRooted prefix slot l r old → IsRooted prefix v l r new
     → turn_of (way prefix) key ≡ Here → IsPut (at old) key v (at new)
 fork_here {R} old new prefix slot v l r key was is there q =
     at_rooted new prefix v l r is q

@@ -8,8 +8,8 @@ use Rattle.ip_prefix.specs.Network.{Network, begin_with, contains}
 use Rattle.ip_prefix.specs.Turns.{way, turn_of, side}
 use Rattle.ip_prefix.proofs.Containing.{contains_parts}
 use Rattle.ip_prefix.proofs.Turns.{covers-way, here_only, here_from}
-use Rattle.rib_store.specs.declared.tree.Tree.{Tree}
-use Rattle.rib_store.specs.declared.tree.Tree.TheVariants.{Empty, Rooted'}
+use Rattle.rib_store.specs.Shape.{Shape}
+use Rattle.rib_store.specs.Shape.{Empty, Rooted}
 use Rattle.rib_store.specs.declared.forest.Forest.{Forest}
 use Rattle.rib_store.specs.Stored.{IsLongest, IsLongestOf}
 use Rattle.rib_store.specs.Slots.{route_found, routes_in}
@@ -80,35 +80,35 @@ at_way prefix (Some (Some found)) slots key there here only =
     ((there, here), λ x route h. let e = ap length (only x route h) in omega (arith, e))
 
 -- what is found on the way to a key is the deepest
-pub deepest_is : {R : Type 0} (t : Tree R) (key : List Bool) → IsShaped t → IsDeepest (at t) key (deepest t key)
+pub deepest_is : {R : Type 0} (t : Shape R) (key : List Bool) → IsShaped t → IsDeepest (at t) key (deepest t key)
 deepest_is {R} Empty key shaped = λ x route h. none_some {R = R} None route refl h.1
-deepest_is {R} (Rooted' p prefix slot l r) key shaped =
+deepest_is {R} (Rooted prefix slot l r) key shaped =
     turns (turn_of (way prefix) key) refl (deepest_is l key shaped.2) (deepest_is r key shaped.3)
   where
     slots : List Bool → Option (Option R)
     slots x = chosen (turn_of (way prefix) x) None (slot_of slot) (at l x) (at r x)
 
     turns : (k : Turn) → turn_of (way prefix) key ≡ k → IsDeepest (at l) key (deepest l key) → IsDeepest (at r) key (deepest r key)
-        → IsDeepest (at (Rooted' p prefix slot l r)) key (chosen k None (routed_at prefix (slot_of slot)) (either_of (deepest l key) (routed_at prefix (slot_of slot))) (either_of (deepest r key) (routed_at prefix (slot_of slot))))
+        → IsDeepest (at (Rooted prefix slot l r)) key (chosen k None (routed_at prefix (slot_of slot)) (either_of (deepest l key) (routed_at prefix (slot_of slot))) (either_of (deepest r key) (routed_at prefix (slot_of slot))))
     turns Outside e f g = λ x route h. away x route h (turn_of (way prefix) x) refl
       where
-        away : (x : List Bool) (route : R) → Holds (at (Rooted' p prefix slot l r)) key x route → (j : Turn) → turn_of (way prefix) x ≡ j → ⊥
-        away x route h Outside y = none_some (at (Rooted' p prefix slot l r) x) route (ap (λ t. chosen t None (slot_of slot) (at l x) (at r x)) y) h.1
+        away : (x : List Bool) (route : R) → Holds (at (Rooted prefix slot l r)) key x route → (j : Turn) → turn_of (way prefix) x ≡ j → ⊥
+        away x route h Outside y = none_some (at (Rooted prefix slot l r) x) route (ap (λ t. chosen t None (slot_of slot) (at l x) (at r x)) y) h.1
         away x route h Here y = false_true (begin_with x key) (begin_outside (way prefix) x key e (λ z. cc)) h.0
         away x route h Left y = false_true (begin_with x key) (begin_outside (way prefix) x key e (λ z. cc)) h.0
         away x route h Right y = false_true (begin_with x key) (begin_outside (way prefix) x key e (λ z. cc)) h.0
     turns Here e f g =
-        at_way prefix (slot_of slot) (at (Rooted' p prefix slot l r)) key (begin_in (way prefix) key (λ z. cc))
+        at_way prefix (slot_of slot) (at (Rooted prefix slot l r)) key (begin_in (way prefix) key (λ z. cc))
         (ap (λ t. chosen t None (slot_of slot) (at l (way prefix)) (at r (way prefix))) (here_from (way prefix)))
         (λ x route h. only x route h (turn_of (way prefix) x) refl)
       where
-        only : (x : List Bool) (route : R) → Holds (at (Rooted' p prefix slot l r)) key x route → (j : Turn) → turn_of (way prefix) x ≡ j → x ≡ (way prefix)
-        only x route h Outside y = absurd (none_some (at (Rooted' p prefix slot l r) x) route (ap (λ t. chosen t None (slot_of slot) (at l x) (at r x)) y) h.1)
+        only : (x : List Bool) (route : R) → Holds (at (Rooted prefix slot l r)) key x route → (j : Turn) → turn_of (way prefix) x ≡ j → x ≡ (way prefix)
+        only x route h Outside y = absurd (none_some (at (Rooted prefix slot l r) x) route (ap (λ t. chosen t None (slot_of slot) (at l x) (at r x)) y) h.1)
         only x route h Here y = sym (here_only (way prefix) x y)
         only x route h Left y = absurd (false_true (begin_with x key) (begin_side (way prefix) x key false y (λ z. cc)) h.0)
         only x route h Right y = absurd (false_true (begin_with x key) (begin_side (way prefix) x key true y (λ z. cc)) h.0)
     turns Left e f g =
-        on_way prefix (slot_of slot) (at l) (at (Rooted' p prefix slot l r)) key false (deepest l key) e
+        on_way prefix (slot_of slot) (at l) (at (Rooted prefix slot l r)) key false (deepest l key) e
         (λ x y. ap (λ t. chosen t None (slot_of slot) (at l x) (at r x)) y) (λ x y. ap (λ t. chosen t None (slot_of slot) (at l x) (at r x)) y)
         (λ x route h. lies x route h (turn_of (way prefix) x) refl) (λ x route h. whence x route h (turn_of (way prefix) x) refl) f
       where
@@ -118,13 +118,13 @@ deepest_is {R} (Rooted' p prefix slot l r) key shaped =
         lies x route h Left y = y
         lies x route h Right y = absurd (none_some (at l x) route (at_left (way prefix) l shaped.0.left x ∙ ap (λ t. chosen t None None (at l x) None) y) h)
 
-        whence : (x : List Bool) (route : R) → Holds (at (Rooted' p prefix slot l r)) key x route → (j : Turn) → turn_of (way prefix) x ≡ j → (turn_of (way prefix) x ≡ Here) ⊎ (turn_of (way prefix) x ≡ Left)
-        whence x route h Outside y = absurd (none_some (at (Rooted' p prefix slot l r) x) route (ap (λ t. chosen t None (slot_of slot) (at l x) (at r x)) y) h.1)
+        whence : (x : List Bool) (route : R) → Holds (at (Rooted prefix slot l r)) key x route → (j : Turn) → turn_of (way prefix) x ≡ j → (turn_of (way prefix) x ≡ Here) ⊎ (turn_of (way prefix) x ≡ Left)
+        whence x route h Outside y = absurd (none_some (at (Rooted prefix slot l r) x) route (ap (λ t. chosen t None (slot_of slot) (at l x) (at r x)) y) h.1)
         whence x route h Here y = inl y
         whence x route h Left y = inr y
         whence x route h Right y = absurd (false_true (begin_with x key) (begin_side (way prefix) x key true y (λ z. cc)) h.0)
     turns Right e f g =
-        on_way prefix (slot_of slot) (at r) (at (Rooted' p prefix slot l r)) key true (deepest r key) e
+        on_way prefix (slot_of slot) (at r) (at (Rooted prefix slot l r)) key true (deepest r key) e
         (λ x y. ap (λ t. chosen t None (slot_of slot) (at l x) (at r x)) y) (λ x y. ap (λ t. chosen t None (slot_of slot) (at l x) (at r x)) y)
         (λ x route h. lies x route h (turn_of (way prefix) x) refl) (λ x route h. whence x route h (turn_of (way prefix) x) refl) g
       where
@@ -134,8 +134,8 @@ deepest_is {R} (Rooted' p prefix slot l r) key shaped =
         lies x route h Right y = y
         lies x route h Left y = absurd (none_some (at r x) route (at_right (way prefix) r shaped.0.right x ∙ ap (λ t. chosen t None None None (at r x)) y) h)
 
-        whence : (x : List Bool) (route : R) → Holds (at (Rooted' p prefix slot l r)) key x route → (j : Turn) → turn_of (way prefix) x ≡ j → (turn_of (way prefix) x ≡ Here) ⊎ (turn_of (way prefix) x ≡ Right)
-        whence x route h Outside y = absurd (none_some (at (Rooted' p prefix slot l r) x) route (ap (λ t. chosen t None (slot_of slot) (at l x) (at r x)) y) h.1)
+        whence : (x : List Bool) (route : R) → Holds (at (Rooted prefix slot l r)) key x route → (j : Turn) → turn_of (way prefix) x ≡ j → (turn_of (way prefix) x ≡ Here) ⊎ (turn_of (way prefix) x ≡ Right)
+        whence x route h Outside y = absurd (none_some (at (Rooted prefix slot l r) x) route (ap (λ t. chosen t None (slot_of slot) (at l x) (at r x)) y) h.1)
         whence x route h Here y = inl y
         whence x route h Right y = inr y
         whence x route h Left y = absurd (false_true (begin_with x key) (begin_side (way prefix) x key false y (λ z. cc)) h.0)

@@ -15,12 +15,15 @@ use Rattle.ip_prefix.specs.Order.{network_cmp}
 use Rattle.ip_prefix.specs.OrderLaws.{network_cmp_total}
 use Rattle.ip_prefix.specs.Turns.{family_bit, way, turn_of, side}
 use Rattle.rib_store.specs.declared.tree.Tree.{Tree}
+use Rattle.rib_store.specs.declared.packed.V4Prefix.{V4Prefix}
+use Rattle.rib_store.specs.Packed.{v4_network, v6_network}
+use Rattle.rib_store.specs.Shape.{Shape, shape_of}
 use Rattle.rib_store.specs.declared.forest.Forest.{Forest}
 use Rattle.rib_store.specs.Stored.{put}
 use Rattle.rib_store.specs.Slots.{Slots, slot_at, keys_in, routes_in, route_found, routed}
 use Rattle.rib_store.specs.Tree.{at, slots_of, chosen, kept, same_way, AreOf, IsOn, IsPut, IsShaped}
 use Rattle.rib_store.specs.Walks.{either_of, first, behind}
-use Rattle.rib_store.specs.Forest.{slots_in, tree_of, IsPlanted, ChangesAt}
+use Rattle.rib_store.specs.Forest.{v4_of, v6_of, slots_in, tree_of, IsPlanted, ChangesAt}
 use Rattle.rib_store.proofs.WayLaws.{first_turn, left_first}
 use Rattle.rib_store.proofs.SlotLaws.{keys_in-more, routes_in-written, get-routes_in, put-same}
 use Rattle.rib_store.proofs.TreeLaws.{are_of, at_left, at_right}
@@ -28,7 +31,7 @@ use Rattle.rib_store.proofs.ChangeLaws.{put_left, put_right}
 use Rattle.rib_store.proofs.WalkLaws.{next, first-next, none-next, behind-next, next-append, first-routed, first-append, routed-append, either_none, slot_at-append, slot_at-slots_of, sorted-sides, sorted-slots_of, tied-ways}
 
 -- what two trees have at a way
-abbrev pub at_sides : {R : Type 0} → Tree R → Tree R → List Bool → Option (Option R)
+abbrev pub at_sides : {R : Type 0} → Shape R → Shape R → List Bool → Option (Option R)
 at_sides l r q = chosen (turn_of [] q) None None (at l q) (at r q)
 
 by_side : {A : Type 0} (t : Turn) (x y : Option A) → either_of (chosen t None None x None) (chosen t None None None y) ≡ chosen t None None x y
@@ -37,17 +40,17 @@ by_side Here x y = refl
 by_side Left x y = either_none x
 by_side Right x y = refl
 
-pub slot_at-slots_in : {R : Type 0} (forest : Forest R) → IsPlanted forest → (q : Network) → slot_at (slots_in forest) q ≡ at_sides forest.v4 forest.v6 (way q)
+pub slot_at-slots_in : {R : Type 0} (forest : Forest R) → IsPlanted forest → (q : Network) → slot_at (slots_in forest) q ≡ at_sides (v4_of forest) (v6_of forest) (way q)
 slot_at-slots_in f planted q =
     slot_at-append q _ _
-    ∙ (λ i. either_of ((slot_at-slots_of f.v4 planted.v4 q ∙ at_left [] f.v4 planted.sides.left (way q)) i) ((slot_at-slots_of f.v6 planted.v6 q ∙ at_right [] f.v6 planted.sides.right (way q)) i))
-    ∙ by_side (turn_of [] (way q)) (at f.v4 (way q)) (at f.v6 (way q))
+    ∙ (λ i. either_of ((slot_at-slots_of (v4_of f) planted.v4 q ∙ at_left [] (v4_of f) planted.sides.left (way q)) i) ((slot_at-slots_of (v6_of f) planted.v6 q ∙ at_right [] (v6_of f) planted.sides.right (way q)) i))
+    ∙ by_side (turn_of [] (way q)) (at (v4_of f) (way q)) (at (v6_of f) (way q))
 
 -- a key is found in the tree of its family
-pub at_sides-family : {R : Type 0} (forest : Forest R) (q : Network) (family : Family) → q.family ≡ family → at_sides forest.v4 forest.v6 (way q) ≡ at (tree_of family forest) (way q)
-at_sides-family f q family e = ap (λ t. chosen t None None (at f.v4 (way q)) (at f.v6 (way q))) (first_turn q ∙ ap (λ g. side (family_bit g)) e) ∙ families family
+pub at_sides-family : {R : Type 0} (forest : Forest R) (q : Network) (family : Family) → q.family ≡ family → at_sides (v4_of forest) (v6_of forest) (way q) ≡ at (tree_of family forest) (way q)
+at_sides-family f q family e = ap (λ t. chosen t None None (at (v4_of f) (way q)) (at (v6_of f) (way q))) (first_turn q ∙ ap (λ g. side (family_bit g)) e) ∙ families family
   where
-    families : (g : Family) → chosen (side (family_bit g)) None None (at f.v4 (way q)) (at f.v6 (way q)) ≡ at (tree_of g f) (way q)
+    families : (g : Family) → chosen (side (family_bit g)) None None (at (v4_of f) (way q)) (at (v6_of f) (way q)) ≡ at (tree_of g f) (way q)
     families V4 = refl
     families V6 = refl
 
@@ -65,12 +68,12 @@ first_side q family e = first_turn q ∙ ap (λ f. side (family_bit f)) e
 -- the keys of both are in order
 pub sorted-slots_in : {R : Type 0} (forest : Forest R) → IsPlanted forest → IsStrictlySortedBy network_cmp (keys_of (slots_in forest))
 sorted-slots_in f planted =
-    sorted-sides [] f.v4 f.v6 planted.sides planted.v4 planted.v6 (sorted-slots_of f.v4 planted.v4) (sorted-slots_of f.v6 planted.v6)
+    sorted-sides [] (v4_of f) (v6_of f) planted.sides planted.v4 planted.v6 (sorted-slots_of (v4_of f) planted.v4) (sorted-slots_of (v6_of f) planted.v6)
 
 -- all nodes of a tree are of its family
 pub are_of-family : {R : Type 0} (forest : Forest R) → IsPlanted forest → (family : Family) → AreOf family (tree_of family forest)
-are_of-family f planted V4 = are_of V4 f.v4 planted.v4 planted.sides.left
-are_of-family f planted V6 = are_of V6 f.v6 planted.v6 planted.sides.right
+are_of-family f planted V4 = are_of V4 (v4_of f) planted.v4 planted.sides.left
+are_of-family f planted V6 = are_of V6 (v6_of f) planted.v6 planted.sides.right
 
 pub shaped-family : {R : Type 0} (forest : Forest R) → IsPlanted forest → (family : Family) → IsShaped (tree_of family forest)
 shaped-family f planted V4 = planted.v4
@@ -80,7 +83,7 @@ shaped-family f planted V6 = planted.v6
 
 -- by one slot
 changed : {R : Type 0} (old new : Forest R) (key : Network) (slot : Option (Option R)) → IsPlanted old → IsPlanted new
-    → IsPut (at_sides old.v4 old.v6) (way key) slot (at_sides new.v4 new.v6) → ChangesAt (slots_in old) key slot (slots_in new)
+    → IsPut (at_sides (v4_of old) (v6_of old)) (way key) slot (at_sides (v4_of new) (v6_of new)) → ChangesAt (slots_in old) key slot (slots_in new)
 changed old new key slot before after put q =
     slot_at-slots_in new after q
     ∙ put (way q)
@@ -89,36 +92,36 @@ changed old new key slot before after put q =
     twisted : same_way (way key) (way q) ≡ eq_by_cmp network_cmp key q
     twisted = sym (tied-ways q key) ∙ (eq_by_cmp_equiv network_cmp_total).symm q key
 
-pub changed_v4 : {R : Type 0} (old : Forest R) (tree : Tree R) (key : Network) (slot : Option (Option R)) → IsPlanted old → key.family ≡ V4 → IsShaped tree → IsOn [] false tree
-    → IsPut (at old.v4) (way key) slot (at tree) → ChangesAt (slots_in old) key slot (slots_in record { v4 = tree; v6 = old.v6 })
+pub changed_v4 : {R : Type 0} (old : Forest R) (tree : Tree V4Prefix R) (key : Network) (slot : Option (Option R)) → IsPlanted old → key.family ≡ V4 → IsShaped (shape_of v4_network tree) → IsOn [] false (shape_of v4_network tree)
+    → IsPut (at (v4_of old)) (way key) slot (at (shape_of v4_network tree)) → ChangesAt (slots_in old) key slot (slots_in record { v4 = tree; v6 = old.v6 })
 changed_v4 old tree key slot planted e shaped on put =
     changed old record { v4 = tree; v6 = old.v6 } key slot planted (record { sides = record { left = on; right = planted.sides.right }; v4 = shaped; v6 = planted.v6 })
-    (put_left [] (way key) None None slot (at old.v4) (at tree) (at old.v6) (first_side key V4 e) put)
+    (put_left [] (way key) None None slot (at (v4_of old)) (at (shape_of v4_network tree)) (at (v6_of old)) (first_side key V4 e) put)
 
-pub changed_v6 : {R : Type 0} (old : Forest R) (tree : Tree R) (key : Network) (slot : Option (Option R)) → IsPlanted old → key.family ≡ V6 → IsShaped tree → IsOn [] true tree
-    → IsPut (at old.v6) (way key) slot (at tree) → ChangesAt (slots_in old) key slot (slots_in record { v4 = old.v4; v6 = tree })
+pub changed_v6 : {R : Type 0} (old : Forest R) (tree : Tree Network R) (key : Network) (slot : Option (Option R)) → IsPlanted old → key.family ≡ V6 → IsShaped (shape_of v6_network tree) → IsOn [] true (shape_of v6_network tree)
+    → IsPut (at (v6_of old)) (way key) slot (at (shape_of v6_network tree)) → ChangesAt (slots_in old) key slot (slots_in record { v4 = old.v4; v6 = tree })
 changed_v6 old tree key slot planted e shaped on put =
     changed old record { v4 = old.v4; v6 = tree } key slot planted (record { sides = record { left = planted.sides.left; right = on }; v4 = planted.v4; v6 = shaped })
-    (put_right [] (way key) None None slot (at old.v4) (at old.v6) (at tree) (first_side key V6 e) put)
+    (put_right [] (way key) None None slot (at (v4_of old)) (at (v6_of old)) (at (shape_of v6_network tree)) (first_side key V6 e) put)
 
 -- ---- the first route, and the first above a prefix
 
-pub first-forest : {R : Type 0} (forest : Forest R) → either_of (first forest.v4) (first forest.v6) ≡ slice_get (routed (slots_in forest)) 0
+pub first-forest : {R : Type 0} (forest : Forest R) → either_of (first (v4_of forest)) (first (v6_of forest)) ≡ slice_get (routed (slots_in forest)) 0
 first-forest f =
-    (λ i. either_of (first-routed f.v4 i) (first-routed f.v6 i))
-    ∙ sym (ap (λ s. slice_get s 0) (routed-append (slots_of f.v4) (slots_of f.v6)) ∙ first-append (routed (slots_of f.v4)) (routed (slots_of f.v6)))
+    (λ i. either_of (first-routed (v4_of f) i) (first-routed (v6_of f) i))
+    ∙ sym (ap (λ s. slice_get s 0) (routed-append (slots_of (v4_of f)) (slots_of (v6_of f))) ∙ first-append (routed (slots_of (v4_of f))) (routed (slots_of (v6_of f))))
 
 -- above a prefix of IPv4 stand all of IPv6
-pub behind-v4 : {R : Type 0} (forest : Forest R) → IsPlanted forest → (low : Network) → low.family ≡ V4 → either_of (behind forest.v4 low) (first forest.v6) ≡ next low (slots_in forest)
+pub behind-v4 : {R : Type 0} (forest : Forest R) → IsPlanted forest → (low : Network) → low.family ≡ V4 → either_of (behind (v4_of forest) low) (first (v6_of forest)) ≡ next low (slots_in forest)
 behind-v4 f planted low e =
-    (λ i. either_of (behind-next f.v4 planted.v4 low i) (first-next low [] true f.v6 planted.v6 planted.sides.right (λ n h. (left_first [] (way low) (way n) (first_side low V4 e) h).0) i))
-    ∙ sym (next-append low (slots_of f.v4) (slots_of f.v6))
+    (λ i. either_of (behind-next (v4_of f) planted.v4 low i) (first-next low [] true (v6_of f) planted.v6 planted.sides.right (λ n h. (left_first [] (way low) (way n) (first_side low V4 e) h).0) i))
+    ∙ sym (next-append low (slots_of (v4_of f)) (slots_of (v6_of f)))
 
 -- and above one of IPv6 none of IPv4
-pub behind-v6 : {R : Type 0} (forest : Forest R) → IsPlanted forest → (low : Network) → low.family ≡ V6 → behind forest.v6 low ≡ next low (slots_in forest)
+pub behind-v6 : {R : Type 0} (forest : Forest R) → IsPlanted forest → (low : Network) → low.family ≡ V6 → behind (v6_of forest) low ≡ next low (slots_in forest)
 behind-v6 f planted low e =
-    (λ i. either_of (none-next low [] false f.v4 planted.v4 planted.sides.left (λ n h. (left_first [] (way n) (way low) h (first_side low V6 e)).1) i) (behind-next f.v6 planted.v6 low i))
-    ∙ sym (next-append low (slots_of f.v4) (slots_of f.v6))
+    (λ i. either_of (none-next low [] false (v4_of f) planted.v4 planted.sides.left (λ n h. (left_first [] (way n) (way low) h (first_side low V6 e)).1) i) (behind-next (v6_of f) planted.v6 low i))
+    ∙ sym (next-append low (slots_of (v4_of f)) (slots_of (v6_of f)))
 
 -- ---- a key made sure of
 

@@ -4,24 +4,24 @@ use Rattle.ip_prefix.specs.declared.turn.Turn.{Turn}
 use Rattle.ip_prefix.specs.declared.turn.Turn.TheVariants.{Outside, Here, Left, Right}
 use Rattle.ip_prefix.specs.Network.{Network}
 use Rattle.ip_prefix.specs.Turns.{way, turn_of, shared, side}
-use Rattle.rib_store.specs.declared.tree.Tree.{Tree}
-use Rattle.rib_store.specs.declared.tree.Tree.TheVariants.{Empty, Rooted'}
+use Rattle.rib_store.specs.Shape.{Shape}
+use Rattle.rib_store.specs.Shape.{Empty, Rooted}
 use Rattle.rib_store.specs.Tree.{at, slot_of, chosen, root, kept, joined, IsOn, IsRooted, IsShaped, IsPut, IsGrown, Stands}
 use Rattle.rib_store.proofs.WayLaws.{turn_shared, shared_inside, parts}
 use Rattle.rib_store.proofs.TreeLaws.{at_left, at_right, at_rooted, rooted_shaped, shaped_rooted, root_rooted, some_is, on_side}
 use Rattle.rib_store.proofs.ChangeLaws.{put_left, put_right, put_here, put_from}
 
 -- a child with one more key is on its side still
-pub on_grown : {R : Type 0} (key : List Bool) (l m : Tree R) (b : List Bool) (bit : Bool) → IsGrown key l m → IsOn b bit l → turn_of b key ≡ side bit → IsOn b bit m
+pub on_grown : {R : Type 0} (key : List Bool) (l m : Shape R) (b : List Bool) (bit : Bool) → IsGrown key l m → IsOn b bit l → turn_of b key ≡ side bit → IsOn b bit m
 on_grown key Empty m b bit grown on there = on_side m b key bit grown.roots there
-on_grown key (Rooted' p prefix slot l r) m b bit grown on there = on_side m b (shared (way prefix) key) bit grown.roots (turn_shared b (way prefix) key bit on there)
+on_grown key (Rooted prefix slot l r) m b bit grown on there = on_side m b (shared (way prefix) key) bit grown.roots (turn_shared b (way prefix) key bit on there)
 
 -- and stands where it stood
-stands_left : {R : Type 0} (slot : Option (Option R)) (l r m : Tree R) (x : List Bool) → root m ≡ Some x → Stands slot l r → Stands slot m r
+stands_left : {R : Type 0} (slot : Option (Option R)) (l r m : Shape R) (x : List Bool) → root m ≡ Some x → Stands slot l r → Stands slot m r
 stands_left None l r m x e h = (some_is (root m) x e, h.1)
 stands_left (Some route) l r m x e h = tt
 
-stands_right : {R : Type 0} (slot : Option (Option R)) (l r m : Tree R) (x : List Bool) → root m ≡ Some x → Stands slot l r → Stands slot l m
+stands_right : {R : Type 0} (slot : Option (Option R)) (l r m : Shape R) (x : List Bool) → root m ≡ Some x → Stands slot l r → Stands slot l m
 stands_right None l r m x e h = (h.0, some_is (root m) x e)
 stands_right (Some route) l r m x e h = tt
 
@@ -32,7 +32,7 @@ not_outside t false e h = cc
 chosen_at : {A : Type 0} (t : Turn) (none here left right x : A) (u : Turn) → t ≡ u → chosen u none here left right ≡ x → chosen t none here left right ≡ x
 chosen_at t none here left right x u e h = ap (λ w. chosen w none here left right) e ∙ h
 
-pub grown_left : {R : Type 0} {old new : Tree R} (key : List Bool) (prefix : Network) (slot : Option (Option R)) (l r m : Tree R) → IsRooted prefix slot l r old → IsRooted prefix slot m r new
+pub grown_left : {R : Type 0} {old new : Shape R} (key : List Bool) (prefix : Network) (slot : Option (Option R)) (l r m : Shape R) → IsRooted prefix slot l r old → IsRooted prefix slot m r new
     → turn_of (way prefix) key ≡ Left → IsShaped old → IsGrown key l m → IsGrown key old new
 grown_left {R} {old} {new} key prefix slot l r m was is there shaped grown =
     let s = rooted_shaped old prefix slot l r was shaped in
@@ -54,7 +54,7 @@ grown_left {R} {old} {new} key prefix slot l r m was is there shaped grown =
       roots = root_rooted new prefix slot m r is ∙ sym (ap Some (shared_inside (way prefix) key (not_outside _ false there))) ∙ sym (ap (λ o. Some (joined o key)) (root_rooted old prefix slot l r was));
     }
 
-pub grown_right : {R : Type 0} {old new : Tree R} (key : List Bool) (prefix : Network) (slot : Option (Option R)) (l r m : Tree R) → IsRooted prefix slot l r old → IsRooted prefix slot l m new
+pub grown_right : {R : Type 0} {old new : Shape R} (key : List Bool) (prefix : Network) (slot : Option (Option R)) (l r m : Shape R) → IsRooted prefix slot l r old → IsRooted prefix slot l m new
     → turn_of (way prefix) key ≡ Right → IsShaped old → IsGrown key r m → IsGrown key old new
 grown_right {R} {old} {new} key prefix slot l r m was is there shaped grown =
     let s = rooted_shaped old prefix slot l r was shaped in
@@ -79,12 +79,12 @@ grown_right {R} {old} {new} key prefix slot l r m was is there shaped grown =
 here_inside : (t : Turn) → t ≡ Here → t ≡ Outside → ⊥
 here_inside t e h = cc
 
-stays : {R : Type 0} (slot : Option (Option R)) (l r : Tree R) → Stands (kept slot) l r
+stays : {R : Type 0} (slot : Option (Option R)) (l r : Shape R) → Stands (kept slot) l r
 stays None l r = tt
 stays (Some route) l r = tt
 
 -- the node itself is the key from now on, if it wasn't
-pub grown_here : {R : Type 0} {old new : Tree R} (key : List Bool) (prefix : Network) (slot : Option (Option R)) (l r : Tree R) → IsRooted prefix slot l r old → IsRooted prefix (kept slot) l r new
+pub grown_here : {R : Type 0} {old new : Shape R} (key : List Bool) (prefix : Network) (slot : Option (Option R)) (l r : Shape R) → IsRooted prefix slot l r old → IsRooted prefix (kept slot) l r new
     → turn_of (way prefix) key ≡ Here → IsShaped old → IsGrown key old new
 grown_here {R} {old} {new} key prefix slot l r was is there shaped =
     let s = rooted_shaped old prefix slot l r was shaped in
@@ -107,31 +107,31 @@ put_leaf Here none v = refl
 put_leaf Left none v = refl
 put_leaf Right none v = refl
 
-pub leaf_slots : {R : Type 0} (key : Network) (t : Tree R) → IsRooted key (Some None) Empty Empty t → IsPut (λ q. None) (way key) (Some None) (at t)
+pub leaf_slots : {R : Type 0} (key : Network) (t : Shape R) → IsRooted key (Some None) Empty Empty t → IsPut (λ q. None) (way key) (Some None) (at t)
 leaf_slots key t is q = at_rooted t key (Some None) Empty Empty is q ∙ put_leaf (turn_of (way key) q) None (Some None)
 
-pub leaf_shaped : {R : Type 0} (key : Network) (t : Tree R) → IsRooted key (Some None) Empty Empty t → IsShaped t
+pub leaf_shaped : {R : Type 0} (key : Network) (t : Shape R) → IsRooted key (Some None) Empty Empty t → IsShaped t
 leaf_shaped key t is = shaped_rooted t key (Some None) Empty Empty is (record { left = tt; right = tt }, tt, tt, tt)
 
 -- nothing is at a key outside of the way to the root
-at_outside : {R : Type 0} (t : Tree R) (b key : List Bool) → root t ≡ Some b → turn_of b key ≡ Outside → at t key ≡ None
+at_outside : {R : Type 0} (t : Shape R) (b key : List Bool) → root t ≡ Some b → turn_of b key ≡ Outside → at t key ≡ None
 at_outside Empty b key e out = refl
-at_outside (Rooted' p prefix slot l r) b key e out =
+at_outside (Rooted prefix slot l r) b key e out =
     let same : way prefix ≡ b = cc in
     chosen_at (turn_of (way prefix) key) None (slot_of slot) (at l key) (at r key) None Outside (ap (λ x. turn_of x key) same ∙ out) refl
 
 -- what stands on the other side of a new node: nothing, where the node is the key, or the key
-pub data Beside {R : Type 0} (key above : Network) (slot : Option (Option R)) (beside : Tree R) : Type 0 where
+pub data Beside {R : Type 0} (key above : Network) (slot : Option (Option R)) (beside : Shape R) : Type 0 where
   is_key : turn_of (way above) (way key) ≡ Here → slot ≡ Some None → beside ≡ Empty → Beside key above slot beside
   is_branch : (turn_of (way above) (way key) ≡ Here → ⊥) → slot ≡ None → IsRooted key (Some None) Empty Empty beside → Beside key above slot beside
 
 -- the key is above the tree, or a branch is
-over_side : {R : Type 0} {old new : Tree R} (key above : Network) (b : List Bool) (slot : Option (Option R)) (beside : Tree R) (bit : Bool)
+over_side : {R : Type 0} {old new : Shape R} (key above : Network) (b : List Bool) (slot : Option (Option R)) (beside : Shape R) (bit : Bool)
     → at old (way key) ≡ None → root old ≡ Some b → IsShaped old → way above ≡ shared b (way key) → turn_of (way above) b ≡ side bit
     → (turn_of (way above) (way key) ≡ Here) ⊎ (turn_of (way above) (way key) ≡ side (not bit))
     → IsRooted above slot (cond bit beside old) (cond bit old beside) new → Beside key above slot beside → IsGrown (way key) old new
 over_side {R} {old} {new} key above b slot beside false none e shaped bits below parts is (is_key here slot_is empty) =
-    let is' : IsRooted above (Some None) old Empty new = subst (λ (x : Option (Option R) × Tree R). IsRooted above x.0 old x.1 new) (λ i. (slot_is i, empty i)) is in
+    let is' : IsRooted above (Some None) old Empty new = subst (λ (x : Option (Option R) × Shape R). IsRooted above x.0 old x.1 new) (λ i. (slot_is i, empty i)) is in
     record {
       shaped = shaped_rooted new above (Some None) old Empty is' (record { left = on_side old (way above) b false e below; right = tt }, tt, shaped, tt);
       slots = λ q. at_rooted new above (Some None) old Empty is' q
@@ -141,7 +141,7 @@ over_side {R} {old} {new} key above b slot beside false none e shaped bits below
       roots = root_rooted new above (Some None) old Empty is' ∙ ap Some bits ∙ sym (ap (λ o. Some (joined o (way key))) e);
     }
 over_side {R} {old} {new} key above b slot beside true none e shaped bits below parts is (is_key here slot_is empty) =
-    let is' : IsRooted above (Some None) Empty old new = subst (λ (x : Option (Option R) × Tree R). IsRooted above x.0 x.1 old new) (λ i. (slot_is i, empty i)) is in
+    let is' : IsRooted above (Some None) Empty old new = subst (λ (x : Option (Option R) × Shape R). IsRooted above x.0 x.1 old new) (λ i. (slot_is i, empty i)) is in
     record {
       shaped = shaped_rooted new above (Some None) Empty old is' (record { left = tt; right = on_side old (way above) b true e below }, tt, tt, shaped);
       slots = λ q. at_rooted new above (Some None) Empty old is' q
@@ -202,7 +202,7 @@ by_side Outside true x y e = cc
 by_side Here false x y e = cc
 by_side Here true x y e = cc
 
-pub grown_over : {R : Type 0} {old new : Tree R} (key above : Network) (b : List Bool) (slot : Option (Option R)) (beside : Tree R) (t : Turn)
+pub grown_over : {R : Type 0} {old new : Shape R} (key above : Network) (b : List Bool) (slot : Option (Option R)) (beside : Shape R) (t : Turn)
     → turn_of b (way key) ≡ Outside → root old ≡ Some b → IsShaped old → way above ≡ shared b (way key) → t ≡ turn_of (way above) b
     → IsRooted above slot (chosen t beside beside old beside) (chosen t old old beside old) new → Beside key above slot beside → IsGrown (way key) old new
 grown_over {R} {old} {new} key above b slot beside t out e shaped bits turn is beside_is =
@@ -211,4 +211,4 @@ grown_over {R} {old} {new} key above b slot beside t out e shaped bits turn is b
     let key_part : (turn_of (way above) (way key) ≡ Here) ⊎ (turn_of (way above) (way key) ≡ side (not p.bit)) = subst (λ x. (turn_of x (way key) ≡ Here) ⊎ (turn_of x (way key) ≡ side (not p.bit))) (sym bits) p.key in
     let sides = by_side t p.bit beside old (turn ∙ below) in
     over_side key above b slot beside p.bit (at_outside old b (way key) e out) e shaped bits below key_part
-    (subst (λ (x : Tree R × Tree R). IsRooted above slot x.0 x.1 new) (λ i. (sides.0 i, sides.1 i)) is) beside_is
+    (subst (λ (x : Shape R × Shape R). IsRooted above slot x.0 x.1 new) (λ i. (sides.0 i, sides.1 i)) is) beside_is

@@ -22,14 +22,14 @@ use Rattle.octet_forms.proofs.Booleans.{same_tests}
 use Rattle.octet_forms.proofs.Lists.{AllByRecursion-append}
 use Rattle.ip_prefix.proofs.Turns.{covers-way}
 use Rattle.rib_store.specs.declared.tree.Slot.TheVariants.{Branch, Vacant, Filled}
-use Rattle.rib_store.specs.declared.tree.Tree.{Tree}
-use Rattle.rib_store.specs.declared.tree.Tree.TheVariants.{Empty, Rooted'}
+use Rattle.rib_store.specs.Shape.{Shape}
+use Rattle.rib_store.specs.Shape.{Empty, Rooted}
 use Rattle.rib_store.specs.declared.forest.Forest.{Forest}
 use Rattle.rib_store.specs.Stored.{Keys}
 use Rattle.rib_store.specs.Slots.{Slots, keys_in}
 use Rattle.rib_store.specs.Tree.{own, slots_of, slot_of, chosen, same_way, root, AreSides, IsOn, IsShaped}
 use Rattle.rib_store.specs.Walks.{node_count}
-use Rattle.rib_store.specs.Forest.{slots_in, IsPlanted}
+use Rattle.rib_store.specs.Forest.{v4_of, v6_of, slots_in, IsPlanted}
 use Rattle.rib_store.specs.Nodes.{is_node, AreNodes}
 use Rattle.rib_store.proofs.AboveLaws.{is_less}
 use Rattle.rib_store.proofs.WayLaws.{beyond, turn_through, first_turn, node_first, left_first}
@@ -125,21 +125,21 @@ any-own p prefix (Some slot) below = refl
 any-append : {R : Type 0} (p : Network → Bool) (xs ys : Slots R) → list_any p (keys_of (xs ++ ys)) ≡ (list_any p (keys_of xs) || list_any p (keys_of ys))
 any-append p xs ys = ap (list_any p) (keys_of-append xs ys) ∙ list_any-append p (keys_of xs) (keys_of ys)
 
-any-keys : {R : Type 0} (p : Network → Bool) (test : List Bool → Bool) → ((n : Network) → p n ≡ test (way n)) → (t : Tree R) → list_any p (keys_of (slots_of t)) ≡ any_key test t
+any-keys : {R : Type 0} (p : Network → Bool) (test : List Bool → Bool) → ((n : Network) → p n ≡ test (way n)) → (t : Shape R) → list_any p (keys_of (slots_of t)) ≡ any_key test t
 any-keys p test same Empty = refl
-any-keys p test same (Rooted' node prefix slot l r) =
+any-keys p test same (Rooted prefix slot l r) =
     any-own p prefix (slot_of slot) (slots_of l ++ slots_of r)
     ∙ (λ i. (is_some (slot_of slot) && same prefix i) || ((any-append p (slots_of l) (slots_of r) ∙ (λ j. any-keys p test same l j || any-keys p test same r j)) i))
 
 -- ---- the nodes of a tree as a list
 
-abbrev pub nodes_of : {R : Type 0} → Tree R → List Network
+abbrev pub nodes_of : {R : Type 0} → Shape R → List Network
 nodes_of Empty = []
-nodes_of (Rooted' p prefix slot l r) = prefix ∷ (nodes_of l ++ nodes_of r)
+nodes_of (Rooted prefix slot l r) = prefix ∷ (nodes_of l ++ nodes_of r)
 
-length-nodes_of : {R : Type 0} (t : Tree R) → length (nodes_of t) ≡ node_count t
+length-nodes_of : {R : Type 0} (t : Shape R) → length (nodes_of t) ≡ node_count t
 length-nodes_of Empty = refl
-length-nodes_of (Rooted' p prefix slot l r) = omega (arith, length-nodes_of l, length-nodes_of r, length-append (nodes_of l) (nodes_of r))
+length-nodes_of (Rooted prefix slot l r) = omega (arith, length-nodes_of l, length-nodes_of r, length-append (nodes_of l) (nodes_of r))
 
 same_false : (t : Turn) → false ≡ chosen t false false false false
 same_false Outside = refl
@@ -148,24 +148,24 @@ same_false Left = refl
 same_false Right = refl
 
 -- a tree on a side has nodes there alone
-pub node_left : {R : Type 0} (b : List Bool) (t : Tree R) → IsOn b false t → (q : List Bool) → node_at t q ≡ chosen (turn_of b q) false false (node_at t q) false
+pub node_left : {R : Type 0} (b : List Bool) (t : Shape R) → IsOn b false t → (q : List Bool) → node_at t q ≡ chosen (turn_of b q) false false (node_at t q) false
 node_left b Empty on q = same_false (turn_of b q)
-node_left b (Rooted' p prefix slot l r) on q =
+node_left b (Rooted prefix slot l r) on q =
     elim (beyond b (way prefix) q false on) [
       | inl out ↦
-          let none : node_at (Rooted' p prefix slot l r) q ≡ false = ap (λ t. chosen t false true (node_at l q) (node_at r q)) out in
+          let none : node_at (Rooted prefix slot l r) q ≡ false = ap (λ t. chosen t false true (node_at l q) (node_at r q)) out in
           none ∙ same_false (turn_of b q) ∙ ap (λ x. chosen (turn_of b q) false false x false) (sym none)
-      | inr there ↦ ap (λ t. chosen t false false (node_at (Rooted' p prefix slot l r) q) false) (sym there)
+      | inr there ↦ ap (λ t. chosen t false false (node_at (Rooted prefix slot l r) q) false) (sym there)
     ]
 
-pub node_right : {R : Type 0} (b : List Bool) (t : Tree R) → IsOn b true t → (q : List Bool) → node_at t q ≡ chosen (turn_of b q) false false false (node_at t q)
+pub node_right : {R : Type 0} (b : List Bool) (t : Shape R) → IsOn b true t → (q : List Bool) → node_at t q ≡ chosen (turn_of b q) false false false (node_at t q)
 node_right b Empty on q = same_false (turn_of b q)
-node_right b (Rooted' p prefix slot l r) on q =
+node_right b (Rooted prefix slot l r) on q =
     elim (beyond b (way prefix) q true on) [
       | inl out ↦
-          let none : node_at (Rooted' p prefix slot l r) q ≡ false = ap (λ t. chosen t false true (node_at l q) (node_at r q)) out in
+          let none : node_at (Rooted prefix slot l r) q ≡ false = ap (λ t. chosen t false true (node_at l q) (node_at r q)) out in
           none ∙ same_false (turn_of b q) ∙ ap (λ x. chosen (turn_of b q) false false false x) (sym none)
-      | inr there ↦ ap (λ t. chosen t false false false (node_at (Rooted' p prefix slot l r) q)) (sym there)
+      | inr there ↦ ap (λ t. chosen t false false false (node_at (Rooted prefix slot l r) q)) (sym there)
     ]
 
 gathered : (t : Turn) (x y : Bool) → (chosen t false true false false || (chosen t false false x false || chosen t false false false y)) ≡ chosen t false true x y
@@ -175,9 +175,9 @@ gathered Left true y = refl
 gathered Left false y = refl
 gathered Right x y = refl
 
-pub is_in-nodes_of : {R : Type 0} (t : Tree R) (q : Network) → IsShaped t → is_in (nodes_of t) q ≡ node_at t (way q)
+pub is_in-nodes_of : {R : Type 0} (t : Shape R) (q : Network) → IsShaped t → is_in (nodes_of t) q ≡ node_at t (way q)
 is_in-nodes_of Empty q shaped = refl
-is_in-nodes_of (Rooted' p prefix slot l r) q shaped =
+is_in-nodes_of (Rooted prefix slot l r) q shaped =
     (λ i. tied-ways q prefix i || ((list_any-append (eq_by_cmp network_cmp q) (nodes_of l) (nodes_of r)
     ∙ (λ j. (is_in-nodes_of l q shaped.2 ∙ node_left (way prefix) l shaped.0.left (way q)) j || (is_in-nodes_of r q shaped.3 ∙ node_right (way prefix) r shaped.0.right (way q)) j)) i))
     ∙ gathered (turn_of (way prefix) (way q)) (node_at l (way q)) (node_at r (way q))
@@ -185,13 +185,13 @@ is_in-nodes_of (Rooted' p prefix slot l r) q shaped =
 -- ---- each node stands once
 
 nodes-on : {R : Type 0} (P : Network → Type 0) (from : List Bool) (bit : Bool) → ((n : Network) → turn_of from (way n) ≡ side bit → P n)
-    → (t : Tree R) → IsShaped t → IsOn from bit t → AllByRecursion P (nodes_of t)
+    → (t : Shape R) → IsShaped t → IsOn from bit t → AllByRecursion P (nodes_of t)
 nodes-on P from bit holds Empty shaped on = tt
-nodes-on P from bit holds (Rooted' p prefix slot l r) shaped on =
+nodes-on P from bit holds (Rooted prefix slot l r) shaped on =
     let deeper = λ (s : Bool) (n : Network) (h : turn_of (way prefix) (way n) ≡ side s). holds n (turn_through from (way prefix) (way n) bit s on h) in
     (holds prefix on, AllByRecursion-append P (nodes_of l) (nodes_of r) (nodes-on P (way prefix) false (deeper false) l shaped.2 shaped.0.left) (nodes-on P (way prefix) true (deeper true) r shaped.3 shaped.0.right))
 
-sorted-nodes : {R : Type 0} (from : List Bool) (l r : Tree R) → AreSides from l r → IsShaped l → IsShaped r → IsStrictlySortedBy network_cmp (nodes_of l) → IsStrictlySortedBy network_cmp (nodes_of r)
+sorted-nodes : {R : Type 0} (from : List Bool) (l r : Shape R) → AreSides from l r → IsShaped l → IsShaped r → IsStrictlySortedBy network_cmp (nodes_of l) → IsStrictlySortedBy network_cmp (nodes_of r)
     → IsStrictlySortedBy network_cmp (nodes_of l ++ nodes_of r)
 sorted-nodes from l r sides ls rs first second =
     sorted-append (nodes_of l) (nodes_of r) first second
@@ -199,10 +199,10 @@ sorted-nodes from l r sides ls rs first second =
     (λ x on. nodes-on (λ y. network_cmp x y ≡ Less) from true (λ y there. is_less (network_cmp x y) (ap is_lt (cmp-ways x y) ∙ (left_first from (way x) (way y) on there).0)) r rs sides.right)
     l ls sides.left)
 
-sorted-nodes_of : {R : Type 0} (t : Tree R) → IsShaped t → IsStrictlySortedBy network_cmp (nodes_of t)
+sorted-nodes_of : {R : Type 0} (t : Shape R) → IsShaped t → IsStrictlySortedBy network_cmp (nodes_of t)
 unfolding IsStrictlySortedBy
 sorted-nodes_of Empty shaped = tt
-sorted-nodes_of (Rooted' p prefix slot l r) shaped =
+sorted-nodes_of (Rooted prefix slot l r) shaped =
     let under = λ (s : Bool) (n : Network) (h : turn_of (way prefix) (way n) ≡ side s). is_less (network_cmp prefix n) (ap is_lt (cmp-ways prefix n) ∙ (node_first (way prefix) (way n) s h).0) in (
       AllByRecursion-append (λ y. network_cmp prefix y ≡ Less) (nodes_of l) (nodes_of r)
           (nodes-on (λ y. network_cmp prefix y ≡ Less) (way prefix) false (under false) l shaped.2 shaped.0.left)
@@ -214,34 +214,34 @@ sorted-nodes_of (Rooted' p prefix slot l r) shaped =
 
 -- the nodes of both trees
 abbrev pub all_nodes : {R : Type 0} → Forest R → Keys
-all_nodes f = set.from_list (nodes_of f.v4 ++ nodes_of f.v6)
+all_nodes f = set.from_list (nodes_of (v4_of f) ++ nodes_of (v6_of f))
 
-pub len-all_nodes : {R : Type 0} (f : Forest R) → IsPlanted f → set.len (all_nodes f) ≡ node_count f.v4 + node_count f.v6
+pub len-all_nodes : {R : Type 0} (f : Forest R) → IsPlanted f → set.len (all_nodes f) ≡ node_count (v4_of f) + node_count (v6_of f)
 len-all_nodes f planted =
-    let sorted = sorted-nodes [] f.v4 f.v6 planted.sides planted.v4 planted.v6 (sorted-nodes_of f.v4 planted.v4) (sorted-nodes_of f.v6 planted.v6) in
-    len-from_list (nodes_of f.v4 ++ nodes_of f.v6) (IsDistinct-from_sorted network_cmp _ sorted)
-    ∙ omega (arith, length-append (nodes_of f.v4) (nodes_of f.v6), length-nodes_of f.v4, length-nodes_of f.v6)
+    let sorted = sorted-nodes [] (v4_of f) (v6_of f) planted.sides planted.v4 planted.v6 (sorted-nodes_of (v4_of f) planted.v4) (sorted-nodes_of (v6_of f) planted.v6) in
+    len-from_list (nodes_of (v4_of f) ++ nodes_of (v6_of f)) (IsDistinct-from_sorted network_cmp _ sorted)
+    ∙ omega (arith, length-append (nodes_of (v4_of f)) (nodes_of (v6_of f)), length-nodes_of (v4_of f), length-nodes_of (v6_of f))
 
 -- some key of either tree passes
 abbrev either_key : {R : Type 0} → (List Bool → Bool) → Forest R → Bool
-either_key test f = any_key test f.v4 || any_key test f.v6
+either_key test f = any_key test (v4_of f) || any_key test (v6_of f)
 
 -- a node of either tree stands exactly where a key is, or where keys lie on both sides
 told_both : {R : Type 0} (f : Forest R) → IsPlanted f → (q : List Bool) (bit : Bool) → turn_of [] q ≡ side bit
-    → (node_at f.v4 q || node_at f.v6 q) ≡ (either_key (by_turn at_here q) f || (either_key (by_turn (at_side false) q) f && either_key (by_turn (at_side true) q) f))
+    → (node_at (v4_of f) q || node_at (v6_of f) q) ≡ (either_key (by_turn at_here q) f || (either_key (by_turn (at_side false) q) f && either_key (by_turn (at_side true) q) f))
 told_both f planted q false e =
-    let only = λ (w : Turn → Bool) (out : w Outside ≡ false). told_left [] None f.v4 f.v6 q w out planted.sides.right planted.v6 e in
-    ap (λ b. node_at f.v4 q || b) (node_right [] f.v6 planted.sides.right q ∙ ap (λ t. chosen t false false false (node_at f.v6 q)) e)
-    ∙ or-false (node_at f.v4 q) ∙ told f.v4 q planted.v4
+    let only = λ (w : Turn → Bool) (out : w Outside ≡ false). told_left [] None (v4_of f) (v6_of f) q w out planted.sides.right planted.v6 e in
+    ap (λ b. node_at (v4_of f) q || b) (node_right [] (v6_of f) planted.sides.right q ∙ ap (λ t. chosen t false false false (node_at (v6_of f) q)) e)
+    ∙ or-false (node_at (v4_of f) q) ∙ told (v4_of f) q planted.v4
     ∙ sym (λ i. only at_here refl i || (only (at_side false) refl i && only (at_side true) refl i))
 told_both f planted q true e =
-    let only = λ (w : Turn → Bool) (out : w Outside ≡ false). told_right [] None f.v4 f.v6 q w out planted.sides.left planted.v4 e in
-    ap (λ b. b || node_at f.v6 q) (node_left [] f.v4 planted.sides.left q ∙ ap (λ t. chosen t false false (node_at f.v4 q) false) e)
-    ∙ told f.v6 q planted.v6
+    let only = λ (w : Turn → Bool) (out : w Outside ≡ false). told_right [] None (v4_of f) (v6_of f) q w out planted.sides.left planted.v4 e in
+    ap (λ b. b || node_at (v6_of f) q) (node_left [] (v4_of f) planted.sides.left q ∙ ap (λ t. chosen t false false (node_at (v4_of f) q) false) e)
+    ∙ told (v6_of f) q planted.v6
     ∙ sym (λ i. only at_here refl i || (only (at_side false) refl i && only (at_side true) refl i))
 
 either-keys : {R : Type 0} (p : Network → Bool) (test : List Bool → Bool) → ((n : Network) → p n ≡ test (way n)) → (f : Forest R) → list_any p (keys_of (slots_in f)) ≡ either_key test f
-either-keys p test same f = any-append p (slots_of f.v4) (slots_of f.v6) ∙ (λ i. any-keys p test same f.v4 i || any-keys p test same f.v6 i)
+either-keys p test same f = any-append p (slots_of (v4_of f)) (slots_of (v6_of f)) ∙ (λ i. any-keys p test same (v4_of f) i || any-keys p test same (v6_of f) i)
 
 -- a prefix that is a key needs no more
 or_absent : (a b : Bool) → (a || b) ≡ (a || (not a && b))
@@ -260,36 +260,36 @@ is_node-keys f q =
 some_side : (q : Network) → (bit : Bool) × (turn_of [] (way q) ≡ side bit)
 some_side q = (family_bit q.family, first_turn q)
 
-pub node-is : {R : Type 0} (f : Forest R) → IsPlanted f → (q : Network) → (node_at f.v4 (way q) || node_at f.v6 (way q)) ≡ is_node (keys_in (slots_in f)) q
+pub node-is : {R : Type 0} (f : Forest R) → IsPlanted f → (q : Network) → (node_at (v4_of f) (way q) || node_at (v6_of f) (way q)) ≡ is_node (keys_in (slots_in f)) q
 node-is f planted q = let s = some_side q in told_both f planted (way q) s.0 s.1 ∙ sym (is_node-keys f q)
 
 pub are_nodes : {R : Type 0} (f : Forest R) → IsPlanted f → AreNodes (keys_in (slots_in f)) (all_nodes f)
 are_nodes f planted q =
-    contains-from_list network_cmp_total (nodes_of f.v4 ++ nodes_of f.v6) q
-    ∙ list_any-append (eq_by_cmp network_cmp q) (nodes_of f.v4) (nodes_of f.v6)
-    ∙ (λ i. is_in-nodes_of f.v4 q planted.v4 i || is_in-nodes_of f.v6 q planted.v6 i)
+    contains-from_list network_cmp_total (nodes_of (v4_of f) ++ nodes_of (v6_of f)) q
+    ∙ list_any-append (eq_by_cmp network_cmp q) (nodes_of (v4_of f)) (nodes_of (v6_of f))
+    ∙ (λ i. is_in-nodes_of (v4_of f) q planted.v4 i || is_in-nodes_of (v6_of f) q planted.v6 i)
     ∙ node-is f planted q
 
 -- ---- at most two a key
 
 -- one, where the tree isn't empty
-abbrev filled : {R : Type 0} → Tree R → ℕ
+abbrev filled : {R : Type 0} → Shape R → ℕ
 filled Empty = 0
-filled (Rooted' p prefix slot l r) = 1
+filled (Rooted prefix slot l r) = 1
 
-filled-some : {R : Type 0} (t : Tree R) → IsSome (root t) → filled t ≡ 1
+filled-some : {R : Type 0} (t : Shape R) → IsSome (root t) → filled t ≡ 1
 filled-some Empty e = cc
-filled-some (Rooted' p prefix slot l r) e = refl
+filled-some (Rooted prefix slot l r) e = refl
 
-twice : {R : Type 0} (t : Tree R) → IsShaped t → node_count t + filled t ≤ 2 * length (slots_of t)
+twice : {R : Type 0} (t : Shape R) → IsShaped t → node_count t + filled t ≤ 2 * length (slots_of t)
 twice Empty shaped = omega arith
-twice (Rooted' p prefix Branch l r) shaped =
+twice (Rooted prefix Branch l r) shaped =
     omega (arith, twice l shaped.2, twice r shaped.3, filled-some l shaped.1.0, filled-some r shaped.1.1, length-append (slots_of l) (slots_of r))
-twice (Rooted' p prefix Vacant l r) shaped = omega (arith, twice l shaped.2, twice r shaped.3, length-append (slots_of l) (slots_of r))
-twice (Rooted' p prefix (Filled route) l r) shaped = omega (arith, twice l shaped.2, twice r shaped.3, length-append (slots_of l) (slots_of r))
+twice (Rooted prefix Vacant l r) shaped = omega (arith, twice l shaped.2, twice r shaped.3, length-append (slots_of l) (slots_of r))
+twice (Rooted prefix (Filled route) l r) shaped = omega (arith, twice l shaped.2, twice r shaped.3, length-append (slots_of l) (slots_of r))
 
-pub len-keys_in-forest : {R : Type 0} (f : Forest R) → IsPlanted f → set.len (keys_in (slots_in f)) ≡ length (slots_of f.v4) + length (slots_of f.v6)
-len-keys_in-forest f planted = len-keys_in (slots_in f) (IsDistinct-from_sorted network_cmp _ (sorted-slots_in f planted)) ∙ length-append (slots_of f.v4) (slots_of f.v6)
+pub len-keys_in-forest : {R : Type 0} (f : Forest R) → IsPlanted f → set.len (keys_in (slots_in f)) ≡ length (slots_of (v4_of f)) + length (slots_of (v6_of f))
+len-keys_in-forest f planted = len-keys_in (slots_in f) (IsDistinct-from_sorted network_cmp _ (sorted-slots_in f planted)) ∙ length-append (slots_of (v4_of f)) (slots_of (v6_of f))
 
-pub twice_both : {R : Type 0} (f : Forest R) → IsPlanted f → node_count f.v4 + node_count f.v6 ≤ 2 * set.len (keys_in (slots_in f))
-twice_both f planted = omega (arith, twice f.v4 planted.v4, twice f.v6 planted.v6, len-keys_in-forest f planted)
+pub twice_both : {R : Type 0} (f : Forest R) → IsPlanted f → node_count (v4_of f) + node_count (v6_of f) ≤ 2 * set.len (keys_in (slots_in f))
+twice_both f planted = omega (arith, twice (v4_of f) planted.v4, twice (v6_of f) planted.v6, len-keys_in-forest f planted)

@@ -6,8 +6,8 @@ use Rattle.ip_prefix.specs.declared.turn.Turn.TheVariants.{Outside, Here, Left, 
 use Rattle.ip_prefix.specs.declared.addr.Family.{Family}
 use Rattle.ip_prefix.specs.Network.{Network}
 use Rattle.ip_prefix.specs.Turns.{way, turn_of, family_bit, side}
-use Rattle.rib_store.specs.declared.tree.Tree.{Tree}
-use Rattle.rib_store.specs.declared.tree.Tree.TheVariants.{Empty, Rooted'}
+use Rattle.rib_store.specs.Shape.{Shape}
+use Rattle.rib_store.specs.Shape.{Empty, Rooted}
 use Rattle.rib_store.specs.Tree.{at, slot_of, chosen, root, AreSides, AreOf, IsOf, IsOn, IsRooted, IsShaped, Stands}
 use Rattle.rib_store.proofs.WayLaws.{beyond, turn_through, family_of}
 
@@ -18,77 +18,77 @@ chosen_same Left x = refl
 chosen_same Right x = refl
 
 -- a tree on the left of the bits holds only keys there
-pub at_left : {R : Type 0} (b : List Bool) (t : Tree R) → IsOn b false t → (q : List Bool) → at t q ≡ chosen (turn_of b q) None None (at t q) None
+pub at_left : {R : Type 0} (b : List Bool) (t : Shape R) → IsOn b false t → (q : List Bool) → at t q ≡ chosen (turn_of b q) None None (at t q) None
 at_left b Empty on q = chosen_same (turn_of b q) None
-at_left b (Rooted' p prefix slot l r) on q =
+at_left b (Rooted prefix slot l r) on q =
     elim (beyond b (way prefix) q false on) [
       | inl out ↦
-          let none : at (Rooted' p prefix slot l r) q ≡ None = ap (λ t. chosen t None (slot_of slot) (at l q) (at r q)) out in
+          let none : at (Rooted prefix slot l r) q ≡ None = ap (λ t. chosen t None (slot_of slot) (at l q) (at r q)) out in
           none ∙ chosen_same (turn_of b q) None ∙ ap (λ x. chosen (turn_of b q) None None x None) (sym none)
-      | inr there ↦ ap (λ t. chosen t None None (at (Rooted' p prefix slot l r) q) None) (sym there)
+      | inr there ↦ ap (λ t. chosen t None None (at (Rooted prefix slot l r) q) None) (sym there)
     ]
 
 -- and so on the right
-pub at_right : {R : Type 0} (b : List Bool) (t : Tree R) → IsOn b true t → (q : List Bool) → at t q ≡ chosen (turn_of b q) None None None (at t q)
+pub at_right : {R : Type 0} (b : List Bool) (t : Shape R) → IsOn b true t → (q : List Bool) → at t q ≡ chosen (turn_of b q) None None None (at t q)
 at_right b Empty on q = chosen_same (turn_of b q) None
-at_right b (Rooted' p prefix slot l r) on q =
+at_right b (Rooted prefix slot l r) on q =
     elim (beyond b (way prefix) q true on) [
       | inl out ↦
-          let none : at (Rooted' p prefix slot l r) q ≡ None = ap (λ t. chosen t None (slot_of slot) (at l q) (at r q)) out in
+          let none : at (Rooted prefix slot l r) q ≡ None = ap (λ t. chosen t None (slot_of slot) (at l q) (at r q)) out in
           none ∙ chosen_same (turn_of b q) None ∙ ap (λ x. chosen (turn_of b q) None None None x) (sym none)
-      | inr there ↦ ap (λ t. chosen t None None None (at (Rooted' p prefix slot l r) q)) (sym there)
+      | inr there ↦ ap (λ t. chosen t None None None (at (Rooted prefix slot l r) q)) (sym there)
     ]
 
 -- what lies below a node lies where the node does
-pub on_below : {R : Type 0} (child : Tree R) (bits b : List Bool) (bit s : Bool) → turn_of bits b ≡ side bit → IsOn b s child → IsOn bits bit child
+pub on_below : {R : Type 0} (child : Shape R) (bits b : List Bool) (bit s : Bool) → turn_of bits b ≡ side bit → IsOn b s child → IsOn bits bit child
 on_below Empty bits b bit s there on = tt
-on_below (Rooted' p prefix slot l r) bits b bit s there on = turn_through bits b (way prefix) bit s there on
+on_below (Rooted prefix slot l r) bits b bit s there on = turn_through bits b (way prefix) bit s there on
 
 -- a tree that is a node holds what the node and its children do
-pub at_rooted : {R : Type 0} (t : Tree R) (prefix : Network) (slot : Option (Option R)) (l r : Tree R) → IsRooted prefix slot l r t
+pub at_rooted : {R : Type 0} (t : Shape R) (prefix : Network) (slot : Option (Option R)) (l r : Shape R) → IsRooted prefix slot l r t
     → (q : List Bool) → at t q ≡ chosen (turn_of (way prefix) q) None slot (at l q) (at r q)
 at_rooted Empty prefix slot l r is q = absurd is
-at_rooted (Rooted' p prefix' slot' l' r') prefix slot l r is q =
+at_rooted (Rooted prefix' slot' l' r') prefix slot l r is q =
     λ i. chosen (turn_of (way (is.0 i)) q) None (is.3 i) (at (is.1 i) q) (at (is.2 i) q)
 
 -- ---- by the root and what lies below it
 
-abbrev pub ShapedParts : {R : Type 0} → Network → Option (Option R) → Tree R → Tree R → Type 0
+abbrev pub ShapedParts : {R : Type 0} → Network → Option (Option R) → Shape R → Shape R → Type 0
 ShapedParts prefix slot l r = AreSides (way prefix) l r × Stands slot l r × IsShaped l × IsShaped r
 
-pub shaped_rooted : {R : Type 0} (t : Tree R) (prefix : Network) (slot : Option (Option R)) (l r : Tree R) → IsRooted prefix slot l r t
+pub shaped_rooted : {R : Type 0} (t : Shape R) (prefix : Network) (slot : Option (Option R)) (l r : Shape R) → IsRooted prefix slot l r t
     → ShapedParts prefix slot l r → IsShaped t
 shaped_rooted Empty prefix slot l r is h = absurd is
-shaped_rooted {R} (Rooted' p prefix' slot' l' r') prefix slot l r is h =
-    subst (λ (x : Network × Tree R × Tree R × Option (Option R)). ShapedParts x.0 x.3 x.1 x.2) (λ i. (sym is.0 i, sym is.1 i, sym is.2 i, sym is.3 i)) h
+shaped_rooted {R} (Rooted prefix' slot' l' r') prefix slot l r is h =
+    subst (λ (x : Network × Shape R × Shape R × Option (Option R)). ShapedParts x.0 x.3 x.1 x.2) (λ i. (sym is.0 i, sym is.1 i, sym is.2 i, sym is.3 i)) h
 
-pub rooted_shaped : {R : Type 0} (t : Tree R) (prefix : Network) (slot : Option (Option R)) (l r : Tree R) → IsRooted prefix slot l r t
+pub rooted_shaped : {R : Type 0} (t : Shape R) (prefix : Network) (slot : Option (Option R)) (l r : Shape R) → IsRooted prefix slot l r t
     → IsShaped t → ShapedParts prefix slot l r
 rooted_shaped Empty prefix slot l r is h = absurd is
-rooted_shaped {R} (Rooted' p prefix' slot' l' r') prefix slot l r is h =
-    subst (λ (x : Network × Tree R × Tree R × Option (Option R)). ShapedParts x.0 x.3 x.1 x.2) (λ i. (is.0 i, is.1 i, is.2 i, is.3 i)) h
+rooted_shaped {R} (Rooted prefix' slot' l' r') prefix slot l r is h =
+    subst (λ (x : Network × Shape R × Shape R × Option (Option R)). ShapedParts x.0 x.3 x.1 x.2) (λ i. (is.0 i, is.1 i, is.2 i, is.3 i)) h
 
-pub root_rooted : {R : Type 0} (t : Tree R) (prefix : Network) (slot : Option (Option R)) (l r : Tree R) → IsRooted prefix slot l r t → root t ≡ Some (way prefix)
+pub root_rooted : {R : Type 0} (t : Shape R) (prefix : Network) (slot : Option (Option R)) (l r : Shape R) → IsRooted prefix slot l r t → root t ≡ Some (way prefix)
 root_rooted Empty prefix slot l r is = absurd is
-root_rooted (Rooted' p prefix' slot' l' r') prefix slot l r is = ap (λ (n : Network). Some (way n)) is.0
+root_rooted (Rooted prefix' slot' l' r') prefix slot l r is = ap (λ (n : Network). Some (way n)) is.0
 
 pub some_is : {A : Type 0} (o : Option A) (x : A) → o ≡ Some x → IsSome o
 some_is None x e = cc
 some_is (Some y) x e = refl
 
 -- a tree with a known root lies on a side
-pub on_side : {R : Type 0} (t : Tree R) (b x : List Bool) (bit : Bool) → root t ≡ Some x → turn_of b x ≡ side bit → IsOn b bit t
+pub on_side : {R : Type 0} (t : Shape R) (b x : List Bool) (bit : Bool) → root t ≡ Some x → turn_of b x ≡ side bit → IsOn b bit t
 on_side Empty b x bit e h = tt
-on_side (Rooted' p prefix slot l r) b x bit e h = let same : way prefix ≡ x = cc in ap (turn_of b) same ∙ h
+on_side (Rooted prefix slot l r) b x bit e h = let same : way prefix ≡ x = cc in ap (turn_of b) same ∙ h
 
 -- so does another with its root
-pub on_same : {R : Type 0} (old new : Tree R) (from : List Bool) (bit : Bool) → root new ≡ root old → IsOn from bit old → IsOn from bit new
+pub on_same : {R : Type 0} (old new : Shape R) (from : List Bool) (bit : Bool) → root new ≡ root old → IsOn from bit old → IsOn from bit new
 on_same old new from bit same on = subst (λ to. IfSome to (λ way. turn_of from way ≡ side bit)) (sym same) on
 
 -- all nodes of a tree on a family's side are of the family
-pub are_of : {R : Type 0} (family : Family) (tree : Tree R) → IsShaped tree → IsOf family tree → AreOf family tree
+pub are_of : {R : Type 0} (family : Family) (tree : Shape R) → IsShaped tree → IsOf family tree → AreOf family tree
 are_of family Empty shaped of = tt
-are_of family (Rooted' p prefix slot l r) shaped of = (
+are_of family (Rooted prefix slot l r) shaped of = (
   family_of prefix family of,
   are_of family l shaped.2 (on_below l [] (way prefix) (family_bit family) false of shaped.0.left),
   are_of family r shaped.3 (on_below r [] (way prefix) (family_bit family) true of shaped.0.right),

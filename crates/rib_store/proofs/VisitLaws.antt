@@ -20,14 +20,14 @@ use Rattle.ip_prefix.specs.OrderLaws.{network_cmp_total}
 use Rattle.ip_prefix.specs.Turns.{way, turn_of, side}
 use Rattle.ip_prefix.proofs.Containing.{contains_parts}
 use Rattle.ip_prefix.proofs.Turns.{here_only}
-use Rattle.rib_store.specs.declared.tree.Tree.{Tree}
-use Rattle.rib_store.specs.declared.tree.Tree.TheVariants.{Empty, Rooted'}
+use Rattle.rib_store.specs.Shape.{Shape}
+use Rattle.rib_store.specs.Shape.{Empty, Rooted}
 use Rattle.rib_store.specs.declared.forest.Forest.{Forest}
 use Rattle.rib_store.specs.Stored.{Keys}
 use Rattle.rib_store.specs.Slots.{keys_in}
 use Rattle.rib_store.specs.Tree.{chosen, root, IsOn, IsShaped}
 use Rattle.rib_store.specs.Walks.{visits}
-use Rattle.rib_store.specs.Forest.{slots_in, tree_of, IsPlanted}
+use Rattle.rib_store.specs.Forest.{v4_of, v6_of, slots_in, tree_of, IsPlanted}
 use Rattle.rib_store.specs.Nodes.{is_node, AreNodesTo, IsOrOneMore}
 use Rattle.rib_store.proofs.AboveLaws.{is_less}
 use Rattle.rib_store.proofs.WayLaws.{turn_through, node_first, begin_outside, begin_side, begin_in, turn_longer, length-way}
@@ -39,17 +39,17 @@ use Rattle.rib_store.proofs.NodeSetLaws.{is_in, node-is, node_left, node_right}
 use Rattle.rib_store.proofs.DeepestLaws.{host, contains-way}
 
 -- the way to the root is at least as long
-abbrev pub AtLeast : {R : Type 0} → ℕ → Tree R → Type 0
+abbrev pub AtLeast : {R : Type 0} → ℕ → Shape R → Type 0
 AtLeast n t = IfSome (root t) (λ b. n ≤ length b)
 
-on_longer : {R : Type 0} (t : Tree R) (b : List Bool) (bit : Bool) → IsOn b bit t → AtLeast (length b + 1) t
+on_longer : {R : Type 0} (t : Shape R) (b : List Bool) (bit : Bool) → IsOn b bit t → AtLeast (length b + 1) t
 on_longer Empty b bit on = tt
-on_longer (Rooted' p prefix slot l r) b bit on = omega (arith, turn_longer b (way prefix) bit on)
+on_longer (Rooted prefix slot l r) b bit on = omega (arith, turn_longer b (way prefix) bit on)
 
 -- each node that is met is longer than the one above it
-visits_le : {R : Type 0} (t : Tree R) (n : ℕ) (key : List Bool) → IsShaped t → AtLeast n t → n ≤ length key → visits t key + n ≤ length key + 1
+visits_le : {R : Type 0} (t : Shape R) (n : ℕ) (key : List Bool) → IsShaped t → AtLeast n t → n ≤ length key → visits t key + n ≤ length key + 1
 visits_le Empty n key shaped above within = omega arith
-visits_le {R} (Rooted' p prefix slot l r) n key shaped above within =
+visits_le {R} (Rooted prefix slot l r) n key shaped above within =
     turns (turn_of (way prefix) key) refl
     (λ h. visits_le l (length (way prefix) + 1) key shaped.2 (on_longer l (way prefix) false shaped.0.left) h)
     (λ h. visits_le r (length (way prefix) + 1) key shaped.3 (on_longer r (way prefix) true shaped.0.right) h)
@@ -64,20 +64,20 @@ visits_le {R} (Rooted' p prefix slot l r) n key shaped above within =
     turns Right e f g = let longer = turn_longer (way prefix) key true e in let below = g (omega arith) in omega (arith, longer, below, above)
 
 -- a tree of one family is left after as many nodes as the key has bits, and one
-pub visits-most : {R : Type 0} (t : Tree R) (bit : Bool) (key : List Bool) → IsShaped t → IsOn [] bit t → 1 ≤ length key → visits t key ≤ length key
+pub visits-most : {R : Type 0} (t : Shape R) (bit : Bool) (key : List Bool) → IsShaped t → IsOn [] bit t → 1 ≤ length key → visits t key ≤ length key
 visits-most t bit key shaped on some = omega (arith, visits_le t 1 key shaped (on_longer t [] bit on) some)
 
 -- ---- the nodes that are met
 
 -- the nodes on the way to a key, whose ways it begins with
-abbrev pub path_in : {R : Type 0} → Tree R → List Bool → List Network
+abbrev pub path_in : {R : Type 0} → Shape R → List Bool → List Network
 path_in Empty key = []
-path_in (Rooted' p prefix slot l r) key = chosen (turn_of (way prefix) key) [] (prefix ∷ []) (prefix ∷ path_in l key) (prefix ∷ path_in r key)
+path_in (Rooted prefix slot l r) key = chosen (turn_of (way prefix) key) [] (prefix ∷ []) (prefix ∷ path_in l key) (prefix ∷ path_in r key)
 
 -- one node more may be visited
-pub visits_path : {R : Type 0} (t : Tree R) (key : List Bool) → (visits t key ≡ length (path_in t key)) ⊎ (visits t key ≡ length (path_in t key) + 1)
+pub visits_path : {R : Type 0} (t : Shape R) (key : List Bool) → (visits t key ≡ length (path_in t key)) ⊎ (visits t key ≡ length (path_in t key) + 1)
 visits_path Empty key = inl refl
-visits_path {R} (Rooted' p prefix slot l r) key = turns (turn_of (way prefix) key) (visits_path l key) (visits_path r key)
+visits_path {R} (Rooted prefix slot l r) key = turns (turn_of (way prefix) key) (visits_path l key) (visits_path r key)
   where
     turns : (t : Turn) → (visits l key ≡ length (path_in l key)) ⊎ (visits l key ≡ length (path_in l key) + 1) → (visits r key ≡ length (path_in r key)) ⊎ (visits r key ≡ length (path_in r key) + 1)
         → (1 + chosen t 0 0 (visits l key) (visits r key) ≡ length (chosen t [] (prefix ∷ []) (prefix ∷ path_in l key) (prefix ∷ path_in r key)))
@@ -94,13 +94,13 @@ and_none true b e = sym e
 and_none false b e = refl
 
 -- the nodes on the way, at the way of a query
-abbrev on_path : {R : Type 0} → Tree R → List Bool → List Bool → Bool
+abbrev on_path : {R : Type 0} → Shape R → List Bool → List Bool → Bool
 on_path t key q = node_at t q && begin_with q key
 
 -- by where the key lies and where the query lies
-pub met : {R : Type 0} (t : Tree R) (key : List Bool) (q : Network) → IsShaped t → is_in (path_in t key) q ≡ on_path t key (way q)
+pub met : {R : Type 0} (t : Shape R) (key : List Bool) (q : Network) → IsShaped t → is_in (path_in t key) q ≡ on_path t key (way q)
 met Empty key q shaped = refl
-met {R} (Rooted' p prefix slot l r) key q shaped =
+met {R} (Rooted prefix slot l r) key q shaped =
     turns (turn_of (way prefix) key) (turn_of (way prefix) (way q)) refl refl (met l key q shaped.2) (met r key q shaped.3)
   where
     head : (j : Turn) → turn_of (way prefix) (way q) ≡ j → eq_by_cmp network_cmp q prefix ≡ chosen j false true false false
@@ -136,9 +136,9 @@ met {R} (Rooted' p prefix slot l r) key q shaped =
 -- ---- each is met once
 
 path-on : {R : Type 0} (P : Network → Type 0) (from : List Bool) (bit : Bool) → ((n : Network) → turn_of from (way n) ≡ side bit → P n)
-    → (t : Tree R) (key : List Bool) → IsShaped t → IsOn from bit t → AllByRecursion P (path_in t key)
+    → (t : Shape R) (key : List Bool) → IsShaped t → IsOn from bit t → AllByRecursion P (path_in t key)
 path-on P from bit holds Empty key shaped on = tt
-path-on {R} P from bit holds (Rooted' p prefix slot l r) key shaped on =
+path-on {R} P from bit holds (Rooted prefix slot l r) key shaped on =
     turns (turn_of (way prefix) key) (path-on P (way prefix) false (deeper false) l key shaped.2 shaped.0.left) (path-on P (way prefix) true (deeper true) r key shaped.3 shaped.0.right)
   where
     deeper : (s : Bool) (n : Network) → turn_of (way prefix) (way n) ≡ side s → P n
@@ -150,10 +150,10 @@ path-on {R} P from bit holds (Rooted' p prefix slot l r) key shaped on =
     turns Left f g = (holds prefix on, f)
     turns Right f g = (holds prefix on, g)
 
-sorted-path : {R : Type 0} (t : Tree R) (key : List Bool) → IsShaped t → IsStrictlySortedBy network_cmp (path_in t key)
+sorted-path : {R : Type 0} (t : Shape R) (key : List Bool) → IsShaped t → IsStrictlySortedBy network_cmp (path_in t key)
 unfolding IsStrictlySortedBy
 sorted-path Empty key shaped = tt
-sorted-path {R} (Rooted' p prefix slot l r) key shaped = turns (turn_of (way prefix) key) (sorted-path l key shaped.2) (sorted-path r key shaped.3)
+sorted-path {R} (Rooted prefix slot l r) key shaped = turns (turn_of (way prefix) key) (sorted-path l key shaped.2) (sorted-path r key shaped.3)
   where
     under : (s : Bool) (n : Network) → turn_of (way prefix) (way n) ≡ side s → network_cmp prefix n ≡ Less
     under s n h = is_less (network_cmp prefix n) (ap is_lt (cmp-ways prefix n) ∙ (node_first (way prefix) (way n) s h).0)
@@ -177,12 +177,12 @@ len-met f planted address =
     (IsDistinct-from_sorted network_cmp _ (sorted-path (tree_of address.family f) (way (host address)) (shaped-family f planted address.family)))
 
 -- of both trees, the one of the family has the nodes of the family
-in_family : {R : Type 0} (f : Forest R) → IsPlanted f → (q : Network) (family : Family) → q.family ≡ family → (node_at f.v4 (way q) || node_at f.v6 (way q)) ≡ node_at (tree_of family f) (way q)
+in_family : {R : Type 0} (f : Forest R) → IsPlanted f → (q : Network) (family : Family) → q.family ≡ family → (node_at (v4_of f) (way q) || node_at (v6_of f) (way q)) ≡ node_at (tree_of family f) (way q)
 in_family f planted q V4 e =
-    ap (λ b. node_at f.v4 (way q) || b) (node_right [] f.v6 planted.sides.right (way q) ∙ ap (λ t. chosen t false false false (node_at f.v6 (way q))) (first_side q V4 e))
-    ∙ or-false (node_at f.v4 (way q))
+    ap (λ b. node_at (v4_of f) (way q) || b) (node_right [] (v6_of f) planted.sides.right (way q) ∙ ap (λ t. chosen t false false false (node_at (v6_of f) (way q))) (first_side q V4 e))
+    ∙ or-false (node_at (v4_of f) (way q))
 in_family f planted q V6 e =
-    ap (λ b. b || node_at f.v6 (way q)) (node_left [] f.v4 planted.sides.left (way q) ∙ ap (λ t. chosen t false false (node_at f.v4 (way q)) false) (first_side q V6 e))
+    ap (λ b. b || node_at (v6_of f) (way q)) (node_left [] (v4_of f) planted.sides.left (way q) ∙ ap (λ t. chosen t false false (node_at (v4_of f) (way q)) false) (first_side q V6 e))
 
 and_same : (a b c : Bool) → (c ≡ true → a ≡ b) → (a && c) ≡ (b && c)
 and_same a b true same = ap (λ x. x && true) (same refl)
@@ -212,5 +212,5 @@ visits-few f planted address = families address.family
     some = omega (arith, length-way (host address))
 
     families : (family : Family) → visits (tree_of family f) (way (host address)) ≤ length address.bits + 1
-    families V4 = omega (arith, length-way (host address), visits-most f.v4 false (way (host address)) planted.v4 planted.sides.left some)
-    families V6 = omega (arith, length-way (host address), visits-most f.v6 true (way (host address)) planted.v6 planted.sides.right some)
+    families V4 = omega (arith, length-way (host address), visits-most (v4_of f) false (way (host address)) planted.v4 planted.sides.left some)
+    families V6 = omega (arith, length-way (host address), visits-most (v6_of f) true (way (host address)) planted.v6 planted.sides.right some)

@@ -19,8 +19,8 @@ use Rattle.octet_forms.proofs.Lists.{AllByRecursion-append}
 use Rattle.ip_prefix.proofs.Turns.{here_only}
 use Rattle.rib_store.specs.declared.tree.Slot.{Slot}
 use Rattle.rib_store.specs.declared.tree.Slot.TheVariants.{Branch, Vacant, Filled}
-use Rattle.rib_store.specs.declared.tree.Tree.{Tree}
-use Rattle.rib_store.specs.declared.tree.Tree.TheVariants.{Empty, Rooted'}
+use Rattle.rib_store.specs.Shape.{Shape}
+use Rattle.rib_store.specs.Shape.{Empty, Rooted}
 use Rattle.rib_store.specs.Stored.{is_above, above}
 use Rattle.rib_store.specs.Slots.{Slots, slot_at, routed}
 use Rattle.rib_store.specs.Tree.{at, own, slots_of, slot_of, chosen, same_way, AreSides, IsOn, IsRooted, IsShaped}
@@ -110,9 +110,9 @@ by_turn Here slot x y = either_none slot
 by_turn Left slot x y = either_none x
 by_turn Right slot x y = refl
 
-pub slot_at-slots_of : {R : Type 0} (t : Tree R) → IsShaped t → (q : Network) → slot_at (slots_of t) q ≡ at t (way q)
+pub slot_at-slots_of : {R : Type 0} (t : Shape R) → IsShaped t → (q : Network) → slot_at (slots_of t) q ≡ at t (way q)
 slot_at-slots_of Empty shaped q = refl
-slot_at-slots_of {R} (Rooted' p prefix slot l r) shaped q =
+slot_at-slots_of {R} (Rooted prefix slot l r) shaped q =
     slot_at-own q prefix (slot_of slot) (slots_of l ++ slots_of r)
     ∙ (λ i. either_of (cond (tied-ways q prefix i) (slot_of slot) None)
     ((slot_at-append q (slots_of l) (slots_of r)
@@ -130,9 +130,9 @@ AllKeys-append P xs ys all more = subst (AllByRecursion P) (sym (keys_of-append 
 
 -- what holds of all that lies on a side holds of the keys of a tree there
 pub all-on : {R : Type 0} (P : Network → Type 0) (from : List Bool) (bit : Bool) → ((n : Network) → turn_of from (way n) ≡ side bit → P n)
-    → (t : Tree R) → IsShaped t → IsOn from bit t → AllByRecursion P (keys_of (slots_of t))
+    → (t : Shape R) → IsShaped t → IsOn from bit t → AllByRecursion P (keys_of (slots_of t))
 all-on P from bit holds Empty shaped on = tt
-all-on P from bit holds (Rooted' p prefix slot l r) shaped on =
+all-on P from bit holds (Rooted prefix slot l r) shaped on =
     let deeper = λ (s : Bool) (n : Network) (h : turn_of (way prefix) (way n) ≡ side s). holds n (turn_through from (way prefix) (way n) bit s on h) in
     AllKeys-own P prefix (slot_of slot) (slots_of l ++ slots_of r) (holds prefix on)
     (AllKeys-append P (slots_of l) (slots_of r) (all-on P (way prefix) false (deeper false) l shaped.2 shaped.0.left) (all-on P (way prefix) true (deeper true) r shaped.3 shaped.0.right))
@@ -153,7 +153,7 @@ sorted-own prefix None below sorted less = sorted
 sorted-own prefix (Some slot) below sorted less = (less, sorted)
 
 -- one side of a way after the other
-pub sorted-sides : {R : Type 0} (from : List Bool) (l r : Tree R) → AreSides from l r → IsShaped l → IsShaped r → IsStrictlySortedBy network_cmp (keys_of (slots_of l)) → IsStrictlySortedBy network_cmp (keys_of (slots_of r))
+pub sorted-sides : {R : Type 0} (from : List Bool) (l r : Shape R) → AreSides from l r → IsShaped l → IsShaped r → IsStrictlySortedBy network_cmp (keys_of (slots_of l)) → IsStrictlySortedBy network_cmp (keys_of (slots_of r))
     → IsStrictlySortedBy network_cmp (keys_of (slots_of l ++ slots_of r))
 sorted-sides from l r sides ls rs first second =
     subst (IsStrictlySortedBy network_cmp) (sym (keys_of-append (slots_of l) (slots_of r)))
@@ -162,10 +162,10 @@ sorted-sides from l r sides ls rs first second =
     (λ x on. all-on (λ y. network_cmp x y ≡ Less) from true (λ y there. is_less (network_cmp x y) (ap is_lt (cmp-ways x y) ∙ (left_first from (way x) (way y) on there).0)) r rs sides.right)
     l ls sides.left))
 
-pub sorted-slots_of : {R : Type 0} (t : Tree R) → IsShaped t → IsStrictlySortedBy network_cmp (keys_of (slots_of t))
+pub sorted-slots_of : {R : Type 0} (t : Shape R) → IsShaped t → IsStrictlySortedBy network_cmp (keys_of (slots_of t))
 unfolding IsStrictlySortedBy
 sorted-slots_of Empty shaped = tt
-sorted-slots_of (Rooted' p prefix slot l r) shaped =
+sorted-slots_of (Rooted prefix slot l r) shaped =
     let under = λ (s : Bool) (n : Network) (h : turn_of (way prefix) (way n) ≡ side s). is_less (network_cmp prefix n) (ap is_lt (cmp-ways prefix n) ∙ (node_first (way prefix) (way n) s h).0) in
     sorted-own prefix (slot_of slot) (slots_of l ++ slots_of r)
     (sorted-sides (way prefix) l r shaped.0 shaped.2 shaped.3 (sorted-slots_of l shaped.2) (sorted-slots_of r shaped.3))
@@ -175,10 +175,10 @@ sorted-slots_of (Rooted' p prefix slot l r) shaped =
 
 -- ---- the first route, and the first behind a prefix
 
-pub first-routed : {R : Type 0} (t : Tree R) → first t ≡ slice_get (routed (slots_of t)) 0
+pub first-routed : {R : Type 0} (t : Shape R) → first t ≡ slice_get (routed (slots_of t)) 0
 unfolding routed
 first-routed Empty = refl
-first-routed (Rooted' p prefix slot l r) =
+first-routed (Rooted prefix slot l r) =
     ap (either_of (routed_at prefix (slot_of slot))) ((λ i. either_of (first-routed l i) (first-routed r i)) ∙ sym (ap (λ s. slice_get s 0) (routed-append (slots_of l) (slots_of r)) ∙ first-append (routed (slots_of l)) (routed (slots_of r))))
     ∙ sym (routed-own prefix (slot_of slot) (slots_of l ++ slots_of r))
 
@@ -226,22 +226,22 @@ not_out : (b x : List Bool) (s : Bool) → turn_of b x ≡ side s → turn_of b 
 not_out b x s e h = no_turn s (sym h ∙ e)
 
 -- all keys of a tree on a side are above, where all that lies there is
-pub first-next : {R : Type 0} (low : Network) (from : List Bool) (bit : Bool) (t : Tree R) → IsShaped t → IsOn from bit t → ((n : Network) → turn_of from (way n) ≡ side bit → below (way low) (way n) ≡ true) → first t ≡ next low (slots_of t)
+pub first-next : {R : Type 0} (low : Network) (from : List Bool) (bit : Bool) (t : Shape R) → IsShaped t → IsOn from bit t → ((n : Network) → turn_of from (way n) ≡ side bit → below (way low) (way n) ≡ true) → first t ≡ next low (slots_of t)
 first-next low from bit t shaped on holds =
     first-routed t ∙ sym (ap (λ l. slice_get l 0) (next-all low (slots_of t) (all-on (λ n. is_above (Some low) n ≡ true) from bit (λ n h. above-ways low n ∙ holds n h) t shaped on)))
 
 -- and none is, where none there is
-pub none-next : {R : Type 0} (low : Network) (from : List Bool) (bit : Bool) (t : Tree R) → IsShaped t → IsOn from bit t → ((n : Network) → turn_of from (way n) ≡ side bit → below (way low) (way n) ≡ false) → None ≡ next low (slots_of t)
+pub none-next : {R : Type 0} (low : Network) (from : List Bool) (bit : Bool) (t : Shape R) → IsShaped t → IsOn from bit t → ((n : Network) → turn_of from (way n) ≡ side bit → below (way low) (way n) ≡ false) → None ≡ next low (slots_of t)
 none-next low from bit t shaped on holds =
     sym (ap (λ l. slice_get l 0) (next-none low (slots_of t) (all-on (λ n. is_above (Some low) n ≡ false) from bit (λ n h. above-ways low n ∙ holds n h) t shaped on)))
 
-pub behind-next : {R : Type 0} (t : Tree R) → IsShaped t → (low : Network) → behind t low ≡ next low (slots_of t)
+pub behind-next : {R : Type 0} (t : Shape R) → IsShaped t → (low : Network) → behind t low ≡ next low (slots_of t)
 unfolding routed
 behind-next Empty shaped low = refl
-behind-next {R} (Rooted' p prefix slot l r) shaped low = turns (turn_of (way prefix) (way low)) refl (behind-next l shaped.2 low) (behind-next r shaped.3 low)
+behind-next {R} (Rooted prefix slot l r) shaped low = turns (turn_of (way prefix) (way low)) refl (behind-next l shaped.2 low) (behind-next r shaped.3 low)
   where
-    whole : Tree R
-    whole = Rooted' p prefix slot l r
+    whole : Shape R
+    whole = Rooted prefix slot l r
 
     all_keys : (P : Network → Type 0) → P prefix → ((s : Bool) (n : Network) → turn_of (way prefix) (way n) ≡ side s → P n) → AllByRecursion P (keys_of (slots_of whole))
     all_keys P here holds =
@@ -297,10 +297,10 @@ length-routed-own prefix (Some None) below = omega arith
 length-routed-own prefix (Some (Some route)) below = omega arith
 
 -- those of a tree are its root's and its children's
-pub length-routed-rooted : {R : Type 0} (t : Tree R) (prefix : Network) (slot : Option (Option R)) (l r : Tree R) → IsRooted prefix slot l r t
+pub length-routed-rooted : {R : Type 0} (t : Shape R) (prefix : Network) (slot : Option (Option R)) (l r : Shape R) → IsRooted prefix slot l r t
     → length (routed (slots_of t)) ≡ routes_at slot + (length (routed (slots_of l)) + length (routed (slots_of r)))
 length-routed-rooted Empty prefix slot l r is = absurd is
-length-routed-rooted (Rooted' p prefix' slot' l' r') prefix slot l r is =
+length-routed-rooted (Rooted prefix' slot' l' r') prefix slot l r is =
     length-routed-own prefix' (slot_of slot') (slots_of l' ++ slots_of r')
     ∙ (λ i. routes_at (is.3 i) + (length-routed-append (slots_of l') (slots_of r') ∙ (λ j. length (routed (slots_of (is.1 j))) + length (routed (slots_of (is.2 j))))) i)
 

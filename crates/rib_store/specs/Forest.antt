@@ -8,25 +8,33 @@ use Rattle.ip_prefix.specs.declared.addr.Family.TheVariants.{V4, V6}
 use Rattle.ip_prefix.specs.Network.{Network}
 use Rattle.ip_prefix.specs.Order.{network_cmp}
 use Rattle.rib_store.specs.declared.forest.Forest.{Forest}
-use Rattle.rib_store.specs.declared.tree.Tree.{Tree}
+use Rattle.rib_store.specs.Shape.{Shape, shape_of}
+use Rattle.rib_store.specs.Packed.{v4_network, v6_network}
 use Rattle.rib_store.specs.Stored.{Contents, counted}
 use Rattle.rib_store.specs.Slots.{Slots, slot_at, keys_in, routes_in}
 use Rattle.rib_store.specs.Tree.{slots_of, AreSides, IsShaped}
 
+-- the shapes of both trees
+abbrev pub v4_of : {R : Type 0} → Forest R → Shape R
+v4_of forest = shape_of v4_network forest.v4
+
+abbrev pub v6_of : {R : Type 0} → Forest R → Shape R
+v6_of forest = shape_of v6_network forest.v6
+
 -- the keys of both families, each with its slot, in order
 abbrev pub slots_in : {R : Type 0} → Forest R → Slots R
-slots_in forest = slots_of forest.v4 ++ slots_of forest.v6
+slots_in forest = slots_of (v4_of forest) ++ slots_of (v6_of forest)
 
 -- the tree of a family
-abbrev pub tree_of : {R : Type 0} → Family → Forest R → Tree R
-tree_of V4 forest = forest.v4
-tree_of V6 forest = forest.v6
+abbrev pub tree_of : {R : Type 0} → Family → Forest R → Shape R
+tree_of V4 forest = v4_of forest
+tree_of V6 forest = v6_of forest
 
 -- each tree has its shape, and its keys are of its family
 pub record IsPlanted {R : Type 0} (forest : Forest R) : Type 0 where
-  pub sides : AreSides [] forest.v4 forest.v6
-  pub v4 : IsShaped forest.v4
-  pub v6 : IsShaped forest.v6
+  pub sides : AreSides [] (v4_of forest) (v6_of forest)
+  pub v4 : IsShaped (v4_of forest)
+  pub v6 : IsShaped (v6_of forest)
 
 -- each prefix has the slot that it had, but for one
 abbrev pub ChangesAt : {R : Type 0} → Slots R → Network → Option (Option R) → Slots R → Type 0

@@ -7,8 +7,8 @@ use Rattle.ip_prefix.specs.Network.{Network}
 use Rattle.ip_prefix.specs.Turns.{way, turn_of, side, shared, family_bit}
 use Rattle.rib_store.specs.declared.tree.Slot.{Slot}
 use Rattle.rib_store.specs.declared.tree.Slot.TheVariants.{Branch, Vacant, Filled}
-use Rattle.rib_store.specs.declared.tree.Tree.{Tree}
-use Rattle.rib_store.specs.declared.tree.Tree.TheVariants.{Empty, Rooted'}
+use Rattle.rib_store.specs.Shape.{Shape}
+use Rattle.rib_store.specs.Shape.{Empty, Rooted}
 use Rattle.rib_store.specs.Slots.{Slots}
 
 -- what a turn chooses
@@ -29,9 +29,9 @@ slot_of Vacant = Some None
 slot_of (Filled route) = Some (Some route)
 
 -- what the key at the end of a way has, where one is there
-abbrev pub at : {R : Type 0} → Tree R → List Bool → Option (Option R)
+abbrev pub at : {R : Type 0} → Shape R → List Bool → Option (Option R)
 at Empty key = None
-at (Rooted' p prefix slot left right) key =
+at (Rooted prefix slot left right) key =
     chosen (turn_of (way prefix) key) None (slot_of slot) (at left key) (at right key)
 
 -- the node's slot before those below it, where it is a key
@@ -40,51 +40,51 @@ own prefix None below = below
 own prefix (Some slot) below = (prefix, slot) ∷ below
 
 -- the keys, each with its slot, from the left to the right
-abbrev pub slots_of : {R : Type 0} → Tree R → Slots R
+abbrev pub slots_of : {R : Type 0} → Shape R → Slots R
 slots_of Empty = []
-slots_of (Rooted' p prefix slot left right) =
+slots_of (Rooted prefix slot left right) =
     own prefix (slot_of slot) (slots_of left ++ slots_of right)
 
 -- ---- the shape
 
 -- the way to the root
-abbrev pub root : {R : Type 0} → Tree R → Option (List Bool)
+abbrev pub root : {R : Type 0} → Shape R → Option (List Bool)
 root Empty = None
-root (Rooted' p prefix slot left right) = Some (way prefix)
+root (Rooted prefix slot left right) = Some (way prefix)
 
 -- the tree lies on a side of a way
-abbrev pub IsOn : {R : Type 0} → List Bool → Bool → Tree R → Type 0
+abbrev pub IsOn : {R : Type 0} → List Bool → Bool → Shape R → Type 0
 IsOn from bit tree = IfSome (root tree) (λ to. turn_of from to ≡ side bit)
 
 -- the tree lies on the family's side of the root of both
-abbrev pub IsOf : {R : Type 0} → Family → Tree R → Type 0
+abbrev pub IsOf : {R : Type 0} → Family → Shape R → Type 0
 IsOf family = IsOn [] (family_bit family)
 
 -- all of its nodes are of the family
-abbrev pub AreOf : {R : Type 0} → Family → Tree R → Type 0
+abbrev pub AreOf : {R : Type 0} → Family → Shape R → Type 0
 AreOf family Empty = Unit {0}
-AreOf family (Rooted' p prefix slot left right) = (prefix.family ≡ family) × AreOf family left × AreOf family right
+AreOf family (Rooted prefix slot left right) = (prefix.family ≡ family) × AreOf family left × AreOf family right
 
 -- two trees lie on their sides of a way
-pub record AreSides {R : Type 0} (from : List Bool) (l r : Tree R) : Type 0 where
+pub record AreSides {R : Type 0} (from : List Bool) (l r : Shape R) : Type 0 where
   pub left : IsOn from false l
   pub right : IsOn from true r
 
 -- a node is a key, or has two children
-abbrev pub Stands : {R : Type 0} → Option (Option R) → Tree R → Tree R → Type 0
+abbrev pub Stands : {R : Type 0} → Option (Option R) → Shape R → Shape R → Type 0
 Stands None left right = IsSome (root left) × IsSome (root right)
 Stands (Some slot) left right = Unit {0}
 
 -- each node stands for a key or a branch, and its children lie on their sides
-abbrev pub IsShaped : {R : Type 0} → Tree R → Type 0
+abbrev pub IsShaped : {R : Type 0} → Shape R → Type 0
 IsShaped Empty = Unit {0}
-IsShaped (Rooted' p prefix slot left right) =
+IsShaped (Rooted prefix slot left right) =
     AreSides (way prefix) left right × Stands (slot_of slot) left right × IsShaped left × IsShaped right
 
 -- the same, but that the root may be neither
-abbrev pub IsNearlyShaped : {R : Type 0} → Tree R → Type 0
+abbrev pub IsNearlyShaped : {R : Type 0} → Shape R → Type 0
 IsNearlyShaped Empty = Unit {0}
-IsNearlyShaped (Rooted' p prefix slot left right) = AreSides (way prefix) left right × IsShaped left × IsShaped right
+IsNearlyShaped (Rooted prefix slot left right) = AreSides (way prefix) left right × IsShaped left × IsShaped right
 
 -- ---- changes
 
@@ -103,13 +103,13 @@ joined None key = key
 joined (Some to) key = shared to key
 
 -- the root and what lies below it
-abbrev pub IsRooted : {R : Type 0} → Network → Option (Option R) → Tree R → Tree R → Tree R → Type 0
+abbrev pub IsRooted : {R : Type 0} → Network → Option (Option R) → Shape R → Shape R → Shape R → Type 0
 IsRooted prefix slot left right Empty = ⊥
-IsRooted prefix slot left right (Rooted' p prefix' slot' left' right') =
+IsRooted prefix slot left right (Rooted prefix' slot' left' right') =
     (prefix' ≡ prefix) × (left' ≡ left) × (right' ≡ right) × (slot_of slot' ≡ slot)
 
 -- a key is there, the others are as before, and the tree has its shape
-pub record IsGrown {R : Type 0} (key : List Bool) (old new : Tree R) : Type 0 where
+pub record IsGrown {R : Type 0} (key : List Bool) (old new : Shape R) : Type 0 where
   pub shaped : IsShaped new
   pub slots : IsPut (at old) key (kept (at old key)) (at new)
   pub roots : root new ≡ Some (joined (root old) key)

@@ -4,8 +4,8 @@ use Rattle.std.specs.Ordering.{is_lt}
 use Rattle.ip_prefix.specs.Network.{Network}
 use Rattle.ip_prefix.specs.Order.{network_cmp}
 use Rattle.ip_prefix.specs.Turns.{way, turn_of}
-use Rattle.rib_store.specs.declared.tree.Tree.{Tree}
-use Rattle.rib_store.specs.declared.tree.Tree.TheVariants.{Empty, Rooted'}
+use Rattle.rib_store.specs.Shape.{Shape}
+use Rattle.rib_store.specs.Shape.{Empty, Rooted}
 use Rattle.rib_store.specs.Tree.{chosen, slot_of}
 
 -- the prefix and its route, where it has one
@@ -20,29 +20,29 @@ either_of None other = other
 either_of (Some x) other = Some x
 
 -- the deepest route on a way
-abbrev pub deepest : {R : Type 0} → Tree R → List Bool → Option (Network × R)
+abbrev pub deepest : {R : Type 0} → Shape R → List Bool → Option (Network × R)
 deepest Empty key = None
-deepest (Rooted' p prefix slot left right) key =
+deepest (Rooted prefix slot left right) key =
     chosen (turn_of (way prefix) key) None (routed_at prefix (slot_of slot))
     (either_of (deepest left key) (routed_at prefix (slot_of slot)))
     (either_of (deepest right key) (routed_at prefix (slot_of slot)))
 
 -- how many nodes are met on a way
-abbrev pub visits : {R : Type 0} → Tree R → List Bool → ℕ
+abbrev pub visits : {R : Type 0} → Shape R → List Bool → ℕ
 visits Empty key = 0
-visits (Rooted' p prefix slot left right) key =
+visits (Rooted prefix slot left right) key =
     1 + chosen (turn_of (way prefix) key) 0 0 (visits left key) (visits right key)
 
 -- the first route from the left, a node's before those below it
-abbrev pub first : {R : Type 0} → Tree R → Option (Network × R)
+abbrev pub first : {R : Type 0} → Shape R → Option (Network × R)
 first Empty = None
-first (Rooted' p prefix slot left right) =
+first (Rooted prefix slot left right) =
     either_of (routed_at prefix (slot_of slot)) (either_of (first left) (first right))
 
 -- the first route behind a prefix
-abbrev pub behind : {R : Type 0} → Tree R → Network → Option (Network × R)
+abbrev pub behind : {R : Type 0} → Shape R → Network → Option (Network × R)
 behind Empty low = None
-behind (Rooted' p prefix slot left right) low =
+behind (Rooted prefix slot left right) low =
     chosen (turn_of (way prefix) (way low))
     (cond (is_lt (network_cmp low prefix))
     (either_of (routed_at prefix (slot_of slot)) (either_of (first left) (first right))) None)
@@ -51,6 +51,6 @@ behind (Rooted' p prefix slot left right) low =
     (behind right low)
 
 -- how many nodes there are
-abbrev pub node_count : {R : Type 0} → Tree R → ℕ
+abbrev pub node_count : {R : Type 0} → Shape R → ℕ
 node_count Empty = 0
-node_count (Rooted' p prefix slot left right) = node_count left + node_count right + 1
+node_count (Rooted prefix slot left right) = node_count left + node_count right + 1

@@ -7,19 +7,22 @@ ghost use Rattle.ip_prefix.specs.Address.{bit_count};
 ghost use Rattle.std.specs.FinSet as set;
 ghost use Rattle.rib_store.specs.Stored.{Keys, counted, above, IsLongest};
 ghost use Rattle.rib_store.specs.Slots.{keys_in, routed, routes_in, route_found, slot_at};
-ghost use Rattle.rib_store.specs.Tree.{kept, slot_of};
+ghost use Rattle.ip_prefix.specs.Turns.{way};
+ghost use Rattle.rib_store.specs.Tree.{at, kept};
+ghost use Rattle.rib_store.specs.Walks.{deepest, visits};
 ghost use Rattle.rib_store.specs.Nodes.{AreNodes, AreNodesTo, IsOrOneMore};
 ghost use Rattle.rib_store.specs.Forest.{slots_in, tree_of, IsPlanted, ChangesAt};
 
-use crate::tree::{Slot, Tree};
+use crate::packed::V4Prefix;
+use crate::tree::Tree;
 use ip_prefix::{Addr, Family, Prefix};
 use std::alloc::{AllocError, Global};
 
 /// A tree for each family.
 #[derive(Drop)]
 pub(crate) struct Forest<R> {
-    v4: Tree<R>,
-    v6: Tree<R>,
+    v4: Tree<V4Prefix, R>,
+    v6: Tree<Prefix, R>,
 }
 
 impl<R: Drop> Forest<R> {
@@ -81,14 +84,30 @@ impl<R: Drop> Forest<R> {
 }
 
 impl<R> Forest<R> {
-    /// The tree of the family.
+    /// The key's room, where it is a key, and the route in it.
     #[inline]
-    fn tree(&self, family: Family) -> &Tree<R>
-        ensures { result.now ≡ tree_of family self.now }
+    fn slot(&self, prefix: &Prefix) -> Option<Option<&R>>
+        ensures { option_map (λ slot. option_copied slot) result
+            ≡ at (tree_of prefix.now.family self.now) (way prefix.now) }
+    {
+        match prefix.family() {
+            Family::V4 => self.v4.slot(prefix),
+            Family::V6 => self.v6.slot(prefix),
+        }
+    }
+
+    /// The longest prefix with a route that covers the key, and its route. Each node that is met
+    /// adds one to the counter.
+    #[inline]
+    fn deepest(&self, family: Family, key: &Prefix, met: &mut u32) -> Option<(Prefix, &R)>
+        requires { met.old + visits (tree_of family self.now) (way key.now) ≤ u32.MAX }
+        ensures found { option_map (λ p. (p.0, p.1.now)) result
+            ≡ deepest (tree_of family self.now) (way key.now) }
+        ensures met { met.new ≡ met.old + visits (tree_of family self.now) (way key.now) }
     {
         match family {
-            Family::V4 => &self.v4,
-            Family::V6 => &self.v6,
+            Family::V4 => self.v4.longest(key, met),
+            Family::V6 => self.v6.longest(key, met),
         }
     }
 
@@ -97,8 +116,8 @@ impl<R> Forest<R> {
         requires { IsPlanted self.now }
         ensures { result ≡ is_some (slot_at (slots_in self.now) prefix.now) }
     {
-        match self.tree(prefix.family()).slot(prefix) {
-            Some(slot) => slot.is_key(),
+        match self.slot(prefix) {
+            Some(_) => true,
             None => false,
         }
     }
@@ -108,7 +127,10 @@ impl<R> Forest<R> {
         requires { IsPlanted self.now }
         ensures { option_copied result ≡ route_found (slot_at (slots_in self.now) prefix.now) }
     {
-        self.tree(prefix.family()).slot(prefix)?.route()
+        match self.slot(prefix) {
+            Some(route) => route,
+            None => None,
+        }
     }
 
     /// The longest prefix with a route that contains the address, and its route. Each node that is
@@ -123,7 +145,7 @@ impl<R> Forest<R> {
             IsOrOneMore (met.old + set.len nodes) met.new }
     {
         let key = Prefix::host(*addr);
-        self.tree(addr.family()).longest(&key, met)
+        self.deepest(addr.family(), &key, met)
     }
 
     /// The least prefix with a route, and its route.

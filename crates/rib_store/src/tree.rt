@@ -1,41 +1,50 @@
 //! A path-compressed radix tree of the prefixes of one family.
 
 ghost use Rattle.std.specs.Prelude.{◌≡◌, Some, None, is_some, MatchOption};
-ghost use Rattle.std.specs.Option.{option_copied};
-ghost use Rattle.rib_store.specs.Slots.{route_found};
+ghost use Rattle.std.specs.Option.{option_copied, option_map};
 ghost use Rattle.rib_store.specs.Tree.{slot_of};
 ghost use Rattle.rib_store.specs.Walks.{routed_at};
 
 mod changes;
 mod lookups;
 
+use crate::packed::V4Prefix;
 use ip_prefix::Prefix;
 use std::mem::size_of;
 use std::rc::Rc;
 
-/// A tree: a node and what lies below it, if it has a key.
+/// A tree. A key with no others below it lies where its parent points to it; every other node has
+/// memory of its own.
 #[cycle(tree)]
 #[derive(Drop)]
-pub(crate) enum Tree<R> {
+pub(crate) enum Tree<K, R> {
     Empty,
-    Rooted(Box<Node<R>>),
+    /// A key without a route, and without keys below it.
+    Bare(K),
+    /// A key and its route, without keys below it.
+    Leaf(K, R),
+    /// A key, or a branch, and what lies below it.
+    Rooted(K, Box<Node<K, R>>),
 }
 
-/// A node stands for a key, or for a branch: the longest prefix that covers all keys below it,
-/// some of them by a 0 behind its bits, others by a 1.
+/// What a node has that may have keys below it.
 #[cycle(tree)]
 #[derive(Drop)]
-pub(crate) struct Node<R> {
-    prefix: Prefix,
+pub(crate) struct Node<K, R> {
     slot: Slot<R>,
-    left: Tree<R>,
-    right: Tree<R>,
+    left: Tree<K, R>,
+    right: Tree<K, R>,
 }
 
-/// How many octets a node takes at most where a route is a pointer.
-const NODE_OCTETS: usize = 72;
+/// How many octets a node of IPv4 takes at most where a route is a pointer.
+const V4_NODE_OCTETS: usize = 48;
 
-const _: () = prove!(size_of::<Node<Rc<u32>>>() <= NODE_OCTETS);
+/// The same of IPv6.
+const V6_NODE_OCTETS: usize = 96;
+
+const _: () = prove!(size_of::<Node<V4Prefix, Rc<u32>>>() <= V4_NODE_OCTETS);
+
+const _: () = prove!(size_of::<Node<Prefix, Rc<u32>>>() <= V6_NODE_OCTETS);
 
 /// What a node has.
 #[derive(Drop)]
@@ -49,37 +58,24 @@ pub(crate) enum Slot<R> {
 }
 
 impl<R> Slot<R> {
-    /// Whether it is a key's.
-    pub(crate) fn is_key(&self) -> bool
-        ensures { result ≡ is_some (slot_of self.now) }
+    /// A key's room, and the route in it.
+    fn kept(&self) -> Option<Option<&R>>
+        ensures { option_map (λ slot. option_copied slot) result ≡ slot_of self.now }
     {
         match self {
-            Slot::Branch => false,
-            _ => true,
+            Slot::Branch => None,
+            Slot::Vacant => Some(None),
+            Slot::Filled(route) => Some(Some(route)),
         }
     }
 
-    /// The route in it.
-    pub(crate) fn route(&self) -> Option<&R>
-        ensures { option_copied result ≡ route_found (slot_of self.now) }
+    /// The prefix and its route, where it has one.
+    fn routed(&self, prefix: Prefix) -> Option<(Prefix, &R)>
+        ensures { MatchOption result (routed_at prefix (slot_of self.now) ≡ None)
+            (λ found. routed_at prefix (slot_of self.now) ≡ Some (found.0, found.1.now)) }
     {
         match self {
-            Slot::Filled(route) => Some(route),
-            _ => None,
-        }
-    }
-}
-
-impl<R> Node<R> {
-    /// The node's prefix and its route, where it has one.
-    #[inline]
-    fn route(&self) -> Option<(Prefix, &R)>
-        ensures { MatchOption result (routed_at self.now.prefix (slot_of self.now.slot) ≡ None)
-            (λ found. routed_at self.now.prefix (slot_of self.now.slot) ≡
-            Some (found.0, found.1.now)) }
-    {
-        match &self.slot {
-            Slot::Filled(route) => Some((self.prefix, route)),
+            Slot::Filled(route) => Some((prefix, route)),
             _ => None,
         }
     }

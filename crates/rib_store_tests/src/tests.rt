@@ -3,6 +3,7 @@
 mod generated;
 mod listed;
 mod lookups;
+mod many;
 mod met;
 mod nodes;
 mod walks;

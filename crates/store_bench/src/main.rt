@@ -59,17 +59,26 @@ fn main(rt: HostRuntime) -> io::Result<()> {
     }
 }
 
-/// Times what the first word names.
+/// Times what the words name, one by one.
 fn run(rt: &HostRuntime) -> Result<(), Fault> {
     let words: Vec<String> = env::args(rt)?.collect(rt.alloc())?;
-    let Some(word) = words.get(1) else {
-        println!(rt; "store_bench map | radix | map-keys | radix-keys | none")?;
+    let [_, first, others @ ..] = words.as_slice() else {
+        println!(rt; "store_bench map | radix | map-keys | radix-keys | none ..")?;
         return Ok(());
     };
+    time_word(rt, first.as_str())?;
+    for other in others {
+        time_word(rt, other.as_str())?;
+    }
+    Ok(())
+}
+
+/// Times what a word names.
+fn time_word(rt: &HostRuntime, word: &str) -> Result<(), Fault> {
     let attrs = read_rib_attrs(rt.alloc(), Family::V4, AsWidth::Four, &[])?;
     let route = shared_route(rt.alloc(), attrs)?;
     let events = announcements(rt.alloc(), &route)?;
-    match word.as_str() {
+    match word {
         "map" => time_store::<MapStore<Rc<Route>>>(rt, &events),
         "radix" => time_store::<RadixStore<Rc<Route>>>(rt, &events),
         "map-keys" => hold_keys::<MapStore<Rc<Route>>>(rt),

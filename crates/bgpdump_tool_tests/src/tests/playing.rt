@@ -77,7 +77,7 @@ pub(super) const CUT: Record = Record::Octets(
 pub(super) const LOSS: Record = Record::Octets(STATE_CHANGE);
 
 /// Appends a number in two octets.
-fn put_short(number: usize, octets: &mut Vec<u8>) -> Result<(), AllocError> {
+pub(super) fn put_short(number: usize, octets: &mut Vec<u8>) -> Result<(), AllocError> {
     let short = u16::try_from(number).unwrap_or(u16::MAX);
     octets.extend_from_slice(&short.to_be_bytes())
 }
@@ -89,7 +89,7 @@ fn put_long(number: usize, octets: &mut Vec<u8>) -> Result<(), AllocError> {
 }
 
 /// The length and the type of an UPDATE behind its marker, and what it holds.
-fn update_of(
+pub(super) fn update_of(
     alloc: Global,
     withdrawn: &[u8],
     attributes: &[u8],
@@ -109,7 +109,7 @@ fn update_of(
 }
 
 /// A record of a session, at a time: its subtype, the session, and what stands behind it.
-fn session_record(
+pub(super) fn session_record(
     alloc: Global,
     time: u32,
     subtype: u8,

@@ -40,7 +40,7 @@ fn put_peer(peer: &Peer, text: &mut Vec<u8>) -> Result<(), AllocError> {
 }
 
 /// Appends the time of a route, and its next hop and its path where it has these.
-fn put_route(route: &Route, text: &mut Vec<u8>) -> Result<(), AllocError> {
+pub(super) fn put_route(route: &Route, text: &mut Vec<u8>) -> Result<(), AllocError> {
     text.extend_from_slice(b" at ")?;
     put_decimal(u64::from(route.time), text)?;
     if let Some(hop) = &route.attrs.next_hop {

@@ -8,10 +8,10 @@ use test_devices::{LateZeros, SlowInput, Zeros};
 use test_octets::{STATE_CHANGE, octets_of};
 
 /// A number of octets that no test reaches.
-const MANY: usize = usize::MAX;
+pub(super) const MANY: usize = usize::MAX;
 
 /// The greatest limit of a run.
-const FAR: u64 = 1 << 40;
+pub(super) const FAR: u64 = 1 << 40;
 
 /// What a source has answered, and how many octets it has taken then.
 fn shown(
@@ -73,7 +73,7 @@ fn assert_all<I: Input>(
 }
 
 /// Asserts what a source answers to as many calls as there are answers.
-fn assert_answers<I: Input>(
+pub(super) fn assert_answers<I: Input>(
     rt: &impl Abort,
     alloc: Global,
     limit: u64,

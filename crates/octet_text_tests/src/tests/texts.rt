@@ -1,7 +1,8 @@
 //! Texts that grow at their end.
 
 use octet_text::Text;
-use std::alloc::AllocError;
+use std::alloc::{AllocError, Global};
+use std::process::Abort;
 use std::test::Fail;
 
 #[test]
@@ -47,5 +48,68 @@ fn texts_take_octets_and_give_them_back(rt: HostRuntime) -> Result<(), Fail> {
     text.put_decimal(64_496)?;
     let octets = text.into_vec();
     assert_eq!(rt; octets.as_slice(), b"AS64496".as_slice());
+    Ok(())
+}
+
+/// How many pieces a large text has, and how many octets each: the number of the piece, counted
+/// from a million, and what stands behind each number.
+const PIECES: u32 = 100_000;
+
+const PIECE_SIZE: usize = 50;
+
+const FIRST_NUMBER: u32 = 1_000_000;
+
+const BEHIND_NUMBER: &[u8] = b" forty-three octets that follow the number.";
+
+/// A text of all pieces.
+fn large_text(alloc: Global) -> Result<Text, AllocError> {
+    let mut text = Text::new(alloc);
+    for piece in 0..PIECES {
+        text.put_decimal(FIRST_NUMBER + piece)?;
+        text.extend_from_slice(BEHIND_NUMBER)?;
+    }
+    Ok(text)
+}
+
+/// Asserts that these are the octets of the piece of this number.
+fn assert_piece(rt: &impl Abort, alloc: Global, octets: &[u8], piece: u32) -> Result<(), Fail> {
+    let number = format!(in alloc; "{}", FIRST_NUMBER.saturating_add(piece))?;
+    assert!(rt; octets.starts_with(number.as_bytes()), "{piece}");
+    assert!(rt; octets.ends_with(BEHIND_NUMBER), "{piece}");
+    Ok(())
+}
+
+/// Appends by each of the calls.
+fn put_all_kinds(text: &mut Text) -> Result<(), AllocError> {
+    text.push(b'|')?;
+    text.put_decimal(1)?;
+    text.put_long_decimal(4_294_967_296)?;
+    text.put_ended_decimal(2, b',')?;
+    text.put_led_decimal(b'=', 3)?;
+    text.put_ended_decimals(&[4, 5], b';')?;
+    text.extend_from_slice(b"end")
+}
+
+#[test]
+fn texts_of_millions_of_octets_grow(rt: HostRuntime) -> Result<(), Fail> {
+    let mut text = large_text(rt.alloc())?;
+    assert_eq!(rt; text.len(), 5_000_000);
+    for (piece, octets) in (0..PIECES).zip(text.as_slice().chunks_exact(PIECE_SIZE)) {
+        assert_piece(&rt, rt.alloc(), octets, piece)?;
+    }
+    put_all_kinds(&mut text)?;
+    let tail = b"|142949672962,=34;5;end";
+    assert_eq!(rt; text.as_slice().get(5_000_000..), Some(tail.as_slice()));
+    Ok(())
+}
+
+#[test]
+fn a_large_text_is_repeated(rt: HostRuntime) -> Result<(), Fail> {
+    let mut text = large_text(rt.alloc())?;
+    assert_eq!(rt; text.len(), 5_000_000);
+    text.extend_from_within(0, 5_000_000)?;
+    assert_eq!(rt; text.len(), 10_000_000);
+    let (first, second) = text.as_slice().split_at(5_000_000);
+    assert!(rt; first == second);
     Ok(())
 }

@@ -4,13 +4,13 @@ use super::stores::{Counting, HasCalls};
 use super::{Answer, Say, Who, answer_to, event, keys_of, numbered_event, peer, shift};
 use mrt_wire::{Event, Route};
 use rib_player::Player;
-use rib_store::{MapStore, PrefixStore};
+use rib_store::{PrefixStore, RadixStore};
 use std::alloc::Global;
 use std::process::Abort;
 use std::rc::Rc;
 use std::test::Fail;
 
-type CountedPlayer = Player<Counting<MapStore<Rc<Route>>>>;
+type CountedPlayer = Player<Counting<RadixStore<Rc<Route>>>>;
 
 /// How many routes there are before the step.
 const ROUTES: u32 = 1_000;
@@ -27,6 +27,14 @@ fn one(alloc: Global) -> Result<Event, Fail> {
 fn calls<S: PrefixStore<Rc<Route>> + HasCalls>(player: &Player<S>) -> u64 {
     match player.table().store(&peer()) {
         Some(store) => store.calls(),
+        None => 0,
+    }
+}
+
+/// How many of them were to make a key.
+fn ensure_calls<S: PrefixStore<Rc<Route>> + HasCalls>(player: &Player<S>) -> u64 {
+    match player.table().store(&peer()) {
+        Some(store) => store.ensure_calls(),
         None => 0,
     }
 }
@@ -72,6 +80,38 @@ fn a_small_step_takes_few_calls(rt: HostRuntime) -> Result<(), Fail> {
     play(&rt, &mut player, &many);
     assert_eq!(rt; keys_of(&player, &peer()), Some(1_000));
     assert_small(&rt, &mut player, &one);
+    assert_eq!(rt; keys_of(&player, &peer()), Some(1_001));
+    Ok(())
+}
+
+/// Asserts that so many pairs of one event, then one of another, take a call each at most to make
+/// their keys, and that back and forth takes none.
+fn assert_one_call_a_pair<S: PrefixStore<Rc<Route>> + HasCalls>(
+    rt: &impl Abort,
+    player: &mut Player<S>,
+    many: &Event,
+    one: &Event,
+) {
+    play(rt, player, many);
+    let first = ensure_calls(player);
+    assert!(rt; 0 < first && first <= u64::from(ROUTES), "{first}");
+    play(rt, player, one);
+    let second = ensure_calls(player);
+    assert!(rt;
+        first <= second && second <= first.saturating_add(1),
+        "{second}"
+    );
+    for back in [true, true, false, false] {
+        assert_eq!(rt; shift(player, back), Answer::Done);
+        assert_eq!(rt; ensure_calls(player), second);
+    }
+}
+
+#[test]
+fn a_pair_takes_one_call_to_make_its_key(rt: HostRuntime) -> Result<(), Fail> {
+    let (many, one) = (numbered_event(rt.alloc(), ROUTES)?, one(rt.alloc())?);
+    let mut player: CountedPlayer = Player::new(rt.alloc());
+    assert_one_call_a_pair(&rt, &mut player, &many, &one);
     assert_eq!(rt; keys_of(&player, &peer()), Some(1_001));
     Ok(())
 }

@@ -254,3 +254,82 @@ fn play_all_over(rt: &impl Abort, alloc: Global, rows: &[Over]) -> Result<(), Fa
 fn steps_ahead_give_up_their_keys(rt: HostRuntime) -> Result<(), Fail> {
     play_all_over(&rt, rt.alloc(), OVER)
 }
+
+/// Two prefixes of two peers each that had none.
+pub(super) const TWO_NEW_PEERS: &[Say] = &[
+    Say::AnnounceOf(Who::Neighbour, "10.0.0.0/8", 3),
+    Say::AnnounceOf(Who::Neighbour, "10.1.0.0/16", 4),
+    Say::AnnounceOf(Who::Sibling, "10.0.0.0/8", 5),
+    Say::AnnounceOf(Who::Sibling, "10.1.0.0/16", 6),
+];
+
+/// They are played where a step is ahead, which gives up its key.
+const NEW_PEERS: &[Row] = &[
+    (
+        Call::Play(&[Say::Announce(1)]),
+        Answer::Dropped(0),
+        &[Seen::Steps(1, 0, 1), Seen::Keys(Who::Peer, Some(1))],
+    ),
+    (
+        Call::Play(&[Say::AnnounceOf(Who::Peer, "10.1.0.0/16", 2)]),
+        Answer::Dropped(0),
+        &[Seen::Steps(2, 0, 2), Seen::Keys(Who::Peer, Some(2))],
+    ),
+    (
+        Call::Undo,
+        Answer::Done,
+        &[Seen::Steps(1, 1, 2), Seen::Keys(Who::Peer, Some(2))],
+    ),
+    (
+        Call::Play(TWO_NEW_PEERS),
+        Answer::Dropped(1),
+        &[
+            Seen::Steps(2, 0, 5),
+            Seen::Keys(Who::Peer, Some(1)),
+            Seen::Keys(Who::Neighbour, Some(2)),
+            Seen::Keys(Who::Sibling, Some(2)),
+            Seen::Times(NEW_PEER_TIMES),
+            Seen::Peers(&[(Who::Peer, 1), (Who::Neighbour, 2), (Who::Sibling, 2)]),
+        ],
+    ),
+    (
+        Call::Undo,
+        Answer::Done,
+        &[
+            Seen::Steps(1, 1, 5),
+            Seen::Keys(Who::Peer, Some(1)),
+            Seen::Keys(Who::Neighbour, Some(2)),
+            Seen::Keys(Who::Sibling, Some(2)),
+            Seen::Times(OLD_PEER_TIMES),
+            Seen::Peers(&[(Who::Peer, 1)]),
+        ],
+    ),
+    (
+        Call::Redo,
+        Answer::Done,
+        &[Seen::Steps(2, 0, 5), Seen::Times(NEW_PEER_TIMES)],
+    ),
+];
+
+const NEW_PEER_TIMES: &[TimeRow] = &[
+    (Who::Peer, "10.0.0.0/8", Some(1)),
+    (Who::Peer, "10.1.0.0/16", None),
+    (Who::Neighbour, "10.0.0.0/8", Some(3)),
+    (Who::Neighbour, "10.1.0.0/16", Some(4)),
+    (Who::Sibling, "10.0.0.0/8", Some(5)),
+    (Who::Sibling, "10.1.0.0/16", Some(6)),
+];
+
+const OLD_PEER_TIMES: &[TimeRow] = &[
+    (Who::Peer, "10.0.0.0/8", Some(1)),
+    (Who::Peer, "10.1.0.0/16", None),
+    (Who::Neighbour, "10.0.0.0/8", None),
+    (Who::Neighbour, "10.1.0.0/16", None),
+    (Who::Sibling, "10.0.0.0/8", None),
+    (Who::Sibling, "10.1.0.0/16", None),
+];
+
+#[test]
+fn new_peers_get_their_keys(rt: HostRuntime) -> Result<(), Fail> {
+    follow_anew(&rt, rt.alloc(), NEW_PEERS)
+}

@@ -12,6 +12,9 @@ use std::rc::Rc;
 pub(super) trait HasCalls {
     /// How many calls there were.
     fn calls(&self) -> u64;
+
+    /// How many of them were to make a key.
+    fn ensure_calls(&self) -> u64;
 }
 
 /// A store that counts its calls.
@@ -19,11 +22,16 @@ pub(super) trait HasCalls {
 pub(super) struct Counting<S> {
     inner: S,
     calls: Cell<u64>,
+    ensure_calls: u64,
 }
 
 impl<S> HasCalls for Counting<S> {
     fn calls(&self) -> u64 {
         self.calls.get()
+    }
+
+    fn ensure_calls(&self) -> u64 {
+        self.ensure_calls
     }
 }
 
@@ -42,11 +50,13 @@ impl<S: PrefixStore<Rc<Route>>> PrefixStore<Rc<Route>> for Counting<S> {
         Counting {
             inner: S::new(alloc),
             calls: Cell::new(0),
+            ensure_calls: 0,
         }
     }
 
     fn ensure(&mut self, prefix: Prefix) -> Result<bool, AllocError> {
         self.tick();
+        self.ensure_calls = self.ensure_calls.saturating_add(1);
         self.inner.ensure(prefix)
     }
 
@@ -159,6 +169,74 @@ impl<S: PrefixStore<Rc<Route>>> PrefixStore<Rc<Route>> for Refusing<S> {
 }
 
 impl<S: HasNodes> HasNodes for Refusing<S> {
+    fn node_count(&self) -> Option<u64> {
+        self.inner.node_count()
+    }
+}
+
+/// A store that makes no new key in its calls from one number to another, counted from 1.
+#[derive(Drop)]
+pub(super) struct Failing<S, const FIRST: u64, const LAST: u64> {
+    inner: S,
+    calls: u64,
+}
+
+impl<S: PrefixStore<Rc<Route>>, const FIRST: u64, const LAST: u64> PrefixStore<Rc<Route>>
+    for Failing<S, FIRST, LAST> {
+    ghost keys = { λ s. S.keys s.inner };
+
+    ghost routes = { λ s. S.routes s.inner };
+
+    fn new(alloc: Global) -> Self {
+        Failing {
+            inner: S::new(alloc),
+            calls: 0,
+        }
+    }
+
+    fn ensure(&mut self, prefix: Prefix) -> Result<bool, AllocError> {
+        self.calls = self.calls.saturating_add(1);
+        let is_refused = FIRST <= self.calls && self.calls <= LAST;
+        if is_refused && !self.inner.has_key(&prefix) {
+            return Err(AllocError);
+        }
+        self.inner.ensure(prefix)
+    }
+
+    fn exchange(&mut self, prefix: &Prefix, route: &mut Option<Rc<Route>>) {
+        self.inner.exchange(prefix, route);
+    }
+
+    fn discard(&mut self, prefix: &Prefix) {
+        self.inner.discard(prefix);
+    }
+
+    fn has_key(&self, prefix: &Prefix) -> bool {
+        self.inner.has_key(prefix)
+    }
+
+    fn get(&self, prefix: &Prefix) -> Option<&Rc<Route>> {
+        self.inner.get(prefix)
+    }
+
+    fn longest(&self, addr: &Addr) -> Option<(Prefix, &Rc<Route>)> {
+        self.inner.longest(addr)
+    }
+
+    fn after(&self, prefix: Option<&Prefix>) -> Option<(Prefix, &Rc<Route>)> {
+        self.inner.after(prefix)
+    }
+
+    fn key_count(&self) -> u64 {
+        self.inner.key_count()
+    }
+
+    fn route_count(&self) -> u64 {
+        self.inner.route_count()
+    }
+}
+
+impl<S: HasNodes, const FIRST: u64, const LAST: u64> HasNodes for Failing<S, FIRST, LAST> {
     fn node_count(&self) -> Option<u64> {
         self.inner.node_count()
     }

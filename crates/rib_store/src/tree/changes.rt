@@ -1,90 +1,329 @@
 //! Keys and routes come and go in place: nodes are split and joined.
 
-ghost use Rattle.std.specs.Prelude.{◌≡◌, Some, None, List, Bool, is_some, not};
+ghost use Rattle.std.specs.Prelude.{◌≡◌, ◌⊎◌, Some, None, List, Bool, is_some, not};
 ghost use Rattle.std.specs.Prelude.{IsSome, OnOk, OnErr, IfOk};
 ghost use Rattle.ip_prefix.specs.Turns.{way, turn_of};
-ghost use Rattle.ip_prefix.specs.declared.turn.Turn.TheVariants.{Outside};
-ghost use Rattle.rib_store.specs.declared.tree.Tree.TheVariants.{Empty, Rooted};
-ghost use Rattle.rib_store.specs.Tree.{at, root, chosen, slot_of, kept, IsOn, AreOf, IsShaped};
-ghost use Rattle.rib_store.specs.Tree.{IsNearlyShaped, IsPut, IsGrown, IsRooted};
+ghost use Rattle.ip_prefix.specs.declared.turn.Turn.TheVariants.{Outside, Left, Right};
+ghost use Rattle.rib_store.specs.Shape.{Empty, shape_of, leaf_slot, IsLeaf};
+ghost use Rattle.rib_store.specs.Tree.{at, root, chosen, slot_of, kept, AreOf, IsOn, IsShaped, IsNearlyShaped, IsPut, IsGrown, IsRooted};
 
+use crate::packed::Packed;
 use crate::tree::{Node, Slot, Tree};
 use ip_prefix::{Prefix, Turn};
 use std::alloc::{AllocError, Global};
 use std::mem;
 
-impl<R: Drop> Tree<R> {
+impl<K: Packed, R: Drop> Tree<K, R> {
     /// The key's route, or its absence, and the argument change places.
     pub(crate) fn exchange(&mut self, key: &Prefix, route: &mut Option<R>)
-        requires shaped { IsShaped self.old }
-        requires key { IsSome (at self.old (way key.now)) }
-        ensures shaped { IsShaped self.new }
-        ensures slots { IsPut (at self.old) (way key.now) (Some route.old) (at self.new) }
-        ensures given { at self.old (way key.now) ≡ Some route.new }
-        ensures root { root self.new ≡ root self.old }
+        requires shaped { IsShaped (shape_of K.network self.old) }
+        requires key { IsSome (at (shape_of K.network self.old) (way key.now)) }
+        ensures shaped { IsShaped (shape_of K.network self.new) }
+        ensures slots { IsPut (at (shape_of K.network self.old)) (way key.now) (Some route.old)
+            (at (shape_of K.network self.new)) }
+        ensures given { at (shape_of K.network self.old) (way key.now) ≡ Some route.new }
+        ensures root { root (shape_of K.network self.new) ≡ root (shape_of K.network self.old) }
     {
-        if let Tree::Rooted(node) = self {
-            match node.prefix.turn(key) {
+        match self {
+            Tree::Empty => {}
+            Tree::Bare(prefix) => {
+                let prefix = *prefix;
+                exchange_leaf(self, prefix, route);
+            }
+            Tree::Leaf(prefix, _) => {
+                let prefix = *prefix;
+                exchange_leaf(self, prefix, route);
+            }
+            Tree::Rooted(prefix, node) => match prefix.wide().turn(key) {
                 Turn::Outside => {}
                 Turn::Here => node.slot.exchange(route),
                 Turn::Left => node.left.exchange(key, route),
                 Turn::Right => node.right.exchange(key, route),
-            }
+            },
         }
     }
 
     /// Makes the prefix a key, and answers whether it is new.
     pub(crate) fn ensure(&mut self, alloc: Global, key: &Prefix) -> Result<bool, AllocError>
-        requires shaped { IsShaped self.old }
-        requires family { AreOf key.now.family self.old }
-        ensures made { IfOk result (λ made. made ≡ not (is_some (at self.old (way key.now)))) }
-        ensures grown { OnOk result (IsGrown (way key.now) self.old self.new) }
+        requires shaped { IsShaped (shape_of K.network self.old) }
+        requires family { AreOf key.now.family (shape_of K.network self.old) }
+        requires kind { key.now.family ≡ K.family }
+        ensures made { IfOk result (λ made. made ≡
+            not (is_some (at (shape_of K.network self.old) (way key.now)))) }
+        ensures grown { OnOk result (IsGrown (way key.now) (shape_of K.network self.old)
+            (shape_of K.network self.new)) }
         ensures refused { OnErr result (self.new ≡ self.old) }
-        ensures known { OnErr result (at self.old (way key.now) ≡ None) }
+        ensures known { OnErr result (at (shape_of K.network self.old) (way key.now) ≡ None) }
     {
         match self {
             Tree::Empty => {
-                *self = leaf(alloc, key)?;
+                *self = Tree::Bare(K::of(key));
                 Ok(true)
             }
-            Tree::Rooted(node) => match node.prefix.turn(key) {
-                Turn::Outside => {
-                    split(node, alloc, key)?;
-                    Ok(true)
+            Tree::Bare(prefix) => {
+                let prefix = *prefix;
+                grow_leaf(self, prefix, alloc, key)
+            }
+            Tree::Leaf(prefix, _) => {
+                let prefix = *prefix;
+                grow_leaf(self, prefix, alloc, key)
+            }
+            Tree::Rooted(prefix, node) => {
+                let wide = prefix.wide();
+                match wide.turn(key) {
+                    Turn::Outside => {
+                        split(self, &wide, alloc, key)?;
+                        Ok(true)
+                    }
+                    Turn::Here => {
+                        let made = node.slot.occupy();
+                        Ok(made)
+                    }
+                    Turn::Left => {
+                        let made = node.left.ensure(alloc, key)?;
+                        Ok(made)
+                    }
+                    Turn::Right => {
+                        let made = node.right.ensure(alloc, key)?;
+                        Ok(made)
+                    }
                 }
-                Turn::Here => {
-                    let made = node.slot.occupy();
-                    Ok(made)
-                }
-                Turn::Left => {
-                    let made = node.left.ensure(alloc, key)?;
-                    Ok(made)
-                }
-                Turn::Right => {
-                    let made = node.right.ensure(alloc, key)?;
-                    Ok(made)
-                }
-            },
+            }
         }
     }
+}
 
+impl<K: Packed, R: Drop> Tree<K, R> {
     /// The prefix is no key any more.
     pub(crate) fn discard(&mut self, key: &Prefix)
-        requires { IsShaped self.old }
-        ensures shaped { IsShaped self.new }
-        ensures slots { IsPut (at self.old) (way key.now) None (at self.new) }
-        ensures sides { (from : List Bool) (bit : Bool) → IsOn from bit self.old
-            → IsOn from bit self.new }
+        requires { IsShaped (shape_of K.network self.old) }
+        ensures shaped { IsShaped (shape_of K.network self.new) }
+        ensures slots { IsPut (at (shape_of K.network self.old)) (way key.now) None
+            (at (shape_of K.network self.new)) }
+        ensures sides { (from : List Bool) (bit : Bool) →
+            IsOn from bit (shape_of K.network self.old) →
+            IsOn from bit (shape_of K.network self.new) }
     {
-        if let Tree::Rooted(node) = self {
-            match node.prefix.turn(key) {
-                Turn::Outside => return,
-                Turn::Here => node.slot.vacate(),
-                Turn::Left => node.left.discard(key),
-                Turn::Right => node.right.discard(key),
+        match self {
+            Tree::Empty => {}
+            Tree::Bare(prefix) => {
+                let prefix = *prefix;
+                discard_leaf(self, prefix, key);
             }
-            join(self);
+            Tree::Leaf(prefix, _) => {
+                let prefix = *prefix;
+                discard_leaf(self, prefix, key);
+            }
+            Tree::Rooted(prefix, node) => {
+                match prefix.wide().turn(key) {
+                    Turn::Outside => return,
+                    Turn::Here => node.slot.vacate(),
+                    Turn::Left => node.left.discard(key),
+                    Turn::Right => node.right.discard(key),
+                }
+                join(self);
+            }
         }
+    }
+}
+
+/// A prefix without others below it is no key any more, if it is this one.
+fn discard_leaf<K: Packed, R: Drop>(tree: &mut Tree<K, R>, prefix: K, key: &Prefix)
+    requires { IsLeaf prefix tree.old }
+    ensures shaped { IsShaped (shape_of K.network tree.new) }
+    ensures slots { IsPut (at (shape_of K.network tree.old)) (way key.now) None
+        (at (shape_of K.network tree.new)) }
+    ensures sides { (from : List Bool) (bit : Bool) → IsOn from bit (shape_of K.network tree.old)
+        → IsOn from bit (shape_of K.network tree.new) }
+{
+    if let Turn::Here = prefix.wide().turn(key) {
+        *tree = Tree::Empty;
+    }
+}
+
+/// Takes the root away where it is neither a key nor a branch.
+fn join<K: Packed, R: Drop>(tree: &mut Tree<K, R>)
+    requires { IsNearlyShaped (shape_of K.network tree.old) }
+    ensures shaped { IsShaped (shape_of K.network tree.new) }
+    ensures slots { (q : List Bool) → at (shape_of K.network tree.new) q
+        ≡ at (shape_of K.network tree.old) q }
+    ensures sides { (from : List Bool) (bit : Bool) → IsOn from bit (shape_of K.network tree.old)
+        → IsOn from bit (shape_of K.network tree.new) }
+{
+    if let Tree::Rooted(_, node) = tree {
+        if let Slot::Branch = node.slot {
+            if let Tree::Empty = node.left {
+                let child = mem::replace(&mut node.right, Tree::Empty);
+                *tree = child;
+            } else if let Tree::Empty = node.right {
+                let child = mem::replace(&mut node.left, Tree::Empty);
+                *tree = child;
+            }
+        }
+    }
+}
+
+/// Makes the prefix a key beside or below one that has no others below it, and answers whether it
+/// is new.
+fn grow_leaf<K: Packed, R: Drop>(
+    tree: &mut Tree<K, R>,
+    prefix: K,
+    alloc: Global,
+    key: &Prefix,
+) -> Result<bool, AllocError>
+    requires leaf { IsLeaf prefix tree.old }
+    requires family { (K.network prefix).family ≡ key.now.family }
+    requires kind { key.now.family ≡ K.family }
+    ensures made { IfOk result (λ made. made ≡
+        not (is_some (at (shape_of K.network tree.old) (way key.now)))) }
+    ensures grown { OnOk result (IsGrown (way key.now) (shape_of K.network tree.old)
+        (shape_of K.network tree.new)) }
+    ensures refused { OnErr result (tree.new ≡ tree.old) }
+    ensures known { OnErr result (at (shape_of K.network tree.old) (way key.now) ≡ None) }
+{
+    let wide = prefix.wide();
+    match wide.turn(key) {
+        Turn::Outside => {
+            split(tree, &wide, alloc, key)?;
+            Ok(true)
+        }
+        Turn::Here => Ok(false),
+        Turn::Left => {
+            hang(tree, prefix, alloc, key, Turn::Left)?;
+            Ok(true)
+        }
+        Turn::Right => {
+            hang(tree, prefix, alloc, key, Turn::Right)?;
+            Ok(true)
+        }
+    }
+}
+
+/// Puts a key below one that had none, on this side.
+fn hang<K: Packed, R: Drop>(
+    tree: &mut Tree<K, R>,
+    prefix: K,
+    alloc: Global,
+    key: &Prefix,
+    side: Turn,
+) -> Result<(), AllocError>
+    requires leaf { IsLeaf prefix tree.old }
+    requires kind { key.now.family ≡ K.family }
+    requires side { (side ≡ Left) ⊎ (side ≡ Right) }
+    requires turn { turn_of (way (K.network prefix)) (way key.now) ≡ side }
+    ensures grown { OnOk result (IsGrown (way key.now) (shape_of K.network tree.old)
+        (shape_of K.network tree.new)) }
+    ensures refused { OnErr result (tree.new ≡ tree.old) }
+{
+    let mut node = lone(alloc)?;
+    let slot = slot_in(mem::replace(tree, Tree::Empty));
+    node.slot = slot;
+    let below = Tree::Bare(K::of(key));
+    put_root(tree, prefix, node, Tree::Empty, below, side);
+    Ok(())
+}
+
+/// The slot of a key without others below it.
+fn slot_in<K: Packed, R: Drop>(tree: Tree<K, R>) -> Slot<R>
+    ensures { slot_of result ≡ Some (leaf_slot tree) }
+{
+    match tree {
+        Tree::Leaf(_, route) => Slot::Filled(route),
+        _ => Slot::Vacant,
+    }
+}
+
+/// A branch with nothing below it yet.
+fn lone<K: Packed, R: Drop>(alloc: Global) -> Result<Box<Node<K, R>>, AllocError>
+    ensures { IfOk result (λ node. slot_of node.value.slot ≡ None) }
+{
+    let node = Box::new(
+        alloc,
+        Node {
+            slot: Slot::Branch,
+            left: Tree::Empty,
+            right: Tree::Empty,
+        },
+    )?;
+    Ok(node)
+}
+
+/// Puts a node at the root, with a tree on a side of it, and another on the other side.
+fn put_root<K: Packed, R: Drop>(
+    tree: &mut Tree<K, R>,
+    prefix: K,
+    node: Box<Node<K, R>>,
+    beside: Tree<K, R>,
+    below: Tree<K, R>,
+    side: Turn,
+)
+    ensures { IsRooted (K.network prefix) (slot_of node.value.slot)
+        (chosen side (shape_of K.network beside) (shape_of K.network beside)
+        (shape_of K.network below) (shape_of K.network beside))
+        (chosen side (shape_of K.network below) (shape_of K.network below)
+        (shape_of K.network beside) (shape_of K.network below))
+        (shape_of K.network tree.new) }
+{
+    let mut node = node;
+    if let Turn::Left = side {
+        node.left = below;
+        node.right = beside;
+    } else {
+        node.left = beside;
+        node.right = below;
+    }
+    *tree = Tree::Rooted(prefix, node);
+}
+
+/// Puts a key that the root's prefix doesn't cover above the root or beside it.
+fn split<K: Packed, R: Drop>(
+    tree: &mut Tree<K, R>,
+    prefix: &Prefix,
+    alloc: Global,
+    key: &Prefix,
+) -> Result<(), AllocError>
+    requires root { root (shape_of K.network tree.old) ≡ Some (way prefix.now) }
+    requires shaped { IsShaped (shape_of K.network tree.old) }
+    requires family { prefix.now.family ≡ key.now.family }
+    requires kind { key.now.family ≡ K.family }
+    requires outside { turn_of (way prefix.now) (way key.now) ≡ Outside }
+    ensures grown { OnOk result (IsGrown (way key.now) (shape_of K.network tree.old)
+        (shape_of K.network tree.new)) }
+    ensures refused { OnErr result (tree.new ≡ tree.old) }
+{
+    let common = prefix.common(key);
+    let side = common.turn(prefix);
+    let mut above = lone(alloc)?;
+    let below = mem::replace(tree, Tree::Empty);
+    if let Turn::Here = common.turn(key) {
+        above.slot = Slot::Vacant;
+        put_root(tree, K::of(&common), above, Tree::Empty, below, side);
+        return Ok(());
+    }
+    put_root(
+        tree,
+        K::of(&common),
+        above,
+        Tree::Bare(K::of(key)),
+        below,
+        side,
+    );
+    Ok(())
+}
+
+/// The route of a key without others below it, or its absence, and the argument change places.
+fn exchange_leaf<K: Packed, R: Drop>(tree: &mut Tree<K, R>, prefix: K, route: &mut Option<R>)
+    requires { IsLeaf prefix tree.old }
+    ensures leaf { IsLeaf prefix tree.new }
+    ensures slot { leaf_slot tree.new ≡ route.old }
+    ensures given { leaf_slot tree.old ≡ route.new }
+{
+    let new = match route.take() {
+        Some(route) => Tree::Leaf(prefix, route),
+        None => Tree::Bare(prefix),
+    };
+    if let Tree::Leaf(_, old) = mem::replace(tree, new) {
+        *route = Some(old);
     }
 }
 
@@ -121,92 +360,5 @@ impl<R: Drop> Slot<R> {
         ensures { slot_of self.new ≡ None }
     {
         *self = Slot::Branch;
-    }
-}
-
-/// A tree of one key without a route.
-fn leaf<R: Drop>(alloc: Global, key: &Prefix) -> Result<Tree<R>, AllocError>
-    ensures { IfOk result (λ tree. IsRooted key.now (Some None) Empty Empty tree) }
-{
-    Ok(Tree::Rooted(childless(alloc, key, Slot::Vacant)?))
-}
-
-/// A node without children.
-fn childless<R: Drop>(
-    alloc: Global,
-    prefix: &Prefix,
-    slot: Slot<R>,
-) -> Result<Box<Node<R>>, AllocError>
-    ensures { IfOk result (λ node. IsRooted prefix.now (slot_of slot) Empty Empty (Rooted node)) }
-{
-    let node = Box::new(
-        alloc,
-        Node {
-            prefix: *prefix,
-            slot,
-            left: Tree::Empty,
-            right: Tree::Empty,
-        },
-    )?;
-    Ok(node)
-}
-
-/// Puts a key that the node's prefix doesn't cover above the node or beside it.
-fn split<R: Drop>(node: &mut Box<Node<R>>, alloc: Global, key: &Prefix) -> Result<(), AllocError>
-    requires shaped { IsShaped (Rooted node.old) }
-    requires family { node.old.value.prefix.family ≡ key.now.family }
-    requires outside { turn_of (way node.old.value.prefix) (way key.now) ≡ Outside }
-    ensures grown { OnOk result (IsGrown (way key.now) (Rooted node.old) (Rooted node.new)) }
-    ensures refused { OnErr result (node.new ≡ node.old) }
-{
-    let prefix = node.prefix;
-    let common = prefix.common(key);
-    let side = common.turn(&prefix);
-    if let Turn::Here = common.turn(key) {
-        let above = childless(alloc, &common, Slot::Vacant)?;
-        put_above(node, above, Tree::Empty, side);
-        return Ok(());
-    }
-    let beside = leaf(alloc, key)?;
-    let above = childless(alloc, &common, Slot::Branch)?;
-    put_above(node, above, beside, side);
-    Ok(())
-}
-
-/// Puts a node above another, which comes to lie on a side of it, and a tree on the other side.
-fn put_above<R: Drop>(node: &mut Box<Node<R>>, above: Box<Node<R>>, beside: Tree<R>, side: Turn)
-    ensures { IsRooted above.value.prefix (slot_of above.value.slot)
-        (chosen side beside beside (Rooted node.old) beside)
-        (chosen side (Rooted node.old) (Rooted node.old) beside (Rooted node.old))
-        (Rooted node.new) }
-{
-    let below = Tree::Rooted(mem::replace(node, above));
-    if let Turn::Left = side {
-        node.left = below;
-        node.right = beside;
-    } else {
-        node.left = beside;
-        node.right = below;
-    }
-}
-
-/// Takes the root away where it is neither a key nor a branch.
-fn join<R: Drop>(tree: &mut Tree<R>)
-    requires { IsNearlyShaped tree.old }
-    ensures shaped { IsShaped tree.new }
-    ensures slots { (q : List Bool) → at tree.new q ≡ at tree.old q }
-    ensures sides { (from : List Bool) (bit : Bool) → IsOn from bit tree.old
-        → IsOn from bit tree.new }
-{
-    if let Tree::Rooted(node) = tree {
-        if let Slot::Branch = node.slot {
-            if let Tree::Empty = node.left {
-                let child = mem::replace(&mut node.right, Tree::Empty);
-                *tree = child;
-            } else if let Tree::Empty = node.right {
-                let child = mem::replace(&mut node.left, Tree::Empty);
-                *tree = child;
-            }
-        }
     }
 }

@@ -1,10 +1,11 @@
-use Rattle.std.proofs.Common.{◌∙◌, [], subst, sym}
+use Rattle.std.proofs.Common.{◌≡◌, ◌⊎◌, ◌∙◌, [], subst, sym}
 use Rattle.std.specs.Io.KnownBytes.{Consumes}
 use Rattle.mrt_wire.specs.Next.{Took}
 use Rattle.bgpdump_tool.specs.Reports.{dump_texts}
 use Rattle.bgpdump_tool.specs.Run.{EndedByInput, all_results}
+use Rattle.bgpdump_tool.specs.declared.Outcome.TheVariants.{ReadFault, WriteFault, Memory}
 use Rattle.bgpdump.specs.Joining.{left_of}
-use Rattle.bgpdump.proofs.JoiningLaws.{holds_known, leaves_ended, leaves_written, of_input, told_by_input}
+use Rattle.bgpdump.proofs.JoiningLaws.{holds_known, leaves_ended, leaves_written, lost_outcomes, of_input, told_by_input, told_unless_lost}
 use Rattle.bgpdump.proofs.run.dump.Goals as goal
 
 pub returns-clause-text : goal.returns-clause-text
@@ -35,3 +36,10 @@ pub returns-clause-read_fault : goal.returns-clause-read_fault
 returns-clause-read_fault g c fault = of_input _ c.close.result.input c.run_dump-outcome.new.input c.close.ensures.input
     (c.run_dump-outcome.ensures.read_fault.0
     (sym (told_by_input g.O.Write.contents g.E.Write.contents _ c.run_dump-outcome.result c.close.result.outcome c.close.result.writers c.close.ensures.kept c.close.ensures.lost (subst EndedByInput (sym fault) tt)) ∙ fault))
+
+pub returns-clause-failed : goal.returns-clause-failed
+returns-clause-failed g c = of_input _ c.close.result.input c.run_dump-outcome.new.input c.close.ensures.input (λ failed.
+    told_unless_lost g.O.Write.contents g.E.Write.contents _ c.run_dump-outcome.result c.close.result.outcome ReadFault c.close.result.writers c.close.ensures.kept (c.run_dump-outcome.ensures.read_fault.1 failed))
+
+pub returns-clause-lost : goal.returns-clause-lost
+returns-clause-lost g c none = subst (λ told. (told ≡ WriteFault) ⊎ (told ≡ Memory)) (sym (c.close.ensures.lost none)) (lost_outcomes c.run_dump-outcome.result)

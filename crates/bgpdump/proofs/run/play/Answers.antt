@@ -1,12 +1,12 @@
-use Rattle.std.proofs.Common.{◌∙◌, [], subst, sym}
+use Rattle.std.proofs.Common.{◌≡◌, ◌⊎◌, ◌∙◌, [], subst, sym}
 use Rattle.std.specs.Io.Buffered.{writer_contents}
 use Rattle.std.specs.Io.KnownBytes.{Consumes}
 use Rattle.mrt_wire.specs.Next.{Took}
 use Rattle.bgpdump.specs.Joining.{left_of}
 use Rattle.bgpdump_tool.specs.Course.{cut_texts, play_texts}
 use Rattle.bgpdump_tool.specs.Run.{EndedByInput, all_results, outputs_of}
-use Rattle.bgpdump_tool.specs.declared.Outcome.TheVariants.{ScriptTooLong}
-use Rattle.bgpdump.proofs.JoiningLaws.{holds_known, leaves_ended, leaves_untouched, leaves_written, of_input, told_by_input}
+use Rattle.bgpdump_tool.specs.declared.Outcome.TheVariants.{ReadFault, WriteFault, ScriptTooLong, Memory}
+use Rattle.bgpdump.proofs.JoiningLaws.{holds_known, leaves_ended, leaves_untouched, leaves_written, lost_outcomes, of_input, told_by_input, told_unless_lost}
 use Rattle.bgpdump.proofs.run.play.Goals as goal
 
 pub returns-clause-text : goal.returns-clause-text
@@ -45,3 +45,10 @@ returns-clause-script_too_long g c long =
     let untouched = c.run_play-outcome.ensures.untouched outcome in
     leaves_untouched g.O.Write.contents g.E.Write.contents c.args.out c.args.err _ _ c.run_play-outcome.result c.close.result.outcome ScriptTooLong c.close.result.writers
     c.in-Some.ensures.written (λ i. outputs_of (λ output. writer_contents g.O.Write.contents output.writer) (λ output. writer_contents g.E.Write.contents output.writer) (untouched.1 i) (untouched.2 i)) outcome c.close.ensures.kept
+
+pub returns-clause-failed : goal.returns-clause-failed
+returns-clause-failed g c = of_input _ c.close.result.input c.run_play-outcome.new.input c.close.ensures.input (λ failed.
+    told_unless_lost g.O.Write.contents g.E.Write.contents _ c.run_play-outcome.result c.close.result.outcome ReadFault c.close.result.writers c.close.ensures.kept (c.run_play-outcome.ensures.read_fault.1 failed))
+
+pub returns-clause-lost : goal.returns-clause-lost
+returns-clause-lost g c none = subst (λ told. (told ≡ WriteFault) ⊎ (told ≡ Memory)) (sym (c.close.ensures.lost none)) (lost_outcomes c.run_play-outcome.result)

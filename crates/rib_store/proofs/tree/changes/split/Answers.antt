@@ -1,40 +1,46 @@
-use Rattle.std.proofs.Common.{◌≡◌, refl, sym, ap, ◌∙◌}
+use Rattle.std.proofs.Common.{◌≡◌, Some, None, refl, sym, ap, subst, ◌∙◌}
 use Rattle.ip_prefix.specs.declared.turn.Turn.TheVariants.{Here}
-use Rattle.rib_store.specs.declared.tree.Tree.TheVariants.{Empty}
 use Rattle.ip_prefix.specs.Turns.{way, turn_of, shared}
-use Rattle.rib_store.specs.Tree.{slot_of}
+use Rattle.rib_store.specs.declared.tree.Slot.TheVariants.{Vacant}
+use Rattle.rib_store.specs.Shape.{Empty, Rooted, shape_of}
+use Rattle.rib_store.specs.Tree.{slot_of, IsRooted, chosen}
 use Rattle.rib_store.proofs.WayLaws.{way-shared}
 use Rattle.rib_store.proofs.GrowthLaws.{grown_over, is_key, is_branch}
 use Rattle.rib_store.proofs.tree.changes.split.Goals as goal
 
-pub common-common-requires : goal.common-common-requires
-common-common-requires g c = ap (λ m. m.prefix.family) c.deref.ensures ∙ c.requires.family
-
 pub returns-in-Here-clause-grown : goal.returns-in-Here-clause-grown
 returns-in-Here-clause-grown g c =
-    let n = c.in_ok-above.above.value in
+    let net = g.K.Packed.network in
     let key = c.args.key.now in
-    let old = c.args.node.now.value.prefix in
-    let above : n.prefix ≡ c.common-common.result = c.in_ok-above.ensures.0 in
-    let family : old.family ≡ key.family = c.requires.family in
-    let shares : way n.prefix ≡ shared (way old) (way key) = ap way (above ∙ c.common-common.ensures ∙ ap (λ m. record { family = m.prefix.family; bits = shared m.prefix.bits key.bits }) c.deref.ensures) ∙ way-shared old key family in
-    let there : turn_of (way n.prefix) (way key) ≡ Here = cc in
-    let turn : c.turn-side.result ≡ turn_of (way n.prefix) (way old) = c.turn-side.ensures ∙ (λ i. turn_of (way (sym above i)) (way (c.deref.ensures i).prefix)) in
-    grown_over key n.prefix (way old) (slot_of n.slot) Empty c.turn-side.result c.requires.outside refl c.requires.shaped shares turn c.put_above.ensures
-    (is_key there c.in_ok-above.ensures.3 refl)
+    let old = c.args.prefix.now in
+    let top = net c.of.result in
+    let side = c.turn-side.result in
+    let above : top ≡ c.common-common.result = c.of.ensures in
+    let shares : way top ≡ shared (way old) (way key) = ap way (above ∙ c.common-common.ensures) ∙ way-shared old key c.requires.family in
+    let there : turn_of (way top) (way key) ≡ Here = cc in
+    let turn : side ≡ turn_of (way top) (way old) = c.turn-side.ensures ∙ (λ i. turn_of (way (sym above i)) (way old)) in
+    grown_over key top (way old) (Some None) Empty side c.requires.outside c.requires.root c.requires.shaped shares turn
+    (subst (λ t. IsRooted top (Some None) (chosen side Empty Empty (shape_of net t) Empty) (chosen side (shape_of net t) (shape_of net t) Empty (shape_of net t)) (shape_of net c.put_root.new.tree))
+    c.replace-below.ensures.value c.put_root.ensures)
+    (is_key there refl refl)
 
 pub returns : goal.returns
 returns g c =
-    let n = c.in_ok-above-2.above.value in
+    let net = g.K.Packed.network in
     let key = c.args.key.now in
-    let old = c.args.node.now.value.prefix in
-    let above : n.prefix ≡ c.common-common.result = c.in_ok-above-2.ensures.0 in
-    let family : old.family ≡ key.family = c.requires.family in
-    let shares : way n.prefix ≡ shared (way old) (way key) = ap way (above ∙ c.common-common.ensures ∙ ap (λ m. record { family = m.prefix.family; bits = shared m.prefix.bits key.bits }) c.deref.ensures) ∙ way-shared old key family in
-    let apart : turn_of (way n.prefix) (way key) ≡ Here → ⊥ = λ e. c.in_default.not-Here (cc) in
-    let turn : c.turn-side.result ≡ turn_of (way n.prefix) (way old) = c.turn-side.ensures ∙ (λ i. turn_of (way (sym above i)) (way (c.deref.ensures i).prefix)) in
+    let old = c.args.prefix.now in
+    let top = net c.of-2.result in
+    let side = c.turn-side.result in
+    let above : top ≡ c.common-common.result = c.of-2.ensures in
+    let shares : way top ≡ shared (way old) (way key) = ap way (above ∙ c.common-common.ensures) ∙ way-shared old key c.requires.family in
+    let apart : turn_of (way top) (way key) ≡ Here → ⊥ = λ e. c.in_default.not-Here (cc) in
+    let turn : side ≡ turn_of (way top) (way old) = c.turn-side.ensures ∙ (λ i. turn_of (way (sym above i)) (way old)) in
+    let beside = Rooted (net c.of-3.result) Vacant Empty Empty in
+    let leaf : IsRooted key (Some None) Empty Empty beside = (c.of-3.ensures, refl, refl, refl) in
     record {
-      grown = grown_over key n.prefix (way old) (slot_of n.slot) c.in_ok-beside.beside c.turn-side.result c.requires.outside refl c.requires.shaped shares turn c.put_above-2.ensures
-          (is_branch apart c.in_ok-above-2.ensures.3 c.in_ok-beside.ensures);
+      grown = grown_over key top (way old) (slot_of c.in_ok-above.above.value.slot) beside side c.requires.outside c.requires.root c.requires.shaped shares turn
+          (subst (λ t. IsRooted top (slot_of c.in_ok-above.above.value.slot) (chosen side beside beside (shape_of net t) beside) (chosen side (shape_of net t) (shape_of net t) beside (shape_of net t)) (shape_of net c.put_root-2.new.tree))
+          c.replace-below.ensures.value c.put_root-2.ensures)
+          (is_branch apart c.in_ok-above.ensures leaf);
       refused = tt;
     }

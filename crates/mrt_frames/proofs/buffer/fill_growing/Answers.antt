@@ -1,7 +1,7 @@
 use Rattle.std.proofs.Common.{rules, ◌≤◌, length, take, drop, arith, length-take-le}
 use Rattle.std.proofs.lemmas.Result.{err_from_is_err_and}
 use Rattle.mrt_frames.proofs.Buffers.{Takes-parts, FillsWithin-stopped_place}
-use Rattle.mrt_frames.proofs.buffer.fill_body.Goals as goal
+use Rattle.mrt_frames.proofs.buffer.fill_growing.Goals as goal
 use Rattle.octet_forms.proofs.Lists.{take_kept}
 
 pub returns-in_err-filled-clause-octets : goal.returns-in_err-filled-clause-octets

@@ -1,7 +1,7 @@
 -- What is filled was taken from the input, and each turn fills more.
 use Rattle.std.proofs.Common.{◌-◌, ◌≡◌, ◌+◌, ◌*◌, ◌≤◌, max, take, vec_len}
 use Rattle.mrt_frames.specs.Device.{Takes}
-use Rattle.mrt_frames.proofs.buffer.fill_body.Given as goal
+use Rattle.mrt_frames.proofs.buffer.fill_growing.Given as goal
 
 abbrev pub invariant-loop-filled : goal.invariant-loop-filled
 invariant-loop-filled g l = record {

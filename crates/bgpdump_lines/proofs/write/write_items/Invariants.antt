@@ -1,0 +1,16 @@
+-- Behind what was written stands the text; both hold the lines of the items so far.
+use Rattle.std.proofs.Common.{◌≡◌, take}
+use Rattle.std.specs.List.{flat_map}
+use Rattle.std.specs.Option.{IfSome}
+use Rattle.mrt_wire.specs.Event.{saying}
+use Rattle.bgpdump_lines.specs.Lines.{EndsIn, item_line}
+use Rattle.bgpdump_lines.specs.Writing.{Passes}
+use Rattle.bgpdump_lines.proofs.write.write_items.Given as goal
+
+abbrev pub invariant-items : goal.invariant-items
+invariant-items g l = record {
+  passed : Passes (g.O.Output.written l.initial.out) (g.O.Output.written l.out) l.initial.text l.text
+      (flat_map (λ item. item_line l.time l.tag (saying item)) (take l.item-index l.items));
+  last : IfSome l.last (λ line. EndsIn l.time l.tag line l.text);
+  failed : g.O.Output.failed l.out ≡ g.O.Output.failed l.initial.out;
+}

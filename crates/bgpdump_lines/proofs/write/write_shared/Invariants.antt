@@ -1,0 +1,21 @@
+-- Behind what was written stands the text; both hold the lines of those that are done.
+use Rattle.std.proofs.Common.{◌≡◌, ◌++◌, List, length, map}
+use Rattle.std.specs.List.{flat_map}
+use Rattle.mrt_wire.specs.declared.event.Item.{Item}
+use Rattle.mrt_wire.specs.Event.{AreOfOneRoute, saying}
+use Rattle.bgpdump_lines.specs.Lines.{item_line}
+use Rattle.bgpdump_lines.specs.Writing.{Passes}
+use Rattle.bgpdump_lines.proofs.write.write_shared.Given as goal
+
+abbrev pub invariant-pieces : goal.invariant-pieces
+invariant-pieces g l = record {
+  done : List Item;
+  whole : done ++ l.rest ≡ l.items;
+  alike : AreOfOneRoute (map saying l.rest);
+  passed : Passes (g.O.Output.written l.initial.out) (g.O.Output.written l.out) l.initial.text l.text
+      (flat_map (item_line l.time l.tag) (map saying done));
+  failed : g.O.Output.failed l.out ≡ g.O.Output.failed l.initial.out;
+}
+
+abbrev pub decreases-pieces : goal.decreases-pieces
+decreases-pieces g l = length l.rest

@@ -1,0 +1,121 @@
+-- What a tree holds, however its nodes lie in memory.
+use Rattle.std.proofs.Common.{◌≡◌, ◌⊎◌, inl, inr, Bool, true, false, cond, Option, Some, None, List, refl, ap, sym, subst, ◌∙◌}
+use Rattle.std.specs.Prelude.{IsSome}
+use Rattle.ip_prefix.specs.declared.turn.Turn.{Turn}
+use Rattle.ip_prefix.specs.declared.turn.Turn.TheVariants.{Outside, Here, Left, Right}
+use Rattle.ip_prefix.specs.Network.{Network}
+use Rattle.ip_prefix.specs.Turns.{way, turn_of}
+use Rattle.rib_store.specs.declared.tree.Tree.{Tree}
+use Rattle.rib_store.specs.declared.tree.Tree.TheVariants as tree
+use Rattle.rib_store.specs.Shape.{Shape, Empty, shape_of, leaf_slot, IsLeaf}
+use Rattle.rib_store.specs.Tree.{at, root, chosen, same_way, IsPut, IsRooted, IsShaped, IsGrown}
+use Rattle.rib_store.proofs.TreeLaws.{shaped_rooted, root_rooted}
+use Rattle.rib_store.proofs.GrowthLaws.{grown_left, grown_right, grown_here, leaf_shaped, leaf_slots}
+use Rattle.rib_store.proofs.WayLaws.{same_is}
+use Rattle.rib_store.proofs.ChangeLaws.{put_here, put_from}
+
+-- a key without others below it holds its own slot alone
+pub at_leaf : {K R : Type 0} (network : K → Network) (t : Tree K R) (key : K) → IsLeaf key t
+    → (q : List Bool) → at (shape_of network t) q ≡ chosen (turn_of (way (network key)) q) None (Some (leaf_slot t)) None None
+at_leaf network tree.Empty key is q = absurd is
+at_leaf network (tree.Bare other) key is q = ap (λ k. chosen (turn_of (way (network k)) q) None (Some None) None None) is
+at_leaf network (tree.Leaf other route) key is q = ap (λ k. chosen (turn_of (way (network k)) q) None (Some (Some route)) None None) is
+at_leaf network (tree.Rooted' other p slot left right) key is q = absurd is
+
+here : {A : Type 0} (t : Turn) (x : A) → IsSome (chosen t None (Some x) None None) → t ≡ Here
+here Outside x is = cc
+here Here x is = refl
+here Left x is = cc
+here Right x is = cc
+
+-- another slot put there
+pub put_leaf : {K R : Type 0} (network : K → Network) (old new : Tree K R) (prefix : K) (key : List Bool) (slot : Option R) → IsLeaf prefix old → IsLeaf prefix new
+    → leaf_slot new ≡ slot → IsSome (at (shape_of network old) key) → IsPut (at (shape_of network old)) key (Some slot) (at (shape_of network new))
+put_leaf network old new prefix key slot was is slot_is there q =
+    at_leaf network new prefix is q ∙ ap (λ s. chosen (turn_of (way (network prefix)) q) None (Some s) None None) slot_is
+    ∙ put_from (at (shape_of network old)) _ (λ q. chosen (turn_of (way (network prefix)) q) None (Some slot) None None) key (Some slot) (at_leaf network old prefix was)
+    (put_here (way (network prefix)) key None (Some (leaf_slot old)) (Some slot) (λ q. None) (λ q. None)
+    (here (turn_of (way (network prefix)) key) (leaf_slot old) (subst IsSome (at_leaf network old prefix was key) there))) q
+
+-- ---- one more key beside or below
+
+pub rooted_leaf : {K R : Type 0} (network : K → Network) (t : Tree K R) (key : K) → IsLeaf key t → IsRooted (network key) (Some (leaf_slot t)) Empty Empty (shape_of network t)
+rooted_leaf network tree.Empty key is = absurd is
+rooted_leaf network (tree.Bare other) key is = (ap network is, refl, refl, refl)
+rooted_leaf network (tree.Leaf other route) key is = (ap network is, refl, refl, refl)
+rooted_leaf network (tree.Rooted' other p slot left right) key is = absurd is
+
+pub shaped_leaf : {K R : Type 0} (network : K → Network) (t : Tree K R) (key : K) → IsLeaf key t → IsShaped (shape_of network t)
+shaped_leaf network t key is = shaped_rooted (shape_of network t) (network key) (Some (leaf_slot t)) Empty Empty (rooted_leaf network t key is) (record { left = tt; right = tt }, tt, tt, tt)
+
+-- the first key of a tree
+lone_grown : {R : Type 0} (key : Network) (t : Shape R) → IsRooted key (Some None) Empty Empty t → IsGrown (way key) Empty t
+lone_grown key t is = record {
+  shaped = leaf_shaped key t is;
+  slots = leaf_slots key t is;
+  roots = root_rooted t key (Some None) Empty Empty is;
+}
+
+-- a key below one that had none
+pub hung : {K R : Type 0} (network : K → Network) (old : Tree K R) (new : Shape R) (prefix : K) (key : Network) (slot : Option (Option R)) (below : Shape R) (side : Turn)
+    → IsLeaf prefix old → (side ≡ Left) ⊎ (side ≡ Right) → turn_of (way (network prefix)) (way key) ≡ side → slot ≡ Some (leaf_slot old) → IsRooted key (Some None) Empty Empty below
+    → IsRooted (network prefix) slot (chosen side Empty Empty below Empty) (chosen side below below Empty below) new → IsGrown (way key) (shape_of network old) new
+hung {K} {R} network old new prefix key slot below side was (inl left) turn slot_is leaf is =
+    let is' : IsRooted (network prefix) (Some (leaf_slot old)) below Empty new = subst (λ (x : Turn × Option (Option R)). IsRooted (network prefix) x.1 (chosen x.0 Empty Empty below Empty) (chosen x.0 below below Empty below) new) (λ i. (left i, slot_is i)) is in
+    grown_left (way key) (network prefix) (Some (leaf_slot old)) Empty Empty below (rooted_leaf network old prefix was) is' (turn ∙ left) (shaped_leaf network old prefix was) (lone_grown key below leaf)
+hung {K} {R} network old new prefix key slot below side was (inr right) turn slot_is leaf is =
+    let is' : IsRooted (network prefix) (Some (leaf_slot old)) Empty below new = subst (λ (x : Turn × Option (Option R)). IsRooted (network prefix) x.1 (chosen x.0 Empty Empty below Empty) (chosen x.0 below below Empty below) new) (λ i. (right i, slot_is i)) is in
+    grown_right (way key) (network prefix) (Some (leaf_slot old)) Empty Empty below (rooted_leaf network old prefix was) is' (turn ∙ right) (shaped_leaf network old prefix was) (lone_grown key below leaf)
+
+-- the key was there
+pub leaf_stays : {K R : Type 0} (network : K → Network) (t : Tree K R) (prefix : K) (key : Network) → IsLeaf prefix t → turn_of (way (network prefix)) (way key) ≡ Here → IsGrown (way key) (shape_of network t) (shape_of network t)
+leaf_stays network t prefix key is there =
+    grown_here (way key) (network prefix) (Some (leaf_slot t)) Empty Empty (rooted_leaf network t prefix is) (rooted_leaf network t prefix is) there (shaped_leaf network t prefix is)
+
+-- no key is below
+pub none_below : {K R : Type 0} (network : K → Network) (t : Tree K R) (prefix : K) (key : List Bool) (side : Turn) → IsLeaf prefix t → (side ≡ Left) ⊎ (side ≡ Right)
+    → turn_of (way (network prefix)) key ≡ side → at (shape_of network t) key ≡ None
+none_below network t prefix key side is (inl left) turn = at_leaf network t prefix is key ∙ ap (λ w. chosen w None (Some (leaf_slot t)) None None) (turn ∙ left)
+none_below network t prefix key side is (inr right) turn = at_leaf network t prefix is key ∙ ap (λ w. chosen w None (Some (leaf_slot t)) None None) (turn ∙ right)
+
+-- ---- keys that go
+
+-- nothing put where nothing is
+none_put : {A : Type 0} (f : List Bool → A) (none : A) (key : List Bool) → f key ≡ none → IsPut f key none f
+none_put f none key there q =
+    elim (same_way key q) as (λ s. same_way key q ≡ s → f q ≡ cond s none (f q)) [
+      | true ↦ λ e. ap f (sym (same_is key q e)) ∙ there
+      | false ↦ λ e. refl
+    ] refl
+
+not_here : {A : Type 0} (t : Turn) (x : A) → (t ≡ Here → ⊥) → chosen t None (Some x) None None ≡ None
+not_here Outside x none = refl
+not_here Here x none = absurd (none refl)
+not_here Left x none = refl
+not_here Right x none = refl
+
+-- another key goes
+pub leaf_other : {K R : Type 0} (network : K → Network) (t : Tree K R) (prefix : K) (key : List Bool) → IsLeaf prefix t → (turn_of (way (network prefix)) key ≡ Here → ⊥)
+    → IsPut (at (shape_of network t)) key None (at (shape_of network t))
+leaf_other network t prefix key is apart =
+    none_put (at (shape_of network t)) None key (at_leaf network t prefix is key ∙ not_here (turn_of (way (network prefix)) key) (leaf_slot t) apart)
+
+nothing : {A : Type 0} (t : Turn) → ◌≡◌ {A = Option A} None (chosen t None None None None)
+nothing Outside = refl
+nothing Here = refl
+nothing Left = refl
+nothing Right = refl
+
+-- it goes
+pub leaf_gone : {K R : Type 0} (network : K → Network) (t : Tree K R) (prefix : K) (key : List Bool) → IsLeaf prefix t → turn_of (way (network prefix)) key ≡ Here
+    → IsPut (at (shape_of network t)) key None (λ q. None)
+leaf_gone network t prefix key is there q =
+    nothing (turn_of (way (network prefix)) q)
+    ∙ put_from (at (shape_of network t)) _ (λ q. chosen (turn_of (way (network prefix)) q) None None None None) key None (at_leaf network t prefix is)
+    (put_here (way (network prefix)) key None (Some (leaf_slot t)) None (λ q. None) (λ q. None) there) q
+
+pub not_empty : {K R : Type 0} (network : K → Network) (t : Tree K R) → (t ≡ tree.Empty → ⊥) → IsSome (root (shape_of network t))
+not_empty network tree.Empty some = absurd (some refl)
+not_empty network (tree.Bare key) some = refl
+not_empty network (tree.Leaf key route) some = refl
+not_empty network (tree.Rooted' key p slot left right) some = refl

@@ -1,0 +1,79 @@
+//! Prefixes of one family in little memory.
+
+ghost use Rattle.std.specs.Prelude.{◌≡◌, ◌≤◌};
+ghost use Rattle.ip_prefix.specs.declared.addr.Family.{Family};
+ghost use Rattle.ip_prefix.specs.declared.addr.Family.TheVariants.{V4, V6};
+ghost use Rattle.ip_prefix.specs.declared.addr.TheConstants.{V4_BITS};
+ghost use Rattle.ip_prefix.specs.Network.{Network};
+
+use ip_prefix::{Addr, Prefix, V4_OCTETS};
+
+/// A prefix of one family, however it is kept.
+pub(crate) trait Packed: Copy + Drop {
+    /// The prefix that it stands for.
+    ghost network: { Self → Network };
+
+    /// The family that all are of.
+    ghost family: { Family };
+
+    /// As a prefix of any family.
+    fn wide(&self) -> Prefix
+        ensures { result ≡ network self.now };
+
+    /// The prefix, which is of this family.
+    fn of(prefix: &Prefix) -> Self
+        requires { prefix.now.family ≡ family }
+        ensures { network result ≡ prefix.now };
+}
+
+/// A prefix of IPv4: the octets of its least address, and how many bits it has.
+#[derive(Clone, Copy, Drop)]
+pub(crate) struct V4Prefix {
+    octets: [u8; V4_OCTETS],
+    len: u8,
+    ghost within: { len ≤ V4_BITS },
+}
+
+impl Packed for V4Prefix {
+    ghost use Rattle.rib_store.specs.Packed.{v4_network};
+
+    ghost network = { v4_network };
+
+    ghost family = { V4 };
+
+    #[inline]
+    fn wide(&self) -> Prefix {
+        let addr = Addr::v4(self.octets);
+        match Prefix::new(addr, self.len) {
+            Some(prefix) => prefix,
+            None => Prefix::host(addr),
+        }
+    }
+
+    #[inline]
+    fn of(prefix: &Prefix) -> Self {
+        let addr = prefix.addr();
+        V4Prefix {
+            octets: [addr.octet(0), addr.octet(1), addr.octet(2), addr.octet(3)],
+            len: prefix.len(),
+        }
+    }
+}
+
+impl Packed for Prefix {
+    ghost use Rattle.rib_store.specs.Packed.{v6_network};
+
+    ghost network = { v6_network };
+
+    ghost family = { V6 };
+
+    #[inline]
+    fn wide(&self) -> Prefix {
+        *self
+    }
+
+    #[inline]
+    fn of(prefix: &Prefix) -> Self {
+        *prefix
+    }
+}
