@@ -11,8 +11,9 @@ from itertools import count
 from calling import ALL
 
 # The least requests that each call is known to make, so that none is skipped: one for a text that
-# grows, for each list that is read, for each node of a tree or of an ordered map, and for what a step
-# or a run keeps. The attributes of the IPv6 entry have no list.
+# grows, for each list that is read, for each fork of a tree and each node of an ordered map, and for
+# what a step or a run keeps. The attributes of the IPv6 entry have no list, and a tree's first key lies
+# in the tree itself.
 LEAST = {
     'text-of-an-address': 1,
     'text-of-a-prefix': 1,
@@ -32,11 +33,11 @@ LEAST = {
     'next-is-an-ipv6-entry': 2,
     'next-is-an-update': 5,
     'next-has-an-as4-path': 5,
-    'first-key-of-a-tree': 1,
-    'key-of-a-tree': 2,
+    'first-key-of-a-tree': 0,
+    'key-of-a-tree': 1,
     'first-key-of-a-map': 1,
     'key-of-a-map': 2,
-    'play-for-two-new-peers': 5,
+    'play-for-two-new-peers': 4,
     'play-for-two-new-peers-over-a-map': 3,
     'play-over-a-route': 1,
     'play-a-loss-with-two-steps-ahead': 1,
