@@ -32,10 +32,7 @@ use Rattle.bgpdump_tool.specs.Losing.{loss_text, Loses}
 use Rattle.bgpdump_lines.specs.Writing.{Puts, PutsPart}
 use Rattle.bgpdump_tool.proofs.MoveLaws.{Stands-inside, reports-append, needed_beyond}
 use Rattle.bgpdump_lines.proofs.WritingLaws.{AppendsFront-none, AppendsFront-longer}
-
-or_false : (b : Bool) → (b || false) ≡ b
-or_false true = refl
-or_false false = refl
+use Rattle.bgpdump_tool.proofs.BoolLaws.{or_false}
 
 -- ---- fronts
 

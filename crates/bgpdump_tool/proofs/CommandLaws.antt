@@ -25,12 +25,10 @@ name_of (Lookup peer address) = codes "lookup"
 name_of (Lose peer) = codes "lose"
 name_of (Forget n) = codes "forget"
 
--- a number that tells the names apart
+-- a number that tells names apart, by all of their letters
 abbrev mark : List ℕ → ℕ
 mark [] = 0
-mark (a ∷ []) = 0
-mark (a ∷ b ∷ []) = 0
-mark (a ∷ b ∷ c ∷ rest) = a * 256 + c
+mark (letter ∷ name) = 1 + letter + 256 * mark name
 
 -- the words: a name, and at most three more
 abbrev IsNamed : List ℕ → List (List ℕ) → Type 0

@@ -19,6 +19,7 @@ use Rattle.bgpdump_tool.specs.Moves.{GoesOn, StopsReading, StopsWriting, Stops, 
 use Rattle.bgpdump_lines.specs.Writing.{is_any_bad}
 use Rattle.bgpdump_lines.proofs.RunLaws.{is_any_bad-append}
 use Rattle.bgpdump_lines.proofs.WritingLaws.{AppendsFront-behind}
+use Rattle.bgpdump_tool.proofs.BoolLaws.{or_assoc, or_false}
 
 pub events-append : (found more : List Finding) → events (found ++ more) ≡ events found ++ events more
 events-append found more = flat_map-append event_of found more
@@ -29,14 +30,6 @@ reports-append found more = flat_map-append finding_report found more
 no_events : (found : List Finding) → length found ≡ 0 → length (events found) ≡ 0
 no_events [] e = refl
 no_events (x ∷ found) e = absurd (omega arith)
-
-or_assoc : (a b c : Bool) → ((a || b) || c) ≡ (a || (b || c))
-or_assoc true b c = refl
-or_assoc false b c = refl
-
-or_false : (b : Bool) → (b || false) ≡ b
-or_false true = refl
-or_false false = refl
 
 -- ---- one move behind another
 

@@ -32,12 +32,13 @@ use Rattle.bgpdump_tool.specs.Playing.{is_some_text, Plays, PlaysCutOff, PlaysBr
 use Rattle.bgpdump_lines.proofs.WritingLaws.{WritesFronts-whole}
 use Rattle.bgpdump_lines.proofs.HeldLaws.{rest_so_far, first_held, front_held, untold_held, whole_found, IsTaken-told, IsTaken-faulty, length-faulty}
 use Rattle.bgpdump_lines.proofs.EndLaws.{cases_none, written_all, EndsSo-source, Writes-kept}
+use Rattle.bgpdump_tool.proofs.PlayLaws.{course_of_done}
 use Rattle.bgpdump_tool.proofs.ScriptLaws.{one_reading, first_reading}
 
 -- ---- what the input may hold
 
 -- what was found is first in it, and all of it where the source has ended, if the end counts as seen where a record is cut or a command met it
-played_held : (stamp : Stamp) (q : Place) (left left' : Option (List ℕ)) (found : List Finding) (ended : Bool) (Saw : List Frame → List ℕ → Type 0) → (t : Taking (start_place stamp LIMIT) left q left' found ended)
+pub played_held : (stamp : Stamp) (q : Place) (left left' : Option (List ℕ)) (found : List Finding) (ended : Bool) (Saw : List Frame → List ℕ → Type 0) → (t : Taking (start_place stamp LIMIT) left q left' found ended)
     → (rest_kind t.so_far.rest ≡ CutRecord → (t.so_far.rest ≢ []) ⊎ (ended ≡ true) → Saw t.so_far.frames t.so_far.rest)
     → (octets : List ℕ) (frames : List Frame) (rest : List ℕ) → MayHold stamp Saw left left' octets → Splits stamp None octets frames rest → FirstSoFar (start_place stamp LIMIT) q found frames rest
 played_held stamp q left left' found ended Saw t saw octets frames rest may split = elim (cases_none t.so_far.rest) [
@@ -55,21 +56,10 @@ played_held stamp q left left' found ended Saw t saw octets frames rest may spli
         clash e = cc
 
 -- what was found are the results of the octets taken
-found_taken : (stamp : Stamp) (q : Place) (left left' : Option (List ℕ)) (found : List Finding) (ended : Bool) → (t : Taking (start_place stamp LIMIT) left q left' found ended) → found ≡ all_results stamp t.so_far.frames t.so_far.rest
+pub found_taken : (stamp : Stamp) (q : Place) (left left' : Option (List ℕ)) (found : List Finding) (ended : Bool) → (t : Taking (start_place stamp LIMIT) left q left' found ended) → found ≡ all_results stamp t.so_far.frames t.so_far.rest
 found_taken stamp q left left' found ended t = t.so_far.found_is
 
 -- ---- a run that carried out all lines
-
--- its texts, whatever follows
-texts_of_all : (from : Place) (left : Option (List ℕ)) (lines : List Line) (scene : Scene) (old new : Outputs) (later : List Finding) → (p : Plays from left lines scene old new) → (scene.place.phase ≡ Ended → later ≡ [])
-    → course lines (p.standing.found ++ later) ≡ record { texts = p.texts; ended = p.standing.ended; left = later }
-texts_of_all from left lines scene old new later p none =
-    ap (λ l. course l (p.standing.found ++ later)) (sym (append-nil lines)) ∙ p.goes false [] later (λ e. (none e, refl))
-    ∙ (λ i. record { texts = record { out = append-nil p.texts.out i; err = append-nil p.texts.err i }; ended = or_false p.standing.ended i; left = later })
-  where
-    or_false : (b : Bool) → (b || false) ≡ b
-    or_false true = refl
-    or_false false = refl
 
 none_text : (text : List ℕ) → is_some_text text ≡ false → text ≡ []
 none_text [] e = refl
@@ -102,7 +92,7 @@ EndsSo-all : (stamp : Stamp) (left : Option (List ℕ)) (lines : List Line) (sce
 EndsSo-all stamp left lines scene old mid new failed p out err octets frames rest may split =
     let t = p.stands.taking in
     let own : (more : List Finding) → (scene.place.phase ≡ Ended → more ≡ []) → course lines (p.standing.found ++ more) ≡ record { texts = p.texts; ended = p.standing.ended; left = more } =
-    λ more none. texts_of_all (start_place stamp LIMIT) left lines scene old mid more p none in
+    λ more none. course_of_done (start_place stamp LIMIT) left lines scene old mid more p none in
     let met : p.standing.ended ≡ true → (course lines (all_results stamp t.so_far.frames t.so_far.rest)).ended ≡ true =
     λ e. ap (λ l. (course lines l).ended) (sym (found_taken stamp scene.place left scene.left p.standing.found p.standing.ended t) ∙ sym (append-nil p.standing.found)) ∙ ap (λ c. c.ended) (own [] (λ _. refl)) ∙ e in
     let first = played_held stamp scene.place left scene.left p.standing.found p.standing.ended (PlaySawEnd stamp (outcome_of failed scene.reported) lines) t
@@ -229,7 +219,7 @@ TakesWanted-finished stamp q left script scene old new failed outcome from (done
     let p : Plays (start_place stamp LIMIT) left lines scene old new = subst (λ x. Plays x left lines scene old new) from (subst (λ l. Plays q left l scene old new) (one_reading done lines (script_lines script) are reading) plays) in
     let found = p.standing.found in
     let same = results_taken stamp scene.place left scene.left found p.stands.taking.so_far taken after frames rest took split in
-    let none = ap (λ l. (course lines l).left) (same ∙ sym (append-nil found)) ∙ ap (λ c. c.left) (texts_of_all (start_place stamp LIMIT) left lines scene old new [] p (λ _. refl)) in
+    let none = ap (λ l. (course lines l).left) (same ∙ sym (append-nil found)) ∙ ap (λ c. c.left) (course_of_done (start_place stamp LIMIT) left lines scene old new [] p (λ _. refl)) in
     subst (λ o. TakesWanted stamp o lines frames rest) (sym is) (wanted_by stamp failed scene.reported lines frames rest none)
 
 wanted_source : (fault : SourceFault) (stamp : Stamp) (lines : List Line) (frames : List Frame) (rest : List ℕ) → (EndedByInput (source_outcome fault) → (cut_course lines (all_results stamp frames [])).ended ≡ true) → TakesWanted stamp (source_outcome fault) lines frames rest

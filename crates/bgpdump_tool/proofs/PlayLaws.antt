@@ -23,22 +23,16 @@ use Rattle.bgpdump_tool.specs.Script.{Line, Empty, Asks, NoCommand, IsLine, AreL
 use Rattle.bgpdump_tool.specs.State.{State, start}
 use Rattle.bgpdump_tool.specs.Meaning.{meaning, meets_end, faults_taken}
 use Rattle.bgpdump_tool.specs.Course.{Course, course_behind, course_from, course, cut_course, play_texts}
+use Rattle.bgpdump_tool.specs.Began.{WritesPast}
 use Rattle.bgpdump_tool.specs.Standing.{Scene, Taking, Stands, Follows, HasRoom, state_of}
 use Rattle.bgpdump_tool.specs.Carrying.{IsCarriedOut, IsCutOff, IsBrokenOff}
 use Rattle.bgpdump_tool.specs.Playing.{LineDoes, CarriesLine, is_some_text, Plays, PlaysCutOff, PlaysBrokenOff, PlayDoes, PlaysScript}
 use Rattle.bgpdump_lines.proofs.WritingLaws.{AppendsFront-none, Writes-append, WritesFronts-behind, WritesFronts-longer, AppendsFront-longer}
 use Rattle.bgpdump_tool.proofs.CarryLaws.{AppendsFront-whole, take_over}
 use Rattle.bgpdump_tool.proofs.MoveLaws.{reports-append}
+use Rattle.bgpdump_tool.proofs.BoolLaws.{or_assoc, or_false, or_true}
 
 -- ---- texts and courses
-
-or_assoc : (a b c : Bool) → ((a || b) || c) ≡ (a || (b || c))
-or_assoc true b c = refl
-or_assoc false b c = refl
-
-or_false : (b : Bool) → (b || false) ≡ b
-or_false true = refl
-or_false false = refl
 
 is_some_text-append : (xs ys : List ℕ) → is_some_text (xs ++ ys) ≡ (is_some_text xs || is_some_text ys)
 is_some_text-append [] ys = refl
@@ -117,10 +111,6 @@ Plays-report from left done number a b old mid new p is same quiet appended =
           ∙ course_behind-twice p.texts (record { out = []; err = line_report (length done + 1) }) p.standing.ended false (course_from cut (length done + 1 + 1) lines (state_of p.standing more))
           ∙ (λ i. course_behind (joined_texts p.texts (record { out = []; err = line_report (sym is i) })) (or_false p.standing.ended i) (next_number cut done lines NoCommand (state_of p.standing more) i));
     }
-  where
-    or_true : (b : Bool) → (b || true) ≡ true
-    or_true true = refl
-    or_true false = refl
 
 -- ---- a command
 
@@ -173,12 +163,31 @@ Plays-command from left done command a b old mid new mid_err new_err p (led, rep
           ∙ (λ i. course_behind (joined_texts p.texts (record { out = leads.replied i; err = reports (leads.took i) })) (sym leads.ended i) (course_from cut (length done + 1 + 1) lines (leads.after i)))
           ∙ ap (course_behind (joined_texts p.texts texts) t.ended) (next_number cut done lines (Asks command) (state_of t more));
     }
-  where
-    or_true : (b : Bool) → (b || true) ≡ true
-    or_true true = refl
-    or_true false = refl
 
 -- ---- a run that is stopped
+
+-- the course of lines that were carried out, whatever is found behind
+pub course_of_done : (from : Place) (left : Option (List ℕ)) (lines : List Line) (scene : Scene) (old new : Outputs) (later : List Finding) → (p : Plays from left lines scene old new) → (scene.place.phase ≡ Ended → later ≡ [])
+    → course lines (p.standing.found ++ later) ≡ record { texts = p.texts; ended = p.standing.ended; left = later }
+course_of_done from left lines scene old new later p none =
+    ap (λ l. course l (p.standing.found ++ later)) (sym (append-nil lines)) ∙ p.goes false [] later (λ e. (none e, refl))
+    ∙ (λ i. record { texts = record { out = append-nil p.texts.out i; err = append-nil p.texts.err i }; ended = or_false p.standing.ended i; left = later })
+
+-- the texts of lines that were carried out were written, and fronts of what one more line adds
+past_line : (from : Place) (left : Option (List ℕ)) (done : List Line) (line : Line) (a : Scene) (old mid new : Outputs) (found taken more : List Finding) → (p : Plays from left done a old mid) → found ≡ p.standing.found ++ taken
+    → (a.place.phase ≡ Ended → taken ++ more ≡ []) → WritesFronts (course_from false (length done + 1) (line ∷ []) (state_of p.standing (taken ++ more))).texts mid new
+    → WritesPast (play_texts done (found ++ more)) (play_texts (done ++ line ∷ []) (found ++ more)) old new
+past_line from left done line a old mid new found taken more p is none fronts =
+    let all : found ++ more ≡ p.standing.found ++ (taken ++ more) = ap (λ l. l ++ more) is ∙ append_assoc p.standing.found taken more in
+    let own : play_texts done (found ++ more) ≡ p.texts = ap (λ l. play_texts done l) all ∙ ap (λ c. c.texts) (course_of_done from left done a old mid (taken ++ more) p none) in
+    record {
+      mid = mid;
+      written = subst (λ t. Writes t old mid) (sym own) p.written;
+      more = (course_from false (length done + 1) (line ∷ []) (state_of p.standing (taken ++ more))).texts;
+      whole = ap (λ l. play_texts (done ++ line ∷ []) l) all ∙ ap (λ c. c.texts) (p.goes false (line ∷ []) (taken ++ more) (λ e. (none e, refl)))
+          ∙ ap (λ t. joined_texts t (course_from false (length done + 1) (line ∷ []) (state_of p.standing (taken ++ more))).texts) (sym own);
+      fronts = fronts;
+    }
 
 -- fronts behind what was written are fronts of all
 fronts_in : (texts part rest : Texts) (a b c : Outputs) → Writes texts a b → AppendsFront b.out c.out part.out → AppendsFront b.err c.err part.err → WritesFronts (joined_texts texts (joined_texts part rest)) a c
@@ -222,11 +231,18 @@ PlaysCutOff-command from left done command a b old mid new fault mid_err new_err
           (course_from false (length done + 1 + 1) lines (meaning command (state_of s (taken ++ more))).after).texts old mid new p.written
           (subst (λ o. AppendsFront mid.out o (meaning command (state_of s (taken ++ more))).reply) (sym stop.quiet) (AppendsFront-none mid.out (meaning command (state_of s (taken ++ more))).reply))
           (subst (AppendsFront mid.err new.err) (sym (ap reports rest.1 ∙ reports-append taken rest.0)) (AppendsFront-longer mid.err new.err (reports taken) (reports rest.0) (AppendsFront-whole mid.err new.err (reports taken) err))));
+      done = done;
+      line = Asks command;
+      begun_is = refl;
+      past = λ more.
+          let st = state_of s (taken ++ more) in
+          let rest = take_over taken more (meaning command st).wanted (omega (arith, stop.wants more)) in
+          past_line from left done (Asks command) a old mid new (s.found ++ taken) taken more p refl (λ e. absurd (stop.stops.reads e))
+          (WritesFronts-longer (record { out = (meaning command st).reply; err = faults_taken command st }) (record { out = []; err = [] }) mid new (
+            subst (λ o. AppendsFront mid.out o (meaning command st).reply) (sym stop.quiet) (AppendsFront-none mid.out (meaning command st).reply),
+            subst (AppendsFront mid.err new.err) (sym (ap reports rest.1 ∙ reports-append taken rest.0)) (AppendsFront-longer mid.err new.err (reports taken) (reports rest.0) (AppendsFront-whole mid.err new.err (reports taken) err)),
+          ));
     }
-  where
-    or_true : (b : Bool) → (b || true) ≡ true
-    or_true true = refl
-    or_true false = refl
 
 -- by memory or an output
 pub PlaysBrokenOff-command : (from : Place) (left : Option (List ℕ)) (done : List Line) (command : Command) (a b : Scene) (old mid new : Outputs) → mid.err ≡ a.err → new.err ≡ b.err → (p : Plays from left done a old mid)
@@ -249,6 +265,17 @@ PlaysBrokenOff-command from left done command a b old mid new mid_err new_err p 
           (course_from false (length done + 1 + 1) lines (meaning command (state_of s (taken ++ more))).after).texts old mid new p.written
           fronts.0
           (subst (λ e. AppendsFront e new.err (faults_taken command (state_of s (taken ++ more)))) (sym mid_err) (subst (λ e. AppendsFront a.err e (faults_taken command (state_of s (taken ++ more)))) (sym new_err) fronts.1)));
+      done = done;
+      line = Asks command;
+      begun_is = refl;
+      past = λ more none.
+          let st = state_of s (taken ++ more) in
+          let fronts = stop.fronts more none in
+          past_line from left done (Asks command) a old mid new (s.found ++ taken) taken more p refl (none_more a.place b.place taken more stop.follows none)
+          (WritesFronts-longer (record { out = (meaning command st).reply; err = faults_taken command st }) (record { out = []; err = [] }) mid new (
+            fronts.0,
+            subst (λ e. AppendsFront e new.err (faults_taken command st)) (sym mid_err) (subst (λ e. AppendsFront a.err e (faults_taken command st)) (sym new_err) fronts.1),
+          ));
     }
 
 -- at a line that is no command
@@ -270,6 +297,13 @@ PlaysBrokenOff-report from left done number a b old mid new p is same quiet fron
           (fronts_in p.texts (record { out = []; err = line_report (length done + 1) }) (course_from false (length done + 1 + 1) lines (state_of s more)).texts old mid new p.written
           (subst (λ o. AppendsFront mid.out o []) (sym quiet) (AppendsFront-none mid.out []))
           (subst (λ n. AppendsFront mid.err new.err (line_report n)) is front));
+      done = done;
+      line = NoCommand;
+      begun_is = refl;
+      past = λ more none.
+          past_line from left done NoCommand a old mid new s.found [] more p (sym (append-nil s.found)) (λ x. none (ap (λ y. y.place.phase) same ∙ x))
+          (WritesFronts-longer (record { out = []; err = line_report (length done + 1) }) (record { out = []; err = [] }) mid new
+          (subst (λ o. AppendsFront mid.out o []) (sym quiet) (AppendsFront-none mid.out []), subst (λ n. AppendsFront mid.err new.err (line_report n)) is front));
     }
 
 -- ---- a line, whatever it asks for

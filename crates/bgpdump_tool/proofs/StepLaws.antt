@@ -30,14 +30,7 @@ use Rattle.bgpdump_tool.specs.Standing.{Standing, Scene, Taking, Stands, Follows
 use Rattle.bgpdump_tool.specs.Moves.{GoesOn, StepDoes}
 use Rattle.bgpdump_lines.proofs.RunLaws.{IsFaulty-behind}
 use Rattle.bgpdump_lines.proofs.WritingLaws.{AppendsFront-none}
-
-or_false : (b : Bool) → (b || false) ≡ b
-or_false true = refl
-or_false false = refl
-
-or_true : (b : Bool) → (b || true) ≡ true
-or_true true = refl
-or_true false = refl
+use Rattle.bgpdump_tool.proofs.BoolLaws.{or_false, or_true}
 
 -- ---- the player
 

@@ -13,6 +13,7 @@ pub mod Replies
 pub mod State
 pub mod Meaning
 pub mod Course
+pub mod Began
 pub mod Standing
 pub mod Moves
 pub mod Carrying

@@ -15,6 +15,7 @@ use Rattle.bgpdump_lines.specs.Run.{Texts, Outputs, Writes, WritesFronts}
 use Rattle.bgpdump_tool.specs.Script.{Line, Empty, Asks, NoCommand, IsLine, AreLines, script_lines}
 use Rattle.bgpdump_tool.specs.State.{start}
 use Rattle.bgpdump_tool.specs.Course.{course_behind, course_from, course, play_texts, cut_course, cut_texts}
+use Rattle.bgpdump_tool.specs.Began.{WritesPast}
 use Rattle.bgpdump_tool.specs.Standing.{Standing, Scene, Taking, Stands, state_of}
 use Rattle.bgpdump_tool.specs.Carrying.{CarryingDoes}
 
@@ -56,6 +57,10 @@ pub record PlaysCutOff (from : Place) (left : Option (List ℕ)) (begun : List L
   pub exact : (lines : List Line) → Writes (cut_texts (begun ++ lines) found) old new
   pub wants : (lines : List Line) → (cut_course (begun ++ lines) found).ended ≡ true
   pub fronts : (lines : List Line) (more : List Finding) → WritesFronts (play_texts (begun ++ lines) (found ++ more)) old new
+  pub done : List Line
+  pub line : Line
+  pub begun_is : begun ≡ done ++ line ∷ []
+  pub past : (more : List Finding) → WritesPast (play_texts done (found ++ more)) (play_texts (done ++ line ∷ []) (found ++ more)) old new
 
 -- memory or an output stopped it there
 pub record PlaysBrokenOff (from : Place) (left : Option (List ℕ)) (begun : List Line) (scene : Scene) (old new : Outputs) : Type 0 where
@@ -64,6 +69,10 @@ pub record PlaysBrokenOff (from : Place) (left : Option (List ℕ)) (begun : Lis
   pub taking : Taking from left scene.place scene.left found ended
   pub met : ended ≡ true → (lines : List Line) → (course (begun ++ lines) found).ended ≡ true
   pub fronts : (lines : List Line) (more : List Finding) → (scene.place.phase ≡ Ended → more ≡ []) → WritesFronts (play_texts (begun ++ lines) (found ++ more)) old new
+  pub done : List Line
+  pub line : Line
+  pub begun_is : begun ≡ done ++ line ∷ []
+  pub past : (more : List Finding) → (scene.place.phase ≡ Ended → more ≡ []) → WritesPast (play_texts done (found ++ more)) (play_texts (done ++ line ∷ []) (found ++ more)) old new
 
 -- how the carrying out of lines ended
 abbrev pub PlayDoes : Place → Option (List ℕ) → List Line → Scene → Outputs → Outputs → Result (Unit {0}) Outcome → Type 0

@@ -13,6 +13,7 @@ ghost use Rattle.bgpdump_lines.specs.Reports.{line_report};
 ghost use Rattle.bgpdump_lines.specs.Run.{IsTaken, MayHold, outputs_of, Writes, EndsSo, EndedByInput, all_results};
 ghost use Rattle.bgpdump_tool.specs.Script.{Line, IsScript};
 ghost use Rattle.bgpdump_tool.specs.Course.{play_texts, cut_texts, TakesWanted, PlaySawEnd};
+ghost use Rattle.bgpdump_tool.specs.Began.{WasBrokenOff, Began};
 ghost use Rattle.bgpdump_tool.specs.Standing.{HasRoom, scene_of};
 ghost use Rattle.bgpdump_tool.specs.Playing.{CarriesLine, PlaysScript};
 ghost use Rattle.bgpdump_lines.specs.Writing.{Puts, is_write};
@@ -53,6 +54,14 @@ pub fn run_play<S: PrefixStore<Rc<Route>>, I: Input, O: Output, E: Output>(
         MayHold stamp (PlaySawEnd stamp result lines) (I.left input.old) (I.left input.new) octets →
         Splits stamp None octets frames rest →
         EndsSo result (play_texts lines (all_results stamp frames rest))
+        (outputs_of O.written E.written out.old err.old)
+        (outputs_of O.written E.written out.new err.new) }
+
+    // A run that memory or an output broke off had begun some of the lines: those that it carried out
+    // are written, and of the next one, if it was in one, fronts; and the end was seen where these
+    // lines saw it.
+    ensures began { WasBrokenOff result → (lines : List Line) → IsScript lines script.now →
+        Began stamp lines (I.left input.old) (I.left input.new)
         (outputs_of O.written E.written out.old err.old)
         (outputs_of O.written E.written out.new err.new) }
 

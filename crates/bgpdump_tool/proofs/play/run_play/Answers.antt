@@ -1,5 +1,6 @@
 use Rattle.std.proofs.Common.{◌||◌}
 use Rattle.bgpdump_tool.proofs.PlayEndLaws.{PlayEnds-finished, PlayEnds-stopped, Writes-cut, IsTaken-finished, IsTaken-ended, length-ended, TakesWanted-finished, TakesWanted-stopped}
+use Rattle.bgpdump_tool.proofs.BeganLaws.{Began-finished, Began-stopped}
 use Rattle.bgpdump_tool.proofs.play.run_play.Goals as goal
 
 pub returns-in-Ok-clause-text : goal.returns-in-Ok-clause-text
@@ -28,3 +29,11 @@ returns-in-Ok-clause-wanted g c =
 
 pub returns-clause-wanted : goal.returns-clause-wanted
 returns-clause-wanted g c = TakesWanted-stopped c.args.stamp _ _ c.args.script.now _ _ _ c.in-Err.outcome c.new-session.ensures.source c.in-Err.ensures.plays
+
+pub returns-in-Ok-clause-began : goal.returns-in-Ok-clause-began
+returns-in-Ok-clause-began g c = λ broken lines reading.
+    Began-finished c.args.stamp _ _ c.args.script.now _ _ _ _ c.new-session.ensures.source c.in-Ok.ensures.plays c.finish_outputs.ensures.out c.finish_outputs.ensures.err lines reading
+
+pub returns-clause-began : goal.returns-clause-began
+returns-clause-began g c = λ broken lines reading.
+    Began-stopped c.args.stamp _ _ c.args.script.now _ _ _ c.in-Err.outcome c.new-session.ensures.source c.in-Err.ensures.plays lines reading
