@@ -6,7 +6,7 @@ use Rattle.std.proofs.KnownBytes.{Consumes-trans}
 use borrow.Rule.Slice.PartMut.{put_mid, post_of}
 use lib.Seq.{take-add, take-append-le}
 use Rattle.mrt_frames.specs.declared.fault.SourceFault.{SourceFault}
-use Rattle.mrt_frames.specs.Device.{Takes, FillsWithin}
+use Rattle.mrt_frames.specs.Device.{Takes, FillsWithin, PassesWithin}
 
 -- the front that was filled, and then the front of what was written behind it
 pub take-put_mid : (at room n : ℕ) (buffer part : List ℕ) → at ≤ length buffer → n ≤ length part → take (at + n) (put_mid at room buffer part) ≡ take at buffer ++ take n part
@@ -39,3 +39,17 @@ pub FillsWithin-stopped_place : (a b c : Option (List ℕ)) (k l m : ℕ) (done 
     → Takes a b k l done → FillsWithin b c l m part (end - at) limit (Err fault) → FillsWithin a c k m whole size limit (Err fault)
 FillsWithin-stopped_place a b c k l m done part whole at end size limit fault len ahead within before (front, short, stops, now) =
     (done ++ front, omega (arith, length-append done front), stops, Takes-trans a b c k l m done front before now)
+
+-- octets of which n were passed over
+abbrev pub Passed : Option (List ℕ) → Option (List ℕ) → ℕ → ℕ → ℕ → Type 0
+Passed old new before after n = (octets : List ℕ) × (length octets ≡ n) × Takes old new before after octets
+
+-- what was passed over before and now
+pub Passed-more : (a b c : Option (List ℕ)) (k l m n count : ℕ) (buffer : List ℕ) → Passed a b k l n → count ≤ length buffer → Takes b c l m (take count buffer) → Passed a c k m (n + count)
+Passed-more a b c k l m n count buffer (done, len, before) fits now =
+    (done ++ take count buffer, omega (arith, len, length-append done (take count buffer), length-take-le count buffer fits), Takes-trans a b c k l m done (take count buffer) before now)
+
+-- a fault behind what was passed over before
+pub PassesWithin-stopped : (a b c : Option (List ℕ)) (k l m n part size limit : ℕ) (buffer : List ℕ) (fault : SourceFault) → Passed a b k l n → n + part ≤ size → FillsWithin b c l m buffer part limit (Err fault) → PassesWithin a c k m size limit (Err fault)
+PassesWithin-stopped a b c k l m n part size limit buffer fault (done, len, before) within (front, short, stops, now) =
+    (done ++ front, omega (arith, len, within, short, length-append done front), stops, Takes-trans a b c k l m done front before now)

@@ -1,5 +1,5 @@
 -- Octets that are a rest, or in which a record has begun.
-use Rattle.std.proofs.Common.{◌≡◌, ℕ, ◌≤◌, ◌<◌, false, cond, List, [], ◌∷◌, ◌++◌, Option, Some, Ok, Err, length, sym, ap, ◌∙◌, subst, arith, length-append, inl, refl}
+use Rattle.std.proofs.Common.{◌≡◌, ℕ, ◌≤◌, ◌<◌, Bool, true, false, cond, List, [], ◌∷◌, ◌++◌, Option, Some, Ok, Err, length, sym, ap, ◌∙◌, subst, arith, length-append, inl, refl}
 use Rattle.std.proofs.lemmas.Bool.{le-ltb}
 use Rattle.std.proofs.lemmas.Nat.{from_be_bytes-to_be_bytes_4}
 use Rattle.std.specs.Prelude.{nat_lt}
@@ -9,10 +9,10 @@ use Rattle.mrt_frames.specs.declared.fault.SourceFault.{SourceFault}
 use Rattle.mrt_frames.specs.declared.frames.Front.TheVariants as answer
 use Rattle.mrt_frames.specs.declared.header.Header.{Header}
 use Rattle.mrt_frames.specs.declared.frames.TheConstants.{LONGEST_BODY}
-use Rattle.mrt_frames.specs.Record.{IsHeader, header_octets}
+use Rattle.mrt_frames.specs.Record.{IsHeader, header_octets, record_under, spelling}
 use Rattle.mrt_frames.specs.Rest.{rest_kind, rest_fault, stated_size}
 use Rattle.mrt_frames.specs.Device.{Takes}
-use Rattle.mrt_frames.specs.Taking.{IsBegun, EndsAt, TakesHeader, TakesBody, TakesRecord}
+use Rattle.mrt_frames.specs.Taking.{IsBegun, EndsAt, TakesHeader, TakesBody, PassesBody, TakesRecord}
 use Rattle.mrt_frames.proofs.Buffers.{Takes-trans}
 use Rattle.mrt_frames.proofs.RecordLaws.{BeginsWithNoRecord-cut}
 
@@ -43,22 +43,50 @@ pub EndsAt-begun : (left : Option (List ℕ)) (octets : List ℕ) → IsBegun oc
 EndsAt-begun left octets begun end = record { rest = record { none = begun.none; stops = inl begun.cut }; seen = λ _. end }
 
 -- a fault inside a body
-pub TakesRecord-stopped_place : (a b c : Option (List ℕ)) (k l m limit : ℕ) (buffer : List ℕ) (h : Header) (fault : SourceFault) → h.size ≤ LONGEST_BODY
+pub TakesRecord-stopped_place : (supports : ℕ → ℕ → Bool) (a b c : Option (List ℕ)) (k l m limit : ℕ) (buffer : List ℕ) (h : Header) (fault : SourceFault) → h.size ≤ LONGEST_BODY
     → (front : List ℕ) × Takes a b k l front × TakesHeader b l limit front (Ok (answer.Record h)) → (body : List ℕ) × Takes b c l m body × TakesBody c m limit buffer body h.size (Err fault)
-    → (octets : List ℕ) × Takes a c k m octets × TakesRecord c m limit buffer octets (Err fault)
-TakesRecord-stopped_place a b c k l m limit buffer h fault small (front, took, (fits, whole)) (body, took', (short, stops)) = (
+    → (octets : List ℕ) × Takes a c k m octets × TakesRecord supports c m limit buffer octets (Err fault)
+TakesRecord-stopped_place supports a b c k l m limit buffer h fault small (front, took, (fits, whole)) (body, took', (short, stops)) = (
   front ++ body,
   Takes-trans a b c k l m front body took took',
   (subst IsBegun (ap (λ f. f ++ body) (sym whole)) (IsBegun-cut h.seconds h.kind h.subtype h.size body fits small short), stops),
 )
 
 -- the end inside a body
-pub TakesRecord-cut : (a b c : Option (List ℕ)) (k l m limit : ℕ) (buffer : List ℕ) (h : Header) → h.size ≤ LONGEST_BODY
+pub TakesRecord-cut : (supports : ℕ → ℕ → Bool) (a b c : Option (List ℕ)) (k l m limit : ℕ) (buffer : List ℕ) (h : Header) → h.size ≤ LONGEST_BODY
     → (front : List ℕ) × Takes a b k l front × TakesHeader b l limit front (Ok (answer.Record h)) → (body : List ℕ) × Takes b c l m body × TakesBody c m limit buffer body h.size (Ok false)
-    → (octets : List ℕ) × Takes a c k m octets × TakesRecord c m limit buffer octets (Ok (answer.Rest (Some CutRecord)))
-TakesRecord-cut a b c k l m limit buffer h small (front, took, (fits, whole)) (body, took', (end, short)) =
+    → (octets : List ℕ) × Takes a c k m octets × TakesRecord supports c m limit buffer octets (Ok (answer.Rest (Some CutRecord)))
+TakesRecord-cut supports a b c k l m limit buffer h small (front, took, (fits, whole)) (body, took', (end, short)) =
     let begun : IsBegun (front ++ body) = subst IsBegun (ap (λ f. f ++ body) (sym whole)) (IsBegun-cut h.seconds h.kind h.subtype h.size body fits small short) in (
       front ++ body,
       Takes-trans a b c k l m front body took took',
       (EndsAt-begun c (front ++ body) begun end, sym (rest_fault-some (front ++ body) (omega (arith, ap length whole, length-append front body)) ∙ ap Some begun.cut)),
     )
+
+-- the same where the body was passed over
+pub TakesRecord-passed_stopped : (supports : ℕ → ℕ → Bool) (a b c : Option (List ℕ)) (k l m limit : ℕ) (buffer : List ℕ) (h : Header) (fault : SourceFault) → h.size ≤ LONGEST_BODY
+    → (front : List ℕ) × Takes a b k l front × TakesHeader b l limit front (Ok (answer.Record h)) → (body : List ℕ) × Takes b c l m body × PassesBody c m limit body h.size (Err fault)
+    → (octets : List ℕ) × Takes a c k m octets × TakesRecord supports c m limit buffer octets (Err fault)
+TakesRecord-passed_stopped supports a b c k l m limit buffer h fault small header (body, took, stops) = TakesRecord-stopped_place supports a b c k l m limit buffer h fault small header (body, took, stops)
+
+pub TakesRecord-passed_cut : (supports : ℕ → ℕ → Bool) (a b c : Option (List ℕ)) (k l m limit : ℕ) (buffer : List ℕ) (h : Header) → h.size ≤ LONGEST_BODY
+    → (front : List ℕ) × Takes a b k l front × TakesHeader b l limit front (Ok (answer.Record h)) → (body : List ℕ) × Takes b c l m body × PassesBody c m limit body h.size (Ok false)
+    → (octets : List ℕ) × Takes a c k m octets × TakesRecord supports c m limit buffer octets (Ok (answer.Rest (Some CutRecord)))
+TakesRecord-passed_cut supports a b c k l m limit buffer h small header (body, took, cut) = TakesRecord-cut supports a b c k l m limit buffer h small header (body, took, cut)
+
+-- a whole record whose body was passed over
+pub TakesRecord-passed : (supports : ℕ → ℕ → Bool) (a b c : Option (List ℕ)) (k l m limit : ℕ) (buffer : List ℕ) (h : Header) → h.size ≤ LONGEST_BODY → supports h.kind h.subtype ≡ false
+    → (front : List ℕ) × Takes a b k l front × TakesHeader b l limit front (Ok (answer.Record h)) → (body : List ℕ) × Takes b c l m body × PassesBody c m limit body h.size (Ok true)
+    → (octets : List ℕ) × Takes a c k m octets × TakesRecord supports c m limit buffer octets (Ok (answer.Passed h))
+TakesRecord-passed supports a b c k l m limit buffer h small unsupported (front, took, (fits, whole)) (body, took', (all, size)) = (
+  front ++ body,
+  Takes-trans a b c k l m front body took took',
+  (
+    unsupported,
+    (
+      body,
+      record { header = subst (IsHeader h.seconds h.kind h.subtype) (sym size) fits; size = omega (arith, size, small) },
+      ap (λ f. f ++ body) whole ∙ ap (λ n. header_octets h.seconds h.kind h.subtype n ++ body) (sym size),
+    ),
+  ),
+)

@@ -25,6 +25,11 @@ abbrev pub FillsWithin : Option (List ℕ) → Option (List ℕ) → ℕ → ℕ
 FillsWithin old new before after buffer size limit (Ok count) = (count ≤ size) × (after ≤ limit) × Takes old new before after (take count buffer) × (count < size → IsAtEnd new)
 FillsWithin old new before after buffer size limit (Err fault) = (front : List ℕ) × (length front < size) × Stops fault after limit × Takes old new before after front
 
+-- so many octets were passed over, where at most limit octets were to be taken in all
+abbrev pub PassesWithin : Option (List ℕ) → Option (List ℕ) → ℕ → ℕ → ℕ → ℕ → Result ℕ SourceFault → Type 0
+PassesWithin old new before after size limit (Ok count) = (count ≤ size) × (after ≤ limit) × ((octets : List ℕ) × (length octets ≡ count) × Takes old new before after octets) × (count < size → IsAtEnd new)
+PassesWithin old new before after size limit (Err fault) = (front : List ℕ) × (length front < size) × Stops fault after limit × Takes old new before after front
+
 -- the call ended by a read fault
 abbrev pub is_read : {A : Type 0} → Result A SourceFault → Bool
 is_read (Ok x) = false

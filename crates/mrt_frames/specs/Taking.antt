@@ -33,6 +33,7 @@ record_in header buffer = record_under header (take header.size buffer)
 -- the octets of a header, or the rest
 abbrev pub TakesHeader : Option (List ℕ) → ℕ → ℕ → List ℕ → Result Front SourceFault → Type 0
 TakesHeader left taken limit octets (Ok (front.Record header)) = IsHeader header.seconds header.kind header.subtype header.size × (octets ≡ header_octets header.seconds header.kind header.subtype header.size)
+TakesHeader left taken limit octets (Ok (front.Passed header)) = ⊥
 TakesHeader left taken limit octets (Ok (front.Rest kind)) = EndsAt left octets × (kind ≡ rest_fault octets)
 TakesHeader left taken limit octets (Err fault) = IsBegun octets × Stops fault taken limit
 
@@ -42,8 +43,15 @@ TakesBody left taken limit buffer octets size (Ok true) = (octets ≡ take size 
 TakesBody left taken limit buffer octets size (Ok false) = IsAtEnd left × (length octets < size)
 TakesBody left taken limit buffer octets size (Err fault) = (length octets < size) × Stops fault taken limit
 
--- the octets of a record, whose body stands at the front of the buffer, or the rest
-abbrev pub TakesRecord : Option (List ℕ) → ℕ → ℕ → List ℕ → List ℕ → Result Front SourceFault → Type 0
-TakesRecord left taken limit buffer octets (Ok (front.Record header)) = (length (take header.size buffer) ≡ header.size) × IsRecord (record_in header buffer) × (octets ≡ spelling (record_in header buffer))
-TakesRecord left taken limit buffer octets (Ok (front.Rest kind)) = EndsAt left octets × (kind ≡ rest_fault octets)
-TakesRecord left taken limit buffer octets (Err fault) = IsBegun octets × Stops fault taken limit
+-- the octets of a body that was passed over, or fewer
+abbrev pub PassesBody : Option (List ℕ) → ℕ → ℕ → List ℕ → ℕ → Result Bool SourceFault → Type 0
+PassesBody left taken limit octets size result = TakesBody left taken limit octets octets size result
+
+-- the octets of a record, whose body stands at the front of the buffer, if such records are supported, and was passed over if they aren't; or the rest
+abbrev pub TakesRecord : (ℕ → ℕ → Bool) → Option (List ℕ) → ℕ → ℕ → List ℕ → List ℕ → Result Front SourceFault → Type 0
+TakesRecord supports left taken limit buffer octets (Ok (front.Record header)) =
+    (supports header.kind header.subtype ≡ true) × (length (take header.size buffer) ≡ header.size) × IsRecord (record_in header buffer) × (octets ≡ spelling (record_in header buffer))
+TakesRecord supports left taken limit buffer octets (Ok (front.Passed header)) =
+    (supports header.kind header.subtype ≡ false) × ((body : List ℕ) × IsRecord (record_under header body) × (octets ≡ spelling (record_under header body)))
+TakesRecord supports left taken limit buffer octets (Ok (front.Rest kind)) = EndsAt left octets × (kind ≡ rest_fault octets)
+TakesRecord supports left taken limit buffer octets (Err fault) = IsBegun octets × Stops fault taken limit

@@ -1,7 +1,7 @@
 //! Filling buffers from an input.
 
 ghost use Rattle.std.specs.Prelude.{◌≡◌, ◌≤◌, ◌<◌, ◌+◌, ◌-◌, ◌*◌, ◌^◌, ◌||◌, IfOk, OnOk, OnErr, length, max, take, drop, is_err, vec_len};
-ghost use Rattle.mrt_frames.specs.Device.{Fills, FillsWithin, is_read};
+ghost use Rattle.mrt_frames.specs.Device.{Fills, FillsWithin, PassesWithin, is_read};
 
 use crate::fault::SourceFault;
 use crate::frames::LONGEST_BODY;
@@ -10,6 +10,9 @@ use std::alloc::AllocError;
 
 /// By how much an empty buffer grows at first. Later it grows by as much as was filled.
 const FIRST_GROWTH: usize = 4096;
+
+/// How many octets are passed over at once.
+const PIECE: usize = 4096;
 
 /// Fills the buffer as far as the input goes, and answers how far that is. What is taken is
 /// counted.
@@ -162,4 +165,30 @@ pub(crate) fn fill_body<I: Input>(
         return fill_part(input, buffer, 0, size, taken, limit);
     }
     fill_growing(input, buffer, size, taken, limit)
+}
+
+/// Passes over `size` octets, and answers how many there are. At most `limit` octets may be taken in
+/// all. It asks for no memory.
+pub(crate) fn pass_over<I: Input>(
+    input: &mut I,
+    size: usize,
+    taken: &mut u64,
+    limit: u64,
+) -> Result<usize, SourceFault>
+    requires room { taken.old ≤ limit }
+    ensures octets { PassesWithin (I.left input.old) (I.left input.new) taken.old taken.new
+        size limit result }
+    ensures failed { I.failed input.new ≡ (I.failed input.old || is_read result) }
+{
+    let mut piece = [0; PIECE];
+    let mut passed = 0;
+    while passed < size {
+        let wanted = (size - passed).min(PIECE);
+        let count = fill_within(input, &mut piece[..wanted], taken, limit)?;
+        passed += count;
+        if count < wanted {
+            break;
+        }
+    }
+    Ok(passed)
 }

@@ -1,10 +1,10 @@
 //! The records of an input, one behind the other.
 
-ghost use Rattle.std.specs.Prelude.{◌≡◌, ◌+◌, ◌≤◌, ◌||◌, ℕ, List, IfOk, IsTrue, take, length, vec_len};
+ghost use Rattle.std.specs.Prelude.{◌≡◌, ◌+◌, ◌≤◌, ◌||◌, ℕ, List, Bool, IfOk, IsTrue, take, length, vec_len};
 ghost use Rattle.mrt_frames.specs.Device.{Takes, is_read};
-ghost use Rattle.mrt_frames.specs.Taking.{TakesHeader, TakesBody, TakesRecord};
+ghost use Rattle.mrt_frames.specs.Taking.{TakesHeader, TakesBody, PassesBody, TakesRecord};
 
-use crate::buffer::{fill_body, fill_within};
+use crate::buffer::{fill_body, fill_within, pass_over};
 use crate::fault::{RecordKind, SourceFault};
 use crate::header::{HEADER_SIZE, Header, read_header};
 use crate::input::Input;
@@ -16,11 +16,22 @@ pub const LONGEST_BODY: u32 = 16_777_216;
 /// For how many octets of a body room is kept at most behind a shorter one.
 const MOST_KEPT: usize = 1 << 18;
 
-/// What stands at the front of the octets left: a header or a record, or the rest, with its fault
-/// where it isn't empty.
+/// Which records are supported, by their types.
+pub trait Profile {
+    /// Whether those of a type and subtype are.
+    ghost supports: { Self → ℕ → ℕ → Bool };
+
+    /// Tells it.
+    fn supports(&self, kind: u16, subtype: u16) -> bool
+        ensures { result ≡ supports self.now kind subtype };
+}
+
+/// What stands at the front of the octets left: a header or a record; a record whose body was passed
+/// over, since it isn't supported; or the rest, with its fault where it isn't empty.
 #[derive(Clone, Copy)]
 pub enum Front {
     Record(Header),
+    Passed(Header),
     Rest(Option<RecordKind>),
 }
 
@@ -120,13 +131,30 @@ impl FrameReader {
         Ok(count == size as usize)
     }
 
-    /// Takes the next record.
-    #[inline(always)]
-    pub fn take_record<I: Input>(&mut self, input: &mut I) -> Result<Front, SourceFault>
+    /// Passes over a body, and answers whether it is whole.
+    #[inline(never)]
+    fn pass_body<I: Input>(&mut self, input: &mut I, size: u32) -> Result<bool, SourceFault>
         ensures octets { (octets : List ℕ)
             × Takes (I.left input.old) (I.left input.new) self.old.taken self.new.taken octets
-            × TakesRecord (I.left input.new) self.new.taken self.new.limit self.new.body.items
-            octets result }
+            × PassesBody (I.left input.new) self.new.taken self.new.limit octets size result }
+        ensures failed { I.failed input.new ≡ (I.failed input.old || is_read result) }
+        ensures limit { self.new.limit ≡ self.old.limit }
+    {
+        let count = pass_over(input, size as usize, &mut self.taken, self.limit)?;
+        Ok(count as u32 == size)
+    }
+
+    /// Takes the next record. The bodies of those that the profile doesn't support aren't held.
+    #[inline(always)]
+    pub fn take_record<P: Profile, I: Input>(
+        &mut self,
+        profile: &P,
+        input: &mut I,
+    ) -> Result<Front, SourceFault>
+        ensures octets { (octets : List ℕ)
+            × Takes (I.left input.old) (I.left input.new) self.old.taken self.new.taken octets
+            × TakesRecord (P.supports profile.now) (I.left input.new) self.new.taken self.new.limit
+            self.new.body.items octets result }
         ensures failed { I.failed input.new ≡ (I.failed input.old || is_read result) }
         ensures limit { self.new.limit ≡ self.old.limit }
     {
@@ -134,6 +162,12 @@ impl FrameReader {
             Front::Record(header) => {
                 if header.size > LONGEST_BODY {
                     return Ok(Front::Rest(Some(RecordKind::TooLong(header.size))));
+                }
+                if !profile.supports(header.kind, header.subtype) {
+                    if self.pass_body(input, header.size)? {
+                        return Ok(Front::Passed(header));
+                    }
+                    return Ok(Front::Rest(Some(RecordKind::CutRecord)));
                 }
                 if self.take_body(input, header.size)? {
                     Ok(Front::Record(header))

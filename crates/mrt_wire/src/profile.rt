@@ -2,10 +2,11 @@
 //! section 4).
 
 ghost use Rattle.std.specs.Prelude.{◌≡◌};
-ghost use Rattle.mrt_wire.specs.Profile.{form_of, entry_form, table_form, session_form, happening_form};
+ghost use Rattle.mrt_wire.specs.Profile.{form_of, is_read, entry_form, table_form, session_form, happening_form};
 
 use bgp_wire::AsWidth;
 use ip_prefix::Family;
+use mrt_frames::Profile;
 
 /// The type of the entries of a table, each in a record of its own (section 4.2), and their
 /// subtypes, which are the numbers of families.
@@ -80,6 +81,18 @@ pub(crate) fn form_of(kind: u16, subtype: u16) -> Option<Form>
         BGP4MP => session_form(false, subtype),
         BGP4MP_ET => session_form(true, subtype),
         _ => None,
+    }
+}
+
+/// The profile of the records that are read: those whose bodies have a form.
+pub(crate) struct Forms;
+
+impl Profile for Forms {
+    ghost supports = { λ _ kind subtype. is_read kind subtype };
+
+    #[inline(always)]
+    fn supports(&self, kind: u16, subtype: u16) -> bool {
+        form_of(kind, subtype).is_some()
     }
 }
 

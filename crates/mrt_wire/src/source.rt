@@ -16,6 +16,7 @@ use crate::judging::{Refusal, judge};
 use crate::next::{Next, Phase};
 use crate::peer::Peers;
 use crate::pool::Pool;
+use crate::profile::Forms;
 use mrt_frames::{FrameReader, Front, Input, RecordFault, RecordKind, SourceFault};
 use std::alloc::Global;
 use std::marker::Model;
@@ -133,7 +134,7 @@ impl Source {
         ensures failed { I.failed input.new ≡ (I.failed input.old || is_read result) }
     {
         let offset = self.frames.taken();
-        match self.frames.take_record(input)? {
+        match self.frames.take_record(&Forms, input)? {
             Front::Record(header) => {
                 let body = self.frames.body(header.size);
                 self.pool.routes.restart();
@@ -148,6 +149,16 @@ impl Source {
                 let answer = record_answer(self.number + 1, offset, judged)?;
                 self.number += 1;
                 Ok(answer)
+            }
+            Front::Passed(header) => {
+                let kind = RecordKind::Unsupported(header.kind, header.subtype);
+                let number = self.number + 1;
+                self.number = number;
+                Ok(Next::Bad(RecordFault {
+                    number,
+                    offset,
+                    kind,
+                }))
             }
             Front::Rest(kind) => {
                 self.phase = Phase::Ended;

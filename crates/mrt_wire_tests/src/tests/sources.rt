@@ -129,6 +129,16 @@ const WHOLE: &[(&str, [&str; 4])] = &[
             "end at 12",
         ],
     ),
+    // An unsupported record without a body, and one that is cut.
+    (
+        "00000064 000C 0003 00000000 00000064 000C 0003 00000005 00000000",
+        [
+            "1, 0: Unsupported(12, 3) at 12",
+            "2, 12: CutRecord at 28",
+            "end at 28",
+            "end at 28",
+        ],
+    ),
     // An unsupported record, a malformed one, and a cut one.
     (
         "000000C8 000C 0003 00000002 0000 00000064 0010 0000 00000001 FB 00",
@@ -289,5 +299,84 @@ fn long_bodies_are_read(rt: HostRuntime) -> Result<(), Fail> {
         let mut input = SlowInput::new(&octets, 1_500, MANY);
         assert_answers(&rt, alloc, FAR, &mut input, &[want])?;
     }
+    Ok(())
+}
+
+/// An unsupported record with a body of so many octets, and a state change behind it.
+fn long_unsupported(alloc: Global, size: u32) -> Result<Vec<u8>, AllocError> {
+    let mut octets = octets_of(alloc, &["00000064 000C 0003"])?;
+    octets.extend_from_slice(&size.to_be_bytes())?;
+    octets.resize(octets.len().saturating_add(size as usize), 0xFF)?;
+    octets.extend_from_slice(&octets_of(alloc, &[STATE_CHANGE])?)?;
+    Ok(octets)
+}
+
+#[test]
+fn unsupported_bodies_are_passed_over(rt: HostRuntime) -> Result<(), Fail> {
+    let alloc = rt.alloc();
+    for (size, want) in [
+        (
+            4_095,
+            ["1, 0: Unsupported(12, 3) at 4107", "1 item at 4139"],
+        ),
+        (
+            4_096,
+            ["1, 0: Unsupported(12, 3) at 4108", "1 item at 4140"],
+        ),
+        (
+            4_097,
+            ["1, 0: Unsupported(12, 3) at 4109", "1 item at 4141"],
+        ),
+        (
+            1_000_000,
+            ["1, 0: Unsupported(12, 3) at 1000012", "1 item at 1000044"],
+        ),
+    ] {
+        let octets = long_unsupported(alloc, size)?;
+        let mut input = SlowInput::new(&octets, 1_500, MANY);
+        assert_answers(&rt, alloc, FAR, &mut input, &want)?;
+    }
+    Ok(())
+}
+
+/// How many octets are sound, a limit, and what a source answers inside and behind an unsupported
+/// record of 10,012 octets.
+const PASSING: &[(usize, u64, [&str; 4])] = &[
+    (
+        5_000,
+        FAR,
+        [
+            "Read at 5000",
+            "Spent at 5000",
+            "Spent at 5000",
+            "Spent at 5000",
+        ],
+    ),
+    (
+        MANY,
+        5_000,
+        [
+            "InputTooLong at 5000",
+            "Spent at 5000",
+            "Spent at 5000",
+            "Spent at 5000",
+        ],
+    ),
+    (
+        MANY,
+        10_012,
+        [
+            "1, 0: Unsupported(12, 3) at 10012",
+            "InputTooLong at 10012",
+            "Spent at 10012",
+            "Spent at 10012",
+        ],
+    ),
+];
+
+#[test]
+fn faults_and_limits_stop_sources_inside_unsupported_bodies(rt: HostRuntime) -> Result<(), Fail> {
+    let octets = long_unsupported(rt.alloc(), 10_000)?;
+    assert_stopped(&rt, rt.alloc(), &octets, 1_500, PASSING)?;
     Ok(())
 }

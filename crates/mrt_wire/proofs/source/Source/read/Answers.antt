@@ -1,6 +1,9 @@
-use Rattle.std.proofs.Common.{◌+◌, sym, ◌∙◌, ap}
+use Rattle.std.proofs.Common.{◌+◌, Err, sym, ◌∙◌, ap}
+use Rattle.mrt_frames.specs.declared.fault.RecordKind.TheVariants.{Unsupported}
+use Rattle.mrt_wire.specs.declared.judging.Refusal.TheVariants.{Fault}
 use Rattle.mrt_wire.specs.Judging.{judged_answer}
-use Rattle.mrt_wire.proofs.NextLaws.{Nexts-record}
+use Rattle.mrt_wire.specs.Profile.{is_read}
+use Rattle.mrt_wire.proofs.NextLaws.{Nexts-record, Nexts-passed}
 use Rattle.mrt_wire.proofs.source.Source.read.Goals as goal
 
 pub returns-in_ok-answer-in-Record-clause-next : goal.returns-in_ok-answer-in-Record-clause-next
@@ -8,6 +11,15 @@ returns-in_ok-answer-in-Record-clause-next g c =
     let taken = rw c.in-Record.is at c.in_ok-header.ensures.octets in
     let s = c.self.inside in
     let answered = sym c.in_ok-answer-in-Record.was ∙ c.record_answer.ensures ∙ ap (λ o. judged_answer (s.number + 1) o c.judge-judged.result) c.taken-offset.ensures.taken in
-    rw (← c.self.view_is) (Nexts-record (record { index = s.index; number = s.number; offset = s.frames.taken; limit = s.frames.limit; stamp = s.stamp; phase = s.phase })
+    rw (← c.self.view_is) (Nexts-record is_read (record { index = s.index; number = s.number; offset = s.frames.taken; limit = s.frames.limit; stamp = s.stamp; phase = s.phase })
     _ _ c.take_record.new.self.taken c.take_record.new.self.limit c.take_record.new.self.body.items c.body-body.result.now c.in-Record.header c.judge-judged.new.index c.judge-judged.result c.in_ok-answer-in-Record.answer
     taken c.body-body.ensures c.judge-judged.ensures c.take_record.ensures.limit answered)
+
+pub returns-in-Passed-clause-next : goal.returns-in-Passed-clause-next
+returns-in-Passed-clause-next g c =
+    let taken = rw c.in-Passed.is at c.in_ok-header.ensures.octets in
+    let s = c.self.inside in
+    let kind = Unsupported c.in-Passed.header.kind c.in-Passed.header.subtype in
+    let answered = ap (λ o. judged_answer (s.number + 1) o (Err (Fault kind))) c.taken-offset.ensures.taken in
+    rw (← c.self.view_is) (Nexts-passed (record { index = s.index; number = s.number; offset = s.frames.taken; limit = s.frames.limit; stamp = s.stamp; phase = s.phase })
+    _ _ c.take_record.new.self.taken c.take_record.new.self.limit c.take_record.new.self.body.items c.in-Passed.header _ taken c.take_record.ensures.limit answered)
