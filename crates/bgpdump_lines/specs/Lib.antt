@@ -1,5 +1,6 @@
 pub mod Device
 pub mod Lines
+pub mod Copying
 pub mod Reports
 pub mod Run
 pub mod Ending

@@ -1,5 +1,5 @@
 -- The lines of events, one for each item.
-use Rattle.std.specs.Prelude.{◌≡◌, ℕ, ◌-◌, ◌≤◌, if◌then◌else◌, Bool, Option, Some, None, List, [], ◌∷◌, ◌++◌, length, drop, replicate, slice_range, decimal, codes}
+use Rattle.std.specs.Prelude.{ℕ, ◌-◌, if◌then◌else◌, Bool, Option, Some, None, List, [], ◌∷◌, ◌++◌, length, replicate, decimal, codes}
 use Rattle.std.specs.Option.{unwrap_or}
 use Rattle.std.specs.List.{flat_map}
 use Rattle.ip_prefix.specs.Address.{Address}
@@ -17,11 +17,7 @@ use Rattle.mrt_wire.specs.declared.event.Tag.{Tag}
 use Rattle.mrt_wire.specs.declared.event.Tag.TheVariants.{TableDump, TableDump2, Bgp4mp, Bgp4mpEt}
 use Rattle.mrt_wire.specs.declared.event.Event.{Event}
 use Rattle.mrt_wire.specs.Event.{Saying, Announced, Withdrawn, Changed}
-use Rattle.bgpdump_lines.specs.declared.lines.TheConstants.{MICROS_DIGITS}
-use Rattle.bgpdump_lines.specs.declared.lines.Places.{Places}
-use Rattle.bgpdump_lines.specs.declared.lines.LastLine.{LastLine}
-use Rattle.bgpdump_lines.specs.declared.lines.Likeness.{Likeness}
-use Rattle.bgpdump_lines.specs.declared.lines.Likeness.TheVariants.{SameRoute, SamePrefix, Other}
+use Rattle.bgpdump_lines.specs.declared.heading.TheConstants.{MICROS_DIGITS}
 
 -- the marks of lines
 abbrev pub bar : ℕ
@@ -128,47 +124,6 @@ prefix_field network = bar ∷ network_text network
 -- what stands behind the prefix in a route's line
 abbrev pub route_tail : Route → List ℕ
 route_tail route = bar ∷ line_of (attribute_fields route.attrs)
-
--- the places follow one another in the text
-pub record AreOrdered (places : Places) (text : List ℕ) : Type 0 where
-  pub head : places.start ≤ places.head
-  pub front : places.head ≤ places.front
-  pub tail : places.front ≤ places.tail
-  pub within : places.tail ≤ length text
-
--- what stands at these places: the first three fields
-abbrev pub head_at : Places → List ℕ → List ℕ
-head_at places text = slice_range text places.start places.head
-
--- all in front of the prefix
-abbrev pub front_at : Places → List ℕ → List ℕ
-front_at places text = slice_range text places.start places.front
-
--- the prefix
-abbrev pub prefix_at : Places → List ℕ → List ℕ
-prefix_at places text = slice_range text places.front places.tail
-
--- and what is behind it
-abbrev pub tail_at : Places → List ℕ → List ℕ
-tail_at places text = drop places.tail text
-
--- the text ends in a line, of a route of this peer to this prefix, with its parts at its places
-pub record EndsIn (time : Time) (tag : Tag) (line : LastLine) (text : List ℕ) : Type 0 where
-  pub ordered : AreOrdered line.places text
-  pub head : head_at line.places text ≡ route_head time tag line.route.now
-  pub front : front_at line.places text ≡ route_front time tag line.peer.now line.route.now
-  pub prefix : prefix_at line.places text ≡ prefix_field line.prefix.now
-  pub tail : tail_at line.places text ≡ route_tail line.route.now
-
--- what a line is alike in that is said of a line with the route of this peer to this prefix
-abbrev pub IsLike : Option LastLine → Peer → Network → Route → Likeness → Type 0
-IsLike (Some line) peer network route (SameRoute places) =
-    (line.places ≡ places) × (line.peer.now ≡ peer) × (line.route.now ≡ route)
-IsLike (Some line) peer network route (SamePrefix places) =
-    (line.places ≡ places) × (line.prefix.now ≡ network) × (line.route.now.time ≡ route.time)
-IsLike None peer network route (SameRoute places) = ⊥
-IsLike None peer network route (SamePrefix places) = ⊥
-IsLike last peer network route Other = Unit {0}
 
 -- the line of what an item says
 abbrev pub item_line : Time → Tag → Saying → List ℕ

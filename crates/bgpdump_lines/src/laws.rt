@@ -2,7 +2,7 @@
 
 ghost use Rattle.std.specs.Prelude.{◌≡◌, ◌^◌, [], ◌∷◌, codes};
 ghost use Rattle.bgpdump_lines.specs.declared.dump.TheConstants.{LIMIT};
-ghost use Rattle.bgpdump_lines.specs.declared.lines.TheConstants.{MICROS_DIGITS};
+ghost use Rattle.bgpdump_lines.specs.declared.heading.TheConstants.{MICROS_DIGITS};
 ghost use Rattle.bgpdump_lines.specs.Lines.{bar, line_feed, dot, zero_digit, space};
 
 /// The numbers that the definitions name: how many octets a run takes at most, and how many digits

@@ -3,23 +3,25 @@
 #![tactic(auto)]
 
 mod dump;
+mod event_lines;
 mod fault;
 mod fields;
 mod finish;
+mod heading;
 mod laws;
-mod lines;
 mod outcome;
 mod output;
 mod reports;
+mod route_line;
 mod same;
 mod write;
 
 pub use dump::{LIMIT, run_dump};
+pub use event_lines::put_lines;
 pub use fault::WriteFault;
 pub use fields::{put_attributes, put_number, put_peer, put_prefix};
 pub use finish::finish_outputs;
 pub use laws::line_numbers;
-pub use lines::put_lines;
 pub use outcome::Outcome;
 pub use output::{OutFault, Output, WriteOutput, put_all};
 pub use reports::put_line_report;

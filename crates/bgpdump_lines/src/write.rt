@@ -6,17 +6,20 @@ ghost use Rattle.mrt_wire.specs.declared.event.Time.{Time};
 ghost use Rattle.mrt_wire.specs.declared.event.Tag.{Tag};
 ghost use Rattle.mrt_wire.specs.Event.{AreOfOneRoute, saying};
 ghost use Rattle.mrt_wire.specs.Next.{answer_findings};
-ghost use Rattle.bgpdump_lines.specs.Lines.{EndsIn, event_lines, item_line};
+ghost use Rattle.bgpdump_lines.specs.Copying.{EndsIn};
+ghost use Rattle.bgpdump_lines.specs.Lines.{event_lines, item_line};
 ghost use Rattle.bgpdump_lines.specs.Reports.{fault_report};
 ghost use Rattle.bgpdump_lines.specs.Run.{outputs_of};
 ghost use Rattle.bgpdump_lines.specs.Writing.{PassesPart, Puts, PutsFound, PutsPart, is_write, is_any_bad};
 
+use crate::event_lines::{append_lines, put_item, put_shared};
 use crate::fault::WriteFault;
-use crate::lines::{LastLine, append_lines, put_item, put_shared};
+use crate::heading::Heading;
 use crate::output::{Output, put_all};
 use crate::reports::put_report;
+use crate::route_line::LastLine;
 use ip_prefix::Text;
-use mrt_wire::{Event, Item, Next, RecordFault, Tag, Time};
+use mrt_wire::{Event, Item, Next, RecordFault};
 
 /// Of how many items an event has at most whose lines are written at once.
 const FEW: usize = 64;
@@ -48,79 +51,75 @@ fn write_long<'a, O: Output>(
 /// Returned is the line, if it is of a route.
 fn write_item<'a, O: Output>(
     out: &mut O,
-    time: &Time,
-    tag: Tag,
+    heading: &Heading,
     item: &'a Item,
     last: Option<LastLine<'a>>,
     text: &mut Text,
 ) -> Result<Option<LastLine<'a>>, WriteFault>
-    requires { IfSome last (λ line. EndsIn time.now tag line text.old) }
+    requires { IfSome last (λ line. EndsIn heading.now.time heading.now.tag line text.old) }
     ensures text { PassesPart (O.written out.old) (O.written out.new) text.old text.new
-        (item_line time.now tag (saying item.now)) result }
+        (item_line heading.now.time heading.now.tag (saying item.now)) result }
     ensures last { IfOk result (λ last. IfSome last (λ line.
-        EndsIn time.now tag line text.new)) }
+        EndsIn heading.now.time heading.now.tag line text.new)) }
     ensures failed { O.failed out.new ≡ (O.failed out.old || is_write result) }
 {
     let last = write_long(out, last, text)?;
-    let line = put_item(time, tag, item, last, text)?;
+    let line = put_item(heading, item, last, text)?;
     Ok(line)
 }
 
 /// Appends the lines of items, each once those in front of it are written where they are long.
 fn write_items<O: Output>(
     out: &mut O,
-    time: &Time,
-    tag: Tag,
+    heading: &Heading,
     items: &[Item],
     text: &mut Text,
 ) -> Result<(), WriteFault>
     ensures text { PassesPart (O.written out.old) (O.written out.new) text.old text.new
-        (flat_map (item_line time.now tag) (map saying items.now)) result }
+        (flat_map (item_line heading.now.time heading.now.tag) (map saying items.now)) result }
     ensures failed { O.failed out.new ≡ (O.failed out.old || is_write result) }
 {
     let mut last = None;
     'items: for item in items {
-        last = write_item(out, time, tag, item, last, text)?;
+        last = write_item(out, heading, item, last, text)?;
     }
     Ok(())
 }
 
-/// Appends the lines of announcements that share a peer and a route, once those in front of them are
-/// written where they are long.
+/// Appends the lines of announcements that share a peer and a route, once those in front of them
+/// are written where they are long.
 fn write_piece<O: Output>(
     out: &mut O,
-    time: &Time,
-    tag: Tag,
+    heading: &Heading,
     items: &[Item],
     text: &mut Text,
 ) -> Result<(), WriteFault>
     requires { AreOfOneRoute (map saying items.now) }
     ensures text { PassesPart (O.written out.old) (O.written out.new) text.old text.new
-        (flat_map (item_line time.now tag) (map saying items.now)) result }
+        (flat_map (item_line heading.now.time heading.now.tag) (map saying items.now)) result }
     ensures failed { O.failed out.new ≡ (O.failed out.old || is_write result) }
 {
     write_long(out, None, text)?;
-    put_shared(time, tag, items, text)?;
+    put_shared(heading, items, text)?;
     Ok(())
 }
 
 /// The same of any number of such announcements, a few at a time.
 fn write_shared<O: Output>(
     out: &mut O,
-    time: &Time,
-    tag: Tag,
+    heading: &Heading,
     items: &[Item],
     text: &mut Text,
 ) -> Result<(), WriteFault>
     requires { AreOfOneRoute (map saying items.now) }
     ensures text { PassesPart (O.written out.old) (O.written out.new) text.old text.new
-        (flat_map (item_line time.now tag) (map saying items.now)) result }
+        (flat_map (item_line heading.now.time heading.now.tag) (map saying items.now)) result }
     ensures failed { O.failed out.new ≡ (O.failed out.old || is_write result) }
 {
     let mut rest = items;
     'pieces: while !rest.is_empty() {
         let (piece, more) = rest.split_at(rest.len().min(FEW));
-        write_piece(out, time, tag, piece, text)?;
+        write_piece(out, heading, piece, text)?;
         rest = more;
     }
     Ok(())
@@ -133,17 +132,12 @@ fn write_parts<O: Output>(out: &mut O, event: &Event, text: &mut Text) -> Result
         (event_lines event.now) result }
     ensures failed { O.failed out.new ≡ (O.failed out.old || is_write result) }
 {
+    let heading = Heading::of(event);
     let items = event.items.as_slice();
     let shared = event.items.shared();
-    write_items(out, &event.time, event.tag, &items[..shared.start], text)?;
-    write_shared(
-        out,
-        &event.time,
-        event.tag,
-        &items[shared.start..shared.end],
-        text,
-    )?;
-    write_items(out, &event.time, event.tag, &items[shared.end..], text)?;
+    write_items(out, &heading, &items[..shared.start], text)?;
+    write_shared(out, &heading, &items[shared.start..shared.end], text)?;
+    write_items(out, &heading, &items[shared.end..], text)?;
     Ok(())
 }
 

@@ -1,4 +1,4 @@
-use Rattle.std.proofs.Common.{ℕ, List, ◌++◌, ◌-◌, ◌∙◌, append_assoc, map, take, drop, length-drop, subst, sym, refl, arith}
+use Rattle.std.proofs.Common.{◌≡◌, ℕ, List, ◌++◌, ◌-◌, ◌∙◌, append_assoc, map, take, drop, length-drop, subst, sym, refl, arith}
 use Rattle.std.proofs.lemmas.List.{take_all}
 use Rattle.std.proofs.lemmas.Result.{err_from_is_err_and}
 use Rattle.std.specs.List.{flat_map}
@@ -17,26 +17,29 @@ write_shared-requires g c =
 
 pub returns-in_err-write_items-clause-text : goal.returns-in_err-write_items-clause-text
 returns-in_err-write_items-clause-text g c =
-    let line = item_line c.args.event.now.time c.args.event.now.tag in
+    let line = item_line c.of-heading.result.time c.of-heading.result.tag in
+    let same : flat_map (item_line c.args.event.now.time c.args.event.now.tag) c.args.event.now.items ≡ flat_map line c.args.event.now.items = λ i. flat_map (item_line (sym c.of-heading.ensures.time i) (sym c.of-heading.ensures.tag i)) c.args.event.now.items in
     let items = c.as_slice-items.result.now in
-    let three = lines-three line items _ c.shared-shared.result.start c.shared-shared.result.end c.shared-shared.ensures.ordered c.as_slice-items.ensures in
+    let three = same ∙ lines-three line items _ c.shared-shared.result.start c.shared-shared.result.end c.shared-shared.ensures.ordered c.as_slice-items.ensures in
     let p = err_from_is_err_and c.from_residual.result c.from_residual.ensures.1 in
     rw p.1 (AppendsFront-first _ _ c.args.text.now _ _ _ three c.in_err-write_items.ensures.text)
 
 pub returns-in_err-write_shared-clause-text : goal.returns-in_err-write_shared-clause-text
 returns-in_err-write_shared-clause-text g c =
-    let line = item_line c.args.event.now.time c.args.event.now.tag in
+    let line = item_line c.of-heading.result.time c.of-heading.result.tag in
+    let same : flat_map (item_line c.args.event.now.time c.args.event.now.tag) c.args.event.now.items ≡ flat_map line c.args.event.now.items = λ i. flat_map (item_line (sym c.of-heading.ensures.time i) (sym c.of-heading.ensures.tag i)) c.args.event.now.items in
     let items = c.as_slice-items.result.now in
     let a = g.O.Output.written c.args.out.now in
     let d = g.O.Output.written c.write_shared.new.out in
-    let three = lines-three line items _ c.shared-shared.result.start c.shared-shared.result.end c.shared-shared.ensures.ordered c.as_slice-items.ensures in
+    let three = same ∙ lines-three line items _ c.shared-shared.result.start c.shared-shared.result.end c.shared-shared.ensures.ordered c.as_slice-items.ensures in
     let p = err_from_is_err_and c.from_residual-in_err-write_shared.result c.from_residual-in_err-write_shared.ensures.1 in
     rw p.1 (subst (λ l. AppendsFront a d (c.args.text.now ++ l)) (sym three)
     (Passes-stops a _ d c.args.text.now c.write_items.new.text _ _ c.in_ok-write_items.ensures.text (AppendsFront-first _ d c.write_items.new.text _ _ _ refl c.in_err-write_shared.ensures.text)))
 
 pub returns-in_err-write_items-2-clause-text : goal.returns-in_err-write_items-2-clause-text
 returns-in_err-write_items-2-clause-text g c =
-    let line = item_line c.args.event.now.time c.args.event.now.tag in
+    let line = item_line c.of-heading.result.time c.of-heading.result.tag in
+    let same : flat_map (item_line c.args.event.now.time c.args.event.now.tag) c.args.event.now.items ≡ flat_map line c.args.event.now.items = λ i. flat_map (item_line (sym c.of-heading.ensures.time i) (sym c.of-heading.ensures.tag i)) c.args.event.now.items in
     let f : List Item → List ℕ = λ l. flat_map line (map saying l) in
     let items = c.as_slice-items.result.now in
     let start = c.shared-shared.result.start in
@@ -48,7 +51,7 @@ returns-in_err-write_items-2-clause-text g c =
     let b = g.O.Output.written c.write_items.new.out in
     let m = g.O.Output.written c.write_shared.new.out in
     let d = g.O.Output.written c.write_items-2.new.out in
-    let three = lines-three line items _ start end c.shared-shared.ensures.ordered c.as_slice-items.ensures in
+    let three = same ∙ lines-three line items _ start end c.shared-shared.ensures.ordered c.as_slice-items.ensures in
     let all = take_all _ (drop end items) (omega (arith, length-drop end items)) in
     let two = Passes-trans a b m c.args.text.now c.write_items.new.text c.write_shared.new.text A B c.in_ok-write_items.ensures.text c.in_ok-write_shared.ensures.text in
     let put = subst (λ l. AppendsFront m d (c.write_shared.new.text ++ f l)) all c.in_err-write_items-2.ensures.text in
@@ -57,7 +60,8 @@ returns-in_err-write_items-2-clause-text g c =
 
 pub returns-clause-text : goal.returns-clause-text
 returns-clause-text g c =
-    let line = item_line c.args.event.now.time c.args.event.now.tag in
+    let line = item_line c.of-heading.result.time c.of-heading.result.tag in
+    let same : flat_map (item_line c.args.event.now.time c.args.event.now.tag) c.args.event.now.items ≡ flat_map line c.args.event.now.items = λ i. flat_map (item_line (sym c.of-heading.ensures.time i) (sym c.of-heading.ensures.tag i)) c.args.event.now.items in
     let f : List Item → List ℕ = λ l. flat_map line (map saying l) in
     let items = c.as_slice-items.result.now in
     let start = c.shared-shared.result.start in
@@ -69,7 +73,7 @@ returns-clause-text g c =
     let b = g.O.Output.written c.write_items.new.out in
     let m = g.O.Output.written c.write_shared.new.out in
     let d = g.O.Output.written c.write_items-2.new.out in
-    let three = lines-three line items _ start end c.shared-shared.ensures.ordered c.as_slice-items.ensures in
+    let three = same ∙ lines-three line items _ start end c.shared-shared.ensures.ordered c.as_slice-items.ensures in
     let all = take_all _ (drop end items) (omega (arith, length-drop end items)) in
     let two = Passes-trans a b m c.args.text.now c.write_items.new.text c.write_shared.new.text A B c.in_ok-write_items.ensures.text c.in_ok-write_shared.ensures.text in
     let put = subst (λ l. Passes m d c.write_shared.new.text c.write_items-2.new.text (f l)) all c.in_ok-write_items-2.ensures.text in

@@ -13,7 +13,7 @@ invariant-pieces g l = record {
   whole : done ++ l.rest ≡ l.items;
   alike : AreOfOneRoute (map saying l.rest);
   passed : Passes (g.O.Output.written l.initial.out) (g.O.Output.written l.out) l.initial.text l.text
-      (flat_map (item_line l.time l.tag) (map saying done));
+      (flat_map (item_line l.heading.time l.heading.tag) (map saying done));
   failed : g.O.Output.failed l.out ≡ g.O.Output.failed l.initial.out;
 }
 

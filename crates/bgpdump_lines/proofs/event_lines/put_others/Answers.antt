@@ -4,12 +4,12 @@ use Rattle.std.proofs.lemmas.List.Elements.{All-get_or}
 use Rattle.mrt_wire.specs.Event.{Announces, saying}
 use Rattle.bgpdump_lines.specs.Lines.{item_line}
 use Rattle.bgpdump_lines.proofs.LineLaws.{lines_of_all}
-use Rattle.bgpdump_lines.proofs.lines.put_others.Goals as goal
+use Rattle.bgpdump_lines.proofs.event_lines.put_others.Goals as goal
 
 pub put_other-requires-clause-alike : goal.put_other-requires-clause-alike
 put_other-requires-clause-alike c =
-    let peer = c.args.peer.now in
-    let route = c.args.route.now in
+    let peer = c.args.first.peer.now in
+    let route = c.args.first.route.now in
     let items = c.args.items.now in
     let item = c.item-item.result in
     let i = c.items.item-index in
@@ -19,4 +19,4 @@ put_other-requires-clause-alike c =
 
 pub returns-clause-appended : goal.returns-clause-appended
 returns-clause-appended c =
-    lines_of_all (item_line c.args.time.now c.args.tag) c.args.items.now c.items.item-index c.args.text.now c.items.text c.items.invariant.0 c.items-test.false
+    lines_of_all (item_line c.args.heading.now.time c.args.heading.now.tag) c.args.items.now c.items.item-index c.args.text.now c.items.text c.items.invariant.0 c.items-test.false

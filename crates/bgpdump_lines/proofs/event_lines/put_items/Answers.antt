@@ -4,7 +4,7 @@ use Rattle.mrt_wire.specs.Event.{saying}
 use Rattle.std.specs.List.{flat_map}
 use Rattle.bgpdump_lines.specs.Lines.{item_line}
 use Rattle.bgpdump_lines.proofs.LineLaws.{lines-parts, said_range}
-use Rattle.bgpdump_lines.proofs.lines.put_items.Goals as goal
+use Rattle.bgpdump_lines.proofs.event_lines.put_items.Goals as goal
 
 pub put_shared-requires : goal.put_shared-requires
 put_shared-requires c =
@@ -12,8 +12,9 @@ put_shared-requires c =
 
 pub returns-clause-appended : goal.returns-clause-appended
 returns-clause-appended c =
-    let line = item_line c.args.event.now.time c.args.event.now.tag in
+    let line = item_line c.of-heading.result.time c.of-heading.result.tag in
     lines-parts line c.as_slice-items.result.now c.shared-shared.result.start c.shared-shared.result.end _ _ _ _
     c.shared-shared.ensures.ordered c.in_ok-put_each.ensures.appended c.in_ok-put_shared.ensures.appended
     (c.in_ok-put_each-2.ensures.appended ∙ ap (λ l. c.put_shared.new.text ++ flat_map line (map saying l)) (take_all _ (drop c.shared-shared.result.end c.as_slice-items.result.now) (omega (arith, length-drop c.shared-shared.result.end c.as_slice-items.result.now))))
     ∙ ap (λ l. c.args.text.now ++ flat_map line l) c.as_slice-items.ensures
+    ∙ (λ i. c.args.text.now ++ flat_map (item_line (c.of-heading.ensures.time i) (c.of-heading.ensures.tag i)) c.args.event.now.items)

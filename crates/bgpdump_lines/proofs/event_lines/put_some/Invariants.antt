@@ -1,0 +1,13 @@
+-- The lines of the items so far, the last of which the text ends in where it is remembered.
+use Rattle.std.proofs.Common.{◌≡◌, ◌++◌, take}
+use Rattle.std.specs.List.{flat_map}
+use Rattle.std.specs.Option.{IfSome}
+use Rattle.mrt_wire.specs.Event.{saying}
+use Rattle.bgpdump_lines.specs.Copying.{EndsIn}
+use Rattle.bgpdump_lines.specs.Lines.{item_line}
+use Rattle.bgpdump_lines.proofs.event_lines.put_some.Given as goal
+
+abbrev pub invariant-items : goal.invariant-items
+invariant-items l =
+    (l.text ≡ l.initial.text ++ flat_map (λ item. item_line l.heading.time l.heading.tag (saying item)) (take l.item-index l.items))
+    × IfSome l.last (λ line. EndsIn l.heading.time l.heading.tag line l.text)

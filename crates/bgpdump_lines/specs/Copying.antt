@@ -1,0 +1,54 @@
+-- Private.
+-- Where the parts of a route's line stand, of which the next line may be made.
+use Rattle.std.specs.Prelude.{◌≡◌, ℕ, ◌≤◌, Option, Some, None, List, length, drop, slice_range}
+use Rattle.ip_prefix.specs.Network.{Network}
+use Rattle.mrt_wire.specs.declared.peer.Peer.{Peer}
+use Rattle.mrt_wire.specs.declared.event.Route.{Route}
+use Rattle.mrt_wire.specs.declared.event.Time.{Time}
+use Rattle.mrt_wire.specs.declared.event.Tag.{Tag}
+use Rattle.bgpdump_lines.specs.declared.route_line.Places.{Places}
+use Rattle.bgpdump_lines.specs.declared.route_line.LastLine.{LastLine}
+use Rattle.bgpdump_lines.specs.declared.route_line.Likeness.{Likeness}
+use Rattle.bgpdump_lines.specs.declared.route_line.Likeness.TheVariants.{SameRoute, SamePrefix, Other}
+use Rattle.bgpdump_lines.specs.Lines.{route_head, peer_fields, route_front, prefix_field, route_tail}
+
+-- the places follow one another in the text
+pub record AreOrdered (places : Places) (text : List ℕ) : Type 0 where
+  pub head : places.start ≤ places.head
+  pub front : places.head ≤ places.front
+  pub tail : places.front ≤ places.tail
+  pub within : places.tail ≤ length text
+
+-- what stands at these places: the first three fields
+abbrev pub head_at : Places → List ℕ → List ℕ
+head_at places text = slice_range text places.start places.head
+
+-- all in front of the prefix
+abbrev pub front_at : Places → List ℕ → List ℕ
+front_at places text = slice_range text places.start places.front
+
+-- the prefix
+abbrev pub prefix_at : Places → List ℕ → List ℕ
+prefix_at places text = slice_range text places.front places.tail
+
+-- and what is behind it
+abbrev pub tail_at : Places → List ℕ → List ℕ
+tail_at places text = drop places.tail text
+
+-- the text ends in a line, of a route of this peer to this prefix, with its parts at its places
+pub record EndsIn (time : Time) (tag : Tag) (line : LastLine) (text : List ℕ) : Type 0 where
+  pub ordered : AreOrdered line.places text
+  pub head : head_at line.places text ≡ route_head time tag line.said.route.now
+  pub front : front_at line.places text ≡ route_front time tag line.said.peer.now line.said.route.now
+  pub prefix : prefix_at line.places text ≡ prefix_field line.said.prefix.now
+  pub tail : tail_at line.places text ≡ route_tail line.said.route.now
+
+-- what a line is alike in that is said of a line with the route of this peer to this prefix
+abbrev pub IsLike : Option LastLine → Peer → Network → Route → Likeness → Type 0
+IsLike (Some line) peer network route (SameRoute places) =
+    (line.places ≡ places) × (line.said.peer.now ≡ peer) × (line.said.route.now ≡ route)
+IsLike (Some line) peer network route (SamePrefix places) =
+    (line.places ≡ places) × (line.said.prefix.now ≡ network) × (line.said.route.now.time ≡ route.time)
+IsLike None peer network route (SameRoute places) = ⊥
+IsLike None peer network route (SamePrefix places) = ⊥
+IsLike last peer network route Other = Unit {0}

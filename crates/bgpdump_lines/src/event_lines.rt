@@ -1,0 +1,243 @@
+//! The lines of events, one for each item.
+
+ghost use Rattle.std.specs.Prelude.{◌≡◌, ◌++◌, map, All, OnOk, OnErr, IfOk, IfSome};
+ghost use Rattle.std.specs.List.{flat_map};
+ghost use Rattle.bgp_wire.specs.Text.{StillBegins};
+ghost use Rattle.mrt_wire.specs.Event.{Withdrawn, Changed, saying};
+ghost use Rattle.mrt_wire.specs.Event.{Announces, AreOfOneRoute};
+ghost use Rattle.bgpdump_lines.specs.Lines.{route_front, route_tail, item_line, event_lines};
+ghost use Rattle.bgpdump_lines.specs.Copying.{AreOrdered, EndsIn, front_at, tail_at};
+
+use crate::fields::{put_field, put_peer, put_prefix};
+use crate::heading::{Heading, put_head};
+use crate::route_line::{
+    Announcement, LastLine, Places, put_route, put_route_again, put_route_anew,
+};
+use ip_prefix::{Prefix, Text};
+use mrt_wire::{Event, Item, Peer};
+use std::alloc::AllocError;
+
+/// Appends the line of a withdrawal.
+#[inline(always)]
+fn put_withdrawal(
+    heading: &Heading,
+    peer: &Peer,
+    prefix: &Prefix,
+    text: &mut Text,
+) -> Result<(), AllocError>
+    ensures appended { OnOk result (text.new ≡ text.old ++
+        item_line heading.now.time heading.now.tag (Withdrawn peer.now prefix.now)) }
+    ensures kept { OnErr result (StillBegins text.old text.new) }
+{
+    put_head(heading, text)?;
+    text.extend_from_slice(b"|W")?;
+    put_peer(peer, text)?;
+    put_prefix(prefix, text)?;
+    text.push(b'\n')?;
+    Ok(())
+}
+
+/// Appends the line of a state change.
+#[inline(always)]
+fn put_change(
+    heading: &Heading,
+    peer: &Peer,
+    old: u16,
+    new: u16,
+    text: &mut Text,
+) -> Result<(), AllocError>
+    ensures appended { OnOk result (text.new ≡ text.old ++
+        item_line heading.now.time heading.now.tag (Changed peer.now old new)) }
+    ensures kept { OnErr result (StillBegins text.old text.new) }
+{
+    put_head(heading, text)?;
+    text.extend_from_slice(b"|STATE")?;
+    put_peer(peer, text)?;
+    put_field(u32::from(old), text)?;
+    put_field(u32::from(new), text)?;
+    text.push(b'\n')?;
+    Ok(())
+}
+
+/// Appends the line of an item. Returned is the line, if it is of a route.
+#[inline(always)]
+pub(crate) fn put_item<'a>(
+    heading: &Heading,
+    item: &'a Item,
+    last: Option<LastLine<'a>>,
+    text: &mut Text,
+) -> Result<Option<LastLine<'a>>, AllocError>
+    requires { IfSome last (λ line. EndsIn heading.now.time heading.now.tag line text.old) }
+    ensures appended { OnOk result (text.new ≡
+        text.old ++ item_line heading.now.time heading.now.tag (saying item.now)) }
+    ensures last { IfOk result (λ last. IfSome last (λ line.
+        EndsIn heading.now.time heading.now.tag line text.new)) }
+    ensures kept { OnErr result (StillBegins text.old text.new) }
+{
+    match item {
+        Item::Announce(peer, prefix, route) => {
+            let said = Announcement {
+                peer,
+                prefix,
+                route,
+            };
+            Ok(Some(put_route(heading, said, last, text)?))
+        }
+        Item::Withdraw(peer, prefix) => {
+            put_withdrawal(heading, peer, prefix, text)?;
+            Ok(None)
+        }
+        Item::State(peer, old, new) => {
+            put_change(heading, peer, *old, *new, text)?;
+            Ok(None)
+        }
+    }
+}
+
+/// Appends the lines of items, each of which takes what it can from the one before.
+#[inline(always)]
+fn put_each(heading: &Heading, items: &[Item], text: &mut Text) -> Result<(), AllocError>
+    ensures appended { OnOk result (text.new ≡ text.old ++
+        flat_map (item_line heading.now.time heading.now.tag) (map saying items.now)) }
+    ensures kept { OnErr result (StillBegins text.old text.new) }
+{
+    if items.is_empty() {
+        return Ok(());
+    }
+    put_some(heading, items, text)
+}
+
+/// The same, out of line: of most events all items share a route, or none do.
+#[inline(never)]
+fn put_some(heading: &Heading, items: &[Item], text: &mut Text) -> Result<(), AllocError>
+    ensures appended { OnOk result (text.new ≡ text.old ++
+        flat_map (item_line heading.now.time heading.now.tag) (map saying items.now)) }
+    ensures kept { OnErr result (StillBegins text.old text.new) }
+{
+    let mut last = None;
+    'items: for item in items {
+        last = put_item(heading, item, last, text)?;
+    }
+    Ok(())
+}
+
+/// Appends the line of one more announcement of the route whose line the text ends in. Returned is
+/// where its parts stand.
+#[inline(always)]
+fn put_other(
+    heading: &Heading,
+    first: Announcement<'_>,
+    last: Places,
+    item: &Item,
+    text: &mut Text,
+) -> Result<Places, AllocError>
+    requires ordered { AreOrdered last text.old }
+    requires front { front_at last text.old
+        ≡ route_front heading.now.time heading.now.tag first.peer.now first.route.now }
+    requires tail { tail_at last text.old ≡ route_tail first.route.now }
+    requires alike { Announces first.peer.now first.route.now (saying item.now) }
+    ensures appended { OnOk result (text.new ≡
+        text.old ++ item_line heading.now.time heading.now.tag (saying item.now)) }
+    ensures ordered { IfOk result (λ places. AreOrdered places text.new) }
+    ensures front { IfOk result (λ places. front_at places text.new
+        ≡ route_front heading.now.time heading.now.tag first.entry.peer.now first.entry.route.now) }
+    ensures tail { IfOk result (λ places. tail_at places text.new
+        ≡ route_tail first.entry.route.now) }
+    ensures kept { OnErr result (StillBegins text.old text.new) }
+{
+    match item {
+        Item::Announce(_, prefix, _) => put_route_again(last, prefix, text),
+        Item::Withdraw(_, _) => unreachable!(),
+        Item::State(_, _, _) => unreachable!(),
+    }
+}
+
+/// Appends the lines of further announcements of the route whose line the text ends in.
+#[inline(always)]
+fn put_others(
+    heading: &Heading,
+    first: Announcement<'_>,
+    places: Places,
+    items: &[Item],
+    text: &mut Text,
+) -> Result<(), AllocError>
+    requires ordered { AreOrdered places text.old }
+    requires front { front_at places text.old
+        ≡ route_front heading.now.time heading.now.tag first.peer.now first.route.now }
+    requires tail { tail_at places text.old ≡ route_tail first.route.now }
+    requires alike { All (Announces first.peer.now first.route.now) (map saying items.now) }
+    ensures appended { OnOk result (text.new ≡ text.old ++
+        flat_map (item_line heading.now.time heading.now.tag) (map saying items.now)) }
+    ensures kept { OnErr result (StillBegins text.old text.new) }
+{
+    let mut places = places;
+    'items: for item in items {
+        places = put_other(heading, first, places, item, text)?;
+    }
+    Ok(())
+}
+
+/// Appends the lines of announcements that share a peer and a route.
+#[inline(always)]
+pub(crate) fn put_shared(
+    heading: &Heading,
+    items: &[Item],
+    text: &mut Text,
+) -> Result<(), AllocError>
+    requires { AreOfOneRoute (map saying items.now) }
+    ensures appended { OnOk result (text.new ≡ text.old ++
+        flat_map (item_line heading.now.time heading.now.tag) (map saying items.now)) }
+    ensures kept { OnErr result (StillBegins text.old text.new) }
+{
+    let [Item::Announce(peer, prefix, route), rest @ ..] = items else {
+        return Ok(());
+    };
+    let first = Announcement {
+        peer,
+        prefix,
+        route,
+    };
+    let places = put_route_anew(heading, first, text)?;
+    put_others(heading, first, places, rest, text)
+}
+
+/// Appends the lines of an event's items.
+#[inline(always)]
+fn put_items(event: &Event, text: &mut Text) -> Result<(), AllocError>
+    ensures appended { OnOk result (text.new ≡ text.old ++ event_lines event.now) }
+    ensures kept { OnErr result (StillBegins text.old text.new) }
+{
+    let heading = Heading::of(event);
+    let items = event.items.as_slice();
+    let shared = event.items.shared();
+    put_each(&heading, &items[..shared.start], text)?;
+    put_shared(&heading, &items[shared.start..shared.end], text)?;
+    put_each(&heading, &items[shared.end..], text)?;
+    Ok(())
+}
+
+/// Appends the lines of an event, one for each item. Refused for want of memory, it leaves the text
+/// as it was.
+#[inline(always)]
+pub(crate) fn append_lines(event: &Event, text: &mut Text) -> Result<(), AllocError>
+    ensures appended { OnOk result (text.new ≡ text.old ++ event_lines event.now) }
+    ensures unchanged { OnErr result (text.new ≡ text.old) }
+{
+    let before = text.len();
+    let result = put_items(event, text);
+    if result.is_err() {
+        text.truncate(before);
+    }
+    result
+}
+
+/// The same, to the octets of a vector.
+pub fn put_lines(event: &Event, text: &mut Vec<u8>) -> Result<(), AllocError>
+    ensures appended { OnOk result (text.new.items ≡ text.old.items ++ event_lines event.now) }
+    ensures unchanged { OnErr result (text.new.items ≡ text.old.items) }
+{
+    let mut longer = Text::taken_from(text);
+    let result = append_lines(event, &mut longer);
+    *text = longer.into_vec();
+    result
+}

@@ -1,0 +1,134 @@
+//! What the lines of an event begin with.
+
+ghost use Rattle.std.specs.Prelude.{◌≡◌, ◌∷◌, ◌++◌, OnOk, OnErr};
+ghost use Rattle.bgp_wire.specs.Text.{StillBegins};
+ghost use Rattle.bgpdump_lines.specs.Lines.{bar, word, micros_text, time_text, route_time_text};
+ghost use Rattle.bgpdump_lines.specs.Lines.{route_letter, route_head};
+
+use crate::fields::put_field;
+use ip_prefix::Text;
+use mrt_wire::{Event, Route, Tag, Time};
+use std::alloc::AllocError;
+
+/// How many digits the microseconds of a line have at least.
+const MICROS_DIGITS: usize = 6;
+
+/// What the lines of an event have in common.
+#[derive(Clone, Copy)]
+pub(crate) struct Heading {
+    /// When the record was written.
+    pub(crate) time: Time,
+    /// What kind of record it is.
+    pub(crate) tag: Tag,
+}
+
+impl Heading {
+    /// That of an event.
+    #[inline(always)]
+    pub(crate) fn of(event: &Event) -> Heading
+        ensures time { result.time ≡ event.now.time }
+        ensures tag { result.tag ≡ event.now.tag }
+    {
+        Heading {
+            time: event.time,
+            tag: event.tag,
+        }
+    }
+}
+
+/// Appends the first field of a line.
+#[inline(always)]
+fn put_word(tag: Tag, text: &mut Text) -> Result<(), AllocError>
+    ensures appended { OnOk result (text.new ≡ text.old ++ word tag) }
+    ensures kept { OnErr result (StillBegins text.old text.new) }
+{
+    match tag {
+        Tag::TableDump => text.extend_from_slice(b"TABLE_DUMP")?,
+        Tag::TableDump2 => text.extend_from_slice(b"TABLE_DUMP2")?,
+        Tag::Bgp4mp => text.extend_from_slice(b"BGP4MP")?,
+        Tag::Bgp4mpEt => text.extend_from_slice(b"BGP4MP_ET")?,
+    }
+    Ok(())
+}
+
+/// Appends microseconds, behind zeros where they have fewer digits than are printed. They are
+/// printed once more, to see how many digits they have.
+fn put_micros(micros: u32, text: &mut Text) -> Result<(), AllocError>
+    ensures appended { OnOk result (text.new ≡ text.old ++ micros_text micros) }
+    ensures kept { OnErr result (StillBegins text.old text.new) }
+{
+    let front = text.len();
+    text.put_decimal(micros)?;
+    let missing = MICROS_DIGITS.saturating_sub(text.len() - front);
+    text.truncate(front);
+    text.extend_from_slice(&[b'0'; MICROS_DIGITS][..missing])?;
+    text.put_decimal(micros)?;
+    Ok(())
+}
+
+/// Appends a bar and the time of a line.
+#[inline(always)]
+fn put_time(heading: &Heading, text: &mut Text) -> Result<(), AllocError>
+    ensures appended { OnOk result (text.new ≡
+        text.old ++ (bar ∷ time_text heading.now.tag heading.now.time)) }
+    ensures kept { OnErr result (StillBegins text.old text.new) }
+{
+    put_field(heading.time.seconds, text)?;
+    if let Tag::Bgp4mpEt = heading.tag {
+        text.push(b'.')?;
+        put_micros(heading.time.micros.unwrap_or(0), text)?;
+    }
+    Ok(())
+}
+
+/// Appends the first two fields of a line: what kind of record it is from, and its time.
+#[inline(always)]
+pub(crate) fn put_head(heading: &Heading, text: &mut Text) -> Result<(), AllocError>
+    ensures appended { OnOk result (text.new ≡
+        text.old ++ (word heading.now.tag ++ bar ∷ time_text heading.now.tag heading.now.time)) }
+    ensures kept { OnErr result (StillBegins text.old text.new) }
+{
+    put_word(heading.tag, text)?;
+    put_time(heading, text)
+}
+
+/// Appends a bar and the time of a route's line, which for a table's entry is the route's own.
+#[inline(always)]
+fn put_route_time(heading: &Heading, route: &Route, text: &mut Text) -> Result<(), AllocError>
+    ensures appended { OnOk result (text.new ≡
+        text.old ++ (bar ∷ route_time_text heading.now.time heading.now.tag route.now)) }
+    ensures kept { OnErr result (StillBegins text.old text.new) }
+{
+    match heading.tag {
+        Tag::TableDump | Tag::TableDump2 => put_field(route.time, text),
+        Tag::Bgp4mp | Tag::Bgp4mpEt => put_time(heading, text),
+    }
+}
+
+/// Appends a bar and what a route's line is: an entry of a table, or an announcement.
+#[inline]
+fn put_letter(tag: Tag, text: &mut Text) -> Result<(), AllocError>
+    ensures appended { OnOk result (text.new ≡ text.old ++ (bar ∷ route_letter tag)) }
+    ensures kept { OnErr result (StillBegins text.old text.new) }
+{
+    match tag {
+        Tag::TableDump | Tag::TableDump2 => text.extend_from_slice(b"|B"),
+        Tag::Bgp4mp | Tag::Bgp4mpEt => text.extend_from_slice(b"|A"),
+    }
+}
+
+/// Appends the first three fields of a route's line.
+#[inline(always)]
+pub(crate) fn put_route_head(
+    heading: &Heading,
+    route: &Route,
+    text: &mut Text,
+) -> Result<(), AllocError>
+    ensures appended { OnOk result (text.new ≡
+        text.old ++ route_head heading.now.time heading.now.tag route.now) }
+    ensures kept { OnErr result (StillBegins text.old text.new) }
+{
+    put_word(heading.tag, text)?;
+    put_route_time(heading, route, text)?;
+    put_letter(heading.tag, text)
+}

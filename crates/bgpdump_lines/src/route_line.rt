@@ -1,0 +1,211 @@
+//! The lines of routes, parts of which are copied from the line before.
+
+ghost use Rattle.std.specs.Prelude.{◌≡◌, ◌++◌, OnOk, OnErr, IfOk, IfSome};
+ghost use Rattle.bgp_wire.specs.Text.{StillBegins};
+ghost use Rattle.mrt_wire.specs.Event.{Announced};
+ghost use Rattle.bgpdump_lines.specs.Lines.{route_head, route_front, route_tail};
+ghost use Rattle.bgpdump_lines.specs.Lines.{peer_fields, prefix_field, item_line};
+ghost use Rattle.bgpdump_lines.specs.Copying.{AreOrdered, EndsIn, IsLike};
+ghost use Rattle.bgpdump_lines.specs.Copying.{head_at, front_at, prefix_at, tail_at};
+
+use crate::fields::{put_attributes, put_peer, put_prefix};
+use crate::heading::{Heading, put_route_head};
+use crate::same::{same_peer, same_prefix, same_route};
+use ip_prefix::{Prefix, Text};
+use mrt_wire::{Peer, Route};
+use std::alloc::AllocError;
+
+/// A peer's route to a prefix.
+#[derive(Clone, Copy)]
+pub(crate) struct Announcement<'a> {
+    pub(crate) peer: &'a Peer,
+    pub(crate) prefix: &'a Prefix,
+    pub(crate) route: &'a Route,
+}
+
+/// Where the parts of a route's line stand.
+#[derive(Clone, Copy)]
+pub(crate) struct Places {
+    /// Where it begins.
+    start: usize,
+    /// Where its first three fields end.
+    head: usize,
+    /// Where what stands in front of the prefix ends.
+    front: usize,
+    /// Where what stands behind the prefix begins.
+    tail: usize,
+}
+
+/// The line that a text ends in, of a route.
+#[derive(Clone, Copy)]
+pub(crate) struct LastLine<'a> {
+    /// What it says.
+    said: Announcement<'a>,
+    /// Where its parts stand.
+    places: Places,
+}
+
+/// Appends the line of a route with each part printed. Returned is where they stand.
+#[inline(always)]
+pub(crate) fn put_route_anew(
+    heading: &Heading,
+    said: Announcement<'_>,
+    text: &mut Text,
+) -> Result<Places, AllocError>
+    ensures appended { OnOk result (text.new ≡ text.old ++
+        (route_front heading.now.time heading.now.tag said.entry.peer.now said.entry.route.now
+        ++ (prefix_field said.entry.prefix.now ++ route_tail said.entry.route.now))) }
+    ensures ordered { IfOk result (λ places. AreOrdered places text.new) }
+    ensures head { IfOk result (λ places. head_at places text.new
+        ≡ route_head heading.now.time heading.now.tag said.entry.route.now) }
+    ensures front { IfOk result (λ places. front_at places text.new
+        ≡ route_front heading.now.time heading.now.tag said.entry.peer.now said.entry.route.now) }
+    ensures prefix { IfOk result (λ places. prefix_at places text.new
+        ≡ prefix_field said.entry.prefix.now) }
+    ensures tail { IfOk result (λ places. tail_at places text.new
+        ≡ route_tail said.entry.route.now) }
+    ensures kept { OnErr result (StillBegins text.old text.new) }
+{
+    let start = text.len();
+    put_route_head(heading, said.route, text)?;
+    let head = text.len();
+    put_peer(said.peer, text)?;
+    let front = text.len();
+    put_prefix(said.prefix, text)?;
+    let tail = text.len();
+    put_attributes(&said.route.attrs, text)?;
+    Ok(Places {
+        start,
+        head,
+        front,
+        tail,
+    })
+}
+
+/// Appends the line that the text ends in once more, with another prefix. Returned is where its
+/// parts stand.
+#[inline(always)]
+pub(crate) fn put_route_again(
+    last: Places,
+    prefix: &Prefix,
+    text: &mut Text,
+) -> Result<Places, AllocError>
+    requires { AreOrdered last text.old }
+    ensures appended { OnOk result (text.new ≡ text.old ++
+        (front_at last text.old ++ (prefix_field prefix.now ++ tail_at last text.old))) }
+    ensures ordered { IfOk result (λ places. AreOrdered places text.new) }
+    ensures head { IfOk result (λ places. head_at places text.new ≡ head_at last text.old) }
+    ensures front { IfOk result (λ places. front_at places text.new ≡ front_at last text.old) }
+    ensures prefix { IfOk result (λ places. prefix_at places text.new ≡ prefix_field prefix.now) }
+    ensures tail { IfOk result (λ places. tail_at places text.new ≡ tail_at last text.old) }
+    ensures kept { OnErr result (StillBegins text.old text.new) }
+{
+    let start = text.len();
+    text.extend_from_within(last.start, last.front)?;
+    let front = text.len();
+    put_prefix(prefix, text)?;
+    let tail = text.len();
+    text.extend_from_within(last.tail, start)?;
+    let head = start + (last.head - last.start);
+    Ok(Places {
+        start,
+        head,
+        front,
+        tail,
+    })
+}
+
+/// Appends the line that the text ends in once more, with another peer and other attributes.
+/// Returned is where its parts stand.
+#[inline(always)]
+fn put_route_beside(
+    last: Places,
+    peer: &Peer,
+    route: &Route,
+    text: &mut Text,
+) -> Result<Places, AllocError>
+    requires { AreOrdered last text.old }
+    ensures appended { OnOk result (text.new ≡ text.old ++
+        ((head_at last text.old ++ peer_fields peer.now)
+        ++ (prefix_at last text.old ++ route_tail route.now))) }
+    ensures ordered { IfOk result (λ places. AreOrdered places text.new) }
+    ensures head { IfOk result (λ places. head_at places text.new ≡ head_at last text.old) }
+    ensures front { IfOk result (λ places. front_at places text.new
+        ≡ head_at last text.old ++ peer_fields peer.now) }
+    ensures prefix { IfOk result (λ places. prefix_at places text.new ≡ prefix_at last text.old) }
+    ensures tail { IfOk result (λ places. tail_at places text.new ≡ route_tail route.now) }
+    ensures kept { OnErr result (StillBegins text.old text.new) }
+{
+    let start = text.len();
+    text.extend_from_within(last.start, last.head)?;
+    let head = text.len();
+    put_peer(peer, text)?;
+    let front = text.len();
+    text.extend_from_within(last.front, last.tail)?;
+    let tail = text.len();
+    put_attributes(&route.attrs, text)?;
+    Ok(Places {
+        start,
+        head,
+        front,
+        tail,
+    })
+}
+
+/// What a route's line may take from the line before.
+#[derive(Clone, Copy)]
+enum Likeness {
+    /// All but the prefix.
+    SameRoute(Places),
+    /// The first three fields and the prefix.
+    SamePrefix(Places),
+    /// Nothing.
+    Other,
+}
+
+/// What the line of a route may take from the last one.
+#[inline(always)]
+fn likeness_to_last(last: Option<LastLine<'_>>, said: Announcement<'_>) -> Likeness
+    ensures { IsLike last.entry said.entry.peer.now said.entry.prefix.now
+        said.entry.route.now result }
+{
+    let Some(line) = last else {
+        return Likeness::Other;
+    };
+    let Announcement {
+        peer,
+        prefix,
+        route,
+    } = said;
+    let before = line.said;
+    if same_prefix(before.prefix, prefix) && before.route.time == route.time {
+        return Likeness::SamePrefix(line.places);
+    }
+    if same_peer(before.peer, peer) && same_route(before.route, route) {
+        return Likeness::SameRoute(line.places);
+    }
+    Likeness::Other
+}
+
+/// Appends the line of a route. What the last line says too is copied from there.
+#[inline(always)]
+pub(crate) fn put_route<'a>(
+    heading: &Heading,
+    said: Announcement<'a>,
+    last: Option<LastLine<'a>>,
+    text: &mut Text,
+) -> Result<LastLine<'a>, AllocError>
+    requires { IfSome last (λ line. EndsIn heading.now.time heading.now.tag line text.old) }
+    ensures appended { OnOk result (text.new ≡ text.old ++
+        item_line heading.now.time heading.now.tag
+        (Announced said.entry.peer.now said.entry.prefix.now said.entry.route.now)) }
+    ensures last { IfOk result (λ line. EndsIn heading.now.time heading.now.tag line text.new) }
+    ensures kept { OnErr result (StillBegins text.old text.new) }
+{
+    let places = match likeness_to_last(last, said) {
+        Likeness::SameRoute(places) => put_route_again(places, said.prefix, text)?,
+        Likeness::SamePrefix(places) => put_route_beside(places, said.peer, said.route, text)?,
+        Likeness::Other => put_route_anew(heading, said, text)?,
+    };
+    Ok(LastLine { said, places })
+}
