@@ -93,17 +93,3 @@ are_of family (Rooted prefix slot l r) shaped of = (
   are_of family l shaped.2 (on_below l [] (way prefix) (family_bit family) false of shaped.0.left),
   are_of family r shaped.3 (on_below r [] (way prefix) (family_bit family) true of shaped.0.right),
 )
-
--- a child changed, whose root is as before
-pub shaped_left : {R : Type 0} (prefix : Network) (slot : Option (Option R)) (l m r : Shape R) → ShapedParts prefix slot l r → IsShaped m → root m ≡ root l → ShapedParts prefix slot m r
-shaped_left prefix None l m r was shaped same = (record { left = on_same l m (way prefix) false same was.0.left; right = was.0.right }, (subst IsSome (sym same) was.1.0, was.1.1), shaped, was.3)
-shaped_left prefix (Some slot) l m r was shaped same = (record { left = on_same l m (way prefix) false same was.0.left; right = was.0.right }, tt, shaped, was.3)
-
-pub shaped_right : {R : Type 0} (prefix : Network) (slot : Option (Option R)) (l r m : Shape R) → ShapedParts prefix slot l r → IsShaped m → root m ≡ root r → ShapedParts prefix slot l m
-shaped_right prefix None l r m was shaped same = (record { left = was.0.left; right = on_same r m (way prefix) true same was.0.right }, (was.1.0, subst IsSome (sym same) was.1.1), was.2, shaped)
-shaped_right prefix (Some slot) l r m was shaped same = (record { left = was.0.left; right = on_same r m (way prefix) true same was.0.right }, tt, was.2, shaped)
-
--- the root is a key
-pub shaped_here : {R : Type 0} (prefix : Network) (slot new : Option (Option R)) (l r : Shape R) (kept : Option R) → new ≡ Some kept → ShapedParts prefix slot l r → ShapedParts prefix new l r
-shaped_here prefix slot None l r kept is was = cc
-shaped_here prefix slot (Some new) l r kept is was = (was.0, tt, was.2, was.3)

@@ -24,7 +24,8 @@ pub(crate) enum Tree<K, R> {
     Bare(K),
     /// A key and its route, without keys below it.
     Leaf(K, R),
-    /// Whether a route is there or below, a key or a branch, and what lies below it.
+    /// Whether there is a route here or below, a key or a branch, and what lies below it. A walk
+    /// passes by where there is none, without a look at the node.
     Rooted(bool, K, Box<Node<K, R>>),
 }
 
@@ -73,7 +74,7 @@ impl<K, R> Tree<K, R> {
 }
 
 impl<K, R> Node<K, R> {
-    /// Whether it has a route, or some key below it.
+    /// Whether it has a route, or some key below it has.
     fn is_routed(&self) -> bool
         ensures { result ≡ any_routed self.now.slot self.now.left self.now.right }
     {

@@ -36,24 +36,16 @@ impl<K: Packed, R: Drop> Tree<K, R> {
                 let prefix = *prefix;
                 exchange_leaf(self, prefix, route);
             }
-            Tree::Rooted(routed, prefix, node) => match prefix.wide().turn(key) {
-                Turn::Outside => {}
-                Turn::Here => {
-                    let node = &mut **node;
-                    node.slot.exchange(route);
-                    *routed = node.is_routed();
+            Tree::Rooted(routed, prefix, node) => {
+                let node = &mut **node;
+                match prefix.wide().turn(key) {
+                    Turn::Outside => return,
+                    Turn::Here => node.slot.exchange(route),
+                    Turn::Left => node.left.exchange(key, route),
+                    Turn::Right => node.right.exchange(key, route),
                 }
-                Turn::Left => {
-                    let node = &mut **node;
-                    node.left.exchange(key, route);
-                    *routed = node.is_routed();
-                }
-                Turn::Right => {
-                    let node = &mut **node;
-                    node.right.exchange(key, route);
-                    *routed = node.is_routed();
-                }
-            },
+                *routed = node.is_routed();
+            }
         }
     }
 
@@ -86,30 +78,18 @@ impl<K: Packed, R: Drop> Tree<K, R> {
             }
             Tree::Rooted(routed, prefix, node) => {
                 let wide = prefix.wide();
-                match wide.turn(key) {
+                let node = &mut **node;
+                let made = match wide.turn(key) {
                     Turn::Outside => {
                         split(self, &wide, alloc, key)?;
-                        Ok(true)
+                        return Ok(true);
                     }
-                    Turn::Here => {
-                        let node = &mut **node;
-                        let made = node.slot.occupy();
-                        *routed = node.is_routed();
-                        Ok(made)
-                    }
-                    Turn::Left => {
-                        let node = &mut **node;
-                        let made = node.left.ensure(alloc, key)?;
-                        *routed = node.is_routed();
-                        Ok(made)
-                    }
-                    Turn::Right => {
-                        let node = &mut **node;
-                        let made = node.right.ensure(alloc, key)?;
-                        *routed = node.is_routed();
-                        Ok(made)
-                    }
-                }
+                    Turn::Here => node.slot.occupy(),
+                    Turn::Left => node.left.ensure(alloc, key)?,
+                    Turn::Right => node.right.ensure(alloc, key)?,
+                };
+                *routed = node.is_routed();
+                Ok(made)
             }
         }
     }

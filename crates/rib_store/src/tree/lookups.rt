@@ -77,7 +77,7 @@ impl<K: Packed, R> Tree<K, R> {
         }
     }
 
-    /// The least prefix with a route, and its route.
+    /// The least prefix with a route, and its route. It passes by nodes without a route below them.
     pub(crate) fn first(&self) -> Option<(Prefix, &R)>
         requires { IsMarked self.now }
         ensures { MatchOption result (first (shape_of K.network self.now) ≡ None)
@@ -123,10 +123,7 @@ impl<K: Packed, R> Tree<K, R> {
                     _ => None,
                 }
             }
-            Tree::Rooted(routed, prefix, node) => {
-                if !*routed {
-                    return None;
-                }
+            Tree::Rooted(_, prefix, node) => {
                 let wide = prefix.wide();
                 match wide.turn(low) {
                     Turn::Outside => {
