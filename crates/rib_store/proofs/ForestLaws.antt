@@ -17,7 +17,7 @@ use Rattle.ip_prefix.specs.Turns.{family_bit, way, turn_of, side}
 use Rattle.rib_store.specs.declared.tree.Tree.{Tree}
 use Rattle.rib_store.specs.declared.packed.V4Prefix.{V4Prefix}
 use Rattle.rib_store.specs.Packed.{v4_network, v6_network}
-use Rattle.rib_store.specs.Shape.{Shape, shape_of}
+use Rattle.rib_store.specs.Shape.{Shape, shape_of, IsMarked}
 use Rattle.rib_store.specs.declared.forest.Forest.{Forest}
 use Rattle.rib_store.specs.Stored.{put}
 use Rattle.rib_store.specs.Slots.{Slots, slot_at, keys_in, routes_in, route_found, routed}
@@ -92,16 +92,16 @@ changed old new key slot before after put q =
     twisted : same_way (way key) (way q) ≡ eq_by_cmp network_cmp key q
     twisted = sym (tied-ways q key) ∙ (eq_by_cmp_equiv network_cmp_total).symm q key
 
-pub changed_v4 : {R : Type 0} (old : Forest R) (tree : Tree V4Prefix R) (key : Network) (slot : Option (Option R)) → IsPlanted old → key.family ≡ V4 → IsShaped (shape_of v4_network tree) → IsOn [] false (shape_of v4_network tree)
+pub changed_v4 : {R : Type 0} (old : Forest R) (tree : Tree V4Prefix R) (key : Network) (slot : Option (Option R)) → IsPlanted old → key.family ≡ V4 → IsShaped (shape_of v4_network tree) → IsMarked tree → IsOn [] false (shape_of v4_network tree)
     → IsPut (at (v4_of old)) (way key) slot (at (shape_of v4_network tree)) → ChangesAt (slots_in old) key slot (slots_in record { v4 = tree; v6 = old.v6 })
-changed_v4 old tree key slot planted e shaped on put =
-    changed old record { v4 = tree; v6 = old.v6 } key slot planted (record { sides = record { left = on; right = planted.sides.right }; v4 = shaped; v6 = planted.v6 })
+changed_v4 old tree key slot planted e shaped marked on put =
+    changed old record { v4 = tree; v6 = old.v6 } key slot planted (record { sides = record { left = on; right = planted.sides.right }; v4 = shaped; v6 = planted.v6; v4_marks = marked; v6_marks = planted.v6_marks })
     (put_left [] (way key) None None slot (at (v4_of old)) (at (shape_of v4_network tree)) (at (v6_of old)) (first_side key V4 e) put)
 
-pub changed_v6 : {R : Type 0} (old : Forest R) (tree : Tree Network R) (key : Network) (slot : Option (Option R)) → IsPlanted old → key.family ≡ V6 → IsShaped (shape_of v6_network tree) → IsOn [] true (shape_of v6_network tree)
+pub changed_v6 : {R : Type 0} (old : Forest R) (tree : Tree Network R) (key : Network) (slot : Option (Option R)) → IsPlanted old → key.family ≡ V6 → IsShaped (shape_of v6_network tree) → IsMarked tree → IsOn [] true (shape_of v6_network tree)
     → IsPut (at (v6_of old)) (way key) slot (at (shape_of v6_network tree)) → ChangesAt (slots_in old) key slot (slots_in record { v4 = old.v4; v6 = tree })
-changed_v6 old tree key slot planted e shaped on put =
-    changed old record { v4 = old.v4; v6 = tree } key slot planted (record { sides = record { left = planted.sides.left; right = on }; v4 = planted.v4; v6 = shaped })
+changed_v6 old tree key slot planted e shaped marked on put =
+    changed old record { v4 = old.v4; v6 = tree } key slot planted (record { sides = record { left = planted.sides.left; right = on }; v4 = planted.v4; v6 = shaped; v4_marks = planted.v4_marks; v6_marks = marked })
     (put_right [] (way key) None None slot (at (v4_of old)) (at (v6_of old)) (at (shape_of v6_network tree)) (first_side key V6 e) put)
 
 -- ---- the first route, and the first above a prefix

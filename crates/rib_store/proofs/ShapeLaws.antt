@@ -7,7 +7,7 @@ use Rattle.ip_prefix.specs.Network.{Network}
 use Rattle.ip_prefix.specs.Turns.{way, turn_of}
 use Rattle.rib_store.specs.declared.tree.Tree.{Tree}
 use Rattle.rib_store.specs.declared.tree.Tree.TheVariants as tree
-use Rattle.rib_store.specs.Shape.{Shape, Empty, shape_of, leaf_slot, IsLeaf}
+use Rattle.rib_store.specs.Shape.{Shape, Empty, shape_of, leaf_slot, IsLeaf, IsMarked}
 use Rattle.rib_store.specs.Tree.{at, root, chosen, same_way, IsPut, IsRooted, IsShaped, IsGrown}
 use Rattle.rib_store.proofs.TreeLaws.{shaped_rooted, root_rooted}
 use Rattle.rib_store.proofs.GrowthLaws.{grown_left, grown_right, grown_here, leaf_shaped, leaf_slots}
@@ -20,7 +20,7 @@ pub at_leaf : {K R : Type 0} (network : K → Network) (t : Tree K R) (key : K) 
 at_leaf network tree.Empty key is q = absurd is
 at_leaf network (tree.Bare other) key is q = ap (λ k. chosen (turn_of (way (network k)) q) None (Some None) None None) is
 at_leaf network (tree.Leaf other route) key is q = ap (λ k. chosen (turn_of (way (network k)) q) None (Some (Some route)) None None) is
-at_leaf network (tree.Rooted' other p slot left right) key is q = absurd is
+at_leaf network (tree.Rooted' routed other p slot left right) key is q = absurd is
 
 here : {A : Type 0} (t : Turn) (x : A) → IsSome (chosen t None (Some x) None None) → t ≡ Here
 here Outside x is = cc
@@ -43,10 +43,17 @@ pub rooted_leaf : {K R : Type 0} (network : K → Network) (t : Tree K R) (key :
 rooted_leaf network tree.Empty key is = absurd is
 rooted_leaf network (tree.Bare other) key is = (ap network is, refl, refl, refl)
 rooted_leaf network (tree.Leaf other route) key is = (ap network is, refl, refl, refl)
-rooted_leaf network (tree.Rooted' other p slot left right) key is = absurd is
+rooted_leaf network (tree.Rooted' routed other p slot left right) key is = absurd is
 
 pub shaped_leaf : {K R : Type 0} (network : K → Network) (t : Tree K R) (key : K) → IsLeaf key t → IsShaped (shape_of network t)
 shaped_leaf network t key is = shaped_rooted (shape_of network t) (network key) (Some (leaf_slot t)) Empty Empty (rooted_leaf network t key is) (record { left = tt; right = tt }, tt, tt, tt)
+
+-- and has no mark to keep
+pub marked_leaf : {K R : Type 0} (t : Tree K R) (key : K) → IsLeaf key t → IsMarked t
+marked_leaf tree.Empty key is = tt
+marked_leaf (tree.Bare other) key is = tt
+marked_leaf (tree.Leaf other route) key is = tt
+marked_leaf (tree.Rooted' routed other p slot left right) key is = absurd is
 
 -- the first key of a tree
 lone_grown : {R : Type 0} (key : Network) (t : Shape R) → IsRooted key (Some None) Empty Empty t → IsGrown (way key) Empty t
@@ -66,6 +73,10 @@ hung {K} {R} network old new prefix key slot below side was (inl left) turn slot
 hung {K} {R} network old new prefix key slot below side was (inr right) turn slot_is leaf is =
     let is' : IsRooted (network prefix) (Some (leaf_slot old)) Empty below new = subst (λ (x : Turn × Option (Option R)). IsRooted (network prefix) x.1 (chosen x.0 Empty Empty below Empty) (chosen x.0 below below Empty below) new) (λ i. (right i, slot_is i)) is in
     grown_right (way key) (network prefix) (Some (leaf_slot old)) Empty Empty below (rooted_leaf network old prefix was) is' (turn ∙ right) (shaped_leaf network old prefix was) (lone_grown key below leaf)
+
+-- no key is outside
+pub none_outside : {K R : Type 0} (network : K → Network) (t : Tree K R) (prefix : K) (key : List Bool) → IsLeaf prefix t → turn_of (way (network prefix)) key ≡ Outside → at (shape_of network t) key ≡ None
+none_outside network t prefix key is turn = at_leaf network t prefix is key ∙ ap (λ w. chosen w None (Some (leaf_slot t)) None None) turn
 
 -- the key was there
 pub leaf_stays : {K R : Type 0} (network : K → Network) (t : Tree K R) (prefix : K) (key : Network) → IsLeaf prefix t → turn_of (way (network prefix)) (way key) ≡ Here → IsGrown (way key) (shape_of network t) (shape_of network t)
@@ -118,4 +129,4 @@ pub not_empty : {K R : Type 0} (network : K → Network) (t : Tree K R) → (t �
 not_empty network tree.Empty some = absurd (some refl)
 not_empty network (tree.Bare key) some = refl
 not_empty network (tree.Leaf key route) some = refl
-not_empty network (tree.Rooted' key p slot left right) some = refl
+not_empty network (tree.Rooted' routed key p slot left right) some = refl

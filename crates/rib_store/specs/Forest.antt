@@ -8,7 +8,7 @@ use Rattle.ip_prefix.specs.declared.addr.Family.TheVariants.{V4, V6}
 use Rattle.ip_prefix.specs.Network.{Network}
 use Rattle.ip_prefix.specs.Order.{network_cmp}
 use Rattle.rib_store.specs.declared.forest.Forest.{Forest}
-use Rattle.rib_store.specs.Shape.{Shape, shape_of}
+use Rattle.rib_store.specs.Shape.{Shape, shape_of, IsMarked}
 use Rattle.rib_store.specs.Packed.{v4_network, v6_network}
 use Rattle.rib_store.specs.Stored.{Contents, counted}
 use Rattle.rib_store.specs.Slots.{Slots, slot_at, keys_in, routes_in}
@@ -30,11 +30,13 @@ abbrev pub tree_of : {R : Type 0} → Family → Forest R → Shape R
 tree_of V4 forest = v4_of forest
 tree_of V6 forest = v6_of forest
 
--- each tree has its shape, and its keys are of its family
+-- each tree has its shape, its keys are of its family, and its marks are right
 pub record IsPlanted {R : Type 0} (forest : Forest R) : Type 0 where
   pub sides : AreSides [] (v4_of forest) (v6_of forest)
   pub v4 : IsShaped (v4_of forest)
   pub v6 : IsShaped (v6_of forest)
+  pub v4_marks : IsMarked forest.v4
+  pub v6_marks : IsMarked forest.v6
 
 -- each prefix has the slot that it had, but for one
 abbrev pub ChangesAt : {R : Type 0} → Slots R → Network → Option (Option R) → Slots R → Type 0

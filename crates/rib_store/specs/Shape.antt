@@ -1,8 +1,8 @@
 -- A radix tree, however its nodes lie in memory.
-use Rattle.std.specs.Prelude.{◌≡◌, Option, Some, None}
+use Rattle.std.specs.Prelude.{◌≡◌, Bool, true, false, ◌||◌, Option, Some, None}
 use Rattle.ip_prefix.specs.Network.{Network}
 use Rattle.rib_store.specs.declared.tree.Slot.{Slot}
-use Rattle.rib_store.specs.declared.tree.Slot.TheVariants.{Vacant, Filled}
+use Rattle.rib_store.specs.declared.tree.Slot.TheVariants.{Branch, Vacant, Filled}
 use Rattle.rib_store.specs.declared.tree.Tree.{Tree}
 use Rattle.rib_store.specs.declared.tree.Tree.TheVariants as tree
 
@@ -16,18 +16,44 @@ abbrev pub shape_of : {K R : Type 0} → (K → Network) → Tree K R → Shape 
 shape_of network tree.Empty = Empty
 shape_of network (tree.Bare key) = Rooted (network key) Vacant Empty Empty
 shape_of network (tree.Leaf key route) = Rooted (network key) (Filled route) Empty Empty
-shape_of network (tree.Rooted' key p slot left right) = Rooted (network key) slot (shape_of network left) (shape_of network right)
+shape_of network (tree.Rooted' routed key p slot left right) = Rooted (network key) slot (shape_of network left) (shape_of network right)
 
 -- the route of a key without others below it
 abbrev pub leaf_slot : {K R : Type 0} → Tree K R → Option R
 leaf_slot tree.Empty = None
 leaf_slot (tree.Bare key) = None
 leaf_slot (tree.Leaf key route) = Some route
-leaf_slot (tree.Rooted' key p slot left right) = None
+leaf_slot (tree.Rooted' routed key p slot left right) = None
 
 -- it is this key, without others below it
 abbrev pub IsLeaf : {K R : Type 0} → K → Tree K R → Type 0
 IsLeaf key tree.Empty = ⊥
 IsLeaf key (tree.Bare other) = other ≡ key
 IsLeaf key (tree.Leaf other route) = other ≡ key
-IsLeaf key (tree.Rooted' other p slot left right) = ⊥
+IsLeaf key (tree.Rooted' routed other p slot left right) = ⊥
+
+-- ---- the marks
+
+-- whether the slot has a route
+abbrev pub is_filled : {R : Type 0} → Slot R → Bool
+is_filled Branch = false
+is_filled Vacant = false
+is_filled (Filled route) = true
+
+-- whether some key has a route, by the mark of the root
+abbrev pub is_routed : {K R : Type 0} → Tree K R → Bool
+is_routed tree.Empty = false
+is_routed (tree.Bare key) = false
+is_routed (tree.Leaf key route) = true
+is_routed (tree.Rooted' routed key p slot left right) = routed
+
+-- whether the slot has a route, or some key of the two trees, by the marks of their roots
+abbrev pub any_routed : {K R : Type 0} → Slot R → Tree K R → Tree K R → Bool
+any_routed slot left right = is_filled slot || (is_routed left || is_routed right)
+
+-- each mark is right
+abbrev pub IsMarked : {K R : Type 0} → Tree K R → Type 0
+IsMarked tree.Empty = Unit {0}
+IsMarked (tree.Bare key) = Unit {0}
+IsMarked (tree.Leaf key route) = Unit {0}
+IsMarked (tree.Rooted' routed key p slot left right) = (routed ≡ any_routed slot left right) × IsMarked left × IsMarked right

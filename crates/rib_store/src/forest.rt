@@ -150,6 +150,7 @@ impl<R> Forest<R> {
 
     /// The least prefix with a route, and its route.
     pub(crate) fn first(&self) -> Option<(Prefix, &R)>
+        requires { IsPlanted self.now }
         ensures { option_map (λ p. (p.0, p.1.now)) result ≡
             slice_get (routed (slots_in self.now)) 0 }
     {

@@ -19,7 +19,8 @@ use std::marker::Model;
 
 /// A store that is a path-compressed radix tree for each family, with counts of the keys and the
 /// routes beside them. Each look-up goes down one way, past at most 33 nodes for IPv4 and 129 for
-/// IPv6; `after` goes down it and on to the next route; the counts take no look-up.
+/// IPv6; `after` goes down it and then down to the next route, and passes by keys without one; the
+/// counts take no look-up.
 #[derive(Drop)]
 pub struct RadixStore<R> {
     alloc: Global,

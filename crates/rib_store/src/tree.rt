@@ -4,6 +4,7 @@ ghost use Rattle.std.specs.Prelude.{◌≡◌, Some, None, is_some, MatchOption}
 ghost use Rattle.std.specs.Option.{option_copied, option_map};
 ghost use Rattle.rib_store.specs.Tree.{slot_of};
 ghost use Rattle.rib_store.specs.Walks.{routed_at};
+ghost use Rattle.rib_store.specs.Shape.{is_routed, is_filled, any_routed};
 
 mod changes;
 mod lookups;
@@ -23,8 +24,9 @@ pub(crate) enum Tree<K, R> {
     Bare(K),
     /// A key and its route, without keys below it.
     Leaf(K, R),
-    /// A key, or a branch, and what lies below it.
-    Rooted(K, Box<Node<K, R>>),
+    /// Whether there is a route here or below, a key or a branch, and what lies below it. A walk
+    /// passes by where there is none, without a look at the node.
+    Rooted(bool, K, Box<Node<K, R>>),
 }
 
 /// What a node has that may have keys below it.
@@ -57,7 +59,40 @@ pub(crate) enum Slot<R> {
     Filled(R),
 }
 
+impl<K, R> Tree<K, R> {
+    /// Whether some key has a route, by the mark of the root.
+    fn is_routed(&self) -> bool
+        ensures { result ≡ is_routed self.now }
+    {
+        match self {
+            Tree::Empty => false,
+            Tree::Bare(_) => false,
+            Tree::Leaf(_, _) => true,
+            Tree::Rooted(routed, _, _) => *routed,
+        }
+    }
+}
+
+impl<K, R> Node<K, R> {
+    /// Whether it has a route, or some key below it has.
+    fn is_routed(&self) -> bool
+        ensures { result ≡ any_routed self.now.slot self.now.left self.now.right }
+    {
+        self.slot.is_filled() || self.left.is_routed() || self.right.is_routed()
+    }
+}
+
 impl<R> Slot<R> {
+    /// Whether there is a route.
+    fn is_filled(&self) -> bool
+        ensures { result ≡ is_filled self.now }
+    {
+        match self {
+            Slot::Filled(_) => true,
+            _ => false,
+        }
+    }
+
     /// A key's room, and the route in it.
     fn kept(&self) -> Option<Option<&R>>
         ensures { option_map (λ slot. option_copied slot) result ≡ slot_of self.now }

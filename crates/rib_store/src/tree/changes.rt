@@ -4,7 +4,7 @@ ghost use Rattle.std.specs.Prelude.{◌≡◌, ◌⊎◌, Some, None, List, Bool
 ghost use Rattle.std.specs.Prelude.{IsSome, OnOk, OnErr, IfOk};
 ghost use Rattle.ip_prefix.specs.Turns.{way, turn_of};
 ghost use Rattle.ip_prefix.specs.declared.turn.Turn.TheVariants.{Outside, Left, Right};
-ghost use Rattle.rib_store.specs.Shape.{Empty, shape_of, leaf_slot, IsLeaf};
+ghost use Rattle.rib_store.specs.Shape.{Empty, shape_of, leaf_slot, IsLeaf, IsMarked};
 ghost use Rattle.rib_store.specs.Tree.{at, root, chosen, slot_of, kept, AreOf, IsOn, IsShaped, IsNearlyShaped, IsPut, IsGrown, IsRooted};
 
 use crate::packed::Packed;
@@ -17,8 +17,10 @@ impl<K: Packed, R: Drop> Tree<K, R> {
     /// The key's route, or its absence, and the argument change places.
     pub(crate) fn exchange(&mut self, key: &Prefix, route: &mut Option<R>)
         requires shaped { IsShaped (shape_of K.network self.old) }
+        requires marked { IsMarked self.old }
         requires key { IsSome (at (shape_of K.network self.old) (way key.now)) }
         ensures shaped { IsShaped (shape_of K.network self.new) }
+        ensures marked { IsMarked self.new }
         ensures slots { IsPut (at (shape_of K.network self.old)) (way key.now) (Some route.old)
             (at (shape_of K.network self.new)) }
         ensures given { at (shape_of K.network self.old) (way key.now) ≡ Some route.new }
@@ -34,24 +36,30 @@ impl<K: Packed, R: Drop> Tree<K, R> {
                 let prefix = *prefix;
                 exchange_leaf(self, prefix, route);
             }
-            Tree::Rooted(prefix, node) => match prefix.wide().turn(key) {
-                Turn::Outside => {}
-                Turn::Here => node.slot.exchange(route),
-                Turn::Left => node.left.exchange(key, route),
-                Turn::Right => node.right.exchange(key, route),
-            },
+            Tree::Rooted(routed, prefix, node) => {
+                let node = &mut **node;
+                match prefix.wide().turn(key) {
+                    Turn::Outside => return,
+                    Turn::Here => node.slot.exchange(route),
+                    Turn::Left => node.left.exchange(key, route),
+                    Turn::Right => node.right.exchange(key, route),
+                }
+                *routed = node.is_routed();
+            }
         }
     }
 
     /// Makes the prefix a key, and answers whether it is new.
     pub(crate) fn ensure(&mut self, alloc: Global, key: &Prefix) -> Result<bool, AllocError>
         requires shaped { IsShaped (shape_of K.network self.old) }
+        requires marked { IsMarked self.old }
         requires family { AreOf key.now.family (shape_of K.network self.old) }
         requires kind { key.now.family ≡ K.family }
         ensures made { IfOk result (λ made. made ≡
             not (is_some (at (shape_of K.network self.old) (way key.now)))) }
         ensures grown { OnOk result (IsGrown (way key.now) (shape_of K.network self.old)
             (shape_of K.network self.new)) }
+        ensures marked { OnOk result (IsMarked self.new) }
         ensures refused { OnErr result (self.new ≡ self.old) }
         ensures known { OnErr result (at (shape_of K.network self.old) (way key.now) ≡ None) }
     {
@@ -68,26 +76,20 @@ impl<K: Packed, R: Drop> Tree<K, R> {
                 let prefix = *prefix;
                 grow_leaf(self, prefix, alloc, key)
             }
-            Tree::Rooted(prefix, node) => {
+            Tree::Rooted(routed, prefix, node) => {
                 let wide = prefix.wide();
-                match wide.turn(key) {
+                let node = &mut **node;
+                let made = match wide.turn(key) {
                     Turn::Outside => {
                         split(self, &wide, alloc, key)?;
-                        Ok(true)
+                        return Ok(true);
                     }
-                    Turn::Here => {
-                        let made = node.slot.occupy();
-                        Ok(made)
-                    }
-                    Turn::Left => {
-                        let made = node.left.ensure(alloc, key)?;
-                        Ok(made)
-                    }
-                    Turn::Right => {
-                        let made = node.right.ensure(alloc, key)?;
-                        Ok(made)
-                    }
-                }
+                    Turn::Here => node.slot.occupy(),
+                    Turn::Left => node.left.ensure(alloc, key)?,
+                    Turn::Right => node.right.ensure(alloc, key)?,
+                };
+                *routed = node.is_routed();
+                Ok(made)
             }
         }
     }
@@ -96,8 +98,10 @@ impl<K: Packed, R: Drop> Tree<K, R> {
 impl<K: Packed, R: Drop> Tree<K, R> {
     /// The prefix is no key any more.
     pub(crate) fn discard(&mut self, key: &Prefix)
-        requires { IsShaped (shape_of K.network self.old) }
+        requires shaped { IsShaped (shape_of K.network self.old) }
+        requires marked { IsMarked self.old }
         ensures shaped { IsShaped (shape_of K.network self.new) }
+        ensures marked { IsMarked self.new }
         ensures slots { IsPut (at (shape_of K.network self.old)) (way key.now) None
             (at (shape_of K.network self.new)) }
         ensures sides { (from : List Bool) (bit : Bool) →
@@ -114,13 +118,15 @@ impl<K: Packed, R: Drop> Tree<K, R> {
                 let prefix = *prefix;
                 discard_leaf(self, prefix, key);
             }
-            Tree::Rooted(prefix, node) => {
+            Tree::Rooted(routed, prefix, node) => {
+                let node = &mut **node;
                 match prefix.wide().turn(key) {
                     Turn::Outside => return,
                     Turn::Here => node.slot.vacate(),
                     Turn::Left => node.left.discard(key),
                     Turn::Right => node.right.discard(key),
                 }
+                *routed = node.is_routed();
                 join(self);
             }
         }
@@ -131,6 +137,7 @@ impl<K: Packed, R: Drop> Tree<K, R> {
 fn discard_leaf<K: Packed, R: Drop>(tree: &mut Tree<K, R>, prefix: K, key: &Prefix)
     requires { IsLeaf prefix tree.old }
     ensures shaped { IsShaped (shape_of K.network tree.new) }
+    ensures marked { IsMarked tree.new }
     ensures slots { IsPut (at (shape_of K.network tree.old)) (way key.now) None
         (at (shape_of K.network tree.new)) }
     ensures sides { (from : List Bool) (bit : Bool) → IsOn from bit (shape_of K.network tree.old)
@@ -143,14 +150,16 @@ fn discard_leaf<K: Packed, R: Drop>(tree: &mut Tree<K, R>, prefix: K, key: &Pref
 
 /// Takes the root away where it is neither a key nor a branch.
 fn join<K: Packed, R: Drop>(tree: &mut Tree<K, R>)
-    requires { IsNearlyShaped (shape_of K.network tree.old) }
+    requires shaped { IsNearlyShaped (shape_of K.network tree.old) }
+    requires marked { IsMarked tree.old }
     ensures shaped { IsShaped (shape_of K.network tree.new) }
+    ensures marked { IsMarked tree.new }
     ensures slots { (q : List Bool) → at (shape_of K.network tree.new) q
         ≡ at (shape_of K.network tree.old) q }
     ensures sides { (from : List Bool) (bit : Bool) → IsOn from bit (shape_of K.network tree.old)
         → IsOn from bit (shape_of K.network tree.new) }
 {
-    if let Tree::Rooted(_, node) = tree {
+    if let Tree::Rooted(_, _, node) = tree {
         if let Slot::Branch = node.slot {
             if let Tree::Empty = node.left {
                 let child = mem::replace(&mut node.right, Tree::Empty);
@@ -178,6 +187,7 @@ fn grow_leaf<K: Packed, R: Drop>(
         not (is_some (at (shape_of K.network tree.old) (way key.now)))) }
     ensures grown { OnOk result (IsGrown (way key.now) (shape_of K.network tree.old)
         (shape_of K.network tree.new)) }
+    ensures marked { OnOk result (IsMarked tree.new) }
     ensures refused { OnErr result (tree.new ≡ tree.old) }
     ensures known { OnErr result (at (shape_of K.network tree.old) (way key.now) ≡ None) }
 {
@@ -213,6 +223,7 @@ fn hang<K: Packed, R: Drop>(
     requires turn { turn_of (way (K.network prefix)) (way key.now) ≡ side }
     ensures grown { OnOk result (IsGrown (way key.now) (shape_of K.network tree.old)
         (shape_of K.network tree.new)) }
+    ensures marked { OnOk result (IsMarked tree.new) }
     ensures refused { OnErr result (tree.new ≡ tree.old) }
 {
     let mut node = lone(alloc)?;
@@ -257,7 +268,10 @@ fn put_root<K: Packed, R: Drop>(
     below: Tree<K, R>,
     side: Turn,
 )
-    ensures { IsRooted (K.network prefix) (slot_of node.value.slot)
+    requires beside { IsMarked beside }
+    requires below { IsMarked below }
+    ensures marked { IsMarked tree.new }
+    ensures rooted { IsRooted (K.network prefix) (slot_of node.value.slot)
         (chosen side (shape_of K.network beside) (shape_of K.network beside)
         (shape_of K.network below) (shape_of K.network beside))
         (chosen side (shape_of K.network below) (shape_of K.network below)
@@ -272,7 +286,8 @@ fn put_root<K: Packed, R: Drop>(
         node.left = beside;
         node.right = below;
     }
-    *tree = Tree::Rooted(prefix, node);
+    let routed = node.is_routed();
+    *tree = Tree::Rooted(routed, prefix, node);
 }
 
 /// Puts a key that the root's prefix doesn't cover above the root or beside it.
@@ -284,11 +299,13 @@ fn split<K: Packed, R: Drop>(
 ) -> Result<(), AllocError>
     requires root { root (shape_of K.network tree.old) ≡ Some (way prefix.now) }
     requires shaped { IsShaped (shape_of K.network tree.old) }
+    requires marked { IsMarked tree.old }
     requires family { prefix.now.family ≡ key.now.family }
     requires kind { key.now.family ≡ K.family }
     requires outside { turn_of (way prefix.now) (way key.now) ≡ Outside }
     ensures grown { OnOk result (IsGrown (way key.now) (shape_of K.network tree.old)
         (shape_of K.network tree.new)) }
+    ensures marked { OnOk result (IsMarked tree.new) }
     ensures refused { OnErr result (tree.new ≡ tree.old) }
 {
     let common = prefix.common(key);
@@ -315,6 +332,7 @@ fn split<K: Packed, R: Drop>(
 fn exchange_leaf<K: Packed, R: Drop>(tree: &mut Tree<K, R>, prefix: K, route: &mut Option<R>)
     requires { IsLeaf prefix tree.old }
     ensures leaf { IsLeaf prefix tree.new }
+    ensures marked { IsMarked tree.new }
     ensures slot { leaf_slot tree.new ≡ route.old }
     ensures given { leaf_slot tree.old ≡ route.new }
 {

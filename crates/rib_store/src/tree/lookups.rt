@@ -3,7 +3,7 @@
 ghost use Rattle.std.specs.Prelude.{◌≡◌, ◌+◌, ◌≤◌, Some, None, MatchOption, length};
 ghost use Rattle.std.specs.Option.{option_map, option_copied};
 ghost use Rattle.ip_prefix.specs.Turns.{way};
-ghost use Rattle.rib_store.specs.Shape.{shape_of};
+ghost use Rattle.rib_store.specs.Shape.{shape_of, IsMarked};
 ghost use Rattle.rib_store.specs.Stored.{counted};
 ghost use Rattle.rib_store.specs.Slots.{routed};
 ghost use Rattle.rib_store.specs.Tree.{at, slots_of};
@@ -29,7 +29,7 @@ impl<K: Packed, R> Tree<K, R> {
                 Turn::Here => Some(Some(route)),
                 _ => None,
             },
-            Tree::Rooted(prefix, node) => match prefix.wide().turn(key) {
+            Tree::Rooted(_, prefix, node) => match prefix.wide().turn(key) {
                 Turn::Outside => None,
                 Turn::Here => node.slot.kept(),
                 Turn::Left => node.left.slot(key),
@@ -60,7 +60,7 @@ impl<K: Packed, R> Tree<K, R> {
                     _ => Some((wide, route)),
                 }
             }
-            Tree::Rooted(prefix, node) => {
+            Tree::Rooted(_, prefix, node) => {
                 *met += 1;
                 let wide = prefix.wide();
                 let below = match wide.turn(key) {
@@ -77,8 +77,9 @@ impl<K: Packed, R> Tree<K, R> {
         }
     }
 
-    /// The least prefix with a route, and its route.
+    /// The least prefix with a route, and its route. It passes by nodes without a route below them.
     pub(crate) fn first(&self) -> Option<(Prefix, &R)>
+        requires { IsMarked self.now }
         ensures { MatchOption result (first (shape_of K.network self.now) ≡ None)
             (λ found. first (shape_of K.network self.now) ≡ Some (found.0, found.1.now)) }
     {
@@ -86,18 +87,24 @@ impl<K: Packed, R> Tree<K, R> {
             Tree::Empty => None,
             Tree::Bare(_) => None,
             Tree::Leaf(prefix, route) => Some((prefix.wide(), route)),
-            Tree::Rooted(prefix, node) => match node.slot.routed(prefix.wide()) {
-                Some(found) => Some(found),
-                None => match node.left.first() {
+            Tree::Rooted(routed, prefix, node) => {
+                if !*routed {
+                    return None;
+                }
+                match node.slot.routed(prefix.wide()) {
                     Some(found) => Some(found),
-                    None => node.right.first(),
-                },
-            },
+                    None => match node.left.first() {
+                        Some(found) => Some(found),
+                        None => node.right.first(),
+                    },
+                }
+            }
         }
     }
 
     /// The least prefix with a route above the other, and its route.
     pub(crate) fn after(&self, low: &Prefix) -> Option<(Prefix, &R)>
+        requires { IsMarked self.now }
         ensures { MatchOption result (behind (shape_of K.network self.now) low.now ≡ None)
             (λ found. behind (shape_of K.network self.now) low.now ≡ Some (found.0, found.1.now)) }
     {
@@ -116,7 +123,7 @@ impl<K: Packed, R> Tree<K, R> {
                     _ => None,
                 }
             }
-            Tree::Rooted(prefix, node) => {
+            Tree::Rooted(_, prefix, node) => {
                 let wide = prefix.wide();
                 match wide.turn(low) {
                     Turn::Outside => {
@@ -147,7 +154,7 @@ impl<K: Packed, R> Tree<K, R> {
             Tree::Empty => 0,
             Tree::Bare(_) => 1,
             Tree::Leaf(_, _) => 1,
-            Tree::Rooted(_, node) => node
+            Tree::Rooted(_, _, node) => node
                 .left
                 .node_count()
                 .saturating_add(node.right.node_count())
@@ -163,7 +170,7 @@ impl<K: Packed, R> Tree<K, R> {
             Tree::Empty => 0,
             Tree::Bare(_) => 1,
             Tree::Leaf(_, _) => 1,
-            Tree::Rooted(_, node) => {
+            Tree::Rooted(_, _, node) => {
                 let below = node.left.key_count().saturating_add(node.right.key_count());
                 match node.slot {
                     Slot::Branch => below,
@@ -181,7 +188,7 @@ impl<K: Packed, R> Tree<K, R> {
             Tree::Empty => 0,
             Tree::Bare(_) => 0,
             Tree::Leaf(_, _) => 1,
-            Tree::Rooted(_, node) => {
+            Tree::Rooted(_, _, node) => {
                 let below = node
                     .left
                     .route_count()

@@ -12,6 +12,9 @@ const COUNTS: &[u32] = &[1, 6_001, 65_537, MANY];
 /// How many there are at last.
 const MANY: u32 = 100_000;
 
+/// How often a route comes and goes where the other keys have none.
+const FLAPS: u32 = 100_000;
+
 /// Of so many keys the first has a route.
 const STEP: u32 = 100;
 
@@ -122,4 +125,22 @@ fn map_store_keeps_many_keys(rt: HostRuntime) -> Result<(), Fail> {
 #[test]
 fn radix_store_keeps_many_keys(rt: HostRuntime) -> Result<(), Fail> {
     keeps_many_keys(&rt, &mut RadixStore::new(rt.alloc()))
+}
+
+/// A walk over trees passes by keys without a route: if it went over them, this would take minutes.
+#[test]
+fn radix_store_passes_by_keys_without_a_route(rt: HostRuntime) -> Result<(), Fail> {
+    let mut store = RadixStore::new(rt.alloc());
+    for number in 0..MANY {
+        assert!(rt; store.ensure(numbered(number)?)?, "{number}");
+    }
+    let last = numbered(MANY - 1)?;
+    for route in 0..FLAPS {
+        assert_had(&rt, &mut store, &last, Some(route), None);
+        assert!(rt; after(&store, None) == Some((last, route)), "{route}");
+        assert_had(&rt, &mut store, &last, None, Some(route));
+        assert!(rt; after(&store, None).is_none(), "{route}");
+    }
+    assert_counts(&rt, &store, u64::from(MANY), 0);
+    Ok(())
 }

@@ -1,6 +1,6 @@
 //! Walks from the least route to the greatest.
 
-use super::{add, add_rows, after, found_of, prefix_of};
+use super::{add, add_rows, after, assert_counts, assert_had, found_of, prefix_of};
 use rib_store::{MapStore, PrefixStore, RadixStore};
 use std::process::Abort;
 use std::test::Fail;
@@ -85,4 +85,73 @@ fn map_store_starts_anywhere(rt: HostRuntime) -> Result<(), Fail> {
 #[test]
 fn radix_store_starts_anywhere(rt: HostRuntime) -> Result<(), Fail> {
     starts_anywhere(&rt, &mut RadixStore::new(rt.alloc()))
+}
+
+/// Keys without a route at first: some below others, and of both families.
+const KEYS: &[(&str, Option<u32>)] = &[
+    ("10.0.0.0/8", None),
+    ("10.0.0.0/16", None),
+    ("10.0.1.0/24", None),
+    ("10.128.0.0/16", None),
+    ("2001:db8::/32", None),
+    ("2001:db8:1::/48", None),
+];
+
+/// A key, the route that it has from then on, and what a walk comes to then.
+type Change = (
+    &'static str,
+    Option<u32>,
+    &'static [(&'static str, Option<u32>)],
+);
+
+/// Routes come to keys that others cover, and go again.
+const CHANGES: &[Change] = &[
+    ("10.0.0.0/8", None, &[]),
+    ("10.0.1.0/24", Some(1), &[("10.0.1.0/24", Some(1))]),
+    (
+        "10.128.0.0/16",
+        Some(2),
+        &[("10.0.1.0/24", Some(1)), ("10.128.0.0/16", Some(2))],
+    ),
+    ("10.0.1.0/24", None, &[("10.128.0.0/16", Some(2))]),
+    (
+        "10.0.0.0/8",
+        Some(3),
+        &[("10.0.0.0/8", Some(3)), ("10.128.0.0/16", Some(2))],
+    ),
+    ("10.128.0.0/16", None, &[("10.0.0.0/8", Some(3))]),
+    ("10.0.0.0/8", None, &[]),
+    ("2001:db8:1::/48", Some(4), &[("2001:db8:1::/48", Some(4))]),
+    (
+        "10.0.0.0/16",
+        Some(5),
+        &[("10.0.0.0/16", Some(5)), ("2001:db8:1::/48", Some(4))],
+    ),
+    ("2001:db8:1::/48", None, &[("10.0.0.0/16", Some(5))]),
+    ("10.0.0.0/16", None, &[]),
+];
+
+fn walks_past_withdrawn_keys<S: PrefixStore<u32>>(
+    rt: &impl Abort,
+    store: &mut S,
+) -> Result<(), Fail> {
+    add_rows(rt, store, KEYS)?;
+    for &(text, route, rows) in CHANGES {
+        let prefix = prefix_of(text)?;
+        let had = store.get(&prefix).copied();
+        assert_had(rt, store, &prefix, route, had);
+        assert_walk(rt, store, rows)?;
+        assert_counts(rt, store, KEYS.len() as u64, rows.len() as u64);
+    }
+    Ok(())
+}
+
+#[test]
+fn map_store_walks_past_withdrawn_keys(rt: HostRuntime) -> Result<(), Fail> {
+    walks_past_withdrawn_keys(&rt, &mut MapStore::new(rt.alloc()))
+}
+
+#[test]
+fn radix_store_walks_past_withdrawn_keys(rt: HostRuntime) -> Result<(), Fail> {
+    walks_past_withdrawn_keys(&rt, &mut RadixStore::new(rt.alloc()))
 }

@@ -16,7 +16,7 @@ exchange-requires-in-V6-clause-key g c = there c.args.self.now c.requires.plante
 pub returns-in-V4-clause-slots : goal.returns-in-V4-clause-slots
 returns-in-V4-clause-slots g c =
     let f = c.args.self.now in
-    changed_v4 f c.exchange.new.self c.args.prefix.now (Some c.args.route.now) c.requires.planted (sym c.family.ensures ∙ c.in-V4.is) c.exchange.ensures.shaped (on_same (v4_of f) (shape_of v4_network c.exchange.new.self) [] false c.exchange.ensures.root c.requires.planted.sides.left) c.exchange.ensures.slots
+    changed_v4 f c.exchange.new.self c.args.prefix.now (Some c.args.route.now) c.requires.planted (sym c.family.ensures ∙ c.in-V4.is) c.exchange.ensures.shaped c.exchange.ensures.marked (on_same (v4_of f) (shape_of v4_network c.exchange.new.self) [] false c.exchange.ensures.root c.requires.planted.sides.left) c.exchange.ensures.slots
 
 pub returns-in-V4-clause-given : goal.returns-in-V4-clause-given
 returns-in-V4-clause-given g c = slot_at-tree_of c.args.self.now c.requires.planted c.args.prefix.now V4 (sym c.family.ensures ∙ c.in-V4.is) ∙ c.exchange.ensures.given
@@ -24,7 +24,7 @@ returns-in-V4-clause-given g c = slot_at-tree_of c.args.self.now c.requires.plan
 pub returns-in-V6-clause-slots : goal.returns-in-V6-clause-slots
 returns-in-V6-clause-slots g c =
     let f = c.args.self.now in
-    changed_v6 f c.exchange-in-V6.new.self c.args.prefix.now (Some c.args.route.now) c.requires.planted (sym c.family.ensures ∙ c.in-V6.is) c.exchange-in-V6.ensures.shaped (on_same (v6_of f) (shape_of v6_network c.exchange-in-V6.new.self) [] true c.exchange-in-V6.ensures.root c.requires.planted.sides.right) c.exchange-in-V6.ensures.slots
+    changed_v6 f c.exchange-in-V6.new.self c.args.prefix.now (Some c.args.route.now) c.requires.planted (sym c.family.ensures ∙ c.in-V6.is) c.exchange-in-V6.ensures.shaped c.exchange-in-V6.ensures.marked (on_same (v6_of f) (shape_of v6_network c.exchange-in-V6.new.self) [] true c.exchange-in-V6.ensures.root c.requires.planted.sides.right) c.exchange-in-V6.ensures.slots
 
 pub returns-in-V6-clause-given : goal.returns-in-V6-clause-given
 returns-in-V6-clause-given g c = slot_at-tree_of c.args.self.now c.requires.planted c.args.prefix.now V6 (sym c.family.ensures ∙ c.in-V6.is) ∙ c.exchange-in-V6.ensures.given

@@ -1,8 +1,9 @@
 use Rattle.std.proofs.Common.{◌≡◌, None, cond, refl, sym, ap, ◌∙◌}
 use Rattle.ip_prefix.specs.declared.turn.Turn.TheVariants.{Outside, Here, Left, Right}
 use Rattle.ip_prefix.specs.Turns.{way, turn_of}
-use Rattle.rib_store.specs.Shape.{shape_of}
+use Rattle.rib_store.specs.Shape.{Rooted, shape_of}
 use Rattle.rib_store.specs.Tree.{at, same_way, slot_of, IsRooted}
+use Rattle.rib_store.proofs.TreeLaws.{at_rooted}
 use Rattle.rib_store.proofs.ChangeLaws.{put_outside, fork_left, fork_right, fork_here}
 use Rattle.rib_store.proofs.tree.Tree.+discard.Goals.{in-Here, in-Left, in-Right}
 use Rattle.rib_store.proofs.tree.Tree.+discard.Goals as goal
@@ -10,34 +11,34 @@ use Rattle.rib_store.proofs.tree.Tree.+discard.Goals as goal
 pub returns-in-Outside-clause-slots : goal.returns-in-Outside-clause-slots
 returns-in-Outside-clause-slots g t c = λ q.
     let net = g.K.Packed.network in
-    let n = c.in-Rooted.node.value in
+    let n = c.deref_mut-node.result.now in
     let prefix = net c.in-Rooted.prefix in
     let key = way c.args.key.now in
     let turn : turn_of (way prefix) key ≡ Outside = cc in
-    put_outside (way prefix) key None (slot_of n.slot) (at (shape_of net n.left)) (at (shape_of net n.right)) turn q ∙ ap (cond (same_way key q) None) (sym (ap (λ x. at (shape_of net x) q) c.in-Rooted.is))
+    let was : IsRooted prefix (slot_of n.slot) (shape_of net n.left) (shape_of net n.right) (shape_of net c.args.self.now) = rw c.in-Rooted.is (cc, cc, cc, cc) in
+    put_outside (way prefix) key None (slot_of n.slot) (at (shape_of net n.left)) (at (shape_of net n.right)) turn q
+    ∙ ap (cond (same_way key q) None) (sym (at_rooted (shape_of net c.args.self.now) prefix (slot_of n.slot) (shape_of net n.left) (shape_of net n.right) was q))
 
 pub returns-after-turn-clause-slots : goal.returns-after-turn-clause-slots
 returns-after-turn-clause-slots g t c = λ q.
     let net = g.K.Packed.network in
+    let n = c.deref_mut-node.result.now in
+    let m = c.match-turn.node in
     let prefix = net c.in-Rooted.prefix in
     let key = way c.args.key.now in
+    let new = Rooted prefix m.slot (shape_of net m.left) (shape_of net m.right) in
+    let was : IsRooted prefix (slot_of n.slot) (shape_of net n.left) (shape_of net n.right) (shape_of net c.args.self.now) = rw c.in-Rooted.is (cc, cc, cc, cc) in
     c.join.ensures.slots q ∙ elim c.match-turn.branch [
       | in-Here w ↦
-          let n = w.deref_mut.result.now in
           let turn : turn_of (way prefix) key ≡ Here = cc in
-          let was : IsRooted prefix (slot_of n.slot) (shape_of net n.left) (shape_of net n.right) (shape_of net c.args.self.now) = rw c.in-Rooted.is (cc, cc, cc, cc) in
-          let is : IsRooted prefix None (shape_of net n.left) (shape_of net n.right) (shape_of net c.match-turn.self) = rw w.self-is (refl, refl, refl, w.vacate.ensures) in
-          fork_here (shape_of net c.args.self.now) (shape_of net c.match-turn.self) prefix (slot_of n.slot) None (shape_of net n.left) (shape_of net n.right) key was is turn q
+          let is : IsRooted prefix None (shape_of net n.left) (shape_of net n.right) new = rw w.node-is (refl, refl, refl, w.vacate.ensures) in
+          fork_here (shape_of net c.args.self.now) new prefix (slot_of n.slot) None (shape_of net n.left) (shape_of net n.right) key was is turn q
       | in-Left w ↦
-          let n = w.deref_mut-in-Left.result.now in
           let turn : turn_of (way prefix) key ≡ Left = cc in
-          let was : IsRooted prefix (slot_of n.slot) (shape_of net n.left) (shape_of net n.right) (shape_of net c.args.self.now) = rw c.in-Rooted.is (cc, cc, cc, cc) in
-          let is : IsRooted prefix (slot_of n.slot) (shape_of net w.discard.new.self) (shape_of net n.right) (shape_of net c.match-turn.self) = rw w.self-is (refl, refl, refl, refl) in
-          fork_left (shape_of net c.args.self.now) (shape_of net c.match-turn.self) prefix (slot_of n.slot) None (shape_of net n.left) (shape_of net n.right) (shape_of net w.discard.new.self) key was is turn w.discard.ensures.slots q
+          let is : IsRooted prefix (slot_of n.slot) (shape_of net w.discard.new.self) (shape_of net n.right) new = rw w.node-is (refl, refl, refl, refl) in
+          fork_left (shape_of net c.args.self.now) new prefix (slot_of n.slot) None (shape_of net n.left) (shape_of net n.right) (shape_of net w.discard.new.self) key was is turn w.discard.ensures.slots q
       | in-Right w ↦
-          let n = w.deref_mut-in-Right.result.now in
           let turn : turn_of (way prefix) key ≡ Right = cc in
-          let was : IsRooted prefix (slot_of n.slot) (shape_of net n.left) (shape_of net n.right) (shape_of net c.args.self.now) = rw c.in-Rooted.is (cc, cc, cc, cc) in
-          let is : IsRooted prefix (slot_of n.slot) (shape_of net n.left) (shape_of net w.discard-in-Right.new.self) (shape_of net c.match-turn.self) = rw w.self-is (refl, refl, refl, refl) in
-          fork_right (shape_of net c.args.self.now) (shape_of net c.match-turn.self) prefix (slot_of n.slot) None (shape_of net n.left) (shape_of net n.right) (shape_of net w.discard-in-Right.new.self) key was is turn w.discard-in-Right.ensures.slots q
+          let is : IsRooted prefix (slot_of n.slot) (shape_of net n.left) (shape_of net w.discard-in-Right.new.self) new = rw w.node-is (refl, refl, refl, refl) in
+          fork_right (shape_of net c.args.self.now) new prefix (slot_of n.slot) None (shape_of net n.left) (shape_of net n.right) (shape_of net w.discard-in-Right.new.self) key was is turn w.discard-in-Right.ensures.slots q
     ]

@@ -1,11 +1,11 @@
-use Rattle.std.proofs.Common.{◌≡◌, Some, None, cond, sym, ap, ◌∙◌, refl}
+use Rattle.std.proofs.Common.{◌≡◌, Some, refl}
 use Rattle.ip_prefix.specs.declared.turn.Turn.TheVariants.{Here, Left, Right}
 use Rattle.ip_prefix.specs.Turns.{way, turn_of}
-use Rattle.rib_store.specs.Shape.{shape_of, IsLeaf}
-use Rattle.rib_store.specs.Tree.{at, chosen, same_way, slot_of, IsRooted}
-use Rattle.rib_store.proofs.TreeLaws.{at_rooted}
-use Rattle.rib_store.proofs.ChangeLaws.{put_left, put_right, put_here}
+use Rattle.rib_store.specs.Shape.{Rooted, shape_of, IsLeaf}
+use Rattle.rib_store.specs.Tree.{slot_of, IsRooted}
+use Rattle.rib_store.proofs.ChangeLaws.{fork_left, fork_right, fork_here}
 use Rattle.rib_store.proofs.ShapeLaws.{put_leaf}
+use Rattle.rib_store.proofs.tree.Tree.+exchange.Goals.{in-Here, in-Left, in-Right}
 use Rattle.rib_store.proofs.tree.Tree.+exchange.Goals as goal
 
 pub returns-in-Bare-clause-slots : goal.returns-in-Bare-clause-slots
@@ -18,36 +18,28 @@ returns-in-Leaf-clause-slots g t c =
     let was : IsLeaf c.in-Leaf.prefix c.args.self.now = rw c.in-Leaf.is refl in
     put_leaf g.K.Packed.network c.args.self.now c.exchange_leaf-in-Leaf.new.tree c.in-Leaf.prefix (way c.args.key.now) c.args.route.now was c.exchange_leaf-in-Leaf.ensures.leaf c.exchange_leaf-in-Leaf.ensures.slot c.requires.key
 
-pub returns-in-Here-clause-slots : goal.returns-in-Here-clause-slots
-returns-in-Here-clause-slots g t c = λ q.
+pub returns-after-turn-clause-slots : goal.returns-after-turn-clause-slots
+returns-after-turn-clause-slots g t c = λ q.
     let net = g.K.Packed.network in
-    let n = c.deref_mut.result.now in
+    let n = c.deref_mut-node.result.now in
+    let m = c.match-turn.node in
     let prefix = net c.in-Rooted.prefix in
     let key = way c.args.key.now in
-    let turn : turn_of (way prefix) key ≡ Here = cc in
-    let was : IsRooted prefix (slot_of n.slot) (shape_of net n.left) (shape_of net n.right) (shape_of net c.args.self.now) = rw c.in-Rooted.is (cc, cc, cc, cc) in
-    ap (λ s. chosen (turn_of (way prefix) q) None s (at (shape_of net n.left) q) (at (shape_of net n.right) q)) c.exchange.ensures.slot
-    ∙ put_here (way prefix) key None (slot_of n.slot) (Some c.args.route.now) (at (shape_of net n.left)) (at (shape_of net n.right)) turn q
-    ∙ ap (cond (same_way key q) (Some c.args.route.now)) (sym (at_rooted (shape_of net c.args.self.now) prefix (slot_of n.slot) (shape_of net n.left) (shape_of net n.right) was q))
-
-pub returns-in-Left-clause-slots : goal.returns-in-Left-clause-slots
-returns-in-Left-clause-slots g t c = λ q.
-    let net = g.K.Packed.network in
-    let n = c.deref_mut-in-Left.result.now in
-    let prefix = net c.in-Rooted.prefix in
-    let key = way c.args.key.now in
-    let turn : turn_of (way prefix) key ≡ Left = cc in
-    let was : IsRooted prefix (slot_of n.slot) (shape_of net n.left) (shape_of net n.right) (shape_of net c.args.self.now) = rw c.in-Rooted.is (cc, cc, cc, cc) in
-    put_left (way prefix) key None (slot_of n.slot) (Some c.args.route.now) (at (shape_of net n.left)) (at (shape_of net c.exchange-in-Left.new.self)) (at (shape_of net n.right)) turn c.exchange-in-Left.ensures.slots q
-    ∙ ap (cond (same_way key q) (Some c.args.route.now)) (sym (at_rooted (shape_of net c.args.self.now) prefix (slot_of n.slot) (shape_of net n.left) (shape_of net n.right) was q))
-
-pub returns-in-Right-clause-slots : goal.returns-in-Right-clause-slots
-returns-in-Right-clause-slots g t c = λ q.
-    let net = g.K.Packed.network in
-    let n = c.deref_mut-in-Right.result.now in
-    let prefix = net c.in-Rooted.prefix in
-    let key = way c.args.key.now in
-    let turn : turn_of (way prefix) key ≡ Right = cc in
-    let was : IsRooted prefix (slot_of n.slot) (shape_of net n.left) (shape_of net n.right) (shape_of net c.args.self.now) = rw c.in-Rooted.is (cc, cc, cc, cc) in
-    put_right (way prefix) key None (slot_of n.slot) (Some c.args.route.now) (at (shape_of net n.left)) (at (shape_of net n.right)) (at (shape_of net c.exchange-in-Right.new.self)) turn c.exchange-in-Right.ensures.slots q
-    ∙ ap (cond (same_way key q) (Some c.args.route.now)) (sym (at_rooted (shape_of net c.args.self.now) prefix (slot_of n.slot) (shape_of net n.left) (shape_of net n.right) was q))
+    let slot = Some c.args.route.now in
+    let old = shape_of net c.args.self.now in
+    let new = Rooted prefix m.slot (shape_of net m.left) (shape_of net m.right) in
+    let was : IsRooted prefix (slot_of n.slot) (shape_of net n.left) (shape_of net n.right) old = rw c.in-Rooted.is (cc, cc, cc, cc) in
+    elim c.match-turn.branch [
+      | in-Here w ↦
+          let turn : turn_of (way prefix) key ≡ Here = cc in
+          let is : IsRooted prefix slot (shape_of net n.left) (shape_of net n.right) new = rw w.node-is (refl, refl, refl, w.exchange.ensures.slot) in
+          fork_here old new prefix (slot_of n.slot) slot (shape_of net n.left) (shape_of net n.right) key was is turn q
+      | in-Left w ↦
+          let turn : turn_of (way prefix) key ≡ Left = cc in
+          let is : IsRooted prefix (slot_of n.slot) (shape_of net w.exchange-in-Left.new.self) (shape_of net n.right) new = rw w.node-is (refl, refl, refl, refl) in
+          fork_left old new prefix (slot_of n.slot) slot (shape_of net n.left) (shape_of net n.right) (shape_of net w.exchange-in-Left.new.self) key was is turn w.exchange-in-Left.ensures.slots q
+      | in-Right w ↦
+          let turn : turn_of (way prefix) key ≡ Right = cc in
+          let is : IsRooted prefix (slot_of n.slot) (shape_of net n.left) (shape_of net w.exchange-in-Right.new.self) new = rw w.node-is (refl, refl, refl, refl) in
+          fork_right old new prefix (slot_of n.slot) slot (shape_of net n.left) (shape_of net n.right) (shape_of net w.exchange-in-Right.new.self) key was is turn w.exchange-in-Right.ensures.slots q
+    ]

@@ -25,7 +25,7 @@ pub returns-in-Filled : goal.returns-in-Filled
 returns-in-Filled g t c =
     let net = g.K.Packed.network in
     let n = c.in-Rooted.node.value in
-    let prefix = net c.in-Rooted.field-0 in
+    let prefix = net c.in-Rooted.field-1 in
     let is : IsRooted prefix (slot_of n.slot) (shape_of net n.left) (shape_of net n.right) (shape_of net c.args.self.now) = rw c.in-Rooted.is (refl, refl, refl, refl) in
     let all = length-routed-rooted (shape_of net c.args.self.now) prefix (slot_of n.slot) (shape_of net n.left) (shape_of net n.right) is in
     let here : routes_at (slot_of n.slot) ≡ 1 = ap (λ m. routes_at (slot_of m.slot)) (sym c.deref-in-Rooted-2.ensures) ∙ ap (λ s. routes_at (slot_of s)) c.in-Filled.is in
@@ -37,7 +37,7 @@ pub returns-in_default : goal.returns-in_default
 returns-in_default g t c =
     let net = g.K.Packed.network in
     let n = c.in-Rooted.node.value in
-    let prefix = net c.in-Rooted.field-0 in
+    let prefix = net c.in-Rooted.field-1 in
     let is : IsRooted prefix (slot_of n.slot) (shape_of net n.left) (shape_of net n.right) (shape_of net c.args.self.now) = rw c.in-Rooted.is (refl, refl, refl, refl) in
     let all = length-routed-rooted (shape_of net c.args.self.now) prefix (slot_of n.slot) (shape_of net n.left) (shape_of net n.right) is in
     let here : routes_at (slot_of n.slot) ≡ 0 = ap (λ m. routes_at (slot_of m.slot)) (sym c.deref-in-Rooted-2.ensures) ∙ routes_at-none c.deref-in-Rooted-2.result.now.slot c.in_default.not-Filled in

@@ -9,4 +9,4 @@ returns-clause-grown g c =
     hung net c.args.tree.now (shape_of net c.put_root.new.tree) c.args.prefix c.args.key.now _ _ c.args.side c.requires.leaf c.requires.side c.requires.turn
     (c.slot_in-slot.ensures ∙ ap (λ t. Some (leaf_slot t)) (c.replace.ensures.value))
     (c.of.ensures, refl, refl, refl)
-    c.put_root.ensures
+    c.put_root.ensures.rooted

@@ -21,7 +21,7 @@ returns-in-Here-clause-grown g c =
     let turn : side ≡ turn_of (way top) (way old) = c.turn-side.ensures ∙ (λ i. turn_of (way (sym above i)) (way old)) in
     grown_over key top (way old) (Some None) Empty side c.requires.outside c.requires.root c.requires.shaped shares turn
     (subst (λ t. IsRooted top (Some None) (chosen side Empty Empty (shape_of net t) Empty) (chosen side (shape_of net t) (shape_of net t) Empty (shape_of net t)) (shape_of net c.put_root.new.tree))
-    c.replace-below.ensures.value c.put_root.ensures)
+    c.replace-below.ensures.value c.put_root.ensures.rooted)
     (is_key there refl refl)
 
 pub returns : goal.returns
@@ -40,7 +40,8 @@ returns g c =
     record {
       grown = grown_over key top (way old) (slot_of c.in_ok-above.above.value.slot) beside side c.requires.outside c.requires.root c.requires.shaped shares turn
           (subst (λ t. IsRooted top (slot_of c.in_ok-above.above.value.slot) (chosen side beside beside (shape_of net t) beside) (chosen side (shape_of net t) (shape_of net t) beside (shape_of net t)) (shape_of net c.put_root-2.new.tree))
-          c.replace-below.ensures.value c.put_root-2.ensures)
+          c.replace-below.ensures.value c.put_root-2.ensures.rooted)
           (is_branch apart c.in_ok-above.ensures leaf);
+      marked = c.put_root-2.ensures.marked;
       refused = tt;
     }

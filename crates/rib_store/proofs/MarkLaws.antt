@@ -1,0 +1,27 @@
+-- What the marks of a tree say: where there is none, no route is found.
+use Rattle.std.proofs.Common.{◌≡◌, Bool, true, false, ◌||◌, Option, None, refl, sym, ◌∙◌}
+use Rattle.ip_prefix.specs.Network.{Network}
+use Rattle.rib_store.specs.declared.tree.Slot.{Slot}
+use Rattle.rib_store.specs.declared.tree.Slot.TheVariants.{Branch, Vacant, Filled}
+use Rattle.rib_store.specs.declared.tree.Tree.{Tree}
+use Rattle.rib_store.specs.declared.tree.Tree.TheVariants as tree
+use Rattle.rib_store.specs.Shape.{shape_of, is_filled, is_routed, IsMarked}
+use Rattle.rib_store.specs.Tree.{slot_of}
+use Rattle.rib_store.specs.Walks.{routed_at, either_of, first}
+
+none_of : {R : Type 0} (prefix : Network) (slot : Slot R) (l r : Bool) (x y : Option (Network × R)) → (is_filled slot || (l || r)) ≡ false
+    → (l ≡ false → x ≡ None) → (r ≡ false → y ≡ None) → either_of (routed_at prefix (slot_of slot)) (either_of x y) ≡ None
+none_of prefix (Filled route) l r x y e left right = cc
+none_of prefix Branch true r x y e left right = cc
+none_of prefix Branch false r x y e left right = λ i. either_of (left refl i) (right e i)
+none_of prefix Vacant true r x y e left right = cc
+none_of prefix Vacant false r x y e left right = λ i. either_of (left refl i) (right e i)
+
+-- a tree whose root isn't marked has no route
+pub unmarked_first : {K R : Type 0} (network : K → Network) (t : Tree K R) → IsMarked t → is_routed t ≡ false → first (shape_of network t) ≡ None
+unmarked_first network tree.Empty marked e = refl
+unmarked_first network (tree.Bare key) marked e = refl
+unmarked_first network (tree.Leaf key route) marked e = cc
+unmarked_first network (tree.Rooted' routed key p slot left right) marked e =
+    none_of (network key) slot (is_routed left) (is_routed right) (first (shape_of network left)) (first (shape_of network right)) (sym marked.0 ∙ e)
+    (unmarked_first network left marked.1) (unmarked_first network right marked.2)

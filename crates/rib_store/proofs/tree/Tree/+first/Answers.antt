@@ -1,0 +1,11 @@
+use Rattle.std.proofs.Common.{◌≡◌, false, ap, ◌∙◌}
+use Rattle.rib_store.specs.Shape.{is_routed}
+use Rattle.rib_store.proofs.MarkLaws.{unmarked_first}
+use Rattle.rib_store.proofs.tree.Tree.+first.Goals as goal
+
+pub returns-then-not-routed : goal.returns-then-not-routed
+returns-then-not-routed g t c =
+    let net = g.K.Packed.network in
+    let mark : c.in-Rooted.routed ≡ false = cc in
+    let off : is_routed c.args.self.now ≡ false = ap is_routed c.in-Rooted.is ∙ mark in
+    unmarked_first net c.args.self.now c.requires off
