@@ -11,7 +11,6 @@ mod lines;
 mod outcome;
 mod output;
 mod reports;
-mod same;
 mod write;
 
 pub use dump::{LIMIT, run_dump};

@@ -12,9 +12,8 @@ ghost use Rattle.bgpdump_lines.specs.Lines.{head_at, front_at, prefix_at, tail_a
 ghost use Rattle.bgpdump_lines.specs.Lines.{item_line, event_lines};
 
 use crate::fields::{put_attributes, put_field, put_peer, put_prefix};
-use crate::same::{same_peer, same_prefix, same_route};
 use ip_prefix::{Prefix, Text};
-use mrt_wire::{Event, Item, Peer, Route, Tag, Time};
+use mrt_wire::{Event, Item, Peer, Route, Tag, Time, same_peer, same_prefix, same_route};
 use std::alloc::AllocError;
 
 /// How many digits the microseconds of a line have at least.
