@@ -1,6 +1,6 @@
 -- What items say, in order.
 use Rattle.std.proofs.Common.{◌≡◌, ℕ, zero, suc, All, ◌+◌, ◌-◌, ◌≤◌, List, [], ◌∷◌, ◌++◌, map, length, take, drop, refl, ap, sym, subst, ◌∙◌, arith, append_assoc}
-use Rattle.std.proofs.lemmas.List.{map-append, drop-drop, take-append-drop, take_all, take-map, drop-map}
+use Rattle.std.proofs.lemmas.List.{map-append, drop-drop, take-append-drop, take_all, drop-map}
 use Rattle.std.proofs.lemmas.Grind.{flat_map-append}
 use Rattle.std.specs.List.{flat_map}
 use Rattle.mrt_wire.specs.declared.event.Item.{Item}
@@ -58,10 +58,6 @@ pub lines-turn : (line : Saying → List ℕ) (done piece more rest items : List
 lines-turn line done piece more rest items whole part =
     ap (λ l. flat_map line (map saying l)) (sym whole ∙ ap (λ l. done ++ l) (sym part)) ∙ lines-append line done (piece ++ more)
     ∙ ap (λ l. flat_map line (map saying done) ++ l) (lines-append line piece more)
-
--- what the items in a range say stands in that range of what all say
-pub said_range : (items : List Item) (said : List Saying) (a n : ℕ) → map saying items ≡ said → AreOfOneRoute (take n (drop a said)) → AreOfOneRoute (map saying (take n (drop a items)))
-said_range items said a n e one = subst AreOfOneRoute (ap (λ l. take n (drop a l)) (sym e) ∙ ap (take n) (drop-map saying a items) ∙ take-map saying n (drop a items)) one
 
 -- ---- fewer announcements of one route
 

@@ -13,7 +13,6 @@ mod outcome;
 mod output;
 mod reports;
 mod route_line;
-mod same;
 mod write;
 
 pub use dump::{LIMIT, run_dump};

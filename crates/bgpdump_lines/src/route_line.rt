@@ -10,9 +10,8 @@ ghost use Rattle.bgpdump_lines.specs.Copying.{head_at, front_at, prefix_at, tail
 
 use crate::fields::{put_attributes, put_peer, put_prefix};
 use crate::heading::{Heading, put_route_head};
-use crate::same::{same_peer, same_prefix, same_route};
 use ip_prefix::{Prefix, Text};
-use mrt_wire::{Peer, Route};
+use mrt_wire::{Peer, Route, same_peer, same_prefix, same_route};
 use std::alloc::AllocError;
 
 /// A peer's route to a prefix.

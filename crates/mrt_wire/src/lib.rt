@@ -11,6 +11,7 @@ mod peer_index;
 mod pool;
 mod profile;
 mod rib;
+mod same;
 mod session;
 mod source;
 mod table_dump;
@@ -21,4 +22,5 @@ pub use laws::{no_octets_without_a_split, one_content, one_split, peer_order, re
 pub use mrt_frames::{InFault, Input, ReadInput, RecordFault, RecordKind, SourceFault};
 pub use next::{Next, Phase};
 pub use peer::Peer;
+pub use same::{same_peer, same_prefix, same_route};
 pub use source::Source;

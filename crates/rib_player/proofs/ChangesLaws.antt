@@ -1,6 +1,8 @@
 -- What is noted of an event's items and of lost peers' pairs, step by step.
-use Rattle.std.proofs.Common.{◌≡◌, ℕ, suc, ◌+◌, ◌<◌, Bool, true, false, cond, ◌&&◌, ◌||◌, List, [], ◌∷◌, map, take, get_or, length, drop, drop-cons, Option, Some, None, is_some, refl, sym, ap, ap₂, ◌∙◌}
+use Rattle.std.proofs.Common.{◌≡◌, ℕ, zero, suc, ◌+◌, ◌-◌, ◌<◌, ◌≤◌, ◌++◌, Bool, true, false, cond, ◌&&◌, ◌||◌, List, [], ◌∷◌, map, take, get_or, length, drop, drop-cons, Option, Some, None, is_some, IfSome, slice_get, refl, sym, subst, ap, ap₂, ◌∙◌, arith}
 use Rattle.std.specs.List.{list_any}
+use Rattle.std.proofs.lemmas.List.{drop-drop, take-append-drop, get_or-map, length-map}
+use Rattle.std.proofs.lemmas.List.Elements.{All-get_or}
 use Rattle.std.specs.Option.{option_map}
 use Rattle.std.specs.Ordering.{eq_by_cmp}
 use Rattle.std.specs.Cmp.{eq_by_cmp_equiv}
@@ -12,10 +14,10 @@ use Rattle.mrt_wire.specs.declared.peer.Peer.{Peer}
 use Rattle.rib_player.specs.declared.pair.Pair.{Pair}
 use Rattle.mrt_wire.specs.declared.event.Route.{Route}
 use Rattle.mrt_wire.specs.declared.event.Item.{Item}
-use Rattle.mrt_wire.specs.Event.{saying}
-use Rattle.rib_player.specs.History.{pair_cmp, Effect, Keep, Clear, Set, where_true, item_effect, later, last_effect}
+use Rattle.mrt_wire.specs.Event.{Saying, Announced, Withdrawn, Changed, saying, Announces, AreOfOneRoute}
+use Rattle.rib_player.specs.History.{pair_cmp, Effect, Keep, Clear, Set, where_true, item_effect, later}
 use Rattle.rib_player.specs.Store.{Slots, slot_at, route_in}
-use Rattle.rib_player.specs.Changes.{found, is_lost, effect_of, or_absent}
+use Rattle.rib_player.specs.Changes.{found, is_lost, effect_of, or_absent, items_effect, HasRoute}
 use Rattle.rib_player.proofs.PairLaws.{pair_cmp_total, same_pair}
 use Rattle.octet_forms.proofs.Options.{is_some-option_map}
 
@@ -172,14 +174,64 @@ found-more pairs i pair kept old new q h at before step =
     ∙ ap (λ p. or_absent kept (list_any (eq_by_cmp pair_cmp q) (take i pairs) || eq_by_cmp pair_cmp q p)) at
     ∙ ap (or_absent kept) (sym (list_any_more (eq_by_cmp pair_cmp q) pairs i pair h))
 
--- one more of a list, before those of which the last decides
-pub last_effect-more : {A : Type 0} (f : A → Effect) (items : List A) (i rest : ℕ) (item : A) (later_ones here : Effect) → i < length items → suc i ≡ rest → item ≡ get_or items i item
-    → later_ones ≡ last_effect (map f (drop rest items)) → here ≡ later (f item) later_ones
-    → here ≡ last_effect (map f (drop i items))
-last_effect-more f items i rest item later_ones here h next at before step =
+-- of three effects it doesn't matter which two are taken together
+later-together : (first second third : Effect) → later first (later second third) ≡ later (later first second) third
+later-together first second Keep = refl
+later-together first second Clear = refl
+later-together first second (Set route) = refl
+
+-- one more item, before those that are noted before what was noted at first
+pub items_effect-more : (q : Pair) (items : List Item) (i rest : ℕ) (item : Item) (before old here : Effect) → i < length items → suc i ≡ rest → item ≡ get_or items i item
+    → old ≡ later (items_effect q (drop rest items)) before → here ≡ later (item_effect q (saying item)) old
+    → here ≡ later (items_effect q (drop i items)) before
+items_effect-more q items i rest item before old here h next at noted step =
     step
-    ∙ ap₂ (λ a b. later (f a) b) at (before ∙ ap (λ n. last_effect (map f (drop n items))) (sym next))
-    ∙ ap (λ xs. last_effect (map f xs)) (sym (drop-cons items i item h))
+    ∙ ap₂ (λ a b. later (item_effect q (saying a)) b) at (noted ∙ ap (λ n. later (items_effect q (drop n items)) before) (sym next))
+    ∙ later-together (item_effect q (saying (get_or items i item))) (items_effect q (drop (suc i) items)) before
+    ∙ ap (λ xs. later (items_effect q xs) before) (sym (drop-cons items i item h))
+
+-- what items do, and others behind them
+items_effect-append : (q : Pair) (xs ys : List Item) → items_effect q (xs ++ ys) ≡ later (items_effect q xs) (items_effect q ys)
+items_effect-append q [] ys = sym (later-keep (items_effect q ys))
+items_effect-append q (x ∷ xs) ys =
+    ap (later (item_effect q (saying x))) (items_effect-append q xs ys)
+    ∙ later-together (item_effect q (saying x)) (items_effect q xs) (items_effect q ys)
+
+-- what is noted of three parts of the items, from the last to the first, is what all of them do
+pub effect-parts : (q : Pair) (items : List Item) (a b : ℕ) (third second first : Effect) → a ≤ b
+    → third ≡ later (items_effect q (drop b items)) Keep
+    → second ≡ later (items_effect q (take (b - a) (drop a items))) third
+    → first ≡ later (items_effect q (take a items)) second
+    → first ≡ items_effect q items
+effect-parts q items a b third second first le back middle front =
+    let behind : drop (b - a) (drop a items) ≡ drop b items = drop-drop (b - a) a items ∙ ap (λ n. drop n items) {x = a + (b - a)} {y = b} (omega (arith, le)) in
+    front
+    ∙ ap (later (items_effect q (take a items))) (middle ∙ ap (later (items_effect q (take (b - a) (drop a items)))) (back ∙ ap (items_effect q) (sym behind)))
+    ∙ ap (later (items_effect q (take a items))) (sym (items_effect-append q (take (b - a) (drop a items)) (drop (b - a) (drop a items))) ∙ ap (items_effect q) (take-append-drop (b - a) (drop a items)))
+    ∙ sym (items_effect-append q (take a items) (drop a items))
+    ∙ ap (items_effect q) (take-append-drop a items)
+
+-- what announces with a route has it
+announces-has : (peer : Peer) (route same : Route) (s : Saying) → same ≡ route → Announces peer same s → HasRoute route s
+announces-has peer route same (Announced other network this) e is = is.1 ∙ e
+announces-has peer route same (Withdrawn other network) e is = absurd is
+announces-has peer route same (Changed other old new) e is = absurd is
+
+-- of items that share a route each has that of the first
+pub shared-has_route : (items : List Item) (route : Route) (i : ℕ) (item : Item) → AreOfOneRoute (map saying items)
+    → IfSome (slice_get items 0) (λ first. HasRoute route (saying first)) → i < length items → item ≡ get_or items i item
+    → HasRoute route (saying item)
+shared-has_route [] route i item one has less at = absurd (omega (arith, less))
+shared-has_route (first ∷ rest) route zero item one has less at = subst (λ x. HasRoute route (saying x)) (sym at) has
+shared-has_route (first ∷ rest) route (suc i) item one has less at = by (saying first) has one
+  where
+    by : (s : Saying) → HasRoute route s → AreOfOneRoute (s ∷ map saying rest) → HasRoute route (saying item)
+    by (Announced peer network same) e all =
+        let within : i < length (map saying rest) = omega (arith, less, length-map rest saying) in
+        let said : get_or (map saying rest) i (saying item) ≡ saying item = get_or-map saying rest i item (saying item) (omega (arith, less)) ∙ ap saying (sym at) in
+        announces-has peer route same (saying item) e (subst (Announces peer same) said (All-get_or (Announces peer same) (map saying rest) i (saying item) within all))
+    by (Withdrawn peer network) e all = absurd all
+    by (Changed peer old new) e all = absurd all
 
 -- what items say has the effects of the items
 pub effects-sayings : (q : Pair) (items : List Item) → map (item_effect q) (map saying items) ≡ map (λ item. item_effect q (saying item)) items

@@ -16,6 +16,7 @@ pub mod MarkLaws
 pub mod SearchLaws
 pub mod CountLaws
 pub mod KeyLaws
+pub mod KnownLaws
 pub mod PlayedLaws
 pub mod UnseenLaws
 pub mod DigestLaws

@@ -1,5 +1,5 @@
 -- What is noted of an event's items, pair by pair.
-use Rattle.std.specs.Prelude.{Bool, true, false, List, Option, Some, None}
+use Rattle.std.specs.Prelude.{Bool, true, false, List, map, Option, Some, None, ◌≡◌}
 use Rattle.std.specs.List.{list_any}
 use Rattle.std.specs.Option.{option_map}
 use Rattle.std.specs.Ordering.{eq_by_cmp}
@@ -8,7 +8,9 @@ use Rattle.rib_player.specs.declared.pair.Pair.{Pair}
 use Rattle.mrt_wire.specs.declared.event.Route.{Route}
 use Rattle.rib_player.specs.declared.changes.Changes.{Changes}
 use Rattle.mrt_wire.specs.Peer.{peer_cmp}
-use Rattle.rib_player.specs.History.{Effect, Clear, Set, where_true}
+use Rattle.mrt_wire.specs.declared.event.Item.{Item}
+use Rattle.mrt_wire.specs.Event.{Saying, Announced, Withdrawn, Changed, saying}
+use Rattle.rib_player.specs.History.{Effect, Clear, Set, where_true, item_effect, last_effect}
 use Rattle.rib_player.specs.Store.{Slots, slot_at, route_in}
 
 -- the route, or its absence, that is kept for a pair
@@ -34,3 +36,13 @@ abbrev pub or_absent : Option (Option Route) → Bool → Option (Option Route)
 or_absent (Some kept) absent = Some kept
 or_absent None true = Some None
 or_absent None false = None
+
+-- what items do to a pair
+abbrev pub items_effect : Pair → List Item → Effect
+items_effect pair items = last_effect (map (λ item. item_effect pair (saying item)) items)
+
+-- it announces this route
+abbrev pub HasRoute : Route → Saying → Type 0
+HasRoute route (Announced peer network same) = same ≡ route
+HasRoute route (Withdrawn peer network) = ⊥
+HasRoute route (Changed peer old new) = ⊥

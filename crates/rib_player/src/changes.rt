@@ -1,20 +1,21 @@
 //! What an event does, pair by pair.
 
-ghost use Rattle.std.specs.Prelude.{◌≡◌, ◌||◌, ◌&&◌, [], ◌∷◌, ◌≢◌, IfOk, IfSome, IfNone, OnOk, OnErr, Some, None, true, false, is_some, if◌then◌else◌, map};
+ghost use Rattle.std.specs.Prelude.{◌≡◌, ◌||◌, ◌&&◌, [], ◌∷◌, ◌≢◌, IfOk, IfSome, IfNone, OnOk, OnErr, Some, None, true, false, is_some, if◌then◌else◌, map, slice_get};
 ghost use Rattle.std.specs.List.{AllByRecursion, list_any, filter, IsDistinct};
 ghost use Rattle.std.specs.Map.{keys_of};
 ghost use Rattle.std.specs.Ordering.{eq_by_cmp};
 ghost use Rattle.std.specs.FinMap as finite;
-ghost use Rattle.mrt_wire.specs.Event.{saying};
+ghost use Rattle.mrt_wire.specs.Event.{saying, AreOfOneRoute};
 ghost use Rattle.rib_player.specs.declared.pair.Pair.{Pair};
 ghost use Rattle.mrt_wire.specs.declared.peer.Peer.{Peer};
 ghost use Rattle.mrt_wire.specs.Peer.{peer_cmp};
 ghost use Rattle.rib_player.specs.History.{pair_cmp, Clear, where_true, item_effect, later, effect};
 ghost use Rattle.rib_player.specs.Store.{route_in, slot_at};
-ghost use Rattle.rib_player.specs.Changes.{noted_effect, found, is_lost, or_absent, effect_of};
+ghost use Rattle.rib_player.specs.Changes.{noted_effect, found, is_lost, or_absent, effect_of, items_effect, HasRoute};
 ghost use Rattle.rib_player.specs.Journal.{side_of, sides_of, pairs_in, cleared_side, slot_side, AreOrdered, IsStepFor, clearings_of, clearing_then};
 
 use crate::journal::Entry;
+use crate::known::KnownRoutes;
 use crate::pair::Pair;
 use crate::table::Table;
 use mrt_wire::{Event, Item, Peer, Route};
@@ -73,7 +74,7 @@ impl Changes {
     }
 
     /// Notes what the item does, which stands before all that are noted.
-    fn note(&mut self, item: &Item) -> Result<(), AllocError>
+    fn note(&mut self, item: &Item, known: &mut KnownRoutes) -> Result<(), AllocError>
         ensures { OnOk result ((q : Pair) → noted_effect self.new q
             ≡ later (item_effect q (saying item.now)) (noted_effect self.old q)) }
     {
@@ -83,7 +84,7 @@ impl Changes {
                     peer: *peer,
                     prefix: *prefix,
                 };
-                self.note_route(pair, Some(route.clone()?))
+                self.note_route(pair, Some(known.known_if_short(route)?))
             }
             Item::Withdraw(peer, prefix) => {
                 let pair = Pair {
@@ -100,10 +101,79 @@ impl Changes {
             }
         }
     }
+
+    /// Notes what the items do, which stand before all that are noted.
+    fn note_each(&mut self, items: &[Item], known: &mut KnownRoutes) -> Result<(), AllocError>
+        ensures { OnOk result ((q : Pair) → noted_effect self.new q
+            ≡ later (items_effect q items.now) (noted_effect self.old q)) }
+    {
+        let mut rest = items.len();
+        'items: while rest > 0 {
+            rest -= 1;
+            self.note(&items[rest], known)?;
+        }
+        Ok(())
+    }
+
+    /// Notes what an item does that announces this route, which stands before all that are noted.
+    fn note_announced(&mut self, item: &Item, route: &Rc<Route>) -> Result<(), AllocError>
+        requires { HasRoute route.now.value (saying item.now) }
+        ensures { OnOk result ((q : Pair) → noted_effect self.new q
+            ≡ later (item_effect q (saying item.now)) (noted_effect self.old q)) }
+    {
+        match item {
+            Item::Announce(peer, prefix, _) => {
+                let pair = Pair {
+                    peer: *peer,
+                    prefix: *prefix,
+                };
+                self.note_route(pair, Some(route.clone()?))
+            }
+            Item::Withdraw(_, _) => unreachable!(),
+            Item::State(_, _, _) => unreachable!(),
+        }
+    }
+
+    /// Notes what items do that share a route, which stand before all that are noted.
+    fn note_shared(&mut self, items: &[Item], known: &mut KnownRoutes) -> Result<(), AllocError>
+        requires { AreOfOneRoute (map saying items.now) }
+        ensures { OnOk result ((q : Pair) → noted_effect self.new q
+            ≡ later (items_effect q items.now) (noted_effect self.old q)) }
+    {
+        let Some(route) = first_route(items) else {
+            return self.note_each(items, known);
+        };
+        let route = known.known(route)?;
+        let mut rest = items.len();
+        'items: while rest > 0 {
+            rest -= 1;
+            self.note_announced(&items[rest], &route)?;
+        }
+        Ok(())
+    }
+}
+
+/// The route that the item announces, if it announces one.
+fn announced_route(item: &Item) -> Option<&Rc<Route>>
+    ensures { IfSome result (λ route. HasRoute route.now.value (saying item.now)) }
+{
+    match item {
+        Item::Announce(_, _, route) => Some(route),
+        Item::Withdraw(_, _) => None,
+        Item::State(_, _, _) => None,
+    }
+}
+
+/// The route that the first item announces, if it announces one.
+fn first_route(items: &[Item]) -> Option<&Rc<Route>>
+    ensures { IfSome result (λ route. IfSome (slice_get items.now 0) (λ item.
+        HasRoute route.now.value (saying item))) }
+{
+    announced_route(items.first()?)
 }
 
 /// What the event does.
-fn changes_of(alloc: Global, event: &Event) -> Result<Changes, AllocError>
+fn changes_of(alloc: Global, event: &Event, known: &mut KnownRoutes) -> Result<Changes, AllocError>
     ensures { IfOk result (λ changes. (q : Pair) → noted_effect changes q ≡ effect q event.now) }
 {
     let mut changes = Changes {
@@ -111,11 +181,11 @@ fn changes_of(alloc: Global, event: &Event) -> Result<Changes, AllocError>
         lost: BTreeSet::new(alloc),
     };
     let items = event.items.as_slice();
-    let mut rest = items.len();
-    'items: while rest > 0 {
-        rest -= 1;
-        changes.note(&items[rest])?;
-    }
+    let shared = event.items.shared();
+    changes.note_each(&items[shared.end..], known)?;
+    changes.note_shared(&items[shared.start..shared.end], known)?;
+    changes.note_each(&items[..shared.start], known)?;
+    known.note_released(items.len().saturating_sub(changes.routes.len()) as u64);
     Ok(changes)
 }
 
@@ -280,13 +350,14 @@ pub(crate) fn step_for<S: PrefixStore<Rc<Route>>>(
     alloc: Global,
     event: &Event,
     table: &Table<S>,
+    known: &mut KnownRoutes,
 ) -> Result<Vec<Entry>, AllocError>
     ensures step { IfOk result (λ entries.
         IsStepFor table.now.routes event.now (sides_of entries.items)) }
     ensures clearings { IfOk result (λ entries.
         clearings_of entries.items ≡ map clearing_then (sides_of entries.items)) }
 {
-    let changes = changes_of(alloc, event)?;
+    let changes = changes_of(alloc, event, known)?;
     if let Some(peer) = changes.only_loss() {
         return lost_entries(alloc, &peer, table);
     }

@@ -12,7 +12,7 @@ use std::collections::VecDeque;
 
 /// By which a number is multiplied so that the highest bits of the product hang on all of it: the
 /// odd number next to 2^64 divided by the golden ratio.
-const MULTIPLIER: u64 = 0x9e37_79b9_7f4a_7c15;
+pub(crate) const MULTIPLIER: u64 = 0x9e37_79b9_7f4a_7c15;
 
 /// How many bits a digest has.
 const DIGEST_BITS: u64 = 64;
@@ -49,7 +49,7 @@ fn hashed_place(family: Family) -> usize
 
 /// Four octets of an address from a place on, as a number.
 #[inline]
-fn four_octets(addr: &Addr, place: usize) -> u32
+pub(crate) fn four_octets(addr: &Addr, place: usize) -> u32
     requires { place + 4 ≤ octet_count addr.now.family }
     ensures { result ≡ four_octets addr.now place }
 {

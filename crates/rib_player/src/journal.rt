@@ -41,12 +41,12 @@ pub(crate) struct Step {
     pub(crate) entries: Vec<Entry>,
 }
 
-/// How many pairs the steps name, in all.
-pub(crate) fn named_total(steps: &VecDeque<Step>) -> u64
-    ensures { result ≡ counted (sum_by entry_count steps.now.items) }
+/// How many pairs the steps from the index on name, in all.
+pub(crate) fn named_from(steps: &VecDeque<Step>, start: usize) -> u64
+    ensures { result ≡ counted (sum_by entry_count (drop start steps.now.items)) }
 {
     let mut total = 0u64;
-    'steps: for index in 0..steps.len() {
+    'steps: for index in start..steps.len() {
         total = total.saturating_add(steps[index].entries.len() as u64);
     }
     total

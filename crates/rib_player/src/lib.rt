@@ -4,9 +4,11 @@
 mod changes;
 mod digest;
 mod journal;
+mod known;
 mod laws;
 mod pair;
 mod player;
+mod route_hash;
 mod table;
 
 pub use laws::{

@@ -7,13 +7,15 @@ ghost use Rattle.rib_player.specs.Timeline.{fresh, ahead_of, end_of, current, wa
 
 use crate::changes::step_for;
 use crate::digest::Digest;
-use crate::journal::{Step, advance, cross_step, forget_entries, forget_steps, named_total};
+use crate::journal::{Step, advance, cross_step, forget_entries, forget_steps, named_from};
+use crate::known::KnownRoutes;
 use crate::table::Table;
 use mrt_wire::{Event, Route};
 use rib_store::PrefixStore;
 use std::alloc::{AllocError, Global};
 use std::collections::VecDeque;
 use std::marker::Model;
+use std::mem;
 use std::rc::Rc;
 use thiserror::Error;
 
@@ -44,6 +46,8 @@ pub struct Player<S: PrefixStore<Rc<Route>>> {
     cursor: usize,
     /// How many were forgotten.
     floor: u64,
+    /// The routes of steps, so that equal ones are one.
+    known: KnownRoutes,
 }
 
 impl<S: PrefixStore<Rc<Route>>> Model for Player<S> {
@@ -80,6 +84,7 @@ impl<S: PrefixStore<Rc<Route>>> Player<S> {
             digests: VecDeque::new(alloc),
             cursor: 0,
             floor: 0,
+            known: KnownRoutes::new(alloc),
         }
     }
 
@@ -109,7 +114,7 @@ impl<S: PrefixStore<Rc<Route>>> Player<S> {
     pub fn named(&self) -> u64
         ensures { result ≡ counted (named_count self.now) }
     {
-        named_total(&self.steps)
+        named_from(&self.steps, 0)
     }
 
     /// The table at the cursor.
@@ -127,22 +132,14 @@ impl<S: PrefixStore<Rc<Route>>> Player<S> {
         ensures dropped { IfOk result (λ dropped. dropped ≡ ahead_of self.old) }
         ensures refused { OnErr result (self.new ≡ self.old) }
     {
-        let mut entries = step_for(self.alloc, event, &self.table)?;
-        self.steps.reserve(1)?;
-        self.digests.reserve(1)?;
-        let dropped = self.steps.len() - self.cursor;
-        advance(
-            &mut self.table,
-            &mut self.steps,
-            self.cursor,
-            entries.as_mut_slice(),
-        )?;
-        let digest = Digest::of(&entries);
-        self.steps.push_back_reserved(Step { entries });
-        self.digests.truncate(self.cursor);
-        self.digests.push_back_reserved(digest);
-        self.cursor += 1;
-        Ok(dropped as u64)
+        let ahead = named_from(&self.steps, self.cursor);
+        let played = self.play_step(event);
+        let released = match &played {
+            Ok(_) => ahead,
+            Err(_) => event.items.as_slice().len() as u64,
+        };
+        self.known.note_released(released);
+        played
     }
 
     /// Undoes the step before the cursor. It takes no memory.
@@ -173,6 +170,31 @@ impl<S: PrefixStore<Rc<Route>>> Player<S> {
 }
 
 impl<S: PrefixStore<Rc<Route>>> Player<S> {
+    /// Plays the event as the next step. What it lets go of isn't noted.
+    fn play_step(&mut self, event: &Event) -> Result<u64, PlayFault>
+        requires { self.old.cursor < GREATEST_COUNT }
+        ensures after_play { OnOk result (self.new ≡ after_play self.old event.now) }
+        ensures dropped { IfOk result (λ dropped. dropped ≡ ahead_of self.old) }
+        ensures refused { OnErr result (self.new ≡ self.old) }
+    {
+        let mut entries = step_for(self.alloc, event, &self.table, &mut self.known)?;
+        self.steps.reserve(1)?;
+        self.digests.reserve(1)?;
+        let dropped = self.steps.len() - self.cursor;
+        advance(
+            &mut self.table,
+            &mut self.steps,
+            self.cursor,
+            entries.as_mut_slice(),
+        )?;
+        let digest = Digest::of(&entries);
+        self.steps.push_back_reserved(Step { entries });
+        self.digests.truncate(self.cursor);
+        self.digests.push_back_reserved(digest);
+        self.cursor += 1;
+        Ok(dropped as u64)
+    }
+
     /// Forgets the first of the kept steps.
     fn forget_first(&mut self)
         requires { self.old.floor < self.old.cursor }
@@ -188,6 +210,9 @@ impl<S: PrefixStore<Rc<Route>>> Player<S> {
             );
             self.cursor -= 1;
             self.floor += 1;
+            let released = step.entries.len() as u64;
+            mem::drop(step);
+            self.known.note_released(released);
         }
     }
 
@@ -197,10 +222,12 @@ impl<S: PrefixStore<Rc<Route>>> Player<S> {
         requires { self.old.cursor ≡ end_of self.old }
         ensures { self.new ≡ without_first (behind self.old) self.old }
     {
+        let released = named_from(&self.steps, 0);
         forget_steps(&mut self.table, &mut self.steps);
         self.digests.clear();
         self.floor += self.cursor as u64;
         self.cursor = 0;
+        self.known.note_released(released);
     }
 
     /// Forgets the oldest steps, so that at most so many are kept before the cursor, and answers

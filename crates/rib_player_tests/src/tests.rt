@@ -2,6 +2,7 @@
 
 mod changes;
 mod counted;
+mod equal_routes;
 mod forgotten;
 mod generated;
 mod kept;

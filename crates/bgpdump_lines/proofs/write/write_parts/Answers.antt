@@ -7,7 +7,8 @@ use Rattle.mrt_wire.specs.Event.{saying}
 use Rattle.bgpdump_lines.specs.Lines.{item_line}
 use Rattle.bgpdump_lines.specs.Device.{AppendsFront}
 use Rattle.bgpdump_lines.specs.Writing.{Passes}
-use Rattle.bgpdump_lines.proofs.LineLaws.{lines-three, said_range}
+use Rattle.bgpdump_lines.proofs.LineLaws.{lines-three}
+use Rattle.mrt_wire.proofs.SharedLaws.{said_range}
 use Rattle.bgpdump_lines.proofs.WritingLaws.{AppendsFront-first, Passes-stops, Passes-trans}
 use Rattle.bgpdump_lines.proofs.write.write_parts.Goals as goal
 

@@ -1,27 +1,27 @@
-use Rattle.std.proofs.Common.{◌≡◌, ◌-◌, ◌<◌, suc, length, arith, ap, sym, ◌∙◌, map, drop}
-use Rattle.mrt_wire.specs.Event.{saying}
+use Rattle.std.proofs.Common.{map, drop, sym, ap, ap₂, ◌∙◌, length-drop, arith}
+use Rattle.std.proofs.lemmas.List.{take_all}
+use Rattle.mrt_wire.proofs.SharedLaws.{said_range}
 use Rattle.rib_player.specs.declared.pair.Pair.{Pair}
-use Rattle.rib_player.specs.History.{item_effect, last_effect}
-use Rattle.rib_player.specs.Changes.{noted_effect}
-use Rattle.rib_player.proofs.ChangesLaws.{last_effect-more, effects-sayings}
+use Rattle.rib_player.specs.History.{item_effect, later, last_effect}
+use Rattle.rib_player.specs.Store.{Slots}
+use Rattle.rib_player.specs.Changes.{noted_effect, found, is_lost, effect_of, items_effect}
+use Rattle.rib_player.proofs.ChangesLaws.{effect-parts, effects-sayings}
 use Rattle.rib_player.proofs.changes.changes_of.Goals as goal
 
-pub items-preserved : goal.items-preserved
-items-preserved c =
-    let items = c.as_slice-items.result.now in
-    let within : c.items.rest - 1 < length items = omega (arith, c.items.invariant.within) in
-    let next : suc (c.items.rest - 1) ≡ c.items.rest = omega arith in
-    record {
-      within = omega arith;
-      noted_is = λ (q : Pair). last_effect-more (λ item. item_effect q (saying item)) items (c.items.rest - 1) c.items.rest c.index-items-rest.result (noted_effect c.items.changes q) (noted_effect c.note.new.self q) within next
-          c.index-items-rest.is (c.items.invariant.noted_is q) (c.in_ok-note.ensures q);
-    }
+pub note_shared-requires : goal.note_shared-requires
+note_shared-requires c =
+    said_range c.as_slice-items.result.now _ c.shared-shared.result.start _ c.as_slice-items.ensures c.shared-shared.ensures.alike
 
 pub returns : goal.returns
 returns c =
-    λ (q : Pair). c.items.invariant.noted_is q
-    ∙ ap (λ n. last_effect (map (λ item. item_effect q (saying item)) (drop n c.as_slice-items.result.now))) none
-    ∙ ap last_effect (sym (effects-sayings q c.as_slice-items.result.now) ∙ ap (map (item_effect q)) c.as_slice-items.ensures)
-  where
-    none : c.items.rest ≡ 0
-    none = omega arith
+    let items = c.as_slice-items.result.now in
+    let start = c.shared-shared.result.start in
+    let end = c.shared-shared.result.end in
+    λ (q : Pair). effect-parts q items start end (noted_effect c.note_each.new.self q) (noted_effect c.note_shared.new.self q) (noted_effect c.note_each-2.new.self q)
+    c.shared-shared.ensures.ordered
+    (c.in_ok-note_each.ensures q
+    ∙ ap₂ (λ l before. later (items_effect q l) before) (take_all _ (drop end items) (omega (arith, length-drop end items)))
+    (ap₂ (λ (slots : Slots) peers. effect_of (found slots q) (is_lost peers q)) c.new.ensures.empty c.new-2.ensures.empty))
+    (c.in_ok-note_shared.ensures q)
+    (c.in_ok-note_each-2.ensures q)
+    ∙ ap last_effect (sym (effects-sayings q items) ∙ ap (map (item_effect q)) c.as_slice-items.ensures)

@@ -8,5 +8,5 @@ use Rattle.rib_player.proofs.player.Player.named.Goals as goal
 
 pub returns : goal.returns
 returns g c =
-    c.named_total.ensures
+    c.named_from.ensures
     ∙ ap counted (named-total c.self.inside.steps.items (all-distinct c.self.inside.table.keys (steps_of c.self.inside.steps.items) c.self.invariant.played.journal.kept) ∙ ap named_count c.self.view_is)

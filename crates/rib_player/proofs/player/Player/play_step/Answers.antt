@@ -8,9 +8,9 @@ use Rattle.rib_player.specs.Digests.{IsDigestOf, AreDigestsOf}
 use Rattle.rib_player.proofs.DigestLaws.{digests-taken, digests-added}
 use Rattle.rib_player.proofs.KeyLaws.{after_play-on}
 use Rattle.rib_player.proofs.FloorLaws.{after_play-behind}
-use Rattle.rib_player.proofs.player.Player.play.Given.{Over}
-use Rattle.rib_player.proofs.player.Player.play.Goals as goal
-use Rattle.rib_player.proofs.player.Player.play.Goals.{After-push_back_reserved, After-push_back_reserved-2}
+use Rattle.rib_player.proofs.player.Player.play_step.Given.{Over}
+use Rattle.rib_player.proofs.player.Player.play_step.Goals as goal
+use Rattle.rib_player.proofs.player.Player.play_step.Goals.{After-push_back_reserved, After-push_back_reserved-2}
 
 -- the event's step
 abbrev new : (g : Over) (c : After-push_back_reserved g) → Step

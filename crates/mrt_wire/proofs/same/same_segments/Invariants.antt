@@ -1,6 +1,6 @@
 -- Those in front of the place are the same.
 use Rattle.std.proofs.Common.{◌≡◌, take, length}
-use Rattle.bgpdump_lines.proofs.same.same_segments.Given as goal
+use Rattle.mrt_wire.proofs.same.same_segments.Given as goal
 
 abbrev pub invariant-segments : goal.invariant-segments
 invariant-segments l = record {

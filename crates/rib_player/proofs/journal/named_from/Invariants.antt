@@ -1,0 +1,12 @@
+use Rattle.std.proofs.Common.{◌≡◌, ◌≤◌, ◌-◌, take, drop}
+use Rattle.std.specs.List.{sum_by}
+use Rattle.rib_store.specs.Stored.{counted}
+use Rattle.rib_player.specs.Journal.{entry_count}
+use Rattle.rib_player.proofs.journal.named_from.Given as goal
+
+-- the pairs of the steps so far are counted
+abbrev pub invariant-steps : goal.invariant-steps
+invariant-steps l = record {
+  within : l.start ≤ l.index;
+  total : l.total ≡ counted (sum_by entry_count (take (l.index - l.start) (drop l.start l.steps.items)));
+}
