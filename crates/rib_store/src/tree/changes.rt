@@ -128,6 +128,7 @@ impl<K: Packed, R: Drop> Tree<K, R> {
                 }
                 *routed = node.is_routed();
                 join(self);
+                fold_leaf(self);
             }
         }
     }
@@ -167,6 +168,26 @@ fn join<K: Packed, R: Drop>(tree: &mut Tree<K, R>)
             } else if let Tree::Empty = node.right {
                 let child = mem::replace(&mut node.left, Tree::Empty);
                 *tree = child;
+            }
+        }
+    }
+}
+
+/// A key with no others below it any more lies where its parent points to it, and has no node.
+fn fold_leaf<K: Packed, R: Drop>(tree: &mut Tree<K, R>)
+    requires { IsMarked tree.old }
+    ensures marked { IsMarked tree.new }
+    ensures shape { shape_of K.network tree.new ≡ shape_of K.network tree.old }
+{
+    if let Tree::Rooted(_, prefix, node) = tree {
+        let prefix = *prefix;
+        if let Tree::Empty = node.left {
+            if let Tree::Empty = node.right {
+                match mem::replace(&mut node.slot, Slot::Branch) {
+                    Slot::Branch => {}
+                    Slot::Vacant => *tree = Tree::Bare(prefix),
+                    Slot::Filled(route) => *tree = Tree::Leaf(prefix, route),
+                }
             }
         }
     }

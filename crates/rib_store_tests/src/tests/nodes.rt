@@ -64,6 +64,22 @@ const BRANCH_KEYS: &[Row] = &[
     (Call::Discard("10.0.0.0/15"), 1, 1),
 ];
 
+/// A key keeps its route when the last key below it goes, and when one comes again.
+const LAST_CHILDREN: &[Row] = &[
+    (Call::Ensure("10.0.0.0/15"), 1, 1),
+    (Call::Exchange("10.0.0.0/15", Some(1), None), 1, 1),
+    (Call::Ensure("10.0.0.0/16"), 2, 2),
+    (Call::Ensure("10.1.0.0/16"), 3, 3),
+    (Call::Discard("10.0.0.0/16"), 2, 2),
+    (Call::Discard("10.1.0.0/16"), 1, 1),
+    (Call::Get("10.0.0.0/15", Some(1)), 1, 1),
+    (Call::Ensure("10.1.0.0/16"), 2, 2),
+    (Call::Exchange("10.0.0.0/15", None, Some(1)), 2, 2),
+    (Call::Discard("10.1.0.0/16"), 1, 1),
+    (Call::Get("10.0.0.0/15", None), 1, 1),
+    (Call::Discard("10.0.0.0/15"), 0, 0),
+];
+
 /// A branch above a branch goes with what it is there for, and the other stays.
 const NESTED_BRANCHES: &[Row] = &[
     (Call::Ensure("10.0.0.0/16"), 1, 1),
@@ -118,6 +134,7 @@ const TABLES: &[&[Row]] = &[
     ROUTES,
     BRANCHES,
     BRANCH_KEYS,
+    LAST_CHILDREN,
     NESTED_BRANCHES,
     FAMILIES,
     SHORTEST,

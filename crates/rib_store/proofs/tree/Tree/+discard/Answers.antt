@@ -28,7 +28,7 @@ returns-after-turn-clause-slots g t c = λ q.
     let key = way c.args.key.now in
     let new = Rooted prefix m.slot (shape_of net m.left) (shape_of net m.right) in
     let was : IsRooted prefix (slot_of n.slot) (shape_of net n.left) (shape_of net n.right) (shape_of net c.args.self.now) = rw c.in-Rooted.is (cc, cc, cc, cc) in
-    c.join.ensures.slots q ∙ elim c.match-turn.branch [
+    ap (λ t. at t q) c.fold_leaf.ensures.shape ∙ c.join.ensures.slots q ∙ elim c.match-turn.branch [
       | in-Here w ↦
           let turn : turn_of (way prefix) key ≡ Here = cc in
           let is : IsRooted prefix None (shape_of net n.left) (shape_of net n.right) new = rw w.node-is (refl, refl, refl, w.vacate.ensures) in
