@@ -57,7 +57,7 @@ struct Places {
 pub(crate) struct KnownRoutes {
     alloc: Global,
     routes: Places,
-    /// How many of the routes have no other owner, at most.
+    /// How many of the routes may have lost their last other owner since they were gone over.
     released: u64,
     ghost bounded: { vec_len routes.places ≤ MOST_PLACES },
     ghost fitting: { vec_len routes.places ≤ MOST_TIMES * routes.taken + FIRST_PLACES },
@@ -115,9 +115,9 @@ fn rows_of(hash: u32, count: usize) -> [usize; 2] {
 /// How many places so many routes get.
 fn places_for(taken: usize) -> usize
     ensures most { result ≤ MOST_PLACES }
-    ensures fitting { result ≤ 2 * taken + FIRST_PLACES }
+    ensures fitting { result ≤ MOST_TIMES * taken + FIRST_PLACES }
 {
-    taken.saturating_mul(2).clamp(FIRST_PLACES, MOST_PLACES)
+    (taken.saturating_mul(5) / 2).clamp(FIRST_PLACES, MOST_PLACES)
 }
 
 /// A route of this hash that equals this one, in the row that begins there.
@@ -140,38 +140,41 @@ fn find_in_row<'a>(
     None
 }
 
-/// A route of this hash that equals this one.
+/// A route of this hash that equals this one. The second row is looked at where the first may be
+/// full, since it is filled from the front.
 #[inline]
 fn find<'a>(places: &'a [Place], hash: u32, route: &Route) -> Option<&'a Rc<Route>>
     ensures { IfSome result (λ known. known.now.value ≡ route.now) }
 {
     let [first, second] = rows_of(hash, places.len());
-    match find_in_row(places, first, hash, route) {
-        Some(known) => Some(known),
-        None => find_in_row(places, second, hash, route),
+    if let Some(known) = find_in_row(places, first, hash, route) {
+        return Some(known);
+    }
+    match places.get(first.saturating_add(ROW - 1)) {
+        Some(Place::Taken(_, _)) => find_in_row(places, second, hash, route),
+        _ => None,
     }
 }
 
-/// The last free place of the row that begins there, or else its first, and how many are free.
+/// The first free place of the row that begins there.
 #[inline]
-fn free_in_row(places: &[Place], start: usize) -> (usize, u32) {
-    let mut free = (start, 0u32);
+fn free_in_row(places: &[Place], start: usize) -> Option<usize> {
     'places: for index in start..start.saturating_add(ROW) {
         if let Some(Place::Free) = places.get(index) {
-            free = (index, free.1.saturating_add(1));
+            return Some(index);
         }
     }
-    free
+    None
 }
 
-/// A free place for a route of this hash, in that of the two rows that has more, or else the first
-/// of the rows.
+/// A free place for a route of this hash, or else the first of its rows.
 #[inline]
 fn place_for(places: &[Place], hash: u32) -> usize {
     let [first, second] = rows_of(hash, places.len());
-    let free = free_in_row(places, first);
-    let others = free_in_row(places, second);
-    if others.1 > free.1 { others.0 } else { free.0 }
+    match free_in_row(places, first) {
+        Some(index) => index,
+        None => free_in_row(places, second).unwrap_or(first),
+    }
 }
 
 impl Places {
@@ -325,7 +328,7 @@ impl KnownRoutes {
         self.routes.put(hash, route);
     }
 
-    /// Makes twice as many places as there are routes, unless memory is refused.
+    /// Makes two and a half times as many places as there are routes, unless memory is refused.
     fn widen(&mut self) {
         let count = places_for(self.routes.taken);
         if let Ok(mut wider) = Places::free(self.alloc, count) {
