@@ -2,7 +2,7 @@
 
 use super::{
     Answer, LIMIT, RadixPlayer, Who, answer_to, eight, event_of, numbered, octets_of, peer_of,
-    record_at, route_at,
+    record_at,
 };
 use bgp_wire::{
     Aggregator, AsNumbers, AsPath, Attrs, Communities, Origin, Segment, SegmentKind, Segments,
@@ -240,18 +240,34 @@ fn equal_routes_are_one_and_no_others(rt: HostRuntime) -> Result<(), Fail> {
     Ok(())
 }
 
-/// Plays the record that comes next, and answers the route of its first item.
+/// Plays the record that comes next, of this time.
 fn play_record(
+    rt: &impl Abort,
     alloc: Global,
     player: &mut RadixPlayer,
     source: &mut Source,
     time: u32,
-) -> Result<Answer, Fail> {
+) -> Result<(), Fail> {
     let octets = octets_of(alloc, &[TWO_PREFIXES])?;
     let record = record_at(alloc, time, octets.as_slice())?;
     match source.next(&mut ReadInput::new(record.as_slice()))? {
-        Next::Event(event) => Ok(answer_to(player, &event)),
+        Next::Event(event) => assert_eq!(rt; answer_to(player, &event), Answer::Dropped(0)),
         _ => Err("an event was wanted")?,
+    }
+    Ok(())
+}
+
+/// The route that the peer has to the prefix.
+fn route_to<'a>(player: &'a RadixPlayer, prefix: &Prefix) -> Result<&'a Rc<Route>, Fail> {
+    let route = player.table().get(&peer_of(Who::Peer), prefix);
+    Ok(route.ok_or("a route was wanted")?)
+}
+
+/// Whether the peer's route to the prefix is this one, and not one that equals it.
+fn is_route_to(player: &RadixPlayer, prefix: &Prefix, route: &Rc<Route>) -> bool {
+    match player.table().get(&peer_of(Who::Peer), prefix) {
+        Some(found) => Rc::ptr_eq(found, route),
+        None => false,
     }
 }
 
@@ -260,35 +276,15 @@ fn routes_of_messages_are_one(rt: HostRuntime) -> Result<(), Fail> {
     let alloc = rt.alloc();
     let mut player = RadixPlayer::new(alloc);
     let mut source = Source::new(alloc, Stamp::Change, LIMIT);
-    let first = (Who::Peer, eight(10));
-    let second = (Who::Peer, eight(11));
-    assert_eq!(rt;
-        play_record(alloc, &mut player, &mut source, 1)?,
-        Answer::Dropped(0)
-    );
-    assert!(rt; share(&player, first, second));
-    let held = player
-        .table()
-        .get(&peer_of(Who::Peer), &first.1)
-        .unwrap()
-        .clone()?;
-    // an equal one, and then another, which is read over it
-    assert_eq!(rt;
-        play_record(alloc, &mut player, &mut source, 1)?,
-        Answer::Dropped(0)
-    );
-    let now = player
-        .table()
-        .get(&peer_of(Who::Peer), &first.1)
-        .unwrap()
-        .clone()?;
-    assert!(rt; Rc::ptr_eq(&held, &now));
-    assert_eq!(rt;
-        play_record(alloc, &mut player, &mut source, 2)?,
-        Answer::Dropped(0)
-    );
+    play_record(&rt, alloc, &mut player, &mut source, 1)?;
+    let held = route_to(&player, &eight(10))?.clone()?;
+    assert!(rt; is_route_to(&player, &eight(11), &held));
+    play_record(&rt, alloc, &mut player, &mut source, 1)?;
+    assert!(rt; is_route_to(&player, &eight(10), &held));
+    // another, which is read while the first is held
+    play_record(&rt, alloc, &mut player, &mut source, 2)?;
     assert_eq!(rt; held.time, 1);
-    assert!(rt; has_route(&player, Who::Peer, &first.1, &*route_at(alloc, 2)?));
+    assert_eq!(rt; route_to(&player, &eight(10))?.time, 2);
     Ok(())
 }
 
@@ -346,11 +342,7 @@ fn push_withdrawals(items: &mut Vec<Item>, count: u32) -> Result<(), Fail> {
 
 /// What tells how many own the route that the peer has to the prefix.
 fn watched(player: &RadixPlayer, prefix: &Prefix) -> Result<Weak<Route>, Fail> {
-    let route = player
-        .table()
-        .get(&peer_of(Who::Peer), prefix)
-        .ok_or("a route")?;
-    Ok(Rc::downgrade(route)?)
+    Ok(Rc::downgrade(route_to(player, prefix)?)?)
 }
 
 #[test]
