@@ -11,8 +11,9 @@ use std::alloc::AllocError;
 /// By how much an empty buffer grows at first. Later it grows by as much as was filled.
 const FIRST_GROWTH: usize = 4096;
 
-/// How many octets are passed over at once.
-const PIECE: usize = 4096;
+/// How many octets are passed over at once. They are few, since each record that is passed over makes
+/// room for them.
+const PIECE: usize = 512;
 
 /// Fills the buffer as far as the input goes, and answers how far that is. What is taken is
 /// counted.

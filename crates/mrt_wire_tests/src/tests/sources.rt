@@ -315,18 +315,9 @@ fn long_unsupported(alloc: Global, size: u32) -> Result<Vec<u8>, AllocError> {
 fn unsupported_bodies_are_passed_over(rt: HostRuntime) -> Result<(), Fail> {
     let alloc = rt.alloc();
     for (size, want) in [
-        (
-            4_095,
-            ["1, 0: Unsupported(12, 3) at 4107", "1 item at 4139"],
-        ),
-        (
-            4_096,
-            ["1, 0: Unsupported(12, 3) at 4108", "1 item at 4140"],
-        ),
-        (
-            4_097,
-            ["1, 0: Unsupported(12, 3) at 4109", "1 item at 4141"],
-        ),
+        (511, ["1, 0: Unsupported(12, 3) at 523", "1 item at 555"]),
+        (512, ["1, 0: Unsupported(12, 3) at 524", "1 item at 556"]),
+        (513, ["1, 0: Unsupported(12, 3) at 525", "1 item at 557"]),
         (
             1_000_000,
             ["1, 0: Unsupported(12, 3) at 1000012", "1 item at 1000044"],
