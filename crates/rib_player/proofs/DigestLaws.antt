@@ -3,7 +3,7 @@ use Rattle.std.proofs.Common.{◌≡◌, ℕ, zero, suc, ◌-◌, ◌*◌, ◌/�
 use Rattle.std.proofs.lemmas.Bool.{or_parts, eq-eqb}
 use Rattle.std.proofs.lemmas.Nat.{and_comm, and_assoc, and-not, and_or_self, or_lt, pow_below, div_below, mod_below}
 use Rattle.rib_player.specs.declared.pair.Pair.{Pair}
-use Rattle.rib_player.specs.declared.journal.Entry.{Entry}
+use Rattle.rib_player.specs.Entries.{Entry}
 use Rattle.rib_player.specs.declared.digest.Digest.{Digest}
 use Rattle.rib_player.specs.declared.digest.TheConstants.{MULTIPLIER, DIGEST_BITS, FIRST_SHIFT, SECOND_SHIFT}
 use Rattle.rib_player.specs.Journal.{Mark, marks_of, named_by, any_named, marked, marked_first}

@@ -18,7 +18,7 @@ use Rattle.rib_player.specs.declared.pair.Pair.{Pair}
 use Rattle.mrt_wire.specs.declared.event.Route.{Route}
 use Rattle.mrt_wire.specs.declared.event.Event.{Event}
 use Rattle.rib_player.specs.declared.changes.Changes.{Changes}
-use Rattle.rib_player.specs.declared.journal.Entry.{Entry}
+use Rattle.rib_player.specs.Entries.{Entry}
 use Rattle.rib_player.specs.History.{pair_cmp, effect, route_after}
 use Rattle.rib_player.specs.Tables.{Routes, table_after, is_named, named_pairs}
 use Rattle.rib_player.specs.Store.{Slots, slot_at, route_in}

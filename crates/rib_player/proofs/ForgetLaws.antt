@@ -6,7 +6,7 @@ use Rattle.std.specs.FinSet as set
 use Rattle.std.proofs.lemmas.List.{take-map, reverse-append, length-map}
 use Rattle.std.proofs.Math.Bool.{or-true, or-false}
 use Rattle.rib_player.specs.declared.pair.Pair.{Pair}
-use Rattle.rib_player.specs.declared.journal.Entry.{Entry}
+use Rattle.rib_player.specs.Entries.{Entry}
 use Rattle.rib_player.specs.declared.journal.Step.{Step}
 use Rattle.rib_player.specs.Tables.{Routes, Pairs}
 use Rattle.rib_player.specs.Store.{Contents}

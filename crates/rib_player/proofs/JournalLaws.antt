@@ -13,7 +13,7 @@ use Rattle.rib_store.proofs.PutLaws.{get-put}
 use Rattle.rib_player.specs.declared.pair.Pair.{Pair}
 use Rattle.mrt_wire.specs.declared.event.Route.{Route}
 use Rattle.mrt_wire.specs.declared.event.Event.{Event}
-use Rattle.rib_player.specs.declared.journal.Entry.{Entry}
+use Rattle.rib_player.specs.Entries.{Entry}
 use Rattle.rib_player.specs.History.{pair_cmp, Effect, Keep, Clear, Set, effect, route_after}
 use Rattle.rib_store.specs.Stored.{put}
 use Rattle.rib_player.specs.Tables.{Routes, Pairs, table_after, is_named}

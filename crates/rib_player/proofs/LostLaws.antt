@@ -16,7 +16,7 @@ use Rattle.mrt_wire.specs.Peer.{peer_cmp}
 use Rattle.mrt_wire.proofs.PeerLaws.{peer_cmp_total}
 use Rattle.std.specs.declared.alloc.Global.{Global}
 use Rattle.rib_player.specs.declared.pair.Pair.{Pair}
-use Rattle.rib_player.specs.declared.journal.Entry.{Entry}
+use Rattle.rib_player.specs.Entries.{Entry}
 use Rattle.rib_player.specs.declared.changes.Changes.{Changes}
 use Rattle.rib_player.specs.Store.{Slots}
 use Rattle.rib_player.specs.Changes.{found, is_lost, effect_of, noted_effect}

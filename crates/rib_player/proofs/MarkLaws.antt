@@ -10,7 +10,7 @@ use Rattle.std.proofs.lemmas.List.{take_more_set, map-append, drop_more, map-set
 use Rattle.std.proofs.lemmas.Map.Keys.{IsDistinct-head, IsDistinct-tail}
 use Rattle.std.proofs.Math.Bool.{or-true, or-false, or_assoc}
 use Rattle.rib_player.specs.declared.pair.Pair.{Pair}
-use Rattle.rib_player.specs.declared.journal.Entry.{Entry}
+use Rattle.rib_player.specs.Entries.{Entry}
 use Rattle.rib_player.specs.declared.journal.Step.{Step}
 use Rattle.rib_player.specs.History.{pair_cmp}
 use Rattle.rib_player.specs.Tables.{Routes, Pairs}

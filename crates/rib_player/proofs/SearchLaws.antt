@@ -10,7 +10,7 @@ use Rattle.std.proofs.lemmas.Map.Keys.{Less-from_sorted, IsDistinct-head, IsDist
 use Rattle.octet_forms.proofs.Lists.{AllByRecursion-from_get_or}
 use Rattle.std.proofs.Math.Bool.{or-true, or-false}
 use Rattle.rib_player.specs.declared.pair.Pair.{Pair}
-use Rattle.rib_player.specs.declared.journal.Entry.{Entry}
+use Rattle.rib_player.specs.Entries.{Entry}
 use Rattle.rib_player.specs.History.{pair_cmp}
 use Rattle.rib_player.specs.Journal.{sides_of, pairs_in, mark_of, marks_of, named_by, marked, AreOrdered}
 use Rattle.rib_player.proofs.PairLaws.{pair_cmp_total, pair_cmp-IsAntisymmetric, pair_symm}

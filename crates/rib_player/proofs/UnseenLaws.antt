@@ -5,7 +5,7 @@ use Rattle.std.specs.FinSet.{contains, remove, contains-remove}
 use Rattle.std.proofs.lemmas.Bool.{or_parts}
 use Rattle.std.proofs.Math.Bool.{or-true, or-false}
 use Rattle.rib_player.specs.declared.pair.Pair.{Pair}
-use Rattle.rib_player.specs.declared.journal.Entry.{Entry}
+use Rattle.rib_player.specs.Entries.{Entry}
 use Rattle.rib_player.specs.Tables.{Routes, Pairs}
 use Rattle.rib_player.specs.Journal.{Mark, marks_of, marks_at, named_by, any_named, with_named, AreFirst, MarkFirst, marked, marked_first, AreHeld, Clearing, clearings_of, AreClearingsOf, without, unseen_by}
 use Rattle.rib_player.proofs.PairLaws.{pair_cmp_total, same_pair, pair_symm}

@@ -12,7 +12,7 @@ use Rattle.ip_prefix.specs.Network.{Network}
 use Rattle.mrt_wire.specs.declared.peer.Peer.{Peer}
 use Rattle.mrt_wire.specs.declared.event.Route.{Route}
 use Rattle.mrt_wire.specs.declared.event.Event.{Event}
-use Rattle.rib_player.specs.declared.journal.Entry.{Entry}
+use Rattle.rib_player.specs.Entries.{Entry}
 use Rattle.rib_player.specs.declared.journal.Step.{Step}
 use Rattle.rib_player.specs.History.{pair_cmp, pair_of}
 use Rattle.rib_store.specs.Stored.{put}

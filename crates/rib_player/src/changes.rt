@@ -14,8 +14,9 @@ ghost use Rattle.rib_player.specs.Store.{route_in, slot_at};
 ghost use Rattle.rib_player.specs.Changes.{noted_effect, found, is_lost, or_absent, effect_of, items_effect, HasRoute};
 ghost use Rattle.rib_player.specs.Journal.{side_of, sides_of, pairs_in, cleared_side, slot_side, AreOrdered, IsStepFor, clearings_of, clearing_then};
 
-use crate::journal::Entry;
+use crate::entry::Entry;
 use crate::known::KnownRoutes;
+use crate::known_peers::KnownPeers;
 use crate::pair::Pair;
 use crate::table::Table;
 use mrt_wire::{Event, Item, Peer, Route};
@@ -223,38 +224,21 @@ fn put_first(
     Ok(())
 }
 
-/// The entry of a pair that has no route then.
-fn cleared(pair: Pair) -> Entry
-    ensures side { side_of result ≡ (pair, None) }
-    ensures clears { result.clears ≡ true }
-{
-    Entry {
-        pair,
-        other: None,
-        first: false,
-        clears: true,
-    }
-}
-
 /// The entries of those pairs of a peer that have a route in its store, and none then.
 fn cleared_in<S: PrefixStore<Rc<Route>>>(
     alloc: Global,
     store: &S,
-    peer: &Peer,
+    peer: &Rc<Peer>,
 ) -> Result<Vec<Entry>, AllocError>
     ensures sides { IfOk result (λ entries. sides_of entries.items
-        ≡ map (cleared_side peer.now) (finite.keys (S.routes store.now))) }
+        ≡ map (cleared_side peer.now.value) (finite.keys (S.routes store.now))) }
     ensures clearings { IfOk result (λ entries.
         clearings_of entries.items ≡ map clearing_then (sides_of entries.items)) }
 {
     let mut entries = Vec::with_capacity(alloc, store.route_count() as usize)?;
     let mut last = None;
     'routes: while let Some(found) = store.after(last.as_ref()) {
-        let pair = Pair {
-            peer: *peer,
-            prefix: found.0,
-        };
-        entries.push(cleared(pair))?;
+        entries.push(Entry::new(alloc, peer.clone()?, &found.0, None)?)?;
         last = Some(found.0);
     }
     Ok(entries)
@@ -265,6 +249,7 @@ fn lost_entries<S: PrefixStore<Rc<Route>>>(
     alloc: Global,
     peer: &Peer,
     table: &Table<S>,
+    peers: &mut KnownPeers,
 ) -> Result<Vec<Entry>, AllocError>
     ensures named { IfOk result (λ entries. (q : Pair) →
         list_any (eq_by_cmp pair_cmp q) (pairs_in (sides_of entries.items))
@@ -276,7 +261,7 @@ fn lost_entries<S: PrefixStore<Rc<Route>>>(
         clearings_of entries.items ≡ map clearing_then (sides_of entries.items)) }
 {
     match table.store(peer) {
-        Some(store) => cleared_in(alloc, store, peer),
+        Some(store) => cleared_in(alloc, store, &peers.known(peer)?),
         None => Ok(Vec::new(alloc)),
     }
 }
@@ -291,7 +276,7 @@ fn note_absent(
         (list_any (eq_by_cmp pair_cmp q) (pairs_in (sides_of entries.now)))) }
 {
     'entries: for entry in entries {
-        put_first(routes, &entry.pair, None)?;
+        put_first(routes, &entry.pair(), None)?;
     }
     Ok(())
 }
@@ -301,6 +286,7 @@ fn routes_then<S: PrefixStore<Rc<Route>>>(
     alloc: Global,
     changes: Changes,
     table: &Table<S>,
+    peers: &mut KnownPeers,
 ) -> Result<BTreeMap<Pair, Option<Rc<Route>>>, AllocError>
     ensures { IfOk result (λ routes. (q : Pair) → found routes.entries q
         ≡ or_absent (found changes.routes.entries q)
@@ -308,7 +294,7 @@ fn routes_then<S: PrefixStore<Rc<Route>>>(
 {
     let Changes { mut routes, lost } = changes;
     'peers: for peer in lost {
-        let entries = lost_entries(alloc, &peer, table)?;
+        let entries = lost_entries(alloc, &peer, table, peers)?;
         note_absent(&mut routes, &entries)?;
     }
     Ok(routes)
@@ -319,6 +305,7 @@ fn entries_of<S: PrefixStore<Rc<Route>>>(
     alloc: Global,
     routes: BTreeMap<Pair, Option<Rc<Route>>>,
     table: &Table<S>,
+    peers: &mut KnownPeers,
 ) -> Result<Vec<Entry>, AllocError>
     ensures ordered { IfOk result (λ entries. AreOrdered (sides_of entries.items)) }
     ensures keys { IfOk result (λ _. IsDistinct (eq_by_cmp pair_cmp) (keys_of routes.entries)) }
@@ -331,13 +318,8 @@ fn entries_of<S: PrefixStore<Rc<Route>>>(
     let mut entries = Vec::with_capacity(alloc, routes.len())?;
     'routes: for (pair, other) in routes {
         if other.is_some() || table.route(&pair).is_some() {
-            let clears = other.is_none();
-            entries.push(Entry {
-                pair,
-                other,
-                first: false,
-                clears,
-            })?;
+            let peer = peers.known(&pair.peer)?;
+            entries.push(Entry::new(alloc, peer, &pair.prefix, other)?)?;
         }
     }
     entries.shrink_to_fit();
@@ -351,6 +333,7 @@ pub(crate) fn step_for<S: PrefixStore<Rc<Route>>>(
     event: &Event,
     table: &Table<S>,
     known: &mut KnownRoutes,
+    peers: &mut KnownPeers,
 ) -> Result<Vec<Entry>, AllocError>
     ensures step { IfOk result (λ entries.
         IsStepFor table.now.routes event.now (sides_of entries.items)) }
@@ -359,8 +342,8 @@ pub(crate) fn step_for<S: PrefixStore<Rc<Route>>>(
 {
     let changes = changes_of(alloc, event, known)?;
     if let Some(peer) = changes.only_loss() {
-        return lost_entries(alloc, &peer, table);
+        return lost_entries(alloc, &peer, table, peers);
     }
-    let routes = routes_then(alloc, changes, table)?;
-    entries_of(alloc, routes, table)
+    let routes = routes_then(alloc, changes, table, peers)?;
+    entries_of(alloc, routes, table, peers)
 }

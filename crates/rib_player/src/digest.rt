@@ -5,7 +5,7 @@ ghost use Rattle.ip_prefix.specs.Address.{octet_count};
 ghost use Rattle.rib_player.specs.Journal.{marks_of};
 ghost use Rattle.rib_player.specs.Digests.{hashed_place, four_octets, hashed_number, bits_of, can_name, IsDigestOf, ArePassed, IsCandidate};
 
-use crate::journal::Entry;
+use crate::entry::Entry;
 use crate::pair::Pair;
 use ip_prefix::{Addr, Family};
 use std::collections::VecDeque;
@@ -87,7 +87,7 @@ impl Digest {
     {
         let mut absent = u64::MAX;
         'entries: for entry in entries {
-            absent &= !bits_of(&entry.pair);
+            absent &= !bits_of(&entry.pair());
         }
         Digest { absent }
     }

@@ -14,6 +14,7 @@ ghost use Rattle.rib_player.specs.Journal.{clearing_of, clearings_of, clearings_
 ghost use Rattle.rib_player.specs.Digests.{AreDigestsOf};
 
 use crate::digest::{Digest, bits_of, next_place};
+use crate::entry::Entry;
 use crate::pair::Pair;
 use crate::table::Table;
 use mrt_wire::Route;
@@ -21,19 +22,6 @@ use rib_store::PrefixStore;
 use std::alloc::AllocError;
 use std::collections::VecDeque;
 use std::rc::Rc;
-
-/// A pair that a step names, and its route, or the absence of one, on the other side of the
-/// step: after it while it is undone, else before it.
-#[derive(Drop)]
-pub(crate) struct Entry {
-    pub(crate) pair: Pair,
-    pub(crate) other: Option<Rc<Route>>,
-    /// No kept step before this one names the pair, and it has no route before all of them. So
-    /// its key goes with this step.
-    pub(crate) first: bool,
-    /// The pair has no route behind the step.
-    pub(crate) clears: bool,
-}
 
 /// A step: one entry for each pair that it names.
 #[derive(Drop)]
@@ -63,7 +51,7 @@ pub(crate) fn cross<S: PrefixStore<Rc<Route>>>(table: &mut Table<S>, entries: &m
     ensures clearings { clearings_of entries.new ≡ clearings_of entries.old }
 {
     'entries: for entry in entries.iter_mut() {
-        table.exchange(&entry.pair, &mut entry.other);
+        entry.exchange(table);
     }
 }
 
@@ -95,9 +83,9 @@ fn mark(entries: &mut [Entry], pair: &Pair) -> bool
     ensures sides { sides_of entries.new ≡ sides_of entries.old }
     ensures clearings { clearings_of entries.new ≡ clearings_of entries.old }
 {
-    match entries.binary_search_by_key(pair, |entry| entry.pair) {
+    match entries.binary_search_by_key(pair, |entry| entry.pair()) {
         Ok(index) => {
-            entries[index].first = true;
+            entries[index].set_first(true);
             true
         }
         Err(_) => false,
@@ -121,8 +109,9 @@ pub(crate) fn release<S: PrefixStore<Rc<Route>>>(
     ensures clearings { clearings_of last.new ≡ clearings_of last.old }
 {
     'entries: for entry in gone {
-        if entry.first && !mark(last, &entry.pair) {
-            table.discard(&entry.pair);
+        let pair = entry.pair();
+        if entry.is_first() && !mark(last, &pair) {
+            table.discard(&pair);
         }
     }
 }
@@ -145,8 +134,9 @@ pub(crate) fn make_keys<S: PrefixStore<Rc<Route>>>(
 {
     let mut made = 0;
     'entries: while made < entries.len() {
-        match table.ensure(&entries[made].pair) {
-            Ok(new) => entries[made].first = new,
+        let pair = entries[made].pair();
+        match table.ensure(&pair) {
+            Ok(new) => entries[made].set_first(new),
             Err(refused) => {
                 release(table, &entries[..made], &mut []);
                 return Err(refused);
@@ -264,8 +254,9 @@ pub(crate) fn forget_entries<S: PrefixStore<Rc<Route>>>(
     ensures digests { AreDigestsOf digests.now.items (trail_of steps.new.items) }
 {
     'entries: for entry in forgotten {
-        if entry.clears && !mark_first(steps, digests, &entry.pair) {
-            table.discard(&entry.pair);
+        let pair = entry.pair();
+        if entry.clears() && !mark_first(steps, digests, &pair) {
+            table.discard(&pair);
         }
     }
 }
@@ -287,8 +278,8 @@ fn drop_cleared_key<S: PrefixStore<Rc<Route>>>(table: &mut Table<S>, entry: &Ent
         && (is_some (finite.get table.old.routes q) || not (is_cleared q (clearing_of entry.now)))) }
     ensures routes { table.new.routes ≡ table.old.routes }
 {
-    if entry.clears {
-        drop_free_key(table, &entry.pair);
+    if entry.clears() {
+        drop_free_key(table, &entry.pair());
     }
 }
 

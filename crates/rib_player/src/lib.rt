@@ -3,8 +3,10 @@
 
 mod changes;
 mod digest;
+mod entry;
 mod journal;
 mod known;
+mod known_peers;
 mod laws;
 mod pair;
 mod player;

@@ -9,6 +9,7 @@ use crate::changes::step_for;
 use crate::digest::Digest;
 use crate::journal::{Step, advance, cross_step, forget_entries, forget_steps, named_from};
 use crate::known::KnownRoutes;
+use crate::known_peers::KnownPeers;
 use crate::table::Table;
 use mrt_wire::{Event, Route};
 use rib_store::PrefixStore;
@@ -48,6 +49,8 @@ pub struct Player<S: PrefixStore<Rc<Route>>> {
     floor: u64,
     /// The routes of steps, so that equal ones are one.
     known: KnownRoutes,
+    /// The peers of steps, alike.
+    peers: KnownPeers,
 }
 
 impl<S: PrefixStore<Rc<Route>>> Model for Player<S> {
@@ -85,6 +88,7 @@ impl<S: PrefixStore<Rc<Route>>> Player<S> {
             cursor: 0,
             floor: 0,
             known: KnownRoutes::new(alloc),
+            peers: KnownPeers::new(alloc),
         }
     }
 
@@ -177,7 +181,13 @@ impl<S: PrefixStore<Rc<Route>>> Player<S> {
         ensures dropped { IfOk result (λ dropped. dropped ≡ ahead_of self.old) }
         ensures refused { OnErr result (self.new ≡ self.old) }
     {
-        let mut entries = step_for(self.alloc, event, &self.table, &mut self.known)?;
+        let mut entries = step_for(
+            self.alloc,
+            event,
+            &self.table,
+            &mut self.known,
+            &mut self.peers,
+        )?;
         self.steps.reserve(1)?;
         self.digests.reserve(1)?;
         let dropped = self.steps.len() - self.cursor;

@@ -9,7 +9,7 @@ ghost use Rattle.ip_prefix.specs.Network.{Network};
 use ip_prefix::{Addr, Prefix, V4_OCTETS};
 
 /// A prefix of one family, however it is kept.
-pub(crate) trait Packed: Copy + Drop {
+pub trait Packed: Copy + Drop {
     /// The prefix that it stands for.
     ghost network: { Self → Network };
 
@@ -28,7 +28,7 @@ pub(crate) trait Packed: Copy + Drop {
 
 /// A prefix of IPv4: the octets of its least address, and how many bits it has.
 #[derive(Clone, Copy, Drop)]
-pub(crate) struct V4Prefix {
+pub struct V4Prefix {
     octets: [u8; V4_OCTETS],
     len: u8,
     ghost within: { len ≤ V4_BITS },

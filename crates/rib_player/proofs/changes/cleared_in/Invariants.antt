@@ -9,7 +9,7 @@ abbrev pub invariant-routes : goal.invariant-routes
 invariant-routes g l =
     let found = finite.entries (g.S.PrefixStore.routes l.store) in
     record {
-      sides : sides_of l.entries.items ++ map (λ e. cleared_side l.peer e.0) (above l.last found) ≡ map (λ e. cleared_side l.peer e.0) found;
+      sides : sides_of l.entries.items ++ map (λ e. cleared_side l.peer.value e.0) (above l.last found) ≡ map (λ e. cleared_side l.peer.value e.0) found;
       clearings : clearings_of l.entries.items ≡ map clearing_then (sides_of l.entries.items);
     }
 

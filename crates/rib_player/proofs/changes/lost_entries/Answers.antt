@@ -1,29 +1,41 @@
-use Rattle.std.proofs.Common.{◌≡◌, List, None, sym, ap, subst, ◌∙◌}
+use Rattle.std.proofs.Common.{◌≡◌, List, map, None, sym, ap, subst, ◌∙◌}
 use Rattle.std.specs.List.{AllByRecursion, list_any}
 use Rattle.std.specs.Ordering.{eq_by_cmp}
+use Rattle.std.specs.FinMap as finite
 use Rattle.std.proofs.lemmas.Result.{IfOk-weaker}
 use Rattle.rib_store.proofs.AboveLaws.{routes-in_order}
-use Rattle.rib_player.specs.declared.journal.Entry.{Entry}
+use Rattle.rib_player.specs.Entries.{Entry}
 use Rattle.rib_player.specs.History.{pair_cmp}
-use Rattle.rib_player.specs.Journal.{Side, pairs_in, sides_of, AreOrdered}
+use Rattle.rib_player.specs.Journal.{Side, pairs_in, sides_of, cleared_side, AreOrdered}
 use Rattle.rib_player.proofs.StoreLaws.{peer-named, none-named}
 use Rattle.rib_player.proofs.LostLaws.{pairs-cleared, absent-cleared, ordered-cleared, ordered-none}
+use Rattle.rib_player.proofs.changes.lost_entries.Given.{Over}
 use Rattle.rib_player.proofs.changes.lost_entries.Goals as goal
+use Rattle.rib_player.proofs.changes.lost_entries.Goals.{In_ok-known-in-Some}
 
-pub returns-in-Some-clause-named : goal.returns-in-Some-clause-named
-returns-in-Some-clause-named g c =
+-- the shared peer is the peer
+sides_of_peer : (g : Over) (c : In_ok-known-in-Some g)
+    → map (cleared_side c.in_ok-known-in-Some.field-0.value) (finite.keys (g.S.PrefixStore.routes c.in-Some.store.now))
+    ≡ map (cleared_side c.args.peer.now) (finite.keys (g.S.PrefixStore.routes c.in-Some.store.now))
+sides_of_peer g c = ap (λ peer. map (cleared_side peer) (finite.keys (g.S.PrefixStore.routes c.in-Some.store.now))) c.in_ok-known-in-Some.ensures
+
+pub returns-in_ok-known-in-Some-clause-named : goal.returns-in_ok-known-in-Some-clause-named
+returns-in_ok-known-in-Some-clause-named g c =
+    let b = (goal.at.returns-in_ok-known-in-Some-clause-named g c).In_ok-known-in-Some in
     IfOk-weaker c.cleared_in.result _ _ (λ entries e q.
-    ap (λ (sides : List Side). list_any (eq_by_cmp pair_cmp q) (pairs_in sides)) e
+    ap (λ (sides : List Side). list_any (eq_by_cmp pair_cmp q) (pairs_in sides)) (e ∙ sides_of_peer g b)
     ∙ ap (list_any (eq_by_cmp pair_cmp q)) (pairs-cleared c.args.peer.now _)
     ∙ peer-named (g.S.PrefixStore.routes c.in-Some.store.now) c.args.table.now.routes c.args.peer.now c.in-Some.ensures.routes q) c.cleared_in.ensures.sides
 
-pub returns-in-Some-clause-absent : goal.returns-in-Some-clause-absent
-returns-in-Some-clause-absent g c =
-    IfOk-weaker c.cleared_in.result _ _ (λ entries e. subst (AllByRecursion (λ (side : Side). side.1 ≡ None)) (sym e) (absent-cleared c.args.peer.now _)) c.cleared_in.ensures.sides
+pub returns-in_ok-known-in-Some-clause-absent : goal.returns-in_ok-known-in-Some-clause-absent
+returns-in_ok-known-in-Some-clause-absent g c =
+    let b = (goal.at.returns-in_ok-known-in-Some-clause-absent g c).In_ok-known-in-Some in
+    IfOk-weaker c.cleared_in.result _ _ (λ entries e. subst (AllByRecursion (λ (side : Side). side.1 ≡ None)) (sym (e ∙ sides_of_peer g b)) (absent-cleared c.args.peer.now _)) c.cleared_in.ensures.sides
 
-pub returns-in-Some-clause-ordered : goal.returns-in-Some-clause-ordered
-returns-in-Some-clause-ordered g c =
-    IfOk-weaker c.cleared_in.result _ _ (λ entries e. subst AreOrdered (sym e) (ordered-cleared c.args.peer.now _ (routes-in_order (g.S.PrefixStore.routes c.in-Some.store.now)))) c.cleared_in.ensures.sides
+pub returns-in_ok-known-in-Some-clause-ordered : goal.returns-in_ok-known-in-Some-clause-ordered
+returns-in_ok-known-in-Some-clause-ordered g c =
+    let b = (goal.at.returns-in_ok-known-in-Some-clause-ordered g c).In_ok-known-in-Some in
+    IfOk-weaker c.cleared_in.result _ _ (λ entries e. subst AreOrdered (sym (e ∙ sides_of_peer g b)) (ordered-cleared c.args.peer.now _ (routes-in_order (g.S.PrefixStore.routes c.in-Some.store.now)))) c.cleared_in.ensures.sides
 
 pub returns-in-None-clause-named : goal.returns-in-None-clause-named
 returns-in-None-clause-named g c q =

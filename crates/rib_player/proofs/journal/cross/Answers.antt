@@ -1,4 +1,4 @@
-use Rattle.std.proofs.Common.{◌++◌, drop, take, ◌+◌, ◌<◌, length, get_or, arith, refl, ap, sym, subst, ◌∙◌}
+use Rattle.std.proofs.Common.{◌++◌, drop, take, ◌+◌, ◌<◌, length, get_or, arith, ap, sym, subst, ◌∙◌}
 use Rattle.std.proofs.lemmas.List.{drop-drop, drop-set-lt}
 use Rattle.rib_player.specs.Journal.{sides_of, clearings_of, clearing_of, marks_of, mark_of, routes_across, sides_across, IsKept}
 use Rattle.rib_player.proofs.JournalLaws.{rest_of_entries, kept-tail, entries-more}
@@ -19,11 +19,11 @@ entries-preserved g c =
       keys = c.exchange.ensures.keys ∙ known.keys;
       kept = subst (λ k. IsKept k (sides_of (drop (i + 1) first))) (sym c.exchange.ensures.keys) (kept-tail c.entries.table.keys _ (sides_of (drop (i + 1) first)) kept);
       routes = ap (routes_across (sides_of (drop (i + 1) first))) c.exchange.ensures.routes ∙ ap (λ es. routes_across (sides_of es) c.entries.table.routes) (sym rest) ∙ known.routes;
-      entries = entries-more c.entries.table.keys c.entries.table.routes c.exchange.new.self.routes c.entries.entries (drop (i + 1) first) i entry _ _ within kept c.exchange.ensures.routes
-          (λ k. (entry.pair, c.exchange.ensures.given k))
+      entries = entries-more c.entries.table.keys c.entries.table.routes c.exchange.new.table.routes c.entries.entries (drop (i + 1) first) i entry _ _ within kept c.exchange.ensures.routes
+          (λ k. (c.exchange.ensures.pair k, c.exchange.ensures.given k))
           (ap (λ es. sides_of (take i c.entries.entries) ++ sides_across c.entries.table.routes (sides_of es)) (sym rest) ∙ known.entries);
-      clearings = turn-more clearing_of c.entries.entries i _ (clearing_of entry) (clearings_of (drop (i + 1) first)) _ within refl
+      clearings = turn-more clearing_of c.entries.entries i _ (clearing_of entry) (clearings_of (drop (i + 1) first)) _ within (λ k. (c.exchange.ensures.pair k, c.exchange.ensures.clears k))
           (ap (λ es. clearings_of (take i c.entries.entries) ++ clearings_of es) (sym rest) ∙ known.clearings);
-      marks = turn-more mark_of c.entries.entries i _ (mark_of entry) (marks_of (drop (i + 1) first)) _ within refl
+      marks = turn-more mark_of c.entries.entries i _ (mark_of entry) (marks_of (drop (i + 1) first)) _ within (λ k. (c.exchange.ensures.pair k, c.exchange.ensures.first k))
           (ap (λ es. marks_of (take i c.entries.entries) ++ marks_of es) (sym rest) ∙ known.marks);
     }

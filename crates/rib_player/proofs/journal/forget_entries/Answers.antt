@@ -1,9 +1,10 @@
 use Rattle.std.proofs.Common.{◌≡◌, ◌||◌, ◌+◌, ◌<◌, ◌++◌, Bool, true, false, cond, None, [], ◌∷◌, length, take, get_or, arith, sym, ap, subst, ◌∙◌}
 use Rattle.std.specs.FinMap as finite
+use Rattle.std.specs.FinSet as names
 use Rattle.std.proofs.lemmas.List.{take_more, map-append, get_or-map, length-map}
 use Rattle.rib_player.specs.declared.pair.Pair.{Pair}
-use Rattle.rib_player.specs.declared.journal.Entry.{Entry}
-use Rattle.rib_player.specs.Journal.{Clearing, clearing_of, clearings_of, clearings_by_step, any_named, marks_of, named_by, trail_of, steps_of, without, unseen_by}
+use Rattle.rib_player.specs.Entries.{Entry}
+use Rattle.rib_player.specs.Journal.{Clearing, clearing_of, clearings_of, clearings_by_step, any_named, marked_first, marks_of, named_by, trail_of, steps_of, without, unseen_by}
 use Rattle.octet_forms.proofs.Lists.{AllByRecursion-get_or}
 use Rattle.rib_player.specs.Digests.{AreDigestsOf}
 use Rattle.rib_player.proofs.DigestLaws.{digests-marked}
@@ -12,7 +13,7 @@ use Rattle.rib_player.proofs.KeyLaws.{held-same, seen_after-any}
 use Rattle.rib_player.proofs.UnseenLaws.{unsee-named, unsee-gone, any-marked, unseen_by-push, unseen_by-other}
 use Rattle.rib_player.proofs.journal.forget_entries.Given.{Over}
 use Rattle.rib_player.proofs.journal.forget_entries.Goals as goal
-use Rattle.rib_player.proofs.journal.forget_entries.Goals.{After-entry-item, then-entry+then-not-mark_first, else-entry, else-entry-via-then-entry+else-not-mark_first, else-entry-via-else-entry}
+use Rattle.rib_player.proofs.journal.forget_entries.Goals.{After-entry-item, then-clears+then-not-mark_first, else-clears, else-clears-via-then-clears+else-not-mark_first, else-clears-via-else-clears}
 
 -- the entry's clearing stands at its place
 clearing_there : (g : Over) (c : After-entry-item g) → get_or (clearings_of c.args.forgotten.now) c.entries.entry-index (clearing_of c.entry-item.result) ≡ clearing_of c.entry-item.result
@@ -42,7 +43,7 @@ discard-requires-clause-key g c =
     ap (λ (x : Entry). named_by (marks_of before) x.pair) c.entry-item.is ∙ distinct-before c.args.forgotten.now c.entries.entry-index e (omega arith) c.requires.distinct in
     let there : seen e.pair ≡ true =
     subst (λ (x : Clearing). seen x.0 ≡ true) (clearing_there g b) (AllByRecursion-get_or (λ (x : Clearing). seen x.0 ≡ true) (clearings_of c.args.forgotten.now) c.entries.entry-index (clearing_of e) (within g b) c.requires.exact.all_seen) in
-    held.held e.pair ∙ seen_after-any (unseen_by (clearings_of before) seen) (trail_of c.entries.steps.items) e.pair
+    ap (names.contains c.entries.table.keys) c.pair-pair.ensures ∙ held.held e.pair ∙ seen_after-any (unseen_by (clearings_of before) seen) (trail_of c.entries.steps.items) e.pair
     ∙ ap (λ s. s || any_named (trail_of c.entries.steps.items) e.pair) (unseen_by-other before seen e.pair apart ∙ there)
 
 pub discard-requires-clause-free : goal.discard-requires-clause-free
@@ -51,8 +52,9 @@ discard-requires-clause-free g c =
     let e = c.entry-item.result in
     let free = subst (λ (x : Clearing). x.1 ≡ true → any_named (trail_of c.args.steps.now.items) x.0 ≡ false → finite.get c.args.table.now.routes x.0 ≡ None) (clearing_there g b)
     (AllByRecursion-get_or (λ (x : Clearing). x.1 ≡ true → any_named (trail_of c.args.steps.now.items) x.0 ≡ false → finite.get c.args.table.now.routes x.0 ≡ None) (clearings_of c.args.forgotten.now) c.entries.entry-index (clearing_of e) (within g b) c.requires.exact.free) in
-    ap (λ r. finite.get r e.pair) c.entries.invariant.routes
-    ∙ free c.if-entry.true (sym (c.entries.invariant.names e.pair) ∙ sym c.mark_first.ensures.found ∙ c.if-not-mark_first.true)
+    ap (finite.get c.entries.table.routes) c.pair-pair.ensures ∙ ap (λ r. finite.get r e.pair) c.entries.invariant.routes
+    ∙ free (sym c.clears.ensures ∙ c.if-clears.true)
+    (sym (c.entries.invariant.names e.pair) ∙ ap (any_named (trail_of c.entries.steps.items)) (sym c.pair-pair.ensures) ∙ sym c.mark_first.ensures.found ∙ c.if-not-mark_first.true)
 
 pub entries-preserved : goal.entries-preserved
 entries-preserved g c =
@@ -62,33 +64,36 @@ entries-preserved g c =
     let trail = trail_of c.entries.steps.items in
     let keys = c.entries.table.keys in
     let before = clearings_of (take c.entries.entry-index c.args.forgotten.now) in
-    elim c.if-entry.branch [
-      | then-entry+then-not-mark_first w ↦ record {
+    let pair : c.pair-pair.result ≡ e.pair = c.pair-pair.ensures in
+    let clears : e.clears ≡ c.clears.result = sym c.clears.ensures in
+    let trailed = ap (λ p. marked_first p trail) pair in
+    elim c.if-clears.branch [
+      | then-clears+then-not-mark_first w ↦ record {
         exact = λ seen ex all. held-same (without e.pair (unseen_by before seen)) _ _ _ w.discard.new.self.keys _
-            (unseen_then g b seen ∙ ap (λ f. cond f (without e.pair (unseen_by before seen)) (unseen_by before seen)) w.if-entry.true)
-            (ap (λ s. trail_of s.items) w.steps-is ∙ w.mark_first.ensures.trail) (ap (λ t. t.keys) w.table-is)
-            (unsee-gone (unseen_by before seen) e.pair trail keys w.discard.new.self.keys (sym w.mark_first.ensures.found ∙ w.if-not-mark_first.true) w.discard.ensures.keys (known.exact seen ex all));
-        digests = subst (AreDigestsOf c.args.digests.now.items) (sym (ap (λ s. trail_of s.items) w.steps-is ∙ w.mark_first.ensures.trail)) (digests-marked e.pair c.args.digests.now.items trail known.digests);
-        names = λ q. ap (λ s. any_named (trail_of s.items) q) w.steps-is ∙ ap (λ t. any_named t q) w.mark_first.ensures.trail ∙ any-marked e.pair trail q ∙ known.names q;
+            (unseen_then g b seen ∙ ap (λ f. cond f (without e.pair (unseen_by before seen)) (unseen_by before seen)) (clears ∙ w.if-clears.true))
+            (ap (λ s. trail_of s.items) w.steps-is ∙ (w.mark_first.ensures.trail ∙ trailed)) (ap (λ t. t.keys) w.table-is)
+            (unsee-gone (unseen_by before seen) e.pair trail keys w.discard.new.self.keys (ap (any_named trail) (sym pair) ∙ sym w.mark_first.ensures.found ∙ w.if-not-mark_first.true) (w.discard.ensures.keys ∙ ap (names.remove keys) pair) (known.exact seen ex all));
+        digests = subst (AreDigestsOf c.args.digests.now.items) (sym (ap (λ s. trail_of s.items) w.steps-is ∙ (w.mark_first.ensures.trail ∙ trailed))) (digests-marked e.pair c.args.digests.now.items trail known.digests);
+        names = λ q. ap (λ s. any_named (trail_of s.items) q) w.steps-is ∙ ap (λ t. any_named t q) (w.mark_first.ensures.trail ∙ trailed) ∙ any-marked e.pair trail q ∙ known.names q;
         routes = ap (λ t. t.routes) w.table-is ∙ w.discard.ensures.routes ∙ known.routes;
         steps = ap (λ s. steps_of s.items) w.steps-is ∙ w.mark_first.ensures.steps ∙ known.steps;
         clearings = ap (λ s. clearings_by_step s.items) w.steps-is ∙ w.mark_first.ensures.clearings ∙ known.clearings;
       }
-      | else-entry w ↦ elim w.else-entry.branch [
-        | else-entry-via-then-entry+else-not-mark_first w' ↦ record {
+      | else-clears w ↦ elim w.else-clears.branch [
+        | else-clears-via-then-clears+else-not-mark_first w' ↦ record {
           exact = λ seen ex all. held-same (without e.pair (unseen_by before seen)) _ _ _ keys _
-              (unseen_then g b seen ∙ ap (λ f. cond f (without e.pair (unseen_by before seen)) (unseen_by before seen)) w'.if-entry.true)
-              (ap (λ s. trail_of s.items) (w.steps-is ∙ w'.steps-is) ∙ w'.mark_first.ensures.trail) (ap (λ t. t.keys) w.table-is)
-              (unsee-named (unseen_by before seen) e.pair trail keys (sym w'.mark_first.ensures.found ∙ w'.if-not-mark_first.false) (known.exact seen ex all));
-          digests = subst (AreDigestsOf c.args.digests.now.items) (sym (ap (λ s. trail_of s.items) (w.steps-is ∙ w'.steps-is) ∙ w'.mark_first.ensures.trail)) (digests-marked e.pair c.args.digests.now.items trail known.digests);
-          names = λ q. ap (λ s. any_named (trail_of s.items) q) (w.steps-is ∙ w'.steps-is) ∙ ap (λ t. any_named t q) w'.mark_first.ensures.trail ∙ any-marked e.pair trail q ∙ known.names q;
+              (unseen_then g b seen ∙ ap (λ f. cond f (without e.pair (unseen_by before seen)) (unseen_by before seen)) (clears ∙ w'.if-clears.true))
+              (ap (λ s. trail_of s.items) (w.steps-is ∙ w'.steps-is) ∙ (w'.mark_first.ensures.trail ∙ trailed)) (ap (λ t. t.keys) w.table-is)
+              (unsee-named (unseen_by before seen) e.pair trail keys (ap (any_named trail) (sym pair) ∙ sym w'.mark_first.ensures.found ∙ w'.if-not-mark_first.false) (known.exact seen ex all));
+          digests = subst (AreDigestsOf c.args.digests.now.items) (sym (ap (λ s. trail_of s.items) (w.steps-is ∙ w'.steps-is) ∙ (w'.mark_first.ensures.trail ∙ trailed))) (digests-marked e.pair c.args.digests.now.items trail known.digests);
+          names = λ q. ap (λ s. any_named (trail_of s.items) q) (w.steps-is ∙ w'.steps-is) ∙ ap (λ t. any_named t q) (w'.mark_first.ensures.trail ∙ trailed) ∙ any-marked e.pair trail q ∙ known.names q;
           routes = ap (λ t. t.routes) w.table-is ∙ known.routes;
           steps = ap (λ s. steps_of s.items) (w.steps-is ∙ w'.steps-is) ∙ w'.mark_first.ensures.steps ∙ known.steps;
           clearings = ap (λ s. clearings_by_step s.items) (w.steps-is ∙ w'.steps-is) ∙ w'.mark_first.ensures.clearings ∙ known.clearings;
         }
-        | else-entry-via-else-entry w' ↦ record {
+        | else-clears-via-else-clears w' ↦ record {
           exact = λ seen ex all. held-same (unseen_by before seen) _ _ _ keys _
-              (unseen_then g b seen ∙ ap (λ f. cond f (without e.pair (unseen_by before seen)) (unseen_by before seen)) w'.if-entry.false)
+              (unseen_then g b seen ∙ ap (λ f. cond f (without e.pair (unseen_by before seen)) (unseen_by before seen)) (clears ∙ w'.if-clears.false))
               (ap (λ s. trail_of s.items) (w.steps-is ∙ w'.steps-is)) (ap (λ t. t.keys) w.table-is) (known.exact seen ex all);
           digests = subst (AreDigestsOf c.args.digests.now.items) (sym (ap (λ s. trail_of s.items) (w.steps-is ∙ w'.steps-is))) known.digests;
           names = λ q. ap (λ s. any_named (trail_of s.items) q) (w.steps-is ∙ w'.steps-is) ∙ known.names q;

@@ -1,11 +1,11 @@
-use Rattle.std.proofs.Common.{◌≡◌, false, not, [], ◌∷◌, ◌++◌, ◌||◌, ◌+◌, ◌<◌, List, length, take, set, get_or, arith, refl, sym, ap, subst, ◌∙◌}
+use Rattle.std.proofs.Common.{◌≡◌, false, not, [], ◌∷◌, ◌++◌, ◌||◌, ◌+◌, ◌<◌, List, length, take, set, get_or, arith, sym, ap, subst, ◌∙◌}
 use Rattle.std.proofs.lemmas.List.{length-set}
 use Rattle.std.specs.List.{IsDistinct}
 use Rattle.std.specs.List.Sorted.{IsStrictlySortedBy}
 use Rattle.std.specs.FinMap as finite
 use Rattle.std.specs.FinSet as names
-use Rattle.rib_player.specs.declared.journal.Entry.{Entry}
-use Rattle.rib_player.specs.Journal.{Mark, clearing_of, sides_of, pairs_in, marks_of, mark_of, named_by, AreFirst, IsExact}
+use Rattle.rib_player.specs.Entries.{Entry}
+use Rattle.rib_player.specs.Journal.{Mark, side_of, clearing_of, sides_of, pairs_in, marks_of, mark_of, named_by, AreFirst, IsExact}
 use Rattle.rib_player.proofs.MarkLaws.{tied, pairs_in-take, distinct-take, distinct-before, exact-unmake, exact-unmade, same-names, keys-more-marked, first-push, first-made, marks-more, get_or-any, same-set, sides-set}
 use Rattle.rib_player.proofs.journal.make_keys.Given.{Over}
 use Rattle.rib_player.proofs.journal.make_keys.Goals as goal
@@ -47,20 +47,23 @@ entries-preserved g c =
     let known = c.entries.invariant in
     let within : made < length entries = omega arith in
     let here : Entry = get_or entries made c.index-entries-made-in-Ok.result in
-    let new : Entry = record { pair = here.pair; other = here.other; first = c.in-Ok.new; clears = here.clears } in
+    let noted : Entry = record { pair = here.pair; other = here.other; first = c.in-Ok.new; clears = here.clears } in
+    let new = c.set_first.new.self in
+    let is : new ≡ noted = c.set_first.ensures in
     let seen = names.contains c.args.table.now.keys in
     let marks : List Mark = marks_of (take made entries) in
     let same : c.index-entries-made.result ≡ here = c.index-entries-made.is ∙ get_or-any entries made c.index-entries-made.result c.index-entries-made-in-Ok.result within in
-    let more : marks_of (take (made + 1) (set entries made new)) ≡ marks ++ mark_of new ∷ [] = marks-more entries made new within in
+    let pair_is : c.pair-pair.result ≡ here.pair = c.pair-pair.ensures ∙ ap (λ (e : Entry). e.pair) (sym c.index-entries-made.is ∙ same) in
+    let more : marks_of (take (made + 1) (set entries made new)) ≡ marks ++ mark_of noted ∷ [] = marks-more entries made new within ∙ ap (λ (e : Entry). marks ++ mark_of e ∷ []) is in
     let distinct : IsDistinct tied (pairs_in (sides_of entries)) = subst (λ s. IsDistinct tied (pairs_in s)) (sym known.sides) c.requires.distinct in
     let apart : named_by marks here.pair ≡ false = distinct-before entries made c.index-entries-made-in-Ok.result within distinct in
     record {
       within = omega (arith, length-set entries made new);
-      held = λ q. keys-more-marked seen c.entries.table.keys c.ensure.new.self.keys marks (mark_of new) (c.in-Ok.ensures.keys ∙ ap (λ (e : Entry). names.insert c.entries.table.keys e.pair) (sym c.index-entries-made.is ∙ same)) known.held q
+      held = λ q. keys-more-marked seen c.entries.table.keys c.ensure.new.self.keys marks (mark_of noted) (c.in-Ok.ensures.keys ∙ ap (names.insert c.entries.table.keys) pair_is) known.held q
           ∙ ap (λ m. seen q || named_by m q) (sym more);
-      first = subst (AreFirst seen) (sym more) (first-push seen marks (mark_of new) known.first
-          (first-made seen c.entries.table.keys marks here.pair c.in-Ok.new (c.in-Ok.ensures.made ∙ ap (λ (e : Entry). not (names.contains c.entries.table.keys e.pair)) (sym c.index-entries-made.is ∙ same)) known.held apart));
+      first = subst (AreFirst seen) (sym more) (first-push seen marks (mark_of noted) known.first
+          (first-made seen c.entries.table.keys marks here.pair c.in-Ok.new (c.in-Ok.ensures.made ∙ ap (λ p. not (names.contains c.entries.table.keys p)) pair_is) known.held apart));
       routes = c.ensure.ensures.routes ∙ known.routes;
-      sides = sides-set entries made new here refl within (get_or-any entries made here c.index-entries-made-in-Ok.result within) ∙ known.sides;
-      clearings = same-set clearing_of entries made new here refl within (get_or-any entries made here c.index-entries-made-in-Ok.result within) ∙ known.clearings;
+      sides = sides-set entries made new here (ap side_of is) within (get_or-any entries made here c.index-entries-made-in-Ok.result within) ∙ known.sides;
+      clearings = same-set clearing_of entries made new here (ap clearing_of is) within (get_or-any entries made here c.index-entries-made-in-Ok.result within) ∙ known.clearings;
     }

@@ -1,0 +1,269 @@
+//! The entries of steps, in little memory.
+
+ghost use Rattle.std.specs.Prelude.{◌≡◌, true, None, IfOk};
+ghost use Rattle.std.specs.FinMap as finite;
+ghost use Rattle.std.specs.FinSet as set;
+ghost use Rattle.rib_store.specs.Packed.{v4_network};
+ghost use Rattle.rib_store.specs.Stored.{put};
+ghost use Rattle.rib_player.specs.History.{pair_of};
+ghost use Rattle.rib_player.specs.Store.{route_in};
+ghost use Rattle.rib_player.specs.Entries.{new_entry, pair_kept, other_kept, marks_kept, IsWhole};
+
+use crate::pair::Pair;
+use crate::table::Table;
+use ip_prefix::{Family, Prefix};
+use mrt_wire::{Peer, Route};
+use rib_store::{Packed, PrefixStore, V4Prefix};
+use std::alloc::{AllocError, Global};
+use std::marker::Model;
+use std::mem::{replace, size_of};
+use std::rc::Rc;
+
+/// A pair that a step names, and its route, or the absence of one, on the other side of the
+/// step: after it while it is undone, else before it.
+#[derive(Drop)]
+pub(crate) struct Entry {
+    kept: Kept,
+}
+
+/// What is told of an entry's pair.
+#[derive(Clone, Copy)]
+struct Marks {
+    /// No kept step before this one names the pair, and it has no route before all of them. So
+    /// its key goes with this step.
+    first: bool,
+    /// The pair has no route behind the step.
+    clears: bool,
+}
+
+/// A pair with its marks, and the route, where there is one. The entries of a peer share it. An
+/// IPv4 prefix lies beside the marks, so that an entry takes three words; an IPv6 prefix lies with
+/// its peer in memory of its own.
+#[derive(Drop)]
+enum Kept {
+    V4Absent(Marks, V4Prefix, Rc<Peer>),
+    V4Present(Marks, V4Prefix, Rc<Peer>, Rc<Route>),
+    V6Absent(Marks, Box<V6Pair>),
+    V6Present(Marks, Box<V6Pair>, Rc<Route>),
+    /// Nothing, while an entry is put together anew.
+    Taken,
+}
+
+/// A pair with a prefix of IPv6.
+#[derive(Drop)]
+struct V6Pair {
+    prefix: Prefix,
+    peer: Rc<Peer>,
+}
+
+/// How many octets an entry takes at most, besides an IPv6 prefix.
+const ENTRY_OCTETS: usize = 24;
+
+const _: () = prove!(size_of::<Entry>() <= ENTRY_OCTETS);
+
+impl Model for Entry {
+    ghost use Rattle.rib_player.specs.Entries.{Entry, pair_kept, other_kept, marks_kept, IsWhole};
+
+    ghost Value = { Entry };
+
+    ghost view = { λ e. record {
+      pair = pair_kept e.kept;
+      other = other_kept e.kept;
+      first = (marks_kept e.kept).first;
+      clears = (marks_kept e.kept).clears;
+    } };
+
+    ghost invariant = { λ e. IsWhole e.kept };
+}
+
+impl Entry {
+    /// An entry that isn't known to be the first of its pair, with the route that it has behind the
+    /// step.
+    pub(crate) fn new(
+        alloc: Global,
+        peer: Rc<Peer>,
+        prefix: &Prefix,
+        other: Option<Rc<Route>>,
+    ) -> Result<Entry, AllocError>
+        ensures { IfOk result (λ entry.
+            entry ≡ new_entry (pair_of peer.value prefix.now) other) }
+    {
+        let marks = Marks {
+            first: false,
+            clears: other.is_none(),
+        };
+        let absent = Kept::absent(alloc, marks, peer, prefix)?;
+        Ok(Entry {
+            kept: absent.with_route(other),
+        })
+    }
+
+    /// The pair.
+    #[inline]
+    pub(crate) fn pair(&self) -> Pair
+        ensures { result ≡ self.now.pair }
+    {
+        match &self.kept {
+            Kept::V4Absent(_, prefix, peer) => v4_pair(prefix, peer),
+            Kept::V4Present(_, prefix, peer, _) => v4_pair(prefix, peer),
+            Kept::V6Absent(_, pair) => v6_pair(pair),
+            Kept::V6Present(_, pair, _) => v6_pair(pair),
+            Kept::Taken => unreachable!(),
+        }
+    }
+
+    /// Whether it is the first of its pair.
+    #[inline]
+    pub(crate) fn is_first(&self) -> bool
+        ensures { result ≡ self.now.first }
+    {
+        self.kept.marks().first
+    }
+
+    /// Whether its pair has no route behind the step.
+    #[inline]
+    pub(crate) fn clears(&self) -> bool
+        ensures { result ≡ self.now.clears }
+    {
+        self.kept.marks().clears
+    }
+
+    /// Notes whether it is the first of its pair.
+    #[inline]
+    pub(crate) fn set_first(&mut self, first: bool)
+        ensures { self.new ≡ record {
+          pair = self.old.pair;
+          other = self.old.other;
+          first = first;
+          clears = self.old.clears;
+        } }
+    {
+        match &mut self.kept {
+            Kept::V4Absent(marks, _, _) => marks.first = first,
+            Kept::V4Present(marks, _, _, _) => marks.first = first,
+            Kept::V6Absent(marks, _) => marks.first = first,
+            Kept::V6Present(marks, _, _) => marks.first = first,
+            Kept::Taken => unreachable!(),
+        }
+    }
+
+    /// Its route and the table's change places.
+    #[inline]
+    pub(crate) fn exchange<S: PrefixStore<Rc<Route>>>(&mut self, table: &mut Table<S>)
+        requires { set.contains table.old.keys self.old.pair ≡ true }
+        ensures keys { table.new.keys ≡ table.old.keys }
+        ensures routes { table.new.routes ≡
+            put table.old.routes self.old.pair (route_in self.old.other) }
+        ensures given { route_in self.new.other ≡ finite.get table.old.routes self.old.pair }
+        ensures pair { self.new.pair ≡ self.old.pair }
+        ensures first { self.new.first ≡ self.old.first }
+        ensures clears { self.new.clears ≡ self.old.clears }
+    {
+        let pair = self.pair();
+        let (absent, mut other) = replace(&mut self.kept, Kept::Taken).without_route();
+        table.exchange(&pair, &mut other);
+        self.kept = absent.with_route(other);
+    }
+}
+
+/// A pair with a prefix of IPv4.
+#[inline]
+fn v4_pair(prefix: &V4Prefix, peer: &Rc<Peer>) -> Pair
+    ensures { result ≡ pair_of peer.now.value (v4_network prefix.now) }
+{
+    Pair {
+        peer: **peer,
+        prefix: prefix.wide(),
+    }
+}
+
+/// A pair with a prefix of IPv6.
+#[inline]
+fn v6_pair(pair: &V6Pair) -> Pair
+    ensures { result ≡ pair_of pair.now.peer.value pair.now.prefix }
+{
+    Pair {
+        peer: *pair.peer,
+        prefix: pair.prefix,
+    }
+}
+
+impl Kept {
+    /// The pair, without a route.
+    fn absent(
+        alloc: Global,
+        marks: Marks,
+        peer: Rc<Peer>,
+        prefix: &Prefix,
+    ) -> Result<Kept, AllocError>
+        ensures pair { IfOk result (λ kept. pair_kept kept ≡ pair_of peer.value prefix.now) }
+        ensures marks { IfOk result (λ kept. marks_kept kept ≡ marks) }
+        ensures other { IfOk result (λ kept. other_kept kept ≡ None) }
+        ensures whole { IfOk result (λ kept. IsWhole kept) }
+    {
+        match prefix.family() {
+            Family::V4 => Ok(Kept::V4Absent(marks, V4Prefix::of(prefix), peer)),
+            Family::V6 => {
+                let pair = V6Pair {
+                    prefix: *prefix,
+                    peer,
+                };
+                Ok(Kept::V6Absent(marks, Box::new(alloc, pair)?))
+            }
+        }
+    }
+
+    /// The marks.
+    #[inline]
+    fn marks(&self) -> Marks
+        requires { IsWhole self.now }
+        ensures { result ≡ marks_kept self.now }
+    {
+        match self {
+            Kept::V4Absent(marks, _, _) => *marks,
+            Kept::V4Present(marks, _, _, _) => *marks,
+            Kept::V6Absent(marks, _) => *marks,
+            Kept::V6Present(marks, _, _) => *marks,
+            Kept::Taken => unreachable!(),
+        }
+    }
+
+    /// The same without its route, and the route.
+    #[inline]
+    fn without_route(self) -> (Kept, Option<Rc<Route>>)
+        requires { IsWhole self }
+        ensures whole { IsWhole result.0 }
+        ensures pair { pair_kept result.0 ≡ pair_kept self }
+        ensures marks { marks_kept result.0 ≡ marks_kept self }
+        ensures absent { other_kept result.0 ≡ None }
+        ensures other { result.1 ≡ other_kept self }
+    {
+        match self {
+            Kept::V4Present(marks, prefix, peer, route) => {
+                (Kept::V4Absent(marks, prefix, peer), Some(route))
+            }
+            Kept::V6Present(marks, pair, route) => (Kept::V6Absent(marks, pair), Some(route)),
+            absent => (absent, None),
+        }
+    }
+
+    /// The same, which has no route, with the route, or its absence.
+    #[inline]
+    fn with_route(self, other: Option<Rc<Route>>) -> Kept
+        requires whole { IsWhole self }
+        requires absent { other_kept self ≡ None }
+        ensures whole { IsWhole result }
+        ensures pair { pair_kept result ≡ pair_kept self }
+        ensures marks { marks_kept result ≡ marks_kept self }
+        ensures other { other_kept result ≡ other }
+    {
+        let Some(route) = other else {
+            return self;
+        };
+        match self {
+            Kept::V4Absent(marks, prefix, peer) => Kept::V4Present(marks, prefix, peer, route),
+            Kept::V6Absent(marks, pair) => Kept::V6Present(marks, pair, route),
+            _ => unreachable!(),
+        }
+    }
+}
