@@ -233,7 +233,11 @@ impl Ord for Addr {
 
     #[inline]
     fn cmp(&self, other: &Addr) -> Ordering {
-        compare_families(self.family, other.family).then(self.number.get().cmp(&other.number.get()))
+        match compare_families(self.family, other.family) {
+            Ordering::Less => Ordering::Less,
+            Ordering::Equal => self.number.compare(other.number),
+            Ordering::Greater => Ordering::Greater,
+        }
     }
 }
 

@@ -1,8 +1,10 @@
 //! The numbers that addresses and prefixes are kept as.
 
 ghost use Rattle.std.specs.Prelude.{◌≡◌};
+ghost use Rattle.std.specs.Ordering.{nat_cmp};
 
 use crate::addr::HALF_BITS;
+use std::cmp::Ordering;
 use std::marker::Model;
 
 /// A number of 128 bits. It is kept as two halves, so that what holds it is aligned to eight octets
@@ -53,5 +55,17 @@ impl Number {
         ensures { result ≡ self }
     {
         u128::from(self.high) << HALF_BITS | u128::from(self.low)
+    }
+
+    /// How it compares. Mostly the high halves decide.
+    #[inline]
+    pub(crate) fn compare(self, other: Number) -> Ordering
+        ensures { result ≡ nat_cmp self other }
+    {
+        match self.high.cmp(&other.high) {
+            Ordering::Less => Ordering::Less,
+            Ordering::Equal => self.low.cmp(&other.low),
+            Ordering::Greater => Ordering::Greater,
+        }
     }
 }

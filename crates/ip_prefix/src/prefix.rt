@@ -229,9 +229,14 @@ impl Ord for Prefix {
 
     #[inline]
     fn cmp(&self, other: &Prefix) -> Ordering {
-        compare_families(self.family, other.family)
-            .then(self.number.get().cmp(&other.number.get()))
-            .then(self.len.cmp(&other.len))
+        match compare_families(self.family, other.family) {
+            Ordering::Less => Ordering::Less,
+            Ordering::Equal => self
+                .number
+                .compare(other.number)
+                .then(self.len.cmp(&other.len)),
+            Ordering::Greater => Ordering::Greater,
+        }
     }
 }
 
