@@ -22,6 +22,10 @@ const MOST_TIMES: usize = 3;
 /// How many places a row has. A route may stand in two of them, so at eight places.
 const ROW: usize = 4;
 
+/// How many places stand before the first row. A large block begins 16 octets behind the start of a
+/// page, one place, so with these each row lies in one line of the cache.
+const BEFORE_ROWS: usize = 3;
+
 /// By which a hash is multiplied for the second row: the odd number next to 2^32 divided by the
 /// golden ratio.
 const SECOND_ROW: u32 = 0x9e37_79b1;
@@ -98,9 +102,9 @@ fn count_taken(places: &[Place]) -> usize
 /// Where the row of a hash begins, of so many places.
 #[inline]
 fn row_of(hash: u32, count: usize) -> usize {
-    let rows = (count / ROW) as u64;
+    let rows = (count.saturating_sub(BEFORE_ROWS) / ROW) as u64;
     let row = (u64::from(hash).wrapping_mul(rows) >> HASH_BITS) as usize;
-    row.wrapping_mul(ROW)
+    row.wrapping_mul(ROW).wrapping_add(BEFORE_ROWS)
 }
 
 /// Where the two rows begin in which a route of this hash may stand, of so many places.

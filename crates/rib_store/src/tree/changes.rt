@@ -1,10 +1,10 @@
 //! Keys and routes come and go in place: nodes are split and joined.
 
-ghost use Rattle.std.specs.Prelude.{◌≡◌, ◌⊎◌, Some, None, List, Bool, is_some, not};
+ghost use Rattle.std.specs.Prelude.{◌≡◌, ◌⊎◌, Some, None, List, Bool, false, is_some, not};
 ghost use Rattle.std.specs.Prelude.{IsSome, OnOk, OnErr, IfOk};
 ghost use Rattle.ip_prefix.specs.Turns.{way, turn_of};
 ghost use Rattle.ip_prefix.specs.declared.turn.Turn.TheVariants.{Outside, Left, Right};
-ghost use Rattle.rib_store.specs.Shape.{Empty, shape_of, leaf_slot, IsLeaf, IsMarked};
+ghost use Rattle.rib_store.specs.Shape.{Empty, shape_of, leaf_slot, is_filled, is_routed, any_routed, IsLeaf, IsMarked};
 ghost use Rattle.rib_store.specs.Tree.{at, root, chosen, slot_of, kept, AreOf, IsOn, IsShaped, IsNearlyShaped, IsPut, IsGrown, IsRooted};
 
 use crate::packed::Packed;
@@ -49,7 +49,8 @@ impl<K: Packed, R: Drop> Tree<K, R> {
         }
     }
 
-    /// Makes the prefix a key, and answers whether it is new.
+    /// Makes the prefix a key, and answers whether it is new. The marks above it stay, since a new
+    /// key has no route.
     pub(crate) fn ensure(&mut self, alloc: Global, key: &Prefix) -> Result<bool, AllocError>
         requires shaped { IsShaped (shape_of K.network self.old) }
         requires marked { IsMarked self.old }
@@ -60,6 +61,7 @@ impl<K: Packed, R: Drop> Tree<K, R> {
         ensures grown { OnOk result (IsGrown (way key.now) (shape_of K.network self.old)
             (shape_of K.network self.new)) }
         ensures marked { OnOk result (IsMarked self.new) }
+        ensures routed { OnOk result (is_routed self.new ≡ is_routed self.old) }
         ensures refused { OnErr result (self.new ≡ self.old) }
         ensures known { OnErr result (at (shape_of K.network self.old) (way key.now) ≡ None) }
     {
@@ -76,7 +78,7 @@ impl<K: Packed, R: Drop> Tree<K, R> {
                 let prefix = *prefix;
                 grow_leaf(self, prefix, alloc, key)
             }
-            Tree::Rooted(routed, prefix, node) => {
+            Tree::Rooted(_, prefix, node) => {
                 let wide = prefix.wide();
                 let node = &mut **node;
                 let made = match wide.turn(key) {
@@ -88,7 +90,6 @@ impl<K: Packed, R: Drop> Tree<K, R> {
                     Turn::Left => node.left.ensure(alloc, key)?,
                     Turn::Right => node.right.ensure(alloc, key)?,
                 };
-                *routed = node.is_routed();
                 Ok(made)
             }
         }
@@ -209,6 +210,7 @@ fn grow_leaf<K: Packed, R: Drop>(
     ensures grown { OnOk result (IsGrown (way key.now) (shape_of K.network tree.old)
         (shape_of K.network tree.new)) }
     ensures marked { OnOk result (IsMarked tree.new) }
+    ensures routed { OnOk result (is_routed tree.new ≡ is_routed tree.old) }
     ensures refused { OnErr result (tree.new ≡ tree.old) }
     ensures known { OnErr result (at (shape_of K.network tree.old) (way key.now) ≡ None) }
 {
@@ -245,6 +247,7 @@ fn hang<K: Packed, R: Drop>(
     ensures grown { OnOk result (IsGrown (way key.now) (shape_of K.network tree.old)
         (shape_of K.network tree.new)) }
     ensures marked { OnOk result (IsMarked tree.new) }
+    ensures routed { OnOk result (is_routed tree.new ≡ is_routed tree.old) }
     ensures refused { OnErr result (tree.new ≡ tree.old) }
 {
     let mut node = lone(alloc)?;
@@ -257,7 +260,8 @@ fn hang<K: Packed, R: Drop>(
 
 /// The slot of a key without others below it.
 fn slot_in<K: Packed, R: Drop>(tree: Tree<K, R>) -> Slot<R>
-    ensures { slot_of result ≡ Some (leaf_slot tree) }
+    ensures slot { slot_of result ≡ Some (leaf_slot tree) }
+    ensures filled { is_filled result ≡ is_some (leaf_slot tree) }
 {
     match tree {
         Tree::Leaf(_, route) => Slot::Filled(route),
@@ -267,7 +271,8 @@ fn slot_in<K: Packed, R: Drop>(tree: Tree<K, R>) -> Slot<R>
 
 /// A branch with nothing below it yet.
 fn lone<K: Packed, R: Drop>(alloc: Global) -> Result<Box<Node<K, R>>, AllocError>
-    ensures { IfOk result (λ node. slot_of node.value.slot ≡ None) }
+    ensures slot { IfOk result (λ node. slot_of node.value.slot ≡ None) }
+    ensures filled { IfOk result (λ node. is_filled node.value.slot ≡ false) }
 {
     let node = Box::new(
         alloc,
@@ -292,6 +297,7 @@ fn put_root<K: Packed, R: Drop>(
     requires beside { IsMarked beside }
     requires below { IsMarked below }
     ensures marked { IsMarked tree.new }
+    ensures routed { is_routed tree.new ≡ any_routed node.value.slot beside below }
     ensures rooted { IsRooted (K.network prefix) (slot_of node.value.slot)
         (chosen side (shape_of K.network beside) (shape_of K.network beside)
         (shape_of K.network below) (shape_of K.network beside))
@@ -300,13 +306,12 @@ fn put_root<K: Packed, R: Drop>(
         (shape_of K.network tree.new) }
 {
     let mut node = node;
-    if let Turn::Left = side {
-        node.left = below;
-        node.right = beside;
-    } else {
-        node.left = beside;
-        node.right = below;
-    }
+    let (left, right) = match side {
+        Turn::Left => (below, beside),
+        _ => (beside, below),
+    };
+    node.left = left;
+    node.right = right;
     let routed = node.is_routed();
     *tree = Tree::Rooted(routed, prefix, node);
 }
@@ -327,6 +332,7 @@ fn split<K: Packed, R: Drop>(
     ensures grown { OnOk result (IsGrown (way key.now) (shape_of K.network tree.old)
         (shape_of K.network tree.new)) }
     ensures marked { OnOk result (IsMarked tree.new) }
+    ensures routed { OnOk result (is_routed tree.new ≡ is_routed tree.old) }
     ensures refused { OnErr result (tree.new ≡ tree.old) }
 {
     let common = prefix.common(key);
@@ -385,6 +391,7 @@ impl<R: Drop> Slot<R> {
     /// A key's slot, without a route where it is new, and whether it is.
     fn occupy(&mut self) -> bool
         ensures slot { slot_of self.new ≡ kept (slot_of self.old) }
+        ensures filled { is_filled self.new ≡ is_filled self.old }
         ensures made { result ≡ not (is_some (slot_of self.old)) }
     {
         if let Slot::Branch = self {

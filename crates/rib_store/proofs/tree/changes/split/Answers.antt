@@ -1,8 +1,8 @@
-use Rattle.std.proofs.Common.{◌≡◌, Some, None, refl, sym, ap, subst, ◌∙◌}
+use Rattle.std.proofs.Common.{◌≡◌, ◌||◌, false, Some, None, refl, sym, ap, ap₂, subst, ◌∙◌}
 use Rattle.ip_prefix.specs.declared.turn.Turn.TheVariants.{Here}
 use Rattle.ip_prefix.specs.Turns.{way, turn_of, shared}
 use Rattle.rib_store.specs.declared.tree.Slot.TheVariants.{Vacant}
-use Rattle.rib_store.specs.Shape.{Empty, Rooted, shape_of}
+use Rattle.rib_store.specs.Shape.{Empty, Rooted, shape_of, is_routed}
 use Rattle.rib_store.specs.Tree.{slot_of, IsRooted, chosen}
 use Rattle.rib_store.proofs.WayLaws.{way-shared}
 use Rattle.rib_store.proofs.GrowthLaws.{grown_over, is_key, is_branch}
@@ -41,7 +41,8 @@ returns g c =
       grown = grown_over key top (way old) (slot_of c.in_ok-above.above.value.slot) beside side c.requires.outside c.requires.root c.requires.shaped shares turn
           (subst (λ t. IsRooted top (slot_of c.in_ok-above.above.value.slot) (chosen side beside beside (shape_of net t) beside) (chosen side (shape_of net t) (shape_of net t) beside (shape_of net t)) (shape_of net c.put_root-2.new.tree))
           c.replace-below.ensures.value c.put_root-2.ensures.rooted)
-          (is_branch apart c.in_ok-above.ensures leaf);
+          (is_branch apart c.in_ok-above.ensures.slot leaf);
       marked = c.put_root-2.ensures.marked;
+      routed = c.put_root-2.ensures.routed ∙ ap₂ (λ filled t. filled || (false || is_routed t)) c.in_ok-above.ensures.filled c.replace-below.ensures.value;
       refused = tt;
     }
