@@ -25,6 +25,23 @@ use Rattle.octet_forms.proofs.Options.{is_some-option_map}
 abbrev Slot : Type 0
 Slot = Option (Rc Route Global)
 
+-- the first of two, where there is one
+abbrev either_slot : Option Slot → Option Slot → Option Slot
+either_slot None second = second
+either_slot (Some slot) second = Some slot
+
+behind-none : (slot second : Option Slot) → is_some slot ≡ false → either_slot slot second ≡ second
+behind-none None second e = refl
+behind-none (Some slot) second e = cc
+
+behind-some : (slot second : Option Slot) → is_some slot ≡ true → either_slot slot second ≡ slot
+behind-some None second e = cc
+behind-some (Some slot) second e = refl
+
+before-none : (slot : Option Slot) → either_slot slot None ≡ slot
+before-none None = refl
+before-none (Some slot) = refl
+
 -- where something is kept or the peer is lost, no earlier effect counts
 decided : (first : Effect) (kept : Option (Option Route)) (lost : Bool) → (is_some kept || lost) ≡ true → later first (effect_of kept lost) ≡ effect_of kept lost
 decided first (Some (Some route)) lost e = refl
@@ -59,6 +76,41 @@ effect_of-none : (slot : Option Slot) (lost : Bool) → (is_some slot || lost) �
 effect_of-none None true e = cc
 effect_of-none None false e = refl
 effect_of-none (Some slot) lost e = cc
+
+-- what is appended to slots counts where nothing stands there for its pair
+pub slot_at-push : (slots : Slots) (pair : Pair) (slot : Slot) (q : Pair) → slot_at (slots ++ (pair, slot) ∷ []) q ≡ either_slot (slot_at slots q) (cond (eq_by_cmp pair_cmp q pair) (Some slot) None)
+slot_at-push [] pair slot q = refl
+slot_at-push (first ∷ slots) pair slot q = at (slot_at-push slots pair slot q) (eq_by_cmp pair_cmp q first.0)
+  where
+    at : slot_at (slots ++ (pair, slot) ∷ []) q ≡ either_slot (slot_at slots q) (cond (eq_by_cmp pair_cmp q pair) (Some slot) None)
+        → (b : Bool) → cond b (Some first.1) (slot_at (slots ++ (pair, slot) ∷ []) q) ≡ either_slot (cond b (Some first.1) (slot_at slots q)) (cond (eq_by_cmp pair_cmp q pair) (Some slot) None)
+    at rest true = refl
+    at rest false = rest
+
+-- where nothing stands for the pair, it has a slot then
+pub push-free : (old new : Slots) (pair : Pair) (slot : Slot) → new ≡ old ++ (pair, slot) ∷ [] → is_some (slot_at old pair) ≡ false
+    → (q : Pair) → slot_at new q ≡ cond (eq_by_cmp pair_cmp pair q) (Some slot) (slot_at old q)
+push-free old new pair slot is none q =
+    ap (λ slots. slot_at slots q) is
+    ∙ slot_at-push old pair slot q
+    ∙ ap (λ b. either_slot (slot_at old q) (cond b (Some slot) None)) ((eq_by_cmp_equiv pair_cmp_total).symm q pair)
+    ∙ at (eq_by_cmp pair_cmp pair q) refl
+  where
+    at : (b : Bool) → eq_by_cmp pair_cmp pair q ≡ b → either_slot (slot_at old q) (cond b (Some slot) None) ≡ cond b (Some slot) (slot_at old q)
+    at true e = behind-none (slot_at old q) (Some slot) (ap (λ p. is_some (slot_at old p)) (sym (same_pair pair q e)) ∙ none)
+    at false e = before-none (slot_at old q)
+
+-- where something stands for it, nothing changes
+pub push-taken : (old new : Slots) (pair : Pair) (slot : Slot) → new ≡ old ++ (pair, slot) ∷ [] → is_some (slot_at old pair) ≡ true
+    → (q : Pair) → slot_at new q ≡ slot_at old q
+push-taken old new pair slot is there q =
+    ap (λ slots. slot_at slots q) is
+    ∙ slot_at-push old pair slot q
+    ∙ at (eq_by_cmp pair_cmp q pair) refl
+  where
+    at : (b : Bool) → eq_by_cmp pair_cmp q pair ≡ b → either_slot (slot_at old q) (cond b (Some slot) None) ≡ slot_at old q
+    at true e = behind-some (slot_at old q) (Some slot) (ap (λ p. is_some (slot_at old p)) (same_pair q pair e) ∙ there)
+    at false e = before-none (slot_at old q)
 
 -- where nothing is noted of a pair, what is put into its slot comes before all that is noted
 pub noted_effect-put : (old new : Slots) (peers : List Peer) (pair : Pair) (slot : Slot) (q : Pair) → (is_some (slot_at old pair) || is_lost peers pair) ≡ false
@@ -151,17 +203,6 @@ found-first old new pair q free taken = at (is_some (slot_at old pair)) refl
     at : (b : Bool) → is_some (slot_at old pair) ≡ b → found new q ≡ or_absent (found old q) (eq_by_cmp pair_cmp q pair)
     at true e = ap (option_map route_in) (taken e q) ∙ found-there old pair q e
     at false e = found-put old new pair q e (free e q)
-
--- what stood in a slot is put back
-pub put-back : (old over new : Slots) (pair : Pair) (slot stood : Slot) → Some stood ≡ slot_at old pair
-    → ((q : Pair) → slot_at over q ≡ cond (eq_by_cmp pair_cmp pair q) (Some slot) (slot_at old q))
-    → ((q : Pair) → slot_at new q ≡ cond (eq_by_cmp pair_cmp pair q) (Some stood) (slot_at over q))
-    → (q : Pair) → slot_at new q ≡ slot_at old q
-put-back old over new pair slot stood there put back q = back q ∙ ap (cond (eq_by_cmp pair_cmp pair q) (Some stood)) (put q) ∙ at (eq_by_cmp pair_cmp pair q) refl
-  where
-    at : (b : Bool) → eq_by_cmp pair_cmp pair q ≡ b → cond b (Some stood) (cond b (Some slot) (slot_at old q)) ≡ slot_at old q
-    at true e = there ∙ ap (slot_at old) (same_pair pair q e)
-    at false e = refl
 
 -- one more of a list of pairs that lose their route
 pub found-more : (pairs : List Pair) (i : ℕ) (pair : Pair) (kept old new : Option (Option Route)) (q : Pair) → i < length pairs → pair ≡ get_or pairs i pair

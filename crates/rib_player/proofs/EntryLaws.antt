@@ -13,7 +13,7 @@ use Rattle.std.specs.declared.alloc.Global.{Global}
 use Rattle.std.specs.declared.rc.Rc.{Rc}
 use Rattle.std.proofs.lemmas.Map.{NonePasses, lookup-none}
 use Rattle.std.proofs.lemmas.Map.Entries.{lookup_head, none_past_head}
-use Rattle.std.proofs.lemmas.Map.Keys.{sorted_head, sorted_tail, IsDistinct-tail}
+use Rattle.std.proofs.lemmas.Map.Keys.{sorted_head, sorted_tail, IsDistinct-tail, IsDistinct-from_sorted}
 use Rattle.rib_player.specs.declared.pair.Pair.{Pair}
 use Rattle.mrt_wire.specs.declared.event.Route.{Route}
 use Rattle.mrt_wire.specs.declared.event.Event.{Event}
@@ -164,7 +164,7 @@ route_after-found None false before route e = cc
 -- the sides of such slots are those of the event's step
 pub IsStepFor-made : (routes : Routes) (event : Event) (changes : Changes) (slots : Slots) (sides : List Side)
     → ((q : Pair) → noted_effect changes q ≡ effect q event)
-    → ((q : Pair) → found slots q ≡ or_absent (found changes.routes.entries q) (is_lost changes.lost.keys q && is_some (get routes q)))
+    → ((q : Pair) → found slots q ≡ or_absent (found changes.routes.items q) (is_lost changes.lost.keys q && is_some (get routes q)))
     → IsDistinct (eq_by_cmp pair_cmp) (keys_of slots)
     → AreOrdered sides
     → sides ≡ filter (has_route (get routes)) (map slot_side slots)
@@ -176,14 +176,14 @@ IsStepFor-made routes event changes slots sides notes then keys ordered is =
           ∙ sym (sides_across-found (get (table_after routes event)) (has_route (get routes)) slots keys (λ q route there.
           get-table_after routes event q
           ∙ ap (route_after (get routes q)) (sym (notes q))
-          ∙ route_after-found (found changes.routes.entries q) (is_lost changes.lost.keys q) (get routes q) route (sym (then q) ∙ there)))
+          ∙ route_after-found (found changes.routes.items q) (is_lost changes.lost.keys q) (get routes q) route (sym (then q) ∙ there)))
           ∙ ap (sides_across (table_after routes event)) (sym is);
       names = same_pairs (from_list (pairs_in sides)) (named_pairs routes event) (λ q.
           contains-from_list pair_cmp_total (pairs_in sides) q
           ∙ ap (λ (ss : List Side). list_any (eq_by_cmp pair_cmp q) (pairs_in ss)) is
           ∙ any_sides (get routes) q slots keys
           ∙ ap (λ k. shows k (get routes q)) (then q)
-          ∙ sym (named_pairs-shown (found changes.routes.entries q) (is_lost changes.lost.keys q) (get routes q))
+          ∙ sym (named_pairs-shown (found changes.routes.items q) (is_lost changes.lost.keys q) (get routes q))
           ∙ ap (is_named (get routes q)) (notes q)
           ∙ sym (contains-named_pairs routes event q));
     }
@@ -191,10 +191,11 @@ IsStepFor-made routes event changes slots sides notes then keys ordered is =
 -- the same of an answer that may be a refusal
 pub IsStepFor-answered : {E : Type 0} (routes : Routes) (event : Event) (changes : Changes) (slots : Slots) (result : Result (Vec Entry Global) E)
     → ((q : Pair) → noted_effect changes q ≡ effect q event)
-    → ((q : Pair) → found slots q ≡ or_absent (found changes.routes.entries q) (is_lost changes.lost.keys q && is_some (get routes q)))
-    → IfOk result (λ entries. IsDistinct (eq_by_cmp pair_cmp) (keys_of slots))
+    → ((q : Pair) → found slots q ≡ or_absent (found changes.routes.items q) (is_lost changes.lost.keys q && is_some (get routes q)))
+    → IsStrictlySortedBy pair_cmp (keys_of slots)
     → IfOk result (λ entries. AreOrdered (sides_of entries.items))
     → IfOk result (λ entries. sides_of entries.items ≡ filter (has_route (get routes)) (map slot_side slots))
     → IfOk result (λ entries. IsStepFor routes event (sides_of entries.items))
-IsStepFor-answered routes event changes slots (Ok entries) notes then keys ordered is = IsStepFor-made routes event changes slots (sides_of entries.items) notes then keys ordered is
-IsStepFor-answered routes event changes slots (Err refused) notes then keys ordered is = tt
+IsStepFor-answered routes event changes slots (Ok entries) notes then sorted ordered is =
+    IsStepFor-made routes event changes slots (sides_of entries.items) notes then (IsDistinct-from_sorted pair_cmp (keys_of slots) sorted) ordered is
+IsStepFor-answered routes event changes slots (Err refused) notes then sorted ordered is = tt

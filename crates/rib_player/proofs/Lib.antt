@@ -18,6 +18,7 @@ pub mod CountLaws
 pub mod KeyLaws
 pub mod KnownLaws
 pub mod PlayedLaws
+pub mod SlotLaws
 pub mod UnseenLaws
 pub mod DigestLaws
 pub mod ForgetLaws

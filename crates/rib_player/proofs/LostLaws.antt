@@ -100,7 +100,7 @@ module _ (routes : Routes) (event : Event) (peer : Peer) (alone : (q : Pair) →
   IsStepFor-lost_answered (Err refused) named absent ordered = tt
 
 -- an event of which nothing but a loss is noted does just that
-pub lost-alone : (event : Event) (changes : Changes) (peer : Peer) → ((q : Pair) → noted_effect changes q ≡ effect q event) → changes.routes.entries ≡ [] → changes.lost.keys ≡ peer ∷ []
+pub lost-alone : (event : Event) (changes : Changes) (peer : Peer) → ((q : Pair) → noted_effect changes q ≡ effect q event) → changes.routes.items ≡ [] → changes.lost.keys ≡ peer ∷ []
     → (q : Pair) → effect q event ≡ where_true (same_peer q.peer peer) Clear
 lost-alone event changes peer notes none one q =
     sym (notes q) ∙ ap₂ (λ (slots : Slots) (peers : List Peer). effect_of (found slots q) (is_lost peers q)) none one

@@ -29,7 +29,7 @@ effect_of None lost = where_true lost Clear
 
 -- what is noted for a pair
 abbrev pub noted_effect : Changes → Pair → Effect
-noted_effect changes pair = effect_of (found changes.routes.entries pair) (is_lost changes.lost.keys pair)
+noted_effect changes pair = effect_of (found changes.routes.items pair) (is_lost changes.lost.keys pair)
 
 -- what is kept for a pair once it is among those that lose their route
 abbrev pub or_absent : Option (Option Route) → Bool → Option (Option Route)

@@ -1,5 +1,5 @@
 -- What an entry of a step says, however it is kept.
-use Rattle.std.specs.Prelude.{Bool, false, not, is_some, List, [], Option, Some, None}
+use Rattle.std.specs.Prelude.{Bool, false, not, is_some, [], Option, Some, None}
 use Rattle.ip_prefix.specs.declared.addr.Family.TheVariants.{V4}
 use Rattle.std.specs.declared.alloc.Global.{Global}
 use Rattle.std.specs.declared.rc.Rc.{Rc}

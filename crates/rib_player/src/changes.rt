@@ -1,7 +1,8 @@
 //! What an event does, pair by pair.
 
 ghost use Rattle.std.specs.Prelude.{◌≡◌, ◌||◌, ◌&&◌, [], ◌∷◌, ◌≢◌, IfOk, IfSome, IfNone, OnOk, OnErr, Some, None, true, false, is_some, if◌then◌else◌, map, slice_get};
-ghost use Rattle.std.specs.List.{AllByRecursion, list_any, filter, IsDistinct};
+ghost use Rattle.std.specs.List.{AllByRecursion, list_any, filter};
+ghost use Rattle.std.specs.List.Sorted.{IsStrictlySortedBy};
 ghost use Rattle.std.specs.Map.{keys_of};
 ghost use Rattle.std.specs.Ordering.{eq_by_cmp};
 ghost use Rattle.std.specs.FinMap as finite;
@@ -22,7 +23,7 @@ use crate::table::Table;
 use mrt_wire::{Event, Item, Peer, Route};
 use rib_store::PrefixStore;
 use std::alloc::{AllocError, Global};
-use std::collections::{BTreeMap, BTreeSet};
+use std::collections::BTreeSet;
 use std::rc::Rc;
 
 /// The number of the state Established (RFC 6396, section 4.4.1).
@@ -32,8 +33,9 @@ const ESTABLISHED: u16 = 6;
 /// items are noted from the last to the first, and only where no later one decides.
 #[derive(Drop)]
 pub(crate) struct Changes {
-    /// The pairs that items name, with the route that they have then.
-    pub(crate) routes: BTreeMap<Pair, Option<Rc<Route>>>,
+    /// The pairs that items name, with the route that they have then. Of a pair that stands there
+    /// more than once, the first counts.
+    pub(crate) routes: Vec<(Pair, Option<Rc<Route>>)>,
     /// The peers whose session is lost, before all that is noted of them in `routes`.
     pub(crate) lost: BTreeSet<Peer>,
 }
@@ -47,7 +49,7 @@ impl Changes {
             (noted_effect self.old q)) }
     {
         if !self.lost.contains(&pair.peer) {
-            put_first(&mut self.routes, &pair, route)?;
+            self.routes.push((pair, route))?;
         }
         Ok(())
     }
@@ -64,9 +66,9 @@ impl Changes {
     /// The peer whose lost session is all that is noted, where it is that.
     fn only_loss(&self) -> Option<Peer>
         ensures some { IfSome result (λ peer.
-            (self.now.routes.entries ≡ []) × (self.now.lost.keys ≡ peer ∷ [])) }
+            (self.now.routes.items ≡ []) × (self.now.lost.keys ≡ peer ∷ [])) }
         ensures none { IfNone result ((peer : Peer) →
-            self.now.routes.entries ≡ [] → self.now.lost.keys ≢ peer ∷ []) }
+            self.now.routes.items ≡ [] → self.now.lost.keys ≢ peer ∷ []) }
     {
         if !self.routes.is_empty() || self.lost.len() > 1 {
             return None;
@@ -178,7 +180,7 @@ fn changes_of(alloc: Global, event: &Event, known: &mut KnownRoutes) -> Result<C
     ensures { IfOk result (λ changes. (q : Pair) → noted_effect changes q ≡ effect q event.now) }
 {
     let mut changes = Changes {
-        routes: BTreeMap::new(alloc),
+        routes: Vec::with_capacity(alloc, event.items.as_slice().len())?,
         lost: BTreeSet::new(alloc),
     };
     let items = event.items.as_slice();
@@ -188,40 +190,6 @@ fn changes_of(alloc: Global, event: &Event, known: &mut KnownRoutes) -> Result<C
     changes.note_each(&items[..shared.start], known)?;
     known.note_released(items.len().saturating_sub(changes.routes.len()) as u64);
     Ok(changes)
-}
-
-/// Puts a route, or the absence of one, into the pair's slot, and answers what stood there.
-fn put_slot(
-    slots: &mut BTreeMap<Pair, Option<Rc<Route>>>,
-    pair: Pair,
-    route: Option<Rc<Route>>,
-) -> Result<Option<Option<Rc<Route>>>, AllocError>
-    ensures put { OnOk result ((q : Pair) → slot_at slots.new.entries q
-        ≡ (if eq_by_cmp pair_cmp pair q then Some route else slot_at slots.old.entries q)) }
-    ensures stood { IfOk result (λ stood. stood ≡ slot_at slots.old.entries pair) }
-    ensures refused { OnErr result (slots.new.entries ≡ slots.old.entries) }
-{
-    let stood = slots.insert(pair, route)?;
-    Ok(stood)
-}
-
-/// Puts a route, or the absence of one, into the pair's slot, unless something stands there: that
-/// is put back. So a pair that is named once costs one look-up.
-fn put_first(
-    slots: &mut BTreeMap<Pair, Option<Rc<Route>>>,
-    pair: &Pair,
-    route: Option<Rc<Route>>,
-) -> Result<(), AllocError>
-    ensures free { OnOk result (is_some (slot_at slots.old.entries pair.now) ≡ false
-        → (q : Pair) → slot_at slots.new.entries q
-        ≡ (if eq_by_cmp pair_cmp pair.now q then Some route else slot_at slots.old.entries q)) }
-    ensures taken { OnOk result (is_some (slot_at slots.old.entries pair.now) ≡ true
-        → (q : Pair) → slot_at slots.new.entries q ≡ slot_at slots.old.entries q) }
-{
-    if let Some(stood) = put_slot(slots, *pair, route)? {
-        put_slot(slots, *pair, stood)?;
-    }
-    Ok(())
 }
 
 /// The entries of those pairs of a peer that have a route in its store, and none then.
@@ -268,15 +236,15 @@ fn lost_entries<S: PrefixStore<Rc<Route>>>(
 
 /// Notes that the entries' pairs have no route any more, but for those that items name.
 fn note_absent(
-    routes: &mut BTreeMap<Pair, Option<Rc<Route>>>,
+    routes: &mut Vec<(Pair, Option<Rc<Route>>)>,
     entries: &[Entry],
 ) -> Result<(), AllocError>
-    ensures { OnOk result ((q : Pair) → found routes.new.entries q
-        ≡ or_absent (found routes.old.entries q)
+    ensures { OnOk result ((q : Pair) → found routes.new.items q
+        ≡ or_absent (found routes.old.items q)
         (list_any (eq_by_cmp pair_cmp q) (pairs_in (sides_of entries.now)))) }
 {
     'entries: for entry in entries {
-        put_first(routes, &entry.pair(), None)?;
+        routes.push((entry.pair(), None))?;
     }
     Ok(())
 }
@@ -287,9 +255,9 @@ fn routes_then<S: PrefixStore<Rc<Route>>>(
     changes: Changes,
     table: &Table<S>,
     peers: &mut KnownPeers,
-) -> Result<BTreeMap<Pair, Option<Rc<Route>>>, AllocError>
-    ensures { IfOk result (λ routes. (q : Pair) → found routes.entries q
-        ≡ or_absent (found changes.routes.entries q)
+) -> Result<Vec<(Pair, Option<Rc<Route>>)>, AllocError>
+    ensures { IfOk result (λ routes. (q : Pair) → found routes.items q
+        ≡ or_absent (found changes.routes.items q)
         (is_lost changes.lost.keys q && is_some (finite.get table.now.routes q))) }
 {
     let Changes { mut routes, lost } = changes;
@@ -300,18 +268,34 @@ fn routes_then<S: PrefixStore<Rc<Route>>>(
     Ok(routes)
 }
 
+/// The same in the order of their pairs, each once: of a pair that stands there more than once, the
+/// first.
+fn in_order(
+    routes: Vec<(Pair, Option<Rc<Route>>)>,
+) -> Result<Vec<(Pair, Option<Rc<Route>>)>, AllocError>
+    ensures ordered { IfOk result (λ ordered.
+        IsStrictlySortedBy pair_cmp (keys_of ordered.items)) }
+    ensures found { IfOk result (λ ordered. (q : Pair) →
+        found ordered.items q ≡ found routes.items q) }
+{
+    let mut ordered = routes;
+    ordered.sort_by_key(|slot| slot.0)?;
+    ordered.dedup_by_key(|slot| slot.0);
+    Ok(ordered)
+}
+
 /// The entries of those pairs that have a route before or then.
 fn entries_of<S: PrefixStore<Rc<Route>>>(
     alloc: Global,
-    routes: BTreeMap<Pair, Option<Rc<Route>>>,
+    routes: Vec<(Pair, Option<Rc<Route>>)>,
     table: &Table<S>,
     peers: &mut KnownPeers,
 ) -> Result<Vec<Entry>, AllocError>
+    requires { IsStrictlySortedBy pair_cmp (keys_of routes.items) }
     ensures ordered { IfOk result (λ entries. AreOrdered (sides_of entries.items)) }
-    ensures keys { IfOk result (λ _. IsDistinct (eq_by_cmp pair_cmp) (keys_of routes.entries)) }
     ensures sides { IfOk result (λ entries. sides_of entries.items
         ≡ filter (λ side. is_some side.1 || is_some (finite.get table.now.routes side.0))
-        (map slot_side routes.entries)) }
+        (map slot_side routes.items)) }
     ensures clearings { IfOk result (λ entries.
         clearings_of entries.items ≡ map clearing_then (sides_of entries.items)) }
 {
@@ -341,9 +325,11 @@ pub(crate) fn step_for<S: PrefixStore<Rc<Route>>>(
         clearings_of entries.items ≡ map clearing_then (sides_of entries.items)) }
 {
     let changes = changes_of(alloc, event, known)?;
+    let noted = changes.routes.len();
     if let Some(peer) = changes.only_loss() {
         return lost_entries(alloc, &peer, table, peers);
     }
-    let routes = routes_then(alloc, changes, table, peers)?;
+    let routes = in_order(routes_then(alloc, changes, table, peers)?)?;
+    known.note_released(noted.saturating_sub(routes.len()) as u64);
     entries_of(alloc, routes, table, peers)
 }

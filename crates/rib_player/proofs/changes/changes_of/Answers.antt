@@ -21,7 +21,7 @@ returns c =
     c.shared-shared.ensures.ordered
     (c.in_ok-note_each.ensures q
     ∙ ap₂ (λ l before. later (items_effect q l) before) (take_all _ (drop end items) (omega (arith, length-drop end items)))
-    (ap₂ (λ (slots : Slots) peers. effect_of (found slots q) (is_lost peers q)) c.new.ensures.empty c.new-2.ensures.empty))
+    (ap₂ (λ (slots : Slots) peers. effect_of (found slots q) (is_lost peers q)) c.in_ok-with_capacity.ensures.items c.new.ensures.empty))
     (c.in_ok-note_shared.ensures q)
     (c.in_ok-note_each-2.ensures q)
     ∙ ap last_effect (sym (effects-sayings q items) ∙ ap (map (item_effect q)) c.as_slice-items.ensures)

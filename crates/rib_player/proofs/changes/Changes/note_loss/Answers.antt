@@ -8,7 +8,7 @@ use Rattle.rib_player.proofs.changes.Changes.note_loss.Goals as goal
 
 pub returns : goal.returns
 returns c = λ q.
-    let kept = found c.args.self.now.routes.entries q in
+    let kept = found c.args.self.now.routes.items q in
     let lost = is_lost c.args.self.now.lost.keys q in
     ap (effect_of kept) (c.in_ok-insert.ensures.updates.0 q.peer)
     ∙ lost-noted kept _ lost
