@@ -19,12 +19,11 @@ const TWO_PREFIXES: &str = "0010 0001 0000003D FBF4 FBF5 0000 0001 C0000201 C000
     FFFFFFFF FFFFFFFF FFFFFFFF FFFFFFFF 002D 02 \
     0000 0012 40010100 40020402 01FBF4 400304 C0000209 080A 080B";
 
-/// Metrics of plain routes whose hashes, and those for the second row, begin with the same eight
-/// bits, so that all of them may stand at the same eight places of the first 1,024.
+/// Metrics of plain routes whose hashes name the same two rows, 101 and 248 of the 255 that the first
+/// 1,024 places have, so that all of them may stand at the same eight places.
 const METRICS: &[u32] = &[
-    20232, 41146, 131654, 156193, 192224, 202353, 470500, 642344, 663026, 717618, 776328, 876556,
-    876777, 1011178, 1040217, 1089498, 1289454, 1303028, 1463663, 1551574, 1649876, 1665620,
-    1714688, 1726336,
+    1802, 13157, 102391, 140166, 145731, 163401, 164645, 174153, 185932, 279166, 288082, 334497,
+    355951, 366574, 386875, 441677, 454477, 534646, 554766, 600401, 600625, 607677, 626321, 639612,
 ];
 
 /// How many routes there are where there are many.
