@@ -29,13 +29,16 @@ use std::rc::Rc;
 /// The number of the state Established (RFC 6396, section 4.4.1).
 const ESTABLISHED: u16 = 6;
 
-/// What the last items of an event do. Of the items that concern a pair the last decides, so
-/// items are noted from the last to the first, and only where no later one decides.
+/// Pairs, each with its route, or the absence of one. Of a pair that stands there more than once the
+/// first counts.
+type Slots = Vec<(Pair, Option<Rc<Route>>)>;
+
+/// What the last items of an event do. Of the items that concern a pair the last decides, so items
+/// are noted from the last to the first, but for those that stand before the loss of their peer.
 #[derive(Drop)]
 pub(crate) struct Changes {
-    /// The pairs that items name, with the route that they have then. Of a pair that stands there
-    /// more than once, the first counts.
-    pub(crate) routes: Vec<(Pair, Option<Rc<Route>>)>,
+    /// The pairs that items name, with the route that they have then.
+    pub(crate) routes: Slots,
     /// The peers whose session is lost, before all that is noted of them in `routes`.
     pub(crate) lost: BTreeSet<Peer>,
 }
@@ -235,10 +238,7 @@ fn lost_entries<S: PrefixStore<Rc<Route>>>(
 }
 
 /// Notes that the entries' pairs have no route any more, but for those that items name.
-fn note_absent(
-    routes: &mut Vec<(Pair, Option<Rc<Route>>)>,
-    entries: &[Entry],
-) -> Result<(), AllocError>
+fn note_absent(routes: &mut Slots, entries: &[Entry]) -> Result<(), AllocError>
     ensures { OnOk result ((q : Pair) → found routes.new.items q
         ≡ or_absent (found routes.old.items q)
         (list_any (eq_by_cmp pair_cmp q) (pairs_in (sides_of entries.now)))) }
@@ -255,7 +255,7 @@ fn routes_then<S: PrefixStore<Rc<Route>>>(
     changes: Changes,
     table: &Table<S>,
     peers: &mut KnownPeers,
-) -> Result<Vec<(Pair, Option<Rc<Route>>)>, AllocError>
+) -> Result<Slots, AllocError>
     ensures { IfOk result (λ routes. (q : Pair) → found routes.items q
         ≡ or_absent (found changes.routes.items q)
         (is_lost changes.lost.keys q && is_some (finite.get table.now.routes q))) }
@@ -268,11 +268,8 @@ fn routes_then<S: PrefixStore<Rc<Route>>>(
     Ok(routes)
 }
 
-/// The same in the order of their pairs, each once: of a pair that stands there more than once, the
-/// first.
-fn in_order(
-    routes: Vec<(Pair, Option<Rc<Route>>)>,
-) -> Result<Vec<(Pair, Option<Rc<Route>>)>, AllocError>
+/// The same in the order of their pairs, each once.
+fn in_order(routes: Slots) -> Result<Slots, AllocError>
     ensures ordered { IfOk result (λ ordered.
         IsStrictlySortedBy pair_cmp (keys_of ordered.items)) }
     ensures found { IfOk result (λ ordered. (q : Pair) →
@@ -287,7 +284,7 @@ fn in_order(
 /// The entries of those pairs that have a route before or then.
 fn entries_of<S: PrefixStore<Rc<Route>>>(
     alloc: Global,
-    routes: Vec<(Pair, Option<Rc<Route>>)>,
+    routes: Slots,
     table: &Table<S>,
     peers: &mut KnownPeers,
 ) -> Result<Vec<Entry>, AllocError>
