@@ -66,4 +66,5 @@ def main():
                 prefixes, at_once, losses, path.stat().st_size, played, dumped, played / dumped), flush=True)
 
 
-main()
+if __name__ == '__main__':
+    main()
