@@ -7,9 +7,9 @@ use Rattle.mrt_wire.specs.Rest.{rest_kind}
 use Rattle.mrt_wire.specs.Results.{Finding}
 use Rattle.bgpdump_lines.specs.declared.outcome.Outcome.{Outcome}
 use Rattle.bgpdump_lines.specs.declared.outcome.Outcome.TheVariants.{Done, Reported, ReadFault, WriteFault, InputTooLong, ScriptTooLong, Memory}
-use Rattle.bgpdump_lines.specs.Reports.{reports, line_report}
+use Rattle.bgpdump_lines.specs.Reports.{reports}
 use Rattle.bgpdump_lines.specs.Run.{Texts, joined_texts, all_results}
-use Rattle.bgpdump_tool.specs.Script.{Line, Empty, Asks, NoCommand}
+use Rattle.bgpdump_tool.specs.Script.{Line, Empty, Asks, NoCommand, line_report}
 use Rattle.bgpdump_tool.specs.State.{State, start}
 use Rattle.bgpdump_tool.specs.Meaning.{meaning, meets_end, faults_taken}
 

@@ -9,21 +9,18 @@ ghost use Rattle.mrt_wire.specs.Next.{Took};
 ghost use Rattle.rib_player.specs.Timeline.{fresh};
 ghost use Rattle.bgpdump_lines.specs.declared.dump.TheConstants.{LIMIT};
 ghost use Rattle.bgpdump_lines.specs.Ending.{is_read_fault, is_write_fault};
-ghost use Rattle.bgpdump_lines.specs.Reports.{line_report};
 ghost use Rattle.bgpdump_lines.specs.Run.{IsTaken, MayHold, outputs_of, Writes, EndsSo, EndedByInput, all_results};
 ghost use Rattle.bgpdump_tool.specs.Script.{Line, IsScript};
 ghost use Rattle.bgpdump_tool.specs.Course.{play_texts, cut_texts, TakesWanted, PlaySawEnd};
 ghost use Rattle.bgpdump_tool.specs.Began.{WasBrokenOff, Began};
 ghost use Rattle.bgpdump_tool.specs.Standing.{HasRoom, scene_of};
 ghost use Rattle.bgpdump_tool.specs.Playing.{CarriesLine, PlaysScript};
-ghost use Rattle.bgpdump_lines.specs.Writing.{Puts, is_write};
 
 use crate::command::read_command;
 use crate::commands::carry_out;
-use crate::script::{LONGEST_SCRIPT, split_line};
+use crate::script::{LONGEST_SCRIPT, split_line, write_line_report};
 use crate::session::Session;
-use bgpdump_lines::{Outcome, Output, WriteFault, finish_outputs, put_all, put_line_report};
-use ip_prefix::Text;
+use bgpdump_lines::{Outcome, Output, finish_outputs};
 use mrt_wire::{Input, Route, Stamp};
 use rib_store::PrefixStore;
 use std::alloc::Global;
@@ -171,15 +168,4 @@ fn carry_line<S: PrefixStore<Rc<Route>>, I: Input, O: Output, E: Output>(
             Ok(())
         }
     }
-}
-
-/// Writes the report of a line that is no command. The text is scratch.
-fn write_line_report<E: Output>(err: &mut E, text: &mut Text, number: u64) -> Result<(), WriteFault>
-    ensures text { Puts (E.written err.old) (E.written err.new) (line_report number) result }
-    ensures failed { E.failed err.new ≡ (E.failed err.old || is_write result) }
-{
-    text.clear();
-    put_line_report(number, text)?;
-    put_all(err, text.as_slice())?;
-    Ok(())
 }
