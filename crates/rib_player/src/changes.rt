@@ -25,7 +25,7 @@ use std::collections::{BTreeMap, BTreeSet};
 use std::rc::Rc;
 
 /// The number of the state Established (RFC 6396, section 4.4.1).
-const ESTABLISHED: u16 = 6;
+const ESTABLISHED: u16 = mrt_wire::ESTABLISHED;
 
 /// What the last items of an event do. Of the items that concern a pair the last decides, so
 /// items are noted from the last to the first, and only where no later one decides.
