@@ -6,7 +6,8 @@ use Rattle.bgp_paths.specs.declared.path.SegmentKind.TheVariants.{AsSet, AsSeque
 use Rattle.bgp_paths.specs.declared.path.Segment.{Segment}
 use Rattle.bgp_paths.specs.declared.path.AsPath.{AsPath}
 use Rattle.bgp_paths.specs.declared.text.Marks.{Marks}
-use Rattle.bgp_paths.specs.declared.text.TheConstants.{NO_EXPORT, NO_ADVERTISE, NO_EXPORT_SUBCONFED, AS_SET_MARKS, CONFED_SEQUENCE_MARKS, CONFED_SET_MARKS, SPACE, COLON}
+use Rattle.ip_prefix.specs.declared.text.TheConstants.{COLON}
+use Rattle.bgp_paths.specs.declared.text.TheConstants.{NO_EXPORT, NO_ADVERTISE, NO_EXPORT_SUBCONFED, AS_SET_MARKS, CONFED_SEQUENCE_MARKS, CONFED_SET_MARKS, SPACE}
 
 -- the marks in the order in which they are printed
 abbrev pub all_marks : Marks → List ℕ

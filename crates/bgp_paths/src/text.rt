@@ -8,7 +8,7 @@ ghost use Rattle.ip_prefix.specs.Written.{IsWritten, ended_words};
 ghost use Rattle.bgp_paths.specs.Text.{StillBegins};
 
 use crate::path::{AsPath, Segment, SegmentKind};
-use ip_prefix::{Text, WORD_ROOM, Word, put_octets, write_ended_pair};
+use ip_prefix::{COLON, Text, WORD_ROOM, Word, put_octets, write_ended_pair};
 use std::alloc::AllocError;
 
 /// Not to be announced outside the AS, or a confederation (RFC 1997).
@@ -49,8 +49,6 @@ const CONFED_SET_MARKS: Marks = Marks {
 
 /// What stands between words.
 const SPACE: u8 = b' ';
-/// What stands between the halves of a community.
-const COLON: u8 = b':';
 
 impl AsPath {
     /// Appends the path as a person reads it: the numbers of sequences, and the other segments in

@@ -4,13 +4,13 @@ use Rattle.std.specs.Prelude.{◌≡◌, ℕ, ◌≤◌, Option, Some, None, Lis
 use Rattle.ip_prefix.specs.Network.{Network}
 use Rattle.mrt_wire.specs.declared.peer.Peer.{Peer}
 use Rattle.mrt_wire.specs.declared.event.Route.{Route}
-use Rattle.mrt_wire.specs.declared.event.Time.{Time}
-use Rattle.mrt_wire.specs.declared.event.Tag.{Tag}
+use Rattle.bgpdump_lines.specs.declared.heading.Heading.{Heading}
 use Rattle.bgpdump_lines.specs.declared.route_line.Places.{Places}
 use Rattle.bgpdump_lines.specs.declared.route_line.LastLine.{LastLine}
 use Rattle.bgpdump_lines.specs.declared.route_line.Likeness.{Likeness}
 use Rattle.bgpdump_lines.specs.declared.route_line.Likeness.TheVariants.{SameRoute, SamePrefix, Other}
-use Rattle.bgpdump_lines.specs.Lines.{route_head, peer_fields, route_front, prefix_field, route_tail}
+use Rattle.bgpdump_lines.specs.Lines.{prefix_field, route_tail}
+use Rattle.bgpdump_lines.specs.Heading.{route_head, route_front}
 
 -- the places follow one another in the text
 pub record AreOrdered (places : Places) (text : List ℕ) : Type 0 where
@@ -35,11 +35,11 @@ prefix_at places text = slice_range text places.front places.tail
 abbrev pub tail_at : Places → List ℕ → List ℕ
 tail_at places text = drop places.tail text
 
--- the text ends in a line, of a route of this peer to this prefix, with its parts at its places
-pub record EndsIn (time : Time) (tag : Tag) (line : LastLine) (text : List ℕ) : Type 0 where
+-- the text ends in a line under this heading, of a route of this peer to this prefix, with its parts at its places
+pub record EndsIn (heading : Heading) (line : LastLine) (text : List ℕ) : Type 0 where
   pub ordered : AreOrdered line.places text
-  pub head : head_at line.places text ≡ route_head time tag line.said.route.now
-  pub front : front_at line.places text ≡ route_front time tag line.said.peer.now line.said.route.now
+  pub head : head_at line.places text ≡ route_head heading line.said.route.now
+  pub front : front_at line.places text ≡ route_front heading line.said.peer.now line.said.route.now
   pub prefix : prefix_at line.places text ≡ prefix_field line.said.prefix.now
   pub tail : tail_at line.places text ≡ route_tail line.said.route.now
 

@@ -105,17 +105,9 @@ attribute_fields attrs =
     ∷ number_or_zero attrs.local_pref ∷ number_or_zero attrs.med ∷ communities_text attrs.communities
     ∷ aggregate_word attrs.atomic ∷ aggregator_text attrs.aggregator ∷ [] ∷ []
 
--- the first three fields of a route's line
-abbrev pub route_head : Time → Tag → Route → List ℕ
-route_head time tag route = word tag ++ bar ∷ (route_time_text time tag route ++ bar ∷ route_letter tag)
-
 -- the peer of a line, behind a bar
 abbrev pub peer_fields : Peer → List ℕ
 peer_fields peer = bar ∷ address_text peer.addr ++ bar ∷ decimal peer.asn
-
--- what stands in front of the prefix in a route's line, up to a bar
-abbrev pub route_front : Time → Tag → Peer → Route → List ℕ
-route_front time tag peer route = route_head time tag route ++ peer_fields peer
 
 -- the prefix of a line, behind a bar
 abbrev pub prefix_field : Network → List ℕ

@@ -23,10 +23,6 @@ fault_report fault =
     codes "bgpdump: record " ++ (decimal fault.number ++ (codes ", byte " ++ (decimal fault.offset
     ++ (codes ": " ++ (kind_text fault.kind ++ line_feed ∷ [])))))
 
--- the report of a line that is no command
-abbrev pub line_report : ℕ → List ℕ
-line_report number = codes "bgpdump: script line " ++ (decimal number ++ codes ": bad command\n")
-
 -- the lines and the report of what was found
 abbrev pub finding_lines : Finding → List ℕ
 finding_lines (Found event) = event_lines event

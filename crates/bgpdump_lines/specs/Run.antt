@@ -85,6 +85,27 @@ pub record MayHold (stamp : Stamp) (Saw : List Frame → List ℕ → Type 0) (o
   pub whole : octets ≡ taken ++ more
   pub follows : (frames : List Frame) (rest : List ℕ) → Splits stamp None taken frames rest → Saw frames rest → after ≡ [] → more ≡ []
 
+-- whatever the input may hold on the whole, this is so of what is found there
+abbrev pub OverAll : Stamp → (List Frame → List ℕ → Type 0) → Option (List ℕ) → Option (List ℕ) → (List Finding → Type 0) → Type 0
+OverAll stamp Saw left left' IsSo =
+    (octets : List ℕ) (frames : List Frame) (rest : List ℕ) → MayHold stamp Saw left left' octets → Splits stamp None octets frames rest
+    → IsSo (all_results stamp frames rest)
+
+-- this is so of the frames of the octets taken, and what stands behind them
+abbrev pub OverTaken : Stamp → Option (List ℕ) → Option (List ℕ) → (List Frame → List ℕ → Type 0) → Type 0
+OverTaken stamp left left' IsSo =
+    (taken after : List ℕ) (frames : List Frame) (rest : List ℕ) → Took left left' taken after → Splits stamp None taken frames rest → IsSo frames rest
+
+-- a run that has such texts of what is found ended so, whatever the input may hold on the whole
+abbrev pub EndsOverAll : Stamp → Outcome → (List Frame → List ℕ → Type 0) → (List Finding → Texts) → Option (List ℕ) → Option (List ℕ) → Outputs → Outputs → Type 0
+EndsOverAll stamp outcome Saw texts left left' old new =
+    OverAll stamp Saw left left' (λ found. EndsSo outcome (texts found) old new)
+
+-- a run that the input ended has written the texts of what the records give that were taken whole
+abbrev pub WritesWhole : Stamp → Outcome → (List Finding → Texts) → Option (List ℕ) → Option (List ℕ) → Outputs → Outputs → Type 0
+WritesWhole stamp outcome texts left left' old new =
+    EndedByInput outcome → OverTaken stamp left left' (λ frames rest. Writes (texts (all_results stamp frames [])) old new)
+
 -- octets taken behind the frames: a record has begun in them, where the input ended the run; or they are the rest; or for want of memory a whole record of which nothing is written
 abbrev pub IsLast : Outcome → List ℕ → Type 0
 IsLast Done rest = IsRest rest

@@ -1,15 +1,12 @@
 //! A whole run: the lines of all events, and the reports of all faulty records.
 
-ghost use Rattle.std.specs.Prelude.{◌≡◌, ◌≢◌, ◌↔◌, ◌^◌, ◌||◌, ℕ, List, None, false, IsTrue, length, []};
+ghost use Rattle.std.specs.Prelude.{◌≡◌, ◌≢◌, ◌↔◌, ◌||◌, ℕ, List, false, IsTrue, length};
 ghost use Rattle.std.specs.Io.KnownBytes.{Consumes};
-ghost use Rattle.mrt_wire.specs.declared.event.Stamp.{Stamp};
-ghost use Rattle.mrt_wire.specs.Verdict.{Frame};
-ghost use Rattle.mrt_wire.specs.Splitting.{Splits};
 ghost use Rattle.mrt_wire.specs.Place.{start_place};
 ghost use Rattle.mrt_wire.specs.Next.{Took, answer_findings};
 ghost use Rattle.mrt_wire.specs.SoFar.{is_nothing};
 ghost use Rattle.bgpdump_lines.specs.Reports.{dump_texts};
-ghost use Rattle.bgpdump_lines.specs.Run.{IsTaken, MayHold, SawEnd, outputs_of, Writes, EndsSo, EndedByInput, all_results};
+ghost use Rattle.bgpdump_lines.specs.Run.{IsTaken, SawEnd, outputs_of, EndsOverAll, WritesWhole};
 ghost use Rattle.bgpdump_lines.specs.Ending.{is_read_fault, is_write_fault};
 ghost use Rattle.bgpdump_lines.specs.Going.{Ends};
 
@@ -41,19 +38,14 @@ pub fn run_dump<I: Input, O: Output, E: Output>(
 
     // Whatever the input may hold on the whole: its lines and reports were written, or fronts of
     // them.
-    ensures text { (octets : List ℕ) (frames : List Frame) (rest : List ℕ) →
-        MayHold stamp (SawEnd result) (I.left input.old) (I.left input.new) octets →
-        Splits stamp None octets frames rest →
-        EndsSo result (dump_texts (all_results stamp frames rest))
+    ensures text { EndsOverAll stamp result (SawEnd result) dump_texts
+        (I.left input.old) (I.left input.new)
         (outputs_of O.written E.written out.old err.old)
         (outputs_of O.written E.written out.new err.new) }
 
     // A run that the input ended has written all that the records taken whole give, and no more.
-    ensures whole_records { EndedByInput result →
-        (taken after : List ℕ) (frames : List Frame) (rest : List ℕ) →
-        Took (I.left input.old) (I.left input.new) taken after →
-        Splits stamp None taken frames rest →
-        Writes (dump_texts (all_results stamp frames []))
+    ensures whole_records { WritesWhole stamp result dump_texts
+        (I.left input.old) (I.left input.new)
         (outputs_of O.written E.written out.old err.old)
         (outputs_of O.written E.written out.new err.new) }
 

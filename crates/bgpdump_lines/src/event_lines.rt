@@ -1,11 +1,11 @@
 //! The lines of events, one for each item.
 
 ghost use Rattle.std.specs.Prelude.{◌≡◌, ◌++◌, map, All, OnOk, OnErr, IfOk, IfSome};
-ghost use Rattle.std.specs.List.{flat_map};
 ghost use Rattle.bgp_wire.specs.Text.{StillBegins};
 ghost use Rattle.mrt_wire.specs.Event.{Withdrawn, Changed, saying};
 ghost use Rattle.mrt_wire.specs.Event.{Announces, AreOfOneRoute};
-ghost use Rattle.bgpdump_lines.specs.Lines.{route_front, route_tail, item_line, event_lines};
+ghost use Rattle.bgpdump_lines.specs.Lines.{route_tail, event_lines};
+ghost use Rattle.bgpdump_lines.specs.Heading.{route_front, headed_line, headed_lines};
 ghost use Rattle.bgpdump_lines.specs.Copying.{AreOrdered, EndsIn, front_at, tail_at};
 
 use crate::fields::{put_field, put_peer, put_prefix};
@@ -26,7 +26,7 @@ fn put_withdrawal(
     text: &mut Text,
 ) -> Result<(), AllocError>
     ensures appended { OnOk result (text.new ≡ text.old ++
-        item_line heading.now.time heading.now.tag (Withdrawn peer.now prefix.now)) }
+        headed_line heading.now (Withdrawn peer.now prefix.now)) }
     ensures kept { OnErr result (StillBegins text.old text.new) }
 {
     put_head(heading, text)?;
@@ -47,7 +47,7 @@ fn put_change(
     text: &mut Text,
 ) -> Result<(), AllocError>
     ensures appended { OnOk result (text.new ≡ text.old ++
-        item_line heading.now.time heading.now.tag (Changed peer.now old new)) }
+        headed_line heading.now (Changed peer.now old new)) }
     ensures kept { OnErr result (StillBegins text.old text.new) }
 {
     put_head(heading, text)?;
@@ -67,11 +67,11 @@ pub(crate) fn put_item<'a>(
     last: Option<LastLine<'a>>,
     text: &mut Text,
 ) -> Result<Option<LastLine<'a>>, AllocError>
-    requires { IfSome last (λ line. EndsIn heading.now.time heading.now.tag line text.old) }
+    requires { IfSome last (λ line. EndsIn heading.now line text.old) }
     ensures appended { OnOk result (text.new ≡
-        text.old ++ item_line heading.now.time heading.now.tag (saying item.now)) }
+        text.old ++ headed_line heading.now (saying item.now)) }
     ensures last { IfOk result (λ last. IfSome last (λ line.
-        EndsIn heading.now.time heading.now.tag line text.new)) }
+        EndsIn heading.now line text.new)) }
     ensures kept { OnErr result (StillBegins text.old text.new) }
 {
     match item {
@@ -98,7 +98,7 @@ pub(crate) fn put_item<'a>(
 #[inline(always)]
 fn put_each(heading: &Heading, items: &[Item], text: &mut Text) -> Result<(), AllocError>
     ensures appended { OnOk result (text.new ≡ text.old ++
-        flat_map (item_line heading.now.time heading.now.tag) (map saying items.now)) }
+        headed_lines heading.now (map saying items.now)) }
     ensures kept { OnErr result (StillBegins text.old text.new) }
 {
     if items.is_empty() {
@@ -111,7 +111,7 @@ fn put_each(heading: &Heading, items: &[Item], text: &mut Text) -> Result<(), Al
 #[inline(never)]
 fn put_some(heading: &Heading, items: &[Item], text: &mut Text) -> Result<(), AllocError>
     ensures appended { OnOk result (text.new ≡ text.old ++
-        flat_map (item_line heading.now.time heading.now.tag) (map saying items.now)) }
+        headed_lines heading.now (map saying items.now)) }
     ensures kept { OnErr result (StillBegins text.old text.new) }
 {
     let mut last = None;
@@ -133,14 +133,14 @@ fn put_other(
 ) -> Result<Places, AllocError>
     requires ordered { AreOrdered last text.old }
     requires front { front_at last text.old
-        ≡ route_front heading.now.time heading.now.tag first.peer.now first.route.now }
+        ≡ route_front heading.now first.peer.now first.route.now }
     requires tail { tail_at last text.old ≡ route_tail first.route.now }
     requires alike { Announces first.peer.now first.route.now (saying item.now) }
     ensures appended { OnOk result (text.new ≡
-        text.old ++ item_line heading.now.time heading.now.tag (saying item.now)) }
+        text.old ++ headed_line heading.now (saying item.now)) }
     ensures ordered { IfOk result (λ places. AreOrdered places text.new) }
     ensures front { IfOk result (λ places. front_at places text.new
-        ≡ route_front heading.now.time heading.now.tag first.entry.peer.now first.entry.route.now) }
+        ≡ route_front heading.now first.entry.peer.now first.entry.route.now) }
     ensures tail { IfOk result (λ places. tail_at places text.new
         ≡ route_tail first.entry.route.now) }
     ensures kept { OnErr result (StillBegins text.old text.new) }
@@ -163,11 +163,11 @@ fn put_others(
 ) -> Result<(), AllocError>
     requires ordered { AreOrdered places text.old }
     requires front { front_at places text.old
-        ≡ route_front heading.now.time heading.now.tag first.peer.now first.route.now }
+        ≡ route_front heading.now first.peer.now first.route.now }
     requires tail { tail_at places text.old ≡ route_tail first.route.now }
     requires alike { All (Announces first.peer.now first.route.now) (map saying items.now) }
     ensures appended { OnOk result (text.new ≡ text.old ++
-        flat_map (item_line heading.now.time heading.now.tag) (map saying items.now)) }
+        headed_lines heading.now (map saying items.now)) }
     ensures kept { OnErr result (StillBegins text.old text.new) }
 {
     let mut places = places;
@@ -186,7 +186,7 @@ pub(crate) fn put_shared(
 ) -> Result<(), AllocError>
     requires { AreOfOneRoute (map saying items.now) }
     ensures appended { OnOk result (text.new ≡ text.old ++
-        flat_map (item_line heading.now.time heading.now.tag) (map saying items.now)) }
+        headed_lines heading.now (map saying items.now)) }
     ensures kept { OnErr result (StillBegins text.old text.new) }
 {
     let [Item::Announce(peer, prefix, route), rest @ ..] = items else {

@@ -3,7 +3,8 @@
 ghost use Rattle.std.specs.Prelude.{◌≡◌, ◌∷◌, ◌++◌, OnOk, OnErr};
 ghost use Rattle.bgp_wire.specs.Text.{StillBegins};
 ghost use Rattle.bgpdump_lines.specs.Lines.{bar, word, micros_text, time_text, route_time_text};
-ghost use Rattle.bgpdump_lines.specs.Lines.{route_letter, route_head};
+ghost use Rattle.bgpdump_lines.specs.Lines.{route_letter};
+ghost use Rattle.bgpdump_lines.specs.Heading.{route_head};
 
 use crate::fields::put_field;
 use ip_prefix::Text;
@@ -125,7 +126,7 @@ pub(crate) fn put_route_head(
     text: &mut Text,
 ) -> Result<(), AllocError>
     ensures appended { OnOk result (text.new ≡
-        text.old ++ route_head heading.now.time heading.now.tag route.now) }
+        text.old ++ route_head heading.now route.now) }
     ensures kept { OnErr result (StillBegins text.old text.new) }
 {
     put_word(heading.tag, text)?;

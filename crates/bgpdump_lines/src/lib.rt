@@ -23,5 +23,4 @@ pub use finish::finish_outputs;
 pub use laws::line_numbers;
 pub use outcome::Outcome;
 pub use output::{OutFault, Output, WriteOutput, put_all};
-pub use reports::put_line_report;
 pub use write::write_report;

@@ -1,7 +1,7 @@
-//! The reports of faulty records, and of lines that are no commands.
+//! The reports of faulty records.
 
 ghost use Rattle.std.specs.Prelude.{◌≡◌, ◌++◌, OnOk, decimal};
-ghost use Rattle.bgpdump_lines.specs.Reports.{kind_text, fault_report, line_report};
+ghost use Rattle.bgpdump_lines.specs.Reports.{kind_text, fault_report};
 
 use ip_prefix::Text;
 use mrt_wire::{RecordFault, RecordKind};
@@ -53,15 +53,5 @@ pub(crate) fn put_report(fault: RecordFault, text: &mut Text) -> Result<(), Allo
     text.extend_from_slice(b": ")?;
     put_kind(fault.kind, text)?;
     text.push(b'\n')?;
-    Ok(())
-}
-
-/// Appends the report of a line of a script that is no command. Refused, it may have appended a
-/// part.
-pub fn put_line_report(number: u64, text: &mut Text) -> Result<(), AllocError>
-    ensures { OnOk result (text.new ≡ text.old ++ line_report number) }
-{
-    put_labelled(b"bgpdump: script line ", number, text)?;
-    text.extend_from_slice(b": bad command\n")?;
     Ok(())
 }

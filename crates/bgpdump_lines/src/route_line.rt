@@ -3,8 +3,8 @@
 ghost use Rattle.std.specs.Prelude.{◌≡◌, ◌++◌, OnOk, OnErr, IfOk, IfSome};
 ghost use Rattle.bgp_wire.specs.Text.{StillBegins};
 ghost use Rattle.mrt_wire.specs.Event.{Announced};
-ghost use Rattle.bgpdump_lines.specs.Lines.{route_head, route_front, route_tail};
-ghost use Rattle.bgpdump_lines.specs.Lines.{peer_fields, prefix_field, item_line};
+ghost use Rattle.bgpdump_lines.specs.Lines.{peer_fields, prefix_field, route_tail};
+ghost use Rattle.bgpdump_lines.specs.Heading.{route_head, route_front, headed_line};
 ghost use Rattle.bgpdump_lines.specs.Copying.{AreOrdered, EndsIn, IsLike};
 ghost use Rattle.bgpdump_lines.specs.Copying.{head_at, front_at, prefix_at, tail_at};
 
@@ -52,13 +52,13 @@ pub(crate) fn put_route_anew(
     text: &mut Text,
 ) -> Result<Places, AllocError>
     ensures appended { OnOk result (text.new ≡ text.old ++
-        (route_front heading.now.time heading.now.tag said.entry.peer.now said.entry.route.now
+        (route_front heading.now said.entry.peer.now said.entry.route.now
         ++ (prefix_field said.entry.prefix.now ++ route_tail said.entry.route.now))) }
     ensures ordered { IfOk result (λ places. AreOrdered places text.new) }
     ensures head { IfOk result (λ places. head_at places text.new
-        ≡ route_head heading.now.time heading.now.tag said.entry.route.now) }
+        ≡ route_head heading.now said.entry.route.now) }
     ensures front { IfOk result (λ places. front_at places text.new
-        ≡ route_front heading.now.time heading.now.tag said.entry.peer.now said.entry.route.now) }
+        ≡ route_front heading.now said.entry.peer.now said.entry.route.now) }
     ensures prefix { IfOk result (λ places. prefix_at places text.new
         ≡ prefix_field said.entry.prefix.now) }
     ensures tail { IfOk result (λ places. tail_at places text.new
@@ -194,11 +194,11 @@ pub(crate) fn put_route<'a>(
     last: Option<LastLine<'a>>,
     text: &mut Text,
 ) -> Result<LastLine<'a>, AllocError>
-    requires { IfSome last (λ line. EndsIn heading.now.time heading.now.tag line text.old) }
+    requires { IfSome last (λ line. EndsIn heading.now line text.old) }
     ensures appended { OnOk result (text.new ≡ text.old ++
-        item_line heading.now.time heading.now.tag
+        headed_line heading.now
         (Announced said.entry.peer.now said.entry.prefix.now said.entry.route.now)) }
-    ensures last { IfOk result (λ line. EndsIn heading.now.time heading.now.tag line text.new) }
+    ensures last { IfOk result (λ line. EndsIn heading.now line text.new) }
     ensures kept { OnErr result (StillBegins text.old text.new) }
 {
     let places = match likeness_to_last(last, said) {

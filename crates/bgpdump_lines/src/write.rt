@@ -1,13 +1,12 @@
 //! Writing what was found.
 
 ghost use Rattle.std.specs.Prelude.{◌≡◌, ◌||◌, [], map, IfOk, IfSome};
-ghost use Rattle.std.specs.List.{flat_map};
-ghost use Rattle.mrt_wire.specs.declared.event.Time.{Time};
-ghost use Rattle.mrt_wire.specs.declared.event.Tag.{Tag};
 ghost use Rattle.mrt_wire.specs.Event.{AreOfOneRoute, saying};
 ghost use Rattle.mrt_wire.specs.Next.{answer_findings};
 ghost use Rattle.bgpdump_lines.specs.Copying.{EndsIn};
-ghost use Rattle.bgpdump_lines.specs.Lines.{event_lines, item_line};
+ghost use Rattle.bgpdump_lines.specs.declared.heading.Heading.{Heading};
+ghost use Rattle.bgpdump_lines.specs.Heading.{headed_line, headed_lines};
+ghost use Rattle.bgpdump_lines.specs.Lines.{event_lines};
 ghost use Rattle.bgpdump_lines.specs.Reports.{fault_report};
 ghost use Rattle.bgpdump_lines.specs.Run.{outputs_of};
 ghost use Rattle.bgpdump_lines.specs.Writing.{PassesPart, Puts, PutsFound, PutsPart, is_write, is_any_bad};
@@ -34,9 +33,8 @@ fn write_long<'a, O: Output>(
     text: &mut Text,
 ) -> Result<Option<LastLine<'a>>, WriteFault>
     ensures text { PassesPart (O.written out.old) (O.written out.new) text.old text.new [] result }
-    ensures last { (time : Time) (tag : Tag) →
-        IfSome last.entry (λ line. EndsIn time tag line text.old) →
-        IfOk result (λ last. IfSome last (λ line. EndsIn time tag line text.new)) }
+    ensures last { (heading : Heading) → IfSome last.entry (λ line. EndsIn heading line text.old) →
+        IfOk result (λ last. IfSome last (λ line. EndsIn heading line text.new)) }
     ensures failed { O.failed out.new ≡ (O.failed out.old || is_write result) }
 {
     if text.len() <= ENOUGH {
@@ -56,11 +54,11 @@ fn write_item<'a, O: Output>(
     last: Option<LastLine<'a>>,
     text: &mut Text,
 ) -> Result<Option<LastLine<'a>>, WriteFault>
-    requires { IfSome last (λ line. EndsIn heading.now.time heading.now.tag line text.old) }
+    requires { IfSome last (λ line. EndsIn heading.now line text.old) }
     ensures text { PassesPart (O.written out.old) (O.written out.new) text.old text.new
-        (item_line heading.now.time heading.now.tag (saying item.now)) result }
+        (headed_line heading.now (saying item.now)) result }
     ensures last { IfOk result (λ last. IfSome last (λ line.
-        EndsIn heading.now.time heading.now.tag line text.new)) }
+        EndsIn heading.now line text.new)) }
     ensures failed { O.failed out.new ≡ (O.failed out.old || is_write result) }
 {
     let last = write_long(out, last, text)?;
@@ -76,7 +74,7 @@ fn write_items<O: Output>(
     text: &mut Text,
 ) -> Result<(), WriteFault>
     ensures text { PassesPart (O.written out.old) (O.written out.new) text.old text.new
-        (flat_map (item_line heading.now.time heading.now.tag) (map saying items.now)) result }
+        (headed_lines heading.now (map saying items.now)) result }
     ensures failed { O.failed out.new ≡ (O.failed out.old || is_write result) }
 {
     let mut last = None;
@@ -96,7 +94,7 @@ fn write_piece<O: Output>(
 ) -> Result<(), WriteFault>
     requires { AreOfOneRoute (map saying items.now) }
     ensures text { PassesPart (O.written out.old) (O.written out.new) text.old text.new
-        (flat_map (item_line heading.now.time heading.now.tag) (map saying items.now)) result }
+        (headed_lines heading.now (map saying items.now)) result }
     ensures failed { O.failed out.new ≡ (O.failed out.old || is_write result) }
 {
     write_long(out, None, text)?;
@@ -113,7 +111,7 @@ fn write_shared<O: Output>(
 ) -> Result<(), WriteFault>
     requires { AreOfOneRoute (map saying items.now) }
     ensures text { PassesPart (O.written out.old) (O.written out.new) text.old text.new
-        (flat_map (item_line heading.now.time heading.now.tag) (map saying items.now)) result }
+        (headed_lines heading.now (map saying items.now)) result }
     ensures failed { O.failed out.new ≡ (O.failed out.old || is_write result) }
 {
     let mut rest = items;

@@ -16,10 +16,10 @@ use Rattle.bgpdump_tool.specs.declared.command.Command.{Command}
 use Rattle.bgpdump_lines.specs.declared.dump.TheConstants.{LIMIT}
 use Rattle.bgpdump_lines.specs.declared.outcome.Outcome.{Outcome}
 use Rattle.bgpdump_lines.specs.Device.{AppendsFront}
-use Rattle.bgpdump_lines.specs.Reports.{reports, line_report}
+use Rattle.bgpdump_lines.specs.Reports.{reports}
 use Rattle.bgpdump_lines.specs.Run.{Texts, joined_texts, Outputs, Writes, WritesFronts}
 use Rattle.bgpdump_lines.specs.Writing.{is_any_bad}
-use Rattle.bgpdump_tool.specs.Script.{Line, Empty, Asks, NoCommand, IsLine, AreLines, script_lines}
+use Rattle.bgpdump_tool.specs.Script.{Line, Empty, Asks, NoCommand, IsLine, AreLines, script_lines, line_report}
 use Rattle.bgpdump_tool.specs.State.{State, start}
 use Rattle.bgpdump_tool.specs.Meaning.{meaning, meets_end, faults_taken}
 use Rattle.bgpdump_tool.specs.Course.{Course, course_behind, course_from, course, cut_course, play_texts}

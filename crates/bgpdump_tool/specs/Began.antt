@@ -1,11 +1,9 @@
 -- How far a run of a script came that memory or an output broke off.
-use Rattle.std.specs.Prelude.{◌≡◌, ℕ, ◌≤◌, List, ◌++◌, length, Option, None}
+use Rattle.std.specs.Prelude.{◌≡◌, ℕ, ◌≤◌, List, ◌++◌, length, Option}
 use Rattle.mrt_wire.specs.declared.event.Stamp.{Stamp}
-use Rattle.mrt_wire.specs.Verdict.{Frame}
-use Rattle.mrt_wire.specs.Splitting.{Splits}
 use Rattle.bgpdump_lines.specs.declared.outcome.Outcome.{Outcome}
 use Rattle.bgpdump_lines.specs.declared.outcome.Outcome.TheVariants.{Done, Reported, ReadFault, WriteFault, InputTooLong, ScriptTooLong, Memory}
-use Rattle.bgpdump_lines.specs.Run.{Texts, joined_texts, Outputs, Writes, WritesFronts, MayHold, all_results}
+use Rattle.bgpdump_lines.specs.Run.{Texts, joined_texts, Outputs, Writes, WritesFronts, OverAll}
 use Rattle.bgpdump_tool.specs.Script.{Line}
 use Rattle.bgpdump_tool.specs.Course.{play_texts, IsEndSeen}
 
@@ -27,12 +25,12 @@ pub record WritesPast (first all : Texts) (old new : Outputs) : Type 0 where
   pub whole : all ≡ joined_texts first more
   pub fronts : WritesFronts more mid new
 
--- a run began these of the lines: it carried some out, and was in the next one, or in none; and whatever the input may hold, if the end was seen where the lines begun saw it, the texts of those carried out were written, and fronts of what the last one adds
+-- a run began these of the lines: it carried some out, and was in the next one, or in none; and whatever the input may hold, if the end was
+-- seen where the lines begun saw it, the texts of those carried out were written, and fronts of what the last one adds
 pub record Began (stamp : Stamp) (lines : List Line) (left left' : Option (List ℕ)) (old new : Outputs) : Type 0 where
   pub done : List Line
   pub last : List Line
   pub behind : List Line
   pub whole : lines ≡ (done ++ last) ++ behind
   pub one : length last ≤ 1
-  pub texts : (octets : List ℕ) (frames : List Frame) (rest : List ℕ) → MayHold stamp (IsEndSeen stamp (done ++ last)) left left' octets → Splits stamp None octets frames rest
-      → WritesPast (play_texts done (all_results stamp frames rest)) (play_texts (done ++ last) (all_results stamp frames rest)) old new
+  pub texts : OverAll stamp (IsEndSeen stamp (done ++ last)) left left' (λ found. WritesPast (play_texts done found) (play_texts (done ++ last) found) old new)

@@ -7,9 +7,9 @@ use Rattle.mrt_wire.specs.Rest.{rest_kind}
 use Rattle.mrt_wire.specs.Results.{Finding}
 use Rattle.bgpdump_lines.specs.declared.outcome.Outcome.{Outcome}
 use Rattle.bgpdump_lines.specs.declared.outcome.Outcome.TheVariants.{Done, Reported, ReadFault, WriteFault, InputTooLong, ScriptTooLong, Memory}
-use Rattle.bgpdump_lines.specs.Reports.{reports, line_report}
+use Rattle.bgpdump_lines.specs.Reports.{reports}
 use Rattle.bgpdump_lines.specs.Run.{Texts, joined_texts, all_results}
-use Rattle.bgpdump_tool.specs.Script.{Line, Empty, Asks, NoCommand}
+use Rattle.bgpdump_tool.specs.Script.{Line, Empty, Asks, NoCommand, line_report}
 use Rattle.bgpdump_tool.specs.State.{State, start}
 use Rattle.bgpdump_tool.specs.Meaning.{meaning, meets_end, faults_taken}
 
@@ -23,7 +23,8 @@ pub record Course : Type 0 where
 abbrev pub course_behind : Texts → Bool → Course → Course
 course_behind texts ended course = record { texts = joined_texts texts course.texts; ended = ended || course.ended; left = course.left }
 
--- the course of lines, the first of which has this number, from where the script stands. Where the results are cut off by a fault of the input, the command that wants more gives no reply, but the reports of what it took, and nothing comes behind it
+-- the course of lines, the first of which has this number, from where the script stands. Where a fault of the input cuts the results off,
+-- the command that wants more gives no reply, but the reports of what it took, and nothing comes behind it
 abbrev pub course_from : Bool → ℕ → List Line → State → Course
 course_from cut number [] s = record { texts = record { out = []; err = [] }; ended = false; left = s.unread }
 course_from cut number (Empty ∷ lines) s = course_from cut (number + 1) lines s

@@ -14,6 +14,7 @@ pub mod State
 pub mod Meaning
 pub mod Course
 pub mod Began
+pub mod Whole
 pub mod Standing
 pub mod Moves
 pub mod Carrying

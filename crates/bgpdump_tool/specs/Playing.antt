@@ -10,9 +10,8 @@ use Rattle.bgpdump_lines.specs.declared.outcome.Outcome.{Outcome}
 use Rattle.bgpdump_lines.specs.Device.{AppendsFront}
 use Rattle.bgpdump_lines.specs.Ending.{source_outcome, write_outcome}
 use Rattle.bgpdump_lines.specs.Going.{IsFaulty}
-use Rattle.bgpdump_lines.specs.Reports.{line_report}
 use Rattle.bgpdump_lines.specs.Run.{Texts, Outputs, Writes, WritesFronts}
-use Rattle.bgpdump_tool.specs.Script.{Line, Empty, Asks, NoCommand, IsLine, AreLines, script_lines}
+use Rattle.bgpdump_tool.specs.Script.{Line, Empty, Asks, NoCommand, IsLine, AreLines, script_lines, line_report}
 use Rattle.bgpdump_tool.specs.State.{start}
 use Rattle.bgpdump_tool.specs.Course.{course_behind, course_from, course, play_texts, cut_course, cut_texts}
 use Rattle.bgpdump_tool.specs.Began.{WritesPast}

@@ -1,5 +1,5 @@
--- The lines of a script, and what each of them asks for.
-use Rattle.std.specs.Prelude.{◌≡◌, ◌≢◌, ℕ, List, [], ◌∷◌}
+-- The lines of a script, what each of them asks for, and the report of one that is no command.
+use Rattle.std.specs.Prelude.{◌≡◌, ◌≢◌, ℕ, List, [], ◌∷◌, ◌++◌, decimal, codes}
 use Rattle.bgpdump_tool.specs.declared.command.Command.{Command}
 use Rattle.bgpdump_lines.specs.Lines.{line_feed}
 use Rattle.bgpdump_tool.specs.Command.{pieces, SpellsCommand}
@@ -33,3 +33,7 @@ AreLines (line ∷ lines) (octets ∷ more) = IsLine line octets × AreLines lin
 -- the lines of the script ask for these
 abbrev pub IsScript : List Line → List ℕ → Type 0
 IsScript lines script = AreLines lines (script_lines script)
+
+-- the report of the line of this number, if it is no command
+abbrev pub line_report : ℕ → List ℕ
+line_report number = codes "bgpdump: script line " ++ (decimal number ++ codes ": bad command\n")

@@ -7,7 +7,8 @@ use Rattle.mrt_wire.specs.declared.event.Tag.TheVariants.{Bgp4mp}
 use Rattle.mrt_wire.specs.Event.{Changed}
 use Rattle.mrt_wire.specs.Results.{Finding, Found, Bad}
 use Rattle.rib_player.specs.Tables.{Routes, table}
-use Rattle.bgpdump_tool.specs.declared.commands.lose.TheConstants.{ESTABLISHED, IDLE}
+use Rattle.mrt_wire.specs.declared.event.TheConstants.{ESTABLISHED}
+use Rattle.bgpdump_tool.specs.declared.commands.lose.TheConstants.{IDLE}
 
 -- the events played, how many of them stand before the cursor, how many of these can't be undone any more, and the results that no command has taken yet
 pub record State : Type 0 where

@@ -1,29 +1,22 @@
 //! A whole run of a script: the replies to its commands, and the reports.
 
-ghost use Rattle.std.specs.Prelude.{◌≡◌, ◌↔◌, ◌<◌, ◌≤◌, ◌+◌, ◌||◌, ℕ, List, [], None, false, true, IsTrue, length};
+ghost use Rattle.std.specs.Prelude.{◌≡◌, ◌↔◌, ◌<◌, ◌≤◌, ◌+◌, ◌||◌, ℕ, List, false, IsTrue, length};
 ghost use Rattle.std.specs.Io.KnownBytes.{Consumes};
-ghost use Rattle.mrt_wire.specs.Verdict.{Frame};
-ghost use Rattle.mrt_wire.specs.Splitting.{Splits};
 ghost use Rattle.mrt_wire.specs.Place.{start_place};
 ghost use Rattle.mrt_wire.specs.Next.{Took};
 ghost use Rattle.rib_player.specs.Timeline.{fresh};
 ghost use Rattle.bgpdump_lines.specs.declared.dump.TheConstants.{LIMIT};
 ghost use Rattle.bgpdump_lines.specs.Ending.{is_read_fault, is_write_fault};
-ghost use Rattle.bgpdump_lines.specs.Reports.{line_report};
-ghost use Rattle.bgpdump_lines.specs.Run.{IsTaken, MayHold, outputs_of, Writes, EndsSo, EndedByInput, all_results};
-ghost use Rattle.bgpdump_tool.specs.Script.{Line, IsScript};
-ghost use Rattle.bgpdump_tool.specs.Course.{play_texts, cut_texts, TakesWanted, PlaySawEnd};
-ghost use Rattle.bgpdump_tool.specs.Began.{WasBrokenOff, Began};
+ghost use Rattle.bgpdump_lines.specs.Run.{IsTaken, outputs_of};
+ghost use Rattle.bgpdump_tool.specs.Whole.{PlaysOverAll, BeganLines, WritesCut, TakesOnlyWanted};
 ghost use Rattle.bgpdump_tool.specs.Standing.{HasRoom, scene_of};
 ghost use Rattle.bgpdump_tool.specs.Playing.{CarriesLine, PlaysScript};
-ghost use Rattle.bgpdump_lines.specs.Writing.{Puts, is_write};
 
 use crate::command::read_command;
 use crate::commands::carry_out;
-use crate::script::{LONGEST_SCRIPT, split_line};
+use crate::script::{LONGEST_SCRIPT, split_line, write_line_report};
 use crate::session::Session;
-use bgpdump_lines::{Outcome, Output, WriteFault, finish_outputs, put_all, put_line_report};
-use ip_prefix::Text;
+use bgpdump_lines::{Outcome, Output, finish_outputs};
 use mrt_wire::{Input, Route, Stamp};
 use rib_store::PrefixStore;
 use std::alloc::Global;
@@ -48,40 +41,30 @@ pub fn run_play<S: PrefixStore<Rc<Route>>, I: Input, O: Output, E: Output>(
 
     // Whatever the input may hold on the whole: the texts that the script has over it were written,
     // or fronts of them.
-    ensures text { length script.now ≤ LONGEST_SCRIPT →
-        (lines : List Line) → IsScript lines script.now →
-        (octets : List ℕ) (frames : List Frame) (rest : List ℕ) →
-        MayHold stamp (PlaySawEnd stamp result lines) (I.left input.old) (I.left input.new) octets →
-        Splits stamp None octets frames rest →
-        EndsSo result (play_texts lines (all_results stamp frames rest))
+    ensures text { PlaysOverAll stamp script.now result
+        (I.left input.old) (I.left input.new)
         (outputs_of O.written E.written out.old err.old)
         (outputs_of O.written E.written out.new err.new) }
 
     // A run that memory or an output broke off had begun some of the lines: those that it carried out
     // are written, and of the next one, if it was in one, fronts; and the end was seen where these
     // lines saw it.
-    ensures began { WasBrokenOff result → (lines : List Line) → IsScript lines script.now →
-        Began stamp lines (I.left input.old) (I.left input.new)
+    ensures began { BeganLines stamp script.now result
+        (I.left input.old) (I.left input.new)
         (outputs_of O.written E.written out.old err.old)
         (outputs_of O.written E.written out.new err.new) }
 
     // A run that the input ended has written what the records taken whole give: the replies to the
     // commands that ended, the reports of what was taken, and those of the lines before.
-    ensures whole_records { EndedByInput result →
-        (lines : List Line) → IsScript lines script.now →
-        (taken after : List ℕ) (frames : List Frame) (rest : List ℕ) →
-        Took (I.left input.old) (I.left input.new) taken after →
-        Splits stamp None taken frames rest →
-        Writes (cut_texts lines (all_results stamp frames []))
+    ensures whole_records { WritesCut stamp script.now result
+        (I.left input.old) (I.left input.new)
         (outputs_of O.written E.written out.old err.old)
         (outputs_of O.written E.written out.new err.new) }
 
     // No record is taken that no command wants: where the run came to its end, commands took all
     // that the octets give; and a fault of the input came inside a command that wanted more.
-    ensures wanted { (lines : List Line) → IsScript lines script.now →
-        (taken after : List ℕ) (frames : List Frame) (rest : List ℕ) →
-        Took (I.left input.old) (I.left input.new) taken after →
-        Splits stamp None taken frames rest → TakesWanted stamp result lines frames rest }
+    ensures wanted { TakesOnlyWanted stamp script.now result
+        (I.left input.old) (I.left input.new) }
 
     // At most 2^40 octets are taken: those of frames, and then what stands behind them, none of it
     // behind a header that states too much.
@@ -171,15 +154,4 @@ fn carry_line<S: PrefixStore<Rc<Route>>, I: Input, O: Output, E: Output>(
             Ok(())
         }
     }
-}
-
-/// Writes the report of a line that is no command. The text is scratch.
-fn write_line_report<E: Output>(err: &mut E, text: &mut Text, number: u64) -> Result<(), WriteFault>
-    ensures text { Puts (E.written err.old) (E.written err.new) (line_report number) result }
-    ensures failed { E.failed err.new ≡ (E.failed err.old || is_write result) }
-{
-    text.clear();
-    put_line_report(number, text)?;
-    put_all(err, text.as_slice())?;
-    Ok(())
 }

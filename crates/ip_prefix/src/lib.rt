@@ -20,5 +20,5 @@ pub use octet_text::{
     write_decimal, write_ended_pair,
 };
 pub use prefix::Prefix;
-pub use text::{ADDRESS_ROOM, PREFIX_ROOM};
+pub use text::{ADDRESS_ROOM, COLON, PREFIX_ROOM};
 pub use turn::Turn;

@@ -17,8 +17,8 @@ use std::alloc::AllocError;
 /// What stands between octets.
 pub(crate) const DOT: u8 = b'.';
 
-/// What stands between groups.
-pub(crate) const COLON: u8 = b':';
+/// A colon, which stands between groups.
+pub const COLON: u8 = b':';
 
 /// What stands before a length.
 pub(crate) const SLASH: u8 = b'/';

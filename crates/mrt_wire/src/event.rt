@@ -78,6 +78,9 @@ impl Clone for Route {
     }
 }
 
+/// The number of the state Established of a session (RFC 6396, section 4.4.1).
+pub const ESTABLISHED: u16 = 6;
+
 /// One thing that an event says of a peer.
 #[derive(Debug, Drop)]
 pub enum Item {

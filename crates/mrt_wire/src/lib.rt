@@ -17,7 +17,7 @@ mod source;
 mod table_dump;
 mod update;
 
-pub use event::{Event, Item, Items, Route, Shared, Stamp, Tag, Time};
+pub use event::{ESTABLISHED, Event, Item, Items, Route, Shared, Stamp, Tag, Time};
 pub use laws::{no_octets_without_a_split, one_content, one_split, peer_order, record_numbers};
 pub use mrt_frames::{InFault, Input, ReadInput, RecordFault, RecordKind, SourceFault};
 pub use next::{Next, Phase};

@@ -27,7 +27,7 @@ use std::collections::BTreeSet;
 use std::rc::Rc;
 
 /// The number of the state Established (RFC 6396, section 4.4.1).
-const ESTABLISHED: u16 = 6;
+const ESTABLISHED: u16 = mrt_wire::ESTABLISHED;
 
 /// Pairs, each with its route, or the absence of one. Of a pair that stands there more than once the
 /// first counts.

@@ -10,16 +10,13 @@ ghost use Rattle.bgpdump_tool.specs.Losing.{Loses};
 use crate::replies::write_counted;
 use bgpdump_lines::{Output, WriteFault};
 use ip_prefix::Text;
-use mrt_wire::{Event, Item, Items, Peer, Route, Tag, Time};
+use mrt_wire::{ESTABLISHED, Event, Item, Items, Peer, Route, Tag, Time};
 use rib_player::Player;
 use rib_store::PrefixStore;
 use std::alloc::{AllocError, Global};
 use std::rc::Rc;
 
-/// The state of a session that stands (RFC 6396, section 4.4.1).
-const ESTABLISHED: u16 = 6;
-
-/// The state of one that is idle.
+/// The state of a session that is idle (RFC 6396, section 4.4.1).
 const IDLE: u16 = 1;
 
 /// The loss of the session with the peer, as an event.

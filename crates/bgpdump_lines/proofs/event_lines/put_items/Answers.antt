@@ -3,6 +3,7 @@ use Rattle.std.proofs.lemmas.List.{take_all}
 use Rattle.mrt_wire.specs.Event.{saying}
 use Rattle.std.specs.List.{flat_map}
 use Rattle.bgpdump_lines.specs.Lines.{item_line}
+use Rattle.bgpdump_lines.specs.Heading.{headed_line}
 use Rattle.bgpdump_lines.proofs.LineLaws.{lines-parts}
 use Rattle.mrt_wire.proofs.SharedLaws.{said_range}
 use Rattle.bgpdump_lines.proofs.event_lines.put_items.Goals as goal
@@ -13,7 +14,7 @@ put_shared-requires c =
 
 pub returns-clause-appended : goal.returns-clause-appended
 returns-clause-appended c =
-    let line = item_line c.of-heading.result.time c.of-heading.result.tag in
+    let line = headed_line c.of-heading.result in
     lines-parts line c.as_slice-items.result.now c.shared-shared.result.start c.shared-shared.result.end _ _ _ _
     c.shared-shared.ensures.ordered c.in_ok-put_each.ensures.appended c.in_ok-put_shared.ensures.appended
     (c.in_ok-put_each-2.ensures.appended ∙ ap (λ l. c.put_shared.new.text ++ flat_map line (map saying l)) (take_all _ (drop c.shared-shared.result.end c.as_slice-items.result.now) (omega (arith, length-drop c.shared-shared.result.end c.as_slice-items.result.now))))

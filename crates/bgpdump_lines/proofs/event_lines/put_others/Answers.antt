@@ -2,7 +2,7 @@ use Rattle.std.proofs.Common.{◌∙◌, ap, sym, subst, map, arith}
 use Rattle.std.proofs.lemmas.List.{get_or-map, length-map}
 use Rattle.std.proofs.lemmas.List.Elements.{All-get_or}
 use Rattle.mrt_wire.specs.Event.{Announces, saying}
-use Rattle.bgpdump_lines.specs.Lines.{item_line}
+use Rattle.bgpdump_lines.specs.Heading.{headed_line}
 use Rattle.bgpdump_lines.proofs.LineLaws.{lines_of_all}
 use Rattle.bgpdump_lines.proofs.event_lines.put_others.Goals as goal
 
@@ -19,4 +19,4 @@ put_other-requires-clause-alike c =
 
 pub returns-clause-appended : goal.returns-clause-appended
 returns-clause-appended c =
-    lines_of_all (item_line c.args.heading.now.time c.args.heading.now.tag) c.args.items.now c.items.item-index c.args.text.now c.items.text c.items.invariant.0 c.items-test.false
+    lines_of_all (headed_line c.args.heading.now) c.args.items.now c.items.item-index c.args.text.now c.items.text c.items.invariant.0 c.items-test.false

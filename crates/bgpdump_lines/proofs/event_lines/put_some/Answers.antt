@@ -2,17 +2,17 @@ use Rattle.std.proofs.Common.{◌++◌, ◌∙◌, ap, append_assoc, take}
 use Rattle.std.proofs.lemmas.Result.{err_from_is_err_and}
 use Rattle.std.specs.List.{flat_map}
 use Rattle.mrt_wire.specs.Event.{saying}
-use Rattle.bgpdump_lines.specs.Lines.{item_line}
+use Rattle.bgpdump_lines.specs.Heading.{headed_line}
 use Rattle.bgpdump_lines.proofs.LineLaws.{lines_of_all}
 use Rattle.bgpdump_lines.proofs.event_lines.put_some.Goals as goal
 
 pub returns-clause-appended : goal.returns-clause-appended
 returns-clause-appended c =
-    lines_of_all (item_line c.args.heading.now.time c.args.heading.now.tag) c.args.items.now c.items.item-index c.args.text.now c.items.text c.items.invariant.0 c.items-test.false
+    lines_of_all (headed_line c.args.heading.now) c.args.items.now c.items.item-index c.args.text.now c.items.text c.items.invariant.0 c.items-test.false
 
 pub returns-in_err-last-clause-kept : goal.returns-in_err-last-clause-kept
 returns-in_err-last-clause-kept c =
-    let line = item_line c.args.heading.now.time c.args.heading.now.tag in
+    let line = headed_line c.args.heading.now in
     let so_far = flat_map (λ item. line (saying item)) (take c.items.item-index c.args.items.now) in
     let more = c.in_err-last.ensures.kept.0 in
     let p = err_from_is_err_and c.from_residual.result c.from_residual.ensures.1 in

@@ -4,10 +4,10 @@ use Rattle.std.specs.List.{flat_map}
 use Rattle.std.specs.Option.{IfSome}
 use Rattle.mrt_wire.specs.Event.{saying}
 use Rattle.bgpdump_lines.specs.Copying.{EndsIn}
-use Rattle.bgpdump_lines.specs.Lines.{item_line}
+use Rattle.bgpdump_lines.specs.Heading.{headed_line}
 use Rattle.bgpdump_lines.proofs.event_lines.put_some.Given as goal
 
 abbrev pub invariant-items : goal.invariant-items
 invariant-items l =
-    (l.text ≡ l.initial.text ++ flat_map (λ item. item_line l.heading.time l.heading.tag (saying item)) (take l.item-index l.items))
-    × IfSome l.last (λ line. EndsIn l.heading.time l.heading.tag line l.text)
+    (l.text ≡ l.initial.text ++ flat_map (λ item. headed_line l.heading (saying item)) (take l.item-index l.items))
+    × IfSome l.last (λ line. EndsIn l.heading line l.text)

@@ -1,7 +1,7 @@
 use Rattle.std.proofs.Common.{[], ◌++◌, refl, sym, subst, rules}
 use Rattle.std.proofs.lemmas.Result.{err_from_is_err_and}
 use Rattle.mrt_wire.specs.Event.{saying}
-use Rattle.bgpdump_lines.specs.Lines.{item_line}
+use Rattle.bgpdump_lines.specs.Heading.{headed_line}
 use Rattle.bgpdump_lines.specs.Device.{AppendsFront}
 use Rattle.bgpdump_lines.specs.Writing.{Passes}
 use Rattle.bgpdump_lines.proofs.LineLaws.{lines_of_all, lines-sayings}
@@ -10,7 +10,7 @@ use Rattle.bgpdump_lines.proofs.write.write_items.Goals as goal
 
 pub returns-in_err-last-clause-text : goal.returns-in_err-last-clause-text
 returns-in_err-last-clause-text g c =
-    let line = item_line c.args.heading.now.time c.args.heading.now.tag in
+    let line = headed_line c.args.heading.now in
     let items = c.args.items.now in
     let item = c.item-item.result in
     let before = c.args.text.now in
@@ -25,7 +25,7 @@ returns-in_err-last-clause-text g c =
 
 pub items-preserved : goal.items-preserved
 items-preserved g c =
-    let line = item_line c.args.heading.now.time c.args.heading.now.tag in
+    let line = headed_line c.args.heading.now in
     let items = c.args.items.now in
     let item = c.item-item.result in
     let before = c.args.text.now in
@@ -45,4 +45,4 @@ items-preserved g c =
 pub returns-clause-text : goal.returns-clause-text
 returns-clause-text g c =
     subst (Passes (g.O.Output.written c.args.out.now) (g.O.Output.written c.items.out) c.args.text.now c.items.text)
-    (lines_of_all (item_line c.args.heading.now.time c.args.heading.now.tag) c.args.items.now c.items.item-index [] _ refl c.items-test.false) c.items.invariant.passed
+    (lines_of_all (headed_line c.args.heading.now) c.args.items.now c.items.item-index [] _ refl c.items-test.false) c.items.invariant.passed

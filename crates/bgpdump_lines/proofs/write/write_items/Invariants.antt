@@ -4,14 +4,14 @@ use Rattle.std.specs.List.{flat_map}
 use Rattle.std.specs.Option.{IfSome}
 use Rattle.mrt_wire.specs.Event.{saying}
 use Rattle.bgpdump_lines.specs.Copying.{EndsIn}
-use Rattle.bgpdump_lines.specs.Lines.{item_line}
+use Rattle.bgpdump_lines.specs.Heading.{headed_line}
 use Rattle.bgpdump_lines.specs.Writing.{Passes}
 use Rattle.bgpdump_lines.proofs.write.write_items.Given as goal
 
 abbrev pub invariant-items : goal.invariant-items
 invariant-items g l = record {
   passed : Passes (g.O.Output.written l.initial.out) (g.O.Output.written l.out) l.initial.text l.text
-      (flat_map (λ item. item_line l.heading.time l.heading.tag (saying item)) (take l.item-index l.items));
-  last : IfSome l.last (λ line. EndsIn l.heading.time l.heading.tag line l.text);
+      (flat_map (λ item. headed_line l.heading (saying item)) (take l.item-index l.items));
+  last : IfSome l.last (λ line. EndsIn l.heading line l.text);
   failed : g.O.Output.failed l.out ≡ g.O.Output.failed l.initial.out;
 }

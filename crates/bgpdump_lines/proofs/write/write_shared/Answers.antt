@@ -4,7 +4,7 @@ use Rattle.std.proofs.lemmas.Result.{err_from_is_err_and}
 use Rattle.std.specs.List.{flat_map}
 use Rattle.mrt_wire.specs.declared.event.Item.{Item}
 use Rattle.mrt_wire.specs.Event.{saying}
-use Rattle.bgpdump_lines.specs.Lines.{item_line}
+use Rattle.bgpdump_lines.specs.Heading.{headed_line}
 use Rattle.bgpdump_lines.specs.Device.{AppendsFront}
 use Rattle.bgpdump_lines.specs.Writing.{Passes}
 use Rattle.bgpdump_lines.proofs.LineLaws.{lines-append, lines-turn, said_back}
@@ -13,7 +13,7 @@ use Rattle.bgpdump_lines.proofs.write.write_shared.Goals as goal
 
 pub returns-in_err-write_piece-clause-text : goal.returns-in_err-write_piece-clause-text
 returns-in_err-write_piece-clause-text g c =
-    let line = item_line c.args.heading.now.time c.args.heading.now.tag in
+    let line = headed_line c.args.heading.now in
     let f : List Item → List ℕ = λ l. flat_map line (map saying l) in
     let piece = c.split_at.result.0.now in
     let more = c.split_at.result.1.now in
@@ -29,7 +29,7 @@ returns-in_err-write_piece-clause-text g c =
 
 pub pieces-preserved : goal.pieces-preserved
 pieces-preserved g c =
-    let line = item_line c.args.heading.now.time c.args.heading.now.tag in
+    let line = headed_line c.args.heading.now in
     let f : List Item → List ℕ = λ l. flat_map line (map saying l) in
     let piece = c.split_at.result.0.now in
     let more = c.split_at.result.1.now in

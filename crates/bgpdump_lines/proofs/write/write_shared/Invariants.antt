@@ -1,9 +1,8 @@
 -- Behind what was written stands the text; both hold the lines of those that are done.
 use Rattle.std.proofs.Common.{◌≡◌, ◌++◌, List, length, map}
-use Rattle.std.specs.List.{flat_map}
 use Rattle.mrt_wire.specs.declared.event.Item.{Item}
 use Rattle.mrt_wire.specs.Event.{AreOfOneRoute, saying}
-use Rattle.bgpdump_lines.specs.Lines.{item_line}
+use Rattle.bgpdump_lines.specs.Heading.{headed_lines}
 use Rattle.bgpdump_lines.specs.Writing.{Passes}
 use Rattle.bgpdump_lines.proofs.write.write_shared.Given as goal
 
@@ -13,7 +12,7 @@ invariant-pieces g l = record {
   whole : done ++ l.rest ≡ l.items;
   alike : AreOfOneRoute (map saying l.rest);
   passed : Passes (g.O.Output.written l.initial.out) (g.O.Output.written l.out) l.initial.text l.text
-      (flat_map (item_line l.heading.time l.heading.tag) (map saying done));
+      (headed_lines l.heading (map saying done));
   failed : g.O.Output.failed l.out ≡ g.O.Output.failed l.initial.out;
 }
 
