@@ -5,7 +5,7 @@ use Rattle.std.specs.Ordering.{on, then_cmp, eq_by_cmp}
 use Rattle.ip_prefix.specs.Network.{Network}
 use Rattle.ip_prefix.specs.Order.{network_cmp}
 use Rattle.mrt_wire.specs.declared.peer.Peer.{Peer}
-use Rattle.rib_player.specs.declared.changes.TheConstants.{ESTABLISHED}
+use Rattle.mrt_wire.specs.declared.event.TheConstants.{ESTABLISHED}
 use Rattle.rib_player.specs.declared.pair.Pair.{Pair}
 use Rattle.mrt_wire.specs.declared.event.Route.{Route}
 use Rattle.mrt_wire.specs.Peer.{peer_cmp}

@@ -20,14 +20,11 @@ use crate::known::KnownRoutes;
 use crate::known_peers::KnownPeers;
 use crate::pair::Pair;
 use crate::table::Table;
-use mrt_wire::{Event, Item, Peer, Route};
+use mrt_wire::{ESTABLISHED, Event, Item, Peer, Route};
 use rib_store::PrefixStore;
 use std::alloc::{AllocError, Global};
 use std::collections::BTreeSet;
 use std::rc::Rc;
-
-/// The number of the state Established (RFC 6396, section 4.4.1).
-const ESTABLISHED: u16 = mrt_wire::ESTABLISHED;
 
 /// Pairs, each with its route, or the absence of one. Of a pair that stands there more than once the
 /// first counts.

@@ -14,7 +14,7 @@ ghost use Rattle.mrt_wire.specs.declared.event.Event.{Event};
 ghost use Rattle.mrt_wire.specs.declared.peer.Peer.{Peer};
 ghost use Rattle.mrt_wire.specs.Peer.{peer_cmp};
 ghost use Rattle.rib_player.specs.declared.pair.Pair.{Pair};
-ghost use Rattle.rib_player.specs.declared.changes.TheConstants.{ESTABLISHED};
+ghost use Rattle.mrt_wire.specs.declared.event.TheConstants.{ESTABLISHED};
 ghost use Rattle.rib_player.specs.History.{pair_cmp, pair_of, effect, route_after, route};
 ghost use Rattle.rib_player.specs.Tables.{Routes, table, table_after, is_named, named_pairs};
 ghost use Rattle.rib_player.specs.Store.{peer_routes, routed_peers, peers_above};
