@@ -19,8 +19,8 @@ const TWO_PREFIXES: &str = "0010 0001 0000003D FBF4 FBF5 0000 0001 C0000201 C000
     FFFFFFFF FFFFFFFF FFFFFFFF FFFFFFFF 002D 02 \
     0000 0012 40010100 40020402 01FBF4 400304 C0000209 080A 080B";
 
-/// Metrics of plain routes whose hashes name the same two rows, 101 and 248 of the 255 that the first
-/// 1,024 places have, so that all of them may stand at the same eight places.
+/// Metrics of plain routes whose hashes name the same two rows, 101 and 248 of the 255 that the
+/// first 1,024 places have, so that all of them may stand at the same eight places.
 const METRICS: &[u32] = &[
     1802, 13157, 102391, 140166, 145731, 163401, 164645, 174153, 185932, 279166, 288082, 334497,
     355951, 366574, 386875, 441677, 454477, 534646, 554766, 600401, 600625, 607677, 626321, 639612,
