@@ -118,7 +118,7 @@ bits_cmp-filled (x ∷ xs) (y ∷ ys) m n e =
     one_more k = omega arith
 
 -- the bits of 0 are zeros
-bits_of-zero : (k : ℕ) → bits_of k 0 ≡ replicate k false
+pub bits_of-zero : (k : ℕ) → bits_of k 0 ≡ replicate k false
 unfolding bits_of
 bits_of-zero zero = refl
 bits_of-zero (suc k) = rw (bit_at-zero k) (ap (λ l. false ∷ l) (bits_of-zero k))

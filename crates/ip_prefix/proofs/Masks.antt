@@ -38,7 +38,7 @@ shifted w number size within w_le =
     shr-shr number (128 - w) (w - size) ∙ ap (λ k. number / 2 ^ k) e
 
 -- where nothing stands below the first bits, zeros fill them up to w
-filled : (w number size : ℕ) → size ≤ w → w ≤ 128 → number % 2 ^ (128 - size) ≡ 0
+pub filled : (w number size : ℕ) → size ≤ w → w ≤ 128 → number % 2 ^ (128 - size) ≡ 0
     → bits_of w (number / 2 ^ (128 - w)) ≡ bits_of size (number / 2 ^ (128 - size)) ++ replicate (w - size) false
 filled w number size within w_le none =
     let all : size + (w - size) ≡ w = omega arith in

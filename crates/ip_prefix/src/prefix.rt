@@ -2,6 +2,7 @@
 
 ghost use Rattle.std.specs.Prelude.{◌≡◌, ◌-◌, ◌*◌, ◌^◌, ◌<◌, ◌≤◌, ◌++◌, false, MatchOption, IfSome, IfNone, length, replicate, take};
 ghost use Rattle.std.specs.Int.{w128, from_be_bytes};
+ghost use Rattle.ip_prefix.specs.declared.addr.Family.{Family};
 ghost use Rattle.ip_prefix.specs.Address.{IsAddress, bit_count};
 ghost use Rattle.ip_prefix.specs.Bits.{bits_of, bits_of_octets};
 ghost use Rattle.ip_prefix.specs.Highest.{highest_bits, highest_part};
@@ -9,7 +10,9 @@ ghost use Rattle.ip_prefix.specs.Network.{IsNetwork, network_of, least_address, 
 ghost use Rattle.octet_forms.specs.Sequences.{BeginsWithNone};
 ghost use Rattle.ip_prefix.specs.Wire.{SpellsNetwork};
 
-use crate::addr::{Addr, Family, NUMBER_BITS, OCTET_BITS, V6_OCTETS, compare_families};
+use crate::addr::{
+    Addr, Family, NUMBER_BITS, OCTET_BITS, V4_BITS, V6_OCTETS, compare_families,
+};
 use crate::number::Number;
 use std::cmp::Ordering;
 use std::marker::Model;
@@ -105,6 +108,16 @@ impl Prefix {
             ≡ self.now.bits ++ replicate (NUMBER_BITS - length self.now.bits) false }
     {
         self.number.get()
+    }
+
+    /// The octets of an IPv4 prefix's least address, as a number.
+    #[inline]
+    pub(crate) fn v4_number(&self) -> u32
+        requires { self.now.family ≡ Family.V4 }
+        ensures { bits_of V4_BITS result
+            ≡ self.now.bits ++ replicate (V4_BITS - length self.now.bits) false }
+    {
+        (self.number.get() >> (NUMBER_BITS - V4_BITS)) as u32
     }
 
     /// The prefix of its first bits, as many as are named.

@@ -5,8 +5,9 @@ ghost use Rattle.ip_prefix.specs.declared.addr.Family.{Family};
 ghost use Rattle.ip_prefix.specs.declared.addr.Family.TheVariants.{V4, V6};
 ghost use Rattle.ip_prefix.specs.declared.addr.TheConstants.{V4_BITS};
 ghost use Rattle.ip_prefix.specs.Network.{Network};
+ghost use Rattle.ip_prefix.specs.Turns.{way, turn_of};
 
-use ip_prefix::{Addr, Prefix, V4_OCTETS};
+use ip_prefix::{Addr, Prefix, Turn, V4_OCTETS};
 
 /// A prefix of one family, however it is kept.
 pub trait Packed: Copy + Drop {
@@ -19,6 +20,10 @@ pub trait Packed: Copy + Drop {
     /// As a prefix of any family.
     fn wide(&self) -> Prefix
         ensures { result ≡ network self.now };
+
+    /// Where the prefix lies, seen from this one.
+    fn turn(&self, other: &Prefix) -> Turn
+        ensures { result ≡ turn_of (way (network self.now)) (way other.now) };
 
     /// The prefix, which is of this family.
     fn of(prefix: &Prefix) -> Self
@@ -51,6 +56,11 @@ impl Packed for V4Prefix {
     }
 
     #[inline]
+    fn turn(&self, other: &Prefix) -> Turn {
+        other.turn_from_v4(self.octets, self.len)
+    }
+
+    #[inline]
     fn of(prefix: &Prefix) -> Self {
         let addr = prefix.addr();
         V4Prefix {
@@ -70,6 +80,11 @@ impl Packed for Prefix {
     #[inline]
     fn wide(&self) -> Prefix {
         *self
+    }
+
+    #[inline]
+    fn turn(&self, other: &Prefix) -> Turn {
+        Prefix::turn(self, other)
     }
 
     #[inline]

@@ -38,7 +38,7 @@ impl<K: Packed, R: Drop> Tree<K, R> {
             }
             Tree::Rooted(routed, prefix, node) => {
                 let node = &mut **node;
-                match prefix.wide().turn(key) {
+                match prefix.turn(key) {
                     Turn::Outside => return,
                     Turn::Here => node.slot.exchange(route),
                     Turn::Left => node.left.exchange(key, route),
@@ -79,11 +79,11 @@ impl<K: Packed, R: Drop> Tree<K, R> {
                 grow_leaf(self, prefix, alloc, key)
             }
             Tree::Rooted(_, prefix, node) => {
-                let wide = prefix.wide();
+                let prefix = *prefix;
                 let node = &mut **node;
-                let made = match wide.turn(key) {
+                let made = match prefix.turn(key) {
                     Turn::Outside => {
-                        split(self, &wide, alloc, key)?;
+                        split(self, &prefix.wide(), alloc, key)?;
                         return Ok(true);
                     }
                     Turn::Here => node.slot.occupy(),
@@ -121,7 +121,7 @@ impl<K: Packed, R: Drop> Tree<K, R> {
             }
             Tree::Rooted(routed, prefix, node) => {
                 let node = &mut **node;
-                match prefix.wide().turn(key) {
+                match prefix.turn(key) {
                     Turn::Outside => return,
                     Turn::Here => node.slot.vacate(),
                     Turn::Left => node.left.discard(key),
@@ -145,7 +145,7 @@ fn discard_leaf<K: Packed, R: Drop>(tree: &mut Tree<K, R>, prefix: K, key: &Pref
     ensures sides { (from : List Bool) (bit : Bool) → IsOn from bit (shape_of K.network tree.old)
         → IsOn from bit (shape_of K.network tree.new) }
 {
-    if let Turn::Here = prefix.wide().turn(key) {
+    if let Turn::Here = prefix.turn(key) {
         *tree = Tree::Empty;
     }
 }
@@ -214,10 +214,9 @@ fn grow_leaf<K: Packed, R: Drop>(
     ensures refused { OnErr result (tree.new ≡ tree.old) }
     ensures known { OnErr result (at (shape_of K.network tree.old) (way key.now) ≡ None) }
 {
-    let wide = prefix.wide();
-    match wide.turn(key) {
+    match prefix.turn(key) {
         Turn::Outside => {
-            split(tree, &wide, alloc, key)?;
+            split(tree, &prefix.wide(), alloc, key)?;
             Ok(true)
         }
         Turn::Here => Ok(false),

@@ -21,15 +21,15 @@ impl<K: Packed, R> Tree<K, R> {
     {
         match self {
             Tree::Empty => None,
-            Tree::Bare(prefix) => match prefix.wide().turn(key) {
+            Tree::Bare(prefix) => match prefix.turn(key) {
                 Turn::Here => Some(None),
                 _ => None,
             },
-            Tree::Leaf(prefix, route) => match prefix.wide().turn(key) {
+            Tree::Leaf(prefix, route) => match prefix.turn(key) {
                 Turn::Here => Some(Some(route)),
                 _ => None,
             },
-            Tree::Rooted(_, prefix, node) => match prefix.wide().turn(key) {
+            Tree::Rooted(_, prefix, node) => match prefix.turn(key) {
                 Turn::Outside => None,
                 Turn::Here => node.slot.kept(),
                 Turn::Left => node.left.slot(key),
@@ -54,16 +54,14 @@ impl<K: Packed, R> Tree<K, R> {
             }
             Tree::Leaf(prefix, route) => {
                 *met += 1;
-                let wide = prefix.wide();
-                match wide.turn(key) {
+                match prefix.turn(key) {
                     Turn::Outside => None,
-                    _ => Some((wide, route)),
+                    _ => Some((prefix.wide(), route)),
                 }
             }
             Tree::Rooted(_, prefix, node) => {
                 *met += 1;
-                let wide = prefix.wide();
-                let below = match wide.turn(key) {
+                let below = match prefix.turn(key) {
                     Turn::Outside => return None,
                     Turn::Here => None,
                     Turn::Left => node.left.longest(key, met),
@@ -71,7 +69,7 @@ impl<K: Packed, R> Tree<K, R> {
                 };
                 match below {
                     Some(found) => Some(found),
-                    None => node.slot.routed(wide),
+                    None => node.slot.routed(prefix.wide()),
                 }
             }
         }
@@ -112,9 +110,9 @@ impl<K: Packed, R> Tree<K, R> {
             Tree::Empty => None,
             Tree::Bare(_) => None,
             Tree::Leaf(prefix, route) => {
-                let wide = prefix.wide();
-                match wide.turn(low) {
+                match prefix.turn(low) {
                     Turn::Outside => {
+                        let wide = prefix.wide();
                         if *low < wide {
                             return Some((wide, route));
                         }
@@ -124,10 +122,9 @@ impl<K: Packed, R> Tree<K, R> {
                 }
             }
             Tree::Rooted(_, prefix, node) => {
-                let wide = prefix.wide();
-                match wide.turn(low) {
+                match prefix.turn(low) {
                     Turn::Outside => {
-                        if *low < wide {
+                        if *low < prefix.wide() {
                             return self.first();
                         }
                         None
