@@ -1,6 +1,6 @@
 //! Prefixes of both families.
 
-ghost use Rattle.std.specs.Prelude.{◌≡◌, ◌-◌, ◌*◌, ◌^◌, ◌<◌, ◌≤◌, ◌++◌, false, MatchOption, IfSome, IfNone, length, replicate, take};
+ghost use Rattle.std.specs.Prelude.{◌≡◌, ◌-◌, ◌*◌, ◌/◌, ◌^◌, ◌<◌, ◌≤◌, ◌++◌, false, MatchOption, IfSome, IfNone, length, replicate, take};
 ghost use Rattle.std.specs.Int.{w128, from_be_bytes};
 ghost use Rattle.ip_prefix.specs.declared.addr.Family.{Family};
 ghost use Rattle.ip_prefix.specs.Address.{IsAddress, bit_count};
@@ -11,7 +11,7 @@ ghost use Rattle.octet_forms.specs.Sequences.{BeginsWithNone};
 ghost use Rattle.ip_prefix.specs.Wire.{SpellsNetwork};
 
 use crate::addr::{
-    Addr, Family, NUMBER_BITS, OCTET_BITS, V4_BITS, V6_OCTETS, compare_families,
+    Addr, Family, HALF_BITS, NUMBER_BITS, OCTET_BITS, V4_BITS, V6_OCTETS, compare_families,
 };
 use crate::number::Number;
 use std::cmp::Ordering;
@@ -253,17 +253,31 @@ impl Ord for Prefix {
     }
 }
 
-// The number with its highest bits, as many as are named, and zeros below them.
+// The number with its highest bits, as many as are named, and zeros below them. Mostly they lie in
+// its high half.
 #[inline]
 fn highest(number: u128, len: u8) -> u128
     requires { len ≤ NUMBER_BITS }
     ensures { result ≡ highest_part len number }
 {
-    if len == 0 {
-        return 0;
+    if len <= HALF_BITS {
+        return u128::from(front_of_half((number >> HALF_BITS) as u64, len)) << HALF_BITS;
     }
     let below = NUMBER_BITS - len;
     number >> below << below
+}
+
+// A half with its highest bits, as many as are named, and zeros below them.
+#[inline]
+fn front_of_half(half: u64, len: u8) -> u64
+    requires { len ≤ HALF_BITS }
+    ensures { result ≡ half / 2 ^ (HALF_BITS - len) * 2 ^ (HALF_BITS - len) }
+{
+    if len == 0 {
+        return 0;
+    }
+    let below = HALF_BITS - len;
+    half >> below << below
 }
 
 // A number whose highest bits are those of the octets in front, as many as are named. Its other bits

@@ -319,11 +319,12 @@ pub(crate) fn step_for<S: PrefixStore<Rc<Route>>>(
         clearings_of entries.items ≡ map clearing_then (sides_of entries.items)) }
 {
     let changes = changes_of(alloc, event, known)?;
-    let noted = changes.routes.len();
     if let Some(peer) = changes.only_loss() {
         return lost_entries(alloc, &peer, table, peers);
     }
-    let routes = in_order(routes_then(alloc, changes, table, peers)?)?;
+    let then = routes_then(alloc, changes, table, peers)?;
+    let noted = then.len();
+    let routes = in_order(then)?;
     known.note_released(noted.saturating_sub(routes.len()) as u64);
     entries_of(alloc, routes, table, peers)
 }

@@ -3,7 +3,7 @@
 ghost use Rattle.std.specs.Prelude.{◌≡◌, ◌≤◌, IfOk, IfSome, vec_len};
 ghost use Rattle.rib_player.specs.declared.known_peers.TheConstants.{PLACES};
 
-use crate::digest::{MULTIPLIER, four_octets};
+use crate::route_hash::with_address;
 use mrt_wire::{Peer, same_peer};
 use std::alloc::{AllocError, Global};
 use std::rc::Rc;
@@ -29,9 +29,8 @@ pub(crate) struct KnownPeers {
 /// Where the row of a peer begins.
 #[inline]
 fn row_of(peer: &Peer) -> usize {
-    let number = u64::from(four_octets(&peer.addr, 0)) ^ u64::from(peer.asn);
-    let row = (number.wrapping_mul(MULTIPLIER) >> LOWEST_BITS) as usize;
-    row.wrapping_mul(ROW)
+    let hash = with_address(u64::from(peer.asn), &peer.addr);
+    ((hash >> LOWEST_BITS) as usize).wrapping_mul(ROW)
 }
 
 /// The peer, where it stands in the row that begins there.

@@ -31,7 +31,7 @@ fn with_number(hash: u64, number: Option<u32>) -> u64 {
 
 /// The hash with all octets of an address in it.
 #[inline]
-fn with_address(hash: u64, addr: &Addr) -> u64 {
+pub(crate) fn with_address(hash: u64, addr: &Addr) -> u64 {
     let first = mixed(hash, u64::from(four_octets(addr, 0)));
     match addr.family() {
         Family::V4 => first,
