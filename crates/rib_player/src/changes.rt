@@ -265,7 +265,15 @@ fn routes_then<S: PrefixStore<Rc<Route>>>(
     Ok(routes)
 }
 
-/// The same in the order of their pairs, each once.
+/// Whether the slots are in the order of their pairs, each of another.
+fn are_in_order(slots: &[(Pair, Option<Rc<Route>>)]) -> bool
+    ensures { result ≡ true → IsStrictlySortedBy pair_cmp (keys_of slots.now) }
+{
+    slots.is_sorted_by(|one, other| one.0 < other.0)
+}
+
+/// The same in the order of their pairs, each once. Mostly they only stand the other way round, since
+/// items are noted from the last to the first.
 fn in_order(routes: Slots) -> Result<Slots, AllocError>
     ensures ordered { IfOk result (λ ordered.
         IsStrictlySortedBy pair_cmp (keys_of ordered.items)) }
@@ -273,6 +281,11 @@ fn in_order(routes: Slots) -> Result<Slots, AllocError>
         found ordered.items q ≡ found routes.items q) }
 {
     let mut ordered = routes;
+    ordered.reverse();
+    if are_in_order(&ordered) {
+        return Ok(ordered);
+    }
+    ordered.reverse();
     ordered.sort_by_key(|slot| slot.0)?;
     ordered.dedup_by_key(|slot| slot.0);
     Ok(ordered)
