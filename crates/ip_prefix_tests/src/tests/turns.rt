@@ -1,6 +1,6 @@
 //! Where prefixes lie, seen from one another, and what they share.
 
-use ip_prefix::{Addr, Family, Prefix, Turn};
+use ip_prefix::{Addr, Family, Prefix, Turn, V4_BITS, V4_OCTETS};
 use std::test::Fail;
 
 /// How many pairs are drawn.
@@ -9,6 +9,12 @@ const PAIRS: u32 = 4000;
 /// The prefix of a text.
 fn spelled(text: &str) -> Result<Prefix, Fail> {
     Ok(Prefix::parse(text.as_bytes()).ok_or("a spelling")?)
+}
+
+/// The first four octets of the least address.
+fn v4_octets(prefix: &Prefix) -> [u8; V4_OCTETS] {
+    let addr = prefix.addr();
+    [addr.octet(0), addr.octet(1), addr.octet(2), addr.octet(3)]
 }
 
 /// Two prefixes, where the second lies, seen from the first, and the first from the second.
@@ -69,6 +75,11 @@ fn turns_to_prefixes(rt: HostRuntime) -> Result<(), Fail> {
         let (first, second) = (spelled(one)?, spelled(other)?);
         assert_eq!(rt; first.turn(&second), there, "{other} from {one}");
         assert_eq!(rt; second.turn(&first), back, "{one} from {other}");
+        if first.family() == Family::V4 && first.len() <= V4_BITS {
+            let from = v4_octets(&first);
+            let turn = second.turn_from_v4(from, first.len());
+            assert_eq!(rt; turn, there, "{other} from the octets of {one}");
+        }
     }
     Ok(())
 }
@@ -234,6 +245,25 @@ impl Drawn {
         }
         (one, other)
     }
+}
+
+#[test]
+fn turns_from_octets_as_bit_by_bit(rt: HostRuntime) -> Result<(), Fail> {
+    let mut drawn = Drawn { state: 2 };
+    let mut asked = 0u32;
+    for _ in 0..PAIRS {
+        let (one, other) = drawn.pair();
+        if one.family == Family::V4 && one.len <= V4_BITS {
+            let [first, second, third, fourth, ..] = one.number.to_be_bytes();
+            let turn = other
+                .prefix()?
+                .turn_from_v4([first, second, third, fourth], one.len);
+            assert_eq!(rt; turn, one.turn(&other));
+            asked = asked.saturating_add(1);
+        }
+    }
+    assert!(rt; asked > PAIRS / 3);
+    Ok(())
 }
 
 #[test]

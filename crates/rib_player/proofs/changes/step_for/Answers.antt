@@ -6,7 +6,7 @@ use Rattle.rib_player.proofs.changes.step_for.Goals as goal
 pub returns-clause-step : goal.returns-clause-step
 returns-clause-step g c =
     IsStepFor-answered c.args.table.now.routes c.args.event.now c.in_ok-changes.changes c.in_ok-routes.routes.items c.entries_of.result
-    c.in_ok-changes.ensures (λ q. c.in_ok-routes.ensures.found q ∙ c.in_ok-routes_then.ensures q) c.in_ok-routes.ensures.ordered c.entries_of.ensures.ordered c.entries_of.ensures.sides
+    c.in_ok-changes.ensures (λ q. c.in_ok-routes.ensures.found q ∙ c.in_ok-then.ensures q) c.in_ok-routes.ensures.ordered c.entries_of.ensures.ordered c.entries_of.ensures.sides
 
 -- what the changes do is the loss alone
 pub returns-in-Some-clause-step : goal.returns-in-Some-clause-step
