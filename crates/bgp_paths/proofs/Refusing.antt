@@ -1,6 +1,7 @@
 -- What is refused when a part of it is.
 use Rattle.std.proofs.Common.{◌≡◌, ℕ, ◌*◌, IfErr, OnErr, Option, Some, None, Result, Ok, Err, List, [], ◌∷◌, ◌++◌, length, get_or, drop, ap, sym, subst, ◌∙◌, arith}
-use Rattle.ip_prefix.specs.Sequences.{Begins, SpellsAll, IsCode}
+use Rattle.ip_prefix.specs.Sequences.{Begins, SpellsAll}
+use Rattle.ip_prefix.specs.Fronts.{IsCode}
 use Rattle.octet_forms.proofs.Lists.{append_parts}
 use Rattle.octet_forms.proofs.Sequences.{none_at_all}
 use Rattle.bgp_paths.specs.declared.fault.WireFault.{WireFault}

@@ -1,6 +1,6 @@
 -- What a function that reads octets answers.
 use Rattle.std.specs.Prelude.{ℕ, List, Option, Some, None, Result, Ok, Err}
-use Rattle.ip_prefix.specs.Sequences.{BeginsWithNone}
+use Rattle.ip_prefix.specs.Fronts.{BeginsWithNone}
 use Rattle.bgp_paths.specs.declared.fault.WireFault.{WireFault}
 use Rattle.bgp_paths.specs.declared.fault.WireFault.TheVariants.{Malformed, Memory}
 

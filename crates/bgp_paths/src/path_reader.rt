@@ -1,7 +1,8 @@
 //! Reading AS paths.
 
 ghost use Rattle.std.specs.Prelude.{◌≡◌, ◌≤◌, ◌+◌, ◌++◌, ◌∷◌, [], ℕ, List, OnOk, IfErr, IfSome, IfNone, length, take, vec_len};
-ghost use Rattle.ip_prefix.specs.Sequences.{BeginsWithNone, SpellsAll};
+ghost use Rattle.ip_prefix.specs.Sequences.{SpellsAll};
+ghost use Rattle.ip_prefix.specs.Fronts.{BeginsWithNone};
 ghost use Rattle.bgp_paths.specs.Number.{SpellsAsn};
 ghost use Rattle.bgp_paths.specs.Path.{kind_code, SpellsSegment, IsFramed};
 ghost use Rattle.bgp_paths.specs.Reading.{Finds, Refuses};

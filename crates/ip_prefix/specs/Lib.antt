@@ -13,6 +13,7 @@ pub mod Text
 pub mod ZeroRun
 pub mod Spelling
 pub use Rattle.octet_forms.specs.Sequences
+pub use Rattle.octet_forms.specs.Fronts
 pub use Rattle.octet_forms.specs.Fields
 pub use Rattle.octet_forms.specs.Counted
 pub use Rattle.octet_text.specs.Written

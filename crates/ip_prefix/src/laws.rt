@@ -17,7 +17,8 @@ ghost use Rattle.ip_prefix.specs.Text.{address_text, network_text};
 ghost use Rattle.ip_prefix.specs.Turns.{way, turn_of, half, common};
 ghost use Rattle.ip_prefix.specs.ZeroRun.{IsFirstLongestRun};
 ghost use Rattle.ip_prefix.specs.Wire.{SpellsNetwork};
-ghost use Rattle.octet_forms.specs.Sequences.{SpellsAll, IsCode};
+ghost use Rattle.octet_forms.specs.Sequences.{SpellsAll};
+ghost use Rattle.octet_forms.specs.Fronts.{IsCode};
 
 /// The order of addresses is total, and only equal ones tie.
 pub fn address_order()

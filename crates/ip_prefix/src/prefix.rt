@@ -6,7 +6,7 @@ ghost use Rattle.ip_prefix.specs.Address.{IsAddress, bit_count};
 ghost use Rattle.ip_prefix.specs.Bits.{bits_of, bits_of_octets};
 ghost use Rattle.ip_prefix.specs.Highest.{highest_bits, highest_part};
 ghost use Rattle.ip_prefix.specs.Network.{IsNetwork, network_of, least_address, contains, covers};
-ghost use Rattle.octet_forms.specs.Sequences.{BeginsWithNone};
+ghost use Rattle.octet_forms.specs.Fronts.{BeginsWithNone};
 ghost use Rattle.ip_prefix.specs.Wire.{SpellsNetwork};
 
 use crate::addr::{Addr, Family, NUMBER_BITS, OCTET_BITS, V6_OCTETS, compare_families};

@@ -1,8 +1,8 @@
 -- What is an entry of a table, and what isn't.
 use Rattle.std.proofs.Common.{◌≡◌, ℕ, List, [], refl, subst}
 use Rattle.ip_prefix.specs.declared.addr.Family.{Family}
-use Rattle.ip_prefix.specs.Sequences.{Begins, OneFront, IsCode}
-use Rattle.ip_prefix.specs.Fields.{IsOne}
+use Rattle.ip_prefix.specs.Sequences.{Begins}
+use Rattle.ip_prefix.specs.Fronts.{OneFront, IsCode, IsOne}
 use Rattle.ip_prefix.specs.Wire.{SpellsNetwork}
 use Rattle.octet_forms.proofs.Fields.{then_front, then_one, more_one, behind_one}
 use Rattle.octet_forms.proofs.Counts.{counted_code}

@@ -3,8 +3,9 @@ use Rattle.std.proofs.Common.{◌≡◌, ℕ, ◌<◌, ◌≤◌, List, sym, sub
 use Rattle.ip_prefix.specs.declared.addr.Family.{Family}
 use Rattle.ip_prefix.specs.Address.{Address, bit_count}
 use Rattle.ip_prefix.specs.Network.{Network, network_of}
-use Rattle.ip_prefix.specs.Sequences.{Begins, BeginsWithNone, OneFront}
-use Rattle.ip_prefix.specs.Fields.{IsOne, Then}
+use Rattle.ip_prefix.specs.Sequences.{Begins}
+use Rattle.ip_prefix.specs.Fronts.{BeginsWithNone, OneFront, IsOne}
+use Rattle.ip_prefix.specs.Fields.{Then}
 use Rattle.octet_forms.proofs.Fields.{both_front, then_front}
 use Rattle.bgp_wire.specs.declared.WireFault.{WireFault}
 use Rattle.bgp_wire.specs.declared.WireFault.TheVariants.{Malformed, Memory}

@@ -3,7 +3,8 @@ use Rattle.std.specs.Prelude.{◌≡◌, ℕ, ◌<◌, ◌^◌, List, [], ◌∷
 use Rattle.std.specs.Int.{w16}
 use Rattle.ip_prefix.specs.declared.addr.Family.{Family}
 use Rattle.ip_prefix.specs.Address.{Address}
-use Rattle.ip_prefix.specs.Sequences.{Begins, BeginsWithNone}
+use Rattle.ip_prefix.specs.Sequences.{Begins}
+use Rattle.ip_prefix.specs.Fronts.{BeginsWithNone}
 use Rattle.bgp_wire.specs.Number.{SpellsNumber}
 use Rattle.bgp_wire.specs.Update.{sized_octets}
 use Rattle.bgp_wire.specs.Value.{SpellsAddressOctets}

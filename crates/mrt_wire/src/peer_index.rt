@@ -1,7 +1,8 @@
 //! Reading the peers of a table (RFC 6396, section 4.3.1).
 
 ghost use Rattle.std.specs.Prelude.{◌≡◌, ℕ, List, IfSome, IfNone};
-ghost use Rattle.ip_prefix.specs.Sequences.{Begins, BeginsWithNone};
+ghost use Rattle.ip_prefix.specs.Sequences.{Begins};
+ghost use Rattle.ip_prefix.specs.Fronts.{BeginsWithNone};
 ghost use Rattle.ip_prefix.specs.Fields.{WithMore};
 ghost use Rattle.ip_prefix.specs.Counted.{SpellsCounted};
 ghost use Rattle.bgp_wire.specs.Reading.{Reads};

@@ -2,7 +2,8 @@
 
 ghost use Rattle.std.specs.Prelude.{◌≡◌, ℕ, List, IfSome, IfNone};
 ghost use Rattle.ip_prefix.specs.Address.{octet_count};
-ghost use Rattle.ip_prefix.specs.Sequences.{Begins, BeginsWithNone};
+ghost use Rattle.ip_prefix.specs.Sequences.{Begins};
+ghost use Rattle.ip_prefix.specs.Fronts.{BeginsWithNone};
 ghost use Rattle.bgp_wire.specs.Number.{octets_at};
 ghost use Rattle.bgp_wire.specs.Reading.{Finds, Reads};
 ghost use Rattle.mrt_wire.specs.Fields.{FindsField};
