@@ -11,8 +11,9 @@ use Rattle.bgp_paths.specs.declared.path.AsWidth.TheVariants.{Two, Four}
 use Rattle.bgp_paths.specs.declared.path.SegmentKind.{SegmentKind}
 use Rattle.bgp_paths.specs.declared.path.Segment.{Segment}
 use Rattle.bgp_paths.specs.Number.{octets_at, SpellsAsn}
-use Rattle.bgp_paths.specs.Path.{kind_code, SpellsSegment, IsFramed}
-use Rattle.bgp_paths.specs.Reading.{Finds, Reads, Refuses, RefusesFront}
+use Rattle.bgp_paths.specs.Path.{kind_code, SpellsSegment}
+use Rattle.bgp_paths.specs.Segments.{IsFramed}
+use Rattle.bgp_paths.specs.Readers.{Finds, Reads, Refuses, RefusesFront}
 use Rattle.bgp_paths.proofs.OneFront.{segment_begun, length-numbers}
 
 -- what is found by a part is found by the whole, where the two spell the same values

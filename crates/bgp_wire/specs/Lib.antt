@@ -9,7 +9,9 @@ pub mod Value
 pub mod NextHop
 pub mod Content
 pub use Rattle.bgp_paths.specs.Reading
+pub use Rattle.bgp_paths.specs.Readers
 pub use Rattle.bgp_paths.specs.Text
+pub use Rattle.bgp_paths.specs.Printed
 pub use Rattle.bgp_paths.specs.Merge
 pub mod As4
 pub mod Reach

@@ -1,7 +1,7 @@
 //! The lines of routes, parts of which are copied from the line before.
 
 ghost use Rattle.std.specs.Prelude.{◌≡◌, ◌++◌, OnOk, OnErr, IfOk, IfSome};
-ghost use Rattle.bgp_wire.specs.Text.{StillBegins};
+ghost use Rattle.bgp_wire.specs.Printed.{StillBegins};
 ghost use Rattle.mrt_wire.specs.Event.{Announced};
 ghost use Rattle.bgpdump_lines.specs.Lines.{peer_fields, prefix_field, route_tail};
 ghost use Rattle.bgpdump_lines.specs.Heading.{route_head, route_front, headed_line};

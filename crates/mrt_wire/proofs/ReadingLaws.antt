@@ -10,7 +10,7 @@ use Rattle.octet_forms.proofs.Fields.{none_behind}
 use Rattle.octet_forms.proofs.Counts as counts
 use Rattle.bgp_wire.specs.declared.WireFault.{WireFault}
 use Rattle.bgp_wire.specs.declared.WireFault.TheVariants.{Malformed, Memory}
-use Rattle.bgp_wire.specs.Reading.{Reads, Refuses, RefusesFront}
+use Rattle.bgp_wire.specs.Readers.{Reads, Refuses, RefusesFront}
 use Rattle.mrt_wire.specs.Fields.{SpellsShort}
 
 -- what is refused behind the first is refused of both

@@ -13,7 +13,7 @@ use Rattle.bgp_wire.specs.declared.WireFault.TheVariants.{Malformed, Memory}
 use Rattle.bgp_wire.specs.declared.AsWidth.TheVariants.{Two, Four}
 use Rattle.bgp_wire.specs.Content.{SpellsRibAttrs}
 use Rattle.bgp_wire.specs.Number.{SpellsAsn}
-use Rattle.bgp_wire.specs.Reading.{Refuses, RefusesFront}
+use Rattle.bgp_wire.specs.Readers.{Refuses, RefusesFront}
 use Rattle.bgp_wire.proofs.OneContent.{one_rib_attrs}
 use Rattle.bgp_paths.proofs.OneFront.{number_code}
 use Rattle.mrt_wire.specs.declared.rib.TheConstants.{SEQUENCE_SIZE}

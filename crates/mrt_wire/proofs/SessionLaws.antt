@@ -10,7 +10,7 @@ use Rattle.bgp_wire.specs.declared.AsWidth.{AsWidth}
 use Rattle.bgp_wire.specs.Number.{octets_at}
 use Rattle.bgp_wire.specs.Reach.{family_code}
 use Rattle.bgp_wire.specs.declared.WireFault.{WireFault}
-use Rattle.bgp_wire.specs.Reading.{Refuses}
+use Rattle.bgp_wire.specs.Readers.{Refuses}
 use Rattle.bgp_wire.proofs.OneContent.{one_message_of}
 use Rattle.bgp_paths.proofs.Refusing.{refused_part}
 use Rattle.bgp_wire.proofs.Reaching.{same_family}

@@ -12,7 +12,7 @@ use Rattle.bgp_wire.specs.declared.WireFault.TheVariants.{Malformed, Memory}
 use Rattle.bgp_wire.specs.declared.AsWidth.TheVariants.{Two}
 use Rattle.bgp_wire.specs.Content.{SpellsRibAttrs}
 use Rattle.bgp_wire.specs.Number.{SpellsAsn}
-use Rattle.bgp_wire.specs.Reading.{Refuses}
+use Rattle.bgp_wire.specs.Readers.{Refuses}
 use Rattle.bgp_wire.proofs.OneContent.{one_rib_attrs}
 use Rattle.mrt_wire.specs.declared.peer.Peer.{Peer}
 use Rattle.mrt_wire.specs.declared.table_dump.TheConstants.{NUMBERS_SIZE, STATUS_SIZE}

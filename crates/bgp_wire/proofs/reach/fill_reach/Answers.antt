@@ -2,7 +2,7 @@ use Rattle.std.proofs.Common.{◌≡◌, ◌++◌, Some, Err, IfErr, refl, ap, s
 use Rattle.std.proofs.lemmas.Result.{err_from_is_err_and}
 use Rattle.bgp_wire.specs.Lent.{octets_of}
 use Rattle.bgp_wire.specs.Reach.{Reach, unicast_octets, BeginsIn, SpellsUnicast, SpellsReach, SaysReach}
-use Rattle.bgp_paths.specs.Reading.{Refuses}
+use Rattle.bgp_paths.specs.Readers.{Refuses}
 use Rattle.bgp_paths.proofs.Refusing.{refused_part}
 use Rattle.bgp_wire.proofs.Reaching.{reach_part}
 use Rattle.bgp_wire.proofs.reach.fill_reach.Goals as goal
