@@ -15,6 +15,7 @@ pub use Rattle.bgp_paths.specs.Printed
 pub use Rattle.bgp_paths.specs.Merge
 pub mod As4
 pub mod Reach
+pub mod Multiprotocol
 pub mod Update
 pub mod Codes
 pub mod Parts

@@ -3,7 +3,8 @@
 ghost use Rattle.std.specs.Prelude.{◌≡◌, ℕ, List, Option, IfSome, IfNone, IfOk, IfErr, OnOk};
 ghost use Rattle.ip_prefix.specs.Address.{Address};
 ghost use Rattle.bgp_wire.specs.Lent.{octets_of};
-ghost use Rattle.bgp_wire.specs.Reach.{unicast_octets, BeginsIn, HopStands, SpellsUnicast};
+ghost use Rattle.bgp_wire.specs.Reach.{unicast_octets, HopStands, SpellsUnicast};
+ghost use Rattle.bgp_wire.specs.Multiprotocol.{BeginsIn};
 ghost use Rattle.bgp_wire.specs.Reach.{Reach, SaysReach, SaysUnreach, reach_hop, reach_prefixes};
 ghost use Rattle.bgp_paths.specs.Readers.{Finds, Refuses};
 
