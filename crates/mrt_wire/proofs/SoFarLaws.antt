@@ -10,7 +10,7 @@ use Rattle.mrt_wire.specs.declared.next.Next.{Next}
 use Rattle.mrt_wire.specs.declared.next.Phase.{Phase}
 use Rattle.mrt_wire.specs.declared.next.Phase.TheVariants.{Reading, Ended, Spent}
 use Rattle.mrt_frames.specs.Record.{header_octets, spelling, IsRecord, BeginsWithNoRecord}
-use Rattle.mrt_frames.specs.Taking.{EndsAt}
+use Rattle.mrt_frames.specs.Taken.{EndsAt}
 use Rattle.mrt_wire.specs.Verdict.{Frame, ReadsAs, index_after}
 use Rattle.mrt_wire.specs.Splitting.{AreFrames, Splits, spellings}
 use Rattle.mrt_frames.specs.Rest.{rest_kind, rest_fault}

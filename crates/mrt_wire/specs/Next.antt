@@ -11,7 +11,8 @@ use Rattle.mrt_frames.specs.Record.{Record, spelling, IsRecord}
 use Rattle.mrt_wire.specs.Verdict.{Frame, ReadsAs}
 use Rattle.mrt_frames.specs.Rest.{rest_fault}
 use Rattle.mrt_wire.specs.Results.{Finding, Found, Bad, finding, fault_findings}
-use Rattle.mrt_frames.specs.Taking.{IsBegun, EndsAt}
+use Rattle.mrt_frames.specs.Taking.{IsBegun}
+use Rattle.mrt_frames.specs.Taken.{EndsAt}
 use Rattle.mrt_wire.specs.Place.{Place, place_behind, stopped_place}
 
 -- what an answer tells
