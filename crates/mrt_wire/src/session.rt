@@ -6,7 +6,7 @@ ghost use Rattle.ip_prefix.specs.Sequences.{Begins};
 ghost use Rattle.ip_prefix.specs.Fronts.{BeginsWithNone};
 ghost use Rattle.bgp_wire.specs.Number.{octets_at};
 ghost use Rattle.bgp_wire.specs.Readers.{Finds, Reads};
-ghost use Rattle.mrt_wire.specs.Fields.{FindsField};
+ghost use Rattle.mrt_wire.specs.Bodies.{FindsField};
 ghost use Rattle.mrt_wire.specs.Items.{receipt_items, session_items};
 ghost use Rattle.mrt_wire.specs.Judging.{Told, session_told};
 ghost use Rattle.mrt_wire.specs.Session.{SpellsFamily, AreSystems, AreAddresses, SpellsSessionPeer, SpellsStateChange, SpellsPeerMessage, SpellsMicros, SpellsHappening, SpellsSessionBody};

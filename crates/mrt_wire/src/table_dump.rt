@@ -4,7 +4,7 @@ ghost use Rattle.std.specs.Prelude.{ℕ, List, IfSome, IfNone};
 ghost use Rattle.ip_prefix.specs.Sequences.{Begins};
 ghost use Rattle.ip_prefix.specs.Fronts.{BeginsWithNone};
 ghost use Rattle.bgp_wire.specs.Readers.{Reads};
-ghost use Rattle.mrt_wire.specs.Fields.{FindsField};
+ghost use Rattle.mrt_wire.specs.Bodies.{FindsField};
 ghost use Rattle.mrt_wire.specs.Items.{peer_entry_items};
 ghost use Rattle.mrt_wire.specs.Judging.{Told};
 ghost use Rattle.mrt_wire.specs.TableDump.{ArePeerEntryFields, SpellsNarrowPeer, SpellsPeerEntry, SpellsPrefix};
