@@ -2,7 +2,8 @@
 use Rattle.std.proofs.Common.{◌≡◌, ℕ, ◌*◌, ◌<◌, List, [], ◌∷◌, ◌++◌, length, refl, ap, sym, subst, ◌∙◌, arith}
 use Rattle.std.specs.Int.{w16, w32, to_be_bytes, from_be_bytes}
 use Rattle.std.proofs.lemmas.Nat.{from_be_bytes-to_be_bytes_2, from_be_bytes-to_be_bytes_4}
-use Rattle.ip_prefix.specs.Sequences.{Begins, SpellsAll, IsCode}
+use Rattle.ip_prefix.specs.Sequences.{Begins, SpellsAll}
+use Rattle.ip_prefix.specs.Fronts.{IsCode}
 use Rattle.octet_forms.proofs.Lists.{append_parts}
 use Rattle.octet_forms.proofs.Sequences.{one_list}
 use Rattle.octet_forms.proofs.Sequences.{length_together}

@@ -1,6 +1,7 @@
 -- What is refused when a part of it is.
 use Rattle.std.proofs.Common.{◌≡◌, ℕ, ◌*◌, IfErr, OnErr, Option, Some, None, Result, Ok, Err, List, [], ◌∷◌, ◌++◌, length, get_or, drop, ap, sym, subst, ◌∙◌, arith}
-use Rattle.ip_prefix.specs.Sequences.{Begins, SpellsAll, IsCode}
+use Rattle.ip_prefix.specs.Sequences.{Begins, SpellsAll}
+use Rattle.ip_prefix.specs.Fronts.{IsCode}
 use Rattle.octet_forms.proofs.Lists.{append_parts}
 use Rattle.octet_forms.proofs.Sequences.{none_at_all}
 use Rattle.bgp_paths.specs.declared.fault.WireFault.{WireFault}
@@ -10,8 +11,9 @@ use Rattle.bgp_paths.specs.declared.path.AsWidth.TheVariants.{Two, Four}
 use Rattle.bgp_paths.specs.declared.path.SegmentKind.{SegmentKind}
 use Rattle.bgp_paths.specs.declared.path.Segment.{Segment}
 use Rattle.bgp_paths.specs.Number.{octets_at, SpellsAsn}
-use Rattle.bgp_paths.specs.Path.{kind_code, SpellsSegment, IsFramed}
-use Rattle.bgp_paths.specs.Reading.{Finds, Reads, Refuses, RefusesFront}
+use Rattle.bgp_paths.specs.Path.{kind_code, SpellsSegment}
+use Rattle.bgp_paths.specs.Segments.{IsFramed}
+use Rattle.bgp_paths.specs.Readers.{Finds, Reads, Refuses, RefusesFront}
 use Rattle.bgp_paths.proofs.OneFront.{segment_begun, length-numbers}
 
 -- what is found by a part is found by the whole, where the two spell the same values

@@ -1,6 +1,9 @@
 pub mod Number
 pub mod Path
+pub mod Segments
 pub mod Reading
+pub mod Readers
 pub mod Text
+pub mod Printed
 pub mod Merge
 pub mod Codes

@@ -1,5 +1,5 @@
 -- How an AS path is sent (RFC 4271, section 4.3; RFC 5065, section 3).
-use Rattle.std.specs.Prelude.{◌≡◌, ℕ, ◌*◌, ◌<◌, List, [], ◌∷◌, ◌++◌, length}
+use Rattle.std.specs.Prelude.{◌≡◌, ℕ, ◌<◌, List, ◌∷◌, length}
 use Rattle.ip_prefix.specs.Sequences.{SpellsAll}
 use Rattle.bgp_paths.specs.declared.path.AsWidth.{AsWidth}
 use Rattle.bgp_paths.specs.declared.path.SegmentKind.{SegmentKind}
@@ -7,7 +7,7 @@ use Rattle.bgp_paths.specs.declared.path.SegmentKind.TheVariants.{AsSet, AsSeque
 use Rattle.bgp_paths.specs.declared.path.Segment.{Segment}
 use Rattle.bgp_paths.specs.declared.path_reader.TheConstants.{AS_SET, AS_SEQUENCE, AS_CONFED_SEQUENCE, AS_CONFED_SET}
 use Rattle.bgp_paths.specs.declared.path.AsPath.{AsPath}
-use Rattle.bgp_paths.specs.Number.{SpellsAsn, octets_at}
+use Rattle.bgp_paths.specs.Number.{SpellsAsn}
 
 -- the octet that stands for a kind of segment
 abbrev pub kind_code : SegmentKind → ℕ
@@ -24,17 +24,6 @@ pub record SpellsSegment (width : AsWidth) (segment : Segment) (octets : List �
   pub spelled : SpellsAll (SpellsAsn width) segment.numbers body
   pub whole : octets ≡ kind_code segment.kind ∷ length segment.numbers ∷ body
 
--- a path without segments
-abbrev pub no_path : AsPath
-no_path = record { segments = [] }
-
 -- the octets of a path: its segments, one behind the other
 abbrev pub SpellsPath : AsWidth → AsPath → List ℕ → Type 0
 SpellsPath width path octets = SpellsAll (SpellsSegment width) path.segments octets
-
--- the octets begin with the kind of a segment, its count, which isn't 0, and as many octets as its numbers have
-pub record IsFramed (width : AsWidth) (kind : SegmentKind) (count : ℕ) (body rest octets : List ℕ) : Type 0 where
-  pub some : 0 < count
-  pub fits : count < 256
-  pub size : length body ≡ octets_at width * count
-  pub whole : octets ≡ kind_code kind ∷ count ∷ (body ++ rest)

@@ -1,5 +1,5 @@
 -- The printed texts of paths and communities.
-use Rattle.std.specs.Prelude.{◌≡◌, ℕ, ◌^◌, ◌/◌, ◌%◌, ◌==◌, if◌then◌else◌, List, [], ◌∷◌, ◌++◌, map, decimal, codes}
+use Rattle.std.specs.Prelude.{ℕ, ◌^◌, ◌/◌, ◌%◌, ◌==◌, if◌then◌else◌, List, [], ◌∷◌, ◌++◌, map, decimal, codes}
 use Rattle.std.specs.List.{flat_map, join_with_byte}
 use Rattle.bgp_paths.specs.declared.path.SegmentKind.{SegmentKind}
 use Rattle.bgp_paths.specs.declared.path.SegmentKind.TheVariants.{AsSet, AsSequence, ConfedSequence, ConfedSet}
@@ -8,10 +8,6 @@ use Rattle.bgp_paths.specs.declared.path.AsPath.{AsPath}
 use Rattle.bgp_paths.specs.declared.text.Marks.{Marks}
 use Rattle.ip_prefix.specs.declared.text.TheConstants.{COLON}
 use Rattle.bgp_paths.specs.declared.text.TheConstants.{NO_EXPORT, NO_ADVERTISE, NO_EXPORT_SUBCONFED, AS_SET_MARKS, CONFED_SEQUENCE_MARKS, CONFED_SET_MARKS, SPACE}
-
--- the marks in the order in which they are printed
-abbrev pub all_marks : Marks → List ℕ
-all_marks marks = marks.open ∷ marks.separator ∷ marks.close ∷ []
 
 -- numbers in decimal and in brackets
 abbrev pub bracketed_numbers : Marks → List ℕ → List ℕ
@@ -49,7 +45,3 @@ community_text community =
 -- the text of a list of communities
 abbrev pub communities_text : List ℕ → List ℕ
 communities_text communities = join_with_byte SPACE (map community_text communities)
-
--- the old text still stands in front of the new one
-abbrev pub StillBegins : List ℕ → List ℕ → Type 0
-StillBegins old new = (more : List ℕ) × (new ≡ old ++ more)

@@ -2,10 +2,10 @@
 
 ghost use Rattle.std.specs.Prelude.{◌≡◌, [], OnOk, IfErr};
 ghost use Rattle.ip_prefix.specs.Sequences.{SpellsAll};
-ghost use Rattle.bgp_paths.specs.Path.{no_path};
+ghost use Rattle.bgp_paths.specs.Segments.{no_path};
 ghost use Rattle.bgp_paths.specs.Number.{SpellsAsn};
 ghost use Rattle.bgp_paths.specs.Path.{SpellsSegment, SpellsPath};
-ghost use Rattle.bgp_paths.specs.Reading.{Refuses};
+ghost use Rattle.bgp_paths.specs.Readers.{Refuses};
 
 use crate::fault::WireFault;
 use crate::numbers::fill_numbers;

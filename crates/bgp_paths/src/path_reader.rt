@@ -1,10 +1,12 @@
 //! Reading AS paths.
 
 ghost use Rattle.std.specs.Prelude.{◌≡◌, ◌≤◌, ◌+◌, ◌++◌, ◌∷◌, [], ℕ, List, OnOk, IfErr, IfSome, IfNone, length, take, vec_len};
-ghost use Rattle.ip_prefix.specs.Sequences.{BeginsWithNone, SpellsAll};
+ghost use Rattle.ip_prefix.specs.Sequences.{SpellsAll};
+ghost use Rattle.ip_prefix.specs.Fronts.{BeginsWithNone};
 ghost use Rattle.bgp_paths.specs.Number.{SpellsAsn};
-ghost use Rattle.bgp_paths.specs.Path.{kind_code, SpellsSegment, IsFramed};
-ghost use Rattle.bgp_paths.specs.Reading.{Finds, Refuses};
+ghost use Rattle.bgp_paths.specs.Path.{kind_code, SpellsSegment};
+ghost use Rattle.bgp_paths.specs.Segments.{IsFramed};
+ghost use Rattle.bgp_paths.specs.Readers.{Finds, Refuses};
 
 use crate::fault::WireFault;
 use crate::path::{AsNumbers, AsWidth, Segment, SegmentKind};

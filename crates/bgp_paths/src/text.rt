@@ -5,7 +5,7 @@ ghost use Rattle.std.specs.List.{flat_map, join_with_byte};
 ghost use Rattle.bgp_paths.specs.Text.{bracketed_numbers, segment_words, path_text};
 ghost use Rattle.bgp_paths.specs.Text.{halves_text, community_text, communities_text};
 ghost use Rattle.ip_prefix.specs.Written.{IsWritten, ended_words};
-ghost use Rattle.bgp_paths.specs.Text.{StillBegins};
+ghost use Rattle.bgp_paths.specs.Printed.{StillBegins};
 
 use crate::path::{AsPath, Segment, SegmentKind};
 use ip_prefix::{COLON, Text, WORD_ROOM, Word, put_octets, write_ended_pair};

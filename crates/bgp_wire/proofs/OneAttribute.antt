@@ -2,7 +2,8 @@
 use Rattle.std.proofs.Common.{◌≡◌, ℕ, ◌<◌, Bool, true, false, List, [], ◌∷◌, ◌++◌, length, refl, ap, sym, subst, ◌∙◌, append_assoc}
 use Rattle.std.specs.Int.{w16, to_be_bytes, from_be_bytes}
 use Rattle.std.proofs.lemmas.Nat.{from_be_bytes-to_be_bytes_2}
-use Rattle.ip_prefix.specs.Sequences.{Begins, IsCode}
+use Rattle.ip_prefix.specs.Sequences.{Begins}
+use Rattle.ip_prefix.specs.Fronts.{IsCode}
 use Rattle.octet_forms.proofs.Lists.{append_parts}
 use Rattle.bgp_wire.specs.Attribute.{Attribute, is_extended, length_octets, length_limit, SpellsAttribute}
 

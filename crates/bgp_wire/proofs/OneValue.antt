@@ -23,7 +23,7 @@ use Rattle.bgp_wire.specs.Reach.{HopStands, SpellsUnicast, SpellsReach, SaysReac
 use Rattle.bgp_paths.proofs.OneFront.{number_code, length-number}
 use Rattle.bgp_wire.proofs.Hops.{length-hop}
 use Rattle.bgp_wire.proofs.Reaching.{same_family, same_unicast, same_stand, not_another}
-use Rattle.ip_prefix.specs.Fields.{IsOne}
+use Rattle.ip_prefix.specs.Fronts.{IsOne}
 use Rattle.octet_forms.proofs.Fields.{one_of_code}
 
 pub one_optional : {A : Type 0} (Spells : A → List ℕ → Type 0) → IsOne Spells → IsOne (SpellsOptional Spells)

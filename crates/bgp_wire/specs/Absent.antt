@@ -2,7 +2,7 @@
 use Rattle.std.specs.Prelude.{ℕ, false, List, [], None}
 use Rattle.bgp_wire.specs.declared.attrs.Attrs.{Attrs}
 use Rattle.bgp_paths.specs.declared.path.AsPath.{AsPath}
-use Rattle.bgp_paths.specs.Path.{no_path}
+use Rattle.bgp_paths.specs.Segments.{no_path}
 
 -- attributes of which none is there
 abbrev pub no_attrs : Attrs

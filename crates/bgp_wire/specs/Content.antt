@@ -21,10 +21,6 @@ pub record Says (width : AsWidth) (attrs : Attrs) (list : List Attribute) : Type
   pub atomic : SpellsPresence attrs.atomic (first_value ATOMIC_AGGREGATE list)
   pub communities : SpellsAll SpellsWord attrs.communities (octets_or_none (first_value COMMUNITIES list))
 
--- the same, and this is the next hop
-abbrev pub SaysWith : AsWidth → Option Address → Attrs → List Attribute → Type 0
-SaysWith width next_hop attrs list = (attrs.next_hop ≡ next_hop) × Says width attrs list
-
 -- the next hop of a RIB entry for a prefix of this family, where its attributes name one
 pub record SaysRibHop (family : Family) (hop : Option Address) (list : List Attribute) : Type 0 where
   -- the next hops of NEXT_HOP and of MP_REACH_NLRI, each where it is there

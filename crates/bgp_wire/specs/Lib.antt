@@ -9,10 +9,13 @@ pub mod Value
 pub mod NextHop
 pub mod Content
 pub use Rattle.bgp_paths.specs.Reading
+pub use Rattle.bgp_paths.specs.Readers
 pub use Rattle.bgp_paths.specs.Text
+pub use Rattle.bgp_paths.specs.Printed
 pub use Rattle.bgp_paths.specs.Merge
 pub mod As4
 pub mod Reach
+pub mod Multiprotocol
 pub mod Update
 pub mod Codes
 pub mod Parts

@@ -1,5 +1,5 @@
 -- What MP_REACH_NLRI and MP_UNREACH_NLRI of an UPDATE say (RFC 4760, sections 3 and 4).
-use Rattle.std.specs.Prelude.{◌≡◌, ◌⊎◌, ℕ, ◌<◌, List, [], ◌∷◌, ◌++◌, length, Option, Some, None}
+use Rattle.std.specs.Prelude.{◌≡◌, ◌⊎◌, ℕ, List, [], ◌∷◌, ◌++◌, length, Option, Some, None}
 use Rattle.ip_prefix.specs.declared.addr.Family.{Family}
 use Rattle.ip_prefix.specs.declared.addr.Family.TheVariants.{V4, V6}
 use Rattle.ip_prefix.specs.Address.{Address}
@@ -7,10 +7,7 @@ use Rattle.ip_prefix.specs.Network.{Network}
 use Rattle.ip_prefix.specs.Sequences.{SpellsAll}
 use Rattle.ip_prefix.specs.Wire.{SpellsNetwork}
 use Rattle.bgp_wire.specs.declared.attrs.Attrs.{Attrs}
-use Rattle.bgp_wire.specs.declared.next_hop.TheConstants.{FAMILY_SIZE}
 use Rattle.bgp_wire.specs.declared.reach.TheConstants.{AFI_IPV4, AFI_IPV6, SAFI_UNICAST}
-use Rattle.bgp_wire.specs.declared.reach.Scope.{Scope}
-use Rattle.bgp_wire.specs.declared.reach.Scope.TheVariants.{Unicast, Another}
 use Rattle.bgp_wire.specs.NextHop.{SpellsNextHop}
 
 -- the number of an address family
@@ -93,9 +90,3 @@ attrs_with attrs hop (prefix ∷ prefixes) = Some record attrs { next_hop = hop 
 -- the attributes of what is announced, where there are any prefixes: the others with the next hop beside the prefixes
 abbrev pub reach_attrs : Attrs → Option Reach → Option Attrs
 reach_attrs attrs reach = attrs_with attrs (reach_hop reach) (reach_prefixes reach)
-
--- how the octets begin, as far as that is told by a family and its use; too few begin with neither
-abbrev pub BeginsIn : List ℕ → Option Scope → Type 0
-BeginsIn octets None = length octets < FAMILY_SIZE
-BeginsIn octets (Some Another) = IsOfAnother octets
-BeginsIn octets (Some (Unicast family rest)) = octets ≡ unicast_octets family ++ rest.now

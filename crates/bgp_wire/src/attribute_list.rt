@@ -5,7 +5,7 @@ ghost use Rattle.bgp_wire.specs.declared.framing.TheConstants.{KINDS};
 ghost use Rattle.bgp_wire.specs.Attribute.{Attribute};
 ghost use Rattle.bgp_wire.specs.PlainValues.{FirstOf, firsts_of, with_value, AreLater, ReadSoFar};
 ghost use Rattle.bgp_wire.specs.PlainValues.{SaysPlainly, SpellsPlainly, ReadsList};
-ghost use Rattle.bgp_paths.specs.Reading.{Refuses};
+ghost use Rattle.bgp_paths.specs.Readers.{Refuses};
 ghost use Rattle.bgp_wire.specs.SeenTypes.{Tells};
 
 use crate::attrs::Attrs;

@@ -3,9 +3,9 @@
 ghost use Rattle.std.specs.Prelude.{◌≡◌, [], IfOk, IfErr, OnOk, OnErr};
 ghost use Rattle.ip_prefix.specs.Sequences.{SpellsAll};
 ghost use Rattle.bgp_wire.specs.Absent.{no_attrs, with_lists, without_lists};
-ghost use Rattle.bgp_paths.specs.Path.{no_path};
+ghost use Rattle.bgp_paths.specs.Segments.{no_path};
 ghost use Rattle.bgp_paths.specs.Number.{SpellsWord};
-ghost use Rattle.bgp_paths.specs.Reading.{Refuses};
+ghost use Rattle.bgp_paths.specs.Readers.{Refuses};
 
 use bgp_paths::{AsPath, AsWidth, WireFault, copy_numbers, copy_path, fill_numbers};
 use ip_prefix::Addr;

@@ -1,7 +1,8 @@
 //! Path attributes as they are framed, and the numbers of their types.
 
 ghost use Rattle.std.specs.Prelude.{◌≡◌, ℕ, ◌<◌, List, ◌++◌, IfSome, IfNone};
-ghost use Rattle.ip_prefix.specs.Sequences.{Begins, BeginsWithNone};
+ghost use Rattle.ip_prefix.specs.Sequences.{Begins};
+ghost use Rattle.ip_prefix.specs.Fronts.{BeginsWithNone};
 ghost use Rattle.bgp_wire.specs.Attribute.{SpellsAttribute};
 ghost use Rattle.bgp_wire.specs.Attribute.{is_extended, length_octets, length_limit};
 

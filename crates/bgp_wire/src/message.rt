@@ -2,7 +2,7 @@
 
 ghost use Rattle.std.specs.Prelude.{◌≡◌, ℕ, List, Ok, IfSome, IfNone, IfOk, IfErr, OnErr};
 ghost use Rattle.bgp_wire.specs.Update.{IsMessage, SpellsMessage};
-ghost use Rattle.bgp_paths.specs.Reading.{Reads, Refuses};
+ghost use Rattle.bgp_paths.specs.Readers.{Reads, Refuses};
 ghost use Rattle.bgp_wire.specs.Parts.{message_in, no_parts};
 
 use crate::attrs::Attrs;

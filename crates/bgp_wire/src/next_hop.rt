@@ -6,7 +6,7 @@ ghost use Rattle.ip_prefix.specs.Bits.{bits_of_octets};
 ghost use Rattle.bgp_wire.specs.Lent.{octets_of};
 ghost use Rattle.bgp_wire.specs.Value.{SpellsOptional};
 ghost use Rattle.bgp_wire.specs.NextHop.{SpellsNextHop, SpellsHopAlone, SpellsRibHop, rib_hop};
-ghost use Rattle.bgp_paths.specs.Reading.{Finds, Refuses};
+ghost use Rattle.bgp_paths.specs.Readers.{Finds, Refuses};
 
 use crate::values::{IPV4_SIZE, ipv4};
 use bgp_paths::WireFault;

@@ -3,9 +3,10 @@
 ghost use Rattle.std.specs.Prelude.{◌≡◌, ℕ, List, Option, IfSome, IfNone, IfOk, IfErr, OnOk};
 ghost use Rattle.ip_prefix.specs.Address.{Address};
 ghost use Rattle.bgp_wire.specs.Lent.{octets_of};
-ghost use Rattle.bgp_wire.specs.Reach.{unicast_octets, BeginsIn, HopStands, SpellsUnicast};
+ghost use Rattle.bgp_wire.specs.Reach.{unicast_octets, HopStands, SpellsUnicast};
+ghost use Rattle.bgp_wire.specs.Multiprotocol.{BeginsIn};
 ghost use Rattle.bgp_wire.specs.Reach.{Reach, SaysReach, SaysUnreach, reach_hop, reach_prefixes};
-ghost use Rattle.bgp_paths.specs.Reading.{Finds, Refuses};
+ghost use Rattle.bgp_paths.specs.Readers.{Finds, Refuses};
 
 use crate::next_hop::{FAMILY_SIZE, read_next_hop};
 use crate::prefixes::{Prefixes, fill_prefixes};

@@ -3,7 +3,7 @@
 ghost use Rattle.std.specs.Prelude.{◌≡◌, OnOk, OnErr, IfErr};
 ghost use Rattle.bgp_wire.specs.Content.{SpellsRibAttrs};
 ghost use Rattle.bgp_wire.specs.Absent.{no_attrs};
-ghost use Rattle.bgp_paths.specs.Reading.{Reads, Refuses};
+ghost use Rattle.bgp_paths.specs.Readers.{Reads, Refuses};
 
 use crate::as4::join_passed;
 use crate::attribute_list::{LaterValues, read_list};

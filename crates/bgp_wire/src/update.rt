@@ -2,7 +2,7 @@
 
 ghost use Rattle.std.specs.Prelude.{◌≡◌, ℕ, ◌<◌, ◌^◌, ◌++◌, List, length, IfSome, IfNone, IfErr, OnOk};
 ghost use Rattle.bgp_wire.specs.Parts.{update_in, SpellsParts};
-ghost use Rattle.bgp_paths.specs.Reading.{Refuses};
+ghost use Rattle.bgp_paths.specs.Readers.{Refuses};
 ghost use Rattle.bgp_wire.specs.Update.{sized_octets, IsUpdate, SpellsUpdate};
 
 use crate::as4::join_passed;

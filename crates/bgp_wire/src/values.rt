@@ -7,7 +7,7 @@ ghost use Rattle.bgp_wire.specs.As4.{SpellsWhereFormed};
 ghost use Rattle.bgp_paths.specs.Number.{SpellsWord, octets_at};
 ghost use Rattle.bgp_wire.specs.Value.{SpellsPresence, SpellsOrigin, SpellsIPv4};
 ghost use Rattle.bgp_wire.specs.Value.{SpellsAggregatorAt, SpellsAggregator};
-ghost use Rattle.bgp_paths.specs.Reading.{Finds, Refuses};
+ghost use Rattle.bgp_paths.specs.Readers.{Finds, Refuses};
 
 use crate::attrs::{Aggregator, Origin};
 use bgp_paths::{AsWidth, WireFault};

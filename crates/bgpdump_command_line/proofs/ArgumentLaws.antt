@@ -7,7 +7,8 @@ use Rattle.clap.specs.Words.{AddsArg, AddsInTurn, App, Text, app_of, new_app, ru
 use Rattle.clap.specs.Built.{FitsChain, HasDistinctIds, TakesValue}
 use Rattle.clap.specs.declared.Arg.{Arg}
 use Rattle.clap.specs.declared.Command.{Command}
-use Rattle.bgpdump_command_line.specs.CommandLine.{IsCommandLine, IsTimesRule, StandsAlone, input_rule, lines_rule, output_rule, script_rule, times_rule}
+use Rattle.bgpdump_command_line.specs.CommandLine.{input_rule, lines_rule, output_rule, script_rule, times_rule}
+use Rattle.bgpdump_command_line.specs.Arguments.{IsCommandLine, IsTimesRule, StandsAlone}
 
 -- the five arguments, by what is said of each
 pub record AreArguments (lines script times output input : Arg) : Type 0 where

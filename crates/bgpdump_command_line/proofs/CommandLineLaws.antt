@@ -9,7 +9,8 @@ use Rattle.clap.specs.declared.ArgMatches.{ArgMatches}
 use Rattle.clap.specs.declared.Error.{Error}
 use Rattle.clap.specs.declared.error.ErrorKind.TheVariants.{DisplayHelp, OutOfMemory}
 use Rattle.clap.specs.declared.builder.value_parser.ValueParser.{ValueParser}
-use Rattle.bgpdump_command_line.specs.CommandLine.{Answers, Gives, IsCommandLine, IsFaultOf, TakesTimes, command_line, faults, input_of, is_text}
+use Rattle.bgpdump_command_line.specs.CommandLine.{Answers, Gives, TakesTimes, command_line, faults, input_of, is_text}
+use Rattle.bgpdump_command_line.specs.Arguments.{IsCommandLine, IsFaultOf}
 use Rattle.bgpdump_command_line.specs.declared.usage.Settings.{Settings}
 use Rattle.bgpdump_command_line.specs.declared.usage.UsageFault.{UsageFault}
 use Rattle.bgpdump_command_line.specs.declared.usage.UsageFault.TheVariants as usage

@@ -2,15 +2,12 @@
 use Rattle.std.specs.Prelude.{◌≡◌, ◌≢◌, ◌&&◌, ⊤, Bool, true, false, not, List, [], ◌∷◌, map, Option, Some, is_some, option_map, if◌then◌else◌, Result, Ok, Err, codes, string_bytes}
 use Rattle.std.specs.Option.{option_map_or}
 use Rattle.std.specs.Str.{bytes_eq}
-use Rattle.clap.specs.Words.{App, IsAmong, IsParsedFrom, IsPlainArg, Kinds, Row, Rule, Text, fault_of, first_of, first_value, found_of, matches_of, new_app, new_rule, one_of, with_rule}
-use Rattle.clap.specs.declared.Arg.{Arg}
-use Rattle.clap.specs.declared.ArgMatches.{ArgMatches}
-use Rattle.clap.specs.declared.Command.{Command}
+use Rattle.clap.specs.Words.{App, IsAmong, Kinds, Row, Rule, Text, fault_of, first_of, matches_of, new_app, new_rule, one_of, with_rule}
 use Rattle.clap.specs.declared.builder.ArgAction.TheVariants.{Set, SetTrue}
 use Rattle.clap.specs.declared.builder.value_parser.ValueParser.{ValueParser}
 use Rattle.clap.specs.declared.builder.value_parser.ValueParser.TheVariants as parser
 use Rattle.clap.specs.declared.error.ErrorKind.{ErrorKind}
-use Rattle.clap.specs.declared.error.ErrorKind.TheVariants.{DisplayHelp, OutOfMemory}
+use Rattle.clap.specs.declared.error.ErrorKind.TheVariants.{DisplayHelp}
 use Rattle.mrt_wire.specs.declared.Stamp.{Stamp}
 use Rattle.mrt_wire.specs.declared.Stamp.TheVariants.{Dump, Change}
 use Rattle.bgpdump_command_line.specs.declared.usage.Mode.{Mode}
@@ -54,20 +51,6 @@ TakesNames names other = ⊥
 -- -t takes `dump` and `change`
 abbrev pub TakesTimes : ValueParser → Type 0
 TakesTimes = TakesNames (codes "dump" ∷ codes "change" ∷ [])
-
-abbrev pub IsTimesRule : Rule → Type 0
-IsTimesRule rule = (times : ValueParser) × TakesTimes times × (rule ≡ times_rule times)
-
-abbrev pub IsCommandLine : App → Type 0
-IsCommandLine app = (times : ValueParser) × TakesTimes times × (app ≡ command_line times)
-
--- the argument excludes no other, and no other command has it
-abbrev pub StandsAlone : Arg → Type 0
-StandsAlone argument = IsPlainArg argument × (argument.global ≡ false)
-
--- each parse gives the input a value
-abbrev pub TakesInput : Command → Type 0
-TakesInput command = (matches : ArgMatches) → IsParsedFrom command matches → is_some (first_value (found_of matches) (codes "input")) ≡ true
 
 -- ---- what the matches of a command line ask for
 
@@ -114,21 +97,7 @@ Gives rows (Err usage.TwoInputs) = (has_one_mode rows ≡ true) × (has_two_inpu
 Gives rows (Err usage.Memory) = ⊤
 Gives rows (Err fault) = ⊥
 
--- the mode of the matches, where there is just one
-abbrev pub GivesMode : List Row → Result Mode UsageFault → Type 0
-GivesMode rows (Ok mode) = (has_one_mode rows ≡ true) × IsMode rows mode
-GivesMode rows (Err usage.Mode) = has_one_mode rows ≡ false
-GivesMode rows (Err usage.Memory) = ⊤
-GivesMode rows (Err fault) = ⊥
-
 -- ---- what the words give
-
--- the fault of a parse that had an error of this kind
-abbrev pub IsFaultOf : ErrorKind → UsageFault → Type 0
-IsFaultOf kind (usage.Help text) = kind ≡ DisplayHelp
-IsFaultOf kind (usage.Words text) = (kind ≢ DisplayHelp) × (kind ≢ OutOfMemory)
-IsFaultOf kind usage.Memory = ⊤
-IsFaultOf kind fault = ⊥
 
 -- the kinds of fault that the parse of the words may have: none where it succeeds
 abbrev pub faults : ValueParser → List Text → Kinds

@@ -15,7 +15,8 @@ use Rattle.mrt_wire.specs.Rest.{rest_kind}
 use Rattle.mrt_wire.specs.Results.{Finding}
 use Rattle.mrt_wire.specs.Taking.{IsRest, IsBegun}
 use Rattle.mrt_wire.specs.Place.{Place, start_place, results}
-use Rattle.mrt_wire.specs.Next.{Took, IsLeft}
+use Rattle.mrt_wire.specs.Next.{Took}
+use Rattle.mrt_wire.specs.Answered.{IsLeft}
 use Rattle.mrt_wire.specs.Device.{Stops}
 use Rattle.mrt_wire.specs.SoFar.{SoFar, RestSoFar}
 use Rattle.mrt_wire.proofs.FirstLaws.{same_taken}

@@ -12,7 +12,7 @@ use Rattle.mrt_wire.specs.declared.RecordKind.{RecordKind}
 use Rattle.mrt_wire.specs.declared.RecordFault.{RecordFault}
 use Rattle.mrt_wire.specs.Results.{Finding, Found, Bad, fault_findings}
 use Rattle.mrt_wire.specs.Place.{Place}
-use Rattle.mrt_wire.specs.Next.{answer_findings, Nexts}
+use Rattle.mrt_wire.specs.Answered.{answer_findings, Nexts}
 use Rattle.mrt_wire.specs.SoFar.{SoFar, RestSoFar, is_nothing}
 use Rattle.mrt_wire.proofs.SoFarLaws.{no_rest, SoFar-start, SoFar-answer, ends_with_none, Promises}
 use Rattle.bgpdump_lines.specs.declared.fault.WriteFault.{WriteFault}

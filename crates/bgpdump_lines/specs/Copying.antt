@@ -9,7 +9,7 @@ use Rattle.bgpdump_lines.specs.declared.route_line.Places.{Places}
 use Rattle.bgpdump_lines.specs.declared.route_line.LastLine.{LastLine}
 use Rattle.bgpdump_lines.specs.declared.route_line.Likeness.{Likeness}
 use Rattle.bgpdump_lines.specs.declared.route_line.Likeness.TheVariants.{SameRoute, SamePrefix, Other}
-use Rattle.bgpdump_lines.specs.Lines.{prefix_field, route_tail}
+use Rattle.bgpdump_lines.specs.Fields.{prefix_field, route_tail}
 use Rattle.bgpdump_lines.specs.Heading.{route_head, route_front}
 
 -- the places follow one another in the text

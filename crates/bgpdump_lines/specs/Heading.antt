@@ -6,7 +6,8 @@ use Rattle.mrt_wire.specs.declared.peer.Peer.{Peer}
 use Rattle.mrt_wire.specs.declared.event.Route.{Route}
 use Rattle.mrt_wire.specs.Event.{Saying}
 use Rattle.bgpdump_lines.specs.declared.heading.Heading.{Heading}
-use Rattle.bgpdump_lines.specs.Lines.{bar, word, route_time_text, route_letter, peer_fields, item_line}
+use Rattle.bgpdump_lines.specs.Lines.{bar, word, route_time_text, route_letter, item_line}
+use Rattle.bgpdump_lines.specs.Fields.{peer_fields}
 
 -- the first three fields of a route's line
 abbrev pub route_head : Heading → Route → List ℕ

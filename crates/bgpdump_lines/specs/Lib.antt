@@ -1,5 +1,6 @@
 pub mod Device
 pub mod Lines
+pub mod Fields
 pub mod Heading
 pub mod Copying
 pub mod Reports

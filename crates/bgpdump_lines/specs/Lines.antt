@@ -3,14 +3,12 @@ use Rattle.std.specs.Prelude.{ℕ, ◌-◌, if◌then◌else◌, Bool, Option, S
 use Rattle.std.specs.Option.{unwrap_or}
 use Rattle.std.specs.List.{flat_map}
 use Rattle.ip_prefix.specs.Address.{Address}
-use Rattle.ip_prefix.specs.Network.{Network}
 use Rattle.ip_prefix.specs.Text.{address_text, network_text}
 use Rattle.bgp_wire.specs.declared.attrs.Origin.{Origin}
 use Rattle.bgp_wire.specs.declared.attrs.Origin.TheVariants.{Igp, Egp, Incomplete}
 use Rattle.bgp_wire.specs.declared.attrs.Aggregator.{Aggregator}
 use Rattle.bgp_wire.specs.declared.attrs.Attrs.{Attrs}
 use Rattle.bgp_wire.specs.Text.{path_text, communities_text}
-use Rattle.mrt_wire.specs.declared.peer.Peer.{Peer}
 use Rattle.mrt_wire.specs.declared.event.Route.{Route}
 use Rattle.mrt_wire.specs.declared.event.Time.{Time}
 use Rattle.mrt_wire.specs.declared.event.Tag.{Tag}
@@ -104,18 +102,6 @@ attribute_fields attrs =
     path_text attrs.path ∷ origin_text attrs.origin ∷ next_hop_text attrs.next_hop
     ∷ number_or_zero attrs.local_pref ∷ number_or_zero attrs.med ∷ communities_text attrs.communities
     ∷ aggregate_word attrs.atomic ∷ aggregator_text attrs.aggregator ∷ [] ∷ []
-
--- the peer of a line, behind a bar
-abbrev pub peer_fields : Peer → List ℕ
-peer_fields peer = bar ∷ address_text peer.addr ++ bar ∷ decimal peer.asn
-
--- the prefix of a line, behind a bar
-abbrev pub prefix_field : Network → List ℕ
-prefix_field network = bar ∷ network_text network
-
--- what stands behind the prefix in a route's line
-abbrev pub route_tail : Route → List ℕ
-route_tail route = bar ∷ line_of (attribute_fields route.attrs)
 
 -- the line of what an item says
 abbrev pub item_line : Time → Tag → Saying → List ℕ

@@ -3,7 +3,8 @@
 ghost use Rattle.std.specs.Prelude.{◌≡◌, ◌≢◌, ◌↔◌, ◌||◌, ℕ, List, false, IsTrue, length};
 ghost use Rattle.std.specs.Io.KnownBytes.{Consumes};
 ghost use Rattle.mrt_wire.specs.Place.{start_place};
-ghost use Rattle.mrt_wire.specs.Next.{Took, answer_findings};
+ghost use Rattle.mrt_wire.specs.Next.{Took};
+ghost use Rattle.mrt_wire.specs.Answered.{answer_findings};
 ghost use Rattle.mrt_wire.specs.SoFar.{is_nothing};
 ghost use Rattle.bgpdump_lines.specs.Reports.{dump_texts};
 ghost use Rattle.bgpdump_lines.specs.Run.{IsTaken, SawEnd, outputs_of, EndsOverAll, WritesWhole};

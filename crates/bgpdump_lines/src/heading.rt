@@ -1,7 +1,7 @@
 //! What the lines of an event begin with.
 
 ghost use Rattle.std.specs.Prelude.{◌≡◌, ◌∷◌, ◌++◌, OnOk, OnErr};
-ghost use Rattle.bgp_wire.specs.Text.{StillBegins};
+ghost use Rattle.bgp_wire.specs.Printed.{StillBegins};
 ghost use Rattle.bgpdump_lines.specs.Lines.{bar, word, micros_text, time_text, route_time_text};
 ghost use Rattle.bgpdump_lines.specs.Lines.{route_letter};
 ghost use Rattle.bgpdump_lines.specs.Heading.{route_head};

@@ -1,9 +1,9 @@
 //! The lines of routes, parts of which are copied from the line before.
 
 ghost use Rattle.std.specs.Prelude.{◌≡◌, ◌++◌, OnOk, OnErr, IfOk, IfSome};
-ghost use Rattle.bgp_wire.specs.Text.{StillBegins};
+ghost use Rattle.bgp_wire.specs.Printed.{StillBegins};
 ghost use Rattle.mrt_wire.specs.Event.{Announced};
-ghost use Rattle.bgpdump_lines.specs.Lines.{peer_fields, prefix_field, route_tail};
+ghost use Rattle.bgpdump_lines.specs.Fields.{peer_fields, prefix_field, route_tail};
 ghost use Rattle.bgpdump_lines.specs.Heading.{route_head, route_front, headed_line};
 ghost use Rattle.bgpdump_lines.specs.Copying.{AreOrdered, EndsIn, IsLike};
 ghost use Rattle.bgpdump_lines.specs.Copying.{head_at, front_at, prefix_at, tail_at};

@@ -7,7 +7,8 @@ use Rattle.std.proofs.lemmas.Str.Parse.{IsNumeralModel, numerals_by_value, tells
 use Rattle.std.specs.Result.{result_ok}
 use Rattle.std.specs.Str.{IsUtf8}
 use Rattle.std.specs.Str.Parse.{AllDigits, digits_value, ParsesUnsigned}
-use Rattle.bgp_wire.specs.Reading.{IsNoSpelling, Finds}
+use Rattle.bgp_wire.specs.Reading.{IsNoSpelling}
+use Rattle.bgp_wire.specs.Readers.{Finds}
 use Rattle.bgpdump_tool.specs.Command.{SpellsDecimal, SpellsTimes}
 
 -- of several octets the first is neither a sign nor a zero

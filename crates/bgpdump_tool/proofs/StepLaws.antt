@@ -13,7 +13,7 @@ use Rattle.mrt_wire.specs.declared.next.Next.TheVariants as next
 use Rattle.mrt_wire.specs.declared.next.Phase.TheVariants.{Reading, Ended}
 use Rattle.mrt_wire.specs.Results.{Finding, Found, Bad}
 use Rattle.mrt_wire.specs.Place.{Place}
-use Rattle.mrt_wire.specs.Next.{answer_findings, Nexts}
+use Rattle.mrt_wire.specs.Answered.{answer_findings, Nexts}
 use Rattle.mrt_wire.specs.SoFar.{is_nothing}
 use Rattle.mrt_wire.proofs.SoFarLaws.{Promises, SoFar-answer, SoFar-told, ends_with_none}
 use Rattle.rib_player.specs.Timeline.{Timeline, StandsFor, end_of, after_play, after_redo}

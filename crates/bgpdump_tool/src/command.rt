@@ -1,7 +1,7 @@
 //! The commands of a script.
 
 ghost use Rattle.std.specs.Prelude.{◌∷◌, []};
-ghost use Rattle.bgp_wire.specs.Reading.{Finds};
+ghost use Rattle.bgp_wire.specs.Readers.{Finds};
 ghost use Rattle.bgpdump_tool.specs.Command.{SpellsCommand, SpellsWords, SpellsPeer, SpellsTimes};
 
 use crate::words::{is, read_number, split_word};

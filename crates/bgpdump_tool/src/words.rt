@@ -1,7 +1,7 @@
 //! The pieces of a text, and the numbers that words spell.
 
 ghost use Rattle.std.specs.Prelude.{◌≡◌, ◌≢◌, [], ◌∷◌, ◌<◌, length, IsTrue, IsFalse, IfSome, MatchOption};
-ghost use Rattle.bgp_wire.specs.Reading.{Finds};
+ghost use Rattle.bgp_wire.specs.Readers.{Finds};
 ghost use Rattle.bgpdump_tool.specs.Command.{pieces, words, SpellsDecimal};
 
 /// The least digit that others may follow: neither a sign nor a zero stands in front.

@@ -6,7 +6,8 @@ use Rattle.std.proofs.lemmas.List.{append_cancel_left, length-replicate, length-
 use Rattle.ip_prefix.specs.declared.addr.Family.{Family}
 use Rattle.ip_prefix.specs.declared.addr.Family.TheVariants.{V4, V6}
 use Rattle.ip_prefix.specs.Address.{Address, IsAddress, bit_count}
-use Rattle.ip_prefix.specs.Network.{Network, IsNetwork, IsFront, ContainsAllOf, contains, covers}
+use Rattle.ip_prefix.specs.Network.{Network, IsNetwork, IsFront, contains}
+use Rattle.ip_prefix.specs.Covering.{ContainsAllOf, covers}
 use Rattle.ip_prefix.proofs.Beginning.{front_of, begin_from}
 
 -- ---- the first bits

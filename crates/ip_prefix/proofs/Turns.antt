@@ -1,7 +1,8 @@
 -- Turns between prefixes, told by their families and bits.
 use Rattle.std.proofs.Common.{◌≡◌, ◌↔◌, Bool, true, false, List, [], ◌∷◌, ◌++◌, refl, ap, sym, ◌∙◌}
 use denote.Enum.Bare.{sameb}
-use Rattle.ip_prefix.specs.Network.{Network, begin_with, covers}
+use Rattle.ip_prefix.specs.Network.{Network, begin_with}
+use Rattle.ip_prefix.specs.Covering.{covers}
 use Rattle.ip_prefix.specs.declared.addr.Family.{Family}
 use Rattle.ip_prefix.specs.declared.addr.Family.TheVariants.{V4, V6}
 use Rattle.ip_prefix.specs.declared.turn.Turn.TheVariants.{Outside, Here, Left, Right}

@@ -6,7 +6,8 @@ use Rattle.ip_prefix.specs.declared.addr.Family.{Family}
 use Rattle.ip_prefix.specs.Address.{bit_count}
 use Rattle.ip_prefix.specs.Bits.{bits_of, bits_of_octets}
 use Rattle.ip_prefix.specs.Network.{Network}
-use Rattle.octet_forms.specs.Sequences.{Begins, IsCode}
+use Rattle.octet_forms.specs.Sequences.{Begins}
+use Rattle.octet_forms.specs.Fronts.{IsCode}
 use Rattle.ip_prefix.specs.Wire.{SpellsNetwork}
 use Rattle.ip_prefix.proofs.BitLists.{take-bits_of}
 use Rattle.octet_forms.proofs.Lists.{append_parts}

@@ -1,8 +1,10 @@
 pub mod Bits
 pub mod Highest
+pub mod Filled
 pub mod Halves
 pub mod Address
 pub mod Network
+pub mod Covering
 pub mod Turns
 pub mod BitLemmas
 pub mod Aligned
@@ -12,7 +14,9 @@ pub mod Order
 pub mod Text
 pub mod ZeroRun
 pub mod Spelling
+pub mod Marks
 pub use Rattle.octet_forms.specs.Sequences
+pub use Rattle.octet_forms.specs.Fronts
 pub use Rattle.octet_forms.specs.Fields
 pub use Rattle.octet_forms.specs.Counted
 pub use Rattle.octet_text.specs.Written

@@ -1,8 +1,8 @@
 -- A prefix is a family and a list of bits, at most as many as an address of the family has (RFC 4632, section 3.1).
-use Rattle.std.specs.Prelude.{◌≡◌, ℕ, ◌-◌, ◌≤◌, Bool, true, false, ◌&&◌, not, List, [], ◌∷◌, ◌++◌, length, take, replicate, IsTrue}
+use Rattle.std.specs.Prelude.{◌≡◌, ℕ, ◌-◌, ◌≤◌, Bool, true, false, ◌&&◌, not, List, [], ◌∷◌, ◌++◌, length, take, replicate}
 use Rattle.ip_prefix.specs.declared.addr.Family.{Family}
 use Rattle.ip_prefix.specs.declared.addr.Family.TheVariants.{V4, V6}
-use Rattle.ip_prefix.specs.Address.{Address, IsAddress, bit_count}
+use Rattle.ip_prefix.specs.Address.{Address, bit_count}
 
 -- a prefix as contracts see it
 pub record Network : Type 0 where
@@ -26,7 +26,7 @@ abbrev pub least_address : Network → Address
 least_address n = record { family = n.family; bits = n.bits ++ replicate (bit_count n.family - length n.bits) false }
 
 -- whether two families are one
-abbrev same_family : Family → Family → Bool
+abbrev pub same_family : Family → Family → Bool
 same_family V4 V4 = true
 same_family V4 V6 = false
 same_family V6 V4 = false
@@ -46,11 +46,3 @@ begin_with (first ∷ more) (bit ∷ bits) = same_bit first bit && begin_with mo
 -- whether the address is of the prefix's family and begins with its bits
 abbrev pub contains : Network → Address → Bool
 contains n a = same_family n.family a.family && begin_with n.bits a.bits
-
--- whether the other prefix is of the same family and begins with the bits of this one
-abbrev pub covers : Network → Network → Bool
-covers n other = same_family n.family other.family && begin_with n.bits other.bits
-
--- each address that the other prefix contains is contained in the first too
-abbrev pub ContainsAllOf : Network → Network → Type 0
-ContainsAllOf n other = (a : Address) → IsAddress a → IsTrue (contains other a) → IsTrue (contains n a)

@@ -1,13 +1,13 @@
 -- The order of addresses and prefixes: IPv4 first, then the bits one by one. A prefix stands before those that begin with its bits.
-use Rattle.std.specs.Prelude.{Bool, List, length}
+use Rattle.std.specs.Prelude.{Bool, List}
 use Rattle.std.specs.declared.cmp.Ordering.{Ordering}
 use Rattle.std.specs.declared.cmp.Ordering.TheVariants.{Less, Equal, Greater}
-use Rattle.std.specs.Ordering.{bool_cmp, nat_cmp, ordering_then, on, then_cmp}
+use Rattle.std.specs.Ordering.{bool_cmp, on, then_cmp}
 use Rattle.std.specs.Cmp.Lexicographic.{slice_cmp}
 use Rattle.ip_prefix.specs.declared.addr.Family.{Family}
 use Rattle.ip_prefix.specs.declared.addr.Family.TheVariants.{V4, V6}
 use Rattle.ip_prefix.specs.Address.{Address}
-use Rattle.ip_prefix.specs.Network.{Network, least_address}
+use Rattle.ip_prefix.specs.Network.{Network}
 
 -- IPv4 before IPv6
 abbrev pub family_cmp : Family → Family → Ordering
@@ -27,7 +27,3 @@ address_cmp = then_cmp (on (λ a. a.family) family_cmp) (on (λ a. a.bits) bits_
 -- the order of prefixes
 abbrev pub network_cmp : Network → Network → Ordering
 network_cmp = then_cmp (on (λ n. n.family) family_cmp) (on (λ n. n.bits) bits_cmp)
-
--- the same, by the least addresses and then the lengths
-abbrev pub filled_cmp : Network → Network → Ordering
-filled_cmp m n = ordering_then (address_cmp (least_address m) (least_address n)) (nat_cmp (length m.bits) (length n.bits))

@@ -1,5 +1,5 @@
 -- The texts that a person may write for addresses and prefixes.
-use Rattle.std.specs.Prelude.{◌≡◌, ◌≢◌, ℕ, ◌+◌, ◌-◌, ◌<◌, ◌⊎◌, false, List, [], ◌∷◌, ◌++◌, length, replicate, slice_index, decimal}
+use Rattle.std.specs.Prelude.{◌≡◌, ℕ, ◌+◌, ◌-◌, ◌<◌, ◌⊎◌, false, List, [], ◌∷◌, ◌++◌, length, replicate, decimal}
 use Rattle.std.specs.Net.Grammar.{IsDotted, IsGroups}
 use Rattle.ip_prefix.specs.declared.addr.Family.{Family}
 use Rattle.ip_prefix.specs.declared.addr.Family.TheVariants.{V4, V6}
@@ -45,13 +45,3 @@ pub record SpellsPrefix (n : Network) (text : List ℕ) : Type 0 where
   pub of_family : address.family ≡ n.family
   pub begins : IsFront n.bits address.bits
   pub whole : text ≡ address_text ++ SLASH ∷ decimal (length n.bits)
-
--- no slash stands in the text
-abbrev pub HasNoSlash : List ℕ → Type 0
-HasNoSlash text = (k : ℕ) → k < length text → slice_index text k ≢ SLASH
-
--- the last slash of the text stands at the place
-pub record IsLastSlash (text : List ℕ) (at : ℕ) : Type 0 where
-  pub within : at < length text
-  pub slash : slice_index text at ≡ SLASH
-  pub last : (k : ℕ) → at < k → k < length text → slice_index text k ≢ SLASH

@@ -1,10 +1,9 @@
 -- The printed texts of addresses and prefixes.
 use Rattle.std.specs.Prelude.{ℕ, List, ◌∷◌, ◌++◌, length, decimal}
-use Rattle.std.specs.List.{flat_map}
-use Rattle.std.specs.Net.Text.{hex, hex_groups_text}
+use Rattle.std.specs.Net.Text.{hex_groups_text}
 use Rattle.ip_prefix.specs.declared.addr.Family.{Family}
 use Rattle.ip_prefix.specs.declared.addr.Family.TheVariants.{V4, V6}
-use Rattle.ip_prefix.specs.declared.text.TheConstants.{DOT, COLON, SLASH}
+use Rattle.ip_prefix.specs.declared.text.TheConstants.{DOT, SLASH}
 use Rattle.ip_prefix.specs.Address.{Address, octet_at, groups_of}
 use Rattle.ip_prefix.specs.Network.{Network, least_address}
 
@@ -20,10 +19,6 @@ v4_text address =
 -- longest run of two or more groups that are 0; never with a dotted end
 unfoldable pub v6_text : Address → List ℕ
 v6_text address = hex_groups_text (groups_of address)
-
--- groups in hexadecimal, a colon before each
-abbrev pub led_groups : List ℕ → List ℕ
-led_groups groups = flat_map (λ group. COLON ∷ hex group) groups
 
 abbrev text_by : Family → Address → List ℕ
 text_by V4 address = v4_text address

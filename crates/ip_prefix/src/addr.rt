@@ -70,7 +70,8 @@ pub struct Addr {
 
 impl Model for Addr {
     ghost use Rattle.ip_prefix.specs.Address.{Address, bit_count};
-    ghost use Rattle.ip_prefix.specs.Highest.{highest_bits, number_from};
+    ghost use Rattle.ip_prefix.specs.Highest.{highest_bits};
+    ghost use Rattle.ip_prefix.specs.Filled.{number_from};
     ghost use Rattle.ip_prefix.specs.Aligned.{IsAligned, number-again};
 
     ghost Value = { Address };

@@ -10,14 +10,17 @@ ghost use Rattle.ip_prefix.specs.declared.addr.TheConstants.{OCTET_BITS, GROUP_B
 ghost use Rattle.ip_prefix.specs.declared.text.TheConstants.{DOT, COLON, SLASH};
 ghost use Rattle.ip_prefix.specs.declared.turn.Turn.TheVariants.{Outside, Here, Left, Right};
 ghost use Rattle.ip_prefix.specs.Address.{Address, IsAddress};
-ghost use Rattle.ip_prefix.specs.Network.{Network, IsNetwork, IsFront, ContainsAllOf, contains, covers};
-ghost use Rattle.ip_prefix.specs.Order.{address_cmp, network_cmp, filled_cmp};
+ghost use Rattle.ip_prefix.specs.Network.{Network, IsNetwork, IsFront, contains};
+ghost use Rattle.ip_prefix.specs.Covering.{ContainsAllOf, covers};
+ghost use Rattle.ip_prefix.specs.Order.{address_cmp, network_cmp};
+ghost use Rattle.ip_prefix.specs.Filled.{filled_cmp};
 ghost use Rattle.ip_prefix.specs.Spelling.{SpellsAddress, SpellsPrefix};
 ghost use Rattle.ip_prefix.specs.Text.{address_text, network_text};
 ghost use Rattle.ip_prefix.specs.Turns.{way, turn_of, half, common};
 ghost use Rattle.ip_prefix.specs.ZeroRun.{IsFirstLongestRun};
 ghost use Rattle.ip_prefix.specs.Wire.{SpellsNetwork};
-ghost use Rattle.octet_forms.specs.Sequences.{SpellsAll, IsCode};
+ghost use Rattle.octet_forms.specs.Sequences.{SpellsAll};
+ghost use Rattle.octet_forms.specs.Fronts.{IsCode};
 
 /// The order of addresses is total, and only equal ones tie.
 pub fn address_order()

@@ -3,7 +3,8 @@
 ghost use Rattle.std.specs.Prelude.{◌≡◌, ◌≢◌, ℕ, ◌<◌, MatchOption, decimal};
 ghost use Rattle.ip_prefix.specs.Address.{Address};
 ghost use Rattle.ip_prefix.specs.Network.{Network};
-ghost use Rattle.ip_prefix.specs.Spelling.{SpellsAddress, SpellsPrefix, HasNoSlash, IsLastSlash};
+ghost use Rattle.ip_prefix.specs.Spelling.{SpellsAddress, SpellsPrefix};
+ghost use Rattle.ip_prefix.specs.Marks.{HasNoSlash, IsLastSlash};
 
 use crate::addr::Addr;
 use crate::prefix::Prefix;

@@ -5,9 +5,11 @@ ghost use Rattle.std.specs.Int.{w128, from_be_bytes};
 ghost use Rattle.ip_prefix.specs.declared.addr.Family.{Family};
 ghost use Rattle.ip_prefix.specs.Address.{IsAddress, bit_count};
 ghost use Rattle.ip_prefix.specs.Bits.{bits_of, bits_of_octets};
-ghost use Rattle.ip_prefix.specs.Highest.{highest_bits, highest_part};
-ghost use Rattle.ip_prefix.specs.Network.{IsNetwork, network_of, least_address, contains, covers};
-ghost use Rattle.octet_forms.specs.Sequences.{BeginsWithNone};
+ghost use Rattle.ip_prefix.specs.Highest.{highest_bits};
+ghost use Rattle.ip_prefix.specs.Filled.{highest_part};
+ghost use Rattle.ip_prefix.specs.Network.{IsNetwork, network_of, least_address, contains};
+ghost use Rattle.ip_prefix.specs.Covering.{covers};
+ghost use Rattle.octet_forms.specs.Fronts.{BeginsWithNone};
 ghost use Rattle.ip_prefix.specs.Wire.{SpellsNetwork};
 
 use crate::addr::{
@@ -32,7 +34,8 @@ pub struct Prefix {
 impl Model for Prefix {
     ghost use Rattle.std.specs.Prelude.{length};
     ghost use Rattle.ip_prefix.specs.Network.{Network};
-    ghost use Rattle.ip_prefix.specs.Highest.{highest_bits, number_from};
+    ghost use Rattle.ip_prefix.specs.Highest.{highest_bits};
+    ghost use Rattle.ip_prefix.specs.Filled.{number_from};
     ghost use Rattle.ip_prefix.specs.Masked.{IsMasked, number-masked, length-masked};
 
     ghost Value = { Network };

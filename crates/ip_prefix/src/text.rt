@@ -4,7 +4,8 @@ ghost use Rattle.std.specs.Prelude.{◌≡◌, ◌+◌, ◌*◌, ◌^◌, ◌<�
 ghost use Rattle.std.specs.Net.Text as Hex;
 ghost use Rattle.ip_prefix.specs.declared.addr.Family.TheVariants.{V4, V6};
 ghost use Rattle.ip_prefix.specs.Address.{groups_of};
-ghost use Rattle.ip_prefix.specs.Text.{address_text, led_groups, network_text, v4_text, v6_text};
+ghost use Rattle.ip_prefix.specs.Text.{address_text, network_text, v4_text, v6_text};
+ghost use Rattle.ip_prefix.specs.Marks.{led_groups};
 ghost use Rattle.ip_prefix.specs.ZeroRun.{zero_mask, run_row};
 ghost use Rattle.octet_text.specs.Written.{IsWritten};
 

@@ -9,10 +9,12 @@ use Rattle.mrt_frames.specs.declared.fault.SourceFault.{SourceFault}
 use Rattle.mrt_frames.specs.declared.frames.Front.TheVariants as answer
 use Rattle.mrt_frames.specs.declared.header.Header.{Header}
 use Rattle.mrt_frames.specs.declared.frames.TheConstants.{LONGEST_BODY}
-use Rattle.mrt_frames.specs.Record.{IsHeader, header_octets, record_under, spelling}
+use Rattle.mrt_frames.specs.Record.{IsHeader, header_octets, spelling}
+use Rattle.mrt_frames.specs.Parts.{record_under}
 use Rattle.mrt_frames.specs.Rest.{rest_kind, rest_fault, stated_size}
 use Rattle.mrt_frames.specs.Device.{Takes}
-use Rattle.mrt_frames.specs.Taking.{IsBegun, EndsAt, TakesHeader, TakesBody, PassesBody, TakesRecord}
+use Rattle.mrt_frames.specs.Taking.{IsBegun}
+use Rattle.mrt_frames.specs.Taken.{EndsAt, TakesHeader, TakesBody, PassesBody, TakesRecord}
 use Rattle.mrt_frames.proofs.Buffers.{Takes-trans}
 use Rattle.mrt_frames.proofs.RecordLaws.{BeginsWithNoRecord-cut}
 

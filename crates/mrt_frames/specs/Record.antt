@@ -1,12 +1,7 @@
 -- MRT records, and how they stand in a list of octets (RFC 6396, section 2).
-use Rattle.std.specs.Prelude.{◌≡◌, ℕ, ◌<◌, ◌≤◌, ◌^◌, List, ◌++◌, length, slice_index}
+use Rattle.std.specs.Prelude.{◌≡◌, ℕ, ◌<◌, ◌≤◌, ◌^◌, List, ◌++◌, length}
 use Rattle.std.specs.Int.{to_be_bytes, w16, w32}
-use Rattle.mrt_frames.specs.declared.header.Header.{Header}
 use Rattle.mrt_frames.specs.declared.frames.TheConstants.{LONGEST_BODY}
-
--- each element is an octet
-abbrev pub IsOctets : List ℕ → Type 0
-IsOctets octets = (i : ℕ) → slice_index octets i < 256
 
 -- a record: the fields of its header, where kind is its type, but for the length, which is that of the body, and the body
 pub record Record : Type 0 where
@@ -14,14 +9,6 @@ pub record Record : Type 0 where
   pub kind : ℕ
   pub subtype : ℕ
   pub body : List ℕ
-
--- the record of a header's fields and a body
-abbrev pub record_of : ℕ → ℕ → ℕ → List ℕ → Record
-record_of seconds kind subtype body = record { seconds = seconds; kind = kind; subtype = subtype; body = body }
-
--- the record of a header and a body
-abbrev pub record_under : Header → List ℕ → Record
-record_under header body = record_of header.seconds header.kind header.subtype body
 
 -- the header's fields, each with its most significant octet first
 abbrev pub header_octets : ℕ → ℕ → ℕ → ℕ → List ℕ

@@ -2,7 +2,7 @@
 
 ghost use Rattle.std.specs.Prelude.{◌≡◌, ◌+◌, ◌≤◌, ◌||◌, ℕ, List, Bool, IfOk, IsTrue, take, length, vec_len};
 ghost use Rattle.mrt_frames.specs.Device.{Takes, is_read};
-ghost use Rattle.mrt_frames.specs.Taking.{TakesHeader, TakesBody, PassesBody, TakesRecord};
+ghost use Rattle.mrt_frames.specs.Taken.{TakesHeader, TakesBody, PassesBody, TakesRecord};
 
 use crate::buffer::{fill_body, fill_within, pass_over};
 use crate::fault::{RecordKind, SourceFault};

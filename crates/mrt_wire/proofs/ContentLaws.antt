@@ -1,6 +1,6 @@
 -- Laws of contents.
 use Rattle.std.proofs.Common.{◌≡◌, ◌∙◌, ◌⊎◌, inl, inr, ℕ, List, Option, Some, None, refl, sym, ap, subst}
-use Rattle.ip_prefix.specs.Fields.{IsOne}
+use Rattle.ip_prefix.specs.Fronts.{IsOne}
 use Rattle.mrt_wire.specs.declared.profile.Form.{Form}
 use Rattle.mrt_wire.specs.declared.profile.Form.TheVariants as form
 use Rattle.mrt_wire.specs.Profile.{HasForm, form_of}

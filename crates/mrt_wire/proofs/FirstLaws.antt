@@ -19,7 +19,8 @@ use Rattle.mrt_frames.specs.Rest.{stated_size, rest_kind, rest_fault}
 use Rattle.mrt_wire.specs.Results.{Finding, Found, Bad, fault_findings}
 use Rattle.mrt_frames.specs.Taking.{IsRest}
 use Rattle.mrt_wire.specs.Place.{Place, results}
-use Rattle.mrt_wire.specs.Next.{Nexts, answer_findings, MayFollow, IsFrameAt, IsRestAt, Took}
+use Rattle.mrt_wire.specs.Next.{Took}
+use Rattle.mrt_wire.specs.Answered.{Nexts, answer_findings, MayFollow, IsFrameAt, IsRestAt}
 use Rattle.mrt_wire.proofs.SplitLaws.{frames_first, frames_all}
 use lib.Seq.{take-append-le}
 

@@ -2,7 +2,8 @@
 use Rattle.std.proofs.Common.{◌≡◌, ℕ, Option, Some, None, Err, refl, subst}
 use Rattle.bgp_wire.specs.declared.WireFault.{WireFault}
 use Rattle.bgp_wire.specs.declared.WireFault.TheVariants as wire
-use Rattle.bgp_wire.specs.Reading.{Refuses, IsNoSpelling}
+use Rattle.bgp_wire.specs.Reading.{IsNoSpelling}
+use Rattle.bgp_wire.specs.Readers.{Refuses}
 use Rattle.mrt_wire.specs.declared.event.Stamp.{Stamp}
 use Rattle.mrt_frames.specs.declared.fault.RecordKind.{RecordKind}
 use Rattle.mrt_frames.specs.declared.fault.RecordKind.TheVariants.{CutRecord, TooLong, Unsupported, Malformed, NoIndex, PeerIndex}

@@ -12,13 +12,15 @@ use Rattle.mrt_wire.specs.declared.profile.Form.{Form}
 use Rattle.mrt_wire.specs.declared.next.Next.{Next}
 use Rattle.mrt_wire.specs.declared.next.Next.TheVariants as next
 use Rattle.mrt_frames.specs.Device.{Takes}
-use Rattle.mrt_frames.specs.Record.{record_under, spelling}
+use Rattle.mrt_frames.specs.Record.{spelling}
+use Rattle.mrt_frames.specs.Parts.{record_under, record_in}
 use Rattle.mrt_wire.specs.Verdict.{Index, Accepted, Refused, Frame, ReadsAs, index_after}
-use Rattle.mrt_wire.specs.Profile.{form_of, is_read}
+use Rattle.mrt_wire.specs.Profile.{form_of}
+use Rattle.mrt_wire.specs.Bodies.{is_read}
 use Rattle.mrt_wire.specs.Judging.{Judges, judged_answer}
-use Rattle.mrt_frames.specs.Taking.{TakesRecord, record_in}
+use Rattle.mrt_frames.specs.Taken.{TakesRecord}
 use Rattle.mrt_wire.specs.Place.{Place, place_behind}
-use Rattle.mrt_wire.specs.Next.{Nexts, answer_findings}
+use Rattle.mrt_wire.specs.Answered.{Nexts, answer_findings}
 
 -- the place behind a frame, by its parts
 place_behind-parts : (p : Place) (frame : Frame) (index : Index) (number offset limit : ℕ) → index ≡ index_after p.index frame.verdict → number ≡ p.number + 1

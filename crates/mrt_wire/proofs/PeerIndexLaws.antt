@@ -1,8 +1,8 @@
 -- What is a peer, and what isn't.
 use Rattle.std.proofs.Common.{ℕ, List, [], refl}
 use Rattle.ip_prefix.specs.Address.{Address}
-use Rattle.ip_prefix.specs.Sequences.{Begins, BeginsWithNone, OneFront, IsCode}
-use Rattle.ip_prefix.specs.Fields.{IsOne}
+use Rattle.ip_prefix.specs.Sequences.{Begins}
+use Rattle.ip_prefix.specs.Fronts.{BeginsWithNone, OneFront, IsCode, IsOne}
 use Rattle.octet_forms.proofs.Fields.{both_front, then_front, more_one, behind_one, none_first, none_second}
 use Rattle.octet_forms.proofs.Counts.{counted_code}
 use Rattle.bgp_wire.specs.Number.{SpellsAsn}

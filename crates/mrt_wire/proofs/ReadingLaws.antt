@@ -2,14 +2,15 @@
 use Rattle.std.proofs.Common.{◌≡◌, ℕ, ◌<◌, ◌++◌, Result, Ok, Err, List, length, refl, ap, ◌∙◌}
 use Rattle.std.specs.Prelude.{IfErr}
 use Rattle.std.specs.Int.{to_be_bytes, w16}
-use Rattle.ip_prefix.specs.Sequences.{Begins, BeginsWithNone, SpellsAll, OneFront, IsCode}
+use Rattle.ip_prefix.specs.Sequences.{Begins, SpellsAll}
+use Rattle.ip_prefix.specs.Fronts.{BeginsWithNone, OneFront, IsCode}
 use Rattle.ip_prefix.specs.Fields.{Then, Behind, WithMore}
 use Rattle.ip_prefix.specs.Counted.{SpellsCounted}
 use Rattle.octet_forms.proofs.Fields.{none_behind}
 use Rattle.octet_forms.proofs.Counts as counts
 use Rattle.bgp_wire.specs.declared.WireFault.{WireFault}
 use Rattle.bgp_wire.specs.declared.WireFault.TheVariants.{Malformed, Memory}
-use Rattle.bgp_wire.specs.Reading.{Reads, Refuses, RefusesFront}
+use Rattle.bgp_wire.specs.Readers.{Reads, Refuses, RefusesFront}
 use Rattle.mrt_wire.specs.Fields.{SpellsShort}
 
 -- what is refused behind the first is refused of both

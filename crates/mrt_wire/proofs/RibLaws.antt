@@ -1,8 +1,8 @@
 -- What is an entry of a table, and what isn't.
 use Rattle.std.proofs.Common.{◌≡◌, ℕ, List, [], refl, subst}
 use Rattle.ip_prefix.specs.declared.addr.Family.{Family}
-use Rattle.ip_prefix.specs.Sequences.{Begins, OneFront, IsCode}
-use Rattle.ip_prefix.specs.Fields.{IsOne}
+use Rattle.ip_prefix.specs.Sequences.{Begins}
+use Rattle.ip_prefix.specs.Fronts.{OneFront, IsCode, IsOne}
 use Rattle.ip_prefix.specs.Wire.{SpellsNetwork}
 use Rattle.octet_forms.proofs.Fields.{then_front, then_one, more_one, behind_one}
 use Rattle.octet_forms.proofs.Counts.{counted_code}
@@ -13,7 +13,7 @@ use Rattle.bgp_wire.specs.declared.WireFault.TheVariants.{Malformed, Memory}
 use Rattle.bgp_wire.specs.declared.AsWidth.TheVariants.{Two, Four}
 use Rattle.bgp_wire.specs.Content.{SpellsRibAttrs}
 use Rattle.bgp_wire.specs.Number.{SpellsAsn}
-use Rattle.bgp_wire.specs.Reading.{Refuses, RefusesFront}
+use Rattle.bgp_wire.specs.Readers.{Refuses, RefusesFront}
 use Rattle.bgp_wire.proofs.OneContent.{one_rib_attrs}
 use Rattle.bgp_paths.proofs.OneFront.{number_code}
 use Rattle.mrt_wire.specs.declared.rib.TheConstants.{SEQUENCE_SIZE}

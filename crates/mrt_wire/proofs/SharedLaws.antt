@@ -8,7 +8,8 @@ use Rattle.mrt_wire.specs.declared.peer.Peer.{Peer}
 use Rattle.mrt_wire.specs.declared.event.Route.{Route}
 use Rattle.mrt_wire.specs.declared.event.Item.{Item}
 use Rattle.mrt_wire.specs.declared.event.Shared.{Shared}
-use Rattle.mrt_wire.specs.Event.{Saying, Announced, saying, Announces, AreOfOneRoute, IsSharedIn}
+use Rattle.mrt_wire.specs.Event.{Saying, Announced, saying}
+use Rattle.mrt_wire.specs.SharedRoute.{Announces, AreOfOneRoute, IsSharedIn}
 use Rattle.mrt_wire.specs.Items.{announcements, mp_announcements, route_of}
 use Rattle.mrt_wire.specs.Judging.{Adds}
 

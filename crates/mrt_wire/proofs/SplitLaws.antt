@@ -9,7 +9,8 @@ use Rattle.mrt_wire.specs.declared.event.Stamp.{Stamp}
 use Rattle.mrt_frames.specs.Record.{Record, spelling, IsRecord, BeginsWithNoRecord}
 use Rattle.mrt_wire.specs.Profile.{IsSupported}
 use Rattle.mrt_wire.specs.Content.{Content, IsBody}
-use Rattle.mrt_wire.specs.Verdict.{content_fault, HasFault, HasNoContent, MakesEvent, Verdict, Accepted, Refused, Frame, Index, ReadsAs, Readings, index_after, index_behind, event_of}
+use Rattle.mrt_wire.specs.Verdict.{content_fault, HasFault, HasNoContent, MakesEvent, Verdict, Accepted, Refused, Frame, Index, ReadsAs, Readings, index_after, event_of}
+use Rattle.mrt_wire.specs.Progress.{index_behind}
 use Rattle.mrt_wire.specs.Splitting.{AreFrames, Splits, spellings}
 use Rattle.mrt_wire.proofs.ContentLaws.{same_content}
 use Rattle.mrt_frames.proofs.RecordLaws.{same_front}

@@ -1,13 +1,11 @@
 -- The fields that the bodies of records are made of (RFC 6396, section 4).
-use Rattle.std.specs.Prelude.{◌≡◌, ℕ, ◌<◌, ◌^◌, List, [], ◌∷◌, length, Option, Some, None}
+use Rattle.std.specs.Prelude.{◌≡◌, ℕ, ◌<◌, ◌^◌, List, [], ◌∷◌, length}
 use Rattle.std.specs.Int.{w16}
 use Rattle.ip_prefix.specs.declared.addr.Family.{Family}
 use Rattle.ip_prefix.specs.Address.{Address}
-use Rattle.ip_prefix.specs.Sequences.{Begins, BeginsWithNone}
 use Rattle.bgp_wire.specs.Number.{SpellsNumber}
 use Rattle.bgp_wire.specs.Update.{sized_octets}
 use Rattle.bgp_wire.specs.Value.{SpellsAddressOctets}
-use Rattle.mrt_wire.specs.declared.fields.Field.{Field}
 
 -- one octet
 pub record SpellsOctet (n : ℕ) (octets : List ℕ) : Type 0 where
@@ -32,8 +30,3 @@ pub record AreSized (value : List ℕ) (octets : List ℕ) : Type 0 where
 pub record SpellsAddressOf (family : Family) (address : Address) (octets : List ℕ) : Type 0 where
   pub of_family : address.family ≡ family
   pub spelled : SpellsAddressOctets address octets
-
--- the answer is a value that the octets begin with and what follows it, or that they begin with none
-abbrev pub FindsField : {A : Type 0} → (A → List ℕ → Type 0) → List ℕ → Option (Field A) → Type 0
-FindsField Spells octets (Some found) = Begins Spells found.value found.rest.now octets
-FindsField Spells octets None = BeginsWithNone Spells octets

@@ -1,60 +1,7 @@
--- What a call of `next` takes and answers.
-use Rattle.std.specs.Prelude.{◌≡◌, ◌⊎◌, ◌∷◌, [], ℕ, ◌+◌, ◌++◌, List, Option, Some, Result, Ok, Err}
-use Rattle.mrt_frames.specs.declared.fault.RecordKind.TheVariants.{CutRecord}
-use Rattle.mrt_frames.specs.declared.fault.SourceFault.{SourceFault}
-use Rattle.mrt_frames.specs.declared.fault.SourceFault.TheVariants.{Memory}
-use Rattle.mrt_wire.specs.declared.next.Phase.TheVariants.{Ended, Spent}
-use Rattle.mrt_wire.specs.declared.next.Next.{Next}
-use Rattle.mrt_wire.specs.declared.next.Next.TheVariants as next
-use Rattle.mrt_frames.specs.Device.{Stops}
-use Rattle.mrt_frames.specs.Record.{Record, spelling, IsRecord}
-use Rattle.mrt_wire.specs.Verdict.{Frame, ReadsAs}
-use Rattle.mrt_frames.specs.Rest.{rest_fault}
-use Rattle.mrt_wire.specs.Results.{Finding, Found, Bad, finding, fault_findings}
-use Rattle.mrt_frames.specs.Taking.{IsBegun, EndsAt}
-use Rattle.mrt_wire.specs.Place.{Place, place_behind, stopped_place}
-
--- what an answer tells
-abbrev pub answer_findings : Next → List Finding
-answer_findings (next.Event event) = Found event ∷ []
-answer_findings (next.Bad fault) = Bad fault ∷ []
-answer_findings next.End = []
-
--- the octets are those of one frame, whose event or fault is answered
-pub record IsFrameAt (p q : Place) (answer : Next) (octets : List ℕ) (frame : Frame) : Type 0 where
-  pub whole : octets ≡ spelling frame.mrt
-  pub is_record : IsRecord frame.mrt
-  pub reads : ReadsAs p.stamp p.index frame.mrt frame.verdict
-  pub tells : answer_findings answer ≡ finding (p.number + 1) p.offset frame.verdict ∷ []
-  pub place : q ≡ place_behind p frame
-
--- the octets are the rest, whose fault is answered, or the end; but for a length that is too long, the input ends there
-pub record IsRestAt (p q : Place) (left : Option (List ℕ)) (answer : Next) (octets : List ℕ) : Type 0 where
-  pub ends : EndsAt left octets
-  pub tells : answer_findings answer ≡ fault_findings (p.number + 1) p.offset (rest_fault octets)
-  pub place : q ≡ stopped_place Ended p octets
-
--- octets that a fault left: a record has begun in them, or for want of memory a whole one wasn't judged
-abbrev pub IsLeft : SourceFault → List ℕ → Type 0
-IsLeft fault octets = IsBegun octets ⊎ ((fault ≡ Memory) × ((r : Record) × IsRecord r × (octets ≡ spelling r)))
-
--- a source that reads went from one place to another and answered so, and these octets were taken from an input that has others left
-abbrev pub Nexts : Place → Place → Option (List ℕ) → List ℕ → Result Next SourceFault → Type 0
-Nexts p q left octets (Ok answer) = ((frame : Frame) × IsFrameAt p q answer octets frame) ⊎ IsRestAt p q left answer octets
-Nexts p q left octets (Err fault) = IsLeft fault octets × Stops fault q.offset p.limit × (q ≡ stopped_place Spent p octets)
-
--- what may follow the octets taken in a call that answered so: none where it saw the end
-abbrev pub MayFollow : Next → List ℕ → Type 0
-MayFollow (next.Event event) more = Unit {0}
-MayFollow (next.Bad fault) more = fault.kind ≡ CutRecord → more ≡ []
-MayFollow next.End more = more ≡ []
+-- What a call takes from its input.
+use Rattle.std.specs.Prelude.{◌≡◌, ℕ, ◌++◌, List, Option, Some}
 
 -- these octets were taken from the input, which has the others left
 pub record Took (old new : Option (List ℕ)) (taken after : List ℕ) : Type 0 where
   pub before : old ≡ Some (taken ++ after)
   pub now : new ≡ Some after
-
--- a place where the source is spent, if it answered a fault
-abbrev pub spent_place : Place → Result Next SourceFault → Place
-spent_place q (Ok answer) = q
-spent_place q (Err fault) = record { index = q.index; number = q.number; offset = q.offset; limit = q.limit; stamp = q.stamp; phase = Spent }

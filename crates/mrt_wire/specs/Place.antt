@@ -22,19 +22,9 @@ abbrev pub place_behind : Place → Frame → Place
 place_behind p frame =
     record { index = index_after p.index frame.verdict; number = p.number + 1; offset = p.offset + length (spelling frame.mrt); limit = p.limit; stamp = p.stamp; phase = p.phase }
 
--- the place behind octets that ended the reading so
-abbrev pub stopped_place : Phase → Place → List ℕ → Place
-stopped_place phase p octets =
-    record { index = p.index; number = p.number; offset = p.offset + length octets; limit = p.limit; stamp = p.stamp; phase = phase }
-
 -- a source that has taken nothing
 abbrev pub start_place : Stamp → ℕ → Place
 start_place stamp limit = record { index = None; number = 0; offset = 0; limit = limit; stamp = stamp; phase = Reading }
-
--- the place behind frames
-abbrev pub place_behind_all : Place → List Frame → Place
-place_behind_all p [] = p
-place_behind_all p (frame ∷ frames) = place_behind_all (place_behind p frame) frames
 
 -- what is found from a place on in octets that split so
 abbrev pub results : Place → List Frame → List ℕ → List Finding

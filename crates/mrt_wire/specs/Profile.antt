@@ -1,5 +1,5 @@
 -- What is read: the types and subtypes of records, and the forms of their bodies (RFC 6396, section 4).
-use Rattle.std.specs.Prelude.{◌≡◌, ℕ, ◌==◌, if◌then◌else◌, Bool, true, false, Option, Some, None, is_some}
+use Rattle.std.specs.Prelude.{◌≡◌, ℕ, ◌==◌, if◌then◌else◌, Bool, true, false, Option, Some, None}
 use Rattle.ip_prefix.specs.declared.addr.Family.TheVariants.{V4, V6}
 use Rattle.bgp_wire.specs.declared.AsWidth.{AsWidth}
 use Rattle.bgp_wire.specs.declared.AsWidth.TheVariants.{Two, Four}
@@ -46,10 +46,6 @@ form_of kind subtype =
     else if kind == BGP4MP then session_form false subtype
     else if kind == BGP4MP_ET then session_form true subtype
     else None
-
--- whether bodies of a type and subtype are read
-abbrev pub is_read : ℕ → ℕ → Bool
-is_read kind subtype = is_some (form_of kind subtype)
 
 -- bodies of this type and subtype have this form
 abbrev pub HasForm : ℕ → ℕ → Form → Type 0

@@ -6,8 +6,9 @@ use Rattle.mrt_wire.specs.declared.next.Phase.TheVariants.{Reading, Ended, Spent
 use Rattle.mrt_wire.specs.Verdict.{Frame}
 use Rattle.mrt_wire.specs.Splitting.{AreFrames, spellings}
 use Rattle.mrt_wire.specs.Results.{Finding}
-use Rattle.mrt_frames.specs.Taking.{EndsAt}
-use Rattle.mrt_wire.specs.Place.{Place, place_behind_all, results}
+use Rattle.mrt_frames.specs.Taken.{EndsAt}
+use Rattle.mrt_wire.specs.Place.{Place, results}
+use Rattle.mrt_wire.specs.Progress.{place_behind_all}
 
 -- what was taken behind the frames: nothing while the source reads, and the rest where it has ended
 abbrev pub RestSoFar : Phase → Option (List ℕ) → List ℕ → Type 0

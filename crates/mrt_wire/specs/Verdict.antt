@@ -117,8 +117,3 @@ abbrev pub Readings : Stamp → Index → List Frame → Type 0
 Readings stamp index [] = Unit {0}
 Readings stamp index (frame ∷ frames) =
     ReadsAs stamp index frame.mrt frame.verdict × Readings stamp (index_after index frame.verdict) frames
-
--- the peer index behind frames
-abbrev pub index_behind : Index → List Frame → Index
-index_behind index [] = index
-index_behind index (frame ∷ frames) = index_behind (index_after index frame.verdict) frames

@@ -111,7 +111,8 @@ pub struct Items {
 
 impl Model for Items {
     ghost use Rattle.std.specs.Prelude.{List, map};
-    ghost use Rattle.mrt_wire.specs.Event.{Saying, saying, IsSharedIn};
+    ghost use Rattle.mrt_wire.specs.Event.{Saying, saying};
+    ghost use Rattle.mrt_wire.specs.SharedRoute.{IsSharedIn};
 
     ghost Value = { List Saying };
 
@@ -122,7 +123,8 @@ impl Model for Items {
 
 impl Items {
     ghost use Rattle.std.specs.Prelude.{◌≤◌, length, map, slice_range};
-    ghost use Rattle.mrt_wire.specs.Event.{saying, AreOfOneRoute, IsSharedIn};
+    ghost use Rattle.mrt_wire.specs.Event.{saying};
+    ghost use Rattle.mrt_wire.specs.SharedRoute.{AreOfOneRoute, IsSharedIn};
 
     /// The items of the vector, of which nothing is known.
     pub fn from_vec(items: Vec<Item>) -> Items

@@ -1,9 +1,11 @@
 //! The fields that the bodies of records are made of (RFC 6396, section 4).
 
 ghost use Rattle.std.specs.Prelude.{◌≡◌, ℕ, List, length, IfSome, IfNone};
-ghost use Rattle.ip_prefix.specs.Sequences.{Begins, BeginsWithNone};
+ghost use Rattle.ip_prefix.specs.Sequences.{Begins};
+ghost use Rattle.ip_prefix.specs.Fronts.{BeginsWithNone};
 ghost use Rattle.bgp_wire.specs.Number.{SpellsAsn, SpellsWord};
-ghost use Rattle.mrt_wire.specs.Fields.{AreOctets, AreSized, SpellsAddressOf, SpellsOctet, SpellsShort, FindsField};
+ghost use Rattle.mrt_wire.specs.Fields.{AreOctets, AreSized, SpellsAddressOf, SpellsOctet, SpellsShort};
+ghost use Rattle.mrt_wire.specs.Bodies.{FindsField};
 
 use bgp_wire::AsWidth;
 use byteorder::{BigEndian, ByteOrder};

@@ -3,7 +3,7 @@
 ghost use Rattle.std.specs.Prelude.{◌≡◌};
 ghost use Rattle.mrt_wire.specs.declared.judging.Refusal.TheVariants.{Memory};
 ghost use Rattle.mrt_wire.specs.declared.event.Stamp.{Stamp};
-ghost use Rattle.mrt_frames.specs.Record.{record_under};
+ghost use Rattle.mrt_frames.specs.Parts.{record_under};
 ghost use Rattle.mrt_wire.specs.Profile.{HasForm};
 ghost use Rattle.mrt_wire.specs.Verdict.{Index, peers_in, entries_fault, table_event, session_tag, session_event};
 ghost use Rattle.mrt_wire.specs.Judging.{Judges, body_refusal};

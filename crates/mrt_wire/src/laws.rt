@@ -16,7 +16,7 @@ ghost use Rattle.mrt_wire.specs.declared.peer.Peer.{Peer};
 ghost use Rattle.mrt_wire.specs.Content.{Content, IsBody};
 ghost use Rattle.mrt_wire.specs.Peer.{peer_cmp};
 ghost use Rattle.mrt_wire.specs.Verdict.{Frame, Index};
-ghost use Rattle.mrt_frames.specs.Record.{IsOctets};
+ghost use Rattle.mrt_frames.specs.Parts.{IsOctets};
 ghost use Rattle.mrt_wire.specs.Splitting.{Splits};
 
 use crate::peer::Peer;

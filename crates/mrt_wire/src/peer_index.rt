@@ -1,11 +1,12 @@
 //! Reading the peers of a table (RFC 6396, section 4.3.1).
 
 ghost use Rattle.std.specs.Prelude.{◌≡◌, ℕ, List, IfSome, IfNone};
-ghost use Rattle.ip_prefix.specs.Sequences.{Begins, BeginsWithNone};
+ghost use Rattle.ip_prefix.specs.Sequences.{Begins};
+ghost use Rattle.ip_prefix.specs.Fronts.{BeginsWithNone};
 ghost use Rattle.ip_prefix.specs.Fields.{WithMore};
 ghost use Rattle.ip_prefix.specs.Counted.{SpellsCounted};
-ghost use Rattle.bgp_wire.specs.Reading.{Reads};
-ghost use Rattle.mrt_wire.specs.Fields.{FindsField};
+ghost use Rattle.bgp_wire.specs.Readers.{Reads};
+ghost use Rattle.mrt_wire.specs.Bodies.{FindsField};
 ghost use Rattle.mrt_wire.specs.PeerIndex.{peer_family, peer_width, SpellsPeer, SpellsView, SpellsPeerIndex};
 
 use crate::fields::{Field, fill_address, skip, split_asn, split_octet, split_short, split_sized};

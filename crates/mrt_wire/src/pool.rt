@@ -2,7 +2,7 @@
 
 ghost use Rattle.std.specs.Prelude.{◌≡◌, ◌≤◌, ◌<◌, ◌+◌, ◌-◌, ◌∷◌, [], min, IfOk, IfErr, IfSome, OnOk, vec_len};
 ghost use Rattle.bgp_wire.specs.Content.{SpellsRibAttrs};
-ghost use Rattle.bgp_wire.specs.Reading.{Refuses};
+ghost use Rattle.bgp_wire.specs.Readers.{Refuses};
 ghost use Rattle.mrt_wire.specs.declared.pool.TheConstants.{MOST_ROUTES};
 ghost use Rattle.mrt_wire.specs.Event.{Announced};
 ghost use Rattle.mrt_wire.specs.Items.{route_of};

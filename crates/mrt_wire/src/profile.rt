@@ -2,7 +2,8 @@
 //! section 4).
 
 ghost use Rattle.std.specs.Prelude.{◌≡◌};
-ghost use Rattle.mrt_wire.specs.Profile.{form_of, is_read, entry_form, table_form, session_form, happening_form};
+ghost use Rattle.mrt_wire.specs.Profile.{form_of, entry_form, table_form, session_form, happening_form};
+ghost use Rattle.mrt_wire.specs.Bodies.{is_read};
 
 use bgp_wire::AsWidth;
 use ip_prefix::Family;

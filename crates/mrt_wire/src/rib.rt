@@ -2,8 +2,9 @@
 
 ghost use Rattle.std.specs.Prelude.{◌≡◌, List, slice_get, OnOk, IfSome, IfNone, IfOk, IfErr};
 ghost use Rattle.std.specs.Option.{option_or};
-ghost use Rattle.ip_prefix.specs.Sequences.{Begins, BeginsWithNone};
-ghost use Rattle.bgp_wire.specs.Reading.{Refuses, RefusesFront};
+ghost use Rattle.ip_prefix.specs.Sequences.{Begins};
+ghost use Rattle.ip_prefix.specs.Fronts.{BeginsWithNone};
+ghost use Rattle.bgp_wire.specs.Readers.{Refuses, RefusesFront};
 ghost use Rattle.mrt_wire.specs.Rib.{RibEntry, PrefixEntries, AreEntryFields, SpellsEntry, SpellsEntries};
 ghost use Rattle.mrt_wire.specs.Rib.{SpellsPrefixed, SpellsRib};
 ghost use Rattle.mrt_wire.specs.Items.{entry_items, unknown_peer};

@@ -2,10 +2,11 @@
 
 ghost use Rattle.std.specs.Prelude.{◌≡◌, ℕ, List, IfSome, IfNone};
 ghost use Rattle.ip_prefix.specs.Address.{octet_count};
-ghost use Rattle.ip_prefix.specs.Sequences.{Begins, BeginsWithNone};
+ghost use Rattle.ip_prefix.specs.Sequences.{Begins};
+ghost use Rattle.ip_prefix.specs.Fronts.{BeginsWithNone};
 ghost use Rattle.bgp_wire.specs.Number.{octets_at};
-ghost use Rattle.bgp_wire.specs.Reading.{Finds, Reads};
-ghost use Rattle.mrt_wire.specs.Fields.{FindsField};
+ghost use Rattle.bgp_wire.specs.Readers.{Finds, Reads};
+ghost use Rattle.mrt_wire.specs.Bodies.{FindsField};
 ghost use Rattle.mrt_wire.specs.Items.{receipt_items, session_items};
 ghost use Rattle.mrt_wire.specs.Judging.{Told, session_told};
 ghost use Rattle.mrt_wire.specs.Session.{SpellsFamily, AreSystems, AreAddresses, SpellsSessionPeer, SpellsStateChange, SpellsPeerMessage, SpellsMicros, SpellsHappening, SpellsSessionBody};

@@ -9,7 +9,9 @@ ghost use Rattle.mrt_wire.specs.Splitting.{Splits};
 ghost use Rattle.mrt_wire.specs.Results.{fault_findings};
 ghost use Rattle.mrt_wire.specs.Place.{start_place, results};
 ghost use Rattle.mrt_wire.specs.Judging.{judged_answer};
-ghost use Rattle.mrt_wire.specs.Next.{Nexts, answer_findings, Took, MayFollow, spent_place};
+ghost use Rattle.mrt_wire.specs.Next.{Took};
+ghost use Rattle.mrt_wire.specs.Answered.{Nexts, answer_findings, MayFollow};
+ghost use Rattle.mrt_wire.specs.Progress.{spent_place};
 
 use crate::event::{Event, Stamp};
 use crate::judging::{Refusal, judge};

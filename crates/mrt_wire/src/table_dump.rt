@@ -1,9 +1,10 @@
 //! Reading an entry of a table with its peer (RFC 6396, section 4.2).
 
 ghost use Rattle.std.specs.Prelude.{ℕ, List, IfSome, IfNone};
-ghost use Rattle.ip_prefix.specs.Sequences.{Begins, BeginsWithNone};
-ghost use Rattle.bgp_wire.specs.Reading.{Reads};
-ghost use Rattle.mrt_wire.specs.Fields.{FindsField};
+ghost use Rattle.ip_prefix.specs.Sequences.{Begins};
+ghost use Rattle.ip_prefix.specs.Fronts.{BeginsWithNone};
+ghost use Rattle.bgp_wire.specs.Readers.{Reads};
+ghost use Rattle.mrt_wire.specs.Bodies.{FindsField};
 ghost use Rattle.mrt_wire.specs.Items.{peer_entry_items};
 ghost use Rattle.mrt_wire.specs.Judging.{Told};
 ghost use Rattle.mrt_wire.specs.TableDump.{ArePeerEntryFields, SpellsNarrowPeer, SpellsPeerEntry, SpellsPrefix};

@@ -1,7 +1,8 @@
 -- Values that are counted.
 use Rattle.std.proofs.Common.{◌≡◌, ℕ, ◌<◌, ◌^◌, List, [], ◌∷◌, ◌++◌, length, refl, ap, sym, subst, ◌∙◌, arith, append_assoc}
 use Rattle.std.specs.Int.{w16, to_be_bytes}
-use Rattle.octet_forms.specs.Sequences.{Begins, BeginsWithNone, SpellsAll, IsCode}
+use Rattle.octet_forms.specs.Sequences.{Begins, SpellsAll}
+use Rattle.octet_forms.specs.Fronts.{BeginsWithNone, IsCode}
 use Rattle.octet_forms.specs.Counted.{SpellsCounted}
 use Rattle.octet_forms.proofs.Numbers.{one_w16}
 

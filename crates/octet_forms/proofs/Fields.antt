@@ -1,7 +1,8 @@
 -- Values of two kinds, one behind the other.
 use Rattle.std.proofs.Common.{ℕ, List, [], ◌++◌, refl, ap, sym, subst, ◌∙◌, append_assoc, append-nil}
-use Rattle.octet_forms.specs.Sequences.{Begins, BeginsWithNone, OneFront, IsCode}
-use Rattle.octet_forms.specs.Fields.{IsOne, Then, Behind, WithMore}
+use Rattle.octet_forms.specs.Sequences.{Begins}
+use Rattle.octet_forms.specs.Fronts.{BeginsWithNone, OneFront, IsCode, IsOne}
+use Rattle.octet_forms.specs.Fields.{Then, Behind, WithMore}
 use Rattle.octet_forms.proofs.Sequences.{longer}
 
 -- ---- in front

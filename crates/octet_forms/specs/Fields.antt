@@ -1,10 +1,6 @@
 -- Octets that spell values of two kinds, one behind the other.
-use Rattle.std.specs.Prelude.{◌≡◌, ℕ, List}
+use Rattle.std.specs.Prelude.{ℕ, List}
 use Rattle.octet_forms.specs.Sequences.{Begins}
-
--- no octets are spellings of two values
-abbrev pub IsOne : {A B : Type 0} → (A → B → Type 0) → Type 0
-IsOne {A} {B} Spells = (value other : A) (octets : B) → Spells value octets → Spells other octets → value ≡ other
 
 -- the octets are a spelling of the first value, and behind it one of the second, whose form may depend on the first
 pub record Then {A B : Type 0} (First : A → List ℕ → Type 0) (Second : A → B → List ℕ → Type 0) (values : A × B) (octets : List ℕ) : Type 0 where

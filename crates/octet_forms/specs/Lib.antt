@@ -1,3 +1,4 @@
 pub mod Sequences
+pub mod Fronts
 pub mod Fields
 pub mod Counted

@@ -14,7 +14,8 @@ use Rattle.mrt_wire.specs.declared.peer.Peer.{Peer}
 use Rattle.rib_player.specs.declared.pair.Pair.{Pair}
 use Rattle.mrt_wire.specs.declared.event.Route.{Route}
 use Rattle.mrt_wire.specs.declared.event.Item.{Item}
-use Rattle.mrt_wire.specs.Event.{Saying, Announced, Withdrawn, Changed, saying, Announces, AreOfOneRoute}
+use Rattle.mrt_wire.specs.Event.{Saying, Announced, Withdrawn, Changed, saying}
+use Rattle.mrt_wire.specs.SharedRoute.{Announces, AreOfOneRoute}
 use Rattle.rib_player.specs.History.{pair_cmp, Effect, Keep, Clear, Set, where_true, item_effect, later}
 use Rattle.rib_player.specs.Store.{Slots, slot_at, route_in}
 use Rattle.rib_player.specs.Changes.{found, is_lost, effect_of, or_absent, items_effect, HasRoute}

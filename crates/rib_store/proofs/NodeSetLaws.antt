@@ -14,7 +14,8 @@ use Rattle.std.proofs.lemmas.List.Folds.{list_any-append}
 use Rattle.std.proofs.lemmas.Map.Keys.{IsDistinct-from_sorted}
 use Rattle.ip_prefix.specs.declared.turn.Turn.{Turn}
 use Rattle.ip_prefix.specs.declared.turn.Turn.TheVariants.{Outside, Here, Left, Right}
-use Rattle.ip_prefix.specs.Network.{Network, begin_with, covers}
+use Rattle.ip_prefix.specs.Network.{Network, begin_with}
+use Rattle.ip_prefix.specs.Covering.{covers}
 use Rattle.ip_prefix.specs.Order.{network_cmp}
 use Rattle.ip_prefix.specs.OrderLaws.{network_cmp_total}
 use Rattle.ip_prefix.specs.Turns.{family_bit, half, way, turn_of, side}

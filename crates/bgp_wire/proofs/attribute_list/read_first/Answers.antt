@@ -2,7 +2,7 @@ use Rattle.std.proofs.Common.{◌≡◌, Some, Result, Ok, Err, IfErr, ap, sym, 
 use Rattle.bgp_paths.specs.declared.fault.WireFault.{WireFault}
 use Rattle.bgp_wire.specs.declared.framing.TheConstants.{AGGREGATOR}
 use Rattle.bgp_wire.specs.PlainValues.{FirstOf, SaysPlainly}
-use Rattle.bgp_paths.specs.Reading.{Refuses}
+use Rattle.bgp_paths.specs.Readers.{Refuses}
 use Rattle.bgp_wire.specs.Value.{SpellsAggregator}
 use Rattle.bgp_paths.proofs.Refusing.{refused_part, refused_found}
 use Rattle.bgp_wire.proofs.There.{spelled_there}

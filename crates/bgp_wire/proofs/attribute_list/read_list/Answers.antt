@@ -8,7 +8,7 @@ use Rattle.bgp_paths.specs.declared.fault.WireFault.TheVariants.{Malformed, Memo
 use Rattle.bgp_paths.specs.declared.path.AsWidth.{AsWidth}
 use Rattle.bgp_wire.specs.Attribute.{Attribute, SpellsAttribute, first_value}
 use Rattle.bgp_wire.specs.PlainValues.{FirstOf, firsts_of, with_value, ReadSoFar, SaysPlainly, SpellsPlainly}
-use Rattle.bgp_paths.specs.Reading.{Refuses}
+use Rattle.bgp_paths.specs.Readers.{Refuses}
 use Rattle.bgp_wire.proofs.Noting.{firsts_of-more, later_value, first_of_type, first_value-front}
 use Rattle.bgp_wire.proofs.OneAttribute.{attribute_code}
 use Rattle.bgp_wire.proofs.attribute_list.read_list.Goals as goal

@@ -5,7 +5,7 @@ use Rattle.ip_prefix.specs.Sequences.{Begins, SpellsAll}
 use Rattle.ip_prefix.specs.Wire.{SpellsNetwork}
 use Rattle.ip_prefix.proofs.Wires.{network_code}
 use Rattle.octet_forms.proofs.Sequences.{one_more, none_at_all}
-use Rattle.bgp_paths.specs.Reading.{Refuses}
+use Rattle.bgp_paths.specs.Readers.{Refuses}
 use Rattle.bgp_paths.proofs.Refusing.{refused_always}
 use Rattle.bgp_wire.proofs.prefixes.fill_some_prefixes.Goals as goal
 use Rattle.octet_forms.proofs.Lists.{nonempty}

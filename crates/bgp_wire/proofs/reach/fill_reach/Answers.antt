@@ -1,8 +1,9 @@
 use Rattle.std.proofs.Common.{◌≡◌, ◌++◌, Some, Err, IfErr, refl, ap, sym, subst, ◌∙◌}
 use Rattle.std.proofs.lemmas.Result.{err_from_is_err_and}
 use Rattle.bgp_wire.specs.Lent.{octets_of}
-use Rattle.bgp_wire.specs.Reach.{Reach, unicast_octets, BeginsIn, SpellsUnicast, SpellsReach, SaysReach}
-use Rattle.bgp_paths.specs.Reading.{Refuses}
+use Rattle.bgp_wire.specs.Reach.{Reach, unicast_octets, SpellsUnicast, SpellsReach, SaysReach}
+use Rattle.bgp_wire.specs.Multiprotocol.{BeginsIn}
+use Rattle.bgp_paths.specs.Readers.{Refuses}
 use Rattle.bgp_paths.proofs.Refusing.{refused_part}
 use Rattle.bgp_wire.proofs.Reaching.{reach_part}
 use Rattle.bgp_wire.proofs.reach.fill_reach.Goals as goal

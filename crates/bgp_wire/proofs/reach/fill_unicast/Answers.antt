@@ -4,7 +4,7 @@ use Rattle.ip_prefix.specs.Address.{Address}
 use Rattle.ip_prefix.specs.Sequences.{SpellsAll}
 use Rattle.ip_prefix.specs.Wire.{SpellsNetwork}
 use Rattle.bgp_wire.specs.Reach.{HopStands, SpellsUnicast}
-use Rattle.bgp_paths.specs.Reading.{Refuses}
+use Rattle.bgp_paths.specs.Readers.{Refuses}
 use Rattle.bgp_paths.proofs.Refusing.{refused_part}
 use Rattle.bgp_wire.proofs.Reaching.{same_stand}
 use Rattle.bgp_wire.proofs.reach.fill_unicast.Goals as goal

@@ -7,7 +7,7 @@ use Rattle.bgp_wire.specs.Content.{SpellsRibAttrs}
 use Rattle.bgp_wire.specs.Lent.{octets_of}
 use Rattle.bgp_wire.specs.NextHop.{SpellsRibHop}
 use Rattle.bgp_wire.specs.PlainValues.{SpellsPlainly}
-use Rattle.bgp_paths.specs.Reading.{Refuses}
+use Rattle.bgp_paths.specs.Readers.{Refuses}
 use Rattle.bgp_wire.specs.Value.{SpellsOptional}
 use Rattle.bgp_wire.proofs.OneAttribute.{attribute_code}
 use Rattle.bgp_wire.proofs.Plainly.{rib_plainly}

@@ -7,7 +7,7 @@ use Rattle.bgp_wire.specs.Lent.{octets_of}
 use Rattle.bgp_wire.specs.Parts.{SpellsParts}
 use Rattle.bgp_wire.specs.PlainValues.{SpellsPlainly}
 use Rattle.bgp_wire.specs.Reach.{SaysReach, SaysUnreach}
-use Rattle.bgp_paths.specs.Reading.{Refuses}
+use Rattle.bgp_paths.specs.Readers.{Refuses}
 use Rattle.bgp_wire.proofs.OneAttribute.{attribute_code}
 use Rattle.bgp_wire.proofs.Plainly.{parts_plainly}
 use Rattle.bgp_paths.proofs.Refusing.{refused_part}

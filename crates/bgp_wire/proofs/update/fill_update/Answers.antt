@@ -6,7 +6,7 @@ use Rattle.ip_prefix.specs.Wire.{SpellsNetwork}
 use Rattle.bgp_wire.specs.Attribute.{SpellsAttributes}
 use Rattle.bgp_wire.specs.Parts.{SpellsParts}
 use Rattle.bgp_wire.specs.Reach.{reach_hop, reach_prefixes}
-use Rattle.bgp_paths.specs.Reading.{Refuses}
+use Rattle.bgp_paths.specs.Readers.{Refuses}
 use Rattle.bgp_wire.specs.Update.{SpellsUpdate}
 use Rattle.bgp_paths.proofs.Refusing.{refused_part}
 use Rattle.bgp_wire.proofs.Reaching.{same_update}

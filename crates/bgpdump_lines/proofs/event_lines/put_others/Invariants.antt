@@ -3,7 +3,7 @@ use Rattle.std.proofs.Common.{◌≡◌, ◌++◌, take}
 use Rattle.std.specs.List.{flat_map}
 use Rattle.mrt_wire.specs.Event.{saying}
 use Rattle.bgpdump_lines.specs.Copying.{AreOrdered, front_at, tail_at}
-use Rattle.bgpdump_lines.specs.Lines.{route_tail}
+use Rattle.bgpdump_lines.specs.Fields.{route_tail}
 use Rattle.bgpdump_lines.specs.Heading.{route_front, headed_line}
 use Rattle.bgpdump_lines.proofs.event_lines.put_others.Given as goal
 

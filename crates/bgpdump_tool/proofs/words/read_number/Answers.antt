@@ -1,6 +1,6 @@
 use Rattle.std.proofs.Common.{arith, sym, subst}
 use Rattle.std.specs.Str.Parse.{ParsesUnsigned}
-use Rattle.bgp_wire.specs.Reading.{Finds}
+use Rattle.bgp_wire.specs.Readers.{Finds}
 use Rattle.bgpdump_tool.specs.Command.{SpellsDecimal}
 use Rattle.bgpdump_tool.proofs.DecimalLaws.{BeginsPlainly, marked_no_decimal, no_text_no_decimal, parsed_decimal}
 use Rattle.bgpdump_tool.proofs.words.read_number.Goals as goal

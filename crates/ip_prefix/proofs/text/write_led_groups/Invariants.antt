@@ -1,5 +1,5 @@
 use Rattle.std.proofs.Common.{◌+◌, ◌*◌, ◌≤◌, take}
-use Rattle.ip_prefix.specs.Text.{led_groups}
+use Rattle.ip_prefix.specs.Marks.{led_groups}
 use Rattle.octet_text.specs.Written.{IsWritten}
 use Rattle.ip_prefix.proofs.text.write_led_groups.Given as goal
 

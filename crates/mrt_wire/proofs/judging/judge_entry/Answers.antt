@@ -6,7 +6,7 @@ use Rattle.mrt_wire.specs.declared.profile.Form.TheVariants as form
 use Rattle.mrt_wire.specs.Content.{Entry, SpellsContent}
 use Rattle.mrt_wire.specs.TableDump.{SpellsPeerEntry}
 use Rattle.mrt_wire.specs.Items.{peer_entry_items}
-use Rattle.mrt_frames.specs.Record.{record_under}
+use Rattle.mrt_frames.specs.Parts.{record_under}
 use Rattle.mrt_wire.specs.Verdict.{table_event}
 use Rattle.mrt_wire.specs.Judging.{Judges, Told}
 use Rattle.mrt_wire.proofs.JudgingLaws.{refused_body}

@@ -5,7 +5,7 @@ use Rattle.mrt_wire.specs.declared.event.Tag.TheVariants.{TableDump2}
 use Rattle.mrt_wire.specs.declared.profile.Form.TheVariants as form
 use Rattle.mrt_wire.specs.Content.{Peers, SpellsContent}
 use Rattle.mrt_wire.specs.PeerIndex.{SpellsPeerIndex}
-use Rattle.mrt_frames.specs.Record.{record_under}
+use Rattle.mrt_frames.specs.Parts.{record_under}
 use Rattle.mrt_wire.specs.Event.{saying}
 use Rattle.mrt_wire.specs.Verdict.{table_event}
 use Rattle.mrt_wire.specs.Judging.{Judges}

@@ -5,7 +5,7 @@ use Rattle.mrt_wire.specs.declared.event.Tag.TheVariants.{TableDump2}
 use Rattle.mrt_wire.specs.declared.profile.Form.TheVariants as form
 use Rattle.mrt_wire.specs.Content.{Entries, SpellsContent}
 use Rattle.mrt_wire.specs.Rib.{SpellsRib}
-use Rattle.mrt_frames.specs.Record.{record_under}
+use Rattle.mrt_frames.specs.Parts.{record_under}
 use Rattle.mrt_wire.specs.Items.{first_unknown, entries_items}
 use Rattle.mrt_wire.specs.Verdict.{entries_fault, table_event}
 use Rattle.mrt_wire.specs.Judging.{Judges}

@@ -4,7 +4,7 @@ use Rattle.bgp_paths.proofs.Refusing.{refused_part}
 use Rattle.mrt_wire.specs.declared.profile.Form.TheVariants as form
 use Rattle.mrt_wire.specs.Content.{Session, SpellsContent}
 use Rattle.mrt_wire.specs.Session.{SpellsSessionBody}
-use Rattle.mrt_frames.specs.Record.{record_under}
+use Rattle.mrt_frames.specs.Parts.{record_under}
 use Rattle.mrt_wire.specs.Verdict.{session_event}
 use Rattle.mrt_wire.specs.Judging.{Judges, Told, session_told}
 use Rattle.mrt_wire.proofs.JudgingLaws.{refused_body}

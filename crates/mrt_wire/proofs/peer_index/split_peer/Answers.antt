@@ -1,7 +1,7 @@
 use Rattle.std.proofs.Common.{subst}
 use Rattle.mrt_wire.specs.Fields.{SpellsAddressOf}
 use Rattle.bgp_wire.specs.Number.{SpellsAsn}
-use Rattle.ip_prefix.specs.Sequences.{BeginsWithNone}
+use Rattle.ip_prefix.specs.Fronts.{BeginsWithNone}
 use Rattle.ip_prefix.specs.Sequences.{Begins}
 use Rattle.mrt_wire.proofs.PeerIndexLaws.{no_kind, no_id, no_address, no_asn, a_peer}
 use Rattle.mrt_wire.proofs.peer_index.split_peer.Goals as goal

@@ -1,7 +1,7 @@
 use Rattle.std.proofs.Common.{Err, ap, sym, subst, ◌∙◌, arith}
 use Rattle.std.specs.Prelude.{IfErr}
 use Rattle.std.proofs.lemmas.Result.{err_from_is_err_and}
-use Rattle.bgp_wire.specs.Reading.{Refuses}
+use Rattle.bgp_wire.specs.Readers.{Refuses}
 use Rattle.mrt_wire.specs.Rib.{SpellsEntry, SpellsEntries}
 use Rattle.mrt_wire.specs.Judging.{entry_read}
 use Rattle.mrt_wire.proofs.ReadingLaws.{no_count, counted_refused, counted}

@@ -1,6 +1,6 @@
 use Rattle.std.proofs.Common.{sym, subst}
 use Rattle.std.proofs.lemmas.Result.{err_from_is_err_and}
-use Rattle.bgp_wire.specs.Reading.{RefusesFront}
+use Rattle.bgp_wire.specs.Readers.{RefusesFront}
 use Rattle.mrt_wire.specs.Rib.{SpellsEntry}
 use Rattle.mrt_wire.proofs.RibLaws.{entry_fields, refused_attrs}
 use Rattle.mrt_wire.proofs.rib.read_entry.Goals as goal

@@ -2,7 +2,7 @@ use Rattle.std.proofs.Common.{sym, subst}
 use Rattle.ip_prefix.specs.Fields.{Then}
 use Rattle.ip_prefix.specs.Sequences.{Begins}
 use Rattle.ip_prefix.specs.Wire.{SpellsNetwork}
-use Rattle.bgp_wire.specs.Reading.{Refuses}
+use Rattle.bgp_wire.specs.Readers.{Refuses}
 use Rattle.bgp_paths.proofs.Refusing.{refused_part}
 use Rattle.mrt_wire.specs.Rib.{SpellsEntries, SpellsPrefixed}
 use Rattle.mrt_wire.proofs.ReadingLaws.{refused_behind, refused_so}

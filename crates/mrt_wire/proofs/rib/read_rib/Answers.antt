@@ -1,4 +1,4 @@
-use Rattle.bgp_wire.specs.Reading.{Refuses}
+use Rattle.bgp_wire.specs.Readers.{Refuses}
 use Rattle.mrt_wire.specs.declared.rib.TheConstants.{SEQUENCE_SIZE}
 use Rattle.mrt_wire.specs.Rib.{SpellsPrefixed, SpellsRib}
 use Rattle.mrt_wire.proofs.FieldFronts.{octets_front}

@@ -1,5 +1,5 @@
 use Rattle.std.proofs.Common.{refl, sym, subst}
-use Rattle.bgp_wire.specs.Reading.{Reads}
+use Rattle.bgp_wire.specs.Readers.{Reads}
 use Rattle.bgp_paths.proofs.Refusing.{reads_whole}
 use Rattle.mrt_wire.specs.declared.profile.SessionKind.TheVariants.{Message}
 use Rattle.mrt_wire.specs.Items.{receipt_items, session_items}

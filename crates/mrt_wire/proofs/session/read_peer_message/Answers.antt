@@ -1,7 +1,7 @@
 use Rattle.std.proofs.Common.{Err, ap, sym, subst, ◌∙◌}
 use Rattle.std.proofs.lemmas.Result.{err_from_is_err_and}
 use Rattle.bgp_wire.specs.Parts.{message_in}
-use Rattle.bgp_wire.specs.Reading.{Reads}
+use Rattle.bgp_wire.specs.Readers.{Reads}
 use Rattle.bgp_wire.specs.Update.{SpellsMessage}
 use Rattle.bgp_paths.proofs.Refusing.{refused_part}
 use Rattle.ip_prefix.specs.Fields.{Then}

@@ -1,6 +1,6 @@
 use Rattle.std.proofs.Common.{Err, ap, sym, subst, ◌∙◌}
 use Rattle.std.proofs.lemmas.Result.{err_from_is_err_and}
-use Rattle.bgp_wire.specs.Reading.{Reads}
+use Rattle.bgp_wire.specs.Readers.{Reads}
 use Rattle.mrt_wire.specs.Judging.{Told, session_told}
 use Rattle.mrt_wire.specs.Session.{SpellsSessionBody}
 use Rattle.mrt_wire.proofs.SessionLaws.{not_timed, told_untimed, refused_untimed, told_timed, refused_timed}

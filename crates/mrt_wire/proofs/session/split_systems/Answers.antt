@@ -1,5 +1,5 @@
 use Rattle.std.proofs.Common.{subst}
-use Rattle.ip_prefix.specs.Sequences.{BeginsWithNone}
+use Rattle.ip_prefix.specs.Fronts.{BeginsWithNone}
 use Rattle.ip_prefix.specs.Sequences.{Begins}
 use Rattle.mrt_wire.specs.Fields.{AreOctets}
 use Rattle.octet_forms.proofs.Fields.{both_front, none_first, none_second}

@@ -1,6 +1,6 @@
 -- The first bits are those of the number with zeros below them.
 use Rattle.std.proofs.Common.{◌≡◌, ℕ, ◌-◌, ◌^◌, ◌/◌, ◌≤◌, length, take, ap, sym, subst, ◌∙◌, arith}
-use Rattle.ip_prefix.specs.Highest.{highest_part}
+use Rattle.ip_prefix.specs.Filled.{highest_part}
 use Rattle.ip_prefix.specs.declared.prefix.Prefix.TheInside.{Inside}
 use Rattle.ip_prefix.specs.contracts.prefix.Prefix.{the_view}
 use Rattle.ip_prefix.specs.Bits.{bits_of}

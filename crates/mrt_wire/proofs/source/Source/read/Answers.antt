@@ -2,7 +2,7 @@ use Rattle.std.proofs.Common.{◌+◌, Err, sym, ◌∙◌, ap}
 use Rattle.mrt_frames.specs.declared.fault.RecordKind.TheVariants.{Unsupported}
 use Rattle.mrt_wire.specs.declared.judging.Refusal.TheVariants.{Fault}
 use Rattle.mrt_wire.specs.Judging.{judged_answer}
-use Rattle.mrt_wire.specs.Profile.{is_read}
+use Rattle.mrt_wire.specs.Bodies.{is_read}
 use Rattle.mrt_wire.proofs.NextLaws.{Nexts-record, Nexts-passed}
 use Rattle.mrt_wire.proofs.source.Source.read.Goals as goal
 

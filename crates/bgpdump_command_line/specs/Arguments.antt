@@ -1,0 +1,42 @@
+-- Private.
+-- The arguments of the command line one by one, its mode, and the fault of its words.
+use Rattle.std.specs.Prelude.{◌≡◌, ◌≢◌, ⊤, true, false, List, is_some, Result, Ok, Err, codes}
+use Rattle.clap.specs.declared.Arg.{Arg}
+use Rattle.clap.specs.declared.ArgMatches.{ArgMatches}
+use Rattle.clap.specs.declared.Command.{Command}
+use Rattle.clap.specs.declared.builder.value_parser.ValueParser.{ValueParser}
+use Rattle.clap.specs.declared.error.ErrorKind.{ErrorKind}
+use Rattle.clap.specs.declared.error.ErrorKind.TheVariants.{DisplayHelp, OutOfMemory}
+use Rattle.clap.specs.Words.{App, IsParsedFrom, IsPlainArg, Row, Rule, first_value, found_of}
+use Rattle.bgpdump_command_line.specs.declared.usage.Mode.{Mode}
+use Rattle.bgpdump_command_line.specs.declared.usage.UsageFault.{UsageFault}
+use Rattle.bgpdump_command_line.specs.declared.usage.UsageFault.TheVariants as usage
+use Rattle.bgpdump_command_line.specs.CommandLine.{times_rule, command_line, TakesTimes, has_one_mode, IsMode}
+
+abbrev pub IsTimesRule : Rule → Type 0
+IsTimesRule rule = (times : ValueParser) × TakesTimes times × (rule ≡ times_rule times)
+
+abbrev pub IsCommandLine : App → Type 0
+IsCommandLine app = (times : ValueParser) × TakesTimes times × (app ≡ command_line times)
+
+-- the argument excludes no other, and no other command has it
+abbrev pub StandsAlone : Arg → Type 0
+StandsAlone argument = IsPlainArg argument × (argument.global ≡ false)
+
+-- each parse gives the input a value
+abbrev pub TakesInput : Command → Type 0
+TakesInput command = (matches : ArgMatches) → IsParsedFrom command matches → is_some (first_value (found_of matches) (codes "input")) ≡ true
+
+-- the mode of the matches, where there is just one
+abbrev pub GivesMode : List Row → Result Mode UsageFault → Type 0
+GivesMode rows (Ok mode) = (has_one_mode rows ≡ true) × IsMode rows mode
+GivesMode rows (Err usage.Mode) = has_one_mode rows ≡ false
+GivesMode rows (Err usage.Memory) = ⊤
+GivesMode rows (Err fault) = ⊥
+
+-- the fault of a parse that had an error of this kind
+abbrev pub IsFaultOf : ErrorKind → UsageFault → Type 0
+IsFaultOf kind (usage.Help text) = kind ≡ DisplayHelp
+IsFaultOf kind (usage.Words text) = (kind ≢ DisplayHelp) × (kind ≢ OutOfMemory)
+IsFaultOf kind usage.Memory = ⊤
+IsFaultOf kind fault = ⊥
