@@ -4,3 +4,4 @@ pub mod Reading
 pub mod Text
 pub mod Merge
 pub mod Codes
+pub mod Appending
