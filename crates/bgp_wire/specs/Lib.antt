@@ -16,3 +16,4 @@ pub mod Reach
 pub mod Update
 pub mod Codes
 pub mod Parts
+pub mod FirstValues
