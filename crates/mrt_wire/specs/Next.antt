@@ -1,5 +1,5 @@
 -- What a call of `next` takes and answers.
-use Rattle.std.specs.Prelude.{◌≡◌, ◌⊎◌, ◌∷◌, [], ℕ, ◌+◌, ◌++◌, List, Option, Some, Result, Ok, Err}
+use Rattle.std.specs.Prelude.{◌≡◌, ◌⊎◌, ◌∷◌, [], ℕ, ◌+◌, ◌++◌, List, Option, Some, Result, Ok, Err, take}
 use Rattle.mrt_frames.specs.declared.fault.RecordKind.TheVariants.{CutRecord}
 use Rattle.mrt_frames.specs.declared.fault.SourceFault.{SourceFault}
 use Rattle.mrt_frames.specs.declared.fault.SourceFault.TheVariants.{Memory}
@@ -12,7 +12,8 @@ use Rattle.mrt_wire.specs.Verdict.{Frame, ReadsAs}
 use Rattle.mrt_frames.specs.Rest.{rest_fault}
 use Rattle.mrt_wire.specs.Results.{Finding, Found, Bad, finding, fault_findings}
 use Rattle.mrt_frames.specs.Taking.{IsBegun, EndsAt}
-use Rattle.mrt_wire.specs.Place.{Place, place_behind, stopped_place}
+use Rattle.mrt_wire.specs.Place.{Place, place_behind, stopped_place, results}
+use Rattle.mrt_wire.specs.Splitting.{Splits}
 
 -- what an answer tells
 abbrev pub answer_findings : Next → List Finding
@@ -53,6 +54,12 @@ MayFollow next.End more = more ≡ []
 pub record Took (old new : Option (List ℕ)) (taken after : List ℕ) : Type 0 where
   pub before : old ≡ Some (taken ++ after)
   pub now : new ≡ Some after
+
+-- the answer is the first result of any split of the octets taken, with any behind them that may follow
+abbrev pub IsFirstResult : Place → Option (List ℕ) → Option (List ℕ) → Next → Type 0
+IsFirstResult p left left' answer =
+    (taken after more : List ℕ) (frames : List Frame) (rest : List ℕ) → Took left left' taken after → MayFollow answer more
+    → Splits p.stamp p.index (taken ++ more) frames rest → take 1 (results p frames rest) ≡ answer_findings answer
 
 -- a place where the source is spent, if it answered a fault
 abbrev pub spent_place : Place → Result Next SourceFault → Place
