@@ -7,3 +7,4 @@ pub mod Text
 pub mod Printed
 pub mod Merge
 pub mod Codes
+pub mod Appending

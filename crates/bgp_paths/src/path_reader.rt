@@ -1,12 +1,13 @@
 //! Reading AS paths.
 
-ghost use Rattle.std.specs.Prelude.{◌≡◌, ◌≤◌, ◌+◌, ◌++◌, ◌∷◌, [], ℕ, List, OnOk, IfErr, IfSome, IfNone, length, take, vec_len};
+ghost use Rattle.std.specs.Prelude.{◌≡◌, ◌≤◌, ◌+◌, ℕ, OnOk, IfErr, IfSome, IfNone, length, take, vec_len};
 ghost use Rattle.ip_prefix.specs.Sequences.{SpellsAll};
 ghost use Rattle.ip_prefix.specs.Fronts.{BeginsWithNone};
 ghost use Rattle.bgp_paths.specs.Number.{SpellsAsn};
 ghost use Rattle.bgp_paths.specs.Path.{kind_code, SpellsSegment};
 ghost use Rattle.bgp_paths.specs.Segments.{IsFramed};
 ghost use Rattle.bgp_paths.specs.Readers.{Finds, Refuses};
+ghost use Rattle.bgp_paths.specs.Appending.{AppendsSegment};
 
 use crate::fault::WireFault;
 use crate::path::{AsNumbers, AsWidth, Segment, SegmentKind};
@@ -70,23 +71,21 @@ fn fill_segment(
     alloc: Global,
     segments: &mut Vec<Segment>,
     place: usize,
-    kind: SegmentKind,
     width: AsWidth,
-    body: &[u8],
+    framed: FramedSegment<'_>,
 ) -> Result<(), WireFault>
     requires { place ≤ vec_len segments.old }
-    ensures filled { OnOk result ((numbers : List ℕ) × SpellsAll (SpellsAsn width) numbers body.now
-        × (take (place + 1) segments.new.items ≡ take place segments.old.items
-        ++ record { numbers = numbers; kind = kind } ∷ [])) }
+    ensures filled { OnOk result (AppendsSegment width framed.entry.kind framed.entry.body.now
+        (take place segments.old.items) (take (place + 1) segments.new.items)) }
     ensures within { OnOk result (place + 1 ≤ length segments.new.items) }
-    ensures refused { IfErr result (Refuses (SpellsAll (SpellsAsn width)) body.now) }
+    ensures refused { IfErr result (Refuses (SpellsAll (SpellsAsn width)) framed.entry.body.now) }
 {
     if place < segments.len() {
         let segment = &mut segments[place];
-        segment.kind = kind;
-        return segment.numbers.fill(width, body);
+        segment.kind = framed.kind;
+        return segment.numbers.fill(width, framed.body);
     }
-    push_segment(alloc, segments, kind, width, body)
+    push_segment(alloc, segments, width, framed)
 }
 
 /// Puts a segment of these numbers behind all. Most paths have one, so there is room for one first.
@@ -94,21 +93,22 @@ fn fill_segment(
 fn push_segment(
     alloc: Global,
     segments: &mut Vec<Segment>,
-    kind: SegmentKind,
     width: AsWidth,
-    body: &[u8],
+    framed: FramedSegment<'_>,
 ) -> Result<(), WireFault>
-    ensures pushed { OnOk result ((numbers : List ℕ) × SpellsAll (SpellsAsn width) numbers body.now
-        × (segments.new.items ≡ segments.old.items
-        ++ record { numbers = numbers; kind = kind } ∷ [])) }
-    ensures refused { IfErr result (Refuses (SpellsAll (SpellsAsn width)) body.now) }
+    ensures pushed { OnOk result (AppendsSegment width framed.entry.kind framed.entry.body.now
+        segments.old.items segments.new.items) }
+    ensures refused { IfErr result (Refuses (SpellsAll (SpellsAsn width)) framed.entry.body.now) }
 {
     let mut numbers = AsNumbers::from_vec(Vec::new(alloc));
-    numbers.fill(width, body)?;
+    numbers.fill(width, framed.body)?;
     if segments.capacity() == 0 {
         segments.reserve_exact(1)?;
     }
-    segments.push(Segment { numbers, kind })?;
+    segments.push(Segment {
+        numbers,
+        kind: framed.kind,
+    })?;
     Ok(())
 }
 
@@ -130,7 +130,7 @@ pub(crate) fn fill_segments(
         let Some(framed) = frame_segment(width, rest) else {
             return Err(WireFault::Malformed);
         };
-        fill_segment(alloc, segments, count, framed.kind, width, framed.body)?;
+        fill_segment(alloc, segments, count, width, framed)?;
         count += 1;
         rest = framed.rest;
     }

@@ -19,3 +19,4 @@ pub mod Multiprotocol
 pub mod Update
 pub mod Codes
 pub mod Parts
+pub mod FirstValues

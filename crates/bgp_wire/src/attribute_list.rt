@@ -1,17 +1,18 @@
 //! Reading a list of path attributes in one walk, of each type the first.
 
-ghost use Rattle.std.specs.Prelude.{◌≡◌, ◌<◌, List, [], Some, None, OnOk, OnErr, IfErr};
+ghost use Rattle.std.specs.Prelude.{◌≡◌, ◌<◌, List, [], Some, OnOk, OnErr, IfErr};
 ghost use Rattle.bgp_wire.specs.declared.framing.TheConstants.{KINDS};
 ghost use Rattle.bgp_wire.specs.Attribute.{Attribute};
-ghost use Rattle.bgp_wire.specs.PlainValues.{FirstOf, firsts_of, with_value, AreLater, ReadSoFar};
+ghost use Rattle.bgp_wire.specs.FirstValues.{HoldsWithValue};
+ghost use Rattle.bgp_wire.specs.PlainValues.{FirstOf, firsts_of, AreLater, ReadSoFar};
 ghost use Rattle.bgp_wire.specs.PlainValues.{SaysPlainly, SpellsPlainly, ReadsList};
 ghost use Rattle.bgp_paths.specs.Readers.{Refuses};
 ghost use Rattle.bgp_wire.specs.SeenTypes.{Tells};
 
 use crate::attrs::Attrs;
 use crate::framing::{
-    AGGREGATOR, AS_PATH, AS4_AGGREGATOR, AS4_PATH, ATOMIC_AGGREGATE, COMMUNITIES, LOCAL_PREF,
-    MP_REACH_NLRI, MP_UNREACH_NLRI, MULTI_EXIT_DISC, NEXT_HOP, ORIGIN, split_attribute,
+    AGGREGATOR, AS_PATH, AS4_AGGREGATOR, AS4_PATH, ATOMIC_AGGREGATE, COMMUNITIES, FramedAttribute,
+    LOCAL_PREF, MP_REACH_NLRI, MP_UNREACH_NLRI, MULTI_EXIT_DISC, NEXT_HOP, ORIGIN, split_attribute,
 };
 use crate::seen_types::SeenTypes;
 use crate::values::{fill_presence, put_found, read_aggregator, read_ipv4, read_origin, read_word};
@@ -47,19 +48,19 @@ impl<'a> LaterValues<'a> {
 fn read_first<'a>(
     alloc: Global,
     width: AsWidth,
-    kind: u8,
-    value: &'a [u8],
+    framed: FramedAttribute<'a>,
     attrs: &mut Attrs,
     later: &mut LaterValues<'a>,
 ) -> Result<(), WireFault>
-    ensures read { OnOk result ((first : FirstOf) → (kind < KINDS → first kind ≡ None) →
-        ReadSoFar width attrs.old later.old first →
-        ReadSoFar width attrs.new later.new (with_value kind value.now first)) }
-    ensures refused { IfErr result (λ fault. (first : FirstOf) → first kind ≡ Some value.now →
+    ensures read { OnOk result (HoldsWithValue framed.entry.kind framed.entry.value.now
+        (ReadSoFar width attrs.old later.old) (ReadSoFar width attrs.new later.new)) }
+    ensures refused { IfErr result (λ fault. (first : FirstOf) →
+        first framed.entry.kind ≡ Some framed.entry.value.now →
         Refuses (SaysPlainly width) first fault) }
-    ensures known { OnErr result (kind < KINDS) }
+    ensures known { OnErr result (framed.entry.kind < KINDS) }
 {
-    match kind {
+    let value = framed.value;
+    match framed.kind {
         ORIGIN => put_found(&mut attrs.origin, read_origin(value)),
         AS_PATH => attrs.path.fill(alloc, width, value),
         NEXT_HOP => put_found(&mut attrs.next_hop, read_ipv4(value)),
@@ -69,7 +70,7 @@ fn read_first<'a>(
         AGGREGATOR => put_found(&mut attrs.aggregator, read_aggregator(value)),
         COMMUNITIES => attrs.communities.fill(value),
         _ => {
-            keep_later(kind, value, later);
+            keep_later(framed.kind, value, later);
             Ok(())
         }
     }
@@ -78,8 +79,7 @@ fn read_first<'a>(
 /// Keeps the value of the first attribute of its type, if it is one of those that are read later.
 #[inline(always)]
 fn keep_later<'a>(kind: u8, value: &'a [u8], later: &mut LaterValues<'a>)
-    ensures { (first : FirstOf) → (kind < KINDS → first kind ≡ None) →
-        AreLater later.old first → AreLater later.new (with_value kind value.now first) }
+    ensures { HoldsWithValue kind value.now (AreLater later.old) (AreLater later.new) }
 {
     match kind {
         MP_REACH_NLRI => later.reach = Some(value),
@@ -129,7 +129,7 @@ pub(crate) fn read_list<'a>(
             return Err(WireFault::Malformed);
         };
         if !types.note(framed.kind) {
-            read_first(alloc, width, framed.kind, framed.value, attrs, later)?;
+            read_first(alloc, width, framed, attrs, later)?;
         }
         rest = framed.rest;
     }

@@ -1,15 +1,29 @@
 -- What a run of the program leaves with its writers, and of its input.
-use Rattle.std.specs.Prelude.{ℕ, List, Option, IfSome, IsTrue}
+use Rattle.std.specs.Prelude.{◌≡◌, ℕ, ◌^◌, List, [], length, Option, Some, None, IfSome, IsTrue}
 use Rattle.std.specs.Io.KnownBytes.{Keeps}
-use Rattle.std.specs.Io.Buffered.{reader_remaining}
+use Rattle.std.specs.Io.Buffered.{reader_remaining, writer_contents}
 use Rattle.std.specs.declared.io.BufReader.{BufReader}
 use Rattle.std.specs.declared.alloc.Global.{Global}
 use Rattle.mrt_wire.specs.declared.ReadInput.{ReadInput}
-use Rattle.bgpdump_tool.specs.Run.{Outputs, outputs_of}
+use Rattle.mrt_wire.specs.declared.Stamp.{Stamp}
+use Rattle.mrt_wire.specs.Next.{Took}
+use Rattle.mrt_wire.specs.Results.{Finding}
+use Rattle.mrt_wire.specs.Splitting.{Splits}
+use Rattle.mrt_wire.specs.Verdict.{Frame}
+use Rattle.bgpdump_tool.specs.Run.{EndedByInput, EndsSo, Outputs, OverTaken, Texts, Writes, all_results, outputs_of}
+use Rattle.bgpdump_tool.specs.Script.{IsScript, Line}
+use Rattle.bgpdump_tool.specs.declared.Outcome.{Outcome}
+use Rattle.bgpdump.specs.declared.run.Ended.{Ended}
+use Rattle.bgpdump.specs.declared.run.Streams.{Streams}
 
 -- what the writers hold that came back relates so to what they held before; nothing is said where none came back
 abbrev pub Leaves : {O E : Type 0} → (O → Option (List ℕ)) → (E → Option (List ℕ)) → (Outputs → Outputs → Type 0) → O → E → Option (O × E) → Type 0
 Leaves contents contents' Relates out err writers = IfSome writers (λ both. Relates (outputs_of contents contents' out err) (outputs_of contents contents' both.0 both.1))
+
+-- what the outputs of a run hold, with what is still in their buffers
+abbrev pub buffered_outputs : {R O E : Type 0} → (O → Option (List ℕ)) → (E → Option (List ℕ)) → Streams R O E → Outputs
+buffered_outputs contents contents' streams =
+    outputs_of (λ out. writer_contents contents out.writer) (λ err. writer_contents contents' err.writer) streams.out streams.err
 
 -- known octets stay in both outputs
 abbrev pub KeepsBoth : Outputs → Outputs → Type 0
@@ -21,3 +35,30 @@ left_of remaining input = reader_remaining remaining input.reader
 
 abbrev pub has_failed : {R : Type 0} → ReadInput R → Type 0
 has_failed input = IsTrue input.failed
+
+-- what an input that came back has left relates so to what its reader had left before; nothing is said where none came back
+abbrev pub HasTaken : {R : Type 0} → (R → Option (List ℕ)) → (Option (List ℕ) → Option (List ℕ) → Type 0) → R → Option (ReadInput (BufReader R Global)) → Type 0
+HasTaken remaining Relates reader input = IfSome input (λ input. Relates (remaining reader) (left_of remaining input))
+
+-- the same where the run was ended by the input
+abbrev pub WasCutOff : {R O E : Type 0} → (R → Option (List ℕ)) → (Option (List ℕ) → Option (List ℕ) → Type 0) → R → Ended R O E → Type 0
+WasCutOff remaining Relates reader ended = EndedByInput ended.outcome → HasTaken remaining Relates reader ended.input
+
+-- where a reader tells its octets, the writers that came back have got the texts of what is found in them, as far as a run has that ended so
+abbrev pub LeavesSo : {O E : Type 0} → (O → Option (List ℕ)) → (E → Option (List ℕ)) → Stamp → (List Finding → Texts) → Option (List ℕ) → Outcome → O → E → Option (O × E) → Type 0
+LeavesSo contents contents' stamp texts left outcome out err writers =
+    (octets : List ℕ) (frames : List Frame) (rest : List ℕ) → left ≡ Some octets → Splits stamp None octets frames rest
+    → Leaves contents contents' (EndsSo outcome (texts (all_results stamp frames rest))) out err writers
+
+-- the writers that came back have got the texts of what the records give that were taken whole
+abbrev pub LeavesWhole : {O E : Type 0} → (O → Option (List ℕ)) → (E → Option (List ℕ)) → Stamp → (List Finding → Texts) → Option (List ℕ) → Option (List ℕ) → O → E → Option (O × E) → Type 0
+LeavesWhole contents contents' stamp texts left left' out err writers =
+    OverTaken stamp left left' (λ frames rest. Leaves contents contents' (Writes (texts (all_results stamp frames []))) out err writers)
+
+-- this is so of the lines that the script asks for
+abbrev pub OverLines : List ℕ → (List Line → Type 0) → Type 0
+OverLines script IsSo = (lines : List Line) → IsScript lines script → IsSo lines
+
+-- as many octets were taken as a run takes at most
+abbrev pub TookMost : Option (List ℕ) → Option (List ℕ) → Type 0
+TookMost left left' = (taken after : List ℕ) → Took left left' taken after → length taken ≡ 2 ^ 40

@@ -1,18 +1,15 @@
 //! Runs over readers and writers, through buffers.
 
-ghost use Rattle.std.specs.Prelude.{◌≡◌, ◌≤◌, ◌<◌, ◌⊎◌, ◌^◌, ℕ, List, [], false, length};
+ghost use Rattle.std.specs.Prelude.{◌≡◌, ◌≤◌, ◌<◌, ◌⊎◌, ℕ, List, false, length};
 ghost use Rattle.std.specs.Prelude.{Some, None, IfSome, IsNone};
 ghost use Rattle.std.specs.Io.Buffered.{writer_contents};
 ghost use Rattle.std.specs.Io.KnownBytes.{Consumes, Keeps};
-ghost use Rattle.mrt_wire.specs.Next.{Took};
-ghost use Rattle.mrt_wire.specs.Splitting.{Splits};
-ghost use Rattle.mrt_wire.specs.Verdict.{Frame};
 ghost use Rattle.bgpdump_tool.specs.Course.{cut_texts, play_texts};
 ghost use Rattle.bgpdump_tool.specs.Reports.{dump_texts};
-ghost use Rattle.bgpdump_tool.specs.Run.{EndedByInput, EndsSo, Writes, all_results, outputs_of};
-ghost use Rattle.bgpdump_tool.specs.Script.{IsScript, Line};
+ghost use Rattle.bgpdump_tool.specs.Run.{outputs_of};
 ghost use Rattle.bgpdump.specs.Endings.{lost_outcome};
-ghost use Rattle.bgpdump.specs.Joining.{KeepsBoth, Leaves, has_failed, left_of};
+ghost use Rattle.bgpdump.specs.Joining.{HasTaken, KeepsBoth, Leaves, LeavesSo, LeavesWhole, OverLines};
+ghost use Rattle.bgpdump.specs.Joining.{TookMost, WasCutOff, buffered_outputs, has_failed};
 
 use bgpdump_tool::{LONGEST_SCRIPT, Outcome, Output, WriteOutput, run_dump, run_play};
 use mrt_wire::{Input, ReadInput, Route, Stamp};
@@ -59,26 +56,19 @@ pub fn dump<R: Read + Drop, O: Write + Drop, E: Write + Drop>(
 ) -> Ended<R, O, E>
     // Of a reader that tells its octets: their lines and reports are what the writers have got, or
     // fronts of them.
-    ensures text { (octets : List ℕ) (frames : List Frame) (rest : List ℕ) →
-        R.remaining reader ≡ Some octets → Splits stamp None octets frames rest →
-        Leaves O.contents E.contents
-        (EndsSo result.outcome (dump_texts (all_results stamp frames rest)))
-        out err result.writers }
+    ensures text { LeavesSo O.contents E.contents stamp dump_texts (R.remaining reader)
+        result.outcome out err result.writers }
 
     // Where the reader failed, or has too much: just those of the records read whole.
-    ensures whole_records { EndedByInput result.outcome → IfSome result.input (λ input.
-        (taken after : List ℕ) (frames : List Frame) (rest : List ℕ) →
-        Took (R.remaining reader) (left_of R.remaining input) taken after →
-        Splits stamp None taken frames rest →
-        Leaves O.contents E.contents (Writes (dump_texts (all_results stamp frames [])))
-        out err result.writers) }
+    ensures whole_records { WasCutOff R.remaining (λ left left'.
+        LeavesWhole O.contents E.contents stamp dump_texts left left' out err result.writers)
+        reader result }
 
     // What was read.
-    ensures taken { IfSome result.input (λ input. (taken : List ℕ)
-        × Consumes (R.remaining reader) (left_of R.remaining input) taken) }
-    ensures too_long { result.outcome ≡ Outcome.InputTooLong → IfSome result.input (λ input.
-        (taken after : List ℕ) → Took (R.remaining reader) (left_of R.remaining input) taken after →
-        length taken ≡ 2 ^ 40) }
+    ensures taken { HasTaken R.remaining (λ left left'. (taken : List ℕ)
+        × Consumes left left' taken) reader result.input }
+    ensures too_long { result.outcome ≡ Outcome.InputTooLong →
+        HasTaken R.remaining TookMost reader result.input }
 
     // Which runs end by a read fault, which aren't begun, and which leave no writers.
     ensures read_fault { result.outcome ≡ Outcome.ReadFault → IfSome result.input has_failed }
@@ -112,31 +102,21 @@ pub fn play<R: Read + Drop, O: Write + Drop, E: Write + Drop>(
 ) -> Ended<R, O, E>
     // Of a reader that tells its octets: the replies to the script over them, and its reports, are
     // what the writers have got, or fronts of them.
-    ensures text { length script.now ≤ LONGEST_SCRIPT →
-        (lines : List Line) → IsScript lines script.now →
-        (octets : List ℕ) (frames : List Frame) (rest : List ℕ) →
-        R.remaining reader ≡ Some octets → Splits stamp None octets frames rest →
-        Leaves O.contents E.contents
-        (EndsSo result.outcome (play_texts lines (all_results stamp frames rest)))
-        out err result.writers }
+    ensures text { length script.now ≤ LONGEST_SCRIPT → OverLines script.now (λ lines.
+        LeavesSo O.contents E.contents stamp (play_texts lines) (R.remaining reader)
+        result.outcome out err result.writers) }
 
     // Where the reader failed, or has too much: just those of the commands that ended, and the
     // reports of the records read whole and of the lines before.
-    ensures whole_records { EndedByInput result.outcome → IfSome result.input (λ input.
-        (lines : List Line) → IsScript lines script.now →
-        (taken after : List ℕ) (frames : List Frame) (rest : List ℕ) →
-        Took (R.remaining reader) (left_of R.remaining input) taken after →
-        Splits stamp None taken frames rest →
-        Leaves O.contents E.contents (Writes (cut_texts lines (all_results stamp frames [])))
-        out err result.writers) }
+    ensures whole_records { WasCutOff R.remaining (λ left left'. OverLines script.now (λ lines.
+        LeavesWhole O.contents E.contents stamp (cut_texts lines) left left'
+        out err result.writers)) reader result }
 
     // What was read.
-    ensures taken { length script.now ≤ LONGEST_SCRIPT → IfSome result.input (λ input.
-        (taken : List ℕ)
-        × Consumes (R.remaining reader) (left_of R.remaining input) taken) }
-    ensures too_long { result.outcome ≡ Outcome.InputTooLong → IfSome result.input (λ input.
-        (taken after : List ℕ) → Took (R.remaining reader) (left_of R.remaining input) taken after →
-        length taken ≡ 2 ^ 40) }
+    ensures taken { length script.now ≤ LONGEST_SCRIPT → HasTaken R.remaining
+        (λ left left'. (taken : List ℕ) × Consumes left left' taken) reader result.input }
+    ensures too_long { result.outcome ≡ Outcome.InputTooLong →
+        HasTaken R.remaining TookMost reader result.input }
 
     // A script that is too long leaves the writers as they were.
     ensures script_too_long { LONGEST_SCRIPT < length script.now → Leaves O.contents E.contents
@@ -174,9 +154,7 @@ fn through_buffers<R: Read + Drop, O: Write + Drop, E: Write + Drop>(
 ) -> Option<Streams<R, O, E>>
     ensures left { IfSome result (λ streams.
         ⟦<ReadInput<BufReader<R>> as Input>⟧.left streams.input ≡ R.remaining reader) }
-    ensures written { IfSome result (λ streams. outputs_of
-        ⟦<WriteOutput<BufWriter<O>> as Output>⟧.written
-        ⟦<WriteOutput<BufWriter<E>> as Output>⟧.written streams.out streams.err
+    ensures written { IfSome result (λ streams. buffered_outputs O.contents E.contents streams
         ≡ outputs_of O.contents E.contents out err) }
     ensures input { IfSome result (λ streams.
         ⟦<ReadInput<BufReader<R>> as Input>⟧.failed streams.input ≡ false) }
@@ -215,8 +193,7 @@ fn close<R: Read + Drop, O: Write + Drop, E: Write + Drop>(
 ) -> Ended<R, O, E>
     ensures input { result.input ≡ Some streams.input }
     ensures kept { IfSome result.writers (λ writers. (result.outcome ≡ outcome) × KeepsBoth
-        (outputs_of ⟦<WriteOutput<BufWriter<O>> as Output>⟧.written
-        ⟦<WriteOutput<BufWriter<E>> as Output>⟧.written streams.out streams.err)
+        (buffered_outputs O.contents E.contents streams)
         (outputs_of O.contents E.contents writers.0 writers.1)) }
     ensures lost { IsNone result.writers → result.outcome ≡ lost_outcome outcome }
 {

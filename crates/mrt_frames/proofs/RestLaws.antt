@@ -9,12 +9,10 @@ use Rattle.mrt_frames.specs.declared.fault.SourceFault.{SourceFault}
 use Rattle.mrt_frames.specs.declared.frames.Front.TheVariants as answer
 use Rattle.mrt_frames.specs.declared.header.Header.{Header}
 use Rattle.mrt_frames.specs.declared.frames.TheConstants.{LONGEST_BODY}
-use Rattle.mrt_frames.specs.Record.{IsHeader, header_octets, spelling}
-use Rattle.mrt_frames.specs.Parts.{record_under}
+use Rattle.mrt_frames.specs.Record.{IsHeader, header_octets}
 use Rattle.mrt_frames.specs.Rest.{rest_kind, rest_fault, stated_size}
-use Rattle.mrt_frames.specs.Device.{Takes}
 use Rattle.mrt_frames.specs.Taking.{IsBegun}
-use Rattle.mrt_frames.specs.Taken.{EndsAt, TakesHeader, TakesBody, PassesBody, TakesRecord}
+use Rattle.mrt_frames.specs.Taken.{EndsAt, TakesOctets, TakesHeader, TakesBody, PassesBody, TakesRecord}
 use Rattle.mrt_frames.proofs.Buffers.{Takes-trans}
 use Rattle.mrt_frames.proofs.RecordLaws.{BeginsWithNoRecord-cut}
 
@@ -46,8 +44,8 @@ EndsAt-begun left octets begun end = record { rest = record { none = begun.none;
 
 -- a fault inside a body
 pub TakesRecord-stopped_place : (supports : ℕ → ℕ → Bool) (a b c : Option (List ℕ)) (k l m limit : ℕ) (buffer : List ℕ) (h : Header) (fault : SourceFault) → h.size ≤ LONGEST_BODY
-    → (front : List ℕ) × Takes a b k l front × TakesHeader b l limit front (Ok (answer.Record h)) → (body : List ℕ) × Takes b c l m body × TakesBody c m limit buffer body h.size (Err fault)
-    → (octets : List ℕ) × Takes a c k m octets × TakesRecord supports c m limit buffer octets (Err fault)
+    → TakesOctets (TakesHeader limit (Ok (answer.Record h))) a b k l → TakesOctets (TakesBody limit buffer h.size (Err fault)) b c l m
+    → TakesOctets (TakesRecord supports limit buffer (Err fault)) a c k m
 TakesRecord-stopped_place supports a b c k l m limit buffer h fault small (front, took, (fits, whole)) (body, took', (short, stops)) = (
   front ++ body,
   Takes-trans a b c k l m front body took took',
@@ -56,8 +54,8 @@ TakesRecord-stopped_place supports a b c k l m limit buffer h fault small (front
 
 -- the end inside a body
 pub TakesRecord-cut : (supports : ℕ → ℕ → Bool) (a b c : Option (List ℕ)) (k l m limit : ℕ) (buffer : List ℕ) (h : Header) → h.size ≤ LONGEST_BODY
-    → (front : List ℕ) × Takes a b k l front × TakesHeader b l limit front (Ok (answer.Record h)) → (body : List ℕ) × Takes b c l m body × TakesBody c m limit buffer body h.size (Ok false)
-    → (octets : List ℕ) × Takes a c k m octets × TakesRecord supports c m limit buffer octets (Ok (answer.Rest (Some CutRecord)))
+    → TakesOctets (TakesHeader limit (Ok (answer.Record h))) a b k l → TakesOctets (TakesBody limit buffer h.size (Ok false)) b c l m
+    → TakesOctets (TakesRecord supports limit buffer (Ok (answer.Rest (Some CutRecord)))) a c k m
 TakesRecord-cut supports a b c k l m limit buffer h small (front, took, (fits, whole)) (body, took', (end, short)) =
     let begun : IsBegun (front ++ body) = subst IsBegun (ap (λ f. f ++ body) (sym whole)) (IsBegun-cut h.seconds h.kind h.subtype h.size body fits small short) in (
       front ++ body,
@@ -67,19 +65,19 @@ TakesRecord-cut supports a b c k l m limit buffer h small (front, took, (fits, w
 
 -- the same where the body was passed over
 pub TakesRecord-passed_stopped : (supports : ℕ → ℕ → Bool) (a b c : Option (List ℕ)) (k l m limit : ℕ) (buffer : List ℕ) (h : Header) (fault : SourceFault) → h.size ≤ LONGEST_BODY
-    → (front : List ℕ) × Takes a b k l front × TakesHeader b l limit front (Ok (answer.Record h)) → (body : List ℕ) × Takes b c l m body × PassesBody c m limit body h.size (Err fault)
-    → (octets : List ℕ) × Takes a c k m octets × TakesRecord supports c m limit buffer octets (Err fault)
+    → TakesOctets (TakesHeader limit (Ok (answer.Record h))) a b k l → TakesOctets (PassesBody limit h.size (Err fault)) b c l m
+    → TakesOctets (TakesRecord supports limit buffer (Err fault)) a c k m
 TakesRecord-passed_stopped supports a b c k l m limit buffer h fault small header (body, took, stops) = TakesRecord-stopped_place supports a b c k l m limit buffer h fault small header (body, took, stops)
 
 pub TakesRecord-passed_cut : (supports : ℕ → ℕ → Bool) (a b c : Option (List ℕ)) (k l m limit : ℕ) (buffer : List ℕ) (h : Header) → h.size ≤ LONGEST_BODY
-    → (front : List ℕ) × Takes a b k l front × TakesHeader b l limit front (Ok (answer.Record h)) → (body : List ℕ) × Takes b c l m body × PassesBody c m limit body h.size (Ok false)
-    → (octets : List ℕ) × Takes a c k m octets × TakesRecord supports c m limit buffer octets (Ok (answer.Rest (Some CutRecord)))
+    → TakesOctets (TakesHeader limit (Ok (answer.Record h))) a b k l → TakesOctets (PassesBody limit h.size (Ok false)) b c l m
+    → TakesOctets (TakesRecord supports limit buffer (Ok (answer.Rest (Some CutRecord)))) a c k m
 TakesRecord-passed_cut supports a b c k l m limit buffer h small header (body, took, cut) = TakesRecord-cut supports a b c k l m limit buffer h small header (body, took, cut)
 
 -- a whole record whose body was passed over
 pub TakesRecord-passed : (supports : ℕ → ℕ → Bool) (a b c : Option (List ℕ)) (k l m limit : ℕ) (buffer : List ℕ) (h : Header) → h.size ≤ LONGEST_BODY → supports h.kind h.subtype ≡ false
-    → (front : List ℕ) × Takes a b k l front × TakesHeader b l limit front (Ok (answer.Record h)) → (body : List ℕ) × Takes b c l m body × PassesBody c m limit body h.size (Ok true)
-    → (octets : List ℕ) × Takes a c k m octets × TakesRecord supports c m limit buffer octets (Ok (answer.Passed h))
+    → TakesOctets (TakesHeader limit (Ok (answer.Record h))) a b k l → TakesOctets (PassesBody limit h.size (Ok true)) b c l m
+    → TakesOctets (TakesRecord supports limit buffer (Ok (answer.Passed h))) a c k m
 TakesRecord-passed supports a b c k l m limit buffer h small unsupported (front, took, (fits, whole)) (body, took', (all, size)) = (
   front ++ body,
   Takes-trans a b c k l m front body took took',

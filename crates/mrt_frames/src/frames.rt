@@ -1,8 +1,8 @@
 //! The records of an input, one behind the other.
 
-ghost use Rattle.std.specs.Prelude.{◌≡◌, ◌+◌, ◌≤◌, ◌||◌, ℕ, List, Bool, IfOk, IsTrue, take, length, vec_len};
-ghost use Rattle.mrt_frames.specs.Device.{Takes, is_read};
-ghost use Rattle.mrt_frames.specs.Taken.{TakesHeader, TakesBody, PassesBody, TakesRecord};
+ghost use Rattle.std.specs.Prelude.{◌≡◌, ◌+◌, ◌≤◌, ◌||◌, ℕ, Bool, IfOk, IsTrue, take, length, vec_len};
+ghost use Rattle.mrt_frames.specs.Device.{is_read};
+ghost use Rattle.mrt_frames.specs.Taken.{TakesOctets, TakesHeader, TakesBody, PassesBody, TakesRecord};
 
 use crate::buffer::{fill_body, fill_within, pass_over};
 use crate::fault::{RecordKind, SourceFault};
@@ -79,9 +79,8 @@ impl FrameReader {
     /// Takes the next header.
     #[inline(always)]
     fn take_header<I: Input>(&mut self, input: &mut I) -> Result<Front, SourceFault>
-        ensures octets { (octets : List ℕ)
-            × Takes (I.left input.old) (I.left input.new) self.old.taken self.new.taken octets
-            × TakesHeader (I.left input.new) self.new.taken self.new.limit octets result }
+        ensures octets { TakesOctets (TakesHeader self.new.limit result)
+            (I.left input.old) (I.left input.new) self.old.taken self.new.taken }
         ensures failed { I.failed input.new ≡ (I.failed input.old || is_read result) }
         ensures limit { self.new.limit ≡ self.old.limit }
     {
@@ -111,10 +110,9 @@ impl FrameReader {
     #[inline(always)]
     fn take_body<I: Input>(&mut self, input: &mut I, size: u32) -> Result<bool, SourceFault>
         requires { size ≤ LONGEST_BODY }
-        ensures octets { (octets : List ℕ)
-            × Takes (I.left input.old) (I.left input.new) self.old.taken self.new.taken octets
-            × TakesBody (I.left input.new) self.new.taken self.new.limit self.new.body.items
-            octets size result }
+        ensures octets { TakesOctets
+            (TakesBody self.new.limit self.new.body.items size result)
+            (I.left input.old) (I.left input.new) self.old.taken self.new.taken }
         ensures failed { I.failed input.new ≡ (I.failed input.old || is_read result) }
         ensures limit { self.new.limit ≡ self.old.limit }
     {
@@ -134,9 +132,8 @@ impl FrameReader {
     /// Passes over a body, and answers whether it is whole.
     #[inline(never)]
     fn pass_body<I: Input>(&mut self, input: &mut I, size: u32) -> Result<bool, SourceFault>
-        ensures octets { (octets : List ℕ)
-            × Takes (I.left input.old) (I.left input.new) self.old.taken self.new.taken octets
-            × PassesBody (I.left input.new) self.new.taken self.new.limit octets size result }
+        ensures octets { TakesOctets (PassesBody self.new.limit size result)
+            (I.left input.old) (I.left input.new) self.old.taken self.new.taken }
         ensures failed { I.failed input.new ≡ (I.failed input.old || is_read result) }
         ensures limit { self.new.limit ≡ self.old.limit }
     {
@@ -151,10 +148,9 @@ impl FrameReader {
         profile: &P,
         input: &mut I,
     ) -> Result<Front, SourceFault>
-        ensures octets { (octets : List ℕ)
-            × Takes (I.left input.old) (I.left input.new) self.old.taken self.new.taken octets
-            × TakesRecord (P.supports profile.now) (I.left input.new) self.new.taken self.new.limit
-            self.new.body.items octets result }
+        ensures octets { TakesOctets
+            (TakesRecord (P.supports profile.now) self.new.limit self.new.body.items result)
+            (I.left input.old) (I.left input.new) self.old.taken self.new.taken }
         ensures failed { I.failed input.new ≡ (I.failed input.old || is_read result) }
         ensures limit { self.new.limit ≡ self.old.limit }
     {

@@ -11,14 +11,13 @@ use Rattle.mrt_frames.specs.declared.fault.RecordKind.TheVariants.{Unsupported}
 use Rattle.mrt_wire.specs.declared.profile.Form.{Form}
 use Rattle.mrt_wire.specs.declared.next.Next.{Next}
 use Rattle.mrt_wire.specs.declared.next.Next.TheVariants as next
-use Rattle.mrt_frames.specs.Device.{Takes}
 use Rattle.mrt_frames.specs.Record.{spelling}
 use Rattle.mrt_frames.specs.Parts.{record_under, record_in}
 use Rattle.mrt_wire.specs.Verdict.{Index, Accepted, Refused, Frame, ReadsAs, index_after}
 use Rattle.mrt_wire.specs.Profile.{form_of}
 use Rattle.mrt_wire.specs.Bodies.{is_read}
 use Rattle.mrt_wire.specs.Judging.{Judges, judged_answer}
-use Rattle.mrt_frames.specs.Taken.{TakesRecord}
+use Rattle.mrt_frames.specs.Taken.{TakesOctets, TakesRecord}
 use Rattle.mrt_wire.specs.Place.{Place, place_behind}
 use Rattle.mrt_wire.specs.Answered.{Nexts, answer_findings}
 
@@ -30,7 +29,7 @@ place_behind-parts p frame index number offset limit e f g h = λ i. record { in
 
 -- a record was taken and judged, and this was answered
 pub Nexts-record : (supports : ℕ → ℕ → Bool) (p : Place) (left left' : Option (List ℕ)) (after limit : ℕ) (buffer body : List ℕ) (h : Header) (index : Index) (judged : Result Event Refusal) (answer : Next)
-    → (octets : List ℕ) × Takes left left' p.offset after octets × TakesRecord supports left' after limit buffer octets (Ok (front.Record h)) → body ≡ take h.size buffer
+    → TakesOctets (TakesRecord supports limit buffer (Ok (front.Record h))) left left' p.offset after → body ≡ take h.size buffer
     → Judges p.stamp p.index index (record_under h body) judged → limit ≡ p.limit → Ok answer ≡ judged_answer (p.number + 1) p.offset judged
     → (octets : List ℕ) × Consumes left left' octets × Nexts p (record { index = index; number = p.number + 1; offset = after; limit = limit; stamp = p.stamp; phase = p.phase }) left' octets (Ok answer)
 Nexts-record supports p left left' after limit buffer body h index (Ok event) answer (octets, took, (supported, size, is_record, whole)) is_body (content, reads, behind_it) same_limit answered =
@@ -75,7 +74,7 @@ no_form None form none is = cc
 
 -- the body of a record was passed over, since it isn't read, and this was answered
 pub Nexts-passed : (p : Place) (left left' : Option (List ℕ)) (after limit : ℕ) (buffer : List ℕ) (h : Header) (answer : Next)
-    → (octets : List ℕ) × Takes left left' p.offset after octets × TakesRecord is_read left' after limit buffer octets (Ok (front.Passed h)) → limit ≡ p.limit
+    → TakesOctets (TakesRecord is_read limit buffer (Ok (front.Passed h))) left left' p.offset after → limit ≡ p.limit
     → Ok answer ≡ judged_answer (p.number + 1) p.offset (Err (refusal.Fault (Unsupported h.kind h.subtype)))
     → (octets : List ℕ) × Consumes left left' octets × Nexts p (record { index = p.index; number = p.number + 1; offset = after; limit = limit; stamp = p.stamp; phase = p.phase }) left' octets (Ok answer)
 Nexts-passed p left left' after limit buffer h answer (octets, took, (unsupported, (body, is_record, whole))) same_limit answered =

@@ -1,6 +1,6 @@
 -- Private.
 -- What a call of `next` answers.
-use Rattle.std.specs.Prelude.{◌≡◌, ◌⊎◌, ◌∷◌, [], ℕ, ◌+◌, List, Option, Result, Ok, Err}
+use Rattle.std.specs.Prelude.{◌≡◌, ◌⊎◌, ◌∷◌, [], ℕ, ◌+◌, ◌++◌, List, Option, Result, Ok, Err, take}
 use Rattle.mrt_frames.specs.declared.fault.RecordKind.TheVariants.{CutRecord}
 use Rattle.mrt_frames.specs.declared.fault.SourceFault.{SourceFault}
 use Rattle.mrt_frames.specs.declared.fault.SourceFault.TheVariants.{Memory}
@@ -14,8 +14,10 @@ use Rattle.mrt_wire.specs.declared.next.Next.{Next}
 use Rattle.mrt_wire.specs.declared.next.Next.TheVariants as next
 use Rattle.mrt_wire.specs.Verdict.{Frame, ReadsAs}
 use Rattle.mrt_wire.specs.Results.{Finding, Found, Bad, finding, fault_findings}
-use Rattle.mrt_wire.specs.Place.{Place, place_behind}
+use Rattle.mrt_wire.specs.Place.{Place, place_behind, results}
 use Rattle.mrt_wire.specs.Progress.{stopped_place}
+use Rattle.mrt_wire.specs.Next.{Took}
+use Rattle.mrt_wire.specs.Splitting.{Splits}
 
 -- what an answer tells
 abbrev pub answer_findings : Next → List Finding
@@ -51,3 +53,9 @@ abbrev pub MayFollow : Next → List ℕ → Type 0
 MayFollow (next.Event event) more = Unit {0}
 MayFollow (next.Bad fault) more = fault.kind ≡ CutRecord → more ≡ []
 MayFollow next.End more = more ≡ []
+
+-- the answer is the first result of any split of the octets taken, with any behind them that may follow
+abbrev pub IsFirstResult : Place → Option (List ℕ) → Option (List ℕ) → Next → Type 0
+IsFirstResult p left left' answer =
+    (taken after more : List ℕ) (frames : List Frame) (rest : List ℕ) → Took left left' taken after → MayFollow answer more
+    → Splits p.stamp p.index (taken ++ more) frames rest → take 1 (results p frames rest) ≡ answer_findings answer

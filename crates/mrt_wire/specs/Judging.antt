@@ -1,5 +1,8 @@
 -- What the private calls make of a record.
-use Rattle.std.specs.Prelude.{◌≡◌, ℕ, List, ◌++◌, map, Result, Ok, Err}
+use Rattle.std.specs.Prelude.{◌≡◌, ℕ, List, ◌++◌, map, Option, Result, Ok, Err}
+use Rattle.ip_prefix.specs.Address.{Address}
+use Rattle.bgp_wire.specs.Reach.{attrs_with}
+use Rattle.bgp_wire.specs.declared.attrs.Attrs.{Attrs}
 use Rattle.bgp_wire.specs.declared.WireFault.{WireFault}
 use Rattle.bgp_wire.specs.declared.WireFault.TheVariants as wire
 use Rattle.mrt_wire.specs.declared.event.Stamp.{Stamp}
@@ -8,6 +11,7 @@ use Rattle.mrt_wire.specs.declared.event.Item.{Item}
 use Rattle.mrt_frames.specs.declared.fault.RecordKind.TheVariants.{Malformed}
 use Rattle.mrt_frames.specs.declared.fault.SourceFault.{SourceFault}
 use Rattle.mrt_frames.specs.declared.fault.SourceFault.TheVariants as source
+use Rattle.mrt_wire.specs.declared.judging.RawRecord.{RawRecord}
 use Rattle.mrt_wire.specs.declared.judging.Refusal.{Refusal}
 use Rattle.mrt_wire.specs.declared.judging.Refusal.TheVariants as refusal
 use Rattle.mrt_wire.specs.declared.next.Next.{Next}
@@ -16,9 +20,10 @@ use Rattle.mrt_wire.specs.declared.rib.Snapshot.{Snapshot}
 use Rattle.mrt_wire.specs.declared.rib.EntryItems.{EntryItems}
 use Rattle.mrt_wire.specs.declared.rib.ReadEntry.{ReadEntry}
 use Rattle.mrt_wire.specs.declared.session.SessionItems.{SessionItems}
-use Rattle.mrt_frames.specs.Record.{Record}
+use Rattle.mrt_wire.specs.declared.update.Announcement.{Announcement}
+use Rattle.mrt_frames.specs.Record.{Record, record_under}
 use Rattle.mrt_wire.specs.Rib.{RibEntry, PrefixEntries}
-use Rattle.mrt_wire.specs.Items.{entry_time, entries_items, first_unknown, session_items}
+use Rattle.mrt_wire.specs.Items.{announcements, entry_time, entries_items, first_unknown, mp_announcements, route_of, session_items}
 use Rattle.mrt_wire.specs.Event.{Saying, saying}
 use Rattle.mrt_wire.specs.Session.{SessionBody}
 use Rattle.mrt_wire.specs.Content.{Content}
@@ -32,6 +37,19 @@ body_refusal wire.Memory = refusal.Memory
 -- the items grew by some that say this
 abbrev pub Adds : List Item → List Item → List Saying → Type 0
 Adds old new more = map saying new ≡ map saying old ++ more
+
+-- what an announcement says, with these attributes
+abbrev pub announced_with : Announcement → Attrs → List Saying
+announced_with announcement attrs = announcements announcement.peer.now (route_of attrs announcement.seconds) announcement.prefixes.now
+
+-- the same with this next hop
+abbrev pub announced_through : Announcement → Attrs → Option Address → List Saying
+announced_through announcement attrs next_hop =
+    mp_announcements announcement.peer.now announcement.seconds (attrs_with attrs next_hop announcement.prefixes.now) announcement.prefixes.now
+
+-- the record that was taken so
+abbrev pub taken_record : RawRecord → Record
+taken_record raw = record_under raw.header raw.body.now
 
 -- this becomes of the record, with one peer index before it and the other behind it
 abbrev pub Judges : Stamp → Index → Index → Record → Result Event Refusal → Type 0

@@ -3,10 +3,9 @@
 ghost use Rattle.std.specs.Prelude.{◌≡◌};
 ghost use Rattle.mrt_wire.specs.declared.judging.Refusal.TheVariants.{Memory};
 ghost use Rattle.mrt_wire.specs.declared.event.Stamp.{Stamp};
-ghost use Rattle.mrt_frames.specs.Parts.{record_under};
 ghost use Rattle.mrt_wire.specs.Profile.{HasForm};
 ghost use Rattle.mrt_wire.specs.Verdict.{Index, peers_in, entries_fault, table_event, session_tag, session_event};
-ghost use Rattle.mrt_wire.specs.Judging.{Judges, body_refusal};
+ghost use Rattle.mrt_wire.specs.Judging.{Judges, body_refusal, taken_record};
 
 use crate::event::{Event, Items, Stamp, Tag, Time};
 use crate::peer::{Peer, Peers};
@@ -15,7 +14,7 @@ use crate::pool::Pool;
 use crate::profile::{Form, SessionForm, form_of};
 use crate::rib::{Snapshot, read_rib};
 use crate::session::read_session;
-use crate::table_dump::read_peer_entry;
+use crate::table_dump::{Dating, read_peer_entry};
 use bgp_wire::WireFault;
 use ip_prefix::Family;
 use mrt_frames::{Header, RecordKind};
@@ -45,6 +44,13 @@ impl From<WireFault> for Refusal {
             WireFault::Memory => Refusal::Memory,
         }
     }
+}
+
+/// A record as it was taken: its header, and the octets behind it.
+#[derive(Clone, Copy)]
+pub(crate) struct RawRecord<'a> {
+    pub(crate) header: Header,
+    pub(crate) body: &'a [u8],
 }
 
 /// The peers that an index has.
@@ -109,14 +115,18 @@ fn judge_entry(
     pool: &mut Pool,
     stamp: Stamp,
     family: Family,
-    header: &Header,
-    body: &[u8],
+    raw: RawRecord<'_>,
 ) -> Result<Event, Refusal>
-    requires { HasForm header.now.kind header.now.subtype (Form.Entry family) }
+    requires { HasForm raw.header.kind raw.header.subtype (Form.Entry family) }
     ensures { (index : Index) →
-        Judges stamp index index (record_under header.now body.now) result }
+        Judges stamp index index (taken_record raw.entry) result }
 {
-    let items = read_peer_entry(alloc, pool, family, stamp, header.seconds, body)?;
+    let RawRecord { header, body } = raw;
+    let dating = Dating {
+        seconds: header.seconds,
+        stamp,
+    };
+    let items = read_peer_entry(alloc, pool, family, dating, body)?;
     Ok(table_event(Tag::TableDump, header.seconds, items))
 }
 
@@ -124,13 +134,13 @@ fn judge_entry(
 fn judge_index(
     alloc: Global,
     index: &mut Option<Peers>,
-    header: &Header,
-    body: &[u8],
+    raw: RawRecord<'_>,
 ) -> Result<Event, Refusal>
-    requires { HasForm header.now.kind header.now.subtype Form.Peers }
+    requires { HasForm raw.header.kind raw.header.subtype Form.Peers }
     ensures { (stamp : Stamp) →
-        Judges stamp index.old index.new (record_under header.now body.now) result }
+        Judges stamp index.old index.new (taken_record raw.entry) result }
 {
+    let RawRecord { header, body } = raw;
     let peers = read_peer_index(alloc, body)?;
     *index = Some(peers);
     let none = Items::from_vec(Vec::new(alloc));
@@ -144,12 +154,12 @@ fn judge_rib(
     stamp: Stamp,
     index: &Option<Peers>,
     family: Family,
-    header: &Header,
-    body: &[u8],
+    raw: RawRecord<'_>,
 ) -> Result<Event, Refusal>
-    requires { HasForm header.now.kind header.now.subtype (Form.Entries family) }
-    ensures { Judges stamp index.now index.now (record_under header.now body.now) result }
+    requires { HasForm raw.header.kind raw.header.subtype (Form.Entries family) }
+    ensures { Judges stamp index.now index.now (taken_record raw.entry) result }
 {
+    let RawRecord { header, body } = raw;
     let snapshot = Snapshot {
         peers: peers_in(index),
         seconds: header.seconds,
@@ -169,13 +179,13 @@ fn judge_session(
     alloc: Global,
     pool: &mut Pool,
     form: SessionForm,
-    header: &Header,
-    body: &[u8],
+    raw: RawRecord<'_>,
 ) -> Result<Event, Refusal>
-    requires { HasForm header.now.kind header.now.subtype (Form.Session form) }
+    requires { HasForm raw.header.kind raw.header.subtype (Form.Session form) }
     ensures { (stamp : Stamp) (index : Index) →
-        Judges stamp index index (record_under header.now body.now) result }
+        Judges stamp index index (taken_record raw.entry) result }
 {
+    let RawRecord { header, body } = raw;
     let session = read_session(alloc, pool, header.seconds, form, body)?;
     Ok(session_event(header.seconds, session.micros, session.items))
 }
@@ -188,22 +198,22 @@ pub(crate) fn judge(
     pool: &mut Pool,
     stamp: Stamp,
     index: &mut Option<Peers>,
-    header: &Header,
-    body: &[u8],
+    raw: RawRecord<'_>,
 ) -> Result<Event, Refusal>
     requires { pool.old.routes.given ≡ 0 }
-    ensures { Judges stamp index.old index.new (record_under header.now body.now) result }
+    ensures { Judges stamp index.old index.new (taken_record raw.entry) result }
 {
+    let header = raw.header;
     let Some(form) = form_of(header.kind, header.subtype) else {
         return Err(Refusal::Fault(RecordKind::Unsupported(header.kind, header.subtype)));
     };
     match form {
-        Form::Entry(family) => judge_entry(alloc, pool, stamp, family, header, body),
-        Form::Peers => judge_index(alloc, index, header, body),
-        Form::Entries(family) => judge_rib(alloc, pool, stamp, index, family, header, body),
+        Form::Entry(family) => judge_entry(alloc, pool, stamp, family, raw),
+        Form::Peers => judge_index(alloc, index, raw),
+        Form::Entries(family) => judge_rib(alloc, pool, stamp, index, family, raw),
         Form::Session(SessionForm { kind, width, timed }) => {
             let session = SessionForm { kind, width, timed };
-            judge_session(alloc, pool, session, header, body)
+            judge_session(alloc, pool, session, raw)
         }
     }
 }

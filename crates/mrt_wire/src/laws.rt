@@ -17,7 +17,7 @@ ghost use Rattle.mrt_wire.specs.Content.{Content, IsBody};
 ghost use Rattle.mrt_wire.specs.Peer.{peer_cmp};
 ghost use Rattle.mrt_wire.specs.Verdict.{Frame, Index};
 ghost use Rattle.mrt_frames.specs.Parts.{IsOctets};
-ghost use Rattle.mrt_wire.specs.Splitting.{Splits};
+ghost use Rattle.mrt_wire.specs.Splitting.{Splits, SplitsOneWay};
 
 use crate::peer::Peer;
 
@@ -35,10 +35,7 @@ pub fn no_octets_without_a_split()
 
 /// No list of octets splits in two ways.
 pub fn one_split()
-    ensures { (stamp : Stamp) (index : Index) (octets : List ℕ)
-        (frames frames' : List Frame) (rest rest' : List ℕ) →
-        Splits stamp index octets frames rest → Splits stamp index octets frames' rest' →
-        (frames ≡ frames') × (rest ≡ rest') }
+    ensures { (stamp : Stamp) (index : Index) (octets : List ℕ) → SplitsOneWay stamp index octets }
 {}
 
 /// Peers are ordered by address and then by AS number. The order is total, only equal ones tie,

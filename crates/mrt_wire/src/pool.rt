@@ -46,6 +46,15 @@ pub(crate) struct Pool {
     items: Vec<Item>,
 }
 
+/// The attributes of a table's entry as they were sent: the octets, the family of the prefix that
+/// they are for, and the width of their AS numbers.
+#[derive(Clone, Copy)]
+pub(crate) struct SentAttrs<'a> {
+    pub(crate) octets: &'a [u8],
+    pub(crate) family: Family,
+    pub(crate) width: AsWidth,
+}
+
 /// A route without attributes.
 fn new_route(alloc: Global) -> Result<Rc<Route>, AllocError> {
     let attrs = Attrs::none(alloc);
@@ -76,15 +85,20 @@ fn let_go(routes: &mut Vec<Rc<Route>>, alloc: Global, place: usize) -> Result<()
 fn fill_rib_route(
     shared: &mut Rc<Route>,
     alloc: Global,
-    family: Family,
-    width: AsWidth,
+    sent: SentAttrs<'_>,
     time: u32,
-    octets: &[u8],
 ) -> Result<(), WireFault>
-    ensures attrs { OnOk result (SpellsRibAttrs family width shared.new.value.attrs octets.now) }
+    ensures attrs { OnOk result (SpellsRibAttrs sent.entry.family sent.entry.width
+        shared.new.value.attrs sent.entry.octets.now) }
     ensures time { OnOk result (shared.new.value.time ≡ time) }
-    ensures refused { IfErr result (Refuses (SpellsRibAttrs family width) octets.now) }
+    ensures refused { IfErr result (Refuses (SpellsRibAttrs sent.entry.family sent.entry.width)
+        sent.entry.octets.now) }
 {
+    let SentAttrs {
+        octets,
+        family,
+        width,
+    } = sent;
     let Some(route) = Rc::get_mut(shared) else {
         return Err(WireFault::Memory);
     };
@@ -137,28 +151,27 @@ impl RoutePool {
         Ok(place)
     }
 
-    /// The route of a table's entry, with AS numbers of this width, and with this time.
+    /// The route of a table's entry, with this time.
     #[inline(always)]
     pub(crate) fn rib_route(
         &mut self,
         alloc: Global,
-        family: Family,
-        width: AsWidth,
+        sent: SentAttrs<'_>,
         time: u32,
-        octets: &[u8],
     ) -> Result<Rc<Route>, WireFault>
-        ensures attrs { IfOk result (λ route.
-            SpellsRibAttrs family width route.value.attrs octets.now) }
+        ensures attrs { IfOk result (λ route. SpellsRibAttrs sent.entry.family sent.entry.width
+            route.value.attrs sent.entry.octets.now) }
         ensures time { IfOk result (λ route. route.value.time ≡ time) }
-        ensures refused { IfErr result (Refuses (SpellsRibAttrs family width) octets.now) }
+        ensures refused { IfErr result (Refuses (SpellsRibAttrs sent.entry.family sent.entry.width)
+            sent.entry.octets.now) }
     {
-        if octets.len() > LONGEST_KEPT {
+        if sent.octets.len() > LONGEST_KEPT {
             let mut route = new_route(alloc)?;
-            fill_rib_route(&mut route, alloc, family, width, time, octets)?;
+            fill_rib_route(&mut route, alloc, sent, time)?;
             return Ok(route);
         }
         let place = self.next_place(alloc)?;
-        fill_rib_route(&mut self.routes[place], alloc, family, width, time, octets)?;
+        fill_rib_route(&mut self.routes[place], alloc, sent, time)?;
         Ok(self.routes[place].clone()?)
     }
 

@@ -13,7 +13,7 @@ ghost use Rattle.mrt_wire.specs.Judging.{Adds, AreItemsOf, IsTimed, entry_read};
 use crate::event::{Item, Route, Stamp};
 use crate::fields::{skip, split_short, split_sized, split_word};
 use crate::peer::Peer;
-use crate::pool::Pool;
+use crate::pool::{Pool, SentAttrs};
 use bgp_wire::{AsWidth, WireFault};
 use ip_prefix::{Family, Prefix};
 use std::alloc::{AllocError, Global};
@@ -97,9 +97,12 @@ fn read_entry<'a>(
         return Err(WireFault::Malformed);
     };
     let time = snapshot.stamp.time_of(snapshot.seconds, framed.time);
-    let route = pool
-        .routes
-        .rib_route(alloc, family, AsWidth::Four, time, framed.attributes)?;
+    let sent = SentAttrs {
+        octets: framed.attributes,
+        family,
+        width: AsWidth::Four,
+    };
+    let route = pool.routes.rib_route(alloc, sent, time)?;
     let entry = ReadEntry {
         route,
         originated: framed.time,

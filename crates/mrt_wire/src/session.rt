@@ -220,15 +220,15 @@ fn read_happening(
     alloc: Global,
     pool: &mut Pool,
     seconds: u32,
-    kind: SessionKind,
-    width: AsWidth,
+    form: SessionForm,
     octets: &[u8],
 ) -> Result<Items, WireFault>
-    ensures { Reads (Told (SpellsHappening kind width) (session_items seconds)) octets.now result }
+    ensures { Reads (Told (SpellsHappening form.kind form.width) (session_items seconds))
+        octets.now result }
 {
-    match kind {
-        SessionKind::StateChange => read_change(alloc, width, octets),
-        SessionKind::Message => read_long_or_short(alloc, pool, seconds, width, octets),
+    match form.kind {
+        SessionKind::StateChange => read_change(alloc, form.width, octets),
+        SessionKind::Message => read_long_or_short(alloc, pool, seconds, form.width, octets),
     }
 }
 
@@ -244,7 +244,7 @@ pub(crate) fn read_session(
     ensures { Reads (Told (SpellsSessionBody form) (session_told seconds)) octets.now result }
 {
     if !form.timed {
-        let items = read_happening(alloc, pool, seconds, form.kind, form.width, octets)?;
+        let items = read_happening(alloc, pool, seconds, form, octets)?;
         return Ok(SessionItems {
             items,
             micros: None,
@@ -253,7 +253,7 @@ pub(crate) fn read_session(
     let Some(micros) = split_micros(octets) else {
         return Err(WireFault::Malformed);
     };
-    let items = read_happening(alloc, pool, seconds, form.kind, form.width, micros.rest)?;
+    let items = read_happening(alloc, pool, seconds, form, micros.rest)?;
     Ok(SessionItems {
         items,
         micros: Some(micros.value),

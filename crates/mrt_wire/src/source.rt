@@ -1,20 +1,17 @@
 //! A source of events.
 
-ghost use Rattle.std.specs.Prelude.{◌≡◌, ◌≤◌, ◌+◌, ◌||◌, ◌++◌, ℕ, List, Ok, Err, take};
+ghost use Rattle.std.specs.Prelude.{◌≡◌, ◌≤◌, ◌+◌, ◌||◌, ℕ, List, Ok, Err};
 ghost use Rattle.std.specs.Io.KnownBytes.{Consumes};
 ghost use Rattle.mrt_wire.specs.declared.next.Next.{Next};
 ghost use Rattle.mrt_frames.specs.Device.{is_read};
-ghost use Rattle.mrt_wire.specs.Verdict.{Frame};
-ghost use Rattle.mrt_wire.specs.Splitting.{Splits};
 ghost use Rattle.mrt_wire.specs.Results.{fault_findings};
-ghost use Rattle.mrt_wire.specs.Place.{start_place, results};
+ghost use Rattle.mrt_wire.specs.Place.{start_place};
 ghost use Rattle.mrt_wire.specs.Judging.{judged_answer};
-ghost use Rattle.mrt_wire.specs.Next.{Took};
-ghost use Rattle.mrt_wire.specs.Answered.{Nexts, answer_findings, MayFollow};
+ghost use Rattle.mrt_wire.specs.Answered.{Nexts, answer_findings, IsFirstResult};
 ghost use Rattle.mrt_wire.specs.Progress.{spent_place};
 
 use crate::event::{Event, Stamp};
-use crate::judging::{Refusal, judge};
+use crate::judging::{RawRecord, Refusal, judge};
 use crate::next::{Next, Phase};
 use crate::peer::Peers;
 use crate::pool::Pool;
@@ -102,10 +99,7 @@ impl Source {
         // So it is the first result of the octets taken and any behind them, or of none where the
         // answer saw the end.
         ensures first { self.old.phase ≡ Phase.Reading → (answer : Next) → result ≡ Ok answer →
-            (taken after more : List ℕ) (frames : List Frame) (rest : List ℕ) →
-            Took (I.left input.old) (I.left input.new) taken after → MayFollow answer more →
-            Splits self.old.stamp self.old.index (taken ++ more) frames rest →
-            take 1 (results self.old frames rest) ≡ answer_findings answer }
+            IsFirstResult self.old (I.left input.old) (I.left input.new) answer }
 
         ensures ended { self.old.phase ≡ Phase.Ended →
             (result ≡ Ok Next.End) × (self.new ≡ self.old) × (input.new ≡ input.old) }
@@ -145,8 +139,7 @@ impl Source {
                     &mut self.pool,
                     self.stamp,
                     &mut self.index,
-                    &header,
-                    body,
+                    RawRecord { header, body },
                 );
                 let answer = record_answer(self.number + 1, offset, judged)?;
                 self.number += 1;

@@ -12,7 +12,7 @@ ghost use Rattle.mrt_wire.specs.TableDump.{ArePeerEntryFields, SpellsNarrowPeer,
 use crate::event::{Items, Stamp};
 use crate::fields::{Field, fill_address, skip, split_asn, split_octet, split_sized, split_word};
 use crate::peer::Peer;
-use crate::pool::Pool;
+use crate::pool::{Pool, SentAttrs};
 use bgp_wire::{AsWidth, WireFault};
 use ip_prefix::{Addr, Family, Prefix, V4_OCTETS};
 use std::alloc::Global;
@@ -93,26 +93,35 @@ fn frame_entry(family: Family, octets: &[u8]) -> Option<FramedEntry<'_>>
     })
 }
 
+/// The time of a record, and which time its entries get.
+#[derive(Clone, Copy)]
+pub(crate) struct Dating {
+    pub(crate) seconds: u32,
+    pub(crate) stamp: Stamp,
+}
+
 /// What an entry with its peer says. It is inlined, so that there is code for each family.
 #[inline(always)]
 fn read_entry_of(
     alloc: Global,
     pool: &mut Pool,
     family: Family,
-    stamp: Stamp,
-    seconds: u32,
+    dating: Dating,
     octets: &[u8],
 ) -> Result<Items, WireFault>
-    ensures { Reads (Told (SpellsPeerEntry family) (peer_entry_items stamp seconds))
+    ensures { Reads (Told (SpellsPeerEntry family) (peer_entry_items dating.stamp dating.seconds))
         octets.now result }
 {
     let Some(entry) = frame_entry(family, octets) else {
         return Err(WireFault::Malformed);
     };
-    let time = stamp.time_of(seconds, entry.time);
-    let route = pool
-        .routes
-        .rib_route(alloc, family, AsWidth::Two, time, entry.attributes)?;
+    let time = dating.stamp.time_of(dating.seconds, entry.time);
+    let sent = SentAttrs {
+        octets: entry.attributes,
+        family,
+        width: AsWidth::Two,
+    };
+    let route = pool.routes.rib_route(alloc, sent, time)?;
     let items = pool.announcement_alone(alloc, entry.peer, entry.prefix, route)?;
     Ok(items)
 }
@@ -122,15 +131,14 @@ pub(crate) fn read_peer_entry(
     alloc: Global,
     pool: &mut Pool,
     family: Family,
-    stamp: Stamp,
-    seconds: u32,
+    dating: Dating,
     octets: &[u8],
 ) -> Result<Items, WireFault>
-    ensures { Reads (Told (SpellsPeerEntry family) (peer_entry_items stamp seconds))
+    ensures { Reads (Told (SpellsPeerEntry family) (peer_entry_items dating.stamp dating.seconds))
         octets.now result }
 {
     match family {
-        Family::V4 => read_entry_of(alloc, pool, Family::V4, stamp, seconds, octets),
-        Family::V6 => read_entry_of(alloc, pool, Family::V6, stamp, seconds, octets),
+        Family::V4 => read_entry_of(alloc, pool, Family::V4, dating, octets),
+        Family::V6 => read_entry_of(alloc, pool, Family::V6, dating, octets),
     }
 }

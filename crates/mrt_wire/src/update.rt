@@ -2,10 +2,9 @@
 
 ghost use Rattle.std.specs.Prelude.{◌≡◌, ◌⊎◌, ◌++◌, ◌∷◌, [], true, map, OnOk, IfOk};
 ghost use Rattle.bgp_wire.specs.Parts.{message_in, update_in};
-ghost use Rattle.bgp_wire.specs.Reach.{attrs_with};
 ghost use Rattle.mrt_wire.specs.Event.{Withdrawn, Changed, saying};
-ghost use Rattle.mrt_wire.specs.Items.{announcements, mp_announcements, message_items, route_of, update_items};
-ghost use Rattle.mrt_wire.specs.Judging.{Adds};
+ghost use Rattle.mrt_wire.specs.Items.{announcements, message_items, update_items};
+ghost use Rattle.mrt_wire.specs.Judging.{Adds, announced_through, announced_with};
 
 use crate::event::{Item, Items, Route, Shared};
 use crate::peer::Peer;
@@ -15,6 +14,14 @@ use bgp_wire::{Attrs, MessageKind, Prefixes, UpdateParts};
 use ip_prefix::Addr;
 use std::alloc::{AllocError, Global};
 use std::rc::Rc;
+
+/// Prefixes that were announced together: by whom, and when.
+#[derive(Clone, Copy)]
+struct Announcement<'a, 'b> {
+    peer: &'a Peer,
+    prefixes: &'b Prefixes,
+    seconds: u32,
+}
 
 /// Adds what withdrawals of the prefixes say.
 fn add_withdrawals(
@@ -49,23 +56,26 @@ fn share_route(
     Ok(())
 }
 
-/// Adds what announcements of the prefixes with these attributes say, which are given away unless
-/// they are kept. No route is made for none.
+/// Adds what the announcement with these attributes says, which are given away unless they are
+/// kept. No route is made for no prefixes.
 #[inline(always)]
 fn add_announcements(
     alloc: Global,
     routes: &mut RoutePool,
     items: &mut Vec<Item>,
-    peer: &Peer,
-    seconds: u32,
+    announcement: Announcement<'_, '_>,
     attrs: &mut Attrs,
     is_kept: bool,
-    prefixes: &Prefixes,
 ) -> Result<(), AllocError>
     ensures added { OnOk result (Adds items.old.items items.new.items
-        (announcements peer.now (route_of attrs.old seconds) prefixes.now)) }
+        (announced_with announcement.entry attrs.old)) }
     ensures kept { is_kept ≡ true → attrs.new ≡ attrs.old }
 {
+    let Announcement {
+        peer,
+        prefixes,
+        seconds,
+    } = announcement;
     if prefixes.as_slice().is_empty() {
         return Ok(());
     }
@@ -77,28 +87,25 @@ fn add_announcements(
     share_route(items, peer, &route, prefixes)
 }
 
-/// Adds what announcements of the prefixes with these attributes and this next hop say. The
-/// attributes are given away.
+/// Adds what the announcement with these attributes and this next hop says. The attributes are
+/// given away.
 #[inline(always)]
 fn add_mp_announcements(
     alloc: Global,
     routes: &mut RoutePool,
     items: &mut Vec<Item>,
-    peer: &Peer,
-    seconds: u32,
+    announcement: Announcement<'_, '_>,
     attrs: &mut Attrs,
     next_hop: Option<Addr>,
-    prefixes: &Prefixes,
 ) -> Result<(), AllocError>
     ensures { OnOk result (Adds items.old.items items.new.items
-        (mp_announcements peer.now seconds (attrs_with attrs.old next_hop prefixes.now)
-        prefixes.now)) }
+        (announced_through announcement.entry attrs.old next_hop)) }
 {
-    if prefixes.as_slice().is_empty() {
+    if announcement.prefixes.as_slice().is_empty() {
         return Ok(());
     }
     attrs.next_hop = next_hop;
-    add_announcements(alloc, routes, items, peer, seconds, attrs, false, prefixes)
+    add_announcements(alloc, routes, items, announcement, attrs, false)
 }
 
 /// How many prefixes an UPDATE of these parts names, or `usize::MAX` where more.
@@ -147,22 +154,26 @@ fn items_of_update(
         alloc,
         &mut pool.routes,
         &mut items,
-        peer,
-        seconds,
+        Announcement {
+            peer,
+            prefixes: &pool.parts.announced,
+            seconds,
+        },
         &mut pool.parts.attrs,
         is_kept,
-        &pool.parts.announced,
     )?;
     let middle = items.len();
     add_mp_announcements(
         alloc,
         &mut pool.routes,
         &mut items,
-        peer,
-        seconds,
+        Announcement {
+            peer,
+            prefixes: &pool.parts.mp_announced,
+            seconds,
+        },
         &mut pool.parts.attrs,
         pool.parts.mp_hop,
-        &pool.parts.mp_announced,
     )?;
     let end = items.len();
     let shared = longer_range(start, middle, end);

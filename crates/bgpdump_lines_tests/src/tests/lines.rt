@@ -213,20 +213,28 @@ fn event_with(
     })
 }
 
-/// The lines of an event whose route has these attributes, which are written in hexadecimal.
-fn lines_of(
-    alloc: Global,
-    tag: Tag,
+/// An announcement as it is written: the tag and the time of its event, and its prefix, time and
+/// attributes, these in hexadecimal.
+#[derive(Clone, Copy)]
+struct Written<'a> {
+    prefix: &'a str,
+    attributes: &'a str,
     seconds: u32,
     time: u32,
-    prefix: &str,
+    tag: Tag,
     width: AsWidth,
-    octets: &str,
-) -> Result<Vec<u8>, WireFault> {
-    let prefix = Prefix::parse(prefix.as_bytes()).ok_or(WireFault::Malformed)?;
-    let octets = octets_of(alloc, &[octets])?;
-    let attrs = read_rib_attrs(alloc, prefix.family(), width, octets.as_slice())?;
-    let event = event_with(alloc, tag, seconds, prefix, Route { attrs, time }, 1)?;
+}
+
+/// The lines of an event with one announcement.
+fn lines_of(alloc: Global, written: Written<'_>) -> Result<Vec<u8>, WireFault> {
+    let prefix = Prefix::parse(written.prefix.as_bytes()).ok_or(WireFault::Malformed)?;
+    let octets = octets_of(alloc, &[written.attributes])?;
+    let attrs = read_rib_attrs(alloc, prefix.family(), written.width, octets.as_slice())?;
+    let route = Route {
+        attrs,
+        time: written.time,
+    };
+    let event = event_with(alloc, written.tag, written.seconds, prefix, route, 1)?;
     let mut text = Vec::new(alloc);
     put_lines(&event, &mut text)?;
     Ok(text)
@@ -234,9 +242,16 @@ fn lines_of(
 
 #[test]
 fn entries_show_their_attributes(rt: HostRuntime) -> Result<(), Fail> {
-    for &(time, prefix, octets, want) in ENTRIES {
-        let tag = Tag::TableDump2;
-        let text = lines_of(rt.alloc(), tag, 200, time, prefix, AsWidth::Four, octets)?;
+    for &(time, prefix, attributes, want) in ENTRIES {
+        let written = Written {
+            prefix,
+            attributes,
+            seconds: 200,
+            time,
+            tag: Tag::TableDump2,
+            width: AsWidth::Four,
+        };
+        let text = lines_of(rt.alloc(), written)?;
         assert_eq!(rt; text.as_slice(), want.as_bytes());
     }
     Ok(())
@@ -244,10 +259,16 @@ fn entries_show_their_attributes(rt: HostRuntime) -> Result<(), Fail> {
 
 #[test]
 fn announcements_show_their_attributes(rt: HostRuntime) -> Result<(), Fail> {
-    for &(octets, want) in ANNOUNCEMENTS {
-        let tag = Tag::Bgp4mp;
-        let prefix = "10.128.0.0/9";
-        let text = lines_of(rt.alloc(), tag, 100, 100, prefix, AsWidth::Two, octets)?;
+    for &(attributes, want) in ANNOUNCEMENTS {
+        let written = Written {
+            prefix: "10.128.0.0/9",
+            attributes,
+            seconds: 100,
+            time: 100,
+            tag: Tag::Bgp4mp,
+            width: AsWidth::Two,
+        };
+        let text = lines_of(rt.alloc(), written)?;
         assert_eq!(rt; text.as_slice(), want.as_bytes());
     }
     Ok(())

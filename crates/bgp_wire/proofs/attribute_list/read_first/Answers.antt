@@ -10,12 +10,12 @@ use Rattle.bgp_wire.proofs.attribute_list.read_first.Goals as goal
 
 pub returns-in-7-clause-refused : goal.returns-in-7-clause-refused
 returns-in-7-clause-refused c =
-    let value = c.args.value.now in
+    let value = c.args.framed.value.now in
     whole c.put_found-in-7.result (refused_found SpellsAggregator value c.read_aggregator.result c.put_found-in-7.result c.read_aggregator.ensures c.put_found-in-7.ensures.none)
   where
-    whole : (answer : Result (Unit {0}) WireFault) → IfErr answer (Refuses SpellsAggregator c.args.value.now)
-        → IfErr answer (λ fault. (first : FirstOf) → first c.args.kind ≡ Some c.args.value.now → Refuses (SaysPlainly c.args.width) first fault)
+    whole : (answer : Result (Unit {0}) WireFault) → IfErr answer (Refuses SpellsAggregator c.args.framed.value.now)
+        → IfErr answer (λ fault. (first : FirstOf) → first c.args.framed.kind ≡ Some c.args.framed.value.now → Refuses (SaysPlainly c.args.width) first fault)
     whole (Ok done) r = tt
     whole (Err fault) r = λ first e.
-        refused_part (SaysPlainly c.args.width) SpellsAggregator first c.args.value.now fault
-        (λ attrs s. spelled_there SpellsAggregator attrs.aggregator (first AGGREGATOR) c.args.value.now s.aggregator (ap first (sym c.in-7.is) ∙ e)) r
+        refused_part (SaysPlainly c.args.width) SpellsAggregator first c.args.framed.value.now fault
+        (λ attrs s. spelled_there SpellsAggregator attrs.aggregator (first AGGREGATOR) c.args.framed.value.now s.aggregator (ap first (sym c.in-7.is) ∙ e)) r

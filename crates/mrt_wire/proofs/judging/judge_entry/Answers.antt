@@ -14,10 +14,10 @@ use Rattle.mrt_wire.proofs.judging.judge_entry.Goals as goal
 
 pub returns-in_err-items : goal.returns-in_err-items
 returns-in_err-items c index =
-    let r = record_under c.args.header.now c.args.body.now in
+    let r = record_under c.args.raw.header c.args.raw.body.now in
     let family = c.args.family in
     let stamp = c.args.stamp in
-    let seconds = c.args.header.now.seconds in
+    let seconds = c.args.raw.header.seconds in
     let fault = c.in_err-items.field-0.0 in
     let p = err_from_is_err_and c.from_residual.result c.from_residual.ensures.1 in
     subst (Judges stamp index index r) (sym (p.1 ∙ ap Err p.2))
@@ -26,7 +26,7 @@ returns-in_err-items c index =
 
 pub returns : goal.returns
 returns c index =
-    let seconds = c.args.header.now.seconds in
+    let seconds = c.args.raw.header.seconds in
     let (entry, spelled, told) = c.in_ok-items.ensures in (
       Entry entry,
       record {

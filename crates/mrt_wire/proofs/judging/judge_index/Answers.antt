@@ -15,7 +15,7 @@ use Rattle.mrt_wire.proofs.judging.judge_index.Goals as goal
 pub returns-in_err-peers : goal.returns-in_err-peers
 returns-in_err-peers c stamp =
     let index = c.args.index.now in
-    let r = record_under c.args.header.now c.args.body.now in
+    let r = record_under c.args.raw.header c.args.raw.body.now in
     let fault = c.in_err-peers.field-0.0 in
     let p = err_from_is_err_and c.from_residual.result c.from_residual.ensures.1 in
     subst (Judges stamp index index r) (sym (p.1 ∙ ap Err p.2))
@@ -25,6 +25,6 @@ returns-in_err-peers c stamp =
 pub returns : goal.returns
 returns c stamp = (
   Peers c.in_ok-peers.peers,
-  record { is_body = (form.Peers, c.requires, (c.in_ok-peers.peers, refl, c.in_ok-peers.ensures)); sound = refl; made = c.table_event.ensures ∙ ap (table_event TableDump2 c.args.header.now.seconds) (c.from_vec-none.ensures ∙ ap (map saying) c.new.ensures.items) },
+  record { is_body = (form.Peers, c.requires, (c.in_ok-peers.peers, refl, c.in_ok-peers.ensures)); sound = refl; made = c.table_event.ensures ∙ ap (table_event TableDump2 c.args.raw.header.seconds) (c.from_vec-none.ensures ∙ ap (map saying) c.new.ensures.items) },
   refl,
 )

@@ -15,7 +15,7 @@ use Rattle.mrt_wire.proofs.judging.judge_rib.Goals as goal
 pub returns-in_err-told : goal.returns-in_err-told
 returns-in_err-told c =
     let index = c.args.index.now in
-    let r = record_under c.args.header.now c.args.body.now in
+    let r = record_under c.args.raw.header c.args.raw.body.now in
     let family = c.args.family in
     let fault = c.in_err-told.field-0.0 in
     let p = err_from_is_err_and c.from_residual.result c.from_residual.ensures.1 in
@@ -26,7 +26,7 @@ returns-in_err-told c =
 pub returns-in-Some : goal.returns-in-Some
 returns-in-Some c =
     let index = c.args.index.now in
-    let r = record_under c.args.header.now c.args.body.now in
+    let r = record_under c.args.raw.header c.args.raw.body.now in
     let (rib, spelled, tells) = c.in_ok-told.ensures.told in
     let unknown = tells.unknown ∙ ap (λ peers. first_unknown peers rib.entries) c.peers_in.ensures in
     let is = ap (entries_fault index) (sym unknown) ∙ sym c.entries_fault.ensures ∙ c.in-Some.is in
@@ -35,7 +35,7 @@ returns-in-Some c =
 pub returns : goal.returns
 returns c =
     let index = c.args.index.now in
-    let seconds = c.args.header.now.seconds in
+    let seconds = c.args.raw.header.seconds in
     let (rib, spelled, tells) = c.in_ok-told.ensures.told in
     let unknown = tells.unknown ∙ ap (λ peers. first_unknown peers rib.entries) c.peers_in.ensures in
     let items = c.from_vec-items.ensures ∙ tells.items ∙ ap (λ peers. entries_items peers c.args.stamp seconds rib) c.peers_in.ensures in (

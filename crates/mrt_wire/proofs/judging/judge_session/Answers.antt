@@ -12,9 +12,9 @@ use Rattle.mrt_wire.proofs.judging.judge_session.Goals as goal
 
 pub returns-in_err-session : goal.returns-in_err-session
 returns-in_err-session c stamp index =
-    let r = record_under c.args.header.now c.args.body.now in
+    let r = record_under c.args.raw.header c.args.raw.body.now in
     let session = c.args.form in
-    let seconds = c.args.header.now.seconds in
+    let seconds = c.args.raw.header.seconds in
     let fault = c.in_err-session.field-0.0 in
     let p = err_from_is_err_and c.from_residual.result c.from_residual.ensures.1 in
     subst (Judges stamp index index r) (sym (p.1 ∙ ap Err p.2))
@@ -23,7 +23,7 @@ returns-in_err-session c stamp index =
 
 pub returns : goal.returns
 returns c stamp index =
-    let seconds = c.args.header.now.seconds in
+    let seconds = c.args.raw.header.seconds in
     let (body, spelled, told) = c.in_ok-session.ensures in (
       Session body,
       record {

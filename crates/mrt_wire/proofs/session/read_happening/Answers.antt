@@ -10,7 +10,7 @@ use Rattle.mrt_wire.proofs.session.read_happening.Goals as goal
 pub returns-in-Message : goal.returns-in-Message
 returns-in-Message c =
     let octets = c.args.octets.now in
-    let width = c.args.width in
+    let width = c.args.form.width in
     let seconds = c.args.seconds in
     let Part = Told (SpellsPeerMessage width) (receipt_items seconds) in
     let Whole = Told (SpellsHappening Message width) (session_items seconds) in
@@ -22,5 +22,5 @@ returns-in-Message c =
 
 pub returns-in-StateChange : goal.returns-in-StateChange
 returns-in-StateChange c =
-    subst (λ kind. Reads (Told (SpellsHappening kind c.args.width) (session_items c.args.seconds)) c.args.octets.now c.read_change.result) (sym c.in-StateChange.is)
+    subst (λ kind. Reads (Told (SpellsHappening kind c.args.form.width) (session_items c.args.seconds)) c.args.octets.now c.read_change.result) (sym c.in-StateChange.is)
     (c.read_change.ensures c.args.seconds)

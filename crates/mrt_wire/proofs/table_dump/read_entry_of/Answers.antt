@@ -21,7 +21,7 @@ returns-in_err-route c =
     let entry = c.in-Some.entry in
     let framed = c.in-Some.ensures.some in
     let fault = c.in_err-route.field-0.0 in
-    let Whole = Told (SpellsPeerEntry family) (peer_entry_items c.args.stamp c.args.seconds) in
+    let Whole = Told (SpellsPeerEntry family) (peer_entry_items c.args.dating.stamp c.args.dating.seconds) in
     let p = err_from_is_err_and c.from_residual.result c.from_residual.ensures.1 in
     subst (Reads Whole octets) (sym (p.1 ∙ ap Err p.2))
     (refused_part Whole (SpellsPeerEntry family) octets octets fault (λ items s. (s.0, s.1))
