@@ -2,7 +2,8 @@
 use Rattle.std.proofs.Common.{◌≡◌, ℕ, ◌+◌, ◌-◌, ◌<◌, ◌≤◌, min, max, true, false, nat_lt, refl, sym, ap, ◌∙◌, arith}
 use Rattle.std.proofs.lemmas.Bool.Decides.{nat_tests}
 use Rattle.std.proofs.Math.Nat.{min-eq_left, min-eq_right, max-eq_left, max-eq_right}
-use Rattle.rib_player.specs.Timeline.{Timeline, behind, after_undo}
+use Rattle.rib_player.specs.Timeline.{Timeline, behind}
+use Rattle.rib_player.specs.Calls.{after_undo}
 use Rattle.bgpdump_tool.specs.Standing.{at_cursor}
 
 -- one step back, where there is one

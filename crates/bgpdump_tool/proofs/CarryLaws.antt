@@ -10,7 +10,8 @@ use Rattle.std.proofs.KnownBytes.{Appends-nil}
 use Rattle.mrt_wire.specs.declared.peer.Peer.{Peer}
 use Rattle.mrt_wire.specs.declared.event.Event.{Event}
 use Rattle.rib_player.specs.Tables.{Routes, table}
-use Rattle.rib_player.specs.Timeline.{Timeline, StandsFor, behind, ahead_of, end_of, current, after_play, forgettable, after_forget}
+use Rattle.rib_player.specs.Timeline.{Timeline, behind, ahead_of, end_of, current, after_play}
+use Rattle.rib_player.specs.Calls.{StandsFor, forgettable, after_forget}
 use Rattle.rib_player.proofs.TimelineLaws.{StandsFor-current, StandsFor-end, StandsFor-after_play, StandsFor-after_forget}
 use Rattle.mrt_wire.specs.Results.{Finding}
 use Rattle.mrt_wire.specs.Place.{Place}

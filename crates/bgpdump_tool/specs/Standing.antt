@@ -5,7 +5,8 @@ use Rattle.mrt_wire.specs.declared.next.Phase.TheVariants.{Ended}
 use Rattle.mrt_wire.specs.Results.{Finding}
 use Rattle.mrt_wire.specs.Place.{Place}
 use Rattle.mrt_wire.specs.SoFar.{SoFar}
-use Rattle.rib_player.specs.Timeline.{Timeline, StandsFor, end_of}
+use Rattle.rib_player.specs.Timeline.{Timeline, end_of}
+use Rattle.rib_player.specs.Calls.{StandsFor}
 use Rattle.bgpdump_lines.specs.declared.dump.TheConstants.{LIMIT}
 use Rattle.bgpdump_tool.specs.declared.session.Session.{Session}
 use Rattle.bgpdump_tool.specs.State.{State, events}

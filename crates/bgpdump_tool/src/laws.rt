@@ -9,7 +9,7 @@ ghost use Rattle.bgpdump_tool.specs.Command.{SpellsCommand};
 ghost use Rattle.ip_prefix.specs.Address.{Address};
 ghost use Rattle.mrt_wire.specs.declared.peer.Peer.{Peer};
 ghost use Rattle.rib_player.specs.Tables.{Routes};
-ghost use Rattle.rib_player.specs.Store.{IsBest};
+ghost use Rattle.rib_player.specs.Lookups.{IsBest};
 ghost use Rattle.bgpdump_tool.specs.Replies.{best};
 ghost use Rattle.bgpdump_tool.specs.Script.{Line, IsScript};
 

@@ -4,7 +4,7 @@ ghost use Rattle.std.specs.Prelude.{◌≡◌, ◌↔◌, ◌<◌, ◌≤◌, �
 ghost use Rattle.std.specs.Io.KnownBytes.{Consumes};
 ghost use Rattle.mrt_wire.specs.Place.{start_place};
 ghost use Rattle.mrt_wire.specs.Next.{Took};
-ghost use Rattle.rib_player.specs.Timeline.{fresh};
+ghost use Rattle.rib_player.specs.Calls.{fresh};
 ghost use Rattle.bgpdump_lines.specs.declared.dump.TheConstants.{LIMIT};
 ghost use Rattle.bgpdump_lines.specs.Ending.{is_read_fault, is_write_fault};
 ghost use Rattle.bgpdump_lines.specs.Run.{IsTaken, outputs_of};

@@ -1,7 +1,8 @@
 //! A player, and the source of what it plays next.
 
 ghost use Rattle.std.specs.Prelude.{◌≡◌, ◌<◌, ◌+◌, ◌||◌, ℕ, false, IfOk};
-ghost use Rattle.rib_player.specs.Timeline.{fresh, ahead_of};
+ghost use Rattle.rib_player.specs.Timeline.{ahead_of};
+ghost use Rattle.rib_player.specs.Calls.{fresh};
 ghost use Rattle.mrt_wire.specs.Place.{start_place};
 ghost use Rattle.bgpdump_lines.specs.declared.dump.TheConstants.{LIMIT};
 ghost use Rattle.bgpdump_lines.specs.Ending.{is_read_fault, is_write_fault};

@@ -12,7 +12,8 @@ use Rattle.mrt_frames.specs.Taken.{EndsAt}
 use Rattle.mrt_wire.specs.declared.next.Phase.TheVariants.{Ended, Spent}
 use Rattle.mrt_wire.specs.declared.next.Next.{Next}
 use Rattle.mrt_wire.specs.declared.next.Next.TheVariants as next
-use Rattle.mrt_wire.specs.Verdict.{Frame, ReadsAs}
+use Rattle.mrt_wire.specs.declared.event.Stamp.{Stamp}
+use Rattle.mrt_wire.specs.Verdict.{Frame, ReadsAs, Index}
 use Rattle.mrt_wire.specs.Results.{Finding, Found, Bad, finding, fault_findings}
 use Rattle.mrt_wire.specs.Place.{Place, place_behind, results}
 use Rattle.mrt_wire.specs.Progress.{stopped_place}
@@ -59,3 +60,8 @@ abbrev pub IsFirstResult : Place → Option (List ℕ) → Option (List ℕ) →
 IsFirstResult p left left' answer =
     (taken after more : List ℕ) (frames : List Frame) (rest : List ℕ) → Took left left' taken after → MayFollow answer more
     → Splits p.stamp p.index (taken ++ more) frames rest → take 1 (results p frames rest) ≡ answer_findings answer
+
+-- the octets split in one way at most
+abbrev pub SplitsOneWay : Stamp → Index → List ℕ → Type 0
+SplitsOneWay stamp index octets =
+    (frames frames' : List Frame) (rest rest' : List ℕ) → Splits stamp index octets frames rest → Splits stamp index octets frames' rest' → (frames ≡ frames') × (rest ≡ rest')

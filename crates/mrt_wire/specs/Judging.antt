@@ -21,7 +21,8 @@ use Rattle.mrt_wire.specs.declared.rib.EntryItems.{EntryItems}
 use Rattle.mrt_wire.specs.declared.rib.ReadEntry.{ReadEntry}
 use Rattle.mrt_wire.specs.declared.session.SessionItems.{SessionItems}
 use Rattle.mrt_wire.specs.declared.update.Announcement.{Announcement}
-use Rattle.mrt_frames.specs.Record.{Record, record_under}
+use Rattle.mrt_frames.specs.Record.{Record}
+use Rattle.mrt_frames.specs.Parts.{record_under}
 use Rattle.mrt_wire.specs.Rib.{RibEntry, PrefixEntries}
 use Rattle.mrt_wire.specs.Items.{announcements, entry_time, entries_items, first_unknown, mp_announcements, route_of, session_items}
 use Rattle.mrt_wire.specs.Event.{Saying, saying}

@@ -19,8 +19,3 @@ pub record Splits (stamp : Stamp) (index : Index) (octets : List ℕ) (frames : 
   pub whole : octets ≡ spellings frames ++ rest
   pub are_frames : AreFrames stamp index frames
   pub none : BeginsWithNoRecord rest
-
--- the octets split in one way at most
-abbrev pub SplitsOneWay : Stamp → Index → List ℕ → Type 0
-SplitsOneWay stamp index octets =
-    (frames frames' : List Frame) (rest rest' : List ℕ) → Splits stamp index octets frames rest → Splits stamp index octets frames' rest' → (frames ≡ frames') × (rest ≡ rest')

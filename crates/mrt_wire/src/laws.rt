@@ -17,7 +17,8 @@ ghost use Rattle.mrt_wire.specs.Content.{Content, IsBody};
 ghost use Rattle.mrt_wire.specs.Peer.{peer_cmp};
 ghost use Rattle.mrt_wire.specs.Verdict.{Frame, Index};
 ghost use Rattle.mrt_frames.specs.Parts.{IsOctets};
-ghost use Rattle.mrt_wire.specs.Splitting.{Splits, SplitsOneWay};
+ghost use Rattle.mrt_wire.specs.Splitting.{Splits};
+ghost use Rattle.mrt_wire.specs.Answered.{SplitsOneWay};
 
 use crate::peer::Peer;
 

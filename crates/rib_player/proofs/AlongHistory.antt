@@ -2,7 +2,7 @@
 use Rattle.std.proofs.Common.{◌≡◌, ℕ, zero, suc, ◌≤◌, List, [], ◌∷◌, ◌++◌, Some, option_map, length, take, drop, slice_get, slice_index_or, refl, sym, ap, ◌∙◌, append_assoc, append-nil, arith}
 use Rattle.mrt_wire.specs.declared.event.Event.{Event}
 use Rattle.rib_player.specs.Tables.{Routes, table, named_pairs}
-use Rattle.rib_player.specs.Timeline.{tables_along, steps_along}
+use Rattle.rib_player.specs.Calls.{tables_along, steps_along}
 
 -- there are as many steps as events
 pub length-steps_along : (past events : List Event) → length (steps_along past events) ≡ length events

@@ -17,7 +17,8 @@ use Rattle.mrt_wire.specs.declared.event.Item.{Item}
 use Rattle.mrt_wire.specs.Event.{Saying, Announced, Withdrawn, Changed, saying}
 use Rattle.mrt_wire.specs.SharedRoute.{Announces, AreOfOneRoute}
 use Rattle.rib_player.specs.History.{pair_cmp, Effect, Keep, Clear, Set, where_true, item_effect, later}
-use Rattle.rib_player.specs.Store.{Slots, slot_at, route_in}
+use Rattle.rib_player.specs.Store.{route_in}
+use Rattle.rib_player.specs.Holding.{Slots, slot_at}
 use Rattle.rib_player.specs.Changes.{found, is_lost, effect_of, or_absent, items_effect, HasRoute}
 use Rattle.rib_player.proofs.PairLaws.{pair_cmp_total, same_pair}
 use Rattle.octet_forms.proofs.Options.{is_some-option_map}

@@ -2,7 +2,9 @@
 use Rattle.std.proofs.Common.{◌≡◌, ℕ, zero, suc, ◌+◌, ◌<◌, length, take, drop, slice_index_or, List, [], ◌∷◌, ◌++◌, map, add-one, refl, ap, arith}
 use Rattle.std.specs.FinMap as finite
 use Rattle.rib_player.specs.Tables.{Routes}
-use Rattle.rib_player.specs.Journal.{Side, Clearing, clearing_then, sides_across, AreClearingsOf, AreCleared}
+use Rattle.rib_player.specs.Journal.{Side}
+use Rattle.rib_player.specs.Sides.{sides_across}
+use Rattle.rib_player.specs.Clearings.{Clearing, clearing_then, AreClearingsOf, AreCleared}
 
 -- what the first steps say
 pub cleared-take : (n : ℕ) (steps : List (List Clearing)) (tables : List Routes) → AreCleared steps tables → AreCleared (take n steps) (take n tables)

@@ -12,7 +12,9 @@ use Rattle.rib_store.specs.Stored.{counted}
 use Rattle.rib_player.specs.declared.pair.Pair.{Pair}
 use Rattle.rib_player.specs.declared.journal.Step.{Step}
 use Rattle.rib_player.specs.History.{pair_cmp}
-use Rattle.rib_player.specs.Journal.{pairs_in, steps_of, step_sides, entry_count, AreDistinct}
+use Rattle.rib_player.specs.Journal.{pairs_in, steps_of, step_sides}
+use Rattle.rib_player.specs.Sides.{AreDistinct}
+use Rattle.rib_player.specs.Marks.{entry_count}
 use Rattle.rib_player.proofs.PairLaws.{pair_cmp_total}
 use Rattle.rib_player.proofs.MarkLaws.{tied, none-any}
 use Rattle.rib_player.proofs.SearchLaws.{length-pairs}

@@ -7,8 +7,11 @@ use Rattle.std.proofs.lemmas.List.{take-set, drop-set, take_more, take_more_set,
 use Rattle.std.proofs.lemmas.Bool.{lt-ltb}
 use Rattle.mrt_wire.specs.declared.event.Event.{Event}
 use Rattle.rib_player.specs.Tables.{Routes, Pairs, table_after, named_pairs}
-use Rattle.rib_player.specs.Timeline.{Timeline, current, after_undo, after_redo, after_play}
-use Rattle.rib_player.specs.Journal.{Side, pairs_in, sides_at, routes_across, sides_across, tables_before, tables_after, timeline_of, IsKept, IsJournal, IsStepFor}
+use Rattle.rib_player.specs.Timeline.{Timeline, current, after_play}
+use Rattle.rib_player.specs.Calls.{after_undo, after_redo}
+use Rattle.rib_player.specs.Journal.{Side, pairs_in, routes_across, tables_before, tables_after, timeline_of}
+use Rattle.rib_player.specs.Sides.{sides_at, sides_across, IsKept, IsStepFor}
+use Rattle.rib_player.specs.Played.{IsJournal}
 use Rattle.rib_player.proofs.JournalLaws.{pairs_in-sides_across, kept-sides_across, routes_across-sides_across, routes_across-step}
 use Rattle.octet_forms.proofs.Lists.{AllByRecursion-get_or, AllByRecursion-set}
 

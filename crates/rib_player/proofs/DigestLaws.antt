@@ -6,7 +6,7 @@ use Rattle.rib_player.specs.declared.pair.Pair.{Pair}
 use Rattle.rib_player.specs.Entries.{Entry}
 use Rattle.rib_player.specs.declared.digest.Digest.{Digest}
 use Rattle.rib_player.specs.declared.digest.TheConstants.{MULTIPLIER, DIGEST_BITS, FIRST_SHIFT, SECOND_SHIFT}
-use Rattle.rib_player.specs.Journal.{Mark, marks_of, named_by, any_named, marked, marked_first}
+use Rattle.rib_player.specs.Marks.{Mark, marks_of, named_by, any_named, marked, marked_first}
 use Rattle.rib_player.specs.Digests.{hashed_number, bits_of, can_name, absent_bits, IsDigestOf, AreDigestsOf, ArePassed}
 use Rattle.rib_player.proofs.PairLaws.{same_pair}
 use Rattle.rib_player.proofs.MarkLaws.{tied}

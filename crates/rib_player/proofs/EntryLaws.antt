@@ -21,8 +21,10 @@ use Rattle.rib_player.specs.declared.changes.Changes.{Changes}
 use Rattle.rib_player.specs.Entries.{Entry}
 use Rattle.rib_player.specs.History.{pair_cmp, effect, route_after}
 use Rattle.rib_player.specs.Tables.{Routes, table_after, is_named, named_pairs}
-use Rattle.rib_player.specs.Store.{Slots, slot_at, route_in}
-use Rattle.rib_player.specs.Journal.{Side, sides_of, slot_side, pairs_in, sides_across, AreOrdered, IsStepFor}
+use Rattle.rib_player.specs.Store.{route_in}
+use Rattle.rib_player.specs.Holding.{Slots, slot_at}
+use Rattle.rib_player.specs.Journal.{Side, sides_of, pairs_in}
+use Rattle.rib_player.specs.Sides.{slot_side, sides_across, AreOrdered, IsStepFor}
 use Rattle.rib_player.specs.Changes.{found, is_lost, effect_of, noted_effect, or_absent}
 use Rattle.rib_player.proofs.PairLaws.{pair_cmp_total, same_pair}
 use Rattle.rib_player.proofs.TableLaws.{get-table_after, contains-named_pairs}

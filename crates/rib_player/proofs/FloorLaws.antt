@@ -6,7 +6,9 @@ use Rattle.std.specs.FinMap as finite
 use Rattle.std.specs.FinSet as set
 use Rattle.mrt_wire.specs.declared.event.Event.{Event}
 use Rattle.rib_player.specs.Tables.{Routes, table_after, named_pairs}
-use Rattle.rib_player.specs.Timeline.{Timeline, table_at, current, wanted, after_play, after_undo, after_redo, without_first, forgettable, after_forget}
+use Rattle.rib_player.specs.Timeline.{Timeline, table_at, current, after_play}
+use Rattle.rib_player.specs.Calls.{after_undo, after_redo, without_first, forgettable, after_forget}
+use Rattle.rib_player.specs.Wanted.{wanted}
 use Rattle.rib_player.specs.Journal.{behind_forgotten}
 use Rattle.rib_player.proofs.BackAndForth.{after_undo-at, after_redo-at}
 

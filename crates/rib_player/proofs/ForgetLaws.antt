@@ -10,8 +10,14 @@ use Rattle.rib_player.specs.Entries.{Entry}
 use Rattle.rib_player.specs.declared.journal.Step.{Step}
 use Rattle.rib_player.specs.Tables.{Routes, Pairs}
 use Rattle.rib_player.specs.Store.{Contents}
-use Rattle.rib_player.specs.Timeline.{Timeline, routed_first, without_first}
-use Rattle.rib_player.specs.Journal.{Side, Mark, pairs_in, step_sides, step_marks, step_clearings, marks_of, clearings_of, clearings_by_step, steps_of, trail_of, routes_across, tables_before, tables_after, timeline_of, behind_forgotten, named_by, any_named, with_named, unseen_by, cleared_by, any_cleared, AreClearingsOf, AreCleared, AreHeld, IsKept, AreOrdered, IsPlayed, CanForget, ForgetsExact}
+use Rattle.rib_player.specs.Timeline.{Timeline}
+use Rattle.rib_player.specs.Calls.{without_first}
+use Rattle.rib_player.specs.Wanted.{routed_first}
+use Rattle.rib_player.specs.Journal.{Side, pairs_in, step_sides, steps_of, routes_across, tables_before, tables_after, timeline_of, behind_forgotten}
+use Rattle.rib_player.specs.Sides.{IsKept, AreOrdered}
+use Rattle.rib_player.specs.Marks.{Mark, step_marks, marks_of, trail_of, named_by, any_named, with_named, AreHeld}
+use Rattle.rib_player.specs.Clearings.{step_clearings, clearings_of, clearings_by_step, unseen_by, cleared_by, any_cleared, AreClearingsOf, AreCleared, CanForget, ForgetsExact}
+use Rattle.rib_player.specs.Played.{IsPlayed}
 use Rattle.rib_player.proofs.CursorLaws.{length-earlier}
 use Rattle.rib_player.proofs.JournalLaws.{get-restored_elsewhere}
 use Rattle.rib_player.proofs.PairLaws.{same_pair}

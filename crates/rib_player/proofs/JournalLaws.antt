@@ -18,7 +18,8 @@ use Rattle.rib_player.specs.History.{pair_cmp, Effect, Keep, Clear, Set, effect,
 use Rattle.rib_store.specs.Stored.{put}
 use Rattle.rib_player.specs.Tables.{Routes, Pairs, table_after, is_named}
 use Rattle.rib_player.specs.Store.{route_in}
-use Rattle.rib_player.specs.Journal.{Side, side_of, sides_of, pairs_in, routes_across, sides_across, IsKept, IsStepFor}
+use Rattle.rib_player.specs.Journal.{Side, side_of, sides_of, pairs_in, routes_across}
+use Rattle.rib_player.specs.Sides.{sides_across, IsKept, IsStepFor}
 use Rattle.rib_player.proofs.PairLaws.{pair_cmp_total, same_pair}
 use Rattle.rib_player.proofs.TableLaws.{same_routes, get-table_after, contains-named_pairs}
 use Rattle.octet_forms.proofs.Booleans.{cond-cond, cond_untested}

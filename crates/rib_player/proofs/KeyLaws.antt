@@ -17,8 +17,14 @@ use Rattle.rib_player.specs.Entries.{Entry}
 use Rattle.rib_player.specs.declared.journal.Step.{Step}
 use Rattle.rib_player.specs.History.{pair_cmp}
 use Rattle.rib_player.specs.Tables.{Routes, Pairs, table_after}
-use Rattle.rib_player.specs.Timeline.{Timeline, end_of, current, table_at, wanted, routed_first, after_play, after_undo, after_redo}
-use Rattle.rib_player.specs.Journal.{any_named, Side, Mark, sides_of, pairs_in, steps_of, step_sides, marks_of, step_marks, trail_of, routes_across, tables_before, tables_after, timeline_of, named_by, with_named, seen_after, AreFirst, IsExact, IsKept, AreHeld, AreDistinct, IsPlayed, IsAdvanced, IsStepFor, sides_across, step_clearings, clearings_of, clearings_by_step, clearing_then, AreClearingsOf, AreCleared, AreOrdered}
+use Rattle.rib_player.specs.Timeline.{Timeline, end_of, current, table_at, after_play}
+use Rattle.rib_player.specs.Calls.{after_undo, after_redo}
+use Rattle.rib_player.specs.Wanted.{wanted, routed_first}
+use Rattle.rib_player.specs.Journal.{Side, sides_of, pairs_in, steps_of, step_sides, routes_across, tables_before, tables_after, timeline_of}
+use Rattle.rib_player.specs.Sides.{IsKept, AreDistinct, IsStepFor, sides_across, AreOrdered}
+use Rattle.rib_player.specs.Marks.{any_named, Mark, marks_of, step_marks, trail_of, named_by, with_named, seen_after, AreFirst, IsExact, AreHeld}
+use Rattle.rib_player.specs.Clearings.{step_clearings, clearings_of, clearings_by_step, clearing_then, AreClearingsOf, AreCleared}
+use Rattle.rib_player.specs.Played.{IsPlayed, IsAdvanced}
 use Rattle.rib_player.proofs.PairLaws.{pair_cmp_total}
 use Rattle.rib_player.proofs.StoreLaws.{same_pairs}
 use Rattle.rib_player.proofs.JournalLaws.{get-restored_elsewhere, pairs_in-sides_across}

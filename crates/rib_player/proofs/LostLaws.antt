@@ -18,11 +18,12 @@ use Rattle.std.specs.declared.alloc.Global.{Global}
 use Rattle.rib_player.specs.declared.pair.Pair.{Pair}
 use Rattle.rib_player.specs.Entries.{Entry}
 use Rattle.rib_player.specs.declared.changes.Changes.{Changes}
-use Rattle.rib_player.specs.Store.{Slots}
+use Rattle.rib_player.specs.Holding.{Slots}
 use Rattle.rib_player.specs.Changes.{found, is_lost, effect_of, noted_effect}
 use Rattle.rib_player.specs.History.{pair_cmp, pair_of, effect, where_true, Clear, route_after}
 use Rattle.rib_player.specs.Tables.{Routes, table_after, is_named, named_pairs}
-use Rattle.rib_player.specs.Journal.{Side, sides_of, pairs_in, cleared_side, sides_across, AreOrdered, IsStepFor}
+use Rattle.rib_player.specs.Journal.{Side, sides_of, pairs_in}
+use Rattle.rib_player.specs.Sides.{cleared_side, sides_across, AreOrdered, IsStepFor}
 use Rattle.rib_player.proofs.PairLaws.{pair_cmp_total}
 use Rattle.rib_player.proofs.StoreLaws.{same_pairs, same_peer}
 use Rattle.rib_player.proofs.TableLaws.{get-table_after, contains-named_pairs}

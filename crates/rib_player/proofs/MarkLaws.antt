@@ -14,7 +14,8 @@ use Rattle.rib_player.specs.Entries.{Entry}
 use Rattle.rib_player.specs.declared.journal.Step.{Step}
 use Rattle.rib_player.specs.History.{pair_cmp}
 use Rattle.rib_player.specs.Tables.{Routes, Pairs}
-use Rattle.rib_player.specs.Journal.{Mark, mark_of, marks_of, step_marks, trail_of, side_of, sides_of, pairs_in, named_by, with_named, seen_after, AreFirst, MarkFirst, marked, IsExact}
+use Rattle.rib_player.specs.Journal.{side_of, sides_of, pairs_in}
+use Rattle.rib_player.specs.Marks.{Mark, mark_of, marks_of, step_marks, trail_of, named_by, with_named, seen_after, AreFirst, MarkFirst, marked, IsExact}
 use Rattle.rib_player.proofs.PairLaws.{pair_cmp_total, same_pair, pair_symm}
 use Rattle.rib_player.proofs.StoreLaws.{same_pairs}
 

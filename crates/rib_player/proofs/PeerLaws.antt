@@ -21,7 +21,8 @@ use Rattle.ip_prefix.specs.Network.{Network}
 use Rattle.ip_prefix.specs.Order.{network_cmp}
 use Rattle.ip_prefix.specs.OrderLaws.{network_cmp_total, network_cmp-IsAntisymmetric}
 use Rattle.rib_store.specs.Stored as stored
-use Rattle.rib_store.specs.Stored.{counted, above, is_above}
+use Rattle.rib_store.specs.Stored.{counted}
+use Rattle.rib_store.specs.Lookups.{above, is_above}
 use Rattle.rib_store.proofs.AboveLaws.{routes_sorted}
 use Rattle.mrt_wire.specs.declared.peer.Peer.{Peer}
 use Rattle.mrt_wire.specs.declared.event.Route.{Route}
@@ -30,7 +31,9 @@ use Rattle.mrt_wire.proofs.PeerLaws.{peer_cmp_total, peer_cmp-IsAntisymmetric}
 use Rattle.rib_player.specs.declared.pair.Pair.{Pair}
 use Rattle.rib_player.specs.History.{pair_cmp, pair_of}
 use Rattle.rib_player.specs.Tables.{Routes}
-use Rattle.rib_player.specs.Store.{Stores, store_at, value_of, routes_in, peer_routes, routed_peers, is_peer_above, peers_above, routed_stores, peer_count}
+use Rattle.rib_player.specs.Store.{Stores, store_at, routes_in, peer_routes, routed_peers}
+use Rattle.rib_player.specs.Lookups.{is_peer_above, peers_above, routed_stores, peer_count}
+use Rattle.rib_player.specs.Holding.{value_of}
 use Rattle.rib_player.proofs.StoreLaws.{same_peer, same_network, one_peer, peer_symm, tied_parts, get-found}
 
 -- ---- the routes of a peer

@@ -6,8 +6,14 @@ use Rattle.std.proofs.lemmas.List.{length-map}
 use Rattle.rib_player.specs.declared.journal.Step.{Step}
 use Rattle.rib_player.specs.History.{pair_cmp}
 use Rattle.rib_player.specs.Tables.{Routes, Pairs}
-use Rattle.rib_player.specs.Timeline.{Timeline, after_undo, after_redo, routed_first}
-use Rattle.rib_player.specs.Journal.{Side, step_sides, steps_of, sides_at, trail_of, clearings_by_step, timeline_of, routes_across, sides_across, AreOrdered, AreCleared, IsPlayed}
+use Rattle.rib_player.specs.Timeline.{Timeline}
+use Rattle.rib_player.specs.Calls.{after_undo, after_redo}
+use Rattle.rib_player.specs.Wanted.{routed_first}
+use Rattle.rib_player.specs.Journal.{Side, step_sides, steps_of, timeline_of, routes_across}
+use Rattle.rib_player.specs.Sides.{sides_at, sides_across, AreOrdered}
+use Rattle.rib_player.specs.Marks.{trail_of}
+use Rattle.rib_player.specs.Clearings.{clearings_by_step, AreCleared}
+use Rattle.rib_player.specs.Played.{IsPlayed}
 use Rattle.octet_forms.proofs.Lists.{AllByRecursion-get_or, AllByRecursion-set}
 use Rattle.rib_player.proofs.JournalLaws.{pairs_in-sides_across}
 use Rattle.rib_player.proofs.CursorLaws.{timeline-after_undo, timeline-after_redo, same-timeline, journal-sides_across}

@@ -12,7 +12,9 @@ use Rattle.std.proofs.Math.Bool.{or-true, or-false}
 use Rattle.rib_player.specs.declared.pair.Pair.{Pair}
 use Rattle.rib_player.specs.Entries.{Entry}
 use Rattle.rib_player.specs.History.{pair_cmp}
-use Rattle.rib_player.specs.Journal.{sides_of, pairs_in, mark_of, marks_of, named_by, marked, AreOrdered}
+use Rattle.rib_player.specs.Journal.{sides_of, pairs_in}
+use Rattle.rib_player.specs.Sides.{AreOrdered}
+use Rattle.rib_player.specs.Marks.{mark_of, marks_of, named_by, marked}
 use Rattle.rib_player.proofs.PairLaws.{pair_cmp_total, pair_cmp-IsAntisymmetric, pair_symm}
 use Rattle.rib_player.proofs.MarkLaws.{tied, tied_itself, apart-at}
 

@@ -15,7 +15,7 @@ use Rattle.std.proofs.lemmas.Map.Keys.{sorted_from_all_adjacent}
 use Rattle.mrt_wire.specs.declared.event.Route.{Route}
 use Rattle.rib_player.specs.declared.pair.Pair.{Pair}
 use Rattle.rib_player.specs.History.{pair_cmp}
-use Rattle.rib_player.specs.Store.{Slots, slot_at}
+use Rattle.rib_player.specs.Holding.{Slots, slot_at}
 use Rattle.rib_player.proofs.PairLaws.{pair_cmp_total, same_pair}
 
 -- a pair and its slot

@@ -22,6 +22,7 @@ use Rattle.octet_forms.proofs.Options.{is_some-option_map}
 use Rattle.ip_prefix.specs.Order.{network_cmp}
 use Rattle.ip_prefix.specs.OrderLaws.{network_cmp_total}
 use Rattle.rib_store.specs.Stored as stored
+use Rattle.rib_store.specs.Lookups as lookups
 use Rattle.rib_store.proofs.PutLaws.{get-put}
 use Rattle.mrt_wire.specs.declared.peer.Peer.{Peer}
 use Rattle.rib_player.specs.declared.pair.Pair.{Pair}
@@ -30,7 +31,9 @@ use Rattle.mrt_wire.specs.Peer.{peer_cmp}
 use Rattle.rib_player.specs.History.{pair_cmp, pair_of}
 use Rattle.rib_store.specs.Stored.{put}
 use Rattle.rib_player.specs.Tables.{Routes, Pairs}
-use Rattle.rib_player.specs.Store.{Stores, store_at, has_key, stored_route, value_of, route_in, keys_in, routes_in, IsHeld, IsLeft, IsBest}
+use Rattle.rib_player.specs.Store.{Stores, store_at, has_key, stored_route, route_in, keys_in, routes_in}
+use Rattle.rib_player.specs.Lookups.{IsBest}
+use Rattle.rib_player.specs.Holding.{value_of, IsHeld, IsLeft}
 use Rattle.octet_forms.proofs.Booleans.{cond_untested}
 use Rattle.mrt_wire.proofs.PeerLaws.{peer_cmp_total, peer_cmp-IsAntisymmetric}
 use Rattle.rib_player.proofs.PairLaws.{pair_cmp_total, pair_cmp-IsAntisymmetric, same_pair}
@@ -276,7 +279,7 @@ longest-none routes stores all peer address found e = λ n within. sym (get-foun
 -- else that of its store, behind the pointer
 pub longest-found : {S : Type 0} (routes : S → stored.Routes (Rc Route Global)) (stores : Stores S) (all : Routes) (peer : Peer) (address : Address) (store : S)
     (best : Option (Network × Bor (Rc Route Global))) → Some store ≡ store_at stores peer → routes_in routes stores ≡ all
-    → stored.IsLongest (routes store) address (option_map (λ b. (b.0, b.1.now)) best) → IsBest all peer address (option_map (λ b. (b.0, b.1.now.value)) best)
+    → lookups.IsLongest (routes store) address (option_map (λ b. (b.0, b.1.now)) best) → IsBest all peer address (option_map (λ b. (b.0, b.1.now.value)) best)
 longest-found routes stores all peer address store None found e longest = λ n within.
     sym (get-found routes stores all (pair_of peer n) (Some store) found e) ∙ ap (option_map value_of) (longest n within)
 longest-found routes stores all peer address store (Some best) found e longest = (

@@ -7,7 +7,8 @@ use Rattle.std.proofs.Math.Bool.{or-true, or-false}
 use Rattle.rib_player.specs.declared.pair.Pair.{Pair}
 use Rattle.rib_player.specs.Entries.{Entry}
 use Rattle.rib_player.specs.Tables.{Routes, Pairs}
-use Rattle.rib_player.specs.Journal.{Mark, marks_of, marks_at, named_by, any_named, with_named, AreFirst, MarkFirst, marked, marked_first, AreHeld, Clearing, clearings_of, AreClearingsOf, without, unseen_by}
+use Rattle.rib_player.specs.Marks.{Mark, marks_of, marks_at, named_by, any_named, with_named, AreFirst, MarkFirst, marked, marked_first, AreHeld}
+use Rattle.rib_player.specs.Clearings.{Clearing, clearings_of, AreClearingsOf, without, unseen_by}
 use Rattle.rib_player.proofs.PairLaws.{pair_cmp_total, same_pair, pair_symm}
 use Rattle.rib_player.proofs.MarkLaws.{tied, named_by-marked}
 use Rattle.rib_player.proofs.KeyLaws.{seen_after-any}

@@ -11,7 +11,8 @@ use Rattle.mrt_wire.specs.Peer.{peer_cmp}
 use Rattle.mrt_wire.specs.declared.event.Item.{Item}
 use Rattle.mrt_wire.specs.Event.{Saying, Announced, Withdrawn, Changed, saying}
 use Rattle.rib_player.specs.History.{Effect, Clear, Set, where_true, item_effect, last_effect}
-use Rattle.rib_player.specs.Store.{Slots, slot_at, route_in}
+use Rattle.rib_player.specs.Store.{route_in}
+use Rattle.rib_player.specs.Holding.{Slots, slot_at}
 
 -- the route, or its absence, that is kept for a pair
 abbrev pub found : Slots → Pair → Option (Option Route)

@@ -8,7 +8,7 @@ use Rattle.ip_prefix.specs.Network.{least_address}
 use Rattle.rib_player.specs.declared.pair.Pair.{Pair}
 use Rattle.rib_player.specs.declared.digest.Digest.{Digest}
 use Rattle.rib_player.specs.declared.digest.TheConstants.{MULTIPLIER, DIGEST_BITS, FIRST_SHIFT, SECOND_SHIFT, ASN_BITS}
-use Rattle.rib_player.specs.Journal.{Mark}
+use Rattle.rib_player.specs.Marks.{Mark}
 
 -- the place of the first octet of an address that is hashed
 abbrev pub hashed_place : Family → ℕ

@@ -1,15 +1,9 @@
 -- What an entry of a step says, however it is kept.
-use Rattle.std.specs.Prelude.{Bool, false, not, is_some, [], Option, Some, None}
-use Rattle.ip_prefix.specs.declared.addr.Family.TheVariants.{V4}
+use Rattle.std.specs.Prelude.{Bool, Option}
 use Rattle.std.specs.declared.alloc.Global.{Global}
 use Rattle.std.specs.declared.rc.Rc.{Rc}
 use Rattle.mrt_wire.specs.declared.event.Route.{Route}
-use Rattle.rib_store.specs.Packed.{v4_network}
 use Rattle.rib_player.specs.declared.pair.Pair.{Pair}
-use Rattle.rib_player.specs.declared.entry.Marks.{Marks}
-use Rattle.rib_player.specs.declared.entry.Kept.{Kept}
-use Rattle.rib_player.specs.declared.entry.Kept.TheVariants.{V4Absent, V4Present, V6Absent, V6Present, Taken}
-use Rattle.rib_player.specs.History.{pair_of}
 
 -- a pair, its route on the other side of the step, whether it is new with the step, and whether it has no route behind it
 pub record Entry : Type 0 where
@@ -17,43 +11,3 @@ pub record Entry : Type 0 where
   pub other : Option (Rc Route Global)
   pub first : Bool
   pub clears : Bool
-
--- one that isn't known to be new, with the route behind the step
-abbrev pub new_entry : Pair → Option (Rc Route Global) → Entry
-new_entry pair other = record { pair = pair; other = other; first = false; clears = not (is_some other) }
-
--- what stands for a pair where none is kept
-abbrev no_pair : Pair
-no_pair = pair_of (record { addr = record { family = V4; bits = [] }; asn = 0 }) (record { family = V4; bits = [] })
-
--- the pair that is kept
-abbrev pub pair_kept : Kept → Pair
-pair_kept (V4Absent marks prefix peer) = pair_of peer.value (v4_network prefix)
-pair_kept (V4Present marks prefix peer route) = pair_of peer.value (v4_network prefix)
-pair_kept (V6Absent marks pair) = pair_of pair.value.peer.value pair.value.prefix
-pair_kept (V6Present marks pair route) = pair_of pair.value.peer.value pair.value.prefix
-pair_kept Taken = no_pair
-
--- the route that is
-abbrev pub other_kept : Kept → Option (Rc Route Global)
-other_kept (V4Absent marks prefix peer) = None
-other_kept (V4Present marks prefix peer route) = Some route
-other_kept (V6Absent marks pair) = None
-other_kept (V6Present marks pair route) = Some route
-other_kept Taken = None
-
--- the marks that are
-abbrev pub marks_kept : Kept → Marks
-marks_kept (V4Absent marks prefix peer) = marks
-marks_kept (V4Present marks prefix peer route) = marks
-marks_kept (V6Absent marks pair) = marks
-marks_kept (V6Present marks pair route) = marks
-marks_kept Taken = record { first = false; clears = false }
-
--- there is one
-abbrev pub IsWhole : Kept → Type 0
-IsWhole (V4Absent marks prefix peer) = Unit {0}
-IsWhole (V4Present marks prefix peer route) = Unit {0}
-IsWhole (V6Absent marks pair) = Unit {0}
-IsWhole (V6Present marks pair route) = Unit {0}
-IsWhole Taken = ⊥

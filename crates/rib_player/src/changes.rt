@@ -12,9 +12,12 @@ ghost use Rattle.rib_player.specs.declared.pair.Pair.{Pair};
 ghost use Rattle.mrt_wire.specs.declared.peer.Peer.{Peer};
 ghost use Rattle.mrt_wire.specs.Peer.{peer_cmp};
 ghost use Rattle.rib_player.specs.History.{pair_cmp, Clear, where_true, item_effect, later, effect};
-ghost use Rattle.rib_player.specs.Store.{route_in, slot_at};
+ghost use Rattle.rib_player.specs.Store.{route_in};
+ghost use Rattle.rib_player.specs.Holding.{slot_at};
 ghost use Rattle.rib_player.specs.Changes.{noted_effect, found, is_lost, or_absent, effect_of, items_effect, HasRoute};
-ghost use Rattle.rib_player.specs.Journal.{side_of, sides_of, pairs_in, cleared_side, slot_side, AreOrdered, IsStepFor, clearings_of, clearing_then};
+ghost use Rattle.rib_player.specs.Journal.{side_of, sides_of, pairs_in};
+ghost use Rattle.rib_player.specs.Sides.{cleared_side, slot_side, AreOrdered, IsStepFor};
+ghost use Rattle.rib_player.specs.Clearings.{clearings_of, clearing_then};
 
 use crate::entry::Entry;
 use crate::known::KnownRoutes;

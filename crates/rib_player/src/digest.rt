@@ -2,7 +2,7 @@
 
 ghost use Rattle.std.specs.Prelude.{◌≡◌, ◌≤◌, ◌<◌, ◌+◌, length};
 ghost use Rattle.ip_prefix.specs.Address.{octet_count};
-ghost use Rattle.rib_player.specs.Journal.{marks_of};
+ghost use Rattle.rib_player.specs.Marks.{marks_of};
 ghost use Rattle.rib_player.specs.Digests.{hashed_place, four_octets, hashed_number, bits_of, can_name, IsDigestOf, ArePassed, IsCandidate};
 
 use crate::entry::Entry;

@@ -7,7 +7,7 @@ ghost use Rattle.rib_store.specs.Packed.{v4_network};
 ghost use Rattle.rib_store.specs.Stored.{put};
 ghost use Rattle.rib_player.specs.History.{pair_of};
 ghost use Rattle.rib_player.specs.Store.{route_in};
-ghost use Rattle.rib_player.specs.Entries.{new_entry, pair_kept, other_kept, marks_kept, IsWhole};
+ghost use Rattle.rib_player.specs.Kept.{new_entry, pair_kept, other_kept, marks_kept, IsWhole};
 
 use crate::pair::Pair;
 use crate::table::Table;
@@ -62,7 +62,8 @@ const ENTRY_OCTETS: usize = 24;
 const _: () = prove!(size_of::<Entry>() <= ENTRY_OCTETS);
 
 impl Model for Entry {
-    ghost use Rattle.rib_player.specs.Entries.{Entry, pair_kept, other_kept, marks_kept, IsWhole};
+    ghost use Rattle.rib_player.specs.Entries.{Entry};
+    ghost use Rattle.rib_player.specs.Kept.{pair_kept, other_kept, marks_kept, IsWhole};
 
     ghost Value = { Entry };
 

@@ -6,11 +6,15 @@ ghost use Rattle.std.specs.VecDeque.{deque_len, deque_capacity};
 ghost use Rattle.std.specs.Ordering.{eq_by_cmp};
 ghost use Rattle.std.specs.FinMap as finite;
 ghost use Rattle.std.specs.FinSet as names;
-ghost use Rattle.rib_store.specs.Stored.{counted, AreAmong};
+ghost use Rattle.rib_store.specs.Stored.{counted};
+ghost use Rattle.rib_store.specs.Contents.{AreAmong};
 ghost use Rattle.rib_player.specs.declared.pair.Pair.{Pair};
 ghost use Rattle.rib_player.specs.History.{pair_cmp};
-ghost use Rattle.rib_player.specs.Journal.{sides_of, sides_at, steps_of, routes_across, sides_across, IsKept, marks_of, trail_of, entry_count, named_by, marked, AreFirst, CanLeave, LeavesExact, AreDistinct, AreOrdered, IsPlayed, IsAdvanced};
-ghost use Rattle.rib_player.specs.Journal.{clearing_of, clearings_of, clearings_by_step, is_cleared, cleared_by, any_cleared, any_named, marks_at, marked_first, CanForget, ForgetsExact};
+ghost use Rattle.rib_player.specs.Journal.{sides_of, steps_of, routes_across};
+ghost use Rattle.rib_player.specs.Sides.{sides_at, sides_across, IsKept, AreDistinct, AreOrdered};
+ghost use Rattle.rib_player.specs.Marks.{marks_of, trail_of, entry_count, named_by, marked, AreFirst, CanLeave, LeavesExact, any_named, marks_at, marked_first};
+ghost use Rattle.rib_player.specs.Played.{IsPlayed, IsAdvanced};
+ghost use Rattle.rib_player.specs.Clearings.{clearing_of, clearings_of, clearings_by_step, is_cleared, cleared_by, any_cleared, CanForget, ForgetsExact};
 ghost use Rattle.rib_player.specs.Digests.{AreDigestsOf};
 
 use crate::digest::{Digest, bits_of, next_place};

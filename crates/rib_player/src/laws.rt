@@ -17,8 +17,11 @@ ghost use Rattle.rib_player.specs.declared.pair.Pair.{Pair};
 ghost use Rattle.mrt_wire.specs.declared.event.TheConstants.{ESTABLISHED};
 ghost use Rattle.rib_player.specs.History.{pair_cmp, pair_of, effect, route_after, route};
 ghost use Rattle.rib_player.specs.Tables.{Routes, table, table_after, is_named, named_pairs};
-ghost use Rattle.rib_player.specs.Store.{peer_routes, routed_peers, peers_above};
-ghost use Rattle.rib_player.specs.Timeline.{Timeline, wanted, Call, Play, Undo, Redo, StandsFor, forgettable, after_forget, fresh, end_of, table_at, current, after_undo, after_redo, after_play, after_call, after_calls, history_after, history_after_calls};
+ghost use Rattle.rib_player.specs.Store.{peer_routes, routed_peers};
+ghost use Rattle.rib_player.specs.Lookups.{peers_above};
+ghost use Rattle.rib_player.specs.Timeline.{Timeline, end_of, table_at, current, after_play};
+ghost use Rattle.rib_player.specs.Calls.{Call, Play, Undo, Redo, StandsFor, forgettable, after_forget, fresh, after_undo, after_redo, after_call, after_calls, history_after, history_after_calls};
+ghost use Rattle.rib_player.specs.Wanted.{wanted};
 
 /// The number that the definitions name: the state Established (RFC 6396, section 4.4.1).
 pub fn state_numbers()

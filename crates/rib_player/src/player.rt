@@ -3,7 +3,9 @@
 ghost use Rattle.std.specs.Prelude.{◌≡◌, ◌<◌, ◌↔◌, IfOk, OnOk, OnErr, IsOk};
 ghost use Rattle.rib_store.specs.Stored.{counted};
 ghost use Rattle.rib_store.specs.declared.store.TheConstants.{GREATEST_COUNT};
-ghost use Rattle.rib_player.specs.Timeline.{fresh, ahead_of, end_of, current, wanted, named_count, after_play, after_undo, after_redo, behind, without_first, forgettable, after_forget, IsWellFormed};
+ghost use Rattle.rib_player.specs.Timeline.{ahead_of, end_of, current, after_play, behind};
+ghost use Rattle.rib_player.specs.Calls.{fresh, after_undo, after_redo, without_first, forgettable, after_forget};
+ghost use Rattle.rib_player.specs.Wanted.{wanted, named_count, IsWellFormed};
 
 use crate::changes::step_for;
 use crate::digest::Digest;
@@ -54,7 +56,8 @@ pub struct Player<S: PrefixStore<Rc<Route>>> {
 }
 
 impl<S: PrefixStore<Rc<Route>>> Model for Player<S> {
-    ghost use Rattle.rib_player.specs.Timeline.{Timeline, coded_timeline};
+    ghost use Rattle.rib_player.specs.Timeline.{Timeline};
+    ghost use Rattle.rib_player.specs.Wanted.{coded_timeline};
 
     ghost Value = { Timeline };
 
@@ -62,7 +65,9 @@ impl<S: PrefixStore<Rc<Route>>> Model for Player<S> {
 
     ghost use Rattle.std.specs.Prelude.{◌+◌, ◌≤◌, length};
     ghost use Rattle.rib_store.specs.declared.store.TheConstants.{GREATEST_COUNT};
-    ghost use Rattle.rib_player.specs.Journal.{timeline_of, behind_forgotten, steps_of, trail_of, IsPlayed};
+    ghost use Rattle.rib_player.specs.Journal.{timeline_of, behind_forgotten, steps_of};
+    ghost use Rattle.rib_player.specs.Marks.{trail_of};
+    ghost use Rattle.rib_player.specs.Played.{IsPlayed};
     ghost use Rattle.rib_player.specs.Digests.{AreDigestsOf};
 
     ghost view = { λ a. behind_forgotten a.floor

@@ -11,8 +11,11 @@ ghost use Rattle.rib_player.specs.declared.pair.Pair.{Pair};
 ghost use Rattle.mrt_wire.specs.declared.peer.Peer.{Peer};
 ghost use Rattle.mrt_wire.specs.Peer.{peer_cmp};
 ghost use Rattle.rib_player.specs.History.{pair_cmp, pair_of};
-ghost use Rattle.rib_store.specs.Stored.{put, counted, above};
-ghost use Rattle.rib_player.specs.Store.{route_in, value_of, store_at, keys_in, routes_in, IsLeft, IsBest, peer_routes, routed_peers, peers_above, routed_stores, peer_count};
+ghost use Rattle.rib_store.specs.Stored.{put, counted};
+ghost use Rattle.rib_store.specs.Lookups.{above};
+ghost use Rattle.rib_player.specs.Store.{route_in, store_at, keys_in, routes_in, peer_routes, routed_peers};
+ghost use Rattle.rib_player.specs.Lookups.{IsBest, peers_above, routed_stores, peer_count};
+ghost use Rattle.rib_player.specs.Holding.{value_of, IsLeft};
 
 use crate::pair::Pair;
 use ip_prefix::{Addr, Prefix};
@@ -34,7 +37,8 @@ pub struct Table<S: PrefixStore<Rc<Route>>> {
 }
 
 impl<S: PrefixStore<Rc<Route>>> Model for Table<S> {
-    ghost use Rattle.rib_player.specs.Store.{Contents, coded_contents, keys_in, routes_in, IsHeld};
+    ghost use Rattle.rib_player.specs.Store.{Contents, keys_in, routes_in};
+    ghost use Rattle.rib_player.specs.Holding.{coded_contents, IsHeld};
 
     ghost Value = { Contents };
 

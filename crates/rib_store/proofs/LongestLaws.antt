@@ -6,7 +6,8 @@ use Rattle.ip_prefix.specs.Address.{Address}
 use Rattle.ip_prefix.specs.Network.{Network, contains, network_of}
 use Rattle.ip_prefix.proofs.Containing.{contains_parts, contains_from, front_length, one_of_length}
 use Rattle.std.specs.FinMap.{get}
-use Rattle.rib_store.specs.Stored.{Routes, IsLongest}
+use Rattle.rib_store.specs.Stored.{Routes}
+use Rattle.rib_store.specs.Lookups.{IsLongest}
 
 -- a prefix that contains an address is no longer than it
 pub contains-length : (n : Network) (a : Address) → contains n a ≡ true → length n.bits ≤ length a.bits

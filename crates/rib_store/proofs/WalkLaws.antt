@@ -21,7 +21,7 @@ use Rattle.rib_store.specs.declared.tree.Slot.{Slot}
 use Rattle.rib_store.specs.declared.tree.Slot.TheVariants.{Branch, Vacant, Filled}
 use Rattle.rib_store.specs.Shape.{Shape}
 use Rattle.rib_store.specs.Shape.{Empty, Rooted}
-use Rattle.rib_store.specs.Stored.{is_above, above}
+use Rattle.rib_store.specs.Lookups.{is_above, above}
 use Rattle.rib_store.specs.Slots.{Slots, slot_at, routed}
 use Rattle.rib_store.specs.Tree.{at, own, slots_of, slot_of, chosen, same_way, AreSides, IsOn, IsRooted, IsShaped}
 use Rattle.rib_store.specs.Walks.{either_of, routed_at, first, behind}

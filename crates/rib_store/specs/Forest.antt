@@ -10,7 +10,8 @@ use Rattle.ip_prefix.specs.Order.{network_cmp}
 use Rattle.rib_store.specs.declared.forest.Forest.{Forest}
 use Rattle.rib_store.specs.Shape.{Shape, shape_of, IsMarked}
 use Rattle.rib_store.specs.Packed.{v4_network, v6_network}
-use Rattle.rib_store.specs.Stored.{Contents, counted}
+use Rattle.rib_store.specs.Stored.{counted}
+use Rattle.rib_store.specs.Contents.{Contents}
 use Rattle.rib_store.specs.Slots.{Slots, slot_at, keys_in, routes_in}
 use Rattle.rib_store.specs.Tree.{slots_of, AreSides, IsShaped}
 

@@ -7,7 +7,8 @@ ghost use Rattle.ip_prefix.specs.Address.{Address};
 ghost use Rattle.ip_prefix.specs.Network.{Network};
 ghost use Rattle.ip_prefix.specs.Order.{network_cmp};
 ghost use Rattle.rib_store.specs.declared.store.TheConstants.{GREATEST_COUNT};
-ghost use Rattle.rib_store.specs.Stored.{Routes, put, IsLongest, above};
+ghost use Rattle.rib_store.specs.Stored.{Routes, put};
+ghost use Rattle.rib_store.specs.Lookups.{IsLongest, above};
 
 /// The number that the definitions name: where counts stop, `u64::MAX`.
 pub fn count_numbers()

@@ -1,7 +1,7 @@
 //! Steps that are forgotten.
 
 ghost use Rattle.std.specs.Prelude.{◌≡◌, ◌++◌, ◌||◌, OnOk};
-ghost use Rattle.rib_player.specs.Timeline.{forgettable, after_forget};
+ghost use Rattle.rib_player.specs.Calls.{forgettable, after_forget};
 ghost use Rattle.bgpdump_tool.specs.Replies.{forgot_text};
 ghost use Rattle.bgpdump_lines.specs.Writing.{Puts, is_write};
 

@@ -3,7 +3,7 @@ use Rattle.std.proofs.lemmas.List.{take_all}
 use Rattle.mrt_wire.proofs.SharedLaws.{said_range}
 use Rattle.rib_player.specs.declared.pair.Pair.{Pair}
 use Rattle.rib_player.specs.History.{item_effect, later, last_effect}
-use Rattle.rib_player.specs.Store.{Slots}
+use Rattle.rib_player.specs.Holding.{Slots}
 use Rattle.rib_player.specs.Changes.{noted_effect, found, is_lost, effect_of, items_effect}
 use Rattle.rib_player.proofs.ChangesLaws.{effect-parts, effects-sayings}
 use Rattle.rib_player.proofs.changes.changes_of.Goals as goal

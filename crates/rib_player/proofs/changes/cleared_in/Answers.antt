@@ -3,10 +3,12 @@ use Rattle.std.specs.Option.{option_map}
 use Rattle.std.specs.FinMap as finite
 use Rattle.std.proofs.lemmas.List.{append-nil, map-append}
 use Rattle.ip_prefix.specs.Network.{Network}
-use Rattle.rib_store.specs.Stored.{above}
+use Rattle.rib_store.specs.Lookups.{above}
 use Rattle.rib_store.proofs.AboveLaws.{above-next, above-none, none-above, routes_sorted}
 use Rattle.rib_player.specs.Entries.{Entry}
-use Rattle.rib_player.specs.Journal.{Side, side_of, sides_of, cleared_side, clearing_of, clearings_of, clearing_then}
+use Rattle.rib_player.specs.Journal.{Side, side_of, sides_of}
+use Rattle.rib_player.specs.Sides.{cleared_side}
+use Rattle.rib_player.specs.Clearings.{clearing_of, clearings_of, clearing_then}
 use Rattle.rib_player.proofs.changes.cleared_in.Given.{Over}
 use Rattle.rib_player.proofs.changes.cleared_in.Goals as goal
 use Rattle.rib_player.proofs.changes.cleared_in.Goals.{In-Some}

@@ -1,7 +1,9 @@
 use Rattle.std.proofs.Common.{◌≡◌, ◌++◌, map, length}
 use Rattle.std.specs.FinMap as finite
-use Rattle.rib_store.specs.Stored.{above}
-use Rattle.rib_player.specs.Journal.{sides_of, cleared_side, clearings_of, clearing_then}
+use Rattle.rib_store.specs.Lookups.{above}
+use Rattle.rib_player.specs.Journal.{sides_of}
+use Rattle.rib_player.specs.Sides.{cleared_side}
+use Rattle.rib_player.specs.Clearings.{clearings_of, clearing_then}
 use Rattle.rib_player.proofs.changes.cleared_in.Given as goal
 
 -- the sides so far and those of what stands above the last of them are all

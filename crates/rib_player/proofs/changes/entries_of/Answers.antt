@@ -6,7 +6,8 @@ use Rattle.std.specs.Map.{keys_of}
 use Rattle.std.specs.Vec.Iter.{into_iter_items}
 use Rattle.rib_player.specs.Entries.{Entry}
 use Rattle.rib_player.specs.History.{pair_cmp}
-use Rattle.rib_player.specs.Journal.{sides_of, AreOrdered}
+use Rattle.rib_player.specs.Journal.{sides_of}
+use Rattle.rib_player.specs.Sides.{AreOrdered}
 use Rattle.rib_player.proofs.EntryLaws.{has_route, ordered-sides, sides-done}
 use Rattle.rib_player.proofs.changes.entries_of.Goals as goal
 

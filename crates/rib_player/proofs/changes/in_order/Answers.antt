@@ -7,7 +7,8 @@ use Rattle.std.proofs.lemmas.List.{reverse-reverse}
 use Rattle.std.proofs.lemmas.List.Sorted.{answers_always}
 use Rattle.std.proofs.lemmas.Fn.{dedup_same}
 use Rattle.rib_player.specs.History.{pair_cmp}
-use Rattle.rib_player.specs.Store.{Slots, slot_at, route_in}
+use Rattle.rib_player.specs.Store.{route_in}
+use Rattle.rib_player.specs.Holding.{Slots, slot_at}
 use Rattle.rib_player.proofs.SlotLaws.{of_one_pair, found-dedup, found-reverse, found-sorted, ordered-dedup}
 use Rattle.rib_player.proofs.changes.in_order.Goals as goal
 use Rattle.rib_player.proofs.changes.in_order.Goals.{After-dedup_by_key}

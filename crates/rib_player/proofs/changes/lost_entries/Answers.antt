@@ -6,7 +6,8 @@ use Rattle.std.proofs.lemmas.Result.{IfOk-weaker}
 use Rattle.rib_store.proofs.AboveLaws.{routes-in_order}
 use Rattle.rib_player.specs.Entries.{Entry}
 use Rattle.rib_player.specs.History.{pair_cmp}
-use Rattle.rib_player.specs.Journal.{Side, pairs_in, sides_of, cleared_side, AreOrdered}
+use Rattle.rib_player.specs.Journal.{Side, pairs_in, sides_of}
+use Rattle.rib_player.specs.Sides.{cleared_side, AreOrdered}
 use Rattle.rib_player.proofs.StoreLaws.{peer-named, none-named}
 use Rattle.rib_player.proofs.LostLaws.{pairs-cleared, absent-cleared, ordered-cleared, ordered-none}
 use Rattle.rib_player.proofs.changes.lost_entries.Given.{Over}

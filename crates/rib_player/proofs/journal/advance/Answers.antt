@@ -7,8 +7,10 @@ use Rattle.std.proofs.lemmas.Map.Keys.{IsDistinct-from_sorted}
 use Rattle.rib_player.specs.declared.pair.Pair.{Pair}
 use Rattle.rib_player.specs.declared.journal.Step.{Step}
 use Rattle.rib_player.specs.History.{pair_cmp}
-use Rattle.rib_player.specs.Timeline.{routed_first}
-use Rattle.rib_player.specs.Journal.{step_sides, AreHeld, sides_of, pairs_in, steps_of, marks_of, trail_of, timeline_of, routes_across, sides_across, seen_after, IsExact, IsKept, AreOrdered}
+use Rattle.rib_player.specs.Wanted.{routed_first}
+use Rattle.rib_player.specs.Journal.{step_sides, sides_of, pairs_in, steps_of, timeline_of, routes_across}
+use Rattle.rib_player.specs.Sides.{sides_across, IsKept, AreOrdered}
+use Rattle.rib_player.specs.Marks.{AreHeld, marks_of, trail_of, seen_after, IsExact}
 use Rattle.rib_player.proofs.JournalLaws.{kept-sides_across}
 use Rattle.rib_player.proofs.KeyLaws.{unheld-route, unseen-route, held-split, held-end, exact-start, exact-has, exact-has-last, all-named_pairs, all-kept, all-distinct}
 use Rattle.octet_forms.proofs.Lists.{AllByRecursion-take}

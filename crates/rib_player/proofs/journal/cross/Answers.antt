@@ -1,6 +1,9 @@
 use Rattle.std.proofs.Common.{◌++◌, drop, take, ◌+◌, ◌<◌, length, get_or, arith, ap, sym, subst, ◌∙◌}
 use Rattle.std.proofs.lemmas.List.{drop-drop, drop-set-lt}
-use Rattle.rib_player.specs.Journal.{sides_of, clearings_of, clearing_of, marks_of, mark_of, routes_across, sides_across, IsKept}
+use Rattle.rib_player.specs.Journal.{sides_of, routes_across}
+use Rattle.rib_player.specs.Sides.{sides_across, IsKept}
+use Rattle.rib_player.specs.Marks.{marks_of, mark_of}
+use Rattle.rib_player.specs.Clearings.{clearings_of, clearing_of}
 use Rattle.rib_player.proofs.JournalLaws.{rest_of_entries, kept-tail, entries-more}
 use Rattle.rib_player.proofs.MarkLaws.{turn-more}
 use Rattle.rib_player.proofs.journal.cross.Goals as goal

@@ -1,6 +1,9 @@
 use Rattle.std.proofs.Common.{◌≡◌, [], ◌<◌, length, ap, sym, subst, ◌∙◌, set, arith}
 use Rattle.std.proofs.lemmas.List.{get_or-map, map-set, length-map, with_items_is, set-get_or}
-use Rattle.rib_player.specs.Journal.{clearings_of, step_clearings, clearings_by_step, marks_of, step_marks, trail_of, sides_of, sides_at, steps_of, step_sides, sides_across, IsKept}
+use Rattle.rib_player.specs.Journal.{sides_of, steps_of, step_sides}
+use Rattle.rib_player.specs.Sides.{sides_at, sides_across, IsKept}
+use Rattle.rib_player.specs.Marks.{marks_of, step_marks, trail_of}
+use Rattle.rib_player.specs.Clearings.{clearings_of, step_clearings, clearings_by_step}
 use Rattle.rib_player.proofs.CursorLaws.{kept-at}
 use Rattle.rib_player.proofs.journal.cross_step.Goals as goal
 use Rattle.rib_player.proofs.journal.cross_step.Given.{Over}

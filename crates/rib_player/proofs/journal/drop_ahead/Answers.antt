@@ -5,7 +5,9 @@ use Rattle.std.specs.Ordering.{eq_by_cmp}
 use Rattle.std.proofs.lemmas.List.{drop-append-le, take-append-le, length_push, map-append}
 use Rattle.rib_player.specs.declared.pair.Pair.{Pair}
 use Rattle.rib_player.specs.History.{pair_cmp}
-use Rattle.rib_player.specs.Journal.{Side, sides_of, pairs_in, steps_of, step_sides, marks_of, trail_of, seen_after, IsExact, AreDistinct}
+use Rattle.rib_player.specs.Journal.{Side, sides_of, pairs_in, steps_of, step_sides}
+use Rattle.rib_player.specs.Sides.{AreDistinct}
+use Rattle.rib_player.specs.Marks.{marks_of, trail_of, seen_after, IsExact}
 use Rattle.rib_player.proofs.MarkLaws.{trail-push, all-front, all-last, exact-last, exact-others, same-names}
 use Rattle.rib_player.proofs.journal.drop_ahead.Given.{Over}
 use Rattle.rib_player.proofs.journal.drop_ahead.Goals as goal

@@ -2,7 +2,7 @@ use Rattle.std.proofs.Common.{◌≡◌, ◌&&◌, ◌||◌, not, is_some, take}
 use Rattle.std.specs.FinMap as finite
 use Rattle.std.specs.FinSet as set
 use Rattle.rib_player.specs.declared.pair.Pair.{Pair}
-use Rattle.rib_player.specs.Journal.{clearings_of, cleared_by}
+use Rattle.rib_player.specs.Clearings.{clearings_of, cleared_by}
 use Rattle.rib_player.proofs.journal.drop_cleared_keys.Given as goal
 
 -- the keys but for those of the cleared pairs so far that have no route

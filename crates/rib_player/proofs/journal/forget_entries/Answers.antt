@@ -4,7 +4,9 @@ use Rattle.std.specs.FinSet as names
 use Rattle.std.proofs.lemmas.List.{take_more, map-append, get_or-map, length-map}
 use Rattle.rib_player.specs.declared.pair.Pair.{Pair}
 use Rattle.rib_player.specs.Entries.{Entry}
-use Rattle.rib_player.specs.Journal.{Clearing, clearing_of, clearings_of, clearings_by_step, any_named, marked_first, marks_of, named_by, trail_of, steps_of, without, unseen_by}
+use Rattle.rib_player.specs.Journal.{steps_of}
+use Rattle.rib_player.specs.Marks.{any_named, marked_first, marks_of, named_by, trail_of}
+use Rattle.rib_player.specs.Clearings.{Clearing, clearing_of, clearings_of, clearings_by_step, without, unseen_by}
 use Rattle.octet_forms.proofs.Lists.{AllByRecursion-get_or}
 use Rattle.rib_player.specs.Digests.{AreDigestsOf}
 use Rattle.rib_player.proofs.DigestLaws.{digests-marked}

@@ -1,7 +1,9 @@
 use Rattle.std.proofs.Common.{◌≡◌, Bool, true, take}
 use Rattle.std.specs.List.{AllByRecursion}
 use Rattle.rib_player.specs.declared.pair.Pair.{Pair}
-use Rattle.rib_player.specs.Journal.{Clearing, clearings_of, clearings_by_step, any_named, trail_of, steps_of, AreHeld, unseen_by}
+use Rattle.rib_player.specs.Journal.{steps_of}
+use Rattle.rib_player.specs.Marks.{any_named, trail_of, AreHeld}
+use Rattle.rib_player.specs.Clearings.{Clearing, clearings_of, clearings_by_step, unseen_by}
 use Rattle.rib_player.specs.Digests.{AreDigestsOf}
 use Rattle.rib_player.proofs.journal.forget_entries.Given as goal
 

@@ -2,7 +2,7 @@ use Rattle.std.proofs.Common.{◌≡◌, ◌||◌, true, is_some, length}
 use Rattle.std.specs.FinMap as finite
 use Rattle.std.specs.FinSet as set
 use Rattle.rib_player.specs.declared.pair.Pair.{Pair}
-use Rattle.rib_player.specs.Journal.{any_cleared, clearings_by_step}
+use Rattle.rib_player.specs.Clearings.{any_cleared, clearings_by_step}
 use Rattle.rib_player.proofs.journal.forget_steps.Given as goal
 
 -- pairs with a route are keys, and a key without one is one that a step that is left left without

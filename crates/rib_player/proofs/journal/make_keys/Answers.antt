@@ -5,7 +5,9 @@ use Rattle.std.specs.List.Sorted.{IsStrictlySortedBy}
 use Rattle.std.specs.FinMap as finite
 use Rattle.std.specs.FinSet as names
 use Rattle.rib_player.specs.Entries.{Entry}
-use Rattle.rib_player.specs.Journal.{Mark, side_of, clearing_of, sides_of, pairs_in, marks_of, mark_of, named_by, AreFirst, IsExact}
+use Rattle.rib_player.specs.Journal.{side_of, sides_of, pairs_in}
+use Rattle.rib_player.specs.Marks.{Mark, marks_of, mark_of, named_by, AreFirst, IsExact}
+use Rattle.rib_player.specs.Clearings.{clearing_of}
 use Rattle.rib_player.proofs.MarkLaws.{tied, pairs_in-take, distinct-take, distinct-before, exact-unmake, exact-unmade, same-names, keys-more-marked, first-push, first-made, marks-more, get_or-any, same-set, sides-set}
 use Rattle.rib_player.proofs.journal.make_keys.Given.{Over}
 use Rattle.rib_player.proofs.journal.make_keys.Goals as goal

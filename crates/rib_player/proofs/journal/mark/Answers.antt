@@ -4,7 +4,9 @@ use Rattle.std.proofs.lemmas.List.Sorted.{answers_always}
 use Rattle.std.proofs.lemmas.Map.Keys.{IsDistinct-from_sorted}
 use Rattle.rib_player.specs.Entries.{Entry}
 use Rattle.rib_player.specs.History.{pair_cmp}
-use Rattle.rib_player.specs.Journal.{side_of, mark_of, clearing_of, sides_of, pairs_in}
+use Rattle.rib_player.specs.Journal.{side_of, sides_of, pairs_in}
+use Rattle.rib_player.specs.Marks.{mark_of}
+use Rattle.rib_player.specs.Clearings.{clearing_of}
 use Rattle.rib_player.proofs.PairLaws.{pair_cmp-IsAntisymmetric}
 use Rattle.rib_player.proofs.MarkLaws.{get_or-any, same-set, sides-set}
 use Rattle.rib_player.proofs.SearchLaws.{IsApart, places_rise, named-at, named-nowhere, marked-at, marked-nowhere, apart-parted}

@@ -1,7 +1,8 @@
 use Rattle.std.proofs.Common.{◌≡◌, ℕ, ◌+◌, List, [], ◌<◌, ◌≤◌, false, length, take, set, refl, ap, sym, subst, ◌∙◌, arith}
 use Rattle.std.proofs.lemmas.List.{length-map, set-get_or, take_all}
 use Rattle.rib_player.specs.declared.pair.Pair.{Pair}
-use Rattle.rib_player.specs.Journal.{Mark, any_named, marked, marks_at, named_by, step_marks, step_sides, trail_of}
+use Rattle.rib_player.specs.Journal.{step_sides}
+use Rattle.rib_player.specs.Marks.{Mark, any_named, marked, marks_at, named_by, step_marks, trail_of}
 use Rattle.rib_player.specs.Digests.{ArePassed}
 use Rattle.rib_player.proofs.DigestLaws.{length-digests, none-passed}
 use Rattle.rib_player.proofs.UnseenLaws.{marked-absent, marked_first-none, marked_first-at, any_named-at, any_named-more}

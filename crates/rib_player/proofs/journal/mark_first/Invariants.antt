@@ -1,5 +1,7 @@
 use Rattle.std.proofs.Common.{◌≡◌, ◌-◌, ◌≤◌, false, length, take}
-use Rattle.rib_player.specs.Journal.{any_named, trail_of, steps_of, clearings_by_step}
+use Rattle.rib_player.specs.Journal.{steps_of}
+use Rattle.rib_player.specs.Marks.{any_named, trail_of}
+use Rattle.rib_player.specs.Clearings.{clearings_by_step}
 use Rattle.rib_player.proofs.journal.mark_first.Given as goal
 
 -- no step so far names the pair, and all is as it was

@@ -1,6 +1,9 @@
 use Rattle.std.proofs.Common.{◌≡◌, [], ap, sym, subst, ◌∙◌, set, arith}
 use Rattle.std.proofs.lemmas.List.{get_or-map, map-set, length-map, with_items_is, set-get_or}
-use Rattle.rib_player.specs.Journal.{marked, named_by, clearings_of, step_clearings, clearings_by_step, marks_of, marks_at, step_marks, trail_of, sides_of, steps_of, step_sides, AreOrdered}
+use Rattle.rib_player.specs.Journal.{sides_of, steps_of, step_sides}
+use Rattle.rib_player.specs.Sides.{AreOrdered}
+use Rattle.rib_player.specs.Marks.{marked, named_by, marks_of, marks_at, step_marks, trail_of}
+use Rattle.rib_player.specs.Clearings.{clearings_of, step_clearings, clearings_by_step}
 use Rattle.octet_forms.proofs.Lists.{AllByRecursion-get_or}
 use Rattle.rib_player.proofs.journal.mark_in_step.Goals as goal
 use Rattle.rib_player.proofs.journal.mark_in_step.Goals.{After-as_mut_slice}

@@ -4,7 +4,9 @@ use Rattle.std.specs.FinMap as finite
 use Rattle.std.specs.FinSet as names
 use Rattle.std.proofs.lemmas.List.{drop_all}
 use Rattle.rib_player.specs.declared.pair.Pair.{Pair}
-use Rattle.rib_player.specs.Journal.{sides_of, clearings_of, marks_of, mark_of, marked, named_by, IsExact}
+use Rattle.rib_player.specs.Journal.{sides_of}
+use Rattle.rib_player.specs.Marks.{marks_of, mark_of, marked, named_by, IsExact}
+use Rattle.rib_player.specs.Clearings.{clearings_of}
 use Rattle.rib_player.proofs.MarkLaws.{tied, pairs_marked, rest_at, distinct-drop, exact-as, exact-seen, exact-handed, exact-key, exact-free, exact-gone, exact-end}
 use Rattle.rib_player.proofs.journal.release.Given.{Over}
 use Rattle.rib_player.proofs.journal.release.Goals as goal

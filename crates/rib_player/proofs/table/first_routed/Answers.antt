@@ -2,7 +2,7 @@ use Rattle.std.proofs.Common.{Some, slice_get, sym, ap, ◌∙◌}
 use Rattle.std.specs.Option.{option_map}
 use Rattle.std.specs.Map.Iter.{deref_pair}
 use Rattle.std.proofs.lemmas.Map.Iter.{rest_all}
-use Rattle.rib_player.specs.Store.{routed_stores, peer_count}
+use Rattle.rib_player.specs.Lookups.{routed_stores, peer_count}
 use Rattle.rib_player.proofs.PeerLaws.{routed-more, routed-none}
 use Rattle.rib_player.proofs.table.first_routed.Goals as goal
 

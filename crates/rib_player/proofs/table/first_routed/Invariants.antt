@@ -1,5 +1,5 @@
 use Rattle.std.proofs.Common.{◌≡◌, slice_get}
-use Rattle.rib_player.specs.Store.{routed_stores}
+use Rattle.rib_player.specs.Lookups.{routed_stores}
 use Rattle.rib_player.proofs.table.first_routed.Given as goal
 
 -- the stores so far have no route

@@ -6,7 +6,8 @@ use Rattle.octet_forms.proofs.Options.{is_some-option_map, None_from_is_some}
 use Rattle.mrt_wire.specs.declared.peer.Peer.{Peer}
 use Rattle.rib_store.proofs.AboveLaws.{none-above}
 use Rattle.rib_store.specs.Stored.{counted}
-use Rattle.rib_player.specs.Store.{peer_routes, routed_peers, peers_above}
+use Rattle.rib_player.specs.Store.{peer_routes, routed_peers}
+use Rattle.rib_player.specs.Lookups.{peers_above}
 use Rattle.rib_player.proofs.PeerLaws.{all-peers, peers-next, peers-in_order}
 use Rattle.bgpdump_lines.specs.Device.{AppendsFront}
 use Rattle.bgpdump_tool.specs.Replies.{peer_line, peer_line_of}

@@ -1,7 +1,7 @@
 use Rattle.std.proofs.Common.{◌-◌, ◌^◌, take, bit_and, sym, ap, ap₂, ◌++◌, ◌∷◌, [], ◌∙◌, arith}
 use Rattle.std.proofs.lemmas.List.{take_more}
 use Rattle.rib_player.specs.Entries.{Entry}
-use Rattle.rib_player.specs.Journal.{marks_of}
+use Rattle.rib_player.specs.Marks.{marks_of}
 use Rattle.rib_player.specs.Digests.{absent_bits, bits_of}
 use Rattle.rib_player.proofs.DigestLaws.{absent-more}
 use Rattle.rib_player.proofs.digest.Digest.of.Goals as goal

@@ -1,5 +1,5 @@
 use Rattle.std.proofs.Common.{take}
-use Rattle.rib_player.specs.Journal.{marks_of}
+use Rattle.rib_player.specs.Marks.{marks_of}
 use Rattle.rib_player.specs.Digests.{IsDigestOf}
 use Rattle.rib_player.proofs.digest.Digest.of.Given as goal
 

@@ -1,7 +1,8 @@
 use Rattle.std.proofs.Common.{◌≡◌, List, length, subst, ◌∙◌, arith}
 use Rattle.std.specs.FinSet.{from_list}
 use Rattle.std.proofs.lemmas.List.{length-map}
-use Rattle.rib_player.specs.Timeline.{Timeline, IsWellFormed}
+use Rattle.rib_player.specs.Timeline.{Timeline}
+use Rattle.rib_player.specs.Wanted.{IsWellFormed}
 use Rattle.rib_player.specs.Journal.{Side, pairs_in, steps_of, timeline_of, behind_forgotten}
 use Rattle.rib_player.proofs.CursorLaws.{length-tables}
 use Rattle.rib_player.proofs.player.Player.at.Goals as goal

@@ -4,8 +4,10 @@ use Rattle.std.specs.FinSet.{from_list}
 use Rattle.std.proofs.lemmas.List.{length-map}
 use Rattle.rib_player.specs.declared.pair.Pair.{Pair}
 use Rattle.rib_player.specs.History.{pair_cmp}
-use Rattle.rib_player.specs.Timeline.{Timeline, without_first, behind}
-use Rattle.rib_player.specs.Journal.{Side, pairs_in, step_sides, steps_of, trail_of, timeline_of, behind_forgotten}
+use Rattle.rib_player.specs.Timeline.{Timeline, behind}
+use Rattle.rib_player.specs.Calls.{without_first}
+use Rattle.rib_player.specs.Journal.{Side, pairs_in, step_sides, steps_of, timeline_of, behind_forgotten}
+use Rattle.rib_player.specs.Marks.{trail_of}
 use Rattle.rib_player.specs.Digests.{AreDigestsOf}
 use Rattle.rib_player.proofs.KeyLaws.{held-named}
 use Rattle.rib_player.proofs.ForgetLaws.{any-cleared, timeline-all_forgotten, all_forgotten-played}

@@ -1,8 +1,11 @@
 use Rattle.std.proofs.Common.{◌≡◌, suc, ◌+◌, ◌-◌, ◌<◌, ◌++◌, ◌∷◌, Some, length, slice_index_or, ap, ap₂, sym, subst, ◌∙◌, arith}
 use Rattle.std.specs.Option.{option_to_list}
 use Rattle.std.proofs.lemmas.List.{length-map}
-use Rattle.rib_player.specs.Timeline.{without_first}
-use Rattle.rib_player.specs.Journal.{step_sides, step_marks, step_clearings, clearings_of, steps_of, trail_of, timeline_of, behind_forgotten, IsPlayed, CanForget, ForgetsExact}
+use Rattle.rib_player.specs.Calls.{without_first}
+use Rattle.rib_player.specs.Journal.{step_sides, steps_of, timeline_of, behind_forgotten}
+use Rattle.rib_player.specs.Marks.{step_marks, trail_of}
+use Rattle.rib_player.specs.Clearings.{step_clearings, clearings_of, CanForget, ForgetsExact}
+use Rattle.rib_player.specs.Played.{IsPlayed}
 use Rattle.rib_player.specs.declared.digest.Digest.{Digest}
 use Rattle.rib_player.specs.Digests.{AreDigestsOf}
 use Rattle.rib_player.proofs.DigestLaws.{length-digests}

@@ -1,6 +1,6 @@
 use Rattle.std.proofs.Common.{ap, ◌∙◌}
 use Rattle.rib_store.specs.Stored.{counted}
-use Rattle.rib_player.specs.Timeline.{named_count}
+use Rattle.rib_player.specs.Wanted.{named_count}
 use Rattle.rib_player.specs.Journal.{steps_of}
 use Rattle.rib_player.proofs.CountLaws.{named-total}
 use Rattle.rib_player.proofs.KeyLaws.{all-distinct}

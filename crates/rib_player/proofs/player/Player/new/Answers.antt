@@ -1,5 +1,5 @@
 use Rattle.std.proofs.Common.{[], ap, sym, subst, length, arith}
-use Rattle.rib_player.specs.Journal.{trail_of}
+use Rattle.rib_player.specs.Marks.{trail_of}
 use Rattle.rib_player.specs.Digests.{AreDigestsOf}
 use Rattle.rib_player.proofs.KeyLaws.{after_play-new}
 use Rattle.rib_player.proofs.player.Player.new.Goals as goal

@@ -3,7 +3,10 @@ use Rattle.std.specs.Vec.{with_items}
 use Rattle.std.proofs.lemmas.List.{with_items_is, length_push, length-take-le, length-map, map-append, take-map}
 use Rattle.rib_player.specs.declared.journal.Step.{Step}
 use Rattle.rib_player.specs.Timeline.{after_play}
-use Rattle.rib_player.specs.Journal.{step_sides, step_marks, sides_of, steps_of, trail_of, marks_of, timeline_of, behind_forgotten, clearings_of, clearing_then, IsAdvanced, IsPlayed}
+use Rattle.rib_player.specs.Journal.{step_sides, sides_of, steps_of, timeline_of, behind_forgotten}
+use Rattle.rib_player.specs.Marks.{step_marks, trail_of, marks_of}
+use Rattle.rib_player.specs.Clearings.{clearings_of, clearing_then}
+use Rattle.rib_player.specs.Played.{IsAdvanced, IsPlayed}
 use Rattle.rib_player.specs.Digests.{IsDigestOf, AreDigestsOf}
 use Rattle.rib_player.proofs.DigestLaws.{digests-taken, digests-added}
 use Rattle.rib_player.proofs.KeyLaws.{after_play-on}

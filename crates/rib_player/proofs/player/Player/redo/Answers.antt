@@ -2,8 +2,10 @@ use Rattle.std.proofs.Common.{◌≡◌, ◌+◌, ◌<◌, List, length, refl, a
 use Rattle.std.specs.FinSet.{from_list}
 use Rattle.std.proofs.lemmas.List.{length-map}
 use Rattle.rib_player.specs.History.{pair_cmp}
-use Rattle.rib_player.specs.Timeline.{after_redo}
-use Rattle.rib_player.specs.Journal.{Side, pairs_in, step_marks, step_sides, steps_of, timeline_of, behind_forgotten, IsPlayed}
+use Rattle.rib_player.specs.Calls.{after_redo}
+use Rattle.rib_player.specs.Journal.{Side, pairs_in, step_sides, steps_of, timeline_of, behind_forgotten}
+use Rattle.rib_player.specs.Marks.{step_marks}
+use Rattle.rib_player.specs.Played.{IsPlayed}
 use Rattle.rib_player.specs.Digests.{AreDigestsOf}
 use Rattle.rib_player.proofs.PlayedLaws.{after_redo-on}
 use Rattle.rib_player.proofs.FloorLaws.{after_redo-behind}

@@ -1,7 +1,9 @@
 use Rattle.std.proofs.Common.{◌≡◌, ◌-◌, length, refl, ap, sym, subst, ◌∙◌, arith}
 use Rattle.std.proofs.lemmas.List.{length-map}
-use Rattle.rib_player.specs.Timeline.{after_undo}
-use Rattle.rib_player.specs.Journal.{step_marks, steps_of, timeline_of, behind_forgotten, IsPlayed}
+use Rattle.rib_player.specs.Calls.{after_undo}
+use Rattle.rib_player.specs.Journal.{steps_of, timeline_of, behind_forgotten}
+use Rattle.rib_player.specs.Marks.{step_marks}
+use Rattle.rib_player.specs.Played.{IsPlayed}
 use Rattle.rib_player.specs.Digests.{AreDigestsOf}
 use Rattle.rib_player.proofs.PlayedLaws.{after_undo-on}
 use Rattle.rib_player.proofs.FloorLaws.{after_undo-behind}

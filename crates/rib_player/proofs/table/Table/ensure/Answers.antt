@@ -9,7 +9,8 @@ use Rattle.ip_prefix.specs.Order.{network_cmp}
 use Rattle.ip_prefix.specs.OrderLaws.{network_cmp_total}
 use Rattle.mrt_wire.specs.declared.peer.Peer.{Peer}
 use Rattle.std.proofs.lemmas.Result.{on_ok_weaker, on_err_weaker, IfOk-weaker}
-use Rattle.rib_player.specs.Store.{store_at, has_key, stored_route, value_of}
+use Rattle.rib_player.specs.Store.{store_at, has_key, stored_route}
+use Rattle.rib_player.specs.Holding.{value_of}
 use Rattle.rib_player.proofs.StoreLaws.{same_peer, keys_in-insert, keys_in-same, routes_in-same, held-other, store_at-write, contains-found, some-insert, either}
 use Rattle.rib_player.proofs.table.Table.ensure.Goals as goal
 use Rattle.rib_player.proofs.table.Table.ensure.Given.{Over}

@@ -1,6 +1,6 @@
 use Rattle.std.proofs.Common.{sym, ap, subst, ◌∙◌}
 use Rattle.std.specs.Option.{option_map, option_copied}
-use Rattle.rib_player.specs.Store.{IsBest}
+use Rattle.rib_player.specs.Lookups.{IsBest}
 use Rattle.rib_player.proofs.StoreLaws.{longest-none, longest-found}
 use Rattle.rib_player.proofs.table.Table.longest.Goals as goal
 

@@ -7,7 +7,8 @@ use Rattle.std.specs.declared.ops.Bound.TheVariants.{Excluded, Unbounded}
 use Rattle.std.specs.BTreeMap.Range.{range_contains, entries_between}
 use Rattle.mrt_wire.specs.Peer.{peer_cmp}
 use Rattle.rib_store.specs.Stored.{counted}
-use Rattle.rib_player.specs.Store.{peer_routes, routed_peers, peers_above}
+use Rattle.rib_player.specs.Store.{peer_routes, routed_peers}
+use Rattle.rib_player.specs.Lookups.{peers_above}
 use Rattle.rib_player.proofs.PeerLaws.{first_counted}
 use Rattle.rib_player.proofs.table.Table.peer_after.Goals as goal
 use Rattle.rib_player.proofs.table.Table.peer_after.Goals.{in-Some, in-None}

@@ -1,7 +1,7 @@
 use Rattle.std.proofs.Common.{Some, slice_get, sym, ap, ◌∙◌}
 use Rattle.std.specs.FinMap as finite
 use Rattle.std.specs.Option.{option_copied}
-use Rattle.rib_store.specs.Stored.{above}
+use Rattle.rib_store.specs.Lookups.{above}
 use Rattle.rib_store.specs.Forest.{slots_in}
 use Rattle.rib_store.proofs.AboveLaws.{above-none, entries-routes_in}
 use Rattle.rib_store.proofs.ForestLaws.{sorted-slots_in}

@@ -1,0 +1,39 @@
+-- Private.
+-- What is asked of a table: the best route, and the peers that have one.
+use Rattle.std.specs.Prelude.{ℕ, nat_lt, Bool, true, List, Option, Some, None}
+use Rattle.std.specs.List.{filter}
+use Rattle.std.specs.Ordering.{is_lt}
+use Rattle.std.specs.declared.rc.Rc.{Rc}
+use Rattle.std.specs.FinMap as finite
+use Rattle.std.specs.declared.alloc.Global.{Global}
+use Rattle.ip_prefix.specs.Address.{Address}
+use Rattle.ip_prefix.specs.Network.{Network}
+use Rattle.mrt_wire.specs.declared.peer.Peer.{Peer}
+use Rattle.mrt_wire.specs.declared.event.Route.{Route}
+use Rattle.mrt_wire.specs.Peer.{peer_cmp}
+use Rattle.rib_store.specs.Stored as stored
+use Rattle.rib_store.specs.Lookups as lookups
+use Rattle.rib_player.specs.History.{pair_of}
+use Rattle.rib_player.specs.Tables.{Routes}
+use Rattle.rib_player.specs.Store.{Stores}
+
+-- of the prefixes that the peer has a route to and that contain the address the longest, and its route
+abbrev pub IsBest : Routes → Peer → Address → Option (Network × Route) → Type 0
+IsBest routes peer = lookups.IsLongestOf (λ n. finite.get routes (pair_of peer n))
+
+-- whether a peer is above the other, where there is one
+abbrev pub is_peer_above : Option Peer → Peer → Bool
+is_peer_above None peer = true
+is_peer_above (Some low) peer = is_lt (peer_cmp low peer)
+
+-- the peers above a peer, in order
+abbrev pub peers_above : Option Peer → List Peer → List Peer
+peers_above low peers = filter (is_peer_above low) peers
+
+-- the stores that have a route, each with its peer
+abbrev pub routed_stores : {S : Type 0} → (S → stored.Routes (Rc Route Global)) → Stores S → Stores S
+routed_stores routes stores = filter (λ entry. nat_lt 0 (finite.len (routes entry.1))) stores
+
+-- a store's peer, and what the store's count of routes answers
+abbrev pub peer_count : {S : Type 0} → (S → stored.Routes (Rc Route Global)) → Peer × S → Peer × ℕ
+peer_count routes entry = (entry.0, stored.counted (finite.len (routes entry.1)))

@@ -1,0 +1,54 @@
+-- Private.
+-- The sides of steps: in order, each of a key, and as an event makes them.
+use Rattle.std.specs.Prelude.{◌≡◌, ℕ, true, None, List, [], map, slice_index_or, Option}
+use Rattle.std.specs.List.{AllByRecursion, IsDistinct}
+use Rattle.std.specs.List.Sorted.{IsStrictlySortedBy}
+use Rattle.std.specs.Ordering.{eq_by_cmp}
+use Rattle.std.specs.FinMap.{get}
+use Rattle.std.specs.FinSet.{contains, from_list}
+use Rattle.std.specs.declared.alloc.Global.{Global}
+use Rattle.std.specs.declared.rc.Rc.{Rc}
+use Rattle.ip_prefix.specs.Network.{Network}
+use Rattle.mrt_wire.specs.declared.peer.Peer.{Peer}
+use Rattle.mrt_wire.specs.declared.event.Route.{Route}
+use Rattle.mrt_wire.specs.declared.event.Event.{Event}
+use Rattle.rib_player.specs.declared.pair.Pair.{Pair}
+use Rattle.rib_player.specs.History.{pair_cmp, pair_of}
+use Rattle.rib_player.specs.Tables.{Routes, Pairs, table_after, named_pairs}
+use Rattle.rib_player.specs.Store.{route_in}
+use Rattle.rib_player.specs.Journal.{Side, pairs_in}
+
+-- the side of a slot
+abbrev pub slot_side : Pair × Option (Rc Route Global) → Side
+slot_side slot = (slot.0, route_in slot.1)
+
+-- the same pairs with the routes that a table has
+abbrev pub sides_across : Routes → List Side → List Side
+sides_across routes sides = map (λ side. (side.0, get routes side.0)) sides
+
+-- the side of a pair of a peer that has no route there
+abbrev pub cleared_side : Peer → Network → Side
+cleared_side peer prefix = (pair_of peer prefix, None)
+
+-- no pair stands twice
+abbrev pub AreDistinct : List Side → Type 0
+AreDistinct sides = IsDistinct (eq_by_cmp pair_cmp) (pairs_in sides)
+
+-- no pair stands twice, and each is a key
+pub record IsKept (keys : Pairs) (sides : List Side) : Type 0 where
+  pub distinct : AreDistinct sides
+  pub among_keys : AllByRecursion (λ pair. contains keys pair ≡ true) (pairs_in sides)
+
+-- the entries of the step at an index
+abbrev pub sides_at : List (List Side) → ℕ → List Side
+sides_at steps index = slice_index_or steps index []
+
+-- the pairs of a step rise, so that one is found by a binary search
+abbrev pub AreOrdered : List Side → Type 0
+AreOrdered sides = IsStrictlySortedBy pair_cmp (pairs_in sides)
+
+-- the entries of an event's step over a table
+pub record IsStepFor (routes : Routes) (event : Event) (sides : List Side) : Type 0 where
+  pub ordered : AreOrdered sides
+  pub after : sides ≡ sides_across (table_after routes event) sides
+  pub names : from_list (pairs_in sides) ≡ named_pairs routes event
