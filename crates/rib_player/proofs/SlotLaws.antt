@@ -1,5 +1,5 @@
 -- Slots in the order of their pairs: of a pair that stands there more than once the first counts.
-use Rattle.std.proofs.Common.{◌≡◌, ℕ, ◌+◌, ◌<◌, Bool, true, false, not, cond, ◌&&◌, [], ◌∷◌, ◌++◌, length, reverse, slice_index_or, Option, Some, None, refl, sym, ap, subst, ◌∙◌}
+use Rattle.std.proofs.Common.{◌≡◌, Bool, true, false, not, cond, ◌&&◌, [], ◌∷◌, Option, Some, None, refl, sym, ap, ◌∙◌}
 use Rattle.std.specs.List.{AllByRecursion, dedup, dedup_from, filter}
 use Rattle.std.specs.List.Sorted.{IsSortedByKey, IsStableByKey, IsStrictlySortedBy, ties}
 use Rattle.std.specs.Map.{keys_of}
@@ -9,9 +9,7 @@ use Rattle.std.specs.declared.cmp.Ordering.{Ordering}
 use Rattle.std.specs.declared.cmp.Ordering.TheVariants.{Less, Equal, Greater}
 use Rattle.std.specs.declared.alloc.Global.{Global}
 use Rattle.std.specs.declared.rc.Rc.{Rc}
-use Rattle.std.proofs.lemmas.Grind.{reverse_onto}
 use Rattle.std.proofs.lemmas.List.Kept.{IsStrictlySortedBy-dedup}
-use Rattle.std.proofs.lemmas.Map.Keys.{sorted_from_all_adjacent}
 use Rattle.mrt_wire.specs.declared.event.Route.{Route}
 use Rattle.rib_player.specs.declared.pair.Pair.{Pair}
 use Rattle.rib_player.specs.History.{pair_cmp}
@@ -101,53 +99,3 @@ strictly_keys (slot ∷ slots) sorted = (above_keys slot.0 slots sorted.0, stric
 -- sorted slots of which each pair is kept once are strictly in order
 pub ordered-dedup : (slots : Slots) → IsSortedByKey (λ (slot : Slot). slot.0) pair_cmp slots → IsStrictlySortedBy pair_cmp (keys_of (dedup of_one_pair slots))
 ordered-dedup slots sorted = strictly_keys (dedup of_one_pair slots) (IsStrictlySortedBy-dedup (on_total (λ slot. slot.0) pair_cmp_total) (λ x y. refl) slots sorted)
-
--- ---- slots that stand the other way round
-
--- slots of which each is below the next are strictly in order
-pub ordered_by_neighbours : (slots : Slots) → ((k : ℕ) (d : Slot) → k + 1 < length slots → is_lt (pair_cmp (slice_index_or slots k d).0 (slice_index_or slots (k + 1) d).0) ≡ true) → IsStrictlySortedBy pair_cmp (keys_of slots)
-unfolding IsStrictlySortedBy
-ordered_by_neighbours [] below = tt
-ordered_by_neighbours (slot ∷ slots) below =
-    strictly_keys (slot ∷ slots) (sorted_from_all_adjacent (on_total (λ (slot : Slot). slot.0) pair_cmp_total) (slot ∷ slots) slot (λ k within. lower _ (below k slot within)))
-  where
-    lower : (order : Ordering) → is_lt order ≡ true → order ≡ Less
-    lower Less e = refl
-    lower Equal e = cc
-    lower Greater e = cc
-
--- the first of two that is there
-abbrev either : Option (Option (Rc Route Global)) → Option (Option (Rc Route Global)) → Option (Option (Rc Route Global))
-either None other = other
-either (Some slot) other = Some slot
-
-either_none : (one : Option (Option (Rc Route Global))) → either one None ≡ one
-either_none None = refl
-either_none (Some slot) = refl
-
-found-append : (q : Pair) (xs ys : Slots) → slot_at (xs ++ ys) q ≡ either (slot_at xs q) (slot_at ys q)
-found-append q [] ys = refl
-found-append q (slot ∷ xs) ys = at (eq_by_cmp pair_cmp q slot.0) (found-append q xs ys)
-  where
-    at : (b : Bool) → slot_at (xs ++ ys) q ≡ either (slot_at xs q) (slot_at ys q) → cond b (Some slot.1) (slot_at (xs ++ ys) q) ≡ either (cond b (Some slot.1) (slot_at xs q)) (slot_at ys q)
-    at true rest = refl
-    at false rest = rest
-
--- a pair below all others isn't among them
-none_above : (q : Pair) (slots : Slots) → AllByRecursion (λ other. pair_cmp q other ≡ Less) (keys_of slots) → slot_at slots q ≡ None
-none_above q [] above = refl
-none_above q (slot ∷ slots) above = ap (λ (order : Ordering). cond (is_eq order) (Some slot.1) (slot_at slots q)) above.0 ∙ none_above q slots above.1
-
--- of slots that are strictly in order it doesn't matter which way round they stand
-pub found-reverse : (q : Pair) (slots : Slots) → IsStrictlySortedBy pair_cmp (keys_of slots) → slot_at (reverse slots) q ≡ slot_at slots q
-unfolding IsStrictlySortedBy
-found-reverse q [] ordered = refl
-found-reverse q (slot ∷ slots) ordered =
-    ap (λ (s : Slots). slot_at s q) (reverse_onto slots slot [])
-    ∙ found-append q (reverse slots) (slot ∷ [])
-    ∙ ap (λ o. either o (slot_at (slot ∷ []) q)) (found-reverse q slots ordered.1)
-    ∙ at (eq_by_cmp pair_cmp q slot.0) refl
-  where
-    at : (b : Bool) → eq_by_cmp pair_cmp q slot.0 ≡ b → either (slot_at slots q) (cond b (Some slot.1) None) ≡ cond b (Some slot.1) (slot_at slots q)
-    at true e = ap (λ o. either o (Some slot.1)) (none_above q slots (subst (λ p. AllByRecursion (λ other. pair_cmp p other ≡ Less) (keys_of slots)) (sym (same_pair q slot.0 e)) ordered.0))
-    at false e = either_none (slot_at slots q)

@@ -269,15 +269,7 @@ fn routes_then<S: PrefixStore<Rc<Route>>>(
     Ok(routes)
 }
 
-/// Whether the slots are in the order of their pairs, each of another.
-fn are_in_order(slots: &[(Pair, Option<Rc<Route>>)]) -> bool
-    ensures { result ≡ true → IsStrictlySortedBy pair_cmp (keys_of slots.now) }
-{
-    slots.is_sorted_by(|one, other| one.0 < other.0)
-}
-
-/// The same in the order of their pairs, each once. Mostly they only stand the other way round, since
-/// items are noted from the last to the first.
+/// The same in the order of their pairs, each once.
 fn in_order(routes: Slots) -> Result<Slots, AllocError>
     ensures ordered { IfOk result (λ ordered.
         IsStrictlySortedBy pair_cmp (keys_of ordered.items)) }
@@ -285,11 +277,6 @@ fn in_order(routes: Slots) -> Result<Slots, AllocError>
         found ordered.items q ≡ found routes.items q) }
 {
     let mut ordered = routes;
-    ordered.reverse();
-    if are_in_order(&ordered) {
-        return Ok(ordered);
-    }
-    ordered.reverse();
     ordered.sort_by_key(|slot| slot.0)?;
     ordered.dedup_by_key(|slot| slot.0);
     Ok(ordered)

@@ -1,15 +1,14 @@
-use Rattle.std.proofs.Common.{rules, ◌≡◌, reverse, ap, sym, subst, ◌∙◌}
+use Rattle.std.proofs.Common.{rules, ◌≡◌, ap, sym, subst, ◌∙◌}
 use Rattle.std.specs.List.{dedup}
 use Rattle.std.specs.List.Sorted.{IsStrictlySortedBy}
 use Rattle.std.specs.Map.{keys_of}
 use Rattle.std.specs.Option.{option_map}
-use Rattle.std.proofs.lemmas.List.{reverse-reverse}
 use Rattle.std.proofs.lemmas.List.Sorted.{answers_always}
 use Rattle.std.proofs.lemmas.Fn.{dedup_same}
 use Rattle.rib_player.specs.History.{pair_cmp}
 use Rattle.rib_player.specs.Store.{route_in}
 use Rattle.rib_player.specs.Holding.{Slots, slot_at}
-use Rattle.rib_player.proofs.SlotLaws.{of_one_pair, found-dedup, found-reverse, found-sorted, ordered-dedup}
+use Rattle.rib_player.proofs.SlotLaws.{of_one_pair, found-dedup, found-sorted, ordered-dedup}
 use Rattle.rib_player.proofs.changes.in_order.Goals as goal
 use Rattle.rib_player.proofs.changes.in_order.Goals.{After-dedup_by_key}
 
@@ -27,13 +26,4 @@ returns-clause-found c = λ q.
     ap (option_map route_in)
     (ap (λ (slots : Slots). slot_at slots q) (kept c)
     ∙ found-dedup q c.sort_by_key.new.self.items
-    ∙ found-sorted q c.reverse-2.new.self.items c.sort_by_key.new.self.items (c.in_ok-sort_by_key.ensures.stable (λ slot. slot.0) (answers_always _ _ _ (λ f a r g called. search rules)))
-    ∙ ap (λ (slots : Slots). slot_at slots q) (c.reverse-2.ensures.items ∙ ap reverse c.reverse.ensures.items ∙ reverse-reverse c.args.routes.items))
-
-pub returns-then-are_in_order-clause-found : goal.returns-then-are_in_order-clause-found
-returns-then-are_in_order-clause-found c = λ q.
-    let same : c.deref.result.now ≡ c.reverse.new.self.items = search rules in
-    let ordered = subst (λ (slots : Slots). IsStrictlySortedBy pair_cmp (keys_of slots)) same (c.are_in_order.ensures c.if-are_in_order.true) in
-    ap (option_map route_in)
-    (sym (found-reverse q c.reverse.new.self.items ordered)
-    ∙ ap (λ (slots : Slots). slot_at slots q) (ap reverse c.reverse.ensures.items ∙ reverse-reverse c.args.routes.items))
+    ∙ found-sorted q c.args.routes.items c.sort_by_key.new.self.items (c.in_ok-sort_by_key.ensures.stable (λ slot. slot.0) (answers_always _ _ _ (λ f a r g called. search rules))))
