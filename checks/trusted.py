@@ -6,7 +6,8 @@
 From the clauses of a call it goes through the words that they cite, and through the words that these
 cite, to all definitions in the crates' specs/ folders, and through the values that contracts see of
 the types in between. With a CALL it prints these definitions, those first that others stand on.
-Without one it compares the lists of docs/proved.md with what it finds for each call that they name.
+Without one it compares the lists of docs/proved.md with what it finds for each call that they name,
+and looks that a file of specs/ is all on these lists, or not at all: then its first line is PRIVATE.
 """
 import re
 import sys
@@ -25,6 +26,9 @@ CALLS = {
     'Player::play': 'rib_player/src/player.rt',
     'settings': 'bgpdump_command_line/src/command_line.rt',
 }
+
+# The first line of a file of specs/ that has nothing to be read.
+PRIVATE = '-- Private.'
 
 NAME = r"[A-Za-z_][A-Za-z0-9_'\-]*"
 WORD = re.compile(r"%s(?:\.%s)*" % (NAME, NAME))
@@ -236,6 +240,16 @@ def list_of(call):
     return '\n'.join(rows)
 
 
+def mixed_files():
+    """The files of specs/ that have words to be read and others, or whose first line says otherwise."""
+    read = {definition for call in CALLS for definition in reading_of(call)}
+    for file in sorted(CRATES.glob('*/specs/*.antt')):
+        words = set(definitions(file).values())
+        is_private = file.read_text().startswith(PRIVATE)
+        if words and (words & read) != (set() if is_private else words):
+            yield file
+
+
 def main():
     if len(sys.argv) > 1:
         for definition in reading_of(sys.argv[1]):
@@ -247,7 +261,10 @@ def main():
         if wanted not in text:
             print('%s: the list of `%s` should be\n\n%s\n' % (LISTS.relative_to(TOP), call, wanted))
             faults += 1
-    print('reading lists: %s' % ('no faults' if faults == 0 else '%d differ' % faults))
+    for file in mixed_files():
+        print('%s: either all of it is to be read, or its first line is %s' % (file.relative_to(TOP), PRIVATE))
+        faults += 1
+    print('reading lists: %s' % ('no faults' if faults == 0 else '%d faults' % faults))
     sys.exit(faults > 0)
 
 

@@ -1,3 +1,4 @@
+-- Private.
 -- Paths as plain data, which the values of types that hold them are made of.
 use Rattle.std.specs.Prelude.{◌≡◌, ℕ, Bool, true, false, List, refl}
 use Rattle.std.specs.Coded.{Coded, code_by, coded×, coded_ℕ, coded_bool, coded_list}

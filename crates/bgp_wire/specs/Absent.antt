@@ -1,3 +1,4 @@
+-- Private.
 -- Attributes that aren't there.
 use Rattle.std.specs.Prelude.{ℕ, false, List, [], None}
 use Rattle.bgp_wire.specs.declared.attrs.Attrs.{Attrs}

@@ -1,3 +1,4 @@
+-- Private.
 -- Octets that are lent.
 use Rattle.std.specs.Prelude.{ℕ, List, Option, Some, None}
 use Rattle.std.specs.Borrow.{Bor}

@@ -1,3 +1,4 @@
+-- Private.
 -- An UPDATE in parts.
 use Rattle.std.specs.Prelude.{◌≡◌, ℕ, List, [], Option, None}
 use Rattle.bgp_paths.specs.declared.path.AsWidth.{AsWidth}

@@ -1,3 +1,4 @@
+-- Private.
 -- The values of attributes, each read by itself.
 use Rattle.std.specs.Prelude.{◌≡◌, ℕ, if◌then◌else◌, ◌==◌, List, Option, Some, None}
 use Rattle.ip_prefix.specs.Sequences.{SpellsAll}

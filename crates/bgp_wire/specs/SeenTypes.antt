@@ -1,3 +1,4 @@
+-- Private.
 -- Which types of attributes a list has, as it is kept.
 use Rattle.std.specs.Prelude.{◌≡◌, ℕ, ◌<◌, Bool, false, List, slice_index_or}
 use Rattle.std.specs.Option.{is_some}

@@ -1,3 +1,4 @@
+-- Private.
 -- How the program ends: its exit status, and its last message.
 use Rattle.std.specs.Prelude.{◌≡◌, ◌⊎◌, ℕ, List, Option, Some, None, codes}
 use Rattle.bgpdump_tool.specs.Status.{status_of}

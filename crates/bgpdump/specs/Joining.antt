@@ -1,3 +1,4 @@
+-- Private.
 -- What a run of the program leaves with its writers, and of its input.
 use Rattle.std.specs.Prelude.{◌≡◌, ℕ, ◌^◌, List, [], length, Option, Some, None, IfSome, IsTrue}
 use Rattle.std.specs.Io.KnownBytes.{Keeps}

@@ -1,3 +1,4 @@
+-- Private.
 -- How a run ends at a fault.
 use Rattle.std.specs.Prelude.{Bool, true, false, Result, Ok, Err}
 use Rattle.mrt_wire.specs.declared.SourceFault.{SourceFault}

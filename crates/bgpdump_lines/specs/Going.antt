@@ -1,3 +1,4 @@
+-- Private.
 -- What a run has taken and written so far, and where it stopped.
 use Rattle.std.specs.Prelude.{◌≡◌, [], ℕ, Bool, List, ◌⊎◌, ◌+◌, ◌≤◌, length, Option, Result, Ok, Err}
 use Rattle.std.specs.Io.KnownBytes.{Consumes}

@@ -1,3 +1,4 @@
+-- Private.
 -- The exit status of a run.
 use Rattle.std.specs.Prelude.{ℕ}
 use Rattle.bgpdump_lines.specs.declared.outcome.Outcome.{Outcome}

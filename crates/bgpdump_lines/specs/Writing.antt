@@ -1,3 +1,4 @@
+-- Private.
 -- What was written of a text, or of what was found, and whether a fault is among it.
 use Rattle.std.specs.Prelude.{◌≡◌, ◌⊎◌, ℕ, Bool, true, false, List, [], ◌∷◌, ◌++◌, Option, Result, Ok, Err}
 use Rattle.std.specs.Io.KnownBytes.{Appends}

@@ -1,3 +1,4 @@
+-- Private.
 -- What playing a loss and writing its reply does.
 use Rattle.std.specs.Prelude.{◌≡◌, ℕ, ◌⊎◌, List, Option, Result, Err, codes}
 use Rattle.mrt_wire.specs.declared.peer.Peer.{Peer}

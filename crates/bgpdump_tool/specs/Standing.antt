@@ -1,3 +1,4 @@
+-- Private.
 -- Where a run of a script stands, by what it has found so far.
 use Rattle.std.specs.Prelude.{◌≡◌, ℕ, ◌+◌, ◌-◌, ◌≤◌, Bool, true, ◌||◌, List, [], ◌++◌, length, Option}
 use Rattle.mrt_wire.specs.declared.event.Event.{Event}

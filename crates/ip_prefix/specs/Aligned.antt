@@ -1,3 +1,4 @@
+-- Private.
 -- How an address is kept: its bits are the highest of a number, and no bit stands below them.
 use Rattle.std.specs.Prelude.{◌≡◌, ℕ, ◌-◌, ◌^◌, ◌%◌, ◌<◌}
 use Rattle.ip_prefix.specs.declared.addr.Family.{Family}

@@ -1,3 +1,4 @@
+-- Private.
 -- The number that bits spell is the number that they are the bits of.
 use Rattle.std.specs.Prelude.{◌≡◌, ℕ, zero, suc, ◌+◌, ◌*◌, ◌^◌, ◌/◌, ◌%◌, ◌<◌, length, ◌==◌, refl}
 use Rattle.std.proofs.Common.{◌∙◌, sym, ap, subst, arith, pow-add}

@@ -1,3 +1,4 @@
+-- Private.
 -- Families, addresses and prefixes as plain data, which the values of types above are made of.
 use Rattle.std.specs.Prelude.{◌≡◌, Bool, true, false, List, refl}
 use Rattle.std.specs.Coded.{Coded, code_by, coded×, coded_bool, coded_list}

@@ -1,3 +1,4 @@
+-- Private.
 -- How a number is kept as two halves.
 use Rattle.std.specs.Prelude.{◌≡◌, ℕ, ◌+◌, ◌*◌, ◌^◌, ◌/◌, ◌%◌, ◌<◌}
 use Rattle.std.proofs.Common.{arith}

@@ -1,3 +1,4 @@
+-- Private.
 -- How a prefix is kept: its bits are the highest of a number, and no bit stands below them.
 use Rattle.std.specs.Prelude.{◌≡◌, ℕ, ◌+◌, ◌-◌, ◌^◌, ◌/◌, ◌%◌, ◌<◌, ◌≤◌, length}
 use Rattle.std.proofs.Common.{arith, subst}

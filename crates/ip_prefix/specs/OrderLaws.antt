@@ -1,3 +1,4 @@
+-- Private.
 -- The orders of addresses and prefixes are total, and only equal ones tie.
 use Rattle.std.specs.Prelude.{◌≡◌, true, false, refl}
 use Rattle.std.specs.declared.cmp.Ordering.{Ordering}

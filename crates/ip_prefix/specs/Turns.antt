@@ -1,3 +1,4 @@
+-- Private.
 -- Prefixes as ways from a root, where one lies, seen from another, and what two share.
 use Rattle.std.specs.Prelude.{Bool, true, false, cond, List, [], ◌∷◌, ◌++◌}
 use Rattle.ip_prefix.specs.declared.addr.Family.{Family}

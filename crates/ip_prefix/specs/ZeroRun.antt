@@ -1,3 +1,4 @@
+-- Private.
 -- Runs of groups that are 0 (RFC 5952, section 4.2).
 use Rattle.std.specs.Prelude.{◌≡◌, ℕ, zero, suc, ◌+◌, ◌*◌, ◌/◌, ◌%◌, ◌==◌, ◌≤◌, if◌then◌else◌, List, [], ◌∷◌, take, drop, replicate}
 use Rattle.std.specs.Net.Text.{longest_zero_run}

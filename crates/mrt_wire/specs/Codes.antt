@@ -1,3 +1,4 @@
+-- Private.
 -- Peers and routes as plain data, for values with finite maps in them.
 use Rattle.std.specs.Prelude.{ℕ, refl}
 use Rattle.std.specs.Coded.{Coded, code_by, coded×, coded_ℕ}

@@ -1,3 +1,4 @@
+-- Private.
 -- What the private calls make of a record.
 use Rattle.std.specs.Prelude.{◌≡◌, ℕ, List, ◌++◌, map, Option, Result, Ok, Err}
 use Rattle.ip_prefix.specs.Address.{Address}

@@ -1,3 +1,4 @@
+-- Private.
 -- What is noted of an event's items, pair by pair.
 use Rattle.std.specs.Prelude.{Bool, true, false, List, map, Option, Some, None, ◌≡◌}
 use Rattle.std.specs.List.{list_any}

@@ -1,3 +1,4 @@
+-- Private.
 -- Pairs as plain data, which the values of the player's types are made of.
 use Rattle.std.specs.Prelude.{refl}
 use Rattle.std.specs.Coded.{Coded, code_by, coded×}

@@ -1,3 +1,4 @@
+-- Private.
 -- Which pairs a step can't name, by a word of 64 bits.
 use Rattle.std.specs.Prelude.{◌≡◌, ℕ, ◌+◌, ◌-◌, ◌*◌, ◌/◌, ◌%◌, ◌^◌, ◌<◌, ◌≤◌, Bool, true, false, nat_eq, bit_and, bit_or, List, [], ◌∷◌, slice_index_or}
 use Rattle.std.specs.Int.{w32, from_be_bytes}

@@ -1,3 +1,4 @@
+-- Private.
 -- How many routes stand at places.
 use Rattle.std.specs.Prelude.{ℕ, Bool, true, false, List}
 use Rattle.std.specs.List.{count_by}

@@ -1,3 +1,4 @@
+-- Private.
 -- A tree for each family, as two sides of a root above both.
 use Rattle.std.specs.Prelude.{◌≡◌, ℕ, Option, [], ◌++◌, cond}
 use Rattle.std.specs.FinMap as finite

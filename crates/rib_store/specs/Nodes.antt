@@ -1,3 +1,4 @@
+-- Private.
 -- The nodes of a set of keys: its keys, and the prefixes at which it branches.
 use Rattle.std.specs.Prelude.{◌≡◌, ℕ, ◌+◌, ◌⊎◌, Bool, true, false, not, ◌&&◌, ◌||◌}
 use Rattle.std.specs.List.{list_any}

@@ -1,3 +1,4 @@
+-- Private.
 -- What prefixes in little memory stand for.
 use Rattle.ip_prefix.specs.declared.addr.Family.TheVariants.{V4}
 use Rattle.ip_prefix.specs.Bits.{bits_of_octets}

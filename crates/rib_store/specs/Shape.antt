@@ -1,3 +1,4 @@
+-- Private.
 -- A radix tree, however its nodes lie in memory.
 use Rattle.std.specs.Prelude.{◌≡◌, Bool, true, false, ◌||◌, Option, Some, None}
 use Rattle.ip_prefix.specs.Network.{Network}

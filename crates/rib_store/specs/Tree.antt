@@ -1,3 +1,4 @@
+-- Private.
 -- A radix tree: the keys that it holds, each with its route or with room for one, and its shape.
 use Rattle.std.specs.Prelude.{◌≡◌, Option, Some, None, IsSome, IfSome, Bool, true, false, cond, List, [], ◌∷◌, ◌++◌}
 use Rattle.ip_prefix.specs.declared.addr.Family.{Family}

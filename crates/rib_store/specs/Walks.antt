@@ -1,3 +1,4 @@
+-- Private.
 -- What walks down a tree find, and how many nodes they meet.
 use Rattle.std.specs.Prelude.{ℕ, ◌+◌, Option, Some, None, cond, List, Bool}
 use Rattle.std.specs.Ordering.{is_lt}
