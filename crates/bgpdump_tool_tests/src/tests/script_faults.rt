@@ -43,17 +43,16 @@ fn carries_out_octet_by_octet(rt: HostRuntime) -> Result<(), Fail> {
     Ok(())
 }
 
-/// How many octets an input gives before it fails, and the texts of a run that it ended.
-#[derive(Clone, Copy)]
-struct Cut<'a> {
-    replies: &'a [u8],
-    reports: &'a [u8],
+/// Asserts what a run wrote that the input ended after so many octets.
+fn assert_cut(
+    rt: &impl Abort,
+    alloc: Global,
+    octets: &[u8],
+    script: &[u8],
     input: usize,
-}
-
-/// Asserts what a run wrote that the input ended.
-fn assert_cut(rt: &impl Abort, alloc: Global, octets: &[u8], script: &[u8], cut: Cut<'_>) {
-    let input = cut.input;
+    replies: &[u8],
+    reports: &[u8],
+) {
     for step in [MANY, 1] {
         let devices = Devices {
             step,
@@ -62,7 +61,7 @@ fn assert_cut(rt: &impl Abort, alloc: Global, octets: &[u8], script: &[u8], cut:
         };
         let played = play_on::<Routes>(alloc, octets, script, devices);
         assert_eq!(rt; played.outcome, Outcome::ReadFault, "after {input} octets");
-        assert_played(rt, &played, cut.replies, cut.reports, (0, 0), input);
+        assert_played(rt, &played, replies, reports, (0, 0), input);
     }
 }
 
@@ -70,12 +69,7 @@ fn assert_cut(rt: &impl Abort, alloc: Global, octets: &[u8], script: &[u8], cut:
 fn a_read_fault_ends_a_script(rt: HostRuntime) -> Result<(), Fail> {
     let octets = file_of(rt.alloc(), DAMAGED)?;
     for input in 0..207 {
-        let cut = Cut {
-            replies: b"",
-            reports: b"",
-            input,
-        };
-        assert_cut(&rt, rt.alloc(), &octets, SCRIPT, cut);
+        assert_cut(&rt, rt.alloc(), &octets, SCRIPT, input, b"", b"");
     }
     Ok(())
 }
@@ -111,12 +105,17 @@ fn a_read_fault_leaves_the_reports_of_what_was_taken(rt: HostRuntime) -> Result<
             63..94 => (5, TWO),
             _ => (5, THREE),
         };
-        let cut = Cut {
-            replies: &FAULTY_REPLIES[..replied],
-            reports: &FAULTY_REPORTS[..reported],
+        let replies = &FAULTY_REPLIES[..replied];
+        let reports = &FAULTY_REPORTS[..reported];
+        assert_cut(
+            &rt,
+            rt.alloc(),
+            &octets,
+            FAULTY_SCRIPT,
             input,
-        };
-        assert_cut(&rt, rt.alloc(), &octets, FAULTY_SCRIPT, cut);
+            replies,
+            reports,
+        );
     }
     let played = play_on::<Routes>(rt.alloc(), &octets, FAULTY_SCRIPT, SOUND);
     assert_eq!(rt; played.outcome, Outcome::Reported);
