@@ -7,7 +7,8 @@ use Rattle.bgp_paths.specs.declared.path.Segment.{Segment}
 use Rattle.bgp_paths.specs.declared.path.AsPath.{AsPath}
 use Rattle.bgp_paths.specs.declared.text.Marks.{Marks}
 use Rattle.ip_prefix.specs.declared.text.TheConstants.{COLON}
-use Rattle.bgp_paths.specs.declared.text.TheConstants.{NO_EXPORT, NO_ADVERTISE, NO_EXPORT_SUBCONFED, AS_SET_MARKS, CONFED_SEQUENCE_MARKS, CONFED_SET_MARKS, SPACE}
+use Rattle.bgp_paths.specs.declared.text.TheConstants.{NO_EXPORT, NO_ADVERTISE, NO_EXPORT_SUBCONFED, AS_SET_MARKS, CONFED_SEQUENCE_MARKS, CONFED_SET_MARKS}
+use Rattle.octet_text.specs.declared.cursor.TheConstants.{SPACE}
 
 -- numbers in decimal and in brackets
 abbrev pub bracketed_numbers : Marks → List ℕ → List ℕ

@@ -5,10 +5,11 @@ ghost use Rattle.std.specs.List.{flat_map, join_with_byte};
 ghost use Rattle.bgp_paths.specs.Text.{bracketed_numbers, segment_words, path_text};
 ghost use Rattle.bgp_paths.specs.Text.{halves_text, community_text, communities_text};
 ghost use Rattle.ip_prefix.specs.Written.{IsWritten, ended_words};
+ghost use Rattle.octet_text.specs.declared.cursor.TheConstants.{SPACE};
 ghost use Rattle.bgp_paths.specs.Printed.{StillBegins};
 
 use crate::path::{AsPath, Segment, SegmentKind};
-use ip_prefix::{COLON, Text, WORD_ROOM, Word, put_octets, write_ended_pair};
+use ip_prefix::{COLON, SPACE, Text, WORD_ROOM, Word, put_octets, write_ended_pair};
 use std::alloc::AllocError;
 
 /// Not to be announced outside the AS, or a confederation (RFC 1997).
@@ -36,7 +37,7 @@ const AS_SET_MARKS: Marks = Marks {
 /// Those of a confederation's members in order.
 const CONFED_SEQUENCE_MARKS: Marks = Marks {
     open: b'(',
-    separator: b' ',
+    separator: SPACE,
     close: b')',
 };
 
@@ -46,9 +47,6 @@ const CONFED_SET_MARKS: Marks = Marks {
     separator: b',',
     close: b']',
 };
-
-/// What stands between words.
-const SPACE: u8 = b' ';
 
 impl AsPath {
     /// Appends the path as a person reads it: the numbers of sequences, and the other segments in

@@ -9,7 +9,7 @@ ghost use Rattle.bgpdump_lines.specs.Lines.{number_or_zero, aggregate_word, aggr
 ghost use Rattle.bgpdump_lines.specs.Lines.{attribute_fields};
 
 use bgp_wire::{Aggregator, AsPath, Attrs, Communities, Origin, append_communities};
-use ip_prefix::{Addr, Prefix, Text};
+use ip_prefix::{Addr, Prefix, SPACE, Text};
 use mrt_wire::Peer;
 use std::alloc::AllocError;
 
@@ -139,7 +139,7 @@ fn put_aggregator(aggregator: Option<Aggregator>, text: &mut Text) -> Result<(),
     match aggregator {
         Some(found) => {
             put_field(found.asn, text)?;
-            text.put_led(b' ', &found.addr)
+            text.put_led(SPACE, &found.addr)
         }
         None => text.extend_from_slice(b"|"),
     }

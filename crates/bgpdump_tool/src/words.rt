@@ -4,6 +4,8 @@ ghost use Rattle.std.specs.Prelude.{◌≡◌, ◌≢◌, [], ◌∷◌, ◌<◌
 ghost use Rattle.bgp_wire.specs.Readers.{Finds};
 ghost use Rattle.bgpdump_tool.specs.Command.{pieces, words, SpellsDecimal};
 
+use ip_prefix::SPACE;
+
 /// The least digit that others may follow: neither a sign nor a zero stands in front.
 const LEAST_IN_FRONT: u8 = b'1';
 
@@ -23,7 +25,7 @@ pub(crate) fn split_word(line: &[u8]) -> Option<(&[u8], &[u8])>
     ensures { MatchOption result (words line.now ≡ line.now ∷ [])
         (λ found. words line.now ≡ found.0.now ∷ words found.1.now) }
 {
-    split_first(line, b' ')
+    split_first(line, SPACE)
 }
 
 /// Whether the word is this name.

@@ -16,7 +16,7 @@ pub use laws::{
     one_network, one_spelling, prefix_order, shortened_run, text_spells, turns_by_bits,
 };
 pub use octet_text::{
-    DECIMAL_ROOM, InPlace, PAIR_ROOM, Text, WORD_ROOM, Word, put_decimal, put_octets,
+    DECIMAL_ROOM, InPlace, PAIR_ROOM, SPACE, Text, WORD_ROOM, Word, put_decimal, put_octets,
     write_decimal, write_ended_pair,
 };
 pub use prefix::Prefix;

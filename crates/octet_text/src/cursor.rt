@@ -21,8 +21,8 @@ const DECIMAL_DIGITS: usize = 10;
 /// How many octets are written at once.
 pub const ROW: usize = 4;
 
-/// What stands in a row behind the digits.
-const SPACE: u8 = b' ';
+/// What stands between words, and in a row behind the digits.
+pub const SPACE: u8 = b' ';
 
 /// The digit 0.
 const ZERO: usize = b'0' as usize;

@@ -109,6 +109,11 @@ IsRooted prefix slot left right Empty = ⊥
 IsRooted prefix slot left right (Rooted prefix' slot' left' right') =
     (prefix' ≡ prefix) × (left' ≡ left) × (right' ≡ right) × (slot_of slot' ≡ slot)
 
+-- the root, with a tree on a side below it, and another on the other side
+abbrev pub IsRootedOver : {R : Type 0} → Network → Option (Option R) → Turn → Shape R → Shape R → Shape R → Type 0
+IsRootedOver prefix slot side beside below tree =
+    IsRooted prefix slot (chosen side beside beside below beside) (chosen side below below beside below) tree
+
 -- a key is there, the others are as before, and the tree has its shape
 pub record IsGrown {R : Type 0} (key : List Bool) (old new : Shape R) : Type 0 where
   pub shaped : IsShaped new

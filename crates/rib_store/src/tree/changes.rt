@@ -5,7 +5,7 @@ ghost use Rattle.std.specs.Prelude.{IsSome, OnOk, OnErr, IfOk};
 ghost use Rattle.ip_prefix.specs.Turns.{way, turn_of};
 ghost use Rattle.ip_prefix.specs.declared.turn.Turn.TheVariants.{Outside, Left, Right};
 ghost use Rattle.rib_store.specs.Shape.{Empty, shape_of, leaf_slot, is_filled, is_routed, any_routed, IsLeaf, IsMarked};
-ghost use Rattle.rib_store.specs.Tree.{at, root, chosen, slot_of, kept, AreOf, IsOn, IsShaped, IsNearlyShaped, IsPut, IsGrown, IsRooted};
+ghost use Rattle.rib_store.specs.Tree.{at, root, slot_of, kept, AreOf, IsOn, IsShaped, IsNearlyShaped, IsPut, IsGrown, IsRootedOver};
 
 use crate::packed::Packed;
 use crate::tree::{Node, Slot, Tree};
@@ -297,12 +297,8 @@ fn put_root<K: Packed, R: Drop>(
     requires below { IsMarked below }
     ensures marked { IsMarked tree.new }
     ensures routed { is_routed tree.new ≡ any_routed node.value.slot beside below }
-    ensures rooted { IsRooted (K.network prefix) (slot_of node.value.slot)
-        (chosen side (shape_of K.network beside) (shape_of K.network beside)
-        (shape_of K.network below) (shape_of K.network beside))
-        (chosen side (shape_of K.network below) (shape_of K.network below)
-        (shape_of K.network beside) (shape_of K.network below))
-        (shape_of K.network tree.new) }
+    ensures rooted { IsRootedOver (K.network prefix) (slot_of node.value.slot) side
+        (shape_of K.network beside) (shape_of K.network below) (shape_of K.network tree.new) }
 {
     let mut node = node;
     let (left, right) = match side {

@@ -1,6 +1,6 @@
 use Rattle.std.proofs.Common.{◌≡◌, ◌++◌, take}
 use Rattle.std.specs.List.{flat_map}
-use Rattle.bgp_paths.specs.declared.text.TheConstants.{SPACE}
+use Rattle.octet_text.specs.declared.cursor.TheConstants.{SPACE}
 use Rattle.ip_prefix.specs.Written.{ended_words}
 use Rattle.bgp_paths.specs.Text.{segment_words}
 use Rattle.bgp_paths.proofs.text.put_segments.Given as goal
