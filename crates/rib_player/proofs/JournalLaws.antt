@@ -1,5 +1,5 @@
 -- What a step's entries do to a table, and what crossing a step makes of a player.
-use Rattle.std.proofs.Common.{◌≡◌, ℕ, ◌+◌, ◌<◌, true, false, cond, List, [], ◌∷◌, ◌++◌, length, get_or, take, drop, set, Option, Some, None, refl, sym, ap, subst, ◌∙◌, append_assoc}
+use Rattle.std.proofs.Common.{◌≡◌, ℕ, zero, suc, ◌+◌, ◌<◌, true, false, cond, List, [], ◌∷◌, ◌++◌, length, get_or, take, drop, set, Option, Some, None, refl, sym, ap, subst, ◌∙◌, append_assoc, arith}
 use Rattle.std.specs.List.{AllByRecursion, list_any, IsDistinct}
 use Rattle.std.specs.Ordering.{eq_by_cmp}
 use Rattle.std.specs.Cmp.{eq_by_cmp_equiv}
@@ -70,6 +70,22 @@ entries-more keys routes routes' entries rest i entry entry' whole within kept p
     ∙ ap (λ s. sides_of (take i entries) ++ ((entry.pair, finite.get routes entry.pair) ∷ s))
     (ap (λ r. sides_across r (sides_of rest)) put_there ∙ sides_across-tail keys routes (side_of entry) (sides_of rest) kept)
     ∙ before
+
+-- crossing one side more
+pub routes_across-push : (sides : List Side) (side : Side) (routes : Routes) → routes_across (sides ++ side ∷ []) routes ≡ put (routes_across sides routes) side.0 side.1
+routes_across-push [] side routes = refl
+routes_across-push (first ∷ sides) side routes = routes_across-push sides side (put routes first.0 first.1)
+
+pub sides_across-push : (sides : List Side) (side : Side) (routes : Routes) → sides_across routes (sides ++ side ∷ []) ≡ sides_across routes sides ++ (side.0, finite.get routes side.0) ∷ []
+sides_across-push sides side routes = map-append (λ (side : Side). (side.0, finite.get routes side.0)) sides (side ∷ [])
+
+-- the first entries and the one behind them
+pub take-through : {A : Type 0} (n : ℕ) (xs : List A) (x : A) (rest : List A) → drop n xs ≡ x ∷ rest → take (n + 1) xs ≡ take n xs ++ x ∷ []
+take-through zero xs x rest e = ap (take 1) e
+take-through (suc n) [] x rest e = cc
+take-through (suc n) (y ∷ ys) x rest e =
+    let one : suc n + 1 ≡ suc (n + 1) = omega arith in
+    ap (λ k. take k (y ∷ ys)) one ∙ ap (λ l. y ∷ l) (take-through n ys x rest e)
 
 -- the pairs of a crossed step are those of the step
 pub pairs_in-sides_across : (routes : Routes) (sides : List Side) → pairs_in (sides_across routes sides) ≡ pairs_in sides

@@ -188,12 +188,12 @@ after_play-first cursor steps routes event =
 -- before the steps ahead are dropped, with a new last step
 pub exact-start : (base : Pair → Bool) (front ahead : List (List Mark)) (last : List Mark) (keys keys' : Pairs) (routes : Routes) → AreHeld base (front ++ ahead) keys
     → ((q : Pair) → set.contains keys' q ≡ (set.contains keys q || named_by last q)) → AreFirst (set.contains keys) last
-    → ((q : Pair) → seen_after base front q ≡ false → finite.get routes q ≡ None) → IsExact (seen_after base front) ahead last keys' routes
+    → ((q : Pair) → seen_after base front q ≡ false → named_by last q ≡ false → finite.get routes q ≡ None) → IsExact (seen_after base front) ahead last keys' routes
 exact-start base front ahead last keys keys' routes held more first free = record {
   held = λ q. more q ∙ ap (λ b. b || named_by last q) (whole q);
   ahead = MarkFirst-rest base front ahead held.first;
   new = all-same last whole first;
-  free = λ q unseen _. free q unseen;
+  free = free;
 }
   where
     whole : (q : Pair) → set.contains keys q ≡ seen_after (seen_after base front) ahead q

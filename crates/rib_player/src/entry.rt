@@ -1,6 +1,6 @@
 //! The entries of steps, in little memory.
 
-ghost use Rattle.std.specs.Prelude.{◌≡◌, true, None, IfOk};
+ghost use Rattle.std.specs.Prelude.{◌≡◌, true, not, None, IfOk, OnOk, OnErr};
 ghost use Rattle.std.specs.FinMap as finite;
 ghost use Rattle.std.specs.FinSet as set;
 ghost use Rattle.rib_store.specs.Packed.{v4_network};
@@ -164,6 +164,36 @@ impl Entry {
         let (absent, mut other) = replace(&mut self.kept, Kept::Taken).without_route();
         table.exchange(&pair, &mut other);
         self.kept = absent.with_route(other);
+    }
+}
+
+impl Entry {
+    /// Its route and the table's change places, where its pair is made a key if it was none; it
+    /// notes whether it was. Refused, nothing has changed.
+    #[inline]
+    pub(crate) fn put<S: PrefixStore<Rc<Route>>>(
+        &mut self,
+        table: &mut Table<S>,
+    ) -> Result<(), AllocError>
+        ensures keys { OnOk result (table.new.keys ≡ set.insert table.old.keys self.old.pair) }
+        ensures first { OnOk result
+            (self.new.first ≡ not (set.contains table.old.keys self.old.pair)) }
+        ensures routes { OnOk result (table.new.routes ≡
+            put table.old.routes self.old.pair (route_in self.old.other)) }
+        ensures given { OnOk result
+            (route_in self.new.other ≡ finite.get table.old.routes self.old.pair) }
+        ensures pair { self.new.pair ≡ self.old.pair }
+        ensures clears { self.new.clears ≡ self.old.clears }
+        ensures refused { OnErr result (table.new.keys ≡ table.old.keys) }
+        ensures held { OnErr result (table.new.routes ≡ table.old.routes) }
+        ensures kept { OnErr result (self.new ≡ self.old) }
+    {
+        let pair = self.pair();
+        let (absent, mut other) = replace(&mut self.kept, Kept::Taken).without_route();
+        let made = table.put(&pair, &mut other);
+        self.kept = absent.with_route(other);
+        self.set_first(made?);
+        Ok(())
     }
 }
 

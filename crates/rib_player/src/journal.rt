@@ -11,8 +11,9 @@ ghost use Rattle.rib_store.specs.Contents.{AreAmong};
 ghost use Rattle.rib_player.specs.declared.pair.Pair.{Pair};
 ghost use Rattle.rib_player.specs.History.{pair_cmp};
 ghost use Rattle.rib_player.specs.Journal.{sides_of, steps_of, routes_across};
-ghost use Rattle.rib_player.specs.Sides.{sides_at, sides_across, IsKept, AreDistinct, AreOrdered};
-ghost use Rattle.rib_player.specs.Marks.{marks_of, trail_of, entry_count, named_by, marked, AreFirst, CanLeave, LeavesExact, any_named, marks_at, marked_first};
+ghost use Rattle.rib_player.specs.Tables.{Pairs};
+ghost use Rattle.rib_player.specs.Sides.{sides_at, sides_across, table_across, IsKept, AreDistinct, AreOrdered};
+ghost use Rattle.rib_player.specs.Marks.{marks_of, trail_of, entry_count, named_by, marked, AreFirst, IsExact, CanLeave, LeavesExact, any_named, marks_at, marked_first};
 ghost use Rattle.rib_player.specs.Played.{IsPlayed, IsAdvanced};
 ghost use Rattle.rib_player.specs.Clearings.{clearing_of, clearings_of, clearings_by_step, is_cleared, cleared_by, any_cleared, CanForget, ForgetsExact};
 ghost use Rattle.rib_player.specs.Digests.{AreDigestsOf};
@@ -120,9 +121,24 @@ pub(crate) fn release<S: PrefixStore<Rc<Route>>>(
     }
 }
 
-/// Makes each entry's pair a key of the table, and marks those that are new. Refused, it takes
-/// away those that it made.
-pub(crate) fn make_keys<S: PrefixStore<Rc<Route>>>(
+/// Undoes what putting entries did: crosses them back, and drops the keys that are marked as new.
+fn take_back<S: PrefixStore<Rc<Route>>>(table: &mut Table<S>, entries: &mut [Entry])
+    requires kept { IsKept table.old.keys (sides_of entries.old) }
+    requires exact { CanLeave (marks_of entries.old ∷ []) []
+        (table_across (sides_of entries.old) table.old) }
+    ensures keys { (keys : Pairs) → IsExact (names.contains keys) (marks_of entries.old ∷ []) []
+        table.old.keys (routes_across (sides_of entries.old) table.old.routes) →
+        table.new.keys ≡ keys }
+    ensures routes { table.new.routes ≡ routes_across (sides_of entries.old) table.old.routes }
+    ensures clearings { clearings_of entries.new ≡ clearings_of entries.old }
+{
+    cross(table, entries);
+    release(table, entries, &mut []);
+}
+
+/// Goes from one side of a new step to the other. Each entry's pair is made a key of the table, and
+/// those that are new are marked. Refused, it takes back what it did.
+pub(crate) fn put_entries<S: PrefixStore<Rc<Route>>>(
     table: &mut Table<S>,
     entries: &mut [Entry],
 ) -> Result<(), AllocError>
@@ -131,20 +147,19 @@ pub(crate) fn make_keys<S: PrefixStore<Rc<Route>>>(
     ensures keys { OnOk result ((q : Pair) → names.contains table.new.keys q
         ≡ (names.contains table.old.keys q || named_by (marks_of entries.new) q)) }
     ensures marks { OnOk result (AreFirst (names.contains table.old.keys) (marks_of entries.new)) }
-    ensures routes { table.new.routes ≡ table.old.routes }
-    ensures sides { sides_of entries.new ≡ sides_of entries.old }
+    ensures routes { OnOk result
+        (table.new.routes ≡ routes_across (sides_of entries.old) table.old.routes) }
+    ensures sides { OnOk result
+        (sides_of entries.new ≡ sides_across table.old.routes (sides_of entries.old)) }
     ensures clearings { clearings_of entries.new ≡ clearings_of entries.old }
     ensures refused { OnErr result (table.new.keys ≡ table.old.keys) }
+    ensures held { OnErr result (table.new.routes ≡ table.old.routes) }
 {
     let mut made = 0;
     'entries: while made < entries.len() {
-        let pair = entries[made].pair();
-        match table.ensure(&pair) {
-            Ok(new) => entries[made].set_first(new),
-            Err(refused) => {
-                release(table, &entries[..made], &mut []);
-                return Err(refused);
-            }
+        if let Err(refused) = entries[made].put(table) {
+            take_back(table, &mut entries[..made]);
+            return Err(refused);
         }
         made += 1;
     }
@@ -179,8 +194,8 @@ pub(crate) fn drop_ahead<S: PrefixStore<Rc<Route>>>(
     }
 }
 
-/// Makes room for a step: makes its keys, drops the steps from the index on, and crosses it.
-/// Refused, nothing has changed.
+/// Goes over a new step, with the keys that it wants, and drops the steps from the index on. Refused,
+/// nothing has changed.
 pub(crate) fn advance<S: PrefixStore<Rc<Route>>>(
     table: &mut Table<S>,
     steps: &mut VecDeque<Step>,
@@ -197,9 +212,8 @@ pub(crate) fn advance<S: PrefixStore<Rc<Route>>>(
     ensures steps { OnErr result (steps.new.items ≡ steps.old.items) }
     ensures capacity { deque_capacity steps.new ≡ deque_capacity steps.old }
 {
-    make_keys(table, entries)?;
+    put_entries(table, entries)?;
     drop_ahead(table, steps, index, entries);
-    cross(table, entries);
     Ok(())
 }
 

@@ -91,6 +91,31 @@ impl<S: PrefixStore<Rc<Route>>> Table<S> {
         }
     }
 
+    /// Puts the route at the pair, which is made a key where it was none: what was there and the
+    /// argument change places. Answers whether the key is new. Refused, it may drop the store that
+    /// it made for the key, and that key with it.
+    pub(crate) fn put(
+        &mut self,
+        pair: &Pair,
+        route: &mut Option<Rc<Route>>,
+    ) -> Result<bool, AllocError>
+        ensures keys { OnOk result (self.new.keys ≡ set.insert self.old.keys pair.now) }
+        ensures made { IfOk result (λ made. made ≡ not (set.contains self.old.keys pair.now)) }
+        ensures routes { OnOk result
+            (self.new.routes ≡ put self.old.routes pair.now (route_in route.old)) }
+        ensures given { OnOk result (route_in route.new ≡ finite.get self.old.routes pair.now) }
+        ensures refused { OnErr result (self.new.keys ≡ self.old.keys) }
+        ensures held { OnErr result (self.new.routes ≡ self.old.routes) }
+        ensures kept { OnErr result (route.new ≡ route.old) }
+    {
+        if let Some(store) = self.stores.get_mut(&pair.peer) {
+            return store.put(&pair.prefix, route);
+        }
+        let made = self.ensure(pair)?;
+        self.exchange(pair, route);
+        Ok(made)
+    }
+
     /// Drops a key that has no route, and its peer's store with the last one.
     pub(crate) fn discard(&mut self, pair: &Pair)
         requires key { set.contains self.old.keys pair.now ≡ true }

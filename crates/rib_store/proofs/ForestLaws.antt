@@ -28,6 +28,7 @@ use Rattle.rib_store.proofs.WayLaws.{first_turn, left_first}
 use Rattle.rib_store.proofs.SlotLaws.{keys_in-more, routes_in-written, get-routes_in, put-same}
 use Rattle.rib_store.proofs.TreeLaws.{are_of, at_left, at_right}
 use Rattle.rib_store.proofs.ChangeLaws.{put_left, put_right}
+use Rattle.rib_store.proofs.GrowthLaws.{kept_found}
 use Rattle.rib_store.proofs.WalkLaws.{next, first-next, none-next, behind-next, next-append, first-routed, first-append, routed-append, either_none, slot_at-append, slot_at-slots_of, sorted-sides, sorted-slots_of, tied-ways}
 
 -- what two trees have at a way
@@ -124,10 +125,6 @@ behind-v6 f planted low e =
     ∙ sym (next-append low (slots_of (v4_of f)) (slots_of (v6_of f)))
 
 -- ---- a key made sure of
-
-kept_found : {R : Type 0} (slot : Option (Option R)) → kept slot ≡ Some (route_found slot)
-kept_found None = refl
-kept_found (Some slot) = refl
 
 kept-changes : {R : Type 0} (old new : Slots R) (prefix : Network) → ChangesAt old prefix (kept (slot_at old prefix)) new → ChangesAt old prefix (Some (route_found (slot_at old prefix))) new
 kept-changes old new prefix changes = subst (λ slot. ChangesAt old prefix slot new) (kept_found (slot_at old prefix)) changes

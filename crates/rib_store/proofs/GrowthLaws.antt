@@ -6,15 +6,17 @@ use Rattle.ip_prefix.specs.Network.{Network}
 use Rattle.ip_prefix.specs.Turns.{way, turn_of, shared, side}
 use Rattle.rib_store.specs.Shape.{Shape}
 use Rattle.rib_store.specs.Shape.{Empty, Rooted}
-use Rattle.rib_store.specs.Tree.{at, slot_of, chosen, root, kept, joined, IsOn, IsRooted, IsShaped, IsPut, IsGrown, Stands}
+use Rattle.rib_store.specs.Tree.{at, slot_of, chosen, root, kept, joined, same_way, IsOn, IsRooted, IsShaped, IsPut, IsPlaced, IsGrown, Stands}
+use Rattle.ip_prefix.proofs.Turns.{here_from}
+use Rattle.rib_store.specs.Slots.{route_found}
 use Rattle.rib_store.proofs.WayLaws.{turn_shared, shared_inside, parts}
 use Rattle.rib_store.proofs.TreeLaws.{at_left, at_right, at_rooted, rooted_shaped, shaped_rooted, root_rooted, some_is, on_side}
 use Rattle.rib_store.proofs.ChangeLaws.{put_left, put_right, put_here, put_from}
 
 -- a child with one more key is on its side still
-pub on_grown : {R : Type 0} (key : List Bool) (l m : Shape R) (b : List Bool) (bit : Bool) → IsGrown key l m → IsOn b bit l → turn_of b key ≡ side bit → IsOn b bit m
-on_grown key Empty m b bit grown on there = on_side m b key bit grown.roots there
-on_grown key (Rooted prefix slot l r) m b bit grown on there = on_side m b (shared (way prefix) key) bit grown.roots (turn_shared b (way prefix) key bit on there)
+pub on_placed : {R : Type 0} (key : List Bool) (v : Option (Option R)) (l m : Shape R) (b : List Bool) (bit : Bool) → IsPlaced key v l m → IsOn b bit l → turn_of b key ≡ side bit → IsOn b bit m
+on_placed key v Empty m b bit placed on there = on_side m b key bit placed.roots there
+on_placed key v (Rooted prefix slot l r) m b bit placed on there = on_side m b (shared (way prefix) key) bit placed.roots (turn_shared b (way prefix) key bit on there)
 
 -- and stands where it stood
 stands_left : {R : Type 0} (slot : Option (Option R)) (l r m : Shape R) (x : List Bool) → root m ≡ Some x → Stands slot l r → Stands slot m r
@@ -32,49 +34,65 @@ not_outside t false e h = cc
 chosen_at : {A : Type 0} (t : Turn) (none here left right x : A) (u : Turn) → t ≡ u → chosen u none here left right ≡ x → chosen t none here left right ≡ x
 chosen_at t none here left right x u e h = ap (λ w. chosen w none here left right) e ∙ h
 
-pub grown_left : {R : Type 0} {old new : Shape R} (key : List Bool) (prefix : Network) (slot : Option (Option R)) (l r m : Shape R) → IsRooted prefix slot l r old → IsRooted prefix slot m r new
-    → turn_of (way prefix) key ≡ Left → IsShaped old → IsGrown key l m → IsGrown key old new
-grown_left {R} {old} {new} key prefix slot l r m was is there shaped grown =
+pub placed_left : {R : Type 0} {old new : Shape R} (key : List Bool) (prefix : Network) (slot v : Option (Option R)) (l r m : Shape R) → IsRooted prefix slot l r old → IsRooted prefix slot m r new
+    → turn_of (way prefix) key ≡ Left → IsShaped old → IsPlaced key v l m → IsPlaced key v old new
+placed_left {R} {old} {new} key prefix slot v l r m was is there shaped placed =
     let s = rooted_shaped old prefix slot l r was shaped in
-    let before = at_rooted old prefix slot l r was in
-    let kept_same : kept (at l key) ≡ kept (at old key) = ap kept (sym (before key ∙ chosen_at (turn_of (way prefix) key) None slot (at l key) (at r key) (at l key) Left there refl)) in
     record {
       shaped = shaped_rooted new prefix slot m r is (
         record {
-          left = on_grown key l m (way prefix) false grown s.0.left there;
+          left = on_placed key v l m (way prefix) false placed s.0.left there;
           right = s.0.right;
         },
-        stands_left slot l r m _ grown.roots s.1,
-        grown.shaped,
+        stands_left slot l r m _ placed.roots s.1,
+        placed.shaped,
         s.3,
       );
       slots = λ q. at_rooted new prefix slot m r is q
-          ∙ put_from (at old) _ (λ q. chosen (turn_of (way prefix) q) None slot (at m q) (at r q)) key (kept (at old key)) before
-          (put_left (way prefix) key None slot (kept (at old key)) (at l) (at m) (at r) there (subst (λ v. IsPut (at l) key v (at m)) kept_same grown.slots)) q;
+          ∙ put_from (at old) _ (λ q. chosen (turn_of (way prefix) q) None slot (at m q) (at r q)) key v (at_rooted old prefix slot l r was)
+          (put_left (way prefix) key None slot v (at l) (at m) (at r) there placed.slots) q;
       roots = root_rooted new prefix slot m r is ∙ sym (ap Some (shared_inside (way prefix) key (not_outside _ false there))) ∙ sym (ap (λ o. Some (joined o key)) (root_rooted old prefix slot l r was));
     }
 
-pub grown_right : {R : Type 0} {old new : Shape R} (key : List Bool) (prefix : Network) (slot : Option (Option R)) (l r m : Shape R) → IsRooted prefix slot l r old → IsRooted prefix slot l m new
-    → turn_of (way prefix) key ≡ Right → IsShaped old → IsGrown key r m → IsGrown key old new
-grown_right {R} {old} {new} key prefix slot l r m was is there shaped grown =
+pub placed_right : {R : Type 0} {old new : Shape R} (key : List Bool) (prefix : Network) (slot v : Option (Option R)) (l r m : Shape R) → IsRooted prefix slot l r old → IsRooted prefix slot l m new
+    → turn_of (way prefix) key ≡ Right → IsShaped old → IsPlaced key v r m → IsPlaced key v old new
+placed_right {R} {old} {new} key prefix slot v l r m was is there shaped placed =
     let s = rooted_shaped old prefix slot l r was shaped in
-    let before = at_rooted old prefix slot l r was in
-    let kept_same : kept (at r key) ≡ kept (at old key) = ap kept (sym (before key ∙ chosen_at (turn_of (way prefix) key) None slot (at l key) (at r key) (at r key) Right there refl)) in
     record {
       shaped = shaped_rooted new prefix slot l m is (
         record {
           left = s.0.left;
-          right = on_grown key r m (way prefix) true grown s.0.right there;
+          right = on_placed key v r m (way prefix) true placed s.0.right there;
         },
-        stands_right slot l r m _ grown.roots s.1,
+        stands_right slot l r m _ placed.roots s.1,
         s.2,
-        grown.shaped,
+        placed.shaped,
       );
       slots = λ q. at_rooted new prefix slot l m is q
-          ∙ put_from (at old) _ (λ q. chosen (turn_of (way prefix) q) None slot (at l q) (at m q)) key (kept (at old key)) before
-          (put_right (way prefix) key None slot (kept (at old key)) (at l) (at r) (at m) there (subst (λ v. IsPut (at r) key v (at m)) kept_same grown.slots)) q;
+          ∙ put_from (at old) _ (λ q. chosen (turn_of (way prefix) q) None slot (at l q) (at m q)) key v (at_rooted old prefix slot l r was)
+          (put_right (way prefix) key None slot v (at l) (at r) (at m) there placed.slots) q;
       roots = root_rooted new prefix slot l m is ∙ sym (ap Some (shared_inside (way prefix) key (not_outside _ true there))) ∙ sym (ap (λ o. Some (joined o key)) (root_rooted old prefix slot l r was));
     }
+
+-- what a key has below a side is what it has there
+left_slot : {R : Type 0} (old : Shape R) (key : List Bool) (prefix : Network) (slot : Option (Option R)) (l r : Shape R) → IsRooted prefix slot l r old → turn_of (way prefix) key ≡ Left → at l key ≡ at old key
+left_slot old key prefix slot l r was there = sym (at_rooted old prefix slot l r was key ∙ chosen_at (turn_of (way prefix) key) None slot (at l key) (at r key) (at l key) Left there refl)
+
+right_slot : {R : Type 0} (old : Shape R) (key : List Bool) (prefix : Network) (slot : Option (Option R)) (l r : Shape R) → IsRooted prefix slot l r old → turn_of (way prefix) key ≡ Right → at r key ≡ at old key
+right_slot old key prefix slot l r was there = sym (at_rooted old prefix slot l r was key ∙ chosen_at (turn_of (way prefix) key) None slot (at l key) (at r key) (at r key) Right there refl)
+
+pub here_slot : {R : Type 0} (old : Shape R) (key : List Bool) (prefix : Network) (slot : Option (Option R)) (l r : Shape R) → IsRooted prefix slot l r old → turn_of (way prefix) key ≡ Here → slot ≡ at old key
+here_slot old key prefix slot l r was there = sym (at_rooted old prefix slot l r was key ∙ chosen_at (turn_of (way prefix) key) None slot (at l key) (at r key) slot Here there refl)
+
+pub grown_left : {R : Type 0} {old new : Shape R} (key : List Bool) (prefix : Network) (slot : Option (Option R)) (l r m : Shape R) → IsRooted prefix slot l r old → IsRooted prefix slot m r new
+    → turn_of (way prefix) key ≡ Left → IsShaped old → IsGrown key l m → IsGrown key old new
+grown_left {R} {old} key prefix slot l r m was is there shaped grown =
+    placed_left key prefix slot (kept (at old key)) l r m was is there shaped (subst (λ v. IsPlaced key v l m) (ap kept (left_slot old key prefix slot l r was there)) grown)
+
+pub grown_right : {R : Type 0} {old new : Shape R} (key : List Bool) (prefix : Network) (slot : Option (Option R)) (l r m : Shape R) → IsRooted prefix slot l r old → IsRooted prefix slot l m new
+    → turn_of (way prefix) key ≡ Right → IsShaped old → IsGrown key r m → IsGrown key old new
+grown_right {R} {old} key prefix slot l r m was is there shaped grown =
+    placed_right key prefix slot (kept (at old key)) l r m was is there shaped (subst (λ v. IsPlaced key v r m) (ap kept (right_slot old key prefix slot l r was there)) grown)
 
 here_inside : (t : Turn) → t ≡ Here → t ≡ Outside → ⊥
 here_inside t e h = cc
@@ -84,20 +102,43 @@ stays None l r = tt
 stays (Some route) l r = tt
 
 -- the node itself is the key from now on, if it wasn't
+pub placed_here : {R : Type 0} {old new : Shape R} (key : List Bool) (prefix : Network) (slot v : Option (Option R)) (l r : Shape R) → IsRooted prefix slot l r old → IsRooted prefix v l r new
+    → turn_of (way prefix) key ≡ Here → IsShaped old → Stands v l r → IsPlaced key v old new
+placed_here {R} {old} {new} key prefix slot v l r was is there shaped stands =
+    let s = rooted_shaped old prefix slot l r was shaped in
+    record {
+      shaped = shaped_rooted new prefix v l r is (s.0, stands, s.2, s.3);
+      slots = λ q. at_rooted new prefix v l r is q
+          ∙ put_from (at old) _ (λ q. chosen (turn_of (way prefix) q) None v (at l q) (at r q)) key v (at_rooted old prefix slot l r was)
+          (put_here (way prefix) key None slot v (at l) (at r) there) q;
+      roots = root_rooted new prefix v l r is ∙ sym (ap Some (shared_inside (way prefix) key (here_inside _ there))) ∙ sym (ap (λ o. Some (joined o key)) (root_rooted old prefix slot l r was));
+    }
+
 pub grown_here : {R : Type 0} {old new : Shape R} (key : List Bool) (prefix : Network) (slot : Option (Option R)) (l r : Shape R) → IsRooted prefix slot l r old → IsRooted prefix (kept slot) l r new
     → turn_of (way prefix) key ≡ Here → IsShaped old → IsGrown key old new
 grown_here {R} {old} {new} key prefix slot l r was is there shaped =
-    let s = rooted_shaped old prefix slot l r was shaped in
-    let before = at_rooted old prefix slot l r was in
-    let kept_same : kept slot ≡ kept (at old key) = ap kept (sym (before key ∙ chosen_at (turn_of (way prefix) key) None slot (at l key) (at r key) slot Here there refl)) in
-    record {
-      shaped = shaped_rooted new prefix (kept slot) l r is (s.0, stays slot l r, s.2, s.3);
-      slots = λ q. at_rooted new prefix (kept slot) l r is q
-          ∙ put_from (at old) _ (λ q. chosen (turn_of (way prefix) q) None (kept slot) (at l q) (at r q)) key (kept (at old key)) before
-          (subst (λ v. IsPut (λ q. chosen (turn_of (way prefix) q) None slot (at l q) (at r q)) key v (λ q. chosen (turn_of (way prefix) q) None (kept slot) (at l q) (at r q)))
-          kept_same (put_here (way prefix) key None slot (kept slot) (at l) (at r) there)) q;
-      roots = root_rooted new prefix (kept slot) l r is ∙ sym (ap Some (shared_inside (way prefix) key (here_inside _ there))) ∙ sym (ap (λ o. Some (joined o key)) (root_rooted old prefix slot l r was));
-    }
+    subst (λ v. IsPlaced key v old new) (ap kept (here_slot old key prefix slot l r was there)) (placed_here key prefix slot (kept slot) l r was is there shaped (stays slot l r))
+
+pub kept_found : {R : Type 0} (slot : Option (Option R)) → kept slot ≡ Some (route_found slot)
+kept_found None = refl
+kept_found (Some slot) = refl
+
+-- what a key has that is there by now
+pub grown_slot : {R : Type 0} (key : List Bool) (old mid : Shape R) → IsGrown key old mid → at mid key ≡ Some (route_found (at old key))
+grown_slot key old mid grown =
+    grown.slots key ∙ ap (λ t. cond (chosen t false true false false) (kept (at old key)) (at old key)) (here_from key) ∙ kept_found (at old key)
+
+-- a key that is there by now gets this slot
+pub placed_then : {R : Type 0} {old new : Shape R} (key : List Bool) (v : Option (Option R)) (mid : Shape R) → IsGrown key old mid → IsShaped new → IsPut (at mid) key v (at new) → root new ≡ root mid → IsPlaced key v old new
+placed_then {R} {old} {new} key v mid grown shaped put roots = record {
+  shaped = shaped;
+  slots = λ q. put q ∙ ap (cond (same_way key q) v) (grown.slots q) ∙ twice (same_way key q) (kept (at old key)) (at old q);
+  roots = roots ∙ grown.roots;
+}
+  where
+    twice : (b : Bool) (u w : Option (Option R)) → cond b v (cond b u w) ≡ cond b v w
+    twice true u w = refl
+    twice false u w = refl
 
 -- ---- a leaf, and a node above
 

@@ -114,8 +114,12 @@ abbrev pub IsRootedOver : {R : Type 0} → Network → Option (Option R) → Tur
 IsRootedOver prefix slot side beside below tree =
     IsRooted prefix slot (chosen side beside beside below beside) (chosen side below below beside below) tree
 
--- a key is there, the others are as before, and the tree has its shape
-pub record IsGrown {R : Type 0} (key : List Bool) (old new : Shape R) : Type 0 where
+-- a key is there and has this slot, the others are as before, and the tree has its shape
+pub record IsPlaced {R : Type 0} (key : List Bool) (slot : Option (Option R)) (old new : Shape R) : Type 0 where
   pub shaped : IsShaped new
-  pub slots : IsPut (at old) key (kept (at old key)) (at new)
+  pub slots : IsPut (at old) key slot (at new)
   pub roots : root new ≡ Some (joined (root old) key)
+
+-- a key is there, with what it had if it was one
+abbrev pub IsGrown : {R : Type 0} → List Bool → Shape R → Shape R → Type 0
+IsGrown key old new = IsPlaced key (kept (at old key)) old new

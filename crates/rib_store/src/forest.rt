@@ -71,6 +71,33 @@ impl<R: Drop> Forest<R> {
         }
     }
 
+    /// Puts the route at the prefix, which is made a key where it was none, and takes what was there.
+    /// Answers whether the key is new.
+    pub(crate) fn put(
+        &mut self,
+        alloc: Global,
+        prefix: &Prefix,
+        route: &mut Option<R>,
+    ) -> Result<bool, AllocError>
+        requires { IsPlanted self.old }
+        ensures planted { OnOk result (IsPlanted self.new) }
+        ensures made { IfOk result (λ made. made ≡
+            not (is_some (slot_at (slots_in self.old) prefix.now))) }
+        ensures slots { OnOk result (ChangesAt (slots_in self.old) prefix.now (Some route.old)
+            (slots_in self.new)) }
+        ensures given { OnOk result
+            (route.new ≡ route_found (slot_at (slots_in self.old) prefix.now)) }
+        ensures refused { OnErr result (self.new ≡ self.old) }
+        ensures kept { OnErr result (route.new ≡ route.old) }
+        ensures known { OnErr result (slot_at (slots_in self.old) prefix.now ≡ None) }
+    {
+        let made = match prefix.family() {
+            Family::V4 => self.v4.put(alloc, prefix, route)?,
+            Family::V6 => self.v6.put(alloc, prefix, route)?,
+        };
+        Ok(made)
+    }
+
     /// The prefix is no key any more.
     pub(crate) fn discard(&mut self, prefix: &Prefix)
         requires { IsPlanted self.old }

@@ -36,6 +36,10 @@ impl<R, S: PrefixStore<R>> PrefixStore<R> for LeftStore<S> {
         self.store.exchange(prefix, route);
     }
 
+    fn put(&mut self, prefix: &Prefix, route: &mut Option<R>) -> Result<bool, AllocError> {
+        self.store.put(prefix, route)
+    }
+
     fn discard(&mut self, prefix: &Prefix) {
         self.store.discard(prefix);
     }

@@ -94,6 +94,14 @@ impl<R: Drop> PrefixStore<R> for RadixStore<R> {
         self.route_count = routes_after(self.route_count, brought, route.is_some(), &self.forest);
     }
 
+    fn put(&mut self, prefix: &Prefix, route: &mut Option<R>) -> Result<bool, AllocError> {
+        let brought = route.is_some();
+        let made = self.forest.put(self.alloc, prefix, route)?;
+        self.key_count = self.key_count.saturating_add(u64::from(made));
+        self.route_count = routes_after(self.route_count, brought, route.is_some(), &self.forest);
+        Ok(made)
+    }
+
     fn discard(&mut self, prefix: &Prefix) {
         self.forest.discard(prefix);
         self.key_count = keys_less_one(self.key_count, &self.forest);

@@ -5,7 +5,8 @@ ghost use Rattle.std.specs.Prelude.{IsSome, OnOk, OnErr, IfOk};
 ghost use Rattle.ip_prefix.specs.Turns.{way, turn_of};
 ghost use Rattle.ip_prefix.specs.declared.turn.Turn.TheVariants.{Outside, Left, Right};
 ghost use Rattle.rib_store.specs.Shape.{Empty, shape_of, leaf_slot, is_filled, is_routed, any_routed, IsLeaf, IsMarked};
-ghost use Rattle.rib_store.specs.Tree.{at, root, slot_of, kept, AreOf, IsOn, IsShaped, IsNearlyShaped, IsPut, IsGrown, IsRootedOver};
+ghost use Rattle.rib_store.specs.Tree.{at, root, slot_of, kept, AreOf, IsOn, IsShaped, IsNearlyShaped, IsPut, IsPlaced, IsGrown, IsRootedOver};
+ghost use Rattle.rib_store.specs.Slots.{route_found};
 
 use crate::packed::Packed;
 use crate::tree::{Node, Slot, Tree};
@@ -94,6 +95,74 @@ impl<K: Packed, R: Drop> Tree<K, R> {
             }
         }
     }
+}
+
+impl<K: Packed, R: Drop> Tree<K, R> {
+    /// Puts the route at the key, which is made where it was none, and takes what was there. Answers
+    /// whether the key is new.
+    pub(crate) fn put(
+        &mut self,
+        alloc: Global,
+        key: &Prefix,
+        route: &mut Option<R>,
+    ) -> Result<bool, AllocError>
+        requires shaped { IsShaped (shape_of K.network self.old) }
+        requires marked { IsMarked self.old }
+        requires family { AreOf key.now.family (shape_of K.network self.old) }
+        requires kind { key.now.family ≡ K.family }
+        ensures made { IfOk result (λ made. made ≡
+            not (is_some (at (shape_of K.network self.old) (way key.now)))) }
+        ensures placed { OnOk result (IsPlaced (way key.now) (Some route.old)
+            (shape_of K.network self.old) (shape_of K.network self.new)) }
+        ensures given { OnOk result
+            (route.new ≡ route_found (at (shape_of K.network self.old) (way key.now))) }
+        ensures marked { OnOk result (IsMarked self.new) }
+        ensures refused { OnErr result (self.new ≡ self.old) }
+        ensures kept { OnErr result (route.new ≡ route.old) }
+        ensures known { OnErr result (at (shape_of K.network self.old) (way key.now) ≡ None) }
+    {
+        match self {
+            Tree::Rooted(routed, prefix, node) => {
+                let node = &mut **node;
+                let made = match prefix.turn(key) {
+                    Turn::Outside => return place(self, alloc, key, route),
+                    Turn::Here => node.slot.put(route),
+                    Turn::Left => node.left.put(alloc, key, route)?,
+                    Turn::Right => node.right.put(alloc, key, route)?,
+                };
+                *routed = node.is_routed();
+                Ok(made)
+            }
+            _ => place(self, alloc, key, route),
+        }
+    }
+}
+
+/// Makes the prefix a key and puts the route there, one after the other.
+fn place<K: Packed, R: Drop>(
+    tree: &mut Tree<K, R>,
+    alloc: Global,
+    key: &Prefix,
+    route: &mut Option<R>,
+) -> Result<bool, AllocError>
+    requires shaped { IsShaped (shape_of K.network tree.old) }
+    requires marked { IsMarked tree.old }
+    requires family { AreOf key.now.family (shape_of K.network tree.old) }
+    requires kind { key.now.family ≡ K.family }
+    ensures made { IfOk result (λ made. made ≡
+        not (is_some (at (shape_of K.network tree.old) (way key.now)))) }
+    ensures placed { OnOk result (IsPlaced (way key.now) (Some route.old)
+        (shape_of K.network tree.old) (shape_of K.network tree.new)) }
+    ensures given { OnOk result
+        (route.new ≡ route_found (at (shape_of K.network tree.old) (way key.now))) }
+    ensures marked { OnOk result (IsMarked tree.new) }
+    ensures refused { OnErr result (tree.new ≡ tree.old) }
+    ensures kept { OnErr result (route.new ≡ route.old) }
+    ensures known { OnErr result (at (shape_of K.network tree.old) (way key.now) ≡ None) }
+{
+    let made = tree.ensure(alloc, key)?;
+    tree.exchange(key, route);
+    Ok(made)
 }
 
 impl<K: Packed, R: Drop> Tree<K, R> {
@@ -381,6 +450,18 @@ impl<R: Drop> Slot<R> {
         if let Slot::Filled(old) = mem::replace(self, new) {
             *route = Some(old);
         }
+    }
+
+    /// A key's slot, with this route or its absence in place of that which was there, and whether it
+    /// is new.
+    fn put(&mut self, route: &mut Option<R>) -> bool
+        ensures slot { slot_of self.new ≡ Some route.old }
+        ensures given { route.new ≡ route_found (slot_of self.old) }
+        ensures made { result ≡ not (is_some (slot_of self.old)) }
+    {
+        let made = self.occupy();
+        self.exchange(route);
+        made
     }
 
     /// A key's slot, without a route where it is new, and whether it is.

@@ -62,13 +62,29 @@ pub(super) fn change<S: PrefixStore<u32>>(
     prefix: &Prefix,
     route: Option<u32>,
 ) -> Result<(), Fail> {
-    if !store.has_key(prefix) {
+    if route.is_some_and(|number| number % 2 == 0) || (route.is_none() && !store.has_key(prefix)) {
+        put(rt, store, listed, prefix, route)?;
+    } else if !store.has_key(prefix) {
         assert!(rt; store.ensure(*prefix)? == listed.ensure(*prefix)?);
     } else if store.get(prefix).is_none() && route.is_none() {
         discard(rt, store, listed, prefix);
     } else {
         exchange(rt, store, listed, prefix, route);
     }
+    Ok(())
+}
+
+/// Puts a route, or its absence, into both stores, and asserts that they answer and give the same.
+fn put<S: PrefixStore<u32>>(
+    rt: &impl Abort,
+    store: &mut S,
+    listed: &mut Listed,
+    prefix: &Prefix,
+    route: Option<u32>,
+) -> Result<(), Fail> {
+    let mut given = route;
+    assert!(rt; store.put(prefix, &mut given)? == listed.ensure(*prefix)?);
+    assert_eq!(rt; given, listed.exchange(prefix, route));
     Ok(())
 }
 

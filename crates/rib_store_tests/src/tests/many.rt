@@ -45,9 +45,12 @@ fn add_numbered<S: PrefixStore<u32>>(
     number: u32,
 ) -> Result<(), Fail> {
     let prefix = numbered(number)?;
-    assert!(rt; store.ensure(prefix)?, "{number}");
     if number % STEP == 0 {
-        assert_had(rt, store, &prefix, Some(number), None);
+        let mut route = Some(number);
+        assert!(rt; store.put(&prefix, &mut route)?, "{number}");
+        assert!(rt; route.is_none(), "{number}");
+    } else {
+        assert!(rt; store.ensure(prefix)?, "{number}");
     }
     Ok(())
 }

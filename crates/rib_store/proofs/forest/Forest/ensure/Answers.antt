@@ -4,7 +4,7 @@ use Rattle.ip_prefix.specs.Turns.{way}
 use Rattle.rib_store.specs.Slots.{slot_at}
 use Rattle.rib_store.specs.Forest.{slots_in, ChangesAt}
 use Rattle.rib_store.specs.Tree.{at, kept, AreOf}
-use Rattle.rib_store.proofs.GrowthLaws.{on_grown}
+use Rattle.rib_store.proofs.GrowthLaws.{on_placed}
 use Rattle.rib_store.proofs.ForestLaws.{changed_v4, changed_v6, slot_at-tree_of, are_of-family, first_side}
 use Rattle.rib_store.specs.Forest.{v4_of, v6_of}
 use Rattle.rib_store.specs.Shape.{shape_of}
@@ -22,7 +22,7 @@ returns-in_ok-made-in-V4-clause-planted g c =
     let f = c.args.self.now in
     let grown = c.in_ok-made-in-V4.ensures.grown in
     record {
-      sides = record { left = on_grown (way c.args.prefix.now) (v4_of f) (shape_of v4_network c.ensure.new.self) [] false grown c.requires.sides.left (first_side c.args.prefix.now V4 (sym c.family.ensures ∙ c.in-V4.is)); right = c.requires.sides.right };
+      sides = record { left = on_placed (way c.args.prefix.now) _ (v4_of f) (shape_of v4_network c.ensure.new.self) [] false grown c.requires.sides.left (first_side c.args.prefix.now V4 (sym c.family.ensures ∙ c.in-V4.is)); right = c.requires.sides.right };
       v4 = grown.shaped;
       v6 = c.requires.v6;
       v4_marks = c.in_ok-made-in-V4.ensures.marked;
@@ -40,14 +40,14 @@ returns-in_ok-made-in-V4-clause-slots g c =
     let family : key.family ≡ V4 = sym c.family.ensures ∙ c.in-V4.is in
     let grown = c.in_ok-made-in-V4.ensures.grown in
     subst (λ slot. ChangesAt (slots_in f) key slot (slots_in record { v4 = c.ensure.new.self; v6 = f.v6 })) (ap kept (sym (slot_at-tree_of f c.requires key V4 family)))
-    (changed_v4 f c.ensure.new.self key (kept (at (v4_of f) (way key))) c.requires family grown.shaped c.in_ok-made-in-V4.ensures.marked (on_grown (way key) (v4_of f) (shape_of v4_network c.ensure.new.self) [] false grown c.requires.sides.left (first_side key V4 family)) grown.slots)
+    (changed_v4 f c.ensure.new.self key (kept (at (v4_of f) (way key))) c.requires family grown.shaped c.in_ok-made-in-V4.ensures.marked (on_placed (way key) _ (v4_of f) (shape_of v4_network c.ensure.new.self) [] false grown c.requires.sides.left (first_side key V4 family)) grown.slots)
 
 pub returns-in_ok-made-in-V6-clause-planted : goal.returns-in_ok-made-in-V6-clause-planted
 returns-in_ok-made-in-V6-clause-planted g c =
     let f = c.args.self.now in
     let grown = c.in_ok-made-in-V6.ensures.grown in
     record {
-      sides = record { left = c.requires.sides.left; right = on_grown (way c.args.prefix.now) (v6_of f) (shape_of v6_network c.ensure-in-V6.new.self) [] true grown c.requires.sides.right (first_side c.args.prefix.now V6 (sym c.family.ensures ∙ c.in-V6.is)) };
+      sides = record { left = c.requires.sides.left; right = on_placed (way c.args.prefix.now) _ (v6_of f) (shape_of v6_network c.ensure-in-V6.new.self) [] true grown c.requires.sides.right (first_side c.args.prefix.now V6 (sym c.family.ensures ∙ c.in-V6.is)) };
       v4 = c.requires.v4;
       v6 = grown.shaped;
       v4_marks = c.requires.v4_marks;
@@ -65,7 +65,7 @@ returns-in_ok-made-in-V6-clause-slots g c =
     let family : key.family ≡ V6 = sym c.family.ensures ∙ c.in-V6.is in
     let grown = c.in_ok-made-in-V6.ensures.grown in
     subst (λ slot. ChangesAt (slots_in f) key slot (slots_in record { v4 = f.v4; v6 = c.ensure-in-V6.new.self })) (ap kept (sym (slot_at-tree_of f c.requires key V6 family)))
-    (changed_v6 f c.ensure-in-V6.new.self key (kept (at (v6_of f) (way key))) c.requires family grown.shaped c.in_ok-made-in-V6.ensures.marked (on_grown (way key) (v6_of f) (shape_of v6_network c.ensure-in-V6.new.self) [] true grown c.requires.sides.right (first_side key V6 family)) grown.slots)
+    (changed_v6 f c.ensure-in-V6.new.self key (kept (at (v6_of f) (way key))) c.requires family grown.shaped c.in_ok-made-in-V6.ensures.marked (on_placed (way key) _ (v6_of f) (shape_of v6_network c.ensure-in-V6.new.self) [] true grown c.requires.sides.right (first_side key V6 family)) grown.slots)
 
 pub returns-in_err-made-in-V4-clause-known : goal.returns-in_err-made-in-V4-clause-known
 returns-in_err-made-in-V4-clause-known g c =

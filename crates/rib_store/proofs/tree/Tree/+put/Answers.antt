@@ -1,0 +1,34 @@
+use Rattle.std.proofs.Common.{◌≡◌, Some, refl}
+use Rattle.ip_prefix.specs.declared.turn.Turn.TheVariants.{Here, Left, Right}
+use Rattle.ip_prefix.specs.Turns.{way, turn_of}
+use Rattle.rib_store.specs.Shape.{Rooted, shape_of}
+use Rattle.rib_store.specs.Tree.{slot_of, IsRooted}
+use Rattle.rib_store.proofs.GrowthLaws.{placed_left, placed_right, placed_here}
+use Rattle.rib_store.proofs.tree.Tree.+put.Goals.{in-Here, in-Left+in_ok-made-in-Left, in-Right+in_ok-made-in-Right}
+use Rattle.rib_store.proofs.tree.Tree.+put.Goals as goal
+
+pub returns-after-turn-clause-placed : goal.returns-after-turn-clause-placed
+returns-after-turn-clause-placed g t c =
+    let net = g.K.Packed.network in
+    let n = c.deref_mut-node.result.now in
+    let m = c.match-turn.node in
+    let prefix = net c.in-Rooted.prefix in
+    let key = way c.args.key.now in
+    let slot = Some c.args.route.now in
+    let old = shape_of net c.args.self.now in
+    let new = Rooted prefix m.slot (shape_of net m.left) (shape_of net m.right) in
+    let was : IsRooted prefix (slot_of n.slot) (shape_of net n.left) (shape_of net n.right) old = rw c.in-Rooted.is (cc, cc, cc, cc) in
+    elim c.match-turn.branch [
+      | in-Here w ↦
+          let turn : turn_of (way prefix) key ≡ Here = cc in
+          let is : IsRooted prefix slot (shape_of net n.left) (shape_of net n.right) new = rw w.node-is (refl, refl, refl, w.put-made.ensures.slot) in
+          placed_here key prefix (slot_of n.slot) slot (shape_of net n.left) (shape_of net n.right) was is turn c.requires.shaped tt
+      | in-Left+in_ok-made-in-Left w ↦
+          let turn : turn_of (way prefix) key ≡ Left = cc in
+          let is : IsRooted prefix (slot_of n.slot) (shape_of net w.put.new.self) (shape_of net n.right) new = rw w.node-is (refl, refl, refl, refl) in
+          placed_left key prefix (slot_of n.slot) slot (shape_of net n.left) (shape_of net n.right) (shape_of net w.put.new.self) was is turn c.requires.shaped w.in_ok-made-in-Left.ensures.placed
+      | in-Right+in_ok-made-in-Right w ↦
+          let turn : turn_of (way prefix) key ≡ Right = cc in
+          let is : IsRooted prefix (slot_of n.slot) (shape_of net n.left) (shape_of net w.put-in-Right.new.self) new = rw w.node-is (refl, refl, refl, refl) in
+          placed_right key prefix (slot_of n.slot) slot (shape_of net n.left) (shape_of net n.right) (shape_of net w.put-in-Right.new.self) was is turn c.requires.shaped w.in_ok-made-in-Right.ensures.placed
+    ]
