@@ -1,4 +1,4 @@
-use Rattle.std.proofs.Common.{◌≡◌, Bool, List, [], ◌∷◌, ◌++◌, take, drop, sym, ap, subst, ◌∙◌}
+use Rattle.std.proofs.Common.{◌≡◌, Bool, List, [], take, drop, sym, ap, subst, ◌∙◌}
 use Rattle.std.specs.List.{IsDistinct, AllByRecursion, list_any}
 use Rattle.std.specs.List.Sorted.{IsStrictlySortedBy}
 use Rattle.std.specs.Ordering.{eq_by_cmp}
@@ -13,7 +13,7 @@ use Rattle.rib_player.specs.Tables.{Pairs}
 use Rattle.rib_player.specs.Wanted.{routed_first}
 use Rattle.rib_player.specs.Journal.{step_sides, sides_of, pairs_in, steps_of, timeline_of}
 use Rattle.rib_player.specs.Sides.{IsKept}
-use Rattle.rib_player.specs.Marks.{AreHeld, marks_of, trail_of, seen_after, IsExact}
+use Rattle.rib_player.specs.Marks.{marks_of, trail_of, seen_after, IsExact}
 use Rattle.rib_player.proofs.JournalLaws.{pairs_in-sides_across, get-restored_elsewhere}
 use Rattle.rib_player.proofs.MarkLaws.{pairs-same}
 use Rattle.rib_player.proofs.KeyLaws.{unheld-route, unseen-route, held-split, held-end, exact-start, exact-has, exact-has-last, all-named_pairs, all-kept, all-distinct}

@@ -1,4 +1,4 @@
-use Rattle.std.proofs.Common.{◌≡◌, ◌+◌, ◌<◌, ◌||◌, Bool, true, false, not, List, [], ◌∷◌, ◌++◌, length, take, drop, set, get_or, arith, sym, ap, ap₂, subst, ◌∙◌}
+use Rattle.std.proofs.Common.{◌≡◌, ◌+◌, ◌<◌, ◌||◌, false, not, List, [], ◌∷◌, ◌++◌, length, take, drop, set, get_or, arith, sym, ap, ap₂, subst, ◌∙◌}
 use Rattle.std.specs.List.{IsDistinct, list_any}
 use Rattle.std.specs.FinMap as finite
 use Rattle.std.specs.FinSet as names
@@ -6,7 +6,6 @@ use Rattle.std.proofs.lemmas.List.{length-set, length-drop, drop-drop, drop-set-
 use Rattle.rib_player.specs.declared.pair.Pair.{Pair}
 use Rattle.rib_store.specs.Stored.{put}
 use Rattle.rib_player.specs.Entries.{Entry}
-use Rattle.rib_player.specs.Tables.{Routes}
 use Rattle.rib_player.specs.Store.{route_in}
 use Rattle.rib_player.specs.Journal.{Side, side_of, sides_of, pairs_in, routes_across}
 use Rattle.rib_player.specs.Sides.{sides_across}
