@@ -14,7 +14,7 @@ use Rattle.rib_player.proofs.MarkLaws.{tied}
 -- ---- the bits of pairs
 
 -- they are among the 64 of a digest
-bits-fit : (p : Pair) → bits_of p < 2 ^ 64
+pub bits-fit : (p : Pair) → bits_of p < 2 ^ 64
 unfolding bits_of
 bits-fit p =
     let hash = hashed_number p * MULTIPLIER % 2 ^ DIGEST_BITS in
@@ -23,11 +23,11 @@ bits-fit p =
     (pow_below (hash / 2 ^ SECOND_SHIFT % DIGEST_BITS) 64 (mod_below (hash / 2 ^ SECOND_SHIFT) DIGEST_BITS (omega arith)))
 
 -- bits that are absent stay so when others are
-still_apart : (absent bits other : ℕ) → bit_and absent bits ≡ 0 → bit_and (bit_and other absent) bits ≡ 0
+pub still_apart : (absent bits other : ℕ) → bit_and absent bits ≡ 0 → bit_and (bit_and other absent) bits ≡ 0
 still_apart absent bits other apart = and_assoc bits other absent ∙ ap (bit_and other) apart ∙ and_comm other 0
 
 -- and so are those that are taken away
-now_apart : (absent bits : ℕ) → bits < 2 ^ 64 → bit_and (bit_and (2 ^ 64 - 1 - bits) absent) bits ≡ 0
+pub now_apart : (absent bits : ℕ) → bits < 2 ^ 64 → bit_and (bit_and (2 ^ 64 - 1 - bits) absent) bits ≡ 0
 now_apart absent bits fits =
     let same : bit_and bits bits ≡ bits = and_or_self bits 0 in
     let none : bit_and (2 ^ 64 - 1 - bits) bits ≡ 0 = omega (arith, and-not 64 bits bits fits fits, same) in

@@ -21,5 +21,6 @@ pub mod PlayedLaws
 pub mod SlotLaws
 pub mod UnseenLaws
 pub mod DigestLaws
+pub mod GroupLaws
 pub mod ForgetLaws
 pub mod FloorLaws

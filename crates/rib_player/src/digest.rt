@@ -63,7 +63,7 @@ pub(crate) fn four_octets(addr: &Addr, place: usize) -> u32
 
 /// What is hashed of a pair: four octets of its prefix, and the number of its peer.
 #[inline]
-fn hashed_number(pair: &Pair) -> u64
+pub(crate) fn hashed_number(pair: &Pair) -> u64
     ensures { result ≡ hashed_number pair.now }
 {
     let addr = pair.prefix.addr();
@@ -94,43 +94,49 @@ impl Digest {
 
     /// Whether the step may name a pair of these bits.
     #[inline]
-    fn can_name(self, bits: u64) -> bool
+    pub(crate) fn can_name(self, bits: u64) -> bool
         ensures { result ≡ can_name self bits }
     {
         self.absent & bits == 0
     }
 }
 
-/// The first place from one on where a step may name a pair of these bits, or the end.
-fn place_among(digests: &[Digest], start: usize, bits: u64) -> usize
-    requires { start ≤ length digests.now }
+/// The first place from one on and before another where a step may name a pair of these bits, or
+/// that other place.
+fn place_among(digests: &[Digest], start: usize, end: usize, bits: u64) -> usize
+    requires order { start ≤ end }
+    requires within { end ≤ length digests.now }
     ensures further { start ≤ result }
-    ensures within { result ≤ length digests.now }
+    ensures within { result ≤ end }
     ensures passed { ArePassed bits start result digests.now }
-    ensures found { result < length digests.now → IsCandidate bits result digests.now }
+    ensures found { result < end → IsCandidate bits result digests.now }
 {
     let mut place = start;
-    'digests: while place < digests.len() && !digests[place].can_name(bits) {
+    'digests: while place < end && !digests[place].can_name(bits) {
         place += 1;
     }
     place
 }
 
 /// The same over a queue.
-pub(crate) fn next_place(digests: &VecDeque<Digest>, start: usize, bits: u64) -> usize
-    requires { start ≤ length digests.now.items }
+pub(crate) fn next_place(digests: &VecDeque<Digest>, start: usize, end: usize, bits: u64) -> usize
+    requires order { start ≤ end }
+    requires within { end ≤ length digests.now.items }
     ensures further { start ≤ result }
-    ensures within { result ≤ length digests.now.items }
+    ensures within { result ≤ end }
     ensures passed { ArePassed bits start result digests.now.items }
-    ensures found { result < length digests.now.items → IsCandidate bits result digests.now.items }
+    ensures found { result < end → IsCandidate bits result digests.now.items }
 {
     let (front, back) = digests.as_slices();
     if start > front.len() {
-        return front.len() + place_among(back, start - front.len(), bits);
+        return front.len() + place_among(back, start - front.len(), end - front.len(), bits);
     }
-    let place = place_among(front, start, bits);
+    if end <= front.len() {
+        return place_among(front, start, end, bits);
+    }
+    let place = place_among(front, start, front.len(), bits);
     if place < front.len() {
         return place;
     }
-    front.len() + place_among(back, 0, bits)
+    front.len() + place_among(back, 0, end - front.len(), bits)
 }

@@ -1,6 +1,7 @@
 //! The steps that are kept, so that they can be undone and redone.
 
-ghost use Rattle.std.specs.Prelude.{◌≡◌, ◌<◌, ◌≤◌, [], ◌∷◌, ◌||◌, ◌&&◌, not, is_some, length, take, drop, set, OnOk, OnErr};
+ghost use Rattle.std.specs.Prelude.{◌≡◌, ◌<◌, ◌≤◌, [], ◌∷◌, ◌||◌, ◌&&◌, true, false, not, is_some, length, take, drop, set, OnOk, OnErr};
+ghost use Rattle.std.specs.Bool.{OnTrue, OnFalse};
 ghost use Rattle.std.specs.List.{AllByRecursion, sum_by};
 ghost use Rattle.std.specs.VecDeque.{deque_len, deque_capacity};
 ghost use Rattle.std.specs.Ordering.{eq_by_cmp};
@@ -17,9 +18,11 @@ ghost use Rattle.rib_player.specs.Marks.{marks_of, trail_of, entry_count, named_
 ghost use Rattle.rib_player.specs.Played.{IsPlayed, IsAdvanced};
 ghost use Rattle.rib_player.specs.Clearings.{clearing_of, clearings_of, clearings_by_step, is_cleared, cleared_by, any_cleared, CanForget, ForgetsExact};
 ghost use Rattle.rib_player.specs.Digests.{AreDigestsOf};
+ghost use Rattle.rib_player.specs.Groups.{names_in, AreGroups};
 
 use crate::digest::{Digest, bits_of, next_place};
 use crate::entry::Entry;
+use crate::groups::Groups;
 use crate::pair::Pair;
 use crate::table::Table;
 use mrt_wire::Route;
@@ -231,25 +234,67 @@ fn mark_in_step(steps: &mut VecDeque<Step>, index: usize, pair: &Pair) -> bool
     mark(step.entries.as_mut_slice(), pair)
 }
 
-/// Marks the pair's entry in the first of the steps that names it, and answers whether one does.
-/// Steps whose digest tells that they can't name it are passed by.
-fn mark_first(steps: &mut VecDeque<Step>, digests: &VecDeque<Digest>, pair: &Pair) -> bool
+/// Marks the pair's entry in the first of some steps that names it, where none before them does, and
+/// answers whether one does. Steps whose digest tells that they can't name it are passed by.
+fn mark_between(
+    steps: &mut VecDeque<Step>,
+    digests: &VecDeque<Digest>,
+    start: usize,
+    end: usize,
+    pair: &Pair,
+) -> bool
+    requires order { start ≤ end }
+    requires within { end ≤ length steps.old.items }
     requires ordered { AllByRecursion AreOrdered (steps_of steps.old.items) }
     requires digests { AreDigestsOf digests.now.items (trail_of steps.old.items) }
+    requires before { any_named (take start (trail_of steps.old.items)) pair.now ≡ false }
+    ensures found { OnTrue result (any_named (trail_of steps.old.items) pair.now ≡ true) }
+    ensures none { OnFalse result
+        (any_named (take end (trail_of steps.old.items)) pair.now ≡ false) }
+    ensures trail { OnTrue result
+        (trail_of steps.new.items ≡ marked_first pair.now (trail_of steps.old.items)) }
+    ensures kept { OnFalse result (trail_of steps.new.items ≡ trail_of steps.old.items) }
+    ensures steps { steps_of steps.new.items ≡ steps_of steps.old.items }
+    ensures clearings { clearings_by_step steps.new.items ≡ clearings_by_step steps.old.items }
+{
+    let bits = bits_of(pair);
+    let mut place = next_place(digests, start, end, bits);
+    'steps: while place < end {
+        if mark_in_step(steps, place, pair) {
+            return true;
+        }
+        place = next_place(digests, place + 1, end, bits);
+    }
+    false
+}
+
+/// Marks the pair's entry in the first of the steps that names it, and answers whether one does.
+/// Groups of steps that can't name it are passed by.
+fn mark_first(
+    steps: &mut VecDeque<Step>,
+    digests: &VecDeque<Digest>,
+    groups: &Groups,
+    pair: &Pair,
+) -> bool
+    requires ordered { AllByRecursion AreOrdered (steps_of steps.old.items) }
+    requires digests { AreDigestsOf digests.now.items (trail_of steps.old.items) }
+    requires groups { AreGroups groups.now (names_in (trail_of steps.old.items)) }
     ensures found { result ≡ any_named (trail_of steps.old.items) pair.now }
     ensures trail { trail_of steps.new.items ≡ marked_first pair.now (trail_of steps.old.items) }
     ensures steps { steps_of steps.new.items ≡ steps_of steps.old.items }
     ensures clearings { clearings_by_step steps.new.items ≡ clearings_by_step steps.old.items }
 {
-    let bits = bits_of(pair);
-    let mut place = next_place(digests, 0, bits);
-    'steps: while place < steps.len() {
-        if mark_in_step(steps, place, pair) {
+    let mut start = 0;
+    'groups: for index in 0..groups.groups.len() {
+        let group = &groups.groups[index];
+        let end = start + group.count;
+        if group.may_name(pair) && mark_between(steps, digests, start, end, pair) {
             return true;
         }
-        place = next_place(digests, place + 1, bits);
+        start = end;
     }
-    false
+    let end = steps.len();
+    mark_between(steps, digests, start, end, pair)
 }
 
 /// Lets go of what the entries of a forgotten step want: of a pair that it left without a route
@@ -258,11 +303,13 @@ pub(crate) fn forget_entries<S: PrefixStore<Rc<Route>>>(
     table: &mut Table<S>,
     steps: &mut VecDeque<Step>,
     digests: &VecDeque<Digest>,
+    groups: &Groups,
     forgotten: &[Entry],
 )
     requires distinct { AreDistinct (sides_of forgotten.now) }
     requires ordered { AllByRecursion AreOrdered (steps_of steps.old.items) }
     requires digests { AreDigestsOf digests.now.items (trail_of steps.old.items) }
+    requires groups { AreGroups groups.now (names_in (trail_of steps.old.items)) }
     requires exact { CanForget (clearings_of forgotten.now) (trail_of steps.old.items) table.old }
     ensures exact { ForgetsExact (clearings_of forgotten.now) (trail_of steps.old.items) table.old
         (trail_of steps.new.items) table.new }
@@ -270,10 +317,11 @@ pub(crate) fn forget_entries<S: PrefixStore<Rc<Route>>>(
     ensures steps { steps_of steps.new.items ≡ steps_of steps.old.items }
     ensures clearings { clearings_by_step steps.new.items ≡ clearings_by_step steps.old.items }
     ensures digests { AreDigestsOf digests.now.items (trail_of steps.new.items) }
+    ensures groups { AreGroups groups.now (names_in (trail_of steps.new.items)) }
 {
     'entries: for entry in forgotten {
         let pair = entry.pair();
-        if entry.clears() && !mark_first(steps, digests, &pair) {
+        if entry.clears() && !mark_first(steps, digests, groups, &pair) {
             table.discard(&pair);
         }
     }

@@ -4,6 +4,7 @@
 mod changes;
 mod digest;
 mod entry;
+mod groups;
 mod journal;
 mod known;
 mod known_peers;

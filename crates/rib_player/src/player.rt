@@ -9,6 +9,7 @@ ghost use Rattle.rib_player.specs.Wanted.{wanted, named_count, IsWellFormed};
 
 use crate::changes::step_for;
 use crate::digest::Digest;
+use crate::groups::Groups;
 use crate::journal::{Step, advance, cross_step, forget_entries, forget_steps, named_from};
 use crate::known::KnownRoutes;
 use crate::known_peers::KnownPeers;
@@ -45,6 +46,8 @@ pub struct Player<S: PrefixStore<Rc<Route>>> {
     steps: VecDeque<Step>,
     /// What each of them names, in short. They stand apart, so that a search goes over them alone.
     digests: VecDeque<Digest>,
+    /// The same of many of them at once.
+    groups: Groups,
     /// How many of them stand before the cursor.
     cursor: usize,
     /// How many were forgotten.
@@ -69,6 +72,7 @@ impl<S: PrefixStore<Rc<Route>>> Model for Player<S> {
     ghost use Rattle.rib_player.specs.Marks.{trail_of};
     ghost use Rattle.rib_player.specs.Played.{IsPlayed};
     ghost use Rattle.rib_player.specs.Digests.{AreDigestsOf};
+    ghost use Rattle.rib_player.specs.Groups.{names_in, AreGroups};
 
     ghost view = { λ a. behind_forgotten a.floor
         (timeline_of a.cursor (steps_of a.steps.items) a.table.routes) };
@@ -77,6 +81,7 @@ impl<S: PrefixStore<Rc<Route>>> Model for Player<S> {
       played : IsPlayed a.table.keys a.table.routes a.cursor a.steps.items;
       counted : a.floor + length a.steps.items ≤ GREATEST_COUNT;
       digests : AreDigestsOf a.digests.items (trail_of a.steps.items);
+      groups : AreGroups a.groups (names_in (trail_of a.steps.items));
     } };
 }
 
@@ -90,6 +95,7 @@ impl<S: PrefixStore<Rc<Route>>> Player<S> {
             table: Table::new(alloc),
             steps: VecDeque::new(alloc),
             digests: VecDeque::new(alloc),
+            groups: Groups::new(alloc),
             cursor: 0,
             floor: 0,
             known: KnownRoutes::new(alloc),
@@ -203,6 +209,7 @@ impl<S: PrefixStore<Rc<Route>>> Player<S> {
             entries.as_mut_slice(),
         )?;
         let digest = Digest::of(&entries);
+        self.groups.note(self.alloc, self.cursor, &entries);
         self.steps.push_back_reserved(Step { entries });
         self.digests.truncate(self.cursor);
         self.digests.push_back_reserved(digest);
@@ -217,10 +224,12 @@ impl<S: PrefixStore<Rc<Route>>> Player<S> {
     {
         if let Some(step) = self.steps.pop_front() {
             self.digests.pop_front();
+            self.groups.drop_first();
             forget_entries(
                 &mut self.table,
                 &mut self.steps,
                 &self.digests,
+                &self.groups,
                 &step.entries,
             );
             self.cursor -= 1;
@@ -240,6 +249,7 @@ impl<S: PrefixStore<Rc<Route>>> Player<S> {
         let released = named_from(&self.steps, 0);
         forget_steps(&mut self.table, &mut self.steps);
         self.digests.clear();
+        self.groups.clear();
         self.floor += self.cursor as u64;
         self.cursor = 0;
         self.known.note_released(released);

@@ -1,4 +1,4 @@
-use Rattle.std.proofs.Common.{length, ◌-◌, ◌≤◌}
+use Rattle.std.proofs.Common.{◌-◌, ◌≤◌}
 use Rattle.rib_player.specs.Digests.{ArePassed}
 use Rattle.rib_player.proofs.digest.place_among.Given as goal
 
@@ -6,9 +6,9 @@ use Rattle.rib_player.proofs.digest.place_among.Given as goal
 abbrev pub invariant-digests : goal.invariant-digests
 invariant-digests l = record {
   further : l.start ≤ l.place;
-  within : l.place ≤ length l.digests;
+  within : l.place ≤ l.end;
   passed : ArePassed l.bits l.start l.place l.digests;
 }
 
 abbrev pub decreases-digests : goal.decreases-digests
-decreases-digests l = length l.digests - l.place
+decreases-digests l = l.end - l.place

@@ -9,7 +9,9 @@ use Rattle.rib_player.specs.Marks.{any_named, marked_first, marks_of, named_by, 
 use Rattle.rib_player.specs.Clearings.{Clearing, clearing_of, clearings_of, clearings_by_step, without, unseen_by}
 use Rattle.octet_forms.proofs.Lists.{AllByRecursion-get_or}
 use Rattle.rib_player.specs.Digests.{AreDigestsOf}
+use Rattle.rib_player.specs.Groups.{AreGroups}
 use Rattle.rib_player.proofs.DigestLaws.{digests-marked}
+use Rattle.rib_player.proofs.GroupLaws.{same_names}
 use Rattle.rib_player.proofs.MarkLaws.{distinct-before}
 use Rattle.rib_player.proofs.KeyLaws.{held-same, seen_after-any}
 use Rattle.rib_player.proofs.UnseenLaws.{unsee-named, unsee-gone, any-marked, unseen_by-push, unseen_by-other}
@@ -105,3 +107,11 @@ entries-preserved g c =
         }
       ]
     ]
+
+pub mark_first-requires-clause-groups : goal.mark_first-requires-clause-groups
+mark_first-requires-clause-groups g c =
+    subst (AreGroups c.args.groups.now) (sym (same_names c.args.steps.now.items c.entries.steps.items c.entries.invariant.steps)) c.requires.groups
+
+pub returns-clause-groups : goal.returns-clause-groups
+returns-clause-groups g c =
+    subst (AreGroups c.args.groups.now) (sym (same_names c.args.steps.now.items c.entries.steps.items c.entries.invariant.steps)) c.requires.groups

@@ -9,6 +9,7 @@ use Rattle.rib_player.specs.Calls.{without_first}
 use Rattle.rib_player.specs.Journal.{Side, pairs_in, step_sides, steps_of, timeline_of, behind_forgotten}
 use Rattle.rib_player.specs.Marks.{trail_of}
 use Rattle.rib_player.specs.Digests.{AreDigestsOf}
+use Rattle.rib_player.specs.Groups.{names_in, AreGroups}
 use Rattle.rib_player.proofs.KeyLaws.{held-named}
 use Rattle.rib_player.proofs.ForgetLaws.{any-cleared, timeline-all_forgotten, all_forgotten-played}
 use Rattle.rib_player.proofs.player.Player.forget_all.Given.{Over}
@@ -34,6 +35,7 @@ invariant_of-self g c = record {
       (λ (q : Pair). c.forget_steps.ensures.keys q ∙ ap (λ routes. is_some (finite.get routes q)) (sym c.forget_steps.ensures.routes));
   counted = omega (arith, c.self.invariant.counted, c.self.invariant.played.journal.within, ap length c.forget_steps.ensures.steps, length-map c.self.inside.steps.items step_sides);
   digests = subst (λ digests. AreDigestsOf digests (trail_of c.forget_steps.new.steps.items)) (sym c.clear.ensures.items) (subst (λ steps. AreDigestsOf [] (trail_of steps)) (sym c.forget_steps.ensures.steps) tt);
+  groups = subst (λ steps. AreGroups c.clear-2.new.self (names_in (trail_of steps))) (sym c.forget_steps.ensures.steps) c.clear-2.ensures;
 }
 
 pub returns : goal.returns

@@ -1,13 +1,14 @@
-use Rattle.std.proofs.Common.{◌≡◌, suc, ◌+◌, ◌-◌, ◌<◌, ◌++◌, ◌∷◌, Some, length, slice_index_or, ap, ap₂, sym, subst, ◌∙◌, arith}
+use Rattle.std.proofs.Common.{◌≡◌, suc, ◌+◌, ◌-◌, ◌<◌, ◌++◌, ◌∷◌, Some, length, map, slice_index_or, ap, ap₂, sym, subst, ◌∙◌, arith}
 use Rattle.std.specs.Option.{option_to_list}
 use Rattle.std.proofs.lemmas.List.{length-map}
 use Rattle.rib_player.specs.Calls.{without_first}
 use Rattle.rib_player.specs.Journal.{step_sides, steps_of, timeline_of, behind_forgotten}
-use Rattle.rib_player.specs.Marks.{step_marks, trail_of}
+use Rattle.rib_player.specs.Marks.{Mark, step_marks, trail_of}
 use Rattle.rib_player.specs.Clearings.{step_clearings, clearings_of, CanForget, ForgetsExact}
 use Rattle.rib_player.specs.Played.{IsPlayed}
 use Rattle.rib_player.specs.declared.digest.Digest.{Digest}
 use Rattle.rib_player.specs.Digests.{AreDigestsOf}
+use Rattle.rib_player.specs.Groups.{names_in, AreGroups}
 use Rattle.rib_player.proofs.DigestLaws.{length-digests}
 use Rattle.rib_player.proofs.ForgetLaws.{can_forget, forgotten-played, timeline-forgotten}
 use Rattle.rib_player.proofs.player.Player.forget_first.Given.{Over}
@@ -47,6 +48,13 @@ digests g c =
 pub forget_entries-requires-clause-digests : goal.forget_entries-requires-clause-digests
 forget_entries-requires-clause-digests g c = digests g (goal.at.forget_entries-requires-clause-digests g c).After-deref
 
+-- the groups are those of the steps that are left
+pub forget_entries-requires-clause-groups : goal.forget_entries-requires-clause-groups
+forget_entries-requires-clause-groups g c =
+    let b = (goal.at.forget_entries-requires-clause-groups g c).After-deref in
+    c.drop_first.ensures (map (λ (mark : Mark). mark.0) (step_marks c.in-Some.step)) (names_in (trail_of c.pop_front.new.self.items))
+    (subst (λ steps. AreGroups c.self.inside.groups (names_in (trail_of steps))) (split g b) c.self.invariant.groups)
+
 -- the keys are those that the steps that are left want
 exact : (g : Over) (c : After-forget_entries g) → ForgetsExact (step_clearings c.in-Some.step) (trail_of c.pop_front.new.self.items) c.self.inside.table (trail_of c.forget_entries.new.steps.items) c.forget_entries.new.table
 exact g c =
@@ -60,6 +68,7 @@ invariant_of-self g c =
           c.forget_entries.ensures.routes c.forget_entries.ensures.steps c.forget_entries.ensures.clearings (exact g (goal.at.invariant_of-self g c).After-forget_entries);
       counted = omega (arith, c.self.invariant.counted, ap length (split g b), ap length c.forget_entries.ensures.steps, length-map c.forget_entries.new.steps.items step_sides, length-map c.pop_front.new.self.items step_sides);
       digests = c.forget_entries.ensures.digests;
+      groups = c.forget_entries.ensures.groups;
     }
 
 pub returns-in-Some : goal.returns-in-Some

@@ -1,14 +1,16 @@
-use Rattle.std.proofs.Common.{◌≡◌, ◌+◌, ◌++◌, ◌∷◌, [], length, take, map, arith, refl, ap, ap₂, sym, subst, ◌∙◌}
+use Rattle.std.proofs.Common.{◌≡◌, ◌+◌, ◌++◌, ◌∷◌, [], List, ◌≤◌, length, take, map, arith, refl, ap, ap₂, sym, subst, ◌∙◌}
 use Rattle.std.specs.Vec.{with_items}
 use Rattle.std.proofs.lemmas.List.{with_items_is, length_push, length-take-le, length-map, map-append, take-map}
 use Rattle.rib_player.specs.declared.journal.Step.{Step}
 use Rattle.rib_player.specs.Timeline.{after_play}
 use Rattle.rib_player.specs.Journal.{step_sides, sides_of, steps_of, timeline_of, behind_forgotten}
-use Rattle.rib_player.specs.Marks.{step_marks, trail_of, marks_of}
+use Rattle.rib_player.specs.Marks.{Mark, step_marks, trail_of, marks_of}
 use Rattle.rib_player.specs.Clearings.{clearings_of, clearing_then}
 use Rattle.rib_player.specs.Played.{IsAdvanced, IsPlayed}
 use Rattle.rib_player.specs.Digests.{IsDigestOf, AreDigestsOf}
+use Rattle.rib_player.specs.Groups.{names_in, pairs_of, AreGroups}
 use Rattle.rib_player.proofs.DigestLaws.{digests-taken, digests-added}
+use Rattle.rib_player.proofs.GroupLaws.{pairs-marks}
 use Rattle.rib_player.proofs.KeyLaws.{after_play-on}
 use Rattle.rib_player.proofs.FloorLaws.{after_play-behind}
 use Rattle.rib_player.proofs.player.Player.play_step.Given.{Over}
@@ -56,6 +58,19 @@ trail_then g c =
 digests_then : (g : Over) (c : After-push_back_reserved-2 g) → c.push_back_reserved-2.new.self.items ≡ take c.self.inside.cursor c.self.inside.digests.items ++ c.of-digest.result ∷ []
 digests_then g c = c.push_back_reserved-2.ensures.items ∙ ap (λ digests. digests ++ c.of-digest.result ∷ []) (c.truncate.ensures.items ∙ ap (take c.self.inside.cursor) c.reserve-2.ensures.items)
 
+-- what the steps name
+names_then : (g : Over) (c : After-push_back_reserved g)
+    → names_in (take c.self.inside.cursor (trail_of c.self.inside.steps.items) ++ marks_of c.advance.new.entries ∷ []) ≡ take c.self.inside.cursor (names_in (trail_of c.self.inside.steps.items)) ++ pairs_of c.advance.new.entries ∷ []
+names_then g c =
+    let first = λ (marks : List Mark). map (λ (mark : Mark). mark.0) marks in
+    map-append first (take c.self.inside.cursor (trail_of c.self.inside.steps.items)) (marks_of c.advance.new.entries ∷ [])
+    ∙ ap₂ (λ front pairs. front ++ pairs ∷ []) (sym (take-map first c.self.inside.cursor (trail_of c.self.inside.steps.items))) (pairs-marks c.advance.new.entries)
+
+fits : (g : Over) (c : After-push_back_reserved g) → c.self.inside.cursor ≤ length (names_in (trail_of c.self.inside.steps.items))
+fits g c =
+    let first = λ (marks : List Mark). map (λ (mark : Mark). mark.0) marks in
+    omega (arith, c.self.invariant.played.journal.within, length-map c.self.inside.steps.items step_sides, length-map c.self.inside.steps.items step_marks, length-map (trail_of c.self.inside.steps.items) first)
+
 pub invariant_of-self-2 : goal.invariant_of-self-2
 invariant_of-self-2 g c =
     let b = (goal.at.invariant_of-self-2 g c).After-push_back_reserved in
@@ -75,6 +90,10 @@ invariant_of-self-2 g c =
           (digests-added (take c.self.inside.cursor c.self.inside.digests.items) (take c.self.inside.cursor (trail_of c.self.inside.steps.items)) c.of-digest.result (marks_of c.advance.new.entries)
           (digests-taken c.self.inside.cursor c.self.inside.digests.items (trail_of c.self.inside.steps.items) c.self.invariant.digests)
           (subst (λ es. IsDigestOf c.of-digest.result (marks_of es)) (c.deref.ensures.value ∙ entries_then g b) c.of-digest.ensures)));
+      groups = subst (λ trail. AreGroups c.note.new.self (names_in trail)) (sym (trail_then g b))
+          (subst (AreGroups c.note.new.self) (sym (names_then g b))
+          (subst (λ es. AreGroups c.note.new.self (take c.self.inside.cursor (names_in (trail_of c.self.inside.steps.items)) ++ pairs_of es ∷ [])) (c.deref-2.ensures.value ∙ entries_then g b)
+          (c.note.ensures (names_in (trail_of c.self.inside.steps.items)) (fits g b) c.self.invariant.groups)));
     }
 
 pub returns-clause-after_play : goal.returns-clause-after_play

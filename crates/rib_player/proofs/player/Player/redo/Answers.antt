@@ -7,6 +7,7 @@ use Rattle.rib_player.specs.Journal.{Side, pairs_in, step_sides, steps_of, timel
 use Rattle.rib_player.specs.Marks.{step_marks}
 use Rattle.rib_player.specs.Played.{IsPlayed}
 use Rattle.rib_player.specs.Digests.{AreDigestsOf}
+use Rattle.rib_player.specs.Groups.{names_in, AreGroups}
 use Rattle.rib_player.proofs.PlayedLaws.{after_redo-on}
 use Rattle.rib_player.proofs.FloorLaws.{after_redo-behind}
 use Rattle.rib_player.proofs.player.Player.redo.Goals as goal
@@ -31,6 +32,7 @@ invariant_of-self g c = record {
   played = (then g (goal.at.invariant_of-self g c).After-cross_step).1;
   counted = omega (arith, c.self.invariant.counted, ap length c.cross_step.ensures.trail, length-map c.cross_step.new.steps.items step_marks, length-map c.self.inside.steps.items step_marks);
   digests = subst (AreDigestsOf c.self.inside.digests.items) (sym c.cross_step.ensures.trail) c.self.invariant.digests;
+  groups = subst (λ trail. AreGroups c.self.inside.groups (names_in trail)) (sym c.cross_step.ensures.trail) c.self.invariant.groups;
 }
 
 pub returns-clause-after_redo : goal.returns-clause-after_redo

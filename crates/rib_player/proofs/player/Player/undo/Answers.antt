@@ -5,6 +5,7 @@ use Rattle.rib_player.specs.Journal.{steps_of, timeline_of, behind_forgotten}
 use Rattle.rib_player.specs.Marks.{step_marks}
 use Rattle.rib_player.specs.Played.{IsPlayed}
 use Rattle.rib_player.specs.Digests.{AreDigestsOf}
+use Rattle.rib_player.specs.Groups.{names_in, AreGroups}
 use Rattle.rib_player.proofs.PlayedLaws.{after_undo-on}
 use Rattle.rib_player.proofs.FloorLaws.{after_undo-behind}
 use Rattle.rib_player.proofs.player.Player.undo.Goals as goal
@@ -25,6 +26,7 @@ invariant_of-self g c = record {
   played = (then g (goal.at.invariant_of-self g c).After-cross_step).1;
   counted = omega (arith, c.self.invariant.counted, ap length c.cross_step.ensures.trail, length-map c.cross_step.new.steps.items step_marks, length-map c.self.inside.steps.items step_marks);
   digests = subst (AreDigestsOf c.self.inside.digests.items) (sym c.cross_step.ensures.trail) c.self.invariant.digests;
+  groups = subst (λ trail. AreGroups c.self.inside.groups (names_in trail)) (sym c.cross_step.ensures.trail) c.self.invariant.groups;
 }
 
 pub returns-clause-after_undo : goal.returns-clause-after_undo
