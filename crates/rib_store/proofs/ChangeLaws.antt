@@ -1,13 +1,14 @@
 -- One slot put into a tree, seen from the nodes above it, and nodes split and joined.
-use Rattle.std.proofs.Common.{◌≡◌, Bool, true, false, cond, Option, None, List, refl, ap, sym, ◌∙◌}
+use Rattle.std.proofs.Common.{◌≡◌, Bool, true, false, cond, Option, Some, None, IsSome, IfSome, List, refl, ap, sym, subst, ◌∙◌}
 use Rattle.ip_prefix.specs.declared.turn.Turn.{Turn}
 use Rattle.ip_prefix.specs.declared.turn.Turn.TheVariants.{Outside, Here, Left, Right}
 use Rattle.ip_prefix.specs.Network.{Network}
-use Rattle.ip_prefix.specs.Turns.{way, turn_of}
+use Rattle.ip_prefix.specs.Turns.{way, turn_of, side}
 use Rattle.ip_prefix.proofs.Turns.{here_only}
 use Rattle.rib_store.specs.Shape.{Shape}
-use Rattle.rib_store.specs.Shape.{Empty}
-use Rattle.rib_store.specs.Tree.{at, chosen, same_way, IsOn, IsRooted, IsPut}
+use Rattle.rib_store.specs.Shape.{Empty, Rooted}
+use Rattle.rib_store.specs.declared.tree.Slot.{Slot}
+use Rattle.rib_store.specs.Tree.{at, chosen, root, same_way, slot_of, IsOn, IsRooted, IsPut, IsShaped, Stands}
 use Rattle.rib_store.proofs.WayLaws.{same_is}
 use Rattle.rib_store.proofs.TreeLaws.{at_left, at_right, at_rooted}
 
@@ -84,3 +85,21 @@ pub fork_here : {R : Type 0} (old new : Shape R) (prefix : Network) (slot v : Op
 fork_here {R} old new prefix slot v l r key was is there q =
     at_rooted new prefix v l r is q
     ∙ put_from (at old) _ (λ q. chosen (turn_of (way prefix) q) None v (at l q) (at r q)) key v (at_rooted old prefix slot l r was) (put_here (way prefix) key None slot v (at l) (at r) there) q
+
+-- ---- a tree whose root stays where it was
+
+sides_then : {R : Type 0} (from : List Bool) (bit : Bool) (old new : Shape R) → root new ≡ root old → IsOn from bit old → IsOn from bit new
+sides_then from bit old new same on = subst (λ o. IfSome o (λ to. turn_of from to ≡ side bit)) (sym same) on
+
+stands_then : {R : Type 0} (slot : Option (Option R)) (l r l' r' : Shape R) → root l' ≡ root l → root r' ≡ root r → Stands slot l r → Stands slot l' r'
+stands_then None l r l' r' left right stands = (subst IsSome (sym left) stands.0, subst IsSome (sym right) stands.1)
+stands_then (Some slot) l r l' r' left right stands = tt
+
+-- a node is in shape where one of its trees changes so
+pub shaped_left : {R : Type 0} (prefix : Network) (slot : Slot R) (l r m : Shape R) → root m ≡ root l → IsShaped m → IsShaped (Rooted prefix slot l r) → IsShaped (Rooted prefix slot m r)
+shaped_left prefix slot l r m same shaped was =
+    (record { left = sides_then (way prefix) false l m same was.0.left; right = was.0.right }, stands_then (slot_of slot) l r m r same refl was.1, shaped, was.3)
+
+pub shaped_right : {R : Type 0} (prefix : Network) (slot : Slot R) (l r m : Shape R) → root m ≡ root r → IsShaped m → IsShaped (Rooted prefix slot l r) → IsShaped (Rooted prefix slot l m)
+shaped_right prefix slot l r m same shaped was =
+    (record { left = was.0.left; right = sides_then (way prefix) true r m same was.0.right }, stands_then (slot_of slot) l r l m refl same was.1, was.2, shaped)

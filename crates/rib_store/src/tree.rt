@@ -1,6 +1,6 @@
 //! A path-compressed radix tree of the prefixes of one family.
 
-ghost use Rattle.std.specs.Prelude.{◌≡◌, Some, None, is_some, MatchOption};
+ghost use Rattle.std.specs.Prelude.{◌≡◌, true, Some, None, is_some, MatchOption};
 ghost use Rattle.std.specs.Option.{option_copied, option_map};
 ghost use Rattle.rib_store.specs.Tree.{slot_of};
 ghost use Rattle.rib_store.specs.Walks.{routed_at};
@@ -78,7 +78,18 @@ impl<K, R> Node<K, R> {
     fn is_routed(&self) -> bool
         ensures { result ≡ any_routed self.now.slot self.now.left self.now.right }
     {
-        self.slot.is_filled() || self.left.is_routed() || self.right.is_routed()
+        self.left.is_routed() || self.right.is_routed() || self.slot.is_filled()
+    }
+
+    /// The same, where a route was brought there, or where it has to be seen.
+    fn is_routed_with(&self, brought: bool) -> bool
+        requires { brought ≡ true → any_routed self.now.slot self.now.left self.now.right ≡ true }
+        ensures { result ≡ any_routed self.now.slot self.now.left self.now.right }
+    {
+        if brought {
+            return true;
+        }
+        self.is_routed()
     }
 }
 

@@ -1,6 +1,6 @@
 //! Keys and routes come and go in place: nodes are split and joined.
 
-ghost use Rattle.std.specs.Prelude.{◌≡◌, ◌⊎◌, Some, None, List, Bool, false, is_some, not};
+ghost use Rattle.std.specs.Prelude.{◌≡◌, ◌⊎◌, Some, None, List, Bool, true, false, is_some, not};
 ghost use Rattle.std.specs.Prelude.{IsSome, OnOk, OnErr, IfOk};
 ghost use Rattle.ip_prefix.specs.Turns.{way, turn_of};
 ghost use Rattle.ip_prefix.specs.declared.turn.Turn.TheVariants.{Outside, Left, Right};
@@ -25,6 +25,7 @@ impl<K: Packed, R: Drop> Tree<K, R> {
         ensures slots { IsPut (at (shape_of K.network self.old)) (way key.now) (Some route.old)
             (at (shape_of K.network self.new)) }
         ensures given { at (shape_of K.network self.old) (way key.now) ≡ Some route.new }
+        ensures brought { is_some route.old ≡ true → is_routed self.new ≡ true }
         ensures root { root (shape_of K.network self.new) ≡ root (shape_of K.network self.old) }
     {
         match self {
@@ -39,13 +40,14 @@ impl<K: Packed, R: Drop> Tree<K, R> {
             }
             Tree::Rooted(routed, prefix, node) => {
                 let node = &mut **node;
+                let brought = route.is_some();
                 match prefix.turn(key) {
                     Turn::Outside => return,
                     Turn::Here => node.slot.exchange(route),
                     Turn::Left => node.left.exchange(key, route),
                     Turn::Right => node.right.exchange(key, route),
                 }
-                *routed = node.is_routed();
+                *routed = node.is_routed_with(brought);
             }
         }
     }
@@ -117,6 +119,7 @@ impl<K: Packed, R: Drop> Tree<K, R> {
         ensures given { OnOk result
             (route.new ≡ route_found (at (shape_of K.network self.old) (way key.now))) }
         ensures marked { OnOk result (IsMarked self.new) }
+        ensures brought { OnOk result (is_some route.old ≡ true → is_routed self.new ≡ true) }
         ensures refused { OnErr result (self.new ≡ self.old) }
         ensures kept { OnErr result (route.new ≡ route.old) }
         ensures known { OnErr result (at (shape_of K.network self.old) (way key.now) ≡ None) }
@@ -124,13 +127,14 @@ impl<K: Packed, R: Drop> Tree<K, R> {
         match self {
             Tree::Rooted(routed, prefix, node) => {
                 let node = &mut **node;
+                let brought = route.is_some();
                 let made = match prefix.turn(key) {
                     Turn::Outside => return place(self, alloc, key, route),
                     Turn::Here => node.slot.put(route),
                     Turn::Left => node.left.put(alloc, key, route)?,
                     Turn::Right => node.right.put(alloc, key, route)?,
                 };
-                *routed = node.is_routed();
+                *routed = node.is_routed_with(brought);
                 Ok(made)
             }
             _ => place(self, alloc, key, route),
@@ -156,6 +160,7 @@ fn place<K: Packed, R: Drop>(
     ensures given { OnOk result
         (route.new ≡ route_found (at (shape_of K.network tree.old) (way key.now))) }
     ensures marked { OnOk result (IsMarked tree.new) }
+    ensures brought { OnOk result (is_some route.old ≡ true → is_routed tree.new ≡ true) }
     ensures refused { OnErr result (tree.new ≡ tree.old) }
     ensures kept { OnErr result (route.new ≡ route.old) }
     ensures known { OnErr result (at (shape_of K.network tree.old) (way key.now) ≡ None) }

@@ -3,7 +3,8 @@ use Rattle.ip_prefix.specs.declared.turn.Turn.TheVariants.{Here, Left, Right}
 use Rattle.ip_prefix.specs.Turns.{way, turn_of}
 use Rattle.rib_store.specs.Shape.{Rooted, shape_of, IsLeaf}
 use Rattle.rib_store.specs.Tree.{slot_of, IsRooted}
-use Rattle.rib_store.proofs.ChangeLaws.{fork_left, fork_right, fork_here}
+use Rattle.rib_store.proofs.ChangeLaws.{fork_left, fork_right, fork_here, shaped_left, shaped_right}
+use Rattle.rib_store.proofs.TreeLaws.{rooted_shaped, shaped_rooted}
 use Rattle.rib_store.proofs.ShapeLaws.{put_leaf}
 use Rattle.rib_store.proofs.tree.Tree.+exchange.Goals.{in-Here, in-Left, in-Right}
 use Rattle.rib_store.proofs.tree.Tree.+exchange.Goals as goal
@@ -42,4 +43,30 @@ returns-after-turn-clause-slots g t c = λ q.
           let turn : turn_of (way prefix) key ≡ Right = cc in
           let is : IsRooted prefix (slot_of n.slot) (shape_of net n.left) (shape_of net w.exchange-in-Right.new.self) new = rw w.node-is (refl, refl, refl, refl) in
           fork_right old new prefix (slot_of n.slot) slot (shape_of net n.left) (shape_of net n.right) (shape_of net w.exchange-in-Right.new.self) key was is turn w.exchange-in-Right.ensures.slots q
+    ]
+
+pub returns-after-turn-clause-shaped : goal.returns-after-turn-clause-shaped
+returns-after-turn-clause-shaped g t c =
+    let net = g.K.Packed.network in
+    let n = c.deref_mut-node.result.now in
+    let m = c.match-turn.node in
+    let prefix = net c.in-Rooted.prefix in
+    let old = shape_of net c.args.self.now in
+    let new = Rooted prefix m.slot (shape_of net m.left) (shape_of net m.right) in
+    let there : IsRooted prefix (slot_of n.slot) (shape_of net n.left) (shape_of net n.right) old = rw c.in-Rooted.is (cc, cc, cc, cc) in
+    let was = rooted_shaped old prefix (slot_of n.slot) (shape_of net n.left) (shape_of net n.right) there c.requires.shaped in
+    elim c.match-turn.branch [
+      | in-Here w ↦
+          let is : IsRooted prefix (Some c.args.route.now) (shape_of net n.left) (shape_of net n.right) new = rw w.node-is (refl, refl, refl, w.exchange.ensures.slot) in
+          shaped_rooted new prefix (Some c.args.route.now) (shape_of net n.left) (shape_of net n.right) is (was.0, tt, was.2, was.3)
+      | in-Left w ↦
+          let left = shape_of net w.exchange-in-Left.new.self in
+          let is : IsRooted prefix (slot_of n.slot) left (shape_of net n.right) new = rw w.node-is (refl, refl, refl, refl) in
+          shaped_rooted new prefix (slot_of n.slot) left (shape_of net n.right) is
+          (shaped_left prefix n.slot (shape_of net n.left) (shape_of net n.right) left w.exchange-in-Left.ensures.root w.exchange-in-Left.ensures.shaped was)
+      | in-Right w ↦
+          let right = shape_of net w.exchange-in-Right.new.self in
+          let is : IsRooted prefix (slot_of n.slot) (shape_of net n.left) right new = rw w.node-is (refl, refl, refl, refl) in
+          shaped_rooted new prefix (slot_of n.slot) (shape_of net n.left) right is
+          (shaped_right prefix n.slot (shape_of net n.left) (shape_of net n.right) right w.exchange-in-Right.ensures.root w.exchange-in-Right.ensures.shaped was)
     ]
