@@ -1,10 +1,18 @@
 -- The lines of a list's items, written one after the other.
-use Rattle.std.proofs.Common.{◌≡◌, ℕ, true, List, [], ◌∷◌, ◌++◌, Option, Some, None, Result, Ok, Err, is_some, slice_get, refl, sym, ap, subst, ◌∙◌}
+use Rattle.std.proofs.Common.{◌≡◌, ℕ, ◌+◌, ◌<◌, ◌≤◌, true, List, [], ◌∷◌, ◌++◌, ◌-◌, zero, suc, arith, length, take, drop, get_or, Bor, Option, Some, None, Result, Ok, Err, is_some, slice_get, refl, sym, ap, subst, ◌∙◌}
 use Rattle.std.specs.List.{flat_map}
-use Rattle.std.specs.Option.{option_map}
+use Rattle.std.specs.Option.{option_map, option_copied}
+use Rattle.std.proofs.lemmas.List.{length-map}
+use Rattle.std.proofs.lemmas.Option.{slice_get-map}
+use Rattle.rib_store.proofs.AboveLaws.{split_last}
 use Rattle.std.specs.Io.KnownBytes.{Appends}
 use Rattle.std.proofs.KnownBytes.{Appends-nil, Appends-trans}
-use Rattle.std.proofs.lemmas.List.{append_assoc, append-nil, flat_map_more}
+use Rattle.std.proofs.lemmas.List.{append_assoc, append-nil, flat_map_more, take_all, take-append-drop}
+use Rattle.std.specs.declared.alloc.Global.{Global}
+use Rattle.std.specs.declared.rc.Rc.{Rc}
+use Rattle.ip_prefix.specs.Network.{Network}
+use Rattle.mrt_wire.specs.declared.event.Route.{Route}
+use Rattle.rib_player.specs.Lookups.{pointed_routes}
 use Rattle.std.proofs.lemmas.Option.{same_Some}
 use Rattle.std.proofs.lemmas.Grind.{flat_map-append}
 use Rattle.mrt_wire.specs.declared.peer.Peer.{Peer}
@@ -12,9 +20,9 @@ use Rattle.rib_player.specs.Tables.{Routes}
 use Rattle.bgpdump_lines.specs.declared.fault.WriteFault.{WriteFault}
 use Rattle.bgpdump_lines.specs.declared.fault.WriteFault.TheVariants.{Write, Memory}
 use Rattle.bgpdump_lines.specs.Device.{AppendsFront}
-use Rattle.bgpdump_tool.specs.Replies.{peer_line, peer_lines}
+use Rattle.bgpdump_tool.specs.Replies.{peer_line, peer_lines, rib_line}
 use Rattle.bgpdump_lines.specs.Writing.{Puts, PutsPart}
-use Rattle.bgpdump_lines.proofs.WritingLaws.{AppendsFront-none, AppendsFront-behind, AppendsFront-longer}
+use Rattle.bgpdump_lines.proofs.WritingLaws.{AppendsFront-none, AppendsFront-behind, AppendsFront-longer, lines_next}
 
 -- of all items the lines of those done were written; the others are ahead
 pub record Walked {A : Type 0} (line : A → List ℕ) (all ahead : List A) (old new : Option (List ℕ)) : Type 0 where
@@ -59,6 +67,40 @@ module _ {A : Type 0} (line : A → List ℕ) (all : List A) where
       (AppendsFront-behind old mid new (flat_map line p.done) (line item ++ flat_map line behind) p.appended
       (AppendsFront-longer mid new (line item) (flat_map line behind) (AppendsFront-put mid new (line item) fault put)))
 
+  -- many more lines
+  abbrev pub Walked-many : (items ahead behind : List A) (old mid new : Option (List ℕ)) → ahead ≡ items ++ behind → Walked line all ahead old mid → Appends mid new (flat_map line items) → Walked line all behind old new
+  Walked-many items ahead behind old mid new next p appended = record {
+    done = p.done ++ items;
+    whole = p.whole ∙ ap (λ xs. p.done ++ xs) next ∙ sym (append_assoc p.done items behind);
+    appended = subst (Appends old new) (sym (flat_map-append line p.done items)) (Appends-trans old mid new (flat_map line p.done) (flat_map line items) p.appended appended);
+  }
+
+  -- a fault in them leaves a front of all lines
+  pub Walked-breaks : (items ahead behind : List A) (old mid new : Option (List ℕ)) → ahead ≡ items ++ behind → Walked line all ahead old mid → AppendsFront mid new (flat_map line items) → AppendsFront old new (flat_map line all)
+  Walked-breaks items ahead behind old mid new next p put =
+      subst (AppendsFront old new) (sym (ap (flat_map line) (p.whole ∙ ap (λ xs. p.done ++ xs) next) ∙ flat_map-append line p.done (items ++ behind)))
+      (AppendsFront-behind old mid new (flat_map line p.done) (flat_map line (items ++ behind)) p.appended
+      (subst (AppendsFront mid new) (sym (flat_map-append line items behind)) (AppendsFront-longer mid new (flat_map line items) (flat_map line behind) put)))
+
+  -- one more line behind a front of the items, and a fault in it
+  pub lines-next : (i : ℕ) (d : A) (old mid new : Option (List ℕ)) → i < length all → Appends old mid (flat_map line (take i all)) → Appends mid new (line (get_or all i d)) → Appends old new (flat_map line (take (i + 1) all))
+  lines-next i d old mid new lt p appended = subst (Appends old new) (sym (lines_next line all i d lt)) (Appends-trans old mid new (flat_map line (take i all)) (line (get_or all i d)) p appended)
+
+  pub lines-stop : (i : ℕ) (d : A) (old mid new : Option (List ℕ)) (fault : WriteFault) → i < length all → Appends old mid (flat_map line (take i all)) → Puts {A = Unit {0}} mid new (line (get_or all i d)) (Err fault) → AppendsFront old new (flat_map line all)
+  lines-stop i d old mid new fault lt p put =
+      subst (AppendsFront old new) (sym (flat_map-append line (take (i + 1) all) (drop (i + 1) all)) ∙ ap (flat_map line) (take-append-drop (i + 1) all))
+      (AppendsFront-longer old new (flat_map line (take (i + 1) all)) (flat_map line (drop (i + 1) all))
+      (subst (AppendsFront old new) (sym (lines_next line all i d lt))
+      (AppendsFront-behind old mid new (flat_map line (take i all)) (line (get_or all i d)) p (AppendsFront-put mid new (line (get_or all i d)) fault put))))
+
+  pub lines-all : (i : ℕ) (old new : Option (List ℕ)) → length all ≤ i → Appends old new (flat_map line (take i all)) → Appends old new (flat_map line all)
+  lines-all i old new ge p = subst (λ xs. Appends old new (flat_map line xs)) (take_all i all ge) p
+
+-- the lines of routes that are pointed to
+pub lines-pointed : (peer : Peer) (found : List (Network × Bor (Rc Route Global))) → flat_map (λ f. rib_line peer (f.0, f.1.now.value)) found ≡ flat_map (rib_line peer) (pointed_routes found)
+lines-pointed peer [] = refl
+lines-pointed peer (f ∷ found) = ap (λ l. rib_line peer (f.0, f.1.now.value) ++ l) (lines-pointed peer found)
+
 -- ---- peers
 
 -- what was found, and what belongs to it
@@ -77,3 +119,28 @@ some_first (first ∷ done) item ahead = refl
 pub lines_of_some : (routes : Routes) (peers : List Peer) → is_some (slice_get peers 0) ≡ true → flat_map (peer_line routes) peers ≡ peer_lines routes peers
 lines_of_some routes [] some = cc
 lines_of_some routes (peer ∷ peers) some = refl
+
+-- ---- routes that are pointed to
+
+-- where the last is this one, they are others and then this one
+pub some_last : (found : List (Network × Bor (Rc Route Global))) (last : Option (Bor (Network × Bor (Rc Route Global)))) (end : Bor (Network × Bor (Rc Route Global))) → option_copied last ≡ slice_get found (length found - 1) → last ≡ Some end
+    → (ys : List (Network × Route)) × (pointed_routes found ≡ ys ++ (end.now.0, end.now.1.now.value) ∷ [])
+some_last found last end is some =
+    let view : Network × Bor (Rc Route Global) → Network × Route = λ f. (f.0, f.1.now.value) in
+    let e : Network × Route = (end.now.0, end.now.1.now.value) in
+    let at : length found - 1 ≡ length (pointed_routes found) - 1 = ap (λ n. n - 1) (sym (length-map found view)) in
+    split_last (pointed_routes found) e (length found - 1) at
+    (slice_get-map view found (length found - 1) ∙ ap (option_map view) (sym is ∙ ap option_copied some))
+
+pub length-pointed : (found : List (Network × Bor (Rc Route Global))) → length (pointed_routes found) ≡ length found
+length-pointed found = length-map found (λ f. (f.0, f.1.now.value))
+
+-- where there is no last there is none
+pub last_none : (found : List (Network × Bor (Rc Route Global))) (last : Option (Bor (Network × Bor (Rc Route Global)))) → option_copied last ≡ slice_get found (length found - 1) → last ≡ None → [] ≡ pointed_routes found
+last_none [] last is none = refl
+last_none (f ∷ found) last is none = absurd (no_last (f ∷ found) (length (f ∷ found) - 1) (omega arith) (sym is ∙ ap option_copied none))
+  where
+    no_last : {A : Type 0} (xs : List A) (n : ℕ) → n < length xs → slice_get xs n ≡ None → ⊥
+    no_last [] n lt e = omega arith
+    no_last (x ∷ xs) zero lt e = cc
+    no_last (x ∷ xs) (suc n) lt e = no_last xs n (omega arith) e

@@ -50,7 +50,9 @@ pub(crate) fn carry_out<S: PrefixStore<Rc<Route>>, I: Input, O: Output, E: Outpu
         Command::Goto(position) => goto::goto(session, input, out, err, position)?,
         Command::Position => position::position(&session.player, out, text)?,
         Command::Peers => peers::peers(session.player.table(), out, text)?,
-        Command::Table(peer) => table::table(session.player.table(), &peer, out, text)?,
+        Command::Table(peer) => {
+            table::table(session.player.table(), session.alloc, &peer, out, text)?;
+        }
         Command::Route(peer, prefix) => {
             route::route(session.player.table(), &peer, &prefix, out, text)?;
         }

@@ -1,5 +1,5 @@
 -- The routes of one peer, those above a prefix, and the peers that have a route.
-use Rattle.std.proofs.Common.{◌≡◌, ℕ, suc, ◌<◌, ◌≤◌, Bool, true, false, cond, T, ◌&&◌, ◌||◌, nat_lt, List, [], ◌∷◌, map, length, Option, Some, None, is_some, slice_get, Bor, refl, sym, ap, ap₂, subst, ◌∙◌, arith}
+use Rattle.std.proofs.Common.{◌≡◌, ℕ, suc, ◌<◌, ◌≤◌, Bool, true, false, cond, T, ◌&&◌, ◌||◌, nat_lt, List, [], ◌∷◌, map, take, length, Option, Some, None, is_some, slice_get, Bor, refl, sym, ap, ap₂, subst, ◌∙◌, arith}
 use Rattle.std.specs.List.{list_any, filter, AllByRecursion}
 use Rattle.std.specs.List.Sorted.{IsStrictlySortedBy}
 use Rattle.std.specs.Map.{keys_of}
@@ -15,14 +15,15 @@ use Rattle.std.specs.declared.alloc.Global.{Global}
 use Rattle.std.specs.declared.rc.Rc.{Rc}
 use Rattle.std.proofs.lemmas.Map.Keys.{sorted_head, sorted_tail}
 use Rattle.std.proofs.lemmas.Bool.{and_parts, lt-ltb, le-ltb}
-use Rattle.std.proofs.lemmas.List.{length-map}
+use Rattle.std.proofs.lemmas.List.{length-map, take-map}
 use Rattle.std.proofs.lemmas.Option.{slice_get-map}
 use Rattle.ip_prefix.specs.Network.{Network}
 use Rattle.ip_prefix.specs.Order.{network_cmp}
 use Rattle.ip_prefix.specs.OrderLaws.{network_cmp_total, network_cmp-IsAntisymmetric}
 use Rattle.rib_store.specs.Stored as stored
 use Rattle.rib_store.specs.Stored.{counted}
-use Rattle.rib_store.specs.Lookups.{above, is_above}
+use Rattle.rib_store.specs.Lookups.{above, is_above, pointed}
+use Rattle.rib_store.proofs.FillLaws.{take-nil}
 use Rattle.rib_store.proofs.AboveLaws.{routes_sorted}
 use Rattle.mrt_wire.specs.declared.peer.Peer.{Peer}
 use Rattle.mrt_wire.specs.declared.event.Route.{Route}
@@ -32,7 +33,7 @@ use Rattle.rib_player.specs.declared.pair.Pair.{Pair}
 use Rattle.rib_player.specs.History.{pair_cmp, pair_of}
 use Rattle.rib_player.specs.Tables.{Routes}
 use Rattle.rib_player.specs.Store.{Stores, store_at, routes_in, peer_routes, routed_peers}
-use Rattle.rib_player.specs.Lookups.{is_peer_above, peers_above, routed_stores, peer_count}
+use Rattle.rib_player.specs.Lookups.{pointed_routes, is_peer_above, peers_above, routed_stores, peer_count}
 use Rattle.rib_player.specs.Holding.{value_of}
 use Rattle.rib_player.proofs.StoreLaws.{same_peer, same_network, one_peer, peer_symm, tied_parts, get-found}
 
@@ -141,6 +142,23 @@ module _ {S : Type 0} (routes : S → stored.Routes (Rc Route Global)) (stores :
 
   pub none-above : (low : Option Network) → None ≡ store_at stores peer → routes_in routes stores ≡ all → None ≡ slice_get (above low (finite.entries (peer_routes all peer))) 0
   none-above low found e = sym (ap (λ s. slice_get (above low s) 0) (entries-no_routes found e))
+
+  -- the same of more
+  pub front-above : (low : Option Network) (store : S) (room : ℕ) (found : List (Network × Bor (Rc Route Global))) → Some store ≡ store_at stores peer → routes_in routes stores ≡ all
+      → pointed found ≡ take room (above low (finite.entries (routes store)))
+      → pointed_routes found ≡ take room (above low (finite.entries (peer_routes all peer)))
+  front-above low store room found here e is =
+      at found
+      ∙ ap valued is
+      ∙ sym (take-map (λ (f : Network × Rc Route Global). (f.0, f.1.value)) room (above low (finite.entries (routes store))))
+      ∙ ap (take room) (sym (above-valued low (finite.entries (routes store))) ∙ ap (above low) (sym (entries-peer_routes store here e)))
+    where
+      at : (found : List (Network × Bor (Rc Route Global))) → pointed_routes found ≡ valued (pointed found)
+      at [] = refl
+      at (f ∷ found) = ap (λ fs. (f.0, f.1.now.value) ∷ fs) (at found)
+
+  pub no_front-above : (low : Option Network) (room : ℕ) → None ≡ store_at stores peer → routes_in routes stores ≡ all → [] ≡ take room (above low (finite.entries (peer_routes all peer)))
+  no_front-above low room found e = sym (ap (λ s. take room (above low s)) (entries-no_routes found e) ∙ take-nil room)
 
   pub len-peer_routes : (store : S) → Some store ≡ store_at stores peer → routes_in routes stores ≡ all → finite.len (peer_routes all peer) ≡ finite.len (routes store)
   len-peer_routes store found e =

@@ -1,6 +1,7 @@
 -- Private.
 -- What is asked of a table: the best route, and the peers that have one.
-use Rattle.std.specs.Prelude.{ℕ, nat_lt, Bool, true, List, Option, Some, None}
+use Rattle.std.specs.Prelude.{ℕ, nat_lt, Bool, true, List, map, Option, Some, None}
+use Rattle.std.specs.Borrow.{Bor}
 use Rattle.std.specs.List.{filter}
 use Rattle.std.specs.Ordering.{is_lt}
 use Rattle.std.specs.declared.rc.Rc.{Rc}
@@ -20,6 +21,10 @@ use Rattle.rib_player.specs.Store.{Stores}
 -- of the prefixes that the peer has a route to and that contain the address the longest, and its route
 abbrev pub IsBest : Routes → Peer → Address → Option (Network × Route) → Type 0
 IsBest routes peer = lookups.IsLongestOf (λ n. finite.get routes (pair_of peer n))
+
+-- prefixes, each with the route that is pointed to
+abbrev pub pointed_routes : List (Network × Bor (Rc Route Global)) → List (Network × Route)
+pointed_routes found = map (λ f. (f.0, f.1.now.value)) found
 
 -- whether a peer is above the other, where there is one
 abbrev pub is_peer_above : Option Peer → Peer → Bool

@@ -1,6 +1,6 @@
 //! The routes of all peers.
 
-ghost use Rattle.std.specs.Prelude.{◌≡◌, ◌<◌, ◌&&◌, Some, true, false, not, is_some, slice_get, Option, None, if◌then◌else◌, map, IfSome, IfNone, IfOk, OnOk, OnErr};
+ghost use Rattle.std.specs.Prelude.{◌≡◌, ◌<◌, ◌&&◌, Some, true, false, not, is_some, slice_get, Option, None, if◌then◌else◌, map, IfSome, IfNone, IfOk, OnOk, OnErr, take, vec_capacity};
 ghost use Rattle.std.specs.List.{list_any};
 ghost use Rattle.std.specs.Option.{option_map, option_copied};
 ghost use Rattle.std.specs.Ordering.{eq_by_cmp};
@@ -14,7 +14,7 @@ ghost use Rattle.rib_player.specs.History.{pair_cmp, pair_of};
 ghost use Rattle.rib_store.specs.Stored.{put, counted};
 ghost use Rattle.rib_store.specs.Lookups.{above};
 ghost use Rattle.rib_player.specs.Store.{route_in, store_at, keys_in, routes_in, peer_routes, routed_peers};
-ghost use Rattle.rib_player.specs.Lookups.{IsBest, peers_above, routed_stores, peer_count};
+ghost use Rattle.rib_player.specs.Lookups.{IsBest, pointed_routes, peers_above, routed_stores, peer_count};
 ghost use Rattle.rib_player.specs.Holding.{value_of, IsLeft};
 
 use crate::pair::Pair;
@@ -178,6 +178,26 @@ impl<S: PrefixStore<Rc<Route>>> Table<S> {
     {
         let routes = self.stores.get(peer)?;
         routes.after(prefix)
+    }
+
+    /// The next prefixes above the given one, or of all, that the peer has a route to, in order, and
+    /// their routes: as many as the list has room for, or all that are left. What stood in the list
+    /// is dropped.
+    pub fn next_routes<'a>(
+        &'a self,
+        peer: &Peer,
+        prefix: Option<&Prefix>,
+        found: &mut Vec<(Prefix, &'a Rc<Route>)>,
+    )
+        ensures found { pointed_routes found.new.items ≡ take (vec_capacity found.old)
+            (above (option_copied prefix.entry)
+            (finite.entries (peer_routes self.now.routes peer.now))) }
+        ensures room { vec_capacity found.new ≡ vec_capacity found.old }
+    {
+        match self.stores.get(peer) {
+            Some(store) => store.next_routes(prefix, found),
+            None => found.clear(),
+        }
     }
 
     /// The least peer above the given one, or of all, that has a route, and how many it has;

@@ -121,11 +121,11 @@ slot_at-slots_of {R} (Rooted prefix slot l r) shaped q =
 
 -- ---- on which side the keys lie
 
-AllKeys-own : {R : Type 0} (P : Network → Type 0) (prefix : Network) (slot : Option (Option R)) (below : Slots R) → P prefix → AllByRecursion P (keys_of below) → AllByRecursion P (keys_of (own prefix slot below))
+pub AllKeys-own : {R : Type 0} (P : Network → Type 0) (prefix : Network) (slot : Option (Option R)) (below : Slots R) → P prefix → AllByRecursion P (keys_of below) → AllByRecursion P (keys_of (own prefix slot below))
 AllKeys-own P prefix None below here all = all
 AllKeys-own P prefix (Some slot) below here all = (here, all)
 
-AllKeys-append : {R : Type 0} (P : Network → Type 0) (xs ys : Slots R) → AllByRecursion P (keys_of xs) → AllByRecursion P (keys_of ys) → AllByRecursion P (keys_of (xs ++ ys))
+pub AllKeys-append : {R : Type 0} (P : Network → Type 0) (xs ys : Slots R) → AllByRecursion P (keys_of xs) → AllByRecursion P (keys_of ys) → AllByRecursion P (keys_of (xs ++ ys))
 AllKeys-append P xs ys all more = subst (AllByRecursion P) (sym (keys_of-append xs ys)) (AllByRecursion-append P (keys_of xs) (keys_of ys) all more)
 
 -- what holds of all that lies on a side holds of the keys of a tree there
@@ -187,14 +187,14 @@ abbrev pub next : {R : Type 0} → Network → Slots R → Option (Network × R)
 next low slots = slice_get (above (Some low) (routed slots)) 0
 
 -- all keys are above
-next-all : {R : Type 0} (low : Network) (slots : Slots R) → AllByRecursion (λ n. is_above (Some low) n ≡ true) (keys_of slots) → above (Some low) (routed slots) ≡ routed slots
+pub next-all : {R : Type 0} (low : Network) (slots : Slots R) → AllByRecursion (λ n. is_above (Some low) n ≡ true) (keys_of slots) → above (Some low) (routed slots) ≡ routed slots
 unfolding routed
 next-all low [] all = refl
 next-all low ((prefix, None) ∷ slots) all = next-all low slots all.1
 next-all low ((prefix, Some route) ∷ slots) all = (λ i. cond (all.0 i) ((prefix, route) ∷ above (Some low) (routed slots)) (above (Some low) (routed slots))) ∙ ap (λ l. (prefix, route) ∷ l) (next-all low slots all.1)
 
 -- none is
-next-none : {R : Type 0} (low : Network) (slots : Slots R) → AllByRecursion (λ n. is_above (Some low) n ≡ false) (keys_of slots) → above (Some low) (routed slots) ≡ []
+pub next-none : {R : Type 0} (low : Network) (slots : Slots R) → AllByRecursion (λ n. is_above (Some low) n ≡ false) (keys_of slots) → above (Some low) (routed slots) ≡ []
 unfolding routed
 next-none low [] all = refl
 next-none low ((prefix, None) ∷ slots) all = next-none low slots all.1
@@ -214,7 +214,7 @@ next-own low prefix (Some None) below e = refl
 next-own low prefix (Some (Some route)) below e = λ i. slice_get (cond (e i) ((prefix, route) ∷ above (Some low) (routed below)) (above (Some low) (routed below))) 0
 
 -- whether a prefix is above, by the ways
-above-ways : (low n : Network) → is_above (Some low) n ≡ below (way low) (way n)
+pub above-ways : (low n : Network) → is_above (Some low) n ≡ below (way low) (way n)
 above-ways low n = ap is_lt (cmp-ways low n)
 
 no_turn : (s : Bool) → Outside ≡ side s → ⊥
@@ -222,7 +222,7 @@ no_turn true e = cc
 no_turn false e = cc
 
 -- a way that a node has below it isn't outside
-not_out : (b x : List Bool) (s : Bool) → turn_of b x ≡ side s → turn_of b x ≡ Outside → ⊥
+pub not_out : (b x : List Bool) (s : Bool) → turn_of b x ≡ side s → turn_of b x ≡ Outside → ⊥
 not_out b x s e h = no_turn s (sym h ∙ e)
 
 -- all keys of a tree on a side are above, where all that lies there is

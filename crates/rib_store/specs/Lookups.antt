@@ -1,6 +1,7 @@
 -- Private.
 -- What look-ups and walks of a store answer.
-use Rattle.std.specs.Prelude.{◌≡◌, ◌≤◌, true, Bool, List, Option, Some, None, length, is_some}
+use Rattle.std.specs.Prelude.{◌≡◌, ◌≤◌, true, Bool, List, map, Option, Some, None, length, is_some}
+use Rattle.std.specs.Borrow.{Bor}
 use Rattle.std.specs.FinMap.{get}
 use Rattle.std.specs.List.{filter}
 use Rattle.std.specs.Ordering.{is_lt}
@@ -29,3 +30,7 @@ is_above (Some low) n = is_lt (network_cmp low n)
 -- the routes above a prefix, in order
 abbrev pub above : {R : Type 0} → Option Network → List (Network × R) → List (Network × R)
 above low routes = filter (λ route. is_above low route.0) routes
+
+-- prefixes, each with the route that is pointed to
+abbrev pub pointed : {R : Type 0} → List (Network × Bor R) → List (Network × R)
+pointed found = map (λ p. (p.0, p.1.now)) found

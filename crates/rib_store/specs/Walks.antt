@@ -1,6 +1,7 @@
 -- Private.
 -- What walks down a tree find, and how many nodes they meet.
-use Rattle.std.specs.Prelude.{ℕ, ◌+◌, Option, Some, None, cond, List, Bool}
+use Rattle.std.specs.Prelude.{ℕ, ◌+◌, ◌-◌, Option, Some, None, cond, List, [], ◌++◌, take, length, Bool}
+use Rattle.std.specs.Option.{option_to_list}
 use Rattle.std.specs.Ordering.{is_lt}
 use Rattle.ip_prefix.specs.Network.{Network}
 use Rattle.ip_prefix.specs.Order.{network_cmp}
@@ -50,6 +51,27 @@ behind (Rooted prefix slot left right) low =
     (either_of (first left) (first right))
     (either_of (behind left low) (first right))
     (behind right low)
+
+-- all routes from the left to the right, a node's before those below it
+abbrev pub all_routes : {R : Type 0} → Shape R → List (Network × R)
+all_routes Empty = []
+all_routes (Rooted prefix slot left right) =
+    option_to_list (routed_at prefix (slot_of slot)) ++ (all_routes left ++ all_routes right)
+
+-- all routes behind a prefix
+abbrev pub all_behind : {R : Type 0} → Shape R → Network → List (Network × R)
+all_behind Empty low = []
+all_behind (Rooted prefix slot left right) low =
+    chosen (turn_of (way prefix) (way low))
+    (cond (is_lt (network_cmp low prefix))
+    (option_to_list (routed_at prefix (slot_of slot)) ++ (all_routes left ++ all_routes right)) [])
+    (all_routes left ++ all_routes right)
+    (all_behind left low ++ all_routes right)
+    (all_behind right low)
+
+-- a list once another was appended to it, as far as there is room in all
+abbrev pub filled : {A : Type 0} → ℕ → List A → List A → List A
+filled room old new = old ++ take (room - length old) new
 
 -- how many nodes there are
 abbrev pub node_count : {R : Type 0} → Shape R → ℕ

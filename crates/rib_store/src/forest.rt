@@ -1,16 +1,16 @@
 //! A radix tree for each family.
 
 ghost use Rattle.std.specs.Prelude.{◌≡◌, ◌+◌, ◌*◌, ◌≤◌, Some, None, [], true, not, length, is_some};
-ghost use Rattle.std.specs.Prelude.{slice_get, OnOk, OnErr, IfOk};
+ghost use Rattle.std.specs.Prelude.{slice_get, OnOk, OnErr, IfOk, vec_capacity};
 ghost use Rattle.std.specs.Option.{option_map, option_copied};
 ghost use Rattle.ip_prefix.specs.Address.{bit_count};
 ghost use Rattle.std.specs.FinSet as set;
 ghost use Rattle.rib_store.specs.Stored.{Keys, counted};
-ghost use Rattle.rib_store.specs.Lookups.{above, IsLongest};
+ghost use Rattle.rib_store.specs.Lookups.{above, pointed, IsLongest};
 ghost use Rattle.rib_store.specs.Slots.{keys_in, routed, routes_in, route_found, slot_at};
 ghost use Rattle.ip_prefix.specs.Turns.{way};
 ghost use Rattle.rib_store.specs.Tree.{at, kept};
-ghost use Rattle.rib_store.specs.Walks.{deepest, visits};
+ghost use Rattle.rib_store.specs.Walks.{deepest, visits, filled};
 ghost use Rattle.rib_store.specs.Nodes.{AreNodes, AreNodesTo, IsOrOneMore};
 ghost use Rattle.rib_store.specs.Forest.{slots_in, tree_of, IsPlanted, ChangesAt};
 
@@ -200,6 +200,36 @@ impl<R> Forest<R> {
                 None => self.v6.first(),
             },
             Family::V6 => self.v6.after(low),
+        }
+    }
+
+    /// Appends the prefixes with a route, in order, and their routes, as far as there is room.
+    pub(crate) fn add_all<'a>(&'a self, found: &mut Vec<(Prefix, &'a R)>)
+        requires { IsPlanted self.now }
+        ensures found { pointed found.new.items ≡
+            filled (vec_capacity found.old) (pointed found.old.items)
+            (routed (slots_in self.now)) }
+        ensures room { vec_capacity found.new ≡ vec_capacity found.old }
+    {
+        self.v4.add_all(found);
+        self.v6.add_all(found);
+    }
+
+    /// Appends the prefixes with a route above the other, in order, and their routes, as far as there
+    /// is room.
+    pub(crate) fn add_above<'a>(&'a self, low: &Prefix, found: &mut Vec<(Prefix, &'a R)>)
+        requires { IsPlanted self.now }
+        ensures found { pointed found.new.items ≡
+            filled (vec_capacity found.old) (pointed found.old.items)
+            (above (Some low.now) (routed (slots_in self.now))) }
+        ensures room { vec_capacity found.new ≡ vec_capacity found.old }
+    {
+        match low.family() {
+            Family::V4 => {
+                self.v4.add_above(low, found);
+                self.v6.add_all(found);
+            }
+            Family::V6 => self.v6.add_above(low, found),
         }
     }
 

@@ -60,6 +60,10 @@ impl<R, S: PrefixStore<R>> PrefixStore<R> for LeftStore<S> {
         self.store.after(prefix)
     }
 
+    fn next_routes<'a>(&'a self, prefix: Option<&Prefix>, found: &mut Vec<(Prefix, &'a R)>) {
+        self.store.next_routes(prefix, found);
+    }
+
     fn key_count(&self) -> u64 {
         self.store.key_count()
     }

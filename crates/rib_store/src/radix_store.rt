@@ -20,8 +20,8 @@ use std::marker::Model;
 
 /// A store that is a path-compressed radix tree for each family, with counts of the keys and the
 /// routes beside them. Each look-up goes down one way, past at most 33 nodes for IPv4 and 129 for
-/// IPv6; `after` goes down it and then down to the next route, and passes by keys without one; the
-/// counts take no look-up.
+/// IPv6; `after` goes down it and then down to the next route, and passes by keys without one, and
+/// `next_routes` goes on from there to as many as there is room for; the counts take no look-up.
 #[derive(Drop)]
 pub struct RadixStore<R> {
     alloc: Global,
@@ -124,6 +124,14 @@ impl<R: Drop> PrefixStore<R> for RadixStore<R> {
         match prefix {
             Some(low) => self.forest.after(low),
             None => self.forest.first(),
+        }
+    }
+
+    fn next_routes<'a>(&'a self, prefix: Option<&Prefix>, found: &mut Vec<(Prefix, &'a R)>) {
+        found.clear();
+        match prefix {
+            Some(low) => self.forest.add_above(low, found),
+            None => self.forest.add_all(found),
         }
     }
 

@@ -1,9 +1,10 @@
 //! A path-compressed radix tree of the prefixes of one family.
 
-ghost use Rattle.std.specs.Prelude.{◌≡◌, true, Some, None, is_some, MatchOption};
-ghost use Rattle.std.specs.Option.{option_copied, option_map};
+ghost use Rattle.std.specs.Prelude.{◌≡◌, true, Some, None, is_some, MatchOption, [], ◌∷◌, vec_capacity};
+ghost use Rattle.std.specs.Option.{option_copied, option_map, option_to_list};
+ghost use Rattle.rib_store.specs.Lookups.{pointed};
 ghost use Rattle.rib_store.specs.Tree.{slot_of};
-ghost use Rattle.rib_store.specs.Walks.{routed_at};
+ghost use Rattle.rib_store.specs.Walks.{routed_at, filled};
 ghost use Rattle.rib_store.specs.Shape.{is_routed, is_filled, any_routed};
 
 mod changes;
@@ -124,5 +125,27 @@ impl<R> Slot<R> {
             Slot::Filled(route) => Some((prefix, route)),
             _ => None,
         }
+    }
+    /// Appends the prefix and its route, where it has one, as far as there is room.
+    fn add_routed<'a>(&'a self, prefix: Prefix, found: &mut Vec<(Prefix, &'a R)>)
+        ensures found { pointed found.new.items ≡ filled (vec_capacity found.old)
+            (pointed found.old.items) (option_to_list (routed_at prefix (slot_of self.now))) }
+        ensures room { vec_capacity found.new ≡ vec_capacity found.old }
+    {
+        match self {
+            Slot::Filled(route) => add_route(prefix, route, found),
+            _ => {}
+        }
+    }
+}
+
+/// Appends the prefix and its route, where there is room.
+fn add_route<'a, R>(prefix: Prefix, route: &'a R, found: &mut Vec<(Prefix, &'a R)>)
+    ensures found { pointed found.new.items ≡ filled (vec_capacity found.old)
+        (pointed found.old.items) ((prefix, route.now) ∷ []) }
+    ensures room { vec_capacity found.new ≡ vec_capacity found.old }
+{
+    if found.len() < found.capacity() {
+        found.push_reserved((prefix, route));
     }
 }

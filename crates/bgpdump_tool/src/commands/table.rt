@@ -1,17 +1,22 @@
 //! The routes of a peer.
 
-ghost use Rattle.std.specs.Prelude.{◌≡◌, ◌++◌, ◌||◌, OnOk};
-ghost use Rattle.bgpdump_tool.specs.Replies.{routes_line, table_text};
+ghost use Rattle.std.specs.Prelude.{◌≡◌, ◌<◌, ◌++◌, ◌||◌, OnOk, vec_capacity};
+ghost use Rattle.std.specs.List.{flat_map};
+ghost use Rattle.rib_player.specs.Lookups.{pointed_routes};
+ghost use Rattle.bgpdump_tool.specs.Replies.{rib_line, routes_line, table_text};
 ghost use Rattle.bgpdump_lines.specs.Writing.{Puts, PutsPart, is_write};
 
 use crate::replies::write_rib_line;
 use bgpdump_lines::{Output, WriteFault, put_all};
-use ip_prefix::Text;
+use ip_prefix::{Prefix, Text};
 use mrt_wire::{Peer, Route};
 use rib_player::Table;
 use rib_store::PrefixStore;
-use std::alloc::AllocError;
+use std::alloc::{AllocError, Global};
 use std::rc::Rc;
+
+/// How many routes are asked for at once, where there is memory for them.
+const MANY: usize = 64;
 
 /// Appends how many routes there are.
 fn put_routes_line(routes: u64, text: &mut Text) -> Result<(), AllocError>
@@ -34,9 +39,26 @@ fn write_routes_line<O: Output>(routes: u64, out: &mut O, text: &mut Text) -> Re
     Ok(())
 }
 
-/// Writes all routes of the peer, each on a line, as they come, and then how many they are. The
-/// text is scratch.
-pub(crate) fn table<S: PrefixStore<Rc<Route>>, O: Output>(
+/// Writes these routes of the peer, each on a line. The text is scratch.
+fn write_found<O: Output>(
+    peer: &Peer,
+    found: &[(Prefix, &Rc<Route>)],
+    out: &mut O,
+    text: &mut Text,
+) -> Result<(), WriteFault>
+    ensures text { PutsPart (O.written out.old) (O.written out.new)
+        (flat_map (rib_line peer.now) (pointed_routes found.now)) result }
+    ensures failed { O.failed out.new ≡ (O.failed out.old || is_write result) }
+{
+    'routes: for entry in found {
+        write_rib_line(peer, &entry.0, entry.1, out, text)?;
+    }
+    Ok(())
+}
+
+/// Writes all routes of the peer, each on a line, as they come, and then how many they are: one by
+/// one, without room for more. The text is scratch.
+fn one_by_one<S: PrefixStore<Rc<Route>>, O: Output>(
     table: &Table<S>,
     peer: &Peer,
     out: &mut O,
@@ -46,12 +68,60 @@ pub(crate) fn table<S: PrefixStore<Rc<Route>>, O: Output>(
         (table_text table.now.routes peer.now) result }
     ensures failed { O.failed out.new ≡ (O.failed out.old || is_write result) }
 {
+    let mut low = None;
+    let mut written: u64 = 0;
+    'routes: while let Some(found) = table.after(peer, low.as_ref()) {
+        write_rib_line(peer, &found.0, found.1, out, text)?;
+        written = written.saturating_add(1);
+        low = Some(found.0);
+    }
+    write_routes_line(written, out, text)
+}
+
+/// Writes all routes of the peer, each on a line, as they come, and then how many they are: many at
+/// a time, as there is room for. The text is scratch.
+fn many_at_once<'a, S: PrefixStore<Rc<Route>>, O: Output>(
+    table: &'a Table<S>,
+    peer: &Peer,
+    room: Vec<(Prefix, &'a Rc<Route>)>,
+    out: &mut O,
+    text: &mut Text,
+) -> Result<(), WriteFault>
+    requires { 0 < vec_capacity room }
+    ensures text { PutsPart (O.written out.old) (O.written out.new)
+        (table_text table.now.routes peer.now) result }
+    ensures failed { O.failed out.new ≡ (O.failed out.old || is_write result) }
+{
+    let mut found = room;
     let mut last = None;
     let mut count: u64 = 0;
-    'routes: while let Some(found) = table.after(peer, last.as_ref()) {
-        write_rib_line(peer, &found.0, found.1, out, text)?;
-        count = count.saturating_add(1);
-        last = Some(found.0);
+    'routes: loop {
+        table.next_routes(peer, last.as_ref(), &mut found);
+        let Some(end) = found.last() else {
+            break;
+        };
+        last = Some(end.0);
+        write_found(peer, &found, out, text)?;
+        count = count.saturating_add(found.len() as u64);
     }
     write_routes_line(count, out, text)
+}
+
+/// Writes all routes of the peer, each on a line, as they come, and then how many they are. The
+/// text is scratch.
+pub(crate) fn table<S: PrefixStore<Rc<Route>>, O: Output>(
+    table: &Table<S>,
+    alloc: Global,
+    peer: &Peer,
+    out: &mut O,
+    text: &mut Text,
+) -> Result<(), WriteFault>
+    ensures text { PutsPart (O.written out.old) (O.written out.new)
+        (table_text table.now.routes peer.now) result }
+    ensures failed { O.failed out.new ≡ (O.failed out.old || is_write result) }
+{
+    match Vec::with_capacity(alloc, MANY) {
+        Ok(room) => many_at_once(table, peer, room, out, text),
+        Err(_) => one_by_one(table, peer, out, text),
+    }
 }

@@ -1,16 +1,17 @@
 //! What a tree has at a prefix, around it, and in all.
 
-ghost use Rattle.std.specs.Prelude.{◌≡◌, ◌+◌, ◌≤◌, Some, None, MatchOption, length};
+ghost use Rattle.std.specs.Prelude.{◌≡◌, ◌+◌, ◌≤◌, Some, None, MatchOption, length, vec_capacity};
 ghost use Rattle.std.specs.Option.{option_map, option_copied};
 ghost use Rattle.ip_prefix.specs.Turns.{way};
 ghost use Rattle.rib_store.specs.Shape.{shape_of, IsMarked};
 ghost use Rattle.rib_store.specs.Stored.{counted};
 ghost use Rattle.rib_store.specs.Slots.{routed};
+ghost use Rattle.rib_store.specs.Lookups.{pointed};
 ghost use Rattle.rib_store.specs.Tree.{at, slots_of};
-ghost use Rattle.rib_store.specs.Walks.{deepest, visits, first, behind, node_count};
+ghost use Rattle.rib_store.specs.Walks.{deepest, visits, first, behind, all_routes, all_behind, filled, node_count};
 
 use crate::packed::Packed;
-use crate::tree::{Slot, Tree};
+use crate::tree::{Slot, Tree, add_route};
 use ip_prefix::{Prefix, Turn};
 
 impl<K: Packed, R> Tree<K, R> {
@@ -138,6 +139,75 @@ impl<K: Packed, R> Tree<K, R> {
                         None => node.right.first(),
                     },
                     Turn::Right => node.right.after(low),
+                }
+            }
+        }
+    }
+
+    /// Appends the prefixes with a route, in order, and their routes, as far as there is room. It
+    /// passes by nodes without a route below them.
+    pub(crate) fn add_all<'a>(&'a self, found: &mut Vec<(Prefix, &'a R)>)
+        requires { IsMarked self.now }
+        ensures found { pointed found.new.items ≡
+            filled (vec_capacity found.old) (pointed found.old.items)
+            (all_routes (shape_of K.network self.now)) }
+        ensures room { vec_capacity found.new ≡ vec_capacity found.old }
+    {
+        match self {
+            Tree::Empty => {}
+            Tree::Bare(_) => {}
+            Tree::Leaf(prefix, route) => add_route(prefix.wide(), route, found),
+            Tree::Rooted(any, prefix, node) => {
+                if !*any {
+                    return;
+                }
+                if found.len() == found.capacity() {
+                    return;
+                }
+                node.slot.add_routed(prefix.wide(), found);
+                node.left.add_all(found);
+                node.right.add_all(found);
+            }
+        }
+    }
+
+    /// Appends the prefixes with a route above the other, in order, and their routes, as far as there
+    /// is room.
+    pub(crate) fn add_above<'a>(&'a self, low: &Prefix, found: &mut Vec<(Prefix, &'a R)>)
+        requires { IsMarked self.now }
+        ensures found { pointed found.new.items ≡
+            filled (vec_capacity found.old) (pointed found.old.items)
+            (all_behind (shape_of K.network self.now) low.now) }
+        ensures room { vec_capacity found.new ≡ vec_capacity found.old }
+    {
+        match self {
+            Tree::Empty => {}
+            Tree::Bare(_) => {}
+            Tree::Leaf(prefix, route) => match prefix.turn(low) {
+                Turn::Outside => {
+                    let wide = prefix.wide();
+                    if *low < wide {
+                        add_route(wide, route, found);
+                    }
+                }
+                _ => {}
+            },
+            Tree::Rooted(_, prefix, node) => {
+                match prefix.turn(low) {
+                    Turn::Outside => {
+                        if *low < prefix.wide() {
+                            self.add_all(found);
+                        }
+                    }
+                    Turn::Here => {
+                        node.left.add_all(found);
+                        node.right.add_all(found);
+                    }
+                    Turn::Left => {
+                        node.left.add_above(low, found);
+                        node.right.add_all(found);
+                    }
+                    Turn::Right => node.right.add_above(low, found),
                 }
             }
         }

@@ -1,7 +1,9 @@
 //! Walks from the least route to the greatest.
 
 use super::{add, add_rows, after, assert_counts, assert_had, found_of, prefix_of};
-use rib_store::{MapStore, PrefixStore, RadixStore};
+use ip_prefix::Prefix;
+use rib_store::{LeftStore, MapStore, PrefixStore, RadixStore};
+use std::alloc::Global;
 use std::process::Abort;
 use std::test::Fail;
 
@@ -154,4 +156,91 @@ fn map_store_walks_past_withdrawn_keys(rt: HostRuntime) -> Result<(), Fail> {
 #[test]
 fn radix_store_walks_past_withdrawn_keys(rt: HostRuntime) -> Result<(), Fail> {
     walks_past_withdrawn_keys(&rt, &mut RadixStore::new(rt.alloc()))
+}
+
+/// How many routes are asked for at once: one, a few, and more than there are.
+const ROOMS: &[usize] = &[1, 3, 64];
+
+/// More keys of both families, beside and below the others.
+const BESIDE: &[(&str, Option<u32>)] = &[
+    ("10.0.0.0/16", Some(7)),
+    ("10.0.0.0/24", Some(8)),
+    ("10.0.1.0/24", Some(9)),
+    ("10.160.0.0/11", Some(10)),
+    ("192.0.2.0/25", Some(11)),
+    ("192.0.2.128/25", None),
+    ("2001:db8:8000::/33", Some(12)),
+    ("2001:db8::/48", Some(13)),
+    ("2001:db9::/32", Some(14)),
+];
+
+/// Asserts that routes that were found are those that a walk from there comes to, as many as there is
+/// room for, and answers the last.
+fn assert_next<S: PrefixStore<u32>>(
+    rt: &impl Abort,
+    store: &S,
+    low: Option<&Prefix>,
+    room: usize,
+    found: &[(Prefix, &u32)],
+) -> Option<Prefix> {
+    let mut last = low.copied();
+    for entry in found {
+        assert!(rt; after(store, last.as_ref()) == Some((entry.0, *entry.1)));
+        last = Some(entry.0);
+    }
+    assert!(rt; found.len() == room || after(store, last.as_ref()).is_none());
+    last
+}
+
+/// Walks over all routes, some at a time, and asserts that they are those of a walk one by one.
+fn assert_walks_by_many<S: PrefixStore<u32>>(
+    rt: &impl Abort,
+    alloc: Global,
+    store: &S,
+    room: usize,
+) -> Result<(), Fail> {
+    let mut found = Vec::with_capacity(alloc, room)?;
+    let mut last = None;
+    for _ in 0..=store.route_count() {
+        store.next_routes(last.as_ref(), &mut found);
+        last = assert_next(rt, store, last.as_ref(), room, &found);
+    }
+    assert!(rt; found.is_empty());
+    assert!(rt; after(store, last.as_ref()).is_none());
+    Ok(())
+}
+
+fn walks_by_many<S: PrefixStore<u32>>(
+    rt: &impl Abort,
+    alloc: Global,
+    store: &mut S,
+) -> Result<(), Fail> {
+    add_rows(rt, store, IN_ORDER)?;
+    add_rows(rt, store, BESIDE)?;
+    for &room in ROOMS {
+        assert_walks_by_many(rt, alloc, store, room)?;
+        for &(text, _) in STARTS {
+            let mut found = Vec::with_capacity(alloc, room)?;
+            let low = prefix_of(text)?;
+            store.next_routes(Some(&low), &mut found);
+            assert_next(rt, store, Some(&low), room, &found);
+        }
+    }
+    Ok(())
+}
+
+#[test]
+fn map_store_walks_by_many(rt: HostRuntime) -> Result<(), Fail> {
+    walks_by_many(&rt, rt.alloc(), &mut MapStore::new(rt.alloc()))
+}
+
+#[test]
+fn radix_store_walks_by_many(rt: HostRuntime) -> Result<(), Fail> {
+    walks_by_many(&rt, rt.alloc(), &mut RadixStore::new(rt.alloc()))
+}
+
+#[test]
+fn left_store_walks_by_many(rt: HostRuntime) -> Result<(), Fail> {
+    let mut store = LeftStore::<RadixStore<u32>>::new(rt.alloc());
+    walks_by_many(&rt, rt.alloc(), &mut store)
 }

@@ -15,9 +15,9 @@ use Rattle.bgpdump_tool.specs.Replies.{rib_line, routes_line}
 use Rattle.bgpdump_lines.specs.Writing.{Puts}
 use Rattle.bgpdump_lines.proofs.WritingLaws.{AppendsFront-longer}
 use Rattle.bgpdump_tool.proofs.WalkLaws.{Walked-start, Walked-next, Walked-end, Walked-stops, PutsPart-behind}
-use Rattle.bgpdump_tool.proofs.commands.table.table.Given.{Over}
-use Rattle.bgpdump_tool.proofs.commands.table.table.Goals as goal
-use Rattle.bgpdump_tool.proofs.commands.table.table.Goals.{In-Some, In_default}
+use Rattle.bgpdump_tool.proofs.commands.table.one_by_one.Given.{Over}
+use Rattle.bgpdump_tool.proofs.commands.table.one_by_one.Goals as goal
+use Rattle.bgpdump_tool.proofs.commands.table.one_by_one.Goals.{In-Some, In_default}
 
 pub routes-init : goal.routes-init
 routes-init g c =
@@ -29,10 +29,10 @@ routes-init g c =
     }
 
 next : (g : Over) (c : In-Some g) → let entries = finite.entries (peer_routes c.args.table.now.routes c.args.peer.now) in
-    above c.routes.last entries ≡ (c.in-Some.found.0, c.in-Some.found.1.now.value) ∷ above (Some c.in-Some.found.0) entries
+    above c.routes.low entries ≡ (c.in-Some.found.0, c.in-Some.found.1.now.value) ∷ above (Some c.in-Some.found.0) entries
 next g c =
     let routes = peer_routes c.args.table.now.routes c.args.peer.now in
-    above-next c.routes.last (finite.entries routes) (c.in-Some.found.0, c.in-Some.found.1.now.value) (routes_sorted routes)
+    above-next c.routes.low (finite.entries routes) (c.in-Some.found.0, c.in-Some.found.1.now.value) (routes_sorted routes)
     (ap (λ low. slice_get (above low (finite.entries routes)) 0) (sym c.as_ref.ensures.value) ∙ sym c.after.ensures ∙ ap (option_map {U = Network × Route} (λ f. (f.0, f.1.now.value))) c.in-Some.is)
 
 pub returns-in_err-write_rib_line-clause-text : goal.returns-in_err-write_rib_line-clause-text
@@ -57,12 +57,12 @@ routes-preserved g c =
     record {
       walked = Walked-next (rib_line c.args.peer.now) entries entry _ _ (g.O.Output.written c.args.out.now) (g.O.Output.written c.routes.out) (g.O.Output.written c.write_rib_line.new.out)
           (next g b) c.routes.invariant.walked c.in_ok-write_rib_line.ensures.text;
-      count = omega (arith, c.saturating_add-count.ensures, c.routes.invariant.count, length_push c.routes.invariant.walked.done entry);
+      count = omega (arith, c.saturating_add-written.ensures, c.routes.invariant.count, length_push c.routes.invariant.walked.done entry);
       failed = search rules;
     }
 
 -- no route is left
-over : (g : Over) (c : In_default g) → above c.routes.last (finite.entries (peer_routes c.args.table.now.routes c.args.peer.now)) ≡ []
+over : (g : Over) (c : In_default g) → above c.routes.low (finite.entries (peer_routes c.args.table.now.routes c.args.peer.now)) ≡ []
 over g c =
     let entries = finite.entries (peer_routes c.args.table.now.routes c.args.peer.now) in
     none-above _ (ap (λ low. slice_get (above low entries) 0) (sym c.as_ref.ensures.value) ∙ sym c.after.ensures ∙ ap (option_map {U = Network × Route} (λ f. (f.0, f.1.now.value))) c.in_default.is)
@@ -74,6 +74,6 @@ returns-clause-text g c =
     let mid = g.O.Output.written c.routes.out in
     let new = g.O.Output.written c.write_routes_line.new.out in
     let end = Walked-end (rib_line c.args.peer.now) entries _ (g.O.Output.written c.args.out.now) mid (over g (goal.at.returns-clause-text g c).In_default) c.routes.invariant.walked in
-    let count : c.routes.count ≡ counted (finite.len routes) = c.routes.invariant.count ∙ ap counted (ap length (sym end.0) ∙ sym (len-entries routes)) in
+    let count : c.routes.written ≡ counted (finite.len routes) = c.routes.invariant.count ∙ ap counted (ap length (sym end.0) ∙ sym (len-entries routes)) in
     PutsPart-behind (g.O.Output.written c.args.out.now) mid new (flat_map (rib_line c.args.peer.now) entries) (routes_line (counted (finite.len routes))) c.write_routes_line.result end.1
     (subst (λ n. Puts mid new (routes_line n) c.write_routes_line.result) count c.write_routes_line.ensures.text)

@@ -1,0 +1,195 @@
+-- Lists filled as far as there is room, and the routes that walks down a tree append to them.
+use Rattle.std.proofs.Common.{◌≡◌, ℕ, zero, suc, ◌≤◌, ◌-◌, Bool, true, false, cond, List, [], ◌∷◌, ◌++◌, take, length, Option, Some, None, refl, sym, ap, ap₂, ◌∙◌, arith, append_assoc, length-append}
+use Rattle.std.proofs.lemmas.List.{append-nil, length-take, take_all, length-map}
+use Rattle.std.proofs.Math.Seq.{take-append_seam}
+use Rattle.std.specs.Borrow.{Bor}
+use Rattle.std.specs.Option.{option_to_list}
+use Rattle.ip_prefix.specs.Network.{Network}
+use Rattle.rib_store.specs.Lookups.{is_above, above, pointed}
+use Rattle.ip_prefix.specs.declared.turn.Turn.{Turn}
+use Rattle.ip_prefix.specs.Order.{network_cmp}
+use Rattle.ip_prefix.specs.Turns.{way, turn_of}
+use Rattle.std.specs.Ordering.{is_lt}
+use Rattle.rib_store.specs.declared.tree.Slot.{Slot}
+use Rattle.rib_store.specs.declared.tree.Tree.{Tree}
+use Rattle.rib_store.specs.Shape.{shape_of, is_routed, IsMarked}
+use Rattle.rib_store.specs.Shape.{Shape}
+use Rattle.rib_store.specs.Shape.{Empty, Rooted}
+use Rattle.rib_store.specs.Tree.{chosen, own, slots_of, slot_of, IsOn, IsShaped}
+use Rattle.rib_store.specs.Slots.{Slots, routed}
+use Rattle.rib_store.specs.Walks.{routed_at, all_routes, all_behind, filled}
+use Rattle.rib_store.proofs.AboveLaws.{none-above}
+use Rattle.rib_store.proofs.MarkLaws.{unmarked_first}
+use Rattle.rib_store.proofs.WayLaws.{below, left_first, node_first, not_itself, as_node}
+use Rattle.rib_store.proofs.WalkLaws.{first-routed, routed-append, next-all, next-none, above-ways, not_out, all-on, AllKeys-own, AllKeys-append}
+use Rattle.rib_store.specs.declared.forest.Forest.{Forest}
+use Rattle.rib_store.specs.Forest.{v4_of, v6_of, slots_in, IsPlanted}
+use Rattle.rib_store.proofs.ForestLaws.{first_side}
+use Rattle.ip_prefix.proofs.Turns.{here_only}
+use Rattle.ip_prefix.specs.declared.turn.Turn.TheVariants.{Outside, Here, Left, Right}
+use Rattle.ip_prefix.specs.declared.addr.Family.TheVariants.{V4, V6}
+use Rattle.ip_prefix.specs.Turns.{side}
+use Rattle.std.specs.List.{AllByRecursion}
+use Rattle.std.specs.Map.{keys_of}
+use Rattle.std.proofs.lemmas.List.Elements.{filter-append}
+
+pub take-nil : {A : Type 0} (n : ℕ) → take {A = A} n [] ≡ []
+take-nil zero = refl
+take-nil (suc n) = refl
+
+take-append : {A : Type 0} (n : ℕ) (xs ys : List A) → take n (xs ++ ys) ≡ take n xs ++ take (n - length xs) ys
+take-append n [] ys =
+    let whole : n ≡ n - 0 = omega arith in
+    ap (λ k. take k ys) whole ∙ ap (λ s. s ++ take (n - 0) ys) (sym (take-nil n))
+take-append zero (x ∷ xs) ys =
+    let none : 0 ≡ 0 - length (x ∷ xs) = omega arith in
+    ap (λ k. take k ys) none
+take-append (suc n) (x ∷ xs) ys =
+    let left : n - length xs ≡ suc n - length (x ∷ xs) = omega arith in
+    ap (λ s. x ∷ s) (take-append n xs ys) ∙ ap (λ k. x ∷ (take n xs ++ take k ys)) left
+
+-- nothing to append
+pub filled-nil : {A : Type 0} (room : ℕ) (old : List A) → old ≡ filled room old []
+filled-nil room old = sym (append-nil old) ∙ ap (λ s. old ++ s) (sym (take-nil (room - length old)))
+
+-- no room
+pub filled-full : {A : Type 0} (room : ℕ) (old new : List A) → length old ≡ room → old ≡ filled room old new
+filled-full room old new e =
+    let none : room - length old ≡ 0 = omega arith in
+    sym (append-nil old) ∙ ap (λ n. old ++ take n new) (sym none)
+
+-- one list after the other
+pub filled-append : {A : Type 0} (room : ℕ) (old xs ys : List A) → filled room (filled room old xs) ys ≡ filled room old (xs ++ ys)
+filled-append room old xs ys =
+    append_assoc old (take (room - length old) xs) (take (room - length (filled room old xs)) ys)
+    ∙ ap (λ s. old ++ s) (ap (λ n. take (room - length old) xs ++ take n ys) left ∙ sym (take-append (room - length old) xs ys))
+  where
+    left : room - length (old ++ take (room - length old) xs) ≡ (room - length old) - length xs
+    left = omega (arith, length-append old (take (room - length old) xs), length-take (room - length old) xs)
+
+pub filled-then : {A : Type 0} (room later : ℕ) (old mid new xs ys : List A) → later ≡ room → mid ≡ filled room old xs → new ≡ filled later mid ys → new ≡ filled room old (xs ++ ys)
+filled-then room later old mid new xs ys same first then = then ∙ ap₂ (λ r m. filled r m ys) same first ∙ filled-append room old xs ys
+
+-- into an empty one
+pub filled-front : {A : Type 0} (room : ℕ) (new : List A) → filled room [] new ≡ take room new
+filled-front room new = ap (λ n. take n new) (omega arith)
+
+-- one more found
+pub pointed-more : {R : Type 0} (found : List (Network × Bor R)) (one : Network × Bor R) (rest : List (Network × R)) → pointed (found ++ one ∷ []) ++ rest ≡ pointed found ++ (one.0, one.1.now) ∷ rest
+pointed-more [] one rest = refl
+pointed-more (x ∷ found) one rest = ap (λ s. (x.0, x.1.now) ∷ s) (pointed-more found one rest)
+
+pub length-pointed : {R : Type 0} (found : List (Network × Bor R)) → length (pointed found) ≡ length found
+length-pointed found = length-map found (λ p. (p.0, p.1.now))
+
+-- a front is what is taken, where it is as long
+pub take-front : {A : Type 0} (n : ℕ) (xs ys all : List A) → xs ++ ys ≡ all → length xs ≡ n → xs ≡ take n all
+take-front n xs ys all e same = sym (take-append_seam xs ys) ∙ ap₂ (λ k s. take k s) same e
+
+-- and a whole list, where it isn't longer
+pub take-whole : {A : Type 0} (n : ℕ) (xs ys all : List A) → xs ++ ys ≡ all → ys ≡ [] → length xs ≤ n → xs ≡ take n all
+take-whole n xs ys all e none short =
+    sym (take_all n xs short) ∙ ap (take n) (sym (append-nil xs) ∙ ap (λ s. xs ++ s) (sym none) ∙ e)
+
+-- ---- all routes of a tree
+
+routed-own : {R : Type 0} (prefix : Network) (slot : Option (Option R)) (below : Slots R) → routed (own prefix slot below) ≡ option_to_list (routed_at prefix slot) ++ routed below
+unfolding routed
+routed-own prefix None below = refl
+routed-own prefix (Some None) below = refl
+routed-own prefix (Some (Some route)) below = refl
+
+pub all-routed : {R : Type 0} (t : Shape R) → all_routes t ≡ routed (slots_of t)
+unfolding routed
+all-routed Empty = refl
+all-routed (Rooted prefix slot l r) =
+    ap (λ s. option_to_list (routed_at prefix (slot_of slot)) ++ s) (ap₂ (λ x y. x ++ y) (all-routed l) (all-routed r) ∙ sym (routed-append (slots_of l) (slots_of r)))
+    ∙ sym (routed-own prefix (slot_of slot) (slots_of l ++ slots_of r))
+
+-- a tree whose root isn't marked has none
+pub unmarked-all : {K R : Type 0} (network : K → Network) (t : Tree K R) → IsMarked t → is_routed t ≡ false → all_routes (shape_of network t) ≡ []
+unmarked-all network t marked e =
+    all-routed (shape_of network t)
+    ∙ none-above (routed (slots_of (shape_of network t))) (sym (first-routed (shape_of network t)) ∙ unmarked_first network t marked e)
+
+-- those behind a prefix, by where it lies
+pub behind-turn : {R : Type 0} (prefix : Network) (slot : Slot R) (l r : Shape R) (low : Network) (t : Turn) → turn_of (way prefix) (way low) ≡ t
+    → all_behind (Rooted prefix slot l r) low ≡ chosen t (cond (is_lt (network_cmp low prefix)) (all_routes (Rooted prefix slot l r)) []) (all_routes l ++ all_routes r) (all_behind l low ++ all_routes r) (all_behind r low)
+behind-turn prefix slot l r low t e =
+    ap (λ k. chosen k (cond (is_lt (network_cmp low prefix)) (all_routes (Rooted prefix slot l r)) []) (all_routes l ++ all_routes r) (all_behind l low ++ all_routes r) (all_behind r low)) e
+
+above-append : {R : Type 0} (low : Network) (xs ys : Slots R) → above (Some low) (routed (xs ++ ys)) ≡ above (Some low) (routed xs) ++ above (Some low) (routed ys)
+above-append low xs ys =
+    ap (above (Some low)) (routed-append xs ys) ∙ filter-append (λ route. is_above (Some low) route.0) (routed xs) (routed ys)
+
+-- the node itself isn't above
+above-own : {R : Type 0} (low prefix : Network) (slot : Option (Option R)) (below : Slots R) → is_above (Some low) prefix ≡ false → above (Some low) (routed (own prefix slot below)) ≡ above (Some low) (routed below)
+unfolding routed
+above-own low prefix None below e = refl
+above-own low prefix (Some None) below e = refl
+above-own low prefix (Some (Some route)) below e = λ i. cond (e i) ((prefix, route) ∷ above (Some low) (routed below)) (above (Some low) (routed below))
+
+-- all routes of a tree on a side are above, where all that lies there is
+all-above : {R : Type 0} (low : Network) (from : List Bool) (bit : Bool) (t : Shape R) → IsShaped t → IsOn from bit t → ((n : Network) → turn_of from (way n) ≡ side bit → below (way low) (way n) ≡ true) → all_routes t ≡ above (Some low) (routed (slots_of t))
+all-above low from bit t shaped on holds =
+    all-routed t ∙ sym (next-all low (slots_of t) (all-on (λ n. is_above (Some low) n ≡ true) from bit (λ n h. above-ways low n ∙ holds n h) t shaped on))
+
+-- and none is, where none there is
+none-above-side : {R : Type 0} (low : Network) (from : List Bool) (bit : Bool) (t : Shape R) → IsShaped t → IsOn from bit t → ((n : Network) → turn_of from (way n) ≡ side bit → below (way low) (way n) ≡ false) → [] ≡ above (Some low) (routed (slots_of t))
+none-above-side low from bit t shaped on holds =
+    sym (next-none low (slots_of t) (all-on (λ n. is_above (Some low) n ≡ false) from bit (λ n h. above-ways low n ∙ holds n h) t shaped on))
+
+pub behind-above : {R : Type 0} (t : Shape R) → IsShaped t → (low : Network) → all_behind t low ≡ above (Some low) (routed (slots_of t))
+unfolding routed
+behind-above Empty shaped low = refl
+behind-above {R} (Rooted prefix slot l r) shaped low = turns (turn_of (way prefix) (way low)) refl (behind-above l shaped.2 low) (behind-above r shaped.3 low)
+  where
+    whole : Shape R
+    whole = Rooted prefix slot l r
+
+    all_keys : (P : Network → Type 0) → P prefix → ((s : Bool) (n : Network) → turn_of (way prefix) (way n) ≡ side s → P n) → AllByRecursion P (keys_of (slots_of whole))
+    all_keys P here holds =
+        AllKeys-own P prefix (slot_of slot) (slots_of l ++ slots_of r) here
+        (AllKeys-append P (slots_of l) (slots_of r) (all-on P (way prefix) false (holds false) l shaped.2 shaped.0.left) (all-on P (way prefix) true (holds true) r shaped.3 shaped.0.right))
+
+    outside : (b : Bool) → is_lt (network_cmp low prefix) ≡ b → turn_of (way prefix) (way low) ≡ Outside → cond b (all_routes whole) [] ≡ above (Some low) (routed (slots_of whole))
+    outside true e out =
+        all-routed whole ∙ sym (next-all low (slots_of whole) (all_keys (λ n. is_above (Some low) n ≡ true) e
+        (λ s n h. above-ways low n ∙ as_node (way prefix) (way low) (way n) out (not_out (way prefix) (way n) s h) ∙ sym (above-ways low prefix) ∙ e)))
+    outside false e out =
+        sym (next-none low (slots_of whole) (all_keys (λ n. is_above (Some low) n ≡ false) e
+        (λ s n h. above-ways low n ∙ as_node (way prefix) (way low) (way n) out (not_out (way prefix) (way n) s h) ∙ sym (above-ways low prefix) ∙ e)))
+
+    -- where the node isn't above, by what is on its sides
+    sides : (xs ys : List (Network × R)) → is_above (Some low) prefix ≡ false → xs ≡ above (Some low) (routed (slots_of l)) → ys ≡ above (Some low) (routed (slots_of r)) → xs ++ ys ≡ above (Some low) (routed (slots_of whole))
+    sides xs ys e f g = (λ i. f i ++ g i) ∙ sym (above-append low (slots_of l) (slots_of r)) ∙ sym (above-own low prefix (slot_of slot) (slots_of l ++ slots_of r) e)
+
+    turns : (k : Turn) → turn_of (way prefix) (way low) ≡ k → all_behind l low ≡ above (Some low) (routed (slots_of l)) → all_behind r low ≡ above (Some low) (routed (slots_of r))
+        → chosen k (cond (is_lt (network_cmp low prefix)) (all_routes whole) []) (all_routes l ++ all_routes r) (all_behind l low ++ all_routes r) (all_behind r low) ≡ above (Some low) (routed (slots_of whole))
+    turns Outside e f g = outside (is_lt (network_cmp low prefix)) refl e
+    turns Here e f g =
+        let same : way prefix ≡ way low = here_only (way prefix) (way low) e in
+        let under = λ (s : Bool) (n : Network) (h : turn_of (way prefix) (way n) ≡ side s). ap (λ x. below x (way n)) (sym same) ∙ (node_first (way prefix) (way n) s h).0 in
+        sides (all_routes l) (all_routes r) (above-ways low prefix ∙ ap (below (way low)) same ∙ not_itself (way low)) (all-above low (way prefix) false l shaped.2 shaped.0.left (under false)) (all-above low (way prefix) true r shaped.3 shaped.0.right (under true))
+    turns Left e f g =
+        sides (all_behind l low) (all_routes r) (above-ways low prefix ∙ (node_first (way prefix) (way low) false e).1) f (all-above low (way prefix) true r shaped.3 shaped.0.right (λ n h. (left_first (way prefix) (way low) (way n) e h).0))
+    turns Right e f g =
+        sides [] (all_behind r low) (above-ways low prefix ∙ (node_first (way prefix) (way low) true e).1)
+        (none-above-side low (way prefix) false l shaped.2 shaped.0.left (λ n h. (left_first (way prefix) (way n) (way low) h e).1)) g
+
+-- ---- those of both trees
+
+pub all-forest : {R : Type 0} (forest : Forest R) → all_routes (v4_of forest) ++ all_routes (v6_of forest) ≡ routed (slots_in forest)
+all-forest f = (λ i. all-routed (v4_of f) i ++ all-routed (v6_of f) i) ∙ sym (routed-append (slots_of (v4_of f)) (slots_of (v6_of f)))
+
+-- above a prefix of IPv4 stand all of IPv6
+pub above-v4 : {R : Type 0} (forest : Forest R) → IsPlanted forest → (low : Network) → low.family ≡ V4 → all_behind (v4_of forest) low ++ all_routes (v6_of forest) ≡ above (Some low) (routed (slots_in forest))
+above-v4 f planted low e =
+    (λ i. behind-above (v4_of f) planted.v4 low i ++ all-above low [] true (v6_of f) planted.v6 planted.sides.right (λ n h. (left_first [] (way low) (way n) (first_side low V4 e) h).0) i)
+    ∙ sym (above-append low (slots_of (v4_of f)) (slots_of (v6_of f)))
+
+-- and above one of IPv6 none of IPv4
+pub above-v6 : {R : Type 0} (forest : Forest R) → IsPlanted forest → (low : Network) → low.family ≡ V6 → all_behind (v6_of forest) low ≡ above (Some low) (routed (slots_in forest))
+above-v6 f planted low e =
+    (λ i. none-above-side low [] false (v4_of f) planted.v4 planted.sides.left (λ n h. (left_first [] (way n) (way low) h (first_side low V6 e)).1) i ++ behind-above (v6_of f) planted.v6 low i)
+    ∙ sym (above-append low (slots_of (v4_of f)) (slots_of (v6_of f)))

@@ -1,0 +1,31 @@
+use Rattle.std.proofs.Common.{◌++◌, vec_capacity, sym, ap, ◌∙◌}
+use Rattle.ip_prefix.specs.declared.turn.Turn.TheVariants.{Here, Left}
+use Rattle.rib_store.specs.Shape.{shape_of}
+use Rattle.rib_store.specs.Lookups.{pointed}
+use Rattle.rib_store.specs.Walks.{all_routes, all_behind, filled}
+use Rattle.rib_store.proofs.FillLaws.{filled-then, behind-turn}
+use Rattle.rib_store.proofs.tree.Tree.+add_above.Goals as goal
+
+pub returns-in-Here-clause-found : goal.returns-in-Here-clause-found
+returns-in-Here-clause-found g t c =
+    let net = g.K.Packed.network in
+    let n = c.in-Rooted.node.value in
+    let low = c.args.low.now in
+    let fill = filled (vec_capacity c.args.found.now) (pointed c.args.found.now.items) in
+    filled-then (vec_capacity c.args.found.now) (vec_capacity c.add_all-in-Here.new.found) (pointed c.args.found.now.items) (pointed c.add_all-in-Here.new.found.items) (pointed c.add_all-in-Here-2.new.found.items) _ _
+    c.add_all-in-Here.ensures.room c.add_all-in-Here.ensures.found c.add_all-in-Here-2.ensures.found
+    ∙ (λ i. fill (all_routes (shape_of net (c.deref.ensures i).left) ++ all_routes (shape_of net (c.deref-in-Here.ensures i).right)))
+    ∙ ap fill (sym (behind-turn (net c.in-Rooted.prefix) n.slot (shape_of net n.left) (shape_of net n.right) low Here (sym c.turn-in-Rooted.ensures ∙ c.in-Here.is)))
+    ∙ ap (λ tree. fill (all_behind (shape_of net tree) low)) (sym c.in-Rooted.is)
+
+pub returns-in-Left-clause-found : goal.returns-in-Left-clause-found
+returns-in-Left-clause-found g t c =
+    let net = g.K.Packed.network in
+    let n = c.in-Rooted.node.value in
+    let low = c.args.low.now in
+    let fill = filled (vec_capacity c.args.found.now) (pointed c.args.found.now.items) in
+    filled-then (vec_capacity c.args.found.now) (vec_capacity c.add_above.new.found) (pointed c.args.found.now.items) (pointed c.add_above.new.found.items) (pointed c.add_all-in-Left.new.found.items) _ _
+    c.add_above.ensures.room c.add_above.ensures.found c.add_all-in-Left.ensures.found
+    ∙ (λ i. fill (all_behind (shape_of net (c.deref-in-Left.ensures i).left) low ++ all_routes (shape_of net (c.deref-in-Left-2.ensures i).right)))
+    ∙ ap fill (sym (behind-turn (net c.in-Rooted.prefix) n.slot (shape_of net n.left) (shape_of net n.right) low Left (sym c.turn-in-Rooted.ensures ∙ c.in-Left.is)))
+    ∙ ap (λ tree. fill (all_behind (shape_of net tree) low)) (sym c.in-Rooted.is)
