@@ -75,6 +75,7 @@ impl<S: PrefixStore<Rc<Route>>> Session<S> {
         match self.source.next(input)? {
             Next::Event(event) => {
                 self.player.play(&event).map_err(|_| Outcome::Memory)?;
+                self.source.take_back(Next::Event(event));
                 Ok(false)
             }
             Next::Bad(fault) => {

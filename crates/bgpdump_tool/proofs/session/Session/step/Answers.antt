@@ -55,7 +55,7 @@ returns-in_ok-map_err-in-Event-clause-moves g c = λ from left s stands.
     let promised' : Promises c.args.self.now.source c.next.new.self (g.I.Input.left c.args.input.now) (g.I.Input.left c.next.new.input) (next.Event c.in-Event.event) =
     subst (Promises c.args.self.now.source c.next.new.self (g.I.Input.left c.args.input.now) (g.I.Input.left c.next.new.input)) c.in-Event.is promised in
     let played : is_ok c.play.result ≡ true = search rules in
-    (0, Found c.in-Event.event ∷ [], refl, step_found from left _ s c.redo.new.self c.play.new.self c.next.new.self (g.I.Input.left c.next.new.input) c.in-Event.event stands c.redo.ensures.after_redo off (after_ok c.play.result played c.play.ensures.after_play) promised' c.next.ensures.within)
+    rw c.take_back.ensures (0, Found c.in-Event.event ∷ [], refl, step_found from left _ s c.redo.new.self c.play.new.self c.next.new.self (g.I.Input.left c.next.new.input) c.in-Event.event stands c.redo.ensures.after_redo off (after_ok c.play.result played c.play.ensures.after_play) promised' c.next.ensures.within)
 
 pub returns-in_ok-write_report-in-Bad-clause-moves :
     goal.returns-in_ok-write_report-in-Bad-clause-moves
