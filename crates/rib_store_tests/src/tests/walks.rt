@@ -210,6 +210,22 @@ fn assert_walks_by_many<S: PrefixStore<u32>>(
     Ok(())
 }
 
+/// The same behind each of the starts.
+fn assert_walks_from<S: PrefixStore<u32>>(
+    rt: &impl Abort,
+    alloc: Global,
+    store: &S,
+    room: usize,
+) -> Result<(), Fail> {
+    for &(text, _) in STARTS {
+        let mut found = Vec::with_capacity(alloc, room)?;
+        let low = Some(prefix_of(text)?);
+        store.next_routes(low.as_ref(), &mut found);
+        assert_next(rt, store, low.as_ref(), room, &found);
+    }
+    Ok(())
+}
+
 fn walks_by_many<S: PrefixStore<u32>>(
     rt: &impl Abort,
     alloc: Global,
@@ -219,12 +235,7 @@ fn walks_by_many<S: PrefixStore<u32>>(
     add_rows(rt, store, BESIDE)?;
     for &room in ROOMS {
         assert_walks_by_many(rt, alloc, store, room)?;
-        for &(text, _) in STARTS {
-            let mut found = Vec::with_capacity(alloc, room)?;
-            let low = prefix_of(text)?;
-            store.next_routes(Some(&low), &mut found);
-            assert_next(rt, store, Some(&low), room, &found);
-        }
+        assert_walks_from(rt, alloc, store, room)?;
     }
     Ok(())
 }
