@@ -10,6 +10,7 @@ mod peer;
 mod peer_index;
 mod pool;
 mod profile;
+mod read_routes;
 mod rib;
 mod same;
 mod session;

@@ -1,9 +1,19 @@
 //! The peers whose routes a collector records.
 
-ghost use Rattle.std.specs.Prelude.{◌≡◌};
+ghost use Rattle.std.specs.Prelude.{◌≡◌, ◌<◌};
+ghost use Rattle.mrt_wire.specs.declared.peer.TheConstants.{PEER_PLACES};
 
-use ip_prefix::{Addr, V4_OCTETS};
+use ip_prefix::{Addr, Family, V4_OCTETS};
 use std::marker::Model;
+
+/// Among how many places peers are spread.
+pub(crate) const PEER_PLACES: usize = 1024;
+
+/// What numbers of peers are multiplied by: 2^32 over the golden ratio, to the next odd number.
+const MULTIPLIER: u32 = 0x9E37_79B1;
+
+/// How many bits of such a product are left out.
+const LOWEST_BITS: u32 = 22;
 
 /// A peer: its address and its AS number. Peers are ordered by address, then by number.
 #[derive(Clone, Copy, Debug, PartialEq, Eq, PartialOrd, Ord)]
@@ -22,6 +32,35 @@ impl Peer {
             addr: Addr::v4([0; V4_OCTETS]),
             asn: 0,
         }
+    }
+
+    /// A place that peers with another address or another AS number mostly don't have. Nothing is
+    /// owed of which it is.
+    #[inline]
+    pub(crate) fn place(&self) -> usize
+        ensures { result < PEER_PLACES }
+    {
+        let first = last_octets(&self.addr).wrapping_add(self.asn);
+        (first.wrapping_mul(MULTIPLIER) >> LOWEST_BITS) as usize
+    }
+}
+
+/// The last four octets of an address, as a number.
+#[inline]
+fn last_octets(addr: &Addr) -> u32 {
+    match addr.family() {
+        Family::V4 => u32::from_be_bytes([
+            addr.octet(0),
+            addr.octet(1),
+            addr.octet(2),
+            addr.octet(3),
+        ]),
+        Family::V6 => u32::from_be_bytes([
+            addr.octet(12),
+            addr.octet(13),
+            addr.octet(14),
+            addr.octet(15),
+        ]),
     }
 }
 

@@ -9,6 +9,7 @@ ghost use Rattle.mrt_wire.specs.Items.{route_of};
 
 use crate::event::{Item, Items, Route, Shared};
 use crate::peer::Peer;
+use crate::read_routes::{ReadRoutes, SentAttrs, fill_rib_route, new_route};
 use bgp_wire::{AsWidth, Attrs, UpdateParts, WireFault, replace_attrs, replace_rib_attrs};
 use ip_prefix::{Family, Prefix};
 use std::alloc::{AllocError, Global};
@@ -40,25 +41,12 @@ pub(crate) struct RoutePool {
 #[derive(Drop)]
 pub(crate) struct Pool {
     pub(crate) routes: RoutePool,
+    /// Routes of tables.
+    read: ReadRoutes,
     /// Where messages are read.
     pub(crate) parts: UpdateParts,
     /// Room for items.
     items: Vec<Item>,
-}
-
-/// The attributes of a table's entry as they were sent: the octets, the family of the prefix that
-/// they are for, and the width of their AS numbers.
-#[derive(Clone, Copy)]
-pub(crate) struct SentAttrs<'a> {
-    pub(crate) octets: &'a [u8],
-    pub(crate) family: Family,
-    pub(crate) width: AsWidth,
-}
-
-/// A route without attributes.
-fn new_route(alloc: Global) -> Result<Rc<Route>, AllocError> {
-    let attrs = Attrs::none(alloc);
-    Ok(Rc::new(alloc, Route { attrs, time: 0 })?)
 }
 
 /// How many routes were given out once the one of this number is.
@@ -78,32 +66,6 @@ fn let_go(routes: &mut Vec<Rc<Route>>, alloc: Global, place: usize) -> Result<()
     if Rc::get_mut(&mut routes[place]).is_none() {
         routes[place] = new_route(alloc)?;
     }
-    Ok(())
-}
-
-/// Reads the attributes of a table's entry into a route that nobody else holds.
-fn fill_rib_route(
-    shared: &mut Rc<Route>,
-    alloc: Global,
-    sent: SentAttrs<'_>,
-    time: u32,
-) -> Result<(), WireFault>
-    ensures attrs { OnOk result (SpellsRibAttrs sent.entry.family sent.entry.width
-        shared.new.value.attrs sent.entry.octets.now) }
-    ensures time { OnOk result (shared.new.value.time ≡ time) }
-    ensures refused { IfErr result (Refuses (SpellsRibAttrs sent.entry.family sent.entry.width)
-        sent.entry.octets.now) }
-{
-    let SentAttrs {
-        octets,
-        family,
-        width,
-    } = sent;
-    let Some(route) = Rc::get_mut(shared) else {
-        return Err(WireFault::Memory);
-    };
-    replace_rib_attrs(alloc, &mut route.attrs, family, width, octets)?;
-    route.time = time;
     Ok(())
 }
 
@@ -149,30 +111,6 @@ impl RoutePool {
         self.routes.push(new_route(alloc)?)?;
         self.given = given;
         Ok(place)
-    }
-
-    /// The route of a table's entry, with this time.
-    #[inline(always)]
-    pub(crate) fn rib_route(
-        &mut self,
-        alloc: Global,
-        sent: SentAttrs<'_>,
-        time: u32,
-    ) -> Result<Rc<Route>, WireFault>
-        ensures attrs { IfOk result (λ route. SpellsRibAttrs sent.entry.family sent.entry.width
-            route.value.attrs sent.entry.octets.now) }
-        ensures time { IfOk result (λ route. route.value.time ≡ time) }
-        ensures refused { IfErr result (Refuses (SpellsRibAttrs sent.entry.family sent.entry.width)
-            sent.entry.octets.now) }
-    {
-        if sent.octets.len() > LONGEST_KEPT {
-            let mut route = new_route(alloc)?;
-            fill_rib_route(&mut route, alloc, sent, time)?;
-            return Ok(route);
-        }
-        let place = self.next_place(alloc)?;
-        fill_rib_route(&mut self.routes[place], alloc, sent, time)?;
-        Ok(self.routes[place].clone()?)
     }
 
     /// A route of these attributes and this time. Others that aren't needed are given for them.
@@ -221,9 +159,34 @@ impl Pool {
                 routes: Vec::new(alloc),
                 given: 0,
             },
+            read: ReadRoutes::new(alloc),
             parts: UpdateParts::none(alloc),
             items: Vec::new(alloc),
         }
+    }
+
+    /// The route of a table's entry, with this time. Those of one number have a place in common, at
+    /// which attributes are read that weren't there before.
+    #[inline(always)]
+    pub(crate) fn rib_route(
+        &mut self,
+        alloc: Global,
+        number: usize,
+        sent: SentAttrs<'_>,
+        time: u32,
+    ) -> Result<Rc<Route>, WireFault>
+        ensures attrs { IfOk result (λ route. SpellsRibAttrs sent.entry.family sent.entry.width
+            route.value.attrs sent.entry.octets.now) }
+        ensures time { IfOk result (λ route. route.value.time ≡ time) }
+        ensures refused { IfErr result (Refuses (SpellsRibAttrs sent.entry.family sent.entry.width)
+            sent.entry.octets.now) }
+    {
+        if sent.octets.len() > LONGEST_KEPT {
+            let mut route = new_route(alloc)?;
+            fill_rib_route(&mut route, alloc, sent, time)?;
+            return Ok(route);
+        }
+        self.read.route_of(alloc, number, sent, time)
     }
 
     /// The vector that is kept, without items.

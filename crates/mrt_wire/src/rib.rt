@@ -13,7 +13,8 @@ ghost use Rattle.mrt_wire.specs.Judging.{Adds, AreItemsOf, IsTimed, entry_read};
 use crate::event::{Item, Route, Stamp};
 use crate::fields::{skip, split_short, split_sized, split_word};
 use crate::peer::Peer;
-use crate::pool::{Pool, SentAttrs};
+use crate::pool::Pool;
+use crate::read_routes::SentAttrs;
 use bgp_wire::{AsWidth, WireFault};
 use ip_prefix::{Family, Prefix};
 use std::alloc::{AllocError, Global};
@@ -102,7 +103,7 @@ fn read_entry<'a>(
         family,
         width: AsWidth::Four,
     };
-    let route = pool.routes.rib_route(alloc, sent, time)?;
+    let route = pool.rib_route(alloc, usize::from(framed.index), sent, time)?;
     let entry = ReadEntry {
         route,
         originated: framed.time,

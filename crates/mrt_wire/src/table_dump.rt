@@ -12,7 +12,8 @@ ghost use Rattle.mrt_wire.specs.TableDump.{ArePeerEntryFields, SpellsNarrowPeer,
 use crate::event::{Items, Stamp};
 use crate::fields::{Field, fill_address, skip, split_asn, split_octet, split_sized, split_word};
 use crate::peer::Peer;
-use crate::pool::{Pool, SentAttrs};
+use crate::pool::Pool;
+use crate::read_routes::SentAttrs;
 use bgp_wire::{AsWidth, WireFault};
 use ip_prefix::{Addr, Family, Prefix, V4_OCTETS};
 use std::alloc::Global;
@@ -121,7 +122,7 @@ fn read_entry_of(
         family,
         width: AsWidth::Two,
     };
-    let route = pool.routes.rib_route(alloc, sent, time)?;
+    let route = pool.rib_route(alloc, entry.peer.place(), sent, time)?;
     let items = pool.announcement_alone(alloc, entry.peer, entry.prefix, route)?;
     Ok(items)
 }

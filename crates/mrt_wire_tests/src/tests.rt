@@ -5,6 +5,7 @@ mod kinds;
 mod large;
 mod messages;
 mod old_tables;
+mod repeated;
 mod sessions;
 mod shown;
 mod sources;

@@ -127,6 +127,44 @@ fn tables_have_many_entries(rt: HostRuntime) -> Result<(), Fail> {
     Ok(())
 }
 
+/// Attributes whose path is 130036 33619973 with numbers of four octets, and 1 64500 5, in two
+/// segments, with numbers of two.
+const PATH_OF_BOTH_WIDTHS: &str = "000D 40020A 0202 0001FBF4 02010005";
+
+/// An index of so many times one peer, and a table of an entry for each with those attributes.
+fn with_entries_of_all(alloc: Global, number: &str, count: u16) -> Result<Vec<u8>, AllocError> {
+    let mut index = octets_of(alloc, &["000D 0001 C6336401 0000", number])?;
+    put_repeated(
+        alloc,
+        "00 C0000201 C0000201 FBF4",
+        usize::from(count),
+        &mut index,
+    )?;
+    let mut table = octets_of(alloc, &["000D 0002 00000000 080A", number])?;
+    for peer in 0..count {
+        table.extend_from_slice(&peer.to_be_bytes())?;
+        put_repeated(alloc, "00000032", 1, &mut table)?;
+        put_repeated(alloc, PATH_OF_BOTH_WIDTHS, 1, &mut table)?;
+    }
+    let mut octets = Vec::new(alloc);
+    put_record(&index, &mut octets)?;
+    put_record(&table, &mut octets)?;
+    Ok(octets)
+}
+
+#[test]
+fn the_same_octets_are_read_with_each_width(rt: HostRuntime) -> Result<(), Fail> {
+    let mut octets = with_entries_of_all(rt.alloc(), "0BB8", 3_000)?;
+    let want = "+192.0.2.1 64500 10.0.0.0/8 at 200 path 130036 33619973";
+    assert_last(&rt, rt.alloc(), &octets, 3_000, want)?;
+    let entry = "000C 0001 0000 0000 0B000000 08 01 00000032 C0000201 FBF4";
+    let record = octets_of(rt.alloc(), &[entry, PATH_OF_BOTH_WIDTHS])?;
+    put_record(&record, &mut octets)?;
+    let want = "+192.0.2.1 64500 11.0.0.0/8 at 200 path 1 64500 5";
+    assert_last(&rt, rt.alloc(), &octets, 1, want)?;
+    Ok(())
+}
+
 /// An index of 65,534 times one peer, and then another.
 fn index_of_many(alloc: Global) -> Result<Vec<u8>, AllocError> {
     let mut index = octets_of(alloc, &["000D 0001 C6336401 0000 FFFF"])?;
