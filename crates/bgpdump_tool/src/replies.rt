@@ -2,8 +2,10 @@
 
 ghost use Rattle.std.specs.Prelude.{◌≡◌, ◌++◌, ◌||◌, OnOk};
 ghost use Rattle.bgpdump_tool.specs.Replies.{at_text, counted_text, none_text, rib_line};
+ghost use Rattle.bgpdump_tool.specs.Front.{rib_front};
 ghost use Rattle.bgpdump_lines.specs.Writing.{Puts, is_write};
 
+use crate::printed::PrintedRoute;
 use bgpdump_lines::{
     Output, WriteFault, put_all, put_attributes, put_number, put_peer, put_prefix,
 };
@@ -38,6 +40,18 @@ fn put_counted(position: u64, word: &[u8], number: u64, text: &mut Text) -> Resu
     Ok(())
 }
 
+/// Appends the line of a route in the table of a peer, up to the prefix.
+#[inline(always)]
+fn put_rib_front(peer: &Peer, prefix: &Prefix, time: u32, text: &mut Text) -> Result<(), AllocError>
+    ensures { OnOk result (text.new ≡ text.old ++ rib_front peer.now prefix.now time) }
+{
+    text.extend_from_slice(b"RIB")?;
+    put_number(u64::from(time), text)?;
+    text.extend_from_slice(b"|B")?;
+    put_peer(peer, text)?;
+    put_prefix(prefix, text)
+}
+
 /// Appends the line of a route in the table of a peer.
 fn put_rib_line(
     peer: &Peer,
@@ -48,12 +62,23 @@ fn put_rib_line(
     ensures { OnOk result
         (text.new ≡ text.old ++ rib_line peer.now (prefix.now, route.now)) }
 {
-    text.extend_from_slice(b"RIB")?;
-    put_number(u64::from(route.time), text)?;
-    text.extend_from_slice(b"|B")?;
-    put_peer(peer, text)?;
-    put_prefix(prefix, text)?;
+    put_rib_front(peer, prefix, route.time, text)?;
     put_attributes(&route.attrs, text)
+}
+
+/// The same of one of many lines, which copies what the one before says of the attributes too.
+fn put_table_line(
+    peer: &Peer,
+    prefix: &Prefix,
+    route: &Rc<Route>,
+    printed: &mut PrintedRoute,
+    text: &mut Text,
+) -> Result<(), AllocError>
+    ensures { OnOk result
+        (text.new ≡ text.old ++ rib_line peer.now (prefix.now, route.now.value)) }
+{
+    put_rib_front(peer, prefix, route.time, text)?;
+    printed.put_attributes(route, text)
 }
 
 /// Writes where the player stands, and whether the end was met. The text is scratch.
@@ -113,6 +138,25 @@ pub(crate) fn write_rib_line<O: Output>(
 {
     text.clear();
     put_rib_line(peer, prefix, route, text)?;
+    put_all(out, text.as_slice())?;
+    Ok(())
+}
+
+/// The same of one of many lines, which copies what the one before says of the attributes too.
+pub(crate) fn write_table_line<O: Output>(
+    peer: &Peer,
+    prefix: &Prefix,
+    route: &Rc<Route>,
+    printed: &mut PrintedRoute,
+    out: &mut O,
+    text: &mut Text,
+) -> Result<(), WriteFault>
+    ensures text { Puts (O.written out.old) (O.written out.new)
+        (rib_line peer.now (prefix.now, route.now.value)) result }
+    ensures failed { O.failed out.new ≡ (O.failed out.old || is_write result) }
+{
+    text.clear();
+    put_table_line(peer, prefix, route, printed, text)?;
     put_all(out, text.as_slice())?;
     Ok(())
 }

@@ -6,7 +6,8 @@ ghost use Rattle.rib_player.specs.Lookups.{pointed_routes};
 ghost use Rattle.bgpdump_tool.specs.Replies.{rib_line, routes_line, table_text};
 ghost use Rattle.bgpdump_lines.specs.Writing.{Puts, PutsPart, is_write};
 
-use crate::replies::write_rib_line;
+use crate::printed::PrintedRoute;
+use crate::replies::write_table_line;
 use bgpdump_lines::{Output, WriteFault, put_all};
 use ip_prefix::{Prefix, Text};
 use mrt_wire::{Peer, Route};
@@ -43,6 +44,7 @@ fn write_routes_line<O: Output>(routes: u64, out: &mut O, text: &mut Text) -> Re
 fn write_found<O: Output>(
     peer: &Peer,
     found: &[(Prefix, &Rc<Route>)],
+    printed: &mut PrintedRoute,
     out: &mut O,
     text: &mut Text,
 ) -> Result<(), WriteFault>
@@ -51,7 +53,7 @@ fn write_found<O: Output>(
     ensures failed { O.failed out.new ≡ (O.failed out.old || is_write result) }
 {
     'routes: for entry in found {
-        write_rib_line(peer, &entry.0, entry.1, out, text)?;
+        write_table_line(peer, &entry.0, entry.1, printed, out, text)?;
     }
     Ok(())
 }
@@ -61,6 +63,7 @@ fn write_found<O: Output>(
 fn one_by_one<S: PrefixStore<Rc<Route>>, O: Output>(
     table: &Table<S>,
     peer: &Peer,
+    printed: &mut PrintedRoute,
     out: &mut O,
     text: &mut Text,
 ) -> Result<(), WriteFault>
@@ -71,7 +74,7 @@ fn one_by_one<S: PrefixStore<Rc<Route>>, O: Output>(
     let mut low = None;
     let mut written: u64 = 0;
     'routes: while let Some(found) = table.after(peer, low.as_ref()) {
-        write_rib_line(peer, &found.0, found.1, out, text)?;
+        write_table_line(peer, &found.0, found.1, printed, out, text)?;
         written = written.saturating_add(1);
         low = Some(found.0);
     }
@@ -84,6 +87,7 @@ fn many_at_once<'a, S: PrefixStore<Rc<Route>>, O: Output>(
     table: &'a Table<S>,
     peer: &Peer,
     room: Vec<(Prefix, &'a Rc<Route>)>,
+    printed: &mut PrintedRoute,
     out: &mut O,
     text: &mut Text,
 ) -> Result<(), WriteFault>
@@ -101,7 +105,7 @@ fn many_at_once<'a, S: PrefixStore<Rc<Route>>, O: Output>(
             break;
         };
         last = Some(end.0);
-        write_found(peer, &found, out, text)?;
+        write_found(peer, &found, printed, out, text)?;
         count = count.saturating_add(found.len() as u64);
     }
     write_routes_line(count, out, text)
@@ -120,8 +124,9 @@ pub(crate) fn table<S: PrefixStore<Rc<Route>>, O: Output>(
         (table_text table.now.routes peer.now) result }
     ensures failed { O.failed out.new ≡ (O.failed out.old || is_write result) }
 {
+    let mut printed = PrintedRoute::none(alloc);
     match Vec::with_capacity(alloc, MANY) {
-        Ok(room) => many_at_once(table, peer, room, out, text),
-        Err(_) => one_by_one(table, peer, out, text),
+        Ok(room) => many_at_once(table, peer, room, &mut printed, out, text),
+        Err(_) => one_by_one(table, peer, &mut printed, out, text),
     }
 }

@@ -364,6 +364,27 @@ const CHANGED: &[Row] = &[
     ),
 ];
 
+/// A table in which routes follow one another that are equal, that differ in the next hop, and that
+/// differ in the time alone.
+const REPEATED: &[Row] = &[(
+    &[
+        Record::Update(FIRST, 100, "", &[NINE], "080A 080B 0810"),
+        Record::Update(FIRST, 100, "", &[OTHER_HOP], "080C 080D"),
+        Record::Update(FIRST, 101, "", &[NINE], "080E 080F"),
+    ],
+    "next 3\ntable 192.0.2.1 64500\n",
+    "at 3\n\
+     RIB|100|B|192.0.2.1|64500|10.0.0.0/8|64500|IGP|192.0.2.9|0|0||NAG||\n\
+     RIB|100|B|192.0.2.1|64500|11.0.0.0/8|64500|IGP|192.0.2.9|0|0||NAG||\n\
+     RIB|100|B|192.0.2.1|64500|12.0.0.0/8|64500|IGP|192.0.2.10|0|0||NAG||\n\
+     RIB|100|B|192.0.2.1|64500|13.0.0.0/8|64500|IGP|192.0.2.10|0|0||NAG||\n\
+     RIB|101|B|192.0.2.1|64500|14.0.0.0/8|64500|IGP|192.0.2.9|0|0||NAG||\n\
+     RIB|101|B|192.0.2.1|64500|15.0.0.0/8|64500|IGP|192.0.2.9|0|0||NAG||\n\
+     RIB|100|B|192.0.2.1|64500|16.0.0.0/8|64500|IGP|192.0.2.9|0|0||NAG||\n\
+     routes 7\n",
+    "",
+)];
+
 #[test]
 fn replies_with_routes(rt: HostRuntime) -> Result<(), Fail> {
     assert_rows(&rt, rt.alloc(), Stamp::Dump, ROUTES)
@@ -372,6 +393,11 @@ fn replies_with_routes(rt: HostRuntime) -> Result<(), Fail> {
 #[test]
 fn replies_with_longest_matches(rt: HostRuntime) -> Result<(), Fail> {
     assert_rows(&rt, rt.alloc(), Stamp::Dump, MATCHES)
+}
+
+#[test]
+fn replies_with_tables_of_equal_routes(rt: HostRuntime) -> Result<(), Fail> {
+    assert_rows(&rt, rt.alloc(), Stamp::Dump, REPEATED)
 }
 
 #[test]
