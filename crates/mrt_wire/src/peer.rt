@@ -9,8 +9,8 @@ use std::marker::Model;
 /// Among how many places peers are spread.
 pub(crate) const PEER_PLACES: usize = 1024;
 
-/// What numbers of peers are multiplied by: 2^32 over the golden ratio, to the next odd number.
-const MULTIPLIER: u32 = 0x9E37_79B1;
+/// What a peer's number is multiplied by: the odd number next to 2^32 divided by the golden ratio.
+const MULTIPLIER: u32 = 0x9E37_79B9;
 
 /// How many bits of such a product are left out.
 const LOWEST_BITS: u32 = 22;

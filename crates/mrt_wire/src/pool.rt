@@ -113,6 +113,30 @@ impl RoutePool {
         Ok(place)
     }
 
+    /// The route of a table's entry, with this time.
+    #[inline(always)]
+    pub(crate) fn rib_route(
+        &mut self,
+        alloc: Global,
+        sent: SentAttrs<'_>,
+        time: u32,
+    ) -> Result<Rc<Route>, WireFault>
+        ensures attrs { IfOk result (λ route. SpellsRibAttrs sent.entry.family sent.entry.width
+            route.value.attrs sent.entry.octets.now) }
+        ensures time { IfOk result (λ route. route.value.time ≡ time) }
+        ensures refused { IfErr result (Refuses (SpellsRibAttrs sent.entry.family sent.entry.width)
+            sent.entry.octets.now) }
+    {
+        if sent.octets.len() > LONGEST_KEPT {
+            let mut route = new_route(alloc)?;
+            fill_rib_route(&mut route, alloc, sent, time)?;
+            return Ok(route);
+        }
+        let place = self.next_place(alloc)?;
+        fill_rib_route(&mut self.routes[place], alloc, sent, time)?;
+        Ok(self.routes[place].clone()?)
+    }
+
     /// A route of these attributes and this time. Others that aren't needed are given for them.
     #[inline(always)]
     pub(crate) fn route(
@@ -165,8 +189,8 @@ impl Pool {
         }
     }
 
-    /// The route of a table's entry, with this time. Those of one number have a place in common, at
-    /// which attributes are read that weren't there before.
+    /// The route of a table's entry, with this time. Entries of one number have a place in common:
+    /// where the attributes are those that were read there last, they aren't read again.
     #[inline(always)]
     pub(crate) fn rib_route(
         &mut self,
@@ -182,11 +206,10 @@ impl Pool {
             sent.entry.octets.now) }
     {
         if sent.octets.len() > LONGEST_KEPT {
-            let mut route = new_route(alloc)?;
-            fill_rib_route(&mut route, alloc, sent, time)?;
-            return Ok(route);
+            return self.routes.rib_route(alloc, sent, time);
         }
-        self.read.route_of(alloc, number, sent, time)
+        self.read
+            .route_of(alloc, &mut self.routes, number, sent, time)
     }
 
     /// The vector that is kept, without items.

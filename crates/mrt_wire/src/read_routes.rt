@@ -8,6 +8,7 @@ ghost use Rattle.mrt_wire.specs.declared.peer.TheConstants.{PEER_PLACES};
 
 use crate::event::Route;
 use crate::peer::PEER_PLACES;
+use crate::pool::RoutePool;
 use bgp_wire::{AsWidth, Attrs, WireFault, replace_rib_attrs};
 use ip_prefix::Family;
 use std::alloc::{AllocError, Global};
@@ -122,15 +123,6 @@ impl ReadRoute {
         }
     }
 
-    /// Takes another route where somebody else holds this one.
-    fn set_apart(&mut self, alloc: Global) -> Result<(), AllocError> {
-        self.known = false;
-        if Rc::get_mut(&mut self.route).is_none() {
-            self.route = new_route(alloc)?;
-        }
-        Ok(())
-    }
-
     /// Notes what it was read from, unless memory is refused for that.
     #[inline(always)]
     fn note(&mut self, sent: SentAttrs<'_>)
@@ -144,17 +136,27 @@ impl ReadRoute {
         self.known = self.octets.extend_from_slice(sent.octets).is_ok();
     }
 
-    /// Reads it anew, with this time.
-    fn read(&mut self, alloc: Global, sent: SentAttrs<'_>, time: u32) -> Result<(), WireFault>
+    /// Reads it anew, with this time: in its own memory, or as another route where somebody holds
+    /// this one.
+    fn read(
+        &mut self,
+        alloc: Global,
+        routes: &mut RoutePool,
+        sent: SentAttrs<'_>,
+        time: u32,
+    ) -> Result<(), WireFault>
         ensures attrs { OnOk result (SpellsRibAttrs sent.entry.family sent.entry.width
             self.new.attrs sent.entry.octets.now) }
         ensures time { OnOk result (self.new.time ≡ time) }
         ensures refused { IfErr result (Refuses (SpellsRibAttrs sent.entry.family sent.entry.width)
             sent.entry.octets.now) }
     {
-        self.set_apart(alloc)?;
         self.known = false;
-        fill_rib_route(&mut self.route, alloc, sent, time)?;
+        if Rc::get_mut(&mut self.route).is_some() {
+            fill_rib_route(&mut self.route, alloc, sent, time)?;
+        } else {
+            self.route = routes.rib_route(alloc, sent, time)?;
+        }
         self.note(sent);
         Ok(())
     }
@@ -164,6 +166,7 @@ impl ReadRoute {
     fn route_of(
         &mut self,
         alloc: Global,
+        routes: &mut RoutePool,
         sent: SentAttrs<'_>,
         time: u32,
     ) -> Result<Rc<Route>, WireFault>
@@ -176,7 +179,7 @@ impl ReadRoute {
         if self.is_of(sent) && self.date(time) {
             return Ok(self.route.clone()?);
         }
-        self.read(alloc, sent, time)?;
+        self.read(alloc, routes, sent, time)?;
         Ok(self.route.clone()?)
     }
 }
@@ -208,11 +211,13 @@ impl ReadRoutes {
         Ok(())
     }
 
-    /// The route that was sent so, with this time, read at the place of this number.
+    /// The route that was sent so, with this time, read at the place of this number. Where memory
+    /// is refused for the place, it is one of the others.
     #[inline(always)]
     pub(crate) fn route_of(
         &mut self,
         alloc: Global,
+        routes: &mut RoutePool,
         number: usize,
         sent: SentAttrs<'_>,
         time: u32,
@@ -224,12 +229,16 @@ impl ReadRoutes {
             sent.entry.octets.now) }
     {
         let place = number % PEER_PLACES;
-        self.make_place(place)?;
-        if let Some(read) = &mut self.places[place] {
-            return read.route_of(alloc, sent, time);
+        if self.make_place(place).is_err() {
+            return routes.rib_route(alloc, sent, time);
         }
-        let mut read = ReadRoute::none(alloc)?;
-        let route = read.route_of(alloc, sent, time)?;
+        if let Some(read) = &mut self.places[place] {
+            return read.route_of(alloc, routes, sent, time);
+        }
+        let Ok(mut read) = ReadRoute::none(alloc) else {
+            return routes.rib_route(alloc, sent, time);
+        };
+        let route = read.route_of(alloc, routes, sent, time)?;
         self.places[place] = Some(read);
         Ok(route)
     }

@@ -126,6 +126,7 @@ impl<R> Slot<R> {
             _ => None,
         }
     }
+
     /// Appends the prefix and its route, where it has one, as far as there is room.
     fn add_routed<'a>(&'a self, prefix: Prefix, found: &mut Vec<(Prefix, &'a R)>)
         ensures found { pointed found.new.items ≡ filled (vec_capacity found.old)

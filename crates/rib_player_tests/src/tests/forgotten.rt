@@ -251,9 +251,6 @@ fn keeps_a_hundred_steps_of_many(rt: HostRuntime) -> Result<(), Fail> {
     Ok(())
 }
 
-/// How many prefixes are announced and withdrawn again.
-const NAMED: u32 = 300;
-
 /// An event that announces a numbered prefix, or withdraws it.
 fn numbered_change(alloc: Global, number: u32, is_announced: bool) -> Result<Event, Fail> {
     let mut items = Vec::new(alloc);
@@ -265,22 +262,37 @@ fn numbered_change(alloc: Global, number: u32, is_announced: bool) -> Result<Eve
     Ok(event_of(items))
 }
 
-/// Of all steps that are kept the last alone names a prefix that was withdrawn before.
-#[test]
-fn finds_the_only_step_that_names_a_prefix(rt: HostRuntime) -> Result<(), Fail> {
-    let alloc = rt.alloc();
-    let mut player = RadixPlayer::new(alloc);
-    for number in 0..NAMED {
+/// Plays the announcement and the withdrawal of each of the numbered prefixes, and drops no step.
+fn play_numbered(
+    rt: &impl Abort,
+    alloc: Global,
+    player: &mut RadixPlayer,
+    start: u32,
+    end: u32,
+) -> Result<(), Fail> {
+    for number in start..end {
         for is_announced in [true, false] {
             let event = numbered_change(alloc, number, is_announced)?;
-            assert_eq!(rt; answer_to(&mut player, &event), Answer::Dropped(0));
+            assert_eq!(rt; answer_to(player, &event), Answer::Dropped(0));
         }
     }
+    Ok(())
+}
+
+/// Of all steps that are kept the last alone names a prefix that was withdrawn before, with so many
+/// prefixes, an even number: the steps are twice as many, and one more.
+fn finds_the_only_step(rt: &impl Abort, alloc: Global, count: u32) -> Result<(), Fail> {
+    let half = u64::from(count);
+    let mut player = RadixPlayer::new(alloc);
+    play_numbered(rt, alloc, &mut player, 0, count)?;
     let event_again = numbered_change(alloc, 7, true)?;
     assert_eq!(rt; answer_to(&mut player, &event_again), Answer::Dropped(0));
-    assert_eq!(rt; player.forget(301), 300);
-    assert_eq!(rt; keys_of(&player, &peer()), Some(151));
-    assert_eq!(rt; player.forget(1), 300);
+    assert_eq!(rt; player.forget(half.saturating_add(1)), half);
+    assert_eq!(rt;
+        keys_of(&player, &peer()),
+        Some((half / 2).saturating_add(1))
+    );
+    assert_eq!(rt; player.forget(1), half);
     assert_eq!(rt; keys_of(&player, &peer()), Some(1));
     assert_eq!(rt; shift(&mut player, true), Answer::Done);
     assert_eq!(rt;
@@ -288,5 +300,36 @@ fn finds_the_only_step_that_names_a_prefix(rt: HostRuntime) -> Result<(), Fail> 
         Answer::Dropped(1)
     );
     assert_eq!(rt; keys_of(&player, &peer()), None);
+    Ok(())
+}
+
+/// With a few hundred steps, and with thousands, of which a thousand stand in one group.
+#[test]
+fn finds_the_only_step_that_names_a_prefix(rt: HostRuntime) -> Result<(), Fail> {
+    for count in [300, 2_500] {
+        finds_the_only_step(&rt, rt.alloc(), count)?;
+    }
+    Ok(())
+}
+
+/// Of 5,000 steps 3,000 are undone and dropped by one that names a prefix again, and 1,200 follow.
+#[test]
+fn forgets_behind_many_dropped_steps(rt: HostRuntime) -> Result<(), Fail> {
+    let alloc = rt.alloc();
+    let mut player = RadixPlayer::new(alloc);
+    play_numbered(&rt, alloc, &mut player, 0, 2_500)?;
+    for _ in 0..3_000u16 {
+        assert_eq!(rt; shift(&mut player, true), Answer::Done);
+    }
+    let event_again = numbered_change(alloc, 7, true)?;
+    assert_eq!(rt;
+        answer_to(&mut player, &event_again),
+        Answer::Dropped(3_000)
+    );
+    play_numbered(&rt, alloc, &mut player, 3_000, 3_600)?;
+    assert_eq!(rt; player.forget(1_201), 2_000);
+    assert_eq!(rt; keys_of(&player, &peer()), Some(601));
+    assert_eq!(rt; player.forget(1), 1_200);
+    assert_eq!(rt; keys_of(&player, &peer()), Some(2));
     Ok(())
 }
