@@ -2,7 +2,7 @@ pub mod BitLists
 pub mod Highest
 mod Comparing
 pub mod Masks
-mod Octets
+pub mod Octets
 pub mod Beginning
 pub mod Containing
 mod Shared

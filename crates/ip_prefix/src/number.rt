@@ -1,6 +1,6 @@
 //! The numbers that addresses and prefixes are kept as.
 
-ghost use Rattle.std.specs.Prelude.{◌≡◌};
+ghost use Rattle.std.specs.Prelude.{◌≡◌, ◌/◌, ◌^◌};
 ghost use Rattle.std.specs.Ordering.{nat_cmp};
 
 use crate::addr::HALF_BITS;
@@ -55,6 +55,14 @@ impl Number {
         ensures { result ≡ self }
     {
         u128::from(self.high) << HALF_BITS | u128::from(self.low)
+    }
+
+    /// The high half.
+    #[inline]
+    pub(crate) fn high(self) -> u64
+        ensures { result ≡ self / 2 ^ HALF_BITS }
+    {
+        self.high
     }
 
     /// How it compares. Mostly the high halves decide.

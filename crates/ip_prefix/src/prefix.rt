@@ -113,6 +113,15 @@ impl Prefix {
         self.number.get()
     }
 
+    /// The first 64 bits of its least address, as a number. Those of an IPv4 address lie highest.
+    #[inline]
+    pub fn high_half(&self) -> u64
+        ensures { bits_of HALF_BITS result ≡ take HALF_BITS
+            (self.now.bits ++ replicate (NUMBER_BITS - length self.now.bits) false) }
+    {
+        self.number.high()
+    }
+
     /// The octets of an IPv4 prefix's least address, as a number.
     #[inline]
     pub(crate) fn v4_number(&self) -> u32

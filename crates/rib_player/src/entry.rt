@@ -113,6 +113,34 @@ impl Entry {
         }
     }
 
+    /// The peer of its pair.
+    #[inline]
+    pub(crate) fn peer(&self) -> &Peer
+        ensures { result.now ≡ self.now.pair.peer }
+    {
+        match &self.kept {
+            Kept::V4Absent(_, _, peer) => &**peer,
+            Kept::V4Present(_, _, peer, _) => &**peer,
+            Kept::V6Absent(_, pair) => &*pair.peer,
+            Kept::V6Present(_, pair, _) => &*pair.peer,
+            Kept::Taken => unreachable!(),
+        }
+    }
+
+    /// The prefix of its pair.
+    #[inline]
+    pub(crate) fn prefix(&self) -> Prefix
+        ensures { result ≡ self.now.pair.prefix }
+    {
+        match &self.kept {
+            Kept::V4Absent(_, prefix, _) => prefix.wide(),
+            Kept::V4Present(_, prefix, _, _) => prefix.wide(),
+            Kept::V6Absent(_, pair) => pair.prefix,
+            Kept::V6Present(_, pair, _) => pair.prefix,
+            Kept::Taken => unreachable!(),
+        }
+    }
+
     /// Whether it is the first of its pair.
     #[inline]
     pub(crate) fn is_first(&self) -> bool

@@ -20,6 +20,7 @@ ghost use Rattle.rib_player.specs.Clearings.{clearing_of, clearings_of, clearing
 ghost use Rattle.rib_player.specs.Digests.{AreDigestsOf};
 ghost use Rattle.rib_player.specs.Groups.{names_in, AreGroups};
 
+use crate::descents::{ENTRIES_AT_ONCE, reach_entries};
 use crate::digest::{Digest, bits_of, next_place};
 use crate::entry::Entry;
 use crate::groups::Groups;
@@ -58,9 +59,14 @@ pub(crate) fn cross<S: PrefixStore<Rc<Route>>>(table: &mut Table<S>, entries: &m
     ensures marks { marks_of entries.new ≡ marks_of entries.old }
     ensures clearings { clearings_of entries.new ≡ clearings_of entries.old }
 {
-    'entries: for entry in entries.iter_mut() {
-        entry.exchange(table);
+    let mut passed = 0u64;
+    'entries: for index in 0..entries.len() {
+        if entries.len() >= ENTRIES_AT_ONCE {
+            passed = passed.wrapping_add(reach_entries(table, entries, index));
+        }
+        entries[index].exchange(table);
     }
+    table.note_passed(passed);
 }
 
 /// Goes from one side of a step to the other: that which stands at the index.
@@ -159,13 +165,18 @@ pub(crate) fn put_entries<S: PrefixStore<Rc<Route>>>(
     ensures held { OnErr result (table.new.routes ≡ table.old.routes) }
 {
     let mut made = 0;
+    let mut passed = 0u64;
     'entries: while made < entries.len() {
+        if entries.len() > 1 {
+            passed = passed.wrapping_add(reach_entries(table, entries, made));
+        }
         if let Err(refused) = entries[made].put(table) {
             take_back(table, &mut entries[..made]);
             return Err(refused);
         }
         made += 1;
     }
+    table.note_passed(passed);
     Ok(())
 }
 

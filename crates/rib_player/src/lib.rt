@@ -2,6 +2,7 @@
 #![tactic(auto)]
 
 mod changes;
+mod descents;
 mod digest;
 mod entry;
 mod groups;

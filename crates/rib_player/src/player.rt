@@ -8,6 +8,7 @@ ghost use Rattle.rib_player.specs.Calls.{fresh, after_undo, after_redo, without_
 ghost use Rattle.rib_player.specs.Wanted.{wanted, named_count, IsWellFormed};
 
 use crate::changes::step_for;
+use crate::descents::{reach_ahead, reach_back};
 use crate::digest::Digest;
 use crate::groups::Groups;
 use crate::journal::{Step, advance, cross_step, forget_entries, forget_steps, named_from};
@@ -165,6 +166,7 @@ impl<S: PrefixStore<Rc<Route>>> Player<S> {
         if self.cursor == 0 {
             return Err(Nothing);
         }
+        reach_back(&mut self.table, &self.steps, self.cursor);
         self.cursor -= 1;
         cross_step(&mut self.table, &mut self.steps, self.cursor);
         Ok(())
@@ -178,6 +180,7 @@ impl<S: PrefixStore<Rc<Route>>> Player<S> {
         if self.cursor == self.steps.len() {
             return Err(Nothing);
         }
+        reach_ahead(&mut self.table, &self.steps, self.cursor);
         cross_step(&mut self.table, &mut self.steps, self.cursor);
         self.cursor += 1;
         Ok(())

@@ -34,6 +34,8 @@ use std::rc::Rc;
 pub struct Table<S: PrefixStore<Rc<Route>>> {
     alloc: Global,
     stores: BTreeMap<Peer, S>,
+    /// How many nodes were passed to reach pairs before their routes changed.
+    passed: u64,
 }
 
 impl<S: PrefixStore<Rc<Route>>> Model for Table<S> {
@@ -60,7 +62,15 @@ impl<S: PrefixStore<Rc<Route>>> Table<S> {
         Table {
             alloc,
             stores: BTreeMap::new(alloc),
+            passed: 0,
         }
+    }
+
+    /// Notes that so many nodes were passed to reach pairs.
+    pub(crate) fn note_passed(&mut self, passed: u64)
+        ensures { self.new ≡ self.old }
+    {
+        self.passed = self.passed.wrapping_add(passed);
     }
 
     /// Makes the pair a key, so that a route can be put there without memory. Answers whether it

@@ -8,6 +8,7 @@ mod generated;
 mod kept;
 mod lookups;
 mod plain;
+mod reached;
 mod refused;
 mod seen;
 mod sessions;

@@ -15,7 +15,7 @@ ghost use Rattle.rib_store.specs.Nodes.{AreNodes, AreNodesTo, IsOrOneMore};
 ghost use Rattle.rib_store.specs.Forest.{slots_in, tree_of, IsPlanted, ChangesAt};
 
 use crate::packed::V4Prefix;
-use crate::tree::Tree;
+use crate::tree::{Descent, Tree};
 use ip_prefix::{Addr, Family, Prefix};
 use std::alloc::{AllocError, Global};
 
@@ -136,6 +136,14 @@ impl<R> Forest<R> {
         match family {
             Family::V4 => self.v4.longest(key, met),
             Family::V6 => self.v6.longest(key, met),
+        }
+    }
+
+    /// A descent to the prefix.
+    pub(crate) fn descent<'a>(&'a self, prefix: &Prefix) -> Descent<'a, R> {
+        match prefix.family() {
+            Family::V4 => Descent::in_v4(&self.v4, prefix),
+            Family::V6 => Descent::in_v6(&self.v6, prefix),
         }
     }
 

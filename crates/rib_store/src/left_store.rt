@@ -4,6 +4,7 @@ ghost use Rattle.std.specs.Prelude.{◌≡◌};
 ghost use Rattle.std.specs.Mem.{manually_drop_value};
 
 use crate::store::PrefixStore;
+use crate::tree::Descent;
 use ip_prefix::{Addr, Prefix};
 use std::alloc::{AllocError, Global};
 use std::mem::ManuallyDrop;
@@ -62,6 +63,10 @@ impl<R, S: PrefixStore<R>> PrefixStore<R> for LeftStore<S> {
 
     fn next_routes<'a>(&'a self, prefix: Option<&Prefix>, found: &mut Vec<(Prefix, &'a R)>) {
         self.store.next_routes(prefix, found);
+    }
+
+    fn descent<'a>(&'a self, prefix: &Prefix) -> Descent<'a, R> {
+        self.store.descent(prefix)
     }
 
     fn key_count(&self) -> u64 {

@@ -1,6 +1,6 @@
 //! Prefixes of one family in little memory.
 
-ghost use Rattle.std.specs.Prelude.{◌≡◌, ◌≤◌};
+ghost use Rattle.std.specs.Prelude.{◌≡◌, ◌≤◌, length};
 ghost use Rattle.ip_prefix.specs.declared.addr.Family.{Family};
 ghost use Rattle.ip_prefix.specs.declared.addr.Family.TheVariants.{V4, V6};
 ghost use Rattle.ip_prefix.specs.declared.addr.TheConstants.{V4_BITS};
@@ -20,6 +20,13 @@ pub trait Packed: Copy + Drop {
     /// As a prefix of any family.
     fn wide(&self) -> Prefix
         ensures { result ≡ network self.now };
+
+    /// How many bits it has.
+    fn len(&self) -> u8
+        ensures { result ≡ length (network self.now).bits }
+    {
+        self.wide().len()
+    }
 
     /// Where the prefix lies, seen from this one.
     fn turn(&self, other: &Prefix) -> Turn
@@ -56,6 +63,11 @@ impl Packed for V4Prefix {
     }
 
     #[inline]
+    fn len(&self) -> u8 {
+        self.len
+    }
+
+    #[inline]
     fn turn(&self, other: &Prefix) -> Turn {
         other.turn_from_v4(self.octets, self.len)
     }
@@ -80,6 +92,11 @@ impl Packed for Prefix {
     #[inline]
     fn wide(&self) -> Prefix {
         *self
+    }
+
+    #[inline]
+    fn len(&self) -> u8 {
+        Prefix::len(self)
     }
 
     #[inline]

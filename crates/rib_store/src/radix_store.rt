@@ -14,6 +14,7 @@ ghost use Rattle.rib_store.specs.Nodes.{AreNodes, AreNodesTo, IsOrOneMore};
 
 use crate::forest::Forest;
 use crate::store::{GREATEST_COUNT, PrefixStore};
+use crate::tree::Descent;
 use ip_prefix::{Addr, Prefix};
 use std::alloc::{AllocError, Global};
 use std::marker::Model;
@@ -133,6 +134,10 @@ impl<R: Drop> PrefixStore<R> for RadixStore<R> {
             Some(low) => self.forest.add_above(low, found),
             None => self.forest.add_all(found),
         }
+    }
+
+    fn descent<'a>(&'a self, prefix: &Prefix) -> Descent<'a, R> {
+        self.forest.descent(prefix)
     }
 
     fn key_count(&self) -> u64 {

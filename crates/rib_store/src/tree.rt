@@ -8,9 +8,11 @@ ghost use Rattle.rib_store.specs.Walks.{routed_at, filled};
 ghost use Rattle.rib_store.specs.Shape.{is_routed, is_filled, any_routed};
 
 mod changes;
+mod descents;
 mod lookups;
 
 use crate::packed::V4Prefix;
+pub use descents::{Descent, Descents};
 use ip_prefix::Prefix;
 use std::mem::size_of;
 use std::rc::Rc;

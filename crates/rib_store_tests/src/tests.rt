@@ -1,5 +1,6 @@
 //! What the calls of a store answer, and that memory is there for them.
 
+mod descents;
 mod generated;
 mod listed;
 mod lookups;

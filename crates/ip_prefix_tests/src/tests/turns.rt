@@ -84,6 +84,26 @@ fn turns_to_prefixes(rt: HostRuntime) -> Result<(), Fail> {
     Ok(())
 }
 
+/// Prefixes, and the first 64 bits of each, and zeros where it has fewer.
+const HALVES: &[(&str, u64)] = &[
+    ("0.0.0.0/0", 0),
+    ("10.0.0.0/8", 0x0a00_0000_0000_0000),
+    ("192.0.2.1/32", 0xc000_0201_0000_0000),
+    ("255.255.255.255/32", 0xffff_ffff_0000_0000),
+    ("::/0", 0),
+    ("2001:db8::/32", 0x2001_0db8_0000_0000),
+    ("2001:db8:1:2:3::/80", 0x2001_0db8_0001_0002),
+    ("::1/128", 0),
+];
+
+#[test]
+fn tells_the_first_bits(rt: HostRuntime) -> Result<(), Fail> {
+    for &(text, half) in HALVES {
+        assert_eq!(rt; spelled(text)?.high_half(), half, "{text}");
+    }
+    Ok(())
+}
+
 /// Two prefixes, and the one that they share.
 const SHARED: &[(&str, &str, &str)] = &[
     ("10.0.0.0/16", "10.1.0.0/16", "10.0.0.0/15"),

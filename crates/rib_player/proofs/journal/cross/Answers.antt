@@ -10,12 +10,12 @@ use Rattle.rib_player.proofs.journal.cross.Goals as goal
 
 pub entries-preserved : goal.entries-preserved
 entries-preserved g c =
-    let i = c.entries.entry-index in
+    let i = c.entries.index in
     let first = c.args.entries.now in
-    let entry = get_or c.entries.entries i c.entry-item.result in
+    let entry = get_or c.entries.entries i c.index-entries-index.result in
     let known = c.entries.invariant in
     let within : i < length c.entries.entries = omega arith in
-    let rest = rest_of_entries i c.entries.entries first c.entry-item.result within known.unchanged in
+    let rest = rest_of_entries i c.entries.entries first c.index-entries-index.result within known.unchanged in
     let kept = subst (λ es. IsKept c.entries.table.keys (sides_of es)) rest known.kept in
     record {
       unchanged = drop-set-lt (i + 1) c.entries.entries i _ (omega arith) ∙ sym (drop-drop 1 i c.entries.entries) ∙ ap (drop 1) known.unchanged ∙ drop-drop 1 i first;

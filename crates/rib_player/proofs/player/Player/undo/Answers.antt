@@ -1,7 +1,9 @@
-use Rattle.std.proofs.Common.{◌≡◌, ◌-◌, length, refl, ap, sym, subst, ◌∙◌, arith}
+use Rattle.std.proofs.Common.{◌≡◌, ◌-◌, length, refl, ap, set, sym, subst, ◌∙◌, arith}
 use Rattle.std.proofs.lemmas.List.{length-map}
 use Rattle.rib_player.specs.Calls.{after_undo}
-use Rattle.rib_player.specs.Journal.{steps_of, timeline_of, behind_forgotten}
+use Rattle.rib_player.specs.Journal.{steps_of, timeline_of, behind_forgotten, routes_across}
+use Rattle.rib_player.specs.Sides.{sides_at, sides_across}
+use Rattle.rib_player.specs.Store.{Contents}
 use Rattle.rib_player.specs.Marks.{step_marks}
 use Rattle.rib_player.specs.Played.{IsPlayed}
 use Rattle.rib_player.specs.Digests.{AreDigestsOf}
@@ -19,7 +21,10 @@ then : (g : Over) (c : After-cross_step g)
     × IsPlayed c.cross_step.new.table.keys c.cross_step.new.table.routes (c.self.inside.cursor - 1) c.cross_step.new.steps.items
 then g c =
     after_undo-on c.self.inside.table.keys c.cross_step.new.table.keys c.self.inside.table.routes c.cross_step.new.table.routes c.self.inside.cursor c.self.inside.steps.items c.cross_step.new.steps.items
-    (omega arith) c.self.invariant.played c.cross_step.ensures.keys c.cross_step.ensures.routes c.cross_step.ensures.steps c.cross_step.ensures.trail c.cross_step.ensures.clearings
+    (omega arith) c.self.invariant.played (c.cross_step.ensures.keys ∙ ap (λ (t : Contents). t.keys) c.reach_back.ensures)
+    (c.cross_step.ensures.routes ∙ ap (λ (t : Contents). routes_across (sides_at (steps_of c.self.inside.steps.items) (c.self.inside.cursor - 1)) t.routes) c.reach_back.ensures)
+    (c.cross_step.ensures.steps ∙ ap (λ (t : Contents). set (steps_of c.self.inside.steps.items) (c.self.inside.cursor - 1) (sides_across t.routes (sides_at (steps_of c.self.inside.steps.items) (c.self.inside.cursor - 1)))) c.reach_back.ensures)
+    c.cross_step.ensures.trail c.cross_step.ensures.clearings
 
 pub invariant_of-self : goal.invariant_of-self
 invariant_of-self g c = record {

@@ -1,0 +1,134 @@
+//! Descents to the pairs of entries, gone before their routes change places with the table's, so that
+//! the processor waits for the nodes of several pairs at once. They change nothing.
+//!
+//! Those of a step are gone where its pairs are of one peer, as in a message of updates. A record of a
+//! table names one prefix of many peers, and the nodes that it needs are those of the record before.
+
+ghost use Rattle.std.specs.Prelude.{◌≡◌, ◌≤◌, length};
+
+use crate::entry::Entry;
+use crate::journal::Step;
+use crate::table::Table;
+use mrt_wire::Route;
+use rib_store::{Descents, PrefixStore};
+use std::collections::VecDeque;
+use std::rc::Rc;
+
+/// How many entries are reached at once. A step of fewer is reached with others, or whole.
+pub(crate) const ENTRIES_AT_ONCE: usize = 8;
+
+/// How many steps are reached at once that have few entries.
+const STEPS_AT_ONCE: usize = 8;
+
+/// The store of the entries' peer, where they are of one. They are in the order of their pairs.
+fn only_store<'a, S: PrefixStore<Rc<Route>>>(
+    table: &'a Table<S>,
+    entries: &[Entry],
+) -> Option<&'a S> {
+    let peer = entries.first()?.peer();
+    if entries.last()?.peer() != peer {
+        return None;
+    }
+    table.store(peer)
+}
+
+/// Adds descents to the entries' prefixes, and answers how many nodes were passed.
+fn add_entries<'a, S: PrefixStore<Rc<Route>>>(
+    descents: &mut Descents<'a, Rc<Route>>,
+    store: &'a S,
+    entries: &[Entry],
+) -> u64 {
+    let mut passed = 0u64;
+    'entries: for entry in entries {
+        passed = passed.wrapping_add(descents.add(store.descent(&entry.prefix())));
+    }
+    passed
+}
+
+/// Reaches the entries of a step from the index on, where as many as are reached at once stand before
+/// it. Answers how many nodes were passed.
+pub(crate) fn reach_entries<S: PrefixStore<Rc<Route>>>(
+    table: &Table<S>,
+    entries: &[Entry],
+    index: usize,
+) -> u64
+    requires { index ≤ length entries.now }
+{
+    if index % ENTRIES_AT_ONCE != 0 {
+        return 0;
+    }
+    let Some(store) = only_store(table, entries) else {
+        return 0;
+    };
+    let mut descents = Descents::new();
+    let end = entries.len().min(index.saturating_add(ENTRIES_AT_ONCE));
+    let passed = add_entries(&mut descents, store, &entries[index..end]);
+    passed.wrapping_add(descents.go())
+}
+
+/// Adds descents to the entries of a step that has few, and answers how many nodes were passed.
+fn add_step<'a, S: PrefixStore<Rc<Route>>>(
+    descents: &mut Descents<'a, Rc<Route>>,
+    table: &'a Table<S>,
+    entries: &[Entry],
+) -> u64 {
+    if entries.len() >= ENTRIES_AT_ONCE {
+        return 0;
+    }
+    match only_store(table, entries) {
+        Some(store) => add_entries(descents, store, entries),
+        None => 0,
+    }
+}
+
+/// Reaches the entries of those of some steps that have few, and answers how many nodes were passed.
+fn reach_steps<S: PrefixStore<Rc<Route>>>(
+    table: &Table<S>,
+    steps: &VecDeque<Step>,
+    start: usize,
+    end: usize,
+) -> u64
+    requires { end ≤ length steps.now.items }
+{
+    let mut descents = Descents::new();
+    let mut passed = 0u64;
+    'steps: for index in start..end {
+        let step = &steps[index];
+        passed = passed.wrapping_add(add_step(&mut descents, table, &step.entries));
+    }
+    passed.wrapping_add(descents.go())
+}
+
+/// Reaches the steps before the index, where as many as are reached at once stand behind it.
+pub(crate) fn reach_back<S: PrefixStore<Rc<Route>>>(
+    table: &mut Table<S>,
+    steps: &VecDeque<Step>,
+    index: usize,
+)
+    requires { index ≤ length steps.now.items }
+    ensures { table.new ≡ table.old }
+{
+    if index % STEPS_AT_ONCE != 0 {
+        return;
+    }
+    let start = index.saturating_sub(STEPS_AT_ONCE);
+    let passed = reach_steps(table, steps, start, index);
+    table.note_passed(passed);
+}
+
+/// Reaches the steps from the index on, where as many as are reached at once stand before it.
+pub(crate) fn reach_ahead<S: PrefixStore<Rc<Route>>>(
+    table: &mut Table<S>,
+    steps: &VecDeque<Step>,
+    index: usize,
+)
+    requires { index ≤ length steps.now.items }
+    ensures { table.new ≡ table.old }
+{
+    if index % STEPS_AT_ONCE != 0 {
+        return;
+    }
+    let end = steps.len().min(index.saturating_add(STEPS_AT_ONCE));
+    let passed = reach_steps(table, steps, index, end);
+    table.note_passed(passed);
+}

@@ -1,0 +1,151 @@
+//! Descents to prefixes, gone some at a time before routes come and go there. The processor so waits
+//! for the nodes of all of them at once, and not for one after the other.
+
+use crate::packed::{Packed, V4Prefix};
+use crate::tree::Tree;
+use ip_prefix::Prefix;
+use std::mem;
+
+/// The most nodes on a way down to a prefix, of IPv6.
+const MOST_NODES: u8 = 129;
+
+/// How many descents are gone at once.
+const AT_ONCE: u8 = 8;
+
+/// A descent to a prefix. It looks at one bit of it for each node, so it comes to where the prefix
+/// stands if it is a key of at most 64 bits, and else somewhere; it says nothing of what stands there.
+#[derive(Drop)]
+pub struct Descent<'a, R> {
+    place: Place<'a, R>,
+    /// The first bits of the prefix.
+    bits: u64,
+}
+
+/// Where a descent is.
+#[derive(Drop)]
+enum Place<'a, R> {
+    Ended,
+    V4(&'a Tree<V4Prefix, R>),
+    V6(&'a Tree<Prefix, R>),
+}
+
+impl<'a, R> Descent<'a, R> {
+    /// A descent that is at its end.
+    pub fn ended() -> Self {
+        Descent {
+            place: Place::Ended,
+            bits: 0,
+        }
+    }
+
+    /// A descent from the root of a tree of IPv4.
+    pub(crate) fn in_v4(tree: &'a Tree<V4Prefix, R>, prefix: &Prefix) -> Self {
+        Descent {
+            place: Place::V4(tree),
+            bits: prefix.high_half(),
+        }
+    }
+
+    /// A descent from the root of a tree of IPv6.
+    pub(crate) fn in_v6(tree: &'a Tree<Prefix, R>, prefix: &Prefix) -> Self {
+        Descent {
+            place: Place::V6(tree),
+            bits: prefix.high_half(),
+        }
+    }
+
+    /// Goes on to the next node, and answers whether there was one.
+    #[inline]
+    fn step(&mut self) -> bool {
+        let next = match &self.place {
+            Place::Ended => return false,
+            Place::V4(tree) => match below(tree, self.bits) {
+                Some(next) => Place::V4(next),
+                None => return false,
+            },
+            Place::V6(tree) => match below(tree, self.bits) {
+                Some(next) => Place::V6(next),
+                None => return false,
+            },
+        };
+        self.place = next;
+        true
+    }
+}
+
+/// What lies below the root on the side of the bit behind its prefix.
+#[inline]
+fn below<'a, K: Packed, R>(tree: &'a Tree<K, R>, bits: u64) -> Option<&'a Tree<K, R>> {
+    let Tree::Rooted(_, prefix, node) = tree else {
+        return None;
+    };
+    let right = bits.wrapping_shl(u32::from(prefix.len())) >> (u64::BITS - 1) == 1;
+    Some(if right { &node.right } else { &node.left })
+}
+
+/// Descents that are gone at once.
+#[derive(Drop)]
+pub struct Descents<'a, R> {
+    first: Descent<'a, R>,
+    second: Descent<'a, R>,
+    third: Descent<'a, R>,
+    fourth: Descent<'a, R>,
+    fifth: Descent<'a, R>,
+    sixth: Descent<'a, R>,
+    seventh: Descent<'a, R>,
+    eighth: Descent<'a, R>,
+    count: u8,
+}
+
+impl<'a, R> Descents<'a, R> {
+    /// No descents.
+    pub fn new() -> Self {
+        Descents {
+            first: Descent::ended(),
+            second: Descent::ended(),
+            third: Descent::ended(),
+            fourth: Descent::ended(),
+            fifth: Descent::ended(),
+            sixth: Descent::ended(),
+            seventh: Descent::ended(),
+            eighth: Descent::ended(),
+            count: 0,
+        }
+    }
+
+    /// Adds a descent. Where there are eight they are gone; it answers how many nodes the longest
+    /// went past.
+    pub fn add(&mut self, descent: Descent<'a, R>) -> u64 {
+        let second = mem::replace(&mut self.first, descent);
+        let third = mem::replace(&mut self.second, second);
+        let fourth = mem::replace(&mut self.third, third);
+        let fifth = mem::replace(&mut self.fourth, fourth);
+        let sixth = mem::replace(&mut self.fifth, fifth);
+        let seventh = mem::replace(&mut self.sixth, sixth);
+        self.eighth = mem::replace(&mut self.seventh, seventh);
+        self.count = self.count.wrapping_add(1);
+        if self.count < AT_ONCE {
+            return 0;
+        }
+        self.go()
+    }
+
+    /// Goes those that are left, and answers how many nodes the longest went past.
+    pub fn go(&mut self) -> u64 {
+        self.count = 0;
+        'nodes: for passed in 0..MOST_NODES {
+            if !self.step() {
+                return u64::from(passed);
+            }
+        }
+        u64::from(MOST_NODES)
+    }
+
+    /// Each goes on to its next node; it answers whether there was one.
+    #[inline]
+    fn step(&mut self) -> bool {
+        let front = self.first.step() | self.second.step() | self.third.step() | self.fourth.step();
+        let back = self.fifth.step() | self.sixth.step() | self.seventh.step() | self.eighth.step();
+        front | back
+    }
+}
