@@ -1,5 +1,6 @@
 -- Turns between prefixes, told by their families and bits.
-use Rattle.std.proofs.Common.{◌≡◌, ◌↔◌, Bool, true, false, List, [], ◌∷◌, ◌++◌, refl, ap, sym, ◌∙◌}
+use Rattle.std.proofs.Common.{◌≡◌, ◌≢◌, ◌≤◌, ◌↔◌, Some, length, arith, Bool, true, false, List, [], ◌∷◌, ◌++◌, refl, ap, sym, ◌∙◌}
+use Rattle.std.specs.Prelude.{slice_get}
 use denote.Enum.Bare.{sameb}
 use Rattle.ip_prefix.specs.Network.{Network, begin_with}
 use Rattle.ip_prefix.specs.Covering.{covers}
@@ -114,6 +115,38 @@ side_only (true ∷ xs) (false ∷ ys) false e = cc
 side_only (false ∷ xs) (true ∷ ys) true e = cc
 side_only (false ∷ xs) (true ∷ ys) false e = cc
 side_only (false ∷ xs) (false ∷ ys) bit e = side_only xs ys bit e
+
+-- bits that are covered and aren't longer are the same
+pub under_here : (xs ys : List Bool) → turn_of xs ys ≢ Outside → length ys ≤ length xs → turn_of xs ys ≡ Here
+under_here [] [] h short = refl
+under_here [] (y ∷ ys) h short = absurd (omega arith)
+under_here (x ∷ xs) [] h short = absurd (h refl)
+under_here (true ∷ xs) (true ∷ ys) h short = under_here xs ys h (omega arith)
+under_here (true ∷ xs) (false ∷ ys) h short = absurd (h refl)
+under_here (false ∷ xs) (true ∷ ys) h short = absurd (h refl)
+under_here (false ∷ xs) (false ∷ ys) h short = under_here xs ys h (omega arith)
+
+-- and longer ones go on by the bit behind
+pub under_side : (xs ys : List Bool) (bit : Bool) → turn_of xs ys ≢ Outside → slice_get ys (length xs) ≡ Some bit → turn_of xs ys ≡ side bit
+under_side [] [] bit h e = cc
+under_side [] (true ∷ ys) true h e = refl
+under_side [] (true ∷ ys) false h e = cc
+under_side [] (false ∷ ys) true h e = cc
+under_side [] (false ∷ ys) false h e = refl
+under_side (x ∷ xs) [] bit h e = absurd (h refl)
+under_side (true ∷ xs) (true ∷ ys) bit h e = under_side xs ys bit h e
+under_side (true ∷ xs) (false ∷ ys) bit h e = absurd (h refl)
+under_side (false ∷ xs) (true ∷ ys) bit h e = absurd (h refl)
+under_side (false ∷ xs) (false ∷ ys) bit h e = under_side xs ys bit h e
+
+-- so for prefixes
+pub turn-under_here : (m n : Network) → turn_of (way m) (way n) ≢ Outside → length n.bits ≤ length m.bits → turn_of (way m) (way n) ≡ Here
+unfolding way
+turn-under_here m n h short = under_here (way m) (way n) h (omega arith)
+
+pub turn-under_side : (m n : Network) (bit : Bool) → turn_of (way m) (way n) ≢ Outside → slice_get n.bits (length m.bits) ≡ Some bit → turn_of (way m) (way n) ≡ side bit
+unfolding way
+turn-under_side m n bit h e = under_side (way m) (way n) bit h e
 
 -- prefixes of one way are the same
 one_way : (m n : Network) → way m ≡ way n → m ≡ n

@@ -1,9 +1,9 @@
 //! The numbers that addresses and prefixes are kept as.
 
-ghost use Rattle.std.specs.Prelude.{◌≡◌, ◌/◌, ◌^◌};
+ghost use Rattle.std.specs.Prelude.{◌≡◌, ◌-◌, ◌/◌, ◌^◌, ◌<◌, ◌==◌, bit_and};
 ghost use Rattle.std.specs.Ordering.{nat_cmp};
 
-use crate::addr::HALF_BITS;
+use crate::addr::{HALF_BITS, NUMBER_BITS};
 use std::cmp::Ordering;
 use std::marker::Model;
 
@@ -63,6 +63,18 @@ impl Number {
         ensures { result ≡ self / 2 ^ HALF_BITS }
     {
         self.high
+    }
+
+    /// The bit at a place, counted from 0 at the highest. Mostly it lies in the high half.
+    #[inline]
+    pub(crate) fn bit(self, place: u8) -> bool
+        requires { place < NUMBER_BITS }
+        ensures { result ≡ (bit_and (self / 2 ^ (NUMBER_BITS - 1 - place)) 1 == 1) }
+    {
+        if place < HALF_BITS {
+            return self.high >> (HALF_BITS - 1 - place) & 1 == 1;
+        }
+        self.get() >> (NUMBER_BITS - 1 - place) & 1 == 1
     }
 
     /// How it compares. Mostly the high halves decide.

@@ -1,6 +1,6 @@
 //! Prefixes of both families.
 
-ghost use Rattle.std.specs.Prelude.{◌≡◌, ◌-◌, ◌*◌, ◌/◌, ◌^◌, ◌<◌, ◌≤◌, ◌++◌, false, MatchOption, IfSome, IfNone, length, replicate, take};
+ghost use Rattle.std.specs.Prelude.{◌≡◌, ◌-◌, ◌*◌, ◌/◌, ◌^◌, ◌<◌, ◌≤◌, ◌++◌, false, Some, MatchOption, IfSome, IfNone, length, replicate, take, slice_get};
 ghost use Rattle.std.specs.Int.{w128, from_be_bytes};
 ghost use Rattle.ip_prefix.specs.declared.addr.Family.{Family};
 ghost use Rattle.ip_prefix.specs.Address.{IsAddress, bit_count};
@@ -111,6 +111,15 @@ impl Prefix {
             ≡ self.now.bits ++ replicate (NUMBER_BITS - length self.now.bits) false }
     {
         self.number.get()
+    }
+
+    /// The bit at a place, counted from 0 at the first.
+    #[inline]
+    pub(crate) fn bit(&self, place: u8) -> bool
+        requires { place < length self.now.bits }
+        ensures { slice_get self.now.bits place ≡ Some result }
+    {
+        self.number.bit(place)
     }
 
     /// The first 64 bits of its least address, as a number. Those of an IPv4 address lie highest.

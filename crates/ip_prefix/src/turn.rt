@@ -1,10 +1,11 @@
 //! Where prefixes lie, seen from one another.
 
-ghost use Rattle.std.specs.Prelude.{◌≡◌, ℕ, ◌+◌, ◌-◌, ◌≤◌, ◌++◌, Bool, false, List, length, replicate, take};
+ghost use Rattle.std.specs.Prelude.{◌≡◌, ◌≢◌, ℕ, ◌+◌, ◌-◌, ◌≤◌, ◌++◌, Bool, false, List, length, replicate, take};
 ghost use Rattle.ip_prefix.specs.declared.addr.Family.{Family};
 ghost use Rattle.ip_prefix.specs.declared.addr.TheConstants.{V4_BITS, NUMBER_BITS};
 ghost use Rattle.ip_prefix.specs.Bits.{bits_of, bits_of_octets};
-ghost use Rattle.ip_prefix.specs.Network.{network_of};
+ghost use Rattle.ip_prefix.specs.Network.{Network, network_of};
+ghost use Rattle.ip_prefix.specs.declared.turn.Turn.TheVariants.{Outside};
 ghost use Rattle.ip_prefix.specs.Turns.{way, turn_of, shared, common};
 
 use crate::addr::{Family, V4_BITS, V4_OCTETS};
@@ -49,6 +50,22 @@ impl Prefix {
                 turn_by(count, len, self.len())
             }
             Family::V6 => Turn::Outside,
+        }
+    }
+
+    /// Where the prefix lies, seen from one that has so many bits and covers it. It looks at one bit.
+    #[inline]
+    pub fn turn_under(&self, len: u8) -> Turn
+        ensures { (other : Network) → length other.bits ≡ len
+            → turn_of (way other) (way self.now) ≢ Outside
+            → result ≡ turn_of (way other) (way self.now) }
+    {
+        if self.len() <= len {
+            Turn::Here
+        } else if self.bit(len) {
+            Turn::Right
+        } else {
+            Turn::Left
         }
     }
 

@@ -1,11 +1,12 @@
 //! Prefixes of one family in little memory.
 
-ghost use Rattle.std.specs.Prelude.{◌≡◌, ◌≤◌, length};
+ghost use Rattle.std.specs.Prelude.{◌≡◌, ◌≢◌, ◌≤◌, length};
 ghost use Rattle.ip_prefix.specs.declared.addr.Family.{Family};
 ghost use Rattle.ip_prefix.specs.declared.addr.Family.TheVariants.{V4, V6};
 ghost use Rattle.ip_prefix.specs.declared.addr.TheConstants.{V4_BITS};
 ghost use Rattle.ip_prefix.specs.Network.{Network};
 ghost use Rattle.ip_prefix.specs.Turns.{way, turn_of};
+ghost use Rattle.ip_prefix.specs.declared.turn.Turn.TheVariants.{Outside};
 
 use ip_prefix::{Addr, Prefix, Turn, V4_OCTETS};
 
@@ -31,6 +32,14 @@ pub trait Packed: Copy + Drop {
     /// Where the prefix lies, seen from this one.
     fn turn(&self, other: &Prefix) -> Turn
         ensures { result ≡ turn_of (way (network self.now)) (way other.now) };
+
+    /// Where the prefix lies, seen from this one, which covers it. It needn't compare what they share.
+    fn turn_covered(&self, other: &Prefix) -> Turn
+        requires { turn_of (way (network self.now)) (way other.now) ≢ Outside }
+        ensures { result ≡ turn_of (way (network self.now)) (way other.now) }
+    {
+        self.turn(other)
+    }
 
     /// The prefix, which is of this family.
     fn of(prefix: &Prefix) -> Self
@@ -73,6 +82,11 @@ impl Packed for V4Prefix {
     }
 
     #[inline]
+    fn turn_covered(&self, other: &Prefix) -> Turn {
+        other.turn_under(self.len)
+    }
+
+    #[inline]
     fn of(prefix: &Prefix) -> Self {
         let addr = prefix.addr();
         V4Prefix {
@@ -102,6 +116,11 @@ impl Packed for Prefix {
     #[inline]
     fn turn(&self, other: &Prefix) -> Turn {
         Prefix::turn(self, other)
+    }
+
+    #[inline]
+    fn turn_covered(&self, other: &Prefix) -> Turn {
+        other.turn_under(Prefix::len(self))
     }
 
     #[inline]

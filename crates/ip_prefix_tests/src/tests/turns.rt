@@ -75,6 +75,10 @@ fn turns_to_prefixes(rt: HostRuntime) -> Result<(), Fail> {
         let (first, second) = (spelled(one)?, spelled(other)?);
         assert_eq!(rt; first.turn(&second), there, "{other} from {one}");
         assert_eq!(rt; second.turn(&first), back, "{one} from {other}");
+        if there != Turn::Outside {
+            let turn = second.turn_under(first.len());
+            assert_eq!(rt; turn, there, "{other} from the length of {one}");
+        }
         if first.family() == Family::V4 && first.len() <= V4_BITS {
             let from = v4_octets(&first);
             let turn = second.turn_from_v4(from, first.len());
@@ -293,6 +297,9 @@ fn turns_and_shares_as_bit_by_bit(rt: HostRuntime) -> Result<(), Fail> {
         let (one, other) = drawn.pair();
         let (first, second) = (one.prefix()?, other.prefix()?);
         assert_eq!(rt; first.turn(&second), one.turn(&other));
+        if one.turn(&other) != Turn::Outside {
+            assert_eq!(rt; second.turn_under(first.len()), one.turn(&other));
+        }
         if first.family() == second.family() {
             assert!(rt; first.common(&second) == one.common(&other).prefix()?);
         }

@@ -41,7 +41,7 @@ impl<K: Packed, R: Drop> Tree<K, R> {
             Tree::Rooted(routed, prefix, node) => {
                 let node = &mut **node;
                 let brought = route.is_some();
-                match prefix.turn(key) {
+                match prefix.turn_covered(key) {
                     Turn::Outside => return,
                     Turn::Here => node.slot.exchange(route),
                     Turn::Left => node.left.exchange(key, route),

@@ -19,18 +19,18 @@ returns-in-Leaf-clause-slots g t c =
     let was : IsLeaf c.in-Leaf.prefix c.args.self.now = rw c.in-Leaf.is refl in
     put_leaf g.K.Packed.network c.args.self.now c.exchange_leaf-in-Leaf.new.tree c.in-Leaf.prefix (way c.args.key.now) c.args.route.now was c.exchange_leaf-in-Leaf.ensures.leaf c.exchange_leaf-in-Leaf.ensures.slot c.requires.key
 
-pub returns-after-turn-clause-slots : goal.returns-after-turn-clause-slots
-returns-after-turn-clause-slots g t c = λ q.
+pub returns-after-turn_covered-clause-slots : goal.returns-after-turn_covered-clause-slots
+returns-after-turn_covered-clause-slots g t c = λ q.
     let net = g.K.Packed.network in
     let n = c.deref_mut-node.result.now in
-    let m = c.match-turn.node in
+    let m = c.match-turn_covered.node in
     let prefix = net c.in-Rooted.prefix in
     let key = way c.args.key.now in
     let slot = Some c.args.route.now in
     let old = shape_of net c.args.self.now in
     let new = Rooted prefix m.slot (shape_of net m.left) (shape_of net m.right) in
     let was : IsRooted prefix (slot_of n.slot) (shape_of net n.left) (shape_of net n.right) old = rw c.in-Rooted.is (cc, cc, cc, cc) in
-    elim c.match-turn.branch [
+    elim c.match-turn_covered.branch [
       | in-Here w ↦
           let turn : turn_of (way prefix) key ≡ Here = cc in
           let is : IsRooted prefix slot (shape_of net n.left) (shape_of net n.right) new = rw w.node-is (refl, refl, refl, w.exchange.ensures.slot) in
@@ -45,17 +45,17 @@ returns-after-turn-clause-slots g t c = λ q.
           fork_right old new prefix (slot_of n.slot) slot (shape_of net n.left) (shape_of net n.right) (shape_of net w.exchange-in-Right.new.self) key was is turn w.exchange-in-Right.ensures.slots q
     ]
 
-pub returns-after-turn-clause-shaped : goal.returns-after-turn-clause-shaped
-returns-after-turn-clause-shaped g t c =
+pub returns-after-turn_covered-clause-shaped : goal.returns-after-turn_covered-clause-shaped
+returns-after-turn_covered-clause-shaped g t c =
     let net = g.K.Packed.network in
     let n = c.deref_mut-node.result.now in
-    let m = c.match-turn.node in
+    let m = c.match-turn_covered.node in
     let prefix = net c.in-Rooted.prefix in
     let old = shape_of net c.args.self.now in
     let new = Rooted prefix m.slot (shape_of net m.left) (shape_of net m.right) in
     let there : IsRooted prefix (slot_of n.slot) (shape_of net n.left) (shape_of net n.right) old = rw c.in-Rooted.is (cc, cc, cc, cc) in
     let was = rooted_shaped old prefix (slot_of n.slot) (shape_of net n.left) (shape_of net n.right) there c.requires.shaped in
-    elim c.match-turn.branch [
+    elim c.match-turn_covered.branch [
       | in-Here w ↦
           let is : IsRooted prefix (Some c.args.route.now) (shape_of net n.left) (shape_of net n.right) new = rw w.node-is (refl, refl, refl, w.exchange.ensures.slot) in
           shaped_rooted new prefix (Some c.args.route.now) (shape_of net n.left) (shape_of net n.right) is (was.0, tt, was.2, was.3)
