@@ -1,10 +1,9 @@
 -- The lines of a list's items, written one after the other.
-use Rattle.std.proofs.Common.{◌≡◌, ℕ, ◌+◌, ◌<◌, ◌≤◌, true, List, [], ◌∷◌, ◌++◌, ◌-◌, zero, suc, arith, length, take, drop, get_or, Bor, Option, Some, None, Result, Ok, Err, is_some, slice_get, refl, sym, ap, subst, ◌∙◌}
+use Rattle.std.proofs.Common.{◌≡◌, ℕ, ◌+◌, ◌<◌, ◌≤◌, true, List, [], ◌∷◌, ◌++◌, ◌-◌, length, take, drop, get_or, Bor, Option, Some, None, Result, Ok, Err, is_some, slice_get, refl, sym, ap, subst, ◌∙◌}
 use Rattle.std.specs.List.{flat_map}
 use Rattle.std.specs.Option.{option_map, option_copied}
 use Rattle.std.proofs.lemmas.List.{length-map}
-use Rattle.std.proofs.lemmas.Option.{slice_get-map}
-use Rattle.rib_store.proofs.AboveLaws.{split_last}
+use Rattle.rib_store.proofs.AboveLaws.{seen_last, seen_none}
 use Rattle.std.specs.Io.KnownBytes.{Appends}
 use Rattle.std.proofs.KnownBytes.{Appends-nil, Appends-trans}
 use Rattle.std.proofs.lemmas.List.{append_assoc, append-nil, flat_map_more, take_all, take-append-drop}
@@ -125,22 +124,11 @@ lines_of_some routes (peer ∷ peers) some = refl
 -- where the last is this one, they are others and then this one
 pub some_last : (found : List (Network × Bor (Rc Route Global))) (last : Option (Bor (Network × Bor (Rc Route Global)))) (end : Bor (Network × Bor (Rc Route Global))) → option_copied last ≡ slice_get found (length found - 1) → last ≡ Some end
     → (ys : List (Network × Route)) × (pointed_routes found ≡ ys ++ (end.now.0, end.now.1.now.value) ∷ [])
-some_last found last end is some =
-    let view : Network × Bor (Rc Route Global) → Network × Route = λ f. (f.0, f.1.now.value) in
-    let e : Network × Route = (end.now.0, end.now.1.now.value) in
-    let at : length found - 1 ≡ length (pointed_routes found) - 1 = ap (λ n. n - 1) (sym (length-map found view)) in
-    split_last (pointed_routes found) e (length found - 1) at
-    (slice_get-map view found (length found - 1) ∙ ap (option_map view) (sym is ∙ ap option_copied some))
+some_last = seen_last (λ f. (f.0, f.1.now.value))
 
 pub length-pointed : (found : List (Network × Bor (Rc Route Global))) → length (pointed_routes found) ≡ length found
 length-pointed found = length-map found (λ f. (f.0, f.1.now.value))
 
 -- where there is no last there is none
 pub last_none : (found : List (Network × Bor (Rc Route Global))) (last : Option (Bor (Network × Bor (Rc Route Global)))) → option_copied last ≡ slice_get found (length found - 1) → last ≡ None → [] ≡ pointed_routes found
-last_none [] last is none = refl
-last_none (f ∷ found) last is none = absurd (no_last (f ∷ found) (length (f ∷ found) - 1) (omega arith) (sym is ∙ ap option_copied none))
-  where
-    no_last : {A : Type 0} (xs : List A) (n : ℕ) → n < length xs → slice_get xs n ≡ None → ⊥
-    no_last [] n lt e = omega arith
-    no_last (x ∷ xs) zero lt e = cc
-    no_last (x ∷ xs) (suc n) lt e = no_last xs n (omega arith) e
+last_none = seen_none (λ f. (f.0, f.1.now.value))

@@ -1,6 +1,6 @@
 //! What an event does, pair by pair.
 
-ghost use Rattle.std.specs.Prelude.{◌≡◌, ◌||◌, ◌&&◌, [], ◌∷◌, ◌≢◌, IfOk, IfSome, IfNone, OnOk, OnErr, Some, None, true, false, is_some, if◌then◌else◌, map, slice_get};
+ghost use Rattle.std.specs.Prelude.{◌≡◌, ◌<◌, ◌++◌, ◌||◌, ◌&&◌, [], ◌∷◌, ◌≢◌, IfOk, IfSome, IfNone, OnOk, OnErr, Some, None, true, false, is_some, if◌then◌else◌, map, slice_get, vec_capacity};
 ghost use Rattle.std.specs.List.{AllByRecursion, list_any, filter};
 ghost use Rattle.std.specs.List.Sorted.{IsStrictlySortedBy};
 ghost use Rattle.std.specs.Map.{keys_of};
@@ -24,6 +24,7 @@ use crate::known::KnownRoutes;
 use crate::known_peers::KnownPeers;
 use crate::pair::Pair;
 use crate::table::Table;
+use ip_prefix::Prefix;
 use mrt_wire::{ESTABLISHED, Event, Item, Peer, Route};
 use rib_store::PrefixStore;
 use std::alloc::{AllocError, Global};
@@ -196,8 +197,58 @@ fn changes_of(alloc: Global, event: &Event, known: &mut KnownRoutes) -> Result<C
     Ok(changes)
 }
 
-/// The entries of those pairs of a peer that have a route in its store, and none then.
-fn cleared_in<S: PrefixStore<Rc<Route>>>(
+/// How many routes of a lost session are asked for at once, where there is memory for them.
+const MANY: usize = 64;
+
+/// Appends the entries of the pairs of a peer that have these routes, and none then.
+fn add_cleared(
+    alloc: Global,
+    peer: &Rc<Peer>,
+    found: &[(Prefix, &Rc<Route>)],
+    entries: &mut Vec<Entry>,
+) -> Result<(), AllocError>
+    ensures sides { OnOk result (sides_of entries.new.items ≡ sides_of entries.old.items
+        ++ map (λ f. cleared_side peer.now.value f.0) found.now) }
+    ensures clearings { OnOk result (
+        clearings_of entries.old.items ≡ map clearing_then (sides_of entries.old.items) →
+        clearings_of entries.new.items ≡ map clearing_then (sides_of entries.new.items)) }
+{
+    'routes: for entry in found {
+        entries.push(Entry::new(alloc, peer.clone()?, &entry.0, None)?)?;
+    }
+    Ok(())
+}
+
+/// The entries of those pairs of a peer that have a route in its store, and none then: many at a
+/// time, as there is room for.
+fn cleared_at_once<'a, S: PrefixStore<Rc<Route>>>(
+    alloc: Global,
+    store: &'a S,
+    peer: &Rc<Peer>,
+    room: Vec<(Prefix, &'a Rc<Route>)>,
+) -> Result<Vec<Entry>, AllocError>
+    requires { 0 < vec_capacity room }
+    ensures sides { IfOk result (λ entries. sides_of entries.items
+        ≡ map (cleared_side peer.now.value) (finite.keys (S.routes store.now))) }
+    ensures clearings { IfOk result (λ entries.
+        clearings_of entries.items ≡ map clearing_then (sides_of entries.items)) }
+{
+    let mut entries = Vec::with_capacity(alloc, store.route_count() as usize)?;
+    let mut found = room;
+    let mut last = None;
+    'routes: loop {
+        store.next_routes(last.as_ref(), &mut found);
+        let Some(end) = found.last() else {
+            break;
+        };
+        last = Some(end.0);
+        add_cleared(alloc, peer, &found, &mut entries)?;
+    }
+    Ok(entries)
+}
+
+/// The same one by one, without room for more.
+fn cleared_one_by_one<S: PrefixStore<Rc<Route>>>(
     alloc: Global,
     store: &S,
     peer: &Rc<Peer>,
@@ -214,6 +265,23 @@ fn cleared_in<S: PrefixStore<Rc<Route>>>(
         last = Some(found.0);
     }
     Ok(entries)
+}
+
+/// The entries of those pairs of a peer that have a route in its store, and none then.
+fn cleared_in<S: PrefixStore<Rc<Route>>>(
+    alloc: Global,
+    store: &S,
+    peer: &Rc<Peer>,
+) -> Result<Vec<Entry>, AllocError>
+    ensures sides { IfOk result (λ entries. sides_of entries.items
+        ≡ map (cleared_side peer.now.value) (finite.keys (S.routes store.now))) }
+    ensures clearings { IfOk result (λ entries.
+        clearings_of entries.items ≡ map clearing_then (sides_of entries.items)) }
+{
+    match Vec::with_capacity(alloc, MANY) {
+        Ok(room) => cleared_at_once(alloc, store, peer, room),
+        Err(_) => cleared_one_by_one(alloc, store, peer),
+    }
 }
 
 /// The entries of all pairs of a peer that have a route, and none then.

@@ -1,8 +1,8 @@
 //! Steps of few pairs and of many, crossed back and forth.
 
 use super::{
-    Answer, RadixPlayer, Who, announcement, answer_to, event_of, keys_of, numbered,
-    numbered_event, peer, peer_of, prefix_of, shift, time_of,
+    Answer, RadixPlayer, Who, announcement, answer_to, event_of, keys_of, numbered, numbered_event,
+    peer, peer_of, prefix_of, shift, time_of,
 };
 use ip_prefix::Prefix;
 use mrt_wire::{Event, Item, Peer};
@@ -17,7 +17,11 @@ const COUNTS: &[u32] = &[1, 2, 7, 8, 9, 15, 16, 17, 100];
 fn assert_routes(rt: &impl Abort, player: &RadixPlayer, count: u32, present: bool) {
     for number in 0..count {
         let want = if present { Some(number) } else { None };
-        assert_eq!(rt; time_of(player, &peer(), &numbered(number)), want, "{number} of {count}");
+        assert_eq!(rt;
+            time_of(player, &peer(), &numbered(number)),
+            want,
+            "{number} of {count}"
+        );
     }
 }
 
@@ -80,12 +84,24 @@ fn last_of(steps: u32, parity: u32) -> Option<u32> {
 /// Asserts what so many of the small steps leave.
 fn assert_after(rt: &impl Abort, player: &RadixPlayer, steps: u32) -> Result<(), Fail> {
     for number in 0..STEPS {
-        let want = if number + 1 == steps { Some(number) } else { None };
-        assert_eq!(rt; time_of(player, &peer(), &numbered(number)), want, "{number} of {steps}");
+        let want = if number + 1 == steps {
+            Some(number)
+        } else {
+            None
+        };
+        assert_eq!(rt;
+            time_of(player, &peer(), &numbered(number)),
+            want,
+            "{number} of {steps}"
+        );
     }
     for parity in 0..2 {
         let want = last_of(steps, parity);
-        assert_eq!(rt; time_of(player, &v6_peer(parity), &v6()?), want, "{parity} of {steps}");
+        assert_eq!(rt;
+            time_of(player, &v6_peer(parity), &v6()?),
+            want,
+            "{parity} of {steps}"
+        );
     }
     Ok(())
 }

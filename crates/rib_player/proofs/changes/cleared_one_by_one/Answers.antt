@@ -9,9 +9,9 @@ use Rattle.rib_player.specs.Entries.{Entry}
 use Rattle.rib_player.specs.Journal.{Side, side_of, sides_of}
 use Rattle.rib_player.specs.Sides.{cleared_side}
 use Rattle.rib_player.specs.Clearings.{clearing_of, clearings_of, clearing_then}
-use Rattle.rib_player.proofs.changes.cleared_in.Given.{Over}
-use Rattle.rib_player.proofs.changes.cleared_in.Goals as goal
-use Rattle.rib_player.proofs.changes.cleared_in.Goals.{In-Some}
+use Rattle.rib_player.proofs.changes.cleared_one_by_one.Given.{Over}
+use Rattle.rib_player.proofs.changes.cleared_one_by_one.Goals as goal
+use Rattle.rib_player.proofs.changes.cleared_one_by_one.Goals.{In-Some}
 
 pub routes-init : goal.routes-init
 routes-init g c = record {
