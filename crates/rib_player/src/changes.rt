@@ -267,7 +267,8 @@ fn cleared_one_by_one<S: PrefixStore<Rc<Route>>>(
     Ok(entries)
 }
 
-/// The entries of those pairs of a peer that have a route in its store, and none then.
+/// The entries of those pairs of a peer that have a route in its store, and none then. Where many at a
+/// time want more memory than is there, it is tried one by one.
 fn cleared_in<S: PrefixStore<Rc<Route>>>(
     alloc: Global,
     store: &S,
@@ -278,10 +279,12 @@ fn cleared_in<S: PrefixStore<Rc<Route>>>(
     ensures clearings { IfOk result (λ entries.
         clearings_of entries.items ≡ map clearing_then (sides_of entries.items)) }
 {
-    match Vec::with_capacity(alloc, MANY) {
-        Ok(room) => cleared_at_once(alloc, store, peer, room),
-        Err(_) => cleared_one_by_one(alloc, store, peer),
+    if let Ok(room) = Vec::with_capacity(alloc, MANY) {
+        if let Ok(entries) = cleared_at_once(alloc, store, peer, room) {
+            return Ok(entries);
+        }
     }
+    cleared_one_by_one(alloc, store, peer)
 }
 
 /// The entries of all pairs of a peer that have a route, and none then.

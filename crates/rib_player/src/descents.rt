@@ -1,24 +1,24 @@
-//! Descents to the pairs of entries, gone before their routes change places with the table's, so that
-//! the processor waits for the nodes of several pairs at once. They change nothing.
+//! Descents to the pairs of entries, before their routes change places with the table's, so that the
+//! processor waits for the nodes of several pairs at once. They change nothing.
 //!
-//! Those of a step are gone where its pairs are of one peer, as in a message of updates. A record of a
-//! table names one prefix of many peers, and the nodes that it needs are those of the record before.
+//! Pairs of a step are reached where they are of one peer, as in a message of updates. A record of a
+//! table names one prefix of many peers, and needs nodes that the record before mostly needed too.
 
-ghost use Rattle.std.specs.Prelude.{◌≡◌, ◌≤◌, length};
+ghost use Rattle.std.specs.Prelude.{◌≡◌, ◌<◌, ◌≤◌, length};
 
 use crate::entry::Entry;
 use crate::journal::Step;
 use crate::table::Table;
 use mrt_wire::Route;
-use rib_store::{Descents, PrefixStore};
+use rib_store::{DESCENTS_AT_ONCE, Descents, PrefixStore};
 use std::collections::VecDeque;
 use std::rc::Rc;
 
 /// How many entries are reached at once. A step of fewer is reached with others, or whole.
-pub(crate) const ENTRIES_AT_ONCE: usize = 8;
+pub(crate) const ENTRIES_AT_ONCE: usize = DESCENTS_AT_ONCE as usize;
 
-/// How many steps are reached at once that have few entries.
-const STEPS_AT_ONCE: usize = 8;
+/// How many steps of fewer entries are reached together.
+const STEPS_TOGETHER: usize = 8;
 
 /// The store of the entries' peer, where they are of one. They are in the order of their pairs.
 fn only_store<'a, S: PrefixStore<Rc<Route>>>(
@@ -45,8 +45,8 @@ fn add_entries<'a, S: PrefixStore<Rc<Route>>>(
     passed
 }
 
-/// Reaches the entries of a step from the index on, where as many as are reached at once stand before
-/// it. Answers how many nodes were passed.
+/// Reaches the next entries of a step from the index on, where that is a multiple of as many as are
+/// reached at once. Answers how many nodes were passed.
 pub(crate) fn reach_entries<S: PrefixStore<Rc<Route>>>(
     table: &Table<S>,
     entries: &[Entry],
@@ -63,7 +63,7 @@ pub(crate) fn reach_entries<S: PrefixStore<Rc<Route>>>(
     let mut descents = Descents::new();
     let end = entries.len().min(index.saturating_add(ENTRIES_AT_ONCE));
     let passed = add_entries(&mut descents, store, &entries[index..end]);
-    passed.wrapping_add(descents.go())
+    passed.wrapping_add(descents.finish())
 }
 
 /// Adds descents to the entries of a step that has few, and answers how many nodes were passed.
@@ -96,10 +96,11 @@ fn reach_steps<S: PrefixStore<Rc<Route>>>(
         let step = &steps[index];
         passed = passed.wrapping_add(add_step(&mut descents, table, &step.entries));
     }
-    passed.wrapping_add(descents.go())
+    passed.wrapping_add(descents.finish())
 }
 
-/// Reaches the steps before the index, where as many as are reached at once stand behind it.
+/// Reaches the steps before the index, where that is a multiple of as many as are reached together,
+/// and the first of them names a pair.
 pub(crate) fn reach_back<S: PrefixStore<Rc<Route>>>(
     table: &mut Table<S>,
     steps: &VecDeque<Step>,
@@ -108,27 +109,28 @@ pub(crate) fn reach_back<S: PrefixStore<Rc<Route>>>(
     requires { index ≤ length steps.now.items }
     ensures { table.new ≡ table.old }
 {
-    if index % STEPS_AT_ONCE != 0 {
+    if index == 0 || index % STEPS_TOGETHER != 0 || steps[index - 1].entries.is_empty() {
         return;
     }
-    let start = index.saturating_sub(STEPS_AT_ONCE);
+    let start = index.saturating_sub(STEPS_TOGETHER);
     let passed = reach_steps(table, steps, start, index);
     table.note_passed(passed);
 }
 
-/// Reaches the steps from the index on, where as many as are reached at once stand before it.
+/// Reaches the steps from the index on, where that is a multiple of as many as are reached together,
+/// and the first of them names a pair.
 pub(crate) fn reach_ahead<S: PrefixStore<Rc<Route>>>(
     table: &mut Table<S>,
     steps: &VecDeque<Step>,
     index: usize,
 )
-    requires { index ≤ length steps.now.items }
+    requires { index < length steps.now.items }
     ensures { table.new ≡ table.old }
 {
-    if index % STEPS_AT_ONCE != 0 {
+    if index % STEPS_TOGETHER != 0 || steps[index].entries.is_empty() {
         return;
     }
-    let end = steps.len().min(index.saturating_add(STEPS_AT_ONCE));
+    let end = steps.len().min(index.saturating_add(STEPS_TOGETHER));
     let passed = reach_steps(table, steps, index, end);
     table.note_passed(passed);
 }

@@ -34,7 +34,8 @@ use std::rc::Rc;
 pub struct Table<S: PrefixStore<Rc<Route>>> {
     alloc: Global,
     stores: BTreeMap<Peer, S>,
-    /// How many nodes were passed to reach pairs before their routes changed.
+    /// How many nodes were passed to reach pairs before their routes changed. Nothing reads it; without
+    /// it a compiler may leave out the descents.
     passed: u64,
 }
 

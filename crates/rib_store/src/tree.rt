@@ -12,7 +12,7 @@ mod descents;
 mod lookups;
 
 use crate::packed::V4Prefix;
-pub use descents::{Descent, Descents};
+pub use descents::{DESCENTS_AT_ONCE, Descent, Descents};
 use ip_prefix::Prefix;
 use std::mem::size_of;
 use std::rc::Rc;

@@ -1,5 +1,5 @@
-//! Descents to prefixes, gone some at a time before routes come and go there. The processor so waits
-//! for the nodes of all of them at once, and not for one after the other.
+//! Descents to prefixes, eight at a time, before routes come and go there. The processor so waits for
+//! the nodes of all of them at once, and not for one after the other.
 
 use crate::packed::{Packed, V4Prefix};
 use crate::tree::Tree;
@@ -9,11 +9,12 @@ use std::mem;
 /// The most nodes on a way down to a prefix, of IPv6.
 const MOST_NODES: u8 = 129;
 
-/// How many descents are gone at once.
-const AT_ONCE: u8 = 8;
+/// How many descents go down at once.
+pub const DESCENTS_AT_ONCE: u8 = 8;
 
-/// A descent to a prefix. It looks at one bit of it for each node, so it comes to where the prefix
-/// stands if it is a key of at most 64 bits, and else somewhere; it says nothing of what stands there.
+/// A descent past where a prefix stands, to a node without others below it. It looks at one bit for
+/// each node, of the first 64 that the prefix has, and compares nothing, so it says nothing of what
+/// stands there.
 #[derive(Drop)]
 pub struct Descent<'a, R> {
     place: Place<'a, R>,
@@ -54,9 +55,9 @@ impl<'a, R> Descent<'a, R> {
         }
     }
 
-    /// Goes on to the next node, and answers whether there was one.
+    /// Passes a node, and answers whether there was one.
     #[inline]
-    fn step(&mut self) -> bool {
+    fn pass_node(&mut self) -> bool {
         let next = match &self.place {
             Place::Ended => return false,
             Place::V4(tree) => match below(tree, self.bits) {
@@ -83,7 +84,7 @@ fn below<'a, K: Packed, R>(tree: &'a Tree<K, R>, bits: u64) -> Option<&'a Tree<K
     Some(if right { &node.right } else { &node.left })
 }
 
-/// Descents that are gone at once.
+/// Descents that go down at once.
 #[derive(Drop)]
 pub struct Descents<'a, R> {
     first: Descent<'a, R>,
@@ -113,8 +114,8 @@ impl<'a, R> Descents<'a, R> {
         }
     }
 
-    /// Adds a descent. Where there are eight they are gone; it answers how many nodes the longest
-    /// went past.
+    /// Adds a descent. The eighth takes all of them down; it answers how many nodes the longest passed
+    /// then.
     pub fn add(&mut self, descent: Descent<'a, R>) -> u64 {
         let second = mem::replace(&mut self.first, descent);
         let third = mem::replace(&mut self.second, second);
@@ -124,28 +125,34 @@ impl<'a, R> Descents<'a, R> {
         let seventh = mem::replace(&mut self.sixth, sixth);
         self.eighth = mem::replace(&mut self.seventh, seventh);
         self.count = self.count.wrapping_add(1);
-        if self.count < AT_ONCE {
+        if self.count < DESCENTS_AT_ONCE {
             return 0;
         }
-        self.go()
+        self.finish()
     }
 
-    /// Goes those that are left, and answers how many nodes the longest went past.
-    pub fn go(&mut self) -> u64 {
+    /// Takes those that were added since down, and answers how many nodes the longest passed.
+    pub fn finish(&mut self) -> u64 {
         self.count = 0;
         'nodes: for passed in 0..MOST_NODES {
-            if !self.step() {
+            if !self.pass_nodes() {
                 return u64::from(passed);
             }
         }
         u64::from(MOST_NODES)
     }
 
-    /// Each goes on to its next node; it answers whether there was one.
+    /// Each passes a node; it answers whether there was one.
     #[inline]
-    fn step(&mut self) -> bool {
-        let front = self.first.step() | self.second.step() | self.third.step() | self.fourth.step();
-        let back = self.fifth.step() | self.sixth.step() | self.seventh.step() | self.eighth.step();
-        front | back
+    fn pass_nodes(&mut self) -> bool {
+        let first_four = self.first.pass_node()
+            | self.second.pass_node()
+            | self.third.pass_node()
+            | self.fourth.pass_node();
+        let last_four = self.fifth.pass_node()
+            | self.sixth.pass_node()
+            | self.seventh.pass_node()
+            | self.eighth.pass_node();
+        first_four | last_four
     }
 }

@@ -1,12 +1,9 @@
 //! Descents, of which contracts say that they end and no more.
 
 use super::{add, prefix_of};
-use rib_store::{Descents, LeftStore, MapStore, PrefixStore, RadixStore};
+use rib_store::{DESCENTS_AT_ONCE, Descents, LeftStore, MapStore, PrefixStore, RadixStore};
 use std::process::Abort;
 use std::test::Fail;
-
-/// How many descents are gone at once.
-const AT_ONCE: u32 = 8;
 
 /// Keys, each with how many nodes of a tree stand above it: keys that cover it, and points where the
 /// ways to two keys part.
@@ -25,7 +22,7 @@ const KEYS: &[(&str, u64)] = &[
     ("2001:db8:1:2::/64", 3),
 ];
 
-/// The keys that have none below them.
+/// The keys that have none below them, where descents end.
 const LEAVES: &[&str] = &[
     "10.0.0.0/9",
     "10.128.0.1/32",
@@ -46,7 +43,7 @@ fn add_keys<S: PrefixStore<u32>>(rt: &impl Abort, store: &mut S) -> Result<(), F
 fn passed<S: PrefixStore<u32>>(rt: &impl Abort, store: &S, text: &str) -> Result<u64, Fail> {
     let mut descents = Descents::new();
     assert_eq!(rt; descents.add(store.descent(&prefix_of(text)?)), 0);
-    Ok(descents.go())
+    Ok(descents.finish())
 }
 
 /// How many nodes stand above a key of a tree.
@@ -93,10 +90,9 @@ fn descents_of_a_map_store_end_at_once(rt: HostRuntime) -> Result<(), Fail> {
     Ok(())
 }
 
-/// The eighth descent starts all, and those that are left are gone when it is said; the longest
-/// counts.
+/// The eighth takes all down, and those that are added then wait for the next; the longest counts.
 #[test]
-fn eight_descents_are_gone_at_once(rt: HostRuntime) -> Result<(), Fail> {
+fn eight_descents_go_down_at_once(rt: HostRuntime) -> Result<(), Fail> {
     let mut store = RadixStore::new(rt.alloc());
     add_keys(&rt, &mut store)?;
     let short = prefix_of("192.0.2.0/24")?;
@@ -104,13 +100,13 @@ fn eight_descents_are_gone_at_once(rt: HostRuntime) -> Result<(), Fail> {
     let mut descents = Descents::new();
     for round in 0..3u8 {
         assert_eq!(rt; descents.add(store.descent(&long)), 0, "{round}");
-        for _ in 2..AT_ONCE {
+        for _ in 2..DESCENTS_AT_ONCE {
             assert_eq!(rt; descents.add(store.descent(&short)), 0, "{round}");
         }
         assert_eq!(rt; descents.add(store.descent(&short)), 5, "{round}");
     }
-    assert_eq!(rt; descents.go(), 0);
+    assert_eq!(rt; descents.finish(), 0);
     assert_eq!(rt; descents.add(store.descent(&short)), 0);
-    assert_eq!(rt; descents.go(), 1);
+    assert_eq!(rt; descents.finish(), 1);
     Ok(())
 }
