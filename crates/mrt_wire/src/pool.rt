@@ -137,6 +137,26 @@ impl RoutePool {
         Ok(self.routes[place].clone()?)
     }
 
+    /// The same, for a route that was given out before, which is kept in its place.
+    pub(crate) fn exchange_rib_route(
+        &mut self,
+        alloc: Global,
+        sent: SentAttrs<'_>,
+        time: u32,
+        route: &mut Rc<Route>,
+    ) -> Result<(), WireFault>
+        ensures attrs { OnOk result (SpellsRibAttrs sent.entry.family sent.entry.width
+            route.new.value.attrs sent.entry.octets.now) }
+        ensures time { OnOk result (route.new.value.time ≡ time) }
+        ensures refused { IfErr result (Refuses (SpellsRibAttrs sent.entry.family sent.entry.width)
+            sent.entry.octets.now) }
+    {
+        let place = self.next_place(alloc)?;
+        fill_rib_route(&mut self.routes[place], alloc, sent, time)?;
+        mem::swap(&mut self.routes[place], route);
+        Ok(())
+    }
+
     /// A route of these attributes and this time. Others that aren't needed are given for them.
     #[inline(always)]
     pub(crate) fn route(

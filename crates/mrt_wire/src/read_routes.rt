@@ -137,7 +137,7 @@ impl ReadRoute {
     }
 
     /// Reads it anew, with this time: in its own memory, or as another route where somebody holds
-    /// this one.
+    /// this one, or memory is refused for its attributes.
     fn read(
         &mut self,
         alloc: Global,
@@ -152,10 +152,11 @@ impl ReadRoute {
             sent.entry.octets.now) }
     {
         self.known = false;
-        if Rc::get_mut(&mut self.route).is_some() {
-            fill_rib_route(&mut self.route, alloc, sent, time)?;
-        } else {
-            self.route = routes.rib_route(alloc, sent, time)?;
+        match fill_rib_route(&mut self.route, alloc, sent, time) {
+            Err(WireFault::Memory) => {
+                routes.exchange_rib_route(alloc, sent, time, &mut self.route)?
+            }
+            read => read?,
         }
         self.note(sent);
         Ok(())
