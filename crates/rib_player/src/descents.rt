@@ -20,6 +20,35 @@ pub(crate) const ENTRIES_AT_ONCE: usize = DESCENTS_AT_ONCE as usize;
 /// How many steps of fewer entries are reached together.
 const STEPS_TOGETHER: usize = 8;
 
+/// From which steps on some were reached together last, and the time before. Who goes back and forth
+/// over a place doesn't reach them each time.
+#[derive(Clone, Copy)]
+pub(crate) struct Reached {
+    last: usize,
+    before: usize,
+}
+
+impl Reached {
+    /// Nowhere yet.
+    pub(crate) fn nowhere() -> Self {
+        Reached {
+            last: usize::MAX,
+            before: usize::MAX,
+        }
+    }
+
+    /// Notes that steps are reached from this index on, and answers whether they are to be: not
+    /// those of the last two times.
+    fn note(&mut self, start: usize) -> bool {
+        if start == self.last || start == self.before {
+            return false;
+        }
+        self.before = self.last;
+        self.last = start;
+        true
+    }
+}
+
 /// The store of the entries' peer, where they are of one. They are in the order of their pairs.
 fn only_store<'a, S: PrefixStore<Rc<Route>>>(
     table: &'a Table<S>,
@@ -100,11 +129,12 @@ fn reach_steps<S: PrefixStore<Rc<Route>>>(
 }
 
 /// Reaches the steps before the index, where that is a multiple of as many as are reached together,
-/// and the first of them names a pair.
+/// the first of them names a pair, and they weren't reached just now.
 pub(crate) fn reach_back<S: PrefixStore<Rc<Route>>>(
     table: &mut Table<S>,
     steps: &VecDeque<Step>,
     index: usize,
+    reached: &mut Reached,
 )
     requires { index ≤ length steps.now.items }
     ensures { table.new ≡ table.old }
@@ -113,21 +143,28 @@ pub(crate) fn reach_back<S: PrefixStore<Rc<Route>>>(
         return;
     }
     let start = index.saturating_sub(STEPS_TOGETHER);
+    if !reached.note(start) {
+        return;
+    }
     let passed = reach_steps(table, steps, start, index);
     table.note_passed(passed);
 }
 
 /// Reaches the steps from the index on, where that is a multiple of as many as are reached together,
-/// and the first of them names a pair.
+/// the first of them names a pair, and they weren't reached just now.
 pub(crate) fn reach_ahead<S: PrefixStore<Rc<Route>>>(
     table: &mut Table<S>,
     steps: &VecDeque<Step>,
     index: usize,
+    reached: &mut Reached,
 )
     requires { index < length steps.now.items }
     ensures { table.new ≡ table.old }
 {
     if index % STEPS_TOGETHER != 0 || steps[index].entries.is_empty() {
+        return;
+    }
+    if !reached.note(index) {
         return;
     }
     let end = steps.len().min(index.saturating_add(STEPS_TOGETHER));

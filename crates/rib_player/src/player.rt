@@ -8,7 +8,7 @@ ghost use Rattle.rib_player.specs.Calls.{fresh, after_undo, after_redo, without_
 ghost use Rattle.rib_player.specs.Wanted.{wanted, named_count, IsWellFormed};
 
 use crate::changes::step_for;
-use crate::descents::{reach_ahead, reach_back};
+use crate::descents::{Reached, reach_ahead, reach_back};
 use crate::digest::Digest;
 use crate::groups::Groups;
 use crate::journal::{Step, advance, cross_step, forget_entries, forget_steps, named_from};
@@ -57,6 +57,8 @@ pub struct Player<S: PrefixStore<Rc<Route>>> {
     known: KnownRoutes,
     /// The peers of steps, alike.
     peers: KnownPeers,
+    /// Where steps were reached before they were crossed.
+    reached: Reached,
 }
 
 impl<S: PrefixStore<Rc<Route>>> Model for Player<S> {
@@ -101,6 +103,7 @@ impl<S: PrefixStore<Rc<Route>>> Player<S> {
             floor: 0,
             known: KnownRoutes::new(alloc),
             peers: KnownPeers::new(alloc),
+            reached: Reached::nowhere(),
         }
     }
 
@@ -166,7 +169,7 @@ impl<S: PrefixStore<Rc<Route>>> Player<S> {
         if self.cursor == 0 {
             return Err(Nothing);
         }
-        reach_back(&mut self.table, &self.steps, self.cursor);
+        reach_back(&mut self.table, &self.steps, self.cursor, &mut self.reached);
         self.cursor -= 1;
         cross_step(&mut self.table, &mut self.steps, self.cursor);
         Ok(())
@@ -180,7 +183,7 @@ impl<S: PrefixStore<Rc<Route>>> Player<S> {
         if self.cursor == self.steps.len() {
             return Err(Nothing);
         }
-        reach_ahead(&mut self.table, &self.steps, self.cursor);
+        reach_ahead(&mut self.table, &self.steps, self.cursor, &mut self.reached);
         cross_step(&mut self.table, &mut self.steps, self.cursor);
         self.cursor += 1;
         Ok(())
