@@ -8,7 +8,7 @@ them fail; it takes a C compiler. Where nothing fails, `-m` prints what stands b
 each call of the program the first request for memory is refused, then the second and so on, each
 alone, and then it and all behind it. Then each read and each write fails, or moves a single octet.
 Whatever fails, the outputs are fronts of the right texts, the status is that of the manual page, and
-the last message is there.
+the last message is there. A long file asks for memory as often as a short one.
 
 CASES is the program of crates/refusals: refused_calls.py says what becomes of its calls.
 """
@@ -20,6 +20,7 @@ from pathlib import Path
 
 from calling import ALL, Calls
 from refused_calls import faults_of_cases
+from steady_memory import faults_of_long_runs
 
 EXAMPLES = Path(__file__).resolve().parent.parent / 'examples'
 
@@ -123,7 +124,9 @@ def main():
     faults = []
     with tempfile.TemporaryDirectory() as folder:
         if asked.program:
-            faults += faults_of_program(Calls(asked.program.resolve(), Path(folder)))
+            calls = Calls(asked.program.resolve(), Path(folder))
+            faults += faults_of_program(calls)
+            faults += faults_of_long_runs(calls)
         if asked.cases:
             faults += faults_of_cases(Calls(asked.cases.resolve(), Path(folder), marked=True))
     for what in faults:
