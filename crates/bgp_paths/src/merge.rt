@@ -7,6 +7,7 @@ ghost use Rattle.bgp_paths.specs.Merge.{Hop, hops_by, hops_from, segments_of, pl
 ghost use Rattle.bgp_paths.specs.declared.path.AsPath.{AsPath};
 
 use crate::path::{AsNumbers, AsPath, Segment, SegmentKind, Segments};
+use crate::path_reader::fit;
 use std::alloc::{AllocError, Global};
 
 /// AS_PATH joined with AS4_PATH (RFC 6793, section 4.2.3). Segments of a confederation in AS4_PATH
@@ -24,6 +25,7 @@ pub fn merge_paths(alloc: Global, first: &AsPath, second: &AsPath) -> Result<AsP
     let mut segments = Vec::with_capacity(alloc, front.len().saturating_add(back.len()))?;
     push_front(alloc, front, total - replaced, &mut segments)?;
     push_plain(back, &mut segments)?;
+    fit(&mut segments);
     Ok(AsPath {
         segments: Segments::from_vec(segments),
     })

@@ -1,6 +1,6 @@
 //! Numbers in network byte order.
 
-ghost use Rattle.std.specs.Prelude.{◌≡◌, ◌≤◌, ◌<◌, ◌/◌, ◌%◌, ◌^◌, [], length, OnOk, IfErr, vec_capacity};
+ghost use Rattle.std.specs.Prelude.{◌≡◌, ◌≤◌, ◌<◌, ◌+◌, ◌/◌, ◌%◌, ◌^◌, [], length, OnOk, IfErr, vec_capacity};
 ghost use Rattle.std.specs.Int.{to_be_bytes, w16};
 ghost use Rattle.ip_prefix.specs.Sequences.{SpellsAll};
 ghost use Rattle.bgp_paths.specs.Number.{SpellsAsn, octets_at};
@@ -9,6 +9,7 @@ ghost use Rattle.bgp_paths.specs.Readers.{Refuses};
 use crate::fault::WireFault;
 use crate::path::AsWidth;
 use byteorder::{BigEndian, ByteOrder};
+use std::alloc::AllocError;
 
 impl AsWidth {
     /// How many octets a number takes.
@@ -35,6 +36,26 @@ impl AsWidth {
     }
 }
 
+/// Takes all numbers away, and makes room for so many. Room for up to `spare` more stays, so that a
+/// list has about the room that it needs, whatever stood in it before.
+#[inline(always)]
+pub(crate) fn make_room(
+    numbers: &mut Vec<u32>,
+    count: usize,
+    spare: usize,
+) -> Result<(), AllocError>
+    ensures none { OnOk result (numbers.new.items ≡ []) }
+    ensures room { OnOk result (count ≤ vec_capacity numbers.new) }
+    ensures bound { OnOk result (vec_capacity numbers.new ≤ count + spare) }
+{
+    numbers.clear();
+    let held = numbers.capacity();
+    if held < count || held - count > spare {
+        *numbers = Vec::with_capacity(*numbers.allocator(), count)?;
+    }
+    Ok(())
+}
+
 /// Appends the numbers that the octets are, one behind the other, to none. It is inlined, so that
 /// there is a loop for each width.
 #[inline(always)]
@@ -42,7 +63,8 @@ fn push_numbers(width: AsWidth, octets: &[u8], numbers: &mut Vec<u32>)
     requires whole { length octets.now % octets_at width ≡ 0 }
     requires none { numbers.old.items ≡ [] }
     requires room { length octets.now / octets_at width ≤ vec_capacity numbers.old }
-    ensures { SpellsAll (SpellsAsn width) numbers.new.items octets.now }
+    ensures numbers { SpellsAll (SpellsAsn width) numbers.new.items octets.now }
+    ensures kept { vec_capacity numbers.new ≡ vec_capacity numbers.old }
 {
     let size = width.octets();
     let mut rest = octets;
@@ -54,18 +76,24 @@ fn push_numbers(width: AsWidth, octets: &[u8], numbers: &mut Vec<u32>)
 }
 
 /// Makes the numbers those that the octets are, one behind the other. There is room for all of them
-/// from the start. Refused, nothing is said of them.
+/// from the start, and for up to `spare` more behind a longer list. Refused, nothing is said of them.
 #[inline(always)]
-pub fn fill_numbers(numbers: &mut Vec<u32>, width: AsWidth, octets: &[u8]) -> Result<(), WireFault>
+pub fn fill_numbers(
+    numbers: &mut Vec<u32>,
+    width: AsWidth,
+    octets: &[u8],
+    spare: usize,
+) -> Result<(), WireFault>
     ensures filled { OnOk result (SpellsAll (SpellsAsn width) numbers.new.items octets.now) }
+    ensures bound { OnOk result
+        (vec_capacity numbers.new ≤ length octets.now / octets_at width + spare) }
     ensures refused { IfErr result (Refuses (SpellsAll (SpellsAsn width)) octets.now) }
 {
     let size = width.octets();
     if octets.len() % size != 0 {
         return Err(WireFault::Malformed);
     }
-    numbers.clear();
-    numbers.reserve(octets.len() / size)?;
+    make_room(numbers, octets.len() / size, spare)?;
     match width {
         AsWidth::Two => push_numbers(AsWidth::Two, octets, numbers),
         AsWidth::Four => push_numbers(AsWidth::Four, octets, numbers),

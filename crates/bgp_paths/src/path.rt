@@ -9,7 +9,7 @@ ghost use Rattle.bgp_paths.specs.Readers.{Refuses};
 
 use crate::fault::WireFault;
 use crate::numbers::fill_numbers;
-use crate::path_reader::fill_segments;
+use crate::path_reader::{fill_segments, fit};
 use std::alloc::{AllocError, Global};
 use std::marker::Model;
 
@@ -84,13 +84,19 @@ impl AsNumbers {
         self.numbers.as_slice()
     }
 
-    /// Makes them those that the octets are. Refused, nothing is said of them.
+    /// Makes them those that the octets are, with room for up to `spare` more behind a longer list.
+    /// Refused, nothing is said of them.
     #[inline(always)]
-    pub(crate) fn fill(&mut self, width: AsWidth, octets: &[u8]) -> Result<(), WireFault>
+    pub(crate) fn fill(
+        &mut self,
+        width: AsWidth,
+        octets: &[u8],
+        spare: usize,
+    ) -> Result<(), WireFault>
         ensures filled { OnOk result (SpellsAll (SpellsAsn width) self.new octets.now) }
         ensures refused { IfErr result (Refuses (SpellsAll (SpellsAsn width)) octets.now) }
     {
-        fill_numbers(&mut self.numbers, width, octets)
+        fill_numbers(&mut self.numbers, width, octets, spare)
     }
 }
 
@@ -171,6 +177,7 @@ impl Segments {
         ensures { self.new ≡ [] }
     {
         self.segments.clear();
+        fit(&mut self.segments);
     }
 
     /// Makes them those that the octets spell. Refused, nothing is said of them.

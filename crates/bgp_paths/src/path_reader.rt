@@ -22,6 +22,14 @@ const AS_CONFED_SEQUENCE: u8 = 3;
 /// The type of a set of a confederation's members (RFC 5065, section 3).
 const AS_CONFED_SET: u8 = 4;
 
+/// For how many numbers more a path's first segment has room at most behind a longer one. Most paths
+/// have no other.
+const FIRST_SPARE: usize = 16;
+/// For how many numbers more another segment has room at most.
+const LATER_SPARE: usize = 4;
+/// For how many segments more a path has room at most.
+const MOST_SPARE: usize = 4;
+
 /// A segment in front of octets: its kind, the octets of its numbers, and what follows it.
 #[derive(Clone, Copy)]
 struct FramedSegment<'a> {
@@ -64,6 +72,22 @@ fn frame_segment(width: AsWidth, octets: &[u8]) -> Option<FramedSegment<'_>>
     Some(FramedSegment { body, rest, kind })
 }
 
+/// For how many numbers more the segment at a place has room at most behind a longer one.
+#[inline(always)]
+pub(crate) fn spare_at(place: usize) -> usize {
+    if place == 0 { FIRST_SPARE } else { LATER_SPARE }
+}
+
+/// Lets go of room for many segments more than there are, unless memory is refused for fewer.
+#[inline(always)]
+pub(crate) fn fit(segments: &mut Vec<Segment>)
+    ensures { segments.new.items ≡ segments.old.items }
+{
+    if segments.capacity().saturating_sub(segments.len()) > MOST_SPARE {
+        segments.shrink_to_fit();
+    }
+}
+
 /// Puts a segment of these numbers at a place, in the memory of the one there, or behind all.
 /// Nothing is said of those behind it.
 #[inline(always)]
@@ -83,7 +107,7 @@ fn fill_segment(
     if place < segments.len() {
         let segment = &mut segments[place];
         segment.kind = framed.kind;
-        return segment.numbers.fill(width, framed.body);
+        return segment.numbers.fill(width, framed.body, spare_at(place));
     }
     push_segment(alloc, segments, width, framed)
 }
@@ -101,7 +125,7 @@ fn push_segment(
     ensures refused { IfErr result (Refuses (SpellsAll (SpellsAsn width)) framed.entry.body.now) }
 {
     let mut numbers = AsNumbers::from_vec(Vec::new(alloc));
-    numbers.fill(width, framed.body)?;
+    numbers.fill(width, framed.body, 0)?;
     if segments.capacity() == 0 {
         segments.reserve_exact(1)?;
     }
@@ -135,5 +159,6 @@ pub(crate) fn fill_segments(
         rest = framed.rest;
     }
     segments.truncate(count);
+    fit(segments);
     Ok(())
 }

@@ -2,7 +2,9 @@
 
 ghost use Rattle.std.specs.Prelude.{◌≡◌, ◌≤◌, ◌+◌, ◌++◌, ◌∷◌, [], OnOk, IfOk, length, take, vec_len};
 
+use crate::numbers::make_room;
 use crate::path::{AsNumbers, AsPath, Segment, Segments};
+use crate::path_reader::{fit, spare_at};
 use std::alloc::{AllocError, Global};
 use std::mem;
 
@@ -41,12 +43,12 @@ fn put_segment(
     Ok(())
 }
 
-/// The numbers, in the memory of others.
-pub fn copy_numbers(old: Vec<u32>, numbers: &[u32]) -> Result<Vec<u32>, AllocError>
+/// The numbers, in the memory of others, with room for up to `spare` more.
+pub fn copy_numbers(old: Vec<u32>, numbers: &[u32], spare: usize) -> Result<Vec<u32>, AllocError>
     ensures { IfOk result (λ copy. copy.items ≡ numbers.now) }
 {
     let mut copy = old;
-    copy.clear();
+    make_room(&mut copy, numbers.len(), spare)?;
     copy.extend_from_slice(numbers)?;
     Ok(copy)
 }
@@ -61,13 +63,15 @@ pub fn copy_path(alloc: Global, old: AsPath, path: &AsPath) -> Result<AsPath, Al
     }
     let mut count = 0;
     for segment in path.segments.as_slice() {
-        let spare = take_numbers(alloc, &mut segments, count);
-        let numbers = AsNumbers::from_vec(copy_numbers(spare, segment.numbers.as_slice())?);
+        let old = take_numbers(alloc, &mut segments, count);
+        let numbers = copy_numbers(old, segment.numbers.as_slice(), spare_at(count))?;
+        let numbers = AsNumbers::from_vec(numbers);
         let kind = segment.kind;
         put_segment(&mut segments, count, Segment { numbers, kind })?;
         count += 1;
     }
     segments.truncate(count);
+    fit(&mut segments);
     Ok(AsPath {
         segments: Segments::from_vec(segments),
     })

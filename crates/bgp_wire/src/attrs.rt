@@ -13,6 +13,9 @@ use std::alloc::{AllocError, Global};
 use std::marker::Model;
 use std::mem;
 
+/// For how many communities more there is room at most behind a longer list.
+const MOST_SPARE: usize = 32;
+
 /// How a route came into BGP (RFC 4271, section 5.1.1).
 #[derive(Clone, Copy, Debug, PartialEq, Eq)]
 pub enum Origin {
@@ -73,12 +76,15 @@ impl Communities {
         self.communities.as_slice()
     }
 
-    /// Takes all communities away. Their room stays.
+    /// Takes all communities away. The room of many is let go of.
     #[inline]
     pub(crate) fn clear(&mut self)
         ensures { self.new ≡ [] }
     {
         self.communities.clear();
+        if self.communities.capacity() > MOST_SPARE {
+            self.communities.shrink_to_fit();
+        }
     }
 
     /// Makes them those that the octets are. Refused, nothing is said of them.
@@ -87,7 +93,7 @@ impl Communities {
         ensures filled { OnOk result (SpellsAll SpellsWord self.new octets.now) }
         ensures refused { IfErr result (Refuses (SpellsAll SpellsWord) octets.now) }
     {
-        fill_numbers(&mut self.communities, AsWidth::Four, octets)
+        fill_numbers(&mut self.communities, AsWidth::Four, octets, MOST_SPARE)
     }
 }
 
@@ -164,7 +170,8 @@ impl Attrs {
         ensures { IfOk result (λ copy. copy ≡ self.now) }
     {
         let path = copy_path(alloc, spare.path, &self.path)?;
-        let communities = copy_numbers(spare.communities.into_vec(), self.communities.as_slice())?;
+        let old = spare.communities.into_vec();
+        let communities = copy_numbers(old, self.communities.as_slice(), MOST_SPARE)?;
         Ok(Attrs {
             next_hop: self.next_hop,
             aggregator: self.aggregator,

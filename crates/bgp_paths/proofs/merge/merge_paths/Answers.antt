@@ -23,7 +23,7 @@ returns c =
     let longest = subst (λ segments. IsLongest (path_weight first - path_weight second) (hops_from 0 segments) hops) c.as_slice-front.ensures
     (subst (λ n. IsLongest n (hops_from 0 c.as_slice-front.result.now) hops) lacking pushed.1) in
     let made : c.from_vec.result ≡ segments_of hops ++ plain_segments second.segments =
-    c.from_vec.ensures ∙ c.in_ok-push_plain.ensures
+    c.from_vec.ensures ∙ c.fit.ensures ∙ c.in_ok-push_plain.ensures
     ∙ ap (λ l. l ++ plain_segments c.as_slice-back.result.now) (pushed.2 ∙ ap (λ l. l ++ segments_of hops) c.in_ok-segments.ensures.items)
     ∙ ap (λ segments. segments_of hops ++ plain_segments segments) c.as_slice-back.ensures in
     subst (λ segments. IsMerge first second (record { segments = segments })) (sym made) (front_joined first second hops longer longest)

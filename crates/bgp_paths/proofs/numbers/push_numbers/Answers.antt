@@ -20,4 +20,5 @@ loop-rest-preserved c =
           (one_more (SpellsAsn width) c.loop-rest.numbers.items c.number.result more rest octets c.loop-rest.invariant.read front);
       whole = less_one width (length rest) (length more) c.loop-rest.invariant.whole parted;
       room = omega (arith, c.loop-rest.invariant.room, number_less width (length rest) (length more) parted, ap length c.push_reserved.ensures.items, c.push_reserved.ensures.capacity);
+      kept = c.push_reserved.ensures.capacity ∙ c.loop-rest.invariant.kept;
     }
