@@ -9,15 +9,15 @@ ghost use Rattle.bgp_wire.specs.Attribute.{is_extended, length_octets, length_li
 use crate::lengths::{LENGTH_SIZE, read_length};
 
 /// The flag of an attribute whose length has two octets (RFC 4271, section 4.3).
-const EXTENDED_LENGTH: u8 = 0x10;
+pub const EXTENDED_LENGTH: u8 = 0x10;
 
 /// The types of attributes are below this, as far as they are read.
 pub(crate) const KINDS: usize = 19;
 
 /// The type of ORIGIN (RFC 4271, section 4.3).
-pub(crate) const ORIGIN: u8 = 1;
+pub const ORIGIN: u8 = 1;
 /// The type of AS_PATH.
-pub(crate) const AS_PATH: u8 = 2;
+pub const AS_PATH: u8 = 2;
 /// The type of NEXT_HOP.
 pub(crate) const NEXT_HOP: u8 = 3;
 /// The type of MULTI_EXIT_DISC.

@@ -190,8 +190,8 @@ fn judge_session(
     Ok(session_event(header.seconds, session.micros, session.items))
 }
 
-/// Reads a record, for which no route was given out yet. A record that brings an index puts it in
-/// the place of the one before, unless it is refused.
+/// Reads a record. One that brings an index puts it in the place of the one before, unless it is
+/// refused.
 #[inline(always)]
 pub(crate) fn judge(
     alloc: Global,
@@ -200,7 +200,6 @@ pub(crate) fn judge(
     index: &mut Option<Peers>,
     raw: RawRecord<'_>,
 ) -> Result<Event, Refusal>
-    requires { pool.old.routes.given ≡ 0 }
     ensures { Judges stamp index.old index.new (taken_record raw.entry) result }
 {
     let header = raw.header;

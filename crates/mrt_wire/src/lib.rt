@@ -12,6 +12,7 @@ mod pool;
 mod profile;
 mod read_routes;
 mod rib;
+mod route_pool;
 mod same;
 mod session;
 mod source;

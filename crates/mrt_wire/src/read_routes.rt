@@ -1,60 +1,29 @@
 //! Routes of tables, with the octets that they were read from. A peer announces prefixes in a row
 //! with the same attributes, which are read once.
 
-ghost use Rattle.std.specs.Prelude.{◌≡◌, ◌≤◌, ◌<◌, IsTrue, IfOk, IfErr, OnOk, vec_len};
+ghost use Rattle.std.specs.Prelude.{◌≡◌, ◌≤◌, ◌<◌, IsTrue, IfOk, IfErr, IfSome, OnOk, vec_len};
 ghost use Rattle.bgp_wire.specs.Content.{SpellsRibAttrs};
 ghost use Rattle.bgp_wire.specs.Readers.{Refuses};
 ghost use Rattle.mrt_wire.specs.declared.peer.TheConstants.{PEER_PLACES};
 
 use crate::event::Route;
 use crate::peer::PEER_PLACES;
-use crate::pool::RoutePool;
-use bgp_wire::{AsWidth, Attrs, WireFault, replace_rib_attrs};
+use crate::route_pool::{RoutePool, SentAttrs, fill_rib_route, new_route};
+use bgp_wire::{AS_PATH, AsWidth, EXTENDED_LENGTH, ORIGIN, WireFault};
 use ip_prefix::Family;
 use std::alloc::{AllocError, Global};
 use std::marker::Model;
 use std::rc::Rc;
 
-/// The attributes of a table's entry as they were sent: the octets, the family of the prefix that
-/// they are for, and the width of their AS numbers.
-#[derive(Clone, Copy)]
-pub(crate) struct SentAttrs<'a> {
-    pub(crate) octets: &'a [u8],
-    pub(crate) family: Family,
-    pub(crate) width: AsWidth,
-}
+/// How many octets the attributes of a route that has a place have at most.
+const LONGEST_PLACED: usize = 192;
 
-/// A route without attributes.
-pub(crate) fn new_route(alloc: Global) -> Result<Rc<Route>, AllocError> {
-    let attrs = Attrs::none(alloc);
-    Ok(Rc::new(alloc, Route { attrs, time: 0 })?)
-}
+/// How many segments its path has at most.
+const MOST_SEGMENTS: usize = 2;
 
-/// Reads the attributes of a table's entry into a route that nobody else holds.
-pub(crate) fn fill_rib_route(
-    shared: &mut Rc<Route>,
-    alloc: Global,
-    sent: SentAttrs<'_>,
-    time: u32,
-) -> Result<(), WireFault>
-    ensures attrs { OnOk result (SpellsRibAttrs sent.entry.family sent.entry.width
-        shared.new.value.attrs sent.entry.octets.now) }
-    ensures time { OnOk result (shared.new.value.time ≡ time) }
-    ensures refused { IfErr result (Refuses (SpellsRibAttrs sent.entry.family sent.entry.width)
-        sent.entry.octets.now) }
-{
-    let SentAttrs {
-        octets,
-        family,
-        width,
-    } = sent;
-    let Some(route) = Rc::get_mut(shared) else {
-        return Err(WireFault::Memory);
-    };
-    replace_rib_attrs(alloc, &mut route.attrs, family, width, octets)?;
-    route.time = time;
-    Ok(())
-}
+/// How many octets a place takes at most, with all that its route has room for: most where its path
+/// has numbers of two octets.
+pub(crate) const LARGEST_PLACE: usize = 1344;
 
 /// A route, and what its attributes were read from. Contracts see the route.
 #[derive(Drop)]
@@ -86,7 +55,7 @@ impl ReadRoute {
         let route = new_route(alloc)?;
         Ok(ReadRoute {
             route,
-            octets: Vec::new(alloc),
+            octets: Vec::with_capacity(alloc, LONGEST_PLACED)?,
             family: Family::V4,
             width: AsWidth::Four,
             known: false,
@@ -123,48 +92,24 @@ impl ReadRoute {
         }
     }
 
-    /// Notes what it was read from, unless memory is refused for that.
+    /// Notes what it was read from.
     #[inline(always)]
-    fn note(&mut self, sent: SentAttrs<'_>)
+    fn note(&mut self, sent: SentAttrs<'_>) -> Result<(), AllocError>
         requires { SpellsRibAttrs sent.family sent.width self.old.attrs sent.octets.now }
         ensures { self.new ≡ self.old }
     {
         self.known = false;
         self.octets.clear();
+        self.octets.extend_from_slice(sent.octets)?;
         self.family = sent.family;
         self.width = sent.width;
-        self.known = self.octets.extend_from_slice(sent.octets).is_ok();
-    }
-
-    /// Reads it anew, with this time: in its own memory, or as another route where somebody holds
-    /// this one, or memory is refused for its attributes.
-    fn read(
-        &mut self,
-        alloc: Global,
-        routes: &mut RoutePool,
-        sent: SentAttrs<'_>,
-        time: u32,
-    ) -> Result<(), WireFault>
-        ensures attrs { OnOk result (SpellsRibAttrs sent.entry.family sent.entry.width
-            self.new.attrs sent.entry.octets.now) }
-        ensures time { OnOk result (self.new.time ≡ time) }
-        ensures refused { IfErr result (Refuses (SpellsRibAttrs sent.entry.family sent.entry.width)
-            sent.entry.octets.now) }
-    {
-        self.known = false;
-        match fill_rib_route(&mut self.route, alloc, sent, time) {
-            Err(WireFault::Memory) => {
-                routes.exchange_rib_route(alloc, sent, time, &mut self.route)?
-            }
-            read => read?,
-        }
-        self.note(sent);
+        self.known = true;
         Ok(())
     }
 
-    /// The route that was sent so, with this time.
+    /// Reads it anew, with this time, where somebody holds it as another route.
     #[inline(always)]
-    fn route_of(
+    fn read(
         &mut self,
         alloc: Global,
         routes: &mut RoutePool,
@@ -177,12 +122,34 @@ impl ReadRoute {
         ensures refused { IfErr result (Refuses (SpellsRibAttrs sent.entry.family sent.entry.width)
             sent.entry.octets.now) }
     {
-        if self.is_of(sent) && self.date(time) {
-            return Ok(self.route.clone()?);
+        self.known = false;
+        if Rc::get_mut(&mut self.route).is_none() {
+            routes.exchange(alloc, &mut self.route)?;
         }
-        self.read(alloc, routes, sent, time)?;
+        fill_rib_route(&mut self.route, alloc, sent, time)?;
+        self.note(sent)?;
         Ok(self.route.clone()?)
     }
+}
+
+/// Whether attributes begin as routers send them, in the order of their types (RFC 4271, section 5):
+/// with ORIGIN, and behind it a path of one segment. Nothing is owed of others.
+#[inline(always)]
+fn begin_plainly(sent: SentAttrs<'_>) -> bool {
+    let (size, count) = match sent.octets {
+        [_, ORIGIN, _, _, flags, AS_PATH, size, _, count, ..] if flags & EXTENDED_LENGTH == 0 => {
+            (*size, *count)
+        }
+        [_, ORIGIN, _, _, _, AS_PATH, 0, size, _, count, ..] => (*size, *count),
+        _ => return false,
+    };
+    usize::from(size) == usize::from(count) * sent.width.octets() + 2
+}
+
+/// Whether the path has so few segments that its route may have a place.
+#[inline(always)]
+fn is_small(route: &Route) -> bool {
+    route.attrs.path.segments.as_slice().len() <= MOST_SEGMENTS
 }
 
 /// Places for routes of tables. A peer has one, which others may have too: which routes stand here
@@ -212,8 +179,58 @@ impl ReadRoutes {
         Ok(())
     }
 
-    /// The route that was sent so, with this time, read at the place of this number. Where memory
-    /// is refused for the place, it is one of the others.
+    /// The route of this place, with this time, where it was sent so.
+    #[inline(always)]
+    fn again(
+        &mut self,
+        place: usize,
+        sent: SentAttrs<'_>,
+        time: u32,
+    ) -> Result<Option<Rc<Route>>, AllocError>
+        requires { place < vec_len self.old.places }
+        ensures attrs { IfOk result (λ found. IfSome found (λ route.
+            SpellsRibAttrs sent.entry.family sent.entry.width
+            route.value.attrs sent.entry.octets.now)) }
+        ensures time { IfOk result (λ found. IfSome found (λ route. route.value.time ≡ time)) }
+        ensures places { vec_len self.new.places ≡ vec_len self.old.places }
+    {
+        if let Some(read) = &mut self.places[place] {
+            if read.is_of(sent) && read.date(time) {
+                return Ok(Some(read.route.clone()?));
+            }
+        }
+        Ok(None)
+    }
+
+    /// The route that was sent so, with this time, read at this place.
+    #[inline(always)]
+    fn read(
+        &mut self,
+        alloc: Global,
+        routes: &mut RoutePool,
+        place: usize,
+        sent: SentAttrs<'_>,
+        time: u32,
+    ) -> Result<Rc<Route>, WireFault>
+        requires { place < vec_len self.old.places }
+        ensures attrs { IfOk result (λ route. SpellsRibAttrs sent.entry.family sent.entry.width
+            route.value.attrs sent.entry.octets.now) }
+        ensures time { IfOk result (λ route. route.value.time ≡ time) }
+        ensures refused { IfErr result (Refuses (SpellsRibAttrs sent.entry.family sent.entry.width)
+            sent.entry.octets.now) }
+        ensures places { vec_len self.new.places ≡ vec_len self.old.places }
+    {
+        if let Some(read) = &mut self.places[place] {
+            return read.read(alloc, routes, sent, time);
+        }
+        let mut read = ReadRoute::none(alloc)?;
+        let route = read.read(alloc, routes, sent, time)?;
+        self.places[place] = Some(read);
+        Ok(route)
+    }
+
+    /// The route that was sent so, with this time. It is read at the place of this number, or where it
+    /// may take more than a place has, into one of the others.
     #[inline(always)]
     pub(crate) fn route_of(
         &mut self,
@@ -229,18 +246,21 @@ impl ReadRoutes {
         ensures refused { IfErr result (Refuses (SpellsRibAttrs sent.entry.family sent.entry.width)
             sent.entry.octets.now) }
     {
+        if sent.octets.len() > LONGEST_PLACED {
+            return routes.rib_route(alloc, sent, time);
+        }
         let place = number % PEER_PLACES;
-        if self.make_place(place).is_err() {
+        self.make_place(place)?;
+        if let Some(route) = self.again(place, sent, time)? {
+            return Ok(route);
+        }
+        if !begin_plainly(sent) {
             return routes.rib_route(alloc, sent, time);
         }
-        if let Some(read) = &mut self.places[place] {
-            return read.route_of(alloc, routes, sent, time);
+        let route = self.read(alloc, routes, place, sent, time)?;
+        if !is_small(&route) {
+            self.places[place] = None;
         }
-        let Ok(mut read) = ReadRoute::none(alloc) else {
-            return routes.rib_route(alloc, sent, time);
-        };
-        let route = read.route_of(alloc, routes, sent, time)?;
-        self.places[place] = Some(read);
         Ok(route)
     }
 }

@@ -14,7 +14,7 @@ use crate::event::{Item, Route, Stamp};
 use crate::fields::{skip, split_short, split_sized, split_word};
 use crate::peer::Peer;
 use crate::pool::Pool;
-use crate::read_routes::SentAttrs;
+use crate::route_pool::SentAttrs;
 use bgp_wire::{AsWidth, WireFault};
 use ip_prefix::{Family, Prefix};
 use std::alloc::{AllocError, Global};

@@ -186,7 +186,7 @@ fn read_long_or_short(
 {
     let result = read_peer_message(alloc, pool, seconds, width, octets);
     if octets.len() > LONGEST_KEPT {
-        *pool = Pool::new(alloc);
+        pool.let_go(alloc);
     }
     result
 }

@@ -133,7 +133,6 @@ impl Source {
         match self.frames.take_record(&Forms, input)? {
             Front::Record(header) => {
                 let body = self.frames.body(header.size);
-                self.pool.routes.restart();
                 let judged = judge(
                     self.alloc,
                     &mut self.pool,

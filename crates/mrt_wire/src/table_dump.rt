@@ -13,7 +13,7 @@ use crate::event::{Items, Stamp};
 use crate::fields::{Field, fill_address, skip, split_asn, split_octet, split_sized, split_word};
 use crate::peer::Peer;
 use crate::pool::Pool;
-use crate::read_routes::SentAttrs;
+use crate::route_pool::SentAttrs;
 use bgp_wire::{AsWidth, WireFault};
 use ip_prefix::{Addr, Family, Prefix, V4_OCTETS};
 use std::alloc::Global;

@@ -8,7 +8,8 @@ ghost use Rattle.mrt_wire.specs.Judging.{Adds, announced_through, announced_with
 
 use crate::event::{Item, Items, Route, Shared};
 use crate::peer::Peer;
-use crate::pool::{Pool, RoutePool};
+use crate::pool::Pool;
+use crate::route_pool::RoutePool;
 use crate::session::StateChange;
 use bgp_wire::{Attrs, MessageKind, Prefixes, UpdateParts};
 use ip_prefix::Addr;

@@ -1,0 +1,222 @@
+//! Routes that were given out, to be filled again where nobody else holds them any more.
+
+ghost use Rattle.std.specs.Prelude.{◌≡◌, ◌≤◌, ◌<◌, ◌+◌, ◌-◌, min, IfOk, IfErr, OnOk, vec_len};
+ghost use Rattle.bgp_wire.specs.Content.{SpellsRibAttrs};
+ghost use Rattle.bgp_wire.specs.Readers.{Refuses};
+ghost use Rattle.mrt_wire.specs.declared.route_pool.TheConstants.{MOST_ROUTES};
+ghost use Rattle.mrt_wire.specs.Items.{route_of};
+
+use crate::event::Route;
+use bgp_wire::{AsWidth, Attrs, WireFault, replace_attrs, replace_rib_attrs};
+use ip_prefix::Family;
+use std::alloc::{AllocError, Global};
+use std::mem;
+use std::rc::Rc;
+
+/// How many routes are kept at most.
+pub(crate) const MOST_ROUTES: usize = 16;
+
+/// How many octets the attributes of a table's route that is kept have at most.
+const LONGEST_KEPT: usize = 1024;
+
+/// How many octets such a route takes at most, with all that it has room for: most where each segment
+/// of its path has one number of two octets.
+pub(crate) const LARGEST_ROUTE: usize = 20 * 1024;
+
+/// The attributes of a table's entry as they were sent: the octets, the family of the prefix that
+/// they are for, and the width of their AS numbers.
+#[derive(Clone, Copy)]
+pub(crate) struct SentAttrs<'a> {
+    pub(crate) octets: &'a [u8],
+    pub(crate) family: Family,
+    pub(crate) width: AsWidth,
+}
+
+/// A route without attributes.
+pub(crate) fn new_route(alloc: Global) -> Result<Rc<Route>, AllocError> {
+    let attrs = Attrs::none(alloc);
+    Ok(Rc::new(alloc, Route { attrs, time: 0 })?)
+}
+
+/// Reads the attributes of a table's entry into a route that nobody else holds.
+pub(crate) fn fill_rib_route(
+    shared: &mut Rc<Route>,
+    alloc: Global,
+    sent: SentAttrs<'_>,
+    time: u32,
+) -> Result<(), WireFault>
+    ensures attrs { OnOk result (SpellsRibAttrs sent.entry.family sent.entry.width
+        shared.new.value.attrs sent.entry.octets.now) }
+    ensures time { OnOk result (shared.new.value.time ≡ time) }
+    ensures refused { IfErr result (Refuses (SpellsRibAttrs sent.entry.family sent.entry.width)
+        sent.entry.octets.now) }
+{
+    let SentAttrs {
+        octets,
+        family,
+        width,
+    } = sent;
+    let Some(route) = Rc::get_mut(shared) else {
+        return Err(WireFault::Memory);
+    };
+    replace_rib_attrs(alloc, &mut route.attrs, family, width, octets)?;
+    route.time = time;
+    Ok(())
+}
+
+/// The routes that were given out, to be filled again where nobody else holds them any more.
+#[derive(Drop)]
+pub(crate) struct RoutePool {
+    routes: Vec<Rc<Route>>,
+    /// How many of them were given out for the record that is read. The last that is kept isn't
+    /// counted, so that it is given out again and again.
+    given: usize,
+    ghost counted: { given ≤ vec_len routes },
+    ghost bounded: { vec_len routes ≤ MOST_ROUTES },
+    ghost below: { given < MOST_ROUTES },
+}
+
+/// How many routes were given out once the one of this number is.
+fn number_behind(place: usize) -> usize
+    requires { place < MOST_ROUTES }
+    ensures { result ≡ min (place + 1) (MOST_ROUTES - 1) }
+{
+    (place + 1).min(MOST_ROUTES - 1)
+}
+
+/// Lets go of the route at the place where somebody else holds it, for one that nobody else does.
+#[inline(always)]
+fn let_go(routes: &mut Vec<Rc<Route>>, alloc: Global, place: usize) -> Result<(), AllocError>
+    requires { place < vec_len routes.old }
+    ensures { vec_len routes.new ≡ vec_len routes.old }
+{
+    if Rc::get_mut(&mut routes[place]).is_none() {
+        routes[place] = new_route(alloc)?;
+    }
+    Ok(())
+}
+
+/// Makes the attributes the others, which get the memory of these. It is done part by part, since
+/// only paths and communities have memory.
+#[inline(always)]
+fn exchange_attrs(attrs: &mut Attrs, others: &mut Attrs)
+    ensures { attrs.new ≡ others.old }
+{
+    mem::swap(&mut attrs.path, &mut others.path);
+    mem::swap(&mut attrs.communities, &mut others.communities);
+    attrs.next_hop = others.next_hop;
+    attrs.aggregator = others.aggregator;
+    attrs.med = others.med;
+    attrs.local_pref = others.local_pref;
+    attrs.origin = others.origin;
+    attrs.atomic = others.atomic;
+}
+
+impl RoutePool {
+    /// No routes. They take no memory.
+    pub(crate) fn none(alloc: Global) -> RoutePool {
+        RoutePool {
+            routes: Vec::new(alloc),
+            given: 0,
+        }
+    }
+
+    /// Another record is read.
+    pub(crate) fn restart(&mut self)
+        ensures given { self.new.given ≡ 0 }
+        ensures routes { self.new.routes ≡ self.old.routes }
+    {
+        self.given = 0;
+    }
+
+    /// Where the next route stands that may be filled, which nobody else holds. One that somebody
+    /// else holds is let go.
+    #[inline(always)]
+    fn next_place(&mut self, alloc: Global) -> Result<usize, AllocError>
+        ensures next { IfOk result (λ place. place ≡ self.old.given) }
+        ensures within { IfOk result (λ place. place < vec_len self.new.routes) }
+    {
+        let place = self.given;
+        let given = number_behind(place);
+        if place < self.routes.len() {
+            let_go(&mut self.routes, alloc, place)?;
+            self.given = given;
+            return Ok(place);
+        }
+        self.routes.push(new_route(alloc)?)?;
+        self.given = given;
+        Ok(place)
+    }
+
+    /// The route of a table's entry, with this time.
+    #[inline(always)]
+    pub(crate) fn rib_route(
+        &mut self,
+        alloc: Global,
+        sent: SentAttrs<'_>,
+        time: u32,
+    ) -> Result<Rc<Route>, WireFault>
+        ensures attrs { IfOk result (λ route. SpellsRibAttrs sent.entry.family sent.entry.width
+            route.value.attrs sent.entry.octets.now) }
+        ensures time { IfOk result (λ route. route.value.time ≡ time) }
+        ensures refused { IfErr result (Refuses (SpellsRibAttrs sent.entry.family sent.entry.width)
+            sent.entry.octets.now) }
+    {
+        if sent.octets.len() > LONGEST_KEPT {
+            let mut route = new_route(alloc)?;
+            fill_rib_route(&mut route, alloc, sent, time)?;
+            return Ok(route);
+        }
+        let place = self.next_place(alloc)?;
+        fill_rib_route(&mut self.routes[place], alloc, sent, time)?;
+        Ok(self.routes[place].clone()?)
+    }
+
+    /// Gives a route that nobody else holds for this one.
+    pub(crate) fn exchange(
+        &mut self,
+        alloc: Global,
+        route: &mut Rc<Route>,
+    ) -> Result<(), AllocError> {
+        let place = self.next_place(alloc)?;
+        mem::swap(&mut self.routes[place], route);
+        Ok(())
+    }
+
+    /// A route of these attributes and this time. Others that aren't needed are given for them.
+    #[inline(always)]
+    pub(crate) fn route(
+        &mut self,
+        alloc: Global,
+        attrs: &mut Attrs,
+        time: u32,
+    ) -> Result<Rc<Route>, AllocError>
+        ensures { IfOk result (λ route. route.value ≡ route_of attrs.old time) }
+    {
+        let place = self.next_place(alloc)?;
+        let Some(route) = Rc::get_mut(&mut self.routes[place]) else {
+            return Err(AllocError);
+        };
+        exchange_attrs(&mut route.attrs, attrs);
+        route.time = time;
+        self.routes[place].clone()
+    }
+
+    /// A route of these attributes and this time, which are copied.
+    pub(crate) fn route_like(
+        &mut self,
+        alloc: Global,
+        attrs: &Attrs,
+        time: u32,
+    ) -> Result<Rc<Route>, AllocError>
+        ensures { IfOk result (λ route. route.value ≡ route_of attrs.now time) }
+    {
+        let place = self.next_place(alloc)?;
+        let Some(route) = Rc::get_mut(&mut self.routes[place]) else {
+            return Err(AllocError);
+        };
+        replace_attrs(alloc, &mut route.attrs, attrs)?;
+        route.time = time;
+        self.routes[place].clone()
+    }
+}
