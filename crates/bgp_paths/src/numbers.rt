@@ -36,6 +36,17 @@ impl AsWidth {
     }
 }
 
+/// Makes the list an empty one with room for just so many numbers. It stands out of line, since most
+/// lists have about the room that they need.
+#[inline(never)]
+fn replace_room(numbers: &mut Vec<u32>, count: usize) -> Result<(), AllocError>
+    ensures none { OnOk result (numbers.new.items ≡ []) }
+    ensures exact { OnOk result (vec_capacity numbers.new ≡ count) }
+{
+    *numbers = Vec::with_capacity(*numbers.allocator(), count)?;
+    Ok(())
+}
+
 /// Takes all numbers away, and makes room for so many. Room for up to `spare` more stays, so that a
 /// list has about the room that it needs, whatever stood in it before.
 #[inline(always)]
@@ -51,7 +62,7 @@ pub(crate) fn make_room(
     numbers.clear();
     let held = numbers.capacity();
     if held < count || held - count > spare {
-        *numbers = Vec::with_capacity(*numbers.allocator(), count)?;
+        replace_room(numbers, count)?;
     }
     Ok(())
 }

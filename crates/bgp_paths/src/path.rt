@@ -13,6 +13,9 @@ use crate::path_reader::{fill_segments, fit};
 use std::alloc::{AllocError, Global};
 use std::marker::Model;
 
+/// For how many numbers more than it has a segment has room at most.
+pub(crate) const MOST_SPARE: usize = 8;
+
 /// How many octets an AS number takes.
 #[derive(Clone, Copy, Debug, PartialEq, Eq)]
 pub enum AsWidth {
@@ -84,19 +87,13 @@ impl AsNumbers {
         self.numbers.as_slice()
     }
 
-    /// Makes them those that the octets are, with room for up to `spare` more behind a longer list.
-    /// Refused, nothing is said of them.
+    /// Makes them those that the octets are. Refused, nothing is said of them.
     #[inline(always)]
-    pub(crate) fn fill(
-        &mut self,
-        width: AsWidth,
-        octets: &[u8],
-        spare: usize,
-    ) -> Result<(), WireFault>
+    pub(crate) fn fill(&mut self, width: AsWidth, octets: &[u8]) -> Result<(), WireFault>
         ensures filled { OnOk result (SpellsAll (SpellsAsn width) self.new octets.now) }
         ensures refused { IfErr result (Refuses (SpellsAll (SpellsAsn width)) octets.now) }
     {
-        fill_numbers(&mut self.numbers, width, octets, spare)
+        fill_numbers(&mut self.numbers, width, octets, MOST_SPARE)
     }
 }
 

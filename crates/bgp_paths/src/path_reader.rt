@@ -22,12 +22,7 @@ const AS_CONFED_SEQUENCE: u8 = 3;
 /// The type of a set of a confederation's members (RFC 5065, section 3).
 const AS_CONFED_SET: u8 = 4;
 
-/// For how many numbers more a path's first segment has room at most behind a longer one. Most paths
-/// have no other.
-const FIRST_SPARE: usize = 16;
-/// For how many numbers more another segment has room at most.
-const LATER_SPARE: usize = 4;
-/// For how many segments more a path has room at most.
+/// For how many segments more than it has a path has room at most.
 const MOST_SPARE: usize = 4;
 
 /// A segment in front of octets: its kind, the octets of its numbers, and what follows it.
@@ -72,14 +67,8 @@ fn frame_segment(width: AsWidth, octets: &[u8]) -> Option<FramedSegment<'_>>
     Some(FramedSegment { body, rest, kind })
 }
 
-/// For how many numbers more the segment at a place has room at most behind a longer one.
-#[inline(always)]
-pub(crate) fn spare_at(place: usize) -> usize {
-    if place == 0 { FIRST_SPARE } else { LATER_SPARE }
-}
-
 /// Lets go of room for many segments more than there are, unless memory is refused for fewer.
-#[inline(always)]
+#[inline]
 pub(crate) fn fit(segments: &mut Vec<Segment>)
     ensures { segments.new.items ≡ segments.old.items }
 {
@@ -107,7 +96,7 @@ fn fill_segment(
     if place < segments.len() {
         let segment = &mut segments[place];
         segment.kind = framed.kind;
-        return segment.numbers.fill(width, framed.body, spare_at(place));
+        return segment.numbers.fill(width, framed.body);
     }
     push_segment(alloc, segments, width, framed)
 }
@@ -125,7 +114,7 @@ fn push_segment(
     ensures refused { IfErr result (Refuses (SpellsAll (SpellsAsn width)) framed.entry.body.now) }
 {
     let mut numbers = AsNumbers::from_vec(Vec::new(alloc));
-    numbers.fill(width, framed.body, 0)?;
+    numbers.fill(width, framed.body)?;
     if segments.capacity() == 0 {
         segments.reserve_exact(1)?;
     }
@@ -148,6 +137,7 @@ pub(crate) fn fill_segments(
     ensures filled { OnOk result (SpellsAll (SpellsSegment width) segments.new.items octets.now) }
     ensures refused { IfErr result (Refuses (SpellsAll (SpellsSegment width)) octets.now) }
 {
+    let before = segments.len();
     let mut count = 0;
     let mut rest = octets;
     while !rest.is_empty() {
@@ -159,6 +149,8 @@ pub(crate) fn fill_segments(
         rest = framed.rest;
     }
     segments.truncate(count);
-    fit(segments);
+    if count != before {
+        fit(segments);
+    }
     Ok(())
 }

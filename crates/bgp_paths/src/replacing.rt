@@ -3,8 +3,8 @@
 ghost use Rattle.std.specs.Prelude.{◌≡◌, ◌≤◌, ◌+◌, ◌++◌, ◌∷◌, [], OnOk, IfOk, length, take, vec_len};
 
 use crate::numbers::make_room;
-use crate::path::{AsNumbers, AsPath, Segment, Segments};
-use crate::path_reader::{fit, spare_at};
+use crate::path::{AsNumbers, AsPath, MOST_SPARE, Segment, Segments};
+use crate::path_reader::fit;
 use std::alloc::{AllocError, Global};
 use std::mem;
 
@@ -64,7 +64,7 @@ pub fn copy_path(alloc: Global, old: AsPath, path: &AsPath) -> Result<AsPath, Al
     let mut count = 0;
     for segment in path.segments.as_slice() {
         let old = take_numbers(alloc, &mut segments, count);
-        let numbers = copy_numbers(old, segment.numbers.as_slice(), spare_at(count))?;
+        let numbers = copy_numbers(old, segment.numbers.as_slice(), MOST_SPARE)?;
         let numbers = AsNumbers::from_vec(numbers);
         let kind = segment.kind;
         put_segment(&mut segments, count, Segment { numbers, kind })?;
