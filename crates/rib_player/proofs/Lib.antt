@@ -16,7 +16,7 @@ pub mod MarkLaws
 pub mod SearchLaws
 pub mod CountLaws
 pub mod KeyLaws
-pub mod KnownLaws
+pub mod PlacesLaws
 pub mod PlayedLaws
 pub mod SlotLaws
 pub mod UnseenLaws

@@ -193,7 +193,9 @@ fn changes_of(alloc: Global, event: &Event, known: &mut KnownRoutes) -> Result<C
     changes.note_each(&items[shared.end..], known)?;
     changes.note_shared(&items[shared.start..shared.end], known)?;
     changes.note_each(&items[..shared.start], known)?;
-    known.note_released(items.len().saturating_sub(changes.routes.len()) as u64);
+    if changes.routes.len() < items.len() {
+        known.note_unused();
+    }
     Ok(changes)
 }
 
@@ -400,6 +402,8 @@ pub(crate) fn step_for<S: PrefixStore<Rc<Route>>>(
     let then = routes_then(alloc, changes, table, peers)?;
     let noted = then.len();
     let routes = in_order(then)?;
-    known.note_released(noted.saturating_sub(routes.len()) as u64);
+    if routes.len() < noted {
+        known.note_unused();
+    }
     entries_of(alloc, routes, table, peers)
 }

@@ -1,8 +1,9 @@
 //! Descents to the pairs of entries, before their routes change places with the table's, so that the
 //! processor waits for the nodes of several pairs at once. They change nothing.
 //!
-//! Pairs of a step are reached where they are of one peer, as in a message of updates. A record of a
-//! table names one prefix of many peers, and needs nodes that the record before mostly needed too.
+//! Pairs of a step are reached where they are of one peer, as in a message of updates, and its store
+//! has many keys. A record of a table names one prefix of many peers, and needs nodes that the record
+//! before mostly needed too; the nodes of few keys are in the cache anyway.
 
 ghost use Rattle.std.specs.Prelude.{◌≡◌, ◌<◌, ◌≤◌, length};
 
@@ -16,6 +17,9 @@ use std::rc::Rc;
 
 /// How many entries are reached at once. A step of fewer is reached with others, or whole.
 pub(crate) const ENTRIES_AT_ONCE: usize = DESCENTS_AT_ONCE as usize;
+
+/// How many keys a store has at least whose nodes are reached.
+const LEAST_KEYS: u64 = 4096;
 
 /// How many steps of fewer entries are reached together.
 const STEPS_TOGETHER: usize = 8;
@@ -49,7 +53,8 @@ impl Reached {
     }
 }
 
-/// The store of the entries' peer, where they are of one. They are in the order of their pairs.
+/// The store of the entries' peer, where they are of one and it has many keys. They are in the order
+/// of their pairs.
 fn only_store<'a, S: PrefixStore<Rc<Route>>>(
     table: &'a Table<S>,
     entries: &[Entry],
@@ -58,7 +63,11 @@ fn only_store<'a, S: PrefixStore<Rc<Route>>>(
     if entries.last()?.peer() != peer {
         return None;
     }
-    table.store(peer)
+    let store = table.store(peer)?;
+    if store.key_count() < LEAST_KEYS {
+        return None;
+    }
+    Some(store)
 }
 
 /// Adds descents to the entries' prefixes, and answers how many nodes were passed.

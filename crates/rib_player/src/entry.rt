@@ -141,6 +141,16 @@ impl Entry {
         }
     }
 
+    /// Its route, where it has one.
+    #[inline]
+    pub(crate) fn route(&self) -> Option<&Rc<Route>> {
+        match &self.kept {
+            Kept::V4Present(_, _, _, route) => Some(route),
+            Kept::V6Present(_, _, route) => Some(route),
+            _ => None,
+        }
+    }
+
     /// Whether it is the first of its pair.
     #[inline]
     pub(crate) fn is_first(&self) -> bool

@@ -24,6 +24,7 @@ use crate::descents::{ENTRIES_AT_ONCE, reach_entries};
 use crate::digest::{Digest, bits_of, next_place};
 use crate::entry::Entry;
 use crate::groups::Groups;
+use crate::known::KnownRoutes;
 use crate::pair::Pair;
 use crate::table::Table;
 use mrt_wire::Route;
@@ -180,6 +181,15 @@ pub(crate) fn put_entries<S: PrefixStore<Rc<Route>>>(
     Ok(())
 }
 
+/// Lets go of a step, entry by entry, since entries may share a route.
+pub(crate) fn let_go_of(known: &mut KnownRoutes, step: Step) {
+    'entries: for entry in step.entries {
+        if let Some(route) = entry.route() {
+            known.note_gone(route);
+        }
+    }
+}
+
 /// Drops the steps from the index on, with the keys that go with them but for those of the last
 /// step.
 pub(crate) fn drop_ahead<S: PrefixStore<Rc<Route>>>(
@@ -187,6 +197,7 @@ pub(crate) fn drop_ahead<S: PrefixStore<Rc<Route>>>(
     steps: &mut VecDeque<Step>,
     index: usize,
     last: &mut [Entry],
+    known: &mut KnownRoutes,
 )
     requires within { index ≤ length steps.old.items }
     requires distinct { AllByRecursion AreDistinct (steps_of steps.old.items) }
@@ -204,6 +215,7 @@ pub(crate) fn drop_ahead<S: PrefixStore<Rc<Route>>>(
     'steps: while steps.len() > index {
         if let Some(step) = steps.pop_back() {
             release(table, &step.entries, last);
+            let_go_of(known, step);
         }
     }
 }
@@ -215,6 +227,7 @@ pub(crate) fn advance<S: PrefixStore<Rc<Route>>>(
     steps: &mut VecDeque<Step>,
     index: usize,
     entries: &mut [Entry],
+    known: &mut KnownRoutes,
 ) -> Result<(), AllocError>
     requires played { IsPlayed table.old.keys table.old.routes index steps.old.items }
     requires ordered { AreOrdered (sides_of entries.old) }
@@ -227,7 +240,7 @@ pub(crate) fn advance<S: PrefixStore<Rc<Route>>>(
     ensures capacity { deque_capacity steps.new ≡ deque_capacity steps.old }
 {
     put_entries(table, entries)?;
-    drop_ahead(table, steps, index, entries);
+    drop_ahead(table, steps, index, entries, known);
     Ok(())
 }
 
@@ -377,6 +390,7 @@ fn drop_cleared_keys<S: PrefixStore<Rc<Route>>>(table: &mut Table<S>, forgotten:
 pub(crate) fn forget_steps<S: PrefixStore<Rc<Route>>>(
     table: &mut Table<S>,
     steps: &mut VecDeque<Step>,
+    known: &mut KnownRoutes,
 )
     requires { (q : Pair) → names.contains table.old.keys q
         ≡ (is_some (finite.get table.old.routes q)
@@ -388,5 +402,6 @@ pub(crate) fn forget_steps<S: PrefixStore<Rc<Route>>>(
 {
     'steps: while let Some(step) = steps.pop_front() {
         drop_cleared_keys(table, &step.entries);
+        let_go_of(known, step);
     }
 }

@@ -11,7 +11,9 @@ use crate::changes::step_for;
 use crate::descents::{Reached, reach_ahead, reach_back};
 use crate::digest::Digest;
 use crate::groups::Groups;
-use crate::journal::{Step, advance, cross_step, forget_entries, forget_steps, named_from};
+use crate::journal::{
+    Step, advance, cross_step, forget_entries, forget_steps, let_go_of, named_from,
+};
 use crate::known::KnownRoutes;
 use crate::known_peers::KnownPeers;
 use crate::table::Table;
@@ -20,7 +22,6 @@ use rib_store::PrefixStore;
 use std::alloc::{AllocError, Global};
 use std::collections::VecDeque;
 use std::marker::Model;
-use std::mem;
 use std::rc::Rc;
 use thiserror::Error;
 
@@ -151,13 +152,11 @@ impl<S: PrefixStore<Rc<Route>>> Player<S> {
         ensures dropped { IfOk result (λ dropped. dropped ≡ ahead_of self.old) }
         ensures refused { OnErr result (self.new ≡ self.old) }
     {
-        let ahead = named_from(&self.steps, self.cursor);
+        self.known.begin();
         let played = self.play_step(event);
-        let released = match &played {
-            Ok(_) => ahead,
-            Err(_) => event.items.as_slice().len() as u64,
-        };
-        self.known.note_released(released);
+        if played.is_err() {
+            self.known.note_unused();
+        }
         played
     }
 
@@ -191,7 +190,7 @@ impl<S: PrefixStore<Rc<Route>>> Player<S> {
 }
 
 impl<S: PrefixStore<Rc<Route>>> Player<S> {
-    /// Plays the event as the next step. What it lets go of isn't noted.
+    /// Plays the event as the next step. What was noted of a refused one isn't let go.
     fn play_step(&mut self, event: &Event) -> Result<u64, PlayFault>
         requires { self.old.cursor < GREATEST_COUNT }
         ensures after_play { OnOk result (self.new ≡ after_play self.old event.now) }
@@ -213,6 +212,7 @@ impl<S: PrefixStore<Rc<Route>>> Player<S> {
             &mut self.steps,
             self.cursor,
             entries.as_mut_slice(),
+            &mut self.known,
         )?;
         let digest = Digest::of(&entries);
         self.groups.note(self.alloc, self.cursor, &entries);
@@ -240,9 +240,7 @@ impl<S: PrefixStore<Rc<Route>>> Player<S> {
             );
             self.cursor -= 1;
             self.floor += 1;
-            let released = step.entries.len() as u64;
-            mem::drop(step);
-            self.known.note_released(released);
+            let_go_of(&mut self.known, step);
         }
     }
 
@@ -252,18 +250,26 @@ impl<S: PrefixStore<Rc<Route>>> Player<S> {
         requires { self.old.cursor ≡ end_of self.old }
         ensures { self.new ≡ without_first (behind self.old) self.old }
     {
-        let released = named_from(&self.steps, 0);
-        forget_steps(&mut self.table, &mut self.steps);
+        forget_steps(&mut self.table, &mut self.steps, &mut self.known);
         self.digests.clear();
         self.groups.clear();
         self.floor += self.cursor as u64;
         self.cursor = 0;
-        self.known.note_released(released);
     }
 
     /// Forgets the oldest steps, so that at most so many are kept before the cursor, and answers
     /// how many it forgot. It takes no memory, and the steps ahead stay.
     pub fn forget(&mut self, keep: u64) -> u64
+        ensures after_forget { self.new ≡ after_forget self.old keep }
+        ensures forgotten { result ≡ forgettable self.old keep }
+    {
+        let count = self.forget_oldest(keep);
+        self.known.let_go();
+        count
+    }
+
+    /// The same, but that it lets go of no routes that are known.
+    fn forget_oldest(&mut self, keep: u64) -> u64
         ensures after_forget { self.new ≡ after_forget self.old keep }
         ensures forgotten { result ≡ forgettable self.old keep }
     {

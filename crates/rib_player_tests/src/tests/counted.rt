@@ -15,8 +15,19 @@ type CountedPlayer = Player<Counting<RadixStore<Rc<Route>>>>;
 /// How many routes there are before the step.
 const ROUTES: u32 = 1_000;
 
-/// How many calls a step of one prefix may take.
+/// How many calls a step of one prefix may take, besides descents.
 const FEW: u64 = 20;
+
+/// How many routes there are where a store is large enough for descents.
+const MANY_ROUTES: u32 = 5_000;
+
+/// How many steps of few prefixes are crossed there, and how many prefixes each has.
+const SMALL_STEPS: u32 = 24;
+
+const PREFIXES: u32 = 7;
+
+/// How many descents a call that crosses a step of few prefixes may make: to those of eight steps.
+const MOST_DESCENTS: u64 = 56;
 
 /// The event that announces one prefix.
 fn one(alloc: Global) -> Result<Event, Fail> {
@@ -132,5 +143,77 @@ fn a_step_of_a_walk_takes_one_call(rt: HostRuntime) -> Result<(), Fail> {
     let mut player: CountedPlayer = Player::new(rt.alloc());
     play(&rt, &mut player, &many);
     assert_one_call_each(&rt, &player);
+    Ok(())
+}
+
+/// How many descents there were in the peer's store.
+fn descents<S: PrefixStore<Rc<Route>> + HasCalls>(player: &Player<S>) -> u64 {
+    match player.table().store(&peer()) {
+        Some(store) => store.descents(),
+        None => 0,
+    }
+}
+
+/// Plays small steps, and asserts that each makes a descent a prefix at most.
+fn play_small_steps<S: PrefixStore<Rc<Route>> + HasCalls>(
+    rt: &impl Abort,
+    player: &mut Player<S>,
+    small: &Event,
+) {
+    for number in 0..SMALL_STEPS {
+        let before = descents(player);
+        play(rt, player, small);
+        let made = descents(player).saturating_sub(before);
+        assert!(rt; made <= u64::from(PREFIXES), "{made} in step {number}");
+    }
+}
+
+/// Goes back, or forth, over the small steps, and asserts that there are some descents, and few in
+/// each call.
+fn assert_few_descents<S: PrefixStore<Rc<Route>> + HasCalls>(
+    rt: &impl Abort,
+    player: &mut Player<S>,
+    back: bool,
+) {
+    let start = descents(player);
+    for number in 0..SMALL_STEPS {
+        let before = descents(player);
+        let calls_before = calls(player);
+        assert_eq!(rt; shift(player, back), Answer::Done);
+        let made = descents(player).saturating_sub(before);
+        assert!(rt; made <= MOST_DESCENTS, "{made} in step {number}");
+        let called = calls(player).saturating_sub(calls_before);
+        assert!(rt; called <= FEW, "{called} in step {number}");
+    }
+    assert!(rt; start < descents(player));
+}
+
+/// In a large store the places of pairs are reached before routes come and go there, of few pairs at
+/// a time.
+#[test]
+fn a_small_step_takes_few_descents(rt: HostRuntime) -> Result<(), Fail> {
+    let alloc = rt.alloc();
+    let many = numbered_event(alloc, MANY_ROUTES)?;
+    let small = numbered_event(alloc, PREFIXES)?;
+    let mut player: CountedPlayer = Player::new(alloc);
+    play(&rt, &mut player, &many);
+    assert!(rt; descents(&player) <= u64::from(MANY_ROUTES));
+    play_small_steps(&rt, &mut player, &small);
+    assert_few_descents(&rt, &mut player, true);
+    assert_few_descents(&rt, &mut player, false);
+    assert_eq!(rt; keys_of(&player, &peer()), Some(u64::from(MANY_ROUTES)));
+    Ok(())
+}
+
+/// In a small store there are none.
+#[test]
+fn steps_over_few_routes_take_no_descents(rt: HostRuntime) -> Result<(), Fail> {
+    let alloc = rt.alloc();
+    let many = numbered_event(alloc, ROUTES)?;
+    let mut player: CountedPlayer = Player::new(alloc);
+    play(&rt, &mut player, &many);
+    assert_eq!(rt; shift(&mut player, true), Answer::Done);
+    assert_eq!(rt; shift(&mut player, false), Answer::Done);
+    assert_eq!(rt; descents(&player), 0);
     Ok(())
 }

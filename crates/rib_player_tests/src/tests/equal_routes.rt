@@ -11,7 +11,7 @@ use ip_prefix::{Addr, Prefix};
 use mrt_wire::{Item, Next, ReadInput, Route, Source, Stamp, same_route};
 use std::alloc::Global;
 use std::process::Abort;
-use std::rc::{Rc, Weak};
+use std::rc::Rc;
 use std::test::Fail;
 
 /// A record behind its time, as `UPDATE`, that announces 10.0.0.0/8 and 11.0.0.0/8.
@@ -30,7 +30,7 @@ const METRICS: &[u32] = &[
 const MANY: u32 = 3000;
 
 /// A segment of a path: its kind, and its numbers.
-type Part<'a> = (SegmentKind, &'a [u32]);
+pub(super) type Part<'a> = (SegmentKind, &'a [u32]);
 
 const PATH: &[Part] = &[
     (SegmentKind::AsSequence, &[64500, 64501]),
@@ -62,7 +62,7 @@ const PATHS: &[&[Part]] = &[
 /// Other communities: in another order, one fewer, one more, none.
 const COMMUNITIES: &[&[u32]] = &[&[2, 1], &[1], &[1, 2, 2], &[]];
 
-fn path_of(alloc: Global, parts: &[Part]) -> Result<AsPath, Fail> {
+pub(super) fn path_of(alloc: Global, parts: &[Part]) -> Result<AsPath, Fail> {
     let mut segments = Vec::new(alloc);
     for part in parts {
         let numbers = AsNumbers::from_vec(Vec::from_slice(alloc, part.1)?);
@@ -99,7 +99,7 @@ fn full_route(alloc: Global) -> Result<Route, Fail> {
 }
 
 /// A route that has a metric and a time alone.
-fn plain_route(alloc: Global, med: u32) -> Route {
+pub(super) fn plain_route(alloc: Global, med: u32) -> Route {
     let mut attrs = Attrs::none(alloc);
     attrs.med = Some(med);
     Route { attrs, time: 7 }
@@ -257,7 +257,10 @@ fn play_record(
 }
 
 /// The route that the peer has to the prefix.
-fn route_to<'a>(player: &'a RadixPlayer, prefix: &Prefix) -> Result<&'a Rc<Route>, Fail> {
+pub(super) fn route_to<'a>(
+    player: &'a RadixPlayer,
+    prefix: &Prefix,
+) -> Result<&'a Rc<Route>, Fail> {
     let route = player.table().get(&peer_of(Who::Peer), prefix);
     Ok(route.ok_or("a route was wanted")?)
 }
@@ -328,37 +331,5 @@ fn most_of_many_equal_routes_are_one(rt: HostRuntime) -> Result<(), Fail> {
     play_copies(&rt, alloc, &mut player, Who::Sibling, &routes)?;
     assert_routes(&rt, &player, Who::Sibling, &routes);
     assert!(rt; shared_count(&player, MANY) > MANY / 10 * 9);
-    Ok(())
-}
-
-/// Appends that the peer withdraws the first of the numbered prefixes.
-fn push_withdrawals(items: &mut Vec<Item>, count: u32) -> Result<(), Fail> {
-    for number in 0..count {
-        items.push(Item::Withdraw(peer_of(Who::Peer), numbered(number)))?;
-    }
-    Ok(())
-}
-
-/// What tells how many own the route that the peer has to the prefix.
-fn watched(player: &RadixPlayer, prefix: &Prefix) -> Result<Weak<Route>, Fail> {
-    Ok(Rc::downgrade(route_to(player, prefix)?)?)
-}
-
-#[test]
-fn routes_of_forgotten_steps_are_let_go(rt: HostRuntime) -> Result<(), Fail> {
-    let alloc = rt.alloc();
-    let routes = many_routes(alloc)?;
-    let mut player = RadixPlayer::new(alloc);
-    play_copies(&rt, alloc, &mut player, Who::Peer, &routes)?;
-    let held = watched(&player, &numbered(7))?;
-    assert_eq!(rt; held.strong_count(), 2);
-    let mut items = Vec::new(alloc);
-    push_withdrawals(&mut items, MANY)?;
-    assert_eq!(rt;
-        answer_to(&mut player, &event_of(items)),
-        Answer::Dropped(0)
-    );
-    assert_eq!(rt; player.forget(0), 2);
-    assert_eq!(rt; held.strong_count(), 0);
     Ok(())
 }

@@ -3,18 +3,21 @@
 use super::HasNodes;
 use ip_prefix::{Addr, Prefix};
 use mrt_wire::Route;
-use rib_store::PrefixStore;
+use rib_store::{Descent, PrefixStore};
 use std::alloc::{AllocError, Global};
 use std::cell::Cell;
 use std::rc::Rc;
 
 /// A store that knows how often it was called.
 pub(super) trait HasCalls {
-    /// How many calls there were.
+    /// How many calls there were, but for descents.
     fn calls(&self) -> u64;
 
     /// How many of them were to make a key.
     fn ensure_calls(&self) -> u64;
+
+    /// How many descents were asked for.
+    fn descents(&self) -> u64;
 }
 
 /// A store that counts its calls.
@@ -23,6 +26,7 @@ pub(super) struct Counting<S> {
     inner: S,
     calls: Cell<u64>,
     ensure_calls: u64,
+    descents: Cell<u64>,
 }
 
 impl<S> HasCalls for Counting<S> {
@@ -32,6 +36,10 @@ impl<S> HasCalls for Counting<S> {
 
     fn ensure_calls(&self) -> u64 {
         self.ensure_calls
+    }
+
+    fn descents(&self) -> u64 {
+        self.descents.get()
     }
 }
 
@@ -51,6 +59,7 @@ impl<S: PrefixStore<Rc<Route>>> PrefixStore<Rc<Route>> for Counting<S> {
             inner: S::new(alloc),
             calls: Cell::new(0),
             ensure_calls: 0,
+            descents: Cell::new(0),
         }
     }
 
@@ -63,6 +72,12 @@ impl<S: PrefixStore<Rc<Route>>> PrefixStore<Rc<Route>> for Counting<S> {
     fn exchange(&mut self, prefix: &Prefix, route: &mut Option<Rc<Route>>) {
         self.tick();
         self.inner.exchange(prefix, route);
+    }
+
+    fn put(&mut self, prefix: &Prefix, route: &mut Option<Rc<Route>>) -> Result<bool, AllocError> {
+        self.tick();
+        self.ensure_calls = self.ensure_calls.saturating_add(1);
+        self.inner.put(prefix, route)
     }
 
     fn discard(&mut self, prefix: &Prefix) {
@@ -88,6 +103,20 @@ impl<S: PrefixStore<Rc<Route>>> PrefixStore<Rc<Route>> for Counting<S> {
     fn after(&self, prefix: Option<&Prefix>) -> Option<(Prefix, &Rc<Route>)> {
         self.tick();
         self.inner.after(prefix)
+    }
+
+    fn next_routes<'a>(
+        &'a self,
+        prefix: Option<&Prefix>,
+        found: &mut Vec<(Prefix, &'a Rc<Route>)>,
+    ) {
+        self.tick();
+        self.inner.next_routes(prefix, found);
+    }
+
+    fn descent<'a>(&'a self, prefix: &Prefix) -> Descent<'a, Rc<Route>> {
+        self.descents.set(self.descents.get().saturating_add(1));
+        self.inner.descent(prefix)
     }
 
     fn key_count(&self) -> u64 {

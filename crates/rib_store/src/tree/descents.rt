@@ -6,20 +6,22 @@ use crate::tree::Tree;
 use ip_prefix::Prefix;
 use std::mem;
 
-/// The most nodes on a way down to a prefix, of IPv6.
-const MOST_NODES: u8 = 129;
+/// How many bits of a prefix a descent goes by at most, so how many nodes it passes.
+const MOST_BITS: u8 = 64;
 
 /// How many descents go down at once.
 pub const DESCENTS_AT_ONCE: u8 = 8;
 
-/// A descent past where a prefix stands, to a node without others below it. It looks at one bit for
-/// each node, of the first 64 that the prefix has, and compares nothing, so it says nothing of what
-/// stands there.
+/// A descent to where a prefix stands, or would stand, and no further. It looks at one bit for each
+/// node, of the first 64 that the prefix has, and compares nothing, so it says nothing of what stands
+/// there.
 #[derive(Drop)]
 pub struct Descent<'a, R> {
     place: Place<'a, R>,
     /// The first bits of the prefix.
     bits: u64,
+    /// How many of them it has.
+    depth: u8,
 }
 
 /// Where a descent is.
@@ -36,6 +38,7 @@ impl<'a, R> Descent<'a, R> {
         Descent {
             place: Place::Ended,
             bits: 0,
+            depth: 0,
         }
     }
 
@@ -44,6 +47,7 @@ impl<'a, R> Descent<'a, R> {
         Descent {
             place: Place::V4(tree),
             bits: prefix.high_half(),
+            depth: prefix.len(),
         }
     }
 
@@ -52,6 +56,7 @@ impl<'a, R> Descent<'a, R> {
         Descent {
             place: Place::V6(tree),
             bits: prefix.high_half(),
+            depth: prefix.len().min(MOST_BITS),
         }
     }
 
@@ -60,11 +65,11 @@ impl<'a, R> Descent<'a, R> {
     fn pass_node(&mut self) -> bool {
         let next = match &self.place {
             Place::Ended => return false,
-            Place::V4(tree) => match below(tree, self.bits) {
+            Place::V4(tree) => match below(tree, self.bits, self.depth) {
                 Some(next) => Place::V4(next),
                 None => return false,
             },
-            Place::V6(tree) => match below(tree, self.bits) {
+            Place::V6(tree) => match below(tree, self.bits, self.depth) {
                 Some(next) => Place::V6(next),
                 None => return false,
             },
@@ -74,12 +79,15 @@ impl<'a, R> Descent<'a, R> {
     }
 }
 
-/// What lies below the root on the side of the bit behind its prefix.
+/// What lies below the root on the side of the bit behind its prefix, where that is one of so many.
 #[inline]
-fn below<'a, K: Packed, R>(tree: &'a Tree<K, R>, bits: u64) -> Option<&'a Tree<K, R>> {
+fn below<'a, K: Packed, R>(tree: &'a Tree<K, R>, bits: u64, depth: u8) -> Option<&'a Tree<K, R>> {
     let Tree::Rooted(_, prefix, node) = tree else {
         return None;
     };
+    if prefix.len() >= depth {
+        return None;
+    }
     let right = bits.wrapping_shl(u32::from(prefix.len())) >> (u64::BITS - 1) == 1;
     Some(if right { &node.right } else { &node.left })
 }
@@ -134,12 +142,12 @@ impl<'a, R> Descents<'a, R> {
     /// Takes those that were added since down, and answers how many nodes the longest passed.
     pub fn finish(&mut self) -> u64 {
         self.count = 0;
-        'nodes: for passed in 0..MOST_NODES {
+        'nodes: for passed in 0..MOST_BITS {
             if !self.pass_nodes() {
                 return u64::from(passed);
             }
         }
-        u64::from(MOST_NODES)
+        u64::from(MOST_BITS)
     }
 
     /// Each passes a node; it answers whether there was one.

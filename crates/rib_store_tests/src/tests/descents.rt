@@ -22,14 +22,21 @@ const KEYS: &[(&str, u64)] = &[
     ("2001:db8:1:2::/64", 3),
 ];
 
-/// The keys that have none below them, where descents end.
-const LEAVES: &[&str] = &[
-    "10.0.0.0/9",
-    "10.128.0.1/32",
-    "10.128.0.2/32",
-    "192.0.2.0/24",
-    "2001:db8:1:1::/64",
-    "2001:db8:1:2::/64",
+/// Prefixes that are no keys, each with how many nodes a descent to it passes: those above its place,
+/// and where a node without others below it stands above that, those above this node.
+const OTHERS: &[(&str, u64)] = &[
+    ("8.0.0.0/5", 1),
+    ("10.0.0.0/24", 2),
+    ("10.128.0.0/16", 3),
+    ("2001:db8:1:1::1/128", 3),
+];
+
+/// Keys of IPv6 that have more bits than descents go by, and one of as many above them.
+const LONG_KEYS: &[&str] = &[
+    "2001:db8::/32",
+    "2001:db8::/64",
+    "2001:db8::1/128",
+    "2001:db8::2/128",
 ];
 
 fn add_keys<S: PrefixStore<u32>>(rt: &impl Abort, store: &mut S) -> Result<(), Fail> {
@@ -46,25 +53,30 @@ fn passed<S: PrefixStore<u32>>(rt: &impl Abort, store: &S, text: &str) -> Result
     Ok(descents.finish())
 }
 
-/// How many nodes stand above a key of a tree.
-fn above(text: &str) -> Option<u64> {
-    for (key, nodes) in KEYS {
-        if *key == text {
-            return Some(*nodes);
-        }
-    }
-    None
-}
-
-/// A descent to a leaf passes the nodes above it.
+/// A descent to a key passes the nodes above it, and none of those below it.
 fn passes_what_stands_above<S: PrefixStore<u32>>(
     rt: &impl Abort,
     store: &mut S,
 ) -> Result<(), Fail> {
     add_keys(rt, store)?;
-    for text in LEAVES {
-        assert_eq!(rt; Some(passed(rt, store, text)?), above(text), "{text}");
+    for (text, nodes) in KEYS {
+        assert_eq!(rt; passed(rt, store, text)?, *nodes, "{text}");
     }
+    for (text, nodes) in OTHERS {
+        assert_eq!(rt; passed(rt, store, text)?, *nodes, "{text}");
+    }
+    Ok(())
+}
+
+/// Descents to keys of more than 64 bits end above the first node of as many.
+#[test]
+fn descents_go_by_the_first_bits(rt: HostRuntime) -> Result<(), Fail> {
+    let mut store = RadixStore::new(rt.alloc());
+    for text in LONG_KEYS {
+        add(&rt, &mut store, &prefix_of(text)?, Some(1))?;
+    }
+    assert_eq!(rt; passed(&rt, &store, "2001:db8::/64")?, 1);
+    assert_eq!(rt; passed(&rt, &store, "2001:db8::1/128")?, 1);
     Ok(())
 }
 
@@ -84,7 +96,7 @@ fn descents_of_a_left_store_do_too(rt: HostRuntime) -> Result<(), Fail> {
 fn descents_of_a_map_store_end_at_once(rt: HostRuntime) -> Result<(), Fail> {
     let mut store = MapStore::new(rt.alloc());
     add_keys(&rt, &mut store)?;
-    for text in LEAVES {
+    for (text, _) in KEYS {
         assert_eq!(rt; passed(&rt, &store, text)?, 0, "{text}");
     }
     Ok(())

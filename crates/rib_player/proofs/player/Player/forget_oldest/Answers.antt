@@ -2,9 +2,9 @@ use Rattle.std.proofs.Common.{◌≡◌, ap, ◌∙◌, arith}
 use Rattle.rib_player.specs.Timeline.{Timeline}
 use Rattle.rib_player.specs.Calls.{without_first, forgettable}
 use Rattle.rib_player.proofs.FloorLaws.{without_first-more}
-use Rattle.rib_player.proofs.player.Player.forget.Given.{Over}
-use Rattle.rib_player.proofs.player.Player.forget.Goals as goal
-use Rattle.rib_player.proofs.player.Player.forget.Goals.{After-saturating_sub-count}
+use Rattle.rib_player.proofs.player.Player.forget_oldest.Given.{Over}
+use Rattle.rib_player.proofs.player.Player.forget_oldest.Goals as goal
+use Rattle.rib_player.proofs.player.Player.forget_oldest.Goals.{After-saturating_sub-count}
 
 -- so many are too many
 count : (g : Over) (c : After-saturating_sub-count g) → c.saturating_sub-count.result ≡ forgettable c.args.self.now c.args.keep

@@ -2,8 +2,8 @@
 use Rattle.std.proofs.Common.{ℕ, ◌≤◌, List, length, take, arith}
 use Rattle.std.proofs.lemmas.List.{length-take-le}
 use Rattle.std.proofs.lemmas.List.Sums.{count_by-le-length}
-use Rattle.rib_player.specs.declared.known.Place.{Place}
-use Rattle.rib_player.specs.Known.{is_taken, taken_in}
+use Rattle.rib_player.specs.declared.places.Place.{Place}
+use Rattle.rib_player.specs.Places.{is_taken, taken_in}
 
 -- of so many at most so many
 pub taken-take : (places : List Place) (i : ℕ) → i ≤ length places → taken_in (take i places) ≤ i

@@ -1,6 +1,6 @@
 use Rattle.std.proofs.Common.{◌≡◌, take}
-use Rattle.rib_player.specs.Known.{taken_in}
-use Rattle.rib_player.proofs.known.count_taken.Given as goal
+use Rattle.rib_player.specs.Places.{taken_in}
+use Rattle.rib_player.proofs.places.count_taken.Given as goal
 
 -- those so far are counted
 abbrev pub invariant-places : goal.invariant-places

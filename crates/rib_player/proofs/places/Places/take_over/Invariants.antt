@@ -1,6 +1,6 @@
 use Rattle.std.proofs.Common.{◌≡◌}
 use Rattle.std.specs.Vec.{vec_len}
-use Rattle.rib_player.proofs.known.Places.take_over.Given as goal
+use Rattle.rib_player.proofs.places.Places.take_over.Given as goal
 
 -- the places stay as many
 abbrev pub invariant-places : goal.invariant-places

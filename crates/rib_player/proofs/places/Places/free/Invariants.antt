@@ -1,7 +1,7 @@
 use Rattle.std.proofs.Common.{◌≡◌}
 use Rattle.std.specs.Vec.{vec_len}
-use Rattle.rib_player.specs.Known.{taken_in}
-use Rattle.rib_player.proofs.known.Places.free.Given as goal
+use Rattle.rib_player.specs.Places.{taken_in}
+use Rattle.rib_player.proofs.places.Places.free.Given as goal
 
 -- those so far are free
 abbrev pub invariant-places : goal.invariant-places
