@@ -50,18 +50,15 @@ fn replace_room(numbers: &mut Vec<u32>, count: usize) -> Result<(), AllocError>
 /// Takes all numbers away, and makes room for so many. Room for up to `spare` more stays, so that a
 /// list has about the room that it needs, whatever stood in it before.
 #[inline(always)]
-pub(crate) fn make_room(
-    numbers: &mut Vec<u32>,
-    count: usize,
-    spare: usize,
-) -> Result<(), AllocError>
+pub(crate) fn make_room(numbers: &mut Vec<u32>, count: usize, spare: u8) -> Result<(), AllocError>
+    requires small { count < 2 ^ 62 }
     ensures none { OnOk result (numbers.new.items ≡ []) }
     ensures room { OnOk result (count ≤ vec_capacity numbers.new) }
     ensures bound { OnOk result (vec_capacity numbers.new ≤ count + spare) }
 {
     numbers.clear();
-    let held = numbers.capacity();
-    if held < count || held - count > spare {
+    // Where there is too little room, that is a large number.
+    if numbers.capacity().wrapping_sub(count) > usize::from(spare) {
         replace_room(numbers, count)?;
     }
     Ok(())
@@ -93,7 +90,7 @@ pub fn fill_numbers(
     numbers: &mut Vec<u32>,
     width: AsWidth,
     octets: &[u8],
-    spare: usize,
+    spare: u8,
 ) -> Result<(), WireFault>
     ensures filled { OnOk result (SpellsAll (SpellsAsn width) numbers.new.items octets.now) }
     ensures bound { OnOk result

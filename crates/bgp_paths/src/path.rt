@@ -14,7 +14,7 @@ use std::alloc::{AllocError, Global};
 use std::marker::Model;
 
 /// For how many numbers more than it has a segment has room at most.
-pub(crate) const MOST_SPARE: usize = 8;
+pub(crate) const MOST_SPARE: u8 = 8;
 
 /// How many octets an AS number takes.
 #[derive(Clone, Copy, Debug, PartialEq, Eq)]

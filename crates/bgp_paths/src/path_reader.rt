@@ -72,7 +72,7 @@ fn frame_segment(width: AsWidth, octets: &[u8]) -> Option<FramedSegment<'_>>
 pub(crate) fn fit(segments: &mut Vec<Segment>)
     ensures { segments.new.items ≡ segments.old.items }
 {
-    if segments.capacity().saturating_sub(segments.len()) > MOST_SPARE {
+    if segments.capacity() - segments.len() > MOST_SPARE {
         segments.shrink_to_fit();
     }
 }
@@ -98,7 +98,7 @@ fn fill_segment(
         segment.kind = framed.kind;
         return segment.numbers.fill(width, framed.body);
     }
-    push_segment(alloc, segments, width, framed)
+    push_segment(alloc, segments, width, framed.kind, framed.body)
 }
 
 /// Puts a segment of these numbers behind all. Most paths have one, so there is room for one first.
@@ -107,21 +107,19 @@ fn push_segment(
     alloc: Global,
     segments: &mut Vec<Segment>,
     width: AsWidth,
-    framed: FramedSegment<'_>,
+    kind: SegmentKind,
+    body: &[u8],
 ) -> Result<(), WireFault>
-    ensures pushed { OnOk result (AppendsSegment width framed.entry.kind framed.entry.body.now
+    ensures pushed { OnOk result (AppendsSegment width kind body.now
         segments.old.items segments.new.items) }
-    ensures refused { IfErr result (Refuses (SpellsAll (SpellsAsn width)) framed.entry.body.now) }
+    ensures refused { IfErr result (Refuses (SpellsAll (SpellsAsn width)) body.now) }
 {
     let mut numbers = AsNumbers::from_vec(Vec::new(alloc));
-    numbers.fill(width, framed.body)?;
+    numbers.fill(width, body)?;
     if segments.capacity() == 0 {
         segments.reserve_exact(1)?;
     }
-    segments.push(Segment {
-        numbers,
-        kind: framed.kind,
-    })?;
+    segments.push(Segment { numbers, kind })?;
     Ok(())
 }
 
@@ -137,7 +135,6 @@ pub(crate) fn fill_segments(
     ensures filled { OnOk result (SpellsAll (SpellsSegment width) segments.new.items octets.now) }
     ensures refused { IfErr result (Refuses (SpellsAll (SpellsSegment width)) octets.now) }
 {
-    let before = segments.len();
     let mut count = 0;
     let mut rest = octets;
     while !rest.is_empty() {
@@ -149,8 +146,6 @@ pub(crate) fn fill_segments(
         rest = framed.rest;
     }
     segments.truncate(count);
-    if count != before {
-        fit(segments);
-    }
+    fit(segments);
     Ok(())
 }

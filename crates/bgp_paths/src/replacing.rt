@@ -44,7 +44,7 @@ fn put_segment(
 }
 
 /// The numbers, in the memory of others, with room for up to `spare` more.
-pub fn copy_numbers(old: Vec<u32>, numbers: &[u32], spare: usize) -> Result<Vec<u32>, AllocError>
+pub fn copy_numbers(old: Vec<u32>, numbers: &[u32], spare: u8) -> Result<Vec<u32>, AllocError>
     ensures { IfOk result (λ copy. copy.items ≡ numbers.now) }
 {
     let mut copy = old;

@@ -14,7 +14,7 @@ use std::marker::Model;
 use std::mem;
 
 /// For how many communities more there is room at most behind a longer list.
-const MOST_SPARE: usize = 32;
+const MOST_SPARE: u8 = 32;
 
 /// How a route came into BGP (RFC 4271, section 5.1.1).
 #[derive(Clone, Copy, Debug, PartialEq, Eq)]
@@ -82,7 +82,7 @@ impl Communities {
         ensures { self.new ≡ [] }
     {
         self.communities.clear();
-        if self.communities.capacity() > MOST_SPARE {
+        if self.communities.capacity() > usize::from(MOST_SPARE) {
             self.communities.shrink_to_fit();
         }
     }
