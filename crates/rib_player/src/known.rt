@@ -101,10 +101,14 @@ impl KnownRoutes {
         }
     }
 
-    /// An owner of the route is about to go. Where few others have it, they may be this table, a
-    /// source and an event alone, so that nobody may hold it soon.
+    /// An owner of the route is about to go. Where there is one other, which may be this table, it is
+    /// let go of here. Where there are few, they may be this table, a source and an event alone, so
+    /// that nobody may hold it soon.
     pub(crate) fn note_gone(&mut self, route: &Rc<Route>) {
-        if Rc::strong_count(route) <= FEW_OWNERS {
+        let owners = Rc::strong_count(route);
+        if owners == 2 {
+            self.routes.take_out(hash_of(route), route);
+        } else if owners <= FEW_OWNERS {
             self.released = self.released.saturating_add(weight_of(route));
         }
     }

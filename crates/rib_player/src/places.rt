@@ -173,6 +173,28 @@ fn place_for(places: &[Place], hash: u32) -> usize {
     }
 }
 
+/// Where this very route stands in the row that begins there.
+#[inline]
+fn index_in_row(places: &[Place], start: usize, route: &Rc<Route>) -> Option<usize> {
+    'places: for index in start..start.saturating_add(ROW) {
+        if let Some(Place::Taken(_, known)) = places.get(index) {
+            if Rc::ptr_eq(known, route) {
+                return Some(index);
+            }
+        }
+    }
+    None
+}
+
+/// Where this very route stands in the rows of its hash.
+fn index_of(places: &[Place], hash: u32, route: &Rc<Route>) -> Option<usize> {
+    let [first, second] = rows_of(hash, places.len());
+    match index_in_row(places, first, route) {
+        Some(index) => Some(index),
+        None => index_in_row(places, second, route),
+    }
+}
+
 impl Places {
     /// None.
     pub(crate) fn none(alloc: Global) -> Places
@@ -233,6 +255,26 @@ impl Places {
         if !self.places.is_empty() {
             self.held = self.held.saturating_add(octets);
             self.put(hash, route);
+        }
+    }
+
+    /// Frees the place at the index, if a route stands there.
+    fn free_at(&mut self, index: usize)
+        ensures { vec_len self.new.places ≡ vec_len self.old.places }
+    {
+        if index < self.places.len() && is_taken(&self.places[index]) {
+            self.taken -= 1;
+            self.held = self.held.saturating_sub(octets_at(&self.places[index]));
+            self.places[index] = Place::Free;
+        }
+    }
+
+    /// Lets go of this very route, if it stands in the rows of its hash.
+    pub(crate) fn take_out(&mut self, hash: u32, route: &Rc<Route>)
+        ensures { vec_len self.new.places ≡ vec_len self.old.places }
+    {
+        if let Some(index) = index_of(&self.places, hash, route) {
+            self.free_at(index);
         }
     }
 
