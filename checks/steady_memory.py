@@ -1,61 +1,38 @@
 """Runs of `-m` over long files, which are to ask for memory as often as those over short ones.
 
 What a record was read into serves the next ones, also where a record has several entries of one peer.
+Where others choose the paths, the peers and the lengths, the memory in use stays small as well.
 """
-import struct
+import shaped
+from records import communities, entry, index, message, net, old_entry, route, segment, table
+from using import PEAK_OF_LINES, Runs
 
 SHORT, LONG = 200, 2000
 
 
-def record(kind, subtype, body):
-    return struct.pack('>IHHI', 1700000000, kind, subtype, len(body)) + body
-
-
-def attribute(kind, value):
-    return struct.pack('>BBB', 0x40, kind, len(value)) + value
-
-
 def attributes(number, other):
-    """A path, a next hop and a community that other numbers give others of."""
-    return attribute(1, b'\0') + attribute(2, struct.pack('>BBII', 2, 2, 64496, 64500 + number)) + \
-        attribute(3, bytes([192, 0, 2, 1])) + attribute(8, struct.pack('>HH', 64496, other))
-
-
-def prefix(number):
-    return struct.pack('>BBH', 24, 10, number)
-
-
-def entry(number, other):
-    found = attributes(number, other)
-    return struct.pack('>HIH', 0, 1700000000, len(found)) + found
+    """A path, and a community that other numbers give others of."""
+    return route(segment(4, 64496, 64500 + number), communities(other))
 
 
 def table_entries(count):
     """Records of the only peer, most with an entry, and every tenth with three."""
-    yield record(13, 1, struct.pack('>IHHBIIH', 0, 0, 1, 0, 1, 0xC0000201, 64496))
+    yield index(1)
     for number in range(count):
-        entries = [entry(number, other) for other in range(1 if number % 10 else 3)]
-        yield record(13, 2, struct.pack('>I', number) + prefix(number) + struct.pack('>H', len(entries)) +
-                     b''.join(entries))
+        yield table(number, net(number), [entry(0, attributes(number, other)) for other in
+                                          range(1 if number % 10 else 3)])
 
 
 def old_table_entries(count):
     """Records of two peers by turns."""
     for number in range(count):
-        found = attribute(1, b'\0') + attribute(2, struct.pack('>BBHH', 2, 2, 64496, number)) + \
-            attribute(3, bytes([192, 0, 2, 1]))
-        yield record(12, 1, struct.pack('>HHIBBIIHH', 0, number, 0x0A000000 + (number << 8), 24, 1, 1700000000,
-                                        0xC0000201 + number % 2, 64496, len(found)) + found)
+        yield old_entry(number, number % 2, route(segment(2, 64496, number)))
 
 
 def messages(count):
     """UPDATEs that announce two prefixes and withdraw one."""
-    session = struct.pack('>IIHHII', 64496, 64497, 0, 1, 0xC0000201, 0xC0000202)
     for number in range(count):
-        found = attributes(number, 1)
-        body = struct.pack('>H', 4) + prefix(number + 1) + struct.pack('>H', len(found)) + found + \
-            prefix(number) + prefix(number + 2)
-        yield record(16, 4, session + b'\xff' * 16 + struct.pack('>HB', 19 + len(body), 2) + body)
+        yield message(net(number + 1), attributes(number, 1), net(number) + net(number + 2))
 
 
 def run_over(calls, octets):
@@ -64,7 +41,7 @@ def run_over(calls, octets):
     return calls.run(['-m', str(file)])
 
 
-def faults_of_long_runs(calls):
+def faults_of_requests(calls):
     """Runs the program over short and long files of each kind, and gives what is wrong."""
     for make, lines in ((table_entries, 2400), (old_table_entries, 2000), (messages, 6000)):
         short, long = (run_over(calls, b''.join(make(count))) for count in (SHORT, LONG))
@@ -74,3 +51,26 @@ def faults_of_long_runs(calls):
         if short.made['memory'] != long.made['memory']:
             yield '%s: %d requests for memory for %d records, %d for %d' % (
                 make.__name__, short.made['memory'], SHORT, long.made['memory'], LONG)
+
+
+# Files that others shape, by what they are.
+SHAPED = (
+    ('paths that climb', lambda: shaped.climbing_old_table(2, peers=64, most=1024)),
+    ('short paths of many peers that climb', lambda: shaped.climbing_old_table(1, peers=1024, most=250)),
+    ('entries of many peers in a record', lambda: shaped.many_peers_table(20, peers=1000)),
+    ('long messages and entries by turns', lambda: shaped.turns(200)),
+)
+
+
+def faults_of_peaks(runs):
+    """Runs the program over files that others shape, and gives where it holds too much."""
+    for name, make in SHAPED:
+        used = runs.over(make())
+        if used.status != 0 or used.peak > PEAK_OF_LINES:
+            yield '%s: status %d, a peak of %d KiB, of which %d is the most' % (
+                name, used.status, used.peak, PEAK_OF_LINES)
+
+
+def faults_of_long_runs(calls):
+    yield from faults_of_requests(calls)
+    yield from faults_of_peaks(Runs(calls.program, calls.folder))

@@ -1,0 +1,158 @@
+#!/usr/bin/env python3
+"""Runs the built program over files whose shape another party chooses, and bounds what they cost.
+
+    checks/shapes.py PROGRAM
+
+Each file is made in two sizes, the second twice the first. The peak of memory of each is bounded by a number that
+stands below, and the processor time of the larger is at most 2.6 times that of the smaller, each the least of three
+runs; where it isn't, each of three more. A line tells the peaks, the times in milliseconds, and how often the second
+holds the first. It takes a C compiler, for usage.c beside this file.
+
+Of the shapes in NOT_YET the time is known to grow faster: it is neither measured nor asked.
+"""
+import sys
+import tempfile
+from functools import partial
+from pathlib import Path
+from typing import Callable, NamedTuple
+
+import shaped
+from using import MIB, PEAK_OF_LINES, Runs
+
+RUNS = 3
+# How often the larger file may take the time of the smaller.
+STEEPEST = 2.6
+
+
+class Shape(NamedTuple):
+    """A kind of file, and the peak that it may take.
+
+    `make` gives the records of a size, and `script` what is played over them, or there is none where they are
+    listed. Where `beside` makes other records, the peak is at most 1.3 times theirs, and 1 MiB.
+    """
+    name: str
+    size: int
+    make: Callable
+    script: Callable | None = None
+    most: int = PEAK_OF_LINES
+    beside: Callable | None = None
+
+
+def all_steps(_):
+    return 'next 4294967295\n'
+
+
+def all_forgotten(_):
+    return 'next 4294967295\nforget 0\n'
+
+
+def one_by_one(kept, steps, ahead=0):
+    """Each of the steps behind the first ones, and how many are kept then."""
+    return ('next %d\n' % ahead if ahead else '') + ('next 1\nforget %d\n' % kept) * steps
+
+
+# Small routes that stay in garbage(), and the segments of a long one.
+LIVE, SEGMENTS = 40_000, 1_000
+
+SHAPES = (
+    Shape('paths of 256 peers climb, 1,024 octets', 1, partial(shaped.climbing_old_table, peers=256, most=1024)),
+    Shape('paths of 256 peers climb, 250 octets', 3, partial(shaped.climbing_old_table, peers=256, most=250)),
+    Shape('paths of 1,024 peers climb, 1,024 octets', 1,
+          partial(shaped.climbing_old_table, peers=1024, most=1024, steps=40)),
+    Shape('paths of 1,024 peers climb, 250 octets', 1, partial(shaped.climbing_old_table, peers=1024, most=250)),
+    # A record of so many paths takes 12 MiB alone, and 6.
+    Shape('paths of a record climb, 1,024 octets', 1,
+          partial(shaped.climbing_table, peers=1000, most=1024, steps=25), most=16 * MIB),
+    Shape('paths of a record climb, 250 octets', 1, partial(shaped.climbing_table, peers=1000, most=250),
+          most=8 * MIB),
+    Shape('long messages and entries by turns', 750, shaped.turns),
+    Shape('records of one peer', 400, partial(shaped.one_peer_table, entries=1000)),
+    Shape('records of many peers', 500, partial(shaped.many_peers_table, peers=1000)),
+    Shape('records of one peer, played', 150, partial(shaped.one_peer_table, entries=1000), all_steps),
+    Shape('records of many peers, played', 120, partial(shaped.many_peers_table, peers=1000), all_steps, 32 * MIB),
+    Shape('short attributes behind long ones, played', 10_000, shaped.short_behind_long_attributes, all_forgotten,
+          beside=shaped.short_attributes),
+    Shape('garbage of known routes, played', 2_500, partial(shaped.garbage, live=LIVE, segments=SEGMENTS),
+          partial(one_by_one, 0, ahead=LIVE), 40 * MIB),
+    Shape('prefixes of all lengths, played', 2_000, partial(shaped.all_lengths, times=80), all_steps),
+)
+
+# What costs more than it should, by how many steps there are. For their peak alone.
+NOT_YET = (
+    Shape('a session is lost, and comes again', 100, partial(shaped.flapping, each=100),
+          lambda size: one_by_one(size, 2 * size + 1), 6 * MIB),
+    Shape('messages are withdrawn', 50, partial(shaped.withdrawn, each=500), lambda size: one_by_one(1, 2 * size)),
+    Shape('prefixes of 80 bits share 48', 1_000, shaped.alike, lambda size: one_by_one(size, 2 * size)),
+)
+
+
+def used_by(runs, make, script, size, times=1):
+    return runs.over(make(size), script and script(size), times)
+
+
+def used_by_both(runs, shape):
+    """What a size and its double use, each in the least of three runs, or of six where these rise too much."""
+    sizes = (shape.size, 2 * shape.size)
+    small, large = (used_by(runs, shape.make, shape.script, size, RUNS) for size in sizes)
+    if large.time > STEEPEST * small.time:
+        again = [used_by(runs, shape.make, shape.script, size, RUNS) for size in sizes]
+        small, large = (one.joined(other) for one, other in zip((small, large), again))
+    return small, large
+
+
+def most_of(runs, shape, size):
+    """The peak that the shape may take at this size."""
+    if shape.beside is None:
+        return shape.most
+    return int(1.3 * used_by(runs, shape.beside, shape.script, size).peak) + MIB
+
+
+def faults_of_peak(runs, shape, size, used):
+    most = most_of(runs, shape, size)
+    if used.status != 0:
+        yield '%s: status %d at size %d' % (shape.name, used.status, size)
+    elif used.peak > most:
+        yield '%s: %d KiB at size %d, of which %d is the most' % (shape.name, used.peak, size, most)
+
+
+def faults_of_shape(runs, shape):
+    """Runs the program over both sizes, prints what it used, and gives what is wrong."""
+    small, large = used_by_both(runs, shape)
+    print('%7d %7d   %7.1f %7.1f %5.2f   %s' % (
+        small.peak, large.peak, small.time, large.time, large.time / small.time, shape.name), flush=True)
+    yield from faults_of_peak(runs, shape, shape.size, small)
+    yield from faults_of_peak(runs, shape, 2 * shape.size, large)
+    if large.time > STEEPEST * small.time:
+        yield '%s: %.1f ms, and %.1f at half the size' % (shape.name, large.time, small.time)
+
+
+def faults_of_untimed(runs, shape):
+    """The same, once, and without its time."""
+    small, large = (used_by(runs, shape.make, shape.script, size) for size in (shape.size, 2 * shape.size))
+    print('%7d %7d   %21s   %s' % (small.peak, large.peak, '-', shape.name), flush=True)
+    yield from faults_of_peak(runs, shape, shape.size, small)
+    yield from faults_of_peak(runs, shape, 2 * shape.size, large)
+
+
+def faults_of_shapes(runs):
+    print('  peaks in KiB    times in ms and ratio')
+    for shape in SHAPES:
+        yield from faults_of_shape(runs, shape)
+    print('Of these no time is asked yet:')
+    for shape in NOT_YET:
+        yield from faults_of_untimed(runs, shape)
+
+
+def main():
+    if len(sys.argv) != 2:
+        sys.exit(__doc__)
+    with tempfile.TemporaryDirectory() as folder:
+        faults = list(faults_of_shapes(Runs(Path(sys.argv[1]).resolve(), Path(folder))))
+    for what in faults:
+        print(what)
+    print('shapes: %s' % ('no faults' if not faults else '%d faults' % len(faults)))
+    sys.exit(1 if faults else 0)
+
+
+if __name__ == '__main__':
+    main()

@@ -1,0 +1,50 @@
+"""What runs of a program use: see usage.c."""
+import subprocess
+from functools import reduce
+from pathlib import Path
+from typing import NamedTuple
+
+from calling import compiler
+
+SOURCE = Path(__file__).resolve().parent / 'usage.c'
+# The seconds that a call may last.
+LONGEST_CALL = 60
+MIB = 1024
+# The most of `-m` over records of an entry or a message each, whatever these are, in KiB.
+PEAK_OF_LINES = 4 * MIB
+
+
+class Used(NamedTuple):
+    """What a run used, its peak in KiB and its processor time in milliseconds."""
+    status: int
+    peak: int
+    time: float
+
+    def joined(self, other):
+        """The worse status, the larger peak and the lesser time."""
+        return Used(max(self.status, other.status), max(self.peak, other.peak), min(self.time, other.time))
+
+
+class Runs:
+    """Runs of a program over files that are made in a folder."""
+
+    def __init__(self, program, folder):
+        self.program, self.folder = program, folder
+        self.launcher, self.told = folder / 'usage', folder / 'told'
+        subprocess.run([compiler(), '-O1', '-o', self.launcher, SOURCE], check=True)
+
+    def used(self, words):
+        subprocess.run([self.launcher, self.told, self.program, *words], stdin=subprocess.DEVNULL,
+                       stdout=subprocess.DEVNULL, timeout=LONGEST_CALL, check=True)
+        status, peak, microseconds = map(int, self.told.read_text().split())
+        return Used(status, peak, microseconds / 1000)
+
+    def over(self, records, script=None, runs=1):
+        """What runs over the records used, listed or played: the largest peak and the least time."""
+        file, words = self.folder / 'made.mrt', ['-m']
+        with file.open('wb') as out:
+            out.writelines(records)
+        if script:
+            (self.folder / 'script').write_text(script)
+            words = ['--play', str(self.folder / 'script')]
+        return reduce(Used.joined, [self.used([*words, str(file)]) for _ in range(runs)])
