@@ -3,6 +3,7 @@ mod events;
 mod held;
 mod kinds;
 mod large;
+mod many_peers;
 mod messages;
 mod old_tables;
 mod repeated;

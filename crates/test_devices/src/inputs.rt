@@ -1,6 +1,6 @@
 //! Inputs.
 
-ghost use Rattle.std.specs.Prelude.{◌≡◌, None, false};
+ghost use Rattle.std.specs.Prelude.{◌≡◌, ◌≤◌, None, false, length};
 
 use mrt_wire::{InFault, Input};
 use std::cell::Cell;
@@ -91,6 +91,62 @@ impl Input for LateZeros {
         }
         self.ended = true;
         Ok(0)
+    }
+}
+
+/// An input that ends once, and goes on where it is asked again. It counts the calls behind its
+/// end.
+#[derive(Drop)]
+pub struct EndedInput<'a> {
+    octets: &'a [u8],
+    step: usize,
+    before: usize,
+    /// Whether it has told its end.
+    pub ended: bool,
+    /// How often it was asked behind that.
+    pub late_calls: u64,
+}
+
+impl<'a> EndedInput<'a> {
+    /// An input that gives at most `step` octets a call, and ends behind `before` of them.
+    pub fn new(octets: &'a [u8], step: usize, before: usize) -> Self
+        ensures { ⟦<EndedInput<'a> as Input>⟧.failed result ≡ false }
+    {
+        EndedInput {
+            octets,
+            step,
+            before,
+            ended: false,
+            late_calls: 0,
+        }
+    }
+
+    /// Puts the first octets, as many as are named, in front of the buffer.
+    fn give(&mut self, most: usize, buffer: &mut [u8]) -> usize
+        ensures { result ≤ length buffer.new }
+    {
+        let count = most.min(self.octets.len()).min(buffer.len());
+        let (front, rest) = self.octets.split_at(count);
+        buffer[..count].copy_from_slice(front);
+        self.octets = rest;
+        count
+    }
+}
+
+impl Input for EndedInput<'_> {
+    ghost left = { λ _. None };
+
+    ghost failed = { λ _. false };
+
+    fn take(&mut self, buffer: &mut [u8]) -> Result<usize, InFault> {
+        if self.ended {
+            self.late_calls = self.late_calls.saturating_add(1);
+            return Ok(self.give(self.step, buffer));
+        }
+        let count = self.give(self.step.min(self.before), buffer);
+        self.before = self.before.saturating_sub(count);
+        self.ended = count == 0;
+        Ok(count)
     }
 }
 

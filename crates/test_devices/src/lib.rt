@@ -1,9 +1,9 @@
 //! Inputs and outputs for tests: some move few octets a call and fail where they are told to, some
-//! count their calls, some never end.
+//! count their calls, some never end, and some end and go on.
 #![tactic(auto)]
 
 mod inputs;
 mod outputs;
 
-pub use inputs::{LateZeros, SlowInput, WatchingInput, Zeros};
+pub use inputs::{EndedInput, LateZeros, SlowInput, WatchingInput, Zeros};
 pub use outputs::{CountedOutput, SlowOutput};

@@ -277,7 +277,7 @@ fn an_input_is_not_asked_behind_its_end(rt: HostRuntime) -> Result<(), Fail> {
 }
 
 /// A state change with so many octets behind it that are ignored.
-fn long_state_change(alloc: Global, behind: u32) -> Result<Vec<u8>, AllocError> {
+pub(super) fn long_state_change(alloc: Global, behind: u32) -> Result<Vec<u8>, AllocError> {
     let size = behind.saturating_add(20).to_be_bytes();
     let change = octets_of(alloc, &["FBF4 FBF5 0000 0001 C0000201 C0000202 0006 0001"])?;
     let mut octets = octets_of(alloc, &["00000064 0010 0000"])?;
@@ -303,7 +303,7 @@ fn long_bodies_are_read(rt: HostRuntime) -> Result<(), Fail> {
 }
 
 /// An unsupported record with a body of so many octets, and a state change behind it.
-fn long_unsupported(alloc: Global, size: u32) -> Result<Vec<u8>, AllocError> {
+pub(super) fn long_unsupported(alloc: Global, size: u32) -> Result<Vec<u8>, AllocError> {
     let mut octets = octets_of(alloc, &["00000064 000C 0003"])?;
     octets.extend_from_slice(&size.to_be_bytes())?;
     octets.resize(octets.len().saturating_add(size as usize), 0xFF)?;
