@@ -2,14 +2,16 @@
 
      usage FILE PROGRAM [WORD..]
 
-   FILE gets its status (256 and the signal, where one ended it), its peak of memory in KiB and its
-   processor time in microseconds. A caller's own memory would count as the program's: what a process
+   FILE gets its status (256 and the signal, where one ended it, as one does after a minute), its peak
+   of memory in KiB and its processor time in microseconds. A caller's own memory would count as the program's: what a process
    held before it became the program belongs to its peak. This one holds next to nothing. */
 #define _GNU_SOURCE
 #include <stdio.h>
 #include <sys/resource.h>
 #include <sys/wait.h>
 #include <unistd.h>
+
+enum { LONGEST_CALL = 60 };
 
 static long microseconds(struct timeval time) {
     return time.tv_sec * 1000000L + time.tv_usec;
@@ -22,6 +24,7 @@ int main(int count, char **words) {
         return 2;
     pid_t child = fork();
     if (child == 0) {
+        alarm(LONGEST_CALL);
         execv(words[2], words + 2);
         _exit(127);
     }

@@ -7,8 +7,6 @@ from typing import NamedTuple
 from calling import compiler
 
 SOURCE = Path(__file__).resolve().parent / 'usage.c'
-# The seconds that a call may last.
-LONGEST_CALL = 60
 MIB = 1024
 # The most of `-m` over records of an entry or a message each, whatever these are, in KiB.
 PEAK_OF_LINES = 4 * MIB
@@ -35,7 +33,7 @@ class Runs:
 
     def used(self, words):
         subprocess.run([self.launcher, self.told, self.program, *words], stdin=subprocess.DEVNULL,
-                       stdout=subprocess.DEVNULL, timeout=LONGEST_CALL, check=True)
+                       stdout=subprocess.DEVNULL, check=True)
         status, peak, microseconds = map(int, self.told.read_text().split())
         return Used(status, peak, microseconds / 1000)
 
