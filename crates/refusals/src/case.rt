@@ -1,6 +1,7 @@
 //! The cases, by name.
 
 use crate::courses::Course;
+use crate::forgetting::{self, Forgetting};
 use crate::playing;
 use crate::reading::{self, Octets};
 use crate::runs::{self, Script};
@@ -24,12 +25,20 @@ pub enum Case {
     Next(Answer),
     /// `ensure` of a store.
     Ensure(Store),
+    /// `put` of a store, at a new key.
+    Put(Store),
+    /// The same at a key that there is.
+    PutAgain(Store),
     /// `Player::play`.
     Play(Course),
+    /// `Player::forget`.
+    Forget(Forgetting),
     /// `run_dump`.
     Dump(&'static runs::Listing),
     /// `run_play`.
     Script(&'static Script),
+    /// `run_play` of a script that prints a large table.
+    LargeTable,
     /// `settings`.
     Settings(Words),
 }
@@ -43,9 +52,13 @@ impl Case {
             Case::Merge => reading::merge(alloc),
             Case::Next(answer) => sources::next(alloc, answer),
             Case::Ensure(store) => stores::ensure(alloc, store),
+            Case::Put(store) => stores::put(alloc, store),
+            Case::PutAgain(store) => stores::put_again(alloc, store),
             Case::Play(course) => playing::play(alloc, course),
+            Case::Forget(forgetting) => forgetting::forget(alloc, forgetting),
             Case::Dump(dump) => runs::dump(alloc, dump),
             Case::Script(script) => runs::play(alloc, script),
+            Case::LargeTable => runs::play_large(alloc),
             Case::Settings(words) => words::ask(alloc, words),
         }
     }
@@ -74,16 +87,63 @@ pub const CASES: &[(&str, Case)] = &[
     ("next-is-an-ipv6-entry", Case::Next(Answer::WideEntry)),
     ("next-is-an-update", Case::Next(Answer::Update)),
     ("next-has-an-as4-path", Case::Next(Answer::As4Path)),
+    ("next-is-an-old-entry", Case::Next(Answer::OldEntry)),
+    (
+        "next-behind-a-taken-entry",
+        Case::Next(Answer::EntryBehindTaken),
+    ),
+    (
+        "next-behind-a-taken-update",
+        Case::Next(Answer::UpdateBehindTaken),
+    ),
+    (
+        "next-is-an-old-entry-behind-a-taken-one",
+        Case::Next(Answer::OldEntryBehindTaken),
+    ),
     ("first-key-of-a-tree", Case::Ensure(Store::NewTree)),
     ("key-of-a-tree", Case::Ensure(Store::Tree)),
     ("first-key-of-a-map", Case::Ensure(Store::NewMap)),
     ("key-of-a-map", Case::Ensure(Store::Map)),
+    ("put-into-an-empty-tree", Case::Put(Store::NewTree)),
+    ("put-into-a-tree", Case::Put(Store::Tree)),
+    ("put-into-an-empty-map", Case::Put(Store::NewMap)),
+    ("put-into-a-map", Case::Put(Store::Map)),
+    (
+        "put-at-the-only-key-of-a-tree",
+        Case::PutAgain(Store::NewTree),
+    ),
+    ("put-at-a-key-of-a-tree", Case::PutAgain(Store::Tree)),
+    (
+        "put-at-the-only-key-of-a-map",
+        Case::PutAgain(Store::NewMap),
+    ),
+    ("put-at-a-key-of-a-map", Case::PutAgain(Store::Map)),
     ("play-for-two-new-peers", Case::Play(Course::TwoNewPeers)),
     (
         "play-for-two-new-peers-over-a-map",
         Case::Play(Course::TwoNewPeersOverMap),
     ),
+    (
+        "play-ipv6-for-two-new-peers",
+        Case::Play(Course::TwoNewPeersOfIpv6),
+    ),
     ("play-over-a-route", Case::Play(Course::OverRoute)),
+    (
+        "play-over-a-route-behind-a-floor",
+        Case::Play(Course::BehindFloor),
+    ),
+    (
+        "play-behind-1024-steps",
+        Case::Play(Course::BehindSteps(1_024)),
+    ),
+    (
+        "play-behind-1100-steps",
+        Case::Play(Course::BehindSteps(1_100)),
+    ),
+    (
+        "play-over-a-thousand-routes-that-differ",
+        Case::Play(Course::OverMany),
+    ),
     (
         "play-a-loss-with-two-steps-ahead",
         Case::Play(Course::LossWithTwoAhead),
@@ -97,13 +157,32 @@ pub const CASES: &[(&str, Case)] = &[
         Case::Play(Course::LossOfThousand),
     ),
     ("play-a-thousand-routes", Case::Play(Course::Thousand)),
+    ("forget-all-steps", Case::Forget(Forgetting::All)),
+    (
+        "forget-all-steps-before-others",
+        Case::Forget(Forgetting::AllBeforeAhead),
+    ),
+    (
+        "forget-most-steps-before-others",
+        Case::Forget(Forgetting::MostBeforeAhead),
+    ),
+    (
+        "forget-steps-behind-a-floor",
+        Case::Forget(Forgetting::BehindFloor),
+    ),
+    (
+        "forget-steps-by-turns-before-others",
+        Case::Forget(Forgetting::ByTurns),
+    ),
     ("dump-of-a-table", Case::Dump(&runs::TABLE)),
     ("dump-of-an-ipv6-table", Case::Dump(&runs::WIDE_TABLE)),
+    ("dump-of-an-old-table", Case::Dump(&runs::OLD_TABLE)),
     ("dump-of-updates", Case::Dump(&runs::UPDATES)),
     ("dump-of-an-as4-path", Case::Dump(&runs::AS4_PATH)),
     ("dump-of-two-peers", Case::Dump(&runs::TWO_PEERS)),
     ("script-over-updates", Case::Script(&runs::OVER_UPDATES)),
     ("script-over-two-peers", Case::Script(&runs::OVER_TWO_PEERS)),
+    ("script-that-prints-a-large-table", Case::LargeTable),
     ("settings-of-lines", Case::Settings(Words::Lines)),
     ("settings-of-no-mode", Case::Settings(Words::NoMode)),
     ("settings-of-two-modes", Case::Settings(Words::TwoModes)),

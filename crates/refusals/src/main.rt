@@ -5,6 +5,7 @@
 
 mod case;
 mod courses;
+mod forgetting;
 mod marks;
 mod playing;
 mod reading;

@@ -32,6 +32,17 @@ pub const WIDE_FIELDS: &str = "|||2001:db8::1:0:0:1|0|0||NAG||\n";
 pub const WIDE_LINE: &str = "TABLE_DUMP2|200|B|192.0.2.1|64500|2001:db8::/32|||\
     2001:db8::1:0:0:1|0|0||NAG||\n";
 
+/// The record of 10.0.0.0/8 in an old table, of the same peer, in front of its attributes.
+pub const OLD_ENTRY: &str =
+    "000000C8 000C 0001 00000028 0000 0000 0A000000 08 01 00000032 C0000201 FBF4 0012";
+
+/// Those attributes: IGP, the path 64500 and the next hop 192.0.2.9.
+pub const OLD_ATTRIBUTES: &str = "40010100 400204 0201 FBF4 400304 C0000209";
+
+/// The line of that entry.
+pub const OLD_LINE: &str =
+    "TABLE_DUMP|200|B|192.0.2.1|64500|10.0.0.0/8|64500|IGP|192.0.2.9|0|0||NAG||\n";
+
 /// UPDATEs of the session with 192.0.2.1 of AS 64500, up to the message: one of 59 octets at
 /// 100 seconds, one of 61 at 101, one of 82 at 100, and one of 88 at 100.
 pub const SESSION_59: &str = "00000064 0010 0001 0000003B FBF4 FBF5 0000 0001 C0000201 C0000202";
@@ -41,6 +52,11 @@ pub const SESSION_61: &str = "00000065 0010 0001 0000003D FBF4 FBF5 0000 0001 C0
 pub const SESSION_82: &str = "00000064 0010 0001 00000052 FBF4 FBF5 0000 0001 C0000201 C0000202";
 
 pub const SESSION_88: &str = "00000064 0010 0001 00000058 FBF4 FBF5 0000 0001 C0000201 C0000202";
+
+/// One of 259 octets of that session at 100 seconds, which announces 101 prefixes as the first
+/// message below does, in front of these.
+pub const SESSION_259: &str = "00000064 0010 0001 00000103 FBF4 FBF5 0000 0001 C0000201 C0000202 \
+    FFFFFFFFFFFFFFFF FFFFFFFFFFFFFFFF 00F3 02 0000 0012 40010100 400204 0201 FBF4 400304 C0000209";
 
 /// One of 59 octets of the session with 192.0.2.1 of AS 64501, at 101 seconds.
 pub const OTHER_SESSION_59: &str =

@@ -3,9 +3,9 @@
 use crate::marks::Call;
 use crate::records::{
     ANNOUNCED, ANNOUNCED_LINE, AS4_LINE, AS4_PATH as AS4_MESSAGE, BOTH_FAMILIES, BOTH_LINES, ENTRY,
-    ENTRY_ATTRIBUTES, ENTRY_LINE, INDEX, LOSS, LOSS_LINE, OTHER_LINE, OTHER_SESSION_59, REPLACED,
-    REPLACED_LINES, SESSION_59, SESSION_61, SESSION_82, SESSION_88, WIDE_ATTRIBUTES, WIDE_ENTRY,
-    WIDE_LINE,
+    ENTRY_ATTRIBUTES, ENTRY_LINE, INDEX, LOSS, LOSS_LINE, OLD_ATTRIBUTES, OLD_ENTRY, OLD_LINE,
+    OTHER_LINE, OTHER_SESSION_59, REPLACED, REPLACED_LINES, SESSION_59, SESSION_61, SESSION_82,
+    SESSION_88, SESSION_259, WIDE_ATTRIBUTES, WIDE_ENTRY, WIDE_LINE,
 };
 use crate::sight::{Sight, Unmade};
 use bgpdump_tool::{Outcome, WriteOutput, run_dump, run_play};
@@ -36,6 +36,11 @@ pub const TABLE: Listing = Listing {
 pub const WIDE_TABLE: Listing = Listing {
     records: &[INDEX, WIDE_ENTRY, WIDE_ATTRIBUTES],
     lines: &[WIDE_LINE],
+};
+
+pub const OLD_TABLE: Listing = Listing {
+    records: &[OLD_ENTRY, OLD_ATTRIBUTES],
+    lines: &[OLD_LINE],
 };
 
 pub const UPDATES: Listing = Listing {
@@ -72,7 +77,7 @@ pub const OVER_TWO_PEERS: Script = Script {
 };
 
 /// More octets than any of these runs writes.
-const ROOM: usize = 4096;
+const ROOM: usize = 16_384;
 
 /// Prints the lines of records, and compares.
 pub fn dump(alloc: Global, listing: &Listing) -> Result<Sight, Unmade> {
@@ -95,19 +100,53 @@ pub fn dump(alloc: Global, listing: &Listing) -> Result<Sight, Unmade> {
 /// Carries out a script over records, and compares.
 pub fn play(alloc: Global, script: &Script) -> Result<Sight, Unmade> {
     let octets = octets_of(alloc, script.records)?;
+    play_over(alloc, &octets, script.commands, script.replies.as_bytes())
+}
+
+/// The last prefix that is announced: they are 1.0.0.0/8 to this one.
+const LAST: u8 = 101;
+
+/// Prints a table of more than a hundred routes, and compares.
+pub fn play_large(alloc: Global) -> Result<Sight, Unmade> {
+    let mut octets = octets_of(alloc, &[SESSION_259])?;
+    let mut replies = Vec::from_slice(alloc, b"at 1\n")?;
+    for number in 1..=LAST {
+        octets.extend_from_slice(&[8, number])?;
+        put_reply(alloc, number, &mut replies)?;
+    }
+    replies.extend_from_slice(b"routes 101\n")?;
+    let commands = "next\ntable 192.0.2.1 64500\n";
+    play_over(alloc, &octets, commands, &replies)
+}
+
+/// Appends the line of the route to the prefix of a number.
+fn put_reply(alloc: Global, number: u8, replies: &mut Vec<u8>) -> Result<(), AllocError> {
+    let line = format!(in alloc;
+        "RIB|100|B|192.0.2.1|64500|{number}.0.0.0/8|64500|IGP|192.0.2.9|0|0||NAG||\n"
+    )?;
+    Ok(replies.extend_from_slice(line.as_bytes())?)
+}
+
+/// Carries out commands over octets, and compares with the replies.
+fn play_over(
+    alloc: Global,
+    octets: &[u8],
+    commands: &str,
+    replies: &[u8],
+) -> Result<Sight, Unmade> {
     let mut out = Vec::with_capacity(alloc, ROOM)?;
     let mut err = Vec::with_capacity(alloc, ROOM)?;
     let call = Call::begin(alloc)?;
     let outcome = run_play::<RadixStore<Rc<Route>>, _, _, _>(
         alloc,
-        &mut ReadInput::new(octets.as_slice()),
-        script.commands.as_bytes(),
+        &mut ReadInput::new(octets),
+        commands.as_bytes(),
         &mut WriteOutput::new(&mut out),
         &mut WriteOutput::new(&mut err),
         Stamp::Dump,
     );
     call.end()?;
-    Ok(judge(outcome, &out, &err, script.replies.as_bytes()))
+    Ok(judge(outcome, &out, &err, replies))
 }
 
 /// The texts one behind the other.

@@ -24,7 +24,11 @@ pub struct Scene {
 pub fn scene_of(course: Course) -> Scene {
     match course {
         Course::TwoNewPeers | Course::TwoNewPeersOverMap => two_new_peers(),
+        Course::TwoNewPeersOfIpv6 => two_new_peers_of_ipv6(),
         Course::OverRoute => over_route(),
+        Course::BehindFloor => behind_floor(),
+        Course::BehindSteps(steps) => behind_steps(u64::from(steps)),
+        Course::OverMany => over_many(),
         Course::LossWithTwoAhead => loss_with_two_ahead(),
         Course::OneMore => one_more(),
         Course::LossOfThousand => loss_of_thousand(),
@@ -33,10 +37,11 @@ pub fn scene_of(course: Course) -> Scene {
 }
 
 /// A player whose known peer is the only one.
-fn one_peer(at: u64, ahead: u64, named: u64, known: SeenPeer) -> Seen {
+pub fn one_peer(at: u64, ahead: u64, named: u64, known: SeenPeer) -> Seen {
     Seen {
         at,
         ahead,
+        floor: 0,
         named,
         known,
         new: NOTHING,
@@ -45,12 +50,12 @@ fn one_peer(at: u64, ahead: u64, named: u64, known: SeenPeer) -> Seen {
 }
 
 /// A peer with so many keys and routes, one of them to 10.0.0.0/8 where there is a time.
-fn peer(keys: u64, routes: u64, wide: Option<u32>) -> SeenPeer {
+pub fn peer(keys: u64, routes: u64, wide: Option<u32>) -> SeenPeer {
     SeenPeer {
         keys: Some(keys),
         routes,
         wide,
-        narrow: None,
+        ..NOTHING
     }
 }
 
@@ -65,11 +70,28 @@ fn step_ahead() -> Walk {
 
 fn two_new_peers() -> Scene {
     let new = SeenPeer {
-        keys: Some(2),
-        routes: 2,
-        wide: Some(102),
         narrow: Some(102),
+        ..peer(2, 2, Some(102))
     };
+    behind_step_ahead(new, new)
+}
+
+fn two_new_peers_of_ipv6() -> Scene {
+    let new = SeenPeer {
+        wide_ipv6: Some(102),
+        narrow_ipv6: Some(103),
+        ..peer(2, 2, None)
+    };
+    let other_new = SeenPeer {
+        wide_ipv6: Some(104),
+        narrow_ipv6: Some(105),
+        ..peer(2, 2, None)
+    };
+    behind_step_ahead(new, other_new)
+}
+
+/// Two prefixes for each of two new peers, in place of a step ahead.
+fn behind_step_ahead(new: SeenPeer, other_new: SeenPeer) -> Scene {
     let without = peer(2, 0, None);
     let known = peer(1, 1, Some(100));
     Scene {
@@ -78,7 +100,7 @@ fn two_new_peers() -> Scene {
         played: Walk {
             here: Seen {
                 new,
-                other_new: new,
+                other_new,
                 ..one_peer(2, 0, 5, known)
             },
             back: Seen {
@@ -102,6 +124,73 @@ fn over_route() -> Scene {
         played: Walk {
             here: one_peer(2, 0, 2, peer(1, 1, Some(101))),
             back: one_peer(1, 1, 2, peer(1, 1, Some(100))),
+            forth: None,
+        },
+    }
+}
+
+/// What is seen behind a floor of one step, where the known peer has a route of this time.
+fn behind_one(at: u64, ahead: u64, time: u32) -> Seen {
+    Seen {
+        floor: 1,
+        ..one_peer(at, ahead, 2, peer(1, 1, Some(time)))
+    }
+}
+
+fn behind_floor() -> Scene {
+    Scene {
+        refused: Walk {
+            here: behind_one(2, 1, 101),
+            back: behind_one(1, 2, 100),
+            forth: Some(behind_one(3, 0, 102)),
+        },
+        dropped: 1,
+        played: Walk {
+            here: behind_one(3, 0, 103),
+            back: behind_one(2, 1, 101),
+            forth: None,
+        },
+    }
+}
+
+/// Steps of a route each, and one more behind them.
+fn behind_steps(steps: u64) -> Scene {
+    let all = steps.saturating_add(1);
+    let before = steps.saturating_sub(1);
+    Scene {
+        refused: Walk {
+            here: one_peer(steps, 0, steps, peer(steps, steps, None)),
+            back: one_peer(before, 1, steps, peer(steps, before, None)),
+            forth: None,
+        },
+        dropped: 0,
+        played: Walk {
+            here: one_peer(all, 0, all, peer(all, all, Some(102))),
+            back: one_peer(steps, 1, all, peer(all, steps, None)),
+            forth: None,
+        },
+    }
+}
+
+/// A peer of 1,100 routes, the first two of this time and of the next.
+fn many(first: u32) -> SeenPeer {
+    SeenPeer {
+        narrow: Some(first.saturating_add(1)),
+        ..peer(1_100, 1_100, Some(first))
+    }
+}
+
+fn over_many() -> Scene {
+    Scene {
+        refused: Walk {
+            here: one_peer(1, 0, 1_100, many(1_000)),
+            back: one_peer(0, 1, 1_100, peer(1_100, 0, None)),
+            forth: None,
+        },
+        dropped: 0,
+        played: Walk {
+            here: one_peer(2, 0, 1_700, many(5_000)),
+            back: one_peer(1, 1, 1_700, many(1_000)),
             forth: None,
         },
     }

@@ -32,6 +32,10 @@ pub struct SeenPeer {
     pub wide: Option<u32>,
     /// The time of that to 10.1.0.0/16.
     pub narrow: Option<u32>,
+    /// The time of that to 2001:db8::/32.
+    pub wide_ipv6: Option<u32>,
+    /// The time of that to 2001:db8:1::/48.
+    pub narrow_ipv6: Option<u32>,
 }
 
 /// A peer without a store.
@@ -40,6 +44,8 @@ pub const NOTHING: SeenPeer = SeenPeer {
     routes: 0,
     wide: None,
     narrow: None,
+    wide_ipv6: None,
+    narrow_ipv6: None,
 };
 
 /// What is seen of a player: where it stands, how many pairs its steps name, and its peers.
@@ -47,6 +53,7 @@ pub const NOTHING: SeenPeer = SeenPeer {
 pub struct Seen {
     pub at: u64,
     pub ahead: u64,
+    pub floor: u64,
     pub named: u64,
     pub known: SeenPeer,
     pub new: SeenPeer,
@@ -62,6 +69,21 @@ pub fn wide_prefix() -> Option<Prefix> {
 pub fn narrow_prefix() -> Option<Prefix> {
     Prefix::new(Addr::v4([10, 1, 0, 0]), 16)
 }
+
+/// The prefix 2001:db8::/32.
+pub fn wide_ipv6() -> Option<Prefix> {
+    Prefix::new(Addr::v6(ADDRESS), 32)
+}
+
+/// The prefix 2001:db8:1::/48.
+pub fn narrow_ipv6() -> Option<Prefix> {
+    let mut octets = ADDRESS;
+    octets[5] = 1;
+    Prefix::new(Addr::v6(octets), 48)
+}
+
+/// The address 2001:db8::.
+const ADDRESS: [u8; 16] = [0x20, 1, 0xD, 0xB8, 0, 0, 0, 0, 0, 0, 0, 0, 0, 0, 0, 0];
 
 /// The time of the peer's route to the prefix.
 fn time_of<S: PrefixStore<Rc<Route>>>(
@@ -86,6 +108,8 @@ fn see_peer<S: PrefixStore<Rc<Route>>>(player: &Player<S>, last: u8) -> SeenPeer
         routes,
         wide: time_of(player, &peer, wide_prefix()),
         narrow: time_of(player, &peer, narrow_prefix()),
+        wide_ipv6: time_of(player, &peer, wide_ipv6()),
+        narrow_ipv6: time_of(player, &peer, narrow_ipv6()),
     }
 }
 
@@ -94,6 +118,7 @@ pub fn see<S: PrefixStore<Rc<Route>>>(player: &Player<S>) -> Seen {
     Seen {
         at: player.at(),
         ahead: player.ahead(),
+        floor: player.floor(),
         named: player.named(),
         known: see_peer(player, KNOWN),
         new: see_peer(player, NEW),

@@ -2,8 +2,9 @@
 
 use crate::marks::Call;
 use crate::records::{
-    AS4_LINE, AS4_PATH, BOTH_FAMILIES, BOTH_LINES, ENTRY, ENTRY_ATTRIBUTES, ENTRY_LINE, INDEX,
-    SESSION_82, SESSION_88, WIDE_ATTRIBUTES, WIDE_ENTRY, WIDE_LINE,
+    ANNOUNCED, AS4_LINE, AS4_PATH, BOTH_FAMILIES, BOTH_LINES, ENTRY, ENTRY_ATTRIBUTES, ENTRY_LINE,
+    INDEX, OLD_ATTRIBUTES, OLD_ENTRY, OLD_LINE, SESSION_59, SESSION_82, SESSION_88,
+    WIDE_ATTRIBUTES, WIDE_ENTRY, WIDE_LINE,
 };
 use crate::sight::{Sight, Unmade};
 use bgpdump_tool::put_lines;
@@ -25,6 +26,14 @@ pub enum Answer {
     Update,
     /// One with AS4_PATH.
     As4Path,
+    /// An entry of an old table.
+    OldEntry,
+    /// A table's entry, behind one that was taken back.
+    EntryBehindTaken,
+    /// The UPDATE of both families, behind one that was taken back.
+    UpdateBehindTaken,
+    /// An entry of an old table, behind a table's entry that was taken back.
+    OldEntryBehindTaken,
 }
 
 /// Asks a source for what comes next, and compares.
@@ -41,13 +50,27 @@ pub fn next(alloc: Global, answer: Answer) -> Result<Sight, Unmade> {
         }
         Answer::Update => next_behind(alloc, &[SESSION_88, BOTH_FAMILIES], 0, BOTH_LINES),
         Answer::As4Path => next_behind(alloc, &[SESSION_82, AS4_PATH], 0, AS4_LINE),
+        Answer::OldEntry => next_behind(alloc, &[OLD_ENTRY, OLD_ATTRIBUTES], 0, OLD_LINE),
+        Answer::EntryBehindTaken => {
+            let entries = [INDEX, WIDE_ENTRY, WIDE_ATTRIBUTES, ENTRY, ENTRY_ATTRIBUTES];
+            next_behind(alloc, &entries, 2, ENTRY_LINE)
+        }
+        Answer::UpdateBehindTaken => {
+            let updates = [SESSION_59, ANNOUNCED, SESSION_88, BOTH_FAMILIES];
+            next_behind(alloc, &updates, 1, BOTH_LINES)
+        }
+        Answer::OldEntryBehindTaken => {
+            let entries = [INDEX, ENTRY, ENTRY_ATTRIBUTES, OLD_ENTRY, OLD_ATTRIBUTES];
+            next_behind(alloc, &entries, 2, OLD_LINE)
+        }
     }
 }
 
-/// Reads so many records.
+/// Reads so many records, and gives their events back.
 fn skip<I: Input>(source: &mut Source, input: &mut I, records: usize) -> Result<(), SourceFault> {
     for _ in 0..records {
-        let _ = source.next(input)?;
+        let answer = source.next(input)?;
+        source.take_back(answer);
     }
     Ok(())
 }

@@ -1,4 +1,4 @@
-//! `ensure` of the stores.
+//! `ensure` and `put` of the stores.
 
 use crate::marks::Call;
 use crate::sight::{Sight, Unmade};
@@ -29,6 +29,26 @@ pub fn ensure(alloc: Global, store: Store) -> Result<Sight, Unmade> {
     }
 }
 
+/// Puts a route at a new key of a store, and compares.
+pub fn put(alloc: Global, store: Store) -> Result<Sight, Unmade> {
+    match store {
+        Store::NewTree => put_behind::<RadixStore<u32>>(alloc, 0),
+        Store::Tree => put_behind::<RadixStore<u32>>(alloc, KEYS),
+        Store::NewMap => put_behind::<MapStore<u32>>(alloc, 0),
+        Store::Map => put_behind::<MapStore<u32>>(alloc, KEYS),
+    }
+}
+
+/// Puts a route at a key that a store has, and compares.
+pub fn put_again(alloc: Global, store: Store) -> Result<Sight, Unmade> {
+    match store {
+        Store::NewTree => put_over::<RadixStore<u32>>(alloc, 1),
+        Store::Tree => put_over::<RadixStore<u32>>(alloc, KEYS),
+        Store::NewMap => put_over::<MapStore<u32>>(alloc, 1),
+        Store::Map => put_over::<MapStore<u32>>(alloc, KEYS),
+    }
+}
+
 /// The key of this number. An odd one differs from the one before in its last bit.
 fn key_at(number: u8) -> Result<Prefix, Unmade> {
     Prefix::new(Addr::v4([10, number, 0, 0]), 16).ok_or(Unmade)
@@ -36,10 +56,7 @@ fn key_at(number: u8) -> Result<Prefix, Unmade> {
 
 /// Makes a key of a store that has so many with routes, and compares.
 fn ensure_behind<S: PrefixStore<u32>>(alloc: Global, keys: u8) -> Result<Sight, Unmade> {
-    let mut store: S = S::new(alloc);
-    for number in 0..keys {
-        add(&mut store, number)?;
-    }
+    let mut store: S = store_of(alloc, keys)?;
     let key = key_at(keys)?;
     let call = Call::begin(alloc)?;
     let result = store.ensure(key);
@@ -55,6 +72,56 @@ fn ensure_behind<S: PrefixStore<u32>>(alloc: Global, keys: u8) -> Result<Sight, 
             Ok(Sight::answered(made && is_known && stands(&store, keys)))
         }
     }
+}
+
+/// Puts a route at a new key of a store that has so many with routes, and compares.
+fn put_behind<S: PrefixStore<u32>>(alloc: Global, keys: u8) -> Result<Sight, Unmade> {
+    let mut store: S = store_of(alloc, keys)?;
+    let key = key_at(keys)?;
+    let mut route = Some(u32::from(keys));
+    let call = Call::begin(alloc)?;
+    let result = store.put(&key, &mut route);
+    call.end()?;
+    match result {
+        Err(AllocError) => Ok(Sight::refused(
+            stands(&store, keys) && route == Some(u32::from(keys)),
+            "a key or a route has changed",
+        )),
+        Ok(made) => Ok(Sight::answered(
+            made && route.is_none() && stands(&store, keys.saturating_add(1)),
+        )),
+    }
+}
+
+/// The route that is put over another.
+const LATER: u32 = 1_000;
+
+/// Puts a route at the first key of a store that has so many with routes, and compares. It is never
+/// refused.
+fn put_over<S: PrefixStore<u32>>(alloc: Global, keys: u8) -> Result<Sight, Unmade> {
+    let mut store: S = store_of(alloc, keys)?;
+    let key = key_at(0)?;
+    let mut route = Some(LATER);
+    let call = Call::begin(alloc)?;
+    let result = store.put(&key, &mut route);
+    call.end()?;
+    match result {
+        Err(AllocError) => Ok(Sight::Wrong("a key is refused")),
+        Ok(made) => {
+            let is_put = !made && route == Some(0) && store.get(&key).copied() == Some(LATER);
+            let is_same = store.put(&key, &mut route).is_ok() && stands(&store, keys);
+            Ok(Sight::answered(is_put && is_same))
+        }
+    }
+}
+
+/// A store with so many keys, each with its number as the route.
+fn store_of<S: PrefixStore<u32>>(alloc: Global, keys: u8) -> Result<S, Unmade> {
+    let mut store: S = S::new(alloc);
+    for number in 0..keys {
+        add(&mut store, number)?;
+    }
+    Ok(store)
 }
 
 /// Makes a key with its number as the route.

@@ -214,3 +214,40 @@ fn each_peer_of_a_large_table_has_its_attributes(rt: HostRuntime) -> Result<(), 
     assert_readings(&rt, &mut source, &mut input, READINGS);
     Ok(())
 }
+
+/// Reads so many answers and holds them. It stops where the source has a fault.
+fn hold<I: Input>(
+    source: &mut Source,
+    input: &mut I,
+    count: usize,
+    held: &mut Vec<Next>,
+) -> Result<(), AllocError> {
+    for _ in 0..count {
+        let Ok(answer) = source.next(input) else {
+            break;
+        };
+        held.push(answer)?;
+    }
+    Ok(())
+}
+
+/// Asserts that each table has all entries, behind an index.
+fn assert_held(rt: &impl Abort, held: &[Next], readings: &[Numbers]) {
+    assert_eq!(rt; held.len(), readings.len().saturating_add(1));
+    for (answer, numbers) in held.iter().skip(1).zip(readings) {
+        let counts = counts_of(answer, *numbers);
+        assert_eq!(rt; counts, Some((3_000, 3_000)), "{} numbers", numbers.count);
+    }
+}
+
+#[test]
+fn held_entries_of_a_large_table_keep_their_attributes(rt: HostRuntime) -> Result<(), Fail> {
+    let octets = tables(rt.alloc(), READINGS)?;
+    let mut source = Source::new(rt.alloc(), Stamp::Dump, 1 << 40);
+    let mut input = ReadInput::new(octets.as_slice());
+    let mut held = Vec::new(rt.alloc());
+    let records = READINGS.len().saturating_add(1);
+    hold(&mut source, &mut input, records, &mut held)?;
+    assert_held(&rt, &held, READINGS);
+    Ok(())
+}
