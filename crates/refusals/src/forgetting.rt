@@ -30,16 +30,23 @@ pub enum Forgetting {
 /// How many prefixes are announced, each with a route of its own, and then withdrawn.
 const PREFIXES: u32 = 1_500;
 
-/// How many steps that takes.
-const STEPS: u32 = 3_000;
+/// How many where they take turns. Behind so many the table of known routes has been widened, and
+/// has too many places once half of them are let go.
+const PREFIXES_BY_TURNS: u32 = 1_700;
+
+/// More steps than are played.
+const ALL: u64 = u64::MAX;
+
+/// The most steps that are played.
+const MOST_STEPS: u32 = 3_400;
 
 /// What is to be seen where steps are forgotten.
 #[derive(Clone, Copy)]
 struct Forgotten {
     /// Whether announcements and withdrawals take turns.
     by_turns: bool,
-    /// How many steps are forgotten before the call, and how many undone then.
-    before: u32,
+    /// How many steps are kept before the call, and how many are undone then.
+    kept_before: u64,
     undone: u32,
     /// How many steps before the cursor the call keeps, and how many it forgets.
     kept: u64,
@@ -50,13 +57,18 @@ struct Forgotten {
     end: Seen,
 }
 
-/// What is seen of the known peer at a place, behind so many steps that are forgotten.
-fn at(at: u64, floor: u64, known: SeenPeer) -> Seen {
-    let kept = 3_000_u64.saturating_sub(floor);
+/// What is seen of the known peer at a place of so many steps, the first of which are forgotten.
+fn at_of(steps: u64, at: u64, floor: u64, known: SeenPeer) -> Seen {
+    let kept = steps.saturating_sub(floor);
     Seen {
         floor,
-        ..one_peer(at, 3_000_u64.saturating_sub(at), kept, known)
+        ..one_peer(at, steps.saturating_sub(at), kept, known)
     }
+}
+
+/// The same of 3,000 steps.
+fn at(at: u64, floor: u64, known: SeenPeer) -> Seen {
+    at_of(3_000, at, floor, known)
 }
 
 /// What is to be seen.
@@ -64,7 +76,7 @@ fn wanted_of(forgetting: Forgetting) -> Forgotten {
     match forgetting {
         Forgetting::All => Forgotten {
             by_turns: false,
-            before: 0,
+            kept_before: ALL,
             undone: 0,
             kept: 0,
             count: 3_000,
@@ -74,7 +86,7 @@ fn wanted_of(forgetting: Forgetting) -> Forgotten {
         },
         Forgetting::AllBeforeAhead => Forgotten {
             by_turns: false,
-            before: 0,
+            kept_before: ALL,
             undone: 500,
             kept: 0,
             count: 2_500,
@@ -84,7 +96,7 @@ fn wanted_of(forgetting: Forgetting) -> Forgotten {
         },
         Forgetting::MostBeforeAhead => Forgotten {
             by_turns: false,
-            before: 0,
+            kept_before: ALL,
             undone: 500,
             kept: 100,
             count: 2_400,
@@ -94,7 +106,7 @@ fn wanted_of(forgetting: Forgetting) -> Forgotten {
         },
         Forgetting::BehindFloor => Forgotten {
             by_turns: false,
-            before: 1_000,
+            kept_before: 2_000,
             undone: 0,
             kept: 1_000,
             count: 1_000,
@@ -102,16 +114,19 @@ fn wanted_of(forgetting: Forgetting) -> Forgotten {
             start: at(2_000, 2_000, peer(1_000, 1_000, None)),
             end: at(3_000, 2_000, peer(1_000, 0, None)),
         },
-        Forgetting::ByTurns => Forgotten {
-            by_turns: true,
-            before: 0,
-            undone: 501,
-            kept: 0,
-            count: 2_499,
-            here: at(2_499, 2_499, peer(251, 1, None)),
-            start: at(2_499, 2_499, peer(251, 1, None)),
-            end: at(3_000, 2_499, peer(251, 0, None)),
-        },
+        Forgetting::ByTurns => {
+            let here = at_of(3_400, 2_899, 2_899, peer(251, 1, None));
+            Forgotten {
+                by_turns: true,
+                kept_before: ALL,
+                undone: 501,
+                kept: 0,
+                count: 2_899,
+                here,
+                start: here,
+                end: at_of(3_400, 3_400, 2_899, peer(251, 0, None)),
+            }
+        }
     }
 }
 
@@ -138,7 +153,7 @@ fn prepare<S: PrefixStore<Rc<Route>>>(
     } else {
         play_in_two_halves(alloc, player)?;
     }
-    let _ = player.forget(u64::from(STEPS.saturating_sub(wanted.before)));
+    let _ = player.forget(wanted.kept_before);
     undo(player, wanted.undone);
     Ok(())
 }
@@ -174,7 +189,7 @@ fn play_by_turns<S: PrefixStore<Rc<Route>>>(
     alloc: Global,
     player: &mut Player<S>,
 ) -> Result<(), Unmade> {
-    for number in 0..PREFIXES {
+    for number in 0..PREFIXES_BY_TURNS {
         announce(alloc, player, number)?;
         step(player, &withdrawal(alloc, number)?)?;
     }
@@ -190,7 +205,7 @@ fn undo<S: PrefixStore<Rc<Route>>>(player: &mut Player<S>, steps: u32) {
 
 /// Redoes all steps.
 fn redo<S: PrefixStore<Rc<Route>>>(player: &mut Player<S>) {
-    for _ in 0..STEPS {
+    for _ in 0..MOST_STEPS {
         let _ = player.redo();
     }
 }
@@ -200,7 +215,7 @@ fn goes<S: PrefixStore<Rc<Route>>>(player: &mut Player<S>, wanted: &Forgotten) -
     if see(player) != wanted.here {
         return false;
     }
-    undo(player, STEPS);
+    undo(player, MOST_STEPS);
     if see(player) != wanted.start {
         return false;
     }
