@@ -74,7 +74,7 @@ SHAPES = (
           beside=shaped.short_attributes),
     Shape('garbage of known routes, played', 2_500, partial(shaped.garbage, live=LIVE, segments=SEGMENTS),
           partial(one_by_one, 0, ahead=LIVE), 40 * MIB),
-    Shape('prefixes of all lengths, played', 2_000, partial(shaped.all_lengths, times=80), all_steps),
+    Shape('prefixes of all lengths, played', 2_000, partial(shaped.all_lengths, times=160), all_steps),
 )
 
 # What costs more than it should, by how many steps there are. For their peak alone.
