@@ -67,13 +67,22 @@ fn frame_segment(width: AsWidth, octets: &[u8]) -> Option<FramedSegment<'_>>
     Some(FramedSegment { body, rest, kind })
 }
 
+/// Lets go of room for more segments than there are, unless memory is refused for fewer. It stands out
+/// of line, since few paths have much.
+#[inline(never)]
+fn shrink(segments: &mut Vec<Segment>)
+    ensures { segments.new.items ≡ segments.old.items }
+{
+    segments.shrink_to_fit();
+}
+
 /// Lets go of room for many segments more than there are, unless memory is refused for fewer.
-#[inline]
+#[inline(always)]
 pub(crate) fn fit(segments: &mut Vec<Segment>)
     ensures { segments.new.items ≡ segments.old.items }
 {
     if segments.capacity() - segments.len() > MOST_SPARE {
-        segments.shrink_to_fit();
+        shrink(segments);
     }
 }
 

@@ -83,8 +83,16 @@ impl Communities {
     {
         self.communities.clear();
         if self.communities.capacity() > usize::from(MOST_SPARE) {
-            self.communities.shrink_to_fit();
+            self.let_go();
         }
+    }
+
+    /// Lets go of the room. It stands out of line, since few lists have much.
+    #[inline(never)]
+    fn let_go(&mut self)
+        ensures { self.new ≡ [] }
+    {
+        self.communities = Vec::new(*self.communities.allocator());
     }
 
     /// Makes them those that the octets are. Refused, nothing is said of them.
