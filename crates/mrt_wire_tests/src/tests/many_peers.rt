@@ -78,8 +78,18 @@ impl Numbers {
 fn put_entry(peer: u16, numbers: Numbers, record: &mut Vec<u8>) -> Result<(), AllocError> {
     let size = numbers.count.saturating_mul(4);
     record.extend_from_slice(&peer.to_be_bytes())?;
-    record.extend_from_slice(&[0, 0, 0, 50, 0, size.saturating_mul(2).saturating_add(8)])?;
-    record.extend_from_slice(&[0x40, 2, size.saturating_add(2), 2, numbers.count])?;
+    record.extend_from_slice(&[0, 0, 0, 50, 0, size.saturating_mul(2).saturating_add(12)])?;
+    record.extend_from_slice(&[
+        0x40,
+        1,
+        1,
+        0,
+        0x40,
+        2,
+        size.saturating_add(2),
+        2,
+        numbers.count,
+    ])?;
     numbers.put(peer, record)?;
     record.extend_from_slice(&[0xC0, 8, size])?;
     numbers.put(peer, record)
