@@ -31,7 +31,7 @@ pub(crate) const AGGREGATOR: u8 = 7;
 /// The type of COMMUNITIES (RFC 1997).
 pub(crate) const COMMUNITIES: u8 = 8;
 /// The type of MP_REACH_NLRI (RFC 4760, section 3).
-pub(crate) const MP_REACH_NLRI: u8 = 14;
+pub const MP_REACH_NLRI: u8 = 14;
 /// The type of MP_UNREACH_NLRI (RFC 4760, section 4).
 pub(crate) const MP_UNREACH_NLRI: u8 = 15;
 /// The type of AS4_PATH (RFC 6793, section 3).

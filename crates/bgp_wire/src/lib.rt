@@ -23,7 +23,7 @@ pub use bgp_paths::{
     merge_keeps_the_weight, merge_paths, one_merge, one_path, path_numbers, put_communities,
     text_marks,
 };
-pub use framing::{AS_PATH, EXTENDED_LENGTH, ORIGIN};
+pub use framing::{AS_PATH, EXTENDED_LENGTH, MP_REACH_NLRI, ORIGIN};
 pub use laws::{attribute_numbers, one_attribute_list, one_message, one_table_entry};
 pub use message::{Message, Update, read_message, replace_message};
 pub use parts::{MessageKind, UpdateParts};

@@ -2,13 +2,16 @@
 -- What the private calls make of a record.
 use Rattle.std.specs.Prelude.{◌≡◌, ℕ, List, ◌++◌, map, Option, Result, Ok, Err}
 use Rattle.ip_prefix.specs.Address.{Address}
+use Rattle.bgp_wire.specs.Content.{SpellsRibAttrs}
 use Rattle.bgp_wire.specs.Reach.{attrs_with}
+use Rattle.bgp_wire.specs.Readers.{Refuses}
 use Rattle.bgp_wire.specs.declared.attrs.Attrs.{Attrs}
 use Rattle.bgp_wire.specs.declared.WireFault.{WireFault}
 use Rattle.bgp_wire.specs.declared.WireFault.TheVariants as wire
 use Rattle.mrt_wire.specs.declared.event.Stamp.{Stamp}
 use Rattle.mrt_wire.specs.declared.event.Event.{Event}
 use Rattle.mrt_wire.specs.declared.event.Item.{Item}
+use Rattle.mrt_wire.specs.declared.event.Route.{Route}
 use Rattle.mrt_frames.specs.declared.fault.RecordKind.TheVariants.{Malformed}
 use Rattle.mrt_frames.specs.declared.fault.SourceFault.{SourceFault}
 use Rattle.mrt_frames.specs.declared.fault.SourceFault.TheVariants as source
@@ -20,6 +23,7 @@ use Rattle.mrt_wire.specs.declared.next.Next.TheVariants as next
 use Rattle.mrt_wire.specs.declared.rib.Snapshot.{Snapshot}
 use Rattle.mrt_wire.specs.declared.rib.EntryItems.{EntryItems}
 use Rattle.mrt_wire.specs.declared.rib.ReadEntry.{ReadEntry}
+use Rattle.mrt_wire.specs.declared.route_pool.SentAttrs.{SentAttrs}
 use Rattle.mrt_wire.specs.declared.session.SessionItems.{SessionItems}
 use Rattle.mrt_wire.specs.declared.update.Announcement.{Announcement}
 use Rattle.mrt_frames.specs.Record.{Record}
@@ -39,6 +43,14 @@ body_refusal wire.Memory = refusal.Memory
 -- the items grew by some that say this
 abbrev pub Adds : List Item → List Item → List Saying → Type 0
 Adds old new more = map saying new ≡ map saying old ++ more
+
+-- a route of the attributes that were sent so, and of this time
+abbrev pub IsSentAs : SentAttrs → ℕ → Route → Type 0
+IsSentAs sent time route = SpellsRibAttrs sent.family sent.width route.attrs sent.octets.now × (route.time ≡ time)
+
+-- a fault that is due where attributes were sent so
+abbrev pub RefusesSent : SentAttrs → WireFault → Type 0
+RefusesSent sent fault = Refuses (SpellsRibAttrs sent.family sent.width) sent.octets.now fault
 
 -- what an announcement says, with these attributes
 abbrev pub announced_with : Announcement → Attrs → List Saying

@@ -12,6 +12,7 @@ mod pool;
 mod profile;
 mod read_routes;
 mod rib;
+mod route_memory;
 mod route_pool;
 mod same;
 mod session;
@@ -24,5 +25,6 @@ pub use laws::{no_octets_without_a_split, one_content, one_split, peer_order, re
 pub use mrt_frames::{InFault, Input, ReadInput, RecordFault, RecordKind, SourceFault};
 pub use next::{Next, Phase};
 pub use peer::Peer;
+pub use route_memory::route_size;
 pub use same::{same_peer, same_prefix, same_route};
 pub use source::Source;

@@ -7,13 +7,13 @@ use ip_prefix::{Addr, Family, V4_OCTETS};
 use std::marker::Model;
 
 /// Among how many places peers are spread.
-pub(crate) const PEER_PLACES: usize = 512;
+pub(crate) const PEER_PLACES: usize = 256;
 
 /// What a peer's number is multiplied by: the odd number next to 2^32 divided by the golden ratio.
 const MULTIPLIER: u32 = 0x9E37_79B9;
 
 /// How many bits of such a product are left out.
-const LOWEST_BITS: u32 = 23;
+const LOWEST_BITS: u32 = 24;
 
 /// A peer: its address and its AS number. Peers are ordered by address, then by number.
 #[derive(Clone, Copy, Debug, PartialEq, Eq, PartialOrd, Ord)]

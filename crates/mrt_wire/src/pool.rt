@@ -1,14 +1,15 @@
 //! Memory that records are read into again.
 
 ghost use Rattle.std.specs.Prelude.{◌≡◌, ◌∷◌, [], IfOk, IfErr};
-ghost use Rattle.bgp_wire.specs.Content.{SpellsRibAttrs};
-ghost use Rattle.bgp_wire.specs.Readers.{Refuses};
 ghost use Rattle.mrt_wire.specs.Event.{Announced};
+ghost use Rattle.mrt_wire.specs.Judging.{IsSentAs, RefusesSent};
 
 use crate::event::{Item, Items, Route, Shared};
 use crate::peer::{PEER_PLACES, Peer};
 use crate::read_routes::{LARGEST_PLACE, ReadRoutes};
-use crate::route_pool::{LARGEST_ROUTE, MOST_ROUTES, RoutePool, SentAttrs};
+use crate::route_pool::{
+    FIRST_ROUTES, LARGEST_ROUTE, MOST_ROOM, MOST_ROUTES, RoutePool, SentAttrs,
+};
 use bgp_wire::{UpdateParts, WireFault};
 use ip_prefix::Prefix;
 use std::alloc::{AllocError, Global};
@@ -18,7 +19,13 @@ use std::rc::Rc;
 /// How many octets all that is kept for routes of tables takes at most, whatever was read.
 const MOST_OCTETS: usize = 1 << 20;
 
-const _: () = prove!(PEER_PLACES * LARGEST_PLACE + MOST_ROUTES * LARGEST_ROUTE <= MOST_OCTETS);
+/// How many the places take at most.
+const PLACES_OCTETS: usize = PEER_PLACES * LARGEST_PLACE;
+
+/// How many the routes beside them take at most, with a pointer of eight octets to each.
+const ROUTES_OCTETS: usize = MOST_ROUTES * 8 + FIRST_ROUTES * LARGEST_ROUTE + MOST_ROOM as usize;
+
+const _: () = prove!(PLACES_OCTETS + ROUTES_OCTETS <= MOST_OCTETS);
 
 /// How many items a vector that is kept has room for at most.
 const MOST_ITEMS: usize = 4096;
@@ -26,6 +33,7 @@ const MOST_ITEMS: usize = 4096;
 /// What records are read into.
 #[derive(Drop)]
 pub(crate) struct Pool {
+    /// Routes of messages.
     pub(crate) routes: RoutePool,
     /// Routes of tables.
     read: ReadRoutes,
@@ -63,46 +71,60 @@ impl Pool {
         sent: SentAttrs<'_>,
         time: u32,
     ) -> Result<Rc<Route>, WireFault>
-        ensures attrs { IfOk result (λ route. SpellsRibAttrs sent.entry.family sent.entry.width
-            route.value.attrs sent.entry.octets.now) }
-        ensures time { IfOk result (λ route. route.value.time ≡ time) }
-        ensures refused { IfErr result (Refuses (SpellsRibAttrs sent.entry.family sent.entry.width)
-            sent.entry.octets.now) }
+        ensures read { IfOk result (λ route. IsSentAs sent.entry time route.value) }
+        ensures refused { IfErr result (RefusesSent sent.entry) }
     {
-        self.read
-            .route_of(alloc, &mut self.routes, number, sent, time)
+        self.read.route_of(alloc, number, sent, time)
     }
 
-    /// The vector that is kept, without items. A record asks for it once, so the routes that were
-    /// given out for the one before may be filled again.
+    /// The vector that is kept, without items.
     #[inline(always)]
     fn kept_items(&mut self, alloc: Global) -> Vec<Item>
         ensures items { result.items ≡ [] }
         ensures parts { self.new.parts ≡ self.old.parts }
-        ensures given { self.new.routes.given ≡ 0 }
+        ensures routes { self.new.routes ≡ self.old.routes }
+        ensures read { self.new.read ≡ self.old.read }
     {
-        self.routes.restart();
         let mut items = mem::replace(&mut self.items, Vec::new(alloc));
         items.clear();
         items
     }
 
-    /// An empty vector with room for so many items.
+    /// An empty vector with room for so many items of a message. A message asks for it once, so the
+    /// routes that were given out for the one before may be filled again.
     #[inline(always)]
-    pub(crate) fn take_items(
+    pub(crate) fn take_message_items(
         &mut self,
         alloc: Global,
         count: usize,
     ) -> Result<Vec<Item>, AllocError>
         ensures items { IfOk result (λ items. items.items ≡ []) }
         ensures parts { self.new.parts ≡ self.old.parts }
+        ensures given { self.new.routes.given ≡ 0 }
     {
+        self.routes.restart();
         let mut items = self.kept_items(alloc);
         items.reserve(count)?;
         Ok(items)
     }
 
-    /// An announcement alone, which shares its route with no other.
+    /// An empty vector with room for so many items of a table's record, which asks for it once.
+    #[inline(always)]
+    pub(crate) fn take_table_items(
+        &mut self,
+        alloc: Global,
+        count: usize,
+    ) -> Result<Vec<Item>, AllocError>
+        ensures items { IfOk result (λ items. items.items ≡ []) }
+        ensures given { self.new.read.routes.given ≡ 0 }
+    {
+        self.read.restart();
+        let mut items = self.kept_items(alloc);
+        items.reserve(count)?;
+        Ok(items)
+    }
+
+    /// An announcement alone, of a table's record, which shares its route with no other.
     #[inline(always)]
     pub(crate) fn announcement_alone(
         &mut self,
@@ -111,8 +133,10 @@ impl Pool {
         prefix: Prefix,
         route: Rc<Route>,
     ) -> Result<Items, AllocError>
-        ensures { IfOk result (λ items. items ≡ Announced peer prefix route.value ∷ []) }
+        ensures items { IfOk result (λ items. items ≡ Announced peer prefix route.value ∷ []) }
+        ensures given { self.new.read.routes.given ≡ 0 }
     {
+        self.read.restart();
         let mut items = self.kept_items(alloc);
         items.push(Item::Announce(peer, prefix, route))?;
         Ok(Items::sharing(items, Shared { start: 0, end: 1 }))

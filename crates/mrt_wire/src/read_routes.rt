@@ -3,13 +3,13 @@
 
 ghost use Rattle.std.specs.Prelude.{◌≡◌, ◌≤◌, ◌<◌, IsTrue, IfOk, IfErr, IfSome, OnOk, vec_len};
 ghost use Rattle.bgp_wire.specs.Content.{SpellsRibAttrs};
-ghost use Rattle.bgp_wire.specs.Readers.{Refuses};
 ghost use Rattle.mrt_wire.specs.declared.peer.TheConstants.{PEER_PLACES};
+ghost use Rattle.mrt_wire.specs.Judging.{IsSentAs, RefusesSent};
 
 use crate::event::Route;
 use crate::peer::PEER_PLACES;
 use crate::route_pool::{RoutePool, SentAttrs, fill_rib_route, new_route};
-use bgp_wire::{AS_PATH, AsWidth, EXTENDED_LENGTH, ORIGIN, WireFault};
+use bgp_wire::{AS_PATH, AsWidth, EXTENDED_LENGTH, MP_REACH_NLRI, ORIGIN, WireFault};
 use ip_prefix::Family;
 use std::alloc::{AllocError, Global};
 use std::marker::Model;
@@ -116,11 +116,8 @@ impl ReadRoute {
         sent: SentAttrs<'_>,
         time: u32,
     ) -> Result<Rc<Route>, WireFault>
-        ensures attrs { IfOk result (λ route. SpellsRibAttrs sent.entry.family sent.entry.width
-            route.value.attrs sent.entry.octets.now) }
-        ensures time { IfOk result (λ route. route.value.time ≡ time) }
-        ensures refused { IfErr result (Refuses (SpellsRibAttrs sent.entry.family sent.entry.width)
-            sent.entry.octets.now) }
+        ensures read { IfOk result (λ route. IsSentAs sent.entry time route.value) }
+        ensures refused { IfErr result (RefusesSent sent.entry) }
     {
         self.known = false;
         if Rc::get_mut(&mut self.route).is_none() {
@@ -135,15 +132,32 @@ impl ReadRoute {
 /// Whether attributes begin as routers send them, in the order of their types (RFC 4271, section 5):
 /// with ORIGIN, and behind it a path of one segment. Nothing is owed of others.
 #[inline(always)]
-fn begin_plainly(sent: SentAttrs<'_>) -> bool {
-    let (size, count) = match sent.octets {
+fn begin_plainly(octets: &[u8], width: AsWidth) -> bool {
+    let (size, count) = match octets {
         [_, ORIGIN, _, _, flags, AS_PATH, size, _, count, ..] if flags & EXTENDED_LENGTH == 0 => {
             (*size, *count)
         }
         [_, ORIGIN, _, _, _, AS_PATH, 0, size, _, count, ..] => (*size, *count),
         _ => return false,
     };
-    usize::from(size) == usize::from(count) * sent.width.octets() + 2
+    usize::from(size) == usize::from(count) * width.octets() + 2
+}
+
+/// Whether they begin so behind MP_REACH_NLRI, where that stands in front (RFC 7606, section 5.1).
+#[inline(never)]
+fn begin_plainly_behind_reach(octets: &[u8], width: AsWidth) -> bool {
+    match octets {
+        [flags, MP_REACH_NLRI, size, rest @ ..] if flags & EXTENDED_LENGTH == 0 => rest
+            .get(usize::from(*size)..)
+            .is_some_and(|behind| begin_plainly(behind, width)),
+        _ => false,
+    }
+}
+
+/// Whether a place may take a route of attributes that begin so.
+#[inline(always)]
+fn is_plain(sent: SentAttrs<'_>) -> bool {
+    begin_plainly(sent.octets, sent.width) || begin_plainly_behind_reach(sent.octets, sent.width)
 }
 
 /// Whether the path has so few segments that its route may have a place.
@@ -157,6 +171,8 @@ fn is_small(route: &Route) -> bool {
 #[derive(Drop)]
 pub(crate) struct ReadRoutes {
     places: Vec<Option<ReadRoute>>,
+    /// Other routes, for entries without a place, and for places whose routes somebody holds.
+    routes: RoutePool,
     ghost bounded: { vec_len places ≤ PEER_PLACES },
 }
 
@@ -165,7 +181,16 @@ impl ReadRoutes {
     pub(crate) fn new(alloc: Global) -> ReadRoutes {
         ReadRoutes {
             places: Vec::new(alloc),
+            routes: RoutePool::none(alloc),
         }
+    }
+
+    /// Another record is read.
+    #[inline(always)]
+    pub(crate) fn restart(&mut self)
+        ensures { self.new.routes.given ≡ 0 }
+    {
+        self.routes.restart();
     }
 
     /// Makes room up to this place.
@@ -179,6 +204,14 @@ impl ReadRoutes {
         Ok(())
     }
 
+    /// Lets go of the route of this place.
+    #[inline(never)]
+    fn clear(&mut self, place: usize)
+        requires { place < vec_len self.old.places }
+    {
+        self.places[place] = None;
+    }
+
     /// The route of this place, with this time, where it was sent so.
     #[inline(always)]
     fn again(
@@ -188,10 +221,8 @@ impl ReadRoutes {
         time: u32,
     ) -> Result<Option<Rc<Route>>, AllocError>
         requires { place < vec_len self.old.places }
-        ensures attrs { IfOk result (λ found. IfSome found (λ route.
-            SpellsRibAttrs sent.entry.family sent.entry.width
-            route.value.attrs sent.entry.octets.now)) }
-        ensures time { IfOk result (λ found. IfSome found (λ route. route.value.time ≡ time)) }
+        ensures read { IfOk result (λ found.
+            IfSome found (λ route. IsSentAs sent.entry time route.value)) }
         ensures places { vec_len self.new.places ≡ vec_len self.old.places }
     {
         if let Some(read) = &mut self.places[place] {
@@ -207,24 +238,20 @@ impl ReadRoutes {
     fn read(
         &mut self,
         alloc: Global,
-        routes: &mut RoutePool,
         place: usize,
         sent: SentAttrs<'_>,
         time: u32,
     ) -> Result<Rc<Route>, WireFault>
         requires { place < vec_len self.old.places }
-        ensures attrs { IfOk result (λ route. SpellsRibAttrs sent.entry.family sent.entry.width
-            route.value.attrs sent.entry.octets.now) }
-        ensures time { IfOk result (λ route. route.value.time ≡ time) }
-        ensures refused { IfErr result (Refuses (SpellsRibAttrs sent.entry.family sent.entry.width)
-            sent.entry.octets.now) }
+        ensures read { IfOk result (λ route. IsSentAs sent.entry time route.value) }
+        ensures refused { IfErr result (RefusesSent sent.entry) }
         ensures places { vec_len self.new.places ≡ vec_len self.old.places }
     {
         if let Some(read) = &mut self.places[place] {
-            return read.read(alloc, routes, sent, time);
+            return read.read(alloc, &mut self.routes, sent, time);
         }
         let mut read = ReadRoute::none(alloc)?;
-        let route = read.read(alloc, routes, sent, time)?;
+        let route = read.read(alloc, &mut self.routes, sent, time)?;
         self.places[place] = Some(read);
         Ok(route)
     }
@@ -235,32 +262,35 @@ impl ReadRoutes {
     pub(crate) fn route_of(
         &mut self,
         alloc: Global,
-        routes: &mut RoutePool,
         number: usize,
         sent: SentAttrs<'_>,
         time: u32,
     ) -> Result<Rc<Route>, WireFault>
-        ensures attrs { IfOk result (λ route. SpellsRibAttrs sent.entry.family sent.entry.width
-            route.value.attrs sent.entry.octets.now) }
-        ensures time { IfOk result (λ route. route.value.time ≡ time) }
-        ensures refused { IfErr result (Refuses (SpellsRibAttrs sent.entry.family sent.entry.width)
-            sent.entry.octets.now) }
+        ensures read { IfOk result (λ route. IsSentAs sent.entry time route.value) }
+        ensures refused { IfErr result (RefusesSent sent.entry) }
     {
         if sent.octets.len() > LONGEST_PLACED {
-            return routes.rib_route(alloc, sent, time);
+            return self.routes.rib_route(alloc, sent, time);
         }
         let place = number % PEER_PLACES;
         self.make_place(place)?;
         if let Some(route) = self.again(place, sent, time)? {
             return Ok(route);
         }
-        if !begin_plainly(sent) {
-            return routes.rib_route(alloc, sent, time);
+        if !is_plain(sent) {
+            return self.routes.rib_route(alloc, sent, time);
         }
-        let route = self.read(alloc, routes, place, sent, time)?;
-        if !is_small(&route) {
-            self.places[place] = None;
+        match self.read(alloc, place, sent, time) {
+            Ok(route) => {
+                if !is_small(&route) {
+                    self.clear(place);
+                }
+                Ok(route)
+            }
+            Err(fault) => {
+                self.clear(place);
+                Err(fault)
+            }
         }
-        Ok(route)
     }
 }

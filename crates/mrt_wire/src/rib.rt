@@ -163,7 +163,7 @@ fn read_entries(
     };
     let most = count.rest.len() / SMALLEST_ENTRY;
     let mut told = EntryItems {
-        items: pool.take_items(alloc, most.min(usize::from(count.value)))?,
+        items: pool.take_table_items(alloc, most.min(usize::from(count.value)))?,
         unknown: None,
     };
     let mut rest = count.rest;

@@ -1,12 +1,12 @@
 //! Routes that were given out, to be filled again where nobody else holds them any more.
 
 ghost use Rattle.std.specs.Prelude.{◌≡◌, ◌≤◌, ◌<◌, ◌+◌, ◌-◌, min, IfOk, IfErr, OnOk, vec_len};
-ghost use Rattle.bgp_wire.specs.Content.{SpellsRibAttrs};
-ghost use Rattle.bgp_wire.specs.Readers.{Refuses};
-ghost use Rattle.mrt_wire.specs.declared.route_pool.TheConstants.{MOST_ROUTES};
+ghost use Rattle.mrt_wire.specs.declared.route_pool.TheConstants.{MOST_ROUTES, MOST_ROOM};
 ghost use Rattle.mrt_wire.specs.Items.{route_of};
+ghost use Rattle.mrt_wire.specs.Judging.{IsSentAs, RefusesSent};
 
 use crate::event::Route;
+use crate::route_memory::route_room;
 use bgp_wire::{AsWidth, Attrs, WireFault, replace_attrs, replace_rib_attrs};
 use ip_prefix::Family;
 use std::alloc::{AllocError, Global};
@@ -14,14 +14,20 @@ use std::mem;
 use std::rc::Rc;
 
 /// How many routes are kept at most.
-pub(crate) const MOST_ROUTES: usize = 16;
+pub(crate) const MOST_ROUTES: usize = 1024;
+
+/// How many of them are kept whatever they take.
+pub(crate) const FIRST_ROUTES: usize = 4;
+
+/// How many octets the others take at most together, with all that they have room for.
+pub(crate) const MOST_ROOM: u64 = 560 * 1024;
 
 /// How many octets the attributes of a table's route that is kept have at most.
 const LONGEST_KEPT: usize = 1024;
 
 /// How many octets such a route takes at most, with all that it has room for: most where each segment
-/// of its path has one number of two octets.
-pub(crate) const LARGEST_ROUTE: usize = 20 * 1024;
+/// of its path has one number of two octets, and one more was refused.
+pub(crate) const LARGEST_ROUTE: usize = 30 * 1024;
 
 /// The attributes of a table's entry as they were sent: the octets, the family of the prefix that
 /// they are for, and the width of their AS numbers.
@@ -39,17 +45,15 @@ pub(crate) fn new_route(alloc: Global) -> Result<Rc<Route>, AllocError> {
 }
 
 /// Reads the attributes of a table's entry into a route that nobody else holds.
+#[inline(always)]
 pub(crate) fn fill_rib_route(
     shared: &mut Rc<Route>,
     alloc: Global,
     sent: SentAttrs<'_>,
     time: u32,
 ) -> Result<(), WireFault>
-    ensures attrs { OnOk result (SpellsRibAttrs sent.entry.family sent.entry.width
-        shared.new.value.attrs sent.entry.octets.now) }
-    ensures time { OnOk result (shared.new.value.time ≡ time) }
-    ensures refused { IfErr result (Refuses (SpellsRibAttrs sent.entry.family sent.entry.width)
-        sent.entry.octets.now) }
+    ensures read { OnOk result (IsSentAs sent.entry time shared.new.value) }
+    ensures refused { IfErr result (RefusesSent sent.entry) }
 {
     let SentAttrs {
         octets,
@@ -71,9 +75,12 @@ pub(crate) struct RoutePool {
     /// How many of them were given out for the record that is read. The last that is kept isn't
     /// counted, so that it is given out again and again.
     given: usize,
+    /// How many octets those behind the first ones take at most.
+    room: u64,
     ghost counted: { given ≤ vec_len routes },
     ghost bounded: { vec_len routes ≤ MOST_ROUTES },
     ghost below: { given < MOST_ROUTES },
+    ghost fits: { room ≤ MOST_ROOM },
 }
 
 /// How many routes were given out once the one of this number is.
@@ -118,6 +125,7 @@ impl RoutePool {
         RoutePool {
             routes: Vec::new(alloc),
             given: 0,
+            room: 0,
         }
     }
 
@@ -148,38 +156,102 @@ impl RoutePool {
         Ok(place)
     }
 
-    /// The route of a table's entry, with this time.
+    /// The next place, behind the first ones, without the room that was counted for the route there.
+    #[inline(never)]
+    fn next_discounted(&mut self, alloc: Global) -> Result<usize, AllocError>
+        ensures next { IfOk result (λ place. place ≡ self.old.given) }
+        ensures within { IfOk result (λ place. place < vec_len self.new.routes) }
+    {
+        let room = self
+            .routes
+            .get(self.given)
+            .map_or(0, |route| route_room(route));
+        let place = self.next_place(alloc)?;
+        self.room = self.room.saturating_sub(room);
+        Ok(place)
+    }
+
+    /// The next place for a table's route, for which no room is counted.
     #[inline(always)]
+    fn next_table_place(&mut self, alloc: Global) -> Result<usize, AllocError>
+        ensures next { IfOk result (λ place. place ≡ self.old.given) }
+        ensures within { IfOk result (λ place. place < vec_len self.new.routes) }
+    {
+        if self.given < FIRST_ROUTES {
+            return self.next_place(alloc);
+        }
+        self.next_discounted(alloc)
+    }
+
+    /// Lets go of the route at this place, for which no room is counted, unless it is among the first.
+    #[inline(never)]
+    fn take_out(&mut self, place: usize)
+        requires { place < vec_len self.old.routes }
+    {
+        if place >= FIRST_ROUTES {
+            self.routes.swap_remove(place);
+            self.given = place;
+        }
+    }
+
+    /// Counts the room of the route at this place, or lets go of it where all would take too much.
+    #[inline(never)]
+    fn count(&mut self, place: usize)
+        requires { place < vec_len self.old.routes }
+    {
+        let room = self.room.saturating_add(route_room(&self.routes[place]));
+        if room > MOST_ROOM {
+            return self.take_out(place);
+        }
+        self.room = room;
+    }
+
+    /// Keeps the route at this place, where there is room for it.
+    #[inline(always)]
+    fn keep(&mut self, place: usize)
+        requires { place < vec_len self.old.routes }
+    {
+        if place >= FIRST_ROUTES {
+            self.count(place);
+        }
+    }
+
+    /// The route of a table's entry, with this time.
+    #[inline(never)]
     pub(crate) fn rib_route(
         &mut self,
         alloc: Global,
         sent: SentAttrs<'_>,
         time: u32,
     ) -> Result<Rc<Route>, WireFault>
-        ensures attrs { IfOk result (λ route. SpellsRibAttrs sent.entry.family sent.entry.width
-            route.value.attrs sent.entry.octets.now) }
-        ensures time { IfOk result (λ route. route.value.time ≡ time) }
-        ensures refused { IfErr result (Refuses (SpellsRibAttrs sent.entry.family sent.entry.width)
-            sent.entry.octets.now) }
+        ensures read { IfOk result (λ route. IsSentAs sent.entry time route.value) }
+        ensures refused { IfErr result (RefusesSent sent.entry) }
     {
         if sent.octets.len() > LONGEST_KEPT {
             let mut route = new_route(alloc)?;
             fill_rib_route(&mut route, alloc, sent, time)?;
             return Ok(route);
         }
-        let place = self.next_place(alloc)?;
-        fill_rib_route(&mut self.routes[place], alloc, sent, time)?;
-        Ok(self.routes[place].clone()?)
+        let place = self.next_table_place(alloc)?;
+        if let Err(fault) = fill_rib_route(&mut self.routes[place], alloc, sent, time) {
+            self.take_out(place);
+            return Err(fault);
+        }
+        let route: Result<_, _> = self.routes[place].clone();
+        self.keep(place);
+        Ok(route?)
     }
 
     /// Gives a route that nobody else holds for this one.
+    #[inline(never)]
     pub(crate) fn exchange(
         &mut self,
         alloc: Global,
         route: &mut Rc<Route>,
     ) -> Result<(), AllocError> {
-        let place = self.next_place(alloc)?;
+        let place = self.next_table_place(alloc)?;
         mem::swap(&mut self.routes[place], route);
+        self.keep(place);
         Ok(())
     }
 

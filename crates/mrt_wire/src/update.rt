@@ -146,7 +146,7 @@ fn items_of_update(
         items ≡ update_items peer.now seconds (update_in pool.old.parts)) }
 {
     let count = prefix_count(&pool.parts);
-    let mut items = pool.take_items(alloc, count)?;
+    let mut items = pool.take_message_items(alloc, count)?;
     add_withdrawals(&mut items, peer, &pool.parts.withdrawn)?;
     add_withdrawals(&mut items, peer, &pool.parts.mp_withdrawn)?;
     let start = items.len();

@@ -5,8 +5,7 @@ ghost use Rattle.rib_player.specs.declared.places.TheConstants.{FIRST_PLACES, MO
 
 use crate::places::{MOST_PLACES, Places, find, places_for};
 use crate::route_hash::hash_of;
-use crate::weight::weight_of;
-use mrt_wire::Route;
+use mrt_wire::{Route, route_size};
 use std::alloc::{AllocError, Global};
 use std::mem;
 use std::rc::Rc;
@@ -85,7 +84,7 @@ impl KnownRoutes {
         if count < MOST_PLACES && self.routes.taken >= count / 4 * 3 {
             self.widen();
         }
-        let octets = weight_of(&route);
+        let octets = route_size(&route);
         self.noted = self.noted.saturating_add(octets);
         self.routes.add(hash, route, octets);
     }
@@ -109,7 +108,7 @@ impl KnownRoutes {
         if owners == 2 {
             self.routes.take_out(hash_of(route), route);
         } else if owners <= FEW_OWNERS {
-            self.released = self.released.saturating_add(weight_of(route));
+            self.released = self.released.saturating_add(route_size(route));
         }
     }
 

@@ -15,7 +15,6 @@ mod places;
 mod player;
 mod route_hash;
 mod table;
-mod weight;
 
 pub use laws::{
     forgotten_steps, history_after_all_calls, history_after_one_call, one_event_more,

@@ -4,8 +4,7 @@ ghost use Rattle.std.specs.Prelude.{◌≡◌, ◌≤◌, ◌+◌, ◌*◌, IfOk
 ghost use Rattle.rib_player.specs.Places.{taken_in, is_taken};
 ghost use Rattle.rib_player.specs.declared.places.TheConstants.{FIRST_PLACES, MOST_PLACES, MOST_TIMES};
 
-use crate::weight::weight_of;
-use mrt_wire::{Route, same_route};
+use mrt_wire::{Route, route_size, same_route};
 use std::alloc::{AllocError, Global};
 use std::rc::Rc;
 
@@ -74,7 +73,7 @@ fn is_last_owner(place: &Place) -> bool {
 fn octets_at(place: &Place) -> u64 {
     match place {
         Place::Free => 0,
-        Place::Taken(_, route) => weight_of(route),
+        Place::Taken(_, route) => route_size(route),
     }
 }
 
