@@ -8,7 +8,7 @@ SOURCES := crates.txt $(shell find crates -name out -prune -o -type f -print)
 PROGRAM ?= bin/bgpdump
 CASES ?= bin/refusals
 
-.PHONY: all demo test checks bench install clean
+.PHONY: all demo test edits checks bench install clean
 
 all: bin/bgpdump
 
@@ -29,6 +29,11 @@ test:
 	checks/trusted.py
 	rt ci
 	$(MAKE) --no-print-directory checks PROGRAM=crates/bgpdump/out/bgpdump CASES=crates/refusals/out/refusals
+
+# The edits of inner functions, which the gate doesn't try: minutes to hours. CRATE=.. tries those of
+# that crate alone.
+edits:
+	checks/inner_edits.py $(CRATE)
 
 # Its texts and statuses, over examples/, inputs of their own and damaged files, the commands of the
 # cookbook, and the form of the manual page, where mandoc is there.

@@ -3,10 +3,11 @@
 
     checks/quick.py
 
-Each must-fail edit still applies, and is named by the file and the function that it turns; `rt fmt`
-changes nothing; tests stand in crates of their own; links between documents lead somewhere; the
-texts of each example are there. The status is 1 where something is wrong, and each fault is told on
-a line of its own.
+Each edit that must fail still applies, and is named by the file and the function that it turns, those
+of inner functions too, which the gate doesn't try; `rt fmt` changes nothing; tests stand in crates of
+their own; links between documents lead somewhere, and the edits that docs/proved.md names are there;
+the texts of each example are there. The status is 1 where something is wrong, and each fault is told
+on a line of its own.
 """
 import re
 import shutil
@@ -64,8 +65,18 @@ def faults_of_edit(edit):
 
 
 def faults_of_edits():
-    for edit in sorted(TOP.glob('crates/*/must-fail/*.edit')):
+    for edit in sorted([*TOP.glob('crates/*/must-fail/*'), *TOP.glob('crates/*/inner-edits/*')]):
         yield from ((edit, fault) for fault in faults_of_edit(edit))
+        if (edit.parent.parent / 'must-fail' / edit.name).exists() and edit.parent.name == 'inner-edits':
+            yield edit, 'the gate tries it too'
+
+
+def faults_of_named_edits():
+    """The edits that a document names as those that refuse a wrong body."""
+    document = TOP / 'docs/proved.md'
+    for crate, name in re.findall(r'`(\w+)/(\w+-\w+-\w+)`', document.read_text()):
+        if not (TOP / 'crates' / crate / 'must-fail' / f'{name}.edit').is_file():
+            yield document, f'the gate tries no edit {crate}/{name}'
 
 
 def faults_of_format():
@@ -125,7 +136,8 @@ def faults_of_examples():
 def main():
     found = [
         (place, fault)
-        for faults in (faults_of_edits, faults_of_format, faults_of_crates, faults_of_links, faults_of_examples)
+        for faults in (faults_of_edits, faults_of_named_edits, faults_of_format, faults_of_crates, faults_of_links,
+                       faults_of_examples)
         for place, fault in faults()
     ]
     for place, fault in found:
