@@ -125,7 +125,7 @@ routes_across-sides_across sides routes = same_routes _ routes (λ q.
     ∙ cond_untested (list_any (eq_by_cmp pair_cmp q) (pairs_in sides)) (finite.get routes q) (finite.get (routes_across sides routes) q) (λ out. sym (get-restored_elsewhere sides routes q out)))
 
 -- an event leaves the routes of the pairs that it doesn't name
-unnamed-same : (before : Option Route) (does : Effect) → is_named before does ≡ false → before ≡ route_after before does
+pub unnamed-same : (before : Option Route) (does : Effect) → is_named before does ≡ false → before ≡ route_after before does
 unnamed-same before Keep e = refl
 unnamed-same None Clear e = refl
 unnamed-same (Some old) Clear e = cc

@@ -9,6 +9,7 @@ pub mod BackAndForth
 pub mod JournalLaws
 pub mod CursorLaws
 pub mod ChangesLaws
+pub mod ClaimLaws
 pub mod ClearLaws
 pub mod EntryLaws
 pub mod LostLaws

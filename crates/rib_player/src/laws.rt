@@ -1,6 +1,6 @@
 //! Laws of the player's definitions.
 
-ghost use Rattle.std.specs.Prelude.{◌≡◌, ℕ, ◌≤◌, ◌<◌, ◌-◌, ◌++◌, ◌∷◌, ◌||◌, [], List, is_some, length, take, map, replicate, slice_get, nat_lt, min, Option, Some, None};
+ghost use Rattle.std.specs.Prelude.{◌≡◌, ℕ, ◌≤◌, ◌<◌, ◌+◌, ◌-◌, ◌++◌, ◌∷◌, ◌||◌, [], List, is_some, length, take, map, replicate, slice_get, nat_lt, min, Option, Some, None};
 ghost use Rattle.std.specs.List.{list_any};
 ghost use Rattle.std.specs.List.Sorted.{IsStrictlySortedBy};
 ghost use Rattle.std.specs.Option.{option_map};
@@ -20,8 +20,9 @@ ghost use Rattle.rib_player.specs.Tables.{Routes, table, table_after, is_named, 
 ghost use Rattle.rib_player.specs.Store.{peer_routes, routed_peers};
 ghost use Rattle.rib_player.specs.Lookups.{peers_above};
 ghost use Rattle.rib_player.specs.Timeline.{Timeline, end_of, table_at, current, after_play};
-ghost use Rattle.rib_player.specs.Calls.{Call, Play, Undo, Redo, StandsFor, forgettable, after_forget, fresh, after_undo, after_redo, after_call, after_calls, history_after, history_after_calls};
-ghost use Rattle.rib_player.specs.Wanted.{wanted};
+ghost use Rattle.rib_player.specs.Calls.{Call, Play, Undo, Redo, StandsFor, forgettable, after_forget, fresh, after_undo, after_redo, without_first, after_call, after_calls, history_after, history_after_calls};
+ghost use Rattle.rib_player.specs.Claims.{brings, clears, one_if, claims, without_last};
+ghost use Rattle.rib_player.specs.Wanted.{wanted, IsWellFormed};
 
 /// The number that the definitions name: the state Established (RFC 6396, section 4.4.1).
 pub fn state_numbers()
@@ -77,6 +78,24 @@ pub fn wanted_pairs()
     ensures { (t : Timeline) (pair : Pair) → set.contains (wanted t) pair
         ≡ (is_some (finite.get (current t) pair)
         || list_any (λ step. set.contains step pair) t.steps) }
+{}
+
+/// A pair is claimed once if it has a route at the floor, and once by each kept step that brings it,
+/// before which it has none and behind which it has one. The wanted pairs are those with a claim. A
+/// step that is forgotten gives up one for each pair that it clears, one that is dropped one for each
+/// that it brings; and one that is played adds one for each that it brings.
+pub fn claimed_pairs()
+    ensures wanted { (t : Timeline) (history : List Event) (pair : Pair) → StandsFor t history →
+        set.contains (wanted t) pair ≡ nat_lt 0 (claims t pair) }
+    ensures forgotten { (t : Timeline) (pair : Pair) → IsWellFormed t → 0 < length t.steps →
+        claims t pair ≡ claims (without_first 1 t) pair
+        + one_if (clears pair (table_at t t.floor) (table_at t (t.floor + 1))) }
+    ensures dropped { (t : Timeline) (pair : Pair) → IsWellFormed t → 0 < length t.steps →
+        claims t pair ≡ claims (without_last t) pair
+        + one_if (brings pair (table_at t (end_of t - 1)) (table_at t (end_of t))) }
+    ensures played { (t : Timeline) (event : Event) (pair : Pair) → IsWellFormed t →
+        t.cursor ≡ end_of t → claims (after_play t event) pair ≡ claims t pair
+        + one_if (brings pair (current t) (table_after (current t) event)) }
 {}
 
 /// The table of a history that goes on by an event is that event applied to its table.

@@ -17,8 +17,8 @@ mod route_hash;
 mod table;
 
 pub use laws::{
-    forgotten_steps, history_after_all_calls, history_after_one_call, one_event_more,
-    one_step_back, pair_order, routes_at_pairs, routes_of_peers, state_numbers,
+    claimed_pairs, forgotten_steps, history_after_all_calls, history_after_one_call,
+    one_event_more, one_step_back, pair_order, routes_at_pairs, routes_of_peers, state_numbers,
     steps_back_and_forth, tables_by_position, walk_over_peers, wanted_pairs,
 };
 pub use player::{Nothing, PlayFault, Player};
