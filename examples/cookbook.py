@@ -5,7 +5,8 @@
 
 It also fails where examples/incident.py makes another file than examples/incident.mrt, or
 examples/routes_svg.py another picture than docs/incident.svg, or answers a missing file by more than a
-sentence, and where the recipe in Python doesn't find what it should in a table of 10,000 prefixes.
+sentence, and where the recipes in Python don't find what they should in a table of 10,000 prefixes, and in
+a file of 100,000 steps.
 """
 import difflib
 import os
@@ -61,6 +62,38 @@ def large_table():
                      + struct.pack('>HHIH', 1, 0, 50, len(attributes)) + attributes)
 
 
+def message(subtype, body):
+    """A record of a session with AS numbers of two octets (RFC 6396, section 4.4)."""
+    return struct.pack('>IHHI', 100, 16, subtype, len(body)) + body
+
+
+def many_steps():
+    """A faulty record, and 100,000 announcements of a prefix each, all of one second."""
+    session = bytes.fromhex('FBF4 FBF5 0000 0001 C0000201 C0000202')
+    yield message(1, b'')
+    for number in range(100_000):
+        attributes = bytes.fromhex('40010100 4002040201FBF4 400304C0000209')
+        body = struct.pack('>HH', 0, len(attributes)) + attributes + bytes([32]) + struct.pack('>I', 10 << 24 | number)
+        yield message(1, session + b'\xFF' * 16 + struct.pack('>HB', 19 + len(body), 2) + body)
+
+
+def recipe_for(text, word, words):
+    """The commands in which this stands, over another file and with other words."""
+    commands = next(commands for commands, _ in blocks(text) if word in commands)
+    first, rest = commands.split('\n', 1)
+    return 'timeout 30 python3 - %s <<\'END\'\n%s' % (words, rest)
+
+
+def wanting_steps(text, folder, settings):
+    """The recipe for the step of a line over 100,000 steps, if it finds another one, or takes long."""
+    steps = folder / 'steps.mrt'
+    steps.write_bytes(b''.join(many_steps()))
+    line = 'BGP4MP|100|A|192.0.2.1|64500|10.1.56.127/32|64500|IGP|192.0.2.9|0|0||NAG||'
+    printed = run(recipe_for(text, 'seconds.append', "'%s' '%s'" % (steps, line)), settings).decode()
+    if printed != 'at 80000\n':
+        yield 'the recipe for the step of a line in 100,000 steps:\n' + printed
+
+
 def wanting_recipes(text, folder, settings):
     """The recipe in Python over a large table, if it finds another number of prefixes, or takes long."""
     recipe = next(commands for commands, _ in blocks(text) if 'import ipaddress' in commands)
@@ -91,7 +124,7 @@ def main():
         (folder / 'bgpdump').symlink_to(Path(sys.argv[1]).resolve())
         settings = {**os.environ, 'PATH': name + os.pathsep + os.environ['PATH'], 'LC_ALL': 'C'}
         faults = [*differing_blocks(text, settings), *differing_files(folder, settings),
-                  *wanting_recipes(text, folder, settings)]
+                  *wanting_recipes(text, folder, settings), *wanting_steps(text, folder, settings)]
     if faults:
         sys.exit('\n\n'.join(faults))
     print('the %d blocks of commands of docs/cookbook.md print what it says' % len(blocks(text)))
