@@ -35,6 +35,15 @@ def climbing_table(climbs, peers, most, steps=100):
         yield table(number, net(number), [entry(peer, attributes) for peer in range(peers)])
 
 
+def many_segments(records, peers):
+    """Records of an entry of each peer by turns, with as many segments as routes that are kept may have, and more."""
+    yield index(peers)
+    kept = route(b''.join(segment(4, number) for number in range(160)))
+    apart = kept + communities(*range(40))
+    for number in range(records):
+        yield table(number, net(number), [entry(peer, apart if number % 2 else kept) for peer in range(peers)])
+
+
 # Messages and entries.
 
 def message_of(size):

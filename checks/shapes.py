@@ -65,6 +65,8 @@ SHAPES = (
           partial(shaped.climbing_table, peers=1000, most=1024, steps=25), most=16 * MIB),
     Shape('paths of a record climb, 250 octets', 1, partial(shaped.climbing_table, peers=1000, most=250),
           most=8 * MIB),
+    # A record of them takes 5 MiB; to keep that of the one before as well took 10.
+    Shape('records of many segments', 8, partial(shaped.many_segments, peers=300), most=7 * MIB),
     Shape('long messages and entries by turns', 750, shaped.turns),
     Shape('records of one peer', 400, partial(shaped.one_peer_table, entries=1000)),
     Shape('records of many peers', 500, partial(shaped.many_peers_table, peers=1000)),

@@ -16,11 +16,11 @@ def attributes(number, other):
 
 
 def table_entries(count):
-    """Records of the only peer, most with an entry, and every tenth with three."""
+    """Records of the only peer, most with an entry, and every tenth with twelve."""
     yield index(1)
     for number in range(count):
         yield table(number, net(number), [entry(0, attributes(number, other)) for other in
-                                          range(1 if number % 10 else 3)])
+                                          range(1 if number % 10 else 12)])
 
 
 def old_table_entries(count):
@@ -43,7 +43,7 @@ def run_over(calls, octets):
 
 def faults_of_requests(calls):
     """Runs the program over short and long files of each kind, and gives what is wrong."""
-    for make, lines in ((table_entries, 2400), (old_table_entries, 2000), (messages, 6000)):
+    for make, lines in ((table_entries, 4200), (old_table_entries, 2000), (messages, 6000)):
         short, long = (run_over(calls, b''.join(make(count))) for count in (SHORT, LONG))
         if (short.status, long.status, long.out.count(b'\n')) != (0, 0, lines):
             yield '%s: statuses %d and %d, %d lines' % (

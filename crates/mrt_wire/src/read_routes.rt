@@ -15,6 +15,9 @@ use std::alloc::{AllocError, Global};
 use std::marker::Model;
 use std::rc::Rc;
 
+/// How many octets ORIGIN has (RFC 4271, section 4.3).
+const ORIGIN_SIZE: u8 = 1;
+
 /// How many octets the attributes of a route that has a place have at most.
 const LONGEST_PLACED: usize = 192;
 
@@ -134,10 +137,19 @@ impl ReadRoute {
 #[inline(always)]
 fn begin_plainly(octets: &[u8], width: AsWidth) -> bool {
     let (size, count) = match octets {
-        [_, ORIGIN, _, _, flags, AS_PATH, size, _, count, ..] if flags & EXTENDED_LENGTH == 0 => {
-            (*size, *count)
-        }
-        [_, ORIGIN, _, _, _, AS_PATH, 0, size, _, count, ..] => (*size, *count),
+        [
+            _,
+            ORIGIN,
+            ORIGIN_SIZE,
+            _,
+            flags,
+            AS_PATH,
+            size,
+            _,
+            count,
+            ..
+        ] if flags & EXTENDED_LENGTH == 0 => { (*size, *count) }
+        [_, ORIGIN, ORIGIN_SIZE, _, _, AS_PATH, 0, size, _, count, ..] => (*size, *count),
         _ => return false,
     };
     usize::from(size) == usize::from(count) * width.octets() + 2
@@ -280,17 +292,10 @@ impl ReadRoutes {
         if !is_plain(sent) {
             return self.routes.rib_route(alloc, sent, time);
         }
-        match self.read(alloc, place, sent, time) {
-            Ok(route) => {
-                if !is_small(&route) {
-                    self.clear(place);
-                }
-                Ok(route)
-            }
-            Err(fault) => {
-                self.clear(place);
-                Err(fault)
-            }
+        let route = self.read(alloc, place, sent, time)?;
+        if !is_small(&route) {
+            self.clear(place);
         }
+        Ok(route)
     }
 }

@@ -12,11 +12,12 @@ const SEGMENT_OCTETS: u64 = 64;
 /// How many octets a number of a path or a community takes.
 const NUMBER_OCTETS: u64 = 4;
 
-/// How many octets of room a route has at most for more segments and communities than it has, where
-/// it was read from octets.
-const SPARE_OCTETS: u64 = 256;
+/// How many octets of room a route has at most for more than it has, where it was read from octets:
+/// for 4 segments (`fit` of `bgp_paths`), for 32 communities (`Communities` of `bgp_wire`), and what
+/// the allocator rounds up.
+const SPARE_OCTETS: u64 = 288;
 
-/// How many octets of room such a route's segment has at most for more numbers.
+/// How many octets of room such a route's segment has at most for 8 numbers more (`AsNumbers`).
 const SEGMENT_SPARE: u64 = 32;
 
 /// So many times so many octets.

@@ -26,8 +26,8 @@ pub(crate) const MOST_ROOM: u64 = 560 * 1024;
 const LONGEST_KEPT: usize = 1024;
 
 /// How many octets such a route takes at most, with all that it has room for: most where each segment
-/// of its path has one number of two octets, and one more was refused.
-pub(crate) const LARGEST_ROUTE: usize = 30 * 1024;
+/// of its path has one number of two octets.
+pub(crate) const LARGEST_ROUTE: usize = 26 * 1024;
 
 /// The attributes of a table's entry as they were sent: the octets, the family of the prefix that
 /// they are for, and the width of their AS numbers.
@@ -75,7 +75,7 @@ pub(crate) struct RoutePool {
     /// How many of them were given out for the record that is read. The last that is kept isn't
     /// counted, so that it is given out again and again.
     given: usize,
-    /// How many octets those behind the first ones take at most.
+    /// How many octets those behind the first ones take at most, where they are of tables.
     room: u64,
     ghost counted: { given ≤ vec_len routes },
     ghost bounded: { vec_len routes ≤ MOST_ROUTES },
@@ -183,17 +183,6 @@ impl RoutePool {
         self.next_discounted(alloc)
     }
 
-    /// Lets go of the route at this place, for which no room is counted, unless it is among the first.
-    #[inline(never)]
-    fn take_out(&mut self, place: usize)
-        requires { place < vec_len self.old.routes }
-    {
-        if place >= FIRST_ROUTES {
-            self.routes.swap_remove(place);
-            self.given = place;
-        }
-    }
-
     /// Counts the room of the route at this place, or lets go of it where all would take too much.
     #[inline(never)]
     fn count(&mut self, place: usize)
@@ -201,7 +190,9 @@ impl RoutePool {
     {
         let room = self.room.saturating_add(route_room(&self.routes[place]));
         if room > MOST_ROOM {
-            return self.take_out(place);
+            self.routes.swap_remove(place);
+            self.given = place;
+            return;
         }
         self.room = room;
     }
@@ -233,12 +224,11 @@ impl RoutePool {
             return Ok(route);
         }
         let place = self.next_table_place(alloc)?;
-        if let Err(fault) = fill_rib_route(&mut self.routes[place], alloc, sent, time) {
-            self.take_out(place);
-            return Err(fault);
-        }
+        let read = fill_rib_route(&mut self.routes[place], alloc, sent, time);
+        // It may not be kept.
         let route: Result<_, _> = self.routes[place].clone();
         self.keep(place);
+        read?;
         Ok(route?)
     }
 
