@@ -139,6 +139,14 @@ def withdrawn(count, each):
         yield message(found, b'', b'')
 
 
+def coming_and_going(rounds, prefixes):
+    """So often a message that announces these addresses, and one that withdraws them."""
+    found = hosts(0, prefixes)
+    for _ in range(rounds):
+        yield message(b'', route(segment(4, 64496)), found)
+        yield message(found, b'', b'')
+
+
 def alike(count):
     """Announcements of IPv6 prefixes of 80 bits that share 48, and then their withdrawals."""
     found = [wide(80, bytes.fromhex('20010DB80001') + number.to_bytes(4, 'big')) for number in range(count)]

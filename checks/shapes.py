@@ -7,8 +7,6 @@ Each file is made in two sizes, the second twice the first. The peak of memory o
 stands below, and the processor time of the larger is at most 2.6 times that of the smaller, each the least of three
 runs; where it isn't, each of three more. A line tells the peaks, the times in milliseconds, and how often the second
 holds the first. It takes a C compiler, for usage.c beside this file.
-
-Of the shapes in NOT_YET the time is known to grow faster: it is neither measured nor asked.
 """
 import sys
 import tempfile
@@ -76,17 +74,14 @@ SHAPES = (
           beside=shaped.short_attributes),
     Shape('garbage of known routes, played', 2_500, partial(shaped.garbage, live=LIVE, segments=SEGMENTS),
           partial(one_by_one, 0, ahead=LIVE), 40 * MIB),
+    Shape('a session is lost, and comes again', 500, partial(shaped.flapping, each=100),
+          lambda size: one_by_one(size, 2 * size + 1), 24 * MIB),
+    Shape('messages are withdrawn', 200, partial(shaped.withdrawn, each=500), lambda size: one_by_one(1, 2 * size)),
+    Shape('prefixes of 80 bits share 48', 10_000, shaped.alike, lambda size: one_by_one(size, 2 * size), 9 * MIB),
+    Shape('prefixes come and go', 100, partial(shaped.coming_and_going, prefixes=500),
+          lambda size: one_by_one(size, 2 * size), 6 * MIB),
     Shape('prefixes of all lengths, played', 2_000, partial(shaped.all_lengths, times=160), all_steps),
 )
-
-# What costs more than it should, by how many steps there are. For their peak alone.
-NOT_YET = (
-    Shape('a session is lost, and comes again', 100, partial(shaped.flapping, each=100),
-          lambda size: one_by_one(size, 2 * size + 1), 6 * MIB),
-    Shape('messages are withdrawn', 50, partial(shaped.withdrawn, each=500), lambda size: one_by_one(1, 2 * size)),
-    Shape('prefixes of 80 bits share 48', 1_000, shaped.alike, lambda size: one_by_one(size, 2 * size)),
-)
-
 
 def used_by(runs, make, script, size, times=1):
     return runs.over(make(size), script and script(size), times)
@@ -128,21 +123,10 @@ def faults_of_shape(runs, shape):
         yield '%s: %.1f ms, and %.1f at half the size' % (shape.name, large.time, small.time)
 
 
-def faults_of_untimed(runs, shape):
-    """The same, once, and without its time."""
-    small, large = (used_by(runs, shape.make, shape.script, size) for size in (shape.size, 2 * shape.size))
-    print('%7d %7d   %21s   %s' % (small.peak, large.peak, '-', shape.name), flush=True)
-    yield from faults_of_peak(runs, shape, shape.size, small)
-    yield from faults_of_peak(runs, shape, 2 * shape.size, large)
-
-
 def faults_of_shapes(runs):
     print('  peaks in KiB    times in ms and ratio')
     for shape in SHAPES:
         yield from faults_of_shape(runs, shape)
-    print('Of these no time is asked yet:')
-    for shape in NOT_YET:
-        yield from faults_of_untimed(runs, shape)
 
 
 def main():

@@ -133,12 +133,20 @@ pub const CASES: &[(&str, Case)] = &[
         Case::Play(Course::BehindFloor),
     ),
     (
+        "play-a-route-that-comes-again",
+        Case::Play(Course::ComesAgain),
+    ),
+    (
         "play-behind-1024-steps",
         Case::Play(Course::BehindSteps(1_024)),
     ),
     (
         "play-behind-1100-steps",
         Case::Play(Course::BehindSteps(1_100)),
+    ),
+    (
+        "play-behind-5000-steps-but-one-forgotten",
+        Case::Play(Course::BehindForgotten(5_000)),
     ),
     (
         "play-over-a-thousand-routes-that-differ",
@@ -173,6 +181,10 @@ pub const CASES: &[(&str, Case)] = &[
     (
         "forget-steps-by-turns-before-others",
         Case::Forget(Forgetting::ByTurns),
+    ),
+    (
+        "forget-steps-of-routes-that-come-again",
+        Case::Forget(Forgetting::ComeAgain),
     ),
     ("dump-of-a-table", Case::Dump(&runs::TABLE)),
     ("dump-of-an-ipv6-table", Case::Dump(&runs::WIDE_TABLE)),

@@ -25,8 +25,12 @@ pub enum Course {
     OverRoute,
     /// The same behind a floor, with one step ahead.
     BehindFloor,
+    /// A prefix that was announced and withdrawn, and one more.
+    ComesAgain,
     /// A route behind so many steps.
     BehindSteps(u32),
+    /// A route behind so many steps, of which the last is kept.
+    BehindForgotten(u32),
     /// 600 routes over as many of 1,100, which all differ.
     OverMany,
     /// The loss of a session without routes, with two steps ahead.
@@ -65,8 +69,18 @@ pub fn prepare<S: PrefixStore<Rc<Route>>>(
             step_behind_floor(alloc, player)?;
             replaced(alloc, 103)
         }
+        Course::ComesAgain => {
+            step(player, &one(alloc, 100)?)?;
+            step(player, &loss(alloc)?)?;
+            different(alloc, 2, 102)
+        }
         Course::BehindSteps(steps) => {
             announce_each(alloc, player, steps)?;
+            one(alloc, 102)
+        }
+        Course::BehindForgotten(steps) => {
+            announce_each(alloc, player, steps)?;
+            let _ = player.forget(1);
             one(alloc, 102)
         }
         Course::OverMany => {

@@ -25,6 +25,8 @@ pub enum Forgetting {
     /// All before the cursor, with steps ahead, where each prefix is withdrawn before the next is
     /// announced.
     ByTurns,
+    /// Most before the cursor, with steps ahead, where all prefixes come so three times.
+    ComeAgain,
 }
 
 /// How many prefixes are announced, each with a route of its own, and then withdrawn.
@@ -33,6 +35,9 @@ const PREFIXES: u32 = 1_500;
 /// How many where they take turns. Behind so many the table of known routes has been widened, and
 /// has too many places once half of them are let go.
 const PREFIXES_BY_TURNS: u32 = 1_700;
+
+/// How many where they take turns three times.
+const PREFIXES_THRICE: u32 = 500;
 
 /// More steps than are played.
 const ALL: u64 = u64::MAX;
@@ -43,8 +48,10 @@ const MOST_STEPS: u32 = 3_400;
 /// What is to be seen where steps are forgotten.
 #[derive(Clone, Copy)]
 struct Forgotten {
-    /// Whether announcements and withdrawals take turns.
-    by_turns: bool,
+    /// How many prefixes are announced, and how often each in turn with its withdrawal; or once all
+    /// of them before all withdrawals.
+    prefixes: u32,
+    by_turns: Option<u32>,
     /// How many steps are kept before the call, and how many are undone then.
     kept_before: u64,
     undone: u32,
@@ -75,7 +82,8 @@ fn at(at: u64, floor: u64, known: SeenPeer) -> Seen {
 fn wanted_of(forgetting: Forgetting) -> Forgotten {
     match forgetting {
         Forgetting::All => Forgotten {
-            by_turns: false,
+            prefixes: PREFIXES,
+            by_turns: None,
             kept_before: ALL,
             undone: 0,
             kept: 0,
@@ -85,7 +93,8 @@ fn wanted_of(forgetting: Forgetting) -> Forgotten {
             end: at(3_000, 3_000, NOTHING),
         },
         Forgetting::AllBeforeAhead => Forgotten {
-            by_turns: false,
+            prefixes: PREFIXES,
+            by_turns: None,
             kept_before: ALL,
             undone: 500,
             kept: 0,
@@ -95,7 +104,8 @@ fn wanted_of(forgetting: Forgetting) -> Forgotten {
             end: at(3_000, 2_500, peer(500, 0, None)),
         },
         Forgetting::MostBeforeAhead => Forgotten {
-            by_turns: false,
+            prefixes: PREFIXES,
+            by_turns: None,
             kept_before: ALL,
             undone: 500,
             kept: 100,
@@ -105,7 +115,8 @@ fn wanted_of(forgetting: Forgetting) -> Forgotten {
             end: at(3_000, 2_400, peer(600, 0, None)),
         },
         Forgetting::BehindFloor => Forgotten {
-            by_turns: false,
+            prefixes: PREFIXES,
+            by_turns: None,
             kept_before: 2_000,
             undone: 0,
             kept: 1_000,
@@ -117,7 +128,8 @@ fn wanted_of(forgetting: Forgetting) -> Forgotten {
         Forgetting::ByTurns => {
             let here = at_of(3_400, 2_899, 2_899, peer(251, 1, None));
             Forgotten {
-                by_turns: true,
+                prefixes: PREFIXES_BY_TURNS,
+                by_turns: Some(1),
                 kept_before: ALL,
                 undone: 501,
                 kept: 0,
@@ -127,6 +139,17 @@ fn wanted_of(forgetting: Forgetting) -> Forgotten {
                 end: at_of(3_400, 3_400, 2_899, peer(251, 0, None)),
             }
         }
+        Forgetting::ComeAgain => Forgotten {
+            prefixes: PREFIXES_THRICE,
+            by_turns: Some(3),
+            kept_before: 2_800,
+            undone: 501,
+            kept: 100,
+            count: 2_199,
+            here: at(2_499, 2_399, peer(301, 1, None)),
+            start: at(2_399, 2_399, peer(301, 1, None)),
+            end: at(3_000, 2_399, peer(301, 0, None)),
+        },
     }
 }
 
@@ -148,10 +171,13 @@ fn prepare<S: PrefixStore<Rc<Route>>>(
     player: &mut Player<S>,
     wanted: &Forgotten,
 ) -> Result<(), Unmade> {
-    if wanted.by_turns {
-        play_by_turns(alloc, player)?;
-    } else {
-        play_in_two_halves(alloc, player)?;
+    match wanted.by_turns {
+        Some(rounds) => {
+            for _ in 0..rounds {
+                play_by_turns(alloc, player, wanted.prefixes)?;
+            }
+        }
+        None => play_in_two_halves(alloc, player, wanted.prefixes)?,
     }
     let _ = player.forget(wanted.kept_before);
     undo(player, wanted.undone);
@@ -174,11 +200,12 @@ fn announce<S: PrefixStore<Rc<Route>>>(
 fn play_in_two_halves<S: PrefixStore<Rc<Route>>>(
     alloc: Global,
     player: &mut Player<S>,
+    prefixes: u32,
 ) -> Result<(), Unmade> {
-    for number in 0..PREFIXES {
+    for number in 0..prefixes {
         announce(alloc, player, number)?;
     }
-    for number in 0..PREFIXES {
+    for number in 0..prefixes {
         step(player, &withdrawal(alloc, number)?)?;
     }
     Ok(())
@@ -188,8 +215,9 @@ fn play_in_two_halves<S: PrefixStore<Rc<Route>>>(
 fn play_by_turns<S: PrefixStore<Rc<Route>>>(
     alloc: Global,
     player: &mut Player<S>,
+    prefixes: u32,
 ) -> Result<(), Unmade> {
-    for number in 0..PREFIXES_BY_TURNS {
+    for number in 0..prefixes {
         announce(alloc, player, number)?;
         step(player, &withdrawal(alloc, number)?)?;
     }

@@ -27,7 +27,9 @@ pub fn scene_of(course: Course) -> Scene {
         Course::TwoNewPeersOfIpv6 => two_new_peers_of_ipv6(),
         Course::OverRoute => over_route(),
         Course::BehindFloor => behind_floor(),
+        Course::ComesAgain => comes_again(),
         Course::BehindSteps(steps) => behind_steps(u64::from(steps)),
+        Course::BehindForgotten(steps) => behind_forgotten(u64::from(steps)),
         Course::OverMany => over_many(),
         Course::LossWithTwoAhead => loss_with_two_ahead(),
         Course::OneMore => one_more(),
@@ -153,6 +155,26 @@ fn behind_floor() -> Scene {
     }
 }
 
+fn comes_again() -> Scene {
+    let both = SeenPeer {
+        narrow: Some(103),
+        ..peer(2, 2, Some(102))
+    };
+    Scene {
+        refused: Walk {
+            here: one_peer(2, 0, 2, peer(1, 0, None)),
+            back: one_peer(1, 1, 2, peer(1, 1, Some(100))),
+            forth: None,
+        },
+        dropped: 0,
+        played: Walk {
+            here: one_peer(3, 0, 4, both),
+            back: one_peer(2, 1, 4, peer(2, 0, None)),
+            forth: None,
+        },
+    }
+}
+
 /// Steps of a route each, and one more behind them.
 fn behind_steps(steps: u64) -> Scene {
     let all = steps.saturating_add(1);
@@ -167,6 +189,34 @@ fn behind_steps(steps: u64) -> Scene {
         played: Walk {
             here: one_peer(all, 0, all, peer(all, all, Some(102))),
             back: one_peer(steps, 1, all, peer(all, steps, None)),
+            forth: None,
+        },
+    }
+}
+
+/// The same where the steps are kept from a floor on, and name so many pairs.
+fn kept_from(floor: u64, named: u64, seen: Seen) -> Seen {
+    Seen {
+        floor,
+        named,
+        ..seen
+    }
+}
+
+/// Steps of a route each, of which the last is kept, and one more behind them.
+fn behind_forgotten(steps: u64) -> Scene {
+    let floor = steps.saturating_sub(1);
+    let all = behind_steps(steps);
+    Scene {
+        refused: Walk {
+            here: kept_from(floor, 1, all.refused.here),
+            back: kept_from(floor, 1, all.refused.back),
+            forth: None,
+        },
+        dropped: 0,
+        played: Walk {
+            here: kept_from(floor, 2, all.played.here),
+            back: kept_from(floor, 2, all.played.back),
             forth: None,
         },
     }

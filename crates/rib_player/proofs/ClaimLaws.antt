@@ -1,10 +1,10 @@
 -- Claims: a pair is wanted exactly where it is claimed, and what forgotten, dropped and played steps make of claims.
-use Rattle.std.proofs.Common.{◌≡◌, ℕ, zero, suc, ◌+◌, ◌-◌, ◌<◌, ◌≤◌, Bool, true, false, not, ◌||◌, ◌&&◌, List, [], ◌∷◌, ◌++◌, length, length-drop, take, drop, slice_index_or, Option, Some, None, is_some, refl, sym, ap, ap₂, subst, ◌∙◌, arith}
+use Rattle.std.proofs.Common.{◌≡◌, ℕ, zero, suc, ◌+◌, ◌-◌, ◌<◌, Bool, true, false, not, ◌||◌, ◌&&◌, List, [], ◌∷◌, ◌++◌, length, length-drop, take, drop, slice_index_or, Option, None, is_some, refl, sym, ap, subst, ◌∙◌, arith}
 use Rattle.std.specs.List.{list_any}
 use Rattle.std.specs.Prelude.{nat_lt}
 use Rattle.std.specs.FinMap as finite
 use Rattle.std.specs.FinSet as set
-use Rattle.std.proofs.lemmas.Bool.{true≢false, lt-ltb}
+use Rattle.std.proofs.lemmas.Bool.{true≢false, lt-ltb, or_parts}
 use Rattle.std.proofs.lemmas.List.{take_all}
 use Rattle.std.proofs.Math.Bool.{or-true}
 use Rattle.rib_player.specs.declared.pair.Pair.{Pair}
@@ -18,7 +18,7 @@ use Rattle.rib_player.specs.Wanted.{wanted, IsWellFormed}
 use Rattle.rib_player.proofs.TableLaws.{get-table_after, contains-named_pairs}
 use Rattle.rib_player.proofs.HistoryLaws.{table-append}
 use Rattle.rib_player.proofs.JournalLaws.{unnamed-same}
-use Rattle.rib_player.proofs.KeyLaws.{contains-wanted}
+use Rattle.rib_player.proofs.KeyLaws.{contains-wanted, none_from}
 
 -- ---- a pair is claimed exactly where it has a route at some of the positions
 
@@ -48,6 +48,24 @@ claimed-somewhere pair (first ∷ tables) =
     at_first : (b : Bool) (n : ℕ) (later : Bool) → (b ≡ false → nat_lt 0 n ≡ later) → nat_lt 0 (one_if b + n) ≡ (b || later)
     at_first true n later same = one_more n
     at_first false n later same = ap (nat_lt 0) (none_more n) ∙ same refl
+
+-- a pair that isn't claimed has a route at none of them
+none_at : (p : Routes → Bool) (tables : List Routes) (i : ℕ) → i < length tables → list_any p tables ≡ false → p (slice_index_or tables i finite.empty) ≡ false
+none_at p [] i h e = absurd (omega arith)
+none_at p (first ∷ tables) zero h e = (or_parts (p first) (list_any p tables) e).0
+none_at p (first ∷ tables) (suc i) h e = none_at p tables i (omega arith) (or_parts (p first) (list_any p tables) e).1
+
+pub unclaimed : (pair : Pair) (tables : List Routes) (i : ℕ) → i < length tables → claims_along pair tables ≡ 0 → finite.get (slice_index_or tables i finite.empty) pair ≡ None
+unclaimed pair tables i h none =
+    none_from (finite.get (slice_index_or tables i finite.empty) pair) (none_at (is_routed pair) tables i h (sym (claimed-somewhere pair tables) ∙ ap (nat_lt 0) none))
+
+-- and the other way round
+pub unclaimed-none : (pair : Pair) (tables : List Routes) → list_any (is_routed pair) tables ≡ false → claims_along pair tables ≡ 0
+unclaimed-none pair tables none = at (claims_along pair tables) (claimed-somewhere pair tables ∙ none)
+  where
+    at : (n : ℕ) → nat_lt 0 n ≡ false → n ≡ 0
+    at zero e = refl
+    at (suc n) e = absurd (true≢false (sym (lt-ltb 0 (suc n) (omega arith)) ∙ e))
 
 -- ---- it has one at some position exactly where it has one at a given position or a step names it
 
@@ -117,16 +135,18 @@ named-somewhere before Clear e = e
 named-somewhere before (Set new) e = e
 
 -- what an event names fits the table before it and that behind it
-pub event-names : (pair : Pair) (past : List Event) (event : Event) → NamesFor pair (table past) (named_pairs (table past) event) (table (past ++ event ∷ []))
-event-names pair past event =
-    let before = finite.get (table past) pair in
+pub table-names : (pair : Pair) (routes : Routes) (event : Event) → NamesFor pair routes (named_pairs routes event) (table_after routes event)
+table-names pair routes event =
+    let before = finite.get routes pair in
     let does = effect pair event in
-    let said = contains-named_pairs (table past) event pair in
-    let after : finite.get (table (past ++ event ∷ [])) pair ≡ route_after before does =
-    ap (λ r. finite.get r pair) (table-append past event) ∙ get-table_after (table past) event pair in (
+    let said = contains-named_pairs routes event pair in
+    let after : finite.get (table_after routes event) pair ≡ route_after before does = get-table_after routes event pair in (
       (λ e. ap is_some (unnamed-same before does (sym said ∙ e) ∙ sym after)),
       (λ e. ap (λ r. is_some before || is_some r) after ∙ named-somewhere before does (sym said ∙ e)),
     )
+
+event-names : (pair : Pair) (past : List Event) (event : Event) → NamesFor pair (table past) (named_pairs (table past) event) (table (past ++ event ∷ []))
+event-names pair past event = subst (NamesFor pair (table past) (named_pairs (table past) event)) (sym (table-append past event)) (table-names pair (table past) event)
 
 names-along : (pair : Pair) (past events : List Event) → NameFor pair (tables_along past events) (steps_along past events)
 names-along pair past [] = tt
@@ -155,7 +175,7 @@ one_less false true n = omega arith
 one_less false false n = omega arith
 
 -- the first position is forgotten: one claim less where its step clears the pair
-first-forgotten : (pair : Pair) (tables : List Routes) → 1 < length tables
+pub first-forgotten : (pair : Pair) (tables : List Routes) → 1 < length tables
     → claims_along pair tables ≡ claims_along pair (drop 1 tables) + one_if (clears pair (slice_index_or tables 0 finite.empty) (slice_index_or tables 1 finite.empty))
 first-forgotten pair [] h = absurd (omega arith)
 first-forgotten pair (last ∷ []) h = absurd (omega arith)
@@ -172,7 +192,7 @@ last-dropped pair before (last ∷ []) (suc n) h = absurd (omega arith)
 last-dropped pair before (next ∷ after ∷ tables) zero h = absurd (omega arith)
 last-dropped pair before (next ∷ after ∷ tables) (suc n) h = omega (arith, last-dropped pair next (after ∷ tables) n (omega arith))
 
-last-claims : (pair : Pair) (tables : List Routes) (n : ℕ) → length tables ≡ suc (suc n)
+pub last-claims : (pair : Pair) (tables : List Routes) (n : ℕ) → length tables ≡ suc (suc n)
     → claims_along pair tables
     ≡ claims_along pair (take (suc n) tables)
     + one_if (brings pair (slice_index_or tables n finite.empty) (slice_index_or tables (suc n) finite.empty))
@@ -188,7 +208,7 @@ brought-played pair before [] new (suc n) h = absurd (omega arith)
 brought-played pair before (after ∷ tables) new zero h = absurd (omega arith)
 brought-played pair before (after ∷ tables) new (suc n) h = omega (arith, brought-played pair after tables new n (omega arith))
 
-last-played : (pair : Pair) (tables : List Routes) (new : Routes) (n : ℕ) → length tables ≡ suc n
+pub last-played : (pair : Pair) (tables : List Routes) (new : Routes) (n : ℕ) → length tables ≡ suc n
     → claims_along pair (tables ++ new ∷ []) ≡ claims_along pair tables + one_if (brings pair (slice_index_or tables n finite.empty) new)
 last-played pair [] new n h = absurd (omega arith)
 last-played pair (first ∷ tables) new n h = omega (arith, brought-played pair first tables new n (omega arith))

@@ -1,19 +1,16 @@
 -- A player's timeline, and what a step that is crossed, or put behind the cursor, makes of it.
-use Rattle.std.proofs.Common.{◌≡◌, ℕ, suc, ◌+◌, ◌-◌, ◌<◌, ◌≤◌, cond, List, [], ◌∷◌, ◌++◌, map, length, length-append, length-drop, take, drop, set, reverse, arith, refl, sym, ap, subst, ◌∙◌, append_assoc}
-use Rattle.std.specs.List.{AllByRecursion}
+use Rattle.std.proofs.Common.{◌≡◌, ℕ, suc, ◌+◌, ◌-◌, ◌<◌, ◌≤◌, cond, List, [], ◌∷◌, ◌++◌, map, length, length-append, length-drop, take, drop, set, reverse, arith, refl, sym, ap, ◌∙◌, append_assoc}
 use Rattle.std.specs.FinMap as finite
 use Rattle.std.specs.FinSet as names
-use Rattle.std.proofs.lemmas.List.{take-set, drop-set, take_more, take_more_set, drop_more, drop-set-lt, reverse-append, length-reverse, length-take-le, length_push, get_or_at, map-set, set-get_or, get_or-map, take_at, drop_all, length-map, length-set, take_all, take-map, map-append}
+use Rattle.std.proofs.lemmas.List.{take-set, drop-set, take_more, take_more_set, drop_more, drop-set-lt, reverse-append, length-reverse, length-take-le, length_push, get_or_at, map-set, set-get_or, get_or-map, take_at, drop_all, length-map, take_all, take-map, map-append}
 use Rattle.std.proofs.lemmas.Bool.{lt-ltb}
 use Rattle.mrt_wire.specs.declared.event.Event.{Event}
 use Rattle.rib_player.specs.Tables.{Routes, Pairs, table_after, named_pairs}
 use Rattle.rib_player.specs.Timeline.{Timeline, current, after_play}
 use Rattle.rib_player.specs.Calls.{after_undo, after_redo}
 use Rattle.rib_player.specs.Journal.{Side, pairs_in, routes_across, tables_before, tables_after, timeline_of}
-use Rattle.rib_player.specs.Sides.{sides_at, sides_across, IsKept, IsStepFor}
-use Rattle.rib_player.specs.Played.{IsJournal}
-use Rattle.rib_player.proofs.JournalLaws.{pairs_in-sides_across, kept-sides_across, routes_across-sides_across, routes_across-step}
-use Rattle.octet_forms.proofs.Lists.{AllByRecursion-get_or, AllByRecursion-set}
+use Rattle.rib_player.specs.Sides.{sides_at, sides_across, IsStepFor}
+use Rattle.rib_player.proofs.JournalLaws.{pairs_in-sides_across, routes_across-sides_across, routes_across-step}
 
 -- one table before each step
 length-tables_before : (steps : List (List Side)) (routes : Routes) → length (tables_before steps routes) ≡ length steps
@@ -135,27 +132,19 @@ timeline-after_redo cursor steps routes within =
 pub same-timeline : (cursor : ℕ) (steps steps' : List (List Side)) (routes routes' : Routes) → steps ≡ steps' → routes ≡ routes' → timeline_of cursor steps routes ≡ timeline_of cursor steps' routes'
 same-timeline cursor steps steps' routes routes' e f = λ i. timeline_of cursor (e i) (f i)
 
--- the step at an index is kept as all are
-pub kept-at : (keys : Pairs) (steps : List (List Side)) (index : ℕ) → index < length steps → AllByRecursion (IsKept keys) steps → IsKept keys (sides_at steps index)
-kept-at keys steps index within kept = AllByRecursion-get_or (IsKept keys) steps index [] within kept
-
--- a journal with a step crossed is one
-pub journal-sides_across : (keys keys' : Pairs) (steps steps' : List (List Side)) (routes : Routes) (index cursor : ℕ) → index < length steps → cursor ≤ length steps → AllByRecursion (IsKept keys) steps
-    → keys' ≡ keys → steps' ≡ set steps index (sides_across routes (sides_at steps index)) → IsJournal keys' cursor steps'
-journal-sides_across keys keys' steps steps' routes index cursor last within kept e f =
-    let crossing : List Side = sides_across routes (sides_at steps index) in
-    let journal : IsJournal keys cursor (set steps index crossing) = record {
-      within = omega (arith, length-set steps index crossing);
-      kept = AllByRecursion-set (IsKept keys) steps index crossing (kept-sides_across keys routes (sides_at steps index) (kept-at keys steps index last kept)) kept;
-    } in
-    subst (λ k. IsJournal k cursor steps') (sym e) (subst (IsJournal keys cursor) (sym f) journal)
-
 -- a step that is put behind the cursor, in place of those ahead
 abbrev pub added : ℕ → List (List Side) → List Side → List (List Side)
 added cursor steps sides = take cursor steps ++ sides ∷ []
 
 pub length-added : (cursor : ℕ) (steps : List (List Side)) (sides : List Side) → cursor ≤ length steps → length (added cursor steps sides) ≡ cursor + 1
 length-added cursor steps sides within = length_push (take cursor steps) sides ∙ ap (λ n. n + 1) (length-take-le cursor steps within)
+
+-- the tables up to the cursor
+pub tables-behind : (cursor : ℕ) (steps : List (List Side)) (routes : Routes) → cursor ≤ length steps → take (cursor + 1) (timeline_of cursor steps routes).tables ≡ earlier cursor steps routes ++ routes ∷ []
+tables-behind cursor steps routes within =
+    let first : List Routes = earlier cursor steps routes in
+    ap (take (cursor + 1)) (sym (append_assoc first (routes ∷ []) (tables_after (drop cursor steps) routes)))
+    ∙ take_at (first ++ routes ∷ []) (tables_after (drop cursor steps) routes) (cursor + 1) (length_push first routes ∙ ap (λ n. n + 1) (length-earlier cursor steps routes within))
 
 -- the event's step, put behind the cursor and crossed
 pub timeline-after_play : (cursor : ℕ) (steps : List (List Side)) (sides : List Side) (routes : Routes) (event : Event) → cursor ≤ length steps → IsStepFor routes event sides
@@ -169,9 +158,7 @@ timeline-after_play cursor steps sides routes event within step =
     let here : current t ≡ routes = current-timeline cursor steps routes within in
     let long : length (added cursor steps crossing) ≤ cursor + 1 = omega (arith, length-added cursor steps crossing within) in
     let before : first ++ routes ∷ [] ≡ take (cursor - 0 + 1) t.tables =
-    sym (take_at (first ++ routes ∷ []) (tables_after (drop cursor steps) routes) (cursor - 0 + 1)
-    (length_push first routes ∙ ap (λ n. n + 1) (length-earlier cursor steps routes within) ∙ omega arith))
-    ∙ ap (take (cursor - 0 + 1)) (append_assoc first (routes ∷ []) (tables_after (drop cursor steps) routes)) in
+    sym (tables-behind cursor steps routes within) ∙ ap (λ n. take (n + 1) t.tables) {x = cursor} {y = cursor - 0} (omega arith) in
     let tables : (timeline_of (cursor + 1) (added cursor steps crossing) next).tables ≡ (after_play t event).tables =
     ap (λ s. tables_before (reverse s) next ++ next ∷ tables_after (drop (cursor + 1) (added cursor steps crossing)) next) (take_all (cursor + 1) (added cursor steps crossing) long)
     ∙ ap (λ s. tables_before (reverse (added cursor steps crossing)) next ++ next ∷ tables_after s next) (drop_all (cursor + 1) (added cursor steps crossing) long)

@@ -1,6 +1,6 @@
 -- What a step's entries do to a table, and what crossing a step makes of a player.
-use Rattle.std.proofs.Common.{◌≡◌, ℕ, zero, suc, ◌+◌, ◌<◌, true, false, cond, List, [], ◌∷◌, ◌++◌, length, get_or, take, drop, set, Option, Some, None, refl, sym, ap, subst, ◌∙◌, append_assoc, arith}
-use Rattle.std.specs.List.{AllByRecursion, list_any, IsDistinct}
+use Rattle.std.proofs.Common.{◌≡◌, ℕ, zero, suc, ◌+◌, ◌<◌, false, cond, List, [], ◌∷◌, ◌++◌, length, get_or, take, drop, set, Option, Some, None, refl, sym, ap, ◌∙◌, append_assoc, arith}
+use Rattle.std.specs.List.{AllByRecursion, list_any}
 use Rattle.std.specs.Ordering.{eq_by_cmp}
 use Rattle.std.specs.Cmp.{eq_by_cmp_equiv}
 use Rattle.std.specs.FinMap as finite
@@ -91,13 +91,6 @@ take-through (suc n) (y ∷ ys) x rest e =
 pub pairs_in-sides_across : (routes : Routes) (sides : List Side) → pairs_in (sides_across routes sides) ≡ pairs_in sides
 pairs_in-sides_across routes [] = refl
 pairs_in-sides_across routes (side ∷ sides) = ap (λ pairs. side.0 ∷ pairs) (pairs_in-sides_across routes sides)
-
--- a crossed step is kept as the step is
-pub kept-sides_across : (keys : Pairs) (routes : Routes) (sides : List Side) → IsKept keys sides → IsKept keys (sides_across routes sides)
-kept-sides_across keys routes sides kept = record {
-  distinct = subst (IsDistinct (eq_by_cmp pair_cmp)) (sym (pairs_in-sides_across routes sides)) kept.distinct;
-  among_keys = subst (AllByRecursion (λ pair. names.contains keys pair ≡ true)) (sym (pairs_in-sides_across routes sides)) kept.among_keys;
-}
 
 -- behind a step whose routes are those of a table, its pairs have that table's routes, and the others keep theirs
 pub get-restored_crossed : (routes before : Routes) (sides : List Side) (q : Pair)

@@ -1,9 +1,17 @@
 -- Private.
 -- How often a player's timeline claims a pair: the pair is wanted exactly where it is claimed.
-use Rattle.std.specs.Prelude.{ℕ, ◌+◌, ◌-◌, Bool, true, false, ◌&&◌, not, List, [], ◌∷◌, is_some, length, map, take}
+use Rattle.std.specs.Prelude.{◌≡◌, ℕ, ◌+◌, ◌-◌, Bool, false, ◌&&◌, not, List, [], ◌∷◌, Option, Some, None, is_some, length, take}
+use Rattle.std.specs.BTreeMap as tree
 use Rattle.std.specs.FinMap as finite
+use Rattle.std.specs.FinSet as set
+use Rattle.ip_prefix.specs.Network.{Network}
+use Rattle.mrt_wire.specs.Peer.{peer_cmp}
+pub use Rattle.rib_player.specs.Counts.{one_if}
+use Rattle.rib_player.specs.Counts.{count_of}
+use Rattle.rib_player.specs.declared.claims.Claims.{Claims}
+use Rattle.rib_player.specs.declared.counts.Counts.{Counts}
 use Rattle.rib_player.specs.declared.pair.Pair.{Pair}
-use Rattle.rib_player.specs.Tables.{Routes}
+use Rattle.rib_player.specs.Tables.{Routes, Pairs}
 use Rattle.rib_player.specs.Timeline.{Timeline}
 
 -- the pair has a route
@@ -17,10 +25,6 @@ brings pair before after = not (is_routed pair before) && is_routed pair after
 -- a step clears the pair: it has a route before it and none behind it
 abbrev pub clears : Pair → Routes → Routes → Bool
 clears pair before after = is_routed pair before && not (is_routed pair after)
-
-abbrev pub one_if : Bool → ℕ
-one_if true = 1
-one_if false = 0
 
 -- how many steps bring the pair on the way over these tables
 abbrev pub brought_along : Pair → Routes → List Routes → ℕ
@@ -42,3 +46,19 @@ without_last t = record t {
   tables = take (length t.tables - 1) t.tables;
   steps = take (length t.steps - 1) t.steps;
 }
+
+abbrev pub count_of_peer : Option Counts → Network → ℕ
+count_of_peer None prefix = 0
+count_of_peer (Some counts) prefix = count_of counts prefix
+
+-- how many claims of a pair are kept besides its key
+abbrev pub claims_beyond : Claims → Pair → ℕ
+claims_beyond claims pair = count_of_peer (tree.get peer_cmp claims.peers pair.peer) pair.prefix
+
+-- how many claims of a pair are held: the key, and those beyond it
+abbrev pub held_claims : Pairs → (Pair → ℕ) → Pair → ℕ
+held_claims keys beyond pair = one_if (set.contains keys pair) + beyond pair
+
+-- no claim is held beyond a key that isn't there
+abbrev pub AreHeld : Pairs → (Pair → ℕ) → Type 0
+AreHeld keys beyond = (pair : Pair) → set.contains keys pair ≡ false → beyond pair ≡ 0

@@ -5,9 +5,9 @@ use Rattle.std.specs.declared.rc.Rc.{Rc}
 use Rattle.mrt_wire.specs.declared.event.Route.{Route}
 use Rattle.rib_player.specs.declared.pair.Pair.{Pair}
 
--- a pair, its route on the other side of the step, whether it is new with the step, and whether it has no route behind it
+-- a pair, its route on the other side of the step, and whether it has one before the step and behind it
 pub record Entry : Type 0 where
   pub pair : Pair
   pub other : Option (Rc Route Global)
-  pub first : Bool
-  pub clears : Bool
+  pub before : Bool
+  pub behind : Bool

@@ -1,6 +1,6 @@
 -- Private.
 -- How an entry is kept, and what a new one says.
-use Rattle.std.specs.Prelude.{false, not, is_some, [], Option, Some, None}
+use Rattle.std.specs.Prelude.{false, [], Option, Some, None}
 use Rattle.std.specs.declared.alloc.Global.{Global}
 use Rattle.std.specs.declared.rc.Rc.{Rc}
 use Rattle.ip_prefix.specs.declared.addr.Family.TheVariants.{V4}
@@ -13,9 +13,9 @@ use Rattle.rib_player.specs.declared.entry.Kept.TheVariants.{V4Absent, V4Present
 use Rattle.rib_player.specs.History.{pair_of}
 use Rattle.rib_player.specs.Entries.{Entry}
 
--- one that isn't known to be new, with the route behind the step
+-- one that wasn't put yet, with the route behind the step
 abbrev pub new_entry : Pair → Option (Rc Route Global) → Entry
-new_entry pair other = record { pair = pair; other = other; first = false; clears = not (is_some other) }
+new_entry pair other = record { pair = pair; other = other; before = false; behind = false }
 
 -- what stands for a pair where none is kept
 abbrev no_pair : Pair
@@ -43,7 +43,7 @@ marks_kept (V4Absent marks prefix peer) = marks
 marks_kept (V4Present marks prefix peer route) = marks
 marks_kept (V6Absent marks pair) = marks
 marks_kept (V6Present marks pair route) = marks
-marks_kept Taken = record { first = false; clears = false }
+marks_kept Taken = record { before = false; behind = false }
 
 -- there is one
 abbrev pub IsWhole : Kept → Type 0

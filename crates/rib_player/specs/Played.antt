@@ -1,34 +1,32 @@
 -- Private.
--- Steps that can be undone and redone, and one that was played behind them.
-use Rattle.std.specs.Prelude.{◌≡◌, ℕ, ◌≤◌, List, [], ◌∷◌, ◌++◌, take, drop, length}
+-- Steps that can be undone and redone, and the claims that a player holds with them.
+use Rattle.std.specs.Prelude.{◌≡◌, ℕ, ◌+◌, ◌≤◌, List, take, length, None}
 use Rattle.std.specs.List.{AllByRecursion}
+use Rattle.std.specs.FinMap.{get}
+use Rattle.rib_player.specs.declared.pair.Pair.{Pair}
 use Rattle.rib_player.specs.declared.journal.Step.{Step}
-use Rattle.rib_player.specs.Entries.{Entry}
 use Rattle.rib_player.specs.Tables.{Routes, Pairs}
-use Rattle.rib_player.specs.Store.{Contents}
-use Rattle.rib_player.specs.Wanted.{routed_first}
-use Rattle.rib_player.specs.Journal.{Side, sides_of, routes_across, timeline_of, steps_of}
-use Rattle.rib_player.specs.Sides.{sides_across, IsKept, AreOrdered}
-use Rattle.rib_player.specs.Marks.{marks_of, trail_of, AreHeld}
-use Rattle.rib_player.specs.Clearings.{clearings_by_step, AreCleared}
+use Rattle.rib_player.specs.Claims.{claims, claims_along, held_claims, AreHeld}
+use Rattle.rib_player.specs.Journal.{timeline_of, steps_of}
+use Rattle.rib_player.specs.Sides.{AreDistinct}
+use Rattle.rib_player.specs.Marks.{Mark, marks_by_step, AreMarked}
 
--- the cursor is within the steps, and each of them can be crossed
-pub record IsJournal (keys : Pairs) (cursor : ℕ) (steps : List (List Side)) : Type 0 where
+-- the cursor is within the steps, each names a pair once and marks it right; and of each pair as many claims are held as the player makes
+pub record IsPlayed (keys : Pairs) (beyond : Pair → ℕ) (routes : Routes) (cursor : ℕ) (steps : List Step) : Type 0 where
   pub within : cursor ≤ length steps
-  pub kept : AllByRecursion (IsKept keys) steps
+  pub distinct : AllByRecursion AreDistinct (steps_of steps)
+  pub marked : AreMarked (timeline_of cursor (steps_of steps) routes).tables (marks_by_step steps)
+  pub held : AreHeld keys beyond
+  pub claimed : (q : Pair) → held_claims keys beyond q ≡ claims (timeline_of cursor (steps_of steps) routes) q
 
--- the steps can be crossed, pairs are found in them, it is right what they say of routes behind them, and the keys are those that they and the routes before all of them want
-pub record IsPlayed (keys : Pairs) (routes : Routes) (cursor : ℕ) (steps : List Step) : Type 0 where
-  pub journal : IsJournal keys cursor (steps_of steps)
-  pub ordered : AllByRecursion AreOrdered (steps_of steps)
-  pub cleared : AreCleared (clearings_by_step steps) (drop 1 (timeline_of cursor (steps_of steps) routes).tables)
-  pub held : AreHeld (routed_first (timeline_of cursor (steps_of steps) routes)) (trail_of steps) keys
+-- steps between these tables, and the claims that they make with one step more, which makes these
+pub record AreClaimed (steps : List (List Mark)) (held : Pair → ℕ) (tables : List Routes) (new : Pair → ℕ) : Type 0 where
+  pub marked : AreMarked tables steps
+  pub claimed : (q : Pair) → held q ≡ claims_along q tables + new q
 
--- the steps ahead have made room for a step of these sides, which was crossed
-pub record IsAdvanced (table : Contents) (cursor : ℕ) (steps : List Step) (sides : List Side) (table' : Contents) (steps' : List Step) (entries : List Entry) : Type 0 where
-  pub left : steps' ≡ take cursor steps
-  pub after : table'.routes ≡ routes_across sides table.routes
-  pub crossing : sides_of entries ≡ sides_across table.routes sides
-  pub kept : IsKept table'.keys (sides_of entries)
-  pub before : AllByRecursion (IsKept table'.keys) (steps_of (take cursor steps))
-  pub held : AreHeld (routed_first (timeline_of cursor (steps_of steps) table.routes)) (trail_of (take cursor steps) ++ marks_of entries ∷ []) table'.keys
+-- the steps behind the cursor can be dropped: a pair that then has no claim has no route
+pub record CanDrop (steps : List (List Mark)) (cursor : ℕ) (held : Pair → ℕ) (routes : Routes) : Type 0 where
+  pub tables : List Routes
+  pub new : Pair → ℕ
+  pub are : AreClaimed steps held tables new
+  pub free : (q : Pair) → claims_along q (take (cursor + 1) tables) + new q ≡ 0 → get routes q ≡ None

@@ -15,8 +15,8 @@ use Rattle.mrt_wire.specs.declared.event.Event.{Event}
 use Rattle.rib_player.specs.declared.pair.Pair.{Pair}
 use Rattle.rib_player.specs.History.{pair_cmp, pair_of}
 use Rattle.rib_player.specs.Tables.{Routes, Pairs, table_after, named_pairs}
-use Rattle.rib_player.specs.Store.{Contents, route_in}
-use Rattle.rib_player.specs.Journal.{Side, pairs_in, routes_across}
+use Rattle.rib_player.specs.Store.{route_in}
+use Rattle.rib_player.specs.Journal.{Side, pairs_in}
 
 -- the side of a slot
 abbrev pub slot_side : Pair × Option (Rc Route Global) → Side
@@ -38,10 +38,6 @@ AreDistinct sides = IsDistinct (eq_by_cmp pair_cmp) (pairs_in sides)
 pub record IsKept (keys : Pairs) (sides : List Side) : Type 0 where
   pub distinct : AreDistinct sides
   pub among_keys : AllByRecursion (λ pair. contains keys pair ≡ true) (pairs_in sides)
-
--- a table behind a step of these sides
-abbrev pub table_across : List Side → Contents → Contents
-table_across sides table = record { keys = table.keys; routes = routes_across sides table.routes }
 
 -- the entries of the step at an index
 abbrev pub sides_at : List (List Side) → ℕ → List Side

@@ -1,15 +1,14 @@
 -- Private.
 -- The pairs that a player wants, and what else is told of it.
-use Rattle.std.specs.Prelude.{◌≡◌, ℕ, Bool, is_some, ◌+◌, ◌≤◌, List, ◌++◌, length, refl}
+use Rattle.std.specs.Prelude.{◌≡◌, ℕ, ◌+◌, ◌≤◌, List, ◌++◌, length, refl}
 use Rattle.std.specs.List.{flat_map, sum_by}
 use Rattle.std.specs.Coded.{Coded, code_by, coded×, coded_ℕ, coded_list}
 use Rattle.std.specs.FinMap as finite
 use Rattle.std.specs.FinSet as set
 use Rattle.mrt_wire.specs.Codes.{coded_route}
-use Rattle.rib_player.specs.declared.pair.Pair.{Pair}
 use Rattle.rib_player.specs.Codes.{coded_pair}
 use Rattle.rib_player.specs.Tables.{Routes, Pairs}
-use Rattle.rib_player.specs.Timeline.{Timeline, end_of, table_at, current}
+use Rattle.rib_player.specs.Timeline.{Timeline, end_of, current}
 
 abbrev pub coded_timeline : Coded Timeline
 coded_timeline =
@@ -24,10 +23,6 @@ wanted t = set.from_list (finite.keys (current t) ++ flat_map set.items t.steps)
 -- how many pairs the kept steps name, in all
 abbrev pub named_count : Timeline → ℕ
 named_count t = sum_by set.len t.steps
-
--- whether the pair has a route before all kept steps
-abbrev pub routed_first : Timeline → Pair → Bool
-routed_first t pair = is_some (finite.get (table_at t t.floor) pair)
 
 -- the cursor stands between the floor and the end, and a table at each position from the floor to the end
 pub record IsWellFormed (t : Timeline) : Type 0 where

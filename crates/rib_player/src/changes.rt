@@ -17,7 +17,6 @@ ghost use Rattle.rib_player.specs.Holding.{slot_at};
 ghost use Rattle.rib_player.specs.Changes.{noted_effect, found, is_lost, or_absent, effect_of, items_effect, HasRoute};
 ghost use Rattle.rib_player.specs.Journal.{side_of, sides_of, pairs_in};
 ghost use Rattle.rib_player.specs.Sides.{cleared_side, slot_side, AreOrdered, IsStepFor};
-ghost use Rattle.rib_player.specs.Clearings.{clearings_of, clearing_then};
 
 use crate::entry::Entry;
 use crate::known::KnownRoutes;
@@ -209,11 +208,8 @@ fn add_cleared(
     found: &[(Prefix, &Rc<Route>)],
     entries: &mut Vec<Entry>,
 ) -> Result<(), AllocError>
-    ensures sides { OnOk result (sides_of entries.new.items ≡ sides_of entries.old.items
+    ensures { OnOk result (sides_of entries.new.items ≡ sides_of entries.old.items
         ++ map (λ f. cleared_side peer.now.value f.0) found.now) }
-    ensures clearings { OnOk result (
-        clearings_of entries.old.items ≡ map clearing_then (sides_of entries.old.items) →
-        clearings_of entries.new.items ≡ map clearing_then (sides_of entries.new.items)) }
 {
     'routes: for entry in found {
         entries.push(Entry::new(alloc, peer.clone()?, &entry.0, None)?)?;
@@ -230,10 +226,8 @@ fn cleared_at_once<'a, S: PrefixStore<Rc<Route>>>(
     room: Vec<(Prefix, &'a Rc<Route>)>,
 ) -> Result<Vec<Entry>, AllocError>
     requires { 0 < vec_capacity room }
-    ensures sides { IfOk result (λ entries. sides_of entries.items
+    ensures { IfOk result (λ entries. sides_of entries.items
         ≡ map (cleared_side peer.now.value) (finite.keys (S.routes store.now))) }
-    ensures clearings { IfOk result (λ entries.
-        clearings_of entries.items ≡ map clearing_then (sides_of entries.items)) }
 {
     let mut entries = Vec::with_capacity(alloc, store.route_count() as usize)?;
     let mut found = room;
@@ -255,10 +249,8 @@ fn cleared_one_by_one<S: PrefixStore<Rc<Route>>>(
     store: &S,
     peer: &Rc<Peer>,
 ) -> Result<Vec<Entry>, AllocError>
-    ensures sides { IfOk result (λ entries. sides_of entries.items
+    ensures { IfOk result (λ entries. sides_of entries.items
         ≡ map (cleared_side peer.now.value) (finite.keys (S.routes store.now))) }
-    ensures clearings { IfOk result (λ entries.
-        clearings_of entries.items ≡ map clearing_then (sides_of entries.items)) }
 {
     let mut entries = Vec::with_capacity(alloc, store.route_count() as usize)?;
     let mut last = None;
@@ -276,10 +268,8 @@ fn cleared_in<S: PrefixStore<Rc<Route>>>(
     store: &S,
     peer: &Rc<Peer>,
 ) -> Result<Vec<Entry>, AllocError>
-    ensures sides { IfOk result (λ entries. sides_of entries.items
+    ensures { IfOk result (λ entries. sides_of entries.items
         ≡ map (cleared_side peer.now.value) (finite.keys (S.routes store.now))) }
-    ensures clearings { IfOk result (λ entries.
-        clearings_of entries.items ≡ map clearing_then (sides_of entries.items)) }
 {
     if let Ok(room) = Vec::with_capacity(alloc, MANY) {
         if let Ok(entries) = cleared_at_once(alloc, store, peer, room) {
@@ -302,8 +292,6 @@ fn lost_entries<S: PrefixStore<Rc<Route>>>(
     ensures absent { IfOk result (λ entries.
         AllByRecursion (λ side. side.1 ≡ None) (sides_of entries.items)) }
     ensures ordered { IfOk result (λ entries. AreOrdered (sides_of entries.items)) }
-    ensures clearings { IfOk result (λ entries.
-        clearings_of entries.items ≡ map clearing_then (sides_of entries.items)) }
 {
     match table.store(peer) {
         Some(store) => cleared_in(alloc, store, &peers.known(peer)?),
@@ -367,8 +355,6 @@ fn entries_of<S: PrefixStore<Rc<Route>>>(
     ensures sides { IfOk result (λ entries. sides_of entries.items
         ≡ filter (λ side. is_some side.1 || is_some (finite.get table.now.routes side.0))
         (map slot_side routes.items)) }
-    ensures clearings { IfOk result (λ entries.
-        clearings_of entries.items ≡ map clearing_then (sides_of entries.items)) }
 {
     let mut entries = Vec::with_capacity(alloc, routes.len())?;
     'routes: for (pair, other) in routes {
@@ -390,10 +376,8 @@ pub(crate) fn step_for<S: PrefixStore<Rc<Route>>>(
     known: &mut KnownRoutes,
     peers: &mut KnownPeers,
 ) -> Result<Vec<Entry>, AllocError>
-    ensures step { IfOk result (λ entries.
+    ensures { IfOk result (λ entries.
         IsStepFor table.now.routes event.now (sides_of entries.items)) }
-    ensures clearings { IfOk result (λ entries.
-        clearings_of entries.items ≡ map clearing_then (sides_of entries.items)) }
 {
     let changes = changes_of(alloc, event, known)?;
     if let Some(peer) = changes.only_loss() {

@@ -1,6 +1,6 @@
 //! The entries of steps, in little memory.
 
-ghost use Rattle.std.specs.Prelude.{◌≡◌, true, not, None, IfOk, OnOk, OnErr};
+ghost use Rattle.std.specs.Prelude.{◌≡◌, true, not, is_some, None, IfOk, OnOk, OnErr};
 ghost use Rattle.std.specs.FinMap as finite;
 ghost use Rattle.std.specs.FinSet as set;
 ghost use Rattle.rib_store.specs.Packed.{v4_network};
@@ -8,6 +8,7 @@ ghost use Rattle.rib_store.specs.Stored.{put};
 ghost use Rattle.rib_player.specs.History.{pair_of};
 ghost use Rattle.rib_player.specs.Store.{route_in};
 ghost use Rattle.rib_player.specs.Kept.{new_entry, pair_kept, other_kept, marks_kept, IsWhole};
+ghost use Rattle.rib_player.specs.Marks.{mark_of, gives_up};
 
 use crate::pair::Pair;
 use crate::table::Table;
@@ -26,14 +27,18 @@ pub(crate) struct Entry {
     kept: Kept,
 }
 
-/// What is told of an entry's pair.
+/// On which sides of its step an entry's pair has a route.
 #[derive(Clone, Copy)]
 struct Marks {
-    /// No kept step before this one names the pair, and it has no route before all of them. So
-    /// its key goes with this step.
-    first: bool,
-    /// The pair has no route behind the step.
-    clears: bool,
+    before: bool,
+    behind: bool,
+}
+
+/// An end of the kept steps, at which one of them goes: the first is forgotten, the last is dropped.
+#[derive(Clone, Copy)]
+pub(crate) enum End {
+    First,
+    Last,
 }
 
 /// A pair with its marks, and the route, where there is one. The entries of a peer share it. An
@@ -70,16 +75,15 @@ impl Model for Entry {
     ghost view = { λ e. record {
       pair = pair_kept e.kept;
       other = other_kept e.kept;
-      first = (marks_kept e.kept).first;
-      clears = (marks_kept e.kept).clears;
+      before = (marks_kept e.kept).before;
+      behind = (marks_kept e.kept).behind;
     } };
 
     ghost invariant = { λ e. IsWhole e.kept };
 }
 
 impl Entry {
-    /// An entry that isn't known to be the first of its pair, with the route that it has behind the
-    /// step.
+    /// An entry that wasn't put yet, with the route that its pair has behind the step.
     pub(crate) fn new(
         alloc: Global,
         peer: Rc<Peer>,
@@ -90,8 +94,8 @@ impl Entry {
             entry ≡ new_entry (pair_of peer.value prefix.now) other) }
     {
         let marks = Marks {
-            first: false,
-            clears: other.is_none(),
+            before: false,
+            behind: false,
         };
         let absent = Kept::absent(alloc, marks, peer, prefix)?;
         Ok(Entry {
@@ -151,43 +155,40 @@ impl Entry {
         }
     }
 
-    /// Whether it is the first of its pair.
+    /// Whether a claim of its pair is given up where its step goes at this end: a forgotten step
+    /// clears the pair, which has a route before it and none behind it; a dropped one brings it.
     #[inline]
-    pub(crate) fn is_first(&self) -> bool
-        ensures { result ≡ self.now.first }
+    pub(crate) fn gives_up(&self, end: End) -> bool
+        ensures { result ≡ gives_up end (mark_of self.now) }
     {
-        self.kept.marks().first
+        let marks = self.kept.marks();
+        match end {
+            End::First => marks.before && !marks.behind,
+            End::Last => !marks.before && marks.behind,
+        }
     }
 
-    /// Whether its pair has no route behind the step.
+    /// Notes on which sides of the step its pair has a route.
     #[inline]
-    pub(crate) fn clears(&self) -> bool
-        ensures { result ≡ self.now.clears }
-    {
-        self.kept.marks().clears
-    }
-
-    /// Notes whether it is the first of its pair.
-    #[inline]
-    pub(crate) fn set_first(&mut self, first: bool)
+    fn set_marks(&mut self, new: Marks)
         ensures { self.new ≡ record {
           pair = self.old.pair;
           other = self.old.other;
-          first = first;
-          clears = self.old.clears;
+          before = new.before;
+          behind = new.behind;
         } }
     {
         match &mut self.kept {
-            Kept::V4Absent(marks, _, _) => marks.first = first,
-            Kept::V4Present(marks, _, _, _) => marks.first = first,
-            Kept::V6Absent(marks, _) => marks.first = first,
-            Kept::V6Present(marks, _, _) => marks.first = first,
+            Kept::V4Absent(marks, _, _) => *marks = new,
+            Kept::V4Present(marks, _, _, _) => *marks = new,
+            Kept::V6Absent(marks, _) => *marks = new,
+            Kept::V6Present(marks, _, _) => *marks = new,
             Kept::Taken => unreachable!(),
         }
     }
 
     /// Its route and the table's change places.
-    #[inline]
+    #[inline(always)]
     pub(crate) fn exchange<S: PrefixStore<Rc<Route>>>(&mut self, table: &mut Table<S>)
         requires { set.contains table.old.keys self.old.pair ≡ true }
         ensures keys { table.new.keys ≡ table.old.keys }
@@ -195,8 +196,8 @@ impl Entry {
             put table.old.routes self.old.pair (route_in self.old.other) }
         ensures given { route_in self.new.other ≡ finite.get table.old.routes self.old.pair }
         ensures pair { self.new.pair ≡ self.old.pair }
-        ensures first { self.new.first ≡ self.old.first }
-        ensures clears { self.new.clears ≡ self.old.clears }
+        ensures before { self.new.before ≡ self.old.before }
+        ensures behind { self.new.behind ≡ self.old.behind }
     {
         let pair = self.pair();
         let (absent, mut other) = replace(&mut self.kept, Kept::Taken).without_route();
@@ -207,31 +208,37 @@ impl Entry {
 
 impl Entry {
     /// Its route and the table's change places, where its pair is made a key if it was none; it
-    /// notes whether it was. Refused, nothing has changed.
+    /// notes on which sides of the step the pair has a route. Answers whether the key is new.
+    /// Refused, nothing has changed.
     #[inline]
     pub(crate) fn put<S: PrefixStore<Rc<Route>>>(
         &mut self,
         table: &mut Table<S>,
-    ) -> Result<(), AllocError>
+    ) -> Result<bool, AllocError>
         ensures keys { OnOk result (table.new.keys ≡ set.insert table.old.keys self.old.pair) }
-        ensures first { OnOk result
-            (self.new.first ≡ not (set.contains table.old.keys self.old.pair)) }
+        ensures made { IfOk result (λ made.
+            made ≡ not (set.contains table.old.keys self.old.pair)) }
+        ensures before { OnOk result
+            (self.new.before ≡ is_some (finite.get table.old.routes self.old.pair)) }
+        ensures behind { OnOk result (self.new.behind ≡ is_some self.old.other) }
         ensures routes { OnOk result (table.new.routes ≡
             put table.old.routes self.old.pair (route_in self.old.other)) }
         ensures given { OnOk result
             (route_in self.new.other ≡ finite.get table.old.routes self.old.pair) }
         ensures pair { self.new.pair ≡ self.old.pair }
-        ensures clears { self.new.clears ≡ self.old.clears }
         ensures refused { OnErr result (table.new.keys ≡ table.old.keys) }
         ensures held { OnErr result (table.new.routes ≡ table.old.routes) }
         ensures kept { OnErr result (self.new ≡ self.old) }
     {
         let pair = self.pair();
         let (absent, mut other) = replace(&mut self.kept, Kept::Taken).without_route();
-        let made = table.put(&pair, &mut other);
+        let behind = other.is_some();
+        let put = table.put(&pair, &mut other);
+        let before = other.is_some();
         self.kept = absent.with_route(other);
-        self.set_first(made?);
-        Ok(())
+        let made = put?;
+        self.set_marks(Marks { before, behind });
+        Ok(made)
     }
 }
 

@@ -1,35 +1,29 @@
 //! The steps that are kept, so that they can be undone and redone.
 
-ghost use Rattle.std.specs.Prelude.{◌≡◌, ◌<◌, ◌≤◌, [], ◌∷◌, ◌||◌, ◌&&◌, true, false, not, is_some, length, take, drop, set, OnOk, OnErr};
-ghost use Rattle.std.specs.Bool.{OnTrue, OnFalse};
+ghost use Rattle.std.specs.Prelude.{◌≡◌, ℕ, List, ◌+◌, ◌<◌, ◌≤◌, ◌||◌, ◌++◌, ◌∷◌, [], true, is_some, length, take, drop, set, None, IfSome, IfNone, OnOk, OnErr};
 ghost use Rattle.std.specs.List.{AllByRecursion, sum_by};
 ghost use Rattle.std.specs.VecDeque.{deque_len, deque_capacity};
-ghost use Rattle.std.specs.Ordering.{eq_by_cmp};
 ghost use Rattle.std.specs.FinMap as finite;
 ghost use Rattle.std.specs.FinSet as names;
 ghost use Rattle.rib_store.specs.Stored.{counted};
 ghost use Rattle.rib_store.specs.Contents.{AreAmong};
 ghost use Rattle.rib_player.specs.declared.pair.Pair.{Pair};
-ghost use Rattle.rib_player.specs.History.{pair_cmp};
-ghost use Rattle.rib_player.specs.Journal.{sides_of, steps_of, routes_across};
-ghost use Rattle.rib_player.specs.Tables.{Pairs};
-ghost use Rattle.rib_player.specs.Sides.{sides_at, sides_across, table_across, IsKept, AreDistinct, AreOrdered};
-ghost use Rattle.rib_player.specs.Marks.{marks_of, trail_of, entry_count, named_by, marked, AreFirst, IsExact, CanLeave, LeavesExact, any_named, marks_at, marked_first};
-ghost use Rattle.rib_player.specs.Played.{IsPlayed, IsAdvanced};
-ghost use Rattle.rib_player.specs.Clearings.{clearing_of, clearings_of, clearings_by_step, is_cleared, cleared_by, any_cleared, CanForget, ForgetsExact};
-ghost use Rattle.rib_player.specs.Digests.{AreDigestsOf};
-ghost use Rattle.rib_player.specs.Groups.{names_in, AreGroups};
+ghost use Rattle.rib_player.specs.declared.entry.End.TheVariants.{Last};
+ghost use Rattle.rib_player.specs.Tables.{Routes};
+ghost use Rattle.rib_player.specs.Claims.{one_if, claims_beyond, held_claims, AreHeld};
+ghost use Rattle.rib_player.specs.Journal.{Side, sides_of, steps_of, routes_across};
+ghost use Rattle.rib_player.specs.Sides.{sides_at, sides_across, IsKept, AreDistinct};
+ghost use Rattle.rib_player.specs.Marks.{marks_of, marks_by_step, marks_across, gives_up_by, entry_count};
+ghost use Rattle.rib_player.specs.Played.{AreClaimed, CanDrop};
 
+use crate::claims::{Claims, give_up_claims, put_entry};
 use crate::descents::{ENTRIES_AT_ONCE, reach_entries};
-use crate::digest::{Digest, bits_of, next_place};
-use crate::entry::Entry;
-use crate::groups::Groups;
+use crate::entry::{End, Entry};
 use crate::known::KnownRoutes;
-use crate::pair::Pair;
 use crate::table::Table;
 use mrt_wire::Route;
 use rib_store::PrefixStore;
-use std::alloc::AllocError;
+use std::alloc::{AllocError, Global};
 use std::collections::VecDeque;
 use std::rc::Rc;
 
@@ -38,6 +32,22 @@ use std::rc::Rc;
 pub(crate) struct Step {
     pub(crate) entries: Vec<Entry>,
 }
+
+/// The steps that are kept, and a cursor between them.
+#[derive(Drop)]
+pub(crate) struct Journal {
+    pub(crate) steps: VecDeque<Step>,
+    /// How many of them stand before the cursor.
+    pub(crate) cursor: usize,
+    /// How many were forgotten.
+    pub(crate) floor: u64,
+}
+
+/// How many times as many steps as are kept there may be room for, before some is given back.
+const MOST_TIMES: usize = 4;
+
+/// For how many steps there may be room, however few are kept.
+const LEAST_ROOM: usize = 1024;
 
 /// How many pairs the steps from the index on name, in all.
 pub(crate) fn named_from(steps: &VecDeque<Step>, start: usize) -> u64
@@ -58,7 +68,6 @@ pub(crate) fn cross<S: PrefixStore<Rc<Route>>>(table: &mut Table<S>, entries: &m
     ensures routes { table.new.routes ≡ routes_across (sides_of entries.old) table.old.routes }
     ensures entries { sides_of entries.new ≡ sides_across table.old.routes (sides_of entries.old) }
     ensures marks { marks_of entries.new ≡ marks_of entries.old }
-    ensures clearings { clearings_of entries.new ≡ clearings_of entries.old }
 {
     let mut passed = 0u64;
     'entries: for index in 0..entries.len() {
@@ -77,93 +86,68 @@ pub(crate) fn cross_step<S: PrefixStore<Rc<Route>>>(
     index: usize,
 )
     requires within { index < length steps.old.items }
-    requires kept { AllByRecursion (IsKept table.old.keys) (steps_of steps.old.items) }
+    requires kept { IsKept table.old.keys (sides_at (steps_of steps.old.items) index) }
     ensures keys { table.new.keys ≡ table.old.keys }
     ensures routes { table.new.routes ≡
         routes_across (sides_at (steps_of steps.old.items) index) table.old.routes }
     ensures steps { steps_of steps.new.items ≡ set (steps_of steps.old.items) index
         (sides_across table.old.routes (sides_at (steps_of steps.old.items) index)) }
-    ensures trail { trail_of steps.new.items ≡ trail_of steps.old.items }
-    ensures clearings { clearings_by_step steps.new.items ≡ clearings_by_step steps.old.items }
+    ensures marks { marks_by_step steps.new.items ≡ marks_by_step steps.old.items }
 {
     let step = &mut steps[index];
     cross(table, step.entries.as_mut_slice());
 }
 
-/// Marks the pair's entry as the first that names it, and answers whether there is one.
-fn mark(entries: &mut [Entry], pair: &Pair) -> bool
-    requires ordered { AreOrdered (sides_of entries.old) }
-    ensures found { result ≡ named_by (marks_of entries.old) pair.now }
-    ensures marks { marks_of entries.new ≡ marked pair.now (marks_of entries.old) }
-    ensures sides { sides_of entries.new ≡ sides_of entries.old }
-    ensures clearings { clearings_of entries.new ≡ clearings_of entries.old }
-{
-    match entries.binary_search_by_key(pair, |entry| entry.pair()) {
-        Ok(index) => {
-            entries[index].set_first(true);
-            true
-        }
-        Err(_) => false,
-    }
-}
-
-/// Drops the keys that go with the entries of a step that is dropped, but for those of the pairs
-/// that the last step names: these are then marked there.
-pub(crate) fn release<S: PrefixStore<Rc<Route>>>(
+/// Undoes what putting entries did: crosses them back, and gives up their claims.
+fn take_back<S: PrefixStore<Rc<Route>>>(
     table: &mut Table<S>,
-    gone: &[Entry],
-    last: &mut [Entry],
+    claims: &mut Claims,
+    entries: &mut [Entry],
 )
-    requires distinct { AreDistinct (sides_of gone.now) }
-    requires ordered { AreOrdered (sides_of last.old) }
-    requires exact { CanLeave (marks_of gone.now ∷ []) (marks_of last.old) table.old }
-    ensures exact { LeavesExact (marks_of gone.now ∷ []) (marks_of last.old) table.old
-        (marks_of last.new) table.new }
-    ensures routes { table.new.routes ≡ table.old.routes }
-    ensures sides { sides_of last.new ≡ sides_of last.old }
-    ensures clearings { clearings_of last.new ≡ clearings_of last.old }
-{
-    'entries: for entry in gone {
-        let pair = entry.pair();
-        if entry.is_first() && !mark(last, &pair) {
-            table.discard(&pair);
-        }
-    }
-}
-
-/// Undoes what putting entries did: crosses them back, and drops the keys that are marked as new.
-fn take_back<S: PrefixStore<Rc<Route>>>(table: &mut Table<S>, entries: &mut [Entry])
     requires kept { IsKept table.old.keys (sides_of entries.old) }
-    requires exact { CanLeave (marks_of entries.old ∷ []) []
-        (table_across (sides_of entries.old) table.old) }
-    ensures keys { (keys : Pairs) → IsExact (names.contains keys) (marks_of entries.old ∷ []) []
-        table.old.keys (routes_across (sides_of entries.old) table.old.routes) →
-        table.new.keys ≡ keys }
+    requires held { AreHeld table.old.keys (claims_beyond claims.old) }
+    requires free { (q : Pair) → gives_up_by Last (marks_of entries.old) q ≡ true →
+        finite.get (routes_across (sides_of entries.old) table.old.routes) q ≡ None }
+    requires keys { (q : Pair) → gives_up_by Last (marks_of entries.old) q ≡ true →
+        names.contains table.old.keys q ≡ true }
+    ensures held { AreHeld table.new.keys (claims_beyond claims.new) }
+    ensures claimed { (q : Pair) → held_claims table.new.keys (claims_beyond claims.new) q
+        + one_if (gives_up_by Last (marks_of entries.old) q)
+        ≡ held_claims table.old.keys (claims_beyond claims.old) q }
     ensures routes { table.new.routes ≡ routes_across (sides_of entries.old) table.old.routes }
-    ensures clearings { clearings_of entries.new ≡ clearings_of entries.old }
 {
     cross(table, entries);
-    release(table, entries, &mut []);
+    give_up_claims(table, claims, entries, End::Last);
 }
 
-/// Goes from one side of a new step to the other. Each entry's pair is made a key of the table, and
-/// those that are new are marked. Refused, it takes back what it did.
+/// Goes from one side of a new step to the other, with the claims that it makes. Refused, it takes
+/// back what it did.
 pub(crate) fn put_entries<S: PrefixStore<Rc<Route>>>(
     table: &mut Table<S>,
+    claims: &mut Claims,
     entries: &mut [Entry],
 ) -> Result<(), AllocError>
     requires distinct { AreDistinct (sides_of entries.old) }
-    requires free { AreAmong table.old.keys table.old.routes }
-    ensures keys { OnOk result ((q : Pair) → names.contains table.new.keys q
-        ≡ (names.contains table.old.keys q || named_by (marks_of entries.new) q)) }
-    ensures marks { OnOk result (AreFirst (names.contains table.old.keys) (marks_of entries.new)) }
+    requires held { AreHeld table.old.keys (claims_beyond claims.old) }
+    requires among { AreAmong table.old.keys table.old.routes }
+    requires named { AllByRecursion (λ side.
+        (is_some (finite.get table.old.routes side.0) || is_some side.1) ≡ true)
+        (sides_of entries.old) }
+    ensures held { AreHeld table.new.keys (claims_beyond claims.new) }
+    ensures claimed { OnOk result ((q : Pair) →
+        held_claims table.new.keys (claims_beyond claims.new) q
+        ≡ held_claims table.old.keys (claims_beyond claims.old) q
+        + one_if (gives_up_by Last (marks_of entries.new) q)) }
+    ensures marks { OnOk result
+        (marks_of entries.new ≡ marks_across table.old.routes (sides_of entries.old)) }
     ensures routes { OnOk result
         (table.new.routes ≡ routes_across (sides_of entries.old) table.old.routes) }
     ensures sides { OnOk result
         (sides_of entries.new ≡ sides_across table.old.routes (sides_of entries.old)) }
-    ensures clearings { clearings_of entries.new ≡ clearings_of entries.old }
-    ensures refused { OnErr result (table.new.keys ≡ table.old.keys) }
-    ensures held { OnErr result (table.new.routes ≡ table.old.routes) }
+    ensures refused { OnErr result ((q : Pair) →
+        held_claims table.new.keys (claims_beyond claims.new) q
+        ≡ held_claims table.old.keys (claims_beyond claims.old) q) }
+    ensures kept { OnErr result (table.new.routes ≡ table.old.routes) }
 {
     let mut made = 0;
     let mut passed = 0u64;
@@ -171,8 +155,8 @@ pub(crate) fn put_entries<S: PrefixStore<Rc<Route>>>(
         if entries.len() > 1 {
             passed = passed.wrapping_add(reach_entries(table, entries, made));
         }
-        if let Err(refused) = entries[made].put(table) {
-            take_back(table, &mut entries[..made]);
+        if let Err(refused) = put_entry(table, claims, &mut entries[made]) {
+            take_back(table, claims, &mut entries[..made]);
             return Err(refused);
         }
         made += 1;
@@ -190,218 +174,64 @@ pub(crate) fn let_go_of(known: &mut KnownRoutes, step: Step) {
     }
 }
 
-/// Drops the steps from the index on, with the keys that go with them but for those of the last
-/// step.
-pub(crate) fn drop_ahead<S: PrefixStore<Rc<Route>>>(
-    table: &mut Table<S>,
-    steps: &mut VecDeque<Step>,
-    index: usize,
-    last: &mut [Entry],
-    known: &mut KnownRoutes,
-)
-    requires within { index ≤ length steps.old.items }
-    requires distinct { AllByRecursion AreDistinct (steps_of steps.old.items) }
-    requires ordered { AreOrdered (sides_of last.old) }
-    requires exact { CanLeave (trail_of (drop index steps.old.items)) (marks_of last.old)
-        table.old }
-    ensures exact { LeavesExact (trail_of (drop index steps.old.items)) (marks_of last.old)
-        table.old (marks_of last.new) table.new }
-    ensures routes { table.new.routes ≡ table.old.routes }
-    ensures sides { sides_of last.new ≡ sides_of last.old }
-    ensures clearings { clearings_of last.new ≡ clearings_of last.old }
-    ensures steps { steps.new.items ≡ take index steps.old.items }
-    ensures capacity { deque_capacity steps.new ≡ deque_capacity steps.old }
-{
-    'steps: while steps.len() > index {
-        if let Some(step) = steps.pop_back() {
-            release(table, &step.entries, last);
-            let_go_of(known, step);
+impl Journal {
+    /// No steps.
+    pub(crate) fn new(alloc: Global) -> Journal
+        ensures steps { result.steps.items ≡ [] }
+        ensures cursor { result.cursor ≡ 0 }
+        ensures floor { result.floor ≡ 0 }
+    {
+        Journal {
+            steps: VecDeque::new(alloc),
+            cursor: 0,
+            floor: 0,
         }
     }
-}
 
-/// Goes over a new step, with the keys that it wants, and drops the steps from the index on. Refused,
-/// nothing has changed.
-pub(crate) fn advance<S: PrefixStore<Rc<Route>>>(
-    table: &mut Table<S>,
-    steps: &mut VecDeque<Step>,
-    index: usize,
-    entries: &mut [Entry],
-    known: &mut KnownRoutes,
-) -> Result<(), AllocError>
-    requires played { IsPlayed table.old.keys table.old.routes index steps.old.items }
-    requires ordered { AreOrdered (sides_of entries.old) }
-    ensures advanced { OnOk result (IsAdvanced table.old index steps.old.items
-        (sides_of entries.old) table.new steps.new.items entries.new) }
-    ensures keys { OnErr result (table.new.keys ≡ table.old.keys) }
-    ensures routes { OnErr result (table.new.routes ≡ table.old.routes) }
-    ensures clearings { clearings_of entries.new ≡ clearings_of entries.old }
-    ensures steps { OnErr result (steps.new.items ≡ steps.old.items) }
-    ensures capacity { deque_capacity steps.new ≡ deque_capacity steps.old }
-{
-    put_entries(table, entries)?;
-    drop_ahead(table, steps, index, entries, known);
-    Ok(())
-}
-
-/// Marks the pair's entry in the step at the index, and answers whether there is one.
-fn mark_in_step(steps: &mut VecDeque<Step>, index: usize, pair: &Pair) -> bool
-    requires within { index < length steps.old.items }
-    requires ordered { AllByRecursion AreOrdered (steps_of steps.old.items) }
-    ensures found { result ≡ named_by (marks_at (trail_of steps.old.items) index) pair.now }
-    ensures trail { trail_of steps.new.items ≡ set (trail_of steps.old.items) index
-        (marked pair.now (marks_at (trail_of steps.old.items) index)) }
-    ensures steps { steps_of steps.new.items ≡ steps_of steps.old.items }
-    ensures clearings { clearings_by_step steps.new.items ≡ clearings_by_step steps.old.items }
-{
-    let step = &mut steps[index];
-    mark(step.entries.as_mut_slice(), pair)
-}
-
-/// Marks the pair's entry in the first of some steps that names it, where none before them does, and
-/// answers whether one does. Steps whose digest tells that they can't name it are passed by.
-fn mark_between(
-    steps: &mut VecDeque<Step>,
-    digests: &VecDeque<Digest>,
-    start: usize,
-    end: usize,
-    pair: &Pair,
-) -> bool
-    requires order { start ≤ end }
-    requires within { end ≤ length steps.old.items }
-    requires ordered { AllByRecursion AreOrdered (steps_of steps.old.items) }
-    requires digests { AreDigestsOf digests.now.items (trail_of steps.old.items) }
-    requires before { any_named (take start (trail_of steps.old.items)) pair.now ≡ false }
-    ensures found { OnTrue result (any_named (trail_of steps.old.items) pair.now ≡ true) }
-    ensures none { OnFalse result
-        (any_named (take end (trail_of steps.old.items)) pair.now ≡ false) }
-    ensures trail { OnTrue result
-        (trail_of steps.new.items ≡ marked_first pair.now (trail_of steps.old.items)) }
-    ensures kept { OnFalse result (trail_of steps.new.items ≡ trail_of steps.old.items) }
-    ensures steps { steps_of steps.new.items ≡ steps_of steps.old.items }
-    ensures clearings { clearings_by_step steps.new.items ≡ clearings_by_step steps.old.items }
-{
-    let bits = bits_of(pair);
-    let mut place = next_place(digests, start, end, bits);
-    'steps: while place < end {
-        if mark_in_step(steps, place, pair) {
-            return true;
+    /// Makes room for a step more. What is too much for the steps that are kept is given back.
+    pub(crate) fn make_room(&mut self) -> Result<(), AllocError>
+        ensures room { OnOk result (deque_len self.new.steps < deque_capacity self.new.steps) }
+        ensures steps { self.new.steps.items ≡ self.old.steps.items }
+        ensures cursor { self.new.cursor ≡ self.old.cursor }
+        ensures floor { self.new.floor ≡ self.old.floor }
+    {
+        let kept = self.steps.len().max(LEAST_ROOM);
+        if self.steps.capacity() / MOST_TIMES > kept {
+            self.steps.shrink_to(kept);
         }
-        place = next_place(digests, place + 1, end, bits);
+        self.steps.reserve(1)
     }
-    false
-}
 
-/// Marks the pair's entry in the first of the steps that names it, and answers whether one does.
-/// Groups of steps that can't name it are passed by.
-fn mark_first(
-    steps: &mut VecDeque<Step>,
-    digests: &VecDeque<Digest>,
-    groups: &Groups,
-    pair: &Pair,
-) -> bool
-    requires ordered { AllByRecursion AreOrdered (steps_of steps.old.items) }
-    requires digests { AreDigestsOf digests.now.items (trail_of steps.old.items) }
-    requires groups { AreGroups groups.now (names_in (trail_of steps.old.items)) }
-    ensures found { result ≡ any_named (trail_of steps.old.items) pair.now }
-    ensures trail { trail_of steps.new.items ≡ marked_first pair.now (trail_of steps.old.items) }
-    ensures steps { steps_of steps.new.items ≡ steps_of steps.old.items }
-    ensures clearings { clearings_by_step steps.new.items ≡ clearings_by_step steps.old.items }
-{
-    let mut start = 0;
-    'groups: for index in 0..groups.groups.len() {
-        let group = &groups.groups[index];
-        let end = start + group.count;
-        if group.may_name(pair) && mark_between(steps, digests, start, end, pair) {
-            return true;
+    /// Drops the steps behind the cursor, with their claims.
+    pub(crate) fn drop_ahead<S: PrefixStore<Rc<Route>>>(
+        &mut self,
+        table: &mut Table<S>,
+        claims: &mut Claims,
+        known: &mut KnownRoutes,
+    )
+        requires within { self.old.cursor ≤ length self.old.steps.items }
+        requires distinct { AllByRecursion AreDistinct (steps_of self.old.steps.items) }
+        requires held { AreHeld table.old.keys (claims_beyond claims.old) }
+        requires claimed { CanDrop (marks_by_step self.old.steps.items) self.old.cursor
+            (held_claims table.old.keys (claims_beyond claims.old)) table.old.routes }
+        ensures held { AreHeld table.new.keys (claims_beyond claims.new) }
+        ensures claimed { (tables : List Routes) (new : Pair → ℕ) →
+            AreClaimed (marks_by_step self.old.steps.items)
+            (held_claims table.old.keys (claims_beyond claims.old)) tables new →
+            AreClaimed (marks_by_step self.new.steps.items)
+            (held_claims table.new.keys (claims_beyond claims.new))
+            (take (self.old.cursor + 1) tables) new }
+        ensures routes { table.new.routes ≡ table.old.routes }
+        ensures steps { self.new.steps.items ≡ take self.old.cursor self.old.steps.items }
+        ensures capacity { deque_capacity self.new.steps ≡ deque_capacity self.old.steps }
+        ensures cursor { self.new.cursor ≡ self.old.cursor }
+        ensures floor { self.new.floor ≡ self.old.floor }
+    {
+        'steps: while self.steps.len() > self.cursor {
+            if let Some(step) = self.steps.pop_back() {
+                give_up_claims(table, claims, &step.entries, End::Last);
+                let_go_of(known, step);
+            }
         }
-        start = end;
-    }
-    let end = steps.len();
-    mark_between(steps, digests, start, end, pair)
-}
-
-/// Lets go of what the entries of a forgotten step want: of a pair that it left without a route
-/// the first kept step that names it is marked, and where none does its key is dropped.
-pub(crate) fn forget_entries<S: PrefixStore<Rc<Route>>>(
-    table: &mut Table<S>,
-    steps: &mut VecDeque<Step>,
-    digests: &VecDeque<Digest>,
-    groups: &Groups,
-    forgotten: &[Entry],
-)
-    requires distinct { AreDistinct (sides_of forgotten.now) }
-    requires ordered { AllByRecursion AreOrdered (steps_of steps.old.items) }
-    requires digests { AreDigestsOf digests.now.items (trail_of steps.old.items) }
-    requires groups { AreGroups groups.now (names_in (trail_of steps.old.items)) }
-    requires exact { CanForget (clearings_of forgotten.now) (trail_of steps.old.items) table.old }
-    ensures exact { ForgetsExact (clearings_of forgotten.now) (trail_of steps.old.items) table.old
-        (trail_of steps.new.items) table.new }
-    ensures routes { table.new.routes ≡ table.old.routes }
-    ensures steps { steps_of steps.new.items ≡ steps_of steps.old.items }
-    ensures clearings { clearings_by_step steps.new.items ≡ clearings_by_step steps.old.items }
-    ensures digests { AreDigestsOf digests.now.items (trail_of steps.new.items) }
-    ensures groups { AreGroups groups.now (names_in (trail_of steps.new.items)) }
-{
-    'entries: for entry in forgotten {
-        let pair = entry.pair();
-        if entry.clears() && !mark_first(steps, digests, groups, &pair) {
-            table.discard(&pair);
-        }
-    }
-}
-
-/// Drops the key of a pair, where it is one, unless it has a route.
-fn drop_free_key<S: PrefixStore<Rc<Route>>>(table: &mut Table<S>, pair: &Pair)
-    ensures keys { (q : Pair) → names.contains table.new.keys q ≡ (names.contains table.old.keys q
-        && (is_some (finite.get table.old.routes q) || not (eq_by_cmp pair_cmp q pair.now))) }
-    ensures routes { table.new.routes ≡ table.old.routes }
-{
-    if table.route(pair).is_none() && table.has_key(pair) {
-        table.discard(pair);
-    }
-}
-
-/// Drops the key of an entry's pair, where the step left it without a route and it has none now.
-fn drop_cleared_key<S: PrefixStore<Rc<Route>>>(table: &mut Table<S>, entry: &Entry)
-    ensures keys { (q : Pair) → names.contains table.new.keys q ≡ (names.contains table.old.keys q
-        && (is_some (finite.get table.old.routes q) || not (is_cleared q (clearing_of entry.now)))) }
-    ensures routes { table.new.routes ≡ table.old.routes }
-{
-    if entry.clears() {
-        drop_free_key(table, &entry.pair());
-    }
-}
-
-/// Drops the keys of those pairs that a step left without a route and that have none now.
-fn drop_cleared_keys<S: PrefixStore<Rc<Route>>>(table: &mut Table<S>, forgotten: &[Entry])
-    ensures keys { (q : Pair) → names.contains table.new.keys q ≡ (names.contains table.old.keys q
-        && (is_some (finite.get table.old.routes q)
-        || not (cleared_by (clearings_of forgotten.now) q))) }
-    ensures routes { table.new.routes ≡ table.old.routes }
-{
-    'entries: for entry in forgotten {
-        drop_cleared_key(table, entry);
-    }
-}
-
-/// Forgets all steps, where each key has a route or one of them left it without: so just the keys
-/// with a route stay.
-pub(crate) fn forget_steps<S: PrefixStore<Rc<Route>>>(
-    table: &mut Table<S>,
-    steps: &mut VecDeque<Step>,
-    known: &mut KnownRoutes,
-)
-    requires { (q : Pair) → names.contains table.old.keys q
-        ≡ (is_some (finite.get table.old.routes q)
-        || any_cleared (clearings_by_step steps.old.items) q) }
-    ensures keys { (q : Pair) → names.contains table.new.keys q
-        ≡ is_some (finite.get table.old.routes q) }
-    ensures routes { table.new.routes ≡ table.old.routes }
-    ensures steps { steps.new.items ≡ [] }
-{
-    'steps: while let Some(step) = steps.pop_front() {
-        drop_cleared_keys(table, &step.entries);
-        let_go_of(known, step);
     }
 }

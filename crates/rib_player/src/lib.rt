@@ -2,10 +2,10 @@
 #![tactic(auto)]
 
 mod changes;
+mod claims;
+mod counts;
 mod descents;
-mod digest;
 mod entry;
-mod groups;
 mod journal;
 mod known;
 mod known_peers;

@@ -8,19 +8,16 @@ ghost use Rattle.rib_player.specs.Calls.{fresh, after_undo, after_redo, without_
 ghost use Rattle.rib_player.specs.Wanted.{wanted, named_count, IsWellFormed};
 
 use crate::changes::step_for;
+use crate::claims::{Claims, give_up_claims};
 use crate::descents::{Reached, reach_ahead, reach_back};
-use crate::digest::Digest;
-use crate::groups::Groups;
-use crate::journal::{
-    Step, advance, cross_step, forget_entries, forget_steps, let_go_of, named_from,
-};
+use crate::entry::End;
+use crate::journal::{Journal, Step, cross_step, let_go_of, named_from, put_entries};
 use crate::known::KnownRoutes;
 use crate::known_peers::KnownPeers;
 use crate::table::Table;
 use mrt_wire::{Event, Route};
 use rib_store::PrefixStore;
 use std::alloc::{AllocError, Global};
-use std::collections::VecDeque;
 use std::marker::Model;
 use std::rc::Rc;
 use thiserror::Error;
@@ -44,16 +41,10 @@ pub struct Nothing;
 pub struct Player<S: PrefixStore<Rc<Route>>> {
     alloc: Global,
     table: Table<S>,
-    /// The steps that are kept.
-    steps: VecDeque<Step>,
-    /// What each of them names, in short. They stand apart, so that a search goes over them alone.
-    digests: VecDeque<Digest>,
-    /// The same of many of them at once.
-    groups: Groups,
-    /// How many of them stand before the cursor.
-    cursor: usize,
-    /// How many were forgotten.
-    floor: u64,
+    /// The steps that are kept, and the cursor.
+    journal: Journal,
+    /// What pairs are claimed besides the table's keys.
+    claims: Claims,
     /// The routes of steps, so that equal ones are one.
     known: KnownRoutes,
     /// The peers of steps, alike.
@@ -72,20 +63,17 @@ impl<S: PrefixStore<Rc<Route>>> Model for Player<S> {
 
     ghost use Rattle.std.specs.Prelude.{◌+◌, ◌≤◌, length};
     ghost use Rattle.rib_store.specs.declared.store.TheConstants.{GREATEST_COUNT};
+    ghost use Rattle.rib_player.specs.Claims.{claims_beyond};
     ghost use Rattle.rib_player.specs.Journal.{timeline_of, behind_forgotten, steps_of};
-    ghost use Rattle.rib_player.specs.Marks.{trail_of};
     ghost use Rattle.rib_player.specs.Played.{IsPlayed};
-    ghost use Rattle.rib_player.specs.Digests.{AreDigestsOf};
-    ghost use Rattle.rib_player.specs.Groups.{names_in, AreGroups};
 
-    ghost view = { λ a. behind_forgotten a.floor
-        (timeline_of a.cursor (steps_of a.steps.items) a.table.routes) };
+    ghost view = { λ a. behind_forgotten a.journal.floor
+        (timeline_of a.journal.cursor (steps_of a.journal.steps.items) a.table.routes) };
 
     ghost invariant = { λ a. record {
-      played : IsPlayed a.table.keys a.table.routes a.cursor a.steps.items;
-      counted : a.floor + length a.steps.items ≤ GREATEST_COUNT;
-      digests : AreDigestsOf a.digests.items (trail_of a.steps.items);
-      groups : AreGroups a.groups (names_in (trail_of a.steps.items));
+      played : IsPlayed a.table.keys (claims_beyond a.claims) a.table.routes
+          a.journal.cursor a.journal.steps.items;
+      counted : a.journal.floor + length a.journal.steps.items ≤ GREATEST_COUNT;
     } };
 }
 
@@ -97,11 +85,8 @@ impl<S: PrefixStore<Rc<Route>>> Player<S> {
         Player {
             alloc,
             table: Table::new(alloc),
-            steps: VecDeque::new(alloc),
-            digests: VecDeque::new(alloc),
-            groups: Groups::new(alloc),
-            cursor: 0,
-            floor: 0,
+            journal: Journal::new(alloc),
+            claims: Claims::new(alloc),
             known: KnownRoutes::new(alloc),
             peers: KnownPeers::new(alloc),
             reached: Reached::nowhere(),
@@ -113,28 +98,28 @@ impl<S: PrefixStore<Rc<Route>>> Player<S> {
         ensures cursor { result ≡ self.now.cursor }
         ensures well_formed { IsWellFormed self.now }
     {
-        self.floor + self.cursor as u64
+        self.journal.floor + self.journal.cursor as u64
     }
 
     /// How many steps were forgotten: the lowest position that it can go back to.
     pub fn floor(&self) -> u64
         ensures { result ≡ self.now.floor }
     {
-        self.floor
+        self.journal.floor
     }
 
     /// How many steps stand after the cursor.
     pub fn ahead(&self) -> u64
         ensures { result ≡ ahead_of self.now }
     {
-        (self.steps.len() - self.cursor) as u64
+        (self.journal.steps.len() - self.journal.cursor) as u64
     }
 
     /// How many pairs of a peer and a prefix the kept steps name, in all; `u64::MAX` where more.
     pub fn named(&self) -> u64
         ensures { result ≡ counted (named_count self.now) }
     {
-        named_from(&self.steps, 0)
+        named_from(&self.journal.steps, 0)
     }
 
     /// The table at the cursor.
@@ -165,12 +150,21 @@ impl<S: PrefixStore<Rc<Route>>> Player<S> {
         ensures after_undo { self.new ≡ after_undo self.old }
         ensures can { IsOk result ↔ (self.old.floor < self.old.cursor) }
     {
-        if self.cursor == 0 {
+        if self.journal.cursor == 0 {
             return Err(Nothing);
         }
-        reach_back(&mut self.table, &self.steps, self.cursor, &mut self.reached);
-        self.cursor -= 1;
-        cross_step(&mut self.table, &mut self.steps, self.cursor);
+        reach_back(
+            &mut self.table,
+            &self.journal.steps,
+            self.journal.cursor,
+            &mut self.reached,
+        );
+        self.journal.cursor -= 1;
+        cross_step(
+            &mut self.table,
+            &mut self.journal.steps,
+            self.journal.cursor,
+        );
         Ok(())
     }
 
@@ -179,12 +173,21 @@ impl<S: PrefixStore<Rc<Route>>> Player<S> {
         ensures after_redo { self.new ≡ after_redo self.old }
         ensures can { IsOk result ↔ (self.old.cursor < end_of self.old) }
     {
-        if self.cursor == self.steps.len() {
+        if self.journal.cursor == self.journal.steps.len() {
             return Err(Nothing);
         }
-        reach_ahead(&mut self.table, &self.steps, self.cursor, &mut self.reached);
-        cross_step(&mut self.table, &mut self.steps, self.cursor);
-        self.cursor += 1;
+        reach_ahead(
+            &mut self.table,
+            &self.journal.steps,
+            self.journal.cursor,
+            &mut self.reached,
+        );
+        cross_step(
+            &mut self.table,
+            &mut self.journal.steps,
+            self.journal.cursor,
+        );
+        self.journal.cursor += 1;
         Ok(())
     }
 }
@@ -204,22 +207,13 @@ impl<S: PrefixStore<Rc<Route>>> Player<S> {
             &mut self.known,
             &mut self.peers,
         )?;
-        self.steps.reserve(1)?;
-        self.digests.reserve(1)?;
-        let dropped = self.steps.len() - self.cursor;
-        advance(
-            &mut self.table,
-            &mut self.steps,
-            self.cursor,
-            entries.as_mut_slice(),
-            &mut self.known,
-        )?;
-        let digest = Digest::of(&entries);
-        self.groups.note(self.alloc, self.cursor, &entries);
-        self.steps.push_back_reserved(Step { entries });
-        self.digests.truncate(self.cursor);
-        self.digests.push_back_reserved(digest);
-        self.cursor += 1;
+        self.journal.make_room()?;
+        let dropped = self.journal.steps.len() - self.journal.cursor;
+        put_entries(&mut self.table, &mut self.claims, entries.as_mut_slice())?;
+        self.journal
+            .drop_ahead(&mut self.table, &mut self.claims, &mut self.known);
+        self.journal.steps.push_back_reserved(Step { entries });
+        self.journal.cursor += 1;
         Ok(dropped as u64)
     }
 
@@ -228,33 +222,12 @@ impl<S: PrefixStore<Rc<Route>>> Player<S> {
         requires { self.old.floor < self.old.cursor }
         ensures { self.new ≡ without_first 1 self.old }
     {
-        if let Some(step) = self.steps.pop_front() {
-            self.digests.pop_front();
-            self.groups.drop_first();
-            forget_entries(
-                &mut self.table,
-                &mut self.steps,
-                &self.digests,
-                &self.groups,
-                &step.entries,
-            );
-            self.cursor -= 1;
-            self.floor += 1;
+        if let Some(step) = self.journal.steps.pop_front() {
+            give_up_claims(&mut self.table, &mut self.claims, &step.entries, End::First);
+            self.journal.cursor -= 1;
+            self.journal.floor += 1;
             let_go_of(&mut self.known, step);
         }
-    }
-
-    /// Forgets all steps, where none is ahead. What some step left without a route is looked up,
-    /// and nothing is searched.
-    fn forget_all(&mut self)
-        requires { self.old.cursor ≡ end_of self.old }
-        ensures { self.new ≡ without_first (behind self.old) self.old }
-    {
-        forget_steps(&mut self.table, &mut self.steps, &mut self.known);
-        self.digests.clear();
-        self.groups.clear();
-        self.floor += self.cursor as u64;
-        self.cursor = 0;
     }
 
     /// Forgets the oldest steps, so that at most so many are kept before the cursor, and answers
@@ -273,11 +246,7 @@ impl<S: PrefixStore<Rc<Route>>> Player<S> {
         ensures after_forget { self.new ≡ after_forget self.old keep }
         ensures forgotten { result ≡ forgettable self.old keep }
     {
-        let count = (self.cursor as u64).saturating_sub(keep);
-        if count == self.steps.len() as u64 {
-            self.forget_all();
-            return count;
-        }
+        let count = (self.journal.cursor as u64).saturating_sub(keep);
         'steps: for _ in 0..count {
             self.forget_first();
         }

@@ -1,9 +1,15 @@
 //! Numbers that equal routes share, and others mostly don't.
 
-use crate::digest::{MULTIPLIER, four_octets};
+ghost use Rattle.std.specs.Prelude.{◌+◌, ◌≤◌};
+ghost use Rattle.ip_prefix.specs.Address.{octet_count};
+
 use bgp_wire::{Aggregator, Origin, Segment};
 use ip_prefix::{Addr, Family};
 use mrt_wire::Route;
+
+/// By which a number is multiplied so that the highest bits of the product hang on all of it: the
+/// odd number next to 2^64 divided by the golden ratio.
+const MULTIPLIER: u64 = 0x9e37_79b9_7f4a_7c15;
 
 /// How far a hash is turned before another number is mixed in.
 const TURN: u32 = 5;
@@ -27,6 +33,19 @@ fn with_number(hash: u64, number: Option<u32>) -> u64 {
         Some(number) => mixed(hash, u64::from(number)),
         None => mixed(hash, ABSENT),
     }
+}
+
+/// Four octets of an address from a place on, as a number.
+#[inline]
+fn four_octets(addr: &Addr, place: usize) -> u32
+    requires { place + 4 ≤ octet_count addr.now.family }
+{
+    u32::from_be_bytes([
+        addr.octet(place),
+        addr.octet(place + 1),
+        addr.octet(place + 2),
+        addr.octet(place + 3),
+    ])
 }
 
 /// The hash with all octets of an address in it.

@@ -139,16 +139,6 @@ impl<S: PrefixStore<Rc<Route>>> Table<S> {
         }
     }
 
-    /// Whether the pair is a key.
-    pub(crate) fn has_key(&self, pair: &Pair) -> bool
-        ensures { result ≡ set.contains self.now.keys pair.now }
-    {
-        match self.stores.get(&pair.peer) {
-            Some(store) => store.has_key(&pair.prefix),
-            None => false,
-        }
-    }
-
     /// The route at the pair.
     pub(crate) fn route(&self, pair: &Pair) -> Option<&Rc<Route>>
         ensures { option_map (λ route. route.now.value) result ≡

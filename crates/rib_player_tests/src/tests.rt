@@ -1,6 +1,8 @@
 //! What the calls of a player answer, and what they leave.
 
+mod announced_again;
 mod changes;
+mod claims;
 mod counted;
 mod equal_routes;
 mod forgotten;
@@ -10,6 +12,7 @@ mod kept;
 mod lookups;
 mod many;
 mod plain;
+mod rationed;
 mod reached;
 mod refused;
 mod seen;

@@ -90,6 +90,16 @@ fn naming(events: &[Event], floor: usize, peer: &Peer, prefix: &Prefix) -> u64 {
     found
 }
 
+/// Whether a step of these events names the pair, those before the floor left out.
+fn is_named(events: &[Event], floor: usize, peer: &Peer, prefix: &Prefix) -> bool {
+    for number in floor..events.len() {
+        if is_named_by(events, number, peer, prefix) {
+            return true;
+        }
+    }
+    false
+}
+
 /// Whether the event announces the prefix that is refused, and nothing in it takes that back.
 fn is_refused(event: &Event) -> bool {
     for &who in PEERS {
@@ -100,12 +110,14 @@ fn is_refused(event: &Event) -> bool {
     false
 }
 
-/// Events, how many of them stand before the cursor, and how many of their steps were forgotten.
+/// Events, how many of them stand before the cursor, how many of their steps were forgotten, and how
+/// many more events fell short of keys.
 #[derive(Drop)]
 pub(super) struct Plain {
     events: Vec<Event>,
     cursor: usize,
     floor: usize,
+    short: u32,
 }
 
 impl Plain {
@@ -114,6 +126,7 @@ impl Plain {
             events: Vec::new(alloc),
             cursor: 0,
             floor: 0,
+            short: 0,
         }
     }
 
@@ -139,6 +152,37 @@ impl Plain {
         self.events.push(event)?;
         self.cursor = self.events.len();
         Ok(Answer::Dropped(dropped))
+    }
+
+    /// How many new keys of the peer the event takes.
+    fn new_keys(&self, event: &Event, peer: &Peer) -> u64 {
+        let mut count = 0u64;
+        for number in 0..PREFIXES {
+            let prefix = prefix_at(number);
+            let is_announced = made_of(event, peer, &prefix).flatten().is_some();
+            if is_announced && !self.is_wanted(peer, &prefix) {
+                count = count.saturating_add(1);
+            }
+        }
+        count
+    }
+
+    /// Whether a peer that has keys can't have as many more as the event takes where it is to have no
+    /// more than these. Such an event is counted.
+    pub(super) fn falls_short(&mut self, event: &Event, keys: u64) -> bool {
+        for &who in PEERS {
+            let peer = peer_of(who);
+            if self.new_keys(event, &peer) > keys && self.keys_of(&peer).is_some() {
+                self.short = self.short.saturating_add(1);
+                return true;
+            }
+        }
+        false
+    }
+
+    /// How many events fell short.
+    pub(super) fn short(&self) -> u32 {
+        self.short
     }
 
     /// Forgets the steps before the cursor but for so many.
@@ -187,7 +231,24 @@ impl Plain {
 
     /// Whether the pair has a route, or a kept step names it.
     pub(super) fn is_wanted(&self, peer: &Peer, prefix: &Prefix) -> bool {
-        self.time_of(peer, prefix).is_some() || naming(&self.events, self.floor, peer, prefix) > 0
+        self.time_of(peer, prefix).is_some() || is_named(&self.events, self.floor, peer, prefix)
+    }
+
+    /// How many times the pair got a route where it had none, or lost it.
+    pub(super) fn turns_of(&self, peer: &Peer, prefix: &Prefix) -> u32 {
+        let mut had_route = false;
+        let mut turns = 0u32;
+        for event in self.events.as_slice() {
+            let has_route = match made_of(event, peer, prefix) {
+                Some(time) => time.is_some(),
+                None => had_route,
+            };
+            if has_route != had_route {
+                turns = turns.saturating_add(1);
+            }
+            had_route = has_route;
+        }
+        turns
     }
 
     /// How many prefixes are wanted for the peer, where there are any.

@@ -1,6 +1,6 @@
 //! What is seen of a player.
 
-use super::{HasNodes, Who, keys_of, peer_of, prefix_of, time_of};
+use super::{HasNodes, Who, has_key, keys_of, peer_of, prefix_of, time_of};
 use ip_prefix::{Addr, Prefix};
 use mrt_wire::{Peer, Route};
 use rib_player::Player;
@@ -11,6 +11,9 @@ use std::test::Fail;
 
 /// A peer, a prefix, and the time of the peer's route to it, where it has one.
 pub(super) type TimeRow = (Who, &'static str, Option<u32>);
+
+/// A peer, a prefix, and whether the peer's store has it as a key.
+pub(super) type KeyRow = (Who, &'static str, bool);
 
 /// A prefix, and the time of a route to it.
 pub(super) type Timed = (&'static str, u32);
@@ -24,6 +27,8 @@ pub(super) enum Seen {
     Floor(u64),
     /// How many keys the peer's store has, where there is one.
     Keys(Who, Option<u64>),
+    /// Which keys the peers' stores have.
+    Has(&'static [KeyRow]),
     /// The times of routes.
     Times(&'static [TimeRow]),
     /// A walk over the routes of a peer.
@@ -46,6 +51,22 @@ fn assert_times<S: PrefixStore<Rc<Route>>>(
         assert_eq!(rt;
             time_of(player, &peer_of(*who), &prefix_of(text)?),
             *time,
+            "{text}"
+        );
+    }
+    Ok(())
+}
+
+/// Compares which keys there are.
+fn assert_keys<S: PrefixStore<Rc<Route>>>(
+    rt: &impl Abort,
+    player: &Player<S>,
+    rows: &[KeyRow],
+) -> Result<(), Fail> {
+    for (who, text, is_key) in rows {
+        assert_eq!(rt;
+            has_key(player, &peer_of(*who), &prefix_of(text)?),
+            *is_key,
             "{text}"
         );
     }
@@ -145,6 +166,7 @@ pub(super) fn assert_seen<S: PrefixStore<Rc<Route>>>(
         Seen::Steps(at, ahead, named) => assert_steps(rt, player, at, ahead, named),
         Seen::Floor(floor) => assert_eq!(rt; player.floor(), floor),
         Seen::Keys(who, keys) => assert_eq!(rt; keys_of(player, &peer_of(who)), keys),
+        Seen::Has(rows) => return assert_keys(rt, player, rows),
         Seen::Times(rows) => return assert_times(rt, player, rows),
         Seen::Walk(who, times) => return assert_walk(rt, player, who, times),
         Seen::After(who, text, want) => {

@@ -270,3 +270,95 @@ impl<S: HasNodes, const FIRST: u64, const LAST: u64> HasNodes for Failing<S, FIR
         self.inner.node_count()
     }
 }
+
+/// A store whose new keys are rationed from outside.
+pub(super) trait HasRation {
+    /// From here on it makes so many new keys, and what is asked of it is counted anew.
+    fn allow(&self, keys: u64);
+
+    /// How often a key was asked for since then, new or not.
+    fn requests(&self) -> u64;
+}
+
+/// A store that makes as many new keys as it was allowed to, at first any.
+#[derive(Drop)]
+pub(super) struct Rationed<S> {
+    inner: S,
+    left: Cell<u64>,
+    requests: Cell<u64>,
+}
+
+impl<S> HasRation for Rationed<S> {
+    fn allow(&self, keys: u64) {
+        self.left.set(keys);
+        self.requests.set(0);
+    }
+
+    fn requests(&self) -> u64 {
+        self.requests.get()
+    }
+}
+
+impl<S: PrefixStore<Rc<Route>>> PrefixStore<Rc<Route>> for Rationed<S> {
+    ghost keys = { λ s. S.keys s.inner };
+
+    ghost routes = { λ s. S.routes s.inner };
+
+    fn new(alloc: Global) -> Self {
+        Rationed {
+            inner: S::new(alloc),
+            left: Cell::new(u64::MAX),
+            requests: Cell::new(0),
+        }
+    }
+
+    fn ensure(&mut self, prefix: Prefix) -> Result<bool, AllocError> {
+        self.requests.set(self.requests.get().saturating_add(1));
+        if self.inner.has_key(&prefix) {
+            return self.inner.ensure(prefix);
+        }
+        let Some(left) = self.left.get().checked_sub(1) else {
+            return Err(AllocError);
+        };
+        self.left.set(left);
+        self.inner.ensure(prefix)
+    }
+
+    fn exchange(&mut self, prefix: &Prefix, route: &mut Option<Rc<Route>>) {
+        self.inner.exchange(prefix, route);
+    }
+
+    fn discard(&mut self, prefix: &Prefix) {
+        self.inner.discard(prefix);
+    }
+
+    fn has_key(&self, prefix: &Prefix) -> bool {
+        self.inner.has_key(prefix)
+    }
+
+    fn get(&self, prefix: &Prefix) -> Option<&Rc<Route>> {
+        self.inner.get(prefix)
+    }
+
+    fn longest(&self, addr: &Addr) -> Option<(Prefix, &Rc<Route>)> {
+        self.inner.longest(addr)
+    }
+
+    fn after(&self, prefix: Option<&Prefix>) -> Option<(Prefix, &Rc<Route>)> {
+        self.inner.after(prefix)
+    }
+
+    fn key_count(&self) -> u64 {
+        self.inner.key_count()
+    }
+
+    fn route_count(&self) -> u64 {
+        self.inner.route_count()
+    }
+}
+
+impl<S: HasNodes> HasNodes for Rationed<S> {
+    fn node_count(&self) -> Option<u64> {
+        self.inner.node_count()
+    }
+}

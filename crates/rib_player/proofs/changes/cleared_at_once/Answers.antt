@@ -11,7 +11,6 @@ use Rattle.rib_store.specs.Lookups.{above, pointed}
 use Rattle.rib_store.proofs.AboveLaws.{above-none, above-front, none-left, routes_sorted, seen_last, seen_none}
 use Rattle.rib_player.specs.Journal.{Side, sides_of}
 use Rattle.rib_player.specs.Sides.{cleared_side}
-use Rattle.rib_player.specs.Clearings.{clearings_of, clearing_then}
 use Rattle.rib_player.specs.Entries.{Entry}
 use Rattle.rib_player.proofs.changes.cleared_at_once.Given.{Over}
 use Rattle.rib_player.proofs.changes.cleared_at_once.Goals as goal
@@ -36,7 +35,6 @@ routes-init g c =
     record {
       sides = ap (λ (es : List Entry). sides_of es ++ cleared c.args.peer.now.value (above None entries)) c.in_ok-entries.ensures.items
           ∙ ap (cleared c.args.peer.now.value) (above-none entries);
-      clearings = ap (λ (es : List Entry). clearings_of es) c.in_ok-entries.ensures.items ∙ sym (ap (λ (es : List Entry). map clearing_then (sides_of es)) c.in_ok-entries.ensures.items);
       room = c.requires;
     }
 
@@ -73,14 +71,13 @@ routes-preserved g c =
     let rest = above (Some c.in-Some.end.now.0) entries in
     let old = sides_of c.routes.entries.items in
     let given : sides_of c.add_cleared.new.entries.items ≡ old ++ cleared peer items =
-    c.in_ok-add_cleared.ensures.sides ∙ ap (λ (fs : List (Network × Bor (Rc Route Global))). old ++ cleared peer fs) c.deref-in-routes.ensures.value in
+    c.in_ok-add_cleared.ensures ∙ ap (λ (fs : List (Network × Bor (Rc Route Global))). old ++ cleared peer fs) c.deref-in-routes.ensures.value in
     let sides : sides_of c.add_cleared.new.entries.items ≡ old ++ cleared peer found = given ∙ ap (λ ss. old ++ ss) (cleared-pointed peer items) in
     record {
       sides = ap (λ (ss : List Side). ss ++ cleared peer rest) sides
           ∙ append_assoc old (cleared peer found) (cleared peer rest)
           ∙ ap (λ ss. old ++ ss) (sym (map-append (λ (e : Network × Rc Route Global). cleared_side peer e.0) found rest) ∙ ap (cleared peer) (sym (next g b)))
           ∙ c.routes.invariant.sides;
-      clearings = c.in_ok-add_cleared.ensures.clearings c.routes.invariant.clearings;
       room = subst (λ n. 0 < n) (sym c.next_routes.ensures.room) c.routes.invariant.room;
     }
 
@@ -93,10 +90,10 @@ over g c =
     (c.last.ensures.value ∙ ap (λ items. slice_get items (length items - 1)) c.deref.ensures.value) c.in_default.is
     ∙ c.next_routes.ensures.found ∙ ap (λ low. take (vec_capacity c.routes.found) (above low entries)) c.as_ref.ensures.value)
 
-pub returns-clause-sides : goal.returns-clause-sides
-returns-clause-sides g c =
+pub returns : goal.returns
+returns g c =
     let peer = c.args.peer.now.value in
     let entries = finite.entries (g.S.PrefixStore.routes c.args.store.now) in
     let sides = sides_of c.routes.entries.items in
-    sym (append-nil sides) ∙ ap (λ es. sides ++ cleared peer es) (sym (over g (goal.at.returns-clause-sides g c).In_default))
+    sym (append-nil sides) ∙ ap (λ es. sides ++ cleared peer es) (sym (over g (goal.at.returns g c).In_default))
     ∙ c.routes.invariant.sides ∙ cleared-keys peer entries

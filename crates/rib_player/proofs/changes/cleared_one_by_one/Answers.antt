@@ -1,4 +1,4 @@
-use Rattle.std.proofs.Common.{◌≡◌, [], ◌∷◌, ◌++◌, List, map, length, Some, None, slice_get, arith, refl, sym, ap, ap₂, ◌∙◌, append_assoc}
+use Rattle.std.proofs.Common.{◌≡◌, [], ◌∷◌, ◌++◌, List, map, length, Some, None, slice_get, arith, refl, sym, ap, ◌∙◌, append_assoc}
 use Rattle.std.specs.Option.{option_map}
 use Rattle.std.specs.FinMap as finite
 use Rattle.std.proofs.lemmas.List.{append-nil, map-append}
@@ -8,7 +8,6 @@ use Rattle.rib_store.proofs.AboveLaws.{above-next, above-none, none-above, route
 use Rattle.rib_player.specs.Entries.{Entry}
 use Rattle.rib_player.specs.Journal.{Side, side_of, sides_of}
 use Rattle.rib_player.specs.Sides.{cleared_side}
-use Rattle.rib_player.specs.Clearings.{clearing_of, clearings_of, clearing_then}
 use Rattle.rib_player.proofs.changes.cleared_one_by_one.Given.{Over}
 use Rattle.rib_player.proofs.changes.cleared_one_by_one.Goals as goal
 use Rattle.rib_player.proofs.changes.cleared_one_by_one.Goals.{In-Some}
@@ -17,7 +16,6 @@ pub routes-init : goal.routes-init
 routes-init g c = record {
   sides = ap (λ (es : List Entry). sides_of es ++ map (λ e. cleared_side c.args.peer.now.value e.0) (above None (finite.entries (g.S.PrefixStore.routes c.args.store.now)))) c.in_ok-entries.ensures.items
       ∙ ap (map (λ e. cleared_side c.args.peer.now.value e.0)) (above-none (finite.entries (g.S.PrefixStore.routes c.args.store.now)));
-  clearings = ap (λ (es : List Entry). clearings_of es) c.in_ok-entries.ensures.items ∙ sym (ap (λ (es : List Entry). map clearing_then (sides_of es)) c.in_ok-entries.ensures.items);
 }
 
 next : (g : Over) (c : In-Some g) → let entries = finite.entries (g.S.PrefixStore.routes c.args.store.now) in
@@ -39,16 +37,13 @@ routes-preserved g c =
       sides = ap (λ (ss : List Side). ss ++ rest) sides ∙ append_assoc (sides_of entries) (cleared_side c.args.peer.now.value c.in-Some.found.0 ∷ []) rest
           ∙ ap (λ es. sides_of entries ++ map (λ e. cleared_side c.args.peer.now.value e.0) es) (sym (next g b))
           ∙ c.routes.invariant.sides;
-      clearings = ap clearings_of c.in_ok-push.ensures.items ∙ map-append clearing_of entries (c.in_ok-new.field-0 ∷ [])
-          ∙ ap₂ (λ cs one. cs ++ one ∷ []) c.routes.invariant.clearings (ap clearing_of c.in_ok-new.ensures ∙ ap (λ p. clearing_then (cleared_side p c.in-Some.found.0)) cloned)
-          ∙ sym (ap (map clearing_then) sides ∙ map-append clearing_then (sides_of entries) (cleared_side c.args.peer.now.value c.in-Some.found.0 ∷ []));
     }
 
 pub routes-smaller : goal.routes-smaller
 routes-smaller g c = omega (arith, ap length (next g (goal.at.routes-smaller g c).In-Some))
 
-pub returns-clause-sides : goal.returns-clause-sides
-returns-clause-sides g c =
+pub returns : goal.returns
+returns g c =
     let routes = g.S.PrefixStore.routes c.args.store.now in
     let over : above c.routes.last (finite.entries routes) ≡ [] = none-above (above c.routes.last (finite.entries routes))
     (ap (λ low. slice_get (above low (finite.entries routes)) 0) (sym c.as_ref.ensures.value) ∙ sym c.after.ensures ∙ ap (option_map (λ p. (p.0, p.1.now))) c.in_default.is) in
@@ -58,6 +53,3 @@ returns-clause-sides g c =
     cleared_keys : {R : Type 0} (es : List (Network × R)) → map (λ (e : Network × R). cleared_side c.args.peer.now.value e.0) es ≡ map (cleared_side c.args.peer.now.value) (map (λ (e : Network × R). e.0) es)
     cleared_keys [] = refl
     cleared_keys (e ∷ es) = ap (λ ss. cleared_side c.args.peer.now.value e.0 ∷ ss) (cleared_keys es)
-
-pub returns-clause-clearings : goal.returns-clause-clearings
-returns-clause-clearings g c = c.routes.invariant.clearings

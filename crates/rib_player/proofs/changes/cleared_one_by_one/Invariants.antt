@@ -3,7 +3,6 @@ use Rattle.std.specs.FinMap as finite
 use Rattle.rib_store.specs.Lookups.{above}
 use Rattle.rib_player.specs.Journal.{sides_of}
 use Rattle.rib_player.specs.Sides.{cleared_side}
-use Rattle.rib_player.specs.Clearings.{clearings_of, clearing_then}
 use Rattle.rib_player.proofs.changes.cleared_one_by_one.Given as goal
 
 -- the sides so far and those of what stands above the last of them are all
@@ -12,7 +11,6 @@ invariant-routes g l =
     let found = finite.entries (g.S.PrefixStore.routes l.store) in
     record {
       sides : sides_of l.entries.items ++ map (λ e. cleared_side l.peer.value e.0) (above l.last found) ≡ map (λ e. cleared_side l.peer.value e.0) found;
-      clearings : clearings_of l.entries.items ≡ map clearing_then (sides_of l.entries.items);
     }
 
 abbrev pub decreases-routes : goal.decreases-routes

@@ -26,17 +26,17 @@ returns-in_ok-known-in-Some-clause-named g c =
     IfOk-weaker c.cleared_in.result _ _ (λ entries e q.
     ap (λ (sides : List Side). list_any (eq_by_cmp pair_cmp q) (pairs_in sides)) (e ∙ sides_of_peer g b)
     ∙ ap (list_any (eq_by_cmp pair_cmp q)) (pairs-cleared c.args.peer.now _)
-    ∙ peer-named (g.S.PrefixStore.routes c.in-Some.store.now) c.args.table.now.routes c.args.peer.now c.in-Some.ensures.routes q) c.cleared_in.ensures.sides
+    ∙ peer-named (g.S.PrefixStore.routes c.in-Some.store.now) c.args.table.now.routes c.args.peer.now c.in-Some.ensures.routes q) c.cleared_in.ensures
 
 pub returns-in_ok-known-in-Some-clause-absent : goal.returns-in_ok-known-in-Some-clause-absent
 returns-in_ok-known-in-Some-clause-absent g c =
     let b = (goal.at.returns-in_ok-known-in-Some-clause-absent g c).In_ok-known-in-Some in
-    IfOk-weaker c.cleared_in.result _ _ (λ entries e. subst (AllByRecursion (λ (side : Side). side.1 ≡ None)) (sym (e ∙ sides_of_peer g b)) (absent-cleared c.args.peer.now _)) c.cleared_in.ensures.sides
+    IfOk-weaker c.cleared_in.result _ _ (λ entries e. subst (AllByRecursion (λ (side : Side). side.1 ≡ None)) (sym (e ∙ sides_of_peer g b)) (absent-cleared c.args.peer.now _)) c.cleared_in.ensures
 
 pub returns-in_ok-known-in-Some-clause-ordered : goal.returns-in_ok-known-in-Some-clause-ordered
 returns-in_ok-known-in-Some-clause-ordered g c =
     let b = (goal.at.returns-in_ok-known-in-Some-clause-ordered g c).In_ok-known-in-Some in
-    IfOk-weaker c.cleared_in.result _ _ (λ entries e. subst AreOrdered (sym (e ∙ sides_of_peer g b)) (ordered-cleared c.args.peer.now _ (routes-in_order (g.S.PrefixStore.routes c.in-Some.store.now)))) c.cleared_in.ensures.sides
+    IfOk-weaker c.cleared_in.result _ _ (λ entries e. subst AreOrdered (sym (e ∙ sides_of_peer g b)) (ordered-cleared c.args.peer.now _ (routes-in_order (g.S.PrefixStore.routes c.in-Some.store.now)))) c.cleared_in.ensures
 
 pub returns-in-None-clause-named : goal.returns-in-None-clause-named
 returns-in-None-clause-named g c q =

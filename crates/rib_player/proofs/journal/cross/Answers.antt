@@ -3,7 +3,6 @@ use Rattle.std.proofs.lemmas.List.{drop-drop, drop-set-lt}
 use Rattle.rib_player.specs.Journal.{sides_of, routes_across}
 use Rattle.rib_player.specs.Sides.{sides_across, IsKept}
 use Rattle.rib_player.specs.Marks.{marks_of, mark_of}
-use Rattle.rib_player.specs.Clearings.{clearings_of, clearing_of}
 use Rattle.rib_player.proofs.JournalLaws.{rest_of_entries, kept-tail, entries-more}
 use Rattle.rib_player.proofs.MarkLaws.{turn-more}
 use Rattle.rib_player.proofs.journal.cross.Goals as goal
@@ -25,8 +24,6 @@ entries-preserved g c =
       entries = entries-more c.entries.table.keys c.entries.table.routes c.exchange.new.table.routes c.entries.entries (drop (i + 1) first) i entry _ _ within kept c.exchange.ensures.routes
           (λ k. (c.exchange.ensures.pair k, c.exchange.ensures.given k))
           (ap (λ es. sides_of (take i c.entries.entries) ++ sides_across c.entries.table.routes (sides_of es)) (sym rest) ∙ known.entries);
-      clearings = turn-more clearing_of c.entries.entries i _ (clearing_of entry) (clearings_of (drop (i + 1) first)) _ within (λ k. (c.exchange.ensures.pair k, c.exchange.ensures.clears k))
-          (ap (λ es. clearings_of (take i c.entries.entries) ++ clearings_of es) (sym rest) ∙ known.clearings);
-      marks = turn-more mark_of c.entries.entries i _ (mark_of entry) (marks_of (drop (i + 1) first)) _ within (λ k. (c.exchange.ensures.pair k, c.exchange.ensures.first k))
+      marks = turn-more mark_of c.entries.entries i _ (mark_of entry) (marks_of (drop (i + 1) first)) _ within (λ k. record { pair = c.exchange.ensures.pair k; before = c.exchange.ensures.before k; behind = c.exchange.ensures.behind k })
           (ap (λ es. marks_of (take i c.entries.entries) ++ marks_of es) (sym rest) ∙ known.marks);
     }

@@ -2,7 +2,6 @@ use Rattle.std.proofs.Common.{◌≡◌, ◌++◌, take, drop}
 use Rattle.rib_player.specs.Journal.{sides_of, routes_across}
 use Rattle.rib_player.specs.Sides.{sides_across, IsKept}
 use Rattle.rib_player.specs.Marks.{marks_of}
-use Rattle.rib_player.specs.Clearings.{clearings_of}
 use Rattle.rib_player.proofs.journal.cross.Given as goal
 
 -- the entries that are left are as they were; crossing them too gives what crossing all gives
@@ -15,6 +14,5 @@ invariant-entries g l =
       kept : IsKept l.table.keys (sides_of rest);
       routes : routes_across (sides_of rest) l.table.routes ≡ routes_across (sides_of l.fn.entries) l.fn.table.routes;
       entries : sides_of (take l.index l.entries) ++ sides_across l.table.routes (sides_of rest) ≡ sides_across l.fn.table.routes (sides_of l.fn.entries);
-      clearings : clearings_of (take l.index l.entries) ++ clearings_of rest ≡ clearings_of l.fn.entries;
       marks : marks_of (take l.index l.entries) ++ marks_of rest ≡ marks_of l.fn.entries;
     }

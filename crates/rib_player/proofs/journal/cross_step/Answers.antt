@@ -1,10 +1,8 @@
-use Rattle.std.proofs.Common.{◌≡◌, [], ◌<◌, length, ap, sym, subst, ◌∙◌, set, arith}
-use Rattle.std.proofs.lemmas.List.{get_or-map, map-set, length-map, with_items_is, set-get_or}
+use Rattle.std.proofs.Common.{◌≡◌, [], ap, sym, subst, ◌∙◌, set}
+use Rattle.std.proofs.lemmas.List.{get_or-map, map-set, with_items_is, set-get_or}
 use Rattle.rib_player.specs.Journal.{sides_of, steps_of, step_sides}
 use Rattle.rib_player.specs.Sides.{sides_at, sides_across, IsKept}
-use Rattle.rib_player.specs.Marks.{marks_of, step_marks, trail_of}
-use Rattle.rib_player.specs.Clearings.{clearings_of, step_clearings, clearings_by_step}
-use Rattle.rib_player.proofs.CursorLaws.{kept-at}
+use Rattle.rib_player.specs.Marks.{marks_of, step_marks, marks_by_step}
 use Rattle.rib_player.proofs.journal.cross_step.Goals as goal
 use Rattle.rib_player.proofs.journal.cross_step.Given.{Over}
 use Rattle.rib_player.proofs.journal.cross_step.Goals.{After-as_mut_slice}
@@ -17,9 +15,7 @@ at_index g c =
     ∙ ap sides_of (sym c.as_mut_slice.ensures.value)
 
 pub cross-requires : goal.cross-requires
-cross-requires g c =
-    let within : c.args.index < length (steps_of c.args.steps.now.items) = omega (arith, c.requires.within, length-map c.args.steps.now.items step_sides) in
-    subst (IsKept c.args.table.now.keys) (at_index g c) (kept-at c.args.table.now.keys (steps_of c.args.steps.now.items) c.args.index within c.requires.kept)
+cross-requires g c = subst (IsKept c.args.table.now.keys) (at_index g c) c.requires.kept
 
 pub returns-clause-steps : goal.returns-clause-steps
 returns-clause-steps g c =
@@ -28,20 +24,11 @@ returns-clause-steps g c =
     (ap sides_of (with_items_is c.index_mut-step.result.now.entries c.cross.new.entries (c.cross.auto.entries ∙ c.as_mut_slice.ensures.len))
     ∙ c.cross.ensures.entries ∙ ap (sides_across c.args.table.now.routes) (sym (at_index g (goal.at.returns-clause-steps g c).After-as_mut_slice)))
 
-pub returns-clause-trail : goal.returns-clause-trail
-returns-clause-trail g c =
+pub returns-clause-marks : goal.returns-clause-marks
+returns-clause-marks g c =
     map-set step_marks c.args.steps.now.items c.args.index _
-    ∙ ap (set (trail_of c.args.steps.now.items) c.args.index)
+    ∙ ap (set (marks_by_step c.args.steps.now.items) c.args.index)
     (ap marks_of (with_items_is c.index_mut-step.result.now.entries c.cross.new.entries (c.cross.auto.entries ∙ c.as_mut_slice.ensures.len))
     ∙ c.cross.ensures.marks ∙ ap marks_of c.as_mut_slice.ensures.value ∙ ap step_marks c.index_mut-step.ensures.value
     ∙ sym (get_or-map step_marks c.args.steps.now.items c.args.index c.index_mut-step.result.now [] c.requires.within))
-    ∙ set-get_or (trail_of c.args.steps.now.items) c.args.index []
-
-pub returns-clause-clearings : goal.returns-clause-clearings
-returns-clause-clearings g c =
-    map-set step_clearings c.args.steps.now.items c.args.index _
-    ∙ ap (set (clearings_by_step c.args.steps.now.items) c.args.index)
-    (ap clearings_of (with_items_is c.index_mut-step.result.now.entries c.cross.new.entries (c.cross.auto.entries ∙ c.as_mut_slice.ensures.len))
-    ∙ c.cross.ensures.clearings ∙ ap clearings_of c.as_mut_slice.ensures.value ∙ ap step_clearings c.index_mut-step.ensures.value
-    ∙ sym (get_or-map step_clearings c.args.steps.now.items c.args.index c.index_mut-step.result.now [] c.requires.within))
-    ∙ set-get_or (clearings_by_step c.args.steps.now.items) c.args.index []
+    ∙ set-get_or (marks_by_step c.args.steps.now.items) c.args.index []

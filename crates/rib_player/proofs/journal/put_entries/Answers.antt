@@ -1,130 +1,151 @@
-use Rattle.std.proofs.Common.{◌≡◌, ◌+◌, ◌<◌, ◌||◌, false, not, List, [], ◌∷◌, ◌++◌, length, take, drop, set, get_or, arith, sym, ap, ap₂, subst, ◌∙◌}
-use Rattle.std.specs.List.{IsDistinct, list_any}
+use Rattle.std.proofs.Common.{◌≡◌, ◌+◌, ◌<◌, ◌||◌, ◌&&◌, Bool, true, false, is_some, List, [], ◌∷◌, ◌++◌, length, take, drop, set, get_or, arith, sym, ap, ap₂, subst, ◌∙◌}
+use Rattle.std.specs.List.{AllByRecursion, IsDistinct, list_any}
 use Rattle.std.specs.FinMap as finite
 use Rattle.std.specs.FinSet as names
-use Rattle.std.proofs.lemmas.List.{length-set, length-drop, drop-drop, drop-set-lt, drop_more, map-append, take-append-drop, take-set, take_more_set}
-use Rattle.rib_player.specs.declared.pair.Pair.{Pair}
+use Rattle.std.proofs.lemmas.List.{length-set, length-drop, drop-drop, drop-set-lt, drop_more, map-append, take-set, take_more_set, get_or-map, length-map}
+use Rattle.octet_forms.proofs.Lists.{AllByRecursion-get_or, AllByRecursion-push}
+use Rattle.rib_player.specs.declared.entry.End.TheVariants.{Last}
 use Rattle.rib_store.specs.Stored.{put}
+use Rattle.rib_player.specs.Claims.{one_if, claims_beyond}
 use Rattle.rib_player.specs.Entries.{Entry}
 use Rattle.rib_player.specs.Store.{route_in}
 use Rattle.rib_player.specs.Journal.{Side, side_of, sides_of, pairs_in, routes_across}
 use Rattle.rib_player.specs.Sides.{sides_across}
-use Rattle.rib_player.specs.Marks.{Mark, mark_of, marks_of, named_by, AreFirst, IsExact}
-use Rattle.rib_player.specs.Clearings.{clearing_of, clearings_of}
+use Rattle.rib_player.specs.Marks.{Mark, mark_of, marks_of, mark_across, marks_across, gives_up, gives_up_by}
+use Rattle.rib_player.proofs.PairLaws.{same_pair}
 use Rattle.rib_player.proofs.JournalLaws.{rest_of_entries, take-through, routes_across-push, sides_across-push, pairs_in-sides_across, get-restored_elsewhere, routes_across-sides_across}
-use Rattle.rib_player.proofs.MarkLaws.{tied, pairs_marked, pairs-same, pairs_in-take, distinct-take, distinct-before, exact-unmake, keys-more-marked, first-push, first-made, marks-more, get_or-any, same-set}
-use Rattle.rib_player.proofs.KeyLaws.{all-named_pairs}
-use Rattle.std.proofs.Math.Bool.{or-true}
+use Rattle.rib_player.proofs.MarkLaws.{tied, pairs_marked, pairs-same, pairs_in-take, distinct-take, distinct-before, marks-more, gives_up_by-push, gives_up_by-named, gives-none}
+use Rattle.rib_player.proofs.HeldLaws.{same-key, one-or, put-among, inserted, all-inserted, all-same}
 use Rattle.rib_player.proofs.journal.put_entries.Given.{Over}
 use Rattle.rib_player.proofs.journal.put_entries.Goals as goal
-use Rattle.rib_player.proofs.journal.put_entries.Goals.{In-Err}
+use Rattle.rib_player.proofs.journal.put_entries.Goals.{After-index-entries-made, In-Err}
+
+-- ---- the next entry
+
+abbrev here : (g : Over) (c : After-index-entries-made g) → Entry
+here g c = get_or c.entries.entries c.entries.made c.index-entries-made.result
+
+-- is as it was
+rest : (g : Over) (c : After-index-entries-made g) → drop c.entries.made c.args.entries.now ≡ here g c ∷ drop (c.entries.made + 1) c.args.entries.now
+rest g c = rest_of_entries c.entries.made c.entries.entries c.args.entries.now c.index-entries-made.result (omega arith) c.entries.invariant.unchanged
+
+first_within : (g : Over) (c : After-index-entries-made g) → c.entries.made < length c.args.entries.now
+first_within g c = omega (arith, ap length (rest g c), length-drop c.entries.made c.args.entries.now)
+
+head : (g : Over) (c : After-index-entries-made g) → get_or c.args.entries.now c.entries.made (here g c) ≡ here g c
+head g c = ap (λ l. get_or l 0 (here g c)) (sym (drop_more c.args.entries.now c.entries.made (here g c) (first_within g c)) ∙ rest g c)
+
+-- its pair is none of those before it
+apart : (g : Over) (c : After-index-entries-made g) → list_any (tied (here g c).pair) (pairs_in (sides_of (take c.entries.made c.args.entries.now))) ≡ false
+apart g c =
+    ap (list_any (tied (here g c).pair)) (sym (pairs-same (take c.entries.made c.args.entries.now)))
+    ∙ ap (λ (e : Entry). list_any (tied e.pair) (pairs_marked (marks_of (take c.entries.made c.args.entries.now)))) (sym (head g c))
+    ∙ distinct-before c.args.entries.now c.entries.made (here g c) (first_within g c) c.requires.distinct
+
+same_route : (g : Over) (c : After-index-entries-made g) → finite.get c.entries.table.routes (here g c).pair ≡ finite.get c.args.table.now.routes (here g c).pair
+same_route g c =
+    ap (λ r. finite.get r (here g c).pair) c.entries.invariant.routes
+    ∙ get-restored_elsewhere (sides_of (take c.entries.made c.args.entries.now)) c.args.table.now.routes (here g c).pair (apart g c)
+
+pub put_entry-requires-clause-named : goal.put_entry-requires-clause-named
+put_entry-requires-clause-named g c =
+    let b = (goal.at.put_entry-requires-clause-named g c).After-index-entries-made in
+    let routes = c.args.table.now.routes in
+    let first = c.args.entries.now in
+    let side : Side = side_of (here g b) in
+    ap (λ r. is_some r || is_some side.1) (same_route g b)
+    ∙ subst (λ (s : Side). (is_some (finite.get routes s.0) || is_some s.1) ≡ true) (get_or-map side_of first c.entries.made (here g b) side (first_within g b) ∙ ap side_of (head g b))
+    (AllByRecursion-get_or (λ (s : Side). (is_some (finite.get routes s.0) || is_some s.1) ≡ true) (sides_of first) c.entries.made side (omega (arith, first_within g b, length-map first side_of)) c.requires.named)
 
 -- ---- refused: the entries in front
 
 abbrev front : (g : Over) (c : In-Err g) → List Entry
-front g c = take c.entries.made (set c.entries.entries c.entries.made c.put.new.self)
+front g c = take c.entries.made (set c.entries.entries c.entries.made c.put_entry.new.entry)
 
 abbrev front_first : (g : Over) (c : In-Err g) → List Side
 front_first g c = sides_of (take c.entries.made c.args.entries.now)
 
 same_front : (g : Over) (c : In-Err g) → front g c ≡ take c.entries.made c.entries.entries
-same_front g c = take-set c.entries.entries c.entries.made c.put.new.self
+same_front g c = take-set c.entries.entries c.entries.made c.put_entry.new.entry
 
 sides_front : (g : Over) (c : In-Err g) → sides_of (front g c) ≡ sides_across c.args.table.now.routes (front_first g c)
 sides_front g c = ap sides_of (same_front g c) ∙ c.entries.invariant.crossed
 
+pairs_front : (g : Over) (c : In-Err g) → pairs_in (sides_of (front g c)) ≡ pairs_in (front_first g c)
+pairs_front g c = ap pairs_in (sides_front g c) ∙ pairs_in-sides_across c.args.table.now.routes (front_first g c)
+
 -- crossed back, they leave the routes that were there at first
-whole : (g : Over) (c : In-Err g) → routes_across (sides_of (front g c)) c.put.new.table.routes ≡ c.args.table.now.routes
+whole : (g : Over) (c : In-Err g) → routes_across (sides_of (front g c)) c.put_entry.new.table.routes ≡ c.args.table.now.routes
 whole g c =
-    ap₂ routes_across (sides_front g c) (c.in-Err.ensures.held ∙ c.entries.invariant.routes)
+    ap₂ routes_across (sides_front g c) (c.in-Err.ensures.kept ∙ c.entries.invariant.routes)
     ∙ routes_across-sides_across (front_first g c) c.args.table.now.routes
-
-keys_now : (g : Over) (c : In-Err g) (q : Pair) → names.contains c.put.new.table.keys q ≡ (names.contains c.args.table.now.keys q || named_by (marks_of (front g c)) q)
-keys_now g c q =
-    ap (λ k. names.contains k q) c.in-Err.ensures.refused ∙ c.entries.invariant.held q
-    ∙ ap (λ es. names.contains c.args.table.now.keys q || named_by (marks_of es) q) (sym (same_front g c))
-
-exact : (g : Over) (c : In-Err g) → IsExact (names.contains c.args.table.now.keys) (marks_of (front g c) ∷ []) [] c.put.new.table.keys (routes_across (sides_of (front g c)) c.put.new.table.routes)
-exact g c =
-    exact-unmake (names.contains c.args.table.now.keys) (marks_of (front g c)) c.put.new.table.keys (routes_across (sides_of (front g c)) c.put.new.table.routes)
-    (keys_now g c)
-    (subst (λ es. AreFirst (names.contains c.args.table.now.keys) (marks_of es)) (sym (same_front g c)) c.entries.invariant.first)
-    (λ q unseen. ap (λ r. finite.get r q) (whole g c) ∙ c.requires.free q unseen)
 
 pub take_back-requires-clause-kept : goal.take_back-requires-clause-kept
 take_back-requires-clause-kept g c =
     let b = (goal.at.take_back-requires-clause-kept g c).In-Err in
     record {
-      distinct = subst (IsDistinct tied) (sym (ap pairs_in (sides_front g b) ∙ pairs_in-sides_across c.args.table.now.routes (front_first g b) ∙ pairs_in-take c.entries.made c.args.entries.now))
-          (distinct-take c.entries.made (pairs_in (sides_of c.args.entries.now)) c.requires.distinct);
-      among_keys = all-named_pairs (front g b) c.put.new.table.keys (λ q named.
-          keys_now g b q ∙ ap (λ n. names.contains c.args.table.now.keys q || n) named ∙ or-true (names.contains c.args.table.now.keys q));
+      distinct = subst (IsDistinct tied) (sym (pairs_front g b ∙ pairs_in-take c.entries.made c.args.entries.now)) (distinct-take c.entries.made (pairs_in (sides_of c.args.entries.now)) c.requires.distinct);
+      among_keys = subst (AllByRecursion (λ p. names.contains c.put_entry.new.table.keys p ≡ true)) (sym (pairs_front g b))
+          (all-same c.entries.table.keys c.put_entry.new.table.keys (pairs_in (front_first g b))
+          (λ q. same-key c.entries.table.keys c.put_entry.new.table.keys (claims_beyond c.entries.claims) (claims_beyond c.put_entry.new.claims) q c.entries.invariant.held c.in-Err.ensures.held (c.in-Err.ensures.refused q))
+          c.entries.invariant.keys);
     }
 
-pub take_back-requires-clause-exact : goal.take_back-requires-clause-exact
-take_back-requires-clause-exact g c = record {
-  seen = names.contains c.args.table.now.keys;
-  exact = exact g (goal.at.take_back-requires-clause-exact g c).In-Err;
-}
+pub take_back-requires-clause-free : goal.take_back-requires-clause-free
+take_back-requires-clause-free g c = λ q gives.
+    let b = (goal.at.take_back-requires-clause-free g c).In-Err in
+    ap (λ r. finite.get r q) (whole g b)
+    ∙ gives-none c.args.table.now.routes (front_first g b) q
+    (ap (λ ms. gives_up_by Last ms q) (sym (ap marks_of (same_front g b) ∙ c.entries.invariant.marks)) ∙ gives)
 
-pub returns-in-Err-clause-refused : goal.returns-in-Err-clause-refused
-returns-in-Err-clause-refused g c = c.take_back.ensures.keys c.args.table.now.keys (exact g (goal.at.returns-in-Err-clause-refused g c).In-Err)
-
-pub returns-in-Err-clause-held : goal.returns-in-Err-clause-held
-returns-in-Err-clause-held g c = c.take_back.ensures.routes ∙ whole g (goal.at.returns-in-Err-clause-held g c).In-Err
-
-pub returns-in-Err-clause-clearings : goal.returns-in-Err-clause-clearings
-returns-in-Err-clause-clearings g c =
-    let made = c.entries.made in
-    let entries = c.entries.entries in
-    let here : Entry = get_or entries made c.index-entries-made.result in
-    let within : made < length entries = omega arith in
-    let after = set entries made c.put.new.self in
-    map-append clearing_of c.take_back.new.entries (drop made after)
-    ∙ ap (λ l. l ++ clearings_of (drop made after)) c.take_back.ensures.clearings
-    ∙ sym (map-append clearing_of (take made after) (drop made after))
-    ∙ ap clearings_of (take-append-drop made after)
-    ∙ same-set clearing_of entries made c.put.new.self here (ap clearing_of c.in-Err.ensures.kept) within (get_or-any entries made here c.index-entries-made.result within)
-    ∙ c.entries.invariant.clearings
+pub returns-in-Err-clause-kept : goal.returns-in-Err-clause-kept
+returns-in-Err-clause-kept g c = c.take_back.ensures.routes ∙ whole g (goal.at.returns-in-Err-clause-kept g c).In-Err
 
 -- ---- one entry more
 
 pub entries-preserved : goal.entries-preserved
 entries-preserved g c =
+    let b = (goal.at.entries-preserved g c).After-index-entries-made in
     let made = c.entries.made in
     let entries = c.entries.entries in
     let first = c.args.entries.now in
     let routes = c.args.table.now.routes in
     let known = c.entries.invariant in
     let within : made < length entries = omega arith in
-    let here : Entry = get_or entries made c.index-entries-made.result in
-    let is : get_or entries made here ≡ here = get_or-any entries made here c.index-entries-made.result within in
-    let new = c.put.new.self in
-    let seen = names.contains c.args.table.now.keys in
-    let marks : List Mark = marks_of (take made entries) in
+    let old : Entry = here g b in
+    let new = c.put_entry.new.entry in
+    let said = c.in_default.ensures in
     let sides : List Side = sides_of (take made first) in
-    let rest : drop made first ≡ here ∷ drop (made + 1) first = rest_of_entries made entries first here within known.unchanged ∙ ap (λ e. e ∷ drop (made + 1) first) is in
-    let first_within : made < length first = omega (arith, ap length rest, length-drop made first) in
-    let head : get_or first made here ≡ here = ap (λ l. get_or l 0 here) (sym (drop_more first made here first_within) ∙ rest) in
-    let sides_more : sides_of (take (made + 1) first) ≡ sides ++ side_of here ∷ [] = ap sides_of (take-through made first here (drop (made + 1) first) rest) ∙ map-append side_of (take made first) (here ∷ []) in
+    let marks : List Mark = marks_of (take made entries) in
+    let sides_more : sides_of (take (made + 1) first) ≡ sides ++ side_of old ∷ [] = ap sides_of (take-through made first old (drop (made + 1) first) (rest g b)) ∙ map-append side_of (take made first) (old ∷ []) in
     let marks_more : marks_of (take (made + 1) (set entries made new)) ≡ marks ++ mark_of new ∷ [] = marks-more entries made new within in
-    let apart : list_any (tied here.pair) (pairs_in sides) ≡ false =
-    ap (list_any (tied here.pair)) (sym (pairs-same (take made first))) ∙ ap (λ (e : Entry). named_by (marks_of (take made first)) e.pair) (sym head) ∙ distinct-before first made here first_within c.requires.distinct in
-    let names_before : pairs_marked marks ≡ pairs_in sides = pairs-same (take made entries) ∙ ap pairs_in known.crossed ∙ pairs_in-sides_across routes sides in
-    let unnamed : named_by marks here.pair ≡ false = ap (list_any (tied here.pair)) names_before ∙ apart in
-    let pair : new.pair ≡ here.pair = c.put.ensures.pair in
-    let same_route : finite.get c.entries.table.routes here.pair ≡ finite.get routes here.pair = ap (λ r. finite.get r here.pair) known.routes ∙ get-restored_elsewhere sides routes here.pair apart in
+    let pairs_before : pairs_marked marks ≡ pairs_in sides = pairs-same (take made entries) ∙ ap pairs_in known.crossed ∙ pairs_in-sides_across routes sides in
+    let unnamed = gives_up_by-named Last marks old.pair (ap (list_any (tied old.pair)) pairs_before ∙ apart g b) in
+    let mark_is : mark_of new ≡ mark_across routes (side_of old) =
+    λ k. record { pair = said.pair k; before = (said.before ∙ ap is_some (same_route g b)) k; behind = said.behind k } in
     record {
       within = omega (arith, length-set entries made new);
       unchanged = drop-set-lt (made + 1) entries made new (omega arith) ∙ sym (drop-drop 1 made entries) ∙ ap (drop 1) known.unchanged ∙ drop-drop 1 made first;
-      held = λ q. keys-more-marked seen c.entries.table.keys c.put.new.table.keys marks (mark_of new) (c.in_default.ensures.keys ∙ ap (names.insert c.entries.table.keys) (sym pair)) known.held q
-          ∙ ap (λ m. seen q || named_by m q) (sym marks_more);
-      first = subst (AreFirst seen) (sym marks_more) (first-push seen marks (mark_of new) known.first
-          (first-made seen c.entries.table.keys marks here.pair new.first c.in_default.ensures.first known.held unnamed ∙ ap (λ p. not (seen p)) (sym pair)));
-      routes = c.in_default.ensures.routes ∙ ap (λ r. put r here.pair (route_in here.other)) known.routes ∙ sym (routes_across-push sides (side_of here) routes)
+      keys = subst (λ ss. AllByRecursion (λ p. names.contains c.put_entry.new.table.keys p ≡ true) (pairs_in ss)) (sym sides_more)
+          (subst (AllByRecursion (λ p. names.contains c.put_entry.new.table.keys p ≡ true)) (sym (map-append (λ (s : Side). s.0) sides (side_of old ∷ [])))
+          (AllByRecursion-push (λ p. names.contains c.put_entry.new.table.keys p ≡ true) (pairs_in sides) old.pair
+          (all-inserted c.entries.table.keys c.put_entry.new.table.keys old.pair (pairs_in sides) said.keys known.keys)
+          (inserted c.entries.table.keys c.put_entry.new.table.keys old.pair said.keys)));
+      among = put-among c.entries.table.keys c.put_entry.new.table.keys c.entries.table.routes c.put_entry.new.table.routes old.pair (route_in old.other) said.keys said.routes known.among;
+      held = said.held;
+      claimed = λ q.
+          let one = ap (λ ms. one_if (gives_up_by Last ms q)) marks_more ∙ ap one_if (gives_up_by-push Last marks (mark_of new) q)
+          ∙ one-or (gives_up_by Last marks q) (gives_up Last (mark_of new) && tied q new.pair) (λ t. ap (gives_up_by Last marks) (same_pair q old.pair (ap (tied q) (sym said.pair) ∙ and-right (gives_up Last (mark_of new)) (tied q new.pair) t)) ∙ unnamed) in
+          omega (arith, one, said.claimed q, ap (λ p. one_if (gives_up Last (mark_of new) && tied q p)) said.pair, known.claimed q);
+      marks = marks_more ∙ ap₂ (λ (ms : List Mark) (m : Mark). ms ++ m ∷ []) known.marks mark_is
+          ∙ sym (map-append (mark_across routes) sides (side_of old ∷ [])) ∙ sym (ap (marks_across routes) sides_more);
+      routes = said.routes ∙ ap (λ r. put r old.pair (route_in old.other)) known.routes ∙ sym (routes_across-push sides (side_of old) routes)
           ∙ sym (ap (λ s. routes_across s routes) sides_more);
       crossed = ap sides_of (take_more_set entries made new within) ∙ map-append side_of (take made entries) (new ∷ [])
-          ∙ ap₂ (λ (s : List Side) (t : Side). s ++ t ∷ []) known.crossed (λ k. (pair k, (c.in_default.ensures.given ∙ same_route) k))
-          ∙ sym (sides_across-push sides (side_of here) routes) ∙ sym (ap (sides_across routes) sides_more);
-      clearings = same-set clearing_of entries made new here (λ k. (pair k, c.put.ensures.clears k)) within is ∙ known.clearings;
+          ∙ ap₂ (λ (s : List Side) (t : Side). s ++ t ∷ []) known.crossed (λ k. (said.pair k, (said.given ∙ same_route g b) k))
+          ∙ sym (sides_across-push sides (side_of old) routes) ∙ sym (ap (sides_across routes) sides_more);
     }
+  where
+    and-right : (a b : Bool) → (a && b) ≡ true → b ≡ true
+    and-right true b e = e
+    and-right false b e = cc

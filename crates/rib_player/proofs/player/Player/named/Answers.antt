@@ -1,12 +1,10 @@
 use Rattle.std.proofs.Common.{ap, ◌∙◌}
 use Rattle.rib_store.specs.Stored.{counted}
 use Rattle.rib_player.specs.Wanted.{named_count}
-use Rattle.rib_player.specs.Journal.{steps_of}
 use Rattle.rib_player.proofs.CountLaws.{named-total}
-use Rattle.rib_player.proofs.KeyLaws.{all-distinct}
 use Rattle.rib_player.proofs.player.Player.named.Goals as goal
 
 pub returns : goal.returns
 returns g c =
     c.named_from.ensures
-    ∙ ap counted (named-total c.self.inside.steps.items (all-distinct c.self.inside.table.keys (steps_of c.self.inside.steps.items) c.self.invariant.played.journal.kept) ∙ ap named_count c.self.view_is)
+    ∙ ap counted (named-total c.self.inside.journal.steps.items c.self.invariant.played.distinct ∙ ap named_count c.self.view_is)

@@ -1,103 +1,136 @@
-use Rattle.std.proofs.Common.{◌≡◌, ◌+◌, ◌++◌, ◌∷◌, [], List, ◌≤◌, length, take, map, arith, refl, ap, ap₂, sym, subst, ◌∙◌}
+use Rattle.std.proofs.Common.{◌≡◌, ℕ, ◌+◌, List, length, take, arith, refl, ap, ap₂, sym, subst, ◌∙◌}
 use Rattle.std.specs.Vec.{with_items}
-use Rattle.std.proofs.lemmas.List.{with_items_is, length_push, length-take-le, length-map, map-append, take-map}
+use Rattle.std.proofs.lemmas.List.{with_items_is, length_push, length-take-le}
+use Rattle.std.proofs.lemmas.Map.Keys.{IsDistinct-from_sorted}
+use Rattle.rib_player.specs.declared.pair.Pair.{Pair}
+use Rattle.rib_player.specs.Entries.{Entry}
 use Rattle.rib_player.specs.declared.journal.Step.{Step}
+use Rattle.rib_player.specs.declared.entry.End.TheVariants.{Last}
+use Rattle.rib_player.specs.History.{pair_cmp}
 use Rattle.rib_player.specs.Timeline.{after_play}
-use Rattle.rib_player.specs.Journal.{step_sides, sides_of, steps_of, timeline_of, behind_forgotten}
-use Rattle.rib_player.specs.Marks.{Mark, step_marks, trail_of, marks_of}
-use Rattle.rib_player.specs.Clearings.{clearings_of, clearing_then}
-use Rattle.rib_player.specs.Played.{IsAdvanced, IsPlayed}
-use Rattle.rib_player.specs.Digests.{IsDigestOf, AreDigestsOf}
-use Rattle.rib_player.specs.Groups.{names_in, pairs_of, AreGroups}
-use Rattle.rib_player.proofs.DigestLaws.{digests-taken, digests-added}
-use Rattle.rib_player.proofs.GroupLaws.{pairs-marks}
-use Rattle.rib_player.proofs.KeyLaws.{after_play-on}
+use Rattle.rib_player.specs.Claims.{one_if, claims_beyond, held_claims}
+use Rattle.rib_player.specs.Journal.{sides_of, pairs_in, steps_of, timeline_of, behind_forgotten}
+use Rattle.rib_player.specs.Sides.{AreDistinct, IsStepFor}
+use Rattle.rib_player.specs.Marks.{marks_of, marks_by_step, step_marks, gives_up_by}
+use Rattle.rib_player.specs.Played.{IsPlayed, AreClaimed, CanDrop}
 use Rattle.rib_player.proofs.FloorLaws.{after_play-behind}
+use Rattle.rib_player.proofs.PlayedLaws.{played-among, step-named, can-play, after_play-on}
 use Rattle.rib_player.proofs.player.Player.play_step.Given.{Over}
 use Rattle.rib_player.proofs.player.Player.play_step.Goals as goal
-use Rattle.rib_player.proofs.player.Player.play_step.Goals.{After-push_back_reserved, After-push_back_reserved-2}
+use Rattle.rib_player.proofs.player.Player.play_step.Goals.{After-as_mut_slice, In_ok-put_entries, After-push_back_reserved}
+
+-- ---- before the entries are put
+
+step : (g : Over) (c : After-as_mut_slice g) → IsStepFor c.self.inside.table.routes c.args.event.now (sides_of c.as_mut_slice.result.now)
+step g c = subst (λ es. IsStepFor c.self.inside.table.routes c.args.event.now (sides_of es)) (sym c.as_mut_slice.ensures.value) c.in_ok-entries.ensures
+
+distinct : (g : Over) (c : After-as_mut_slice g) → AreDistinct (sides_of c.as_mut_slice.result.now)
+distinct g c = IsDistinct-from_sorted pair_cmp (pairs_in (sides_of c.as_mut_slice.result.now)) (step g c).ordered
+
+pub put_entries-requires-clause-distinct : goal.put_entries-requires-clause-distinct
+put_entries-requires-clause-distinct g c = distinct g (goal.at.put_entries-requires-clause-distinct g c).After-as_mut_slice
+
+pub put_entries-requires-clause-among : goal.put_entries-requires-clause-among
+put_entries-requires-clause-among g c =
+    played-among c.self.inside.table.keys (claims_beyond c.self.inside.claims) c.self.inside.table.routes c.self.inside.journal.cursor c.self.inside.journal.steps.items c.self.invariant.played
+
+pub put_entries-requires-clause-named : goal.put_entries-requires-clause-named
+put_entries-requires-clause-named g c =
+    step-named c.self.inside.table.routes c.args.event.now (sides_of c.as_mut_slice.result.now) (step g (goal.at.put_entries-requires-clause-named g c).After-as_mut_slice)
+
+-- ---- once they are put
+
+stepped : (g : Over) (c : In_ok-put_entries g) → IsStepFor c.self.inside.table.routes c.args.event.now (sides_of c.as_mut_slice.result.now)
+stepped g c = subst (λ es. IsStepFor c.self.inside.table.routes c.args.event.now (sides_of es)) (sym c.as_mut_slice.ensures.value) c.in_ok-entries.ensures
+
+can : (g : Over) (c : In_ok-put_entries g) → CanDrop (marks_by_step c.self.inside.journal.steps.items) c.self.inside.journal.cursor (held_claims c.put_entries.new.table.keys (claims_beyond c.put_entries.new.claims)) c.put_entries.new.table.routes
+can g c =
+    can-play c.self.inside.table.keys c.put_entries.new.table.keys (claims_beyond c.self.inside.claims) (claims_beyond c.put_entries.new.claims) c.self.inside.table.routes c.put_entries.new.table.routes
+    c.self.inside.journal.cursor c.self.inside.journal.steps.items c.args.event.now (sides_of c.as_mut_slice.result.now) (marks_of c.put_entries.new.entries)
+    c.self.invariant.played (stepped g c) c.in_ok-put_entries.ensures.routes c.in_ok-put_entries.ensures.marks c.in_ok-put_entries.ensures.claimed
+
+pub drop_ahead-requires-clause-claimed : goal.drop_ahead-requires-clause-claimed
+drop_ahead-requires-clause-claimed g c =
+    let held = held_claims c.put_entries.new.table.keys (claims_beyond c.put_entries.new.claims) in
+    subst (λ ss. CanDrop (marks_by_step ss) c.make_room.new.self.cursor held c.put_entries.new.table.routes) (sym c.in_ok-make_room.ensures.steps)
+    (subst (λ n. CanDrop (marks_by_step c.self.inside.journal.steps.items) n held c.put_entries.new.table.routes) (sym c.in_ok-make_room.ensures.cursor) (can g (goal.at.drop_ahead-requires-clause-claimed g c).In_ok-put_entries))
+
+-- ---- once the steps ahead are dropped
 
 -- the event's step
 abbrev new : (g : Over) (c : After-push_back_reserved g) → Step
-new g c = record { entries = with_items c.in_ok-entries.entries c.advance.new.entries }
+new g c = record { entries = with_items c.in_ok-entries.entries c.put_entries.new.entries }
 
--- its entries tell whether their pairs have a route behind it
-clearings : (g : Over) (c : After-push_back_reserved g) → clearings_of c.advance.new.entries ≡ map clearing_then (sides_of c.in_ok-entries.entries.items)
-clearings g c = c.advance.ensures.clearings ∙ ap clearings_of c.as_mut_slice.ensures.value ∙ c.in_ok-entries.ensures.clearings
+entries_then : (g : Over) (c : After-push_back_reserved g) → (new g c).entries.items ≡ c.put_entries.new.entries
+entries_then g c = with_items_is c.in_ok-entries.entries c.put_entries.new.entries (c.put_entries.auto.entries ∙ c.as_mut_slice.ensures.len)
+
+-- the steps before the cursor are left
+left : (g : Over) (c : After-push_back_reserved g) → c.drop_ahead.new.self.steps.items ≡ take c.self.inside.journal.cursor c.self.inside.journal.steps.items
+left g c = c.drop_ahead.ensures.steps ∙ ap₂ take c.in_ok-make_room.ensures.cursor c.in_ok-make_room.ensures.steps
+
+cursor_then : (g : Over) (c : After-push_back_reserved g) → c.drop_ahead.new.self.cursor ≡ c.self.inside.journal.cursor
+cursor_then g c = c.drop_ahead.ensures.cursor ∙ c.in_ok-make_room.ensures.cursor
+
+-- with the claims that they and the event's step make
+claimed_then : (g : Over) (c : After-push_back_reserved g)
+    → AreClaimed (marks_by_step c.drop_ahead.new.self.steps.items) (held_claims c.drop_ahead.new.table.keys (claims_beyond c.drop_ahead.new.claims))
+    (take (c.self.inside.journal.cursor + 1) (timeline_of c.self.inside.journal.cursor (steps_of c.self.inside.journal.steps.items) c.self.inside.table.routes).tables)
+    (λ q. one_if (gives_up_by Last (step_marks (new g c)) q))
+claimed_then g c =
+    let journal = c.self.inside.journal in
+    let t = timeline_of journal.cursor (steps_of journal.steps.items) c.self.inside.table.routes in
+    let now = held_claims c.drop_ahead.new.table.keys (claims_beyond c.drop_ahead.new.claims) in
+    let before = held_claims c.put_entries.new.table.keys (claims_beyond c.put_entries.new.claims) in
+    let marks = marks_by_step c.drop_ahead.new.self.steps.items in
+    let one : List Entry → Pair → ℕ = λ es q. one_if (gives_up_by Last (marks_of es) q) in
+    subst (λ es. AreClaimed marks now (take (journal.cursor + 1) t.tables) (one es)) (sym (entries_then g c))
+    (subst (λ n. AreClaimed marks now (take (n + 1) t.tables) (one c.put_entries.new.entries)) c.in_ok-make_room.ensures.cursor
+    (c.drop_ahead.ensures.claimed t.tables (one c.put_entries.new.entries)
+    (subst (λ ss. AreClaimed (marks_by_step ss) before t.tables (one c.put_entries.new.entries)) (sym c.in_ok-make_room.ensures.steps)
+    (record {
+      marked = c.self.invariant.played.marked;
+      claimed = λ q. c.in_ok-put_entries.ensures.claimed q ∙ ap (λ n. n + one_if (gives_up_by Last (marks_of c.put_entries.new.entries) q)) (c.self.invariant.played.claimed q);
+    }))))
 
 -- the player with the event's step behind the cursor
 then : (g : Over) (c : After-push_back_reserved g)
-    → (timeline_of (c.self.inside.cursor + 1) (steps_of c.push_back_reserved.new.self.items) c.advance.new.table.routes
-    ≡ after_play (timeline_of c.self.inside.cursor (steps_of c.self.inside.steps.items) c.self.inside.table.routes) c.args.event.now)
-    × IsPlayed c.advance.new.table.keys c.advance.new.table.routes (c.self.inside.cursor + 1) c.push_back_reserved.new.self.items
+    → (timeline_of (c.self.inside.journal.cursor + 1) (steps_of c.push_back_reserved.new.self.items) c.drop_ahead.new.table.routes
+    ≡ after_play (timeline_of c.self.inside.journal.cursor (steps_of c.self.inside.journal.steps.items) c.self.inside.table.routes) c.args.event.now)
+    × IsPlayed c.drop_ahead.new.table.keys (claims_beyond c.drop_ahead.new.claims) c.drop_ahead.new.table.routes (c.self.inside.journal.cursor + 1) c.push_back_reserved.new.self.items
 then g c =
-    subst (λ items. (timeline_of (c.self.inside.cursor + 1) (steps_of items) c.advance.new.table.routes
-    ≡ after_play (timeline_of c.self.inside.cursor (steps_of c.self.inside.steps.items) c.self.inside.table.routes) c.args.event.now)
-    × IsPlayed c.advance.new.table.keys c.advance.new.table.routes (c.self.inside.cursor + 1) items) (sym c.push_back_reserved.ensures.items)
-    (after_play-on c.self.inside.table.keys c.advance.new.table.keys c.self.inside.table.routes c.advance.new.table.routes c.self.inside.cursor c.self.inside.steps.items c.advance.new.steps.items
-    (sides_of c.in_ok-entries.entries.items) c.advance.new.entries (record { entries = with_items c.in_ok-entries.entries c.advance.new.entries }) c.args.event.now
-    c.self.invariant.played.journal.within c.in_ok-entries.ensures.step
-    (with_items_is c.in_ok-entries.entries c.advance.new.entries (c.advance.auto.entries ∙ c.as_mut_slice.ensures.len))
-    (subst (λ es. IsAdvanced c.self.inside.table c.self.inside.cursor c.self.inside.steps.items (sides_of es) c.advance.new.table c.advance.new.steps.items c.advance.new.entries) c.as_mut_slice.ensures.value
-    (subst (λ ss. IsAdvanced c.self.inside.table c.self.inside.cursor ss (sides_of c.as_mut_slice.result.now) c.advance.new.table c.advance.new.steps.items c.advance.new.entries) c.reserve.ensures.items
-    c.in_ok-advance.ensures.advanced))
-    c.self.invariant.played.ordered c.self.invariant.played.cleared (clearings g c))
-
--- the step's entries as they were crossed
-entries_then : (g : Over) (c : After-push_back_reserved g) → (new g c).entries.items ≡ c.advance.new.entries
-entries_then g c = with_items_is c.in_ok-entries.entries c.advance.new.entries (c.advance.auto.entries ∙ c.as_mut_slice.ensures.len)
-
--- the steps' marks
-trail_then : (g : Over) (c : After-push_back_reserved g) → trail_of c.push_back_reserved.new.self.items ≡ take c.self.inside.cursor (trail_of c.self.inside.steps.items) ++ marks_of c.advance.new.entries ∷ []
-trail_then g c =
-    let left = c.in_ok-advance.ensures.advanced.left ∙ ap (take c.self.inside.cursor) c.reserve.ensures.items in
-    ap trail_of c.push_back_reserved.ensures.items ∙ map-append step_marks c.advance.new.steps.items (new g c ∷ [])
-    ∙ ap₂ (λ front es. front ++ marks_of es ∷ []) (ap trail_of left ∙ sym (take-map step_marks c.self.inside.cursor c.self.inside.steps.items)) (entries_then g c)
-
--- the steps' digests
-digests_then : (g : Over) (c : After-push_back_reserved-2 g) → c.push_back_reserved-2.new.self.items ≡ take c.self.inside.cursor c.self.inside.digests.items ++ c.of-digest.result ∷ []
-digests_then g c = c.push_back_reserved-2.ensures.items ∙ ap (λ digests. digests ++ c.of-digest.result ∷ []) (c.truncate.ensures.items ∙ ap (take c.self.inside.cursor) c.reserve-2.ensures.items)
-
--- what the steps name
-names_then : (g : Over) (c : After-push_back_reserved g)
-    → names_in (take c.self.inside.cursor (trail_of c.self.inside.steps.items) ++ marks_of c.advance.new.entries ∷ []) ≡ take c.self.inside.cursor (names_in (trail_of c.self.inside.steps.items)) ++ pairs_of c.advance.new.entries ∷ []
-names_then g c =
-    let first = λ (marks : List Mark). map (λ (mark : Mark). mark.0) marks in
-    map-append first (take c.self.inside.cursor (trail_of c.self.inside.steps.items)) (marks_of c.advance.new.entries ∷ [])
-    ∙ ap₂ (λ front pairs. front ++ pairs ∷ []) (sym (take-map first c.self.inside.cursor (trail_of c.self.inside.steps.items))) (pairs-marks c.advance.new.entries)
-
-fits : (g : Over) (c : After-push_back_reserved g) → c.self.inside.cursor ≤ length (names_in (trail_of c.self.inside.steps.items))
-fits g c =
-    let first = λ (marks : List Mark). map (λ (mark : Mark). mark.0) marks in
-    omega (arith, c.self.invariant.played.journal.within, length-map c.self.inside.steps.items step_sides, length-map c.self.inside.steps.items step_marks, length-map (trail_of c.self.inside.steps.items) first)
+    let journal = c.self.inside.journal in
+    let sides = sides_of c.as_mut_slice.result.now in
+    let step : IsStepFor c.self.inside.table.routes c.args.event.now sides = subst (λ es. IsStepFor c.self.inside.table.routes c.args.event.now (sides_of es)) (sym c.as_mut_slice.ensures.value) c.in_ok-entries.ensures in
+    subst (λ items. (timeline_of (journal.cursor + 1) (steps_of items) c.drop_ahead.new.table.routes ≡ after_play (timeline_of journal.cursor (steps_of journal.steps.items) c.self.inside.table.routes) c.args.event.now)
+    × IsPlayed c.drop_ahead.new.table.keys (claims_beyond c.drop_ahead.new.claims) c.drop_ahead.new.table.routes (journal.cursor + 1) items) (sym c.push_back_reserved.ensures.items)
+    (after_play-on c.self.inside.table.keys c.drop_ahead.new.table.keys (claims_beyond c.self.inside.claims) (claims_beyond c.drop_ahead.new.claims) c.self.inside.table.routes c.drop_ahead.new.table.routes
+    journal.cursor journal.steps.items c.drop_ahead.new.self.steps.items sides (new g c) c.args.event.now c.self.invariant.played step
+    (IsDistinct-from_sorted pair_cmp (pairs_in sides) step.ordered) (left g c) (c.drop_ahead.ensures.routes ∙ c.in_ok-put_entries.ensures.routes)
+    (ap sides_of (entries_then g c) ∙ c.in_ok-put_entries.ensures.sides) (ap marks_of (entries_then g c) ∙ c.in_ok-put_entries.ensures.marks)
+    c.drop_ahead.ensures.held (claimed_then g c))
 
 pub invariant_of-self-2 : goal.invariant_of-self-2
 invariant_of-self-2 g c =
     let b = (goal.at.invariant_of-self-2 g c).After-push_back_reserved in
-    let left = c.in_ok-advance.ensures.advanced.left ∙ ap (take c.self.inside.cursor) c.reserve.ensures.items in
     record {
-      played = (then g b).1;
+      played = subst (λ n. IsPlayed c.drop_ahead.new.table.keys (claims_beyond c.drop_ahead.new.claims) c.drop_ahead.new.table.routes (n + 1) c.push_back_reserved.new.self.items) (sym (cursor_then g b)) (then g b).1;
       counted = omega (
         arith,
         c.requires,
         ap (λ t. t.cursor) c.self.view_is,
         ap length c.push_back_reserved.ensures.items,
-        length_push c.advance.new.steps.items (new g b),
-        ap length left,
-        length-take-le c.self.inside.cursor c.self.inside.steps.items (omega (arith, c.self.invariant.played.journal.within, length-map c.self.inside.steps.items step_sides)),
+        length_push c.drop_ahead.new.self.steps.items (new g b),
+        ap length (left g b),
+        length-take-le c.self.inside.journal.cursor c.self.inside.journal.steps.items c.self.invariant.played.within,
+        c.drop_ahead.ensures.floor ∙ c.in_ok-make_room.ensures.floor,
       );
-      digests = subst (λ digests. AreDigestsOf digests (trail_of c.push_back_reserved.new.self.items)) (sym (digests_then g (goal.at.invariant_of-self-2 g c).After-push_back_reserved-2)) (subst (AreDigestsOf (take c.self.inside.cursor c.self.inside.digests.items ++ c.of-digest.result ∷ [])) (sym (trail_then g b))
-          (digests-added (take c.self.inside.cursor c.self.inside.digests.items) (take c.self.inside.cursor (trail_of c.self.inside.steps.items)) c.of-digest.result (marks_of c.advance.new.entries)
-          (digests-taken c.self.inside.cursor c.self.inside.digests.items (trail_of c.self.inside.steps.items) c.self.invariant.digests)
-          (subst (λ es. IsDigestOf c.of-digest.result (marks_of es)) (c.deref.ensures.value ∙ entries_then g b) c.of-digest.ensures)));
-      groups = subst (λ trail. AreGroups c.note.new.self (names_in trail)) (sym (trail_then g b))
-          (subst (AreGroups c.note.new.self) (sym (names_then g b))
-          (subst (λ es. AreGroups c.note.new.self (take c.self.inside.cursor (names_in (trail_of c.self.inside.steps.items)) ++ pairs_of es ∷ [])) (c.deref-2.ensures.value ∙ entries_then g b)
-          (c.note.ensures (names_in (trail_of c.self.inside.steps.items)) (fits g b) c.self.invariant.groups)));
     }
 
 pub returns-clause-after_play : goal.returns-clause-after_play
 returns-clause-after_play g c =
-    let t = timeline_of c.self.inside.cursor (steps_of c.self.inside.steps.items) c.self.inside.table.routes in
-    ap (behind_forgotten c.self.inside.floor) (then g (goal.at.returns-clause-after_play g c).After-push_back_reserved).0
-    ∙ after_play-behind c.self.inside.floor t c.args.event.now refl ∙ ap (λ t. after_play t c.args.event.now) c.self.view_is
+    let b = (goal.at.returns-clause-after_play g c).After-push_back_reserved in
+    let journal = c.self.inside.journal in
+    let t = timeline_of journal.cursor (steps_of journal.steps.items) c.self.inside.table.routes in
+    ap₂ (λ m n. behind_forgotten m (timeline_of (n + 1) (steps_of c.push_back_reserved.new.self.items) c.drop_ahead.new.table.routes)) (c.drop_ahead.ensures.floor ∙ c.in_ok-make_room.ensures.floor) (cursor_then g b)
+    ∙ ap (behind_forgotten journal.floor) (then g b).0
+    ∙ after_play-behind journal.floor t c.args.event.now refl ∙ ap (λ t. after_play t c.args.event.now) c.self.view_is

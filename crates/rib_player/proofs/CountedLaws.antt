@@ -1,0 +1,184 @@
+-- Claims that are counted, key by key, prefix by prefix and pair by pair.
+use Rattle.std.proofs.Common.{◌≡◌, ℕ, ◌+◌, ◌-◌, ◌≤◌, ◌++◌, Bool, true, false, cond, ◌&&◌, List, length, take, replicate, Option, refl, sym, ap, ap₂, subst, ◌∙◌, arith}
+use Rattle.std.specs.BTreeMap as tree
+use Rattle.std.specs.Map.{lookup}
+use Rattle.std.specs.HashMap.Eq.{lookup_congr}
+use Rattle.std.specs.declared.cmp.Ordering.{Ordering}
+use Rattle.std.specs.Ordering.{eq_by_cmp, nat_cmp}
+use Rattle.std.specs.Cmp.{IsTotalOrder, on_total, then_total, eq_by_cmp_equiv, Equal-is}
+use Rattle.std.specs.FinMap.{IsAntisymmetric, nat_cmp-IsAntisymmetric}
+use Rattle.std.proofs.lemmas.Cmp.{nat_cmp_total}
+use Rattle.std.proofs.lemmas.List.{nil_from_length, length-append, length-take-le, length-replicate, take-take, take_at}
+use Rattle.ip_prefix.specs.declared.addr.Family.{Family}
+use Rattle.ip_prefix.specs.declared.addr.Family.TheVariants.{V4, V6}
+use Rattle.ip_prefix.specs.declared.addr.TheConstants.{V4_BITS, V6_BITS}
+use Rattle.ip_prefix.specs.Bits.{bits_of}
+use Rattle.ip_prefix.specs.Network.{Network}
+use Rattle.ip_prefix.specs.Order.{network_cmp}
+use Rattle.ip_prefix.specs.OrderLaws.{both_tie, network_cmp_total, network_cmp-IsAntisymmetric}
+use Rattle.ip_prefix.proofs.Chunks.{bits_of-number_of}
+use Rattle.mrt_wire.specs.declared.peer.Peer.{Peer}
+use Rattle.mrt_wire.specs.Peer.{peer_cmp}
+use Rattle.rib_player.specs.declared.pair.Pair.{Pair}
+use Rattle.rib_player.specs.declared.counts.V4Key.{V4Key}
+use Rattle.rib_player.specs.declared.counts.Counts.{Counts}
+use Rattle.rib_player.specs.Counts.{one_if, count_kept, count_at, count_of, v4_key, key_cmp, by_family}
+use Rattle.rib_player.specs.Claims.{count_of_peer}
+use Rattle.rib_player.proofs.MarkLaws.{tied}
+use Rattle.rib_player.proofs.StoreLaws.{same_peer, same_network, one_peer, peer_symm, tied_parts}
+
+-- ---- key by key
+
+kept-cond : (b : Bool) (x y : Option ℕ) → count_kept (cond b x y) ≡ cond b (count_kept x) (count_kept y)
+kept-cond true x y = refl
+kept-cond false x y = refl
+
+module _ {K : Type 0} {cmp : K → K → Ordering} (total : IsTotalOrder cmp) where
+  -- what stands for a key is another
+  pub count-written : (counts counts' : tree.BTreeMap K ℕ) (key k : K) (w : Option ℕ) → tree.get cmp counts' k ≡ cond (eq_by_cmp cmp key k) w (tree.get cmp counts k)
+      → count_at cmp counts' k ≡ cond (eq_by_cmp cmp k key) (count_kept w) (count_at cmp counts k)
+  count-written counts counts' key k w written =
+      ap count_kept written ∙ kept-cond (eq_by_cmp cmp key k) w (tree.get cmp counts k)
+      ∙ ap (λ b. cond b (count_kept w) (count_at cmp counts k)) ((eq_by_cmp_equiv total).symm key k)
+
+  -- keys that tie have one count
+  same-count : (counts : tree.BTreeMap K ℕ) (k key : K) → eq_by_cmp cmp k key ≡ true → count_at cmp counts k ≡ count_at cmp counts key
+  same-count counts k key e = ap count_kept (lookup_congr (eq_by_cmp cmp) (eq_by_cmp_equiv total).congr counts.entries k key e)
+
+  -- the count of the key is one more
+  pub counted-more : (counts counts' : tree.BTreeMap K ℕ) (key : K) (v : ℕ) → v ≡ count_at cmp counts key + 1
+      → (k : K) → count_at cmp counts' k ≡ cond (eq_by_cmp cmp k key) v (count_at cmp counts k) → count_at cmp counts' k ≡ count_at cmp counts k + one_if (eq_by_cmp cmp k key)
+  counted-more counts counts' key v more k is = is ∙ at (eq_by_cmp cmp k key) refl
+    where
+      at : (b : Bool) → eq_by_cmp cmp k key ≡ b → cond b v (count_at cmp counts k) ≡ count_at cmp counts k + one_if b
+      at true e = more ∙ ap (λ n. n + 1) (sym (same-count counts k key e))
+      at false e = omega arith
+
+  -- or less by one, where there is one
+  pub counted-less : (counts counts' : tree.BTreeMap K ℕ) (key : K) (v : ℕ) (some : Bool) → v + one_if some ≡ count_at cmp counts key
+      → (k : K) → count_at cmp counts' k ≡ cond (eq_by_cmp cmp k key) v (count_at cmp counts k) → count_at cmp counts' k + one_if (some && eq_by_cmp cmp k key) ≡ count_at cmp counts k
+  counted-less counts counts' key v some less k is = ap (λ c. c + one_if (some && eq_by_cmp cmp k key)) is ∙ at (eq_by_cmp cmp k key) refl some less
+    where
+      at : (b : Bool) → eq_by_cmp cmp k key ≡ b → (s : Bool) → v + one_if s ≡ count_at cmp counts key → cond b v (count_at cmp counts k) + one_if (s && b) ≡ count_at cmp counts k
+      at true e true l = l ∙ sym (same-count counts k key e)
+      at true e false l = l ∙ sym (same-count counts k key e)
+      at false e true l = omega arith
+      at false e false l = omega arith
+
+  -- or the same
+  pub counted-same : (counts counts' : tree.BTreeMap K ℕ) (key : K) (v : ℕ) → v ≡ count_at cmp counts key
+      → (k : K) → count_at cmp counts' k ≡ cond (eq_by_cmp cmp k key) v (count_at cmp counts k) → count_at cmp counts' k ≡ count_at cmp counts k
+  counted-same counts counts' key v same k is = omega (arith, counted-less counts counts' key v false (omega (arith, same)) k is)
+
+  -- an empty map counts none
+  pub none-counted : (counts : tree.BTreeMap K ℕ) (k : K) → length counts.entries ≡ 0 → count_at cmp counts k ≡ 0
+  none-counted counts k none = ap (λ es. count_kept (lookup (tree.is_at (cmp k)) es)) (nil_from_length counts.entries none)
+
+-- ---- prefix by prefix
+
+key_cmp_total : IsTotalOrder key_cmp
+key_cmp_total = then_total (on_total (λ k. k.number) nat_cmp_total) (on_total (λ k. k.len) nat_cmp_total)
+
+key_cmp-IsAntisymmetric : IsAntisymmetric key_cmp
+key_cmp-IsAntisymmetric a b e =
+    let ties = both_tie (nat_cmp a.number b.number) (nat_cmp a.len b.len) e in
+    λ i. record { number = nat_cmp-IsAntisymmetric a.number b.number ties.0 i; len = nat_cmp-IsAntisymmetric a.len b.len ties.1 i }
+
+-- the bits of a prefix, filled with zeros
+abbrev filled : Network → List Bool
+filled n = n.bits ++ replicate (V6_BITS - length n.bits) false
+
+front : (n : Network) → length n.bits ≤ V4_BITS → take (length n.bits) (take V4_BITS (filled n)) ≡ n.bits
+front n within = take-take (length n.bits) V4_BITS (filled n) within ∙ take_at n.bits (replicate (V6_BITS - length n.bits) false) (length n.bits) refl
+
+spelled : (n : Network) → length n.bits ≤ V4_BITS → bits_of V4_BITS (v4_key n).number ≡ take V4_BITS (filled n)
+spelled n within =
+    let long : length (take V4_BITS (filled n)) ≡ V4_BITS =
+    length-take-le V4_BITS (filled n) (omega (arith, within, length-append n.bits (replicate (V6_BITS - length n.bits) false), length-replicate (V6_BITS - length n.bits) false)) in
+    ap (λ k. bits_of k (v4_key n).number) (sym long) ∙ bits_of-number_of (take V4_BITS (filled n))
+
+-- a prefix is got back from its key
+one_key : (n p : Network) → n.family ≡ V4 → p.family ≡ V4 → length p.bits ≤ V4_BITS → v4_key n ≡ v4_key p → n ≡ p
+one_key n p e f within same =
+    let long : length n.bits ≡ length p.bits = ap (λ (k : V4Key). k.len) same in
+    let bits : n.bits ≡ p.bits =
+    sym (front n (omega (arith, long, within)))
+    ∙ ap₂ take long (sym (spelled n (omega (arith, long, within))) ∙ ap (λ (k : V4Key). bits_of V4_BITS k.number) same ∙ spelled p within)
+    ∙ front p within in
+    λ i. record { family = (e ∙ sym f) i; bits = bits i }
+
+iff : (a b : Bool) → (a ≡ true → b ≡ true) → (b ≡ true → a ≡ true) → a ≡ b
+iff true b there back = sym (there refl)
+iff false true there back = back refl
+iff false false there back = refl
+
+-- keys tie where prefixes do
+tied_keys : (n p : Network) → n.family ≡ V4 → p.family ≡ V4 → length p.bits ≤ V4_BITS → eq_by_cmp key_cmp (v4_key n) (v4_key p) ≡ same_network n p
+tied_keys n p e f within =
+    iff (eq_by_cmp key_cmp (v4_key n) (v4_key p)) (same_network n p)
+    (λ t. ap (same_network n) (sym (one_key n p e f within (key_cmp-IsAntisymmetric (v4_key n) (v4_key p) ((Equal-is (key_cmp (v4_key n) (v4_key p))).0 t)))) ∙ (eq_by_cmp_equiv network_cmp_total).refl n)
+    (λ t. ap (λ x. eq_by_cmp key_cmp (v4_key n) (v4_key x)) (sym (network_cmp-IsAntisymmetric n p ((Equal-is (network_cmp n p)).0 t))) ∙ (eq_by_cmp_equiv key_cmp_total).refl (v4_key n))
+
+-- prefixes of two families don't tie
+apart : (n p : Network) (f g : Family) → n.family ≡ f → p.family ≡ g → (f ≡ g → false ≡ true) → same_network n p ≡ false
+apart n p f g e h differ = at (same_network n p) refl
+  where
+    at : (b : Bool) → same_network n p ≡ b → b ≡ false
+    at true t = sym (differ (sym e ∙ ap (λ (x : Network). x.family) (network_cmp-IsAntisymmetric n p ((Equal-is (network_cmp n p)).0 t)) ∙ h))
+    at false t = refl
+
+-- what is counted of keys, with this bit for the one that is meant, is counted of prefixes
+pub v4-counted : (old new : Counts) (p : Network) (R : ℕ → ℕ → Bool → Type 0) → p.family ≡ V4 → length p.bits ≤ V4_BITS → new.v6 ≡ old.v6
+    → ((k : V4Key) → R (count_at key_cmp new.v4 k) (count_at key_cmp old.v4 k) (eq_by_cmp key_cmp k (v4_key p))) → ((m : ℕ) → R m m false) → (n : Network) → R (count_of new n) (count_of old n) (same_network n p)
+v4-counted old new p R f within same keys other n = at n.family refl
+  where
+    at : (g : Family) → n.family ≡ g → R (count_of new n) (count_of old n) (same_network n p)
+    at V4 e =
+        subst (λ g. R (by_family g (count_at key_cmp new.v4 (v4_key n)) (count_at network_cmp new.v6 n)) (by_family g (count_at key_cmp old.v4 (v4_key n)) (count_at network_cmp old.v6 n)) (same_network n p)) (sym e)
+        (subst (R (count_at key_cmp new.v4 (v4_key n)) (count_at key_cmp old.v4 (v4_key n))) (tied_keys n p e f within) (keys (v4_key n)))
+    at V6 e =
+        subst (λ g. R (by_family g (count_at key_cmp new.v4 (v4_key n)) (count_at network_cmp new.v6 n)) (by_family g (count_at key_cmp old.v4 (v4_key n)) (count_at network_cmp old.v6 n)) (same_network n p)) (sym e)
+        (subst (λ m. R (count_at network_cmp m n) (count_at network_cmp old.v6 n) (same_network n p)) (sym same)
+        (subst (R (count_at network_cmp old.v6 n) (count_at network_cmp old.v6 n)) (sym (apart n p V6 V4 e f (λ d. cc))) (other (count_at network_cmp old.v6 n))))
+
+-- ---- pair by pair
+
+abbrev pub Peers : Type 0
+Peers = tree.BTreeMap Peer Counts
+
+abbrev beyond : Peers → Pair → ℕ
+beyond peers q = count_of_peer (tree.get peer_cmp peers q.peer) q.prefix
+
+abbrev pub IsWritten : Peers → Peers → Peer → Option Counts → Type 0
+IsWritten peers peers' peer w = (p : Peer) → tree.get peer_cmp peers' p ≡ cond (same_peer peer p) w (tree.get peer_cmp peers p)
+
+-- what stands for a peer is another: a claim more
+pub beyond-more : (peers peers' : Peers) (pair : Pair) (w : Option Counts) → IsWritten peers peers' pair.peer w
+    → ((n : Network) → count_of_peer w n ≡ count_of_peer (tree.get peer_cmp peers pair.peer) n + one_if (same_network n pair.prefix)) → (q : Pair) → beyond peers' q ≡ beyond peers q + one_if (tied q pair)
+beyond-more peers peers' pair w written more q =
+    ap (λ c. count_of_peer c q.prefix) (written q.peer)
+    ∙ ap (λ b. count_of_peer (cond b w (tree.get peer_cmp peers q.peer)) q.prefix) (peer_symm pair.peer q.peer)
+    ∙ at (same_peer q.peer pair.peer) refl
+    ∙ ap (λ b. beyond peers q + one_if b) (sym (tied_parts q pair.peer pair.prefix))
+  where
+    at : (b : Bool) → same_peer q.peer pair.peer ≡ b → count_of_peer (cond b w (tree.get peer_cmp peers q.peer)) q.prefix ≡ beyond peers q + one_if (b && same_network q.prefix pair.prefix)
+    at true e = more q.prefix ∙ ap (λ p. count_of_peer (tree.get peer_cmp peers p) q.prefix + one_if (same_network q.prefix pair.prefix)) (sym (one_peer q.peer pair.peer e))
+    at false e = omega arith
+
+-- a claim less, or none
+pub beyond-less : (peers peers' : Peers) (pair : Pair) (w : Option Counts) (some : Bool) → IsWritten peers peers' pair.peer w
+    → ((n : Network) → count_of_peer w n + one_if (some && same_network n pair.prefix) ≡ count_of_peer (tree.get peer_cmp peers pair.peer) n) → (q : Pair) → beyond peers' q + one_if (some && tied q pair) ≡ beyond peers q
+beyond-less peers peers' pair w some written less q =
+    ap₂ (λ c t. count_of_peer c q.prefix + one_if (some && t)) (written q.peer ∙ ap (λ b. cond b w (tree.get peer_cmp peers q.peer)) (peer_symm pair.peer q.peer)) (tied_parts q pair.peer pair.prefix)
+    ∙ at (same_peer q.peer pair.peer) refl some less
+  where
+    at : (b : Bool) → same_peer q.peer pair.peer ≡ b → (s : Bool) → ((n : Network) → count_of_peer w n + one_if (s && same_network n pair.prefix) ≡ count_of_peer (tree.get peer_cmp peers pair.peer) n)
+        → count_of_peer (cond b w (tree.get peer_cmp peers q.peer)) q.prefix + one_if (s && (b && same_network q.prefix pair.prefix)) ≡ beyond peers q
+    at true e s l = l q.prefix ∙ ap (λ p. count_of_peer (tree.get peer_cmp peers p) q.prefix) (sym (one_peer q.peer pair.peer e))
+    at false e true l = omega arith
+    at false e false l = omega arith
+
+-- as many
+pub beyond-same : (peers peers' : Peers) (pair : Pair) (w : Option Counts) → IsWritten peers peers' pair.peer w
+    → ((n : Network) → count_of_peer w n ≡ count_of_peer (tree.get peer_cmp peers pair.peer) n) → (q : Pair) → beyond peers' q ≡ beyond peers q
+beyond-same peers peers' pair w written same q = omega (arith, beyond-less peers peers' pair w false written (λ n. omega (arith, same n)) q)

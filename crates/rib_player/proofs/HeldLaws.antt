@@ -1,0 +1,141 @@
+-- Claims that are held: the key, and those beyond it.
+use Rattle.std.proofs.Common.{◌≡◌, ℕ, zero, suc, ◌+◌, ◌<◌, Bool, true, false, cond, not, ◌||◌, ◌&&◌, List, [], ◌∷◌, Option, refl, sym, ap, ap₂, ◌∙◌, arith}
+use Rattle.std.specs.Prelude.{nat_lt}
+use Rattle.std.specs.List.{AllByRecursion}
+use Rattle.std.specs.FinMap as finite
+use Rattle.std.specs.FinSet as set
+use Rattle.std.specs.FinSet.{contains-insert, contains-remove}
+use Rattle.std.proofs.lemmas.Bool.{true≢false, lt-ltb, or_parts}
+use Rattle.rib_player.specs.declared.pair.Pair.{Pair}
+use Rattle.mrt_wire.specs.declared.event.Route.{Route}
+use Rattle.rib_store.specs.Contents.{AreAmong}
+use Rattle.rib_store.specs.Stored.{put}
+use Rattle.rib_store.proofs.PutLaws.{get-put}
+use Rattle.std.proofs.Math.Bool.{or-true}
+use Rattle.rib_player.specs.Tables.{Routes, Pairs}
+use Rattle.rib_player.specs.Claims.{one_if, held_claims, AreHeld}
+use Rattle.rib_player.proofs.PairLaws.{pair_cmp_total, same_pair}
+use Rattle.rib_player.proofs.MarkLaws.{tied, tied_itself}
+
+pub one_true : (b : Bool) → b ≡ true → one_if b ≡ 1
+one_true b e = ap one_if e
+
+pub one_false : (b : Bool) → b ≡ false → one_if b ≡ 0
+one_false b e = ap one_if e
+
+-- a pair is a key exactly where a claim of it is held
+pub held-key : (keys : Pairs) (beyond : Pair → ℕ) (q : Pair) → AreHeld keys beyond → set.contains keys q ≡ nat_lt 0 (held_claims keys beyond q)
+held-key keys beyond q held = at (set.contains keys q) (beyond q) (held q)
+  where
+    at : (b : Bool) (n : ℕ) → (b ≡ false → n ≡ 0) → b ≡ nat_lt 0 (one_if b + n)
+    at true n none = sym (lt-ltb 0 (1 + n) (omega arith))
+    at false n none = sym (ap (λ m. nat_lt 0 (0 + m)) (none refl))
+
+pub some-key : (keys : Pairs) (beyond : Pair → ℕ) (q : Pair) → AreHeld keys beyond → 0 < held_claims keys beyond q → set.contains keys q ≡ true
+some-key keys beyond q held some = held-key keys beyond q held ∙ lt-ltb 0 (held_claims keys beyond q) some
+
+-- as many claims are held with the same keys and as many beyond them
+pub same-key : (keys keys' : Pairs) (beyond beyond' : Pair → ℕ) (q : Pair) → AreHeld keys beyond → AreHeld keys' beyond' → held_claims keys' beyond' q ≡ held_claims keys beyond q
+    → set.contains keys' q ≡ set.contains keys q
+same-key keys keys' beyond beyond' q held held' same = held-key keys' beyond' q held' ∙ ap (nat_lt 0) same ∙ sym (held-key keys beyond q held)
+
+-- a claim is made: a key that was none, or one beyond a key
+pub made-claimed : (keys keys' : Pairs) (beyond beyond' : Pair → ℕ) (p q : Pair) → keys' ≡ set.insert keys p → beyond' q ≡ beyond q → set.contains keys p ≡ false
+    → held_claims keys' beyond' q ≡ held_claims keys beyond q + one_if (tied q p)
+made-claimed keys keys' beyond beyond' p q more same out =
+    ap₂ (λ b n. one_if b + n) (ap (λ k. set.contains k q) more ∙ contains-insert pair_cmp_total keys p q) same
+    ∙ at (tied q p) (set.contains keys q) (beyond q) (λ e. ap (set.contains keys) (same_pair q p e) ∙ out)
+  where
+    at : (t b : Bool) (n : ℕ) → (t ≡ true → b ≡ false) → one_if (t || b) + n ≡ one_if b + n + one_if t
+    at true true n none = absurd (true≢false (none refl))
+    at true false n none = omega arith
+    at false b n none = omega arith
+
+pub insert-held : (keys keys' : Pairs) (beyond beyond' : Pair → ℕ) (p : Pair) → keys' ≡ set.insert keys p → ((q : Pair) → beyond' q ≡ beyond q) → AreHeld keys beyond → AreHeld keys' beyond'
+insert-held keys keys' beyond beyond' p more same held q out =
+    same q ∙ held q (or_parts (tied q p) (set.contains keys q) (sym (ap (λ k. set.contains k q) more ∙ contains-insert pair_cmp_total keys p q) ∙ out)).1
+
+-- a key that was there is not made
+pub there-same : (keys keys' : Pairs) (p q : Pair) → keys' ≡ set.insert keys p → set.contains keys p ≡ true → set.contains keys' q ≡ set.contains keys q
+there-same keys keys' p q more there =
+    ap (λ k. set.contains k q) more ∙ contains-insert pair_cmp_total keys p q
+    ∙ at (tied q p) (set.contains keys q) (λ e. ap (set.contains keys) (same_pair q p e) ∙ there)
+  where
+    at : (t b : Bool) → (t ≡ true → b ≡ true) → (t || b) ≡ b
+    at true b is = sym (is refl)
+    at false b is = refl
+
+-- claims are counted beyond a key
+pub beyond-held : (keys keys' : Pairs) (beyond beyond' : Pair → ℕ) (p : Pair) → ((q : Pair) → set.contains keys' q ≡ set.contains keys q) → set.contains keys p ≡ true
+    → ((q : Pair) → beyond' q ≡ beyond q + one_if (tied q p)) → AreHeld keys beyond → AreHeld keys' beyond'
+beyond-held keys keys' beyond beyond' p same there more held q out = at (tied q p) refl
+  where
+    none : set.contains keys q ≡ false
+    none = sym (same q) ∙ out
+
+    at : (t : Bool) → tied q p ≡ t → beyond' q ≡ 0
+    at true e = absurd (true≢false (sym there ∙ ap (set.contains keys) (sym (same_pair q p e)) ∙ none))
+    at false e = more q ∙ ap₂ (λ n t. n + one_if t) (held q none) e
+
+pub same-held : (keys keys' : Pairs) (beyond beyond' : Pair → ℕ) → ((q : Pair) → set.contains keys' q ≡ set.contains keys q) → ((q : Pair) → beyond' q ≡ beyond q) → AreHeld keys beyond → AreHeld keys' beyond'
+same-held keys keys' beyond beyond' keyed counted held q out = counted q ∙ held q (sym (keyed q) ∙ out)
+
+-- a key is given up
+pub removed-claimed : (keys keys' : Pairs) (beyond beyond' : Pair → ℕ) (p q : Pair) → keys' ≡ set.remove keys p → beyond' q ≡ beyond q → set.contains keys p ≡ true
+    → held_claims keys' beyond' q + one_if (tied q p) ≡ held_claims keys beyond q
+removed-claimed keys keys' beyond beyond' p q less same there =
+    ap₂ (λ b n. one_if b + n + one_if (tied q p)) (ap (λ k. set.contains k q) less ∙ contains-remove pair_cmp_total keys p q) same
+    ∙ at (tied q p) (set.contains keys q) (beyond q) (λ e. ap (set.contains keys) (same_pair q p e) ∙ there)
+  where
+    at : (t b : Bool) (n : ℕ) → (t ≡ true → b ≡ true) → one_if (not t && b) + n + one_if t ≡ one_if b + n
+    at true true n is = omega arith
+    at true false n is = absurd (true≢false (sym (is refl)))
+    at false b n is = omega arith
+
+-- and nothing was counted beyond it
+pub removed-held : (keys keys' : Pairs) (beyond beyond' : Pair → ℕ) (p : Pair) → keys' ≡ set.remove keys p → ((q : Pair) → beyond' q ≡ beyond q) → beyond p ≡ 0 → AreHeld keys beyond → AreHeld keys' beyond'
+removed-held keys keys' beyond beyond' p less same none held q out =
+    same q ∙ at (tied q p) refl (set.contains keys q) refl (sym (ap (λ k. set.contains k q) less ∙ contains-remove pair_cmp_total keys p q) ∙ out)
+  where
+    at : (t : Bool) → tied q p ≡ t → (b : Bool) → set.contains keys q ≡ b → (not (tied q p) && set.contains keys q) ≡ false → beyond q ≡ 0
+    at true e b f h = ap beyond (same_pair q p e) ∙ none
+    at false e true f h = absurd (true≢false (sym (ap₂ (λ t b. not t && b) e f) ∙ h))
+    at false e false f h = held q f
+
+-- where there is none beyond it, none is
+pub none-counted_beyond : (n : ℕ) (some : Bool) → some ≡ nat_lt 0 n → some ≡ false → n ≡ 0
+none-counted_beyond n some e f = at n (sym e ∙ f)
+  where
+    at : (n : ℕ) → nat_lt 0 n ≡ false → n ≡ 0
+    at zero e = refl
+    at (suc n) e = absurd (true≢false (sym (lt-ltb 0 (suc n) (omega arith)) ∙ e))
+
+-- a claim of a pair that is among others or apart from them
+pub one-or : (a b : Bool) → (b ≡ true → a ≡ false) → one_if (a || b) ≡ one_if a + one_if b
+one-or true true apart = absurd (true≢false (apart refl))
+one-or true false apart = refl
+one-or false b apart = sym (zero-more (one_if b))
+  where
+    zero-more : (n : ℕ) → 0 + n ≡ n
+    zero-more n = omega arith
+
+-- ---- keys and routes with one pair more
+
+pub put-among : (keys keys' : Pairs) (routes routes' : Routes) (p : Pair) (new : Option Route) → keys' ≡ set.insert keys p → routes' ≡ put routes p new → AreAmong keys routes → AreAmong keys' routes'
+put-among keys keys' routes routes' p new more after among q out =
+    let apart = or_parts (tied q p) (set.contains keys q) (sym (ap (λ k. set.contains k q) more ∙ contains-insert pair_cmp_total keys p q) ∙ out) in
+    ap (λ r. finite.get r q) after ∙ get-put pair_cmp_total routes p new q ∙ ap (λ b. cond b new (finite.get routes q)) apart.0 ∙ among q apart.1
+
+pub inserted : (keys keys' : Pairs) (p : Pair) → keys' ≡ set.insert keys p → set.contains keys' p ≡ true
+inserted keys keys' p more = ap (λ k. set.contains k p) more ∙ contains-insert pair_cmp_total keys p p ∙ ap (λ b. b || set.contains keys p) (tied_itself p)
+
+pub all-inserted : (keys keys' : Pairs) (p : Pair) (pairs : List Pair) → keys' ≡ set.insert keys p → AllByRecursion (λ q. set.contains keys q ≡ true) pairs → AllByRecursion (λ q. set.contains keys' q ≡ true) pairs
+all-inserted keys keys' p [] more all = tt
+all-inserted keys keys' p (q ∷ pairs) more all = (
+  ap (λ k. set.contains k q) more ∙ contains-insert pair_cmp_total keys p q ∙ ap (λ b. tied q p || b) all.0 ∙ or-true (tied q p),
+  all-inserted keys keys' p pairs more all.1,
+)
+
+pub all-same : (keys keys' : Pairs) (pairs : List Pair) → ((q : Pair) → set.contains keys' q ≡ set.contains keys q) → AllByRecursion (λ q. set.contains keys q ≡ true) pairs → AllByRecursion (λ q. set.contains keys' q ≡ true) pairs
+all-same keys keys' [] same all = tt
+all-same keys keys' (q ∷ pairs) same all = (same q ∙ all.0, all-same keys keys' pairs same all.1)

@@ -1,0 +1,165 @@
+//! Claims of pairs. A pair is claimed once if it has a route before all kept steps, and once by each
+//! of them that brings it: before which it has no route and behind which it has one. A pair is a key
+//! exactly where it is claimed. The key is the first claim; those beyond it are counted here.
+
+ghost use Rattle.std.specs.Prelude.{◌≡◌, ◌+◌, ◌||◌, ◌&&◌, ℕ, true, false, is_some, nat_lt, None, take, OnOk, OnErr};
+ghost use Rattle.std.specs.FinMap as finite;
+ghost use Rattle.std.specs.FinSet as set;
+ghost use Rattle.std.specs.Ordering.{eq_by_cmp};
+ghost use Rattle.rib_store.specs.Contents.{AreAmong};
+ghost use Rattle.rib_store.specs.Stored.{put};
+ghost use Rattle.rib_player.specs.declared.pair.Pair.{Pair};
+ghost use Rattle.rib_player.specs.declared.entry.End.TheVariants.{Last};
+ghost use Rattle.rib_player.specs.History.{pair_cmp};
+ghost use Rattle.rib_player.specs.Store.{route_in};
+ghost use Rattle.rib_player.specs.Journal.{sides_of};
+ghost use Rattle.rib_player.specs.Sides.{AreDistinct};
+ghost use Rattle.rib_player.specs.Marks.{mark_of, marks_of, gives_up, gives_up_by};
+ghost use Rattle.rib_player.specs.Claims.{one_if, claims_beyond, held_claims, AreHeld};
+
+use crate::counts::Counts;
+use crate::entry::{End, Entry};
+use crate::pair::Pair;
+use crate::table::Table;
+use mrt_wire::{Peer, Route};
+use rib_store::PrefixStore;
+use std::alloc::{AllocError, Global};
+use std::collections::BTreeMap;
+use std::rc::Rc;
+
+/// How often pairs are claimed besides their keys. Only those stand here that were withdrawn and
+/// announced again among the kept steps.
+#[derive(Drop)]
+pub(crate) struct Claims {
+    alloc: Global,
+    pub(crate) peers: BTreeMap<Peer, Counts>,
+}
+
+impl Claims {
+    /// None beyond the keys.
+    pub(crate) fn new(alloc: Global) -> Claims
+        ensures { (q : Pair) → claims_beyond result q ≡ 0 }
+    {
+        Claims {
+            alloc,
+            peers: BTreeMap::new(alloc),
+        }
+    }
+
+    /// Counts a claim more of the pair. Refused, nothing has changed.
+    fn add(&mut self, pair: &Pair) -> Result<(), AllocError>
+        ensures counted { OnOk result ((q : Pair) → claims_beyond self.new q
+            ≡ claims_beyond self.old q + one_if (eq_by_cmp pair_cmp q pair.now)) }
+        ensures refused { OnErr result ((q : Pair) →
+            claims_beyond self.new q ≡ claims_beyond self.old q) }
+    {
+        if let Some(counts) = self.peers.get_mut(&pair.peer) {
+            return counts.more(&pair.prefix);
+        }
+        let mut counts = Counts::new(self.alloc);
+        counts.more(&pair.prefix)?;
+        self.peers.insert(pair.peer, counts)?;
+        Ok(())
+    }
+
+    /// Counts a claim less of the pair, where there is one, and answers whether there is.
+    fn take(&mut self, pair: &Pair) -> bool
+        ensures some { result ≡ nat_lt 0 (claims_beyond self.old pair.now) }
+        ensures counted { (q : Pair) → claims_beyond self.new q
+            + one_if (result && eq_by_cmp pair_cmp q pair.now) ≡ claims_beyond self.old q }
+    {
+        let Some(counts) = self.peers.get_mut(&pair.peer) else {
+            return false;
+        };
+        let taken = counts.less(&pair.prefix);
+        if counts.is_empty() {
+            self.peers.remove(&pair.peer);
+        }
+        taken
+    }
+}
+
+/// Goes from one side of a new step to the other with one of its entries. Where the step brings the
+/// pair, that is a claim: the key, where the pair was none, or else one beyond it. Refused, nothing
+/// has changed but the entry.
+pub(crate) fn put_entry<S: PrefixStore<Rc<Route>>>(
+    table: &mut Table<S>,
+    claims: &mut Claims,
+    entry: &mut Entry,
+) -> Result<(), AllocError>
+    requires held { AreHeld table.old.keys (claims_beyond claims.old) }
+    requires among { AreAmong table.old.keys table.old.routes }
+    requires named { (is_some (finite.get table.old.routes entry.old.pair)
+        || is_some (route_in entry.old.other)) ≡ true }
+    ensures held { AreHeld table.new.keys (claims_beyond claims.new) }
+    ensures keys { OnOk result (table.new.keys ≡ set.insert table.old.keys entry.old.pair) }
+    ensures claimed { OnOk result ((q : Pair) →
+        held_claims table.new.keys (claims_beyond claims.new) q
+        ≡ held_claims table.old.keys (claims_beyond claims.old) q
+        + one_if (gives_up Last (mark_of entry.new) && eq_by_cmp pair_cmp q entry.old.pair)) }
+    ensures before { OnOk result
+        (entry.new.before ≡ is_some (finite.get table.old.routes entry.old.pair)) }
+    ensures behind { OnOk result (entry.new.behind ≡ is_some (route_in entry.old.other)) }
+    ensures routes { OnOk result (table.new.routes ≡
+        put table.old.routes entry.old.pair (route_in entry.old.other)) }
+    ensures given { OnOk result
+        (route_in entry.new.other ≡ finite.get table.old.routes entry.old.pair) }
+    ensures pair { OnOk result (entry.new.pair ≡ entry.old.pair) }
+    ensures refused { OnErr result ((q : Pair) →
+        held_claims table.new.keys (claims_beyond claims.new) q
+        ≡ held_claims table.old.keys (claims_beyond claims.old) q) }
+    ensures kept { OnErr result (table.new.routes ≡ table.old.routes) }
+{
+    let made = entry.put(table)?;
+    if made || !entry.gives_up(End::Last) {
+        return Ok(());
+    }
+    if let Err(refused) = claims.add(&entry.pair()) {
+        entry.exchange(table);
+        return Err(refused);
+    }
+    Ok(())
+}
+
+/// Gives up a claim of the pair: one beyond the key, where there is one, or else the key.
+fn give_up<S: PrefixStore<Rc<Route>>>(table: &mut Table<S>, claims: &mut Claims, pair: &Pair)
+    requires held { AreHeld table.old.keys (claims_beyond claims.old) }
+    requires key { set.contains table.old.keys pair.now ≡ true }
+    requires free { claims_beyond claims.old pair.now ≡ 0 →
+        finite.get table.old.routes pair.now ≡ None }
+    ensures held { AreHeld table.new.keys (claims_beyond claims.new) }
+    ensures claimed { (q : Pair) → held_claims table.new.keys (claims_beyond claims.new) q
+        + one_if (eq_by_cmp pair_cmp q pair.now)
+        ≡ held_claims table.old.keys (claims_beyond claims.old) q }
+    ensures routes { table.new.routes ≡ table.old.routes }
+{
+    if !claims.take(pair) {
+        table.discard(pair);
+    }
+}
+
+/// Gives up the claims that go with a step at this end. It takes no memory.
+pub(crate) fn give_up_claims<S: PrefixStore<Rc<Route>>>(
+    table: &mut Table<S>,
+    claims: &mut Claims,
+    entries: &[Entry],
+    end: End,
+)
+    requires held { AreHeld table.old.keys (claims_beyond claims.old) }
+    requires distinct { AreDistinct (sides_of entries.now) }
+    requires keys { (q : Pair) → gives_up_by end (marks_of entries.now) q ≡ true →
+        set.contains table.old.keys q ≡ true }
+    requires free { (q : Pair) → gives_up_by end (marks_of entries.now) q ≡ true →
+        claims_beyond claims.old q ≡ 0 → finite.get table.old.routes q ≡ None }
+    ensures held { AreHeld table.new.keys (claims_beyond claims.new) }
+    ensures claimed { (q : Pair) → held_claims table.new.keys (claims_beyond claims.new) q
+        + one_if (gives_up_by end (marks_of entries.now) q)
+        ≡ held_claims table.old.keys (claims_beyond claims.old) q }
+    ensures routes { table.new.routes ≡ table.old.routes }
+{
+    'entries: for entry in entries {
+        if entry.gives_up(end) {
+            give_up(table, claims, &entry.pair());
+        }
+    }
+}
