@@ -5,7 +5,7 @@ use Rattle.std.proofs.KnownBytes.{Appends-kept}
 use Rattle.mrt_wire.specs.declared.SourceFault.{SourceFault}
 use Rattle.mrt_wire.specs.declared.SourceFault.TheVariants as source
 use Rattle.mrt_wire.specs.declared.RecordKind.TheVariants.{CutRecord}
-use Rattle.mrt_wire.specs.declared.event.Stamp.{Stamp}
+use Rattle.mrt_wire.specs.declared.stamp.Stamp.{Stamp}
 use Rattle.mrt_wire.specs.declared.next.Phase.TheVariants.{Ended}
 use Rattle.mrt_wire.specs.Verdict.{Frame}
 use Rattle.mrt_wire.specs.Splitting.{Splits}

@@ -3,12 +3,12 @@ use Rattle.std.proofs.Common.{◌≡◌, ℕ, zero, suc, All, ◌+◌, ◌-◌, 
 use Rattle.std.proofs.lemmas.List.{map-append, drop-drop, take-append-drop, take_all, drop-map}
 use Rattle.std.proofs.lemmas.Grind.{flat_map-append}
 use Rattle.std.specs.List.{flat_map}
-use Rattle.mrt_wire.specs.declared.event.Item.{Item}
+use Rattle.mrt_events.specs.declared.event.Item.{Item}
 use Rattle.std.proofs.lemmas.List.Elements.{All-head, All-tail, All-drop}
-use Rattle.mrt_wire.specs.declared.peer.Peer.{Peer}
-use Rattle.mrt_wire.specs.declared.event.Route.{Route}
-use Rattle.mrt_wire.specs.Event.{Saying, Announced, Withdrawn, Changed, saying}
-use Rattle.mrt_wire.specs.SharedRoute.{Announces, AreOfOneRoute}
+use Rattle.mrt_events.specs.declared.peer.Peer.{Peer}
+use Rattle.mrt_events.specs.declared.event.Route.{Route}
+use Rattle.mrt_events.specs.Event.{Saying, Announced, Withdrawn, Changed, saying}
+use Rattle.mrt_events.specs.SharedRoute.{Announces, AreOfOneRoute}
 
 -- the lines of what items say are those of the items
 pub lines-sayings : (line : Saying → List ℕ) (items : List Item) → flat_map (λ item. line (saying item)) items ≡ flat_map line (map saying items)

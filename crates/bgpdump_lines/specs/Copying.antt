@@ -2,8 +2,8 @@
 -- Where the parts of a route's line stand, of which the next line may be made.
 use Rattle.std.specs.Prelude.{◌≡◌, ℕ, ◌≤◌, Option, Some, None, List, length, drop, slice_range}
 use Rattle.ip_prefix.specs.Network.{Network}
-use Rattle.mrt_wire.specs.declared.peer.Peer.{Peer}
-use Rattle.mrt_wire.specs.declared.event.Route.{Route}
+use Rattle.mrt_events.specs.declared.peer.Peer.{Peer}
+use Rattle.mrt_events.specs.declared.event.Route.{Route}
 use Rattle.bgpdump_lines.specs.declared.heading.Heading.{Heading}
 use Rattle.bgpdump_lines.specs.declared.route_line.Places.{Places}
 use Rattle.bgpdump_lines.specs.declared.route_line.LastLine.{LastLine}

@@ -2,9 +2,9 @@
 -- What is printed under a heading, which has what the lines of an event have in common.
 use Rattle.std.specs.Prelude.{ℕ, List, ◌∷◌, ◌++◌}
 use Rattle.std.specs.List.{flat_map}
-use Rattle.mrt_wire.specs.declared.peer.Peer.{Peer}
-use Rattle.mrt_wire.specs.declared.event.Route.{Route}
-use Rattle.mrt_wire.specs.Event.{Saying}
+use Rattle.mrt_events.specs.declared.peer.Peer.{Peer}
+use Rattle.mrt_events.specs.declared.event.Route.{Route}
+use Rattle.mrt_events.specs.Event.{Saying}
 use Rattle.bgpdump_lines.specs.declared.heading.Heading.{Heading}
 use Rattle.bgpdump_lines.specs.Lines.{bar, word, route_time_text, route_letter, item_line}
 use Rattle.bgpdump_lines.specs.Fields.{peer_fields}

@@ -9,12 +9,12 @@ use Rattle.bgp_wire.specs.declared.attrs.Origin.TheVariants.{Igp, Egp, Incomplet
 use Rattle.bgp_wire.specs.declared.attrs.Aggregator.{Aggregator}
 use Rattle.bgp_wire.specs.declared.attrs.Attrs.{Attrs}
 use Rattle.bgp_wire.specs.Text.{path_text, communities_text}
-use Rattle.mrt_wire.specs.declared.event.Route.{Route}
-use Rattle.mrt_wire.specs.declared.event.Time.{Time}
-use Rattle.mrt_wire.specs.declared.event.Tag.{Tag}
-use Rattle.mrt_wire.specs.declared.event.Tag.TheVariants.{TableDump, TableDump2, Bgp4mp, Bgp4mpEt}
-use Rattle.mrt_wire.specs.declared.event.Event.{Event}
-use Rattle.mrt_wire.specs.Event.{Saying, Announced, Withdrawn, Changed}
+use Rattle.mrt_events.specs.declared.event.Route.{Route}
+use Rattle.mrt_events.specs.declared.event.Time.{Time}
+use Rattle.mrt_events.specs.declared.event.Tag.{Tag}
+use Rattle.mrt_events.specs.declared.event.Tag.TheVariants.{TableDump, TableDump2, Bgp4mp, Bgp4mpEt}
+use Rattle.mrt_events.specs.declared.event.Event.{Event}
+use Rattle.mrt_events.specs.Event.{Saying, Announced, Withdrawn, Changed}
 use Rattle.bgpdump_lines.specs.declared.heading.TheConstants.{MICROS_DIGITS}
 
 -- the marks of lines

@@ -2,8 +2,8 @@
 
 ghost use Rattle.std.specs.Prelude.{◌≡◌, ◌++◌, map, All, OnOk, OnErr, IfOk, IfSome};
 ghost use Rattle.bgp_wire.specs.Printed.{StillBegins};
-ghost use Rattle.mrt_wire.specs.Event.{Withdrawn, Changed, saying};
-ghost use Rattle.mrt_wire.specs.SharedRoute.{Announces, AreOfOneRoute};
+ghost use Rattle.mrt_events.specs.Event.{Withdrawn, Changed, saying};
+ghost use Rattle.mrt_events.specs.SharedRoute.{Announces, AreOfOneRoute};
 ghost use Rattle.bgpdump_lines.specs.Lines.{event_lines};
 ghost use Rattle.bgpdump_lines.specs.Fields.{route_tail};
 ghost use Rattle.bgpdump_lines.specs.Heading.{route_front, headed_line, headed_lines};

@@ -2,7 +2,7 @@
 
 ghost use Rattle.std.specs.Prelude.{◌≡◌, ◌++◌, OnOk, OnErr, IfOk, IfSome};
 ghost use Rattle.bgp_wire.specs.Printed.{StillBegins};
-ghost use Rattle.mrt_wire.specs.Event.{Announced};
+ghost use Rattle.mrt_events.specs.Event.{Announced};
 ghost use Rattle.bgpdump_lines.specs.Fields.{peer_fields, prefix_field, route_tail};
 ghost use Rattle.bgpdump_lines.specs.Heading.{route_head, route_front, headed_line};
 ghost use Rattle.bgpdump_lines.specs.Copying.{AreOrdered, EndsIn, IsLike};

@@ -1,8 +1,8 @@
 //! Writing what was found.
 
 ghost use Rattle.std.specs.Prelude.{◌≡◌, ◌||◌, [], map, IfOk, IfSome};
-ghost use Rattle.mrt_wire.specs.Event.{saying};
-ghost use Rattle.mrt_wire.specs.SharedRoute.{AreOfOneRoute};
+ghost use Rattle.mrt_events.specs.Event.{saying};
+ghost use Rattle.mrt_events.specs.SharedRoute.{AreOfOneRoute};
 ghost use Rattle.mrt_wire.specs.Answered.{answer_findings};
 ghost use Rattle.bgpdump_lines.specs.Copying.{EndsIn};
 ghost use Rattle.bgpdump_lines.specs.declared.heading.Heading.{Heading};

@@ -11,8 +11,8 @@ use Rattle.ip_prefix.specs.Address.{Address}
 use Rattle.ip_prefix.specs.Network.{Network, contains}
 use Rattle.ip_prefix.specs.Order.{network_cmp}
 use Rattle.ip_prefix.specs.OrderLaws.{network_cmp_total}
-use Rattle.mrt_wire.specs.declared.peer.Peer.{Peer}
-use Rattle.mrt_wire.specs.declared.event.Route.{Route}
+use Rattle.mrt_events.specs.declared.peer.Peer.{Peer}
+use Rattle.mrt_events.specs.declared.event.Route.{Route}
 use Rattle.rib_store.specs.Lookups.{IsLongestOf}
 use Rattle.rib_store.proofs.LongestLaws.{longest-one}
 use Rattle.rib_store.proofs.SlotLaws.{same_prefix}

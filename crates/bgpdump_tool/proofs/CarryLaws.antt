@@ -7,8 +7,8 @@ use Rattle.std.specs.Prelude.{codes}
 use Rattle.std.proofs.Math.Nat.{min-eq_left, min-eq_right, min-le_right, le-max_right, max-le, max-eq_left, max-eq_right}
 use Rattle.std.specs.Io.KnownBytes.{Appends}
 use Rattle.std.proofs.KnownBytes.{Appends-nil}
-use Rattle.mrt_wire.specs.declared.peer.Peer.{Peer}
-use Rattle.mrt_wire.specs.declared.event.Event.{Event}
+use Rattle.mrt_events.specs.declared.peer.Peer.{Peer}
+use Rattle.mrt_events.specs.declared.event.Event.{Event}
 use Rattle.rib_player.specs.Tables.{Routes, table}
 use Rattle.rib_player.specs.Timeline.{Timeline, behind, ahead_of, end_of, current, after_play}
 use Rattle.rib_player.specs.Calls.{StandsFor, forgettable, after_forget}

@@ -1,7 +1,7 @@
 -- Private.
 -- What playing a loss and writing its reply does.
 use Rattle.std.specs.Prelude.{◌≡◌, ℕ, ◌⊎◌, List, Option, Result, Err, codes}
-use Rattle.mrt_wire.specs.declared.peer.Peer.{Peer}
+use Rattle.mrt_events.specs.declared.peer.Peer.{Peer}
 use Rattle.rib_player.specs.Timeline.{Timeline, after_play, ahead_of}
 use Rattle.bgpdump_lines.specs.declared.fault.WriteFault.{WriteFault}
 use Rattle.bgpdump_tool.specs.Replies.{counted_text}

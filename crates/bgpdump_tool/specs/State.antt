@@ -1,13 +1,13 @@
 -- Where a script stands, and where its moves lead.
 use Rattle.std.specs.Prelude.{ℕ, zero, suc, ◌+◌, ◌-◌, List, [], ◌∷◌, ◌++◌, length, take, drop, max, None}
 use Rattle.std.specs.List.{flat_map}
-use Rattle.mrt_wire.specs.declared.peer.Peer.{Peer}
-use Rattle.mrt_wire.specs.declared.event.Event.{Event}
-use Rattle.mrt_wire.specs.declared.event.Tag.TheVariants.{Bgp4mp}
-use Rattle.mrt_wire.specs.Event.{Changed}
+use Rattle.mrt_events.specs.declared.peer.Peer.{Peer}
+use Rattle.mrt_events.specs.declared.event.Event.{Event}
+use Rattle.mrt_events.specs.declared.event.Tag.TheVariants.{Bgp4mp}
+use Rattle.mrt_events.specs.Event.{Changed}
 use Rattle.mrt_wire.specs.Results.{Finding, Found, Bad}
 use Rattle.rib_player.specs.Tables.{Routes, table}
-use Rattle.mrt_wire.specs.declared.event.TheConstants.{ESTABLISHED}
+use Rattle.mrt_events.specs.declared.event.TheConstants.{ESTABLISHED}
 use Rattle.bgpdump_tool.specs.declared.commands.lose.TheConstants.{IDLE}
 
 -- the events played, how many of them stand before the cursor, how many of these can't be undone any more, and the results that no command has taken yet

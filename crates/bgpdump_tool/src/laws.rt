@@ -2,12 +2,12 @@
 
 ghost use Rattle.std.specs.Prelude.{◌≡◌, ℕ, ◌^◌, List, [], ◌∷◌};
 ghost use Rattle.bgpdump_tool.specs.declared.script.TheConstants.{LONGEST_SCRIPT};
-ghost use Rattle.mrt_wire.specs.declared.event.TheConstants.{ESTABLISHED};
+ghost use Rattle.mrt_events.specs.declared.event.TheConstants.{ESTABLISHED};
 ghost use Rattle.bgpdump_tool.specs.declared.commands.lose.TheConstants.{IDLE};
 ghost use Rattle.bgpdump_tool.specs.declared.command.Command.{Command};
 ghost use Rattle.bgpdump_tool.specs.Command.{SpellsCommand};
 ghost use Rattle.ip_prefix.specs.Address.{Address};
-ghost use Rattle.mrt_wire.specs.declared.peer.Peer.{Peer};
+ghost use Rattle.mrt_events.specs.declared.peer.Peer.{Peer};
 ghost use Rattle.rib_player.specs.Tables.{Routes};
 ghost use Rattle.rib_player.specs.Lookups.{IsBest};
 ghost use Rattle.bgpdump_tool.specs.Replies.{best};

@@ -4,7 +4,6 @@ pub mod FieldFronts
 pub mod FirstLaws
 pub mod JudgingLaws
 pub mod PeerIndexLaws
-pub mod PeerLaws
 pub mod ReadingLaws
 pub mod NextLaws
 pub mod RibLaws

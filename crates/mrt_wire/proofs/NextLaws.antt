@@ -2,7 +2,7 @@
 use Rattle.std.proofs.Common.{◌≡◌, inl, ℕ, ◌+◌, Bool, false, List, Option, Some, None, Result, Ok, Err, length, take, ap, ◌∙◌, refl, subst}
 use Rattle.std.specs.Io.KnownBytes.{Consumes}
 use Rattle.std.specs.Prelude.{is_some}
-use Rattle.mrt_wire.specs.declared.event.Event.{Event}
+use Rattle.mrt_events.specs.declared.event.Event.{Event}
 use Rattle.mrt_frames.specs.declared.frames.Front.TheVariants as front
 use Rattle.mrt_frames.specs.declared.header.Header.{Header}
 use Rattle.mrt_wire.specs.declared.judging.Refusal.{Refusal}

@@ -6,7 +6,7 @@ use Rattle.ip_prefix.specs.Fronts.{BeginsWithNone, OneFront, IsCode, IsOne}
 use Rattle.octet_forms.proofs.Fields.{both_front, then_front, more_one, behind_one, none_first, none_second}
 use Rattle.octet_forms.proofs.Counts.{counted_code}
 use Rattle.bgp_wire.specs.Number.{SpellsAsn}
-use Rattle.mrt_wire.specs.declared.peer.Peer.{Peer}
+use Rattle.mrt_events.specs.declared.peer.Peer.{Peer}
 use Rattle.mrt_wire.specs.declared.peer_index.TheConstants.{ID_SIZE}
 use Rattle.mrt_wire.specs.Fields.{SpellsOctet, AreOctets, SpellsAddressOf}
 use Rattle.mrt_wire.specs.PeerIndex.{peer_family, peer_width, SpellsPeerFields, SpellsPeer, SpellsView, SpellsPeerIndex}

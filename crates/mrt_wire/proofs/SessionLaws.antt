@@ -14,12 +14,12 @@ use Rattle.bgp_wire.specs.Readers.{Refuses}
 use Rattle.bgp_wire.proofs.OneContent.{one_message_of}
 use Rattle.bgp_paths.proofs.Refusing.{refused_part}
 use Rattle.bgp_wire.proofs.Reaching.{same_family}
-use Rattle.mrt_wire.specs.declared.peer.Peer.{Peer}
+use Rattle.mrt_events.specs.declared.peer.Peer.{Peer}
 use Rattle.mrt_wire.specs.declared.profile.SessionKind.{SessionKind}
 use Rattle.mrt_wire.specs.declared.profile.SessionKind.TheVariants.{StateChange, Message}
 use Rattle.mrt_wire.specs.declared.profile.SessionForm.{SessionForm}
 use Rattle.mrt_wire.specs.declared.session.TheConstants.{INTERFACE_SIZE}
-use Rattle.mrt_wire.specs.Event.{Saying}
+use Rattle.mrt_events.specs.Event.{Saying}
 use Rattle.mrt_wire.specs.Items.{session_items}
 use Rattle.mrt_wire.specs.Judging.{Told, session_told}
 use Rattle.mrt_wire.proofs.ReadingLaws.{refused_behind}

@@ -1,15 +1,15 @@
 -- Which items of a message share a route.
-use Rattle.std.proofs.Common.{◌≡◌, ◌⊎◌, inl, inr, ℕ, ◌+◌, ◌-◌, map, take, drop, List, [], ◌∷◌, ◌++◌, length, length-append, All, Option, Some, None, refl, ap, sym, subst, ◌∙◌, arith, append_assoc, append-nil}
-use Rattle.std.proofs.lemmas.List.{take_at, drop_at, length-map, take-map, drop-map}
+use Rattle.std.proofs.Common.{◌≡◌, ◌⊎◌, inl, inr, ℕ, ◌+◌, ◌-◌, map, take, List, [], ◌∷◌, ◌++◌, length, length-append, All, Option, Some, None, refl, ap, sym, subst, ◌∙◌, arith, append_assoc, append-nil}
+use Rattle.std.proofs.lemmas.List.{take_at, drop_at, length-map}
 use Rattle.std.proofs.lemmas.List.Elements.{All-map}
 use Rattle.ip_prefix.specs.Network.{Network}
 use Rattle.bgp_wire.specs.declared.attrs.Attrs.{Attrs}
-use Rattle.mrt_wire.specs.declared.peer.Peer.{Peer}
-use Rattle.mrt_wire.specs.declared.event.Route.{Route}
-use Rattle.mrt_wire.specs.declared.event.Item.{Item}
-use Rattle.mrt_wire.specs.declared.event.Shared.{Shared}
-use Rattle.mrt_wire.specs.Event.{Saying, Announced, saying}
-use Rattle.mrt_wire.specs.SharedRoute.{Announces, AreOfOneRoute, IsSharedIn}
+use Rattle.mrt_events.specs.declared.peer.Peer.{Peer}
+use Rattle.mrt_events.specs.declared.event.Route.{Route}
+use Rattle.mrt_events.specs.declared.event.Item.{Item}
+use Rattle.mrt_events.specs.declared.event.Shared.{Shared}
+use Rattle.mrt_events.specs.Event.{Saying, Announced, saying}
+use Rattle.mrt_events.specs.SharedRoute.{Announces, AreOfOneRoute, IsSharedIn}
 use Rattle.mrt_wire.specs.Items.{announcements, mp_announcements, route_of}
 use Rattle.mrt_wire.specs.Judging.{Adds}
 
@@ -51,7 +51,3 @@ shared_range old between new first second a b c shared start middle end adds add
     let said : map saying new ≡ map saying between ++ (second ++ []) = adds' ∙ ap (λ l. map saying between ++ l) (sym (append-nil second)) in
     let part = part_shared (map saying between) second [] b c (middle ∙ sym (length-map between saying)) (end ∙ added_count between new second adds') one' in
     subst (λ s. IsSharedIn s (map saying new)) (sym e) (subst (λ l. IsSharedIn (record { start = b; end = c }) l) (sym said) part)
-
--- what the items in a range say stands in that range of what all say
-pub said_range : (items : List Item) (said : List Saying) (a n : ℕ) → map saying items ≡ said → AreOfOneRoute (take n (drop a said)) → AreOfOneRoute (map saying (take n (drop a items)))
-said_range items said a n e one = subst AreOfOneRoute (ap (λ l. take n (drop a l)) (sym e) ∙ ap (take n) (drop-map saying a items) ∙ take-map saying n (drop a items)) one

@@ -14,7 +14,7 @@ use Rattle.bgp_wire.specs.Content.{SpellsRibAttrs}
 use Rattle.bgp_wire.specs.Number.{SpellsAsn}
 use Rattle.bgp_wire.specs.Readers.{Refuses}
 use Rattle.bgp_wire.proofs.OneContent.{one_rib_attrs}
-use Rattle.mrt_wire.specs.declared.peer.Peer.{Peer}
+use Rattle.mrt_events.specs.declared.peer.Peer.{Peer}
 use Rattle.mrt_wire.specs.declared.table_dump.TheConstants.{NUMBERS_SIZE, STATUS_SIZE}
 use Rattle.mrt_wire.specs.Fields.{SpellsOctet, SpellsAddressOf}
 use Rattle.mrt_wire.specs.TableDump.{SpellsPrefix, SpellsNarrowPeer, ArePeerEntryFields, SpellsPeerEntry}

@@ -6,14 +6,14 @@ use Rattle.std.proofs.lemmas.List.{map-append}
 use Rattle.std.proofs.lemmas.Grind.{flat_map-append}
 use Rattle.std.proofs.Math.Seq.{take-suc}
 use Rattle.ip_prefix.specs.Network.{Network}
-use Rattle.mrt_wire.specs.declared.peer.Peer.{Peer}
-use Rattle.mrt_wire.specs.declared.event.Item.{Item}
+use Rattle.mrt_events.specs.declared.peer.Peer.{Peer}
+use Rattle.mrt_events.specs.declared.event.Item.{Item}
 use Rattle.ip_prefix.specs.declared.addr.Family.{Family}
 use Rattle.ip_prefix.specs.Sequences.{Begins, SpellsAll}
 use Rattle.octet_forms.proofs.Sequences.{one_more}
 use Rattle.mrt_wire.specs.declared.rib.Snapshot.{Snapshot}
 use Rattle.mrt_wire.specs.declared.rib.EntryItems.{EntryItems}
-use Rattle.mrt_wire.specs.Event.{Saying, saying}
+use Rattle.mrt_events.specs.Event.{Saying, saying}
 use Rattle.mrt_wire.specs.Rib.{RibEntry, SpellsEntry}
 use Rattle.mrt_wire.specs.Items.{entry_items, unknown_peer, first_unknown}
 use Rattle.mrt_wire.specs.Judging.{Adds, AreItemsOf}

@@ -1,6 +1,6 @@
 -- What the body of a record holds, and how it is spelled (RFC 6396, section 4).
 use Rattle.std.specs.Prelude.{◌≡◌, ℕ, List}
-use Rattle.mrt_wire.specs.declared.peer.Peer.{Peer}
+use Rattle.mrt_events.specs.declared.peer.Peer.{Peer}
 use Rattle.mrt_wire.specs.declared.profile.Form.{Form}
 use Rattle.mrt_wire.specs.declared.profile.Form.TheVariants as form
 use Rattle.mrt_wire.specs.PeerIndex.{SpellsPeerIndex}

@@ -7,11 +7,11 @@ use Rattle.bgp_wire.specs.declared.attrs.Attrs.{Attrs}
 use Rattle.bgp_wire.specs.declared.message.Message.{Message}
 use Rattle.bgp_wire.specs.declared.message.Message.TheVariants as message
 use Rattle.bgp_wire.specs.declared.message.Update.{Update}
-use Rattle.mrt_wire.specs.declared.peer.Peer.{Peer}
-use Rattle.mrt_wire.specs.declared.event.Route.{Route}
-use Rattle.mrt_wire.specs.declared.event.Stamp.{Stamp}
-use Rattle.mrt_wire.specs.declared.event.Stamp.TheVariants.{Dump, Change}
-use Rattle.mrt_wire.specs.Event.{Saying, Announced, Withdrawn, Changed}
+use Rattle.mrt_events.specs.declared.peer.Peer.{Peer}
+use Rattle.mrt_events.specs.declared.event.Route.{Route}
+use Rattle.mrt_wire.specs.declared.stamp.Stamp.{Stamp}
+use Rattle.mrt_wire.specs.declared.stamp.Stamp.TheVariants.{Dump, Change}
+use Rattle.mrt_events.specs.Event.{Saying, Announced, Withdrawn, Changed}
 use Rattle.mrt_wire.specs.Rib.{RibEntry, PrefixEntries}
 use Rattle.mrt_wire.specs.TableDump.{PeerEntry}
 use Rattle.mrt_wire.specs.Session.{PeerMessage, SessionContent, Change, Receipt}

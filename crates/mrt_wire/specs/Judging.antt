@@ -8,10 +8,10 @@ use Rattle.bgp_wire.specs.Readers.{Refuses}
 use Rattle.bgp_wire.specs.declared.attrs.Attrs.{Attrs}
 use Rattle.bgp_wire.specs.declared.WireFault.{WireFault}
 use Rattle.bgp_wire.specs.declared.WireFault.TheVariants as wire
-use Rattle.mrt_wire.specs.declared.event.Stamp.{Stamp}
-use Rattle.mrt_wire.specs.declared.event.Event.{Event}
-use Rattle.mrt_wire.specs.declared.event.Item.{Item}
-use Rattle.mrt_wire.specs.declared.event.Route.{Route}
+use Rattle.mrt_wire.specs.declared.stamp.Stamp.{Stamp}
+use Rattle.mrt_events.specs.declared.event.Event.{Event}
+use Rattle.mrt_events.specs.declared.event.Item.{Item}
+use Rattle.mrt_events.specs.declared.event.Route.{Route}
 use Rattle.mrt_frames.specs.declared.fault.RecordKind.TheVariants.{Malformed}
 use Rattle.mrt_frames.specs.declared.fault.SourceFault.{SourceFault}
 use Rattle.mrt_frames.specs.declared.fault.SourceFault.TheVariants as source
@@ -30,7 +30,7 @@ use Rattle.mrt_frames.specs.Record.{Record}
 use Rattle.mrt_frames.specs.Parts.{record_under}
 use Rattle.mrt_wire.specs.Rib.{RibEntry, PrefixEntries}
 use Rattle.mrt_wire.specs.Items.{announcements, entry_time, entries_items, first_unknown, mp_announcements, route_of, session_items}
-use Rattle.mrt_wire.specs.Event.{Saying, saying}
+use Rattle.mrt_events.specs.Event.{Saying, saying}
 use Rattle.mrt_wire.specs.Session.{SessionBody}
 use Rattle.mrt_wire.specs.Content.{Content}
 use Rattle.mrt_wire.specs.Verdict.{Index, Accepted, Refused, ReadsAs, index_after}

@@ -10,9 +10,9 @@ pub mod Content
 pub mod Items
 pub mod Verdict
 pub mod Progress
-pub mod Event
-pub mod SharedRoute
-pub mod Peer
+pub use Rattle.mrt_events.specs.Event
+pub use Rattle.mrt_events.specs.SharedRoute
+pub use Rattle.mrt_events.specs.Peer
 pub mod Profile
 pub mod Bodies
 pub mod Splitting
@@ -23,4 +23,3 @@ pub use Rattle.mrt_frames.specs.Taking
 pub mod Next
 pub mod Answered
 pub mod SoFar
-pub mod Codes

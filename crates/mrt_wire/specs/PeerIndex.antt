@@ -8,7 +8,7 @@ use Rattle.ip_prefix.specs.Counted.{SpellsCounted}
 use Rattle.bgp_wire.specs.declared.AsWidth.{AsWidth}
 use Rattle.bgp_wire.specs.declared.AsWidth.TheVariants.{Two, Four}
 use Rattle.bgp_wire.specs.Number.{SpellsAsn}
-use Rattle.mrt_wire.specs.declared.peer.Peer.{Peer}
+use Rattle.mrt_events.specs.declared.peer.Peer.{Peer}
 use Rattle.mrt_wire.specs.declared.peer_index.TheConstants.{ID_SIZE, IPV6_PEER, AS4_PEER}
 use Rattle.mrt_wire.specs.Fields.{SpellsOctet, AreOctets, AreSized, SpellsAddressOf}
 

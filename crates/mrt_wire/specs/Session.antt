@@ -8,7 +8,7 @@ use Rattle.bgp_wire.specs.declared.message.Message.{Message}
 use Rattle.bgp_wire.specs.Number.{SpellsAsn, SpellsWord, octets_at}
 use Rattle.bgp_wire.specs.Reach.{family_code}
 use Rattle.bgp_wire.specs.Update.{SpellsMessage}
-use Rattle.mrt_wire.specs.declared.peer.Peer.{Peer}
+use Rattle.mrt_events.specs.declared.peer.Peer.{Peer}
 use Rattle.mrt_wire.specs.declared.profile.SessionKind.{SessionKind}
 use Rattle.mrt_wire.specs.declared.profile.SessionKind.TheVariants as kind
 use Rattle.mrt_wire.specs.declared.profile.SessionForm.{SessionForm}

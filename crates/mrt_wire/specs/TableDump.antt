@@ -9,7 +9,7 @@ use Rattle.bgp_wire.specs.declared.AsWidth.TheVariants.{Two}
 use Rattle.bgp_wire.specs.Number.{SpellsAsn, SpellsWord}
 use Rattle.bgp_wire.specs.Content.{SpellsRibAttrs}
 use Rattle.bgp_wire.specs.declared.attrs.Attrs.{Attrs}
-use Rattle.mrt_wire.specs.declared.peer.Peer.{Peer}
+use Rattle.mrt_events.specs.declared.peer.Peer.{Peer}
 use Rattle.mrt_wire.specs.declared.table_dump.TheConstants.{NUMBERS_SIZE, STATUS_SIZE}
 use Rattle.mrt_wire.specs.Fields.{SpellsOctet, AreOctets, AreSized, SpellsAddressOf}
 

@@ -2,13 +2,13 @@
 use Rattle.std.specs.Prelude.{◌≡◌, ℕ, List, [], ◌∷◌, Option, Some, None}
 use Rattle.mrt_frames.specs.declared.fault.RecordKind.{RecordKind}
 use Rattle.mrt_frames.specs.declared.fault.RecordKind.TheVariants.{CutRecord, TooLong, Unsupported, Malformed, NoIndex, PeerIndex}
-use Rattle.mrt_wire.specs.declared.event.Stamp.{Stamp}
-use Rattle.mrt_wire.specs.declared.event.Tag.{Tag}
-use Rattle.mrt_wire.specs.declared.event.Tag.TheVariants.{TableDump, TableDump2, Bgp4mp, Bgp4mpEt}
-use Rattle.mrt_wire.specs.declared.event.Event.{Event}
-use Rattle.mrt_wire.specs.declared.peer.Peer.{Peer}
+use Rattle.mrt_wire.specs.declared.stamp.Stamp.{Stamp}
+use Rattle.mrt_events.specs.declared.event.Tag.{Tag}
+use Rattle.mrt_events.specs.declared.event.Tag.TheVariants.{TableDump, TableDump2, Bgp4mp, Bgp4mpEt}
+use Rattle.mrt_events.specs.declared.event.Event.{Event}
+use Rattle.mrt_events.specs.declared.peer.Peer.{Peer}
 use Rattle.mrt_frames.specs.Record.{Record}
-use Rattle.mrt_wire.specs.Event.{Saying}
+use Rattle.mrt_events.specs.Event.{Saying}
 use Rattle.mrt_wire.specs.Content.{Content, Entry, Peers, Entries, Session, IsBody}
 use Rattle.mrt_wire.specs.Items.{first_unknown, peer_entry_items, entries_items, session_items}
 use Rattle.mrt_wire.specs.Profile.{IsSupported}

@@ -1,10 +1,7 @@
-//! Laws of what the contracts cite: of the octets of records, and of the order of peers.
+//! Laws of what the contracts cite of the octets of records.
 
-ghost use Rattle.std.specs.Prelude.{◌≡◌, ℕ, List, Some};
-ghost use Rattle.std.specs.Ordering.{eq_by_cmp};
-ghost use Rattle.std.specs.Cmp.{IsTotalOrder};
-ghost use Rattle.std.specs.FinMap.{IsAntisymmetric};
-ghost use Rattle.mrt_wire.specs.declared.event.Stamp.{Stamp};
+ghost use Rattle.std.specs.Prelude.{◌≡◌, ℕ, List};
+ghost use Rattle.mrt_wire.specs.declared.stamp.Stamp.{Stamp};
 ghost use Rattle.mrt_frames.specs.declared.frames.TheConstants.{LONGEST_BODY};
 ghost use Rattle.mrt_frames.specs.declared.header.TheConstants.{HEADER_SIZE};
 ghost use Rattle.mrt_wire.specs.declared.peer_index.TheConstants.{ID_SIZE, IPV6_PEER, AS4_PEER};
@@ -12,15 +9,11 @@ ghost use Rattle.mrt_wire.specs.declared.profile.TheConstants.{TABLE_DUMP, AFI_I
 ghost use Rattle.mrt_wire.specs.declared.rib.TheConstants.{SEQUENCE_SIZE};
 ghost use Rattle.mrt_wire.specs.declared.session.TheConstants.{INTERFACE_SIZE, MICROS_PER_SECOND};
 ghost use Rattle.mrt_wire.specs.declared.table_dump.TheConstants.{NUMBERS_SIZE, STATUS_SIZE};
-ghost use Rattle.mrt_wire.specs.declared.peer.Peer.{Peer};
 ghost use Rattle.mrt_wire.specs.Content.{Content, IsBody};
-ghost use Rattle.mrt_wire.specs.Peer.{peer_cmp};
 ghost use Rattle.mrt_wire.specs.Verdict.{Frame, Index};
 ghost use Rattle.mrt_frames.specs.Parts.{IsOctets};
 ghost use Rattle.mrt_wire.specs.Splitting.{Splits};
 ghost use Rattle.mrt_wire.specs.Answered.{SplitsOneWay};
-
-use crate::peer::Peer;
 
 /// No body of one type and subtype holds two contents.
 pub fn one_content()
@@ -37,17 +30,6 @@ pub fn no_octets_without_a_split()
 /// No list of octets splits in two ways.
 pub fn one_split()
     ensures { (stamp : Stamp) (index : Index) (octets : List ℕ) → SplitsOneWay stamp index octets }
-{}
-
-/// Peers are ordered by address and then by AS number. The order is total, only equal ones tie,
-/// and each comparison says what it says.
-pub fn peer_order()
-    ensures parts { (a b : Peer) → ⟦<Peer as Ord>⟧.cmp a b ≡ peer_cmp a b }
-    ensures partial { (a b : Peer) →
-        ⟦<Peer as PartialOrd>⟧.partial_cmp a b ≡ Some (peer_cmp a b) }
-    ensures equal { (a b : Peer) → ⟦<Peer as PartialEq>⟧.eq a b ≡ eq_by_cmp peer_cmp a b }
-    ensures total { IsTotalOrder peer_cmp }
-    ensures ties { IsAntisymmetric peer_cmp }
 {}
 
 /// The numbers of records that the definitions name (RFC 6396, sections 2 to 4), and the greatest

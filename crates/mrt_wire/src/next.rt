@@ -1,6 +1,6 @@
 //! What a source answers, and whether it goes on.
 
-use crate::event::Event;
+use mrt_events::Event;
 use mrt_frames::RecordFault;
 
 /// What comes next in an input.

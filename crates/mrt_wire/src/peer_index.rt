@@ -10,9 +10,10 @@ ghost use Rattle.mrt_wire.specs.Bodies.{FindsField};
 ghost use Rattle.mrt_wire.specs.PeerIndex.{peer_family, peer_width, SpellsPeer, SpellsView, SpellsPeerIndex};
 
 use crate::fields::{Field, fill_address, skip, split_asn, split_octet, split_short, split_sized};
-use crate::peer::{Peer, Peers};
+use crate::peers::{Peers, blank_peer};
 use bgp_wire::{AsWidth, WireFault};
 use ip_prefix::Family;
+use mrt_events::Peer;
 use std::alloc::Global;
 
 /// The bit of a Peer Type that tells an IPv6 address (RFC 6396, section 4.3.1).
@@ -55,7 +56,7 @@ fn split_peer(octets: &[u8]) -> Option<Field<'_, Peer>>
 {
     let kind = split_octet(octets)?;
     let after_id = skip(ID_SIZE, kind.rest)?;
-    let mut peer = Peer::unknown();
+    let mut peer = blank_peer();
     let Some(after_addr) = fill_address(&mut peer.addr, peer_family(kind.value), after_id) else {
         return None;
     };

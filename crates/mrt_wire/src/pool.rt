@@ -1,17 +1,17 @@
 //! Memory that records are read into again.
 
 ghost use Rattle.std.specs.Prelude.{◌≡◌, ◌∷◌, [], IfOk, IfErr};
-ghost use Rattle.mrt_wire.specs.Event.{Announced};
+ghost use Rattle.mrt_events.specs.Event.{Announced};
 ghost use Rattle.mrt_wire.specs.Judging.{IsSentAs, RefusesSent};
 
-use crate::event::{Item, Items, Route, Shared};
-use crate::peer::{PEER_PLACES, Peer};
+use crate::peers::PEER_PLACES;
 use crate::read_routes::{LARGEST_PLACE, ReadRoutes};
 use crate::route_pool::{
     FIRST_ROUTES, LARGEST_ROUTE, MOST_ROOM, MOST_ROUTES, RoutePool, SentAttrs,
 };
 use bgp_wire::{UpdateParts, WireFault};
 use ip_prefix::Prefix;
+use mrt_events::{Item, Items, Peer, Route, Shared};
 use std::alloc::{AllocError, Global};
 use std::mem;
 use std::rc::Rc;

@@ -3,14 +3,14 @@
 
 ghost use Rattle.std.specs.Prelude.{◌≡◌, ◌≤◌, ◌<◌, IsTrue, IfOk, IfErr, IfSome, OnOk, vec_len};
 ghost use Rattle.bgp_wire.specs.Content.{SpellsRibAttrs};
-ghost use Rattle.mrt_wire.specs.declared.peer.TheConstants.{PEER_PLACES};
+ghost use Rattle.mrt_wire.specs.declared.peers.TheConstants.{PEER_PLACES};
 ghost use Rattle.mrt_wire.specs.Judging.{IsSentAs, RefusesSent};
 
-use crate::event::Route;
-use crate::peer::PEER_PLACES;
+use crate::peers::PEER_PLACES;
 use crate::route_pool::{RoutePool, SentAttrs, fill_rib_route, new_route};
 use bgp_wire::{AS_PATH, AsWidth, EXTENDED_LENGTH, MP_REACH_NLRI, ORIGIN, WireFault};
 use ip_prefix::Family;
+use mrt_events::Route;
 use std::alloc::{AllocError, Global};
 use std::marker::Model;
 use std::rc::Rc;
@@ -42,7 +42,7 @@ struct ReadRoute {
 impl Model for ReadRoute {
     ghost use Rattle.std.specs.Prelude.{◌≡◌, true};
     ghost use Rattle.bgp_wire.specs.Content.{SpellsRibAttrs};
-    ghost use Rattle.mrt_wire.specs.declared.event.Route.{Route};
+    ghost use Rattle.mrt_events.specs.declared.event.Route.{Route};
 
     ghost Value = { Route };
 

@@ -10,13 +10,13 @@ ghost use Rattle.mrt_wire.specs.Rib.{SpellsPrefixed, SpellsRib};
 ghost use Rattle.mrt_wire.specs.Items.{entry_items, unknown_peer};
 ghost use Rattle.mrt_wire.specs.Judging.{Adds, AreItemsOf, IsTimed, entry_read};
 
-use crate::event::{Item, Route, Stamp};
 use crate::fields::{skip, split_short, split_sized, split_word};
-use crate::peer::Peer;
 use crate::pool::Pool;
 use crate::route_pool::SentAttrs;
+use crate::stamp::Stamp;
 use bgp_wire::{AsWidth, WireFault};
 use ip_prefix::{Family, Prefix};
+use mrt_events::{Item, Peer, Route};
 use std::alloc::{AllocError, Global};
 use std::rc::Rc;
 

@@ -5,10 +5,9 @@ ghost use Rattle.mrt_wire.specs.declared.route_pool.TheConstants.{MOST_ROUTES, M
 ghost use Rattle.mrt_wire.specs.Items.{route_of};
 ghost use Rattle.mrt_wire.specs.Judging.{IsSentAs, RefusesSent};
 
-use crate::event::Route;
-use crate::route_memory::route_room;
 use bgp_wire::{AsWidth, Attrs, WireFault, replace_attrs, replace_rib_attrs};
 use ip_prefix::Family;
+use mrt_events::{Route, route_room};
 use std::alloc::{AllocError, Global};
 use std::mem;
 use std::rc::Rc;

@@ -11,14 +11,14 @@ ghost use Rattle.mrt_wire.specs.Items.{receipt_items, session_items};
 ghost use Rattle.mrt_wire.specs.Judging.{Told, session_told};
 ghost use Rattle.mrt_wire.specs.Session.{SpellsFamily, AreSystems, AreAddresses, SpellsSessionPeer, SpellsStateChange, SpellsPeerMessage, SpellsMicros, SpellsHappening, SpellsSessionBody};
 
-use crate::event::Items;
 use crate::fields::{Field, fill_address, skip, split_asn, split_short, split_word};
-use crate::peer::Peer;
+use crate::peers::blank_peer;
 use crate::pool::Pool;
 use crate::profile::{SessionForm, SessionKind};
 use crate::update::{items_of_change, items_of_message};
 use bgp_wire::{AsWidth, WireFault, replace_message};
 use ip_prefix::{Addr, Family};
+use mrt_events::{Items, Peer};
 use std::alloc::Global;
 
 /// How many octets the index of an interface has (RFC 6396, section 4.4.1).
@@ -140,7 +140,7 @@ fn fill_session_peer<'a>(peer: &mut Peer, width: AsWidth, octets: &'a [u8]) -> O
 fn read_state_change(width: AsWidth, octets: &[u8]) -> Option<StateChange>
     ensures { Finds (SpellsStateChange width) octets.now result }
 {
-    let mut peer = Peer::unknown();
+    let mut peer = blank_peer();
     let Some(rest) = fill_session_peer(&mut peer, width, octets) else {
         return None;
     };
@@ -164,7 +164,7 @@ fn read_peer_message(
 ) -> Result<Items, WireFault>
     ensures { Reads (Told (SpellsPeerMessage width) (receipt_items seconds)) octets.now result }
 {
-    let mut peer = Peer::unknown();
+    let mut peer = blank_peer();
     let Some(rest) = fill_session_peer(&mut peer, width, octets) else {
         return Err(WireFault::Malformed);
     };

@@ -10,12 +10,13 @@ ghost use Rattle.mrt_wire.specs.Judging.{judged_answer};
 ghost use Rattle.mrt_wire.specs.Answered.{Nexts, answer_findings, IsFirstResult};
 ghost use Rattle.mrt_wire.specs.Progress.{spent_place};
 
-use crate::event::{Event, Stamp};
 use crate::judging::{RawRecord, Refusal, judge};
 use crate::next::{Next, Phase};
-use crate::peer::Peers;
+use crate::peers::Peers;
 use crate::pool::Pool;
 use crate::profile::Forms;
+use crate::stamp::Stamp;
+use mrt_events::Event;
 use mrt_frames::{FrameReader, Front, Input, RecordFault, RecordKind, SourceFault};
 use std::alloc::Global;
 use std::marker::Model;

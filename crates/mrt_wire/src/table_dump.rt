@@ -9,13 +9,14 @@ ghost use Rattle.mrt_wire.specs.Items.{peer_entry_items};
 ghost use Rattle.mrt_wire.specs.Judging.{Told};
 ghost use Rattle.mrt_wire.specs.TableDump.{ArePeerEntryFields, SpellsNarrowPeer, SpellsPeerEntry, SpellsPrefix};
 
-use crate::event::{Items, Stamp};
 use crate::fields::{Field, fill_address, skip, split_asn, split_octet, split_sized, split_word};
-use crate::peer::Peer;
+use crate::peers::{blank_peer, place_of};
 use crate::pool::Pool;
 use crate::route_pool::SentAttrs;
+use crate::stamp::Stamp;
 use bgp_wire::{AsWidth, WireFault};
 use ip_prefix::{Addr, Family, Prefix, V4_OCTETS};
+use mrt_events::{Items, Peer};
 use std::alloc::Global;
 
 /// How many octets the numbers of the view and of the record have.
@@ -56,7 +57,7 @@ fn split_prefix(family: Family, octets: &[u8]) -> Option<Field<'_, Prefix>>
 fn split_narrow_peer(family: Family, octets: &[u8]) -> Option<Field<'_, Peer>>
     ensures { FindsField (SpellsNarrowPeer family) octets.now result }
 {
-    let mut peer = Peer::unknown();
+    let mut peer = blank_peer();
     let Some(after_addr) = fill_address(&mut peer.addr, family, octets) else {
         return None;
     };
@@ -122,7 +123,7 @@ fn read_entry_of(
         family,
         width: AsWidth::Two,
     };
-    let route = pool.rib_route(alloc, entry.peer.place(), sent, time)?;
+    let route = pool.rib_route(alloc, place_of(&entry.peer), sent, time)?;
     let items = pool.announcement_alone(alloc, entry.peer, entry.prefix, route)?;
     Ok(items)
 }

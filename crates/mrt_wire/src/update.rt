@@ -2,17 +2,16 @@
 
 ghost use Rattle.std.specs.Prelude.{◌≡◌, ◌⊎◌, ◌++◌, ◌∷◌, [], true, map, OnOk, IfOk};
 ghost use Rattle.bgp_wire.specs.Parts.{message_in, update_in};
-ghost use Rattle.mrt_wire.specs.Event.{Withdrawn, Changed, saying};
+ghost use Rattle.mrt_events.specs.Event.{Withdrawn, Changed, saying};
 ghost use Rattle.mrt_wire.specs.Items.{announcements, message_items, update_items};
 ghost use Rattle.mrt_wire.specs.Judging.{Adds, announced_through, announced_with};
 
-use crate::event::{Item, Items, Route, Shared};
-use crate::peer::Peer;
 use crate::pool::Pool;
 use crate::route_pool::RoutePool;
 use crate::session::StateChange;
 use bgp_wire::{Attrs, MessageKind, Prefixes, UpdateParts};
 use ip_prefix::Addr;
+use mrt_events::{Item, Items, Peer, Route, Shared};
 use std::alloc::{AllocError, Global};
 use std::rc::Rc;
 

@@ -1,6 +1,6 @@
 -- The tables and the steps along a history: how many they are, which one is where, and those of a shorter or a longer history.
 use Rattle.std.proofs.Common.{◌≡◌, ℕ, zero, suc, ◌≤◌, List, [], ◌∷◌, ◌++◌, Some, option_map, length, take, drop, slice_get, slice_index_or, refl, sym, ap, ◌∙◌, append_assoc, append-nil, arith}
-use Rattle.mrt_wire.specs.declared.event.Event.{Event}
+use Rattle.mrt_events.specs.declared.event.Event.{Event}
 use Rattle.rib_player.specs.Tables.{Routes, table, named_pairs}
 use Rattle.rib_player.specs.Calls.{tables_along, steps_along}
 

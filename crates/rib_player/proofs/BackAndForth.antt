@@ -2,7 +2,7 @@
 use Rattle.std.proofs.Common.{◌≡◌, ℕ, zero, suc, ◌+◌, ◌-◌, ◌<◌, ◌≤◌, List, [], ◌∷◌, ◌++◌, map, replicate, length, take, nat_lt, refl, sym, ap, ◌∙◌, append_assoc, append-nil, take-take, length-take-le, arith, lt-ltb}
 use Rattle.std.proofs.lemmas.Bool.{cond-true}
 use Rattle.std.proofs.lemmas.List.{take_at}
-use Rattle.mrt_wire.specs.declared.event.Event.{Event}
+use Rattle.mrt_events.specs.declared.event.Event.{Event}
 use Rattle.rib_player.specs.Tables.{table}
 use Rattle.rib_player.specs.Timeline.{Timeline, end_of, table_at, current, after_play}
 use Rattle.rib_player.specs.Calls.{StandsFor, Call, Play, Undo, Redo, after_undo, after_redo, after_call, after_calls}

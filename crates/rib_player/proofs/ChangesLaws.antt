@@ -10,12 +10,12 @@ use Rattle.std.specs.declared.alloc.Global.{Global}
 use Rattle.std.specs.declared.rc.Rc.{Rc}
 use Rattle.std.proofs.Math.Bool.{and-or_distrib_right}
 use Rattle.std.proofs.lemmas.List.Folds.{list_any_more}
-use Rattle.mrt_wire.specs.declared.peer.Peer.{Peer}
+use Rattle.mrt_events.specs.declared.peer.Peer.{Peer}
 use Rattle.rib_player.specs.declared.pair.Pair.{Pair}
-use Rattle.mrt_wire.specs.declared.event.Route.{Route}
-use Rattle.mrt_wire.specs.declared.event.Item.{Item}
-use Rattle.mrt_wire.specs.Event.{Saying, Announced, Withdrawn, Changed, saying}
-use Rattle.mrt_wire.specs.SharedRoute.{Announces, AreOfOneRoute}
+use Rattle.mrt_events.specs.declared.event.Route.{Route}
+use Rattle.mrt_events.specs.declared.event.Item.{Item}
+use Rattle.mrt_events.specs.Event.{Saying, Announced, Withdrawn, Changed, saying}
+use Rattle.mrt_events.specs.SharedRoute.{Announces, AreOfOneRoute}
 use Rattle.rib_player.specs.History.{pair_cmp, Effect, Keep, Clear, Set, where_true, item_effect, later}
 use Rattle.rib_player.specs.Store.{route_in}
 use Rattle.rib_player.specs.Holding.{Slots, slot_at}

@@ -8,7 +8,7 @@ use Rattle.std.proofs.lemmas.Bool.{true≢false, lt-ltb, or_parts}
 use Rattle.std.proofs.lemmas.List.{take_all}
 use Rattle.std.proofs.Math.Bool.{or-true}
 use Rattle.rib_player.specs.declared.pair.Pair.{Pair}
-use Rattle.mrt_wire.specs.declared.event.Event.{Event}
+use Rattle.mrt_events.specs.declared.event.Event.{Event}
 use Rattle.rib_player.specs.History.{Effect, Keep, Clear, Set, effect, route_after}
 use Rattle.rib_player.specs.Tables.{Routes, Pairs, table, table_after, is_named, named_pairs}
 use Rattle.rib_player.specs.Timeline.{Timeline, end_of, behind, table_at, current, after_play}

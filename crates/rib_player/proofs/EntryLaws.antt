@@ -15,8 +15,8 @@ use Rattle.std.proofs.lemmas.Map.{NonePasses, lookup-none}
 use Rattle.std.proofs.lemmas.Map.Entries.{lookup_head, none_past_head}
 use Rattle.std.proofs.lemmas.Map.Keys.{sorted_head, sorted_tail, IsDistinct-tail, IsDistinct-from_sorted}
 use Rattle.rib_player.specs.declared.pair.Pair.{Pair}
-use Rattle.mrt_wire.specs.declared.event.Route.{Route}
-use Rattle.mrt_wire.specs.declared.event.Event.{Event}
+use Rattle.mrt_events.specs.declared.event.Route.{Route}
+use Rattle.mrt_events.specs.declared.event.Event.{Event}
 use Rattle.rib_player.specs.declared.changes.Changes.{Changes}
 use Rattle.rib_player.specs.Entries.{Entry}
 use Rattle.rib_player.specs.History.{pair_cmp, effect, route_after}

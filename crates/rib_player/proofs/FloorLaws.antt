@@ -4,7 +4,7 @@ use Rattle.std.proofs.lemmas.List.{get_or-drop, drop-drop}
 use Rattle.std.specs.List.{flat_map}
 use Rattle.std.specs.FinMap as finite
 use Rattle.std.specs.FinSet as set
-use Rattle.mrt_wire.specs.declared.event.Event.{Event}
+use Rattle.mrt_events.specs.declared.event.Event.{Event}
 use Rattle.rib_player.specs.Tables.{Routes, table_after, named_pairs}
 use Rattle.rib_player.specs.Timeline.{Timeline, table_at, current, after_play}
 use Rattle.rib_player.specs.Calls.{after_undo, after_redo, without_first, forgettable, after_forget}

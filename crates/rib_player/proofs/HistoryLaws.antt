@@ -1,8 +1,8 @@
 -- Histories that go on by an event: the routes that they leave, and their tables.
 use Rattle.std.proofs.Common.{◌≡◌, List, [], ◌∷◌, ◌++◌, map, Option, None, sym, ap, ◌∙◌}
 use Rattle.rib_player.specs.declared.pair.Pair.{Pair}
-use Rattle.mrt_wire.specs.declared.event.Route.{Route}
-use Rattle.mrt_wire.specs.declared.event.Event.{Event}
+use Rattle.mrt_events.specs.declared.event.Route.{Route}
+use Rattle.mrt_events.specs.declared.event.Event.{Event}
 use Rattle.rib_player.specs.History.{Effect, last_effect, effect, route_after, route}
 use Rattle.rib_player.specs.Tables.{table, table_after}
 use Rattle.rib_player.proofs.TableLaws.{same_routes, route_after-later, get-table, get-table_after}

@@ -17,7 +17,6 @@ pub mod HeldLaws
 pub mod CountedLaws
 pub mod CountLaws
 pub mod KeyLaws
-pub mod PlacesLaws
 pub mod PlayedLaws
 pub mod SlotLaws
 pub mod ForgetLaws

@@ -10,10 +10,10 @@ use Rattle.std.specs.FinMap as finite
 use Rattle.std.specs.FinSet.{from_list, contains-from_list}
 use Rattle.ip_prefix.specs.Network.{Network}
 use Rattle.ip_prefix.specs.Order.{network_cmp}
-use Rattle.mrt_wire.specs.declared.peer.Peer.{Peer}
-use Rattle.mrt_wire.specs.declared.event.Event.{Event}
-use Rattle.mrt_wire.specs.Peer.{peer_cmp}
-use Rattle.mrt_wire.proofs.PeerLaws.{peer_cmp_total}
+use Rattle.mrt_events.specs.declared.peer.Peer.{Peer}
+use Rattle.mrt_events.specs.declared.event.Event.{Event}
+use Rattle.mrt_events.specs.Peer.{peer_cmp}
+use Rattle.mrt_events.proofs.PeerLaws.{peer_cmp_total}
 use Rattle.std.specs.declared.alloc.Global.{Global}
 use Rattle.rib_player.specs.declared.pair.Pair.{Pair}
 use Rattle.rib_player.specs.Entries.{Entry}

@@ -6,8 +6,8 @@ use Rattle.std.specs.FinMap.{IsAntisymmetric}
 use Rattle.ip_prefix.specs.Order.{network_cmp}
 use Rattle.ip_prefix.specs.OrderLaws.{both_tie, network_cmp_total, network_cmp-IsAntisymmetric}
 use Rattle.rib_player.specs.declared.pair.Pair.{Pair}
-use Rattle.mrt_wire.specs.Peer.{peer_cmp}
-use Rattle.mrt_wire.proofs.PeerLaws.{peer_cmp_total, peer_cmp-IsAntisymmetric}
+use Rattle.mrt_events.specs.Peer.{peer_cmp}
+use Rattle.mrt_events.proofs.PeerLaws.{peer_cmp_total, peer_cmp-IsAntisymmetric}
 use Rattle.rib_player.specs.History.{pair_cmp}
 
 -- the order of pairs is total

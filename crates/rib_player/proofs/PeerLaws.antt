@@ -25,10 +25,10 @@ use Rattle.rib_store.specs.Stored.{counted}
 use Rattle.rib_store.specs.Lookups.{above, is_above, pointed}
 use Rattle.rib_store.proofs.FillLaws.{take-nil}
 use Rattle.rib_store.proofs.AboveLaws.{routes_sorted}
-use Rattle.mrt_wire.specs.declared.peer.Peer.{Peer}
-use Rattle.mrt_wire.specs.declared.event.Route.{Route}
-use Rattle.mrt_wire.specs.Peer.{peer_cmp}
-use Rattle.mrt_wire.proofs.PeerLaws.{peer_cmp_total, peer_cmp-IsAntisymmetric}
+use Rattle.mrt_events.specs.declared.peer.Peer.{Peer}
+use Rattle.mrt_events.specs.declared.event.Route.{Route}
+use Rattle.mrt_events.specs.Peer.{peer_cmp}
+use Rattle.mrt_events.proofs.PeerLaws.{peer_cmp_total, peer_cmp-IsAntisymmetric}
 use Rattle.rib_player.specs.declared.pair.Pair.{Pair}
 use Rattle.rib_player.specs.History.{pair_cmp, pair_of}
 use Rattle.rib_player.specs.Tables.{Routes}

@@ -9,7 +9,7 @@ use Rattle.std.specs.FinSet as names
 use Rattle.std.specs.FinSet.{contains-empty, contains-from_list}
 use Rattle.std.proofs.lemmas.List.{length-map, map-append, take-map, take-take, take_at, get_or_at}
 use Rattle.std.proofs.Math.Bool.{or-true}
-use Rattle.mrt_wire.specs.declared.event.Event.{Event}
+use Rattle.mrt_events.specs.declared.event.Event.{Event}
 use Rattle.rib_player.specs.declared.pair.Pair.{Pair}
 use Rattle.rib_player.specs.declared.journal.Step.{Step}
 use Rattle.rib_player.specs.declared.entry.End.TheVariants.{First, Last}

@@ -10,7 +10,7 @@ use Rattle.std.specs.declared.cmp.Ordering.TheVariants.{Less, Equal, Greater}
 use Rattle.std.specs.declared.alloc.Global.{Global}
 use Rattle.std.specs.declared.rc.Rc.{Rc}
 use Rattle.std.proofs.lemmas.List.Kept.{IsStrictlySortedBy-dedup}
-use Rattle.mrt_wire.specs.declared.event.Route.{Route}
+use Rattle.mrt_events.specs.declared.event.Route.{Route}
 use Rattle.rib_player.specs.declared.pair.Pair.{Pair}
 use Rattle.rib_player.specs.History.{pair_cmp}
 use Rattle.rib_player.specs.Holding.{Slots, slot_at}

@@ -24,10 +24,10 @@ use Rattle.ip_prefix.specs.OrderLaws.{network_cmp_total}
 use Rattle.rib_store.specs.Stored as stored
 use Rattle.rib_store.specs.Lookups as lookups
 use Rattle.rib_store.proofs.PutLaws.{get-put}
-use Rattle.mrt_wire.specs.declared.peer.Peer.{Peer}
+use Rattle.mrt_events.specs.declared.peer.Peer.{Peer}
 use Rattle.rib_player.specs.declared.pair.Pair.{Pair}
-use Rattle.mrt_wire.specs.declared.event.Route.{Route}
-use Rattle.mrt_wire.specs.Peer.{peer_cmp}
+use Rattle.mrt_events.specs.declared.event.Route.{Route}
+use Rattle.mrt_events.specs.Peer.{peer_cmp}
 use Rattle.rib_player.specs.History.{pair_cmp, pair_of}
 use Rattle.rib_store.specs.Stored.{put}
 use Rattle.rib_player.specs.Tables.{Routes, Pairs}
@@ -35,7 +35,7 @@ use Rattle.rib_player.specs.Store.{Stores, store_at, has_key, stored_route, rout
 use Rattle.rib_player.specs.Lookups.{IsBest}
 use Rattle.rib_player.specs.Holding.{value_of, IsHeld, IsLeft}
 use Rattle.octet_forms.proofs.Booleans.{cond_untested}
-use Rattle.mrt_wire.proofs.PeerLaws.{peer_cmp_total, peer_cmp-IsAntisymmetric}
+use Rattle.mrt_events.proofs.PeerLaws.{peer_cmp_total, peer_cmp-IsAntisymmetric}
 use Rattle.rib_player.proofs.PairLaws.{pair_cmp_total, pair_cmp-IsAntisymmetric, same_pair}
 use Rattle.rib_player.proofs.TableLaws.{same_routes, get-tabulation}
 

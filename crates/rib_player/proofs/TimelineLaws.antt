@@ -5,7 +5,7 @@ use Rattle.std.proofs.lemmas.List.{length_push, drop-drop}
 use Rattle.std.proofs.Math.Seq.{take-add}
 use Rattle.std.specs.FinMap as finite
 use Rattle.rib_player.specs.declared.pair.Pair.{Pair}
-use Rattle.mrt_wire.specs.declared.event.Event.{Event}
+use Rattle.mrt_events.specs.declared.event.Event.{Event}
 use Rattle.rib_player.specs.History.{route}
 use Rattle.rib_player.specs.Tables.{table, table_after, named_pairs}
 use Rattle.rib_player.specs.Timeline.{Timeline, end_of, behind, table_at, current, after_play}

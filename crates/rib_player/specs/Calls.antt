@@ -2,7 +2,7 @@
 -- What calls of a player do to it, and to the history that it stands for.
 use Rattle.std.specs.Prelude.{◌≡◌, ℕ, ◌+◌, ◌-◌, ◌≤◌, List, [], ◌∷◌, ◌++◌, length, take, drop, nat_lt, if◌then◌else◌}
 use Rattle.std.specs.FinMap as finite
-use Rattle.mrt_wire.specs.declared.event.Event.{Event}
+use Rattle.mrt_events.specs.declared.event.Event.{Event}
 use Rattle.rib_player.specs.Tables.{Routes, Pairs, table, named_pairs}
 use Rattle.rib_player.specs.Timeline.{Timeline, end_of, behind, after_play}
 

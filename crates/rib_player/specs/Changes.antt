@@ -4,13 +4,13 @@ use Rattle.std.specs.Prelude.{Bool, true, false, List, map, Option, Some, None, 
 use Rattle.std.specs.List.{list_any}
 use Rattle.std.specs.Option.{option_map}
 use Rattle.std.specs.Ordering.{eq_by_cmp}
-use Rattle.mrt_wire.specs.declared.peer.Peer.{Peer}
+use Rattle.mrt_events.specs.declared.peer.Peer.{Peer}
 use Rattle.rib_player.specs.declared.pair.Pair.{Pair}
-use Rattle.mrt_wire.specs.declared.event.Route.{Route}
+use Rattle.mrt_events.specs.declared.event.Route.{Route}
 use Rattle.rib_player.specs.declared.changes.Changes.{Changes}
-use Rattle.mrt_wire.specs.Peer.{peer_cmp}
-use Rattle.mrt_wire.specs.declared.event.Item.{Item}
-use Rattle.mrt_wire.specs.Event.{Saying, Announced, Withdrawn, Changed, saying}
+use Rattle.mrt_events.specs.Peer.{peer_cmp}
+use Rattle.mrt_events.specs.declared.event.Item.{Item}
+use Rattle.mrt_events.specs.Event.{Saying, Announced, Withdrawn, Changed, saying}
 use Rattle.rib_player.specs.History.{Effect, Clear, Set, where_true, item_effect, last_effect}
 use Rattle.rib_player.specs.Store.{route_in}
 use Rattle.rib_player.specs.Holding.{Slots, slot_at}

@@ -5,7 +5,7 @@ use Rattle.std.specs.BTreeMap as tree
 use Rattle.std.specs.FinMap as finite
 use Rattle.std.specs.FinSet as set
 use Rattle.ip_prefix.specs.Network.{Network}
-use Rattle.mrt_wire.specs.Peer.{peer_cmp}
+use Rattle.mrt_events.specs.Peer.{peer_cmp}
 pub use Rattle.rib_player.specs.Counts.{one_if}
 use Rattle.rib_player.specs.Counts.{count_of}
 use Rattle.rib_player.specs.declared.claims.Claims.{Claims}

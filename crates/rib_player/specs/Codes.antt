@@ -4,8 +4,8 @@ use Rattle.std.specs.Prelude.{refl}
 use Rattle.std.specs.Coded.{Coded, code_by, coded×}
 use Rattle.ip_prefix.specs.Codes.{coded_network}
 use Rattle.ip_prefix.specs.Network.{Network}
-use Rattle.mrt_wire.specs.declared.peer.Peer.{Peer}
-use Rattle.mrt_wire.specs.Codes.{coded_peer}
+use Rattle.mrt_events.specs.declared.peer.Peer.{Peer}
+use Rattle.mrt_events.specs.Codes.{coded_peer}
 use Rattle.rib_player.specs.declared.pair.Pair.{Pair}
 
 abbrev pub coded_pair : Coded Pair

@@ -8,10 +8,10 @@ use Rattle.std.specs.declared.rc.Rc.{Rc}
 use Rattle.std.specs.FinMap as finite
 use Rattle.std.specs.FinSet as set
 use Rattle.std.specs.declared.alloc.Global.{Global}
-use Rattle.mrt_wire.specs.declared.peer.Peer.{Peer}
-use Rattle.mrt_wire.specs.declared.event.Route.{Route}
-use Rattle.mrt_wire.specs.Codes.{coded_route}
-use Rattle.mrt_wire.specs.Peer.{peer_cmp}
+use Rattle.mrt_events.specs.declared.peer.Peer.{Peer}
+use Rattle.mrt_events.specs.declared.event.Route.{Route}
+use Rattle.mrt_events.specs.Codes.{coded_route}
+use Rattle.mrt_events.specs.Peer.{peer_cmp}
 use Rattle.rib_store.specs.Stored as stored
 use Rattle.rib_store.specs.Contents as contents
 use Rattle.rib_player.specs.declared.pair.Pair.{Pair}

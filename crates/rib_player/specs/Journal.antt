@@ -2,7 +2,7 @@
 use Rattle.std.specs.Prelude.{ℕ, ◌+◌, List, [], ◌∷◌, ◌++◌, map, take, drop, reverse, Option}
 use Rattle.std.specs.FinSet.{from_list}
 use Rattle.rib_player.specs.declared.pair.Pair.{Pair}
-use Rattle.mrt_wire.specs.declared.event.Route.{Route}
+use Rattle.mrt_events.specs.declared.event.Route.{Route}
 use Rattle.rib_player.specs.Entries.{Entry}
 use Rattle.rib_player.specs.declared.journal.Step.{Step}
 use Rattle.rib_store.specs.Stored.{put}

@@ -9,9 +9,9 @@ use Rattle.std.specs.FinMap as finite
 use Rattle.std.specs.declared.alloc.Global.{Global}
 use Rattle.ip_prefix.specs.Address.{Address}
 use Rattle.ip_prefix.specs.Network.{Network}
-use Rattle.mrt_wire.specs.declared.peer.Peer.{Peer}
-use Rattle.mrt_wire.specs.declared.event.Route.{Route}
-use Rattle.mrt_wire.specs.Peer.{peer_cmp}
+use Rattle.mrt_events.specs.declared.peer.Peer.{Peer}
+use Rattle.mrt_events.specs.declared.event.Route.{Route}
+use Rattle.mrt_events.specs.Peer.{peer_cmp}
 use Rattle.rib_store.specs.Stored as stored
 use Rattle.rib_store.specs.Lookups as lookups
 use Rattle.rib_player.specs.History.{pair_of}

@@ -10,9 +10,9 @@ use Rattle.std.specs.FinSet as set
 use Rattle.std.specs.declared.alloc.Global.{Global}
 use Rattle.ip_prefix.specs.Network.{Network}
 use Rattle.rib_store.specs.Stored as stored
-use Rattle.mrt_wire.specs.declared.peer.Peer.{Peer}
-use Rattle.mrt_wire.specs.declared.event.Route.{Route}
-use Rattle.mrt_wire.specs.Peer.{peer_cmp}
+use Rattle.mrt_events.specs.declared.peer.Peer.{Peer}
+use Rattle.mrt_events.specs.declared.event.Route.{Route}
+use Rattle.mrt_events.specs.Peer.{peer_cmp}
 use Rattle.rib_player.specs.History.{pair_of}
 use Rattle.rib_player.specs.Tables.{Routes, Pairs, tabulation}
 

@@ -5,9 +5,9 @@ use Rattle.std.specs.FinMap.{FinMap, empty, get, keys}
 use Rattle.std.specs.FinSet.{FinSet, from_list}
 use Rattle.rib_store.specs.Stored.{put}
 use Rattle.rib_player.specs.declared.pair.Pair.{Pair}
-use Rattle.mrt_wire.specs.declared.event.Route.{Route}
-use Rattle.mrt_wire.specs.Event.{Saying, Announced, Withdrawn, Changed}
-use Rattle.mrt_wire.specs.declared.event.Event.{Event}
+use Rattle.mrt_events.specs.declared.event.Route.{Route}
+use Rattle.mrt_events.specs.Event.{Saying, Announced, Withdrawn, Changed}
+use Rattle.mrt_events.specs.declared.event.Event.{Event}
 use Rattle.rib_player.specs.History.{pair_cmp, pair_of, Effect, Keep, Clear, Set, effect, route_after, route}
 
 -- at most one route at each pair

@@ -1,7 +1,7 @@
 -- What contracts see of a player: the tables by position from a floor on, and a cursor; and what playing an event does to it.
 use Rattle.std.specs.Prelude.{ℕ, ◌+◌, ◌-◌, List, [], ◌∷◌, ◌++◌, length, take, slice_index_or}
 use Rattle.std.specs.FinMap as finite
-use Rattle.mrt_wire.specs.declared.event.Event.{Event}
+use Rattle.mrt_events.specs.declared.event.Event.{Event}
 use Rattle.rib_player.specs.Tables.{Routes, Pairs, table_after, named_pairs}
 
 -- a player as contracts see it

@@ -5,7 +5,7 @@ use Rattle.std.specs.List.{flat_map, sum_by}
 use Rattle.std.specs.Coded.{Coded, code_by, coded×, coded_ℕ, coded_list}
 use Rattle.std.specs.FinMap as finite
 use Rattle.std.specs.FinSet as set
-use Rattle.mrt_wire.specs.Codes.{coded_route}
+use Rattle.mrt_events.specs.Codes.{coded_route}
 use Rattle.rib_player.specs.Codes.{coded_pair}
 use Rattle.rib_player.specs.Tables.{Routes, Pairs}
 use Rattle.rib_player.specs.Timeline.{Timeline, end_of, current}

@@ -1,16 +1,16 @@
 //! What an event does, pair by pair.
 
-ghost use Rattle.std.specs.Prelude.{◌≡◌, ◌<◌, ◌++◌, ◌||◌, ◌&&◌, [], ◌∷◌, ◌≢◌, IfOk, IfSome, IfNone, OnOk, OnErr, Some, None, true, false, is_some, if◌then◌else◌, map, slice_get, vec_capacity};
+ghost use Rattle.std.specs.Prelude.{◌≡◌, ◌++◌, ◌||◌, ◌&&◌, [], ◌∷◌, ◌≢◌, IfOk, IfSome, IfNone, OnOk, OnErr, Some, None, true, false, is_some, if◌then◌else◌, map, slice_get};
 ghost use Rattle.std.specs.List.{AllByRecursion, list_any, filter};
 ghost use Rattle.std.specs.List.Sorted.{IsStrictlySortedBy};
 ghost use Rattle.std.specs.Map.{keys_of};
 ghost use Rattle.std.specs.Ordering.{eq_by_cmp};
 ghost use Rattle.std.specs.FinMap as finite;
-ghost use Rattle.mrt_wire.specs.Event.{saying};
-ghost use Rattle.mrt_wire.specs.SharedRoute.{AreOfOneRoute};
+ghost use Rattle.mrt_events.specs.Event.{saying};
+ghost use Rattle.mrt_events.specs.SharedRoute.{AreOfOneRoute};
 ghost use Rattle.rib_player.specs.declared.pair.Pair.{Pair};
-ghost use Rattle.mrt_wire.specs.declared.peer.Peer.{Peer};
-ghost use Rattle.mrt_wire.specs.Peer.{peer_cmp};
+ghost use Rattle.mrt_events.specs.declared.peer.Peer.{Peer};
+ghost use Rattle.mrt_events.specs.Peer.{peer_cmp};
 ghost use Rattle.rib_player.specs.History.{pair_cmp, Clear, where_true, item_effect, later, effect};
 ghost use Rattle.rib_player.specs.Store.{route_in};
 ghost use Rattle.rib_player.specs.Holding.{slot_at};
@@ -19,12 +19,11 @@ ghost use Rattle.rib_player.specs.Journal.{side_of, sides_of, pairs_in};
 ghost use Rattle.rib_player.specs.Sides.{cleared_side, slot_side, AreOrdered, IsStepFor};
 
 use crate::entry::Entry;
-use crate::known::KnownRoutes;
-use crate::known_peers::KnownPeers;
 use crate::pair::Pair;
 use crate::table::Table;
 use ip_prefix::Prefix;
-use mrt_wire::{ESTABLISHED, Event, Item, Peer, Route};
+use known_routes::{KnownPeers, KnownRoutes};
+use mrt_events::{ESTABLISHED, Event, Item, Peer, Route};
 use rib_store::PrefixStore;
 use std::alloc::{AllocError, Global};
 use std::collections::BTreeSet;
@@ -198,7 +197,7 @@ fn changes_of(alloc: Global, event: &Event, known: &mut KnownRoutes) -> Result<C
     Ok(changes)
 }
 
-/// How many routes of a lost session are asked for at once, where there is memory for them.
+/// How many routes of a lost session are asked for at once.
 const MANY: usize = 64;
 
 /// Appends the entries of the pairs of a peer that have these routes, and none then.
@@ -217,20 +216,18 @@ fn add_cleared(
     Ok(())
 }
 
-/// The entries of those pairs of a peer that have a route in its store, and none then: many at a
-/// time, as there is room for.
-fn cleared_at_once<'a, S: PrefixStore<Rc<Route>>>(
+/// The entries of those pairs of a peer that have a route in its store, and none then: many at a time.
+fn cleared_in<S: PrefixStore<Rc<Route>>>(
     alloc: Global,
-    store: &'a S,
+    store: &S,
     peer: &Rc<Peer>,
-    room: Vec<(Prefix, &'a Rc<Route>)>,
 ) -> Result<Vec<Entry>, AllocError>
-    requires { 0 < vec_capacity room }
     ensures { IfOk result (λ entries. sides_of entries.items
         ≡ map (cleared_side peer.now.value) (finite.keys (S.routes store.now))) }
 {
-    let mut entries = Vec::with_capacity(alloc, store.route_count() as usize)?;
-    let mut found = room;
+    let count = store.route_count() as usize;
+    let mut entries = Vec::with_capacity(alloc, count)?;
+    let mut found = Vec::with_capacity(alloc, count.min(MANY).max(1))?;
     let mut last = None;
     'routes: loop {
         store.next_routes(last.as_ref(), &mut found);
@@ -241,42 +238,6 @@ fn cleared_at_once<'a, S: PrefixStore<Rc<Route>>>(
         add_cleared(alloc, peer, &found, &mut entries)?;
     }
     Ok(entries)
-}
-
-/// The same one by one, without room for more.
-fn cleared_one_by_one<S: PrefixStore<Rc<Route>>>(
-    alloc: Global,
-    store: &S,
-    peer: &Rc<Peer>,
-) -> Result<Vec<Entry>, AllocError>
-    ensures { IfOk result (λ entries. sides_of entries.items
-        ≡ map (cleared_side peer.now.value) (finite.keys (S.routes store.now))) }
-{
-    let mut entries = Vec::with_capacity(alloc, store.route_count() as usize)?;
-    let mut last = None;
-    'routes: while let Some(found) = store.after(last.as_ref()) {
-        entries.push(Entry::new(alloc, peer.clone()?, &found.0, None)?)?;
-        last = Some(found.0);
-    }
-    Ok(entries)
-}
-
-/// The entries of those pairs of a peer that have a route in its store, and none then. Where many at a
-/// time want more memory than is there, it is tried one by one.
-fn cleared_in<S: PrefixStore<Rc<Route>>>(
-    alloc: Global,
-    store: &S,
-    peer: &Rc<Peer>,
-) -> Result<Vec<Entry>, AllocError>
-    ensures { IfOk result (λ entries. sides_of entries.items
-        ≡ map (cleared_side peer.now.value) (finite.keys (S.routes store.now))) }
-{
-    if let Ok(room) = Vec::with_capacity(alloc, MANY) {
-        if let Ok(entries) = cleared_at_once(alloc, store, peer, room) {
-            return Ok(entries);
-        }
-    }
-    cleared_one_by_one(alloc, store, peer)
 }
 
 /// The entries of all pairs of a peer that have a route, and none then.

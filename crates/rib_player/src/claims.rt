@@ -21,7 +21,7 @@ use crate::counts::Counts;
 use crate::entry::{End, Entry};
 use crate::pair::Pair;
 use crate::table::Table;
-use mrt_wire::{Peer, Route};
+use mrt_events::{Peer, Route};
 use rib_store::PrefixStore;
 use std::alloc::{AllocError, Global};
 use std::collections::BTreeMap;

@@ -51,14 +51,11 @@ fn count_more<K: Ord + Copy + Drop>(counts: &mut BTreeMap<K, u32>, key: K) -> Re
     ensures refused { OnErr result ((k : K) →
         count_at K.cmp counts.new k ≡ count_at K.cmp counts.old k) }
 {
-    if let Some(count) = counts.get_mut(&key) {
-        let Some(more) = count.checked_add(1) else {
-            return Err(AllocError);
-        };
-        *count = more;
-        return Ok(());
-    }
-    counts.insert(key, 1)?;
+    let count = counts.entry(key)?.or_insert(0);
+    let Some(more) = count.checked_add(1) else {
+        return Err(AllocError);
+    };
+    *count = more;
     Ok(())
 }
 

@@ -10,7 +10,7 @@ ghost use Rattle.std.specs.Prelude.{◌≡◌, ◌<◌, ◌≤◌, length};
 use crate::entry::Entry;
 use crate::journal::Step;
 use crate::table::Table;
-use mrt_wire::Route;
+use mrt_events::Route;
 use rib_store::{DESCENTS_AT_ONCE, Descents, PrefixStore};
 use std::collections::VecDeque;
 use std::rc::Rc;

@@ -13,7 +13,7 @@ ghost use Rattle.rib_player.specs.Marks.{mark_of, gives_up};
 use crate::pair::Pair;
 use crate::table::Table;
 use ip_prefix::{Family, Prefix};
-use mrt_wire::{Peer, Route};
+use mrt_events::{Peer, Route};
 use rib_store::{Packed, PrefixStore, V4Prefix};
 use std::alloc::{AllocError, Global};
 use std::marker::Model;

@@ -7,13 +7,9 @@ mod counts;
 mod descents;
 mod entry;
 mod journal;
-mod known;
-mod known_peers;
 mod laws;
 mod pair;
-mod places;
 mod player;
-mod route_hash;
 mod table;
 
 pub use laws::{

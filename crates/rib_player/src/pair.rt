@@ -1,7 +1,7 @@
 //! A peer and a prefix.
 
 use ip_prefix::Prefix;
-use mrt_wire::Peer;
+use mrt_events::Peer;
 
 /// A peer and a prefix, to which a table has at most one route. Pairs are ordered by peer, then
 /// by prefix.

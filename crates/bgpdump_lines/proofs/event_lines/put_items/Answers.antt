@@ -1,11 +1,11 @@
 use Rattle.std.proofs.Common.{◌++◌, ◌∙◌, ap, map, drop, length-drop, arith}
 use Rattle.std.proofs.lemmas.List.{take_all}
-use Rattle.mrt_wire.specs.Event.{saying}
+use Rattle.mrt_events.specs.Event.{saying}
 use Rattle.std.specs.List.{flat_map}
 use Rattle.bgpdump_lines.specs.Lines.{item_line}
 use Rattle.bgpdump_lines.specs.Heading.{headed_line}
 use Rattle.bgpdump_lines.proofs.LineLaws.{lines-parts}
-use Rattle.mrt_wire.proofs.SharedLaws.{said_range}
+use Rattle.mrt_events.proofs.SharedLaws.{said_range}
 use Rattle.bgpdump_lines.proofs.event_lines.put_items.Goals as goal
 
 pub put_shared-requires : goal.put_shared-requires

@@ -1,8 +1,8 @@
 use Rattle.std.proofs.Common.{◌∙◌, ap, sym, subst, map, arith}
 use Rattle.std.proofs.lemmas.List.{get_or-map, length-map}
 use Rattle.std.proofs.lemmas.List.Elements.{All-get_or}
-use Rattle.mrt_wire.specs.Event.{saying}
-use Rattle.mrt_wire.specs.SharedRoute.{Announces}
+use Rattle.mrt_events.specs.Event.{saying}
+use Rattle.mrt_events.specs.SharedRoute.{Announces}
 use Rattle.bgpdump_lines.specs.Heading.{headed_line}
 use Rattle.bgpdump_lines.proofs.LineLaws.{lines_of_all}
 use Rattle.bgpdump_lines.proofs.event_lines.put_others.Goals as goal

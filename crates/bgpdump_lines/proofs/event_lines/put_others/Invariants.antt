@@ -1,7 +1,7 @@
 -- The lines of the items so far, the last of which the text ends in.
 use Rattle.std.proofs.Common.{◌≡◌, ◌++◌, take}
 use Rattle.std.specs.List.{flat_map}
-use Rattle.mrt_wire.specs.Event.{saying}
+use Rattle.mrt_events.specs.Event.{saying}
 use Rattle.bgpdump_lines.specs.Copying.{AreOrdered, front_at, tail_at}
 use Rattle.bgpdump_lines.specs.Fields.{route_tail}
 use Rattle.bgpdump_lines.specs.Heading.{route_front, headed_line}

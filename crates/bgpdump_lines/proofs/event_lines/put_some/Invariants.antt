@@ -2,7 +2,7 @@
 use Rattle.std.proofs.Common.{◌≡◌, ◌++◌, take}
 use Rattle.std.specs.List.{flat_map}
 use Rattle.std.specs.Option.{IfSome}
-use Rattle.mrt_wire.specs.Event.{saying}
+use Rattle.mrt_events.specs.Event.{saying}
 use Rattle.bgpdump_lines.specs.Copying.{EndsIn}
 use Rattle.bgpdump_lines.specs.Heading.{headed_line}
 use Rattle.bgpdump_lines.proofs.event_lines.put_some.Given as goal

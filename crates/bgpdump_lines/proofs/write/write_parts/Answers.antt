@@ -2,14 +2,14 @@ use Rattle.std.proofs.Common.{◌≡◌, ℕ, List, ◌++◌, ◌-◌, ◌∙◌
 use Rattle.std.proofs.lemmas.List.{take_all}
 use Rattle.std.proofs.lemmas.Result.{err_from_is_err_and}
 use Rattle.std.specs.List.{flat_map}
-use Rattle.mrt_wire.specs.declared.event.Item.{Item}
-use Rattle.mrt_wire.specs.Event.{saying}
+use Rattle.mrt_events.specs.declared.event.Item.{Item}
+use Rattle.mrt_events.specs.Event.{saying}
 use Rattle.bgpdump_lines.specs.Lines.{item_line}
 use Rattle.bgpdump_lines.specs.Heading.{headed_line}
 use Rattle.bgpdump_lines.specs.Device.{AppendsFront}
 use Rattle.bgpdump_lines.specs.Writing.{Passes}
 use Rattle.bgpdump_lines.proofs.LineLaws.{lines-three}
-use Rattle.mrt_wire.proofs.SharedLaws.{said_range}
+use Rattle.mrt_events.proofs.SharedLaws.{said_range}
 use Rattle.bgpdump_lines.proofs.WritingLaws.{AppendsFront-first, Passes-stops, Passes-trans}
 use Rattle.bgpdump_lines.proofs.write.write_parts.Goals as goal
 

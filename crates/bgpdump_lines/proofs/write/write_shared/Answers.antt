@@ -2,8 +2,8 @@ use Rattle.std.proofs.Common.{ℕ, List, ◌++◌, ◌∙◌, append_assoc, ap, 
 use Rattle.std.proofs.lemmas.List.{take-append-drop}
 use Rattle.std.proofs.lemmas.Result.{err_from_is_err_and}
 use Rattle.std.specs.List.{flat_map}
-use Rattle.mrt_wire.specs.declared.event.Item.{Item}
-use Rattle.mrt_wire.specs.Event.{saying}
+use Rattle.mrt_events.specs.declared.event.Item.{Item}
+use Rattle.mrt_events.specs.Event.{saying}
 use Rattle.bgpdump_lines.specs.Heading.{headed_line}
 use Rattle.bgpdump_lines.specs.Device.{AppendsFront}
 use Rattle.bgpdump_lines.specs.Writing.{Passes}

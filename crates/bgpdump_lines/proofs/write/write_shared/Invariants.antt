@@ -1,8 +1,8 @@
 -- Behind what was written stands the text; both hold the lines of those that are done.
 use Rattle.std.proofs.Common.{◌≡◌, ◌++◌, List, length, map}
-use Rattle.mrt_wire.specs.declared.event.Item.{Item}
-use Rattle.mrt_wire.specs.Event.{saying}
-use Rattle.mrt_wire.specs.SharedRoute.{AreOfOneRoute}
+use Rattle.mrt_events.specs.declared.event.Item.{Item}
+use Rattle.mrt_events.specs.Event.{saying}
+use Rattle.mrt_events.specs.SharedRoute.{AreOfOneRoute}
 use Rattle.bgpdump_lines.specs.Heading.{headed_lines}
 use Rattle.bgpdump_lines.specs.Writing.{Passes}
 use Rattle.bgpdump_lines.proofs.write.write_shared.Given as goal

@@ -1,12 +1,12 @@
 use Rattle.std.proofs.Common.{Err, ap, map, sym, subst, ◌∙◌, refl}
 use Rattle.std.proofs.lemmas.Result.{err_from_is_err_and}
 use Rattle.bgp_paths.proofs.Refusing.{refused_part}
-use Rattle.mrt_wire.specs.declared.event.Tag.TheVariants.{TableDump2}
+use Rattle.mrt_events.specs.declared.event.Tag.TheVariants.{TableDump2}
 use Rattle.mrt_wire.specs.declared.profile.Form.TheVariants as form
 use Rattle.mrt_wire.specs.Content.{Peers, SpellsContent}
 use Rattle.mrt_wire.specs.PeerIndex.{SpellsPeerIndex}
 use Rattle.mrt_frames.specs.Parts.{record_under}
-use Rattle.mrt_wire.specs.Event.{saying}
+use Rattle.mrt_events.specs.Event.{saying}
 use Rattle.mrt_wire.specs.Verdict.{table_event}
 use Rattle.mrt_wire.specs.Judging.{Judges}
 use Rattle.mrt_wire.proofs.JudgingLaws.{refused_body}

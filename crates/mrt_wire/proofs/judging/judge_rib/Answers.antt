@@ -1,7 +1,7 @@
 use Rattle.std.proofs.Common.{Err, ap, sym, subst, ◌∙◌, refl}
 use Rattle.std.proofs.lemmas.Result.{err_from_is_err_and}
 use Rattle.bgp_paths.proofs.Refusing.{refused_part}
-use Rattle.mrt_wire.specs.declared.event.Tag.TheVariants.{TableDump2}
+use Rattle.mrt_events.specs.declared.event.Tag.TheVariants.{TableDump2}
 use Rattle.mrt_wire.specs.declared.profile.Form.TheVariants as form
 use Rattle.mrt_wire.specs.Content.{Entries, SpellsContent}
 use Rattle.mrt_wire.specs.Rib.{SpellsRib}

@@ -2,7 +2,7 @@ use Rattle.std.proofs.Common.{◌∷◌, [], Err, ap, sym, subst, ◌∙◌}
 use Rattle.std.proofs.lemmas.Result.{err_from_is_err_and}
 use Rattle.bgp_wire.specs.Readers.{Reads}
 use Rattle.bgp_paths.proofs.Refusing.{refused_part}
-use Rattle.mrt_wire.specs.Event.{Announced}
+use Rattle.mrt_events.specs.Event.{Announced}
 use Rattle.mrt_wire.specs.Items.{peer_entry_items, route_of}
 use Rattle.mrt_wire.specs.Judging.{Told}
 use Rattle.mrt_wire.specs.TableDump.{SpellsPeerEntry}

@@ -1,5 +1,5 @@
 use Rattle.std.proofs.Common.{refl}
-use Rattle.mrt_wire.specs.Event.{Withdrawn}
+use Rattle.mrt_events.specs.Event.{Withdrawn}
 use Rattle.mrt_wire.proofs.TellingLaws.{one_more_prefix}
 use Rattle.mrt_wire.proofs.update.add_withdrawals.Goals as goal
 

@@ -1,5 +1,5 @@
 use Rattle.std.proofs.Common.{map, take}
-use Rattle.mrt_wire.specs.Event.{Withdrawn}
+use Rattle.mrt_events.specs.Event.{Withdrawn}
 use Rattle.mrt_wire.specs.Judging.{Adds}
 use Rattle.mrt_wire.proofs.update.add_withdrawals.Given as goal
 

@@ -1,5 +1,5 @@
 use Rattle.std.proofs.Common.{ap}
-use Rattle.mrt_wire.specs.Event.{Announced}
+use Rattle.mrt_events.specs.Event.{Announced}
 use Rattle.mrt_wire.proofs.TellingLaws.{one_more_prefix}
 use Rattle.mrt_wire.proofs.update.share_route.Goals as goal
 

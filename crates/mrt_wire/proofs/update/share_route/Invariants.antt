@@ -1,5 +1,5 @@
 use Rattle.std.proofs.Common.{map, take}
-use Rattle.mrt_wire.specs.Event.{Announced}
+use Rattle.mrt_events.specs.Event.{Announced}
 use Rattle.mrt_wire.specs.Judging.{Adds}
 use Rattle.mrt_wire.proofs.update.share_route.Given as goal
 

@@ -1,6 +1,6 @@
 use Rattle.std.proofs.Common.{map, drop, sym, ap, ap₂, ◌∙◌, length-drop, arith}
 use Rattle.std.proofs.lemmas.List.{take_all}
-use Rattle.mrt_wire.proofs.SharedLaws.{said_range}
+use Rattle.mrt_events.proofs.SharedLaws.{said_range}
 use Rattle.rib_player.specs.declared.pair.Pair.{Pair}
 use Rattle.rib_player.specs.History.{item_effect, later, last_effect}
 use Rattle.rib_player.specs.Holding.{Slots}

@@ -1,7 +1,7 @@
 use Rattle.std.proofs.Common.{◌≡◌, Some, None, sym, ap, subst, ◌∙◌}
 use Rattle.std.specs.Option.{option_map}
 use Rattle.ip_prefix.specs.Network.{Network}
-use Rattle.mrt_wire.specs.declared.event.Route.{Route}
+use Rattle.mrt_events.specs.declared.event.Route.{Route}
 use Rattle.bgpdump_tool.specs.Replies.{found_text, best}
 use Rattle.bgpdump_lines.specs.Writing.{Puts}
 use Rattle.bgpdump_tool.proofs.BestLaws.{one_best}

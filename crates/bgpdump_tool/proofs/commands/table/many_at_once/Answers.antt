@@ -5,7 +5,7 @@ use Rattle.std.specs.FinMap.{len-entries}
 use Rattle.std.specs.Io.KnownBytes.{Appends}
 use Rattle.std.proofs.lemmas.Result.{err_from_is_err_and}
 use Rattle.ip_prefix.specs.Network.{Network}
-use Rattle.mrt_wire.specs.declared.event.Route.{Route}
+use Rattle.mrt_events.specs.declared.event.Route.{Route}
 use Rattle.rib_store.specs.Stored.{counted}
 use Rattle.rib_store.specs.Lookups.{above}
 use Rattle.rib_store.proofs.AboveLaws.{above-none, above-front, none-left, routes_sorted}

@@ -1,7 +1,7 @@
 use Rattle.std.proofs.Common.{◌++◌, ◌∷◌, [], map, ap, sym, ◌∙◌}
 use Rattle.std.proofs.lemmas.List.{map-append}
-use Rattle.mrt_wire.specs.declared.event.Item.TheVariants.{Announce}
-use Rattle.mrt_wire.specs.Event.{Announced, saying}
+use Rattle.mrt_events.specs.declared.event.Item.TheVariants.{Announce}
+use Rattle.mrt_events.specs.Event.{Announced, saying}
 use Rattle.mrt_wire.specs.Items.{announced_by, entry_time, route_of}
 use Rattle.mrt_wire.proofs.rib.EntryItems.add.Goals as goal
 

@@ -1,6 +1,6 @@
 use Rattle.std.proofs.Common.{ap, ◌∙◌}
 use Rattle.std.specs.Cmp.{eq_by_cmp_equiv}
-use Rattle.mrt_wire.proofs.PeerLaws.{peer_cmp_total}
+use Rattle.mrt_events.proofs.PeerLaws.{peer_cmp_total}
 use Rattle.rib_player.specs.History.{Clear, later, where_true}
 use Rattle.rib_player.specs.Changes.{found, is_lost, effect_of}
 use Rattle.rib_player.proofs.ChangesLaws.{lost-noted}

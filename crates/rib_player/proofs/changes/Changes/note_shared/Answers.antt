@@ -1,5 +1,5 @@
 use Rattle.std.proofs.Common.{◌≡◌, ◌-◌, ◌<◌, suc, length, arith, sym, subst}
-use Rattle.mrt_wire.specs.Event.{saying}
+use Rattle.mrt_events.specs.Event.{saying}
 use Rattle.rib_player.specs.declared.pair.Pair.{Pair}
 use Rattle.rib_player.specs.Changes.{noted_effect, HasRoute}
 use Rattle.rib_player.proofs.ChangesLaws.{items_effect-more, shared-has_route}

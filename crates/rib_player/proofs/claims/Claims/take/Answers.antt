@@ -2,7 +2,7 @@ use Rattle.std.proofs.Common.{◌≡◌, ◌+◌, ◌&&◌, Some, None, is_some,
 use Rattle.std.specs.BTreeMap as tree
 use Rattle.std.specs.Option.{option_copied_mut}
 use Rattle.ip_prefix.specs.Network.{Network}
-use Rattle.mrt_wire.specs.Peer.{peer_cmp}
+use Rattle.mrt_events.specs.Peer.{peer_cmp}
 use Rattle.rib_player.specs.Claims.{one_if, count_of_peer}
 use Rattle.rib_player.specs.Counts.{count_of}
 use Rattle.rib_player.proofs.StoreLaws.{same_peer, same_network}

@@ -5,7 +5,7 @@ use Rattle.std.specs.FinMap as finite
 use Rattle.std.proofs.Math.Bool.{and-true}
 use Rattle.std.specs.declared.ops.Bound.TheVariants.{Excluded, Unbounded}
 use Rattle.std.specs.BTreeMap.Range.{range_contains, entries_between}
-use Rattle.mrt_wire.specs.Peer.{peer_cmp}
+use Rattle.mrt_events.specs.Peer.{peer_cmp}
 use Rattle.rib_store.specs.Stored.{counted}
 use Rattle.rib_player.specs.Store.{peer_routes, routed_peers}
 use Rattle.rib_player.specs.Lookups.{peers_above}

@@ -7,7 +7,7 @@ use Rattle.std.specs.FinSet.{contains-insert}
 use Rattle.ip_prefix.specs.Network.{Network}
 use Rattle.ip_prefix.specs.Order.{network_cmp}
 use Rattle.ip_prefix.specs.OrderLaws.{network_cmp_total}
-use Rattle.mrt_wire.specs.declared.peer.Peer.{Peer}
+use Rattle.mrt_events.specs.declared.peer.Peer.{Peer}
 use Rattle.std.proofs.lemmas.Result.{on_ok_weaker, on_err_weaker, IfOk-weaker}
 use Rattle.rib_store.specs.Stored.{put}
 use Rattle.rib_player.specs.Store.{store_at, has_key, stored_route, route_in, keys_in}

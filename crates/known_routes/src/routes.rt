@@ -1,0 +1,157 @@
+//! The routes that were played, so that equal ones are one.
+
+ghost use Rattle.std.specs.Prelude.{◌≡◌, ◌≤◌, ◌+◌, ◌*◌, IfOk, vec_len};
+ghost use Rattle.known_routes.specs.declared.places.TheConstants.{FIRST_PLACES, MOST_PLACES, MOST_TIMES};
+
+use crate::places::{MOST_PLACES, Places, find, places_for};
+use crate::route_hash::hash_of;
+use mrt_events::{Route, route_size};
+use std::alloc::{AllocError, Global};
+use std::mem;
+use std::rc::Rc;
+
+/// How many numbers a path and communities have at most that are asked for once an item.
+const MOST_NUMBERS: usize = 1024;
+
+/// How many owners a route has at most that may soon have none but this table: one that goes, this
+/// table, a source, and an item of an event.
+const FEW_OWNERS: usize = 4;
+
+/// Of the octets of all routes here which part may be held by nothing else, one in so many, before
+/// such routes are let go: a quarter of those that others hold.
+const RELEASED_SHARE: u64 = 5;
+
+/// How many octets are added to those of the routes here before that part is taken, so that little
+/// isn't gone over often.
+const RELEASED_ROOM: u64 = 4 << 20;
+
+/// Routes that were played. They are here only to be found again: of an equal route that comes
+/// later the one that is here stands for it, so that it takes no memory of its own. Nothing is owed
+/// of which routes are here. So one may be let go at any time, and want of memory leaves them as
+/// they are.
+#[derive(Drop)]
+pub struct KnownRoutes {
+    alloc: Global,
+    routes: Places,
+    /// How many stood here when a play began, or when the places became more since.
+    stood: usize,
+    /// How many octets the routes take that may have lost their last other owner since all were gone
+    /// over.
+    released: u64,
+    /// How many octets the routes take that were noted since a play began.
+    noted: u64,
+    ghost bounded: { vec_len routes.places ≤ MOST_PLACES },
+    ghost fitting: { vec_len routes.places ≤ MOST_TIMES * stood + FIRST_PLACES },
+}
+
+impl KnownRoutes {
+    /// No routes. They take no memory.
+    pub fn new(alloc: Global) -> Self {
+        KnownRoutes {
+            alloc,
+            routes: Places::none(alloc),
+            stood: 0,
+            released: 0,
+            noted: 0,
+        }
+    }
+
+    /// The route, or one that is here and equal.
+    pub fn known(&mut self, route: &Rc<Route>) -> Result<Rc<Route>, AllocError>
+        ensures { IfOk result (λ known. known.value ≡ route.now.value) }
+    {
+        let hash = hash_of(route);
+        if let Some(known) = find(&self.routes.places, hash, route) {
+            return known.clone();
+        }
+        self.note(hash, route.clone()?);
+        route.clone()
+    }
+
+    /// The same, unless the route is long, so that the cost has a bound: then it is the route.
+    pub fn known_if_short(&mut self, route: &Rc<Route>) -> Result<Rc<Route>, AllocError>
+        ensures { IfOk result (λ known. known.value ≡ route.now.value) }
+    {
+        if is_short(route) {
+            return self.known(route);
+        }
+        route.clone()
+    }
+
+    /// Notes a route that isn't here.
+    fn note(&mut self, hash: u32, route: Rc<Route>) {
+        let count = self.routes.places.len();
+        if count < MOST_PLACES && self.routes.taken >= count / 4 * 3 {
+            self.widen();
+        }
+        let octets = route_size(&route);
+        self.noted = self.noted.saturating_add(octets);
+        self.routes.add(hash, route, octets);
+    }
+
+    /// Makes two and a half times as many places as there are routes, unless memory is refused.
+    fn widen(&mut self) {
+        let count = places_for(self.routes.taken);
+        if let Ok(mut wider) = Places::free(self.alloc, count) {
+            let routes = mem::replace(&mut self.routes, Places::none(self.alloc));
+            wider.take_over(routes);
+            self.routes = wider.if_fitting(self.alloc);
+            self.stood = self.routes.taken;
+        }
+    }
+
+    /// An owner of the route is about to go. Where there is one other, which may be this table, it is
+    /// let go of here. Where there are few, they may be this table, a source and an event alone, so
+    /// that nobody may hold it soon.
+    pub fn note_gone(&mut self, route: &Rc<Route>) {
+        let owners = Rc::strong_count(route);
+        if owners == 2 {
+            self.routes.take_out(hash_of(route), route);
+        } else if owners <= FEW_OWNERS {
+            self.released = self.released.saturating_add(route_size(route));
+        }
+    }
+
+    /// Some item's route, or all, aren't kept: nobody else may hold those that were noted since the
+    /// play began.
+    pub fn note_unused(&mut self) {
+        self.released = self.released.saturating_add(self.noted);
+        self.noted = 0;
+    }
+
+    /// Lets go of the routes that have no other owner, as soon as so much may be held by them alone
+    /// that it is to go: more than a quarter of what others hold, and of a mebibyte. It takes no
+    /// memory.
+    pub fn let_go(&mut self) {
+        let most = self.routes.held.saturating_add(RELEASED_ROOM);
+        if self.released.saturating_mul(RELEASED_SHARE) > most {
+            self.routes.let_go();
+            self.released = 0;
+        }
+    }
+
+    /// Begins a play. What the event before held may go now, and the places become fewer where they
+    /// are too many for the routes.
+    pub fn begin(&mut self) {
+        self.let_go();
+        self.noted = 0;
+        let routes = mem::replace(&mut self.routes, Places::none(self.alloc));
+        self.routes = routes.narrowed(self.alloc);
+        self.stood = self.routes.taken;
+    }
+}
+
+/// Whether path and communities have so few numbers that the route may be asked for once an item.
+fn is_short(route: &Route) -> bool {
+    let attrs = &route.attrs;
+    let mut numbers = attrs.communities.as_slice().len();
+    'segments: for segment in attrs.path.segments.as_slice() {
+        if numbers >= MOST_NUMBERS {
+            return false;
+        }
+        numbers = numbers
+            .saturating_add(segment.numbers.as_slice().len())
+            .saturating_add(1);
+    }
+    numbers <= MOST_NUMBERS
+}

@@ -1,0 +1,2 @@
+pub mod PeerLaws
+pub mod SharedLaws

@@ -1,0 +1,4 @@
+pub mod Event
+pub mod SharedRoute
+pub mod Peer
+pub mod Codes

@@ -1,0 +1,21 @@
+//! Laws of what the contracts cite: of the order of peers.
+
+ghost use Rattle.std.specs.Prelude.{◌≡◌, Some};
+ghost use Rattle.std.specs.Ordering.{eq_by_cmp};
+ghost use Rattle.std.specs.Cmp.{IsTotalOrder};
+ghost use Rattle.std.specs.FinMap.{IsAntisymmetric};
+ghost use Rattle.mrt_events.specs.declared.peer.Peer.{Peer};
+ghost use Rattle.mrt_events.specs.Peer.{peer_cmp};
+
+use crate::peer::Peer;
+
+/// Peers are ordered by address and then by AS number. The order is total, only equal ones tie,
+/// and each comparison says what it says.
+pub fn peer_order()
+    ensures parts { (a b : Peer) → ⟦<Peer as Ord>⟧.cmp a b ≡ peer_cmp a b }
+    ensures partial { (a b : Peer) →
+        ⟦<Peer as PartialOrd>⟧.partial_cmp a b ≡ Some (peer_cmp a b) }
+    ensures equal { (a b : Peer) → ⟦<Peer as PartialEq>⟧.eq a b ≡ eq_by_cmp peer_cmp a b }
+    ensures total { IsTotalOrder peer_cmp }
+    ensures ties { IsAntisymmetric peer_cmp }
+{}

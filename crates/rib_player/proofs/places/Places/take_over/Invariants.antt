@@ -1,7 +1,0 @@
-use Rattle.std.proofs.Common.{◌≡◌}
-use Rattle.std.specs.Vec.{vec_len}
-use Rattle.rib_player.proofs.places.Places.take_over.Given as goal
-
--- the places stay as many
-abbrev pub invariant-places : goal.invariant-places
-invariant-places l = vec_len l.self.places ≡ vec_len l.fn.self.places
