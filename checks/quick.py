@@ -6,8 +6,8 @@
 Each edit that must fail still applies, and is named by the file and the function that it turns, those
 of inner functions too, which the gate doesn't try; `rt fmt` changes nothing; tests stand in crates of
 their own; links between documents lead somewhere, and the edits that docs/proved.md names are there;
-the texts of each example are there. The status is 1 where something is wrong, and each fault is told
-on a line of its own.
+the texts of each example are there, and the cases of refused memory in the list that the gate
+compares. The status is 1 where something is wrong, and each fault is told on a line of its own.
 """
 import re
 import shutil
@@ -133,11 +133,19 @@ def faults_of_examples():
                 yield TOP / 'examples', f'it has no {name}.{kind}'
 
 
+def faults_of_cases():
+    """The cases of crates/refusals, which its program prints, stand in what the gate compares."""
+    crate = TOP / 'crates/refusals'
+    listed = (crate / 'src/case.rt').read_text().partition('pub const CASES')[2]
+    if re.findall(r'\(\s*"([\w-]+)"', listed) != (crate / 'stdout').read_text().split():
+        yield crate / 'stdout', 'it lists other cases than src/case.rt'
+
+
 def main():
     found = [
         (place, fault)
         for faults in (faults_of_edits, faults_of_named_edits, faults_of_format, faults_of_crates, faults_of_links,
-                       faults_of_examples)
+                       faults_of_examples, faults_of_cases)
         for place, fault in faults()
     ]
     for place, fault in found:

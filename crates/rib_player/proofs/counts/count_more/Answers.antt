@@ -22,8 +22,11 @@ returns-in_default-clause-refused g c = λ k.
     let b = (goal.at.returns-in_default-clause-refused g c).After-checked_add in
     let v = c.or_insert-count.result.now in
     let after = map_with_value c.in_ok-counts.field-0 v in
-    grind (arith, counted-same g.met.K.Ord.total c.args.counts.now after c.args.key v (found g b) k
-    (count-written g.met.K.Ord.total c.args.counts.now after c.args.key k (Some v) ((c.in_ok-counts.ensures.update.0 v).0 k)))
+    grind (
+      arith,
+      counted-same g.met.K.Ord.total c.args.counts.now after c.args.key v (found g b) k
+          (count-written g.met.K.Ord.total c.args.counts.now after c.args.key k (Some v) ((c.in_ok-counts.ensures.update.0 v).0 k)),
+    )
 
 pub returns-in_err-counts-clause-refused : goal.returns-in_err-counts-clause-refused
 returns-in_err-counts-clause-refused g c =
@@ -38,5 +41,8 @@ returns-clause-counted g c = λ k.
     let b = (goal.at.returns-clause-counted g c).After-checked_add in
     let v = c.in-Some.more in
     let after = map_with_value c.in_ok-counts.field-0 v in
-    grind (arith, counted-more g.met.K.Ord.total c.args.counts.now after c.args.key v (c.in-Some.ensures.1 ∙ ap (λ n. n + 1) (found g b)) k
-    (count-written g.met.K.Ord.total c.args.counts.now after c.args.key k (Some v) ((c.in_ok-counts.ensures.update.0 v).0 k)))
+    grind (
+      arith,
+      counted-more g.met.K.Ord.total c.args.counts.now after c.args.key v (c.in-Some.ensures.1 ∙ ap (λ n. n + 1) (found g b)) k
+          (count-written g.met.K.Ord.total c.args.counts.now after c.args.key k (Some v) ((c.in_ok-counts.ensures.update.0 v).0 k)),
+    )
