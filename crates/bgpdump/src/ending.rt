@@ -5,6 +5,7 @@ ghost use Rattle.bgpdump.specs.declared.ending.Ending.TheVariants.{Ran};
 ghost use Rattle.bgpdump_tool.specs.declared.Outcome.TheVariants.{Memory};
 ghost use Rattle.bgpdump.specs.Endings.{ending_message, ending_status, outcome_message};
 
+use crate::hints::option_elsewhere;
 use bgpdump_tool::{Outcome, UsageFault};
 use std::alloc::AllocFailed;
 use std::io;
@@ -55,7 +56,15 @@ impl Ending<'_> {
     pub fn print(&self, rt: &HostRuntime) -> io::Result<()> {
         match self {
             Ending::Usage(UsageFault::Help(text)) => print!(rt; "{text}"),
-            Ending::Usage(UsageFault::Words(text)) => eprint!(rt; "{text}"),
+            Ending::Usage(UsageFault::Words(text)) => {
+                eprint!(rt; "{text}")?;
+                match option_elsewhere(text.as_str()) {
+                    Some(option) => eprintln!(rt;
+                        "bgpdump: there is no {option} here; use -m; see man bgpdump, COMPATIBILITY"
+                    ),
+                    None => Ok(()),
+                }
+            }
             Ending::NotOpened(name) => eprintln!(rt; "bgpdump: cannot open {name}"),
             _ => match self.message() {
                 Some(message) => eprintln!(rt; "bgpdump: {message}"),

@@ -4,11 +4,13 @@
 
 mod ending;
 mod files;
+mod hints;
 mod run;
 
 use bgpdump_tool::{Mode, Outcome, STANDARD_INPUT, Settings, settings};
 use ending::Ending;
 use files::{create, hold_standard_streams, open, read_outcome, read_script};
+use hints::{Begun, Form, option_elsewhere};
 use mrt_wire::Stamp;
 use run::{dump, play};
 use std::io::{Read, Write};
@@ -28,7 +30,11 @@ fn main(rt: HostRuntime) -> ExitCode {
     hold_standard_streams(&rt);
     match read_settings(&rt) {
         Ok(settings) => match run_settings(&rt, &settings) {
-            Ok(outcome) => end(&rt, &Ending::Ran(outcome)),
+            Ok((outcome, form)) => {
+                let status = end(&rt, &Ending::Ran(outcome));
+                tell_form(&rt, settings.input.as_str(), form);
+                status
+            }
             Err(ending) => end(&rt, &ending),
         },
         Err(ending) => end(&rt, &ending),
@@ -53,8 +59,12 @@ fn read_words(rt: &HostRuntime) -> io::Result<Vec<String>> {
 }
 
 /// Opens what the settings name, the output last, and runs over it. In their boxes all streams have
-/// one type, so that the run's code stands in the program once.
-fn run_settings<'a>(rt: &HostRuntime, settings: &'a Settings) -> Result<Outcome, Ending<'a>> {
+/// one type, so that the run's code stands in the program once. Told besides is the form that the
+/// input seems to be compressed in.
+fn run_settings<'a>(
+    rt: &HostRuntime,
+    settings: &'a Settings,
+) -> Result<(Outcome, Option<Form>), Ending<'a>> {
     let task = task_of(rt, &settings.mode)?;
     let input: Box<dyn Read + Drop> = if settings.input.as_str() == STANDARD_INPUT {
         Box::new(rt.alloc(), rt.stdin())?
@@ -65,7 +75,9 @@ fn run_settings<'a>(rt: &HostRuntime, settings: &'a Settings) -> Result<Outcome,
         Some(name) => Box::new(rt.alloc(), create(rt, settings, name.as_str())?)?,
         None => Box::new(rt.alloc(), rt.stdout())?,
     };
-    Ok(run_task(rt, settings.stamp, &task, input, out))
+    let input = Begun::new(input);
+    let form = input.form();
+    Ok((run_task(rt, settings.stamp, &task, input, out), form))
 }
 
 /// What is to be done, with the script where there is one.
@@ -86,12 +98,27 @@ fn run_task(
     rt: &HostRuntime,
     stamp: Stamp,
     task: &Task,
-    input: Box<dyn Read + Drop>,
+    input: Begun<Box<dyn Read + Drop>>,
     out: Box<dyn Write + Drop>,
 ) -> Outcome {
     match task {
         Task::Dump => dump(rt.alloc(), stamp, input, out, rt.stderr()).outcome,
         Task::Play(script) => play(rt.alloc(), stamp, script, input, out, rt.stderr()).outcome,
+    }
+}
+
+/// Says how to read an input that seems to be compressed. Where that can't be printed it is lost.
+fn tell_form(rt: &HostRuntime, name: &str, form: Option<Form>) {
+    if let Some(
+        Form {
+            name: compressed,
+            printer,
+        },
+    ) = form
+    {
+        let _ = eprintln!(rt;
+            "bgpdump: {name} looks like {compressed}; try {printer} {name} | bgpdump -m -"
+        );
     }
 }
 
