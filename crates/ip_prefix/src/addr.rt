@@ -234,11 +234,10 @@ impl Ord for Addr {
 
     #[inline]
     fn cmp(&self, other: &Addr) -> Ordering {
-        match compare_families(self.family, other.family) {
-            Ordering::Less => Ordering::Less,
-            Ordering::Equal => self.number.compare(other.number),
-            Ordering::Greater => Ordering::Greater,
+        if self.family != other.family {
+            return compare_families(self.family, other.family);
         }
+        self.number.compare(other.number)
     }
 }
 

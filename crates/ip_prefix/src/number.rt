@@ -82,10 +82,9 @@ impl Number {
     pub(crate) fn compare(self, other: Number) -> Ordering
         ensures { result ≡ nat_cmp self other }
     {
-        match self.high.cmp(&other.high) {
-            Ordering::Less => Ordering::Less,
-            Ordering::Equal => self.low.cmp(&other.low),
-            Ordering::Greater => Ordering::Greater,
+        if self.high != other.high {
+            return self.high.cmp(&other.high);
         }
+        self.low.cmp(&other.low)
     }
 }

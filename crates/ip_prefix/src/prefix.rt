@@ -263,12 +263,12 @@ impl Ord for Prefix {
 
     #[inline]
     fn cmp(&self, other: &Prefix) -> Ordering {
-        match compare_families(self.family, other.family) {
+        if self.family != other.family {
+            return compare_families(self.family, other.family);
+        }
+        match self.number.compare(other.number) {
             Ordering::Less => Ordering::Less,
-            Ordering::Equal => self
-                .number
-                .compare(other.number)
-                .then(self.len.cmp(&other.len)),
+            Ordering::Equal => self.len.cmp(&other.len),
             Ordering::Greater => Ordering::Greater,
         }
     }

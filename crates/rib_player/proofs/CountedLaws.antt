@@ -1,28 +1,28 @@
 -- Claims that are counted, key by key, prefix by prefix and pair by pair.
-use Rattle.std.proofs.Common.{◌≡◌, ℕ, ◌+◌, ◌-◌, ◌≤◌, ◌++◌, Bool, true, false, cond, ◌&&◌, List, length, take, replicate, Option, refl, sym, ap, ap₂, subst, ◌∙◌, arith}
+use Rattle.std.proofs.Common.{◌≡◌, ℕ, ◌+◌, ◌-◌, ◌*◌, ◌^◌, ◌<◌, ◌≤◌, ◌++◌, Bool, true, false, cond, ◌&&◌, List, length, take, replicate, Option, refl, sym, ap, ap₂, subst, ◌∙◌, arith}
 use Rattle.std.specs.BTreeMap as tree
 use Rattle.std.specs.Map.{lookup}
 use Rattle.std.specs.HashMap.Eq.{lookup_congr}
 use Rattle.std.specs.declared.cmp.Ordering.{Ordering}
 use Rattle.std.specs.Ordering.{eq_by_cmp, nat_cmp}
-use Rattle.std.specs.Cmp.{IsTotalOrder, on_total, then_total, eq_by_cmp_equiv, Equal-is}
-use Rattle.std.specs.FinMap.{IsAntisymmetric, nat_cmp-IsAntisymmetric}
+use Rattle.std.specs.Cmp.{IsTotalOrder, eq_by_cmp_equiv, Equal-is}
+use Rattle.std.specs.FinMap.{nat_cmp-IsAntisymmetric}
 use Rattle.std.proofs.lemmas.Cmp.{nat_cmp_total}
 use Rattle.std.proofs.lemmas.List.{nil_from_length, length-append, length-take-le, length-replicate, take-take, take_at}
 use Rattle.ip_prefix.specs.declared.addr.Family.{Family}
 use Rattle.ip_prefix.specs.declared.addr.Family.TheVariants.{V4, V6}
 use Rattle.ip_prefix.specs.declared.addr.TheConstants.{V4_BITS, V6_BITS}
-use Rattle.ip_prefix.specs.Bits.{bits_of}
+use Rattle.ip_prefix.specs.Bits.{bits_of, number_of}
 use Rattle.ip_prefix.specs.Network.{Network}
 use Rattle.ip_prefix.specs.Order.{network_cmp}
-use Rattle.ip_prefix.specs.OrderLaws.{both_tie, network_cmp_total, network_cmp-IsAntisymmetric}
-use Rattle.ip_prefix.proofs.Chunks.{bits_of-number_of}
+use Rattle.ip_prefix.specs.OrderLaws.{network_cmp_total, network_cmp-IsAntisymmetric}
+use Rattle.ip_prefix.proofs.Chunks.{bits_of-number_of, number_of-lt}
 use Rattle.mrt_events.specs.declared.peer.Peer.{Peer}
 use Rattle.mrt_events.specs.Peer.{peer_cmp}
 use Rattle.rib_player.specs.declared.pair.Pair.{Pair}
-use Rattle.rib_player.specs.declared.counts.V4Key.{V4Key}
 use Rattle.rib_player.specs.declared.counts.Counts.{Counts}
-use Rattle.rib_player.specs.Counts.{one_if, count_kept, count_at, count_of, v4_key, key_cmp, by_family}
+use Rattle.rib_player.specs.declared.counts.TheConstants.{ADDRESSES}
+use Rattle.rib_player.specs.Counts.{one_if, count_kept, count_at, count_of, v4_key, by_family}
 use Rattle.rib_player.specs.Claims.{count_of_peer}
 use Rattle.rib_player.proofs.MarkLaws.{tied}
 use Rattle.rib_player.proofs.StoreLaws.{same_peer, same_network, one_peer, peer_symm, tied_parts}
@@ -76,14 +76,6 @@ module _ {K : Type 0} {cmp : K → K → Ordering} (total : IsTotalOrder cmp) wh
 
 -- ---- prefix by prefix
 
-key_cmp_total : IsTotalOrder key_cmp
-key_cmp_total = then_total (on_total (λ k. k.number) nat_cmp_total) (on_total (λ k. k.len) nat_cmp_total)
-
-key_cmp-IsAntisymmetric : IsAntisymmetric key_cmp
-key_cmp-IsAntisymmetric a b e =
-    let ties = both_tie (nat_cmp a.number b.number) (nat_cmp a.len b.len) e in
-    λ i. record { number = nat_cmp-IsAntisymmetric a.number b.number ties.0 i; len = nat_cmp-IsAntisymmetric a.len b.len ties.1 i }
-
 -- the bits of a prefix, filled with zeros
 abbrev filled : Network → List Bool
 filled n = n.bits ++ replicate (V6_BITS - length n.bits) false
@@ -91,19 +83,27 @@ filled n = n.bits ++ replicate (V6_BITS - length n.bits) false
 front : (n : Network) → length n.bits ≤ V4_BITS → take (length n.bits) (take V4_BITS (filled n)) ≡ n.bits
 front n within = take-take (length n.bits) V4_BITS (filled n) within ∙ take_at n.bits (replicate (V6_BITS - length n.bits) false) (length n.bits) refl
 
-spelled : (n : Network) → length n.bits ≤ V4_BITS → bits_of V4_BITS (v4_key n).number ≡ take V4_BITS (filled n)
-spelled n within =
-    let long : length (take V4_BITS (filled n)) ≡ V4_BITS =
-    length-take-le V4_BITS (filled n) (omega (arith, within, length-append n.bits (replicate (V6_BITS - length n.bits) false), length-replicate (V6_BITS - length n.bits) false)) in
-    ap (λ k. bits_of k (v4_key n).number) (sym long) ∙ bits_of-number_of (take V4_BITS (filled n))
+-- its front as a number
+abbrev leading : Network → ℕ
+leading n = number_of (take V4_BITS (filled n))
+
+long : (n : Network) → length (take V4_BITS (filled n)) ≡ V4_BITS
+long n = length-take-le V4_BITS (filled n) (omega (arith, length-append n.bits (replicate (V6_BITS - length n.bits) false), length-replicate (V6_BITS - length n.bits) false))
+
+spelled : (n : Network) → bits_of V4_BITS (leading n) ≡ take V4_BITS (filled n)
+spelled n = ap (λ k. bits_of k (leading n)) (sym (long n)) ∙ bits_of-number_of (take V4_BITS (filled n))
+
+below : (n : Network) → leading n < ADDRESSES
+below n = subst (λ k. leading n < 2 ^ k) (long n) (number_of-lt (take V4_BITS (filled n)))
 
 -- a prefix is got back from its key
 one_key : (n p : Network) → n.family ≡ V4 → p.family ≡ V4 → length p.bits ≤ V4_BITS → v4_key n ≡ v4_key p → n ≡ p
 one_key n p e f within same =
-    let long : length n.bits ≡ length p.bits = ap (λ (k : V4Key). k.len) same in
+    let lengths : length n.bits ≡ length p.bits = omega (arith, same, below n, below p) in
+    let numbers : leading n ≡ leading p = omega (arith, same, below n, below p) in
     let bits : n.bits ≡ p.bits =
-    sym (front n (omega (arith, long, within)))
-    ∙ ap₂ take long (sym (spelled n (omega (arith, long, within))) ∙ ap (λ (k : V4Key). bits_of V4_BITS k.number) same ∙ spelled p within)
+    sym (front n (omega (arith, lengths, within)))
+    ∙ ap₂ take lengths (sym (spelled n) ∙ ap (bits_of V4_BITS) numbers ∙ spelled p)
     ∙ front p within in
     λ i. record { family = (e ∙ sym f) i; bits = bits i }
 
@@ -113,11 +113,11 @@ iff false true there back = back refl
 iff false false there back = refl
 
 -- keys tie where prefixes do
-tied_keys : (n p : Network) → n.family ≡ V4 → p.family ≡ V4 → length p.bits ≤ V4_BITS → eq_by_cmp key_cmp (v4_key n) (v4_key p) ≡ same_network n p
+tied_keys : (n p : Network) → n.family ≡ V4 → p.family ≡ V4 → length p.bits ≤ V4_BITS → eq_by_cmp nat_cmp (v4_key n) (v4_key p) ≡ same_network n p
 tied_keys n p e f within =
-    iff (eq_by_cmp key_cmp (v4_key n) (v4_key p)) (same_network n p)
-    (λ t. ap (same_network n) (sym (one_key n p e f within (key_cmp-IsAntisymmetric (v4_key n) (v4_key p) ((Equal-is (key_cmp (v4_key n) (v4_key p))).0 t)))) ∙ (eq_by_cmp_equiv network_cmp_total).refl n)
-    (λ t. ap (λ x. eq_by_cmp key_cmp (v4_key n) (v4_key x)) (sym (network_cmp-IsAntisymmetric n p ((Equal-is (network_cmp n p)).0 t))) ∙ (eq_by_cmp_equiv key_cmp_total).refl (v4_key n))
+    iff (eq_by_cmp nat_cmp (v4_key n) (v4_key p)) (same_network n p)
+    (λ t. ap (same_network n) (sym (one_key n p e f within (nat_cmp-IsAntisymmetric (v4_key n) (v4_key p) ((Equal-is (nat_cmp (v4_key n) (v4_key p))).0 t)))) ∙ (eq_by_cmp_equiv network_cmp_total).refl n)
+    (λ t. ap (λ x. eq_by_cmp nat_cmp (v4_key n) (v4_key x)) (sym (network_cmp-IsAntisymmetric n p ((Equal-is (network_cmp n p)).0 t))) ∙ (eq_by_cmp_equiv nat_cmp_total).refl (v4_key n))
 
 -- prefixes of two families don't tie
 apart : (n p : Network) (f g : Family) → n.family ≡ f → p.family ≡ g → (f ≡ g → false ≡ true) → same_network n p ≡ false
@@ -129,15 +129,15 @@ apart n p f g e h differ = at (same_network n p) refl
 
 -- what is counted of keys, with this bit for the one that is meant, is counted of prefixes
 pub v4-counted : (old new : Counts) (p : Network) (R : ℕ → ℕ → Bool → Type 0) → p.family ≡ V4 → length p.bits ≤ V4_BITS → new.v6 ≡ old.v6
-    → ((k : V4Key) → R (count_at key_cmp new.v4 k) (count_at key_cmp old.v4 k) (eq_by_cmp key_cmp k (v4_key p))) → ((m : ℕ) → R m m false) → (n : Network) → R (count_of new n) (count_of old n) (same_network n p)
+    → ((k : ℕ) → R (count_at nat_cmp new.v4 k) (count_at nat_cmp old.v4 k) (eq_by_cmp nat_cmp k (v4_key p))) → ((m : ℕ) → R m m false) → (n : Network) → R (count_of new n) (count_of old n) (same_network n p)
 v4-counted old new p R f within same keys other n = at n.family refl
   where
     at : (g : Family) → n.family ≡ g → R (count_of new n) (count_of old n) (same_network n p)
     at V4 e =
-        subst (λ g. R (by_family g (count_at key_cmp new.v4 (v4_key n)) (count_at network_cmp new.v6 n)) (by_family g (count_at key_cmp old.v4 (v4_key n)) (count_at network_cmp old.v6 n)) (same_network n p)) (sym e)
-        (subst (R (count_at key_cmp new.v4 (v4_key n)) (count_at key_cmp old.v4 (v4_key n))) (tied_keys n p e f within) (keys (v4_key n)))
+        subst (λ g. R (by_family g (count_at nat_cmp new.v4 (v4_key n)) (count_at network_cmp new.v6 n)) (by_family g (count_at nat_cmp old.v4 (v4_key n)) (count_at network_cmp old.v6 n)) (same_network n p)) (sym e)
+        (subst (R (count_at nat_cmp new.v4 (v4_key n)) (count_at nat_cmp old.v4 (v4_key n))) (tied_keys n p e f within) (keys (v4_key n)))
     at V6 e =
-        subst (λ g. R (by_family g (count_at key_cmp new.v4 (v4_key n)) (count_at network_cmp new.v6 n)) (by_family g (count_at key_cmp old.v4 (v4_key n)) (count_at network_cmp old.v6 n)) (same_network n p)) (sym e)
+        subst (λ g. R (by_family g (count_at nat_cmp new.v4 (v4_key n)) (count_at network_cmp new.v6 n)) (by_family g (count_at nat_cmp old.v4 (v4_key n)) (count_at network_cmp old.v6 n)) (same_network n p)) (sym e)
         (subst (λ m. R (count_at network_cmp m n) (count_at network_cmp old.v6 n) (same_network n p)) (sym same)
         (subst (R (count_at network_cmp old.v6 n) (count_at network_cmp old.v6 n)) (sym (apart n p V6 V4 e f (λ d. cc))) (other (count_at network_cmp old.v6 n))))
 

@@ -13,12 +13,8 @@ use ip_prefix::{Family, Prefix};
 use std::alloc::{AllocError, Global};
 use std::collections::BTreeMap;
 
-/// A prefix of IPv4 in eight octets: its least address as a number, and how many bits it has.
-#[derive(Clone, Copy, PartialEq, Eq, PartialOrd, Ord, Drop)]
-pub(crate) struct V4Key {
-    number: u32,
-    len: u8,
-}
+/// How many addresses IPv4 has.
+const ADDRESSES: u64 = 1 << 32;
 
 /// How many bits lie below an address of IPv4 in the half of a prefix that begins with it.
 const BELOW: u32 = 32;
@@ -26,21 +22,18 @@ const BELOW: u32 = 32;
 /// How often prefixes are claimed besides their keys, those of each family by themselves.
 #[derive(Drop)]
 pub(crate) struct Counts {
-    v4: BTreeMap<V4Key, u32>,
+    v4: BTreeMap<u64, u32>,
     v6: BTreeMap<Prefix, u32>,
 }
 
-/// The prefix as a key.
+/// A prefix of IPv4 as a number: its least address, and above that how many bits it has.
 #[inline]
-fn v4_key(prefix: &Prefix) -> V4Key
+fn v4_key(prefix: &Prefix) -> u64
     requires { prefix.now.family ≡ V4 }
     ensures key { result ≡ v4_key prefix.now }
     ensures within { length prefix.now.bits ≤ V4_BITS }
 {
-    V4Key {
-        number: (prefix.high_half() >> BELOW) as u32,
-        len: prefix.len(),
-    }
+    u64::from(prefix.len()) * ADDRESSES + (prefix.high_half() >> BELOW)
 }
 
 /// Counts a claim more of the key. Refused, nothing has changed; so it is where the count has reached

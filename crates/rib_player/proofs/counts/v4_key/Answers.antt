@@ -12,4 +12,4 @@ returns-clause-key c =
     let number : half / 2 ^ 32 ≡ number_of (take 32 bits) =
     omega (arith, number_of-bits_of 32 (half / 2 ^ 32), c.high_half.type_inv)
     ∙ ap number_of (sym (take-bits_of 32 32 half) ∙ ap (take 32) c.high_half.ensures ∙ take-take 32 64 bits (omega arith)) in
-    λ i. record { number = number i; len = c.len.ensures.value i }
+    omega (arith, number, c.len.ensures.value)

@@ -1,12 +1,12 @@
-use Rattle.std.proofs.Common.{nat_cmp, sym, ap, ◌∙◌}
+use Rattle.std.proofs.Common.{◌≡◌, Equal, rules, nat_cmp, ap, ◌∙◌}
 use Rattle.std.specs.declared.cmp.Ordering.{Ordering}
 use Rattle.std.specs.Ordering.{ordering_then}
-use Rattle.ip_prefix.specs.Order.{address_cmp}
+use Rattle.ip_prefix.specs.Order.{family_cmp, address_cmp}
 use Rattle.ip_prefix.proofs.Comparing.{address_cmp-kept}
 use Rattle.ip_prefix.proofs.addr.AddrOrd.cmp.Goals as goal
 
-pub returns-in-Equal : goal.returns-in-Equal
-returns-in-Equal c =
-    let families = sym c.in-Equal.is ∙ c.compare_families.ensures in
+pub returns : goal.returns
+returns c =
+    let families : Equal ≡ family_cmp c.self.inside.family c.other.inside.family = search rules in
     let fields = c.compare.ensures ∙ ap (λ (order : Ordering). ordering_then order (nat_cmp c.self.inside.number c.other.inside.number)) families ∙ address_cmp-kept c.self.inside c.other.inside c.self.invariant c.other.invariant in
     fields ∙ (λ i. address_cmp (c.self.view_is i) (c.other.view_is i))

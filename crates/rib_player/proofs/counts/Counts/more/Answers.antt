@@ -1,8 +1,7 @@
-use Rattle.std.proofs.Common.{◌≡◌, ◌+◌, sym, refl, subst, ◌∙◌, arith}
+use Rattle.std.proofs.Common.{◌≡◌, ◌+◌, ℕ, sym, refl, subst, ◌∙◌, arith}
 use Rattle.std.proofs.lemmas.Result.{on_ok_weaker, on_err_weaker}
-use Rattle.std.specs.Ordering.{eq_by_cmp}
-use Rattle.rib_player.specs.declared.counts.V4Key.{V4Key}
-use Rattle.rib_player.specs.Counts.{one_if, count_at, key_cmp}
+use Rattle.std.specs.Ordering.{eq_by_cmp, nat_cmp}
+use Rattle.rib_player.specs.Counts.{one_if, count_at}
 use Rattle.rib_player.proofs.CountedLaws.{v4-counted}
 use Rattle.rib_player.proofs.counts.Counts.more.Goals as goal
 
@@ -10,7 +9,7 @@ pub returns-in-V4-clause-counted : goal.returns-in-V4-clause-counted
 returns-in-V4-clause-counted c =
     on_ok_weaker c.count_more.result (λ more.
     v4-counted c.args.self.now (record { v4 = c.count_more.new.counts; v6 = c.args.self.now.v6 }) c.args.prefix.now (λ new old b. new ≡ old + one_if b) (sym c.family.ensures ∙ c.in-V4.is) c.v4_key.ensures.within refl
-    (subst (λ key. (k : V4Key) → count_at key_cmp c.count_more.new.counts k ≡ count_at key_cmp c.args.self.now.v4 k + one_if (eq_by_cmp key_cmp k key)) c.v4_key.ensures.key more)
+    (subst (λ key. (k : ℕ) → count_at nat_cmp c.count_more.new.counts k ≡ count_at nat_cmp c.args.self.now.v4 k + one_if (eq_by_cmp nat_cmp k key)) c.v4_key.ensures.key more)
     (λ m. omega arith)) c.count_more.ensures.counted
 
 pub returns-in-V4-clause-refused : goal.returns-in-V4-clause-refused
