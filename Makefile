@@ -43,6 +43,7 @@ checks: $(PROGRAM) $(CASES)
 	checks/damage.py $(PROGRAM)
 	checks/refusals.py $(PROGRAM) --cases $(CASES)
 	checks/shapes.py $(PROGRAM)
+	checks/slow_input.py $(PROGRAM)
 	examples/cookbook.py $(PROGRAM)
 	if command -v mandoc >/dev/null; then mandoc -T lint -W warning man/bgpdump.1; fi
 

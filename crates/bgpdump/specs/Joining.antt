@@ -3,9 +3,8 @@
 use Rattle.std.specs.Prelude.{◌≡◌, ℕ, ◌^◌, List, [], length, Option, Some, None, IfSome, IsTrue}
 use Rattle.std.specs.Io.KnownBytes.{Keeps}
 use Rattle.std.specs.Io.Buffered.{reader_remaining, writer_contents}
-use Rattle.std.specs.declared.io.BufReader.{BufReader}
 use Rattle.std.specs.declared.alloc.Global.{Global}
-use Rattle.mrt_wire.specs.declared.ReadInput.{ReadInput}
+use Rattle.mrt_wire.specs.declared.BufferedInput.{BufferedInput}
 use Rattle.mrt_wire.specs.declared.Stamp.{Stamp}
 use Rattle.mrt_wire.specs.Next.{Took}
 use Rattle.mrt_wire.specs.Results.{Finding}
@@ -31,14 +30,14 @@ abbrev pub KeepsBoth : Outputs → Outputs → Type 0
 KeepsBoth old new = Keeps old.out new.out × Keeps old.err new.err
 
 -- what an input through a buffer has left, and that it has failed
-abbrev pub left_of : {R : Type 0} → (R → Option (List ℕ)) → ReadInput (BufReader R Global) → Option (List ℕ)
-left_of remaining input = reader_remaining remaining input.reader
+abbrev pub left_of : {R : Type 0} → (R → Option (List ℕ)) → BufferedInput R → Option (List ℕ)
+left_of remaining buffered = reader_remaining remaining buffered.input.reader
 
-abbrev pub has_failed : {R : Type 0} → ReadInput R → Type 0
-has_failed input = IsTrue input.failed
+abbrev pub has_failed : {R : Type 0} → BufferedInput R → Type 0
+has_failed buffered = IsTrue buffered.input.failed
 
 -- what an input that came back has left relates so to what its reader had left before; nothing is said where none came back
-abbrev pub HasTaken : {R : Type 0} → (R → Option (List ℕ)) → (Option (List ℕ) → Option (List ℕ) → Type 0) → R → Option (ReadInput (BufReader R Global)) → Type 0
+abbrev pub HasTaken : {R : Type 0} → (R → Option (List ℕ)) → (Option (List ℕ) → Option (List ℕ) → Type 0) → R → Option (BufferedInput R) → Type 0
 HasTaken remaining Relates reader input = IfSome input (λ input. Relates (remaining reader) (left_of remaining input))
 
 -- the same where the run was ended by the input

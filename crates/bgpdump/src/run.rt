@@ -12,7 +12,7 @@ ghost use Rattle.bgpdump.specs.Joining.{HasTaken, KeepsBoth, Leaves, LeavesSo, L
 ghost use Rattle.bgpdump.specs.Joining.{TookMost, WasCutOff, buffered_outputs, has_failed};
 
 use bgpdump_tool::{LONGEST_SCRIPT, Outcome, Output, WriteOutput, run_dump, run_play};
-use mrt_wire::{Input, ReadInput, Route, Stamp};
+use mrt_wire::{BufferedInput, Input, Route, Stamp};
 use rib_store::{LeftStore, RadixStore};
 use std::alloc::Global;
 use std::io::{BufReader, BufWriter, Read, Write};
@@ -32,7 +32,7 @@ pub struct Ended<R, O, E> {
     /// How it ended.
     pub outcome: Outcome,
     /// The input, with what the run left of it: None where memory was refused before the run began.
-    pub input: Option<ReadInput<BufReader<R>>>,
+    pub input: Option<BufferedInput<R>>,
     /// The writers of lines or replies and of reports, with all that the run wrote: None also where
     /// a writer failed at the end.
     pub writers: Option<(O, E)>,
@@ -41,7 +41,7 @@ pub struct Ended<R, O, E> {
 /// The input and the outputs of a run, through buffers.
 #[derive(Drop)]
 struct Streams<R, O: Write + Drop, E: Write + Drop> {
-    input: ReadInput<BufReader<R>>,
+    input: BufferedInput<R>,
     out: WriteOutput<BufWriter<O>>,
     err: WriteOutput<BufWriter<E>>,
 }
@@ -153,11 +153,11 @@ fn through_buffers<R: Read + Drop, O: Write + Drop, E: Write + Drop>(
     err: E,
 ) -> Option<Streams<R, O, E>>
     ensures left { IfSome result (λ streams.
-        ⟦<ReadInput<BufReader<R>> as Input>⟧.left streams.input ≡ R.remaining reader) }
+        ⟦<BufferedInput<R> as Input>⟧.left streams.input ≡ R.remaining reader) }
     ensures written { IfSome result (λ streams. buffered_outputs O.contents E.contents streams
         ≡ outputs_of O.contents E.contents out err) }
     ensures input { IfSome result (λ streams.
-        ⟦<ReadInput<BufReader<R>> as Input>⟧.failed streams.input ≡ false) }
+        ⟦<BufferedInput<R> as Input>⟧.failed streams.input ≡ false) }
     ensures out { IfSome result (λ streams.
         ⟦<WriteOutput<BufWriter<O>> as Output>⟧.failed streams.out ≡ false) }
     ensures err { IfSome result (λ streams.
@@ -167,7 +167,7 @@ fn through_buffers<R: Read + Drop, O: Write + Drop, E: Write + Drop>(
     let out = BufWriter::with_capacity(alloc, BUFFER_SIZE, out).ok()?;
     let err = BufWriter::with_capacity(alloc, BUFFER_SIZE, err).ok()?;
     Some(Streams {
-        input: ReadInput::new(reader),
+        input: BufferedInput::new(reader),
         out: WriteOutput::new(out),
         err: WriteOutput::new(err),
     })

@@ -1,7 +1,6 @@
 -- What a run leaves at its end, by how it ended.
 use Rattle.std.proofs.Common.{None, ◌≡◌, ◌≢◌, ◌⊎◌, inl, inr, ℕ, Bool, true, false, List, [], ◌∷◌, ◌++◌, Option, Ok, Err, length, sym, ap, ◌∙◌, refl, subst, append-nil}
 use Rattle.std.specs.Io.KnownBytes.{Consumes, Keeps}
-use Rattle.std.proofs.KnownBytes.{Appends-kept}
 use Rattle.mrt_wire.specs.declared.SourceFault.{SourceFault}
 use Rattle.mrt_wire.specs.declared.SourceFault.TheVariants as source
 use Rattle.mrt_wire.specs.declared.RecordKind.TheVariants.{CutRecord}
@@ -24,7 +23,7 @@ use Rattle.bgpdump_lines.specs.Run.{Texts, Outputs, MayHold, SawEnd, Writes, Wri
 use Rattle.bgpdump_lines.specs.Ending.{outcome_of, source_outcome, write_outcome}
 use Rattle.bgpdump_lines.specs.Writing.{is_any_bad}
 use Rattle.bgpdump_lines.specs.Going.{StopsAtWriting, Ends}
-use Rattle.bgpdump_lines.proofs.WritingLaws.{dump_texts-append, WritesFronts-longer, WritesFronts-whole}
+use Rattle.bgpdump_lines.proofs.WritingLaws.{dump_texts-append, WritesFronts-longer, WritesFronts-whole, Writes-kept}
 use Rattle.bgpdump_lines.proofs.HeldLaws.{rest_so_far, first_held, front_held, untold_held, IsTaken-told, IsTaken-untold, IsTaken-faulty, whole_found, length-faulty}
 
 reports_none : (found : List Finding) → is_any_bad found ≡ false → reports found ≡ []
@@ -81,10 +80,6 @@ EndsSo-finished stamp q left left' found a b false true s ended bad writes octet
     subst (λ f. EndsSo outcome.Reported (dump_texts f) a b) (all_held stamp q left left' found outcome.Reported s ended (λ cut. cut) octets frames rest may split) (reports_some found (sym bad), writes)
 EndsSo-finished stamp q left left' found a b false false s ended bad writes octets frames rest may split =
     subst (λ f. EndsSo outcome.Done (dump_texts f) a b) (all_held stamp q left left' found outcome.Done s ended (λ cut. cut) octets frames rest may split) (reports_none found (sym bad), writes)
-
--- outputs that were finished have what they had
-pub Writes-kept : (t : Texts) (a b c : Outputs) → Writes t a b → Keeps b.out c.out → Keeps b.err c.err → Writes t a c
-Writes-kept t a b c p out err = (Appends-kept a.out b.out c.out t.out p.0 out, Appends-kept a.err b.err c.err t.err p.1 err)
 
 pub EndsSo-read : (stamp : Stamp) (left left' : Option (List ℕ)) (a b c : Outputs) (failed reported : Bool) (outcome : Outcome) → Ends (start_place stamp LIMIT) left left' a b (Ok reported)
     → outcome ≡ outcome_of failed reported → Keeps b.out c.out → Keeps b.err c.err

@@ -2,7 +2,7 @@
 use Rattle.std.proofs.Common.{◌≡◌, inl, inr, ℕ, ◌+◌, ◌≤◌, length, Result, Ok, Err, arith, append-nil, Bool, true, false, List, [], ◌∷◌, ◌++◌, ◌||◌, Option, Some, None, sym, ap, ◌∙◌, refl, subst}
 use Rattle.std.proofs.KnownBytes.{Appends-nil}
 use Rattle.mrt_wire.specs.declared.next.Next.{Next}
-use Rattle.std.specs.Io.KnownBytes.{Consumes}
+use Rattle.std.specs.Io.KnownBytes.{Consumes, Keeps}
 use Rattle.mrt_wire.specs.declared.SourceFault.{SourceFault}
 use Rattle.mrt_wire.specs.declared.next.Next.TheVariants as next
 use Rattle.mrt_wire.specs.declared.next.Phase.{Phase}
@@ -21,7 +21,7 @@ use Rattle.bgpdump_lines.specs.Reports.{dump_texts}
 use Rattle.bgpdump_lines.specs.Run.{Outputs, Writes, WritesFronts}
 use Rattle.bgpdump_lines.specs.Writing.{PutsFound, is_any_bad}
 use Rattle.bgpdump_lines.specs.Going.{Going, Untold, IsFaulty, StopsAtSource, StopsAtFronts, StopsAtWriting}
-use Rattle.bgpdump_lines.proofs.WritingLaws.{dump_texts-append, Writes-append, WritesFronts-behind}
+use Rattle.bgpdump_lines.proofs.WritingLaws.{dump_texts-append, Writes-append, Writes-kept, WritesFronts-behind, WritesFronts-whole}
 
 pub is_any_bad-append : (found more : List Finding) → is_any_bad (found ++ more) ≡ (is_any_bad found || is_any_bad more)
 is_any_bad-append [] more = refl
@@ -36,6 +36,26 @@ Going-start p q left outputs same reading within = subst (λ q. Going p q left l
   reported_is = refl;
   within = within;
 })
+
+-- outputs that passed on what they held have what they had
+pub Going-kept : (p q : Place) (left left' : Option (List ℕ)) (a b c : Outputs) (reported : Bool) → Going p q left left' a b reported → Keeps b.out c.out → Keeps b.err c.err → Going p q left left' a c reported
+Going-kept p q left left' a b c reported g out err = record {
+  found = g.found;
+  so_far = g.so_far;
+  written = Writes-kept (dump_texts g.found) a b c g.written out err;
+  reported_is = g.reported_is;
+  within = g.within;
+}
+
+-- or the run stops there
+pub Stops-waiting : (p q : Place) (left left' : Option (List ℕ)) (a b : Outputs) (reported : Bool) → Going p q left left' a b reported → StopsAtWriting p left left' a b Write
+Stops-waiting p q left left' a b reported g = record {
+  place = q;
+  found = g.found;
+  so_far = g.so_far;
+  within = g.within;
+  fronts = WritesFronts-whole (dump_texts g.found) a b g.written;
+}
 
 -- an answer more was written
 pub Going-answer : (p q q' : Place) (left left' left'' : Option (List ℕ)) (a b c : Outputs) (reported now : Bool) (answer : Next) → Going p q left left' a b reported → Promises q q' left' left'' answer

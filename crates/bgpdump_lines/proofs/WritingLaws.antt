@@ -3,8 +3,8 @@ use Rattle.std.proofs.Common.{◌≡◌, inl, inr, ℕ, Bool, ◌+◌, ◌<◌, 
 use Rattle.std.specs.List.{flat_map}
 use Rattle.std.proofs.lemmas.List.{append_assoc, take_more, take-append-drop}
 use Rattle.std.proofs.lemmas.Grind.{flat_map-append}
-use Rattle.std.specs.Io.KnownBytes.{Appends}
-use Rattle.std.proofs.KnownBytes.{Appends-nil, Appends-trans}
+use Rattle.std.specs.Io.KnownBytes.{Appends, Keeps}
+use Rattle.std.proofs.KnownBytes.{Appends-kept, Appends-nil, Appends-trans}
 use Rattle.mrt_events.specs.declared.event.Event.{Event}
 use Rattle.mrt_wire.specs.declared.RecordFault.{RecordFault}
 use Rattle.mrt_wire.specs.Results.{Finding, Found, Bad}
@@ -69,6 +69,10 @@ AppendsFront-longer a b text more p = record {
 -- fronts of texts are fronts of longer ones
 pub WritesFronts-longer : (t u : Texts) (a b : Outputs) → WritesFronts t a b → WritesFronts (joined_texts t u) a b
 WritesFronts-longer t u a b p = (AppendsFront-longer a.out b.out t.out u.out p.0, AppendsFront-longer a.err b.err t.err u.err p.1)
+
+-- outputs that passed on what they held have what they had
+pub Writes-kept : (t : Texts) (a b c : Outputs) → Writes t a b → Keeps b.out c.out → Keeps b.err c.err → Writes t a c
+Writes-kept t a b c p out err = (Appends-kept a.out b.out c.out t.out p.0 out, Appends-kept a.err b.err c.err t.err p.1 err)
 
 -- whole texts are fronts
 pub WritesFronts-whole : (t : Texts) (a b : Outputs) → Writes t a b → WritesFronts t a b

@@ -34,6 +34,14 @@ impl From<AllocError> for WriteFault {
     }
 }
 
+impl From<OutFault> for Outcome {
+    ghost from_gives = { λ _ outcome. outcome ≡ write_outcome Write };
+
+    fn from(_: OutFault) -> Outcome {
+        Outcome::WriteFault
+    }
+}
+
 impl From<SourceFault> for Outcome {
     ghost from_gives = { λ fault outcome. outcome ≡ source_outcome fault };
 

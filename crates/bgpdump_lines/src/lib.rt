@@ -13,6 +13,7 @@ mod outcome;
 mod output;
 mod reports;
 mod route_line;
+mod waiting;
 mod write;
 
 pub use dump::{LIMIT, run_dump};
@@ -23,4 +24,5 @@ pub use finish::finish_outputs;
 pub use laws::line_numbers;
 pub use outcome::Outcome;
 pub use output::{OutFault, Output, WriteOutput, put_all};
+pub use waiting::pass_on_before_waiting;
 pub use write::write_report;

@@ -25,6 +25,15 @@ pub trait Output {
         ensures octets { WriteAppends (written self.old) (written self.new) result octets.now }
         ensures failed { failed self.new ≡ (failed self.old || is_err result) };
 
+    /// Passes on what a buffer below still holds, where more may be long in coming. An output without
+    /// such a buffer has nothing to do.
+    fn pass_on(&mut self) -> Result<(), OutFault>
+        ensures octets { Keeps (written self.old) (written self.new) }
+        ensures failed { failed self.new ≡ (failed self.old || is_err result) }
+    {
+        Ok(())
+    }
+
     /// Passes on what a buffer below still holds.
     fn finish(&mut self) -> Result<(), OutFault>
         ensures octets { Keeps (written self.old) (written self.new) }
@@ -72,6 +81,10 @@ impl<W: Write> Output for WriteOutput<W> {
                 Err(OutFault)
             }
         }
+    }
+
+    fn pass_on(&mut self) -> Result<(), OutFault> {
+        self.finish()
     }
 
     fn finish(&mut self) -> Result<(), OutFault> {

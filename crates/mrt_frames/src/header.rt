@@ -33,3 +33,12 @@ pub(crate) fn read_header(octets: &[u8; HEADER_SIZE]) -> Header
         size: u32_at(octets, 8),
     }
 }
+
+/// Whether a whole record stands in front, by the length that its header states.
+#[inline]
+pub(crate) fn begins_with_record(octets: &[u8]) -> bool {
+    match octets.split_first_chunk::<HEADER_SIZE>() {
+        Some((header, body)) => body.len() >= read_header(header).size as usize,
+        None => false,
+    }
+}

@@ -11,4 +11,4 @@ mod octets;
 pub use fault::{RecordFault, RecordKind, SourceFault};
 pub use frames::{FrameReader, Front, LONGEST_BODY, Profile};
 pub use header::{HEADER_SIZE, Header};
-pub use input::{InFault, Input, ReadInput};
+pub use input::{BufferedInput, InFault, Input, ReadInput};
