@@ -4,6 +4,7 @@ mod faults;
 mod lines;
 mod reading;
 mod records;
+mod waiting;
 
 use bgpdump_lines::{Outcome, WriteOutput, run_dump};
 use mrt_wire::{ReadInput, Stamp};

@@ -23,7 +23,9 @@ pub use mrt_events::{
     ESTABLISHED, Event, Item, Items, Peer, Route, Shared, Tag, Time, route_size, same_peer,
     same_prefix, same_route,
 };
-pub use mrt_frames::{BufferedInput, InFault, Input, ReadInput, RecordFault, RecordKind, SourceFault};
+pub use mrt_frames::{
+    BufferedInput, InFault, Input, ReadInput, RecordFault, RecordKind, SourceFault,
+};
 pub use next::{Next, Phase};
 pub use source::Source;
 pub use stamp::Stamp;

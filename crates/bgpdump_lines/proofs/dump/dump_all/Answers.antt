@@ -12,8 +12,8 @@ use Rattle.bgpdump_lines.proofs.dump.dump_all.Goals.{After-pass_on_both}
 
 -- all that was found so far is written still
 going : (g : Over) (c : After-pass_on_both g) → Going (start_place c.args.stamp LIMIT) c.steps.source (g.I.Input.left c.args.input.now) (g.I.Input.left c.steps.input)
-        (record { out = g.O.Output.written c.args.out.now; err = g.E.Output.written c.args.err.now })
-        (record { out = g.O.Output.written c.pass_on_both.new.out; err = g.E.Output.written c.pass_on_both.new.err }) c.steps.reported
+    (record { out = g.O.Output.written c.args.out.now; err = g.E.Output.written c.args.err.now })
+    (record { out = g.O.Output.written c.pass_on_both.new.out; err = g.E.Output.written c.pass_on_both.new.err }) c.steps.reported
 going g c =
     Going-kept (start_place c.args.stamp LIMIT) c.steps.source _ _ _
     (record { out = g.O.Output.written c.steps.out; err = g.E.Output.written c.steps.err }) _ c.steps.reported
