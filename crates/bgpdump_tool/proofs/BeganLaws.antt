@@ -10,8 +10,7 @@ use Rattle.bgpdump_lines.specs.declared.dump.TheConstants.{LIMIT}
 use Rattle.bgpdump_lines.specs.declared.outcome.Outcome.{Outcome}
 use Rattle.bgpdump_lines.specs.Run.{Outputs, Writes, all_results}
 use Rattle.bgpdump_lines.proofs.HeldLaws.{untold_held}
-use Rattle.bgpdump_lines.proofs.EndLaws.{Writes-kept}
-use Rattle.bgpdump_lines.proofs.WritingLaws.{AppendsFront-none}
+use Rattle.bgpdump_lines.proofs.WritingLaws.{AppendsFront-none, Writes-kept}
 use Rattle.bgpdump_tool.specs.Script.{Line, AreLines, IsScript, script_lines}
 use Rattle.bgpdump_tool.specs.Course.{course, play_texts, IsEndSeen}
 use Rattle.bgpdump_tool.specs.Began.{WritesPast, Began}

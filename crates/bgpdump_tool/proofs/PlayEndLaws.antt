@@ -29,9 +29,9 @@ use Rattle.bgpdump_tool.specs.Script.{Line, AreLines, IsScript, script_lines}
 use Rattle.bgpdump_tool.specs.Course.{course, play_texts, cut_course, cut_texts, TakesWanted, IsEndSeen, PlaySawEnd}
 use Rattle.bgpdump_tool.specs.Standing.{Scene, Taking}
 use Rattle.bgpdump_tool.specs.Playing.{is_some_text, Plays, PlaysCutOff, PlaysBrokenOff, PlaysScript}
-use Rattle.bgpdump_lines.proofs.WritingLaws.{WritesFronts-whole}
+use Rattle.bgpdump_lines.proofs.WritingLaws.{WritesFronts-whole, Writes-kept}
 use Rattle.bgpdump_lines.proofs.HeldLaws.{rest_so_far, first_held, front_held, untold_held, whole_found, IsTaken-told, IsTaken-faulty, length-faulty}
-use Rattle.bgpdump_lines.proofs.EndLaws.{cases_none, written_all, EndsSo-source, Writes-kept}
+use Rattle.bgpdump_lines.proofs.EndLaws.{cases_none, written_all, EndsSo-source}
 use Rattle.bgpdump_tool.proofs.PlayLaws.{course_of_done}
 use Rattle.bgpdump_tool.proofs.ScriptLaws.{one_reading, first_reading}
 
