@@ -11,6 +11,7 @@ import os
 import select
 import subprocess
 import sys
+import tempfile
 import threading
 from pathlib import Path
 
@@ -81,6 +82,35 @@ def reports_come_one_by_one(program):
         yield f'it ended with {out}, {err} and {status} behind reports'
 
 
+def replies_come_one_by_one(program):
+    with tempfile.NamedTemporaryFile('w') as script:
+        script.write('where\n' + 'next\nwhere\n' * 5 + 'next 3\ngoto 10\nback 1\nnext 5\nnext\n')
+        script.flush()
+        slow = Slow(program, '--play', script.name, '-')
+        expected = b'at 0 ahead 0\n'
+        for turn in range(5):
+            if slow.text(slow.run.stdout, len(expected)) != expected:
+                yield f'the replies before record {turn + 1} came late, or others'
+            slow.give(STATE[:3])
+            slow.give(STATE[3:])
+            expected = b'at %d\nat %d ahead 0\n' % (turn + 1, turn + 1)
+        if slow.text(slow.run.stdout, len(expected)) != expected:
+            yield 'the replies before `next 3` came late, or others'
+        slow.give(UNKNOWN)
+        report = f'bgpdump: record 6, byte {5 * len(STATE)}: unsupported type 99 subtype 0\n'.encode()
+        if slow.text(slow.run.stderr, len(report)) != report:
+            yield 'the report inside `next 3` came late, or another one'
+        slow.give(2 * STATE)
+        if slow.text(slow.run.stdout, 5) != b'at 7\n':
+            yield 'the reply before `goto` came late, or another one'
+        slow.give(3 * STATE)
+        if slow.text(slow.run.stdout, 11) != b'at 10\nat 9\n':
+            yield 'the replies before the last commands came late, or others'
+        out, err, status = slow.end()
+        if (out, err, status) != (b'at 10 end\nat 10 end\n', b'', 1):
+            yield f'the script ended with {out}, {err} and {status}'
+
+
 def calls_of(run):
     """How many reads and writes a process made so far."""
     fields = dict(line.split(': ') for line in Path(f'/proc/{run.pid}/io').read_text().splitlines())
@@ -116,8 +146,8 @@ def a_fast_input_takes_few_writes(program):
 
 
 def main():
-    found = [fault for check in (lines_come_one_by_one, reports_come_one_by_one, a_fast_input_takes_few_writes)
-             for fault in check(sys.argv[1])]
+    checks = lines_come_one_by_one, reports_come_one_by_one, replies_come_one_by_one, a_fast_input_takes_few_writes
+    found = [fault for check in checks for fault in check(sys.argv[1])]
     for fault in found:
         print(fault)
     print(f'slow input: {len(found) or "no"} faults')

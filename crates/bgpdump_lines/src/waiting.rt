@@ -21,7 +21,7 @@ pub fn pass_on_before_waiting<I: Input, O: Output>(
 }
 
 /// Passes on what two outputs hold, unless the input has its next record at hand.
-pub(crate) fn pass_on_both<I: Input, O: Output, E: Output>(
+pub fn pass_on_both<I: Input, O: Output, E: Output>(
     input: &I,
     out: &mut O,
     err: &mut E,

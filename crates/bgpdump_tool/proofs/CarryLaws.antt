@@ -5,7 +5,7 @@ use Rattle.std.proofs.lemmas.Bool.Decides.{nat_tests}
 use Rattle.std.proofs.lemmas.List.{take_all, drop_all}
 use Rattle.std.specs.Prelude.{codes}
 use Rattle.std.proofs.Math.Nat.{min-eq_left, min-eq_right, min-le_right, le-max_right, max-le, max-eq_left, max-eq_right}
-use Rattle.std.specs.Io.KnownBytes.{Appends}
+use Rattle.std.specs.Io.KnownBytes.{Appends, Keeps}
 use Rattle.std.proofs.KnownBytes.{Appends-nil}
 use Rattle.mrt_events.specs.declared.peer.Peer.{Peer}
 use Rattle.mrt_events.specs.declared.event.Event.{Event}
@@ -31,6 +31,7 @@ use Rattle.bgpdump_tool.specs.Moves.{GoesOn, Stops, ForwardDoes, OnwardDoes}
 use Rattle.bgpdump_tool.specs.Carrying.{Leads, IsLed, CarryingDoes, Travels}
 use Rattle.bgpdump_tool.specs.Losing.{loss_text, Loses}
 use Rattle.bgpdump_lines.specs.Writing.{Puts, PutsPart}
+use Rattle.bgpdump_tool.proofs.StepLaws.{kept-Appends, kept-AppendsFront}
 use Rattle.bgpdump_tool.proofs.MoveLaws.{Stands-inside, reports-append, needed_beyond}
 use Rattle.bgpdump_lines.proofs.WritingLaws.{AppendsFront-none, AppendsFront-longer}
 use Rattle.bgpdump_tool.proofs.BoolLaws.{or_false}
@@ -139,6 +140,27 @@ Carrying-replied command from left s old new out out' text (Err fault) led is re
   },
 )
 
+-- outputs that passed on what they held first
+pub CarryingDoes-kept : (command : Command) (from : Place) (left : Option (List ℕ)) (s : Standing) (old new : Scene) (out mid out' : Option (List ℕ)) (r : Result (Unit {0}) Outcome) → Keeps out mid
+    → CarryingDoes command from left s old new mid out' r → CarryingDoes command from left s old new out out' r
+CarryingDoes-kept command from left s old new out mid out' (Ok done) kept (led, replied) = (led, kept-Appends out mid out' led.reply kept replied)
+CarryingDoes-kept command from left s old new out mid out' (Err outcome) kept (inl (fault, is, cut)) =
+    inl (fault, is, record { taken = cut.taken; wants = cut.wants; stops = cut.stops; quiet = kept-Appends out mid out' [] kept cut.quiet })
+CarryingDoes-kept command from left s old new out mid out' (Err outcome) kept (inr (fault, is, broken)) = inr (
+  fault,
+  is,
+  record {
+    taken = broken.taken;
+    ended = broken.ended;
+    taking = broken.taking;
+    follows = broken.follows;
+    met = broken.met;
+    fronts = λ more none.
+        let fronts = broken.fronts more none in
+        (kept-AppendsFront out mid out' _ kept fronts.0, fronts.1);
+  },
+)
+
 -- ---- a fault on the way
 
 pub Carrying-stopped : (command : Command) (from : Place) (left : Option (List ℕ)) (s : Standing) (old new : Scene) (out : Option (List ℕ)) (outcome : Outcome) (More Enough : List Finding → Type 0)
@@ -146,7 +168,7 @@ pub Carrying-stopped : (command : Command) (from : Place) (left : Option (List �
     → ((found more : List Finding) → Enough found → length found ≤ (meaning command (state_of s (found ++ more))).wanted)
     → Stops More Enough from left s old new outcome → CarryingDoes {A = Unit {0}} command from left s old new out out (Err outcome)
 Carrying-stopped command from left s old new out outcome More Enough wants has (inl (fault, is, found, more, stop)) =
-    inl (fault, is, record { taken = found; wants = λ later. wants found later more; stops = stop; quiet = refl })
+    inl (fault, is, record { taken = found; wants = λ later. wants found later more; stops = stop; quiet = Appends-nil out })
 Carrying-stopped command from left s old new out outcome More Enough wants has (inr (fault, is, found, enough, stop)) = inr (
   fault,
   is,

@@ -175,7 +175,7 @@ pub Forth-stops : (count n : ℕ) (from : Place) (left : Option (List ℕ)) (s :
 Forth-stops count n from left s a b c outcome stands below (over, found, sum, first) step =
     let (end, stop) = step from left (standing_on over found false s) first.stands in
     let all = all_over from left s a b over found stands first end in
-    Stops-behind (λ new. new ≡ []) (λ new. length new ≡ 1) (λ l. length s.history - s.cursor + length l < count) (λ l. length s.history - s.cursor + length l ≤ count)
+    Stops-behind (λ new. new ≡ []) (λ new. length new ≤ 1) (λ l. length s.history - s.cursor + length l < count) (λ l. length s.history - s.cursor + length l ≤ count)
     from left s a b c over found outcome
     (λ new none. omega (arith, sum, below, all, length-append found new, ap length none))
     (λ new one. omega (arith, sum, below, all, length-append found new, one))
@@ -273,7 +273,7 @@ Reaches-stops k from left s a b c outcome stands below r step =
     let (end, stop) = step from left (standing_on r.over r.found false s) r.goes.stands in
     let all = all_over from left s a b r.over r.found stands r.goes end in
     let few : length (events r.found) < k - length s.history = omega (arith, below, all, r.goes.stands.cursor, Stands-inside from left a s stands) in
-    Stops-behind (λ new. new ≡ []) (λ new. length new ≡ 1) (λ l. (more : List Finding) → length l < needed (k - length s.history) (l ++ more)) (λ l. (more : List Finding) → length l ≤ needed (k - length s.history) (l ++ more))
+    Stops-behind (λ new. new ≡ []) (λ new. length new ≤ 1) (λ l. (more : List Finding) → length l < needed (k - length s.history) (l ++ more)) (λ l. (more : List Finding) → length l ≤ needed (k - length s.history) (l ++ more))
     from left s a b c r.over r.found outcome
     (λ new none more. subst (λ n. length (r.found ++ n) < needed (k - length s.history) ((r.found ++ n) ++ more)) (sym none)
     (subst (λ l. length l < needed (k - length s.history) (l ++ more)) (sym (append-nil r.found)) (needed_beyond (k - length s.history) r.found more few)))

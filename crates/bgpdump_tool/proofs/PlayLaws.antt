@@ -211,7 +211,7 @@ pub PlaysCutOff-command : (from : Place) (left : Option (List ℕ)) (done : List
 PlaysCutOff-command from left done command a b old mid new fault mid_err new_err p stop =
     let s = p.standing in
     let taken = stop.taken in
-    let out : Appends mid.out new.out [] = subst (λ o. Appends mid.out o []) (sym stop.quiet) (Appends-nil mid.out) in
+    let out : Appends mid.out new.out [] = stop.quiet in
     let err : Appends mid.err new.err (reports taken) = subst (λ e. Appends e new.err (reports taken)) (sym mid_err) (subst (λ e. Appends a.err e (reports taken)) (sym new_err) stop.stops.reported) in
     let met : meets_end command (state_of s taken) ≡ true =
     grind (arith, nat_tests, subst (λ l. length taken < (meaning command (state_of s l)).wanted) (append-nil taken) (stop.wants [])) in
@@ -230,7 +230,7 @@ PlaysCutOff-command from left done command a b old mid new fault mid_err new_err
           subst (λ t. WritesFronts t old new) (sym (texts_at from left done lines command a old mid (s.found ++ taken) taken more p refl (λ e. absurd (stop.stops.reads e))))
           (fronts_in p.texts (record { out = (meaning command (state_of s (taken ++ more))).reply; err = faults_taken command (state_of s (taken ++ more)) })
           (course_from false (length done + 1 + 1) lines (meaning command (state_of s (taken ++ more))).after).texts old mid new p.written
-          (subst (λ o. AppendsFront mid.out o (meaning command (state_of s (taken ++ more))).reply) (sym stop.quiet) (AppendsFront-none mid.out (meaning command (state_of s (taken ++ more))).reply))
+          (record { front = []; back = (meaning command (state_of s (taken ++ more))).reply; whole = refl; appended = stop.quiet })
           (subst (AppendsFront mid.err new.err) (sym (ap reports rest.1 ∙ reports-append taken rest.0)) (AppendsFront-longer mid.err new.err (reports taken) (reports rest.0) (AppendsFront-whole mid.err new.err (reports taken) err))));
       done = done;
       line = Asks command;
@@ -240,7 +240,7 @@ PlaysCutOff-command from left done command a b old mid new fault mid_err new_err
           let rest = take_over taken more (meaning command st).wanted (omega (arith, stop.wants more)) in
           past_line from left done (Asks command) a old mid new (s.found ++ taken) taken more p refl (λ e. absurd (stop.stops.reads e))
           (WritesFronts-longer (record { out = (meaning command st).reply; err = faults_taken command st }) (record { out = []; err = [] }) mid new (
-            subst (λ o. AppendsFront mid.out o (meaning command st).reply) (sym stop.quiet) (AppendsFront-none mid.out (meaning command st).reply),
+            record { front = []; back = (meaning command st).reply; whole = refl; appended = stop.quiet },
             subst (AppendsFront mid.err new.err) (sym (ap reports rest.1 ∙ reports-append taken rest.0)) (AppendsFront-longer mid.err new.err (reports taken) (reports rest.0) (AppendsFront-whole mid.err new.err (reports taken) err)),
           ));
     }

@@ -3,8 +3,8 @@ use Rattle.std.proofs.Common.{◌≡◌, inl, inr, ℕ, ◌+◌, ◌<◌, ◌≤
 use Rattle.std.proofs.lemmas.Bool.Decides.{nat_tests}
 use Rattle.std.proofs.lemmas.List.{take_all}
 use Rattle.std.specs.Result.{is_ok, OnOk}
-use Rattle.std.specs.Io.KnownBytes.{Consumes, Appends}
-use Rattle.std.proofs.KnownBytes.{Appends-nil}
+use Rattle.std.specs.Io.KnownBytes.{Consumes, Appends, Keeps}
+use Rattle.std.proofs.KnownBytes.{Appends-kept, Appends-nil, Appends-trans}
 use Rattle.mrt_events.specs.declared.event.Event.{Event}
 use Rattle.mrt_wire.specs.declared.RecordFault.{RecordFault}
 use Rattle.mrt_wire.specs.declared.SourceFault.{SourceFault}
@@ -29,6 +29,7 @@ use Rattle.bgpdump_lines.specs.Reports.{fault_report, reports}
 use Rattle.bgpdump_lines.specs.Writing.{Puts}
 use Rattle.bgpdump_tool.specs.Standing.{Standing, Scene, Taking, Stands, Follows}
 use Rattle.bgpdump_tool.specs.Moves.{GoesOn, StepDoes}
+use Rattle.bgpdump_lines.specs.declared.outcome.Outcome.{Outcome}
 use Rattle.bgpdump_lines.proofs.RunLaws.{IsFaulty-behind}
 use Rattle.bgpdump_lines.proofs.WritingLaws.{AppendsFront-none}
 use Rattle.bgpdump_tool.proofs.BoolLaws.{or_false, or_true}
@@ -216,7 +217,7 @@ stops_told from left old s u q left' err reported answer fault stands off promis
     fault,
     refl,
     answer_findings answer,
-    one,
+    omega (arith, one),
     record {
       taking = Taking-told from old.place q left old.left left' s.found s.ended answer stands.taking promised some within;
       follows = Follows-answer old.place q old.left left' answer promised;
@@ -240,3 +241,55 @@ step_stops_reporting from left old s u q left' err bad fault stands off promised
     fronts : (fault : WriteFault) → Puts {A = Unit {0}} old.err err (fault_report bad) (Err fault) → AppendsFront old.err err (reports (Bad bad ∷ []))
     fronts write.Write front = subst (AppendsFront old.err err) (sym (append-nil (fault_report bad))) front
     fronts write.Memory same = subst (λ e. AppendsFront old.err e (reports (Bad bad ∷ []))) (sym same) (AppendsFront-none old.err (reports (Bad bad ∷ [])))
+
+-- ---- outputs that passed on what they held
+
+-- what is appended then
+pub kept-Appends : (a b c : Option (List ℕ)) (text : List ℕ) → Keeps a b → Appends b c text → Appends a c text
+kept-Appends a b c text kept more = Appends-trans a b c [] text (Appends-kept a a b [] (Appends-nil a) kept) more
+
+pub kept-AppendsFront : (a b c : Option (List ℕ)) (text : List ℕ) → Keeps a b → AppendsFront b c text → AppendsFront a c text
+kept-AppendsFront a b c text kept fronts = record { front = fronts.front; back = fronts.back; whole = fronts.whole; appended = kept-Appends a b c fronts.front kept fronts.appended }
+
+-- a run stands as it stood
+pub Stands-kept : (from : Place) (left : Option (List ℕ)) (old : Scene) (s : Standing) (err : Option (List ℕ)) → Stands from left old s → Stands from left (record old { err = err }) s
+Stands-kept from left old s err stands = record { history = stands.history; cursor = stands.cursor; floor = stands.floor; taking = stands.taking }
+
+GoesOn-kept : (from : Place) (left : Option (List ℕ)) (s : Standing) (old new : Scene) (err : Option (List ℕ)) (over : ℕ) (found : List Finding) (ended : Bool) → Keeps old.err err
+    → GoesOn from left s (record old { err = err }) new over found ended → GoesOn from left s old new over found ended
+GoesOn-kept from left s old new err over found ended kept goes = record {
+  onward = goes.onward;
+  stands = goes.stands;
+  follows = goes.follows;
+  met = goes.met;
+  reported = kept-Appends old.err err new.err (reports found) kept goes.reported;
+  told = goes.told;
+}
+
+-- and a step does what it did
+pub StepDoes-kept : (from : Place) (left : Option (List ℕ)) (s : Standing) (old new : Scene) (err : Option (List ℕ)) (r : Result Bool Outcome) → Keeps old.err err
+    → StepDoes from left s (record old { err = err }) new r → StepDoes from left s old new r
+StepDoes-kept from left s old new err (Ok false) kept (over, found, one, goes) = (over, found, one, GoesOn-kept from left s old new err over found false kept goes)
+StepDoes-kept from left s old new err (Ok true) kept goes = GoesOn-kept from left s old new err 0 [] true kept goes
+StepDoes-kept from left s old new err (Err outcome) kept (end, inl (fault, is, found, none, stop)) =
+    (end, inl (fault, is, found, none, record { reads = stop.reads; faulty = stop.faulty; reported = kept-Appends old.err err new.err (reports found) kept stop.reported }))
+StepDoes-kept from left s old new err (Err outcome) kept (end, inr (fault, is, found, few, stop)) =
+    (end, inr (fault, is, found, few, record { taking = stop.taking; follows = stop.follows; fronts = kept-AppendsFront old.err err new.err (reports found) kept stop.fronts }))
+
+-- or a fault of passing on stops it
+pub step_stops_waiting : (from : Place) (left : Option (List ℕ)) (old : Scene) (s : Standing) (t : Timeline) (err : Option (List ℕ)) → Stands from left old s → ¬ (old.player.cursor < end_of old.player) → Keeps old.err err
+    → StepDoes from left s old (record old { player = t; err = err }) (Err outcome.WriteFault)
+step_stops_waiting from left old s t err stands off kept = (
+  cursor_at_end from left old s stands off,
+  inr (
+    write.Write,
+    refl,
+    [],
+    omega arith,
+    record {
+      taking = subst (λ f. Taking from left old.place old.left f s.ended) (sym (append-nil s.found)) stands.taking;
+      follows = record { quiet = λ _. refl; stays = λ e. e };
+      fronts = record { front = []; back = []; whole = refl; appended = Appends-kept old.err old.err err [] (Appends-nil old.err) kept };
+    },
+  ),
+)

@@ -52,7 +52,7 @@ pub record IsCutOff (command : Command) (from : Place) (left : Option (List ℕ)
   pub taken : List Finding
   pub wants : (more : List Finding) → length taken < (meaning command (state_of s (taken ++ more))).wanted
   pub stops : StopsReading from left s old new taken fault
-  pub quiet : out' ≡ out
+  pub quiet : Appends out out' []
 
 -- memory or an output stopped it: fronts of its reply and of its reports were written
 pub record IsBrokenOff (command : Command) (from : Place) (left : Option (List ℕ)) (s : Standing) (old new : Scene) (out out' : Option (List ℕ)) : Type 0 where

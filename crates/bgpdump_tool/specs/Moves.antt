@@ -47,7 +47,7 @@ Stops More Enough from left s old new outcome =
 abbrev pub StepDoes : Place → Option (List ℕ) → Standing → Scene → Scene → Result Bool Outcome → Type 0
 StepDoes from left s old new (Ok false) = (over : ℕ) × (found : List Finding) × (over + length found ≡ 1) × GoesOn from left s old new over found false
 StepDoes from left s old new (Ok true) = GoesOn from left s old new 0 [] true
-StepDoes from left s old new (Err outcome) = (s.cursor ≡ length s.history) × Stops (λ found. found ≡ []) (λ found. length found ≡ 1) from left s old new outcome
+StepDoes from left s old new (Err outcome) = (s.cursor ≡ length s.history) × Stops (λ found. found ≡ []) (λ found. length found ≤ 1) from left s old new outcome
 
 -- so many steps on, or fewer where the results ended or a fault came
 abbrev pub ForwardDoes : ℕ → Place → Option (List ℕ) → Standing → Scene → Scene → Result Bool Outcome → Type 0

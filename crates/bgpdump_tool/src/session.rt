@@ -1,6 +1,7 @@
 //! A player, and the source of what it plays next.
 
-ghost use Rattle.std.specs.Prelude.{◌≡◌, ◌<◌, ◌+◌, ◌||◌, ℕ, false, IfOk};
+ghost use Rattle.std.specs.Prelude.{◌≡◌, ◌<◌, ◌+◌, ◌||◌, ℕ, false, IfOk, is_err};
+ghost use Rattle.std.specs.Io.KnownBytes.{Keeps};
 ghost use Rattle.rib_player.specs.Timeline.{ahead_of};
 ghost use Rattle.rib_player.specs.Calls.{fresh};
 ghost use Rattle.mrt_wire.specs.Place.{start_place};
@@ -10,7 +11,7 @@ ghost use Rattle.bgpdump_tool.specs.declared.script.TheConstants.{LONGEST_SCRIPT
 ghost use Rattle.bgpdump_tool.specs.Standing.{HasRoom, scene_of};
 ghost use Rattle.bgpdump_tool.specs.Moves.{Moves, StepDoes};
 
-use bgpdump_lines::{LIMIT, Outcome, Output, write_report};
+use bgpdump_lines::{LIMIT, OutFault, Outcome, Output, pass_on_both, write_report};
 use ip_prefix::Text;
 use mrt_wire::{Input, Next, Route, Source, Stamp};
 use rib_player::Player;
@@ -49,12 +50,31 @@ impl<S: PrefixStore<Rc<Route>>> Session<S> {
         }
     }
 
+    /// Passes on what was written so far, unless the next record is at hand, or none is read any more.
+    fn pass_on<I: Input, O: Output, E: Output>(
+        &self,
+        input: &I,
+        out: &mut O,
+        err: &mut E,
+    ) -> Result<(), OutFault>
+        ensures out { Keeps (O.written out.old) (O.written out.new) }
+        ensures err { Keeps (E.written err.old) (E.written err.new) }
+        ensures failed { (O.failed out.new || E.failed err.new)
+            ≡ (O.failed out.old || E.failed err.old || is_err result) }
+    {
+        if self.source.is_reading() {
+            return pass_on_both(input, out, err);
+        }
+        Ok(())
+    }
+
     /// One step on: over the step ahead, or else over what is read next. The fault of a record is
     /// reported, and is a step for what counts steps here, not for the player. Answers whether
     /// instead nothing is left to read.
-    pub(crate) fn step<I: Input, E: Output>(
+    pub(crate) fn step<I: Input, O: Output, E: Output>(
         &mut self,
         input: &mut I,
+        out: &mut O,
         err: &mut E,
     ) -> Result<bool, Outcome>
         requires room { HasRoom self.old.player self.old.source LONGEST_SCRIPT }
@@ -66,12 +86,15 @@ impl<S: PrefixStore<Rc<Route>>> Session<S> {
         ensures smaller { IfOk result (λ ended. ended ≡ false →
             ahead_of self.new.player + self.old.source.offset
             < ahead_of self.old.player + self.new.source.offset) }
+        ensures out { Keeps (O.written out.old) (O.written out.new) }
         ensures read { I.failed input.new ≡ (I.failed input.old || is_read_fault result) }
-        ensures wrote { E.failed err.new ≡ (E.failed err.old || is_write_fault result) }
+        ensures wrote { (O.failed out.new || E.failed err.new)
+            ≡ (O.failed out.old || E.failed err.old || is_write_fault result) }
     {
         if self.player.redo().is_ok() {
             return Ok(false);
         }
+        self.pass_on(input, out, err)?;
         match self.source.next(input)? {
             Next::Event(event) => {
                 self.player.play(&event).map_err(|_| Outcome::Memory)?;

@@ -11,6 +11,7 @@ mod replies;
 mod script_faults;
 mod scripts;
 mod taking;
+mod waiting;
 
 use bgpdump_tool::Outcome;
 

@@ -1,6 +1,6 @@
 //! A source of events.
 
-ghost use Rattle.std.specs.Prelude.{◌≡◌, ◌≤◌, ◌+◌, ◌||◌, ℕ, List, Ok, Err};
+ghost use Rattle.std.specs.Prelude.{◌≡◌, ◌≤◌, ◌+◌, ◌||◌, ◌↔◌, ℕ, List, Ok, Err, IsTrue};
 ghost use Rattle.std.specs.Io.KnownBytes.{Consumes};
 ghost use Rattle.mrt_wire.specs.declared.next.Next.{Next};
 ghost use Rattle.mrt_frames.specs.Device.{is_read};
@@ -76,6 +76,14 @@ impl Source {
         ensures within { self.now.offset ≤ self.now.limit }
     {
         self.frames.taken()
+    }
+
+    /// Whether the next answer may be read from the input: no fault of the source came, and no end.
+    #[inline]
+    pub fn is_reading(&self) -> bool
+        ensures { IsTrue result ↔ (self.now.phase ≡ Phase.Reading) }
+    {
+        self.phase == Phase::Reading
     }
 
     /// Takes an answer back that isn't needed any more, to use its memory for what comes next.

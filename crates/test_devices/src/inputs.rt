@@ -188,3 +188,37 @@ impl Input for WatchingInput<'_> {
         Ok(count)
     }
 }
+
+/// An input that has so many of its octets at hand, or all where they are fewer.
+#[derive(Drop)]
+pub struct HandInput<'a> {
+    /// What is left.
+    pub rest: &'a [u8],
+    size: usize,
+}
+
+impl<'a> HandInput<'a> {
+    /// An input that hasn't failed.
+    pub fn new(rest: &'a [u8], size: usize) -> Self
+        ensures { ⟦<HandInput<'a> as Input>⟧.failed result ≡ false }
+    {
+        HandInput { rest, size }
+    }
+}
+
+impl Input for HandInput<'_> {
+    ghost left = { λ _. None };
+
+    ghost failed = { λ _. false };
+
+    fn take(&mut self, buffer: &mut [u8]) -> Result<usize, InFault> {
+        let count = self.rest.len().min(buffer.len());
+        buffer[..count].copy_from_slice(&self.rest[..count]);
+        self.rest = &self.rest[count..];
+        Ok(count)
+    }
+
+    fn at_hand(&self) -> &[u8] {
+        &self.rest[..self.size.min(self.rest.len())]
+    }
+}

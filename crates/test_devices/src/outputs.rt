@@ -96,3 +96,55 @@ impl Output for CountedOutput<'_> {
         Ok(())
     }
 }
+
+/// An output that notes how many octets were written each time that it passed on, which fails once
+/// that was so often.
+#[derive(Drop)]
+pub struct PassingOutput {
+    /// What was written.
+    pub text: Vec<u8>,
+    /// How long it was each time.
+    pub passed: Vec<usize>,
+    most: usize,
+    failed: bool,
+}
+
+impl PassingOutput {
+    /// An output that passes on so often at most.
+    pub fn new(alloc: Global, most: usize) -> Self
+        ensures { ⟦<PassingOutput as Output>⟧.failed result ≡ false }
+    {
+        PassingOutput {
+            text: Vec::new(alloc),
+            passed: Vec::new(alloc),
+            most,
+            failed: false,
+        }
+    }
+}
+
+impl Output for PassingOutput {
+    ghost written = { λ _. None };
+
+    ghost failed = { λ output. output.failed };
+
+    fn put(&mut self, octets: &[u8]) -> Result<usize, OutFault> {
+        if self.text.extend_from_slice(octets).is_err() {
+            self.failed = true;
+            return Err(OutFault);
+        }
+        Ok(octets.len())
+    }
+
+    fn pass_on(&mut self) -> Result<(), OutFault> {
+        if self.passed.len() < self.most && self.passed.push(self.text.len()).is_ok() {
+            return Ok(());
+        }
+        self.failed = true;
+        Err(OutFault)
+    }
+
+    fn finish(&mut self) -> Result<(), OutFault> {
+        Ok(())
+    }
+}

@@ -1,90 +1,16 @@
 //! What a run passes on before it waits for its input.
 
-ghost use Rattle.std.specs.Prelude.{◌≡◌, None, false};
-
 use super::LINE;
-use bgpdump_lines::{OutFault, Outcome, Output, run_dump};
-use mrt_wire::{InFault, Input, Stamp};
+use bgpdump_lines::{Outcome, run_dump};
+use mrt_wire::Stamp;
 use std::alloc::{AllocError, Global};
 use std::process::Abort;
 use std::test::Fail;
+use test_devices::{HandInput, PassingOutput};
 use test_octets::{STATE_CHANGE, octets_of};
 
 /// How many octets a record of the tests has.
 const SIZE: usize = 32;
-
-/// An input that has so many of its octets at hand, or all where they are fewer.
-#[derive(Drop)]
-struct HandInput<'a> {
-    rest: &'a [u8],
-    size: usize,
-}
-
-impl Input for HandInput<'_> {
-    ghost left = { λ _. None };
-
-    ghost failed = { λ _. false };
-
-    fn take(&mut self, buffer: &mut [u8]) -> Result<usize, InFault> {
-        let count = self.rest.len().min(buffer.len());
-        buffer[..count].copy_from_slice(&self.rest[..count]);
-        self.rest = &self.rest[count..];
-        Ok(count)
-    }
-
-    fn at_hand(&self) -> &[u8] {
-        &self.rest[..self.size.min(self.rest.len())]
-    }
-}
-
-/// An output that notes how many octets were written each time that it passed on, which fails once
-/// that was so often.
-#[derive(Drop)]
-struct PassingOutput {
-    text: Vec<u8>,
-    passed: Vec<usize>,
-    most: usize,
-    failed: bool,
-}
-
-impl PassingOutput {
-    fn new(alloc: Global, most: usize) -> Self
-        ensures { ⟦<PassingOutput as Output>⟧.failed result ≡ false }
-    {
-        PassingOutput {
-            text: Vec::new(alloc),
-            passed: Vec::new(alloc),
-            most,
-            failed: false,
-        }
-    }
-}
-
-impl Output for PassingOutput {
-    ghost written = { λ _. None };
-
-    ghost failed = { λ output. output.failed };
-
-    fn put(&mut self, octets: &[u8]) -> Result<usize, OutFault> {
-        if self.text.extend_from_slice(octets).is_err() {
-            self.failed = true;
-            return Err(OutFault);
-        }
-        Ok(octets.len())
-    }
-
-    fn pass_on(&mut self) -> Result<(), OutFault> {
-        if self.passed.len() < self.most && self.passed.push(self.text.len()).is_ok() {
-            return Ok(());
-        }
-        self.failed = true;
-        Err(OutFault)
-    }
-
-    fn finish(&mut self) -> Result<(), OutFault> {
-        Ok(())
-    }
-}
 
 /// A run over three records, of whose octets so many are at hand.
 #[derive(Drop)]
@@ -98,10 +24,7 @@ struct Run {
 /// Runs with outputs that pass on so often at most.
 fn run_over(alloc: Global, size: usize, most: (usize, usize)) -> Result<Run, AllocError> {
     let octets = octets_of(alloc, &[STATE_CHANGE, STATE_CHANGE, STATE_CHANGE])?;
-    let mut input = HandInput {
-        rest: octets.as_slice(),
-        size,
-    };
+    let mut input = HandInput::new(octets.as_slice(), size);
     let mut out = PassingOutput::new(alloc, most.0);
     let mut err = PassingOutput::new(alloc, most.1);
     let outcome = run_dump(alloc, &mut input, &mut out, &mut err, Stamp::Dump);

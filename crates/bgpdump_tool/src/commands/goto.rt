@@ -1,6 +1,7 @@
 //! To a position.
 
 ghost use Rattle.std.specs.Prelude.{◌≡◌, ◌≤◌, ◌||◌, ℕ, max};
+ghost use Rattle.std.specs.Io.KnownBytes.{Keeps};
 ghost use Rattle.bgpdump_tool.specs.declared.script.TheConstants.{LONGEST_SCRIPT};
 ghost use Rattle.bgpdump_lines.specs.Ending.{is_read_fault, is_write_fault};
 ghost use Rattle.bgpdump_tool.specs.Standing.{HasRoom, at_cursor, scene_of};
@@ -17,9 +18,10 @@ use rib_store::PrefixStore;
 use std::rc::Rc;
 
 /// On to a position, or as far as there are steps. Answers whether there were too few.
-fn onward<S: PrefixStore<Rc<Route>>, I: Input, E: Output>(
+fn onward<S: PrefixStore<Rc<Route>>, I: Input, O: Output, E: Output>(
     session: &mut Session<S>,
     input: &mut I,
+    out: &mut O,
     err: &mut E,
     position: u32,
 ) -> Result<bool, Outcome>
@@ -30,11 +32,13 @@ fn onward<S: PrefixStore<Rc<Route>>, I: Input, E: Output>(
         (scene_of I.left E.written session.new input.new err.new) result }
     ensures room { (lost : ℕ) → HasRoom session.old.player session.old.source lost →
         HasRoom session.new.player session.new.source lost }
+    ensures out { Keeps (O.written out.old) (O.written out.new) }
     ensures read { I.failed input.new ≡ (I.failed input.old || is_read_fault result) }
-    ensures wrote { E.failed err.new ≡ (E.failed err.old || is_write_fault result) }
+    ensures wrote { (O.failed out.new || E.failed err.new)
+        ≡ (O.failed out.old || E.failed err.old || is_write_fault result) }
 {
     'steps: while session.player.at() < u64::from(position) {
-        if session.step(input, err)? {
+        if session.step(input, out, err)? {
             return Ok(true);
         }
     }
@@ -55,9 +59,10 @@ fn retreat<S: PrefixStore<Rc<Route>>>(player: &mut Player<S>, position: u32)
 }
 
 /// To a position, or as far as there are steps. Answers whether there were too few.
-fn travel<S: PrefixStore<Rc<Route>>, I: Input, E: Output>(
+fn travel<S: PrefixStore<Rc<Route>>, I: Input, O: Output, E: Output>(
     session: &mut Session<S>,
     input: &mut I,
+    out: &mut O,
     err: &mut E,
     position: u32,
 ) -> Result<bool, Outcome>
@@ -67,14 +72,16 @@ fn travel<S: PrefixStore<Rc<Route>>, I: Input, E: Output>(
         (scene_of I.left E.written session.new input.new err.new) result }
     ensures room { (lost : ℕ) → HasRoom session.old.player session.old.source lost →
         HasRoom session.new.player session.new.source lost }
+    ensures out { Keeps (O.written out.old) (O.written out.new) }
     ensures read { I.failed input.new ≡ (I.failed input.old || is_read_fault result) }
-    ensures wrote { E.failed err.new ≡ (E.failed err.old || is_write_fault result) }
+    ensures wrote { (O.failed out.new || E.failed err.new)
+        ≡ (O.failed out.old || E.failed err.old || is_write_fault result) }
 {
     if u64::from(position) < session.player.at() {
         retreat(&mut session.player, position);
         return Ok(false);
     }
-    onward(session, input, err, position)
+    onward(session, input, out, err, position)
 }
 
 /// Carries out `goto`. What is found faulty on the way is reported, and is no step.
@@ -96,7 +103,7 @@ pub(crate) fn goto<S: PrefixStore<Rc<Route>>, I: Input, O: Output, E: Output>(
     ensures wrote { (O.failed out.new || E.failed err.new)
         ≡ (O.failed out.old || E.failed err.old || is_write_fault result) }
 {
-    let ended = travel(session, input, err, position)?;
+    let ended = travel(session, input, out, err, position)?;
     write_position(session.player.at(), ended, out, &mut session.text)?;
     Ok(())
 }

@@ -1,6 +1,7 @@
 //! Steps on.
 
 ghost use Rattle.std.specs.Prelude.{◌≡◌, ◌||◌, ℕ};
+ghost use Rattle.std.specs.Io.KnownBytes.{Keeps};
 ghost use Rattle.bgpdump_tool.specs.declared.script.TheConstants.{LONGEST_SCRIPT};
 ghost use Rattle.bgpdump_lines.specs.Ending.{is_read_fault, is_write_fault};
 ghost use Rattle.bgpdump_tool.specs.Standing.{HasRoom, scene_of};
@@ -16,9 +17,10 @@ use rib_store::PrefixStore;
 use std::rc::Rc;
 
 /// So many steps on, or as many as there are. Answers whether there were fewer.
-fn forward<S: PrefixStore<Rc<Route>>, I: Input, E: Output>(
+fn forward<S: PrefixStore<Rc<Route>>, I: Input, O: Output, E: Output>(
     session: &mut Session<S>,
     input: &mut I,
+    out: &mut O,
     err: &mut E,
     count: u32,
 ) -> Result<bool, Outcome>
@@ -28,11 +30,13 @@ fn forward<S: PrefixStore<Rc<Route>>, I: Input, E: Output>(
         (scene_of I.left E.written session.new input.new err.new) result }
     ensures room { (lost : ℕ) → HasRoom session.old.player session.old.source lost →
         HasRoom session.new.player session.new.source lost }
+    ensures out { Keeps (O.written out.old) (O.written out.new) }
     ensures read { I.failed input.new ≡ (I.failed input.old || is_read_fault result) }
-    ensures wrote { E.failed err.new ≡ (E.failed err.old || is_write_fault result) }
+    ensures wrote { (O.failed out.new || E.failed err.new)
+        ≡ (O.failed out.old || E.failed err.old || is_write_fault result) }
 {
     'steps: for _ in 0..count {
-        if session.step(input, err)? {
+        if session.step(input, out, err)? {
             return Ok(true);
         }
     }
@@ -58,7 +62,7 @@ pub(crate) fn next<S: PrefixStore<Rc<Route>>, I: Input, O: Output, E: Output>(
     ensures wrote { (O.failed out.new || E.failed err.new)
         ≡ (O.failed out.old || E.failed err.old || is_write_fault result) }
 {
-    let ended = forward(session, input, err, count)?;
+    let ended = forward(session, input, out, err, count)?;
     write_position(session.player.at(), ended, out, &mut session.text)?;
     Ok(())
 }

@@ -1,5 +1,6 @@
 use Rattle.std.proofs.Common.{rules, refl, arith, ◌<◌}
 use Rattle.std.proofs.lemmas.Result.{err_from_is_err_and}
+use Rattle.std.proofs.KnownBytes.{Keeps-refl, Keeps-trans}
 use Rattle.bgpdump_tool.specs.declared.script.TheConstants.{LONGEST_SCRIPT}
 use Rattle.bgpdump_tool.proofs.MoveLaws.{Reaches-none, Reaches-step, Reaches-all, Reaches-end, Reaches-stops}
 use Rattle.bgpdump_tool.proofs.commands.goto.onward.Goals as goal
@@ -8,6 +9,7 @@ pub steps-init : goal.steps-init
 steps-init g c = record {
   reaches = λ from left s stands. Reaches-none c.args.position from left s _ stands c.requires.ahead;
   room = λ lost room. room;
+  out = Keeps-refl (g.O.Output.written c.args.out.now);
   read = refl;
   wrote = refl;
 }
@@ -44,6 +46,7 @@ steps-preserved g c = record {
       let below : c.steps.session.player.cursor < c.args.position = search rules in
       Reaches-step c.args.position from left s _ _ _ c.in_ok-step.field-0 stands below (c.steps.invariant.reaches from left s stands) c.if-branch.false c.in_ok-step.ensures.moves;
   room = λ lost room. c.step.ensures.room lost (c.steps.invariant.room lost room);
+  out = Keeps-trans _ _ _ c.steps.invariant.out c.in_ok-step.ensures.out;
   read = search rules;
   wrote = search rules;
 }

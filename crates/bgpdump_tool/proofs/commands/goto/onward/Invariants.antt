@@ -1,5 +1,6 @@
 -- The position isn't passed.
-use Rattle.std.proofs.Common.{◌≡◌, ℕ, ◌+◌, ◌-◌, List, Option}
+use Rattle.std.proofs.Common.{◌≡◌, ◌||◌, ℕ, ◌+◌, ◌-◌, List, Option}
+use Rattle.std.specs.Io.KnownBytes.{Keeps}
 use Rattle.mrt_wire.specs.Place.{Place}
 use Rattle.rib_player.specs.Timeline.{ahead_of}
 use Rattle.bgpdump_lines.specs.declared.dump.TheConstants.{LIMIT}
@@ -15,8 +16,9 @@ invariant-steps g l = record {
       (scene_of g.I.Input.left g.E.Output.written l.initial.session l.initial.input l.initial.err)
       (scene_of g.I.Input.left g.E.Output.written l.session l.input l.err);
   room : (lost : ℕ) → HasRoom l.initial.session.player l.initial.session.source lost → HasRoom l.session.player l.session.source lost;
+  out : Keeps (g.O.Output.written l.initial.out) (g.O.Output.written l.out);
   read : g.I.Input.failed l.input ≡ g.I.Input.failed l.initial.input;
-  wrote : g.E.Output.failed l.err ≡ g.E.Output.failed l.initial.err;
+  wrote : (g.O.Output.failed l.out || g.E.Output.failed l.err) ≡ (g.O.Output.failed l.initial.out || g.E.Output.failed l.initial.err);
 }
 
 abbrev pub decreases-steps : goal.decreases-steps

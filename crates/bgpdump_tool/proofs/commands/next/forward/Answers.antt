@@ -1,5 +1,6 @@
 use Rattle.std.proofs.Common.{rules, refl}
 use Rattle.std.proofs.lemmas.Result.{err_from_is_err_and}
+use Rattle.std.proofs.KnownBytes.{Keeps-refl, Keeps-trans}
 use Rattle.bgpdump_tool.specs.declared.script.TheConstants.{LONGEST_SCRIPT}
 use Rattle.bgpdump_tool.proofs.MoveLaws.{Forth-none, Forth-step, Forth-all, Forth-end, Forth-stops}
 use Rattle.bgpdump_tool.proofs.commands.next.forward.Goals as goal
@@ -8,6 +9,7 @@ pub steps-init : goal.steps-init
 steps-init g c = record {
   forth = λ from left s stands. Forth-none from left s _ stands;
   room = λ lost room. room;
+  out = Keeps-refl (g.O.Output.written c.args.out.now);
   read = refl;
   wrote = refl;
 }
@@ -35,6 +37,7 @@ steps-preserved g c = record {
   forth = λ from left s stands.
       Forth-step c.steps.counter from left s _ _ _ c.in_ok-step.field-0 stands (c.steps.invariant.forth from left s stands) c.if-branch.false c.in_ok-step.ensures.moves;
   room = λ lost room. c.step.ensures.room lost (c.steps.invariant.room lost room);
+  out = Keeps-trans _ _ _ c.steps.invariant.out c.in_ok-step.ensures.out;
   read = search rules;
   wrote = search rules;
 }
