@@ -1,5 +1,8 @@
 //! What the program says besides, where its input or its words look like a common slip.
 
+ghost use Rattle.std.specs.Prelude.{◌≤◌};
+ghost use Rattle.bgpdump.specs.declared.hints.TheConstants.{FRONT_SIZE};
+
 use std::io::{self, Read};
 
 /// How many octets tell in which form an input is compressed.
@@ -63,29 +66,34 @@ pub struct Begun<R> {
     /// The error that came while they were read, which comes behind them.
     error: Option<io::Error>,
     reader: R,
+    ghost ordered: { given ≤ end },
+    ghost within: { end ≤ FRONT_SIZE },
 }
 
 impl<R: Read> Begun<R> {
     /// Reads the first octets.
     pub fn new(reader: R) -> Self {
-        let mut begun = Begun {
-            front: [0; FRONT_SIZE],
-            given: 0,
-            end: 0,
-            error: None,
-            reader,
-        };
-        for _ in 0..FRONT_SIZE {
-            match begun.reader.read(&mut begun.front[begun.end..]) {
+        let mut reader = reader;
+        let mut front = [0; FRONT_SIZE];
+        let mut end = 0;
+        let mut error = None;
+        'front: for _ in 0..FRONT_SIZE {
+            match reader.read(&mut front[end..]) {
                 Ok(0) => break,
-                Ok(count) => begun.end += count,
-                Err(error) => {
-                    begun.error = Some(error);
+                Ok(count) => end += count,
+                Err(fault) => {
+                    error = Some(fault);
                     break;
                 }
             }
         }
-        begun
+        Begun {
+            front,
+            given: 0,
+            end,
+            error,
+            reader,
+        }
     }
 
     /// The form that the reader's octets are compressed in, as it seems.
@@ -97,8 +105,9 @@ impl<R: Read> Begun<R> {
 impl<R: Read> Read for Begun<R> {
     fn read(&mut self, buffer: &mut [u8]) -> io::Result<usize> {
         if self.given < self.end {
-            let mut rest = &self.front[self.given..self.end];
-            let count = rest.read(buffer)?;
+            let rest = &self.front[self.given..self.end];
+            let count = rest.len().min(buffer.len());
+            buffer[..count].copy_from_slice(&rest[..count]);
             self.given += count;
             return Ok(count);
         }
