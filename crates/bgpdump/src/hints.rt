@@ -1,9 +1,8 @@
 //! What the program says besides, where its input or its words look like a common slip.
 
-ghost use Rattle.std.specs.Prelude.{◌≤◌};
-ghost use Rattle.bgpdump.specs.declared.hints.TheConstants.{FRONT_SIZE};
-
+use std::cell::Cell;
 use std::io::{self, Read};
+use std::rc::Rc;
 
 /// How many octets tell in which form an input is compressed.
 const FRONT_SIZE: usize = 10;
@@ -56,64 +55,59 @@ pub fn option_elsewhere(fault: &str) -> Option<&'static str> {
     None
 }
 
-/// A reader of which the first octets are read already, so that they tell what it has.
-#[derive(Drop)]
-pub struct Begun<R> {
-    front: [u8; FRONT_SIZE],
-    /// Where those begin that weren't given yet, and where they end.
-    given: usize,
-    end: usize,
-    /// The error that came while they were read, which comes behind them.
-    error: Option<io::Error>,
-    reader: R,
-    ghost ordered: { given ≤ end },
-    ghost within: { end ≤ FRONT_SIZE },
+/// The first octets of an input.
+#[derive(Clone, Copy)]
+pub struct Front {
+    octets: [u8; FRONT_SIZE],
+    len: usize,
 }
 
-impl<R: Read> Begun<R> {
-    /// Reads the first octets.
-    pub fn new(reader: R) -> Self {
-        let mut reader = reader;
-        let mut front = [0; FRONT_SIZE];
-        let mut end = 0;
-        let mut error = None;
-        'front: for _ in 0..FRONT_SIZE {
-            match reader.read(&mut front[end..]) {
-                Ok(0) => break,
-                Ok(count) => end += count,
-                Err(fault) => {
-                    error = Some(fault);
-                    break;
-                }
+impl Front {
+    /// None yet.
+    pub fn none() -> Self {
+        Front {
+            octets: [0; FRONT_SIZE],
+            len: 0,
+        }
+    }
+
+    /// Notes what comes behind them, as far as it belongs to the first.
+    fn note(&mut self, octets: &[u8]) {
+        for octet in octets {
+            if self.len >= FRONT_SIZE {
+                return;
             }
-        }
-        Begun {
-            front,
-            given: 0,
-            end,
-            error,
-            reader,
+            self.octets[self.len] = *octet;
+            self.len += 1;
         }
     }
 
-    /// The form that the reader's octets are compressed in, as it seems.
+    /// The form that the input is compressed in, as it seems.
     pub fn form(&self) -> Option<Form> {
-        form_of(&self.front[..self.end])
+        form_of(&self.octets[..self.len.min(FRONT_SIZE)])
     }
 }
 
-impl<R: Read> Read for Begun<R> {
+/// A reader that notes its first octets where others can see them.
+#[derive(Drop)]
+pub struct NotedReader<R> {
+    front: Rc<Cell<Front>>,
+    reader: R,
+}
+
+impl<R> NotedReader<R> {
+    /// One that notes them there.
+    pub fn new(front: Rc<Cell<Front>>, reader: R) -> Self {
+        NotedReader { front, reader }
+    }
+}
+
+impl<R: Read> Read for NotedReader<R> {
     fn read(&mut self, buffer: &mut [u8]) -> io::Result<usize> {
-        if self.given < self.end {
-            let rest = &self.front[self.given..self.end];
-            let count = rest.len().min(buffer.len());
-            buffer[..count].copy_from_slice(&rest[..count]);
-            self.given += count;
-            return Ok(count);
-        }
-        match self.error.take() {
-            Some(error) => Err(error),
-            None => self.reader.read(buffer),
-        }
+        let count = self.reader.read(buffer)?;
+        let mut front = self.front.get();
+        front.note(&buffer[..count]);
+        self.front.set(front);
+        Ok(count)
     }
 }

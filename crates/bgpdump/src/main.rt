@@ -10,11 +10,13 @@ mod run;
 use bgpdump_tool::{Mode, Outcome, STANDARD_INPUT, Settings, settings};
 use ending::Ending;
 use files::{create, hold_standard_streams, open, read_outcome, read_script};
-use hints::{Begun, Form, option_elsewhere};
+use hints::{Form, Front, NotedReader};
 use mrt_wire::Stamp;
 use run::{dump, play};
+use std::cell::Cell;
 use std::io::{Read, Write};
 use std::process::ExitCode;
+use std::rc::Rc;
 use std::{env, io};
 
 /// What is done with the input.
@@ -75,9 +77,11 @@ fn run_settings<'a>(
         Some(name) => Box::new(rt.alloc(), create(rt, settings, name.as_str())?)?,
         None => Box::new(rt.alloc(), rt.stdout())?,
     };
-    let input = Begun::new(input);
-    let form = input.form();
-    Ok((run_task(rt, settings.stamp, &task, input, out), form))
+    let front = Rc::new(rt.alloc(), Cell::new(Front::none()))?;
+    let noted = front.clone().map_err(|_| Ending::Ran(Outcome::Memory))?;
+    let input = NotedReader::new(noted, input);
+    let outcome = run_task(rt, settings.stamp, &task, input, out);
+    Ok((outcome, front.get().form()))
 }
 
 /// What is to be done, with the script where there is one.
@@ -98,7 +102,7 @@ fn run_task(
     rt: &HostRuntime,
     stamp: Stamp,
     task: &Task,
-    input: Begun<Box<dyn Read + Drop>>,
+    input: NotedReader<Box<dyn Read + Drop>>,
     out: Box<dyn Write + Drop>,
 ) -> Outcome {
     match task {
