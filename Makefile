@@ -1,6 +1,7 @@
 # The program is built as bin/bgpdump, by rt, which proves it first.
 
 PREFIX ?= /usr/local
+NAME ?= bgpdump
 
 SOURCES := crates.txt $(shell find crates -name out -prune -o -type f -print)
 
@@ -61,10 +62,11 @@ bin/refusals: $(SOURCES)
 	mkdir -p bin
 	cp crates/refusals/out/refusals $@
 
+# NAME=.. installs the program and its manual page by another name, beside Debian's.
 install: bin/bgpdump
 	mkdir -p "$(DESTDIR)$(PREFIX)/bin" "$(DESTDIR)$(PREFIX)/share/man/man1"
-	cp bin/bgpdump "$(DESTDIR)$(PREFIX)/bin/bgpdump"
-	cp man/bgpdump.1 "$(DESTDIR)$(PREFIX)/share/man/man1/bgpdump.1"
+	cp bin/bgpdump "$(DESTDIR)$(PREFIX)/bin/$(NAME)"
+	cp man/bgpdump.1 "$(DESTDIR)$(PREFIX)/share/man/man1/$(NAME).1"
 
 clean:
 	rm -rf bin crates/*/out
