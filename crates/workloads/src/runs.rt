@@ -5,7 +5,7 @@ ghost use Rattle.std.specs.Prelude.{◌≡◌, false, IfOk};
 use crate::digest::Digest;
 use crate::file::File;
 use bgpdump_tool::{Outcome, Output, WriteOutput, run_dump, run_play};
-use mrt_wire::{ReadInput, Route, Stamp};
+use mrt_wire::{BufferedInput, Route, Stamp};
 use rib_store::{LeftStore, RadixStore};
 use std::alloc::Global;
 use std::io;
@@ -46,7 +46,7 @@ fn digest_of(output: WriteOutput<BufWriter<Digest>>) -> io::Result<Digest> {
 
 /// The lines of a file.
 pub(crate) fn dumped(alloc: Global, file: File) -> io::Result<Ran> {
-    let mut input = ReadInput::new(BufReader::with_capacity(alloc, BUFFER, file)?);
+    let mut input = BufferedInput::new(BufReader::with_capacity(alloc, BUFFER, file)?);
     let mut out = output(alloc)?;
     let mut err = output(alloc)?;
     let outcome = run_dump(alloc, &mut input, &mut out, &mut err, Stamp::Dump);
@@ -59,7 +59,7 @@ pub(crate) fn dumped(alloc: Global, file: File) -> io::Result<Ran> {
 
 /// The replies to a script over a file.
 pub(crate) fn played(alloc: Global, file: File, script: &str) -> io::Result<Ran> {
-    let mut input = ReadInput::new(BufReader::with_capacity(alloc, BUFFER, file)?);
+    let mut input = BufferedInput::new(BufReader::with_capacity(alloc, BUFFER, file)?);
     let mut out = output(alloc)?;
     let mut err = output(alloc)?;
     let outcome = run_play::<Routes, _, _, _>(
