@@ -9,7 +9,7 @@ SOURCES := crates.txt $(shell find crates -name out -prune -o -type f -print)
 PROGRAM ?= bin/bgpdump
 CASES ?= bin/refusals
 
-.PHONY: all demo test edits checks bench install clean
+.PHONY: all demo test edits checks bench install deb clean
 
 all: bin/bgpdump
 
@@ -36,15 +36,17 @@ test:
 edits:
 	checks/inner_edits.py $(CRATE)
 
-# Its texts and statuses, over examples/, inputs of their own and damaged files, the commands of the
-# cookbook, and the form of the manual page, where mandoc is there.
+# Its texts and statuses, over examples/, inputs of their own and damaged files, the package for Debian,
+# the commands of the cookbook, and the form of the manual page, where mandoc is there.
 checks: $(PROGRAM) $(CASES)
 	examples/demo.sh $(PROGRAM) >/dev/null
 	checks/program.py $(PROGRAM)
 	checks/damage.py $(PROGRAM)
+	checks/scripts.py $(PROGRAM)
 	checks/refusals.py $(PROGRAM) --cases $(CASES)
 	checks/shapes.py $(PROGRAM)
 	checks/slow_input.py $(PROGRAM)
+	checks/package.py $(PROGRAM)
 	examples/cookbook.py $(PROGRAM)
 	if command -v mandoc >/dev/null; then mandoc -T lint -W warning man/bgpdump.1; fi
 
@@ -67,6 +69,10 @@ install: bin/bgpdump
 	mkdir -p "$(DESTDIR)$(PREFIX)/bin" "$(DESTDIR)$(PREFIX)/share/man/man1"
 	cp bin/bgpdump "$(DESTDIR)$(PREFIX)/bin/$(NAME)"
 	cp man/bgpdump.1 "$(DESTDIR)$(PREFIX)/share/man/man1/$(NAME).1"
+
+# A package for Debian, in bin/, that takes the place of Debian's bgpdump.
+deb: bin/bgpdump
+	packaging/deb.py bin/bgpdump bin
 
 clean:
 	rm -rf bin crates/*/out

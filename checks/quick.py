@@ -7,7 +7,8 @@ Each edit that must fail still applies, and is named by the file and the functio
 of inner functions too, which the gate doesn't try; `rt fmt` changes nothing; tests stand in crates of
 their own; links between documents lead somewhere, and the edits that docs/proved.md names are there;
 the texts of each example are there, and the cases of refused memory in the list that the gate
-compares. The status is 1 where something is wrong, and each fault is told on a line of its own.
+compares; each file of rows is carried out; the version is the same wherever it is named. The status is
+1 where something is wrong, and each fault is told on a line of its own.
 """
 import re
 import shutil
@@ -141,11 +142,28 @@ def faults_of_cases():
         yield crate / 'stdout', 'it lists other cases than src/case.rt'
 
 
+def faults_of_rows():
+    """The gate carries out each file of rows."""
+    crate = TOP / 'crates/rows'
+    if (crate / 'args').read_text().split() != sorted(it.name for it in (crate / 'data').iterdir()):
+        yield crate / 'args', 'it does not name the files of data/ in order'
+
+
+def faults_of_version():
+    """The version that the program's help names stands in what else names it."""
+    text = (TOP / 'crates/bgpdump_command_line/src/arguments.rt').read_text()
+    version = re.search(r"Rumpleja's bgpdump (\d+\.\d+\.\d+): ", text)[1]
+    for name, words in [('man/bgpdump.1', f'.Os Rumpleja {version}\n'),
+                        ('README.md', f'bin/rumpleja_{version}_amd64.deb')]:
+        if words not in (TOP / name).read_text():
+            yield TOP / name, f'it does not name version {version}'
+
+
 def main():
     found = [
         (place, fault)
         for faults in (faults_of_edits, faults_of_named_edits, faults_of_format, faults_of_crates, faults_of_links,
-                       faults_of_examples, faults_of_cases)
+                       faults_of_examples, faults_of_cases, faults_of_rows, faults_of_version)
         for place, fault in faults()
     ]
     for place, fault in found:

@@ -1,2 +1,1 @@
-mod merge;
 mod texts;

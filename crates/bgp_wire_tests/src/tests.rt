@@ -1,7 +1,6 @@
 //! Tests. Octets are written in hexadecimal, and attributes as one text.
 
 mod again;
-mod as4;
 mod large;
 mod lists;
 mod messages;
@@ -125,46 +124,5 @@ fn assert_read(
 ) -> Result<(), WireFault> {
     let text = read_shown(alloc, family, width, octets)?;
     assert_eq!(rt; text.as_slice(), want.as_bytes(), "{octets:?}");
-    Ok(())
-}
-
-/// Asserts what octets say that are written in hexadecimal, one text behind the other.
-fn assert_texts(
-    rt: &impl Abort,
-    alloc: Global,
-    family: Family,
-    width: AsWidth,
-    texts: &[&str],
-    want: &str,
-) -> Result<(), WireFault> {
-    let octets = octets_of(alloc, texts)?;
-    assert_read(rt, alloc, family, width, &octets, want)
-}
-
-/// Asserts what octets say, which are written in hexadecimal.
-fn assert_rows(
-    rt: &impl Abort,
-    alloc: Global,
-    family: Family,
-    width: AsWidth,
-    rows: &[(&str, &str)],
-) -> Result<(), WireFault> {
-    for (octets, want) in rows {
-        assert_texts(rt, alloc, family, width, &[octets], want)?;
-    }
-    Ok(())
-}
-
-/// Asserts that octets are no list of attributes, which are written in hexadecimal.
-fn assert_refused(
-    rt: &impl Abort,
-    alloc: Global,
-    family: Family,
-    width: AsWidth,
-    rows: &[&str],
-) -> Result<(), WireFault> {
-    for octets in rows {
-        assert_texts(rt, alloc, family, width, &[octets], MALFORMED)?;
-    }
     Ok(())
 }

@@ -7,17 +7,11 @@ use std::rc::Rc;
 /// How many octets tell in which form an input is compressed.
 const FRONT_SIZE: usize = 10;
 
-/// Options of the C program of the same name that this one doesn't have, as `clap` quotes them.
-const OPTIONS_ELSEWHERE: [(&str, &str); 8] = [
-    ("argument '-H'", "-H"),
-    ("argument '-M'", "-M"),
-    ("argument '-l'", "-l"),
-    ("argument '-p'", "-p"),
-    ("argument '-q'", "-q"),
-    ("argument '-s'", "-s"),
-    ("argument '-u'", "-u"),
-    ("argument '-v'", "-v"),
-];
+/// Options of the C program of the same name that this one doesn't have.
+const OPTIONS_ELSEWHERE: [&str; 8] = ["-H", "-M", "-l", "-p", "-q", "-s", "-u", "-v"];
+
+/// What `clap` puts before an option that it doesn't know.
+const BEFORE_OPTION: &str = "argument '";
 
 /// A form that an input may be compressed in, and the program that prints what it was.
 #[derive(Clone, Copy, Debug, PartialEq, Eq)]
@@ -47,8 +41,9 @@ fn form_of(front: &[u8]) -> Option<Form> {
 
 /// The option that words have which only the C program knows, by what `clap` says of them.
 pub fn option_elsewhere(fault: &str) -> Option<&'static str> {
-    for (quoted, option) in OPTIONS_ELSEWHERE {
-        if fault.contains(quoted) {
+    let (_, behind) = fault.split_once(BEFORE_OPTION)?;
+    for option in OPTIONS_ELSEWHERE {
+        if behind.starts_with(option) {
             return Some(option);
         }
     }

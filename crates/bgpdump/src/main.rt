@@ -28,13 +28,21 @@ enum Task {
     Play(Vec<u8>),
 }
 
+/// What came of a run.
+#[derive(Drop)]
+struct Ran {
+    outcome: Outcome,
+    /// The form that the input seems to be compressed in.
+    form: Option<Form>,
+}
+
 fn main(rt: HostRuntime) -> ExitCode {
     hold_standard_streams(&rt);
     match read_settings(&rt) {
         Ok(settings) => match run_settings(&rt, &settings) {
-            Ok((outcome, form)) => {
-                let status = end(&rt, &Ending::Ran(outcome));
-                tell_form(&rt, settings.input.as_str(), form);
+            Ok(ran) => {
+                let status = end(&rt, &Ending::Ran(ran.outcome));
+                tell_form(&rt, settings.input.as_str(), ran.form);
                 status
             }
             Err(ending) => end(&rt, &ending),
@@ -61,12 +69,8 @@ fn read_words(rt: &HostRuntime) -> io::Result<Vec<String>> {
 }
 
 /// Opens what the settings name, the output last, and runs over it. In their boxes all streams have
-/// one type, so that the run's code stands in the program once. Told besides is the form that the
-/// input seems to be compressed in.
-fn run_settings<'a>(
-    rt: &HostRuntime,
-    settings: &'a Settings,
-) -> Result<(Outcome, Option<Form>), Ending<'a>> {
+/// one type, so that the run's code stands in the program once.
+fn run_settings<'a>(rt: &HostRuntime, settings: &'a Settings) -> Result<Ran, Ending<'a>> {
     let task = task_of(rt, &settings.mode)?;
     let input: Box<dyn Read + Drop> = if settings.input.as_str() == STANDARD_INPUT {
         Box::new(rt.alloc(), rt.stdin())?
@@ -81,7 +85,10 @@ fn run_settings<'a>(
     let noted = front.clone().map_err(|_| Ending::Ran(Outcome::Memory))?;
     let input = NotedReader::new(noted, input);
     let outcome = run_task(rt, settings.stamp, &task, input, out);
-    Ok((outcome, front.get().form()))
+    Ok(Ran {
+        outcome,
+        form: front.get().form(),
+    })
 }
 
 /// What is to be done, with the script where there is one.
@@ -113,13 +120,11 @@ fn run_task(
 
 /// Says how to read an input that seems to be compressed. Where that can't be printed it is lost.
 fn tell_form(rt: &HostRuntime, name: &str, form: Option<Form>) {
-    if let Some(
-        Form {
+    if let Some(form) = form {
+        let Form {
             name: compressed,
             printer,
-        },
-    ) = form
-    {
+        } = form;
         let _ = eprintln!(rt;
             "bgpdump: {name} looks like {compressed}; try {printer} {name} | bgpdump -m -"
         );

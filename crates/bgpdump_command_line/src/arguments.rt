@@ -34,8 +34,10 @@ pub(crate) const CHANGE: &str = "change";
 /// The values that `-t` takes.
 const TIMES_TAKEN: &[&str] = &[DUMP, CHANGE];
 
-/// What the program does, as its help says.
-const ABOUT: &str = "Reads what BGP routers write of their tables and sessions (MRT, RFC 6396).";
+/// Which program this is, in which version, and what it does: the first line of its help. The
+/// version is named here, and whatever else names it is compared with this line.
+const ABOUT: &str = "\
+Rumpleja's bgpdump 1.0.0: reads what BGP routers write (MRT files, RFC 6396).";
 
 /// How it is called.
 const USAGE: &str = "bgpdump (-m | --play SCRIPT) [-t dump|change] [-O FILE] INPUT";

@@ -14,7 +14,7 @@ ghost use Rattle.bgpdump_lines.specs.Going.{Ends};
 use crate::finish::finish_outputs;
 use crate::outcome::Outcome;
 use crate::output::Output;
-use crate::waiting::pass_on_both;
+use crate::waiting::pass_on_before_waiting;
 use crate::write::write_next;
 use ip_prefix::Text;
 use mrt_wire::{Input, Next, Source, Stamp};
@@ -97,7 +97,7 @@ fn dump_all<I: Input, O: Output, E: Output>(
     let mut text = Text::new(alloc);
     let mut reported = false;
     'steps: loop {
-        pass_on_both(input, out, err)?;
+        pass_on_before_waiting(input, out, err)?;
         let next = source.next(input)?;
         if is_end(&next) {
             return Ok(reported);

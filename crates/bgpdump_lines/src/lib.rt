@@ -24,5 +24,5 @@ pub use finish::finish_outputs;
 pub use laws::line_numbers;
 pub use outcome::Outcome;
 pub use output::{OutFault, Output, WriteOutput, put_all};
-pub use waiting::{pass_on_before_waiting, pass_on_both};
+pub use waiting::pass_on_before_waiting;
 pub use write::write_report;

@@ -6,22 +6,8 @@ ghost use Rattle.std.specs.Io.KnownBytes.{Keeps};
 use crate::output::{OutFault, Output};
 use mrt_wire::Input;
 
-/// Passes on what an output holds, unless the input has its next record at hand.
-pub fn pass_on_before_waiting<I: Input, O: Output>(
-    input: &I,
-    output: &mut O,
-) -> Result<(), OutFault>
-    ensures octets { Keeps (O.written output.old) (O.written output.new) }
-    ensures failed { O.failed output.new ≡ (O.failed output.old || is_err result) }
-{
-    if input.has_record() {
-        return Ok(());
-    }
-    output.pass_on()
-}
-
 /// Passes on what two outputs hold, unless the input has its next record at hand.
-pub fn pass_on_both<I: Input, O: Output, E: Output>(
+pub fn pass_on_before_waiting<I: Input, O: Output, E: Output>(
     input: &I,
     out: &mut O,
     err: &mut E,
@@ -31,6 +17,9 @@ pub fn pass_on_both<I: Input, O: Output, E: Output>(
     ensures failed { (O.failed out.new || E.failed err.new)
         ≡ (O.failed out.old || E.failed err.old || is_err result) }
 {
-    pass_on_before_waiting(input, out)?;
-    pass_on_before_waiting(input, err)
+    if input.has_record() {
+        return Ok(());
+    }
+    out.pass_on()?;
+    err.pass_on()
 }

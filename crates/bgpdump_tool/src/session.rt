@@ -11,7 +11,7 @@ ghost use Rattle.bgpdump_tool.specs.declared.script.TheConstants.{LONGEST_SCRIPT
 ghost use Rattle.bgpdump_tool.specs.Standing.{HasRoom, scene_of};
 ghost use Rattle.bgpdump_tool.specs.Moves.{Moves, StepDoes};
 
-use bgpdump_lines::{LIMIT, OutFault, Outcome, Output, pass_on_both, write_report};
+use bgpdump_lines::{LIMIT, OutFault, Outcome, Output, pass_on_before_waiting, write_report};
 use ip_prefix::Text;
 use mrt_wire::{Input, Next, Route, Source, Stamp};
 use rib_player::Player;
@@ -63,7 +63,7 @@ impl<S: PrefixStore<Rc<Route>>> Session<S> {
             ≡ (O.failed out.old || E.failed err.old || is_err result) }
     {
         if self.source.is_reading() {
-            return pass_on_both(input, out, err);
+            return pass_on_before_waiting(input, out, err);
         }
         Ok(())
     }

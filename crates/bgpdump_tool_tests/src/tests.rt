@@ -1,13 +1,8 @@
-mod commands;
 mod devices;
-mod generated_scripts;
 mod large_replies;
 mod large_scripts;
 mod memory;
-mod moves;
-mod plain;
 mod playing;
-mod replies;
 mod script_faults;
 mod scripts;
 mod taking;

@@ -1,13 +1,10 @@
 mod ends;
 mod events;
 mod held;
-mod kinds;
 mod large;
 mod many_peers;
 mod messages;
 mod old_tables;
-mod repeated;
 mod sessions;
 mod shown;
 mod sources;
-mod tables;

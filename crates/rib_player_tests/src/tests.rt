@@ -8,17 +8,13 @@ mod equal_routes;
 mod forgotten;
 mod generated;
 mod held;
-mod kept;
-mod lookups;
 mod many;
 mod plain;
 mod rationed;
 mod reached;
 mod refused;
 mod seen;
-mod sessions;
 mod stores;
-mod walks;
 
 use ip_prefix::{Addr, Prefix};
 use mrt_wire::{Event, Item, Items, Next, Peer, ReadInput, Route, Source, Stamp, Tag, Time};
@@ -85,7 +81,6 @@ enum Say {
     Withdraw,
     WithdrawOf(Who, &'static str),
     State(u16, u16),
-    StateOf(Who, u16, u16),
 }
 
 /// A call of the player.
@@ -198,7 +193,6 @@ fn item(alloc: Global, say: Say) -> Result<Item, Fail> {
         Say::Withdraw => Ok(Item::Withdraw(peer(), eight(10))),
         Say::WithdrawOf(who, text) => Ok(Item::Withdraw(peer_of(who), prefix_of(text)?)),
         Say::State(old, new) => Ok(Item::State(peer(), old, new)),
-        Say::StateOf(who, old, new) => Ok(Item::State(peer_of(who), old, new)),
     }
 }
 

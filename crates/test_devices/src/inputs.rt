@@ -218,7 +218,7 @@ impl Input for HandInput<'_> {
         Ok(count)
     }
 
-    fn at_hand(&self) -> &[u8] {
-        &self.rest[..self.size.min(self.rest.len())]
+    fn at_hand(&self) -> Option<&[u8]> {
+        Some(&self.rest[..self.size.min(self.rest.len())])
     }
 }

@@ -3,36 +3,25 @@
 use super::Run;
 use bgpdump_tool::{Outcome, WriteOutput, run_play};
 use mrt_wire::{ReadInput, Route, Stamp};
-use rib_store::{MapStore, PrefixStore, RadixStore};
+use rib_store::RadixStore;
 use std::alloc::{AllocError, Global};
 use std::process::Abort;
 use std::rc::Rc;
-use std::test::Fail;
 use test_octets::{MULTICAST, STATE_CHANGE, octets_of};
 
 /// The store of the runs, that of the program.
 pub(super) type Routes = RadixStore<Rc<Route>>;
 
-/// The sessions with the peers 192.0.2.1 of AS 64500, 192.0.2.1 of AS 64501, and 2001:db8::1 of
-/// AS 64500, in front of a message.
+/// The sessions with the peers 192.0.2.1 of AS 64500 and of AS 64501, in front of a message.
 pub(super) const FIRST: &str = "FBF4 FBF5 0000 0001 C0000201 C0000202";
 
 pub(super) const SECOND: &str = "FBF5 FBF5 0000 0001 C0000201 C0000202";
-
-pub(super) const WIDE: &str = "FBF4 FBF5 0000 0002 20010DB8000000000000000000000001 \
-                               20010DB8000000000000000000000002";
 
 /// The attributes of a route from AS 64500 with the next hop 192.0.2.9, and of one with
 /// 192.0.2.10.
 pub(super) const NINE: &str = "40010100 400204 0201 FBF4 400304 C0000209";
 
 pub(super) const OTHER_HOP: &str = "40010100 400204 0201 FBF4 400304 C000020A";
-
-/// The announcements of 2001:db8::/32 and of ::/0 with the next hop 2001:db8::1, as attributes.
-pub(super) const WIDE_32: &str =
-    "800E1A 0002 01 10 20010DB8000000000000000000000001 00 20 20010DB8";
-
-pub(super) const WIDE_0: &str = "800E16 0002 01 10 20010DB8000000000000000000000001 00 00";
 
 /// A record of a file.
 #[derive(Clone, Copy)]
@@ -53,13 +42,6 @@ pub(super) const INDEX: Record = Record::Octets(
 pub(super) const ENTRY: Record = Record::Octets(
     "000000C8 000D 0002 0000003C 00000000 080A 0001 0000 00000032 002C 40010100 \
      400210 0201 0000FBF4 0102 00000001 00000002 400304 C0000209 400600 C00808 FBF40001 FFFFFF01",
-);
-
-/// An entry of 10.0.0.0/8 with the peer 192.0.2.1 of AS 64500, originated at 50 seconds and dumped
-/// at 200.
-pub(super) const ENTRY_WITH_PEER: Record = Record::Octets(
-    "000000C8 000C 0001 00000028 0000 0000 0A000000 08 01 00000032 C0000201 FBF4 0012 \
-     40010100 400204 0201 FBF4 400304 C0000209",
 );
 
 /// The announcement of 10.0.0.0/8 at 100 seconds.
@@ -145,21 +127,6 @@ pub(super) fn update_record(
     session_record(alloc, time, 1, &octets_of(alloc, &[session])?, &message)
 }
 
-/// The octets of a change of a session between two states, at 100 seconds.
-pub(super) fn state_record(
-    alloc: Global,
-    session: &str,
-    states: &str,
-) -> Result<Vec<u8>, AllocError> {
-    session_record(
-        alloc,
-        100,
-        0,
-        &octets_of(alloc, &[session])?,
-        &octets_of(alloc, &[states])?,
-    )
-}
-
 /// The octets of a record.
 fn record_of(alloc: Global, record: Record) -> Result<Vec<u8>, AllocError> {
     match record {
@@ -181,19 +148,9 @@ pub(super) fn file_of(alloc: Global, records: &[Record]) -> Result<Vec<u8>, Allo
 
 /// Carries out a script over these octets, with this time of a table's entries.
 pub(super) fn play(alloc: Global, stamp: Stamp, octets: &[u8], script: &[u8]) -> Run {
-    play_with::<Routes>(alloc, stamp, octets, script)
-}
-
-/// The same, with a store.
-fn play_with<S: PrefixStore<Rc<Route>>>(
-    alloc: Global,
-    stamp: Stamp,
-    octets: &[u8],
-    script: &[u8],
-) -> Run {
     let mut out = Vec::new(alloc);
     let mut err = Vec::new(alloc);
-    let outcome = run_play::<S, _, _, _>(
+    let outcome = run_play::<Routes, _, _, _>(
         alloc,
         &mut ReadInput::new(octets),
         script,
@@ -232,24 +189,4 @@ pub(super) fn assert_replied(
         "reports of {script}"
     );
     assert_eq!(rt; run.outcome, outcome_of(reports), "outcome of {script}");
-}
-
-/// Records, a script, the replies to it and the reports.
-pub(super) type Row = (&'static [Record], &'static str, &'static str, &'static str);
-
-/// Asserts what scripts give over either store, with this time of a table's entries.
-pub(super) fn assert_rows(
-    rt: &impl Abort,
-    alloc: Global,
-    stamp: Stamp,
-    rows: &[Row],
-) -> Result<(), Fail> {
-    for (records, script, replies, reports) in rows {
-        let octets = file_of(alloc, records)?;
-        let run = play(alloc, stamp, &octets, script.as_bytes());
-        assert_replied(rt, &run, script, replies, reports);
-        let run = play_with::<MapStore<Rc<Route>>>(alloc, stamp, &octets, script.as_bytes());
-        assert_replied(rt, &run, script, replies, reports);
-    }
-    Ok(())
 }

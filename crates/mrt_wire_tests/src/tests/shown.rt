@@ -210,29 +210,6 @@ pub(super) fn assert_record(
     assert_octets(rt, alloc, Stamp::Dump, octets.as_slice(), want)
 }
 
-/// The same of a record in several texts.
-pub(super) fn assert_texts(
-    rt: &impl Abort,
-    alloc: Global,
-    texts: &[&str],
-    want: &str,
-) -> Result<(), AllocError> {
-    assert_record(rt, alloc, octets_of(alloc, texts)?.as_slice(), want)
-}
-
-/// Asserts that records are malformed which begin with one text and go on with another.
-pub(super) fn assert_malformed(
-    rt: &impl Abort,
-    alloc: Global,
-    front: &str,
-    rests: &[&str],
-) -> Result<(), AllocError> {
-    for rest in rests {
-        assert_texts(rt, alloc, &[front, rest], "1 0 Malformed; end")?;
-    }
-    Ok(())
-}
-
 /// Asserts what sources answer over records.
 pub(super) fn assert_rows(
     rt: &impl Abort,

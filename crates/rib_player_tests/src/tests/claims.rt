@@ -2,7 +2,7 @@
 
 use super::rationed::follow_rationed_anew;
 use super::seen::{Seen, TimeRow};
-use super::{Answer, Call, Row, Say, Who, follow_anew};
+use super::{Answer, Call, Row, Say, Who};
 use std::test::Fail;
 
 const WIDE: &str = "a00::/8";
@@ -450,7 +450,7 @@ const OTHER_KEY_GOES_FIRST: &[Row] = &[
     ),
 ];
 
-/// Also where all calls but plays may make no key: they ask for none.
+/// All calls but plays may make no key, and ask for none.
 #[test]
 fn pairs_that_come_again_are_keys_as_long_as_they_are_named(rt: HostRuntime) -> Result<(), Fail> {
     for rows in [
@@ -464,7 +464,6 @@ fn pairs_that_come_again_are_keys_as_long_as_they_are_named(rt: HostRuntime) -> 
         OTHER_KEY_OUTLIVES,
         OTHER_KEY_GOES_FIRST,
     ] {
-        follow_anew(&rt, rt.alloc(), rows)?;
         follow_rationed_anew(&rt, rt.alloc(), rows)?;
     }
     Ok(())

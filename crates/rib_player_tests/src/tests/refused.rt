@@ -1,6 +1,5 @@
 //! Events for which a store refuses memory.
 
-use super::kept::TWO_NEW_PEERS;
 use super::seen::{Seen, TimeRow, assert_seen};
 use super::stores::{Failing, Refusing};
 use super::{
@@ -165,6 +164,14 @@ fn an_event_that_names_no_refused_prefix_is_played(rt: HostRuntime) -> Result<()
     let mut player: RefusingPlayer = Player::new(rt.alloc());
     play_taken_back(&rt, rt.alloc(), &mut player)
 }
+
+/// Two prefixes of two peers each that had none.
+const TWO_NEW_PEERS: &[Say] = &[
+    Say::AnnounceOf(Who::Neighbour, "10.0.0.0/8", 3),
+    Say::AnnounceOf(Who::Neighbour, "10.1.0.0/16", 4),
+    Say::AnnounceOf(Who::Sibling, "10.0.0.0/8", 5),
+    Say::AnnounceOf(Who::Sibling, "10.1.0.0/16", 6),
+];
 
 /// Calls over stores that refuse each new key. Events without items are played.
 const ALL_REFUSED: &[Row] = &[

@@ -1,7 +1,6 @@
 //! What is seen of a player.
 
 use super::{HasNodes, Who, has_key, keys_of, peer_of, prefix_of, time_of};
-use ip_prefix::{Addr, Prefix};
 use mrt_wire::{Peer, Route};
 use rib_player::Player;
 use rib_store::PrefixStore;
@@ -14,9 +13,6 @@ pub(super) type TimeRow = (Who, &'static str, Option<u32>);
 
 /// A peer, a prefix, and whether the peer's store has it as a key.
 pub(super) type KeyRow = (Who, &'static str, bool);
-
-/// A prefix, and the time of a route to it.
-pub(super) type Timed = (&'static str, u32);
 
 /// Something of a player, and what is seen of it.
 #[derive(Clone, Copy)]
@@ -31,14 +27,8 @@ pub(super) enum Seen {
     Has(&'static [KeyRow]),
     /// The times of routes.
     Times(&'static [TimeRow]),
-    /// A walk over the routes of a peer.
-    Walk(Who, &'static [Timed]),
-    /// The first route of a peer above a prefix.
-    After(Who, &'static str, Option<Timed>),
     /// A walk over the peers that have routes, and how many they have.
     Peers(&'static [(Who, u64)]),
-    /// The route of a peer to the longest prefix that contains an address.
-    Longest(Who, [u8; 4], Option<Timed>),
 }
 
 /// Compares the times of routes, or that there is none.
@@ -73,36 +63,6 @@ fn assert_keys<S: PrefixStore<Rc<Route>>>(
     Ok(())
 }
 
-/// The first prefix above one that the peer has a route to, and the time of the route.
-fn after<S: PrefixStore<Rc<Route>>>(
-    player: &Player<S>,
-    who: Who,
-    low: Option<&Prefix>,
-) -> Option<(Prefix, u32)> {
-    match player.table().after(&peer_of(who), low) {
-        Some((prefix, route)) => Some((prefix, route.time)),
-        None => None,
-    }
-}
-
-/// Asserts that a walk over the peer's routes comes to these, and to its end.
-fn assert_walk<S: PrefixStore<Rc<Route>>>(
-    rt: &impl Abort,
-    player: &Player<S>,
-    who: Who,
-    times: &[Timed],
-) -> Result<(), Fail> {
-    let mut last = None;
-    for (text, time) in times {
-        let prefix = prefix_of(text)?;
-        let found = after(player, who, last.as_ref());
-        assert!(rt; found == Some((prefix, *time)), "{text}");
-        last = Some(prefix);
-    }
-    assert!(rt; after(player, who, last.as_ref()).is_none());
-    Ok(())
-}
-
 /// Asserts that a walk over the peers comes to these, and to its end.
 fn assert_peers<S: PrefixStore<Rc<Route>>>(
     rt: &impl Abort,
@@ -116,32 +76,6 @@ fn assert_peers<S: PrefixStore<Rc<Route>>>(
         last = Some(peer_of(*who));
     }
     assert!(rt; player.table().peer_after(last.as_ref()).is_none());
-}
-
-/// The longest prefix of the peer that contains the address, and the time of its route.
-fn longest<S: PrefixStore<Rc<Route>>>(
-    player: &Player<S>,
-    who: Who,
-    addr: [u8; 4],
-) -> Option<(Prefix, u32)> {
-    match player.table().longest(&peer_of(who), &Addr::v4(addr)) {
-        Some((prefix, route)) => Some((prefix, route.time)),
-        None => None,
-    }
-}
-
-/// Asserts that a route was found, or none.
-fn assert_found(
-    rt: &impl Abort,
-    found: Option<(Prefix, u32)>,
-    want: Option<Timed>,
-) -> Result<(), Fail> {
-    let want = match want {
-        Some((text, time)) => Some((prefix_of(text)?, time)),
-        None => None,
-    };
-    assert!(rt; found == want);
-    Ok(())
 }
 
 fn assert_steps<S: PrefixStore<Rc<Route>>>(
@@ -168,15 +102,7 @@ pub(super) fn assert_seen<S: PrefixStore<Rc<Route>>>(
         Seen::Keys(who, keys) => assert_eq!(rt; keys_of(player, &peer_of(who)), keys),
         Seen::Has(rows) => return assert_keys(rt, player, rows),
         Seen::Times(rows) => return assert_times(rt, player, rows),
-        Seen::Walk(who, times) => return assert_walk(rt, player, who, times),
-        Seen::After(who, text, want) => {
-            let found = after(player, who, Some(&prefix_of(text)?));
-            return assert_found(rt, found, want);
-        }
         Seen::Peers(peers) => assert_peers(rt, player, peers),
-        Seen::Longest(who, addr, want) => {
-            return assert_found(rt, longest(player, who, addr), want);
-        }
     }
     Ok(())
 }

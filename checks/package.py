@@ -1,0 +1,116 @@
+#!/usr/bin/env python3
+"""Makes the package for Debian and tries it.
+
+    checks/package.py PROGRAM
+
+Its files are unpacked into a folder and run there over the examples that it brings. What dpkg-deb says
+of it is compared with what is typed here; where lintian is there, it tells no errors. Where dpkg-deb
+is not there, nothing is tried.
+"""
+import hashlib
+import re
+import shutil
+import subprocess
+import sys
+import tempfile
+from pathlib import Path
+
+TOP = Path(__file__).resolve().parent.parent
+FIELDS = {
+    'Package': r'rumpleja',
+    'Version': r'1\.0\.0',
+    'Architecture': r'amd64',
+    'Depends': r'libc6 \(>= 2\.\d+\)',
+    'Provides': r'bgpdump',
+    'Conflicts': r'bgpdump',
+    'Replaces': r'bgpdump',
+}
+
+
+def run(*words, **more):
+    return subprocess.run([str(it) for it in words], capture_output=True, text=True, **more)
+
+
+def package_in(folder, program):
+    made = run(TOP / 'packaging/deb.py', program, folder)
+    if made.returncode:
+        sys.exit(f'package: {made.stderr}')
+    return Path(made.stdout.strip())
+
+
+def faults_of_fields(package):
+    for field, pattern in FIELDS.items():
+        text = run('dpkg-deb', '-f', package, field).stdout.strip()
+        if not re.fullmatch(pattern, text):
+            yield f'its field {field} is {text!r}'
+
+
+def faults_of_library(package, program):
+    """The C library that it depends on is the newest that the program's symbols name."""
+    table = run('objdump', '-T', program)
+    if table.returncode:
+        return
+    newest = max(re.findall(r'GLIBC_([\d.]+)', table.stdout), key=lambda it: [*map(int, it.split('.'))])
+    text = run('dpkg-deb', '-f', package, 'Depends').stdout.strip()
+    if text != f'libc6 (>= {newest})':
+        yield f'it depends on {text}, and the program on {newest} of the C library'
+
+
+def faults_of_list(package):
+    for line in run('dpkg-deb', '-c', package).stdout.splitlines():
+        mode, owner = line.split()[:2]
+        if owner != 'root/root':
+            yield f'it has an owner other than root: {line}'
+        if mode not in ('drwxr-xr-x', '-rw-r--r--', '-rwxr-xr-x'):
+            yield f'it has another mode: {line}'
+
+
+def faults_of_files(package, program, room):
+    """What it brings is what it says, and runs where it was unpacked."""
+    run('dpkg-deb', '-x', package, room / 'files', check=True)
+    run('dpkg-deb', '-e', package, room / 'control', check=True)
+    sums = dict(reversed(it.split('  ')) for it in (room / 'control/md5sums').read_text().splitlines())
+    found = {str(it.relative_to(room / 'files')): hashlib.md5(it.read_bytes()).hexdigest()
+             for it in (room / 'files').rglob('*') if it.is_file()}
+    if sums != found:
+        yield f'its sums differ: {sorted(set(sums.items()) ^ set(found.items()))}'
+    installed = room / 'files/usr/bin/bgpdump'
+    if installed.read_bytes() != program.read_bytes():
+        yield 'its program is another one'
+    documents = room / 'files/usr/share/doc/rumpleja'
+    shown = run(documents / 'examples/demo.sh', installed)
+    if shown.returncode:
+        yield f'over its examples: {shown.stderr}'
+    for name in ('README.md', 'docs/cookbook.md', 'docs/DIFFERENCES.md', 'copyright', 'changelog.gz'):
+        if not (documents / name).is_file():
+            yield f'it has no {name}'
+    if not (room / 'files/usr/share/man/man1/bgpdump.1.gz').is_file():
+        yield 'it has no manual page'
+
+
+def faults_of_lint(package):
+    if shutil.which('lintian'):
+        yield from re.findall(r'^E: .*', run('lintian', '--allow-root', package).stdout, re.M)
+
+
+def main():
+    program = Path(sys.argv[1]).resolve()
+    if not shutil.which('dpkg-deb'):
+        print('package: dpkg-deb is not here, nothing tried')
+        return
+    with tempfile.TemporaryDirectory() as folder:
+        room, again = Path(folder), Path(folder, 'again')
+        again.mkdir()
+        package, remade = (package_in(it, program) for it in (room, again))
+        faults = [*faults_of_fields(package), *faults_of_library(package, program), *faults_of_list(package),
+                  *faults_of_files(package, program, room), *faults_of_lint(package)]
+        if package.read_bytes() != remade.read_bytes():
+            faults.append('made again, it is another one')
+    for fault in faults:
+        print(f'package: {fault}')
+    print(f'package: {len(faults) or "no"} faults')
+    sys.exit(bool(faults))
+
+
+if __name__ == '__main__':
+    main()

@@ -1,0 +1,187 @@
+//! The calls that rows make.
+
+use crate::answer::Answer;
+use crate::commands::put_commands;
+use crate::events::put_events;
+use crate::paths::{put_count, put_joined};
+use crate::player::put_answers;
+use crate::row::Row;
+use crate::wire::{put_entry, put_message, put_summary};
+use bgp_wire::AsWidth;
+use bgpdump_tool::{WriteOutput, run_dump, run_play};
+use ip_prefix::Family;
+use mrt_wire::{ReadInput, Route, Stamp};
+use rib_store::{MapStore, PrefixStore, RadixStore};
+use std::alloc::{AllocError, Global};
+use std::rc::Rc;
+
+/// The store of the program, and one over a map.
+type Tree = RadixStore<Rc<Route>>;
+
+type Map = MapStore<Rc<Route>>;
+
+/// A call of the libraries.
+#[derive(Clone, Copy)]
+pub enum Call {
+    /// The lines of a dump.
+    Dump(Stamp),
+    /// The replies to a script, with the program's store.
+    Play(Stamp),
+    /// The same with a store over a map.
+    PlayOverMap(Stamp),
+    /// What a source answers.
+    Events(Stamp),
+    /// What the attributes of a table's entry say.
+    Entry(Family, AsWidth),
+    /// What the attributes of a message say.
+    Message(AsWidth),
+    /// The prefixes and next hops of a message.
+    Summary(AsWidth),
+    /// Two paths that are joined.
+    Join,
+    /// How many segments they have then.
+    JoinApart,
+    /// What the lines of a script are.
+    Commands,
+    /// What a player answers, with the program's store.
+    Player,
+    /// The same with a store over a map.
+    PlayerOverMap,
+}
+
+/// The time of a table's entries: that of the dump, and that at which their routes originated.
+const DUMP: Stamp = Stamp::Dump;
+
+const CHANGE: Stamp = Stamp::Change;
+
+/// AS numbers of either width.
+const TWO: AsWidth = AsWidth::Two;
+
+const FOUR: AsWidth = AsWidth::Four;
+
+/// Either address family.
+const V4: Family = Family::V4;
+
+const V6: Family = Family::V6;
+
+/// The words that rows begin with, and what is called for them: each of these calls has to answer
+/// what the row wants.
+const CALLS: &[(&str, &[Call])] = &[
+    ("dump", &[Call::Dump(DUMP)]),
+    ("dump change", &[Call::Dump(CHANGE)]),
+    ("play", &[Call::Play(DUMP), Call::PlayOverMap(DUMP)]),
+    (
+        "play change",
+        &[Call::Play(CHANGE), Call::PlayOverMap(CHANGE)],
+    ),
+    ("events", &[Call::Events(DUMP)]),
+    ("events change", &[Call::Events(CHANGE)]),
+    ("entry v4 two", &[Call::Entry(V4, TWO)]),
+    ("entry v4 four", &[Call::Entry(V4, FOUR)]),
+    ("entry v6 four", &[Call::Entry(V6, FOUR)]),
+    ("entry v4", &[Call::Entry(V4, TWO), Call::Entry(V4, FOUR)]),
+    ("entry v6", &[Call::Entry(V6, TWO), Call::Entry(V6, FOUR)]),
+    ("entry two", &[Call::Entry(V4, TWO), Call::Entry(V6, TWO)]),
+    (
+        "entry four",
+        &[Call::Entry(V4, FOUR), Call::Entry(V6, FOUR)],
+    ),
+    ("message two", &[Call::Message(TWO)]),
+    ("message four", &[Call::Message(FOUR)]),
+    ("summary two", &[Call::Summary(TWO)]),
+    ("summary four", &[Call::Summary(FOUR)]),
+    ("join", &[Call::Join]),
+    ("join apart", &[Call::JoinApart]),
+    ("commands", &[Call::Commands]),
+    ("player", &[Call::Player, Call::PlayerOverMap]),
+];
+
+/// What is called for these words.
+pub fn calls_of(words: &str) -> Option<&'static [Call]> {
+    for (name, calls) in CALLS {
+        if *name == words {
+            return Some(calls);
+        }
+    }
+    None
+}
+
+impl Call {
+    /// What the call answers over these octets, with the script of the row.
+    pub fn answer(self, alloc: Global, octets: &[u8], row: &Row) -> Result<Answer, AllocError> {
+        match self {
+            Call::Dump(stamp) => Ok(dump(alloc, stamp, octets)),
+            Call::Play(stamp) => { Ok(play::<Tree>(alloc, stamp, octets, &row.script)) }
+            Call::PlayOverMap(stamp) => { Ok(play::<Map>(alloc, stamp, octets, &row.script)) }
+            other => {
+                let mut answer = Answer::new(alloc);
+                other.put(alloc, octets, &row.script, &mut answer.out)?;
+                Ok(answer)
+            }
+        }
+    }
+
+    /// Appends what a call answers that is no run.
+    fn put(
+        self,
+        alloc: Global,
+        octets: &[u8],
+        script: &[u8],
+        text: &mut Vec<u8>,
+    ) -> Result<(), AllocError> {
+        match self {
+            Call::Events(stamp) => put_events(alloc, stamp, octets, text),
+            Call::Entry(family, width) => put_entry(alloc, family, width, octets, text),
+            Call::Message(width) => put_message(alloc, width, octets, text),
+            Call::Summary(width) => put_summary(alloc, width, octets, text),
+            Call::Join => put_joined(alloc, script, text),
+            Call::JoinApart => put_count(alloc, script, text),
+            Call::Commands => put_commands(script, text),
+            Call::Player => put_answers::<Tree>(alloc, script, text),
+            Call::PlayerOverMap => put_answers::<Map>(alloc, script, text),
+            Call::Dump(_) | Call::Play(_) | Call::PlayOverMap(_) => Ok(()),
+        }
+    }
+}
+
+/// The lines and the reports of a dump.
+fn dump(alloc: Global, stamp: Stamp, octets: &[u8]) -> Answer {
+    let mut out = Vec::new(alloc);
+    let mut err = Vec::new(alloc);
+    let outcome = run_dump(
+        alloc,
+        &mut ReadInput::new(octets),
+        &mut WriteOutput::new(&mut out),
+        &mut WriteOutput::new(&mut err),
+        stamp,
+    );
+    Answer {
+        out,
+        err,
+        status: outcome.status(),
+    }
+}
+
+/// The replies and the reports of a script, with a store.
+fn play<S: PrefixStore<Rc<Route>>>(
+    alloc: Global,
+    stamp: Stamp,
+    octets: &[u8],
+    script: &[u8],
+) -> Answer {
+    let mut out = Vec::new(alloc);
+    let mut err = Vec::new(alloc);
+    let outcome = run_play::<S, _, _, _>(
+        alloc,
+        &mut ReadInput::new(octets),
+        script,
+        &mut WriteOutput::new(&mut out),
+        &mut WriteOutput::new(&mut err),
+        stamp,
+    );
+    Answer {
+        out,
+        err,
+        status: outcome.status(),
+    }
+}

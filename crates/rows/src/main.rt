@@ -1,0 +1,67 @@
+//! Reads files of rows, each of which is a call of the libraries with what it has to answer. It
+//! carries them out, and prints how many agree and each that differs.
+#![tactic(auto)]
+
+mod answer;
+mod call;
+mod commands;
+mod events;
+mod file;
+mod group;
+mod names;
+mod paths;
+mod player;
+mod row;
+mod spelled;
+mod tally;
+mod wire;
+mod words;
+
+use file::read_rows;
+use names::Names;
+use std::fs::File;
+use std::io::{self, Read};
+use std::process::ExitCode;
+use std::{env, str};
+use tally::Tally;
+
+fn main(rt: HostRuntime) -> ExitCode {
+    match run(&rt) {
+        Ok(true) => ExitCode::from(0),
+        _ => ExitCode::from(1),
+    }
+}
+
+/// Carries out the rows of the files that the words name, and answers whether all agree. Names of
+/// octets that one file gives stand for those behind it too.
+fn run(rt: &HostRuntime) -> io::Result<bool> {
+    let words: Vec<String> = env::args(rt)?.collect(rt.alloc())?;
+    let mut names = Names::new(rt.alloc());
+    let mut all_agree = true;
+    for name in words.iter().skip(1) {
+        let octets = octets_of(rt, name.as_str())?;
+        let mut tally = Tally::new(rt.alloc(), name.as_str());
+        match str::from_utf8(&octets) {
+            Ok(text) => read_rows(rt.alloc(), text, &mut names, &mut tally)?,
+            Err(_) => tally.deny(0, "it is no text")?,
+        }
+        tally.close()?;
+        all_agree &= tally.agrees();
+        print(rt, tally.text())?;
+    }
+    Ok(all_agree)
+}
+
+/// The octets of a file.
+fn octets_of(rt: &HostRuntime, name: &str) -> io::Result<Vec<u8>> {
+    let mut octets = Vec::new(rt.alloc());
+    let mut file = File::open(rt, name)?;
+    file.read_to_end(&mut octets)?;
+    Ok(octets)
+}
+
+/// Prints a text, of which it leaves out what isn't UTF-8.
+fn print(rt: &HostRuntime, text: &[u8]) -> io::Result<()> {
+    let shown = String::from_utf8_lossy(rt.alloc(), text)?;
+    print!(rt; "{shown}")
+}

@@ -1,0 +1,61 @@
+//! Rows: a call, what it is given, and what it has to answer.
+
+use crate::answer::Answer;
+use crate::call::Call;
+use crate::spelled::Spelled;
+use std::alloc::Global;
+
+/// A row, as far as its lines were read.
+#[derive(Drop)]
+pub struct Row {
+    /// The number of its first line.
+    pub line: u32,
+    /// The same call in each way in which it can be made.
+    pub calls: &'static [Call],
+    /// The octets that it reads.
+    pub input: Spelled,
+    /// The lines of its script.
+    pub script: Vec<u8>,
+    /// What it has to write.
+    pub out: Vec<u8>,
+    pub err: Vec<u8>,
+    /// The status, where the row names one.
+    pub status: Option<u8>,
+}
+
+impl Row {
+    /// A row whose further lines weren't read yet.
+    pub fn new(alloc: Global, line: u32, calls: &'static [Call]) -> Self {
+        Row {
+            line,
+            calls,
+            input: Spelled::new(alloc),
+            script: Vec::new(alloc),
+            out: Vec::new(alloc),
+            err: Vec::new(alloc),
+            status: None,
+        }
+    }
+
+    /// The status that the row wants. Where it names none, it is 1 if something is reported.
+    pub fn wanted_status(&self) -> u8 {
+        match self.status {
+            Some(status) => status,
+            None => u8::from(!self.err.is_empty()),
+        }
+    }
+
+    /// What differs in the answer, or nothing.
+    pub fn difference(&self, answer: &Answer) -> Option<&'static str> {
+        if self.out != answer.out {
+            return Some("it writes something else");
+        }
+        if self.err != answer.err {
+            return Some("it reports something else");
+        }
+        if self.wanted_status() != answer.status {
+            return Some("it ends with another status");
+        }
+        None
+    }
+}

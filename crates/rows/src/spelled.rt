@@ -1,0 +1,105 @@
+//! Octets that are spelled by words: hexadecimal digits, names, and groups in braces.
+
+use crate::group::Group;
+use crate::names::Names;
+use std::alloc::{AllocError, Global};
+
+/// A group that was begun, and where.
+#[derive(Clone, Copy)]
+struct Open {
+    group: Group,
+    start: usize,
+}
+
+/// Octets, and the groups among them that aren't ended yet.
+#[derive(Drop)]
+pub struct Spelled {
+    alloc: Global,
+    octets: Vec<u8>,
+    open: Vec<Open>,
+}
+
+/// The value of a hexadecimal digit.
+fn digit_value(digit: u8) -> Option<u8> {
+    match digit {
+        b'0'..=b'9' => Some(digit - b'0'),
+        b'A'..=b'F' => Some(digit - b'A' + 10),
+        _ => None,
+    }
+}
+
+/// Appends the octets that digits spell, two for each, and answers whether they are digits.
+pub fn put_digits(word: &str, octets: &mut Vec<u8>) -> Result<bool, AllocError> {
+    let mut high = None;
+    for digit in word.bytes() {
+        let Some(value) = digit_value(digit) else {
+            return Ok(false);
+        };
+        match high.take() {
+            None => high = Some(value),
+            Some(first) => octets.push(first << 4 | value)?,
+        }
+    }
+    Ok(high.is_none())
+}
+
+impl Spelled {
+    /// None yet.
+    pub fn new(alloc: Global) -> Self {
+        Spelled {
+            alloc,
+            octets: Vec::new(alloc),
+            open: Vec::new(alloc),
+        }
+    }
+
+    /// Appends what the words spell, and answers whether each spells something.
+    pub fn put_words(&mut self, names: &Names, words: &str) -> Result<bool, AllocError> {
+        let mut are_known = true;
+        for word in words.split_whitespace() {
+            are_known &= self.put_word(names, word)?;
+        }
+        Ok(are_known)
+    }
+
+    /// Appends what a word spells, and answers whether it spells something.
+    fn put_word(&mut self, names: &Names, word: &str) -> Result<bool, AllocError> {
+        if word == "}" {
+            return self.end_group();
+        }
+        if let Some(group) = Group::begun_by(word) {
+            let start = self.octets.len();
+            self.open.push(Open { group, start })?;
+            return Ok(true);
+        }
+        match names.get(word) {
+            Some(octets) => {
+                self.octets.extend_from_slice(octets)?;
+                Ok(true)
+            }
+            None => put_digits(word, &mut self.octets),
+        }
+    }
+
+    /// Ends the group that was begun last, and answers whether there is one.
+    fn end_group(&mut self) -> Result<bool, AllocError> {
+        let Some(open) = self.open.pop() else {
+            return Ok(false);
+        };
+        let Some(body) = self.octets.get(open.start..) else {
+            return Ok(false);
+        };
+        let body = Vec::from_slice(self.alloc, body)?;
+        self.octets.truncate(open.start);
+        open.group.put(&body, &mut self.octets)?;
+        Ok(true)
+    }
+
+    /// The octets so far, where each group is ended.
+    pub fn whole(&self) -> Option<&[u8]> {
+        if self.open.is_empty() {
+            return Some(self.octets.as_slice());
+        }
+        None
+    }
+}

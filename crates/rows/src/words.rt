@@ -1,0 +1,30 @@
+//! What words of a script spell.
+
+use ip_prefix::{Addr, Prefix};
+use mrt_wire::Peer;
+
+/// The number that a word spells.
+pub fn number_word(word: &str) -> Option<u64> {
+    word.parse::<u64>().ok()
+}
+
+/// The prefix that a word spells.
+pub fn prefix_word(word: &str) -> Option<Prefix> {
+    Prefix::parse(word.as_bytes())
+}
+
+/// The address that a word spells.
+pub fn address_word(word: &str) -> Option<Addr> {
+    Addr::parse(word.as_bytes())
+}
+
+/// The peer that the first two words spell, and what stands behind them.
+pub fn peer_words(words: &str) -> Option<(Peer, &str)> {
+    let (address, rest) = words.split_once(" ")?;
+    let (number, rest) = rest.split_once(" ").unwrap_or((rest, ""));
+    let peer = Peer {
+        addr: address_word(address)?,
+        asn: number.parse::<u32>().ok()?,
+    };
+    Some((peer, rest))
+}
