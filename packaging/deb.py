@@ -4,8 +4,9 @@
     packaging/deb.py PROGRAM FOLDER
 
 The package stands in the folder as rumpleja_VERSION_amd64.deb. The version is that of the first line
-of the program's help, the C library's the newest that the program names. The same program, in the
-same tree, makes the same package: all files are as old as the manual page says.
+of the program's help, the C library's the newest that the program names. Of the program the names of
+its functions are left out, where `strip` is there; what is loaded stays as it is. The same program, in
+the same tree, makes the same package: all files are as old as the manual page says.
 """
 import gzip
 import hashlib
@@ -92,6 +93,8 @@ def packed(octets):
 def fill(root, program, version):
     """What is installed."""
     put(root, 'usr/bin/bgpdump', program.read_bytes(), 0o755)
+    if shutil.which('strip'):
+        subprocess.run(['strip', root / 'usr/bin/bgpdump'], check=True)
     put(root, 'usr/share/man/man1/bgpdump.1.gz', packed((TOP / 'man/bgpdump.1').read_bytes()))
     for file in [TOP / 'README.md', *TOP.glob('docs/*'), *TOP.glob('examples/*')]:
         if file.is_file():

@@ -40,39 +40,40 @@ pub fn read_rows(
     let mut number = 0u32;
     for line in text.lines() {
         number = number.saturating_add(1);
-        if !line.trim().is_empty() && !line.starts_with("#") {
-            begun = read_line(alloc, line, number, begun, names, tally)?;
+        let is_read = line.trim().is_empty() || line.starts_with("#");
+        if !is_read && !read_further(&mut begun, line, number, names, tally)? {
+            end(alloc, &begun, names, tally)?;
+            begun = begin(alloc, line, number, names, tally)?;
         }
     }
-    end(alloc, begun, names, tally)
+    end(alloc, &begun, names, tally)
 }
 
-/// Reads a line, and answers what is begun behind it.
-fn read_line<'a>(
-    alloc: Global,
-    line: &'a str,
+/// Reads a line that goes on with what was begun, and answers whether it is one.
+fn read_further(
+    begun: &mut Begun<'_>,
+    line: &str,
     number: u32,
-    begun: Begun<'a>,
-    names: &mut Names,
+    names: &Names,
     tally: &mut Tally<'_>,
-) -> Result<Begun<'a>, AllocError> {
+) -> Result<bool, AllocError> {
+    let goes_on = match begun {
+        Begun::Nothing => false,
+        Begun::Name(_, _) => line.starts_with(" "),
+        Begun::Row(_) => has_mark(line),
+    };
+    if goes_on && !read_part_of(begun, line, names)? {
+        tally.deny(number, "it can't be read")?;
+    }
+    Ok(goes_on)
+}
+
+/// Reads a line that goes on with what was begun, and answers whether it can be read.
+fn read_part_of(begun: &mut Begun<'_>, line: &str, names: &Names) -> Result<bool, AllocError> {
     match begun {
-        Begun::Row(mut row) if has_mark(line) => {
-            if !read_part(&mut row, names, line)? {
-                tally.deny(number, "it can't be read")?;
-            }
-            Ok(Begun::Row(row))
-        }
-        Begun::Name(name, mut octets) if line.starts_with(" ") => {
-            if !octets.put_words(names, line)? {
-                tally.deny(number, "it spells no octets")?;
-            }
-            Ok(Begun::Name(name, octets))
-        }
-        other => {
-            end(alloc, other, names, tally)?;
-            begin(alloc, line, number, names, tally)
-        }
+        Begun::Nothing => Ok(false),
+        Begun::Name(_, octets) => octets.put_words(names, line),
+        Begun::Row(row) => read_part(row, names, line),
     }
 }
 
@@ -136,7 +137,7 @@ fn put_line(line: &str, text: &mut Vec<u8>) -> Result<bool, AllocError> {
 /// Ends what was begun: a name stands for its octets from here, and a row is carried out.
 fn end(
     alloc: Global,
-    begun: Begun<'_>,
+    begun: &Begun<'_>,
     names: &mut Names,
     tally: &mut Tally<'_>,
 ) -> Result<(), AllocError> {
@@ -146,7 +147,7 @@ fn end(
             Some(octets) => names.put(alloc, name, Vec::from_slice(alloc, octets)?),
             None => tally.deny(0, "a name has a group without an end"),
         },
-        Begun::Row(row) => carry_out(alloc, &row, tally),
+        Begun::Row(row) => carry_out(alloc, row, tally),
     }
 }
 
