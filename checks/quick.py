@@ -7,7 +7,7 @@ Each edit that must fail still applies, and is named by the file and the functio
 of inner functions too, which the gate doesn't try; `rt fmt` changes nothing; tests stand in crates of
 their own; links between documents lead somewhere, and the edits that docs/proved.md names are there;
 the texts of each example are there, and the cases of refused memory in the list that the gate
-compares; each file of rows is carried out; the version is the same wherever it is named. The status is
+compares; the files of rows and their counts are named; the version is the same wherever it is named. The status is
 1 where something is wrong, and each fault is told on a line of its own.
 """
 import re
@@ -143,10 +143,15 @@ def faults_of_cases():
 
 
 def faults_of_rows():
-    """The gate carries out each file of rows."""
+    """The gate carries out each file of rows, and wants all of its rows to agree."""
     crate = TOP / 'crates/rows'
-    if (crate / 'args').read_text().split() != sorted(it.name for it in (crate / 'data').iterdir()):
+    files = sorted((crate / 'data').iterdir())
+    if (crate / 'args').read_text().split() != [it.name for it in files]:
         yield crate / 'args', 'it does not name the files of data/ in order'
+    counts = [len(re.findall(r'^[a-z][a-z0-9 ]*: ', it.read_text(), re.M)) for it in files]
+    lines = [f'{it.name}: {count} rows agree' for it, count in zip(files, counts)]
+    if (crate / 'stdout').read_text().splitlines() != lines:
+        yield crate / 'stdout', 'it counts other rows than stand in data/'
 
 
 def faults_of_version():
