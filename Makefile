@@ -32,7 +32,7 @@ test:
 	$(MAKE) --no-print-directory checks PROGRAM=crates/bgpdump/out/bgpdump CASES=crates/refusals/out/refusals
 
 # The edits of inner functions, which the gate doesn't try: minutes to hours. CRATE=.. tries those of
-# that crate alone.
+# that crate alone, CRATE=../EDIT one edit, whether the gate tries it or not.
 edits:
 	checks/inner_edits.py $(CRATE)
 

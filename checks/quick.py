@@ -7,8 +7,8 @@ Each edit that must fail still applies, and is named by the file and the functio
 of inner functions too, which the gate doesn't try; `rt fmt` changes nothing; tests stand in crates of
 their own; links between documents lead somewhere, and the edits that docs/proved.md names are there;
 the texts of each example are there, and the cases of refused memory in the list that the gate
-compares; the files of rows and their counts are named; the version is the same wherever it is named. The status is
-1 where something is wrong, and each fault is told on a line of its own.
+compares; the files of rows and their counts are named; the version is the same wherever it is named.
+The status is 1 where something is wrong, and each fault is told on a line of its own.
 """
 import re
 import shutil
