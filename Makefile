@@ -27,6 +27,7 @@ demo: bin/bgpdump
 # First what takes seconds. rt ci leaves the programs that it proved and built.
 test:
 	checks/quick.py
+	checks/sizes.py
 	checks/trusted.py
 	rt ci
 	$(MAKE) --no-print-directory checks PROGRAM=crates/bgpdump/out/bgpdump CASES=crates/refusals/out/refusals

@@ -1,0 +1,112 @@
+#!/usr/bin/env python3
+"""Counts in the program and its libraries what is to become fewer.
+
+    checks/sizes.py [--list]
+
+Each count is compared with the one that is noted here: where there is more of it the change is to be
+mended, where there is less the new count is to be noted. With --list it tells what it counts. The
+status is 1 where a count differs.
+"""
+import re
+import sys
+from pathlib import Path
+
+TOP = Path(__file__).resolve().parent.parent
+NOTED = {
+    'functions whose name begins with no verb of docs/architecture.md': 634,
+    'functions of more than five parameters': 10,
+    'clauses of more than 160 characters': 43,
+    'files of more than 320 lines': 5,
+    'pairs of files that import each other': 7,
+}
+# Programs and libraries that only check or measure.
+CHECKS = ('refusals', 'rows', 'store_bench', 'test_devices', 'test_octets', 'workloads')
+
+FUNCTION = re.compile(r'^ *(?:pub(?:\([^)]*\))? )?(?:const )?fn (\w+)(?:<[^>]*>)?\(', re.M)
+CLAUSE = re.compile(r'\b(?:requires|ensures)\b[^{]*\{((?:[^{}]|\{[^{}]*\})*)\}')
+
+
+def files_of_product():
+    """The files of the program and its libraries, by crate."""
+    for crate in sorted((TOP / 'crates').iterdir()):
+        if crate.name not in CHECKS and not crate.name.endswith('_tests'):
+            yield crate.name, sorted((crate / 'src').rglob('*.rt'))
+
+
+def texts():
+    for _, files in files_of_product():
+        for file in files:
+            yield file.relative_to(TOP), file.read_text()
+
+
+def parameters_behind(text, start):
+    """How many parameters stand between the bracket that was opened there and its end."""
+    depth, parts, is_begun = 0, 0, False
+    for letter in text[start:]:
+        if letter in '(<[{':
+            depth += 1
+        elif letter in ')>]}':
+            depth -= 1
+        if depth < 0:
+            break
+        if letter == ',' and depth == 0:
+            is_begun = False
+        elif not letter.isspace() and not is_begun:
+            parts, is_begun = parts + 1, True
+    return parts
+
+
+def functions_without_a_verb():
+    table = (TOP / 'docs/architecture.md').read_text().partition('## What names begin with')[2]
+    verbs = tuple(re.findall(r'`(\w+_)`', table))
+    return [f'{file}: {name}' for file, text in texts() for name in FUNCTION.findall(text)
+            if not name.startswith(verbs)]
+
+
+def functions_of_many_parameters():
+    return [f'{file}: {it[1]}' for file, text in texts() for it in FUNCTION.finditer(text)
+            if parameters_behind(text, it.end()) > 5]
+
+
+def long_clauses():
+    return [f'{file}: {clause[:60].strip()}' for file, text in texts()
+            for clause in (' '.join(it.split()) for it in CLAUSE.findall(text)) if len(clause) > 160]
+
+
+def long_files():
+    return [f'{file}: {text.count(chr(10))} lines' for file, text in texts() if text.count('\n') > 320]
+
+
+def imports_of(module, text, modules):
+    """The other modules of a crate that this one imports."""
+    for root, path in re.findall(r'^use (crate|super)::([^;]*);', text, re.M):
+        whole = path if root == 'crate' else '::'.join([*module.split('::')[:-1], path])
+        yield from (it for it in modules if it != module and (whole == it or whole.startswith(it + '::')))
+
+
+def mutual_imports():
+    found = []
+    for crate, files in files_of_product():
+        names = {str(it.relative_to(TOP / 'crates' / crate / 'src'))[:-3].replace('/', '::'): it for it in files}
+        imports = {name: set(imports_of(name, file.read_text(), names)) for name, file in names.items()}
+        found += [f'{crate}: {one} and {other}' for one in imports for other in imports[one]
+                  if one < other and one in imports[other]]
+    return found
+
+
+def main():
+    found = zip(NOTED, (functions_without_a_verb(), functions_of_many_parameters(), long_clauses(), long_files(),
+                        mutual_imports()))
+    differs = False
+    for what, places in found:
+        if '--list' in sys.argv:
+            print(f'{what}:', *places, sep='\n  ')
+        if len(places) != NOTED[what]:
+            differs = True
+            print(f'sizes: {len(places)} {what}, where {NOTED[what]} are noted')
+    if not differs:
+        print('sizes: as noted')
+    sys.exit(differs)
+
+
+main()
