@@ -3,7 +3,8 @@
 //!
 //!     play +PEER PREFIX TIME, -PEER PREFIX, =PEER OLD NEW     an event of these items
 //!     undo, redo, forget COUNT
-//!     steps, floor        the steps before and after the cursor and the pairs that steps name
+//!     where, steps        the steps before and after the cursor, and also the pairs that steps name
+//!     floor               how many steps were forgotten
 //!     keys PEER, key PEER PREFIX          those of its store
 //!     route PEER PREFIX                   the time of its route
 //!     after PEER [PREFIX], walk PEER      its first route above a prefix, and all
@@ -156,6 +157,7 @@ fn put_seen<S: PrefixStore<Rc<Route>>>(
     text: &mut Vec<u8>,
 ) -> Result<(), AllocError> {
     match name {
+        "where" => put_place(player, text),
         "steps" => put_steps(player, text),
         "floor" => put_count(b"floor ", player.floor(), text),
         "peers" => put_peers(player, text),
@@ -166,13 +168,21 @@ fn put_seen<S: PrefixStore<Rc<Route>>>(
     }
 }
 
-/// Appends the steps before and after the cursor, and the pairs that steps name.
-fn put_steps<S: PrefixStore<Rc<Route>>>(
+/// Appends the steps before and after the cursor.
+fn put_place<S: PrefixStore<Rc<Route>>>(
     player: &Player<S>,
     text: &mut Vec<u8>,
 ) -> Result<(), AllocError> {
     put_count(b"at ", player.at(), text)?;
-    put_count(b" ahead ", player.ahead(), text)?;
+    put_count(b" ahead ", player.ahead(), text)
+}
+
+/// Appends the same, and the pairs that steps name.
+fn put_steps<S: PrefixStore<Rc<Route>>>(
+    player: &Player<S>,
+    text: &mut Vec<u8>,
+) -> Result<(), AllocError> {
+    put_place(player, text)?;
     put_count(b" named ", player.named(), text)
 }
 

@@ -10,7 +10,7 @@ use std::alloc::{AllocError, Global};
 /// What is written of octets that can't be read.
 const MALFORMED: &[u8] = b"malformed\n";
 
-/// Appends what the octets say as attributes of a table's entry.
+/// Appends what the octets say as attributes of a table's entry, shown of a copy.
 pub fn put_entry(
     alloc: Global,
     family: Family,
@@ -19,7 +19,7 @@ pub fn put_entry(
     text: &mut Vec<u8>,
 ) -> Result<(), AllocError> {
     match read_rib_attrs(alloc, family, width, octets) {
-        Ok(attrs) => put_attrs(&attrs, text),
+        Ok(attrs) => put_attrs(&attrs.clone()?, text),
         Err(_) => text.extend_from_slice(MALFORMED),
     }
 }
