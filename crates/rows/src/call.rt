@@ -2,10 +2,11 @@
 
 use crate::answer::Answer;
 use crate::commands::put_commands;
+use crate::course::put_answers;
 use crate::events::put_events;
 use crate::paths::{put_count, put_joined};
-use crate::player::put_answers;
 use crate::row::Row;
+use crate::watched::Watched;
 use crate::wire::{put_entry, put_message, put_summary};
 use bgp_wire::AsWidth;
 use bgpdump_tool::{WriteOutput, run_dump, run_play};
@@ -94,6 +95,7 @@ const CALLS: &[(&str, &[Call])] = &[
     ("join apart", &[Call::JoinApart]),
     ("commands", &[Call::Commands]),
     ("player", &[Call::Player, Call::PlayerOverMap]),
+    ("player tree", &[Call::Player]),
 ];
 
 /// What is called for these words.
@@ -137,8 +139,8 @@ impl Call {
             Call::Join => put_joined(alloc, script, text),
             Call::JoinApart => put_count(alloc, script, text),
             Call::Commands => put_commands(script, text),
-            Call::Player => put_answers::<Tree>(alloc, script, text),
-            Call::PlayerOverMap => put_answers::<Map>(alloc, script, text),
+            Call::Player => put_answers::<Watched<Tree>>(alloc, script, text),
+            Call::PlayerOverMap => put_answers::<Watched<Map>>(alloc, script, text),
             Call::Dump(_) | Call::Play(_) | Call::PlayOverMap(_) => Ok(()),
         }
     }

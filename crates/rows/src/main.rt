@@ -5,15 +5,18 @@
 mod answer;
 mod call;
 mod commands;
+mod course;
 mod events;
 mod file;
 mod group;
+mod items;
 mod names;
 mod paths;
 mod player;
 mod row;
 mod spelled;
 mod tally;
+mod watched;
 mod wire;
 mod words;
 

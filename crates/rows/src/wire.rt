@@ -19,7 +19,7 @@ pub fn put_entry(
     text: &mut Vec<u8>,
 ) -> Result<(), AllocError> {
     match read_rib_attrs(alloc, family, width, octets) {
-        Ok(attrs) => put_attrs(&attrs.clone()?, text),
+        Ok(attrs) => put_attrs_line(&attrs.clone()?, text),
         Err(_) => text.extend_from_slice(MALFORMED),
     }
 }
@@ -46,9 +46,9 @@ pub fn put_message(
 ) -> Result<(), AllocError> {
     match read_message(alloc, width, octets) {
         Ok(Message::Update(update)) => {
-            put_attrs(&update.attrs, text)?;
+            put_attrs_line(&update.attrs, text)?;
             match &update.mp_attrs {
-                Some(attrs) => put_attrs(attrs, text),
+                Some(attrs) => put_attrs_line(attrs, text),
                 None => Ok(()),
             }
         }
@@ -100,9 +100,15 @@ fn put_hop(word: &[u8], attrs: &Attrs, text: &mut Vec<u8>) -> Result<(), AllocEr
     text.extend_from_slice(b";")
 }
 
-/// Appends what attributes say, as one line: path, origin, next hop, local preference, metric,
-/// communities, AG or NAG, aggregator. Nothing stands for what is absent.
-fn put_attrs(attrs: &Attrs, text: &mut Vec<u8>) -> Result<(), AllocError> {
+/// Appends what attributes say, as one line.
+fn put_attrs_line(attrs: &Attrs, text: &mut Vec<u8>) -> Result<(), AllocError> {
+    put_attrs(attrs, text)?;
+    text.extend_from_slice(b"\n")
+}
+
+/// Appends what attributes say: path, origin, next hop, local preference, metric, communities, AG or
+/// NAG, aggregator. Nothing stands for what is absent.
+pub fn put_attrs(attrs: &Attrs, text: &mut Vec<u8>) -> Result<(), AllocError> {
     attrs.path.put_text(text)?;
     text.push(b'|')?;
     text.extend_from_slice(origin_word(attrs.origin).as_bytes())?;
@@ -113,8 +119,7 @@ fn put_attrs(attrs: &Attrs, text: &mut Vec<u8>) -> Result<(), AllocError> {
     put_communities(attrs.communities.as_slice(), text)?;
     let atomic = if attrs.atomic { "|AG|" } else { "|NAG|" };
     text.extend_from_slice(atomic.as_bytes())?;
-    put_aggregator(attrs.aggregator, text)?;
-    text.extend_from_slice(b"\n")
+    put_aggregator(attrs.aggregator, text)
 }
 
 /// The word of an origin.

@@ -1,7 +1,11 @@
 //! What words of a script spell.
 
-use ip_prefix::{Addr, Prefix};
+use ip_prefix::{Addr, Prefix, put_decimal};
 use mrt_wire::Peer;
+use std::alloc::AllocError;
+
+/// What is answered to a line that can't be read.
+pub const UNREAD: &[u8] = b"unread";
 
 /// The number that a word spells.
 pub fn number_word(word: &str) -> Option<u64> {
@@ -27,4 +31,17 @@ pub fn peer_words(words: &str) -> Option<(Peer, &str)> {
         asn: number.parse::<u32>().ok()?,
     };
     Some((peer, rest))
+}
+
+/// Appends whether a number lies between the two that the words spell, and else the number.
+pub fn put_within(number: u64, words: &str, text: &mut Vec<u8>) -> Result<(), AllocError> {
+    let Some((least, most)) = words.split_once(" ") else {
+        return text.extend_from_slice(UNREAD);
+    };
+    match (number_word(least), number_word(most)) {
+        (Some(least), Some(most)) if least <= number && number <= most => {
+            text.extend_from_slice(b"within")
+        }
+        _ => put_decimal(number, text),
+    }
 }

@@ -1,0 +1,188 @@
+//! Calls of a player, and what is asked of it: a line each of a script. Peers are an address and an
+//! AS number.
+//!
+//!     play ITEMS          an event of these items
+//!     undo, redo, forget COUNT
+//!     allow PEER KEYS     its store makes so many new keys at most, up to the next undo, redo or
+//!                         forget, which may make none
+//!     count               from here on what is asked of the stores is counted anew
+//!     alive LEAST MOST    how many routes of items are alive
+//!
+//! Other lines are questions (`player.rt`). Each line is answered by one.
+
+use crate::items::Brought;
+use crate::player::{put_count, put_seen};
+use crate::watched::IsWatched;
+use crate::words::{UNREAD, number_word, peer_words, put_within};
+use mrt_wire::{Event, Item, Peer, Route};
+use rib_player::{PlayFault, Player};
+use rib_store::{GREATEST_COUNT, PrefixStore};
+use std::alloc::{AllocError, Global};
+use std::rc::Rc;
+use std::str;
+
+/// How many peers are watched at most: the first that events name.
+const MOST_WATCHED: usize = 8;
+
+/// A player whose stores are watched.
+#[derive(Drop)]
+struct Course<S: PrefixStore<Rc<Route>>> {
+    player: Player<S>,
+    peers: Vec<Peer>,
+    brought: Brought,
+}
+
+/// Appends what a new player answers to the lines.
+pub fn put_answers<S: PrefixStore<Rc<Route>> + IsWatched>(
+    alloc: Global,
+    script: &[u8],
+    text: &mut Vec<u8>,
+) -> Result<(), AllocError> {
+    let mut course: Course<S> = Course {
+        player: Player::new(alloc),
+        peers: Vec::new(alloc),
+        brought: Brought::new(alloc),
+    };
+    for line in str::from_utf8(script).unwrap_or("").lines() {
+        course.put_answer(line, text)?;
+        text.extend_from_slice(b"\n")?;
+    }
+    Ok(())
+}
+
+/// The peer of an item.
+fn peer_of(item: &Item) -> Peer {
+    match item {
+        Item::Announce(peer, _, _) | Item::Withdraw(peer, _) | Item::State(peer, _, _) => *peer,
+    }
+}
+
+impl<S: PrefixStore<Rc<Route>> + IsWatched> Course<S> {
+    /// Appends what the player answers to a line.
+    fn put_answer(&mut self, line: &str, text: &mut Vec<u8>) -> Result<(), AllocError> {
+        let (name, rest) = line.split_once(" ").unwrap_or((line, ""));
+        match name {
+            "play" => self.put_played(rest, text),
+            "undo" | "redo" => self.put_moved(name == "undo", text),
+            "forget" => self.put_forgotten(rest, text),
+            "allow" => self.put_allowed(rest, text),
+            "count" => {
+                self.count_anew();
+                text.extend_from_slice(b"counted")
+            }
+            "alive" => put_within(self.brought.alive(), rest, text),
+            _ => put_seen(&self.player, name, rest, text),
+        }
+    }
+
+    /// Plays the event of these items, and appends how many steps were dropped.
+    fn put_played(&mut self, items: &str, text: &mut Vec<u8>) -> Result<(), AllocError> {
+        let Some(event) = self.brought.event(items)? else {
+            return text.extend_from_slice(UNREAD);
+        };
+        self.watch(&event)?;
+        if self.player.at() >= GREATEST_COUNT {
+            return text.extend_from_slice(b"too many steps");
+        }
+        match self.player.play(&event) {
+            Ok(dropped) => put_count(b"dropped ", dropped, text),
+            Err(PlayFault::Memory) => text.extend_from_slice(b"refused"),
+        }
+    }
+
+    /// Goes a step back, or forth, and appends whether one was made.
+    fn put_moved(&mut self, is_back: bool, text: &mut Vec<u8>) -> Result<(), AllocError> {
+        let requests = self.hold();
+        let moved = if is_back {
+            self.player.undo()
+        } else {
+            self.player.redo()
+        };
+        let word = if moved.is_ok() { "done" } else { "no step" };
+        text.extend_from_slice(word.as_bytes())?;
+        self.put_requests(requests, text)
+    }
+
+    /// Forgets the steps before the cursor but for so many, and appends how many.
+    fn put_forgotten(&mut self, word: &str, text: &mut Vec<u8>) -> Result<(), AllocError> {
+        let Some(keep) = number_word(word) else {
+            return text.extend_from_slice(UNREAD);
+        };
+        let requests = self.hold();
+        put_count(b"forgot ", self.player.forget(keep), text)?;
+        self.put_requests(requests, text)
+    }
+
+    /// Rations the new keys of a peer's store.
+    fn put_allowed(&self, words: &str, text: &mut Vec<u8>) -> Result<(), AllocError> {
+        let Some((peer, rest)) = peer_words(words) else {
+            return text.extend_from_slice(UNREAD);
+        };
+        match (self.player.table().store(&peer), number_word(rest)) {
+            (Some(store), Some(keys)) => {
+                store.allow(keys);
+                text.extend_from_slice(b"allowed")
+            }
+            _ => text.extend_from_slice(b"no store"),
+        }
+    }
+
+    /// Watches the peers that the event names, while there are few.
+    fn watch(&mut self, event: &Event) -> Result<(), AllocError> {
+        for item in event.items.as_slice() {
+            let peer = peer_of(item);
+            if self.peers.len() >= MOST_WATCHED {
+                return Ok(());
+            }
+            if !self.peers.contains(&peer) {
+                self.peers.push(peer)?;
+            }
+        }
+        Ok(())
+    }
+
+    /// What is asked of the stores is counted anew.
+    fn count_anew(&self) {
+        for peer in &self.peers {
+            if let Some(store) = self.player.table().store(peer) {
+                store.count_anew();
+            }
+        }
+    }
+
+    /// The stores may make so many new keys.
+    fn allow(&self, keys: u64) {
+        for peer in &self.peers {
+            if let Some(store) = self.player.table().store(peer) {
+                store.allow(keys);
+            }
+        }
+    }
+
+    /// Lets the stores make no key from here on, and answers how many were asked for.
+    fn hold(&self) -> u64 {
+        self.allow(0);
+        self.requests()
+    }
+
+    /// Appends whether keys were asked for since there were so many requests, and lets the stores make
+    /// keys again.
+    fn put_requests(&self, before: u64, text: &mut Vec<u8>) -> Result<(), AllocError> {
+        self.allow(u64::MAX);
+        if self.requests() != before {
+            return text.extend_from_slice(b", and asked for a key");
+        }
+        Ok(())
+    }
+
+    /// How many keys were asked for, of all stores.
+    fn requests(&self) -> u64 {
+        let mut count = 0u64;
+        for peer in &self.peers {
+            if let Some(store) = self.player.table().store(peer) {
+                count = count.saturating_add(store.requests());
+            }
+        }
+        count
+    }
+}
