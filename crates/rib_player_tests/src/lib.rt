@@ -1,5 +1,0 @@
-//! Tests of `rib_player`.
-#![tactic(auto)]
-
-#[cfg(test)]
-mod tests;
