@@ -142,6 +142,3 @@ fn end(rt: &HostRuntime, ending: &Ending<'_>) -> ExitCode {
     let _ = fault.print(rt);
     ExitCode::from(fault.status())
 }
-
-#[cfg(test)]
-mod tests;
