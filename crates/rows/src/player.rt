@@ -102,11 +102,8 @@ fn put_seen_of<S: PrefixStore<Rc<Route>> + IsWatched>(
             None => text.extend_from_slice(b"no store"),
         },
         "route" | "shown" => put_route(table, peer, rest, name == "shown", text),
-        "after" => put_found(table.after(peer, prefix_word(rest).as_ref()), text),
-        "longest" => match address_word(rest) {
-            Some(address) => put_found(table.longest(peer, &address), text),
-            None => text.extend_from_slice(UNREAD),
-        },
+        "after" => put_after(table, peer, rest, text),
+        "longest" => put_longest(table, peer, rest, text),
         "walk" => put_walk(table, peer, text),
         "shared" => match peer_words(rest) {
             Some((other, bounds)) => put_within(shared(table, peer, &other), bounds, text),
@@ -158,9 +155,30 @@ fn put_route<S: PrefixStore<Rc<Route>>>(
     }
 }
 
-/// Appends a prefix that was found, and the time of its route.
-fn put_found(found: Option<(Prefix, &Rc<Route>)>, text: &mut Vec<u8>) -> Result<(), AllocError> {
-    match found {
+/// Appends the first route above a prefix, or of all.
+fn put_after<S: PrefixStore<Rc<Route>>>(
+    table: &Table<S>,
+    peer: &Peer,
+    word: &str,
+    text: &mut Vec<u8>,
+) -> Result<(), AllocError> {
+    match table.after(peer, prefix_word(word).as_ref()) {
+        Some((prefix, route)) => put_timed(&prefix, route.time, text),
+        None => text.extend_from_slice(b"none"),
+    }
+}
+
+/// Appends the longest prefix with a route that contains an address.
+fn put_longest<S: PrefixStore<Rc<Route>>>(
+    table: &Table<S>,
+    peer: &Peer,
+    word: &str,
+    text: &mut Vec<u8>,
+) -> Result<(), AllocError> {
+    let Some(address) = address_word(word) else {
+        return text.extend_from_slice(UNREAD);
+    };
+    match table.longest(peer, &address) {
         Some((prefix, route)) => put_timed(&prefix, route.time, text),
         None => text.extend_from_slice(b"none"),
     }
