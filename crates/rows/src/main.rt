@@ -13,6 +13,7 @@ mod paths;
 mod player;
 mod row;
 mod spelled;
+mod store;
 mod tally;
 mod wire;
 mod words;

@@ -12,9 +12,9 @@
 //!
 //! Each is answered by a line.
 
-use crate::words::{address_word, number_word, peer_words, prefix_word};
+use crate::words::{address_word, number_word, peer_words, prefix_word, put_count};
 use bgp_wire::Attrs;
-use ip_prefix::{Prefix, put_decimal};
+use ip_prefix::Prefix;
 use mrt_wire::{Event, Item, Items, Peer, Route, Tag, Time};
 use rib_player::{PlayFault, Player};
 use rib_store::{GREATEST_COUNT, PrefixStore};
@@ -141,12 +141,6 @@ fn state_change(peer: Peer, words: &str) -> Option<Item> {
 fn put_moved(is_moved: bool, text: &mut Vec<u8>) -> Result<(), AllocError> {
     let word = if is_moved { "done" } else { "no step" };
     text.extend_from_slice(word.as_bytes())
-}
-
-/// Appends a word and a number.
-fn put_count(word: &[u8], count: u64, text: &mut Vec<u8>) -> Result<(), AllocError> {
-    text.extend_from_slice(word)?;
-    put_decimal(count, text)
 }
 
 /// Appends what is seen of the player.

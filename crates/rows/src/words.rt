@@ -1,7 +1,8 @@
-//! What words of a script spell.
+//! What words of a script spell, and words of answers.
 
-use ip_prefix::{Addr, Prefix};
+use ip_prefix::{Addr, Prefix, put_decimal};
 use mrt_wire::Peer;
+use std::alloc::AllocError;
 
 /// The number that a word spells.
 pub fn number_word(word: &str) -> Option<u64> {
@@ -27,4 +28,10 @@ pub fn peer_words(words: &str) -> Option<(Peer, &str)> {
         asn: number.parse::<u32>().ok()?,
     };
     Some((peer, rest))
+}
+
+/// Appends a word and a number.
+pub fn put_count(word: &[u8], count: u64, text: &mut Vec<u8>) -> Result<(), AllocError> {
+    text.extend_from_slice(word)?;
+    put_decimal(count, text)
 }
