@@ -23,7 +23,7 @@ from pathlib import Path
 from typing import NamedTuple
 
 USUAL_COUNT = 20
-CALLS = 250
+CALLS = 400
 ROOMS = 1, 3, 64
 # The seconds that the calls of a case may last. Flaps among many keys would take minutes if a walk over trees went over
 # keys without a route.
@@ -40,9 +40,9 @@ MANY, STEP, FLAPS = COUNTS[-1], 100, 20_000
 MET = {
     'ensure: new': 500, 'ensure: known': 500, 'put: new, had none': 500, 'put: known, had none': 500,
     'put: known, had N': 500, 'exchange: no key': 500, 'exchange: had none': 500, 'exchange: had N': 500,
-    'discard: no key': 500, 'discard: has a route': 500, 'discard: gone': 500, 'key: key': 500, 'key: no key': 500,
-    'get: none': 500, 'get: N': 500, 'longest: none': 500, 'longest: N N': 500, 'after: none': 500, 'after: N N': 500,
-    'met: none, met N': 500, 'met: N N, met N': 500, 'nodes: nodes N': 500, 'few: few nodes': 500,
+    'discard: no key': 500, 'discard: has a route': 500, 'discard: gone': 500, 'key: key': 2_000, 'key: no key': 2_000,
+    'get: none': 2_000, 'get: N': 2_000, 'longest: none': 2_000, 'longest: N N': 2_000, 'after: none': 1_000,
+    'after: N N': 2_000, 'met: none, met N': 1_000, 'met: N N, met N': 2_000, 'nodes: nodes N': 2_000,
 }
 
 
@@ -85,6 +85,11 @@ def found(prefix, route):
 
 def routes_text(routes):
     return 'routes' + ''.join(f', {found(*it)}' for it in routes)
+
+
+# Addresses, of which each length is to be a key.
+LONG = (prefix_of(4, int(ipaddress.ip_address('10.1.2.3')), WIDTH[4]),
+        prefix_of(6, int(ipaddress.ip_address('2001:db8::1')), WIDTH[6]))
 
 
 # The plain store. Each call is a line of the script, and has an answer.
@@ -261,19 +266,23 @@ def drawn_case(drawn, kind, looks):
     return plain
 
 
-def each_length():
+def each_length(kind):
     """Keys of all lengths of two addresses, whose routes go again, the longest first."""
-    plain = Plain('store')
-    for version, words in ((4, '10.1.2.3'), (6, '2001:db8::1')):
-        address = prefix_of(version, int(ipaddress.ip_address(words)), WIDTH[version])
-        for length in range(WIDTH[version] + 1):
+    plain = Plain(kind)
+    for address in LONG:
+        for length in range(address.length + 1):
             plain.put(prefix_of(*address[:2], length), length)
             plain.longest(address)
         plain.counts()
-    for prefix, _ in reversed(plain.routes()):
-        plain.longest(prefix_of(*address[:2], WIDTH[6]))
-        plain.exchange(prefix, None)
-    plain.counts()
+        if kind == 'store tree':
+            plain.met(0, address)
+            plain.count_nodes()
+    for address in LONG:
+        for length in reversed(range(address.length + 1)):
+            plain.longest(address)
+            plain.exchange(prefix_of(*address[:2], length), None)
+        plain.longest(address)
+        plain.counts()
     return plain
 
 
@@ -292,8 +301,8 @@ def numbered_route(number):
 def many_keys():
     """Each hundredth key has a route, which is found, and the next one behind it."""
     plain = Plain('store')
-    for count in COUNTS:
-        for number in range(int(plain.calls[-1][1].split()[1]) if plain.calls else 0, count):
+    for made, count in zip((0, *COUNTS), COUNTS):
+        for number in range(made, count):
             if number % STEP:
                 plain.tell(f'ensure {numbered(number)}', 'new')
             else:
@@ -336,7 +345,8 @@ def cases(asked):
         drawn = random.Random(f'{asked.seed} {number}')
         yield f'case-{number}', drawn_case(drawn, 'store', look)
         yield f'trees-{number}', drawn_case(drawn, 'store tree', look_in_tree)
-    yield 'lengths', each_length()
+    yield 'lengths', each_length('store')
+    yield 'lengths-of-trees', each_length('store tree')
     yield 'many', many_keys()
     yield 'flaps', flaps()
 
