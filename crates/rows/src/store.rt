@@ -41,7 +41,7 @@ impl HasNodes for MapStore<u32> {
     }
 
     fn longest_met(&self, addr: &Addr, _met: &mut u32) -> Option<(Prefix, u32)> {
-        copied(self.longest(addr))
+        longest(self, addr)
     }
 }
 
@@ -55,7 +55,10 @@ impl HasNodes for RadixStore<u32> {
         if most > u64::from(u32::MAX) {
             return None;
         }
-        copied(self.longest_counted(addr, met))
+        match self.longest_counted(addr, met) {
+            Some(found) => Some((found.0, *found.1)),
+            None => None,
+        }
     }
 }
 
@@ -65,14 +68,22 @@ impl<S: PrefixStore<u32>> HasNodes for LeftStore<S> {
     }
 
     fn longest_met(&self, addr: &Addr, _met: &mut u32) -> Option<(Prefix, u32)> {
-        copied(self.longest(addr))
+        longest(self, addr)
     }
 }
 
-/// What was found, with a copy of the route.
-fn copied(found: Option<(Prefix, &u32)>) -> Option<(Prefix, u32)> {
-    match found {
-        Some((prefix, route)) => Some((prefix, *route)),
+/// The longest prefix with a route that contains the address, and a copy of its route.
+fn longest<S: PrefixStore<u32>>(store: &S, addr: &Addr) -> Option<(Prefix, u32)> {
+    match store.longest(addr) {
+        Some(found) => Some((found.0, *found.1)),
+        None => None,
+    }
+}
+
+/// The least prefix with a route above the other, and a copy of its route.
+fn after<S: PrefixStore<u32>>(store: &S, low: Option<&Prefix>) -> Option<(Prefix, u32)> {
+    match store.after(low) {
+        Some(found) => Some((found.0, *found.1)),
         None => None,
     }
 }
@@ -101,7 +112,7 @@ fn put_answer<S: HasNodes>(
     let (name, rest) = line.split_once(" ").unwrap_or((line, ""));
     match name {
         "next" => put_next(alloc, store, rest, text),
-        "after" => put_found(copied(store.after(prefix_word(rest).as_ref())), text),
+        "after" => put_found(after(store, prefix_word(rest).as_ref()), text),
         "longest" | "met" => put_longest(store, rest, text),
         "descend" => put_descents(store, rest, text),
         "walk" | "counts" | "few" | "nodes" => put_whole(store, name, text),
@@ -221,7 +232,7 @@ fn put_discarded<S: HasNodes>(
 /// Appends what a look-up of an address answers, and the count where one stands before the address.
 fn put_longest<S: HasNodes>(store: &S, rest: &str, text: &mut Vec<u8>) -> Result<(), AllocError> {
     if let Some(addr) = address_word(rest) {
-        return put_found(copied(store.longest(&addr)), text);
+        return put_found(longest(store, &addr), text);
     }
     let (count, rest) = rest.split_once(" ").unwrap_or((rest, ""));
     let (Some(mut met), Some(addr)) = (count.parse::<u32>().ok(), address_word(rest)) else {
@@ -290,7 +301,7 @@ fn put_walk<S: HasNodes>(store: &S, text: &mut Vec<u8>) -> Result<(), AllocError
     text.extend_from_slice(b"routes")?;
     let mut last = None;
     for _ in 0..=store.route_count() {
-        let Some((prefix, route)) = copied(store.after(last.as_ref())) else {
+        let Some((prefix, route)) = after(store, last.as_ref()) else {
             break;
         };
         text.extend_from_slice(b", ")?;
