@@ -34,7 +34,7 @@ OCTETS = 0, 1, 0x80, 0x81
 
 # How many keys there are where they are counted, and at last. Of so many keys the first has a route.
 COUNTS = 1, 6_001, 65_537, 100_000
-MANY, STEP, FLAPS = COUNTS[-1], 100, 20_000
+MANY, STEP, FLAPS = COUNTS[-1], 100, 50_000
 
 # How often each of these kinds of answer stands in a run of the usual number of cases, at least.
 MET = {
