@@ -6,13 +6,14 @@ use crate::course::put_answers;
 use crate::events::put_events;
 use crate::paths::{put_count, put_joined};
 use crate::row::Row;
+use crate::store::put_stored;
 use crate::watched::Watched;
 use crate::wire::{put_entry, put_message, put_summary};
 use bgp_wire::AsWidth;
 use bgpdump_tool::{WriteOutput, run_dump, run_play};
 use ip_prefix::Family;
 use mrt_wire::{ReadInput, Route, Stamp};
-use rib_store::{MapStore, PrefixStore, RadixStore};
+use rib_store::{LeftStore, MapStore, PrefixStore, RadixStore};
 use std::alloc::{AllocError, Global};
 use std::rc::Rc;
 
@@ -48,6 +49,12 @@ pub enum Call {
     Player,
     /// The same with a store over a map.
     PlayerOverMap,
+    /// What a store over a map answers.
+    StoreOverMap,
+    /// The same of trees.
+    StoreOverTrees,
+    /// The same of trees whose memory is left to the system.
+    StoreOverLeftTrees,
 }
 
 /// The time of a table's entries: that of the dump, and that at which their routes originated.
@@ -96,6 +103,20 @@ const CALLS: &[(&str, &[Call])] = &[
     ("commands", &[Call::Commands]),
     ("player", &[Call::Player, Call::PlayerOverMap]),
     ("player tree", &[Call::Player]),
+    (
+        "store",
+        &[
+            Call::StoreOverMap,
+            Call::StoreOverTrees,
+            Call::StoreOverLeftTrees,
+        ],
+    ),
+    ("store map", &[Call::StoreOverMap]),
+    ("store tree", &[Call::StoreOverTrees]),
+    (
+        "store trees",
+        &[Call::StoreOverTrees, Call::StoreOverLeftTrees],
+    ),
 ];
 
 /// What is called for these words.
@@ -141,6 +162,11 @@ impl Call {
             Call::Commands => put_commands(script, text),
             Call::Player => put_answers::<Watched<Tree>>(alloc, script, text),
             Call::PlayerOverMap => put_answers::<Watched<Map>>(alloc, script, text),
+            Call::StoreOverMap => put_stored::<MapStore<u32>>(alloc, script, text),
+            Call::StoreOverTrees => put_stored::<RadixStore<u32>>(alloc, script, text),
+            Call::StoreOverLeftTrees => {
+                put_stored::<LeftStore<RadixStore<u32>>>(alloc, script, text)
+            }
             Call::Dump(_) | Call::Play(_) | Call::PlayOverMap(_) => Ok(()),
         }
     }

@@ -11,9 +11,9 @@
 //! Other lines are questions (`player.rt`). Each line is answered by one.
 
 use crate::items::Brought;
-use crate::player::{put_count, put_seen};
+use crate::player::put_seen;
 use crate::watched::IsWatched;
-use crate::words::{UNREAD, number_word, peer_words, put_within};
+use crate::words::{UNREAD, number_word, peer_words, put_count, put_within};
 use mrt_wire::{Event, Item, Peer, Route};
 use rib_player::{PlayFault, Player};
 use rib_store::{GREATEST_COUNT, PrefixStore};

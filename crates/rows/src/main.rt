@@ -15,6 +15,7 @@ mod paths;
 mod player;
 mod row;
 mod spelled;
+mod store;
 mod tally;
 mod watched;
 mod wire;

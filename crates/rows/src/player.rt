@@ -14,8 +14,8 @@
 
 use crate::watched::IsWatched;
 use crate::wire::put_attrs;
-use crate::words::{UNREAD, address_word, peer_words, prefix_word, put_within};
-use ip_prefix::{Prefix, put_decimal};
+use crate::words::{UNREAD, address_word, peer_words, prefix_word, put_count, put_within};
+use ip_prefix::Prefix;
 use mrt_wire::{Peer, Route};
 use rib_player::{Player, Table};
 use rib_store::PrefixStore;
@@ -24,12 +24,6 @@ use std::rc::Rc;
 
 /// More peers, and more routes of one, than are walked over.
 const MOST_WALKED: u32 = 1_000_000;
-
-/// Appends a word and a number.
-pub fn put_count(word: &[u8], count: u64, text: &mut Vec<u8>) -> Result<(), AllocError> {
-    text.extend_from_slice(word)?;
-    put_decimal(count, text)
-}
 
 /// Appends what is seen of the player.
 pub fn put_seen<S: PrefixStore<Rc<Route>> + IsWatched>(

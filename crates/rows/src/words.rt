@@ -1,4 +1,4 @@
-//! What words of a script spell.
+//! What words of a script spell, and words of answers.
 
 use ip_prefix::{Addr, Prefix, put_decimal};
 use mrt_wire::Peer;
@@ -31,6 +31,12 @@ pub fn peer_words(words: &str) -> Option<(Peer, &str)> {
         asn: number.parse::<u32>().ok()?,
     };
     Some((peer, rest))
+}
+
+/// Appends a word and a number.
+pub fn put_count(word: &[u8], count: u64, text: &mut Vec<u8>) -> Result<(), AllocError> {
+    text.extend_from_slice(word)?;
+    put_decimal(count, text)
 }
 
 /// Appends whether a number lies between the two that the words spell, and else the number.

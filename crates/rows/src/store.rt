@@ -1,0 +1,320 @@
+//! Calls of a store of numbers by prefix: a line each of a script. A route is a number or `none`.
+//!
+//!     ensure PREFIX                       makes it a key
+//!     put PREFIX ROUTE, exchange PREFIX ROUTE
+//!     discard PREFIX
+//!     key PREFIX, get PREFIX, longest ADDRESS
+//!     after [PREFIX], walk                the first route above a prefix, and all
+//!     next ROOM [PREFIX]                  the first ones, as many as there is room for
+//!     counts                              of keys and routes
+//!     few                                 whether there are at most two nodes a key
+//!     nodes, met COUNT ADDRESS            how many there are, and a look-up meets beside a count
+//!     descend WORD..                      a prefix adds a descent, and `end` finishes all
+//!
+//! Each is answered by a line.
+
+use crate::words::{address_word, number_word, prefix_word, put_count};
+use ip_prefix::{Addr, Prefix};
+use rib_store::{Descents, LeftStore, MapStore, PrefixStore, RadixStore};
+use std::alloc::{AllocError, Global};
+use std::str;
+
+/// More room than any row asks for.
+const MOST_ROOM: u64 = 1_000;
+
+/// What is answered to a line that can't be read.
+const UNREAD: &[u8] = b"unread";
+
+/// A store that may have nodes.
+pub trait HasNodes: PrefixStore<u32> {
+    /// How many nodes it has, where it has any.
+    fn node_count(&self) -> Option<u64>;
+
+    /// The longest prefix with a route, by a look-up that adds the nodes that it meets to a count,
+    /// where it counts them.
+    fn longest_met(&self, addr: &Addr, met: &mut u32) -> Option<(Prefix, u32)>;
+}
+
+impl HasNodes for MapStore<u32> {
+    fn node_count(&self) -> Option<u64> {
+        None
+    }
+
+    fn longest_met(&self, addr: &Addr, _met: &mut u32) -> Option<(Prefix, u32)> {
+        longest(self, addr)
+    }
+}
+
+impl HasNodes for RadixStore<u32> {
+    fn node_count(&self) -> Option<u64> {
+        Some(self.nodes())
+    }
+
+    fn longest_met(&self, addr: &Addr, met: &mut u32) -> Option<(Prefix, u32)> {
+        let most = u64::from(*met) + u64::from(addr.family().width()) + 1;
+        if most > u64::from(u32::MAX) {
+            return None;
+        }
+        match self.longest_counted(addr, met) {
+            Some(found) => Some((found.0, *found.1)),
+            None => None,
+        }
+    }
+}
+
+impl<S: PrefixStore<u32>> HasNodes for LeftStore<S> {
+    fn node_count(&self) -> Option<u64> {
+        None
+    }
+
+    fn longest_met(&self, addr: &Addr, _met: &mut u32) -> Option<(Prefix, u32)> {
+        longest(self, addr)
+    }
+}
+
+/// The longest prefix with a route that contains the address, and a copy of its route.
+fn longest<S: PrefixStore<u32>>(store: &S, addr: &Addr) -> Option<(Prefix, u32)> {
+    match store.longest(addr) {
+        Some(found) => Some((found.0, *found.1)),
+        None => None,
+    }
+}
+
+/// The least prefix with a route above the other, and a copy of its route.
+fn after<S: PrefixStore<u32>>(store: &S, low: Option<&Prefix>) -> Option<(Prefix, u32)> {
+    match store.after(low) {
+        Some(found) => Some((found.0, *found.1)),
+        None => None,
+    }
+}
+
+/// Appends what a new store answers to the lines.
+pub fn put_stored<S: HasNodes>(
+    alloc: Global,
+    script: &[u8],
+    text: &mut Vec<u8>,
+) -> Result<(), AllocError> {
+    let mut store = S::new(alloc);
+    for line in str::from_utf8(script).unwrap_or("").lines() {
+        put_answer(alloc, &mut store, line, text)?;
+        text.extend_from_slice(b"\n")?;
+    }
+    Ok(())
+}
+
+/// Appends what the store answers to a line.
+fn put_answer<S: HasNodes>(
+    alloc: Global,
+    store: &mut S,
+    line: &str,
+    text: &mut Vec<u8>,
+) -> Result<(), AllocError> {
+    let (name, rest) = line.split_once(" ").unwrap_or((line, ""));
+    match name {
+        "next" => put_next(alloc, store, rest, text),
+        "after" => put_found(after(store, prefix_word(rest).as_ref()), text),
+        "longest" | "met" => put_longest(store, rest, text),
+        "descend" => put_descents(store, rest, text),
+        "walk" | "counts" | "few" | "nodes" => put_whole(store, name, text),
+        _ => put_at(store, name, rest, text),
+    }
+}
+
+/// Appends what is answered at a prefix.
+fn put_at<S: HasNodes>(
+    store: &mut S,
+    name: &str,
+    rest: &str,
+    text: &mut Vec<u8>,
+) -> Result<(), AllocError> {
+    let (word, rest) = rest.split_once(" ").unwrap_or((rest, ""));
+    let Some(prefix) = prefix_word(word) else {
+        return text.extend_from_slice(UNREAD);
+    };
+    match (name, route_word(rest)) {
+        ("ensure", _) => put_made(store.ensure(prefix), text),
+        ("discard", _) => put_discarded(store, &prefix, text),
+        ("key", _) => put_key(store.has_key(&prefix), text),
+        ("get", _) => put_route(b"", store.get(&prefix).copied(), text),
+        ("put", Some(route)) => put_put(store, &prefix, route, text),
+        ("exchange", Some(route)) => put_exchanged(store, &prefix, route, text),
+        _ => text.extend_from_slice(UNREAD),
+    }
+}
+
+/// The route, or its absence, that a word spells.
+fn route_word(word: &str) -> Option<Option<u32>> {
+    if word == "none" {
+        return Some(None);
+    }
+    Some(Some(word.parse::<u32>().ok()?))
+}
+
+/// Appends whether a key is new.
+fn put_made(made: Result<bool, AllocError>, text: &mut Vec<u8>) -> Result<(), AllocError> {
+    let word = match made {
+        Ok(true) => "new",
+        Ok(false) => "known",
+        Err(_) => "refused",
+    };
+    text.extend_from_slice(word.as_bytes())
+}
+
+/// Appends whether there is a key.
+fn put_key(is_key: bool, text: &mut Vec<u8>) -> Result<(), AllocError> {
+    let word = if is_key { "key" } else { "no key" };
+    text.extend_from_slice(word.as_bytes())
+}
+
+/// Appends a word and a route, or that there is none.
+fn put_route(word: &[u8], route: Option<u32>, text: &mut Vec<u8>) -> Result<(), AllocError> {
+    text.extend_from_slice(word)?;
+    match route {
+        Some(route) => put_count(b"", u64::from(route), text),
+        None => text.extend_from_slice(b"none"),
+    }
+}
+
+/// Appends a prefix and its route, or that there is none.
+fn put_found(found: Option<(Prefix, u32)>, text: &mut Vec<u8>) -> Result<(), AllocError> {
+    match found {
+        Some((prefix, route)) => {
+            prefix.put_text(text)?;
+            put_count(b" ", u64::from(route), text)
+        }
+        None => text.extend_from_slice(b"none"),
+    }
+}
+
+/// Puts a route, and appends whether the key is new, and which route it had.
+fn put_put<S: HasNodes>(
+    store: &mut S,
+    prefix: &Prefix,
+    route: Option<u32>,
+    text: &mut Vec<u8>,
+) -> Result<(), AllocError> {
+    let mut given = route;
+    put_made(store.put(prefix, &mut given), text)?;
+    put_route(b", had ", given, text)
+}
+
+/// Exchanges the route of a key, and appends which one it had.
+fn put_exchanged<S: HasNodes>(
+    store: &mut S,
+    prefix: &Prefix,
+    route: Option<u32>,
+    text: &mut Vec<u8>,
+) -> Result<(), AllocError> {
+    if !store.has_key(prefix) {
+        return put_key(false, text);
+    }
+    let mut given = route;
+    store.exchange(prefix, &mut given);
+    put_route(b"had ", given, text)
+}
+
+/// Discards a key that has no route, and appends whether it was one.
+fn put_discarded<S: HasNodes>(
+    store: &mut S,
+    prefix: &Prefix,
+    text: &mut Vec<u8>,
+) -> Result<(), AllocError> {
+    if !store.has_key(prefix) {
+        return put_key(false, text);
+    }
+    if store.get(prefix).is_some() {
+        return text.extend_from_slice(b"has a route");
+    }
+    store.discard(prefix);
+    text.extend_from_slice(b"gone")
+}
+
+/// Appends what a look-up of an address answers, and the count where one stands before the address.
+fn put_longest<S: HasNodes>(store: &S, rest: &str, text: &mut Vec<u8>) -> Result<(), AllocError> {
+    if let Some(addr) = address_word(rest) {
+        return put_found(longest(store, &addr), text);
+    }
+    let (count, rest) = rest.split_once(" ").unwrap_or((rest, ""));
+    let (Some(mut met), Some(addr)) = (count.parse::<u32>().ok(), address_word(rest)) else {
+        return text.extend_from_slice(UNREAD);
+    };
+    put_found(store.longest_met(&addr, &mut met), text)?;
+    put_count(b", met ", u64::from(met), text)
+}
+
+/// Appends the next routes, as many as there is room for.
+fn put_next<S: HasNodes>(
+    alloc: Global,
+    store: &S,
+    rest: &str,
+    text: &mut Vec<u8>,
+) -> Result<(), AllocError> {
+    let (word, rest) = rest.split_once(" ").unwrap_or((rest, ""));
+    let room = number_word(word).unwrap_or(0).min(MOST_ROOM);
+    let mut found = Vec::with_capacity(alloc, room as usize)?;
+    store.next_routes(prefix_word(rest).as_ref(), &mut found);
+    put_all(&found, text)
+}
+
+/// Appends these routes.
+fn put_all(found: &[(Prefix, &u32)], text: &mut Vec<u8>) -> Result<(), AllocError> {
+    text.extend_from_slice(b"routes")?;
+    for (prefix, route) in found {
+        text.extend_from_slice(b", ")?;
+        put_found(Some((*prefix, **route)), text)?;
+    }
+    Ok(())
+}
+
+/// Appends how many nodes descents pass, as each is added or all are finished.
+fn put_descents<S: HasNodes>(store: &S, words: &str, text: &mut Vec<u8>) -> Result<(), AllocError> {
+    let mut descents = Descents::new();
+    text.extend_from_slice(b"passed")?;
+    for word in words.split(" ") {
+        let passed = match prefix_word(word) {
+            Some(prefix) => descents.add(store.descent(&prefix)),
+            None => descents.finish(),
+        };
+        put_count(b" ", passed, text)?;
+    }
+    Ok(())
+}
+
+/// Appends what is answered of the whole store.
+fn put_whole<S: HasNodes>(store: &S, name: &str, text: &mut Vec<u8>) -> Result<(), AllocError> {
+    match name {
+        "walk" => put_walk(store, text),
+        "counts" => {
+            put_count(b"keys ", store.key_count(), text)?;
+            put_count(b" routes ", store.route_count(), text)
+        }
+        "few" => put_few(store, text),
+        _ => match store.node_count() {
+            Some(nodes) => put_count(b"nodes ", nodes, text),
+            None => text.extend_from_slice(b"no nodes"),
+        },
+    }
+}
+
+/// Appends each route, and one more than are counted, should there be.
+fn put_walk<S: HasNodes>(store: &S, text: &mut Vec<u8>) -> Result<(), AllocError> {
+    text.extend_from_slice(b"routes")?;
+    let mut last = None;
+    for _ in 0..=store.route_count() {
+        let Some((prefix, route)) = after(store, last.as_ref()) else {
+            break;
+        };
+        text.extend_from_slice(b", ")?;
+        put_found(Some((prefix, route)), text)?;
+        last = Some(prefix);
+    }
+    Ok(())
+}
+
+/// Appends whether there are at most two nodes a key.
+fn put_few<S: HasNodes>(store: &S, text: &mut Vec<u8>) -> Result<(), AllocError> {
+    let most = store.key_count().saturating_mul(2);
+    let is_few = store.node_count().unwrap_or(0) <= most;
+    let word = if is_few { "few nodes" } else { "many nodes" };
+    text.extend_from_slice(word.as_bytes())
+}
