@@ -5,9 +5,10 @@ NAME ?= bgpdump
 
 SOURCES := crates.txt $(shell find crates -name out -prune -o -type f -print)
 
-# What the checks of the built program run, and that of calls for which memory is refused.
+# What the checks of the built program run, that of calls for which memory is refused, and of rows.
 PROGRAM ?= bin/bgpdump
 CASES ?= bin/refusals
+ROWS ?= bin/rows
 
 .PHONY: all demo test edits checks bench install deb clean
 
@@ -30,7 +31,8 @@ test:
 	checks/sizes.py
 	checks/trusted.py
 	rt ci
-	$(MAKE) --no-print-directory checks PROGRAM=crates/bgpdump/out/bgpdump CASES=crates/refusals/out/refusals
+	$(MAKE) --no-print-directory checks PROGRAM=crates/bgpdump/out/bgpdump CASES=crates/refusals/out/refusals \
+		ROWS=crates/rows/out/rows
 
 # The edits of inner functions, which the gate doesn't try: minutes to hours. CRATE=.. tries those of
 # that crate alone, CRATE=../EDIT one edit, whether the gate tries it or not.
@@ -39,11 +41,12 @@ edits:
 
 # Its texts and statuses, over examples/, inputs of their own and damaged files, the package for Debian,
 # the commands of the cookbook, and the form of the manual page, where mandoc is there.
-checks: $(PROGRAM) $(CASES)
+checks: $(PROGRAM) $(CASES) $(ROWS)
 	examples/demo.sh $(PROGRAM) >/dev/null
 	checks/program.py $(PROGRAM)
 	checks/damage.py $(PROGRAM)
 	checks/scripts.py $(PROGRAM)
+	checks/rows_large.py $(ROWS)
 	checks/refusals.py $(PROGRAM) --cases $(CASES)
 	checks/shapes.py $(PROGRAM)
 	checks/slow_input.py $(PROGRAM)
@@ -64,6 +67,11 @@ bin/refusals: $(SOURCES)
 	cd crates/refusals && rt run
 	mkdir -p bin
 	cp crates/refusals/out/refusals $@
+
+bin/rows: $(SOURCES)
+	cd crates/rows && rt run $(foreach FILE,$(shell cat crates/rows/args),--data $(FILE)=data/$(FILE)) -- $(shell cat crates/rows/args)
+	mkdir -p bin
+	cp crates/rows/out/rows $@
 
 # NAME=.. installs the program and its manual page by another name, beside Debian's.
 install: bin/bgpdump

@@ -2,15 +2,18 @@
 //! carries them out, and prints how many agree and each that differs.
 #![tactic(auto)]
 
+mod again;
 mod answer;
 mod call;
 mod commands;
+mod devices;
 mod events;
 mod file;
 mod group;
 mod names;
 mod paths;
 mod player;
+mod routes;
 mod row;
 mod spelled;
 mod tally;
