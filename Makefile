@@ -69,7 +69,7 @@ bin/refusals: $(SOURCES)
 	cp crates/refusals/out/refusals $@
 
 bin/rows: $(SOURCES)
-	cd crates/rows && rt run $(foreach FILE,$(shell cat crates/rows/args),--data $(FILE)=data/$(FILE)) -- $(shell cat crates/rows/args)
+	cd crates/rows && rt run
 	mkdir -p bin
 	cp crates/rows/out/rows $@
 
