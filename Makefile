@@ -39,9 +39,9 @@ test:
 edits:
 	checks/inner_edits.py $(CRATE)
 
-# Its texts and statuses, over examples/, inputs of their own and damaged files, calls of players and
-# stores, the package for Debian, the commands of the cookbook, and the form of the manual page, where
-# mandoc is there.
+# Its texts and statuses, over examples/, inputs of their own and damaged files, rows that are made, the
+# package for Debian, the commands of the cookbook, and the form of the manual page, where mandoc is
+# there.
 checks: $(PROGRAM) $(CASES) $(ROWS)
 	examples/demo.sh $(PROGRAM) >/dev/null
 	checks/program.py $(PROGRAM)
@@ -49,6 +49,7 @@ checks: $(PROGRAM) $(CASES) $(ROWS)
 	checks/scripts.py $(PROGRAM)
 	checks/players.py $(ROWS)
 	checks/stores.py $(ROWS)
+	checks/rows_large.py $(ROWS)
 	checks/refusals.py $(PROGRAM) --cases $(CASES)
 	checks/shapes.py $(PROGRAM)
 	checks/slow_input.py $(PROGRAM)

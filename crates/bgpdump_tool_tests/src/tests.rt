@@ -1,19 +1,12 @@
 mod devices;
-mod large_replies;
-mod large_scripts;
 mod memory;
-mod playing;
-mod script_faults;
 mod scripts;
 mod taking;
 mod waiting;
 
-use bgpdump_tool::Outcome;
+use mrt_wire::Route;
+use rib_store::RadixStore;
+use std::rc::Rc;
 
-/// What a run wrote, and how it ended.
-#[derive(Drop)]
-struct Run {
-    out: Vec<u8>,
-    err: Vec<u8>,
-    outcome: Outcome,
-}
+/// The store of the runs, that of the program.
+type Routes = RadixStore<Rc<Route>>;

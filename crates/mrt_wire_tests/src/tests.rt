@@ -1,10 +1,2 @@
-mod ends;
 mod events;
-mod held;
-mod large;
-mod many_peers;
-mod messages;
-mod old_tables;
-mod sessions;
-mod shown;
 mod sources;

@@ -8,6 +8,8 @@ pub struct Answer {
     pub out: Vec<u8>,
     pub err: Vec<u8>,
     pub status: u8,
+    /// How a run over devices ended, and how often it finished each output.
+    pub ended: Vec<u8>,
 }
 
 impl Answer {
@@ -17,6 +19,7 @@ impl Answer {
             out: Vec::new(alloc),
             err: Vec::new(alloc),
             status: 0,
+            ended: Vec::new(alloc),
         }
     }
 }

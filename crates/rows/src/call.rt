@@ -1,14 +1,17 @@
 //! The calls that rows make.
 
+use crate::again::{put_copied, put_parts, put_replaced};
 use crate::answer::Answer;
 use crate::commands::put_commands;
 use crate::course::put_answers;
+use crate::devices::{Devices, dump_by, play_by, put_calls, put_calls_by};
 use crate::events::put_events;
 use crate::paths::{put_count, put_joined};
+use crate::routes::{Keeping, put_routes, put_shared};
 use crate::row::Row;
 use crate::store::put_stored;
 use crate::watched::Watched;
-use crate::wire::{put_entry, put_message, put_summary};
+use crate::wire::{put_entry, put_message, put_segments, put_summary};
 use bgp_wire::AsWidth;
 use bgpdump_tool::{WriteOutput, run_dump, run_play};
 use ip_prefix::Family;
@@ -33,12 +36,25 @@ pub enum Call {
     PlayOverMap(Stamp),
     /// What a source answers.
     Events(Stamp),
+    /// What a source answers to four calls, and how many octets it took then.
+    Calls,
+    /// The routes that a source announces, where its answers are kept so long.
+    Routes(Keeping),
+    /// Which items of events share a route.
+    Shared,
     /// What the attributes of a table's entry say.
     Entry(Family, AsWidth),
     /// What the attributes of a message say.
     Message(AsWidth),
     /// The prefixes and next hops of a message.
     Summary(AsWidth),
+    /// The segments of a path.
+    Segments(AsWidth),
+    /// What lists of attributes say, each read in place of the one before, or copied over it.
+    Replaced,
+    Copied,
+    /// What messages say, each read in place of the one before.
+    Parts,
     /// Two paths that are joined.
     Join,
     /// How many segments they have then.
@@ -84,6 +100,18 @@ const CALLS: &[(&str, &[Call])] = &[
     ),
     ("events", &[Call::Events(DUMP)]),
     ("events change", &[Call::Events(CHANGE)]),
+    ("calls", &[Call::Calls]),
+    (
+        "routes",
+        &[
+            Call::Routes(Keeping::Dropped),
+            Call::Routes(Keeping::Back),
+            Call::Routes(Keeping::Held(1)),
+            Call::Routes(Keeping::Held(2)),
+            Call::Routes(Keeping::Whole),
+        ],
+    ),
+    ("shared", &[Call::Shared]),
     ("entry v4 two", &[Call::Entry(V4, TWO)]),
     ("entry v4 four", &[Call::Entry(V4, FOUR)]),
     ("entry v6 four", &[Call::Entry(V6, FOUR)]),
@@ -98,6 +126,10 @@ const CALLS: &[(&str, &[Call])] = &[
     ("message four", &[Call::Message(FOUR)]),
     ("summary two", &[Call::Summary(TWO)]),
     ("summary four", &[Call::Summary(FOUR)]),
+    ("segments two", &[Call::Segments(TWO)]),
+    ("segments four", &[Call::Segments(FOUR)]),
+    ("again", &[Call::Replaced, Call::Copied]),
+    ("parts", &[Call::Parts]),
     ("join", &[Call::Join]),
     ("join apart", &[Call::JoinApart]),
     ("commands", &[Call::Commands]),
@@ -144,6 +176,27 @@ impl Call {
         }
     }
 
+    /// What the call answers over these devices, where it is one that takes any.
+    pub fn answer_by(
+        self,
+        alloc: Global,
+        devices: Devices,
+        octets: &[u8],
+        row: &Row,
+    ) -> Result<Answer, AllocError> {
+        match self {
+            Call::Dump(stamp) => dump_by(alloc, devices, stamp, octets),
+            Call::Play(stamp) => play_by::<Tree>(alloc, devices, stamp, octets, &row.script),
+            Call::PlayOverMap(stamp) => play_by::<Map>(alloc, devices, stamp, octets, &row.script),
+            Call::Calls => {
+                let mut answer = Answer::new(alloc);
+                put_calls_by(alloc, devices, octets, &mut answer.out)?;
+                Ok(answer)
+            }
+            other => other.answer(alloc, octets, row),
+        }
+    }
+
     /// Appends what a call answers that is no run.
     fn put(
         self,
@@ -157,6 +210,13 @@ impl Call {
             Call::Entry(family, width) => put_entry(alloc, family, width, octets, text),
             Call::Message(width) => put_message(alloc, width, octets, text),
             Call::Summary(width) => put_summary(alloc, width, octets, text),
+            Call::Calls => put_calls(alloc, octets, text),
+            Call::Routes(keeping) => put_routes(alloc, keeping, octets, text),
+            Call::Shared => put_shared(alloc, octets, text),
+            Call::Segments(width) => put_segments(alloc, width, octets, text),
+            Call::Replaced => put_replaced(alloc, octets, text),
+            Call::Copied => put_copied(alloc, octets, text),
+            Call::Parts => put_parts(alloc, octets, text),
             Call::Join => put_joined(alloc, script, text),
             Call::JoinApart => put_count(alloc, script, text),
             Call::Commands => put_commands(script, text),
@@ -187,6 +247,7 @@ fn dump(alloc: Global, stamp: Stamp, octets: &[u8]) -> Answer {
         out,
         err,
         status: outcome.status(),
+        ended: Vec::new(alloc),
     }
 }
 
@@ -211,5 +272,6 @@ fn play<S: PrefixStore<Rc<Route>>>(
         out,
         err,
         status: outcome.status(),
+        ended: Vec::new(alloc),
     }
 }

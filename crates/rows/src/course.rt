@@ -92,7 +92,7 @@ impl<S: PrefixStore<Rc<Route>> + IsWatched> Course<S> {
 
     /// Goes a step back, or forth, and appends whether one was made.
     fn put_moved(&mut self, is_back: bool, text: &mut Vec<u8>) -> Result<(), AllocError> {
-        let requests = self.hold();
+        self.allow(0);
         let moved = if is_back {
             self.player.undo()
         } else {
@@ -100,7 +100,7 @@ impl<S: PrefixStore<Rc<Route>> + IsWatched> Course<S> {
         };
         let word = if moved.is_ok() { "done" } else { "no step" };
         text.extend_from_slice(word.as_bytes())?;
-        self.put_requests(requests, text)
+        self.put_requests(text)
     }
 
     /// Forgets the steps before the cursor but for so many, and appends how many.
@@ -108,9 +108,9 @@ impl<S: PrefixStore<Rc<Route>> + IsWatched> Course<S> {
         let Some(keep) = number_word(word) else {
             return text.extend_from_slice(UNREAD);
         };
-        let requests = self.hold();
+        self.allow(0);
         put_count(b"forgot ", self.player.forget(keep), text)?;
-        self.put_requests(requests, text)
+        self.put_requests(text)
     }
 
     /// Rations the new keys of a peer's store.
@@ -159,30 +159,24 @@ impl<S: PrefixStore<Rc<Route>> + IsWatched> Course<S> {
         }
     }
 
-    /// Lets the stores make no key from here on, and answers how many were asked for.
-    fn hold(&self) -> u64 {
-        self.allow(0);
-        self.requests()
-    }
-
-    /// Appends whether keys were asked for since there were so many requests, and lets the stores make
-    /// keys again.
-    fn put_requests(&self, before: u64, text: &mut Vec<u8>) -> Result<(), AllocError> {
-        self.allow(u64::MAX);
-        if self.requests() != before {
-            return text.extend_from_slice(b", and asked for a key");
+    /// Appends whether keys were asked for, and lets the stores make keys again.
+    fn put_requests(&self, text: &mut Vec<u8>) -> Result<(), AllocError> {
+        if self.has_requests() {
+            text.extend_from_slice(b", and asked for a key")?;
         }
+        self.allow(u64::MAX);
         Ok(())
     }
 
-    /// How many keys were asked for, of all stores.
-    fn requests(&self) -> u64 {
-        let mut count = 0u64;
+    /// Whether keys were asked for.
+    fn has_requests(&self) -> bool {
         for peer in &self.peers {
             if let Some(store) = self.player.table().store(peer) {
-                count = count.saturating_add(store.requests());
+                if store.requests() > 0 {
+                    return true;
+                }
             }
         }
-        count
+        false
     }
 }

@@ -8,7 +8,7 @@ use std::alloc::{AllocError, Global};
 const MOST_ANSWERS: u32 = 1_000;
 
 /// More octets than any row has.
-const LIMIT: u64 = 1 << 40;
+pub const LIMIT: u64 = 1 << 40;
 
 /// Appends what a source answers up to the end, or up to a fault of its own.
 pub fn put_events(
@@ -57,7 +57,7 @@ fn tag_word(tag: Tag) -> &'static str {
 }
 
 /// Appends an item: `+` and a route, `-` and a prefix, or `=` and two states, each with its peer.
-fn put_item(item: &Item, text: &mut Vec<u8>) -> Result<(), AllocError> {
+pub fn put_item(item: &Item, text: &mut Vec<u8>) -> Result<(), AllocError> {
     match item {
         Item::Announce(peer, prefix, route) => {
             put_prefix(b'+', peer, prefix, text)?;
@@ -69,7 +69,7 @@ fn put_item(item: &Item, text: &mut Vec<u8>) -> Result<(), AllocError> {
 }
 
 /// Appends a mark, a peer, a space and a prefix.
-fn put_prefix(
+pub fn put_prefix(
     mark: u8,
     peer: &Peer,
     prefix: &Prefix,
@@ -114,7 +114,7 @@ fn put_states(peer: &Peer, old: u16, new: u16, text: &mut Vec<u8>) -> Result<(),
 }
 
 /// Appends the number, the place and the kind of a faulty record.
-fn put_fault(alloc: Global, fault: &RecordFault, text: &mut Vec<u8>) -> Result<(), AllocError> {
+pub fn put_fault(alloc: Global, fault: &RecordFault, text: &mut Vec<u8>) -> Result<(), AllocError> {
     let shown = format!(in alloc; "{} {} {:?}", fault.number, fault.offset, fault.kind)?;
     text.extend_from_slice(shown.as_bytes())
 }

@@ -2,16 +2,20 @@
 //! row shows. Lines behind it have a mark and a space in front:
 //!
 //!     <   octets that the call reads
+//!     @   devices that it is carried out with, in place of sound ones
 //!     :   a line of the script
 //!     ;   octets of the script
-//!     >   a line that it has to write
-//!     !   a line that it has to report
+//!     >   a line that it has to write, and + a part of one
+//!     !   a line that it has to report, and - a part of one
 //!     =   the status that it has to end with, where that isn't 0, or 1 behind reports
+//!     ~   how it ends over devices, and how often it finishes each output
 //!
 //! A line `NAME = ..` has a name stand for octets; a line behind it that begins with spaces goes on
 //! with them. `#` begins a comment.
 
-use crate::call::calls_of;
+use crate::answer::Answer;
+use crate::call::{Call, calls_of};
+use crate::devices::Devices;
 use crate::names::Names;
 use crate::row::Row;
 use crate::spelled::{Spelled, put_digits};
@@ -81,7 +85,7 @@ fn read_part_of(begun: &mut Begun<'_>, line: &str, names: &Names) -> Result<bool
 fn has_mark(line: &str) -> bool {
     matches!(
         line.as_bytes().first(),
-        Some(b'<' | b':' | b';' | b'>' | b'!' | b'=')
+        Some(b'<' | b'@' | b':' | b';' | b'>' | b'+' | b'!' | b'-' | b'=' | b'~')
     )
 }
 
@@ -114,17 +118,43 @@ fn read_part(row: &mut Row, names: &Names, line: &str) -> Result<bool, AllocErro
         None => (line, ""),
     };
     match mark {
-        "<" => row.input.put_words(names, text),
+        "<" => read_octets(row, names, text),
+        "@" => read_devices(row, text),
         ":" => put_line(text, &mut row.script),
         ";" => put_digits(text, &mut row.script),
         ">" => put_line(text, &mut row.out),
+        "+" => put_part(text, &mut row.out),
         "!" => put_line(text, &mut row.err),
+        "-" => put_part(text, &mut row.err),
+        "~" => put_part(text, &mut row.ended),
         "=" => {
             row.status = text.parse::<u8>().ok();
             Ok(row.status.is_some())
         }
         _ => Ok(false),
     }
+}
+
+/// Reads what spells octets, and answers whether it does.
+fn read_octets(row: &mut Row, names: &Names, words: &str) -> Result<bool, AllocError> {
+    row.words.push_str(words)?;
+    row.words.push_str("\n")?;
+    row.input.put_words(names, words)
+}
+
+/// Reads what tells devices, and answers whether it does.
+fn read_devices(row: &mut Row, words: &str) -> Result<bool, AllocError> {
+    let Some(devices) = Devices::spelled(words) else {
+        return Ok(false);
+    };
+    row.devices.push(devices)?;
+    Ok(true)
+}
+
+/// Appends a part of a line.
+fn put_part(part: &str, text: &mut Vec<u8>) -> Result<bool, AllocError> {
+    text.extend_from_slice(part.as_bytes())?;
+    Ok(true)
 }
 
 /// Appends a line.
@@ -147,21 +177,76 @@ fn end(
             Some(octets) => names.put(alloc, name, Vec::from_slice(alloc, octets)?),
             None => tally.deny(0, "a name has a group without an end"),
         },
-        Begun::Row(row) => carry_out(alloc, row, tally),
+        Begun::Row(row) => carry_out(alloc, row, names, tally),
     }
 }
 
-/// Makes the calls of a row, and counts whether what they answer is what it wants.
-fn carry_out(alloc: Global, row: &Row, tally: &mut Tally<'_>) -> Result<(), AllocError> {
-    let Some(octets) = row.input.whole() else {
-        return tally.deny(row.line, "its input has a group without an end");
-    };
-    for call in row.calls {
-        let answer = call.answer(alloc, octets, row)?;
-        if let Some(why) = row.difference(&answer) {
-            return tally.deny_row(row, &answer, why);
+/// Makes the calls of a row, over each front of its octets where it has these, and counts whether
+/// what they answer is what it wants.
+fn carry_out(
+    alloc: Global,
+    row: &Row,
+    names: &Names,
+    tally: &mut Tally<'_>,
+) -> Result<(), AllocError> {
+    if row.input.fronts() == 0 {
+        if !agrees_over(alloc, row, &row.input, tally)? {
+            return Ok(());
+        }
+    }
+    for size in 0..row.input.fronts() {
+        let mut cut = Spelled::cut(alloc, size);
+        if !cut.put_words(names, row.words.as_str())? || !agrees_over(alloc, row, &cut, tally)? {
+            return Ok(());
         }
     }
     tally.allow();
     Ok(())
+}
+
+/// Makes the calls of a row over these octets, and answers whether they answer what it wants.
+fn agrees_over(
+    alloc: Global,
+    row: &Row,
+    input: &Spelled,
+    tally: &mut Tally<'_>,
+) -> Result<bool, AllocError> {
+    let Some(octets) = input.whole() else {
+        tally.deny(row.line, "its input has a group without an end")?;
+        return Ok(false);
+    };
+    for call in row.calls {
+        if !agrees(alloc, row, *call, octets, tally)? {
+            return Ok(false);
+        }
+    }
+    Ok(true)
+}
+
+/// Makes a call of a row, with each of its devices where it has these.
+fn agrees(
+    alloc: Global,
+    row: &Row,
+    call: Call,
+    octets: &[u8],
+    tally: &mut Tally<'_>,
+) -> Result<bool, AllocError> {
+    if row.devices.is_empty() {
+        return judge(row, &call.answer(alloc, octets, row)?, tally);
+    }
+    for devices in row.devices.iter() {
+        if !judge(row, &call.answer_by(alloc, *devices, octets, row)?, tally)? {
+            return Ok(false);
+        }
+    }
+    Ok(true)
+}
+
+/// Answers whether an answer is what the row wants, and else counts that it isn't.
+fn judge(row: &Row, answer: &Answer, tally: &mut Tally<'_>) -> Result<bool, AllocError> {
+    let Some(why) = row.difference(answer) else {
+        return Ok(true);
+    };
+    tally.deny_row(row, answer, why)?;
+    Ok(false)
 }

@@ -15,6 +15,8 @@ pub enum Group {
     Message,
     /// They stand there so often.
     Repeated(usize),
+    /// Each front of them stands there by turns that isn't whole.
+    Front,
 }
 
 impl Group {
@@ -25,6 +27,7 @@ impl Group {
             "2" => Some(Group::Counted(2)),
             "4" => Some(Group::Counted(4)),
             "bgp" => Some(Group::Message),
+            "front" => Some(Group::Front),
             other => {
                 let count = other.strip_prefix("x")?.parse::<usize>().ok()?;
                 Some(Group::Repeated(count))
@@ -50,6 +53,7 @@ impl Group {
                 }
                 Ok(())
             }
+            Group::Front => octets.extend_from_slice(body),
         }
     }
 }

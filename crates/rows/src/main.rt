@@ -2,10 +2,12 @@
 //! carries them out, and prints how many agree and each that differs.
 #![tactic(auto)]
 
+mod again;
 mod answer;
 mod call;
 mod commands;
 mod course;
+mod devices;
 mod events;
 mod file;
 mod group;
@@ -13,6 +15,7 @@ mod items;
 mod names;
 mod paths;
 mod player;
+mod routes;
 mod row;
 mod spelled;
 mod store;

@@ -13,7 +13,7 @@
 //!     peers, longest PEER ADDRESS
 
 use crate::watched::IsWatched;
-use crate::wire::put_attrs;
+use crate::wire::put_fields;
 use crate::words::{UNREAD, address_word, peer_words, prefix_word, put_count, put_within};
 use ip_prefix::Prefix;
 use mrt_wire::{Peer, Route};
@@ -143,7 +143,7 @@ fn put_route<S: PrefixStore<Rc<Route>>>(
         return text.extend_from_slice(UNREAD);
     };
     match table.get(peer, &prefix) {
-        Some(route) if is_shown => put_attrs(&route.attrs, text),
+        Some(route) if is_shown => put_fields(&route.attrs, text),
         Some(route) => put_count(b"at ", u64::from(route.time), text),
         None => text.extend_from_slice(b"none"),
     }

@@ -2,6 +2,7 @@
 
 use crate::answer::Answer;
 use crate::call::Call;
+use crate::devices::Devices;
 use crate::spelled::Spelled;
 use std::alloc::Global;
 
@@ -14,6 +15,10 @@ pub struct Row {
     pub calls: &'static [Call],
     /// The octets that it reads.
     pub input: Spelled,
+    /// The words that spell these.
+    pub words: String,
+    /// The devices that it is carried out with, by turns.
+    pub devices: Vec<Devices>,
     /// The lines of its script.
     pub script: Vec<u8>,
     /// What it has to write.
@@ -21,6 +26,8 @@ pub struct Row {
     pub err: Vec<u8>,
     /// The status, where the row names one.
     pub status: Option<u8>,
+    /// How it ends over devices.
+    pub ended: Vec<u8>,
 }
 
 impl Row {
@@ -30,10 +37,13 @@ impl Row {
             line,
             calls,
             input: Spelled::new(alloc),
+            words: String::new(alloc),
+            devices: Vec::new(alloc),
             script: Vec::new(alloc),
             out: Vec::new(alloc),
             err: Vec::new(alloc),
             status: None,
+            ended: Vec::new(alloc),
         }
     }
 
@@ -53,7 +63,10 @@ impl Row {
         if self.err != answer.err {
             return Some("it reports something else");
         }
-        if self.wanted_status() != answer.status {
+        if self.ended != answer.ended {
+            return Some("it ends in another way");
+        }
+        if self.ended.is_empty() && self.wanted_status() != answer.status {
             return Some("it ends with another status");
         }
         None

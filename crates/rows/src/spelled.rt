@@ -17,6 +17,9 @@ pub struct Spelled {
     alloc: Global,
     octets: Vec<u8>,
     open: Vec<Open>,
+    /// How many octets of a `front{` stand there at most, and how many there are.
+    cut: usize,
+    fronts: usize,
 }
 
 /// The value of a hexadecimal digit.
@@ -46,11 +49,23 @@ pub fn put_digits(word: &str, octets: &mut Vec<u8>) -> Result<bool, AllocError> 
 impl Spelled {
     /// None yet.
     pub fn new(alloc: Global) -> Self {
+        Spelled::cut(alloc, usize::MAX)
+    }
+
+    /// None yet, and so many of each `front{` at most.
+    pub fn cut(alloc: Global, cut: usize) -> Self {
         Spelled {
             alloc,
             octets: Vec::new(alloc),
             open: Vec::new(alloc),
+            cut,
+            fronts: 0,
         }
+    }
+
+    /// How many octets the longest `front{` has.
+    pub fn fronts(&self) -> usize {
+        self.fronts
     }
 
     /// Appends what the words spell, and answers whether each spells something.
@@ -89,7 +104,11 @@ impl Spelled {
         let Some(body) = self.octets.get(open.start..) else {
             return Ok(false);
         };
-        let body = Vec::from_slice(self.alloc, body)?;
+        let mut body = Vec::from_slice(self.alloc, body)?;
+        if matches!(open.group, Group::Front) {
+            self.fronts = self.fronts.max(body.len());
+            body.truncate(self.cut);
+        }
         self.octets.truncate(open.start);
         open.group.put(&body, &mut self.octets)?;
         Ok(true)

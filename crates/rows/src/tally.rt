@@ -42,7 +42,8 @@ impl<'a> Tally<'a> {
     pub fn deny_row(&mut self, row: &Row, answer: &Answer, why: &str) -> Result<(), AllocError> {
         self.deny(row.line, why)?;
         self.text.extend_from_slice(&answer.out)?;
-        self.text.extend_from_slice(&answer.err)
+        self.text.extend_from_slice(&answer.err)?;
+        self.text.extend_from_slice(&answer.ended)
     }
 
     /// Appends how many rows agree.

@@ -27,7 +27,7 @@ impl HasNodes for RadixStore<Rc<Route>> {
 
 /// What is seen of a store from outside.
 pub trait IsWatched {
-    /// From here on it makes so many new keys.
+    /// From here on it makes so many new keys, and requests for keys are counted anew.
     fn allow(&self, keys: u64);
 
     /// From here on what is asked of it is counted anew.
@@ -60,6 +60,7 @@ pub struct Watched<S> {
 impl<S: HasNodes> IsWatched for Watched<S> {
     fn allow(&self, keys: u64) {
         self.left.set(keys);
+        self.requests.set(0);
     }
 
     fn count_anew(&self) {

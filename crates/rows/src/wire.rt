@@ -1,8 +1,8 @@
 //! What attributes and messages say, as texts.
 
 use bgp_wire::{
-    Aggregator, AsWidth, Attrs, Message, Origin, Prefixes, Update, WireFault, put_communities,
-    read_message, read_rib_attrs,
+    Aggregator, AsPath, AsWidth, Attrs, Message, Origin, Prefixes, Update, WireFault,
+    put_communities, read_message, read_rib_attrs,
 };
 use ip_prefix::{Addr, Family, put_decimal};
 use std::alloc::{AllocError, Global};
@@ -19,7 +19,7 @@ pub fn put_entry(
     text: &mut Vec<u8>,
 ) -> Result<(), AllocError> {
     match read_rib_attrs(alloc, family, width, octets) {
-        Ok(attrs) => put_attrs_line(&attrs.clone()?, text),
+        Ok(attrs) => put_attrs(&attrs.clone()?, text),
         Err(_) => text.extend_from_slice(MALFORMED),
     }
 }
@@ -46,9 +46,9 @@ pub fn put_message(
 ) -> Result<(), AllocError> {
     match read_message(alloc, width, octets) {
         Ok(Message::Update(update)) => {
-            put_attrs_line(&update.attrs, text)?;
+            put_attrs(&update.attrs, text)?;
             match &update.mp_attrs {
-                Some(attrs) => put_attrs_line(attrs, text),
+                Some(attrs) => put_attrs(attrs, text),
                 None => Ok(()),
             }
         }
@@ -82,7 +82,11 @@ fn put_prefixes_and_hops(update: &Update, text: &mut Vec<u8>) -> Result<(), Allo
 }
 
 /// Appends each prefix behind a word, and a semicolon.
-fn put_prefixes(word: &[u8], prefixes: &Prefixes, text: &mut Vec<u8>) -> Result<(), AllocError> {
+pub fn put_prefixes(
+    word: &[u8],
+    prefixes: &Prefixes,
+    text: &mut Vec<u8>,
+) -> Result<(), AllocError> {
     for prefix in prefixes.as_slice() {
         text.extend_from_slice(word)?;
         prefix.put_text(text)?;
@@ -101,14 +105,14 @@ fn put_hop(word: &[u8], attrs: &Attrs, text: &mut Vec<u8>) -> Result<(), AllocEr
 }
 
 /// Appends what attributes say, as one line.
-fn put_attrs_line(attrs: &Attrs, text: &mut Vec<u8>) -> Result<(), AllocError> {
-    put_attrs(attrs, text)?;
+pub fn put_attrs(attrs: &Attrs, text: &mut Vec<u8>) -> Result<(), AllocError> {
+    put_fields(attrs, text)?;
     text.extend_from_slice(b"\n")
 }
 
 /// Appends what attributes say: path, origin, next hop, local preference, metric, communities, AG or
 /// NAG, aggregator. Nothing stands for what is absent.
-pub fn put_attrs(attrs: &Attrs, text: &mut Vec<u8>) -> Result<(), AllocError> {
+pub fn put_fields(attrs: &Attrs, text: &mut Vec<u8>) -> Result<(), AllocError> {
     attrs.path.put_text(text)?;
     text.push(b'|')?;
     text.extend_from_slice(origin_word(attrs.origin).as_bytes())?;
@@ -156,4 +160,27 @@ fn put_aggregator(aggregator: Option<Aggregator>, text: &mut Vec<u8>) -> Result<
     put_decimal(u64::from(aggregator.asn), text)?;
     text.push(b' ')?;
     aggregator.addr.put_text(text)
+}
+
+/// Appends the segments of the path that the octets say: of each its kind and its numbers.
+pub fn put_segments(
+    alloc: Global,
+    width: AsWidth,
+    octets: &[u8],
+    text: &mut Vec<u8>,
+) -> Result<(), AllocError> {
+    match read_rib_attrs(alloc, Family::V4, width, octets) {
+        Ok(attrs) => put_path(alloc, &attrs.path, text),
+        Err(_) => text.extend_from_slice(MALFORMED),
+    }
+}
+
+/// Appends the segments of a path, a line for each.
+fn put_path(alloc: Global, path: &AsPath, text: &mut Vec<u8>) -> Result<(), AllocError> {
+    for segment in path.segments.as_slice() {
+        let numbers = segment.numbers.as_slice();
+        let line = format!(in alloc; "{:?} {numbers:?}\n", segment.kind)?;
+        text.extend_from_slice(line.as_bytes())?;
+    }
+    Ok(())
 }

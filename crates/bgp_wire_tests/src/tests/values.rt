@@ -1,4 +1,4 @@
-//! The value of each attribute, but for paths and MP_REACH_NLRI, and the type that holds communities.
+//! The type that holds communities.
 
 use bgp_wire::Communities;
 use std::alloc::{AllocError, Global};

@@ -10,7 +10,7 @@ use std::cell::Cell;
 use std::io::{self, ErrorKind, Write};
 use std::process::Abort;
 use std::test::Fail;
-use test_devices::{CountedOutput, SlowInput, SlowOutput, WatchingInput};
+use test_devices::{CountedOutput, SlowOutput, WatchingInput};
 use test_octets::{MULTICAST, MULTICAST_REPORT, STATE_CHANGE, octets_of};
 
 /// A writer that takes nothing, and whose `flush` fails.
@@ -111,19 +111,6 @@ fn put_all_finishes_nothing(rt: HostRuntime) {
     let mut output = SlowOutput::new(rt.alloc(), 4, 9, false);
     assert_eq!(rt; put_all(&mut output, b"nine puts"), Ok(()));
     assert_eq!(rt; output.finish_calls, 0);
-}
-
-#[test]
-fn nothing_is_read_behind_a_header_that_is_too_long(rt: HostRuntime) -> Result<(), Fail> {
-    let octets = octets_of(rt.alloc(), &["00000064 0010 0000 01000001"])?;
-    let mut input = SlowInput::new(&octets, usize::MAX, 12);
-    let mut out = SlowOutput::new(rt.alloc(), usize::MAX, usize::MAX, true);
-    let mut err = SlowOutput::new(rt.alloc(), usize::MAX, usize::MAX, true);
-    let outcome = run_dump(rt.alloc(), &mut input, &mut out, &mut err, Stamp::Dump);
-    assert_eq!(rt; outcome, Outcome::Reported);
-    let report = b"bgpdump: record 1, byte 0: length 16777217 too long\n";
-    assert_eq!(rt; err.text.as_slice(), report.as_slice());
-    Ok(())
 }
 
 /// Runs over a record and a state change, and tells how the run ended and how much was written

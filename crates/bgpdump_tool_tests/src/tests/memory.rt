@@ -2,8 +2,8 @@
 
 ghost use Rattle.std.specs.Prelude.{◌≡◌, None, false};
 
+use super::Routes;
 use super::devices::{Played, SOUND, assert_played, play_on};
-use super::playing::{ANNOUNCED, FIRST, OTHER_HOP, Record, Routes, UNREAD, file_of, outcome_of};
 use bgpdump_tool::{OutFault, Outcome, Output, run_play};
 use ip_prefix::{Addr, Prefix};
 use mrt_wire::{ReadInput, Route, Stamp};
@@ -12,6 +12,7 @@ use std::alloc::{AllocError, Global};
 use std::process::Abort;
 use std::rc::Rc;
 use std::test::Fail;
+use test_octets::{MULTICAST, octets_of};
 
 /// A store that makes no new key where it has so many.
 #[derive(Drop)]
@@ -90,15 +91,19 @@ fn assert_ended(rt: &impl Abort, played: &Played, outcome: Outcome, replies: &st
     );
 }
 
-/// The announcement of 10.0.0.0/8, and of another route to it.
-const REPLACED: &[Record] = &[
-    ANNOUNCED,
-    Record::Update(FIRST, 101, "080A", &[OTHER_HOP], "080A"),
-];
+/// The announcement of 10.0.0.0/8 by 192.0.2.1 of AS 64500 at 100 seconds.
+const ANNOUNCED: &str = "00000064 0010 0001 0000003B FBF4 FBF5 0000 0001 C0000201 C0000202 \
+    FFFFFFFFFFFFFFFF FFFFFFFFFFFFFFFF 002B 02 0000 0012 40010100 400204 0201 FBF4 \
+    400304 C0000209 080A";
+
+/// The withdrawal and the announcement of another route to it, at 101 seconds.
+const REPLACED: &str = "00000065 0010 0001 0000003D FBF4 FBF5 0000 0001 C0000201 C0000202 \
+    FFFFFFFFFFFFFFFF FFFFFFFFFFFFFFFF 002D 02 0002 080A 0012 40010100 400204 0201 FBF4 \
+    400304 C000020A 080A";
 
 #[test]
 fn a_store_that_refuses_all_keys_ends_a_script(rt: HostRuntime) -> Result<(), Fail> {
-    let octets = file_of(rt.alloc(), REPLACED)?;
+    let octets = octets_of(rt.alloc(), &[ANNOUNCED, REPLACED])?;
     let script =
         "next 2\nroute 192.0.2.1 64500 10.0.0.0/8\nback\nroute 192.0.2.1 64500 10.0.0.0/8\n";
     let played = play::<0>(rt.alloc(), &octets, script);
@@ -106,14 +111,12 @@ fn a_store_that_refuses_all_keys_ends_a_script(rt: HostRuntime) -> Result<(), Fa
     Ok(())
 }
 
-/// A faulty record between two, of which the second announces a further prefix.
-const FURTHER: &[Record] = &[
-    ANNOUNCED,
-    UNREAD,
-    Record::Update(FIRST, 101, "", &[OTHER_HOP], "080A 100A01"),
-];
+/// The announcement of that other route and of a further prefix.
+const FURTHER: &str = "00000065 0010 0001 0000003E FBF4 FBF5 0000 0001 C0000201 C0000202 \
+    FFFFFFFFFFFFFFFF FFFFFFFFFFFFFFFF 002E 02 0000 0012 40010100 400204 0201 FBF4 \
+    400304 C000020A 080A 100A01";
 
-/// Scripts over them, whose last commands play the second announcement, in one way and another;
+/// Scripts over an announcement, a record that isn't read and the further one, whose last commands play the second announcement, in one way and another;
 /// the replies that stand where it is refused, and all; and the reports, which stand in each case.
 const REFUSED: &[(&str, &str, &str, &str)] = &[
     (
@@ -137,21 +140,27 @@ const REFUSED: &[(&str, &str, &str, &str)] = &[
     ),
 ];
 
+/// Asserts the replies of a row with one key, which ends with want of memory, and with two.
+fn assert_refused(rt: &impl Abort, alloc: Global, octets: &[u8], row: &(&str, &str, &str, &str)) {
+    let (script, before, all, reports) = row;
+    let played = play::<1>(alloc, octets, script);
+    assert_ended(rt, &played, Outcome::Memory, before, reports);
+    let played = play::<2>(alloc, octets, script);
+    assert_ended(rt, &played, Outcome::Reported, all, reports);
+}
+
 #[test]
 fn a_refused_key_leaves_the_replies_before(rt: HostRuntime) -> Result<(), Fail> {
-    let octets = file_of(rt.alloc(), FURTHER)?;
-    for &(script, before, all, reports) in REFUSED {
-        let played = play::<1>(rt.alloc(), &octets, script);
-        assert_ended(&rt, &played, Outcome::Memory, before, reports);
-        let played = play::<2>(rt.alloc(), &octets, script);
-        assert_ended(&rt, &played, outcome_of(reports), all, reports);
+    let octets = octets_of(rt.alloc(), &[ANNOUNCED, MULTICAST, FURTHER])?;
+    for row in REFUSED {
+        assert_refused(&rt, rt.alloc(), &octets, row);
     }
     Ok(())
 }
 
 #[test]
 fn a_loss_wants_no_key(rt: HostRuntime) -> Result<(), Fail> {
-    let octets = file_of(rt.alloc(), REPLACED)?;
+    let octets = octets_of(rt.alloc(), &[ANNOUNCED, REPLACED])?;
     let script = "next 2\nlose 192.0.2.1 64500\npeers\nback\npeers\n";
     let played = play::<1>(rt.alloc(), &octets, script);
     let replies = "at 2\nat 3 dropped 0\nnone\nat 2\nPEER|192.0.2.1|64500|1\n";

@@ -2,7 +2,7 @@
 
 ghost use Rattle.std.specs.Prelude.{◌≡◌, None, false};
 
-use super::playing::Routes;
+use super::Routes;
 use bgpdump_tool::run_play;
 use mrt_wire::Stamp;
 use std::alloc::{AllocError, Global};

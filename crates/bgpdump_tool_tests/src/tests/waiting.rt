@@ -1,6 +1,6 @@
 //! What a script's run passes on before it waits for its input.
 
-use super::playing::Routes;
+use super::Routes;
 use bgpdump_tool::{Outcome, run_play};
 use mrt_wire::Stamp;
 use std::alloc::{AllocError, Global};
