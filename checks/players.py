@@ -238,16 +238,17 @@ def play_drawn(course, drawn, mixture, time):
     """Plays an event, and once more with ample memory where it may make few keys and is refused."""
     is_turning = drawn.randrange(120) < mixture.turns
     items = list(turning_items(drawn, course.plain, time) if is_turning else drawn_items(drawn, time))
+    answer = 'refused'
     if drawn.randrange(2):
         keys = drawn.randrange(2)
         for peer in PAIRED:
             course.allow(peer, keys)
-        if course.play(*items) != 'refused':
-            return
+        answer = course.play(*items)
         compare(course)
         for peer in PAIRED:
             course.allow(peer, ANY)
-    course.play(*items)
+    if answer == 'refused':
+        course.play(*items)
 
 
 def compare(course):
