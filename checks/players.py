@@ -151,8 +151,7 @@ class Course:
     def allow(self, peer, keys):
         """Rations the new keys of a peer that has some."""
         has_store = self.plain.keys_of(peer) > 0
-        if has_store:
-            self.allowed[peer] = keys
+        self.allowed[peer] = keys if has_store else ANY
         self.ask(f'allow {peer} {keys}', 'allowed' if has_store else 'no store')
 
     def steps(self):
