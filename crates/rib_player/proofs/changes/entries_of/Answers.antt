@@ -9,6 +9,8 @@ use Rattle.rib_player.specs.History.{pair_cmp}
 use Rattle.rib_player.specs.Journal.{sides_of}
 use Rattle.rib_player.specs.Sides.{AreOrdered}
 use Rattle.rib_player.proofs.EntryLaws.{has_route, ordered-sides, sides-done}
+use Rattle.std.proofs.Common.{arith}
+use Rattle.std.proofs.lemmas.Grind.{common_steps}
 use Rattle.rib_player.proofs.changes.entries_of.Goals as goal
 
 pub returns-clause-ordered : goal.returns-clause-ordered
@@ -18,3 +20,6 @@ returns-clause-ordered g c =
     subst (λ es. AreOrdered (sides_of es)) (sym {A = List Entry} c.shrink_to_fit.ensures.items)
     (ordered-sides test c.args.routes.items (sides_of c.routes.entries.items) sorted
     (sides-done test (sides_of c.routes.entries.items) _ (into_iter_items c.routes.pair-iterator) c.routes.invariant.sides (nil_from_length _ (sym c.routes.invariant.many ∙ c.in-None.ensures.steps.0))))
+
+pub routes-preserved-in-routes : goal.routes-preserved-in-routes
+routes-preserved-in-routes g c = grind (arith, common_steps)

@@ -5,6 +5,7 @@ use Rattle.rib_player.specs.Sides.{sides_across, IsKept}
 use Rattle.rib_player.specs.Marks.{marks_of, mark_of}
 use Rattle.rib_player.proofs.JournalLaws.{rest_of_entries, kept-tail, entries-more}
 use Rattle.rib_player.proofs.MarkLaws.{turn-more}
+use Rattle.std.proofs.lemmas.Grind.{common_steps}
 use Rattle.rib_player.proofs.journal.cross.Goals as goal
 
 pub entries-preserved : goal.entries-preserved
@@ -27,3 +28,9 @@ entries-preserved g c =
       marks = turn-more mark_of c.entries.entries i _ (mark_of entry) (marks_of (drop (i + 1) first)) _ within (λ k. record { pair = c.exchange.ensures.pair k; before = c.exchange.ensures.before k; behind = c.exchange.ensures.behind k })
           (ap (λ es. marks_of (take i c.entries.entries) ++ marks_of es) (sym rest) ∙ known.marks);
     }
+
+pub returns-clause-routes : goal.returns-clause-routes
+returns-clause-routes g c = grind (arith, common_steps)
+
+pub returns-clause-entries : goal.returns-clause-entries
+returns-clause-entries g c = grind (arith, common_steps)

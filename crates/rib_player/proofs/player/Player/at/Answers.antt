@@ -5,6 +5,7 @@ use Rattle.rib_player.specs.Timeline.{Timeline}
 use Rattle.rib_player.specs.Wanted.{IsWellFormed}
 use Rattle.rib_player.specs.Journal.{Side, pairs_in, step_sides, steps_of, timeline_of, behind_forgotten}
 use Rattle.rib_player.proofs.CursorLaws.{length-tables}
+use Rattle.std.proofs.lemmas.Grind.{common_steps}
 use Rattle.rib_player.proofs.player.Player.at.Goals as goal
 
 pub returns-clause-well_formed : goal.returns-clause-well_formed
@@ -20,3 +21,6 @@ returns-clause-well_formed g c =
       tables = length-tables journal.cursor steps c.self.inside.table.routes within ∙ omega (arith, as_many);
     } in
     subst IsWellFormed c.self.view_is is
+
+pub returns-clause-cursor : goal.returns-clause-cursor
+returns-clause-cursor g c = grind (arith, common_steps)

@@ -4,6 +4,7 @@ use Rattle.rib_player.specs.Calls.{without_first, forgettable}
 use Rattle.rib_player.proofs.FloorLaws.{without_first-more}
 use Rattle.rib_player.proofs.player.Player.forget_oldest.Given.{Over}
 use Rattle.rib_player.proofs.player.Player.forget_oldest.Goals as goal
+use Rattle.std.proofs.lemmas.Grind.{common_steps}
 use Rattle.rib_player.proofs.player.Player.forget_oldest.Goals.{After-saturating_sub-count}
 
 -- so many are too many
@@ -25,3 +26,6 @@ returns-clause-after_forget g c =
 
 pub returns-clause-forgotten : goal.returns-clause-forgotten
 returns-clause-forgotten g c = count g (goal.at.returns-clause-forgotten g c).After-saturating_sub-count
+
+pub steps-init : goal.steps-init
+steps-init g c = grind (arith, common_steps)

@@ -1,0 +1,10 @@
+-- What the prover finds, named so that it refuses a wrong body sooner.
+use Rattle.std.proofs.Common.{arith}
+use Rattle.std.proofs.lemmas.Grind.{common_steps}
+use Rattle.bgp_paths.proofs.path.AsPath.put_text.Goals as goal
+
+pub returns-clause-appended : goal.returns-clause-appended
+returns-clause-appended c = grind (arith, common_steps)
+
+pub returns-clause-unchanged : goal.returns-clause-unchanged
+returns-clause-unchanged c = grind (arith, common_steps)

@@ -1,0 +1,7 @@
+-- What the prover finds, named so that it refuses a wrong body sooner.
+use Rattle.std.proofs.Common.{arith}
+use Rattle.std.proofs.lemmas.Grind.{common_steps}
+use Rattle.bgpdump_lines.proofs.event_lines.append_lines.Goals as goal
+
+pub returns-then-is_err-clause-unchanged : goal.returns-then-is_err-clause-unchanged
+returns-then-is_err-clause-unchanged c = grind (arith, common_steps)
