@@ -4,7 +4,7 @@
     checks/shapes.py PROGRAM
 
 Each file is made in two sizes, the second twice the first. The peak of memory of each is bounded by a number that
-stands below, and the processor time of the larger is at most 3.2 times that of the smaller, each the least of three
+stands below, and the processor time of the larger is at most 2.6 times that of the smaller, each the least of three
 runs, and of three more, four times at most, where it isn't. A line tells the peaks, the times in milliseconds, and
 how often the second holds the first. It takes a C compiler, for usage.c beside this file.
 """
@@ -19,7 +19,7 @@ from using import MIB, PEAK_OF_LINES, Runs
 
 RUNS = 3
 # How often the larger file may take the time of the smaller.
-STEEPEST = 3.2
+STEEPEST = 2.6
 # How often runs that rise more are made again: another process may have taken the time.
 MORE = 4
 
