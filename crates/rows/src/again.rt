@@ -1,15 +1,22 @@
 //! Attributes and messages that are read into the memory of others.
 
-use crate::wire::{put_attrs, put_prefixes};
+use crate::shown::Shown;
+use crate::wire::{put_attrs, put_prefixes, put_unread};
 use bgp_wire::{
     AsWidth, Attrs, MessageKind, UpdateParts, WireFault, read_rib_attrs, replace_attrs,
     replace_message, replace_rib_attrs,
 };
 use ip_prefix::Family;
-use std::alloc::{AllocError, Global};
+use std::alloc::Global;
 
-/// What is written of octets that can't be read.
-const MALFORMED: &[u8] = b"malformed\n";
+/// How attributes take the place of others.
+#[derive(Clone, Copy)]
+pub enum Again {
+    /// They are read into their place.
+    Read,
+    /// They are read, and copied over the others.
+    Copied,
+}
 
 /// Where the length of a message stands (RFC 4271, section 4.1).
 const LENGTH_PLACE: usize = 16;
@@ -29,35 +36,48 @@ fn split_list(octets: &[u8]) -> Option<(&[u8], &[u8])> {
     Some((list.get(2..)?, rest))
 }
 
-/// Appends what lists of attributes say, each read in place of the one before.
-pub fn put_replaced(alloc: Global, octets: &[u8], text: &mut Vec<u8>) -> Result<(), AllocError> {
+/// Appends what lists of attributes say, each in place of the one before.
+pub fn put_again(alloc: Global, again: Again, octets: &[u8], text: &mut Shown) {
     let mut attrs = Attrs::none(alloc);
     let mut left = octets;
     for _ in 0..octets.len() {
         let Some((list, rest)) = split_list(left) else {
-            break;
+            return;
         };
-        put_replacement(alloc, &mut attrs, list, text)?;
+        let read = again.read(alloc, &mut attrs, list);
+        again.put(read, &attrs, text);
         left = rest;
     }
-    Ok(())
 }
 
-/// Reads a list in place of attributes, and appends what these say then. Refused, they have neither
-/// a path nor communities.
-fn put_replacement(
-    alloc: Global,
-    attrs: &mut Attrs,
-    list: &[u8],
-    text: &mut Vec<u8>,
-) -> Result<(), AllocError> {
-    if replace_rib_attrs(alloc, attrs, Family::V4, AsWidth::Four, list).is_ok() {
-        return put_attrs(attrs, text);
+impl Again {
+    /// Reads a list in place of attributes. Refused by a reading in place, these have neither a path
+    /// nor communities.
+    fn read(self, alloc: Global, attrs: &mut Attrs, list: &[u8]) -> Result<(), WireFault> {
+        match self {
+            Again::Read => replace_rib_attrs(alloc, attrs, Family::V4, AsWidth::Four, list),
+            Again::Copied => copy_read(alloc, attrs, list),
+        }
     }
-    if has_lists(attrs) {
-        text.extend_from_slice(b"lists behind what is ")?;
+
+    /// Appends what attributes say, where they were read.
+    fn put(self, read: Result<(), WireFault>, attrs: &Attrs, text: &mut Shown) {
+        match read {
+            Ok(()) => put_attrs(attrs, text),
+            Err(fault) => {
+                if matches!(self, Again::Read) && has_lists(attrs) {
+                    text.put(b"lists behind what is ");
+                }
+                put_unread(fault, text);
+            }
+        }
     }
-    text.extend_from_slice(MALFORMED)
+}
+
+/// Reads a list, and copies it over attributes.
+fn copy_read(alloc: Global, copy: &mut Attrs, list: &[u8]) -> Result<(), WireFault> {
+    let attrs = read_rib_attrs(alloc, Family::V4, AsWidth::Four, list)?;
+    Ok(replace_attrs(alloc, copy, &attrs)?)
 }
 
 /// Whether attributes have a path or communities.
@@ -65,77 +85,44 @@ fn has_lists(attrs: &Attrs) -> bool {
     !attrs.path.segments.as_slice().is_empty() || !attrs.communities.as_slice().is_empty()
 }
 
-/// Appends what lists of attributes say, each copied over the one before.
-pub fn put_copied(alloc: Global, octets: &[u8], text: &mut Vec<u8>) -> Result<(), AllocError> {
-    let mut copy = Attrs::none(alloc);
-    let mut left = octets;
-    for _ in 0..octets.len() {
-        let Some((list, rest)) = split_list(left) else {
-            break;
-        };
-        put_copy(alloc, &mut copy, list, text)?;
-        left = rest;
-    }
-    Ok(())
-}
-
-/// Reads a list, copies it over attributes, and appends what these say then.
-fn put_copy(
-    alloc: Global,
-    copy: &mut Attrs,
-    list: &[u8],
-    text: &mut Vec<u8>,
-) -> Result<(), AllocError> {
-    match read_rib_attrs(alloc, Family::V4, AsWidth::Four, list) {
-        Ok(attrs) => {
-            replace_attrs(alloc, copy, &attrs)?;
-            put_attrs(copy, text)
-        }
-        Err(_) => text.extend_from_slice(MALFORMED),
-    }
-}
-
 /// Appends what messages with AS numbers of two octets say, each read in place of the one before.
-pub fn put_parts(alloc: Global, octets: &[u8], text: &mut Vec<u8>) -> Result<(), AllocError> {
+pub fn put_parts(alloc: Global, octets: &[u8], text: &mut Shown) {
     let mut parts = UpdateParts::none(alloc);
     let mut left = octets;
     for _ in 0..octets.len() {
         let Some((message, rest)) = split_sized(left, LENGTH_PLACE, 0) else {
-            break;
+            return;
         };
-        let read = replace_message(alloc, &mut parts, AsWidth::Two, message);
-        put_word(alloc, &read, text)?;
-        put_said(&parts, text)?;
+        put_word(replace_message(alloc, &mut parts, AsWidth::Two, message), text);
+        put_said(&parts, text);
         left = rest;
     }
-    Ok(())
 }
 
 /// Appends the word of what was read.
-fn put_word(
-    alloc: Global,
-    read: &Result<MessageKind, WireFault>,
-    text: &mut Vec<u8>,
-) -> Result<(), AllocError> {
-    let word = match read {
-        Ok(MessageKind::Update) => format!(in alloc; "UPDATE ")?,
-        Ok(MessageKind::Other(kind)) => format!(in alloc; "type {kind} ")?,
-        Err(_) => format!(in alloc; "malformed ")?,
-    };
-    text.extend_from_slice(word.as_bytes())
+fn put_word(read: Result<MessageKind, WireFault>, text: &mut Shown) {
+    match read {
+        Ok(MessageKind::Update) => text.put(b"UPDATE "),
+        Ok(MessageKind::Other(kind)) => {
+            text.put(b"type ");
+            text.put_number(u64::from(kind));
+            text.put(b" ");
+        }
+        Err(_) => text.put(b"malformed "),
+    }
 }
 
 /// Appends the prefixes and next hops of parts, as those of a message, and their attributes.
-fn put_said(parts: &UpdateParts, text: &mut Vec<u8>) -> Result<(), AllocError> {
-    put_prefixes(b"-", &parts.withdrawn, text)?;
-    put_prefixes(b"mp -", &parts.mp_withdrawn, text)?;
-    put_prefixes(b"+", &parts.announced, text)?;
-    put_prefixes(b"mp +", &parts.mp_announced, text)?;
+fn put_said(parts: &UpdateParts, text: &mut Shown) {
+    put_prefixes(b"-", &parts.withdrawn, text);
+    put_prefixes(b"mp -", &parts.mp_withdrawn, text);
+    put_prefixes(b"+", &parts.announced, text);
+    put_prefixes(b"mp +", &parts.mp_announced, text);
     if let Some(hop) = &parts.mp_hop {
-        text.extend_from_slice(b"mp via ")?;
-        hop.put_text(text)?;
-        text.push(b';')?;
+        text.put(b"mp via ");
+        text.put_address(hop);
+        text.put(b";");
     }
-    text.push(b' ')?;
-    put_attrs(&parts.attrs, text)
+    text.put(b" ");
+    put_attrs(&parts.attrs, text);
 }

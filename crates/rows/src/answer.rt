@@ -1,6 +1,8 @@
 //! What a call answers.
 
-use std::alloc::Global;
+use crate::shown::Shown;
+use bgpdump_tool::Outcome;
+use std::alloc::{AllocError, Global};
 
 /// What a call wrote, and the status of the program after it.
 #[derive(Drop)]
@@ -13,12 +15,22 @@ pub struct Answer {
 }
 
 impl Answer {
-    /// Nothing, without a fault.
-    pub fn new(alloc: Global) -> Self {
-        Answer {
-            out: Vec::new(alloc),
+    /// What a call wrote that is no run.
+    pub fn written(alloc: Global, text: Shown) -> Result<Self, AllocError> {
+        Ok(Answer {
+            out: text.whole()?,
             err: Vec::new(alloc),
             status: 0,
+            ended: Vec::new(alloc),
+        })
+    }
+
+    /// What a run wrote, and how it ended.
+    pub fn of_run(alloc: Global, outcome: Outcome, out: Vec<u8>, err: Vec<u8>) -> Self {
+        Answer {
+            out,
+            err,
+            status: outcome.status(),
             ended: Vec::new(alloc),
         }
     }

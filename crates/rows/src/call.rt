@@ -1,22 +1,23 @@
 //! The calls that rows make.
 
-use crate::again::{put_copied, put_parts, put_replaced};
+use crate::again::{Again, put_again, put_parts};
 use crate::answer::Answer;
 use crate::commands::put_commands;
 use crate::course::put_answers;
 use crate::devices::{Devices, dump_by, play_by, put_calls, put_calls_by};
 use crate::events::put_events;
-use crate::paths::{put_count, put_joined};
+use crate::paths::{put_joined, put_segment_count};
 use crate::routes::{Keeping, put_routes, put_shared};
 use crate::row::Row;
+use crate::runs::{dump, play};
+use crate::shown::Shown;
 use crate::store::put_stored;
 use crate::watched::Watched;
 use crate::wire::{put_entry, put_message, put_segments, put_summary};
 use bgp_wire::AsWidth;
-use bgpdump_tool::{WriteOutput, run_dump, run_play};
 use ip_prefix::Family;
-use mrt_wire::{ReadInput, Route, Stamp};
-use rib_store::{LeftStore, MapStore, PrefixStore, RadixStore};
+use mrt_wire::{Route, Stamp};
+use rib_store::{LeftStore, MapStore, RadixStore};
 use std::alloc::{AllocError, Global};
 use std::rc::Rc;
 
@@ -51,8 +52,7 @@ pub enum Call {
     /// The segments of a path.
     Segments(AsWidth),
     /// What lists of attributes say, each read in place of the one before, or copied over it.
-    Replaced,
-    Copied,
+    Again(Again),
     /// What messages say, each read in place of the one before.
     Parts,
     /// Two paths that are joined.
@@ -128,7 +128,7 @@ const CALLS: &[(&str, &[Call])] = &[
     ("summary four", &[Call::Summary(FOUR)]),
     ("segments two", &[Call::Segments(TWO)]),
     ("segments four", &[Call::Segments(FOUR)]),
-    ("again", &[Call::Replaced, Call::Copied]),
+    ("again", &[Call::Again(Again::Read), Call::Again(Again::Copied)]),
     ("parts", &[Call::Parts]),
     ("join", &[Call::Join]),
     ("join apart", &[Call::JoinApart]),
@@ -165,13 +165,13 @@ impl Call {
     /// What the call answers over these octets, with the script of the row.
     pub fn answer(self, alloc: Global, octets: &[u8], row: &Row) -> Result<Answer, AllocError> {
         match self {
-            Call::Dump(stamp) => Ok(dump(alloc, stamp, octets)),
-            Call::Play(stamp) => { Ok(play::<Tree>(alloc, stamp, octets, &row.script)) }
-            Call::PlayOverMap(stamp) => { Ok(play::<Map>(alloc, stamp, octets, &row.script)) }
+            Call::Dump(stamp) => dump(alloc, stamp, octets, row),
+            Call::Play(stamp) => play::<Tree>(alloc, stamp, octets, row),
+            Call::PlayOverMap(stamp) => play::<Map>(alloc, stamp, octets, row),
             other => {
-                let mut answer = Answer::new(alloc);
-                other.put(alloc, octets, &row.script, &mut answer.out)?;
-                Ok(answer)
+                let mut text = Shown::new(alloc);
+                other.put(alloc, octets, &row.script, &mut text);
+                Answer::written(alloc, text)
             }
         }
     }
@@ -189,22 +189,16 @@ impl Call {
             Call::Play(stamp) => play_by::<Tree>(alloc, devices, stamp, octets, &row.script),
             Call::PlayOverMap(stamp) => play_by::<Map>(alloc, devices, stamp, octets, &row.script),
             Call::Calls => {
-                let mut answer = Answer::new(alloc);
-                put_calls_by(alloc, devices, octets, &mut answer.out)?;
-                Ok(answer)
+                let mut text = Shown::new(alloc);
+                put_calls_by(alloc, devices, octets, &mut text);
+                Answer::written(alloc, text)
             }
             other => other.answer(alloc, octets, row),
         }
     }
 
     /// Appends what a call answers that is no run.
-    fn put(
-        self,
-        alloc: Global,
-        octets: &[u8],
-        script: &[u8],
-        text: &mut Vec<u8>,
-    ) -> Result<(), AllocError> {
+    fn put(self, alloc: Global, octets: &[u8], script: &[u8], text: &mut Shown) {
         match self {
             Call::Events(stamp) => put_events(alloc, stamp, octets, text),
             Call::Entry(family, width) => put_entry(alloc, family, width, octets, text),
@@ -214,64 +208,19 @@ impl Call {
             Call::Routes(keeping) => put_routes(alloc, keeping, octets, text),
             Call::Shared => put_shared(alloc, octets, text),
             Call::Segments(width) => put_segments(alloc, width, octets, text),
-            Call::Replaced => put_replaced(alloc, octets, text),
-            Call::Copied => put_copied(alloc, octets, text),
+            Call::Again(again) => put_again(alloc, again, octets, text),
             Call::Parts => put_parts(alloc, octets, text),
             Call::Join => put_joined(alloc, script, text),
-            Call::JoinApart => put_count(alloc, script, text),
+            Call::JoinApart => put_segment_count(alloc, script, text),
             Call::Commands => put_commands(script, text),
             Call::Player => put_answers::<Watched<Tree>>(alloc, script, text),
             Call::PlayerOverMap => put_answers::<Watched<Map>>(alloc, script, text),
             Call::StoreOverMap => put_stored::<MapStore<u32>>(alloc, script, text),
             Call::StoreOverTrees => put_stored::<RadixStore<u32>>(alloc, script, text),
             Call::StoreOverLeftTrees => {
-                put_stored::<LeftStore<RadixStore<u32>>>(alloc, script, text)
+                put_stored::<LeftStore<RadixStore<u32>>>(alloc, script, text);
             }
-            Call::Dump(_) | Call::Play(_) | Call::PlayOverMap(_) => Ok(()),
+            Call::Dump(_) | Call::Play(_) | Call::PlayOverMap(_) => {}
         }
-    }
-}
-
-/// The lines and the reports of a dump.
-fn dump(alloc: Global, stamp: Stamp, octets: &[u8]) -> Answer {
-    let mut out = Vec::new(alloc);
-    let mut err = Vec::new(alloc);
-    let outcome = run_dump(
-        alloc,
-        &mut ReadInput::new(octets),
-        &mut WriteOutput::new(&mut out),
-        &mut WriteOutput::new(&mut err),
-        stamp,
-    );
-    Answer {
-        out,
-        err,
-        status: outcome.status(),
-        ended: Vec::new(alloc),
-    }
-}
-
-/// The replies and the reports of a script, with a store.
-fn play<S: PrefixStore<Rc<Route>>>(
-    alloc: Global,
-    stamp: Stamp,
-    octets: &[u8],
-    script: &[u8],
-) -> Answer {
-    let mut out = Vec::new(alloc);
-    let mut err = Vec::new(alloc);
-    let outcome = run_play::<S, _, _, _>(
-        alloc,
-        &mut ReadInput::new(octets),
-        script,
-        &mut WriteOutput::new(&mut out),
-        &mut WriteOutput::new(&mut err),
-        stamp,
-    );
-    Answer {
-        out,
-        err,
-        status: outcome.status(),
-        ended: Vec::new(alloc),
     }
 }

@@ -7,13 +7,19 @@
 //!                         forget, which may make none
 //!     count               from here on what is asked of the stores is counted anew
 //!     alive LEAST MOST    how many routes of items are alive
+//!     mark                the next `play` is marked, for those who refuse memory
+//!     alone               from here on each request for memory is refused
 //!
 //! Other lines are questions (`player.rt`). Each line is answered by one.
 
 use crate::items::Brought;
+use crate::marks::{self, Marks};
 use crate::player::put_seen;
+use crate::shown::Shown;
 use crate::watched::IsWatched;
-use crate::words::{UNREAD, number_word, peer_words, put_count, put_within};
+use crate::words::{
+    REFUSED, UNREAD, number_word, peer_words, put_count, put_within, split_word,
+};
 use mrt_wire::{Event, Item, Peer, Route};
 use rib_player::{PlayFault, Player};
 use rib_store::{GREATEST_COUNT, PrefixStore};
@@ -24,30 +30,37 @@ use std::str;
 /// How many peers are watched at most: the first that events name.
 const MOST_WATCHED: usize = 8;
 
+/// More octets than are answered where each request for memory is refused.
+const ROOM: usize = 1 << 16;
+
 /// A player whose stores are watched.
 #[derive(Drop)]
 struct Course<S: PrefixStore<Rc<Route>>> {
+    alloc: Global,
     player: Player<S>,
     peers: Vec<Peer>,
     brought: Brought,
+    marks: Marks,
 }
 
 /// Appends what a new player answers to the lines.
 pub fn put_answers<S: PrefixStore<Rc<Route>> + IsWatched>(
     alloc: Global,
     script: &[u8],
-    text: &mut Vec<u8>,
-) -> Result<(), AllocError> {
+    text: &mut Shown,
+) {
     let mut course: Course<S> = Course {
+        alloc,
         player: Player::new(alloc),
         peers: Vec::new(alloc),
         brought: Brought::new(alloc),
+        marks: Marks::new(alloc),
     };
     for line in str::from_utf8(script).unwrap_or("").lines() {
-        course.put_answer(line, text)?;
-        text.extend_from_slice(b"\n")?;
+        course.put_answer(line, text);
+        text.put(b"\n");
     }
-    Ok(())
+    marks::end(alloc);
 }
 
 /// The peer of an item.
@@ -59,71 +72,102 @@ fn peer_of(item: &Item) -> Peer {
 
 impl<S: PrefixStore<Rc<Route>> + IsWatched> Course<S> {
     /// Appends what the player answers to a line.
-    fn put_answer(&mut self, line: &str, text: &mut Vec<u8>) -> Result<(), AllocError> {
-        let (name, rest) = line.split_once(" ").unwrap_or((line, ""));
+    fn put_answer(&mut self, line: &str, text: &mut Shown) {
+        let (name, rest) = split_word(line);
         match name {
             "play" => self.put_played(rest, text),
             "undo" | "redo" => self.put_moved(name == "undo", text),
             "forget" => self.put_forgotten(rest, text),
             "allow" => self.put_allowed(rest, text),
-            "count" => {
-                self.count_anew();
-                text.extend_from_slice(b"counted")
-            }
+            "count" | "mark" | "alone" => self.put_set(name, text),
             "alive" => put_within(self.brought.alive(), rest, text),
             _ => put_seen(&self.player, name, rest, text),
         }
     }
 
-    /// Plays the event of these items, and appends how many steps were dropped.
-    fn put_played(&mut self, items: &str, text: &mut Vec<u8>) -> Result<(), AllocError> {
-        let Some(event) = self.brought.event(items)? else {
-            return text.extend_from_slice(UNREAD);
-        };
-        self.watch(&event)?;
-        if self.player.at() >= GREATEST_COUNT {
-            return text.extend_from_slice(b"too many steps");
-        }
-        match self.player.play(&event) {
-            Ok(dropped) => put_count(b"dropped ", dropped, text),
-            Err(PlayFault::Memory) => text.extend_from_slice(b"refused"),
+    /// Sets what a word tells of the lines behind it.
+    fn put_set(&mut self, name: &str, text: &mut Shown) {
+        match name {
+            "count" => {
+                self.count_anew();
+                text.put(b"counted");
+            }
+            "mark" => {
+                self.marks.mark_next();
+                text.put(b"marked");
+            }
+            _ => {
+                text.reserve(ROOM);
+                text.put(b"alone");
+                marks::refuse_all(self.alloc);
+            }
         }
     }
 
+    /// Plays the event of these items, and appends how many steps were dropped.
+    fn put_played(&mut self, items: &str, text: &mut Shown) {
+        match self.brought.event(items) {
+            Some(event) => self.put_played_event(&event, text),
+            None => text.put(UNREAD),
+        }
+    }
+
+    /// Plays an event, and appends how many steps were dropped.
+    fn put_played_event(&mut self, event: &Event, text: &mut Shown) {
+        if self.watch(event).is_err() {
+            return text.put(UNREAD);
+        }
+        match self.played(event) {
+            Some(Ok(dropped)) => put_count(b"dropped ", dropped, text),
+            Some(Err(PlayFault::Memory)) => text.put(REFUSED),
+            None => text.put(b"too many steps"),
+        }
+    }
+
+    /// Plays an event, where there is room for a step: how many steps were dropped.
+    fn played(&mut self, event: &Event) -> Option<Result<u64, PlayFault>> {
+        if self.player.at() >= GREATEST_COUNT {
+            return None;
+        }
+        self.marks.begin();
+        let played = self.player.play(event);
+        self.marks.end();
+        Some(played)
+    }
+
     /// Goes a step back, or forth, and appends whether one was made.
-    fn put_moved(&mut self, is_back: bool, text: &mut Vec<u8>) -> Result<(), AllocError> {
+    fn put_moved(&mut self, is_back: bool, text: &mut Shown) {
         self.allow(0);
         let moved = if is_back {
             self.player.undo()
         } else {
             self.player.redo()
         };
-        let word = if moved.is_ok() { "done" } else { "no step" };
-        text.extend_from_slice(word.as_bytes())?;
-        self.put_requests(text)
+        text.put(if moved.is_ok() { b"done" } else { b"no step" });
+        self.put_requests(text);
     }
 
     /// Forgets the steps before the cursor but for so many, and appends how many.
-    fn put_forgotten(&mut self, word: &str, text: &mut Vec<u8>) -> Result<(), AllocError> {
+    fn put_forgotten(&mut self, word: &str, text: &mut Shown) {
         let Some(keep) = number_word(word) else {
-            return text.extend_from_slice(UNREAD);
+            return text.put(UNREAD);
         };
         self.allow(0);
-        put_count(b"forgot ", self.player.forget(keep), text)?;
-        self.put_requests(text)
+        put_count(b"forgot ", self.player.forget(keep), text);
+        self.put_requests(text);
     }
 
     /// Rations the new keys of a peer's store.
-    fn put_allowed(&self, words: &str, text: &mut Vec<u8>) -> Result<(), AllocError> {
+    fn put_allowed(&self, words: &str, text: &mut Shown) {
         let Some((peer, rest)) = peer_words(words) else {
-            return text.extend_from_slice(UNREAD);
+            return text.put(UNREAD);
         };
         match (self.player.table().store(&peer), number_word(rest)) {
             (Some(store), Some(keys)) => {
                 store.allow(keys);
-                text.extend_from_slice(b"allowed")
+                text.put(b"allowed");
             }
-            _ => text.extend_from_slice(b"no store"),
+            _ => text.put(b"no store"),
         }
     }
 
@@ -160,12 +204,11 @@ impl<S: PrefixStore<Rc<Route>> + IsWatched> Course<S> {
     }
 
     /// Appends whether keys were asked for, and lets the stores make keys again.
-    fn put_requests(&self, text: &mut Vec<u8>) -> Result<(), AllocError> {
+    fn put_requests(&self, text: &mut Shown) {
         if self.has_requests() {
-            text.extend_from_slice(b", and asked for a key")?;
+            text.put(b", and asked for a key");
         }
         self.allow(u64::MAX);
-        Ok(())
     }
 
     /// Whether keys were asked for.

@@ -10,6 +10,8 @@
 
 use crate::answer::Answer;
 use crate::events::LIMIT;
+use crate::shown::Shown;
+use crate::words::put_count;
 use bgpdump_tool::{Outcome, run_dump, run_play};
 use mrt_wire::{Input, Next, ReadInput, Route, Source, SourceFault, Stamp};
 use rib_store::PrefixStore;
@@ -109,74 +111,47 @@ fn answer_of(
     err: SlowOutput,
 ) -> Result<Answer, AllocError> {
     let ended = format!(in alloc; "{outcome:?} {} {}", out.finish_calls, err.finish_calls)?;
-    Ok(Answer {
-        out: out.text,
-        err: err.text,
-        status: outcome.status(),
-        ended: Vec::from_slice(alloc, ended.as_bytes())?,
-    })
+    let mut answer = Answer::of_run(alloc, outcome, out.text, err.text);
+    answer.ended.extend_from_slice(ended.as_bytes())?;
+    Ok(answer)
 }
 
 /// Appends what a source answers to four calls over octets.
-pub fn put_calls(alloc: Global, octets: &[u8], text: &mut Vec<u8>) -> Result<(), AllocError> {
-    put_four(alloc, LIMIT, &mut ReadInput::new(octets), text)
+pub fn put_calls(alloc: Global, octets: &[u8], text: &mut Shown) {
+    put_four(alloc, LIMIT, &mut ReadInput::new(octets), text);
 }
 
 /// The same over an input of devices.
-pub fn put_calls_by(
-    alloc: Global,
-    devices: Devices,
-    octets: &[u8],
-    text: &mut Vec<u8>,
-) -> Result<(), AllocError> {
+pub fn put_calls_by(alloc: Global, devices: Devices, octets: &[u8], text: &mut Shown) {
     if devices.end == MANY {
         let mut input = SlowInput::new(octets, devices.step, devices.sound);
         return put_four(alloc, devices.limit, &mut input, text);
     }
     let mut input = EndedInput::new(octets, devices.step, devices.end);
-    put_four(alloc, devices.limit, &mut input, text)?;
+    put_four(alloc, devices.limit, &mut input, text);
     if !input.ended || input.late_calls > 0 {
-        text.extend_from_slice(b"not asked up to its end alone\n")?;
+        text.put(b"not asked up to its end alone\n");
     }
-    Ok(())
 }
 
-/// Appends what a source answers to four calls.
-fn put_four<I: Input>(
-    alloc: Global,
-    limit: u64,
-    input: &mut I,
-    text: &mut Vec<u8>,
-) -> Result<(), AllocError> {
+/// Appends what a source answers to four calls, and how many octets it has taken after each.
+fn put_four<I: Input>(alloc: Global, limit: u64, input: &mut I, text: &mut Shown) {
     let mut source = Source::new(alloc, Stamp::Dump, limit);
     for _ in 0..4 {
-        put_call(alloc, &mut source, input, text)?;
+        put_answer(alloc, &source.next(input), text);
+        put_count(b" at ", source.offset(), text);
+        text.put(b"\n");
     }
-    Ok(())
 }
 
-/// Appends what a source answers next, and how many octets it has taken then.
-fn put_call<I: Input>(
-    alloc: Global,
-    source: &mut Source,
-    input: &mut I,
-    text: &mut Vec<u8>,
-) -> Result<(), AllocError> {
-    let answer = source.next(input);
-    let shown = shown(alloc, &answer)?;
-    text.extend_from_slice(shown.as_bytes())?;
-    let taken = format!(in alloc; " at {}\n", source.offset())?;
-    text.extend_from_slice(taken.as_bytes())
-}
-
-/// The words of what a source answered.
-fn shown(alloc: Global, answer: &Result<Next, SourceFault>) -> Result<String, AllocError> {
-    match answer {
+/// Appends the words of what a source answered.
+fn put_answer(alloc: Global, answer: &Result<Next, SourceFault>, text: &mut Shown) {
+    text.put_made(match answer {
         Ok(Next::Event(event)) => format!(in alloc; "{} item", event.items.as_slice().len()),
         Ok(Next::Bad(fault)) => {
             format!(in alloc; "{}, {}: {:?}", fault.number, fault.offset, fault.kind)
         }
         Ok(Next::End) => format!(in alloc; "end"),
         Err(fault) => format!(in alloc; "{fault:?}"),
-    }
+    });
 }

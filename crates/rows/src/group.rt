@@ -47,15 +47,18 @@ impl Group {
                 put_number(2, body.len().saturating_add(MESSAGE_FRONT), octets)?;
                 octets.extend_from_slice(body)
             }
-            Group::Repeated(count) => {
-                for _ in 0..count {
-                    octets.extend_from_slice(body)?;
-                }
-                Ok(())
-            }
+            Group::Repeated(count) => put_repeated(count, body, octets),
             Group::Front => octets.extend_from_slice(body),
         }
     }
+}
+
+/// Appends octets so often.
+fn put_repeated(count: usize, body: &[u8], octets: &mut Vec<u8>) -> Result<(), AllocError> {
+    for _ in 0..count {
+        octets.extend_from_slice(body)?;
+    }
+    Ok(())
 }
 
 /// Appends the last octets of a number, as many as are named and at most eight, highest first.

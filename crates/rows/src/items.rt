@@ -8,11 +8,11 @@
 
 use crate::names::Names;
 use crate::spelled::Spelled;
-use crate::words::{peer_words, prefix_word};
+use crate::words::{peer_words, prefix_word, split_word};
 use bgp_wire::{AsWidth, Attrs, read_rib_attrs};
 use ip_prefix::Family;
 use mrt_wire::{Event, Item, Items, Peer, Route, Tag, Time};
-use std::alloc::{AllocError, Global};
+use std::alloc::Global;
 use std::rc::{Rc, Weak};
 
 /// The routes that the items of a script brought, alive or not.
@@ -43,101 +43,88 @@ impl Brought {
     }
 
     /// The event of items, where all can be read.
-    pub fn event(&mut self, words: &str) -> Result<Option<Event>, AllocError> {
-        let mut items = Vec::new(self.alloc);
-        for part in words.split(", ") {
-            if !part.is_empty() && !self.put_item(part, &mut items)? {
-                return Ok(None);
-            }
-        }
-        Ok(Some(Event {
+    pub fn event(&mut self, words: &str) -> Option<Event> {
+        Some(Event {
             time: Time {
                 seconds: 100,
                 micros: None,
             },
             tag: Tag::Bgp4mp,
-            items: Items::from_vec(items),
-        }))
+            items: Items::from_vec(self.items(words)?),
+        })
+    }
+
+    /// The items that the words spell, where all can be read.
+    fn items(&mut self, words: &str) -> Option<Vec<Item>> {
+        let mut items = Vec::new(self.alloc);
+        let mut are_read = true;
+        for part in words.split(", ") {
+            are_read &= part.is_empty() || self.put_item(part, &mut items);
+        }
+        if are_read { Some(items) } else { None }
     }
 
     /// Appends the item that is spelled, and answers whether there is one.
-    fn put_item(&mut self, part: &str, items: &mut Vec<Item>) -> Result<bool, AllocError> {
+    fn put_item(&mut self, part: &str, items: &mut Vec<Item>) -> bool {
         let Some((mark, words)) = part.split_at_checked(1) else {
-            return Ok(false);
+            return false;
         };
         let Some((peer, rest)) = peer_words(words) else {
-            return Ok(false);
+            return false;
         };
         match mark {
-            "+" => self.put_announcement(peer, rest, items),
-            "*" => put_another(peer, rest, items),
-            "-" => put_withdrawal(peer, rest, items),
-            "=" => put_state_change(peer, rest, items),
-            _ => Ok(false),
+            "+" => self.put_announcement(peer, rest, items).is_some(),
+            "*" => put_another(peer, rest, items).is_some(),
+            "-" => put_withdrawal(peer, rest, items).is_some(),
+            "=" => put_state_change(peer, rest, items).is_some(),
+            _ => false,
         }
     }
 
     /// Appends the announcement of a route of its own.
-    fn put_announcement(
-        &mut self,
-        peer: Peer,
-        words: &str,
-        items: &mut Vec<Item>,
-    ) -> Result<bool, AllocError> {
-        let Some((prefix, words)) = words.split_once(" ") else {
-            return Ok(false);
-        };
-        let (time, octets) = words.split_once(" ").unwrap_or((words, ""));
-        let (Some(prefix), Some(time)) = (prefix_word(prefix), time.parse::<u32>().ok()) else {
-            return Ok(false);
-        };
-        let Some(attrs) = attrs_of(self.alloc, octets)? else {
-            return Ok(false);
-        };
-        let route = Rc::new(self.alloc, Route { attrs, time })?;
-        self.routes.push(Rc::downgrade(&route)?)?;
-        items.push(Item::Announce(peer, prefix, route))?;
-        Ok(true)
+    fn put_announcement(&mut self, peer: Peer, words: &str, items: &mut Vec<Item>) -> Option<()> {
+        let (prefix, words) = words.split_once(" ")?;
+        let prefix = prefix_word(prefix)?;
+        let route = self.route(words)?;
+        items.push(Item::Announce(peer, prefix, route)).ok()
+    }
+
+    /// The route of a time and attributes, which is known from here on.
+    fn route(&mut self, words: &str) -> Option<Rc<Route>> {
+        let (time, octets) = split_word(words);
+        let time = time.parse::<u32>().ok()?;
+        let attrs = attrs_of(self.alloc, octets)?;
+        let route = Rc::new(self.alloc, Route { attrs, time }).ok()?;
+        self.routes.push(Rc::downgrade(&route).ok()?).ok()?;
+        Some(route)
     }
 }
 
 /// The attributes that the words spell.
-fn attrs_of(alloc: Global, words: &str) -> Result<Option<Attrs>, AllocError> {
+fn attrs_of(alloc: Global, words: &str) -> Option<Attrs> {
     let mut octets = Spelled::new(alloc);
-    if !octets.put_words(&Names::new(alloc), words)? {
-        return Ok(None);
+    if !octets.put_words(&Names::new(alloc), words) {
+        return None;
     }
-    match octets.whole() {
-        Some(octets) => Ok(read_rib_attrs(alloc, Family::V4, AsWidth::Four, octets).ok()),
-        None => Ok(None),
-    }
+    read_rib_attrs(alloc, Family::V4, AsWidth::Four, octets.whole()?).ok()
 }
 
 /// Appends the announcement of the route of the one before it.
-fn put_another(peer: Peer, word: &str, items: &mut Vec<Item>) -> Result<bool, AllocError> {
-    let (Some(prefix), Some(Item::Announce(_, _, route))) = (prefix_word(word), items.last()) else {
-        return Ok(false);
+fn put_another(peer: Peer, word: &str, items: &mut Vec<Item>) -> Option<()> {
+    let prefix = prefix_word(word)?;
+    let Some(Item::Announce(_, _, route)) = items.last() else {
+        return None;
     };
-    let route: Rc<Route> = route.clone()?;
-    items.push(Item::Announce(peer, prefix, route))?;
-    Ok(true)
+    let route: Rc<Route> = route.clone().ok()?;
+    items.push(Item::Announce(peer, prefix, route)).ok()
 }
 
-fn put_withdrawal(peer: Peer, word: &str, items: &mut Vec<Item>) -> Result<bool, AllocError> {
-    let Some(prefix) = prefix_word(word) else {
-        return Ok(false);
-    };
-    items.push(Item::Withdraw(peer, prefix))?;
-    Ok(true)
+fn put_withdrawal(peer: Peer, word: &str, items: &mut Vec<Item>) -> Option<()> {
+    items.push(Item::Withdraw(peer, prefix_word(word)?)).ok()
 }
 
-fn put_state_change(peer: Peer, words: &str, items: &mut Vec<Item>) -> Result<bool, AllocError> {
-    let Some((old, new)) = words.split_once(" ") else {
-        return Ok(false);
-    };
-    let (Some(old), Some(new)) = (old.parse::<u16>().ok(), new.parse::<u16>().ok()) else {
-        return Ok(false);
-    };
-    items.push(Item::State(peer, old, new))?;
-    Ok(true)
+fn put_state_change(peer: Peer, words: &str, items: &mut Vec<Item>) -> Option<()> {
+    let (old, new) = words.split_once(" ")?;
+    let (old, new) = (old.parse::<u16>().ok()?, new.parse::<u16>().ok()?);
+    items.push(Item::State(peer, old, new)).ok()
 }

@@ -12,11 +12,15 @@ mod events;
 mod file;
 mod group;
 mod items;
+mod marks;
 mod names;
+mod nodes;
 mod paths;
 mod player;
 mod routes;
 mod row;
+mod runs;
+mod shown;
 mod spelled;
 mod store;
 mod tally;
@@ -26,6 +30,7 @@ mod words;
 
 use file::read_rows;
 use names::Names;
+use std::alloc::Global;
 use std::fs::File;
 use std::io::{self, Read};
 use std::process::ExitCode;
@@ -46,17 +51,29 @@ fn run(rt: &HostRuntime) -> io::Result<bool> {
     let mut names = Names::new(rt.alloc());
     let mut all_agree = true;
     for name in words.iter().skip(1) {
-        let octets = octets_of(rt, name.as_str())?;
-        let mut tally = Tally::new(rt.alloc(), name.as_str());
-        match str::from_utf8(&octets) {
-            Ok(text) => read_rows(rt.alloc(), text, &mut names, &mut tally)?,
-            Err(_) => tally.deny(0, "it is no text")?,
-        }
-        tally.close()?;
-        all_agree &= tally.agrees();
-        print(rt, tally.text())?;
+        all_agree &= run_file(rt, name.as_str(), &mut names)?;
     }
     Ok(all_agree)
+}
+
+/// Carries out the rows of a file, prints how many agree, and answers whether all do.
+fn run_file(rt: &HostRuntime, name: &str, names: &mut Names) -> io::Result<bool> {
+    let octets = octets_of(rt, name)?;
+    let tally = tally_of(rt.alloc(), name, &octets, names);
+    let agrees = tally.agrees();
+    print(rt, &tally.text()?)?;
+    Ok(agrees)
+}
+
+/// Carries out the rows that octets spell.
+fn tally_of<'a>(alloc: Global, name: &'a str, octets: &[u8], names: &mut Names) -> Tally<'a> {
+    let mut tally = Tally::new(alloc, name);
+    match str::from_utf8(octets) {
+        Ok(text) => read_rows(alloc, text, names, &mut tally),
+        Err(_) => tally.deny(0, "it is no text"),
+    }
+    tally.close();
+    tally
 }
 
 /// The octets of a file.

@@ -33,3 +33,40 @@ pub fn end(alloc: Global) {
 fn mark(alloc: Global, octets: usize) -> Result<Vec<u8>, AllocError> {
     Vec::with_capacity(alloc, octets)
 }
+
+/// Which calls of a script are marked.
+#[derive(Drop)]
+pub struct Marks {
+    alloc: Global,
+    is_next: bool,
+}
+
+impl Marks {
+    /// None yet.
+    pub fn new(alloc: Global) -> Self {
+        Marks {
+            alloc,
+            is_next: false,
+        }
+    }
+
+    /// The next call is marked.
+    pub fn mark_next(&mut self) {
+        self.is_next = true;
+    }
+
+    /// A call begins.
+    pub fn begin(&self) {
+        if self.is_next {
+            begin(self.alloc);
+        }
+    }
+
+    /// The call has ended.
+    pub fn end(&mut self) {
+        if self.is_next {
+            end(self.alloc);
+        }
+        self.is_next = false;
+    }
+}

@@ -9,6 +9,16 @@ struct Named {
     octets: Vec<u8>,
 }
 
+impl Named {
+    /// A copy of both.
+    fn copied(alloc: Global, name: &str, octets: &[u8]) -> Result<Self, AllocError> {
+        Ok(Named {
+            name: String::from_str(alloc, name)?,
+            octets: Vec::from_slice(alloc, octets)?,
+        })
+    }
+}
+
 /// All names so far. Of two that are alike the later one counts.
 #[derive(Drop)]
 pub struct Names {
@@ -24,9 +34,8 @@ impl Names {
     }
 
     /// Has the name stand for these octets.
-    pub fn put(&mut self, alloc: Global, name: &str, octets: Vec<u8>) -> Result<(), AllocError> {
-        let name = String::from_str(alloc, name)?;
-        self.all.push(Named { name, octets })?;
+    pub fn put(&mut self, alloc: Global, name: &str, octets: &[u8]) -> Result<(), AllocError> {
+        self.all.push(Named::copied(alloc, name, octets)?)?;
         Ok(())
     }
 

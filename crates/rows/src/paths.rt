@@ -2,22 +2,29 @@
 //! `1 2` a sequence, `{1,2}` a set, `(1 2)` and `[1,2]` those of confederations, `-` a sequence
 //! without numbers.
 
+use crate::marks;
+use crate::shown::Shown;
+use crate::words::{REFUSED, put_count};
 use bgp_wire::{AsNumbers, AsPath, Segment, SegmentKind, Segments, merge_paths};
-use ip_prefix::put_decimal;
 use std::alloc::{AllocError, Global};
 use std::str;
 
 /// Appends the text of two paths joined, which stand in the lines of a script.
-pub fn put_joined(alloc: Global, script: &[u8], text: &mut Vec<u8>) -> Result<(), AllocError> {
-    joined(alloc, script)?.put_text(text)?;
-    text.extend_from_slice(b"\n")
+pub fn put_joined(alloc: Global, script: &[u8], text: &mut Shown) {
+    match joined(alloc, script) {
+        Ok(path) => text.put_path(&path),
+        Err(AllocError) => text.put(REFUSED),
+    }
+    text.put(b"\n");
 }
 
 /// Appends how many segments they have joined.
-pub fn put_count(alloc: Global, script: &[u8], text: &mut Vec<u8>) -> Result<(), AllocError> {
-    let path = joined(alloc, script)?;
-    put_decimal(path.segments.as_slice().len() as u64, text)?;
-    text.extend_from_slice(b" segments\n")
+pub fn put_segment_count(alloc: Global, script: &[u8], text: &mut Shown) {
+    match joined(alloc, script) {
+        Ok(path) => put_count(b"", path.segments.as_slice().len() as u64, text),
+        Err(AllocError) => text.put(REFUSED),
+    }
+    text.put(b" segments\n");
 }
 
 /// The paths in the two lines of a script, joined.
@@ -25,11 +32,14 @@ fn joined(alloc: Global, script: &[u8]) -> Result<AsPath, AllocError> {
     let mut lines = str::from_utf8(script).unwrap_or("").lines();
     let first = path_of(alloc, lines.next().unwrap_or(""))?;
     let second = path_of(alloc, lines.next().unwrap_or(""))?;
-    merge_paths(alloc, &first, &second)
+    marks::begin(alloc);
+    let joined = merge_paths(alloc, &first, &second);
+    marks::end(alloc);
+    joined
 }
 
 /// The path that a line spells.
-fn path_of(alloc: Global, line: &str) -> Result<AsPath, AllocError> {
+pub fn path_of(alloc: Global, line: &str) -> Result<AsPath, AllocError> {
     let mut segments = Vec::new(alloc);
     for part in line.split("|") {
         if !part.trim().is_empty() {

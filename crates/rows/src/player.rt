@@ -12,14 +12,16 @@
 //!     shared PEER PEER LEAST MOST         how many prefixes have one route of both, in one place
 //!     peers, longest PEER ADDRESS
 
+use crate::shown::Shown;
 use crate::watched::IsWatched;
 use crate::wire::put_fields;
-use crate::words::{UNREAD, address_word, peer_words, prefix_word, put_count, put_within};
+use crate::words::{
+    UNREAD, address_word, peer_words, prefix_word, put_count, put_peer, put_within,
+};
 use ip_prefix::Prefix;
 use mrt_wire::{Peer, Route};
 use rib_player::{Player, Table};
 use rib_store::PrefixStore;
-use std::alloc::AllocError;
 use std::rc::Rc;
 
 /// More peers, and more routes of one, than are walked over.
@@ -30,8 +32,8 @@ pub fn put_seen<S: PrefixStore<Rc<Route>> + IsWatched>(
     player: &Player<S>,
     name: &str,
     rest: &str,
-    text: &mut Vec<u8>,
-) -> Result<(), AllocError> {
+    text: &mut Shown,
+) {
     match name {
         "where" => put_place(player, text),
         "steps" => put_steps(player, text),
@@ -39,7 +41,7 @@ pub fn put_seen<S: PrefixStore<Rc<Route>> + IsWatched>(
         "peers" => put_peers(player.table(), text),
         _ => match peer_words(rest) {
             Some((peer, rest)) => put_seen_of(player.table(), name, &peer, rest, text),
-            None => text.extend_from_slice(UNREAD),
+            None => text.put(UNREAD),
         },
     }
 }
@@ -47,39 +49,37 @@ pub fn put_seen<S: PrefixStore<Rc<Route>> + IsWatched>(
 /// Appends the steps before and after the cursor.
 fn put_place<S: PrefixStore<Rc<Route>>>(
     player: &Player<S>,
-    text: &mut Vec<u8>,
-) -> Result<(), AllocError> {
-    put_count(b"at ", player.at(), text)?;
-    put_count(b" ahead ", player.ahead(), text)
+    text: &mut Shown,
+) {
+    put_count(b"at ", player.at(), text);
+    put_count(b" ahead ", player.ahead(), text);
 }
 
 /// Appends the same, and the pairs that steps name.
 fn put_steps<S: PrefixStore<Rc<Route>>>(
     player: &Player<S>,
-    text: &mut Vec<u8>,
-) -> Result<(), AllocError> {
-    put_place(player, text)?;
-    put_count(b" named ", player.named(), text)
+    text: &mut Shown,
+) {
+    put_place(player, text);
+    put_count(b" named ", player.named(), text);
 }
 
 /// Appends each peer that has routes, and how many.
 fn put_peers<S: PrefixStore<Rc<Route>>>(
     table: &Table<S>,
-    text: &mut Vec<u8>,
-) -> Result<(), AllocError> {
-    text.extend_from_slice(b"peers")?;
+    text: &mut Shown,
+) {
+    text.put(b"peers");
     let mut last: Option<Peer> = None;
     for _ in 0..MOST_WALKED {
         let Some((peer, count)) = table.peer_after(last.as_ref()) else {
             break;
         };
-        put_count(b", ", count, text)?;
-        text.extend_from_slice(b" of ")?;
-        peer.addr.put_text(text)?;
-        put_count(b" ", u64::from(peer.asn), text)?;
+        put_count(b", ", count, text);
+        text.put(b" of ");
+        put_peer(&peer, text);
         last = Some(peer);
     }
-    Ok(())
 }
 
 /// Appends what is seen of a peer.
@@ -88,12 +88,12 @@ fn put_seen_of<S: PrefixStore<Rc<Route>> + IsWatched>(
     name: &str,
     peer: &Peer,
     rest: &str,
-    text: &mut Vec<u8>,
-) -> Result<(), AllocError> {
+    text: &mut Shown,
+) {
     match name {
         "keys" | "key" | "nodes" | "calls" | "requests" | "descents" => match table.store(peer) {
             Some(store) => put_seen_in(store, name, rest, text),
-            None => text.extend_from_slice(b"no store"),
+            None => text.put(b"no store"),
         },
         "route" | "shown" => put_route(table, peer, rest, name == "shown", text),
         "after" => put_after(table, peer, rest, text),
@@ -101,9 +101,9 @@ fn put_seen_of<S: PrefixStore<Rc<Route>> + IsWatched>(
         "walk" => put_walk(table, peer, text),
         "shared" => match peer_words(rest) {
             Some((other, bounds)) => put_within(shared(table, peer, &other), bounds, text),
-            None => text.extend_from_slice(UNREAD),
+            None => text.put(UNREAD),
         },
-        _ => text.extend_from_slice(UNREAD),
+        _ => text.put(UNREAD),
     }
 }
 
@@ -112,18 +112,18 @@ fn put_seen_in<S: PrefixStore<Rc<Route>> + IsWatched>(
     store: &S,
     name: &str,
     rest: &str,
-    text: &mut Vec<u8>,
-) -> Result<(), AllocError> {
+    text: &mut Shown,
+) {
     match name {
         "keys" => put_count(b"keys ", store.key_count(), text),
         "key" => match prefix_word(rest) {
-            Some(prefix) if store.has_key(&prefix) => text.extend_from_slice(b"key"),
-            _ => text.extend_from_slice(b"no key"),
+            Some(prefix) if store.has_key(&prefix) => text.put(b"key"),
+            _ => text.put(b"no key"),
         },
         "nodes" => {
             let most = store.key_count().saturating_mul(2);
             let are_few = store.node_count().unwrap_or(0) <= most;
-            text.extend_from_slice(if are_few { b"few nodes" } else { b"many nodes" })
+            text.put(if are_few { b"few nodes" } else { b"many nodes" })
         }
         "calls" => put_within(store.calls(), rest, text),
         "requests" => put_within(store.requests(), rest, text),
@@ -137,15 +137,15 @@ fn put_route<S: PrefixStore<Rc<Route>>>(
     peer: &Peer,
     word: &str,
     is_shown: bool,
-    text: &mut Vec<u8>,
-) -> Result<(), AllocError> {
+    text: &mut Shown,
+) {
     let Some(prefix) = prefix_word(word) else {
-        return text.extend_from_slice(UNREAD);
+        return text.put(UNREAD);
     };
     match table.get(peer, &prefix) {
         Some(route) if is_shown => put_fields(&route.attrs, text),
         Some(route) => put_count(b"at ", u64::from(route.time), text),
-        None => text.extend_from_slice(b"none"),
+        None => text.put(b"none"),
     }
 }
 
@@ -154,11 +154,11 @@ fn put_after<S: PrefixStore<Rc<Route>>>(
     table: &Table<S>,
     peer: &Peer,
     word: &str,
-    text: &mut Vec<u8>,
-) -> Result<(), AllocError> {
+    text: &mut Shown,
+) {
     match table.after(peer, prefix_word(word).as_ref()) {
         Some((prefix, route)) => put_timed(&prefix, route.time, text),
-        None => text.extend_from_slice(b"none"),
+        None => text.put(b"none"),
     }
 }
 
@@ -167,40 +167,39 @@ fn put_longest<S: PrefixStore<Rc<Route>>>(
     table: &Table<S>,
     peer: &Peer,
     word: &str,
-    text: &mut Vec<u8>,
-) -> Result<(), AllocError> {
+    text: &mut Shown,
+) {
     let Some(address) = address_word(word) else {
-        return text.extend_from_slice(UNREAD);
+        return text.put(UNREAD);
     };
     match table.longest(peer, &address) {
         Some((prefix, route)) => put_timed(&prefix, route.time, text),
-        None => text.extend_from_slice(b"none"),
+        None => text.put(b"none"),
     }
 }
 
 /// Appends a prefix and the time of its route.
-fn put_timed(prefix: &Prefix, time: u32, text: &mut Vec<u8>) -> Result<(), AllocError> {
-    prefix.put_text(text)?;
-    put_count(b" at ", u64::from(time), text)
+fn put_timed(prefix: &Prefix, time: u32, text: &mut Shown) {
+    text.put_prefix(prefix);
+    put_count(b" at ", u64::from(time), text);
 }
 
 /// Appends each route of a peer.
 fn put_walk<S: PrefixStore<Rc<Route>>>(
     table: &Table<S>,
     peer: &Peer,
-    text: &mut Vec<u8>,
-) -> Result<(), AllocError> {
-    text.extend_from_slice(b"routes")?;
+    text: &mut Shown,
+) {
+    text.put(b"routes");
     let mut last = None;
     for _ in 0..MOST_WALKED {
         let Some((prefix, route)) = table.after(peer, last.as_ref()) else {
             break;
         };
-        text.extend_from_slice(b", ")?;
-        put_timed(&prefix, route.time, text)?;
+        text.put(b", ");
+        put_timed(&prefix, route.time, text);
         last = Some(prefix);
     }
-    Ok(())
 }
 
 /// How many prefixes have one route of both peers, in one place of memory.

@@ -1,14 +1,12 @@
 //! The routes that a source announces, in full, and which items share one.
 
-use crate::events::{LIMIT, put_fault, put_item, put_prefix};
+use crate::events::{LIMIT, MOST_ANSWERS, next_of, put_fault, put_item, put_prefix, word_of};
+use crate::shown::Shown;
 use crate::wire::put_attrs;
-use ip_prefix::put_decimal;
+use crate::words::put_count;
 use mrt_wire::{Event, Input, Item, Next, ReadInput, Route, Source, SourceFault, Stamp};
 use std::alloc::{AllocError, Global};
 use std::rc::Rc;
-
-/// More answers than any row has.
-const MOST_ANSWERS: u32 = 10_000;
 
 /// How long answers are kept.
 #[derive(Clone, Copy)]
@@ -31,7 +29,7 @@ struct Held {
     answers: Vec<Next>,
     routes: Vec<Rc<Route>>,
     /// What the routes said when they were announced.
-    said: Vec<u8>,
+    said: Shown,
 }
 
 impl Held {
@@ -42,15 +40,15 @@ impl Held {
             number: 0,
             answers: Vec::new(alloc),
             routes: Vec::new(alloc),
-            said: Vec::new(alloc),
+            said: Shown::new(alloc),
         }
     }
 
-    /// Holds the routes of an answer.
-    fn hold(&mut self, answer: &Next) -> Result<(), AllocError> {
-        for item in items_of(answer) {
+    /// Holds the routes of items.
+    fn hold(&mut self, items: &[Item]) -> Result<(), AllocError> {
+        for item in items {
             if let Item::Announce(_, _, route) = item {
-                put_route(route, &mut self.said)?;
+                put_route(route, &mut self.said);
                 self.routes.push(route.clone()?)?;
             }
         }
@@ -59,35 +57,36 @@ impl Held {
 
     /// Holds what is to be held of an answer, and gives it back where it is to be.
     fn keep(&mut self, source: &mut Source, answer: Next) -> Result<(), AllocError> {
+        if self.is_to_hold() {
+            self.hold(items_of(&answer))?;
+        }
+        match self.keeping {
+            Keeping::Dropped => {}
+            Keeping::Whole => self.answers.push(answer)?,
+            Keeping::Back | Keeping::Held(_) => source.take_back(answer),
+        }
+        Ok(())
+    }
+
+    /// Whether the routes of the next answer are held.
+    fn is_to_hold(&mut self) -> bool {
         self.number = self.number.saturating_add(1);
         match self.keeping {
-            Keeping::Dropped => Ok(()),
-            Keeping::Back => {
-                source.take_back(answer);
-                Ok(())
-            }
-            Keeping::Held(step) => {
-                if self.number.checked_rem(step) == Some(0) {
-                    self.hold(&answer)?;
-                }
-                source.take_back(answer);
-                Ok(())
-            }
-            Keeping::Whole => {
-                self.hold(&answer)?;
-                self.answers.push(answer)?;
-                Ok(())
-            }
+            Keeping::Dropped | Keeping::Back => false,
+            Keeping::Held(step) => self.number.checked_rem(step) == Some(0),
+            Keeping::Whole => true,
         }
     }
 
-    /// Whether the routes still say what they said.
-    fn is_as_said(&self, alloc: Global) -> Result<bool, AllocError> {
-        let mut text = Vec::new(alloc);
+    /// Appends a line where the routes don't say any more what they said.
+    fn put_changes(&self, alloc: Global, text: &mut Shown) {
+        let mut said = Shown::new(alloc);
         for route in self.routes.iter() {
-            put_route(route, &mut text)?;
+            put_route(route, &mut said);
         }
-        Ok(text == self.said)
+        if said != self.said {
+            text.put(b"routes that were held changed\n");
+        }
     }
 }
 
@@ -100,32 +99,23 @@ fn items_of(answer: &Next) -> &[Item] {
 }
 
 /// Appends the time of a route, and what its attributes say.
-fn put_route(route: &Route, text: &mut Vec<u8>) -> Result<(), AllocError> {
-    text.extend_from_slice(b" at ")?;
-    put_decimal(u64::from(route.time), text)?;
-    text.push(b' ')?;
-    put_attrs(&route.attrs, text)
+fn put_route(route: &Route, text: &mut Shown) {
+    put_count(b" at ", u64::from(route.time), text);
+    text.put(b" ");
+    put_attrs(&route.attrs, text);
 }
 
 /// Appends a line for each item that a source answers, or for another answer.
-pub fn put_routes(
-    alloc: Global,
-    keeping: Keeping,
-    octets: &[u8],
-    text: &mut Vec<u8>,
-) -> Result<(), AllocError> {
+pub fn put_routes(alloc: Global, keeping: Keeping, octets: &[u8], text: &mut Shown) {
     let mut source = Source::new(alloc, Stamp::Change, LIMIT);
     let mut input = ReadInput::new(octets);
     let mut held = Held::new(alloc, keeping);
     for _ in 0..MOST_ANSWERS {
-        if !put_next(alloc, &mut source, &mut input, &mut held, text)? {
+        if !put_next(alloc, &mut source, &mut input, &mut held, text) {
             break;
         }
     }
-    if !held.is_as_said(alloc)? {
-        text.extend_from_slice(b"routes that were held changed\n")?;
-    }
-    Ok(())
+    held.put_changes(alloc, text);
 }
 
 /// Appends what a source answers next, keeps it, and answers whether there is more.
@@ -134,86 +124,88 @@ fn put_next<I: Input>(
     source: &mut Source,
     input: &mut I,
     held: &mut Held,
-    text: &mut Vec<u8>,
-) -> Result<bool, AllocError> {
-    let Some(answer) = answered(source.next(input)) else {
-        text.extend_from_slice(b"fault\n")?;
-        return Ok(false);
-    };
-    let goes_on = put_answer(alloc, &answer, text)?;
-    held.keep(source, answer)?;
-    Ok(goes_on)
-}
-
-/// What was answered, where the source has no fault.
-fn answered(answer: Result<Next, SourceFault>) -> Option<Next> {
-    answer.ok()
+    text: &mut Shown,
+) -> bool {
+    match next_of(alloc, source, input) {
+        Ok(answer) => {
+            let goes_on = put_answer(alloc, &answer, text);
+            goes_on & held.keep(source, answer).is_ok()
+        }
+        Err(fault) => {
+            text.put(word_of(fault, source, input));
+            false
+        }
+    }
 }
 
 /// Appends an answer, and answers whether there is more.
-fn put_answer(alloc: Global, answer: &Next, text: &mut Vec<u8>) -> Result<bool, AllocError> {
+fn put_answer(alloc: Global, answer: &Next, text: &mut Shown) -> bool {
     match answer {
-        Next::Event(event) => put_lines(event.items.as_slice(), text)?,
+        Next::Event(event) => put_lines(event.items.as_slice(), text),
         Next::Bad(fault) => {
-            put_fault(alloc, fault, text)?;
-            text.push(b'\n')?;
+            put_fault(alloc, fault, text);
+            text.put(b"\n");
         }
         Next::End => {
-            text.extend_from_slice(b"end\n")?;
-            return Ok(false);
+            text.put(b"end\n");
+            return false;
         }
     }
-    Ok(true)
+    true
 }
 
 /// Appends a line for each item.
-fn put_lines(items: &[Item], text: &mut Vec<u8>) -> Result<(), AllocError> {
+fn put_lines(items: &[Item], text: &mut Shown) {
     for item in items {
         match item {
             Item::Announce(peer, prefix, route) => {
-                put_prefix(b'+', peer, prefix, text)?;
-                put_route(route, text)?;
+                put_prefix(b"+", peer, prefix, text);
+                put_route(route, text);
             }
             other => {
-                put_item(other, text)?;
-                text.push(b'\n')?;
+                put_item(other, text);
+                text.put(b"\n");
             }
         }
     }
-    Ok(())
 }
 
 /// Appends of each event a line: which items are known to share a route, and of each item the place
 /// of the first that has its route.
-pub fn put_shared(alloc: Global, octets: &[u8], text: &mut Vec<u8>) -> Result<(), AllocError> {
+pub fn put_shared(alloc: Global, octets: &[u8], text: &mut Shown) {
     let mut source = Source::new(alloc, Stamp::Dump, LIMIT);
     let mut input = ReadInput::new(octets);
     for _ in 0..MOST_ANSWERS {
-        match source.next(&mut input) {
-            Ok(Next::Event(event)) => put_sharers(&event, text)?,
-            Ok(Next::Bad(_)) => text.extend_from_slice(b"fault\n")?,
-            _ => break,
+        if !put_sharers(&source.next(&mut input), text) {
+            return;
         }
     }
-    Ok(())
+}
+
+/// Appends the line of an answer, and answers whether there is more.
+fn put_sharers(answer: &Result<Next, SourceFault>, text: &mut Shown) -> bool {
+    match answer {
+        Ok(Next::Event(event)) => put_sharers_of(event, text),
+        Ok(Next::Bad(_)) => text.put(b"fault\n"),
+        _ => return false,
+    }
+    true
 }
 
 /// Appends the line of an event.
-fn put_sharers(event: &Event, text: &mut Vec<u8>) -> Result<(), AllocError> {
+fn put_sharers_of(event: &Event, text: &mut Shown) {
     let shared = event.items.shared();
-    put_decimal(shared.start as u64, text)?;
-    text.extend_from_slice(b"..")?;
-    put_decimal(shared.end as u64, text)?;
-    text.push(b':')?;
+    text.put_number(shared.start as u64);
+    put_count(b"..", shared.end as u64, text);
+    text.put(b":");
     let items = event.items.as_slice();
     for item in items {
-        text.push(b' ')?;
         match first_with(items, item) {
-            Some(place) => put_decimal(place, text)?,
-            None => text.push(b'-')?,
+            Some(place) => put_count(b" ", place, text),
+            None => text.put(b" -"),
         }
     }
-    text.extend_from_slice(b"\n")
+    text.put(b"\n");
 }
 
 /// The place of the first item that has the route of this one.

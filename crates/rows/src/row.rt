@@ -4,6 +4,8 @@ use crate::answer::Answer;
 use crate::call::Call;
 use crate::devices::Devices;
 use crate::spelled::Spelled;
+use crate::words::REFUSED;
+use bgpdump_tool::Outcome;
 use std::alloc::Global;
 
 /// A row, as far as its lines were read.
@@ -24,6 +26,8 @@ pub struct Row {
     /// What it has to write.
     pub out: Vec<u8>,
     pub err: Vec<u8>,
+    /// What it has to write where memory is refused in the call that its script marks.
+    pub refused: Vec<u8>,
     /// The status, where the row names one.
     pub status: Option<u8>,
     /// How it ends over devices.
@@ -42,6 +46,7 @@ impl Row {
             script: Vec::new(alloc),
             out: Vec::new(alloc),
             err: Vec::new(alloc),
+            refused: Vec::new(alloc),
             status: None,
             ended: Vec::new(alloc),
         }
@@ -70,5 +75,29 @@ impl Row {
             return Some("it ends with another status");
         }
         None
+    }
+
+    /// Whether the answer is right where memory was refused in a call of the libraries: what the row
+    /// wants then, or else a front of what it wants, with the line `refused` behind it or, of a run,
+    /// with its status.
+    pub fn is_refusal(&self, answer: &Answer) -> bool {
+        if !self.refused.is_empty() {
+            return self.refused == answer.out;
+        }
+        if answer.status == Outcome::Memory.status() {
+            return self.out.starts_with(&answer.out) && self.err.starts_with(&answer.err);
+        }
+        match answer.out.strip_suffix(b"\n") {
+            Some(lines) => is_refused_front(lines, &self.out),
+            None => false,
+        }
+    }
+}
+
+/// Whether the text is a front of the other one, with the word of a refusal behind it.
+fn is_refused_front(text: &[u8], wanted: &[u8]) -> bool {
+    match text.strip_suffix(REFUSED) {
+        Some(front) => wanted.starts_with(front),
+        None => false,
     }
 }

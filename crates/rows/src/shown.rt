@@ -1,10 +1,11 @@
 //! Texts under way.
 
+use bgp_wire::{AsPath, put_communities};
 use ip_prefix::{Addr, Prefix, put_decimal};
 use std::alloc::{AllocError, Global};
 
 /// A text under way. What memory is refused for is left out, which is noted.
-#[derive(Drop)]
+#[derive(Drop, PartialEq)]
 pub struct Shown {
     octets: Vec<u8>,
     is_whole: bool,
@@ -43,6 +44,18 @@ impl Shown {
         self.note(put);
     }
 
+    /// Appends the text of a path.
+    pub fn put_path(&mut self, path: &AsPath) {
+        let put = path.put_text(&mut self.octets);
+        self.note(put);
+    }
+
+    /// Appends the text of communities.
+    pub fn put_communities(&mut self, communities: &[u32]) {
+        let put = put_communities(communities, &mut self.octets);
+        self.note(put);
+    }
+
     /// Appends a text that was made, where there was memory for it.
     pub fn put_made(&mut self, made: Result<String, AllocError>) {
         match made {
@@ -58,15 +71,10 @@ impl Shown {
     }
 
     /// Notes that something was left out, where memory was refused.
-    pub fn note(&mut self, put: Result<(), AllocError>) {
+    fn note(&mut self, put: Result<(), AllocError>) {
         if put.is_err() {
             self.is_whole = false;
         }
-    }
-
-    /// What stands there so far, for calls that append to it. What they answer is noted.
-    pub fn octets(&mut self) -> &mut Vec<u8> {
-        &mut self.octets
     }
 
     /// The text, where nothing was left out.

@@ -31,19 +31,20 @@ fn digit_value(digit: u8) -> Option<u8> {
     }
 }
 
-/// Appends the octets that digits spell, two for each, and answers whether they are digits.
-pub fn put_digits(word: &str, octets: &mut Vec<u8>) -> Result<bool, AllocError> {
+/// Appends the octets that digits spell, two for each, and answers whether they do.
+pub fn put_digits(word: &str, octets: &mut Vec<u8>) -> bool {
     let mut high = None;
+    let mut are_digits = true;
     for digit in word.bytes() {
         let Some(value) = digit_value(digit) else {
-            return Ok(false);
+            return false;
         };
         match high.take() {
             None => high = Some(value),
-            Some(first) => octets.push(first << 4 | value)?,
+            Some(first) => are_digits &= octets.push(first << 4 | value).is_ok(),
         }
     }
-    Ok(high.is_none())
+    are_digits && high.is_none()
 }
 
 impl Spelled {
@@ -69,49 +70,47 @@ impl Spelled {
     }
 
     /// Appends what the words spell, and answers whether each spells something.
-    pub fn put_words(&mut self, names: &Names, words: &str) -> Result<bool, AllocError> {
+    pub fn put_words(&mut self, names: &Names, words: &str) -> bool {
         let mut are_known = true;
         for word in words.split_whitespace() {
-            are_known &= self.put_word(names, word)?;
+            are_known &= self.put_word(names, word);
         }
-        Ok(are_known)
+        are_known
     }
 
     /// Appends what a word spells, and answers whether it spells something.
-    fn put_word(&mut self, names: &Names, word: &str) -> Result<bool, AllocError> {
+    fn put_word(&mut self, names: &Names, word: &str) -> bool {
         if word == "}" {
             return self.end_group();
         }
         if let Some(group) = Group::begun_by(word) {
             let start = self.octets.len();
-            self.open.push(Open { group, start })?;
-            return Ok(true);
+            return self.open.push(Open { group, start }).is_ok();
         }
         match names.get(word) {
-            Some(octets) => {
-                self.octets.extend_from_slice(octets)?;
-                Ok(true)
-            }
+            Some(octets) => self.octets.extend_from_slice(octets).is_ok(),
             None => put_digits(word, &mut self.octets),
         }
     }
 
     /// Ends the group that was begun last, and answers whether there is one.
-    fn end_group(&mut self) -> Result<bool, AllocError> {
-        let Some(open) = self.open.pop() else {
-            return Ok(false);
-        };
-        let Some(body) = self.octets.get(open.start..) else {
-            return Ok(false);
-        };
+    fn end_group(&mut self) -> bool {
+        match self.open.pop() {
+            Some(open) => self.put_group(open).is_ok(),
+            None => false,
+        }
+    }
+
+    /// Puts a group in the place of its octets.
+    fn put_group(&mut self, open: Open) -> Result<(), AllocError> {
+        let body = self.octets.get(open.start..).unwrap_or(&[]);
         let mut body = Vec::from_slice(self.alloc, body)?;
         if matches!(open.group, Group::Front) {
             self.fronts = self.fronts.max(body.len());
             body.truncate(self.cut);
         }
         self.octets.truncate(open.start);
-        open.group.put(&body, &mut self.octets)?;
-        Ok(true)
+        open.group.put(&body, &mut self.octets)
     }
 
     /// The octets so far, where each group is ended.

@@ -10,10 +10,16 @@
 //!     few                                 whether there are at most two nodes a key
 //!     nodes, met COUNT ADDRESS            how many there are, and a look-up meets beside a count
 //!     descend WORD..                      a prefix adds a descent, and `end` finishes all
+//!     mark                                the next line is marked, for those who refuse memory
 //!
 //! Each is answered by a line.
 
-use crate::words::{address_word, number_word, prefix_word, put_count};
+use crate::marks::Marks;
+use crate::nodes::HasNodes;
+use crate::shown::Shown;
+use crate::words::{
+    REFUSED, UNREAD, address_word, number_word, prefix_word, put_count, split_word,
+};
 use ip_prefix::{Addr, Prefix};
 use rib_store::{Descents, LeftStore, MapStore, PrefixStore, RadixStore};
 use std::alloc::{AllocError, Global};
@@ -22,34 +28,23 @@ use std::str;
 /// More room than any row asks for.
 const MOST_ROOM: u64 = 1_000;
 
-/// What is answered to a line that can't be read.
-const UNREAD: &[u8] = b"unread";
+/// More octets than a line is answered by that is marked.
+const ROOM: usize = 1 << 10;
 
-/// A store that may have nodes.
-pub trait HasNodes: PrefixStore<u32> {
-    /// How many nodes it has, where it has any.
-    fn node_count(&self) -> Option<u64>;
-
+/// A store whose look-ups may count.
+pub trait CountsMet: PrefixStore<u32> + HasNodes {
     /// The longest prefix with a route, by a look-up that adds the nodes that it meets to a count,
     /// where it counts them.
     fn longest_met(&self, addr: &Addr, met: &mut u32) -> Option<(Prefix, u32)>;
 }
 
-impl HasNodes for MapStore<u32> {
-    fn node_count(&self) -> Option<u64> {
-        None
-    }
-
+impl CountsMet for MapStore<u32> {
     fn longest_met(&self, addr: &Addr, _met: &mut u32) -> Option<(Prefix, u32)> {
         longest(self, addr)
     }
 }
 
-impl HasNodes for RadixStore<u32> {
-    fn node_count(&self) -> Option<u64> {
-        Some(self.nodes())
-    }
-
+impl CountsMet for RadixStore<u32> {
     fn longest_met(&self, addr: &Addr, met: &mut u32) -> Option<(Prefix, u32)> {
         let most = u64::from(*met) + u64::from(addr.family().width()) + 1;
         if most > u64::from(u32::MAX) {
@@ -62,11 +57,7 @@ impl HasNodes for RadixStore<u32> {
     }
 }
 
-impl<S: PrefixStore<u32>> HasNodes for LeftStore<S> {
-    fn node_count(&self) -> Option<u64> {
-        None
-    }
-
+impl<S: PrefixStore<u32>> CountsMet for LeftStore<S> {
     fn longest_met(&self, addr: &Addr, _met: &mut u32) -> Option<(Prefix, u32)> {
         longest(self, addr)
     }
@@ -89,27 +80,31 @@ fn after<S: PrefixStore<u32>>(store: &S, low: Option<&Prefix>) -> Option<(Prefix
 }
 
 /// Appends what a new store answers to the lines.
-pub fn put_stored<S: HasNodes>(
-    alloc: Global,
-    script: &[u8],
-    text: &mut Vec<u8>,
-) -> Result<(), AllocError> {
+pub fn put_stored<S: CountsMet>(alloc: Global, script: &[u8], text: &mut Shown) {
     let mut store = S::new(alloc);
+    let mut marks = Marks::new(alloc);
     for line in str::from_utf8(script).unwrap_or("").lines() {
-        put_answer(alloc, &mut store, line, text)?;
-        text.extend_from_slice(b"\n")?;
+        if line == "mark" {
+            text.reserve(ROOM);
+            text.put(b"marked");
+            marks.mark_next();
+        } else {
+            marks.begin();
+            put_answer(alloc, &mut store, line, text);
+            marks.end();
+        }
+        text.put(b"\n");
     }
-    Ok(())
 }
 
 /// Appends what the store answers to a line.
-fn put_answer<S: HasNodes>(
+fn put_answer<S: CountsMet>(
     alloc: Global,
     store: &mut S,
     line: &str,
-    text: &mut Vec<u8>,
-) -> Result<(), AllocError> {
-    let (name, rest) = line.split_once(" ").unwrap_or((line, ""));
+    text: &mut Shown,
+) {
+    let (name, rest) = split_word(line);
     match name {
         "next" => put_next(alloc, store, rest, text),
         "after" => put_found(after(store, prefix_word(rest).as_ref()), text),
@@ -121,15 +116,15 @@ fn put_answer<S: HasNodes>(
 }
 
 /// Appends what is answered at a prefix.
-fn put_at<S: HasNodes>(
+fn put_at<S: CountsMet>(
     store: &mut S,
     name: &str,
     rest: &str,
-    text: &mut Vec<u8>,
-) -> Result<(), AllocError> {
-    let (word, rest) = rest.split_once(" ").unwrap_or((rest, ""));
+    text: &mut Shown,
+) {
+    let (word, rest) = split_word(rest);
     let Some(prefix) = prefix_word(word) else {
-        return text.extend_from_slice(UNREAD);
+        return text.put(UNREAD);
     };
     match (name, route_word(rest)) {
         ("ensure", _) => put_made(store.ensure(prefix), text),
@@ -138,7 +133,7 @@ fn put_at<S: HasNodes>(
         ("get", _) => put_route(b"", store.get(&prefix).copied(), text),
         ("put", Some(route)) => put_put(store, &prefix, route, text),
         ("exchange", Some(route)) => put_exchanged(store, &prefix, route, text),
-        _ => text.extend_from_slice(UNREAD),
+        _ => text.put(UNREAD),
     }
 }
 
@@ -151,170 +146,176 @@ fn route_word(word: &str) -> Option<Option<u32>> {
 }
 
 /// Appends whether a key is new.
-fn put_made(made: Result<bool, AllocError>, text: &mut Vec<u8>) -> Result<(), AllocError> {
+fn put_made(made: Result<bool, AllocError>, text: &mut Shown) {
     let word = match made {
         Ok(true) => "new",
         Ok(false) => "known",
         Err(_) => "refused",
     };
-    text.extend_from_slice(word.as_bytes())
+    text.put(word.as_bytes());
 }
 
 /// Appends whether there is a key.
-fn put_key(is_key: bool, text: &mut Vec<u8>) -> Result<(), AllocError> {
+fn put_key(is_key: bool, text: &mut Shown) {
     let word = if is_key { "key" } else { "no key" };
-    text.extend_from_slice(word.as_bytes())
+    text.put(word.as_bytes());
 }
 
 /// Appends a word and a route, or that there is none.
-fn put_route(word: &[u8], route: Option<u32>, text: &mut Vec<u8>) -> Result<(), AllocError> {
-    text.extend_from_slice(word)?;
+fn put_route(word: &[u8], route: Option<u32>, text: &mut Shown) {
+    text.put(word);
     match route {
         Some(route) => put_count(b"", u64::from(route), text),
-        None => text.extend_from_slice(b"none"),
+        None => text.put(b"none"),
     }
 }
 
 /// Appends a prefix and its route, or that there is none.
-fn put_found(found: Option<(Prefix, u32)>, text: &mut Vec<u8>) -> Result<(), AllocError> {
+fn put_found(found: Option<(Prefix, u32)>, text: &mut Shown) {
     match found {
         Some((prefix, route)) => {
-            prefix.put_text(text)?;
+            text.put_prefix(&prefix);
             put_count(b" ", u64::from(route), text)
         }
-        None => text.extend_from_slice(b"none"),
+        None => text.put(b"none"),
     }
 }
 
 /// Puts a route, and appends whether the key is new, and which route it had.
-fn put_put<S: HasNodes>(
+fn put_put<S: CountsMet>(
     store: &mut S,
     prefix: &Prefix,
     route: Option<u32>,
-    text: &mut Vec<u8>,
-) -> Result<(), AllocError> {
+    text: &mut Shown,
+) {
     let mut given = route;
-    put_made(store.put(prefix, &mut given), text)?;
-    put_route(b", had ", given, text)
+    put_made(store.put(prefix, &mut given), text);
+    put_route(b", had ", given, text);
 }
 
 /// Exchanges the route of a key, and appends which one it had.
-fn put_exchanged<S: HasNodes>(
+fn put_exchanged<S: CountsMet>(
     store: &mut S,
     prefix: &Prefix,
     route: Option<u32>,
-    text: &mut Vec<u8>,
-) -> Result<(), AllocError> {
+    text: &mut Shown,
+) {
     if !store.has_key(prefix) {
         return put_key(false, text);
     }
     let mut given = route;
     store.exchange(prefix, &mut given);
-    put_route(b"had ", given, text)
+    put_route(b"had ", given, text);
 }
 
 /// Discards a key that has no route, and appends whether it was one.
-fn put_discarded<S: HasNodes>(
+fn put_discarded<S: CountsMet>(
     store: &mut S,
     prefix: &Prefix,
-    text: &mut Vec<u8>,
-) -> Result<(), AllocError> {
+    text: &mut Shown,
+) {
     if !store.has_key(prefix) {
         return put_key(false, text);
     }
     if store.get(prefix).is_some() {
-        return text.extend_from_slice(b"has a route");
+        return text.put(b"has a route");
     }
     store.discard(prefix);
-    text.extend_from_slice(b"gone")
+    text.put(b"gone");
 }
 
 /// Appends what a look-up of an address answers, and the count where one stands before the address.
-fn put_longest<S: HasNodes>(store: &S, rest: &str, text: &mut Vec<u8>) -> Result<(), AllocError> {
+fn put_longest<S: CountsMet>(store: &S, rest: &str, text: &mut Shown) {
     if let Some(addr) = address_word(rest) {
         return put_found(longest(store, &addr), text);
     }
-    let (count, rest) = rest.split_once(" ").unwrap_or((rest, ""));
+    let (count, rest) = split_word(rest);
     let (Some(mut met), Some(addr)) = (count.parse::<u32>().ok(), address_word(rest)) else {
-        return text.extend_from_slice(UNREAD);
+        return text.put(UNREAD);
     };
-    put_found(store.longest_met(&addr, &mut met), text)?;
-    put_count(b", met ", u64::from(met), text)
+    put_found(store.longest_met(&addr, &mut met), text);
+    put_count(b", met ", u64::from(met), text);
 }
 
 /// Appends the next routes, as many as there is room for.
-fn put_next<S: HasNodes>(
-    alloc: Global,
-    store: &S,
-    rest: &str,
-    text: &mut Vec<u8>,
-) -> Result<(), AllocError> {
-    let (word, rest) = rest.split_once(" ").unwrap_or((rest, ""));
+fn put_next<S: CountsMet>(alloc: Global, store: &S, rest: &str, text: &mut Shown) {
+    let (word, rest) = split_word(rest);
     let room = number_word(word).unwrap_or(0).min(MOST_ROOM);
-    let mut found = Vec::with_capacity(alloc, room as usize)?;
-    store.next_routes(prefix_word(rest).as_ref(), &mut found);
-    put_all(&found, text)
+    let low = prefix_word(rest);
+    match Vec::with_capacity(alloc, room as usize) {
+        Ok(found) => put_next_in(store, low.as_ref(), found, text),
+        Err(AllocError) => text.put(REFUSED),
+    }
+}
+
+/// Appends the next routes, as many as there is room for in the list.
+fn put_next_in<'a, S: CountsMet>(
+    store: &'a S,
+    low: Option<&Prefix>,
+    found: Vec<(Prefix, &'a u32)>,
+    text: &mut Shown,
+) {
+    let mut found = found;
+    store.next_routes(low, &mut found);
+    put_all(&found, text);
 }
 
 /// Appends these routes.
-fn put_all(found: &[(Prefix, &u32)], text: &mut Vec<u8>) -> Result<(), AllocError> {
-    text.extend_from_slice(b"routes")?;
+fn put_all(found: &[(Prefix, &u32)], text: &mut Shown) {
+    text.put(b"routes");
     for (prefix, route) in found {
-        text.extend_from_slice(b", ")?;
-        put_found(Some((*prefix, **route)), text)?;
+        text.put(b", ");
+        put_found(Some((*prefix, **route)), text);
     }
-    Ok(())
 }
 
 /// Appends how many nodes descents pass, as each is added or all are finished.
-fn put_descents<S: HasNodes>(store: &S, words: &str, text: &mut Vec<u8>) -> Result<(), AllocError> {
+fn put_descents<S: CountsMet>(store: &S, words: &str, text: &mut Shown) {
     let mut descents = Descents::new();
-    text.extend_from_slice(b"passed")?;
+    text.put(b"passed");
     for word in words.split(" ") {
         let passed = match prefix_word(word) {
             Some(prefix) => descents.add(store.descent(&prefix)),
             None => descents.finish(),
         };
-        put_count(b" ", passed, text)?;
+        put_count(b" ", passed, text);
     }
-    Ok(())
 }
 
 /// Appends what is answered of the whole store.
-fn put_whole<S: HasNodes>(store: &S, name: &str, text: &mut Vec<u8>) -> Result<(), AllocError> {
+fn put_whole<S: CountsMet>(store: &S, name: &str, text: &mut Shown) {
     match name {
         "walk" => put_walk(store, text),
         "counts" => {
-            put_count(b"keys ", store.key_count(), text)?;
+            put_count(b"keys ", store.key_count(), text);
             put_count(b" routes ", store.route_count(), text)
         }
         "few" => put_few(store, text),
         _ => match store.node_count() {
             Some(nodes) => put_count(b"nodes ", nodes, text),
-            None => text.extend_from_slice(b"no nodes"),
+            None => text.put(b"no nodes"),
         },
     }
 }
 
 /// Appends each route, and one more than are counted, should there be.
-fn put_walk<S: HasNodes>(store: &S, text: &mut Vec<u8>) -> Result<(), AllocError> {
-    text.extend_from_slice(b"routes")?;
+fn put_walk<S: CountsMet>(store: &S, text: &mut Shown) {
+    text.put(b"routes");
     let mut last = None;
     for _ in 0..=store.route_count() {
         let Some((prefix, route)) = after(store, last.as_ref()) else {
             break;
         };
-        text.extend_from_slice(b", ")?;
-        put_found(Some((prefix, route)), text)?;
+        text.put(b", ");
+        put_found(Some((prefix, route)), text);
         last = Some(prefix);
     }
-    Ok(())
 }
 
 /// Appends whether there are at most two nodes a key.
-fn put_few<S: HasNodes>(store: &S, text: &mut Vec<u8>) -> Result<(), AllocError> {
+fn put_few<S: CountsMet>(store: &S, text: &mut Shown) {
     let most = store.key_count().saturating_mul(2);
     let is_few = store.node_count().unwrap_or(0) <= most;
     let word = if is_few { "few nodes" } else { "many nodes" };
-    text.extend_from_slice(word.as_bytes())
+    text.put(word.as_bytes());
 }

@@ -1,29 +1,12 @@
 //! A store that is watched: it makes as many new keys as it may, and counts what is asked of it.
 
+use crate::nodes::HasNodes;
 use ip_prefix::{Addr, Prefix};
 use mrt_wire::Route;
-use rib_store::{Descent, MapStore, PrefixStore, RadixStore};
+use rib_store::{Descent, PrefixStore};
 use std::alloc::{AllocError, Global};
 use std::cell::Cell;
 use std::rc::Rc;
-
-/// A store that may have nodes.
-pub trait HasNodes {
-    /// How many nodes it has, where it has any.
-    fn node_count(&self) -> Option<u64>;
-}
-
-impl HasNodes for MapStore<Rc<Route>> {
-    fn node_count(&self) -> Option<u64> {
-        None
-    }
-}
-
-impl HasNodes for RadixStore<Rc<Route>> {
-    fn node_count(&self) -> Option<u64> {
-        Some(self.nodes())
-    }
-}
 
 /// What is seen of a store from outside.
 pub trait IsWatched {
