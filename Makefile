@@ -5,9 +5,8 @@ NAME ?= bgpdump
 
 SOURCES := crates.txt $(shell find crates -name out -prune -o -type f -print)
 
-# What the checks of the built program run, that of calls for which memory is refused, and that of rows.
+# What the checks of the built program run, and that of rows.
 PROGRAM ?= bin/bgpdump
-CASES ?= bin/refusals
 ROWS ?= bin/rows
 
 .PHONY: all demo test edits checks bench install deb clean
@@ -31,8 +30,7 @@ test:
 	checks/sizes.py
 	checks/trusted.py
 	rt ci
-	$(MAKE) --no-print-directory checks PROGRAM=crates/bgpdump/out/bgpdump \
-		CASES=crates/refusals/out/refusals ROWS=crates/rows/out/rows
+	$(MAKE) --no-print-directory checks PROGRAM=crates/bgpdump/out/bgpdump ROWS=crates/rows/out/rows
 
 # The edits of inner functions, which the gate doesn't try: minutes to hours. CRATE=.. tries those of
 # that crate alone, CRATE=../EDIT one edit, whether the gate tries it or not.
@@ -42,7 +40,7 @@ edits:
 # Its texts and statuses, over examples/, inputs of their own and damaged files, rows that are made, the
 # package for Debian, the commands of the cookbook, and the form of the manual page, where mandoc is
 # there.
-checks: $(PROGRAM) $(CASES) $(ROWS)
+checks: $(PROGRAM) $(ROWS)
 	examples/demo.sh $(PROGRAM) >/dev/null
 	checks/program.py $(PROGRAM)
 	checks/damage.py $(PROGRAM)
@@ -50,7 +48,7 @@ checks: $(PROGRAM) $(CASES) $(ROWS)
 	checks/players.py $(ROWS)
 	checks/stores.py $(ROWS)
 	checks/rows_large.py $(ROWS)
-	checks/refusals.py $(PROGRAM) --cases $(CASES)
+	checks/refusals.py $(PROGRAM) --rows $(ROWS)
 	checks/shapes.py $(PROGRAM)
 	checks/slow_input.py $(PROGRAM)
 	checks/package.py $(PROGRAM)
@@ -65,11 +63,6 @@ bin/store_bench: $(SOURCES)
 	cd crates/store_bench && rt run
 	mkdir -p bin
 	cp crates/store_bench/out/store_bench $@
-
-bin/refusals: $(SOURCES)
-	cd crates/refusals && rt run
-	mkdir -p bin
-	cp crates/refusals/out/refusals $@
 
 bin/rows: $(SOURCES)
 	cd crates/rows && rt run -- data/changes.rows

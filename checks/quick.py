@@ -134,14 +134,6 @@ def faults_of_examples():
                 yield TOP / 'examples', f'it has no {name}.{kind}'
 
 
-def faults_of_cases():
-    """The cases of crates/refusals, which its program prints, stand in what the gate compares."""
-    crate = TOP / 'crates/refusals'
-    listed = (crate / 'src/case.rt').read_text().partition('pub const CASES')[2]
-    if re.findall(r'\(\s*"([\w-]+)"', listed) != (crate / 'stdout').read_text().split():
-        yield crate / 'stdout', 'it lists other cases than src/case.rt'
-
-
 def faults_of_rows():
     """The gate carries out each file of rows, and wants all of its rows to agree."""
     crate = TOP / 'crates/rows'
@@ -168,7 +160,7 @@ def main():
     found = [
         (place, fault)
         for faults in (faults_of_edits, faults_of_named_edits, faults_of_format, faults_of_crates, faults_of_links,
-                       faults_of_examples, faults_of_cases, faults_of_rows, faults_of_version)
+                       faults_of_examples, faults_of_rows, faults_of_version)
         for place, fault in faults()
     ]
     for place, fault in found:

@@ -1,7 +1,7 @@
 #!/usr/bin/env python3
 """Runs the built program, and calls of the libraries, with each request for memory refused and more.
 
-    checks/refusals.py [PROGRAM] [--cases CASES]
+    checks/refusals.py [PROGRAM] [--rows ROWS]
 
 A library that is loaded before the C library, refusing.c beside this file, counts the calls and lets
 them fail; it takes a C compiler. Where nothing fails, `-m` prints what stands beside the example. Of
@@ -10,7 +10,7 @@ alone, and then it and all behind it. Then each read and each write fails, or mo
 Whatever fails, the outputs are fronts of the right texts, the status is that of the manual page, and
 the last message is there. A long file asks for memory as often as a short one.
 
-CASES is the program of crates/refusals: refused_calls.py says what becomes of its calls.
+ROWS is the program of crates/rows: refused_calls.py says what becomes of its calls.
 """
 import argparse
 import errno
@@ -19,7 +19,7 @@ import tempfile
 from pathlib import Path
 
 from calling import ALL, Calls
-from refused_calls import faults_of_cases
+from refused_calls import faults_of_rows
 from steady_memory import faults_of_long_runs
 
 EXAMPLES = Path(__file__).resolve().parent.parent / 'examples'
@@ -117,9 +117,9 @@ def faults_of_program(calls):
 def main():
     words = argparse.ArgumentParser(usage=__doc__, add_help=False)
     words.add_argument('program', nargs='?', type=Path)
-    words.add_argument('--cases', type=Path)
+    words.add_argument('--rows', type=Path)
     asked = words.parse_args()
-    if asked.program is None and asked.cases is None:
+    if asked.program is None and asked.rows is None:
         sys.exit(__doc__)
     faults = []
     with tempfile.TemporaryDirectory() as folder:
@@ -127,8 +127,8 @@ def main():
             calls = Calls(asked.program.resolve(), Path(folder))
             faults += faults_of_program(calls)
             faults += faults_of_long_runs(calls)
-        if asked.cases:
-            faults += faults_of_cases(Calls(asked.cases.resolve(), Path(folder), marked=True))
+        if asked.rows:
+            faults += faults_of_rows(Calls(asked.rows.resolve(), Path(folder), marked=True))
     for what in faults:
         print(what)
     print('refusals: %s' % ('no faults' if not faults else '%d faults' % len(faults)))

@@ -1,147 +1,116 @@
 """Calls of the libraries with each of their requests for memory refused.
 
-The program of crates/refusals makes one call in each of its cases, and compares what has to stand where
-memory was refused, and else the answer. It marks where the call begins and ends, so that neither its
-arguments nor its comparing count. Of each call the first request is refused, then the second and so on
-until none is met, each alone, and then it and all behind it. Behind a refused step the players go back
-and forth where each request is refused, and are to make none; so does what forgets steps.
+The program of crates/rows makes the calls of a row, and compares what has to stand where memory was refused, and else
+the answer. It marks where a call begins and ends, so that neither what it is given nor comparing counts. Here these are
+the rows of crates/rows/data/memory.rows and of refused_steps.py, one at a time. Of the calls of each the first request
+is refused, then the second and so on until none is met, each alone, and then it and all behind it. Behind a refused step
+the players go back and forth where each request is refused, and are to make none; so does what forgets steps.
 """
 from itertools import count
+from pathlib import Path
 
 from calling import ALL
+from refused_steps import rows_of_steps
 
-# Of the requests of each call, each refused alone, how many the call answers with Memory, and how many it does
-# without. So a refusal that is swallowed shows, and a new request. The check prints these lines as it finds them; a
-# case without one is a fault.
+DATA = Path(__file__).resolve().parent.parent / 'crates' / 'rows' / 'data'
+
+# Of the requests of each row, each refused alone, how many its calls answer as refused, and how many they do without. So
+# a refusal that is swallowed shows, and a new request. The check prints these lines as it finds them; a row without one
+# is a fault.
 KNOWN = {
-    'text-of-an-address': (1, 0),
-    'text-of-a-prefix': (1, 0),
-    'text-of-a-path': (1, 0),
-    'text-of-a-decimal': (1, 0),
-    'text-of-communities': (1, 0),
-    'lines-of-a-table-entry': (1, 0),
-    'lines-of-an-update': (1, 0),
-    'attributes-of-a-table-entry': (5, 0),
-    'attributes-of-an-ipv6-entry': (0, 0),
-    'message-with-both-families': (6, 0),
-    'message-with-as4-path': (8, 0),
-    'message-with-a-withdrawal': (4, 0),
-    'merged-paths': (4, 0),
-    'next-is-an-index': (2, 0),
-    'next-is-a-table-entry': (10, 0),
-    'next-is-an-ipv6-entry': (5, 0),
-    'next-is-an-update': (11, 0),
-    'next-has-an-as4-path': (12, 0),
-    'next-is-an-old-entry': (13, 0),
-    'next-behind-a-taken-entry': (6, 0),
-    'next-behind-a-taken-update': (5, 0),
-    'next-is-an-old-entry-behind-a-taken-one': (10, 0),
-    'first-key-of-a-tree': (0, 0),
-    'key-of-a-tree': (1, 0),
-    'first-key-of-a-map': (1, 0),
-    'key-of-a-map': (2, 0),
-    'put-into-an-empty-tree': (0, 0),
-    'put-into-a-tree': (1, 0),
-    'put-into-an-empty-map': (1, 0),
-    'put-into-a-map': (2, 0),
-    'put-at-the-only-key-of-a-tree': (0, 0),
-    'put-at-a-key-of-a-tree': (0, 0),
-    'put-at-the-only-key-of-a-map': (0, 0),
-    'put-at-a-key-of-a-map': (0, 0),
-    'play-for-two-new-peers': (6, 0),
-    'play-for-two-new-peers-over-a-map': (6, 0),
-    'play-ipv6-for-two-new-peers': (10, 0),
-    'play-over-a-route': (2, 0),
-    'play-over-a-route-behind-a-floor': (2, 0),
-    'play-a-route-that-comes-again': (5, 0),
-    'play-behind-1024-steps': (4, 0),
-    'play-behind-1100-steps': (3, 0),
-    'play-behind-5000-steps-but-one-forgotten': (3, 1),
-    'play-over-a-thousand-routes-that-differ': (2, 1),
-    'play-a-loss-with-two-steps-ahead': (2, 0),
-    'play-one-route-more-than-a-thousand': (3, 0),
-    'play-the-loss-of-a-thousand-routes': (4, 0),
-    'play-a-thousand-routes': (1002, 0),
-    'forget-all-steps': (0, 0),
-    'forget-all-steps-before-others': (0, 0),
-    'forget-most-steps-before-others': (0, 0),
-    'forget-steps-behind-a-floor': (0, 0),
-    'forget-steps-by-turns-before-others': (0, 0),
-    'forget-steps-of-routes-that-come-again': (0, 0),
-    'dump-of-a-table': (13, 0),
-    'dump-of-an-ipv6-table': (8, 0),
-    'dump-of-an-old-table': (14, 0),
-    'dump-of-updates': (12, 0),
-    'dump-of-an-as4-path': (13, 0),
-    'dump-of-two-peers': (15, 0),
-    'script-over-updates': (20, 2),
-    'script-over-two-peers': (30, 2),
-    'script-that-prints-a-large-table': (118, 4),
-    'settings-of-lines': (25, 0),
-    'settings-of-no-mode': (21, 0),
-    'settings-of-two-modes': (33, 0),
-    'settings-of-two-inputs': (30, 0),
 }
 
 # The most requests, where more would tell that a step costs what the table holds.
-MOST = {'play-one-route-more-than-a-thousand': 59}
-
-# What the calls of a kind mark, by the first word of their names: how many are begun, and how often it goes on where
-# each request is refused. `forget` is called there alone.
-MARKED = {'play': (1, 1), 'forget': (0, 1)}
+MOST = {'one route more than a thousand': 59}
 
 
-def fault(name, what, ended):
+class Row:
+    """A row in a file of its own, and what the program has to mark: calls, and stretches without memory."""
+
+    def __init__(self, path, names, text):
+        self.words = [str(path)]
+        path.write_text(names + text)
+        head, script = text.split('\n', 1)
+        kind, self.title = head.split(': ', 1)
+        self.is_player = kind.startswith('player')
+        stores = 2 if kind == 'player' else 1
+        self.unaided = stores * script.count(': alone\n')
+        self.begun = stores * script.count(': mark\n')
+        self.right = f'{path}: 1 rows agree\n'.encode()
+        self.refused = f'{path}: 0 rows agree, 1 are refused memory\n'.encode()
+
+    def is_answered(self, ended, *outputs):
+        """Whether the row ended so, and where each request is refused there was none."""
+        is_marked = ended.begun == self.begun if self.is_player else ended.begun > 0
+        return (ended.err, ended.unaided, ended.asked) == (b'', self.unaided, 0) and is_marked and \
+            ended.out in outputs and ended.status == (ended.out != self.right)
+
+
+def rows_of_file(path):
+    """The names that a file of rows gives, and its rows."""
+    names, rows = [], []
+    for part in path.read_text().split('\n\n'):
+        lines = [line for line in part.split('\n') if line and not line.startswith('#')]
+        if lines and ': ' in lines[0]:
+            rows.append('\n'.join([*lines, '']))
+        elif lines:
+            names.append('\n'.join([*lines, '']))
+    return ''.join(names), rows
+
+
+def all_rows(folder):
+    """Each row, in a file of its own."""
+    names, rows = rows_of_file(DATA / 'memory.rows')
+    for number, text in enumerate(rows):
+        yield Row(folder / f'memory-{number}.rows', names, text)
+    for number, text in enumerate(rows_of_steps()):
+        yield Row(folder / f'steps-{number}.rows', '', text)
+
+
+def fault(row, what, ended):
     return '%s, %s: status %d, %r, and %d requests where none is to be made' % (
-        name, what, ended.status, (ended.out + ended.err)[-120:], ended.asked)
+        row.title, what, ended.status, (ended.out + ended.err)[-300:], ended.asked)
 
 
-def answers(ended, name, *outputs):
-    """Whether the case saw one of these, and where each request is refused there was none."""
-    marked = MARKED.get(name.split('-')[0], (1, 0))
-    return (ended.status, ended.err) == (0, b'') and ended.out in outputs and \
-        (ended.begun, ended.unaided, ended.asked) == (*marked, 0)
-
-
-def refuse(calls, name):
-    """Refuses the requests of a case: how many are refused, how many it does without, and what is wrong."""
+def refuse(calls, row):
+    """Refuses the requests of a row: how many are refused, how many it does without, and what is wrong."""
     faults, refused = [], 0
     for number in count(1):
         for last in (number, ALL):
-            ended = calls.run([name], 'memory', number, last)
-            wanted = (b'answered\n', b'refused\n') if ended.failed else (b'answered\n',)
-            if not answers(ended, name, *wanted):
+            ended = calls.run(row.words, 'memory', number, last)
+            wanted = (row.right, row.refused) if ended.failed else (row.right,)
+            if not row.is_answered(ended, *wanted):
                 others = ' and all behind it' if last == ALL else ''
-                faults.append(fault(name, 'request %d%s refused' % (number, others), ended))
-            refused += last == number and ended.out == b'refused\n'
+                faults.append(fault(row, 'request %d%s refused' % (number, others), ended))
+            refused += last == number and ended.out == row.refused
         if ended.failed == 0 or faults:
             return refused, number - 1 - refused, faults
 
 
-def faults_of_numbers(name, made, found):
+def faults_of_numbers(title, made, found):
     """What is wrong with how many requests are refused and done without."""
     if sum(found) != made:
-        yield '%s: of %d requests %d were met' % (name, made, sum(found))
-    if made > MOST.get(name, ALL):
-        yield '%s: %d requests are too many' % (name, made)
-    if found != KNOWN.get(name):
-        yield '%s: %s is known, and %d and %d were seen' % (name, KNOWN.get(name, 'nothing'), *found)
+        yield '%s: of %d requests %d were met' % (title, made, sum(found))
+    if made > MOST.get(title, ALL):
+        yield '%s: %d requests are too many' % (title, made)
+    if found != KNOWN.get(title):
+        yield '%s: %s is known, and %d and %d were seen' % (title, KNOWN.get(title, 'nothing'), *found)
 
 
-def faults_of_case(calls, name):
-    """Runs a case, prints how many requests it makes, and gives what is wrong."""
-    right = calls.run([name])
-    if not answers(right, name, b'answered\n'):
-        return [fault(name, 'with all that it asks for', right)]
-    refused, without, faults = refuse(calls, name)
-    print("    '%s': (%d, %d)," % (name, refused, without), flush=True)
-    return faults or list(faults_of_numbers(name, right.made['memory'], (refused, without)))
+def faults_of_row(calls, row):
+    """Runs a row, prints how many requests it makes, and gives what is wrong."""
+    right = calls.run(row.words)
+    if not row.is_answered(right, row.right):
+        return [fault(row, 'with all that it asks for', right)]
+    refused, without, faults = refuse(calls, row)
+    print("    '%s': (%d, %d)," % (row.title, refused, without), flush=True)
+    return faults or list(faults_of_numbers(row.title, right.made['memory'], (refused, without)))
 
 
-def faults_of_cases(calls):
-    """Runs each case that the program names."""
-    names = calls.run([]).out.decode().split()
-    lacking = [name for name in KNOWN if name not in names]
+def faults_of_rows(calls):
+    """Runs each row."""
+    rows = list(all_rows(calls.folder))
+    titles = [row.title for row in rows]
     print('Requests that are refused, and those done without:')
-    return ['%s: there is no such case' % name for name in lacking] + \
-        [what for name in names for what in faults_of_case(calls, name)]
+    return ['%s: there is no such row' % title for title in KNOWN if title not in titles] + \
+        [what for row in rows for what in faults_of_row(calls, row)]
