@@ -5,8 +5,9 @@
 
 Each file is made in two sizes, the second twice the first. The peak of memory of each is bounded by a number that
 stands below, and the processor time of the larger is at most 2.6 times that of the smaller, each the least of three
-runs, and of three more, four times at most, where it isn't. A line tells the peaks, the times in milliseconds, and
-how often the second holds the first. It takes a C compiler, for usage.c beside this file.
+runs. Where it is more, which on a busy machine may be by what others leave of the caches, instructions decide, if
+valgrind is there to count them, and else three more runs, four times at most. A line tells the peaks, the times in
+milliseconds, and how often the second holds the first. It takes a C compiler, for usage.c beside this file.
 """
 import sys
 import tempfile
@@ -18,9 +19,9 @@ import shaped
 from using import MIB, PEAK_OF_LINES, Runs
 
 RUNS = 3
-# How often the larger file may take the time of the smaller.
+# How often the larger file may take the time of the smaller, or its instructions.
 STEEPEST = 2.6
-# How often runs that rise more are made again: another process may have taken the time.
+# How often runs that rise more are made again where instructions can't be counted.
 MORE = 4
 
 
@@ -90,15 +91,32 @@ def used_by(runs, make, script, size, times=1):
 
 
 def used_by_both(runs, shape):
-    """What a size and its double use, each in the least of three runs, and of three more while these rise too much."""
-    sizes = (shape.size, 2 * shape.size)
-    small, large = (used_by(runs, shape.make, shape.script, size, RUNS) for size in sizes)
+    """What a size and its double use, each in the least of three runs."""
+    return [used_by(runs, shape.make, shape.script, size, RUNS) for size in (shape.size, 2 * shape.size)]
+
+
+def instructions_of_both(runs, shape):
+    """How many instructions a size and its double take; None where they can't be counted."""
+    return [runs.instructions_over(shape.make(size), shape.script and shape.script(size))
+            for size in (shape.size, 2 * shape.size)]
+
+
+def faults_of_rise(runs, shape, small, large):
+    """Whether the double takes too much more than the size, by times, and where these say so by instructions."""
+    if large.time <= STEEPEST * small.time:
+        return
+    fewer, more = instructions_of_both(runs, shape)
+    if fewer is not None:
+        print('%48.2f   by instructions' % (more / fewer))
+        if more > STEEPEST * fewer:
+            yield '%s: %d instructions, and %d at half the size' % (shape.name, more, fewer)
+        return
     for _ in range(MORE):
-        if large.time <= STEEPEST * small.time:
-            break
-        again = [used_by(runs, shape.make, shape.script, size, RUNS) for size in sizes]
+        again = used_by_both(runs, shape)
         small, large = (one.joined(other) for one, other in zip((small, large), again))
-    return small, large
+        if large.time <= STEEPEST * small.time:
+            return
+    yield '%s: %.1f ms, and %.1f at half the size' % (shape.name, large.time, small.time)
 
 
 def most_of(runs, shape, size):
@@ -123,8 +141,7 @@ def faults_of_shape(runs, shape):
         small.peak, large.peak, small.time, large.time, large.time / small.time, shape.name), flush=True)
     yield from faults_of_peak(runs, shape, shape.size, small)
     yield from faults_of_peak(runs, shape, 2 * shape.size, large)
-    if large.time > STEEPEST * small.time:
-        yield '%s: %.1f ms, and %.1f at half the size' % (shape.name, large.time, small.time)
+    yield from faults_of_rise(runs, shape, small, large)
 
 
 def faults_of_shapes(runs):

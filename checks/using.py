@@ -1,4 +1,6 @@
 """What runs of a program use: see usage.c."""
+import re
+import shutil
 import subprocess
 from functools import reduce
 from pathlib import Path
@@ -37,12 +39,26 @@ class Runs:
         status, peak, microseconds = map(int, self.told.read_text().split())
         return Used(status, peak, microseconds / 1000)
 
-    def over(self, records, script=None, runs=1):
-        """What runs over the records used, listed or played: the largest peak and the least time."""
+    def words_over(self, records, script=None):
+        """The words of a run over the records, listed or played."""
         file, words = self.folder / 'made.mrt', ['-m']
         with file.open('wb') as out:
             out.writelines(records)
         if script:
             (self.folder / 'script').write_text(script)
             words = ['--play', str(self.folder / 'script')]
-        return reduce(Used.joined, [self.used([*words, str(file)]) for _ in range(runs)])
+        return [*words, str(file)]
+
+    def over(self, records, script=None, runs=1):
+        """What runs over the records used: the largest peak and the least time."""
+        words = self.words_over(records, script)
+        return reduce(Used.joined, [self.used(words) for _ in range(runs)])
+
+    def instructions_over(self, records, script=None):
+        """How many instructions a run over the records takes; None where valgrind isn't there."""
+        if not shutil.which('valgrind'):
+            return None
+        done = subprocess.run(['valgrind', '--tool=callgrind', '--callgrind-out-file=/dev/null', self.program,
+                               *self.words_over(records, script)], stdin=subprocess.DEVNULL,
+                              stdout=subprocess.DEVNULL, stderr=subprocess.PIPE, text=True, check=True)
+        return int(re.search(r'Collected : (\d+)', done.stderr)[1])
