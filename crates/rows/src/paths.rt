@@ -29,7 +29,7 @@ fn joined(alloc: Global, script: &[u8]) -> Result<AsPath, AllocError> {
 }
 
 /// The path that a line spells.
-fn path_of(alloc: Global, line: &str) -> Result<AsPath, AllocError> {
+pub fn path_of(alloc: Global, line: &str) -> Result<AsPath, AllocError> {
     let mut segments = Vec::new(alloc);
     for part in line.split("|") {
         if !part.trim().is_empty() {
@@ -56,7 +56,7 @@ fn segment_of(alloc: Global, text: &str) -> Result<Segment, AllocError> {
 }
 
 /// The numbers that a text spells, with anything between them.
-fn numbers_of(alloc: Global, text: &str) -> Result<Vec<u32>, AllocError> {
+pub fn numbers_of(alloc: Global, text: &str) -> Result<Vec<u32>, AllocError> {
     let mut numbers = Vec::new(alloc);
     for word in text.split(|letter: char| !letter.is_ascii_digit()) {
         if let Ok(number) = word.parse::<u32>() {
