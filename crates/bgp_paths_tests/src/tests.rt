@@ -1,1 +1,1 @@
-mod texts;
+mod lists;

@@ -66,7 +66,7 @@ fn segment_of(alloc: Global, text: &str) -> Result<Segment, AllocError> {
 }
 
 /// The numbers that a text spells, with anything between them.
-fn numbers_of(alloc: Global, text: &str) -> Result<Vec<u32>, AllocError> {
+pub fn numbers_of(alloc: Global, text: &str) -> Result<Vec<u32>, AllocError> {
     let mut numbers = Vec::new(alloc);
     for word in text.split(|letter: char| !letter.is_ascii_digit()) {
         if let Ok(number) = word.parse::<u32>() {
