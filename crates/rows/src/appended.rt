@@ -3,7 +3,9 @@
 use crate::marks;
 use crate::shown::Shown;
 use bgp_wire::{AsPath, put_communities};
+use bgpdump_tool::put_lines;
 use ip_prefix::{Addr, Prefix, put_decimal};
+use mrt_wire::Event;
 use std::alloc::{AllocError, Global};
 
 /// What stands in a text before a call, without room behind it.
@@ -21,6 +23,8 @@ pub enum Subject<'a> {
     Decimal(u64),
     Path(&'a AsPath),
     Communities(&'a [u32]),
+    /// The lines of an event.
+    Lines(&'a Event),
 }
 
 /// Appends what a call appends behind this front, or that memory is refused for it.
@@ -48,6 +52,7 @@ fn put_subject(subject: &Subject<'_>, text: &mut Vec<u8>) -> Result<(), AllocErr
         Subject::Decimal(number) => put_decimal(*number, text),
         Subject::Path(path) => path.put_text(text),
         Subject::Communities(communities) => put_communities(communities, text),
+        Subject::Lines(event) => put_lines(event, text),
     }
 }
 

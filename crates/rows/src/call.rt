@@ -7,11 +7,14 @@ use crate::course::put_answers;
 use crate::devices::{Devices, dump_by, play_by, put_calls, put_calls_by};
 use crate::events::put_events;
 use crate::paths::{put_joined, put_segment_count};
+use crate::printed::put_printed;
 use crate::routes::{Keeping, put_routes, put_shared};
 use crate::row::Row;
 use crate::runs::{dump, play};
+use crate::settings::put_settings;
 use crate::shown::Shown;
 use crate::store::put_stored;
+use crate::values::put_values;
 use crate::watched::Watched;
 use crate::wire::{put_entry, put_message, put_segments, put_summary};
 use bgp_wire::AsWidth;
@@ -37,6 +40,8 @@ pub enum Call {
     PlayOverMap(Stamp),
     /// What a source answers.
     Events(Stamp),
+    /// The lines of what a source answers, each event's by a call of its own.
+    Printed,
     /// What a source answers to four calls, and how many octets it took then.
     Calls,
     /// The routes that a source announces, where its answers are kept so long.
@@ -61,6 +66,10 @@ pub enum Call {
     JoinApart,
     /// What the lines of a script are.
     Commands,
+    /// What calls on values answer.
+    Values,
+    /// What command lines ask for.
+    Settings,
     /// What a player answers, with the program's store.
     Player,
     /// The same with a store over a map.
@@ -100,6 +109,7 @@ const CALLS: &[(&str, &[Call])] = &[
     ),
     ("events", &[Call::Events(DUMP)]),
     ("events change", &[Call::Events(CHANGE)]),
+    ("printed", &[Call::Printed]),
     ("calls", &[Call::Calls]),
     (
         "routes",
@@ -133,6 +143,8 @@ const CALLS: &[(&str, &[Call])] = &[
     ("join", &[Call::Join]),
     ("join apart", &[Call::JoinApart]),
     ("commands", &[Call::Commands]),
+    ("values", &[Call::Values]),
+    ("settings", &[Call::Settings]),
     ("player", &[Call::Player, Call::PlayerOverMap]),
     ("player tree", &[Call::Player]),
     (
@@ -204,6 +216,7 @@ impl Call {
             Call::Entry(family, width) => put_entry(alloc, family, width, octets, text),
             Call::Message(width) => put_message(alloc, width, octets, text),
             Call::Summary(width) => put_summary(alloc, width, octets, text),
+            Call::Printed => put_printed(alloc, octets, text),
             Call::Calls => put_calls(alloc, octets, text),
             Call::Routes(keeping) => put_routes(alloc, keeping, octets, text),
             Call::Shared => put_shared(alloc, octets, text),
@@ -213,6 +226,8 @@ impl Call {
             Call::Join => put_joined(alloc, script, text),
             Call::JoinApart => put_segment_count(alloc, script, text),
             Call::Commands => put_commands(script, text),
+            Call::Values => put_values(alloc, script, text),
+            Call::Settings => put_settings(alloc, script, text),
             Call::Player => put_answers::<Watched<Tree>>(alloc, script, text),
             Call::PlayerOverMap => put_answers::<Watched<Map>>(alloc, script, text),
             Call::StoreOverMap => put_stored::<MapStore<u32>>(alloc, script, text),

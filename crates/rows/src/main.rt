@@ -4,6 +4,7 @@
 
 mod again;
 mod answer;
+mod appended;
 mod call;
 mod commands;
 mod course;
@@ -15,15 +16,20 @@ mod items;
 mod marks;
 mod names;
 mod nodes;
+mod parts;
 mod paths;
 mod player;
+mod printed;
 mod routes;
 mod row;
 mod runs;
+mod settings;
 mod shown;
 mod spelled;
 mod store;
 mod tally;
+mod turns;
+mod values;
 mod watched;
 mod wire;
 mod words;

@@ -10,7 +10,7 @@
 
 use crate::shown::Shown;
 use crate::values::NONE;
-use crate::words::{UNREAD, address_word, prefix_word};
+use crate::words::{UNREAD, address_word, prefix_word, split_word};
 use ip_prefix::{Addr, Family, Prefix, V4_OCTETS, V6_OCTETS};
 use std::alloc::Global;
 
@@ -25,7 +25,7 @@ pub fn family_word(word: &str) -> Option<Family> {
 
 /// Appends a part that a line names.
 pub fn put_part(alloc: Global, name: &str, rest: &str, text: &mut Shown) {
-    let (word, number) = rest.split_once(" ").unwrap_or((rest, ""));
+    let (word, number) = split_word(rest);
     match name {
         "half" => put_half(alloc, prefix_word(word), text),
         "width" => put_width(family_word(word), text),

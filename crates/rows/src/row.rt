@@ -87,17 +87,10 @@ impl Row {
         if answer.status == Outcome::Memory.status() {
             return self.out.starts_with(&answer.out) && self.err.starts_with(&answer.err);
         }
-        match answer.out.strip_suffix(b"\n") {
-            Some(lines) => is_refused_front(lines, &self.out),
+        let text = answer.out.strip_suffix(b"\n").unwrap_or(&answer.out);
+        match text.strip_suffix(REFUSED) {
+            Some(front) => self.out.starts_with(front),
             None => false,
         }
-    }
-}
-
-/// Whether the text is a front of the other one, with the word of a refusal behind it.
-fn is_refused_front(text: &[u8], wanted: &[u8]) -> bool {
-    match text.strip_suffix(REFUSED) {
-        Some(front) => wanted.starts_with(front),
-        None => false,
     }
 }

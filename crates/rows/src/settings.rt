@@ -10,7 +10,7 @@
 
 use crate::marks;
 use crate::shown::Shown;
-use crate::words::UNREAD;
+use crate::words::{REFUSED, UNREAD, split_word};
 use bgpdump_tool::{Mode, Settings, UsageFault, settings};
 use mrt_wire::Stamp;
 use std::alloc::{AllocError, Global};
@@ -26,7 +26,7 @@ pub fn put_settings(alloc: Global, script: &[u8], text: &mut Shown) {
 
 /// Appends what is answered to a line.
 fn put_answer(alloc: Global, line: &str, text: &mut Shown) {
-    let (name, rest) = line.split_once(" ").unwrap_or((line, ""));
+    let (name, rest) = split_word(line);
     match name {
         "text" if rest == "refused" => put_told(alloc, &UsageFault::Memory, line, text),
         "text" | "line" | "part" => put_fault(alloc, line, rest, text),
@@ -72,7 +72,7 @@ fn put_found(found: &Result<Settings, UsageFault>, text: &mut Shown) {
         Err(UsageFault::Words(_)) => text.put(b"words"),
         Err(UsageFault::Mode) => text.put(b"mode"),
         Err(UsageFault::TwoInputs) => text.put(b"two inputs"),
-        Err(UsageFault::Memory) => text.put(b"refused"),
+        Err(UsageFault::Memory) => text.put(REFUSED),
         Err(UsageFault::Help(_)) => text.put(b"help"),
     }
 }

@@ -71,7 +71,7 @@ impl Shown {
     }
 
     /// Notes that something was left out, where memory was refused.
-    fn note(&mut self, put: Result<(), AllocError>) {
+    pub fn note(&mut self, put: Result<(), AllocError>) {
         if put.is_err() {
             self.is_whole = false;
         }

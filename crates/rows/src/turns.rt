@@ -8,12 +8,12 @@
 //!     shared PREFIX PREFIX                the longest prefix that covers both
 
 use crate::shown::Shown;
-use crate::words::{UNREAD, address_word, prefix_word};
+use crate::words::{UNREAD, address_word, prefix_word, split_word};
 use ip_prefix::{Addr, Family, Prefix, Turn, V4_BITS, V4_OCTETS};
 
 /// Appends what a line asks of two.
 pub fn put_between(name: &str, rest: &str, text: &mut Shown) {
-    let (one, other) = rest.split_once(" ").unwrap_or((rest, ""));
+    let (one, other) = split_word(rest);
     match name {
         "compare" => put_compared(one, other, text),
         "contains" => put_contained(prefix_word(one), address_word(other), text),

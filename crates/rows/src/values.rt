@@ -19,9 +19,9 @@ use crate::paths::{numbers_of, path_of};
 use crate::shown::Shown;
 use crate::spelled::put_digits;
 use crate::turns::put_between;
-use crate::words::{UNREAD, address_word, number_word, prefix_word};
+use crate::words::{UNREAD, address_word, number_word, prefix_word, split_word};
 use bgp_wire::{AsPath, WireFault};
-use ip_prefix::{Addr, Family, Prefix, V4_OCTETS, V6_OCTETS};
+use ip_prefix::{Addr, Prefix, V4_OCTETS, V6_OCTETS};
 use std::alloc::{AllocError, Global};
 use std::str;
 
@@ -51,7 +51,7 @@ fn put_answer(alloc: Global, line: &str, text: &mut Shown) {
 
 /// Appends what a call answers, where a text stands behind this front.
 fn put_value(front: Front<'_>, call: &str, text: &mut Shown) {
-    let (name, rest) = call.split_once(" ").unwrap_or((call, ""));
+    let (name, rest) = split_word(call);
     match name {
         "address" | "prefix" | "decimal" => put_spelled(front, name, rest, text),
         "path" => put_path(front, path_of(front.alloc, rest), text),
@@ -134,21 +134,10 @@ fn put_fault(alloc: Global, word: &str, text: &mut Shown) {
 /// Appends the address that octets are.
 fn put_made(front: Front<'_>, digits: &str, text: &mut Shown) {
     let mut octets = Vec::new(front.alloc);
-    let put = put_digits(digits, &mut octets);
-    put_whole(front, put, address_of(&octets), text);
-}
-
-/// Appends the text of the address of octets, which were read or not.
-fn put_whole(
-    front: Front<'_>,
-    put: Result<bool, AllocError>,
-    address: Option<Addr>,
-    text: &mut Shown,
-) {
-    match put {
-        Ok(true) => put_address(front, address, text),
-        Ok(false) => text.put(UNREAD),
-        Err(AllocError) => text.note(Err(AllocError)),
+    if put_digits(digits, &mut octets) {
+        put_address(front, address_of(&octets), text);
+    } else {
+        text.put(UNREAD);
     }
 }
 
@@ -165,22 +154,12 @@ fn address_of(octets: &[u8]) -> Option<Addr> {
 
 /// Appends the prefix of a family that octets begin with, and how many it takes.
 fn put_read(alloc: Global, words: &str, text: &mut Shown) {
-    let (word, digits) = words.split_once(" ").unwrap_or((words, ""));
+    let (word, digits) = split_word(words);
     let mut octets = Vec::new(alloc);
-    let put = put_digits(digits, &mut octets);
-    put_front(family_word(word), put, &octets, text);
-}
-
-/// Appends the prefix in front of octets, which were read or not.
-fn put_front(
-    family: Option<Family>,
-    put: Result<bool, AllocError>,
-    octets: &[u8],
-    text: &mut Shown,
-) {
-    match (family, put) {
-        (Some(family), Ok(true)) => put_taken(Prefix::read(family, octets), text),
-        (_, Err(AllocError)) => text.note(Err(AllocError)),
+    match family_word(word) {
+        Some(family) if put_digits(digits, &mut octets) => {
+            put_taken(Prefix::read(family, &octets), text);
+        }
         _ => text.put(UNREAD),
     }
 }

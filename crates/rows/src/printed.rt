@@ -1,0 +1,31 @@
+//! The lines of events, which a call of the libraries appends to a text.
+
+use crate::appended::{Front, Subject, put_appended};
+use crate::events::{LIMIT, MOST_ANSWERS};
+use crate::shown::Shown;
+use mrt_wire::{Next, ReadInput, Source, SourceFault, Stamp};
+use std::alloc::Global;
+
+/// Appends the lines of each event that a source answers.
+pub fn put_printed(alloc: Global, octets: &[u8], text: &mut Shown) {
+    let mut source = Source::new(alloc, Stamp::Dump, LIMIT);
+    let mut input = ReadInput::new(octets);
+    for _ in 0..MOST_ANSWERS {
+        if !put_answer(alloc, &source.next(&mut input), text) {
+            return;
+        }
+    }
+}
+
+/// Appends the lines of an answer, and answers whether there is more.
+fn put_answer(alloc: Global, answer: &Result<Next, SourceFault>, text: &mut Shown) -> bool {
+    let octets = b"before";
+    match answer {
+        Ok(Next::Event(event)) => {
+            put_appended(Front { alloc, octets }, &Subject::Lines(event), text);
+            true
+        }
+        Ok(Next::Bad(_)) => true,
+        _ => false,
+    }
+}
