@@ -93,7 +93,10 @@ pub fn put_parts(alloc: Global, octets: &[u8], text: &mut Shown) {
         let Some((message, rest)) = split_sized(left, LENGTH_PLACE, 0) else {
             return;
         };
-        put_word(replace_message(alloc, &mut parts, AsWidth::Two, message), text);
+        put_word(
+            replace_message(alloc, &mut parts, AsWidth::Two, message),
+            text,
+        );
         put_said(&parts, text);
         left = rest;
     }

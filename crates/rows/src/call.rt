@@ -138,7 +138,10 @@ const CALLS: &[(&str, &[Call])] = &[
     ("summary four", &[Call::Summary(FOUR)]),
     ("segments two", &[Call::Segments(TWO)]),
     ("segments four", &[Call::Segments(FOUR)]),
-    ("again", &[Call::Again(Again::Read), Call::Again(Again::Copied)]),
+    (
+        "again",
+        &[Call::Again(Again::Read), Call::Again(Again::Copied)],
+    ),
     ("parts", &[Call::Parts]),
     ("join", &[Call::Join]),
     ("join apart", &[Call::JoinApart]),

@@ -17,9 +17,7 @@ use crate::marks::{self, Marks};
 use crate::player::put_seen;
 use crate::shown::Shown;
 use crate::watched::IsWatched;
-use crate::words::{
-    REFUSED, UNREAD, number_word, peer_words, put_count, put_within, split_word,
-};
+use crate::words::{REFUSED, UNREAD, number_word, peer_words, put_count, put_within, split_word};
 use mrt_wire::{Event, Item, Peer, Route};
 use rib_player::{PlayFault, Player};
 use rib_store::{GREATEST_COUNT, PrefixStore};

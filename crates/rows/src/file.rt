@@ -161,13 +161,7 @@ fn end(alloc: Global, begun: &Begun<'_>, names: &mut Names, tally: &mut Tally<'_
 }
 
 /// Has a name stand for octets.
-fn end_name(
-    alloc: Global,
-    name: &str,
-    octets: &Spelled,
-    names: &mut Names,
-    tally: &mut Tally<'_>,
-) {
+fn end_name(alloc: Global, name: &str, octets: &Spelled, names: &mut Names, tally: &mut Tally<'_>) {
     let is_put = match octets.whole() {
         Some(octets) => names.put(alloc, name, octets).is_ok(),
         None => false,

@@ -47,28 +47,19 @@ pub fn put_seen<S: PrefixStore<Rc<Route>> + IsWatched>(
 }
 
 /// Appends the steps before and after the cursor.
-fn put_place<S: PrefixStore<Rc<Route>>>(
-    player: &Player<S>,
-    text: &mut Shown,
-) {
+fn put_place<S: PrefixStore<Rc<Route>>>(player: &Player<S>, text: &mut Shown) {
     put_count(b"at ", player.at(), text);
     put_count(b" ahead ", player.ahead(), text);
 }
 
 /// Appends the same, and the pairs that steps name.
-fn put_steps<S: PrefixStore<Rc<Route>>>(
-    player: &Player<S>,
-    text: &mut Shown,
-) {
+fn put_steps<S: PrefixStore<Rc<Route>>>(player: &Player<S>, text: &mut Shown) {
     put_place(player, text);
     put_count(b" named ", player.named(), text);
 }
 
 /// Appends each peer that has routes, and how many.
-fn put_peers<S: PrefixStore<Rc<Route>>>(
-    table: &Table<S>,
-    text: &mut Shown,
-) {
+fn put_peers<S: PrefixStore<Rc<Route>>>(table: &Table<S>, text: &mut Shown) {
     text.put(b"peers");
     let mut last: Option<Peer> = None;
     for _ in 0..MOST_WALKED {
@@ -185,11 +176,7 @@ fn put_timed(prefix: &Prefix, time: u32, text: &mut Shown) {
 }
 
 /// Appends each route of a peer.
-fn put_walk<S: PrefixStore<Rc<Route>>>(
-    table: &Table<S>,
-    peer: &Peer,
-    text: &mut Shown,
-) {
+fn put_walk<S: PrefixStore<Rc<Route>>>(table: &Table<S>, peer: &Peer, text: &mut Shown) {
     text.put(b"routes");
     let mut last = None;
     for _ in 0..MOST_WALKED {

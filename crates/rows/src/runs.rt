@@ -16,12 +16,7 @@ fn room_for(alloc: Global, wanted: &[u8]) -> Result<Vec<u8>, AllocError> {
 }
 
 /// The lines and the reports of a dump.
-pub fn dump(
-    alloc: Global,
-    stamp: Stamp,
-    octets: &[u8],
-    row: &Row,
-) -> Result<Answer, AllocError> {
+pub fn dump(alloc: Global, stamp: Stamp, octets: &[u8], row: &Row) -> Result<Answer, AllocError> {
     let mut out = room_for(alloc, &row.out)?;
     let mut err = room_for(alloc, &row.err)?;
     marks::begin(alloc);

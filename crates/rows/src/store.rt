@@ -98,12 +98,7 @@ pub fn put_stored<S: CountsMet>(alloc: Global, script: &[u8], text: &mut Shown) 
 }
 
 /// Appends what the store answers to a line.
-fn put_answer<S: CountsMet>(
-    alloc: Global,
-    store: &mut S,
-    line: &str,
-    text: &mut Shown,
-) {
+fn put_answer<S: CountsMet>(alloc: Global, store: &mut S, line: &str, text: &mut Shown) {
     let (name, rest) = split_word(line);
     match name {
         "next" => put_next(alloc, store, rest, text),
@@ -116,12 +111,7 @@ fn put_answer<S: CountsMet>(
 }
 
 /// Appends what is answered at a prefix.
-fn put_at<S: CountsMet>(
-    store: &mut S,
-    name: &str,
-    rest: &str,
-    text: &mut Shown,
-) {
+fn put_at<S: CountsMet>(store: &mut S, name: &str, rest: &str, text: &mut Shown) {
     let (word, rest) = split_word(rest);
     let Some(prefix) = prefix_word(word) else {
         return text.put(UNREAD);
@@ -182,12 +172,7 @@ fn put_found(found: Option<(Prefix, u32)>, text: &mut Shown) {
 }
 
 /// Puts a route, and appends whether the key is new, and which route it had.
-fn put_put<S: CountsMet>(
-    store: &mut S,
-    prefix: &Prefix,
-    route: Option<u32>,
-    text: &mut Shown,
-) {
+fn put_put<S: CountsMet>(store: &mut S, prefix: &Prefix, route: Option<u32>, text: &mut Shown) {
     let mut given = route;
     put_made(store.put(prefix, &mut given), text);
     put_route(b", had ", given, text);
@@ -209,11 +194,7 @@ fn put_exchanged<S: CountsMet>(
 }
 
 /// Discards a key that has no route, and appends whether it was one.
-fn put_discarded<S: CountsMet>(
-    store: &mut S,
-    prefix: &Prefix,
-    text: &mut Shown,
-) {
+fn put_discarded<S: CountsMet>(store: &mut S, prefix: &Prefix, text: &mut Shown) {
     if !store.has_key(prefix) {
         return put_key(false, text);
     }

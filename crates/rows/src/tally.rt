@@ -66,7 +66,8 @@ impl<'a> Tally<'a> {
     /// Appends a word and a count, where there are some.
     fn put_count(&mut self, count: u32, word: &str) {
         if count > 0 {
-            self.text.put_made(format!(in self.alloc; ", {count} {word}"));
+            self.text
+                .put_made(format!(in self.alloc; ", {count} {word}"));
         }
     }
 
