@@ -103,7 +103,7 @@ def faults_of_crates():
         if (crate / 'src/lib.rt').is_file() and not is_tests:
             for file in sorted((crate / 'src').rglob('*.rt')):
                 if '#[test]' in file.read_text():
-                    yield file, f'tests of a library stand in {crate.name}_tests'
+                    yield file, 'tests of a library stand in library_tests'
 
 
 def anchors_of(document):

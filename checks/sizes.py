@@ -20,7 +20,7 @@ NOTED = {
     'pairs of files that import each other': 7,
 }
 # Programs and libraries that only check or measure.
-CHECKS = ('rows', 'store_bench', 'test_devices', 'test_octets', 'workloads')
+CHECKS = ('library_tests', 'rows', 'store_bench', 'test_devices', 'workloads')
 
 FUNCTION = re.compile(r'^ *(?:pub(?:\([^)]*\))? )?(?:const )?fn (\w+)(?:<[^>]*>)?\(', re.M)
 CLAUSE = re.compile(r'\b(?:requires|ensures)\b[^{]*\{((?:[^{}]|\{[^{}]*\})*)\}')

@@ -1,5 +1,4 @@
-//! Octets for tests, written in hexadecimal, and records that several tests read.
-#![tactic(auto)]
+//! Octets written in hexadecimal, and records that several tests read.
 
 use std::alloc::{AllocError, Global};
 

@@ -9,7 +9,7 @@ use std::alloc::{AllocError, Global};
 use std::cell::Cell;
 use std::test::Fail;
 use test_devices::{CountedOutput, WatchingInput};
-use test_octets::{MULTICAST, MULTICAST_REPORT, STATE_CHANGE, octets_of};
+use super::octets::{MULTICAST, MULTICAST_REPORT, STATE_CHANGE, octets_of};
 
 /// Carries out a script over a record and a state change, and tells how much was written when the
 /// second one was asked for.

@@ -7,7 +7,7 @@ use std::alloc::{AllocError, Global};
 use std::process::Abort;
 use std::test::Fail;
 use test_devices::{HandInput, PassingOutput};
-use test_octets::{STATE_CHANGE, octets_of};
+use super::octets::{STATE_CHANGE, octets_of};
 
 /// How many octets a record of the tests has.
 const SIZE: usize = 32;

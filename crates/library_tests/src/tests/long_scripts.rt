@@ -1,7 +1,7 @@
 //! The lines of scripts: those that are commands, those that aren't, and too many.
 
 use super::Routes;
-use super::devices::{Devices, assert_played, play_on};
+use super::played_scripts::{Devices, assert_played, play_on};
 use bgpdump_tool::Outcome;
 use std::alloc::{AllocError, Global};
 use std::process::Abort;

@@ -3,7 +3,7 @@
 ghost use Rattle.std.specs.Prelude.{◌≡◌, None, false};
 
 use super::Routes;
-use super::devices::{Played, SOUND, assert_played, play_on};
+use super::played_scripts::{Played, SOUND, assert_played, play_on};
 use bgpdump_tool::{OutFault, Outcome, Output, run_play};
 use ip_prefix::{Addr, Prefix};
 use mrt_wire::{ReadInput, Route, Stamp};
@@ -12,7 +12,7 @@ use std::alloc::{AllocError, Global};
 use std::process::Abort;
 use std::rc::Rc;
 use std::test::Fail;
-use test_octets::{MULTICAST, octets_of};
+use super::octets::{MULTICAST, octets_of};
 
 /// A store that makes no new key where it has so many.
 #[derive(Drop)]

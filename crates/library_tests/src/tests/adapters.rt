@@ -11,7 +11,7 @@ use std::io::{self, ErrorKind, Write};
 use std::process::Abort;
 use std::test::Fail;
 use test_devices::{CountedOutput, SlowOutput, WatchingInput};
-use test_octets::{MULTICAST, MULTICAST_REPORT, STATE_CHANGE, octets_of};
+use super::octets::{MULTICAST, MULTICAST_REPORT, STATE_CHANGE, octets_of};
 
 /// A writer that takes nothing, and whose `flush` fails.
 #[derive(Drop)]

@@ -9,7 +9,7 @@ use std::alloc::Global;
 use std::io::{self, ErrorKind, Read};
 use std::process::Abort;
 use std::test::Fail;
-use test_octets::{STATE_CHANGE, octets_of};
+use super::octets::{STATE_CHANGE, octets_of};
 
 /// The event of an answer.
 fn event_of(answer: Result<Next, SourceFault>) -> Option<Event> {

@@ -1,5 +1,0 @@
-//! Tests of `bgp_paths`.
-#![tactic(auto)]
-
-#[cfg(test)]
-mod tests;

@@ -1,5 +1,0 @@
-//! Tests of `bgp_wire`.
-#![tactic(auto)]
-
-#[cfg(test)]
-mod tests;

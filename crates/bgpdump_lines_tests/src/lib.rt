@@ -1,5 +1,0 @@
-//! Tests of `bgpdump_lines`.
-#![tactic(auto)]
-
-#[cfg(test)]
-mod tests;

@@ -1,5 +1,0 @@
-//! Tests of `bgpdump_tool`.
-#![tactic(auto)]
-
-#[cfg(test)]
-mod tests;

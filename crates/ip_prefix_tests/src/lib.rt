@@ -1,5 +1,0 @@
-//! Tests of `ip_prefix`.
-#![tactic(auto)]
-
-#[cfg(test)]
-mod tests;

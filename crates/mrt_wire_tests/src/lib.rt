@@ -1,5 +1,0 @@
-//! Tests of `mrt_wire`.
-#![tactic(auto)]
-
-#[cfg(test)]
-mod tests;

@@ -1,2 +1,0 @@
-mod events;
-mod sources;

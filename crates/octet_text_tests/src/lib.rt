@@ -1,5 +1,0 @@
-//! Tests of `octet_text`.
-#![tactic(auto)]
-
-#[cfg(test)]
-mod tests;

@@ -1,5 +1,0 @@
-//! Tests of `rib_store`.
-#![tactic(auto)]
-
-#[cfg(test)]
-mod tests;
