@@ -30,7 +30,8 @@ fn put_answer(alloc: Global, line: &str, text: &mut Shown) {
     match name {
         "text" if rest == "refused" => put_told(alloc, &UsageFault::Memory, line, text),
         "text" | "line" | "part" => put_fault(alloc, line, rest, text),
-        _ => put_asked(alloc, line, text),
+        _ if name.is_empty() || name.starts_with("|") => put_asked(alloc, line, text),
+        _ => text.put(UNREAD),
     }
 }
 
