@@ -3,11 +3,11 @@
 
     checks/quick.py
 
-Each edit that must fail still applies, and is named by the file and the function that it turns, those
-of inner functions too, which the gate doesn't try; `rt fmt` changes nothing; tests stand in crates of
-their own; links between documents lead somewhere, and the edits that docs/proved.md names are there;
-the texts of each example are there, and the cases of refused memory in the list that the gate
-compares; the files of rows and their counts are named; the version is the same wherever it is named.
+Each edit that must fail still applies, and is named by the file and the function that it turns, in
+which its text lies, those of inner functions too, which the gate doesn't try; `rt fmt` changes
+nothing; tests stand in a crate of their own; links between documents lead somewhere, and the edits
+that docs/proved.md names are there; the texts of each example are there; the files of rows and their
+counts are named; the version is the same wherever it is named.
 The status is 1 where something is wrong, and each fault is told on a line of its own.
 """
 import re
@@ -41,9 +41,15 @@ def changes_of(edit):
 
 
 def item_before(text, end):
-    """The name of the last function, constant or table that begins before this place."""
-    names = re.findall(r"\b(?:fn|(?<!')static|const(?! fn\b)) (\w+)", text[:end])
-    return names[-1] if names else None
+    """The name of the last function, constant or table that begins before this place, where it begins
+    and where it ends."""
+    found = list(re.finditer(r"(?m)^( *)(?:[\w()]+ )*(?:fn|(?<!')static|const(?! fn\b)) (\w+)", text[:end]))
+    if not found:
+        return None, 0, 0
+    last = found[-1]
+    close = re.compile(r'(?m)^%s[}\]].*\n|^%s(?! )[^\n]*;\n' % (last[1], last[1]))
+    stop = close.search(text, last.end())
+    return last[2], last.start(), stop.end() if stop else len(text)
 
 
 def faults_of_edit(edit):
@@ -56,9 +62,12 @@ def faults_of_edit(edit):
             return [f'its old text stands {text.count(old)} times in {path}: {old.strip()[:80]}']
         if not texts:
             place = path.removeprefix('src/').removesuffix('.rt').replace('/', '_')
-            wanted = f'{place}-{item_before(text, text.index(old) + len(old))}-'
-            if not edit.name.startswith(wanted):
-                return [f'its name should begin with {wanted}']
+            start, end = text.index(old), text.index(old) + len(old)
+            name, first, last = item_before(text, end)
+            if not edit.name.startswith(f'{place}-{name}-'):
+                return [f'its name should begin with {place}-{name}-']
+            if start < first or end > last:
+                return [f'its text does not lie inside {name}']
         if without_space(old) == without_space(new):
             return ['it changes nothing']
         texts[path] = text.replace(old, new)

@@ -7,7 +7,7 @@ From the clauses of a call it goes through the words that they cite, and through
 cite, to all definitions in the crates' specs/ folders, and through the values that contracts see of
 the types in between. With a CALL it prints these definitions, those first that others stand on.
 Without one it compares the lists of docs/proved.md with what it finds for each call that they name,
-and looks that a file of specs/ is all on these lists, or not at all: then its first line is PRIVATE.
+tells the first line of each that differs, and looks that a file of specs/ is all on these lists, or not at all: then its first line is PRIVATE.
 """
 import re
 import sys
@@ -250,6 +250,16 @@ def mixed_files():
             yield file
 
 
+def difference(call, text):
+    """The first line of a list that differs: its number, what stands there, and what should; None where none does."""
+    wanted, lines = list_of(call).split('\n'), text.split('\n')
+    start = next((place for place, line in enumerate(lines) if line.startswith('**`%s`**' % call)), len(lines))
+    for place, line in enumerate([*wanted, ''], start):
+        if place >= len(lines) or lines[place] != line:
+            return place + 1, lines[place] if place < len(lines) else '', line
+    return None
+
+
 def main():
     if len(sys.argv) > 1:
         for definition in reading_of(sys.argv[1]):
@@ -257,9 +267,10 @@ def main():
         return
     text, faults = LISTS.read_text(), 0
     for call in CALLS:
-        wanted = list_of(call)
-        if wanted not in text:
-            print('%s: the list of `%s` should be\n\n%s\n' % (LISTS.relative_to(TOP), call, wanted))
+        found = difference(call, text)
+        if found:
+            print('%s:%d: in the list of `%s` stands\n%s\nand should stand\n%s\n' % (
+                LISTS.relative_to(TOP), found[0], call, *found[1:]))
             faults += 1
     for file in mixed_files():
         print('%s: either all of it is to be read, or its first line is %s' % (file.relative_to(TOP), PRIVATE))
