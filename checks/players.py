@@ -10,10 +10,12 @@ thousand steps, prefixes of an event, thousands of peers, of routes that are let
 """
 import argparse
 import bisect
+import itertools
 import random
 import subprocess
 import sys
 import tempfile
+from functools import lru_cache
 from pathlib import Path
 from typing import NamedTuple
 
@@ -570,10 +572,38 @@ def changing_course():
     return course
 
 
-# Metrics of plain routes whose hashes name the same two rows, 101 and 248 of the 255 that the first 1,024
-# places have, so that all of them may stand at the same eight places.
-METRICS = (1802, 13157, 102391, 140166, 145731, 163401, 164645, 174153, 185932, 279166, 288082, 334497, 355951,
-           366574, 386875, 441677, 454477, 534646, 554766, 600401, 600625, 607677, 626321, 639612)
+# The hash of a plain route, of a time and a metric alone, as crates/known_routes/src/route_hash.rt has it, and the rows
+# of the first places in which a route of a hash may stand (places.rt there).
+
+MULTIPLIER, TURN, ABSENT, NO_ORIGIN = 0x9E37_79B9_7F4A_7C15, 5, 1 << 32, 3
+SECOND_ROW, ROWS = 0x9E37_79B1, 255
+
+
+def mixed(value, *numbers):
+    for number in numbers:
+        value = ((value << TURN | value >> 64 - TURN) & (1 << 64) - 1 ^ number) * MULTIPLIER & (1 << 64) - 1
+    return value
+
+
+def rows_of_plain(time):
+    """Metrics, each with the two rows of its plain route."""
+    front = mixed(NO_ORIGIN, time, ABSENT, ABSENT)
+    for metric in itertools.count():
+        # No aggregator, not atomic, no segments and no communities.
+        value = mixed(front, metric, ABSENT, 0, 0, 0) >> 32
+        yield metric, (value * ROWS >> 32, (value * SECOND_ROW & (1 << 32) - 1) * ROWS >> 32)
+
+
+@lru_cache
+def metrics_of_one_place(time=7, count=24):
+    """Metrics of plain routes that may stand at the same eight places alone."""
+    found = {}
+    for metric, rows in rows_of_plain(time):
+        alike = found.setdefault(rows, [])
+        alike.append(metric)
+        if len(alike) == count:
+            return alike
+
 
 FULL = {'origin': ('40010100', 'IGP'), 'hop': ('400304 C0000209', '192.0.2.9'),
         'path': ('4002 1{ 0202 0000FBF4 0000FBF5 0102 0000FBF6 0000FBF7 }', '64500 64501 {64502,64503}'),
@@ -633,6 +663,42 @@ def plain_routes_course(title, metrics, least, most):
     return course
 
 
+# Attributes that differ in one number, by which routes are to be told apart before they are compared: a hash that
+# leaves it out has them all at eight places.
+VARYING = {
+    'the next hop': '400304 {0:08X}', 'the metric': '800404 {0:08X}', 'the preference': '400504 {0:08X}',
+    'the aggregator': 'C00708 {0:08X} C0000207', "the aggregator's address": 'C00708 0000FBF4 {0:08X}',
+    'a number of the path': '4002 1{{ 0202 0000FBF4 {0:08X} }}',
+    'a segment of the path': '4002 1{{ 0201 0000FBF4 0101 {0:08X} }}', 'a community': 'C008 1{{ 00000001 {0:08X} }}',
+}
+
+
+def varying_course(what, attributes):
+    """Most of many routes that differ in one number are known again."""
+    course = Course(f'Routes are known again that differ in {what}', LARGE)
+    play_copies(course, [(7, attributes.format(number + 1)) for number in range(FEW)])
+    course.within(f'shared {PEER} {SIBLING}', FEW // 10 * 9, FEW)
+    return course
+
+
+# What else a hash goes by has few values, or is a time: routes of each value that would all stand at eight places.
+KINDS_OF_VALUES = {
+    'the origin': (['', '40010100', '40010101', '40010102'], [7]), 'the mark of aggregation': (['', '400600'], [7]),
+    'the time': ([''], [7, 8, 9, 10]), 'how many numbers the path has': (['', '4002 06 0201 00000000'], [7]),
+    'how many communities there are': (['', 'C00804 00000000'], [7]),
+}
+
+
+def one_place_course(what, values, times):
+    """Of routes for one place, those with another value may stand elsewhere."""
+    course = Course(f'Routes for the same places stand elsewhere by {what}', LARGE)
+    routes = [(time, f'{value} 800404 {metric:08X}') for time in times for value in values
+              for metric in metrics_of_one_place()]
+    play_copies(course, routes)
+    course.within(f'shared {PEER} {SIBLING}', 20, len(routes))
+    return course
+
+
 def courses(seed):
     for mixture, met in zip(MIXTURES, MET):
         course = drawn_course(mixture, seed)
@@ -648,8 +714,10 @@ def courses(seed):
                 let_go_course('Routes of forgotten steps are let go at once', False),
                 let_go_course('Routes are let go while steps are forgotten', True),
                 dropped_routes_course(), changing_course(), equal_routes_course(),
-                plain_routes_course('Routes for the same places are told apart', METRICS, 0, 8),
+                plain_routes_course('Routes for the same places are told apart', metrics_of_one_place(), 0, 8),
                 plain_routes_course('Most of many equal routes are one', range(MANY), MANY // 10 * 9 + 1, MANY))
+    yield from (varying_course(what, attributes) for what, attributes in VARYING.items())
+    yield from (one_place_course(what, *values) for what, values in KINDS_OF_VALUES.items())
 
 
 def main():
