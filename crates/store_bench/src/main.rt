@@ -59,10 +59,15 @@ fn main(rt: HostRuntime) -> io::Result<()> {
     }
 }
 
-/// Times what the words name, one by one.
+/// Times what the words of the command line name.
 fn run(rt: &HostRuntime) -> Result<(), Fault> {
     let words: Vec<String> = env::args(rt)?.collect(rt.alloc())?;
-    let [_, first, others @ ..] = words.as_slice() else {
+    time_words(rt, words.as_slice())
+}
+
+/// Times what the words behind the program's name tell, one by one.
+fn time_words(rt: &HostRuntime, words: &[String]) -> Result<(), Fault> {
+    let [_, first, others @ ..] = words else {
         println!(rt; "store_bench map | radix | map-keys | radix-keys | none ..")?;
         return Ok(());
     };
@@ -75,12 +80,15 @@ fn run(rt: &HostRuntime) -> Result<(), Fault> {
 
 /// Times what a word names.
 fn time_word(rt: &HostRuntime, word: &str) -> Result<(), Fault> {
-    let attrs = read_rib_attrs(rt.alloc(), Family::V4, AsWidth::Four, &[])?;
-    let route = shared_route(rt.alloc(), attrs)?;
-    let events = announcements(rt.alloc(), &route)?;
+    let events = table(rt.alloc())?;
+    time_over(rt, word, &events)
+}
+
+/// Times what a word names, over a table or beside it.
+fn time_over(rt: &HostRuntime, word: &str, events: &[Event]) -> Result<(), Fault> {
     match word {
-        "map" => time_store::<MapStore<Rc<Route>>>(rt, &events),
-        "radix" => time_store::<RadixStore<Rc<Route>>>(rt, &events),
+        "map" => time_store::<MapStore<Rc<Route>>>(rt, events),
+        "radix" => time_store::<RadixStore<Rc<Route>>>(rt, events),
         "map-keys" => hold_keys::<MapStore<Rc<Route>>>(rt),
         "radix-keys" => hold_keys::<RadixStore<Rc<Route>>>(rt),
         _ => Ok(()),
@@ -100,15 +108,29 @@ fn shared_route(alloc: Global, attrs: Attrs) -> Result<Rc<Route>, AllocError> {
     Ok(Rc::new(alloc, Route { attrs, time: 0 })?)
 }
 
-/// The announcements of the table, in its order, all of the one route.
+/// The announcements of the table, in its order.
+fn table(alloc: Global) -> Result<Vec<Event>, Fault> {
+    let attrs = read_rib_attrs(alloc, Family::V4, AsWidth::Four, &[])?;
+    let route = shared_route(alloc, attrs)?;
+    Ok(announcements(alloc, &route)?)
+}
+
+/// The announcements of the table, all of the one route.
 fn announcements(alloc: Global, route: &Rc<Route>) -> Result<Vec<Event>, AllocError> {
     let mut events = Vec::new(alloc);
+    add_announcements(&mut events, route)?;
+    Ok(events)
+}
+
+/// Adds the announcements of the table.
+fn add_announcements(events: &mut Vec<Event>, route: &Rc<Route>) -> Result<(), AllocError> {
+    let alloc = *events.allocator();
     for number in 0..ROUTES {
         if let Some(prefix) = prefix_at(number) {
             events.push(announcement(alloc, prefix, route.clone()?)?)?;
         }
     }
-    Ok(events)
+    Ok(())
 }
 
 /// The prefixes of a table, in its order: most of 24 bits, side by side, every eighth of 21 bits
@@ -139,18 +161,23 @@ fn announcement(alloc: Global, prefix: Prefix, route: Rc<Route>) -> Result<Event
 /// Plays, undoes and redoes the events, looks addresses up, and prints the milliseconds of each.
 fn time_store<S: PrefixStore<Rc<Route>>>(rt: &HostRuntime, events: &[Event]) -> Result<(), Fault> {
     let mut player: Player<S> = Player::new(rt.alloc());
+    time_player(rt, &mut player, events)
+}
+
+/// Plays, undoes and redoes the events with a new player, looks addresses up, and prints the times.
+fn time_player<S: PrefixStore<Rc<Route>>>(
+    rt: &HostRuntime,
+    player: &mut Player<S>,
+    events: &[Event],
+) -> Result<(), Fault> {
     let start = Instant::now(rt)?;
-    play(&mut player, events)?;
+    play(player, events)?;
     let played = start.elapsed(rt)?;
-    for _ in events {
-        let _ = player.undo();
-    }
+    undo(player, events);
     let undone = start.elapsed(rt)?;
-    for _ in events {
-        let _ = player.redo();
-    }
+    redo(player, events);
     let redone = start.elapsed(rt)?;
-    let found = lookups(&player);
+    let found = lookups(player);
     let ended = start.elapsed(rt)?;
     println!(rt;
         "{} {} {} {} {found}",
@@ -172,6 +199,20 @@ fn play<S: PrefixStore<Rc<Route>>>(player: &mut Player<S>, events: &[Event]) -> 
     Ok(())
 }
 
+/// Undoes as many events.
+fn undo<S: PrefixStore<Rc<Route>>>(player: &mut Player<S>, events: &[Event]) {
+    for _ in events {
+        let _ = player.undo();
+    }
+}
+
+/// Redoes as many events.
+fn redo<S: PrefixStore<Rc<Route>>>(player: &mut Player<S>, events: &[Event]) {
+    for _ in events {
+        let _ = player.redo();
+    }
+}
+
 /// Looks addresses up, in order, over and over, and counts those that are found.
 fn lookups<S: PrefixStore<Rc<Route>>>(player: &Player<S>) -> u32 {
     let peer = peer();
@@ -190,11 +231,17 @@ fn lookups<S: PrefixStore<Rc<Route>>>(player: &Player<S>) -> u32 {
 /// are.
 fn hold_keys<S: PrefixStore<Rc<Route>>>(rt: &HostRuntime) -> Result<(), Fault> {
     let mut store: S = S::new(rt.alloc());
+    make_keys(&mut store)?;
+    println!(rt; "{}", store.key_count())?;
+    Ok(())
+}
+
+/// Makes the prefixes of the table keys of a store.
+fn make_keys<S: PrefixStore<Rc<Route>>>(store: &mut S) -> Result<(), AllocError> {
     for number in 0..ROUTES {
         if let Some(prefix) = prefix_at(number) {
             store.ensure(prefix)?;
         }
     }
-    println!(rt; "{}", store.key_count())?;
     Ok(())
 }

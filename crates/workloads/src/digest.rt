@@ -21,6 +21,14 @@ struct Lanes {
     fourth: u64,
 }
 
+/// What a digest gives: a number that hangs on all octets that were written, and how many they
+/// were.
+#[derive(Clone, Copy)]
+pub(crate) struct Sum {
+    pub(crate) number: u64,
+    pub(crate) length: u64,
+}
+
 /// A writer that keeps a digest and the length of what is written, however that comes in pieces.
 #[derive(Drop)]
 pub(crate) struct Digest {
@@ -76,17 +84,15 @@ impl Digest {
         }
     }
 
-    /// How many octets were written.
-    pub(crate) fn length(&self) -> u64 {
-        self.length
-    }
-
-    /// A number that hangs on all octets that were written.
-    pub(crate) fn number(&self) -> u64 {
+    /// What it gives for all that was written.
+    pub(crate) fn sum(&self) -> Sum {
         let lanes = self.lanes.with_block(&self.rest);
         let number = with_word(with_word(self.length, lanes.first), lanes.second);
         let number = with_word(with_word(number, lanes.third), lanes.fourth);
-        number ^ number >> 32
+        Sum {
+            number: number ^ number >> 32,
+            length: self.length,
+        }
     }
 
     /// Fills what is held, if something is, with the first octets, and gives those behind.

@@ -2,9 +2,9 @@
 
 ghost use Rattle.std.specs.Prelude.{◌<◌};
 
-use crate::messages::Course;
 use crate::octets::Octets;
 use crate::tables::Entries;
+use crate::updates::Course;
 use crate::world::World;
 use std::alloc::{AllocError, Global};
 use std::io;
@@ -64,29 +64,29 @@ impl File {
             parts,
             part: 0,
             made: 0,
-            octets: Vec::new(alloc),
+            octets: Octets::new(alloc),
             place: 0,
         }
     }
 
     /// Makes the next record, and answers whether there was one.
-    fn make(&mut self) -> Result<bool, AllocError> {
+    fn make(&mut self) -> bool {
         let Some(part) = self.parts.get(self.part).copied() else {
-            return Ok(false);
+            return false;
         };
         if self.made >= part.records {
             self.part = self.part.wrapping_add(1);
             self.made = 0;
-            return Ok(true);
+            return true;
         }
         let number = self.made;
         self.made += 1;
-        self.put(part.kind, number)?;
-        Ok(true)
+        self.put(part.kind, number);
+        true
     }
 
     /// Appends the record of a kind with this number.
-    fn put(&mut self, kind: Kind, number: u32) -> Result<(), AllocError> {
+    fn put(&mut self, kind: Kind, number: u32) {
         let File { world, octets, .. } = self;
         match kind {
             Kind::Index => world.put_index(octets),
@@ -94,10 +94,7 @@ impl File {
             Kind::OldTable(v6) => world.put_old_entry(octets, v6, number),
             Kind::Updates(course) => world.put_update(octets, course),
             Kind::Flood(pass, at_once) => world.put_flood(octets, pass, number, at_once),
-            Kind::Flap => match world.v4.peer(0) {
-                Some(peer) => world.put_flap(octets, &peer, number),
-                None => Ok(()),
-            },
+            Kind::Flap => world.put_first_flap(octets, number),
             Kind::Leak(at_once) => world.put_leak(octets, at_once),
             Kind::Large => world.put_large(octets),
             Kind::Damaged => world.put_damaged(octets),
@@ -109,11 +106,11 @@ impl File {
         self.octets.clear();
         self.place = 0;
         for _ in 0..PIECE {
-            if self.octets.len() >= PIECE || !self.make()? {
+            if self.octets.len() >= PIECE || !self.make() {
                 break;
             }
         }
-        Ok(())
+        self.octets.check()
     }
 }
 
@@ -122,9 +119,7 @@ impl Read for File {
         if self.place >= self.octets.len() {
             self.make_piece()?;
         }
-        let Some(rest) = self.octets.get(self.place..) else {
-            return Ok(0);
-        };
+        let rest = self.octets.behind(self.place);
         let count = rest.len().min(buffer.len());
         buffer[..count].copy_from_slice(&rest[..count]);
         self.place = self.place.wrapping_add(count);

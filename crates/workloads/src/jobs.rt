@@ -4,9 +4,11 @@ ghost use Rattle.std.specs.Prelude.{◌<◌};
 
 use crate::chance::Chance;
 use crate::file::{File, Kind, Part};
-use crate::messages::Course;
+use crate::peers::Peer;
 use crate::runs::{Ran, dumped, played};
+use crate::script::Script;
 use crate::tables::Entries;
+use crate::updates::Course;
 use crate::world::{Counts, World};
 use std::alloc::{AllocError, Global};
 use std::io;
@@ -43,14 +45,21 @@ fn entries(v6: bool) -> Entries {
     }
 }
 
+/// The entries of a prefix at nearly all of the peers.
+fn whole(v6: bool) -> Entries {
+    Entries {
+        v6,
+        of_thousand: 950,
+    }
+}
+
 /// How a day goes.
 fn course(precise: bool, losses: u32) -> Course {
     Course { precise, losses }
 }
 
-/// A file of these parts.
-fn file(alloc: Global, size: Size, counts: Counts, parts: &[(Kind, u32)]) -> io::Result<File> {
-    let world = World::new(alloc, size.seed, counts)?;
+/// The parts, as large as the job takes them.
+fn parts_of(alloc: Global, size: Size, parts: &[(Kind, u32)]) -> Result<Vec<Part>, AllocError> {
     let mut listed = Vec::new(alloc);
     for (kind, records) in parts {
         listed.push(Part {
@@ -58,7 +67,30 @@ fn file(alloc: Global, size: Size, counts: Counts, parts: &[(Kind, u32)]) -> io:
             records: size.of(*records),
         })?;
     }
-    Ok(File::new(alloc, world, listed))
+    Ok(listed)
+}
+
+/// A file of these parts.
+fn file(
+    alloc: Global,
+    size: Size,
+    counts: Counts,
+    parts: &[(Kind, u32)],
+) -> Result<File, AllocError> {
+    let parts = parts_of(alloc, size, parts)?;
+    let world = World::new(alloc, size.seed, counts)?;
+    Ok(File::new(alloc, world, parts))
+}
+
+/// The replies to a script over a file of these parts.
+fn replies(
+    alloc: Global,
+    size: Size,
+    counts: Counts,
+    parts: &[(Kind, u32)],
+    script: &str,
+) -> io::Result<Ran> {
+    played(alloc, file(alloc, size, counts, parts)?, script)
 }
 
 /// The lines of a collector's table.
@@ -104,28 +136,32 @@ pub(crate) fn play(alloc: Global, size: Size) -> io::Result<Ran> {
         (Kind::Rib(entries(true)), 3_000),
         (Kind::Updates(course(false, 2)), 150_000),
     ];
-    let mut script = String::new(alloc);
-    write_way(&mut script, size)?;
-    played(alloc, file(alloc, size, counts, &parts)?, &script)
+    let script = way(alloc, size).whole()?;
+    replies(alloc, size, counts, &parts, script.as_str())
 }
 
-/// Appends the commands that go over a table and updates, back and forth.
-fn write_way(script: &mut String, size: Size) -> Result<(), AllocError> {
-    writeln!(script, "next {}", size.of(100_000))?;
-    writeln!(script, "peers")?;
-    writeln!(script, "back {}", size.of(50_000))?;
-    writeln!(script, "next {}", size.of(30_000))?;
-    writeln!(script, "goto {}", size.of(60_000))?;
-    writeln!(script, "next {}", size.of(200_000))?;
+/// The commands that go over a table and updates, back and forth.
+fn way(alloc: Global, size: Size) -> Script {
+    let mut script = Script::new(alloc);
+    script.put_counted("next", size.of(100_000));
+    script.put("peers\n");
+    script.put_counted("back", size.of(50_000));
+    script.put_counted("next", size.of(30_000));
+    script.put_counted("goto", size.of(60_000));
+    script.put_counted("next", size.of(200_000));
+    put_steps(&mut script, "back\n", size);
+    put_steps(&mut script, "next\n", size);
+    script.put("goto 1\n");
+    script.put_counted("goto", size.of(40_000));
+    script.put("peers\n");
+    script
+}
+
+/// Appends a command over and over.
+fn put_steps(script: &mut Script, line: &str, size: Size) {
     for _ in 0..size.of(5_000) {
-        writeln!(script, "back")?;
+        script.put(line);
     }
-    for _ in 0..size.of(5_000) {
-        writeln!(script, "next")?;
-    }
-    writeln!(script, "goto 1")?;
-    writeln!(script, "goto {}", size.of(40_000))?;
-    writeln!(script, "peers")
 }
 
 /// Questions about the routes of a few peers with large tables.
@@ -137,63 +173,61 @@ pub(crate) fn ask(alloc: Global, size: Size) -> io::Result<Ran> {
         v6_prefixes: size.of(30_000),
         kinds: size.of(10_000),
     };
-    let whole = |v6| Entries {
-        v6,
-        of_thousand: 950,
-    };
     let parts = [
         (Kind::Index, 1),
         (Kind::Rib(whole(false)), 120_000),
         (Kind::Rib(whole(true)), 30_000),
         (Kind::Updates(course(false, 2)), 60_000),
     ];
+    let script = questions(alloc, size, counts)?;
+    replies(alloc, size, counts, &parts, script.as_str())
+}
+
+/// A script of questions, and of steps in between.
+fn questions(alloc: Global, size: Size, counts: Counts) -> Result<String, AllocError> {
     let world = World::new(alloc, size.seed, counts)?;
-    let mut script = String::new(alloc);
-    writeln!(&mut script, "next {}", size.of(150_001))?;
+    let mut script = Script::new(alloc);
+    script.put_counted("next", size.of(150_001));
     for _ in 0..4u8 {
-        write_questions(&mut script, &world, size)?;
-        writeln!(&mut script, "next {}", size.of(15_000))?;
+        put_questions(&mut script, &world, size);
+        script.put_counted("next", size.of(15_000));
     }
-    played(alloc, file(alloc, size, counts, &parts)?, &script)
+    script.whole()
 }
 
 /// Appends a question for the table of each peer, and some for addresses and prefixes.
-fn write_questions(script: &mut String, world: &World, size: Size) -> Result<(), AllocError> {
-    for peer in &world.v4.peers {
-        write!(script, "table ")?;
-        peer.name(script)?;
-        writeln!(script)?;
-    }
-    for peer in &world.v6.peers {
-        write!(script, "table ")?;
-        peer.name(script)?;
-        writeln!(script)?;
-    }
+fn put_questions(script: &mut Script, world: &World, size: Size) {
+    put_tables(script, &world.v4.peers);
+    put_tables(script, &world.v6.peers);
     let mut chance = Chance::new(size.seed ^ script.len() as u64);
     for _ in 0..size.of(2_500) {
-        write_question(script, world, &mut chance)?;
+        put_question(script, world, &mut chance);
     }
-    writeln!(script, "peers")
+    script.put("peers\n");
+}
+
+/// Appends a question for the table of each of the peers.
+fn put_tables(script: &mut Script, peers: &[Peer]) {
+    for peer in peers {
+        script.put_about("table", peer);
+        script.put("\n");
+    }
 }
 
 /// Appends a question for an address and one for a prefix of IPv4.
-fn write_question(
-    script: &mut String,
-    world: &World,
-    chance: &mut Chance,
-) -> Result<(), AllocError> {
+fn put_question(script: &mut Script, world: &World, chance: &mut Chance) {
     let Some(peer) = world.v4.peer(chance.below(world.v4.peer_count().max(1))) else {
-        return Ok(());
+        return;
     };
     let network = world.network(false, chance.below(world.v4.prefixes.max(1)));
     let [a, b, c, d, ..] = network.first.to_be_bytes();
-    let last = chance.below(256);
-    write!(script, "lookup ")?;
-    peer.name(script)?;
-    writeln!(script, " {a}.{b}.{c}.{last}")?;
-    write!(script, "route ")?;
-    peer.name(script)?;
-    writeln!(script, " {a}.{b}.{c}.{d}/{}", network.len)
+    let [.., last] = chance.below(256).to_be_bytes();
+    script.put_about("lookup", &peer);
+    script.put_address([a, b, c, last]);
+    script.put("\n");
+    script.put_about("route", &peer);
+    script.put_address([a, b, c, d]);
+    script.put_len(network.len);
 }
 
 /// A stream of updates, of which the last steps are kept.
@@ -201,12 +235,18 @@ pub(crate) fn forget(alloc: Global, size: Size) -> io::Result<Ran> {
     let mut counts = COLLECTOR;
     counts.kinds = 400;
     let parts = [(Kind::Updates(course(true, 50)), 60_000)];
-    let mut script = String::new(alloc);
+    let script = forgetting(alloc, size).whole()?;
+    replies(alloc, size, counts, &parts, script.as_str())
+}
+
+/// The commands that go on, and forget what lies long behind.
+fn forgetting(alloc: Global, size: Size) -> Script {
+    let mut script = Script::new(alloc);
     for _ in 0..65u8 {
-        writeln!(&mut script, "next {}", size.of(1_000))?;
-        writeln!(&mut script, "forget {}", size.of(15_000))?;
+        script.put_counted("next", size.of(1_000));
+        script.put_counted("forget", size.of(15_000));
     }
-    played(alloc, file(alloc, size, counts, &parts)?, &script)
+    script
 }
 
 /// A peer that loses its session and announces all anew, a leak of longer prefixes, messages with
@@ -231,9 +271,15 @@ pub(crate) fn storm(alloc: Global, size: Size) -> io::Result<Ran> {
         (Kind::Large, 5),
         (Kind::Flap, 200),
     ];
-    let mut script = String::new(alloc);
-    writeln!(&mut script, "next {}", size.of(40_000))?;
-    writeln!(&mut script, "back {}", size.of(12_000))?;
-    writeln!(&mut script, "next {}", size.of(40_000))?;
-    played(alloc, file(alloc, size, counts, &parts)?, &script)
+    let script = turns(alloc, size).whole()?;
+    replies(alloc, size, counts, &parts, script.as_str())
+}
+
+/// The commands that go on, back, and on again.
+fn turns(alloc: Global, size: Size) -> Script {
+    let mut script = Script::new(alloc);
+    script.put_counted("next", size.of(40_000));
+    script.put_counted("back", size.of(12_000));
+    script.put_counted("next", size.of(40_000));
+    script
 }

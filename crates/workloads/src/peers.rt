@@ -3,7 +3,7 @@
 ghost use Rattle.std.specs.Prelude.{◌<◌};
 
 use crate::chance::Chance;
-use crate::octets::{Octets, put_u16, put_u32};
+use crate::octets::Octets;
 use std::alloc::AllocError;
 
 /// Autonomous systems that pass on what others announce, as peers and in the middle of paths.
@@ -57,26 +57,45 @@ impl Peer {
         }
     }
 
+    /// Whether its next hop has the address of its link too.
+    fn has_link(&self) -> bool {
+        self.asn % 5 < 2
+    }
+
+    /// How many octets its next hop has, of IPv6.
+    pub(crate) fn hop_len(&self) -> u8 {
+        if self.has_link() { 32 } else { 16 }
+    }
+
+    /// Appends its address as a next hop of IPv6, with that of its link, or without.
+    pub(crate) fn put_hops(&self, octets: &mut Octets) {
+        octets.put(self.address());
+        if self.has_link() {
+            octets.put(&[0xfe, 0x80, 0, 0, 0, 0, 0, 0]);
+            octets.put(&self.octets[8..]);
+        }
+    }
+
     /// Appends it as an index has it (RFC 6396, section 4.3.1).
-    pub(crate) fn put_in_index(&self, octets: &mut Octets) -> Result<(), AllocError> {
-        octets.push(if self.v6 { 3 } else { 2 })?;
-        put_u32(octets, 0x0a00_0001)?;
-        octets.extend_from_slice(self.address())?;
-        put_u32(octets, self.asn)
+    pub(crate) fn put_in_index(&self, octets: &mut Octets) {
+        octets.put(&[if self.v6 { 3 } else { 2 }]);
+        octets.put_u32(0x0a00_0001);
+        octets.put(self.address());
+        octets.put_u32(self.asn);
     }
 
     /// Appends its session in front of a message (RFC 6396, section 4.4.3).
-    pub(crate) fn put_session(&self, octets: &mut Octets) -> Result<(), AllocError> {
-        put_u32(octets, self.asn)?;
-        put_u32(octets, COLLECTOR)?;
-        put_u16(octets, 0)?;
-        put_u16(octets, if self.v6 { 2 } else { 1 })?;
-        octets.extend_from_slice(self.address())?;
-        octets.extend_from_slice(self.address())
+    pub(crate) fn put_session(&self, octets: &mut Octets) {
+        octets.put_u32(self.asn);
+        octets.put_u32(COLLECTOR);
+        octets.put_u16(0);
+        octets.put_u16(if self.v6 { 2 } else { 1 });
+        octets.put(self.address());
+        octets.put(self.address());
     }
 
     /// Appends its address and number as a command of a script names them.
-    pub(crate) fn name(&self, script: &mut String) -> Result<(), AllocError> {
+    pub(crate) fn put_name(&self, script: &mut String) -> Result<(), AllocError> {
         let [a, b, c, d, ..] = self.octets;
         if self.v6 {
             let low = u16::from_be_bytes([self.octets[14], self.octets[15]]);

@@ -3,8 +3,7 @@
 ghost use Rattle.std.specs.Prelude.{◌<◌};
 
 use crate::chance::mixed;
-use crate::octets::{Octets, put_front};
-use std::alloc::AllocError;
+use crate::octets::Octets;
 
 /// Where the prefixes of IPv4 begin, and how many addresses they lie in.
 const V4_START: u64 = 0x0100_0000;
@@ -16,8 +15,8 @@ const V6_START: u64 = 0x2001_0200_0000_0000;
 
 const V6_SPAN: u64 = 0x0c00_0000_0000_0000;
 
-/// How many of a thousand prefixes of IPv4 are at most as long as this one of the row, as full tables
-/// show them. No prefix is longer than 24 bits there.
+/// How many of a thousand prefixes of IPv4 are at most as long as this one of the row, as full
+/// tables show them. No prefix is longer than 24 bits there.
 const V4_LENGTHS: [(u64, u8); 12] = [
     (600, 24),
     (700, 23),
@@ -48,8 +47,8 @@ const V6_LENGTHS: [(u64, u8); 11] = [
     (1_000, 48),
 ];
 
-/// A prefix: the upper 64 bits of an address of IPv6, or an address of IPv4 in the upper 32 of them,
-/// and a length.
+/// A prefix: the upper 64 bits of an address of IPv6, or an address of IPv4 in the upper 32 of
+/// them, and a length.
 #[derive(Clone, Copy)]
 pub(crate) struct Network {
     pub(crate) first: u64,
@@ -97,8 +96,8 @@ fn length_of(row: &[(u64, u8)], chance: u64, other: u8) -> u8 {
     other
 }
 
-/// The prefix of the chosen length at a place, if it begins behind the place a step before: else the
-/// longer one, so that prefixes differ and stand in their order.
+/// The prefix of the chosen length at a place, if it begins behind the place a step before: else
+/// the longer one, so that prefixes differ and stand in their order.
 fn in_step(place: u64, step: u64, chosen: u8, longer: u8) -> Network {
     let first = cut(place, chosen);
     if first.wrapping_add(step) > place {
@@ -127,21 +126,20 @@ impl Network {
     }
 
     /// Appends it as BGP sends it (RFC 4271, section 4.3).
-    pub(crate) fn put(&self, octets: &mut Octets) -> Result<(), AllocError> {
-        octets.push(self.len)?;
-        put_front(
-            octets,
-            &self.first.to_be_bytes(),
-            usize::from(self.len).div_ceil(8),
-        )
+    pub(crate) fn put(&self, octets: &mut Octets) {
+        octets.put(&[self.len]);
+        let len = usize::from(self.len).div_ceil(8);
+        octets.put_front(&self.first.to_be_bytes(), len);
     }
 
     /// Its first address, whole: of IPv6 with the lower half.
-    pub(crate) fn put_address(&self, octets: &mut Octets, v6: bool) -> Result<(), AllocError> {
+    pub(crate) fn put_address(&self, octets: &mut Octets, v6: bool) {
+        let upper = self.first.to_be_bytes();
         if v6 {
-            octets.extend_from_slice(&self.first.to_be_bytes())?;
-            return octets.extend_from_slice(&[0; 8]);
+            octets.put(&upper);
+            octets.put(&[0; 8]);
+        } else {
+            octets.put_front(&upper, 4);
         }
-        put_front(octets, &self.first.to_be_bytes(), 4)
     }
 }

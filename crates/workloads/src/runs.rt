@@ -1,15 +1,13 @@
 //! Runs over files, as the program makes them: through buffers of 64 KiB.
 
-ghost use Rattle.std.specs.Prelude.{◌≡◌, false, IfOk};
-
-use crate::digest::Digest;
+use crate::digest::{Digest, Sum};
 use crate::file::File;
-use bgpdump_tool::{Outcome, Output, WriteOutput, run_dump, run_play};
+use bgpdump_tool::{Outcome, WriteOutput, run_dump, run_play};
 use mrt_wire::{BufferedInput, Route, Stamp};
 use rib_store::{LeftStore, RadixStore};
 use std::alloc::Global;
 use std::io;
-use std::io::{BufReader, BufWriter, Write};
+use std::io::{BufReader, BufWriter};
 use std::rc::Rc;
 
 /// How many octets each buffer holds.
@@ -18,50 +16,84 @@ const BUFFER: usize = 65_536;
 /// The store of the program's player.
 type Routes = LeftStore<RadixStore<Rc<Route>>>;
 
+/// A writer of what a run writes.
+type Writer = BufWriter<Digest>;
+
 /// What a run wrote, and how it ended.
-#[derive(Drop)]
+#[derive(Clone, Copy)]
 pub(crate) struct Ran {
     pub(crate) outcome: Outcome,
-    pub(crate) lines: Digest,
-    pub(crate) reports: Digest,
+    pub(crate) lines: Sum,
+    pub(crate) reports: Sum,
 }
 
-/// An output over a digest.
-fn output(alloc: Global) -> io::Result<WriteOutput<BufWriter<Digest>>>
-    ensures { IfOk result (λ output.
-        ⟦<WriteOutput<BufWriter<Digest>> as Output>⟧.failed output ≡ false) }
-{
-    Ok(WriteOutput::new(BufWriter::with_capacity(alloc, BUFFER, Digest::new())?))
+/// The writers of lines and of reports.
+#[derive(Drop)]
+struct Writers {
+    lines: Writer,
+    reports: Writer,
 }
 
-/// The digest of all that was written.
-fn digest_of(output: WriteOutput<BufWriter<Digest>>) -> io::Result<Digest> {
-    let mut buffer = output.into_inner();
-    buffer.flush()?;
-    match buffer.into_inner() {
-        Ok(digest) => Ok(digest),
-        Err(_) => Err(io::ErrorKind::Other.into()),
+/// A writer to which nothing was written.
+fn new_writer(alloc: Global) -> io::Result<Writer> {
+    BufWriter::with_capacity(alloc, BUFFER, Digest::new())
+}
+
+/// Writers to which nothing was written.
+fn new_writers(alloc: Global) -> io::Result<Writers> {
+    let lines = new_writer(alloc)?;
+    Ok(Writers {
+        lines,
+        reports: new_writer(alloc)?,
+    })
+}
+
+/// What was written to the output; nothing where it couldn't be handed on.
+fn sum_of(output: WriteOutput<Writer>) -> Option<Sum> {
+    match output.into_inner().into_inner() {
+        Ok(digest) => Some(digest.sum()),
+        Err(_) => None,
     }
+}
+
+/// How the run ended, with what it wrote.
+fn ended(outcome: Outcome, out: WriteOutput<Writer>, err: WriteOutput<Writer>) -> io::Result<Ran> {
+    let (Some(lines), Some(reports)) = (sum_of(out), sum_of(err)) else {
+        return Err(io::ErrorKind::Other.into());
+    };
+    Ok(Ran {
+        outcome,
+        lines,
+        reports,
+    })
 }
 
 /// The lines of a file.
 pub(crate) fn dumped(alloc: Global, file: File) -> io::Result<Ran> {
-    let mut input = BufferedInput::new(BufReader::with_capacity(alloc, BUFFER, file)?);
-    let mut out = output(alloc)?;
-    let mut err = output(alloc)?;
+    let reader = BufReader::with_capacity(alloc, BUFFER, file)?;
+    dump(alloc, reader, new_writers(alloc)?)
+}
+
+/// Dumps what is read.
+fn dump(alloc: Global, reader: BufReader<File>, writers: Writers) -> io::Result<Ran> {
+    let mut input = BufferedInput::new(reader);
+    let mut out = WriteOutput::new(writers.lines);
+    let mut err = WriteOutput::new(writers.reports);
     let outcome = run_dump(alloc, &mut input, &mut out, &mut err, Stamp::Dump);
-    Ok(Ran {
-        outcome,
-        lines: digest_of(out)?,
-        reports: digest_of(err)?,
-    })
+    ended(outcome, out, err)
 }
 
 /// The replies to a script over a file.
 pub(crate) fn played(alloc: Global, file: File, script: &str) -> io::Result<Ran> {
-    let mut input = BufferedInput::new(BufReader::with_capacity(alloc, BUFFER, file)?);
-    let mut out = output(alloc)?;
-    let mut err = output(alloc)?;
+    let reader = BufReader::with_capacity(alloc, BUFFER, file)?;
+    play(alloc, reader, new_writers(alloc)?, script)
+}
+
+/// Plays what is read.
+fn play(alloc: Global, reader: BufReader<File>, writers: Writers, script: &str) -> io::Result<Ran> {
+    let mut input = BufferedInput::new(reader);
+    let mut out = WriteOutput::new(writers.lines);
+    let mut err = WriteOutput::new(writers.reports);
     let outcome = run_play::<Routes, _, _, _>(
         alloc,
         &mut input,
@@ -70,9 +102,5 @@ pub(crate) fn played(alloc: Global, file: File, script: &str) -> io::Result<Ran>
         &mut err,
         Stamp::Dump,
     );
-    Ok(Ran {
-        outcome,
-        lines: digest_of(out)?,
-        reports: digest_of(err)?,
-    })
+    ended(outcome, out, err)
 }

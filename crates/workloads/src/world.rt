@@ -2,10 +2,10 @@
 
 ghost use Rattle.std.specs.Prelude.{◌<◌};
 
-use crate::attributes::Pool;
 use crate::chance::{Chance, mixed};
-use crate::octets::{Octets, put_len32, put_u16, put_u32};
+use crate::octets::Octets;
 use crate::peers::Peer;
+use crate::pools::Pool;
 use crate::prefixes::{Network, Space};
 use std::alloc::{AllocError, Global};
 
@@ -59,37 +59,35 @@ pub(crate) struct World {
     pub(crate) update: Octets,
 }
 
-/// The peers of a family, from this number on.
-fn peers_of(
-    alloc: Global,
+/// Adds peers of a family, from this number on.
+fn add_peers(
+    peers: &mut Vec<Peer>,
     first: u16,
     count: u16,
     v6: bool,
     chance: &mut Chance,
-) -> Result<Vec<Peer>, AllocError> {
-    let mut peers = Vec::new(alloc);
+) -> Result<(), AllocError> {
     for number in 0..count {
         peers.push(Peer::new(first.wrapping_add(number), v6, chance))?;
     }
-    Ok(peers)
+    Ok(())
 }
 
 impl Side {
-    fn new(
-        alloc: Global,
-        peers: Vec<Peer>,
-        prefixes: u32,
-        kinds: u32,
-        chance: &mut Chance,
-    ) -> Result<Side, AllocError> {
-        let wide = Pool::new(alloc, &peers, kinds, true, chance)?;
-        let narrow = Pool::new(alloc, &peers, kinds.min(200), false, chance)?;
-        Ok(Side {
-            peers,
-            wide,
-            narrow,
+    /// A side without peers.
+    fn new(alloc: Global, prefixes: u32, kinds: u32) -> Side {
+        Side {
+            peers: Vec::new(alloc),
+            wide: Pool::new(alloc, kinds),
+            narrow: Pool::new(alloc, kinds.min(200)),
             prefixes,
-        })
+        }
+    }
+
+    /// Makes what the peers announce.
+    fn fill(&mut self, chance: &mut Chance) -> Result<(), AllocError> {
+        self.wide.fill(&self.peers, true, chance)?;
+        self.narrow.fill(&self.peers, false, chance)
     }
 
     /// A peer by its number.
@@ -106,23 +104,42 @@ impl Side {
 impl World {
     /// The world of a seed.
     pub(crate) fn new(alloc: Global, seed: u64, counts: Counts) -> Result<World, AllocError> {
+        let mut world = World::empty(alloc, seed, counts);
+        world.fill(counts)?;
+        Ok(world)
+    }
+
+    /// A world without peers.
+    fn empty(alloc: Global, seed: u64, counts: Counts) -> World {
         let mut chance = Chance::new(seed);
         let salt = chance.next();
-        let v4_peers = peers_of(alloc, 0, counts.v4_peers, false, &mut chance)?;
-        let v6_peers = peers_of(alloc, counts.v4_peers, counts.v6_peers, true, &mut chance)?;
-        let kinds = counts.kinds;
-        Ok(World {
-            v4: Side::new(alloc, v4_peers, counts.v4_prefixes, kinds, &mut chance)?,
-            v6: Side::new(alloc, v6_peers, counts.v6_prefixes, kinds, &mut chance)?,
+        World {
             chance,
             salt,
             space: Space::new(counts.v4_prefixes, counts.v6_prefixes),
+            v4: Side::new(alloc, counts.v4_prefixes, counts.kinds),
+            v6: Side::new(alloc, counts.v6_prefixes, counts.kinds),
             told: 0,
             micros: 0,
-            body: Vec::new(alloc),
-            spelled: Vec::new(alloc),
-            update: Vec::new(alloc),
-        })
+            body: Octets::new(alloc),
+            spelled: Octets::new(alloc),
+            update: Octets::new(alloc),
+        }
+    }
+
+    /// Makes the peers, and what they announce.
+    fn fill(&mut self, counts: Counts) -> Result<(), AllocError> {
+        let World { chance, v4, v6, .. } = self;
+        add_peers(&mut v4.peers, 0, counts.v4_peers, false, chance)?;
+        add_peers(
+            &mut v6.peers,
+            counts.v4_peers,
+            counts.v6_peers,
+            true,
+            chance,
+        )?;
+        v4.fill(chance)?;
+        v6.fill(chance)
     }
 
     /// The peers of a family, and what they announce.
@@ -139,8 +156,8 @@ impl World {
         }
     }
 
-    /// The kind of attributes with which a peer announces a prefix: that of most prefixes in a run of
-    /// four, and of one run and a half.
+    /// The kind of attributes with which a peer announces a prefix: that of most prefixes in a run
+    /// of four, and of one run and a half.
     pub(crate) fn kind(&mut self, number: u32) -> u64 {
         if self.chance.happens(30) {
             return self.chance.next() >> 32;
@@ -149,17 +166,12 @@ impl World {
     }
 
     /// Appends a record with the body that stands there.
-    pub(crate) fn put_record(
-        &self,
-        octets: &mut Octets,
-        kind: u16,
-        subtype: u16,
-    ) -> Result<(), AllocError> {
+    pub(crate) fn put_record(&self, octets: &mut Octets, kind: u16, subtype: u16) {
         let seconds = u32::try_from(self.micros / 1_000_000).unwrap_or(0);
-        put_u32(octets, START.wrapping_add(seconds))?;
-        put_u16(octets, kind)?;
-        put_u16(octets, subtype)?;
-        put_len32(octets, self.body.len())?;
-        octets.extend_from_slice(&self.body)
+        octets.put_u32(START.wrapping_add(seconds));
+        octets.put_u16(kind);
+        octets.put_u16(subtype);
+        octets.put_len32(self.body.len());
+        octets.put_octets(&self.body);
     }
 }
