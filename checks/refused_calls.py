@@ -18,6 +18,68 @@ DATA = Path(__file__).resolve().parent.parent / 'crates' / 'rows' / 'data'
 # a refusal that is swallowed shows, and a new request. The check prints these lines as it finds them; a row without one
 # is a fault.
 KNOWN = {
+    "attributes of a table's entry": (5, 0),
+    'attributes of an IPv6 entry': (0, 0),
+    'segments of a path': (5, 0),
+    'a message of both families': (6, 0),
+    'prefixes of a message of both families': (6, 0),
+    'a message with AS4_PATH': (8, 0),
+    'a message with a withdrawal': (4, 0),
+    'joined paths': (4, 0),
+    'an index': (2, 0),
+    "a table's entry": (12, 0),
+    'an IPv6 entry': (7, 0),
+    'an update of both families': (11, 0),
+    'an update with AS4_PATH': (12, 0),
+    'an entry of an old table': (13, 0),
+    'an entry behind one that was given back': (70, 0),
+    'an update behind one that was given back': (68, 0),
+    'an old entry behind one that was given back': (112, 0),
+    'a table': (13, 0),
+    'an IPv6 table': (8, 0),
+    'an old table': (14, 0),
+    'updates': (12, 0),
+    'updates with AS4_PATH': (13, 0),
+    'updates of two peers': (15, 0),
+    'a script over updates': (41, 4),
+    'a script over two peers': (62, 4),
+    'the first key of a store': (1, 0),
+    'a route at the first key of a store': (1, 0),
+    'a sixteenth key of a store': (4, 0),
+    'a route at a sixteenth key of a store': (4, 0),
+    'a route at the only key of a store': (0, 0),
+    'a route at a known key of a store': (0, 0),
+    'the text of an address': (1, 0),
+    'the text of a prefix': (1, 0),
+    'the text of a decimal': (1, 0),
+    'the text of a path': (1, 0),
+    'the text of communities': (1, 0),
+    "lines of a table's entry": (1, 0),
+    'lines of an update': (1, 0),
+    'a command line that asks for lines': (25, 0),
+    'a command line without a mode': (21, 0),
+    'a command line with two modes': (33, 0),
+    'a command line with standard input twice': (30, 0),
+    'two prefixes of two new peers': (12, 0),
+    'two prefixes of IPv6 of two new peers': (20, 0),
+    'a route in place of another': (4, 0),
+    'a route in place of another behind a floor': (4, 0),
+    'a route that comes again, and one more': (9, 0),
+    'a route behind 1,024 steps': (4, 0),
+    'a route behind 1,100 steps': (3, 0),
+    'a route behind 5,000 steps, of which one is kept': (3, 1),
+    '600 routes over as many of 1,100 that differ': (2, 1),
+    'a loss in place of two steps': (4, 0),
+    'one route more than a thousand': (3, 0),
+    'the loss of a thousand routes': (4, 0),
+    'a thousand routes of a new peer': (1002, 0),
+    'all steps': (0, 0),
+    'all steps before others': (0, 0),
+    'most steps before others': (0, 0),
+    'steps behind a floor': (0, 0),
+    'steps of announcements and withdrawals by turns': (0, 0),
+    'steps of routes that come again': (0, 0),
+    'a script that prints a large table': (149, 8),
 }
 
 # The most requests, where more would tell that a step costs what the table holds.
@@ -103,7 +165,7 @@ def faults_of_row(calls, row):
     if not row.is_answered(right, row.right):
         return [fault(row, 'with all that it asks for', right)]
     refused, without, faults = refuse(calls, row)
-    print("    '%s': (%d, %d)," % (row.title, refused, without), flush=True)
+    print('    %r: (%d, %d),' % (row.title, refused, without), flush=True)
     return faults or list(faults_of_numbers(row.title, right.made['memory'], (refused, without)))
 
 

@@ -1,8 +1,9 @@
 //! The lines of events, which a call of the libraries appends to a text.
 
-use crate::appended::{Front, Subject, put_appended};
+use crate::appended::{Front, put_appended};
 use crate::events::{LIMIT, MOST_ANSWERS};
 use crate::shown::Shown;
+use bgpdump_tool::put_lines;
 use mrt_wire::{Next, ReadInput, Source, SourceFault, Stamp};
 use std::alloc::Global;
 
@@ -22,7 +23,8 @@ fn put_answer(alloc: Global, answer: &Result<Next, SourceFault>, text: &mut Show
     let octets = b"before";
     match answer {
         Ok(Next::Event(event)) => {
-            put_appended(Front { alloc, octets }, &Subject::Lines(event), text);
+            let front = Front { alloc, octets };
+            put_appended(front, |octets| put_lines(event, octets), text);
             true
         }
         Ok(Next::Bad(_)) => true,

@@ -13,15 +13,15 @@
 //! `parts` has those of addresses and prefixes, and `turns` what two of them are to each other. A
 //! line is answered by one.
 
-use crate::appended::{Front, Subject, put_appended};
+use crate::appended::{Front, put_appended};
 use crate::parts::{family_word, put_part};
 use crate::paths::{numbers_of, path_of};
 use crate::shown::Shown;
 use crate::spelled::put_digits;
 use crate::turns::put_between;
 use crate::words::{UNREAD, address_word, number_word, prefix_word, split_word};
-use bgp_wire::{AsPath, WireFault};
-use ip_prefix::{Addr, Prefix, V4_OCTETS, V6_OCTETS};
+use bgp_wire::{AsPath, WireFault, put_communities};
+use ip_prefix::{Addr, Prefix, V4_OCTETS, V6_OCTETS, put_decimal};
 use std::alloc::{AllocError, Global};
 use std::str;
 
@@ -79,11 +79,11 @@ fn put_spelled(front: Front<'_>, name: &str, word: &str, text: &mut Shown) {
     match name {
         "address" => put_address(front, address_word(word), text),
         "prefix" => match prefix_word(word) {
-            Some(prefix) => put_appended(front, &Subject::Prefix(prefix), text),
+            Some(prefix) => put_appended(front, |octets| prefix.put_text(octets), text),
             None => text.put(NONE),
         },
         _ => match number_word(word) {
-            Some(number) => put_appended(front, &Subject::Decimal(number), text),
+            Some(number) => put_appended(front, |octets| put_decimal(number, octets), text),
             None => text.put(UNREAD),
         },
     }
@@ -92,7 +92,7 @@ fn put_spelled(front: Front<'_>, name: &str, word: &str, text: &mut Shown) {
 /// Appends the text of an address, where there is one.
 fn put_address(front: Front<'_>, address: Option<Addr>, text: &mut Shown) {
     match address {
-        Some(address) => put_appended(front, &Subject::Address(address), text),
+        Some(address) => put_appended(front, |octets| address.put_text(octets), text),
         None => text.put(NONE),
     }
 }
@@ -108,7 +108,7 @@ fn copied(alloc: Global, words: &str) -> Result<AsPath, AllocError> {
 /// Appends the text of a path that was made.
 fn put_path(front: Front<'_>, made: Result<AsPath, AllocError>, text: &mut Shown) {
     match made {
-        Ok(path) => put_appended(front, &Subject::Path(&path), text),
+        Ok(path) => put_appended(front, |octets| path.put_text(octets), text),
         Err(AllocError) => text.note(Err(AllocError)),
     }
 }
@@ -116,7 +116,7 @@ fn put_path(front: Front<'_>, made: Result<AsPath, AllocError>, text: &mut Shown
 /// Appends the text of communities that were made.
 fn put_numbers(front: Front<'_>, made: Result<Vec<u32>, AllocError>, text: &mut Shown) {
     match made {
-        Ok(numbers) => put_appended(front, &Subject::Communities(&numbers), text),
+        Ok(numbers) => put_appended(front, |octets| put_communities(&numbers, octets), text),
         Err(AllocError) => text.note(Err(AllocError)),
     }
 }
