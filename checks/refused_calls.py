@@ -49,6 +49,7 @@ KNOWN = {
     'a route at a sixteenth key of a store': (4, 0),
     'a route at the only key of a store': (0, 0),
     'a route at a known key of a store': (0, 0),
+    'the nodes of a tree with a sixteenth key': (1, 0),
     'the text of an address': (1, 0),
     'the text of a prefix': (1, 0),
     'the text of a decimal': (1, 0),
