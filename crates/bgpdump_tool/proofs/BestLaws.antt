@@ -13,9 +13,9 @@ use Rattle.ip_prefix.specs.Order.{network_cmp}
 use Rattle.ip_prefix.specs.OrderLaws.{network_cmp_total}
 use Rattle.mrt_events.specs.declared.peer.Peer.{Peer}
 use Rattle.mrt_events.specs.declared.event.Route.{Route}
-use Rattle.rib_store.specs.Lookups.{IsLongestOf}
-use Rattle.rib_store.proofs.LongestLaws.{longest-one}
-use Rattle.rib_store.proofs.SlotLaws.{same_prefix}
+use Rattle.prefix_store.specs.Lookups.{IsLongestOf}
+use Rattle.prefix_store.proofs.LongestLaws.{longest-one}
+use Rattle.prefix_store.proofs.StoredLaws.{same_prefix}
 use Rattle.rib_player.specs.Tables.{Routes}
 use Rattle.rib_player.specs.Store.{peer_routes}
 use Rattle.rib_player.specs.Lookups.{IsBest}

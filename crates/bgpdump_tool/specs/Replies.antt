@@ -8,7 +8,7 @@ use Rattle.ip_prefix.specs.Network.{Network, contains}
 use Rattle.ip_prefix.specs.Text.{address_text, network_text}
 use Rattle.mrt_events.specs.declared.peer.Peer.{Peer}
 use Rattle.mrt_events.specs.declared.event.Route.{Route}
-use Rattle.rib_store.specs.Stored.{counted}
+use Rattle.prefix_store.specs.Stored.{counted}
 use Rattle.rib_player.specs.History.{pair_of}
 use Rattle.rib_player.specs.Tables.{Routes}
 use Rattle.rib_player.specs.Store.{peer_routes, routed_peers}

@@ -21,7 +21,7 @@ use crate::command::Command;
 use crate::session::Session;
 use bgpdump_lines::{Outcome, Output};
 use mrt_wire::{Input, Route};
-use rib_store::PrefixStore;
+use prefix_store::PrefixStore;
 use std::rc::Rc;
 
 /// Carries out a command: what it reads and finds faulty is reported, then its reply is written.

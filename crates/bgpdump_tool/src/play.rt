@@ -18,7 +18,7 @@ use crate::script::{LONGEST_SCRIPT, split_line, write_line_report};
 use crate::session::Session;
 use bgpdump_lines::{Outcome, Output, finish_outputs};
 use mrt_wire::{Input, Route, Stamp};
-use rib_store::PrefixStore;
+use prefix_store::PrefixStore;
 use std::alloc::Global;
 use std::rc::Rc;
 

@@ -14,8 +14,8 @@ ghost use Rattle.bgpdump_tool.specs.Moves.{Moves, StepDoes};
 use bgpdump_lines::{LIMIT, OutFault, Outcome, Output, pass_on_before_waiting, write_report};
 use ip_prefix::Text;
 use mrt_wire::{Input, Next, Route, Source, Stamp};
+use prefix_store::PrefixStore;
 use rib_player::Player;
-use rib_store::PrefixStore;
 use std::alloc::Global;
 use std::rc::Rc;
 

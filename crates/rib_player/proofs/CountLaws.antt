@@ -8,7 +8,7 @@ use Rattle.std.proofs.lemmas.List.{get_or-drop}
 use Rattle.std.proofs.lemmas.List.Sums.{sum_by-cons, sum_by_more}
 use Rattle.std.proofs.lemmas.Map.Keys.{IsDistinct-head, IsDistinct-tail}
 use Rattle.octet_forms.proofs.Booleans.{same_tests}
-use Rattle.rib_store.specs.Stored.{counted}
+use Rattle.prefix_store.specs.Stored.{counted}
 use Rattle.rib_player.specs.declared.pair.Pair.{Pair}
 use Rattle.rib_player.specs.declared.journal.Step.{Step}
 use Rattle.rib_player.specs.History.{pair_cmp}

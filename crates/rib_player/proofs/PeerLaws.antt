@@ -20,11 +20,11 @@ use Rattle.std.proofs.lemmas.Option.{slice_get-map}
 use Rattle.ip_prefix.specs.Network.{Network}
 use Rattle.ip_prefix.specs.Order.{network_cmp}
 use Rattle.ip_prefix.specs.OrderLaws.{network_cmp_total, network_cmp-IsAntisymmetric}
-use Rattle.rib_store.specs.Stored as stored
-use Rattle.rib_store.specs.Stored.{counted}
-use Rattle.rib_store.specs.Lookups.{above, is_above, pointed}
-use Rattle.rib_store.proofs.FillLaws.{take-nil}
-use Rattle.rib_store.proofs.AboveLaws.{routes_sorted}
+use Rattle.prefix_store.specs.Stored as stored
+use Rattle.prefix_store.specs.Stored.{counted}
+use Rattle.prefix_store.specs.Lookups.{above, is_above, pointed}
+use Rattle.prefix_store.proofs.AboveLaws.{take-nil}
+use Rattle.prefix_store.proofs.AboveLaws.{routes_sorted}
 use Rattle.mrt_events.specs.declared.peer.Peer.{Peer}
 use Rattle.mrt_events.specs.declared.event.Route.{Route}
 use Rattle.mrt_events.specs.Peer.{peer_cmp}

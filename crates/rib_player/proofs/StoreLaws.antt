@@ -21,15 +21,15 @@ use Rattle.ip_prefix.specs.Network.{Network}
 use Rattle.octet_forms.proofs.Options.{is_some-option_map}
 use Rattle.ip_prefix.specs.Order.{network_cmp}
 use Rattle.ip_prefix.specs.OrderLaws.{network_cmp_total}
-use Rattle.rib_store.specs.Stored as stored
-use Rattle.rib_store.specs.Lookups as lookups
-use Rattle.rib_store.proofs.PutLaws.{get-put}
+use Rattle.prefix_store.specs.Stored as stored
+use Rattle.prefix_store.specs.Lookups as lookups
+use Rattle.prefix_store.proofs.PutLaws.{get-put}
 use Rattle.mrt_events.specs.declared.peer.Peer.{Peer}
 use Rattle.rib_player.specs.declared.pair.Pair.{Pair}
 use Rattle.mrt_events.specs.declared.event.Route.{Route}
 use Rattle.mrt_events.specs.Peer.{peer_cmp}
 use Rattle.rib_player.specs.History.{pair_cmp, pair_of}
-use Rattle.rib_store.specs.Stored.{put}
+use Rattle.prefix_store.specs.Stored.{put}
 use Rattle.rib_player.specs.Tables.{Routes, Pairs}
 use Rattle.rib_player.specs.Store.{Stores, store_at, has_key, stored_route, route_in, keys_in, routes_in}
 use Rattle.rib_player.specs.Lookups.{IsBest}

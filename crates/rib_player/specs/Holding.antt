@@ -12,8 +12,8 @@ use Rattle.mrt_events.specs.declared.peer.Peer.{Peer}
 use Rattle.mrt_events.specs.declared.event.Route.{Route}
 use Rattle.mrt_events.specs.Codes.{coded_route}
 use Rattle.mrt_events.specs.Peer.{peer_cmp}
-use Rattle.rib_store.specs.Stored as stored
-use Rattle.rib_store.specs.Contents as contents
+use Rattle.prefix_store.specs.Stored as stored
+use Rattle.prefix_store.specs.Contents as contents
 use Rattle.rib_player.specs.declared.pair.Pair.{Pair}
 use Rattle.rib_player.specs.Codes.{coded_pair}
 use Rattle.rib_player.specs.History.{pair_cmp}

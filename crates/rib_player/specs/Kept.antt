@@ -5,7 +5,7 @@ use Rattle.std.specs.declared.alloc.Global.{Global}
 use Rattle.std.specs.declared.rc.Rc.{Rc}
 use Rattle.ip_prefix.specs.declared.addr.Family.TheVariants.{V4}
 use Rattle.mrt_events.specs.declared.event.Route.{Route}
-use Rattle.rib_store.specs.Packed.{v4_network}
+use Rattle.prefix_store.specs.Packed.{v4_network}
 use Rattle.rib_player.specs.declared.pair.Pair.{Pair}
 use Rattle.rib_player.specs.declared.entry.Marks.{Marks}
 use Rattle.rib_player.specs.declared.entry.Kept.{Kept}

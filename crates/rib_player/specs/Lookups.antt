@@ -12,8 +12,8 @@ use Rattle.ip_prefix.specs.Network.{Network}
 use Rattle.mrt_events.specs.declared.peer.Peer.{Peer}
 use Rattle.mrt_events.specs.declared.event.Route.{Route}
 use Rattle.mrt_events.specs.Peer.{peer_cmp}
-use Rattle.rib_store.specs.Stored as stored
-use Rattle.rib_store.specs.Lookups as lookups
+use Rattle.prefix_store.specs.Stored as stored
+use Rattle.prefix_store.specs.Lookups as lookups
 use Rattle.rib_player.specs.History.{pair_of}
 use Rattle.rib_player.specs.Tables.{Routes}
 use Rattle.rib_player.specs.Store.{Stores}

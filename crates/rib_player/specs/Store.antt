@@ -9,7 +9,7 @@ use Rattle.std.specs.FinMap as finite
 use Rattle.std.specs.FinSet as set
 use Rattle.std.specs.declared.alloc.Global.{Global}
 use Rattle.ip_prefix.specs.Network.{Network}
-use Rattle.rib_store.specs.Stored as stored
+use Rattle.prefix_store.specs.Stored as stored
 use Rattle.mrt_events.specs.declared.peer.Peer.{Peer}
 use Rattle.mrt_events.specs.declared.event.Route.{Route}
 use Rattle.mrt_events.specs.Peer.{peer_cmp}

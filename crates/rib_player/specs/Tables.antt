@@ -3,7 +3,7 @@ use Rattle.std.specs.Prelude.{Bool, true, false, ◌&&◌, ◌||◌, not, List, 
 use Rattle.std.specs.List.{flat_map, filter}
 use Rattle.std.specs.FinMap.{FinMap, empty, get, keys}
 use Rattle.std.specs.FinSet.{FinSet, from_list}
-use Rattle.rib_store.specs.Stored.{put}
+use Rattle.prefix_store.specs.Stored.{put}
 use Rattle.rib_player.specs.declared.pair.Pair.{Pair}
 use Rattle.mrt_events.specs.declared.event.Route.{Route}
 use Rattle.mrt_events.specs.Event.{Saying, Announced, Withdrawn, Changed}

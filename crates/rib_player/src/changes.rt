@@ -24,7 +24,7 @@ use crate::table::Table;
 use ip_prefix::Prefix;
 use known_routes::{KnownPeers, KnownRoutes};
 use mrt_events::{ESTABLISHED, Event, Item, Peer, Route};
-use rib_store::PrefixStore;
+use prefix_store::PrefixStore;
 use std::alloc::{AllocError, Global};
 use std::collections::BTreeSet;
 use std::rc::Rc;

@@ -1,8 +1,8 @@
 //! A routing table per peer that is played forwards and backwards, event by event.
 
 ghost use Rattle.std.specs.Prelude.{◌≡◌, ◌<◌, ◌↔◌, IfOk, OnOk, OnErr, IsOk};
-ghost use Rattle.rib_store.specs.Stored.{counted};
-ghost use Rattle.rib_store.specs.declared.store.TheConstants.{GREATEST_COUNT};
+ghost use Rattle.prefix_store.specs.Stored.{counted};
+ghost use Rattle.prefix_store.specs.declared.store.TheConstants.{GREATEST_COUNT};
 ghost use Rattle.rib_player.specs.Timeline.{ahead_of, end_of, current, after_play, behind};
 ghost use Rattle.rib_player.specs.Calls.{fresh, after_undo, after_redo, without_first, forgettable, after_forget};
 ghost use Rattle.rib_player.specs.Wanted.{wanted, named_count, IsWellFormed};
@@ -15,7 +15,7 @@ use crate::journal::{Journal, Step, cross_step, let_go_of, named_from, put_entri
 use crate::table::Table;
 use known_routes::{KnownPeers, KnownRoutes};
 use mrt_events::{Event, Route};
-use rib_store::PrefixStore;
+use prefix_store::PrefixStore;
 use std::alloc::{AllocError, Global};
 use std::marker::Model;
 use std::rc::Rc;
@@ -61,7 +61,7 @@ impl<S: PrefixStore<Rc<Route>>> Model for Player<S> {
     ghost coded = { coded_timeline };
 
     ghost use Rattle.std.specs.Prelude.{◌+◌, ◌≤◌, length};
-    ghost use Rattle.rib_store.specs.declared.store.TheConstants.{GREATEST_COUNT};
+    ghost use Rattle.prefix_store.specs.declared.store.TheConstants.{GREATEST_COUNT};
     ghost use Rattle.rib_player.specs.Claims.{claims_beyond};
     ghost use Rattle.rib_player.specs.Journal.{timeline_of, behind_forgotten, steps_of};
     ghost use Rattle.rib_player.specs.Played.{IsPlayed};

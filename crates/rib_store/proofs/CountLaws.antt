@@ -6,8 +6,8 @@ use Rattle.std.specs.FinMap.{get, len, len-empty}
 use Rattle.ip_prefix.specs.Network.{Network}
 use Rattle.ip_prefix.specs.Order.{network_cmp}
 use Rattle.ip_prefix.specs.OrderLaws.{network_cmp_total}
-use Rattle.rib_store.specs.Stored.{Keys, Routes, put, counted}
-use Rattle.rib_store.proofs.PutLaws.{len-put}
+use Rattle.prefix_store.specs.Stored.{Keys, Routes, put, counted}
+use Rattle.prefix_store.proofs.PutLaws.{len-put}
 use Rattle.rib_store.specs.Slots.{Slots, routes_in}
 
 -- how many routes there are once one slot is written

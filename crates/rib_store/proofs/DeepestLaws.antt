@@ -11,7 +11,7 @@ use Rattle.ip_prefix.proofs.Turns.{covers-way, here_only, here_from}
 use Rattle.rib_store.specs.Shape.{Shape}
 use Rattle.rib_store.specs.Shape.{Empty, Rooted}
 use Rattle.rib_store.specs.declared.forest.Forest.{Forest}
-use Rattle.rib_store.specs.Lookups.{IsLongest, IsLongestOf}
+use Rattle.prefix_store.specs.Lookups.{IsLongest, IsLongestOf}
 use Rattle.rib_store.specs.Slots.{route_found, routes_in}
 use Rattle.rib_store.specs.Tree.{at, slot_of, chosen, IsShaped}
 use Rattle.rib_store.specs.Walks.{either_of, routed_at, deepest}

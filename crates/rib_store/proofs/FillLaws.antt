@@ -1,11 +1,11 @@
 -- Lists filled as far as there is room, and the routes that walks down a tree append to them.
-use Rattle.std.proofs.Common.{◌≡◌, ℕ, zero, suc, ◌≤◌, ◌-◌, Bool, true, false, cond, List, [], ◌∷◌, ◌++◌, take, length, Option, Some, None, refl, sym, ap, ap₂, ◌∙◌, arith, append_assoc, length-append}
-use Rattle.std.proofs.lemmas.List.{append-nil, length-take, take_all, length-map}
+use Rattle.prefix_store.proofs.AboveLaws.{take-nil}
+use Rattle.std.proofs.Common.{◌≡◌, ℕ, zero, suc, ◌-◌, Bool, true, false, cond, List, [], ◌∷◌, ◌++◌, take, length, Option, Some, None, refl, sym, ap, ap₂, ◌∙◌, arith, append_assoc, length-append}
+use Rattle.std.proofs.lemmas.List.{append-nil, length-take}
 use Rattle.std.proofs.Math.Seq.{take-append_seam}
-use Rattle.std.specs.Borrow.{Bor}
 use Rattle.std.specs.Option.{option_to_list}
 use Rattle.ip_prefix.specs.Network.{Network}
-use Rattle.rib_store.specs.Lookups.{is_above, above, pointed}
+use Rattle.prefix_store.specs.Lookups.{is_above, above}
 use Rattle.ip_prefix.specs.declared.turn.Turn.{Turn}
 use Rattle.ip_prefix.specs.Order.{network_cmp}
 use Rattle.ip_prefix.specs.Turns.{way, turn_of}
@@ -18,7 +18,7 @@ use Rattle.rib_store.specs.Shape.{Empty, Rooted}
 use Rattle.rib_store.specs.Tree.{chosen, own, slots_of, slot_of, IsOn, IsShaped}
 use Rattle.rib_store.specs.Slots.{Slots, routed}
 use Rattle.rib_store.specs.Walks.{routed_at, all_routes, all_behind, filled}
-use Rattle.rib_store.proofs.AboveLaws.{none-above}
+use Rattle.prefix_store.proofs.AboveLaws.{none-above}
 use Rattle.rib_store.proofs.MarkLaws.{unmarked_first}
 use Rattle.rib_store.proofs.WayLaws.{below, left_first, node_first, not_itself, as_node}
 use Rattle.rib_store.proofs.WalkLaws.{first-routed, routed-append, next-all, next-none, above-ways, not_out, all-on, AllKeys-own, AllKeys-append}
@@ -32,10 +32,6 @@ use Rattle.ip_prefix.specs.Turns.{side}
 use Rattle.std.specs.List.{AllByRecursion}
 use Rattle.std.specs.Map.{keys_of}
 use Rattle.std.proofs.lemmas.List.Elements.{filter-append}
-
-pub take-nil : {A : Type 0} (n : ℕ) → take {A = A} n [] ≡ []
-take-nil zero = refl
-take-nil (suc n) = refl
 
 take-append : {A : Type 0} (n : ℕ) (xs ys : List A) → take n (xs ++ ys) ≡ take n xs ++ take (n - length xs) ys
 take-append n [] ys =
@@ -74,24 +70,9 @@ filled-then room later old mid new xs ys same first then = then ∙ ap₂ (λ r 
 pub filled-front : {A : Type 0} (room : ℕ) (new : List A) → filled room [] new ≡ take room new
 filled-front room new = ap (λ n. take n new) (omega arith)
 
--- one more found
-pub pointed-more : {R : Type 0} (found : List (Network × Bor R)) (one : Network × Bor R) (rest : List (Network × R)) → pointed (found ++ one ∷ []) ++ rest ≡ pointed found ++ (one.0, one.1.now) ∷ rest
-pointed-more [] one rest = refl
-pointed-more (x ∷ found) one rest = ap (λ s. (x.0, x.1.now) ∷ s) (pointed-more found one rest)
-
-pub length-pointed : {R : Type 0} (found : List (Network × Bor R)) → length (pointed found) ≡ length found
-length-pointed found = length-map found (λ p. (p.0, p.1.now))
-
 -- a front is what is taken, where it is as long
 pub take-front : {A : Type 0} (n : ℕ) (xs ys all : List A) → xs ++ ys ≡ all → length xs ≡ n → xs ≡ take n all
 take-front n xs ys all e same = sym (take-append_seam xs ys) ∙ ap₂ (λ k s. take k s) same e
-
--- and a whole list, where it isn't longer
-pub take-whole : {A : Type 0} (n : ℕ) (xs ys all : List A) → xs ++ ys ≡ all → ys ≡ [] → length xs ≤ n → xs ≡ take n all
-take-whole n xs ys all e none short =
-    sym (take_all n xs short) ∙ ap (take n) (sym (append-nil xs) ∙ ap (λ s. xs ++ s) (sym none) ∙ e)
-
--- ---- all routes of a tree
 
 routed-own : {R : Type 0} (prefix : Network) (slot : Option (Option R)) (below : Slots R) → routed (own prefix slot below) ≡ option_to_list (routed_at prefix slot) ++ routed below
 unfolding routed

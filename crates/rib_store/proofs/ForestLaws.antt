@@ -15,17 +15,18 @@ use Rattle.ip_prefix.specs.Order.{network_cmp}
 use Rattle.ip_prefix.specs.OrderLaws.{network_cmp_total}
 use Rattle.ip_prefix.specs.Turns.{family_bit, way, turn_of, side}
 use Rattle.rib_store.specs.declared.tree.Tree.{Tree}
-use Rattle.rib_store.specs.declared.packed.V4Prefix.{V4Prefix}
-use Rattle.rib_store.specs.Packed.{v4_network, v6_network}
+use Rattle.prefix_store.specs.declared.packed.V4Prefix.{V4Prefix}
+use Rattle.prefix_store.specs.Packed.{v4_network, v6_network}
 use Rattle.rib_store.specs.Shape.{Shape, shape_of, IsMarked}
 use Rattle.rib_store.specs.declared.forest.Forest.{Forest}
-use Rattle.rib_store.specs.Stored.{put}
+use Rattle.prefix_store.specs.Stored.{put}
 use Rattle.rib_store.specs.Slots.{Slots, slot_at, keys_in, routes_in, route_found, routed}
 use Rattle.rib_store.specs.Tree.{at, slots_of, chosen, kept, same_way, AreOf, IsOn, IsPut, IsShaped}
 use Rattle.rib_store.specs.Walks.{either_of, first, behind}
 use Rattle.rib_store.specs.Forest.{v4_of, v6_of, slots_in, tree_of, IsPlanted, ChangesAt}
 use Rattle.rib_store.proofs.WayLaws.{first_turn, left_first}
-use Rattle.rib_store.proofs.SlotLaws.{keys_in-more, routes_in-written, get-routes_in, put-same}
+use Rattle.prefix_store.proofs.StoredLaws.{put-same}
+use Rattle.rib_store.proofs.SlotLaws.{keys_in-more, routes_in-written, get-routes_in}
 use Rattle.rib_store.proofs.TreeLaws.{are_of, at_left, at_right}
 use Rattle.rib_store.proofs.ChangeLaws.{put_left, put_right}
 use Rattle.rib_store.proofs.GrowthLaws.{kept_found}

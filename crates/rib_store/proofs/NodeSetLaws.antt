@@ -26,15 +26,16 @@ use Rattle.rib_store.specs.declared.tree.Slot.TheVariants.{Branch, Vacant, Fille
 use Rattle.rib_store.specs.Shape.{Shape}
 use Rattle.rib_store.specs.Shape.{Empty, Rooted}
 use Rattle.rib_store.specs.declared.forest.Forest.{Forest}
-use Rattle.rib_store.specs.Stored.{Keys}
+use Rattle.prefix_store.specs.Stored.{Keys}
 use Rattle.rib_store.specs.Slots.{Slots, keys_in}
 use Rattle.rib_store.specs.Tree.{own, slots_of, slot_of, chosen, same_way, root, AreSides, IsOn, IsShaped}
 use Rattle.rib_store.specs.Walks.{node_count}
 use Rattle.rib_store.specs.Forest.{v4_of, v6_of, slots_in, IsPlanted}
 use Rattle.rib_store.specs.Nodes.{is_node, AreNodes}
-use Rattle.rib_store.proofs.AboveLaws.{is_less}
+use Rattle.prefix_store.proofs.AboveLaws.{is_less}
 use Rattle.rib_store.proofs.WayLaws.{beyond, turn_through, first_turn, node_first, left_first}
-use Rattle.rib_store.proofs.SlotLaws.{same_prefix, len-from_list, len-keys_in}
+use Rattle.prefix_store.proofs.StoredLaws.{same_prefix}
+use Rattle.rib_store.proofs.SlotLaws.{len-from_list, len-keys_in}
 use Rattle.rib_store.proofs.WalkLaws.{cmp-ways, tied-ways, keys_of-append, sorted-append}
 use Rattle.rib_store.proofs.ForestLaws.{sorted-slots_in}
 use Rattle.rib_store.proofs.NodeLaws.{node_at, any_key, by_turn, at_here, at_side, told, told_left, told_right}

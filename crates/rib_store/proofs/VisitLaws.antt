@@ -23,13 +23,13 @@ use Rattle.ip_prefix.proofs.Turns.{here_only}
 use Rattle.rib_store.specs.Shape.{Shape}
 use Rattle.rib_store.specs.Shape.{Empty, Rooted}
 use Rattle.rib_store.specs.declared.forest.Forest.{Forest}
-use Rattle.rib_store.specs.Stored.{Keys}
+use Rattle.prefix_store.specs.Stored.{Keys}
 use Rattle.rib_store.specs.Slots.{keys_in}
 use Rattle.rib_store.specs.Tree.{chosen, root, IsOn, IsShaped}
 use Rattle.rib_store.specs.Walks.{visits}
 use Rattle.rib_store.specs.Forest.{v4_of, v6_of, slots_in, tree_of, IsPlanted}
 use Rattle.rib_store.specs.Nodes.{is_node, AreNodesTo, IsOrOneMore}
-use Rattle.rib_store.proofs.AboveLaws.{is_less}
+use Rattle.prefix_store.proofs.AboveLaws.{is_less}
 use Rattle.rib_store.proofs.WayLaws.{turn_through, node_first, begin_outside, begin_side, begin_in, turn_longer, length-way}
 use Rattle.rib_store.proofs.SlotLaws.{len-from_list}
 use Rattle.rib_store.proofs.WalkLaws.{cmp-ways, tied-ways}

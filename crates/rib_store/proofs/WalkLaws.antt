@@ -21,11 +21,11 @@ use Rattle.rib_store.specs.declared.tree.Slot.{Slot}
 use Rattle.rib_store.specs.declared.tree.Slot.TheVariants.{Branch, Vacant, Filled}
 use Rattle.rib_store.specs.Shape.{Shape}
 use Rattle.rib_store.specs.Shape.{Empty, Rooted}
-use Rattle.rib_store.specs.Lookups.{is_above, above}
+use Rattle.prefix_store.specs.Lookups.{is_above, above}
 use Rattle.rib_store.specs.Slots.{Slots, slot_at, routed}
 use Rattle.rib_store.specs.Tree.{at, own, slots_of, slot_of, chosen, same_way, AreSides, IsOn, IsRooted, IsShaped}
 use Rattle.rib_store.specs.Walks.{either_of, routed_at, first, behind}
-use Rattle.rib_store.proofs.AboveLaws.{is_less}
+use Rattle.prefix_store.proofs.AboveLaws.{is_less}
 use Rattle.rib_store.proofs.WayLaws.{turn_through, below, not_itself, node_first, left_first, as_node}
 use Rattle.rib_store.proofs.TreeLaws.{at_left, at_right}
 

@@ -10,9 +10,9 @@ use Rattle.ip_prefix.specs.Network.{Network}
 use Rattle.ip_prefix.specs.Order.{network_cmp}
 use Rattle.rib_store.specs.declared.forest.Forest.{Forest}
 use Rattle.rib_store.specs.Shape.{Shape, shape_of, IsMarked}
-use Rattle.rib_store.specs.Packed.{v4_network, v6_network}
-use Rattle.rib_store.specs.Stored.{counted}
-use Rattle.rib_store.specs.Contents.{Contents}
+use Rattle.prefix_store.specs.Packed.{v4_network, v6_network}
+use Rattle.prefix_store.specs.Stored.{counted}
+use Rattle.prefix_store.specs.Contents.{Contents}
 use Rattle.rib_store.specs.Slots.{Slots, slot_at, keys_in, routes_in}
 use Rattle.rib_store.specs.Tree.{slots_of, AreSides, IsShaped}
 

@@ -7,7 +7,7 @@ use Rattle.ip_prefix.specs.Address.{Address}
 use Rattle.ip_prefix.specs.Network.{Network, contains}
 use Rattle.ip_prefix.specs.Covering.{covers}
 use Rattle.ip_prefix.specs.Turns.{half}
-use Rattle.rib_store.specs.Stored.{Keys}
+use Rattle.prefix_store.specs.Stored.{Keys}
 
 -- whether the prefix covers some key
 abbrev pub covers_some : Keys → Network → Bool

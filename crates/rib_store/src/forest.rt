@@ -5,8 +5,8 @@ ghost use Rattle.std.specs.Prelude.{slice_get, OnOk, OnErr, IfOk, vec_capacity};
 ghost use Rattle.std.specs.Option.{option_map, option_copied};
 ghost use Rattle.ip_prefix.specs.Address.{bit_count};
 ghost use Rattle.std.specs.FinSet as set;
-ghost use Rattle.rib_store.specs.Stored.{Keys, counted};
-ghost use Rattle.rib_store.specs.Lookups.{above, pointed, IsLongest};
+ghost use Rattle.prefix_store.specs.Stored.{Keys, counted};
+ghost use Rattle.prefix_store.specs.Lookups.{above, pointed, IsLongest};
 ghost use Rattle.rib_store.specs.Slots.{keys_in, routed, routes_in, route_found, slot_at};
 ghost use Rattle.ip_prefix.specs.Turns.{way};
 ghost use Rattle.rib_store.specs.Tree.{at, kept};
@@ -14,9 +14,9 @@ ghost use Rattle.rib_store.specs.Walks.{deepest, visits, filled};
 ghost use Rattle.rib_store.specs.Nodes.{AreNodes, AreNodesTo, IsOrOneMore};
 ghost use Rattle.rib_store.specs.Forest.{slots_in, tree_of, IsPlanted, ChangesAt};
 
-use crate::packed::V4Prefix;
 use crate::tree::{Descent, Tree};
 use ip_prefix::{Addr, Family, Prefix};
+use prefix_store::V4Prefix;
 use std::alloc::{AllocError, Global};
 
 /// A tree for each family.

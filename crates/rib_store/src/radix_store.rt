@@ -6,8 +6,8 @@ ghost use Rattle.std.specs.Option.{option_map};
 ghost use Rattle.std.specs.FinMap as finite;
 ghost use Rattle.std.specs.FinSet as set;
 ghost use Rattle.ip_prefix.specs.Address.{bit_count};
-ghost use Rattle.rib_store.specs.Stored.{Keys, counted};
-ghost use Rattle.rib_store.specs.Lookups.{IsLongest};
+ghost use Rattle.prefix_store.specs.Stored.{Keys, counted};
+ghost use Rattle.prefix_store.specs.Lookups.{IsLongest};
 ghost use Rattle.rib_store.specs.Slots.{keys_in, routes_in};
 ghost use Rattle.rib_store.specs.Forest.{slots_in, IsPlanted};
 ghost use Rattle.rib_store.specs.Nodes.{AreNodes, AreNodesTo, IsOrOneMore};
@@ -32,7 +32,7 @@ pub struct RadixStore<R> {
 }
 
 impl<R> Model for RadixStore<R> {
-    ghost use Rattle.rib_store.specs.Contents.{Contents, coded_contents};
+    ghost use Rattle.prefix_store.specs.Contents.{Contents, coded_contents};
     ghost use Rattle.rib_store.specs.Forest.{contents_of, IsCounted};
 
     ghost Value = { Contents R };

@@ -2,7 +2,7 @@
 
 ghost use Rattle.std.specs.Prelude.{◌≡◌, true, Some, None, is_some, MatchOption, [], ◌∷◌, vec_capacity};
 ghost use Rattle.std.specs.Option.{option_copied, option_map, option_to_list};
-ghost use Rattle.rib_store.specs.Lookups.{pointed};
+ghost use Rattle.prefix_store.specs.Lookups.{pointed};
 ghost use Rattle.rib_store.specs.Tree.{slot_of};
 ghost use Rattle.rib_store.specs.Walks.{routed_at, filled};
 ghost use Rattle.rib_store.specs.Shape.{is_routed, is_filled, any_routed};
@@ -11,9 +11,9 @@ mod changes;
 mod descents;
 mod lookups;
 
-use crate::packed::V4Prefix;
 pub use descents::{DESCENTS_AT_ONCE, Descent, Descents};
 use ip_prefix::Prefix;
+use prefix_store::V4Prefix;
 use std::mem::size_of;
 use std::rc::Rc;
 

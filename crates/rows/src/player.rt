@@ -4,8 +4,8 @@
 //!     floor               how many steps were forgotten
 //!     keys PEER, key PEER PREFIX          those of its store
 //!     nodes PEER                          whether it has two a key at most, where it has any
-//!     calls PEER LEAST MOST               how many calls of its store were counted, but for descents
-//!     requests, descents                  how many for a key, and how many descents
+//!     calls PEER LEAST MOST               how many calls of its store were counted, but for `reach`
+//!     requests, reached                   how many for a key, and how many prefixes were reached
 //!     route PEER PREFIX                   the time of its route
 //!     shown PEER PREFIX                   the attributes of its route
 //!     after PEER [PREFIX], walk PEER      its first route above a prefix, and all
@@ -82,7 +82,7 @@ fn put_seen_of<S: PrefixStore<Rc<Route>> + IsWatched>(
     text: &mut Shown,
 ) {
     match name {
-        "keys" | "key" | "nodes" | "calls" | "requests" | "descents" => match table.store(peer) {
+        "keys" | "key" | "nodes" | "calls" | "requests" | "reached" => match table.store(peer) {
             Some(store) => put_seen_in(store, name, rest, text),
             None => text.put(b"no store"),
         },
@@ -118,7 +118,7 @@ fn put_seen_in<S: PrefixStore<Rc<Route>> + IsWatched>(
         }
         "calls" => put_within(store.calls(), rest, text),
         "requests" => put_within(store.requests(), rest, text),
-        _ => put_within(store.descents(), rest, text),
+        _ => put_within(store.reached(), rest, text),
     }
 }
 

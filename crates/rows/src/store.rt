@@ -9,7 +9,7 @@
 //!     counts                              of keys and routes
 //!     few                                 whether there are at most two nodes a key
 //!     nodes, met COUNT ADDRESS            how many there are, and a look-up meets beside a count
-//!     descend WORD..                      a prefix adds a descent, and `end` finishes all
+//!     reach WORD..                        a prefix is added, and `end` has all reached
 //!     mark                                the next line is marked, for those who refuse memory
 //!
 //! Each is answered by a line.
@@ -21,7 +21,7 @@ use crate::words::{
     REFUSED, UNREAD, address_word, number_word, prefix_word, put_count, split_word,
 };
 use ip_prefix::{Addr, Prefix};
-use rib_store::{Descents, LeftStore, MapStore, PrefixStore, RadixStore};
+use rib_store::{LeftStore, MapStore, Places, PrefixStore, RadixStore};
 use std::alloc::{AllocError, Global};
 use std::str;
 
@@ -104,7 +104,7 @@ fn put_answer<S: CountsMet>(alloc: Global, store: &mut S, line: &str, text: &mut
         "next" => put_next(alloc, store, rest, text),
         "after" => put_found(after(store, prefix_word(rest).as_ref()), text),
         "longest" | "met" => put_longest(store, rest, text),
-        "descend" => put_descents(store, rest, text),
+        "reach" => put_reached(store, rest, text),
         "walk" | "counts" | "few" | "nodes" => put_whole(store, name, text),
         _ => put_at(store, name, rest, text),
     }
@@ -250,14 +250,14 @@ fn put_all(found: &[(Prefix, &u32)], text: &mut Shown) {
     }
 }
 
-/// Appends how many nodes descents pass, as each is added or all are finished.
-fn put_descents<S: CountsMet>(store: &S, words: &str, text: &mut Shown) {
-    let mut descents = Descents::new();
+/// Appends how much is passed to reach prefixes, as each is added or all are reached.
+fn put_reached<S: CountsMet>(store: &S, words: &str, text: &mut Shown) {
+    let mut places = Places::new();
     text.put(b"passed");
     for word in words.split(" ") {
         let passed = match prefix_word(word) {
-            Some(prefix) => descents.add(store.descent(&prefix)),
-            None => descents.finish(),
+            Some(prefix) => places.add(store, prefix),
+            None => places.finish(),
         };
         put_count(b" ", passed, text);
     }

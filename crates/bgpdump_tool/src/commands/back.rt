@@ -10,8 +10,8 @@ use crate::replies::write_position;
 use bgpdump_lines::{Output, WriteFault};
 use ip_prefix::Text;
 use mrt_wire::Route;
+use prefix_store::PrefixStore;
 use rib_player::Player;
-use rib_store::PrefixStore;
 use std::rc::Rc;
 
 /// So many steps back, or as many as there are.

@@ -8,8 +8,8 @@ ghost use Rattle.bgpdump_lines.specs.Writing.{Puts, is_write};
 use bgpdump_lines::{Output, WriteFault, put_all};
 use ip_prefix::Text;
 use mrt_wire::Route;
+use prefix_store::PrefixStore;
 use rib_player::Player;
-use rib_store::PrefixStore;
 use std::alloc::AllocError;
 use std::rc::Rc;
 

@@ -13,8 +13,8 @@ use crate::replies::write_position;
 use crate::session::Session;
 use bgpdump_lines::{Outcome, Output};
 use mrt_wire::{Input, Route};
+use prefix_store::PrefixStore;
 use rib_player::Player;
-use rib_store::PrefixStore;
 use std::rc::Rc;
 
 /// On to a position, or as far as there are steps. Answers whether there were too few.

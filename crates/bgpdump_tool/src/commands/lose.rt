@@ -1,7 +1,7 @@
 //! The loss of a session.
 
 ghost use Rattle.std.specs.Prelude.{◌≡◌, ◌<◌, ◌||◌, IfOk, OnErr, Ok, Err};
-ghost use Rattle.rib_store.specs.declared.store.TheConstants.{GREATEST_COUNT};
+ghost use Rattle.prefix_store.specs.declared.store.TheConstants.{GREATEST_COUNT};
 ghost use Rattle.rib_player.specs.Timeline.{after_play, ahead_of};
 ghost use Rattle.bgpdump_tool.specs.State.{loss};
 ghost use Rattle.bgpdump_lines.specs.Writing.{is_write};
@@ -11,8 +11,8 @@ use crate::replies::write_counted;
 use bgpdump_lines::{Output, WriteFault};
 use ip_prefix::Text;
 use mrt_wire::{ESTABLISHED, Event, Item, Items, Peer, Route, Tag, Time};
+use prefix_store::PrefixStore;
 use rib_player::Player;
-use rib_store::PrefixStore;
 use std::alloc::{AllocError, Global};
 use std::rc::Rc;
 

@@ -13,7 +13,7 @@ use crate::replies::write_position;
 use crate::session::Session;
 use bgpdump_lines::{Outcome, Output};
 use mrt_wire::{Input, Route};
-use rib_store::PrefixStore;
+use prefix_store::PrefixStore;
 use std::rc::Rc;
 
 /// So many steps on, or as many as there are. Answers whether there were fewer.

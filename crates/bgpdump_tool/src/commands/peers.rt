@@ -9,8 +9,8 @@ use crate::replies::write_none;
 use bgpdump_lines::{Output, WriteFault, put_all, put_number, put_peer};
 use ip_prefix::Text;
 use mrt_wire::{Peer, Route};
+use prefix_store::PrefixStore;
 use rib_player::Table;
-use rib_store::PrefixStore;
 use std::alloc::AllocError;
 use std::rc::Rc;
 

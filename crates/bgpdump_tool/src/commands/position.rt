@@ -9,8 +9,8 @@ use crate::replies::write_counted;
 use bgpdump_lines::{Output, WriteFault};
 use ip_prefix::Text;
 use mrt_wire::Route;
+use prefix_store::PrefixStore;
 use rib_player::Player;
-use rib_store::PrefixStore;
 use std::rc::Rc;
 
 /// Writes where the player stands, and how many steps are ahead. The text is scratch.

@@ -8,8 +8,8 @@ use crate::replies::{write_none, write_rib_line};
 use bgpdump_lines::{Output, WriteFault};
 use ip_prefix::{Prefix, Text};
 use mrt_wire::{Peer, Route};
+use prefix_store::PrefixStore;
 use rib_player::Table;
-use rib_store::PrefixStore;
 use std::rc::Rc;
 
 /// Writes the route that the peer has to the prefix. The text is scratch.

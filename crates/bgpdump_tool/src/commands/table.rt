@@ -11,8 +11,8 @@ use crate::replies::write_table_line;
 use bgpdump_lines::{Output, WriteFault, put_all};
 use ip_prefix::{Prefix, Text};
 use mrt_wire::{Peer, Route};
+use prefix_store::PrefixStore;
 use rib_player::Table;
-use rib_store::PrefixStore;
 use std::alloc::{AllocError, Global};
 use std::rc::Rc;
 

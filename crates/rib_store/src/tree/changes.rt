@@ -8,9 +8,9 @@ ghost use Rattle.rib_store.specs.Shape.{Empty, shape_of, leaf_slot, is_filled, i
 ghost use Rattle.rib_store.specs.Tree.{at, root, slot_of, kept, AreOf, IsOn, IsShaped, IsNearlyShaped, IsPut, IsPlaced, IsGrown, IsRootedOver};
 ghost use Rattle.rib_store.specs.Slots.{route_found};
 
-use crate::packed::Packed;
 use crate::tree::{Node, Slot, Tree};
 use ip_prefix::{Prefix, Turn};
+use prefix_store::Packed;
 use std::alloc::{AllocError, Global};
 use std::mem;
 

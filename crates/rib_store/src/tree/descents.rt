@@ -1,9 +1,9 @@
 //! Descents to prefixes, eight at a time, before routes come and go there. The processor so waits for
 //! the nodes of all of them at once, and not for one after the other.
 
-use crate::packed::{Packed, V4Prefix};
 use crate::tree::Tree;
 use ip_prefix::Prefix;
+use prefix_store::{Packed, V4Prefix};
 use std::mem;
 
 /// How many bits of a prefix a descent goes by at most, so how many nodes it passes.

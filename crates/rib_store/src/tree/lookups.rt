@@ -4,15 +4,15 @@ ghost use Rattle.std.specs.Prelude.{◌≡◌, ◌+◌, ◌≤◌, Some, None, M
 ghost use Rattle.std.specs.Option.{option_map, option_copied};
 ghost use Rattle.ip_prefix.specs.Turns.{way};
 ghost use Rattle.rib_store.specs.Shape.{shape_of, IsMarked};
-ghost use Rattle.rib_store.specs.Stored.{counted};
+ghost use Rattle.prefix_store.specs.Stored.{counted};
 ghost use Rattle.rib_store.specs.Slots.{routed};
-ghost use Rattle.rib_store.specs.Lookups.{pointed};
+ghost use Rattle.prefix_store.specs.Lookups.{pointed};
 ghost use Rattle.rib_store.specs.Tree.{at, slots_of};
 ghost use Rattle.rib_store.specs.Walks.{deepest, visits, first, behind, all_routes, all_behind, filled, node_count};
 
-use crate::packed::Packed;
 use crate::tree::{Slot, Tree, add_route};
 use ip_prefix::{Prefix, Turn};
+use prefix_store::Packed;
 
 impl<K: Packed, R> Tree<K, R> {
     /// The key's room, where it is a key, and the route in it.

@@ -7,8 +7,8 @@ use Rattle.std.proofs.lemmas.List.{append-nil, map-append}
 use Rattle.ip_prefix.specs.Network.{Network}
 use Rattle.mrt_events.specs.declared.event.Route.{Route}
 use Rattle.mrt_events.specs.declared.peer.Peer.{Peer}
-use Rattle.rib_store.specs.Lookups.{above, pointed}
-use Rattle.rib_store.proofs.AboveLaws.{above-none, above-front, none-left, routes_sorted, seen_last, seen_none}
+use Rattle.prefix_store.specs.Lookups.{above, pointed}
+use Rattle.prefix_store.proofs.AboveLaws.{above-none, above-front, none-left, routes_sorted, seen_last, seen_none}
 use Rattle.rib_player.specs.Journal.{Side, sides_of}
 use Rattle.rib_player.specs.Sides.{cleared_side}
 use Rattle.rib_player.specs.Entries.{Entry}

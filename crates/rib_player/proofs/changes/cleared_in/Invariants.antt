@@ -1,6 +1,6 @@
 use Rattle.std.proofs.Common.{◌≡◌, ◌<◌, ◌++◌, map, length, vec_capacity}
 use Rattle.std.specs.FinMap as finite
-use Rattle.rib_store.specs.Lookups.{above}
+use Rattle.prefix_store.specs.Lookups.{above}
 use Rattle.rib_player.specs.Journal.{sides_of}
 use Rattle.rib_player.specs.Sides.{cleared_side}
 use Rattle.rib_player.proofs.changes.cleared_in.Given as goal

@@ -3,7 +3,7 @@ use Rattle.std.specs.List.{AllByRecursion, list_any}
 use Rattle.std.specs.Ordering.{eq_by_cmp}
 use Rattle.std.specs.FinMap as finite
 use Rattle.std.proofs.lemmas.Result.{IfOk-weaker}
-use Rattle.rib_store.proofs.AboveLaws.{routes-in_order}
+use Rattle.prefix_store.proofs.AboveLaws.{routes-in_order}
 use Rattle.rib_player.specs.Entries.{Entry}
 use Rattle.rib_player.specs.History.{pair_cmp}
 use Rattle.rib_player.specs.Journal.{Side, pairs_in, sides_of}

@@ -4,7 +4,7 @@ use Rattle.std.specs.FinSet as set
 use Rattle.rib_player.specs.declared.pair.Pair.{Pair}
 use Rattle.rib_player.specs.Claims.{one_if, claims_beyond, held_claims}
 use Rattle.rib_player.specs.Store.{route_in}
-use Rattle.rib_store.specs.Stored.{put}
+use Rattle.prefix_store.specs.Stored.{put}
 use Rattle.octet_forms.proofs.Options.{is_some-option_map}
 use Rattle.rib_player.proofs.JournalLaws.{routes_across-sides_across}
 use Rattle.rib_player.proofs.MarkLaws.{tied}

@@ -1,6 +1,6 @@
 use Rattle.std.proofs.Common.{◌≡◌, ◌≤◌, ◌-◌, take, drop}
 use Rattle.std.specs.List.{sum_by}
-use Rattle.rib_store.specs.Stored.{counted}
+use Rattle.prefix_store.specs.Stored.{counted}
 use Rattle.rib_player.specs.Marks.{entry_count}
 use Rattle.rib_player.proofs.journal.named_from.Given as goal
 

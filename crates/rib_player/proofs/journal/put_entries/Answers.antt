@@ -5,7 +5,7 @@ use Rattle.std.specs.FinSet as names
 use Rattle.std.proofs.lemmas.List.{length-set, length-drop, drop-drop, drop-set-lt, drop_more, map-append, take-set, take_more_set, get_or-map, length-map}
 use Rattle.octet_forms.proofs.Lists.{AllByRecursion-get_or, AllByRecursion-push}
 use Rattle.rib_player.specs.declared.entry.End.TheVariants.{Last}
-use Rattle.rib_store.specs.Stored.{put}
+use Rattle.prefix_store.specs.Stored.{put}
 use Rattle.rib_player.specs.Claims.{one_if, claims_beyond}
 use Rattle.rib_player.specs.Entries.{Entry}
 use Rattle.rib_player.specs.Store.{route_in}

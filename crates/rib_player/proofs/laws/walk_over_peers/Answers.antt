@@ -1,4 +1,4 @@
-use Rattle.rib_store.proofs.AboveLaws.{none-above}
+use Rattle.prefix_store.proofs.AboveLaws.{none-above}
 use Rattle.rib_player.specs.Store.{routed_peers}
 use Rattle.rib_player.proofs.PeerLaws.{all-peers, peers-next, peers-in_order}
 use Rattle.rib_player.proofs.laws.walk_over_peers.Goals as goal

@@ -3,7 +3,7 @@ use Rattle.std.specs.FinMap as finite
 use Rattle.std.specs.FinMap.{len-entries}
 use Rattle.rib_store.specs.Slots.{routed, routes_in}
 use Rattle.rib_store.specs.Forest.{slots_in}
-use Rattle.rib_store.proofs.AboveLaws.{entries-routes_in}
+use Rattle.rib_store.proofs.RoutedLaws.{entries-routes_in}
 use Rattle.rib_store.proofs.ForestLaws.{sorted-slots_in}
 use Rattle.rib_store.proofs.radix_store.routes_after.Goals as goal
 

@@ -4,8 +4,8 @@ use Rattle.std.specs.Io.KnownBytes.{Appends}
 use Rattle.std.proofs.lemmas.Result.{err_from_is_err_and}
 use Rattle.octet_forms.proofs.Options.{is_some-option_map, None_from_is_some}
 use Rattle.mrt_events.specs.declared.peer.Peer.{Peer}
-use Rattle.rib_store.proofs.AboveLaws.{none-above}
-use Rattle.rib_store.specs.Stored.{counted}
+use Rattle.prefix_store.proofs.AboveLaws.{none-above}
+use Rattle.prefix_store.specs.Stored.{counted}
 use Rattle.rib_player.specs.Store.{peer_routes, routed_peers}
 use Rattle.rib_player.specs.Lookups.{peers_above}
 use Rattle.rib_player.proofs.PeerLaws.{all-peers, peers-next, peers-in_order}

@@ -7,9 +7,9 @@ use Rattle.std.proofs.lemmas.List.{length_push}
 use Rattle.std.proofs.lemmas.Result.{err_from_is_err_and}
 use Rattle.ip_prefix.specs.Network.{Network}
 use Rattle.mrt_events.specs.declared.event.Route.{Route}
-use Rattle.rib_store.specs.Stored.{counted}
-use Rattle.rib_store.specs.Lookups.{above}
-use Rattle.rib_store.proofs.AboveLaws.{above-none, above-next, none-above, routes_sorted}
+use Rattle.prefix_store.specs.Stored.{counted}
+use Rattle.prefix_store.specs.Lookups.{above}
+use Rattle.prefix_store.proofs.AboveLaws.{above-none, above-next, none-above, routes_sorted}
 use Rattle.rib_player.specs.Store.{peer_routes}
 use Rattle.bgpdump_tool.specs.Replies.{rib_line, routes_line}
 use Rattle.bgpdump_lines.specs.Writing.{Puts}

@@ -1,8 +1,8 @@
 -- The lines of the routes up to the last were written and counted.
 use Rattle.std.proofs.Common.{◌≡◌, length}
 use Rattle.std.specs.FinMap as finite
-use Rattle.rib_store.specs.Stored.{counted}
-use Rattle.rib_store.specs.Lookups.{above}
+use Rattle.prefix_store.specs.Stored.{counted}
+use Rattle.prefix_store.specs.Lookups.{above}
 use Rattle.rib_player.specs.Store.{peer_routes}
 use Rattle.bgpdump_tool.specs.Replies.{rib_line}
 use Rattle.bgpdump_tool.proofs.WalkLaws.{Walked}

@@ -1,5 +1,5 @@
 use Rattle.std.proofs.Common.{ap, ◌∙◌}
-use Rattle.rib_store.specs.Stored.{counted}
+use Rattle.prefix_store.specs.Stored.{counted}
 use Rattle.rib_player.specs.Wanted.{named_count}
 use Rattle.rib_player.proofs.CountLaws.{named-total}
 use Rattle.rib_player.proofs.player.Player.named.Goals as goal

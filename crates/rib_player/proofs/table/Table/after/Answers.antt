@@ -1,7 +1,7 @@
 use Rattle.std.proofs.Common.{◌≡◌, slice_get, sym, ap, subst, ◌∙◌}
 use Rattle.std.specs.Option.{option_map, option_copied}
 use Rattle.std.specs.FinMap as finite
-use Rattle.rib_store.specs.Lookups.{above}
+use Rattle.prefix_store.specs.Lookups.{above}
 use Rattle.rib_player.specs.Store.{peer_routes}
 use Rattle.rib_player.proofs.PeerLaws.{first-above, none-above}
 use Rattle.rib_player.proofs.table.Table.after.Goals as goal

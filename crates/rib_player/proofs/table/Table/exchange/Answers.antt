@@ -3,7 +3,7 @@ use Rattle.std.specs.Option.{option_copied_mut}
 use Rattle.std.specs.Ordering.{eq_by_cmp}
 use Rattle.std.specs.FinSet as set
 use Rattle.ip_prefix.specs.Order.{network_cmp}
-use Rattle.rib_store.specs.Stored.{put}
+use Rattle.prefix_store.specs.Stored.{put}
 use Rattle.rib_player.specs.Store.{store_at, has_key, stored_route, route_in}
 use Rattle.rib_player.proofs.StoreLaws.{keys_in-same, routes_in-put, held-other, store_at-write, contains-found, get-found, key-has-store, stored-put}
 use Rattle.rib_player.proofs.table.Table.exchange.Goals as goal

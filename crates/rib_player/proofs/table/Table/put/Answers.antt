@@ -9,7 +9,7 @@ use Rattle.ip_prefix.specs.Order.{network_cmp}
 use Rattle.ip_prefix.specs.OrderLaws.{network_cmp_total}
 use Rattle.mrt_events.specs.declared.peer.Peer.{Peer}
 use Rattle.std.proofs.lemmas.Result.{on_ok_weaker, on_err_weaker, IfOk-weaker}
-use Rattle.rib_store.specs.Stored.{put}
+use Rattle.prefix_store.specs.Stored.{put}
 use Rattle.rib_player.specs.Store.{store_at, has_key, stored_route, route_in, keys_in}
 use Rattle.rib_player.specs.Holding.{value_of}
 use Rattle.rib_player.proofs.StoreLaws.{same_peer, keys_in-insert, keys_in-same, routes_in-same, routes_in-put, held-other, store_at-write, contains-found, get-found, stored-put, some-insert, either}

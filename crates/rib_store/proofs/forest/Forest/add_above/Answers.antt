@@ -1,5 +1,5 @@
 use Rattle.std.proofs.Common.{vec_capacity, sym, ap, ◌∙◌}
-use Rattle.rib_store.specs.Lookups.{pointed}
+use Rattle.prefix_store.specs.Lookups.{pointed}
 use Rattle.rib_store.specs.Walks.{filled}
 use Rattle.rib_store.proofs.FillLaws.{filled-then, above-v4, above-v6}
 use Rattle.rib_store.proofs.forest.Forest.add_above.Goals as goal

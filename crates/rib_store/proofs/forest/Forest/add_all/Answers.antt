@@ -1,5 +1,5 @@
 use Rattle.std.proofs.Common.{vec_capacity, ap, ◌∙◌}
-use Rattle.rib_store.specs.Lookups.{pointed}
+use Rattle.prefix_store.specs.Lookups.{pointed}
 use Rattle.rib_store.specs.Walks.{filled}
 use Rattle.rib_store.proofs.FillLaws.{filled-then, all-forest}
 use Rattle.rib_store.proofs.forest.Forest.add_all.Goals as goal

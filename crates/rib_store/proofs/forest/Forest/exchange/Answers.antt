@@ -4,7 +4,7 @@ use Rattle.rib_store.proofs.TreeLaws.{on_same}
 use Rattle.rib_store.proofs.ForestLaws.{changed_v4, changed_v6, slot_at-tree_of, there}
 use Rattle.rib_store.specs.Forest.{v4_of, v6_of}
 use Rattle.rib_store.specs.Shape.{shape_of}
-use Rattle.rib_store.specs.Packed.{v4_network, v6_network}
+use Rattle.prefix_store.specs.Packed.{v4_network, v6_network}
 use Rattle.rib_store.proofs.forest.Forest.exchange.Goals as goal
 
 pub exchange-requires-clause-key : goal.exchange-requires-clause-key

@@ -1,6 +1,6 @@
 use Rattle.std.proofs.Common.{◌≡◌, ◌+◌, sym, ap, ◌∙◌, subst, arith}
 use Rattle.ip_prefix.specs.Turns.{way}
-use Rattle.rib_store.specs.Lookups.{IsLongest}
+use Rattle.prefix_store.specs.Lookups.{IsLongest}
 use Rattle.rib_store.specs.Slots.{routes_in}
 use Rattle.rib_store.specs.Walks.{deepest, visits}
 use Rattle.rib_store.specs.Forest.{slots_in, tree_of}

@@ -8,7 +8,7 @@ use Rattle.rib_store.proofs.GrowthLaws.{on_placed}
 use Rattle.rib_store.proofs.ForestLaws.{changed_v4, changed_v6, slot_at-tree_of, are_of-family, first_side}
 use Rattle.rib_store.specs.Forest.{v4_of, v6_of}
 use Rattle.rib_store.specs.Shape.{shape_of}
-use Rattle.rib_store.specs.Packed.{v4_network, v6_network}
+use Rattle.prefix_store.specs.Packed.{v4_network, v6_network}
 use Rattle.rib_store.proofs.forest.Forest.put.Goals as goal
 
 pub put-requires-clause-family : goal.put-requires-clause-family

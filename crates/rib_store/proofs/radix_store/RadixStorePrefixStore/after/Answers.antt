@@ -1,9 +1,10 @@
 use Rattle.std.proofs.Common.{Some, slice_get, sym, ap, ◌∙◌}
 use Rattle.std.specs.FinMap as finite
 use Rattle.std.specs.Option.{option_copied}
-use Rattle.rib_store.specs.Lookups.{above}
+use Rattle.prefix_store.specs.Lookups.{above}
 use Rattle.rib_store.specs.Forest.{slots_in}
-use Rattle.rib_store.proofs.AboveLaws.{above-none, entries-routes_in}
+use Rattle.rib_store.proofs.RoutedLaws.{entries-routes_in}
+use Rattle.prefix_store.proofs.AboveLaws.{above-none}
 use Rattle.rib_store.proofs.ForestLaws.{sorted-slots_in}
 use Rattle.rib_store.proofs.radix_store.RadixStorePrefixStore.after.Goals as goal
 

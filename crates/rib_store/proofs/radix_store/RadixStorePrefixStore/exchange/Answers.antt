@@ -2,7 +2,7 @@ use mir.Val.{bool_byte}
 use Rattle.std.proofs.Common.{◌≡◌, ◌+◌, true, is_some, sym, ap, ◌∙◌, arith}
 use Rattle.std.specs.FinMap as finite
 use Rattle.std.specs.FinSet as set
-use Rattle.rib_store.specs.Stored.{put}
+use Rattle.prefix_store.specs.Stored.{put}
 use Rattle.rib_store.specs.Slots.{slot_at, routes_in, route_found}
 use Rattle.rib_store.specs.Forest.{slots_in}
 use Rattle.rib_store.proofs.SlotLaws.{contains-keys_in, keys_in-written, routes_in-written, get-routes_in}

@@ -1,11 +1,12 @@
 use Rattle.std.proofs.Common.{Some, take, vec_capacity, sym, ap, ap₂, ◌∙◌}
 use Rattle.std.specs.FinMap as finite
 use Rattle.std.specs.Option.{option_copied}
-use Rattle.rib_store.specs.Lookups.{above, pointed}
+use Rattle.prefix_store.specs.Lookups.{above, pointed}
 use Rattle.rib_store.specs.Slots.{routed}
 use Rattle.rib_store.specs.Walks.{filled}
 use Rattle.rib_store.specs.Forest.{slots_in}
-use Rattle.rib_store.proofs.AboveLaws.{above-none, entries-routes_in}
+use Rattle.rib_store.proofs.RoutedLaws.{entries-routes_in}
+use Rattle.prefix_store.proofs.AboveLaws.{above-none}
 use Rattle.rib_store.proofs.FillLaws.{filled-front}
 use Rattle.rib_store.proofs.ForestLaws.{sorted-slots_in}
 use Rattle.rib_store.proofs.radix_store.RadixStorePrefixStore.next_routes.Goals as goal

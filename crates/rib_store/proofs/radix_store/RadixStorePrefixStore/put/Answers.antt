@@ -2,7 +2,7 @@ use mir.Val.{bool_byte}
 use Rattle.std.proofs.Common.{◌≡◌, ◌+◌, not, false, is_some, sym, ap, ◌∙◌, arith, rules}
 use Rattle.std.specs.FinMap as finite
 use Rattle.std.specs.FinSet as set
-use Rattle.rib_store.specs.Stored.{put}
+use Rattle.prefix_store.specs.Stored.{put}
 use Rattle.rib_store.specs.Slots.{keys_in, routes_in}
 use Rattle.rib_store.specs.Forest.{slots_in}
 use Rattle.rib_store.proofs.SlotLaws.{contains-keys_in, keys_in-more, routes_in-written, get-routes_in}

@@ -2,9 +2,10 @@ use Rattle.std.proofs.Common.{◌≡◌, false, length, vec_capacity, sym, ap, �
 use Rattle.std.specs.Option.{option_to_list}
 use Rattle.rib_store.specs.Tree.{slot_of}
 use Rattle.rib_store.specs.Shape.{shape_of, is_routed}
-use Rattle.rib_store.specs.Lookups.{pointed}
+use Rattle.prefix_store.specs.Lookups.{pointed}
 use Rattle.rib_store.specs.Walks.{all_routes, routed_at, filled}
-use Rattle.rib_store.proofs.FillLaws.{filled-nil, filled-full, filled-then, unmarked-all, length-pointed}
+use Rattle.prefix_store.proofs.AboveLaws.{length-pointed}
+use Rattle.rib_store.proofs.FillLaws.{filled-nil, filled-full, filled-then, unmarked-all}
 use Rattle.rib_store.proofs.tree.Tree.+add_all.Goals as goal
 
 pub returns-then-not-any-clause-found : goal.returns-then-not-any-clause-found

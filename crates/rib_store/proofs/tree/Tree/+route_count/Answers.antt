@@ -2,7 +2,7 @@ use Rattle.std.proofs.Common.{◌≡◌, Some, None, length, ap, sym, ◌∙◌,
 use Rattle.rib_store.specs.Shape.{Empty, shape_of}
 use Rattle.rib_store.specs.Slots.{routed}
 use Rattle.rib_store.specs.Tree.{slots_of, slot_of, IsRooted}
-use Rattle.rib_store.proofs.AboveLaws.{routed-nil}
+use Rattle.rib_store.proofs.RoutedLaws.{routed-nil}
 use Rattle.rib_store.proofs.WalkLaws.{routes_at, routes_at-none, length-routed-rooted}
 use Rattle.rib_store.proofs.tree.Tree.+route_count.Goals as goal
 

@@ -1,0 +1,43 @@
+//! Laws of what a store holds and answers.
+
+ghost use Rattle.std.specs.Prelude.{◌≡◌, ◌≢◌, ◌+◌, ◌^◌, ◌∷◌, [], Option, Some, None, slice_get};
+ghost use Rattle.std.specs.FinMap as finite;
+ghost use Rattle.std.specs.List.Sorted.{IsStrictlySortedBy};
+ghost use Rattle.ip_prefix.specs.Address.{Address};
+ghost use Rattle.ip_prefix.specs.Network.{Network};
+ghost use Rattle.ip_prefix.specs.Order.{network_cmp};
+ghost use Rattle.prefix_store.specs.declared.store.TheConstants.{GREATEST_COUNT};
+ghost use Rattle.prefix_store.specs.Stored.{Routes, put};
+ghost use Rattle.prefix_store.specs.Lookups.{IsLongest, above};
+
+/// The number that the definitions name: where counts stop, `u64::MAX`.
+pub fn count_numbers()
+    ensures { GREATEST_COUNT + 1 ≡ 2 ^ 64 }
+{}
+
+/// What is put at a prefix is there, and the routes at other prefixes stay.
+pub fn put_route<R>()
+    ensures there { (routes : Routes R) (n : Network) (new : Option R)
+        → finite.get (put routes n new) n ≡ new }
+    ensures others { (routes : Routes R) (m n : Network) (new : Option R)
+        → m ≢ n → finite.get (put routes n new) m ≡ finite.get routes m }
+{}
+
+/// Of the routes at prefixes that contain an address, one at most is that of the longest.
+pub fn one_longest<R>()
+    ensures { (routes : Routes R) (address : Address) (one other : Option (Network × R))
+        → IsLongest routes address one → IsLongest routes address other → one ≡ other }
+{}
+
+/// From the least on, one after the other, come all routes, in order, and then none.
+pub fn walk<R>()
+    ensures all { (routes : Routes R)
+        → above None (finite.entries routes) ≡ finite.entries routes }
+    ensures next { (routes : Routes R) (low : Option Network) (next : Network × R)
+        → slice_get (above low (finite.entries routes)) 0 ≡ Some next
+        → above low (finite.entries routes) ≡ next ∷ above (Some next.0) (finite.entries routes) }
+    ensures end { (routes : Routes R) (low : Option Network)
+        → slice_get (above low (finite.entries routes)) 0 ≡ None
+        → above low (finite.entries routes) ≡ [] }
+    ensures order { (routes : Routes R) → IsStrictlySortedBy network_cmp (finite.keys routes) }
+{}

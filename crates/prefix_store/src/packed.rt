@@ -1,0 +1,130 @@
+//! Prefixes of one family in little memory.
+
+ghost use Rattle.std.specs.Prelude.{◌≡◌, ◌≢◌, ◌≤◌, length};
+ghost use Rattle.ip_prefix.specs.declared.addr.Family.{Family};
+ghost use Rattle.ip_prefix.specs.declared.addr.Family.TheVariants.{V4, V6};
+ghost use Rattle.ip_prefix.specs.declared.addr.TheConstants.{V4_BITS};
+ghost use Rattle.ip_prefix.specs.Network.{Network};
+ghost use Rattle.ip_prefix.specs.Turns.{way, turn_of};
+ghost use Rattle.ip_prefix.specs.declared.turn.Turn.TheVariants.{Outside};
+
+use ip_prefix::{Addr, Prefix, Turn, V4_OCTETS};
+
+/// A prefix of one family, however it is kept.
+pub trait Packed: Copy + Drop {
+    /// The prefix that it stands for.
+    ghost network: { Self → Network };
+
+    /// The family that all are of.
+    ghost family: { Family };
+
+    /// As a prefix of any family.
+    fn wide(&self) -> Prefix
+        ensures { result ≡ network self.now };
+
+    /// How many bits it has.
+    fn len(&self) -> u8
+        ensures { result ≡ length (network self.now).bits }
+    {
+        self.wide().len()
+    }
+
+    /// Where the prefix lies, seen from this one.
+    fn turn(&self, other: &Prefix) -> Turn
+        ensures { result ≡ turn_of (way (network self.now)) (way other.now) };
+
+    /// Where the prefix lies, seen from this one, which covers it. It needn't compare what they share.
+    fn turn_covered(&self, other: &Prefix) -> Turn
+        requires { turn_of (way (network self.now)) (way other.now) ≢ Outside }
+        ensures { result ≡ turn_of (way (network self.now)) (way other.now) }
+    {
+        self.turn(other)
+    }
+
+    /// The prefix, which is of this family.
+    fn of(prefix: &Prefix) -> Self
+        requires { prefix.now.family ≡ family }
+        ensures { network result ≡ prefix.now };
+}
+
+/// A prefix of IPv4: the octets of its least address, and how many bits it has.
+#[derive(Clone, Copy, Drop)]
+pub struct V4Prefix {
+    octets: [u8; V4_OCTETS],
+    len: u8,
+    ghost within: { len ≤ V4_BITS },
+}
+
+impl Packed for V4Prefix {
+    ghost use Rattle.prefix_store.specs.Packed.{v4_network};
+
+    ghost network = { v4_network };
+
+    ghost family = { V4 };
+
+    #[inline]
+    fn wide(&self) -> Prefix {
+        let addr = Addr::v4(self.octets);
+        match Prefix::new(addr, self.len) {
+            Some(prefix) => prefix,
+            None => Prefix::host(addr),
+        }
+    }
+
+    #[inline]
+    fn len(&self) -> u8 {
+        self.len
+    }
+
+    #[inline]
+    fn turn(&self, other: &Prefix) -> Turn {
+        other.turn_from_v4(self.octets, self.len)
+    }
+
+    #[inline]
+    fn turn_covered(&self, other: &Prefix) -> Turn {
+        other.turn_under(self.len)
+    }
+
+    #[inline]
+    fn of(prefix: &Prefix) -> Self {
+        let addr = prefix.addr();
+        V4Prefix {
+            octets: [addr.octet(0), addr.octet(1), addr.octet(2), addr.octet(3)],
+            len: prefix.len(),
+        }
+    }
+}
+
+impl Packed for Prefix {
+    ghost use Rattle.prefix_store.specs.Packed.{v6_network};
+
+    ghost network = { v6_network };
+
+    ghost family = { V6 };
+
+    #[inline]
+    fn wide(&self) -> Prefix {
+        *self
+    }
+
+    #[inline]
+    fn len(&self) -> u8 {
+        Prefix::len(self)
+    }
+
+    #[inline]
+    fn turn(&self, other: &Prefix) -> Turn {
+        Prefix::turn(self, other)
+    }
+
+    #[inline]
+    fn turn_covered(&self, other: &Prefix) -> Turn {
+        other.turn_under(Prefix::len(self))
+    }
+
+    #[inline]
+    fn of(prefix: &Prefix) -> Self {
+        *prefix
+    }
+}
