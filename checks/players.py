@@ -465,38 +465,38 @@ def few_calls_course():
     course.within(f'calls {PEER}', 2, 2)
     for is_back in (True, True, False, False):
         course.go(is_back)
-        course.within(f'descents {PEER}', 0, 0)
+        course.within(f'reached {PEER}', 0, 0)
     return course
 
 
-# How many steps of how many pairs are crossed, and how many descents one may take: to the pairs of eight steps.
-SMALL_STEPS, SMALL, MOST_DESCENTS = 24, 7, 56
+# How many steps of how many pairs are crossed, and how many pairs one may reach: those of eight steps.
+SMALL_STEPS, SMALL, MOST_REACHED = 24, 7, 56
 
 
 def cross_small_steps(course, is_back):
-    """Crosses all, then crosses back and again: each step takes few descents, and all of them some."""
+    """Crosses all, then crosses back and again: each step reaches few pairs, and all of them some."""
     for _ in range(SMALL_STEPS):
         course.ask('count', 'counted')
         course.go(is_back)
-        course.within(f'descents {PEER}', 0, MOST_DESCENTS)
+        course.within(f'reached {PEER}', 0, MOST_REACHED)
         course.within(f'calls {PEER}', 0, 20)
     for _ in range(SMALL_STEPS):
         course.go(not is_back)
     course.ask('count', 'counted')
     for _ in range(SMALL_STEPS):
         course.go(is_back)
-    course.within(f'descents {PEER}', 1, SMALL_STEPS * MOST_DESCENTS)
+    course.within(f'reached {PEER}', 1, SMALL_STEPS * MOST_REACHED)
 
 
-def few_descents_course():
+def few_reached_course():
     """In a large store the places of pairs are reached before they are crossed, of few at a time."""
-    course = Course('A small step takes few descents', LARGE)
+    course = Course('A small step reaches few pairs', LARGE)
     course.play(*first_numbered(5_000))
-    course.within(f'descents {PEER}', 0, 5_000)
+    course.within(f'reached {PEER}', 0, 5_000)
     for _ in range(SMALL_STEPS):
         course.ask('count', 'counted')
         course.play(*first_numbered(SMALL))
-        course.within(f'descents {PEER}', 0, SMALL)
+        course.within(f'reached {PEER}', 0, SMALL)
     cross_small_steps(course, True)
     cross_small_steps(course, False)
     course.keys(PEER)
@@ -710,7 +710,7 @@ def courses(seed):
     yield from (forgotten_course(), only_step_course(300), only_step_course(2_500), dropped_course())
     yield from map(crossed_course, (1, 2, 7, 8, 9, 15, 16, 17, 100))
     yield from (small_steps_course(), lost_peer_course(), many_prefixes_course(), many_peers_course(),
-                announced_twice_course('player', 100), announced_twice_course(LARGE, 300), few_calls_course(), few_descents_course(),
+                announced_twice_course('player', 100), announced_twice_course(LARGE, 300), few_calls_course(), few_reached_course(),
                 let_go_course('Routes of forgotten steps are let go at once', False),
                 let_go_course('Routes are let go while steps are forgotten', True),
                 dropped_routes_course(), changing_course(), equal_routes_course(),

@@ -68,23 +68,48 @@ fn read_words(rt: &HostRuntime) -> io::Result<Vec<String>> {
     Ok(env::args(rt)?.collect(rt.alloc())?)
 }
 
-/// Opens what the settings name, the output last, and runs over it. In their boxes all streams have
-/// one type, so that the run's code stands in the program once.
+/// Opens what the settings name, the output last, and runs over it.
 fn run_settings<'a>(rt: &HostRuntime, settings: &'a Settings) -> Result<Ran, Ending<'a>> {
     let task = task_of(rt, &settings.mode)?;
-    let input: Box<dyn Read + Drop> = if settings.input.as_str() == STANDARD_INPUT {
+    let input = open_input(rt, settings.input.as_str())?;
+    let out = open_output(rt, settings)?;
+    run_opened(rt, settings.stamp, &task, input, out)
+}
+
+/// The input that is named. In their boxes all inputs have one type, and all outputs, so that the
+/// run's code stands in the program once.
+fn open_input<'a>(rt: &HostRuntime, name: &'a str) -> Result<Box<dyn Read + Drop>, Ending<'a>> {
+    let input: Box<dyn Read + Drop> = if name == STANDARD_INPUT {
         Box::new(rt.alloc(), rt.stdin())?
     } else {
-        Box::new(rt.alloc(), open(rt, settings.input.as_str())?)?
+        Box::new(rt.alloc(), open(rt, name)?)?
     };
+    Ok(input)
+}
+
+/// The output that the settings name.
+fn open_output<'a>(
+    rt: &HostRuntime,
+    settings: &'a Settings,
+) -> Result<Box<dyn Write + Drop>, Ending<'a>> {
     let out: Box<dyn Write + Drop> = match &settings.output {
         Some(name) => Box::new(rt.alloc(), create(rt, settings, name.as_str())?)?,
         None => Box::new(rt.alloc(), rt.stdout())?,
     };
+    Ok(out)
+}
+
+/// Runs over an input and an output that were opened, and tells what the input begins with.
+fn run_opened<'a>(
+    rt: &HostRuntime,
+    stamp: Stamp,
+    task: &Task,
+    input: Box<dyn Read + Drop>,
+    out: Box<dyn Write + Drop>,
+) -> Result<Ran, Ending<'a>> {
     let front = Rc::new(rt.alloc(), Cell::new(Front::none()))?;
     let noted = front.clone().map_err(|_| Ending::Ran(Outcome::Memory))?;
-    let input = NotedReader::new(noted, input);
-    let outcome = run_task(rt, settings.stamp, &task, input, out);
+    let outcome = run_task(rt, stamp, task, NotedReader::new(noted, input), out);
     Ok(Ran {
         outcome,
         form: front.get().form(),
@@ -104,7 +129,7 @@ fn task_of<'a>(rt: &HostRuntime, mode: &'a Mode) -> Result<Task, Ending<'a>> {
     }
 }
 
-/// Runs over an input and an output that were opened.
+/// Does what is asked over an input and an output.
 fn run_task(
     rt: &HostRuntime,
     stamp: Stamp,

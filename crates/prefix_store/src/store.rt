@@ -9,7 +9,7 @@ ghost use Rattle.prefix_store.specs.Stored.{Keys, Routes, put, counted};
 ghost use Rattle.prefix_store.specs.Lookups.{IsLongest, above, pointed};
 ghost use Rattle.prefix_store.specs.Contents.{AreAmong};
 
-use crate::tree::Descent;
+use crate::places::Places;
 use ip_prefix::{Addr, Prefix};
 use std::alloc::{AllocError, Global};
 
@@ -112,9 +112,11 @@ pub trait PrefixStore<R>: Sized + Drop {
         }
     }
 
-    /// A descent to the prefix, or one that is at its end.
-    fn descent<'a>(&'a self, _prefix: &Prefix) -> Descent<'a, R> {
-        Descent::ended()
+    /// Has the processor fetch what calls at these places need, for all of them at a time. It changes
+    /// nothing, and answers how much it passed on the way: who reads that number leaves a compiler no
+    /// reason to leave the fetching out.
+    fn reach(_places: &Places<'_, Self>) -> u64 {
+        0
     }
 
     /// How many keys there are; `u64::MAX` where more.

@@ -17,8 +17,8 @@ ghost use Rattle.rib_player.specs.Marks.{marks_of, marks_by_step, marks_across, 
 ghost use Rattle.rib_player.specs.Played.{AreClaimed, CanDrop};
 
 use crate::claims::{Claims, give_up_claims, put_entry};
-use crate::descents::{ENTRIES_AT_ONCE, reach_entries};
 use crate::entry::{End, Entry};
+use crate::reaching::{ENTRIES_AT_ONCE, reach_entries};
 use crate::table::Table;
 use known_routes::KnownRoutes;
 use mrt_events::Route;

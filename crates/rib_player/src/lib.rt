@@ -4,12 +4,13 @@
 mod changes;
 mod claims;
 mod counts;
-mod descents;
 mod entry;
 mod journal;
 mod laws;
 mod pair;
 mod player;
+mod reached_steps;
+mod reaching;
 mod table;
 
 pub use laws::{

@@ -9,9 +9,9 @@ ghost use Rattle.rib_player.specs.Wanted.{wanted, named_count, IsWellFormed};
 
 use crate::changes::step_for;
 use crate::claims::{Claims, give_up_claims};
-use crate::descents::{Reached, reach_ahead, reach_back};
 use crate::entry::End;
 use crate::journal::{Journal, Step, cross_step, let_go_of, named_from, put_entries};
+use crate::reached_steps::{Reached, reach_ahead, reach_back};
 use crate::table::Table;
 use known_routes::{KnownPeers, KnownRoutes};
 use mrt_events::{Event, Route};

@@ -35,7 +35,7 @@ pub struct Table<S: PrefixStore<Rc<Route>>> {
     alloc: Global,
     stores: BTreeMap<Peer, S>,
     /// How many nodes were passed to reach pairs before their routes changed. Nothing reads it; without
-    /// it a compiler may leave out the descents.
+    /// it a compiler may leave out the fetching.
     passed: u64,
 }
 

@@ -3,9 +3,8 @@
 ghost use Rattle.std.specs.Prelude.{◌≡◌};
 ghost use Rattle.std.specs.Mem.{manually_drop_value};
 
-use crate::store::PrefixStore;
-use crate::tree::Descent;
 use ip_prefix::{Addr, Prefix};
+use prefix_store::{Place, Places, PrefixStore};
 use std::alloc::{AllocError, Global};
 use std::mem::ManuallyDrop;
 
@@ -65,8 +64,17 @@ impl<R, S: PrefixStore<R>> PrefixStore<R> for LeftStore<S> {
         self.store.next_routes(prefix, found);
     }
 
-    fn descent<'a>(&'a self, prefix: &Prefix) -> Descent<'a, R> {
-        self.store.descent(prefix)
+    fn reach(places: &Places<'_, Self>) -> u64 {
+        let mut inner = Places::new();
+        inner.first = inner_place(&places.first);
+        inner.second = inner_place(&places.second);
+        inner.third = inner_place(&places.third);
+        inner.fourth = inner_place(&places.fourth);
+        inner.fifth = inner_place(&places.fifth);
+        inner.sixth = inner_place(&places.sixth);
+        inner.seventh = inner_place(&places.seventh);
+        inner.eighth = inner_place(&places.eighth);
+        S::reach(&inner)
     }
 
     fn key_count(&self) -> u64 {
@@ -75,5 +83,13 @@ impl<R, S: PrefixStore<R>> PrefixStore<R> for LeftStore<S> {
 
     fn route_count(&self) -> u64 {
         self.store.route_count()
+    }
+}
+
+/// The place in the store that is wrapped.
+fn inner_place<'a, S>(place: &Place<'a, LeftStore<S>>) -> Place<'a, S> {
+    match place {
+        Place::Nowhere => Place::Nowhere,
+        Place::At(left, prefix) => Place::At(&left.store, *prefix),
     }
 }

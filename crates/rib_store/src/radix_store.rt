@@ -13,9 +13,9 @@ ghost use Rattle.rib_store.specs.Forest.{slots_in, IsPlanted};
 ghost use Rattle.rib_store.specs.Nodes.{AreNodes, AreNodesTo, IsOrOneMore};
 
 use crate::forest::Forest;
-use crate::store::{GREATEST_COUNT, PrefixStore};
-use crate::tree::Descent;
+use crate::tree::{Descent, Descents};
 use ip_prefix::{Addr, Prefix};
+use prefix_store::{GREATEST_COUNT, Place, Places, PrefixStore};
 use std::alloc::{AllocError, Global};
 use std::marker::Model;
 
@@ -136,8 +136,18 @@ impl<R: Drop> PrefixStore<R> for RadixStore<R> {
         }
     }
 
-    fn descent<'a>(&'a self, prefix: &Prefix) -> Descent<'a, R> {
-        self.forest.descent(prefix)
+    fn reach(places: &Places<'_, Self>) -> u64 {
+        let mut descents = Descents {
+            first: descent_to(&places.first),
+            second: descent_to(&places.second),
+            third: descent_to(&places.third),
+            fourth: descent_to(&places.fourth),
+            fifth: descent_to(&places.fifth),
+            sixth: descent_to(&places.sixth),
+            seventh: descent_to(&places.seventh),
+            eighth: descent_to(&places.eighth),
+        };
+        descents.finish()
     }
 
     fn key_count(&self) -> u64 {
@@ -147,6 +157,15 @@ impl<R: Drop> PrefixStore<R> for RadixStore<R> {
     fn route_count(&self) -> u64 {
         self.route_count
     }
+}
+
+/// A descent to a place.
+fn descent_to<'a, R: Drop>(place: &Place<'a, RadixStore<R>>) -> Descent<'a, R> {
+    let Place::At(store, prefix) = place else {
+        return Descent::ended();
+    };
+    let store: &'a RadixStore<R> = *store;
+    store.forest.descent(prefix)
 }
 
 /// The count of the routes once one was brought and one given back, where they were. A count that

@@ -11,7 +11,7 @@ mod changes;
 mod descents;
 mod lookups;
 
-pub use descents::{DESCENTS_AT_ONCE, Descent, Descents};
+pub(crate) use descents::{Descent, Descents};
 use ip_prefix::Prefix;
 use prefix_store::V4Prefix;
 use std::mem::size_of;

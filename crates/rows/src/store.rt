@@ -250,16 +250,22 @@ fn put_all(found: &[(Prefix, &u32)], text: &mut Shown) {
     }
 }
 
+/// How much is passed to reach the places that were added.
+fn passed_by<S: CountsMet>(places: &mut Places<'_, S>) -> u64 {
+    let added = places.take_all();
+    S::reach(&added)
+}
+
 /// Appends how much is passed to reach prefixes, as each is added or all are reached.
 fn put_reached<S: CountsMet>(store: &S, words: &str, text: &mut Shown) {
     let mut places = Places::new();
     text.put(b"passed");
     for word in words.split(" ") {
-        let passed = match prefix_word(word) {
+        let is_end = match prefix_word(word) {
             Some(prefix) => places.add(store, prefix),
-            None => places.finish(),
+            None => true,
         };
-        put_count(b" ", passed, text);
+        put_count(b" ", if is_end { passed_by(&mut places) } else { 0 }, text);
     }
 }
 

@@ -4,19 +4,15 @@
 use crate::tree::Tree;
 use ip_prefix::Prefix;
 use prefix_store::{Packed, V4Prefix};
-use std::mem;
 
 /// How many bits of a prefix a descent goes by at most, so how many nodes it passes.
 const MOST_BITS: u8 = 64;
-
-/// How many descents go down at once.
-pub const DESCENTS_AT_ONCE: u8 = 8;
 
 /// A descent to where a prefix stands, or would stand, and no further. It looks at one bit for each
 /// node, of the first 64 that the prefix has, and compares nothing, so it says nothing of what stands
 /// there.
 #[derive(Drop)]
-pub struct Descent<'a, R> {
+pub(crate) struct Descent<'a, R> {
     place: Place<'a, R>,
     /// The first bits of the prefix.
     bits: u64,
@@ -34,7 +30,7 @@ enum Place<'a, R> {
 
 impl<'a, R> Descent<'a, R> {
     /// A descent that is at its end.
-    pub fn ended() -> Self {
+    pub(crate) fn ended() -> Self {
         Descent {
             place: Place::Ended,
             bits: 0,
@@ -94,54 +90,20 @@ fn below<'a, K: Packed, R>(tree: &'a Tree<K, R>, bits: u64, depth: u8) -> Option
 
 /// Descents that go down at once.
 #[derive(Drop)]
-pub struct Descents<'a, R> {
-    first: Descent<'a, R>,
-    second: Descent<'a, R>,
-    third: Descent<'a, R>,
-    fourth: Descent<'a, R>,
-    fifth: Descent<'a, R>,
-    sixth: Descent<'a, R>,
-    seventh: Descent<'a, R>,
-    eighth: Descent<'a, R>,
-    count: u8,
+pub(crate) struct Descents<'a, R> {
+    pub(crate) first: Descent<'a, R>,
+    pub(crate) second: Descent<'a, R>,
+    pub(crate) third: Descent<'a, R>,
+    pub(crate) fourth: Descent<'a, R>,
+    pub(crate) fifth: Descent<'a, R>,
+    pub(crate) sixth: Descent<'a, R>,
+    pub(crate) seventh: Descent<'a, R>,
+    pub(crate) eighth: Descent<'a, R>,
 }
 
 impl<'a, R> Descents<'a, R> {
-    /// No descents.
-    pub fn new() -> Self {
-        Descents {
-            first: Descent::ended(),
-            second: Descent::ended(),
-            third: Descent::ended(),
-            fourth: Descent::ended(),
-            fifth: Descent::ended(),
-            sixth: Descent::ended(),
-            seventh: Descent::ended(),
-            eighth: Descent::ended(),
-            count: 0,
-        }
-    }
-
-    /// Adds a descent. The eighth takes all of them down; it answers how many nodes the longest passed
-    /// then.
-    pub fn add(&mut self, descent: Descent<'a, R>) -> u64 {
-        let second = mem::replace(&mut self.first, descent);
-        let third = mem::replace(&mut self.second, second);
-        let fourth = mem::replace(&mut self.third, third);
-        let fifth = mem::replace(&mut self.fourth, fourth);
-        let sixth = mem::replace(&mut self.fifth, fifth);
-        let seventh = mem::replace(&mut self.sixth, sixth);
-        self.eighth = mem::replace(&mut self.seventh, seventh);
-        self.count = self.count.wrapping_add(1);
-        if self.count < DESCENTS_AT_ONCE {
-            return 0;
-        }
-        self.finish()
-    }
-
-    /// Takes those that were added since down, and answers how many nodes the longest passed.
-    pub fn finish(&mut self) -> u64 {
-        self.count = 0;
+    /// Takes them down, and answers how many nodes the longest passed.
+    pub(crate) fn finish(&mut self) -> u64 {
         'nodes: for passed in 0..MOST_BITS {
             if !self.pass_nodes() {
                 return u64::from(passed);

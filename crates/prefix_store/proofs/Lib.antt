@@ -1,0 +1,5 @@
+pub mod PackedLaws
+pub mod PutLaws
+pub mod StoredLaws
+pub mod AboveLaws
+pub mod LongestLaws

@@ -1,0 +1,4 @@
+pub mod Packed
+pub mod Stored
+pub mod Lookups
+pub mod Contents

@@ -1,0 +1,95 @@
+//! Has the processor fetch what the entries of steps need, before their routes change places with the
+//! table's, so that it waits for the nodes of several pairs at once. That changes nothing.
+//!
+//! Pairs of a step are reached where they are of one peer, as in a message of updates, and its store
+//! has many keys. A record of a table names one prefix of many peers, and needs nodes that the record
+//! before mostly needed too; the nodes of few keys are in the cache anyway.
+
+ghost use Rattle.std.specs.Prelude.{◌≤◌, length};
+
+use crate::entry::Entry;
+use crate::table::Table;
+use mrt_events::Route;
+use prefix_store::{PLACES_AT_ONCE, Places, PrefixStore};
+use std::rc::Rc;
+
+/// How many entries are reached at once.
+pub(crate) const ENTRIES_AT_ONCE: usize = PLACES_AT_ONCE as usize;
+
+/// How many keys a store has at least whose nodes are reached.
+const LEAST_KEYS: u64 = 4096;
+
+/// Reaches the places that were added since. Answers how much was passed.
+pub(crate) fn reach_places<S: PrefixStore<Rc<Route>>>(places: &mut Places<'_, S>) -> u64 {
+    let added = places.take_all();
+    S::reach(&added)
+}
+
+/// Adds the prefixes of entries, and reaches each eight. Answers how much was passed.
+fn add_entries<'a, S: PrefixStore<Rc<Route>>>(
+    places: &mut Places<'a, S>,
+    store: &'a S,
+    entries: &[Entry],
+) -> u64 {
+    let mut passed = 0u64;
+    'entries: for entry in entries {
+        if places.add(store, entry.prefix()) {
+            passed = passed.wrapping_add(reach_places(places));
+        }
+    }
+    passed
+}
+
+/// Adds the prefixes of a step that has few entries, and reaches each eight. Answers how much was
+/// passed.
+pub(crate) fn add_step<'a, S: PrefixStore<Rc<Route>>>(
+    places: &mut Places<'a, S>,
+    table: &'a Table<S>,
+    entries: &[Entry],
+) -> u64 {
+    if entries.len() >= ENTRIES_AT_ONCE {
+        return 0;
+    }
+    match only_store(table, entries) {
+        Some(store) => add_entries(places, store, entries),
+        None => 0,
+    }
+}
+
+/// The store of the entries' peer, where they are of one and it has many keys. They are in the order
+/// of their pairs.
+fn only_store<'a, S: PrefixStore<Rc<Route>>>(
+    table: &'a Table<S>,
+    entries: &[Entry],
+) -> Option<&'a S> {
+    let peer = entries.first()?.peer();
+    if entries.last()?.peer() != peer {
+        return None;
+    }
+    let store = table.store(peer)?;
+    if store.key_count() < LEAST_KEYS {
+        return None;
+    }
+    Some(store)
+}
+
+/// Reaches the next entries of a step from the index on, where that is a multiple of as many as are
+/// reached at once. Answers how much was passed.
+pub(crate) fn reach_entries<S: PrefixStore<Rc<Route>>>(
+    table: &Table<S>,
+    entries: &[Entry],
+    index: usize,
+) -> u64
+    requires { index ≤ length entries.now }
+{
+    if index % ENTRIES_AT_ONCE != 0 {
+        return 0;
+    }
+    let Some(store) = only_store(table, entries) else {
+        return 0;
+    };
+    let mut places = Places::new();
+    let end = entries.len().min(index.saturating_add(ENTRIES_AT_ONCE));
+    let passed = add_entries(&mut places, store, &entries[index..end]);
+    passed.wrapping_add(reach_places(&mut places))
+}
