@@ -7,5 +7,5 @@ mod places;
 mod route_hash;
 mod routes;
 
-pub use peers::KnownPeers;
+pub use peers::{KnownPeers, peer_hash};
 pub use routes::KnownRoutes;

@@ -26,11 +26,17 @@ pub struct KnownPeers {
     ghost bounded: { vec_len places ≤ PLACES },
 }
 
+/// A number that equal peers share, and others mostly don't; of its bits the highest hang on all of
+/// the peer.
+#[inline]
+pub fn peer_hash(peer: &Peer) -> u64 {
+    with_address(u64::from(peer.asn), &peer.addr)
+}
+
 /// Where the row of a peer begins.
 #[inline]
 fn row_of(peer: &Peer) -> usize {
-    let hash = with_address(u64::from(peer.asn), &peer.addr);
-    ((hash >> LOWEST_BITS) as usize).wrapping_mul(ROW)
+    ((peer_hash(peer) >> LOWEST_BITS) as usize).wrapping_mul(ROW)
 }
 
 /// The peer, where it stands in the row that begins there.

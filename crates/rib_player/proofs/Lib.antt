@@ -1,6 +1,7 @@
 pub mod PairLaws
 pub mod TableLaws
 pub mod StoreLaws
+pub mod NumberLaws
 pub mod PeerLaws
 pub mod HistoryLaws
 pub mod AlongHistory

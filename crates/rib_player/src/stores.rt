@@ -1,0 +1,165 @@
+//! The stores of peers. Each peer that has one has a number, by which it is found.
+
+ghost use Rattle.std.specs.Prelude.{◌≡◌, ◌≢◌, ℕ, [], Some, None, IsTrue, if◌then◌else◌, slice_get, OnOk, OnErr};
+ghost use Rattle.std.specs.Option.{option_copied, option_copied_mut};
+ghost use Rattle.std.specs.Borrow.{sem};
+ghost use Rattle.std.specs.Map.{lookup};
+ghost use Rattle.std.specs.Ordering.{eq_by_cmp};
+ghost use Rattle.mrt_events.specs.declared.peer.Peer.{Peer};
+ghost use Rattle.mrt_events.specs.Peer.{peer_cmp};
+ghost use Rattle.rib_player.specs.Store.{store_at};
+ghost use Rattle.rib_player.specs.Numbered.{AreNumbered};
+ghost use Rattle.std.proofs.Props.{props};
+
+use known_routes::peer_hash;
+use mrt_events::{Peer, same_peer};
+use slab::Slab;
+use std::alloc::{AllocError, Global};
+use std::collections::BTreeMap;
+
+/// How many places there are for numbers.
+const PLACES: usize = 4096;
+
+/// How many bits of a hash are left out, so that it names a place.
+const LOWEST_BITS: u32 = 52;
+
+/// Stores, at most one for each peer.
+#[derive(Drop)]
+pub(crate) struct Stores<S> {
+    /// The number of each peer that has a store, in the order of peers.
+    pub(crate) order: BTreeMap<Peer, usize>,
+    /// The stores, by number.
+    pub(crate) held: Slab<S>,
+    /// The peers, by number; where no store has it, the one that had it last.
+    pub(crate) names: Vec<Peer>,
+    /// The number that a peer of each hash may have, if it has one. Of several peers one is found so,
+    /// the others by their order.
+    places: Vec<u32>,
+    ghost numbered: { AreNumbered held names.items order.entries } by { Prim.hlevel props },
+}
+
+/// The place of a peer's number.
+#[inline]
+fn place_of(peer: &Peer) -> usize {
+    (peer_hash(peer) >> LOWEST_BITS) as usize
+}
+
+impl<S> Stores<S> {
+    ghost use Rattle.rib_player.specs.Lent.{stores_in, lends_store};
+
+    /// None.
+    pub(crate) fn new(alloc: Global) -> Self
+        ensures { stores_in result ≡ [] }
+    {
+        Stores {
+            order: BTreeMap::new(alloc),
+            held: Slab::new(alloc),
+            names: Vec::new(alloc),
+            places: Vec::new(alloc),
+        }
+    }
+
+    /// Whether the peer has this number.
+    #[inline]
+    fn has_number(&self, number: usize, peer: &Peer) -> bool
+        ensures { IsTrue result →
+            lookup (eq_by_cmp peer_cmp peer.now) self.now.order.entries ≡ Some number }
+    {
+        match self.names.get(number) {
+            Some(name) => same_peer(name, peer) && self.held.contains(number),
+            None => false,
+        }
+    }
+
+    /// The number of the peer, if it has a store.
+    #[inline]
+    fn number_of(&self, peer: &Peer) -> Option<usize>
+        ensures { result ≡ lookup (eq_by_cmp peer_cmp peer.now) self.now.order.entries }
+    {
+        if let Some(number) = self.places.get(place_of(peer)) {
+            let number = *number as usize;
+            if self.has_number(number, peer) {
+                return Some(number);
+            }
+        }
+        self.order.get(peer).copied()
+    }
+
+    /// The store of the peer.
+    #[inline]
+    pub(crate) fn get(&self, peer: &Peer) -> Option<&S>
+        ensures { option_copied result ≡ store_at (stores_in self.now) peer.now }
+    {
+        self.held.get(self.number_of(peer)?)
+    }
+
+    /// The same, to be written.
+    #[inline]
+    pub(crate) fn get_mut(&mut self, peer: &Peer) -> Option<&mut S>
+        ensures* writes_back { sem 𝓛 (lends_store S.row self.entry peer.now result) }
+        ensures value { option_copied_mut result ≡ store_at (stores_in self.old) peer.now }
+    {
+        let number = self.number_of(peer)?;
+        self.held.get_mut(number)
+    }
+}
+
+impl<S: Drop> Stores<S> {
+    ghost use Rattle.rib_player.specs.Lent.{stores_in};
+
+    /// Adds the store of a peer that has none.
+    pub(crate) fn insert(&mut self, peer: Peer, store: S) -> Result<(), AllocError>
+        requires { store_at (stores_in self.old) peer ≡ None }
+        ensures added { OnOk result ((p : Peer) → store_at (stores_in self.new) p
+            ≡ (if eq_by_cmp peer_cmp peer p then Some store else store_at (stores_in self.old) p)) }
+        ensures refused { OnErr result (stores_in self.new ≡ stores_in self.old) }
+    {
+        self.held.reserve(1)?;
+        let number = self.held.vacant_key();
+        set_name(&mut self.names, number, &peer)?;
+        self.order.insert(peer, number)?;
+        self.held.insert_reserved(store);
+        self.note_place(&peer, number);
+        Ok(())
+    }
+
+    /// Notes where the number stands, unless memory is refused for the places.
+    fn note_place(&mut self, peer: &Peer, number: usize)
+        ensures order { self.new.order ≡ self.old.order }
+        ensures held { self.new.held ≡ self.old.held }
+    {
+        if self.places.is_empty() {
+            let _ = self.places.resize(PLACES, 0);
+        }
+        if let Some(place) = self.places.get_mut(place_of(peer)) {
+            *place = u32::try_from(number).unwrap_or(u32::MAX);
+        }
+    }
+
+    /// Drops the store of a peer, if it has one.
+    pub(crate) fn remove(&mut self, peer: &Peer)
+        ensures { (p : Peer) → store_at (stores_in self.new) p
+            ≡ (if eq_by_cmp peer_cmp peer.now p then None else store_at (stores_in self.old) p) }
+    {
+        if let Some(number) = self.order.remove(peer) {
+            self.held.try_remove(number);
+        }
+    }
+}
+
+/// Puts the peer at its number.
+fn set_name(names: &mut Vec<Peer>, number: usize, peer: &Peer) -> Result<(), AllocError>
+    ensures named { OnOk result (slice_get names.new.items number ≡ Some peer.now) }
+    ensures others { (other : ℕ) (p : Peer) → other ≢ number →
+        slice_get names.old.items other ≡ Some p → slice_get names.new.items other ≡ Some p }
+    ensures refused { OnErr result (names.new.items ≡ names.old.items) }
+{
+    if number >= names.len() {
+        let Some(count) = number.checked_add(1) else {
+            return Err(AllocError);
+        };
+        names.resize(count, *peer)?;
+    }
+    names[number] = *peer;
+    Ok(())
+}
