@@ -68,35 +68,31 @@ fn read_words(rt: &HostRuntime) -> io::Result<Vec<String>> {
     Ok(env::args(rt)?.collect(rt.alloc())?)
 }
 
-/// Opens what the settings name, the output last, and runs over it.
+/// Opens what the settings name, the output last, and runs over it. In their boxes all inputs have
+/// one type, and all outputs, so that the run's code stands in the program once.
 fn run_settings<'a>(rt: &HostRuntime, settings: &'a Settings) -> Result<Ran, Ending<'a>> {
     let task = task_of(rt, &settings.mode)?;
-    let input = open_input(rt, settings.input.as_str())?;
-    let out = open_output(rt, settings)?;
-    run_opened(rt, settings.stamp, &task, input, out)
-}
-
-/// The input that is named. In their boxes all inputs have one type, and all outputs, so that the
-/// run's code stands in the program once.
-fn open_input<'a>(rt: &HostRuntime, name: &'a str) -> Result<Box<dyn Read + Drop>, Ending<'a>> {
+    let name = settings.input.as_str();
     let input: Box<dyn Read + Drop> = if name == STANDARD_INPUT {
         Box::new(rt.alloc(), rt.stdin())?
     } else {
         Box::new(rt.alloc(), open(rt, name)?)?
     };
-    Ok(input)
+    run_input(rt, settings, &task, input)
 }
 
-/// The output that the settings name.
-fn open_output<'a>(
+/// Opens the output that the settings name, and runs over an input that was opened.
+fn run_input<'a>(
     rt: &HostRuntime,
     settings: &'a Settings,
-) -> Result<Box<dyn Write + Drop>, Ending<'a>> {
+    task: &Task,
+    input: Box<dyn Read + Drop>,
+) -> Result<Ran, Ending<'a>> {
     let out: Box<dyn Write + Drop> = match &settings.output {
         Some(name) => Box::new(rt.alloc(), create(rt, settings, name.as_str())?)?,
         None => Box::new(rt.alloc(), rt.stdout())?,
     };
-    Ok(out)
+    run_opened(rt, settings.stamp, task, input, out)
 }
 
 /// Runs over an input and an output that were opened, and tells what the input begins with.
