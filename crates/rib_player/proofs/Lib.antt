@@ -2,6 +2,7 @@ pub mod PairLaws
 pub mod TableLaws
 pub mod StoreLaws
 pub mod NumberLaws
+pub mod RowLaws
 pub mod PeerLaws
 pub mod HistoryLaws
 pub mod AlongHistory

@@ -1,6 +1,6 @@
 -- What is known of the numbers of peers, and of the stores that are found by them.
 use Rattle.std.proofs.Common.{◌≡◌, ◌≢◌, ℕ, Bool, true, false, cond, List, [], ◌∷◌, Option, Some, None, is_some, slice_get, IsSomeAnd, refl, sym, ap, ap₂, subst, ◌∙◌, inl, inr}
-use Rattle.std.specs.List.{AllByRecursion, filter, filter_map, cons_option}
+use Rattle.std.specs.List.{AllByRecursion, filter, cons_option}
 use Rattle.std.specs.Map.{lookup, keys_of, remove_entry}
 use Rattle.std.specs.Option.{option_map, unwrap_or}
 use Rattle.std.specs.Ordering.{match_ordering}
@@ -9,14 +9,14 @@ use Rattle.std.specs.declared.cmp.Ordering.TheVariants.{Less, Equal, Greater}
 use Rattle.std.specs.Cmp.{eq_by_cmp_equiv}
 use Rattle.std.specs.BTreeMap.{insert_entry}
 use Rattle.std.proofs.lemmas.Bool.{cases_eq}
-use Rattle.std.proofs.lemmas.Map.{NonePasses, none_passes_from_lookup}
+use Rattle.std.proofs.lemmas.Map.{none_passes_from_lookup}
 use Rattle.slab.specs.Slab as slab
 use Rattle.mrt_events.specs.declared.peer.Peer.{Peer}
 use Rattle.mrt_events.specs.Peer.{peer_cmp}
 use Rattle.mrt_events.proofs.PeerLaws.{peer_cmp_total, peer_cmp-IsAntisymmetric}
-use Rattle.rib_player.specs.Store.{Stores, store_at}
+use Rattle.rib_player.specs.Store.{store_at}
 use Rattle.rib_player.specs.Numbered.{stores_of, IsNumber, AreNumbered}
-use Rattle.rib_player.proofs.StoreLaws.{same_peer, one_peer, peer_symm}
+use Rattle.rib_player.proofs.StoreLaws.{same_peer, one_peer}
 
 all-map : {X : Type 0} {P Q : X → Type 0} → ((x : X) → P x → Q x) → (xs : List X) → AllByRecursion P xs → AllByRecursion Q xs
 all-map f [] all = tt
@@ -122,9 +122,9 @@ module _ {S : Type 0} where
   pub numbered-named : (held : slab.Slab S) (names names' : List Peer) (order : List (Peer × ℕ)) → AreNumbered held names order → (number : ℕ) → slab.get held number ≡ None
       → ((n : ℕ) (p : Peer) → n ≢ number → slice_get names n ≡ Some p → slice_get names' n ≡ Some p) → AreNumbered held names' order
   numbered-named held names names' order are number vacant others = record {
-      there = all-map (λ e is. (is.0, others e.1 e.0 (taken e.1 is.0) is.1)) order are.there;
-      back = λ n some. at n (taken n some) (slice_get names n) refl (are.back n some);
-    }
+    there = all-map (λ e is. (is.0, others e.1 e.0 (taken e.1 is.0) is.1)) order are.there;
+    back = λ n some. at n (taken n some) (slice_get names n) refl (are.back n some);
+  }
     where
       taken : (n : ℕ) → is_some (slab.get held n) ≡ true → n ≢ number
       taken n some same =

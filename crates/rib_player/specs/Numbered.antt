@@ -1,14 +1,20 @@
 -- Private.
 -- How the stores of peers are found by numbers.
-use Rattle.std.specs.Prelude.{◌≡◌, ℕ, List, Some, is_some, slice_get, filter_map, IsSomeAnd, true}
+use Rattle.std.specs.Prelude.{◌≡◌, ℕ, List, map, Some, is_some, slice_get, filter_map, IsSomeAnd, true}
 use Rattle.std.specs.List.{AllByRecursion}
 use Rattle.std.specs.Option.{option_map}
 use Rattle.std.specs.Map.{lookup}
 use Rattle.std.specs.Ordering.{eq_by_cmp}
+use Rattle.std.specs.declared.alloc.Global.{Global}
+use Rattle.std.specs.declared.rc.Rc.{Rc}
 use Rattle.slab.specs.Slab as slab
 use Rattle.mrt_events.specs.declared.peer.Peer.{Peer}
 use Rattle.mrt_events.specs.Peer.{peer_cmp}
 use Rattle.rib_player.specs.Store.{Stores}
+
+-- the peers that are pointed to
+abbrev pub peers_in : List (Rc Peer Global) → List Peer
+peers_in names = map (λ shared. shared.value) names
 
 -- the stores that stand at the numbers of peers
 abbrev pub stores_of : {S : Type 0} → slab.Slab S → List (Peer × ℕ) → Stores S

@@ -1,7 +1,8 @@
 //! The routes of all peers.
 
-ghost use Rattle.std.specs.Prelude.{◌≡◌, ◌<◌, ◌&&◌, Some, true, false, not, is_some, slice_get, Option, None, if◌then◌else◌, map, IfSome, IfNone, IfOk, OnOk, OnErr, take, vec_capacity};
-ghost use Rattle.std.specs.List.{list_any};
+ghost use Rattle.std.specs.Prelude.{◌≡◌, ◌<◌, ◌&&◌, Some, true, false, not, is_some, slice_get, Option, None, if◌then◌else◌, map, IfSome, IfNone, IfOk, IsTrue, OnOk, OnErr, take, vec_capacity};
+ghost use Rattle.std.specs.List.{IsDistinct};
+ghost use Rattle.std.specs.Map.{keys_of};
 ghost use Rattle.std.specs.Option.{option_map, option_copied};
 ghost use Rattle.std.specs.Ordering.{eq_by_cmp};
 ghost use Rattle.std.specs.FinMap as finite;
@@ -20,7 +21,7 @@ ghost use Rattle.rib_player.specs.Lent.{stores_in};
 ghost use Rattle.rib_player.specs.Numbered.{stores_of};
 
 use crate::pair::Pair;
-use crate::stores::Stores;
+use crate::stores::{Marks, Stores};
 use ip_prefix::{Addr, Prefix};
 use mrt_events::{Peer, Route};
 use prefix_store::PrefixStore;
@@ -217,6 +218,24 @@ impl<S: PrefixStore<Rc<Route>>> Table<S> {
         };
         let numbers = self.stores.order.range((low, Bound::Unbounded));
         first_routed(&self.stores, numbers)
+    }
+
+    /// The peer, where it has a key, as entries share it.
+    pub(crate) fn shared_peer(&self, peer: &Peer) -> Option<&Rc<Peer>>
+        ensures { IfSome result (λ shared. shared.now.value ≡ peer.now) }
+    {
+        self.stores.shared_peer(peer)
+    }
+
+    /// Whether all these pairs are known to be of different peers.
+    pub(crate) fn are_of_different_peers(
+        &self,
+        slots: &[(Pair, Option<Rc<Route>>)],
+        marks: &mut Marks,
+    ) -> bool
+        ensures { IsTrue result → IsDistinct (eq_by_cmp pair_cmp) (keys_of slots.now) }
+    {
+        self.stores.are_of_different_peers(slots, marks)
     }
 
     /// The peer's store, where it has a key.

@@ -1,4 +1,4 @@
-use Rattle.std.proofs.Common.{◌≡◌, ◌<◌, Some, None, is_some, IfSome, not, ◌||◌, cond, sym, ap, ◌∙◌, subst}
+use Rattle.std.proofs.Common.{◌≡◌, ◌<◌, Some, None, IfSome, not, ◌||◌, cond, sym, ap, ◌∙◌, subst}
 use Rattle.std.specs.Option.{option_map, option_copied_mut}
 use Rattle.std.specs.Ordering.{eq_by_cmp}
 use Rattle.std.specs.FinMap as finite

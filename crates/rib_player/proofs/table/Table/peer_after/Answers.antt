@@ -11,7 +11,7 @@ use Rattle.prefix_store.specs.Stored.{counted}
 use Rattle.rib_player.specs.Store.{peer_routes, routed_peers}
 use Rattle.rib_player.specs.Lookups.{peers_above}
 use Rattle.rib_player.specs.Lent.{stores_in}
-use Rattle.rib_player.specs.Numbered.{stores_of}
+use Rattle.rib_player.specs.Numbered.{peers_in, stores_of}
 use Rattle.rib_player.proofs.PeerLaws.{first_counted}
 use Rattle.rib_player.proofs.NumberLaws.{keys-stores_of, stores_of-filter}
 use Rattle.rib_player.proofs.table.Table.peer_after.Goals as goal
@@ -23,7 +23,7 @@ returns g c =
     let order = c.self.inside.stores.order.entries in
     let stores = stores_in c.self.inside.stores in
     let all = c.args.self.now.routes in
-    let sorted = subst (λ ps. IsStrictlySortedBy peer_cmp ps) (sym (keys-stores_of held c.self.inside.stores.names.items order c.self.inside.stores.numbered.there)) c.range-numbers.ensures.ordered in
+    let sorted = subst (λ ps. IsStrictlySortedBy peer_cmp ps) (sym (keys-stores_of held (peers_in c.self.inside.stores.names.items) order c.self.inside.stores.numbered.there)) c.range-numbers.ensures.ordered in
     c.first_routed.ensures ∙ elim c.match-peer.branch [
       | in-Some w ↦
           first_counted g.S.PrefixStore.routes (Some w.in-Some.peer.now) (range_contains peer_cmp (Excluded w.in-Some.peer.now) Unbounded) stores (stores_of held c.range-numbers.result) all (λ p. and-true (is_lt (peer_cmp w.in-Some.peer.now p)))
