@@ -90,7 +90,7 @@ impl Changes {
                     peer: *peer,
                     prefix: *prefix,
                 };
-                self.note_route(pair, Some(known.known_if_short(route)?))
+                self.note_route(pair, Some(known.known_if_short(peer, route)?))
             }
             Item::Withdraw(peer, prefix) => {
                 let pair = Pair {
@@ -146,10 +146,10 @@ impl Changes {
         ensures { OnOk result ((q : Pair) → noted_effect self.new q
             ≡ later (items_effect q items.now) (noted_effect self.old q)) }
     {
-        let Some(route) = first_route(items) else {
+        let Some((peer, route)) = first_route(items) else {
             return self.note_each(items, known);
         };
-        let route = known.known(route)?;
+        let route = known.known(peer, route)?;
         let mut rest = items.len();
         'items: while rest > 0 {
             rest -= 1;
@@ -159,21 +159,21 @@ impl Changes {
     }
 }
 
-/// The route that the item announces, if it announces one.
-fn announced_route(item: &Item) -> Option<&Rc<Route>>
-    ensures { IfSome result (λ route. HasRoute route.now.value (saying item.now)) }
+/// The peer of the item and the route that it announces, if it announces one.
+fn announced_route(item: &Item) -> Option<(&Peer, &Rc<Route>)>
+    ensures { IfSome result (λ told. HasRoute told.1.now.value (saying item.now)) }
 {
     match item {
-        Item::Announce(_, _, route) => Some(route),
+        Item::Announce(peer, _, route) => Some((peer, route)),
         Item::Withdraw(_, _) => None,
         Item::State(_, _, _) => None,
     }
 }
 
-/// The route that the first item announces, if it announces one.
-fn first_route(items: &[Item]) -> Option<&Rc<Route>>
-    ensures { IfSome result (λ route. IfSome (slice_get items.now 0) (λ item.
-        HasRoute route.now.value (saying item))) }
+/// The peer of the first item and the route that it announces, if it announces one.
+fn first_route(items: &[Item]) -> Option<(&Peer, &Rc<Route>)>
+    ensures { IfSome result (λ told. IfSome (slice_get items.now 0) (λ item.
+        HasRoute told.1.now.value (saying item))) }
 {
     announced_route(items.first()?)
 }
