@@ -15,7 +15,8 @@ use Rattle.mrt_events.specs.declared.peer.Peer.{Peer}
 use Rattle.mrt_events.specs.Peer.{peer_cmp}
 use Rattle.mrt_events.proofs.PeerLaws.{peer_cmp_total, peer_cmp-IsAntisymmetric}
 use Rattle.rib_player.specs.Store.{store_at}
-use Rattle.rib_player.specs.Numbered.{stores_of, IsNumber, AreNumbered}
+use Rattle.rib_player.specs.StoresByPeer.{stores_of}
+use Rattle.rib_player.specs.Numbered.{IsNumber, AreNumbered}
 use Rattle.rib_player.proofs.StoreLaws.{same_peer, one_peer}
 
 all-map : {X : Type 0} {P Q : X → Type 0} → ((x : X) → P x → Q x) → (xs : List X) → AllByRecursion P xs → AllByRecursion Q xs

@@ -1,18 +1,14 @@
 -- Private.
--- The stores that are found by numbers, as a list, and one that is lent to be written.
+-- A store that is lent to be written.
 use Rattle.std.specs.Prelude.{◌≡◌, Option, Some, if◌then◌else◌, OnSome}
 use Rattle.std.specs.Borrow.{LendsSo, Fml, MutBor, RattleType}
 use Rattle.std.specs.Ordering.{eq_by_cmp}
 use Rattle.mrt_events.specs.declared.peer.Peer.{Peer}
 use Rattle.mrt_events.specs.Peer.{peer_cmp}
-use Rattle.rib_player.specs.Store.{Stores, store_at}
-use Rattle.rib_player.specs.Numbered.{stores_of}
+use Rattle.rib_player.specs.Store.{store_at}
+use Rattle.rib_player.specs.StoresByPeer.{stores_in}
 use Rattle.rib_player.specs.declared.stores.Stores as numbered
 use Rattle.rib_player.specs.contracts.stores.Stores.{the_row}
-
--- stores by peers, in order
-abbrev pub stores_in : {S : Type 0} → numbered.Stores S → Stores S
-stores_in s = stores_of s.held s.order.entries
 
 -- the peer has the last store that was written through r, if it is a reference, and all others keep theirs
 abbrev pub lends_store : (S : RattleType) → MutBor (numbered.Stores S.Denot) → Peer → Option (MutBor S.Denot) → Fml

@@ -1,8 +1,7 @@
 -- Private.
 -- How the stores of peers are found by numbers.
-use Rattle.std.specs.Prelude.{◌≡◌, ℕ, List, map, Some, is_some, slice_get, filter_map, IsSomeAnd, true}
+use Rattle.std.specs.Prelude.{◌≡◌, ℕ, List, map, Some, is_some, slice_get, IsSomeAnd, true}
 use Rattle.std.specs.List.{AllByRecursion}
-use Rattle.std.specs.Option.{option_map}
 use Rattle.std.specs.Map.{lookup}
 use Rattle.std.specs.Ordering.{eq_by_cmp}
 use Rattle.std.specs.declared.alloc.Global.{Global}
@@ -10,15 +9,10 @@ use Rattle.std.specs.declared.rc.Rc.{Rc}
 use Rattle.slab.specs.Slab as slab
 use Rattle.mrt_events.specs.declared.peer.Peer.{Peer}
 use Rattle.mrt_events.specs.Peer.{peer_cmp}
-use Rattle.rib_player.specs.Store.{Stores}
 
 -- the peers that are pointed to
 abbrev pub peers_in : List (Rc Peer Global) → List Peer
 peers_in names = map (λ shared. shared.value) names
-
--- the stores that stand at the numbers of peers
-abbrev pub stores_of : {S : Type 0} → slab.Slab S → List (Peer × ℕ) → Stores S
-stores_of held order = filter_map (λ e. option_map (λ store. (e.0, store)) (slab.get held e.1)) order
 
 -- a peer has this number: a store has it, and the peer's name stands there
 abbrev pub IsNumber : {S : Type 0} → slab.Slab S → List Peer → Peer × ℕ → Type 0

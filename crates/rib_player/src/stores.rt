@@ -60,7 +60,8 @@ fn place_of(peer: &Peer) -> usize {
 }
 
 impl<S> Stores<S> {
-    ghost use Rattle.rib_player.specs.Lent.{stores_in, lends_store};
+    ghost use Rattle.rib_player.specs.StoresByPeer.{stores_in};
+    ghost use Rattle.rib_player.specs.Lent.{lends_store};
 
     /// None.
     pub(crate) fn new(alloc: Global) -> Self
@@ -144,7 +145,7 @@ impl<S> Stores<S> {
 }
 
 impl<S: Drop> Stores<S> {
-    ghost use Rattle.rib_player.specs.Lent.{stores_in};
+    ghost use Rattle.rib_player.specs.StoresByPeer.{stores_in};
 
     /// Adds the store of a peer that has none.
     pub(crate) fn insert(&mut self, peer: Peer, store: S) -> Result<(), AllocError>

@@ -17,8 +17,7 @@ ghost use Rattle.prefix_store.specs.Lookups.{above};
 ghost use Rattle.rib_player.specs.Store.{route_in, keys_in, routes_in, peer_routes, routed_peers};
 ghost use Rattle.rib_player.specs.Lookups.{IsBest, pointed_routes, peers_above, routed_stores, peer_count};
 ghost use Rattle.rib_player.specs.Holding.{value_of, IsLeft};
-ghost use Rattle.rib_player.specs.Lent.{stores_in};
-ghost use Rattle.rib_player.specs.Numbered.{stores_of};
+ghost use Rattle.rib_player.specs.StoresByPeer.{stores_in, stores_of};
 
 use crate::pair::Pair;
 use crate::stores::{Marks, Stores};
@@ -45,7 +44,7 @@ pub struct Table<S: PrefixStore<Rc<Route>>> {
 impl<S: PrefixStore<Rc<Route>>> Model for Table<S> {
     ghost use Rattle.rib_player.specs.Store.{Contents, keys_in, routes_in};
     ghost use Rattle.rib_player.specs.Holding.{coded_contents, IsHeld};
-    ghost use Rattle.rib_player.specs.Lent.{stores_in};
+    ghost use Rattle.rib_player.specs.StoresByPeer.{stores_in};
 
     ghost Value = { Contents };
 

@@ -2,7 +2,7 @@ use Rattle.std.proofs.Common.{◌≡◌, Some, refl, sym, ap, ◌∙◌}
 use Rattle.std.specs.Option.{option_copied_mut}
 use Rattle.std.specs.Prelude.{◌==◌}
 use Rattle.std.specs.FinSet as set
-use Rattle.rib_player.specs.Lent.{stores_in}
+use Rattle.rib_player.specs.StoresByPeer.{stores_in}
 use Rattle.rib_player.proofs.CountLaws.{counted-zero}
 use Rattle.rib_player.specs.Store.{store_at, keys_in, routes_in}
 use Rattle.rib_player.proofs.StoreLaws.{when_some, contains-found, get-found, key-has-store, no_value}

@@ -4,7 +4,7 @@ use Rattle.std.specs.Map.Iter.{deref_pair}
 use Rattle.std.proofs.lemmas.Map.Iter.{rest_all}
 use Rattle.slab.specs.Slab as slab
 use Rattle.rib_player.specs.Lookups.{routed_stores, peer_count}
-use Rattle.rib_player.specs.Numbered.{stores_of}
+use Rattle.rib_player.specs.StoresByPeer.{stores_of}
 use Rattle.rib_player.proofs.NumberLaws.{stores_of-some, stores_of-none}
 use Rattle.rib_player.proofs.PeerLaws.{routed-more, routed-none}
 use Rattle.rib_player.proofs.table.first_routed.Goals as goal

@@ -1,6 +1,6 @@
 use Rattle.std.proofs.Common.{◌≡◌, slice_get}
 use Rattle.rib_player.specs.Lookups.{routed_stores}
-use Rattle.rib_player.specs.Numbered.{stores_of}
+use Rattle.rib_player.specs.StoresByPeer.{stores_of}
 use Rattle.rib_player.proofs.table.first_routed.Given as goal
 
 -- the stores so far have no route

@@ -2,7 +2,8 @@ use Rattle.std.proofs.Common.{◌≡◌, Some, None, cond, sym, ap, ap₂, subst
 use Rattle.std.specs.Map.{lookup}
 use Rattle.slab.specs.Slab as slab
 use Rattle.rib_player.specs.Store.{store_at}
-use Rattle.rib_player.specs.Numbered.{peers_in, stores_of, AreNumbered}
+use Rattle.rib_player.specs.StoresByPeer.{stores_of}
+use Rattle.rib_player.specs.Numbered.{peers_in, AreNumbered}
 use Rattle.rib_player.proofs.StoreLaws.{same_peer}
 use Rattle.rib_player.proofs.NumberLaws.{no-number, numbered-kept, numbered-named, numbered-insert, stores-insert}
 use Rattle.rib_player.proofs.stores.Stores.insert.Goals as goal

@@ -3,7 +3,7 @@ use Rattle.std.specs.Option.{option_map, option_copied}
 use Rattle.std.specs.FinMap as finite
 use Rattle.prefix_store.specs.Lookups.{above}
 use Rattle.rib_player.specs.Store.{peer_routes}
-use Rattle.rib_player.specs.Lent.{stores_in}
+use Rattle.rib_player.specs.StoresByPeer.{stores_in}
 use Rattle.rib_player.proofs.PeerLaws.{first-above, none-above}
 use Rattle.rib_player.proofs.table.Table.after.Goals as goal
 

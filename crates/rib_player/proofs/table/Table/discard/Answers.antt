@@ -1,7 +1,7 @@
 use Rattle.std.proofs.Common.{ap, ◌∙◌}
 use Rattle.std.specs.FinMap as finite
 use Rattle.std.specs.FinSet as set
-use Rattle.rib_player.specs.Lent.{stores_in}
+use Rattle.rib_player.specs.StoresByPeer.{stores_in}
 use Rattle.rib_player.proofs.StoreLaws.{left-held, left-keys, left-routes, gone-held, gone-keys, gone-routes}
 use Rattle.rib_player.proofs.table.Table.discard.Goals as goal
 

@@ -11,7 +11,7 @@ use Rattle.mrt_events.specs.declared.peer.Peer.{Peer}
 use Rattle.std.proofs.lemmas.Result.{on_ok_weaker, on_err_weaker, IfOk-weaker}
 use Rattle.rib_player.specs.Store.{store_at, has_key, stored_route}
 use Rattle.rib_player.specs.Holding.{value_of}
-use Rattle.rib_player.specs.Lent.{stores_in}
+use Rattle.rib_player.specs.StoresByPeer.{stores_in}
 use Rattle.rib_player.proofs.StoreLaws.{when_some, same_peer, keys_in-insert, keys_in-same, routes_in-same, held-other, contains-found, some-insert, either}
 use Rattle.rib_player.proofs.table.Table.ensure.Goals as goal
 use Rattle.rib_player.proofs.table.Table.ensure.Given.{Over}

@@ -5,7 +5,7 @@ use Rattle.std.specs.FinSet as set
 use Rattle.ip_prefix.specs.Order.{network_cmp}
 use Rattle.prefix_store.specs.Stored.{put}
 use Rattle.rib_player.specs.Store.{store_at, has_key, stored_route, route_in}
-use Rattle.rib_player.specs.Lent.{stores_in}
+use Rattle.rib_player.specs.StoresByPeer.{stores_in}
 use Rattle.rib_player.proofs.StoreLaws.{when_some, keys_in-same, routes_in-put, held-other, contains-found, get-found, key-has-store, stored-put}
 use Rattle.rib_player.proofs.table.Table.exchange.Goals as goal
 use Rattle.rib_player.proofs.table.Table.exchange.Goals.{in-Some, in_default}

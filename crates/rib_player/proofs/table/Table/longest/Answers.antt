@@ -1,7 +1,7 @@
 use Rattle.std.proofs.Common.{sym, ap, subst, ◌∙◌}
 use Rattle.std.specs.Option.{option_map, option_copied}
 use Rattle.rib_player.specs.Lookups.{IsBest}
-use Rattle.rib_player.specs.Lent.{stores_in}
+use Rattle.rib_player.specs.StoresByPeer.{stores_in}
 use Rattle.rib_player.proofs.StoreLaws.{longest-none, longest-found}
 use Rattle.rib_player.proofs.table.Table.longest.Goals as goal
 

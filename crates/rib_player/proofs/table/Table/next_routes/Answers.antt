@@ -1,7 +1,7 @@
 use Rattle.std.proofs.Common.{vec_capacity, sym, ap, ◌∙◌}
 use Rattle.std.specs.Option.{option_copied}
 use Rattle.rib_player.specs.Lookups.{pointed_routes}
-use Rattle.rib_player.specs.Lent.{stores_in}
+use Rattle.rib_player.specs.StoresByPeer.{stores_in}
 use Rattle.rib_player.proofs.PeerLaws.{front-above, no_front-above}
 use Rattle.rib_player.proofs.table.Table.next_routes.Goals as goal
 

@@ -12,7 +12,7 @@ use Rattle.std.proofs.lemmas.Result.{on_ok_weaker, on_err_weaker, IfOk-weaker}
 use Rattle.prefix_store.specs.Stored.{put}
 use Rattle.rib_player.specs.Store.{store_at, has_key, stored_route, route_in, keys_in}
 use Rattle.rib_player.specs.Holding.{value_of}
-use Rattle.rib_player.specs.Lent.{stores_in}
+use Rattle.rib_player.specs.StoresByPeer.{stores_in}
 use Rattle.rib_player.proofs.StoreLaws.{when_some, same_peer, keys_in-insert, keys_in-same, routes_in-same, routes_in-put, held-other, contains-found, get-found, stored-put, some-insert, either}
 use Rattle.rib_player.proofs.PairLaws.{pair_cmp_total}
 use Rattle.std.specs.Cmp.{eq_by_cmp_equiv}
