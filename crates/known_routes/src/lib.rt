@@ -1,11 +1,10 @@
-//! Routes and peers that were seen, so that equal ones are one. They are here only to be found again:
-//! of an equal one that comes later the one that is here stands for it, and takes no memory twice.
+//! Routes that were seen, so that equal ones are one. They are here only to be found again: of an
+//! equal one that comes later the one that is here stands for it, and takes no memory twice.
 #![tactic(auto)]
 
-mod peers;
 mod places;
 mod route_hash;
 mod routes;
 
-pub use peers::KnownPeers;
+pub use route_hash::peer_hash;
 pub use routes::KnownRoutes;

@@ -115,35 +115,39 @@ pub(crate) fn places_for(taken: usize) -> usize
     (taken.saturating_mul(5) / 2).clamp(FIRST_PLACES, MOST_PLACES)
 }
 
-/// A route of this hash that equals this one, in the row that begins there.
+/// A route of this hash that equals this one, in the row that begins there, and where it stands.
 #[inline]
 fn find_in_row<'a>(
     places: &'a [Place],
     start: usize,
     hash: u32,
     route: &Route,
-) -> Option<&'a Rc<Route>>
-    ensures { IfSome result (λ known. known.now.value ≡ route.now) }
+) -> Option<(usize, &'a Rc<Route>)>
+    ensures { IfSome result (λ found. found.1.now.value ≡ route.now) }
 {
     'places: for index in start..start.saturating_add(ROW) {
         if let Some(Place::Taken(other, known)) = places.get(index) {
             if *other == hash && same_route(known, route) {
-                return Some(known);
+                return Some((index, known));
             }
         }
     }
     None
 }
 
-/// A route of this hash that equals this one. The second row is looked at where the first may be
-/// full, since it is filled from the front.
+/// A route of this hash that equals this one, and where it stands. The second row is looked at where
+/// the first may be full, since it is filled from the front.
 #[inline]
-pub(crate) fn find<'a>(places: &'a [Place], hash: u32, route: &Route) -> Option<&'a Rc<Route>>
-    ensures { IfSome result (λ known. known.now.value ≡ route.now) }
+pub(crate) fn find<'a>(
+    places: &'a [Place],
+    hash: u32,
+    route: &Route,
+) -> Option<(usize, &'a Rc<Route>)>
+    ensures { IfSome result (λ found. found.1.now.value ≡ route.now) }
 {
     let [first, second] = rows_of(hash, places.len());
-    if let Some(known) = find_in_row(places, first, hash, route) {
-        return Some(known);
+    if let Some(found) = find_in_row(places, first, hash, route) {
+        return Some(found);
     }
     match places.get(first.saturating_add(ROW - 1)) {
         Some(Place::Taken(_, _)) => find_in_row(places, second, hash, route),
@@ -239,22 +243,24 @@ impl Places {
 
     /// Puts a route at a free place of its rows, or else over the first route of the first. Its octets
     /// aren't added.
-    fn put(&mut self, hash: u32, route: Rc<Route>)
+    fn put(&mut self, hash: u32, route: Rc<Route>) -> usize
         ensures places { vec_len self.new.places ≡ vec_len self.old.places }
         ensures taken { self.old.taken ≤ self.new.taken }
     {
         let index = place_for(&self.places, hash);
         self.put_at(index, hash, route);
+        index
     }
 
     /// Puts a route that stands at no place, as `put` does, if there are any places.
-    pub(crate) fn add(&mut self, hash: u32, route: Rc<Route>, octets: u64)
+    pub(crate) fn add(&mut self, hash: u32, route: Rc<Route>, octets: u64) -> usize
         ensures places { vec_len self.new.places ≡ vec_len self.old.places }
     {
-        if !self.places.is_empty() {
-            self.held = self.held.saturating_add(octets);
-            self.put(hash, route);
+        if self.places.is_empty() {
+            return 0;
         }
+        self.held = self.held.saturating_add(octets);
+        self.put(hash, route)
     }
 
     /// Frees the place at the index, if a route stands there.

@@ -1,11 +1,11 @@
-//! Numbers that equal routes share, and others mostly don't.
+//! Numbers that equal routes share, or equal peers, and others mostly don't.
 
 ghost use Rattle.std.specs.Prelude.{◌+◌, ◌≤◌};
 ghost use Rattle.ip_prefix.specs.Address.{octet_count};
 
 use bgp_wire::{Aggregator, Origin, Segment};
 use ip_prefix::{Addr, Family};
-use mrt_events::Route;
+use mrt_events::{Peer, Route};
 
 /// By which a number is multiplied so that the highest bits of the product hang on all of it: the
 /// odd number next to 2^64 divided by the golden ratio.
@@ -50,7 +50,7 @@ fn four_octets(addr: &Addr, place: usize) -> u32
 
 /// The hash with all octets of an address in it.
 #[inline]
-pub(crate) fn with_address(hash: u64, addr: &Addr) -> u64 {
+fn with_address(hash: u64, addr: &Addr) -> u64 {
     let first = mixed(hash, u64::from(four_octets(addr, 0)));
     match addr.family() {
         Family::V4 => first,
@@ -126,4 +126,10 @@ pub(crate) fn hash_of(route: &Route) -> u32 {
     hash = with_segments(hash, attrs.path.segments.as_slice());
     hash = with_numbers(hash, attrs.communities.as_slice());
     (hash >> LOWEST_BITS) as u32
+}
+
+/// The hash of a peer. Of its bits the highest hang on all of the peer.
+#[inline]
+pub fn peer_hash(peer: &Peer) -> u64 {
+    with_address(u64::from(peer.asn), &peer.addr)
 }

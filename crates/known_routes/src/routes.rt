@@ -1,17 +1,24 @@
 //! The routes that were played, so that equal ones are one.
 
-ghost use Rattle.std.specs.Prelude.{◌≡◌, ◌≤◌, ◌+◌, ◌*◌, IfOk, vec_len};
+ghost use Rattle.std.specs.Prelude.{◌≡◌, ◌≤◌, ◌+◌, ◌*◌, IfOk, IfSome, vec_len};
+ghost use Rattle.known_routes.specs.declared.routes.TheConstants.{LASTS};
 ghost use Rattle.known_routes.specs.declared.places.TheConstants.{FIRST_PLACES, MOST_PLACES, MOST_TIMES};
 
-use crate::places::{MOST_PLACES, Places, find, places_for};
-use crate::route_hash::hash_of;
-use mrt_events::{Route, route_size};
+use crate::places::{MOST_PLACES, Place, Places, find, places_for};
+use crate::route_hash::{hash_of, peer_hash};
+use mrt_events::{Peer, Route, route_size, same_route};
 use std::alloc::{AllocError, Global};
 use std::mem;
 use std::rc::Rc;
 
 /// How many numbers a path and communities have at most that are asked for once an item.
 const MOST_NUMBERS: usize = 1024;
+
+/// For how many hashes of peers it is noted where their last routes stand.
+const LASTS: usize = 4096;
+
+/// How many bits of a peer's hash are left out then.
+const LOWEST_BITS: u32 = 52;
 
 /// How many owners a route has at most that may soon have none but this table: one that goes, this
 /// table, a source, and an item of an event.
@@ -40,7 +47,10 @@ pub struct KnownRoutes {
     released: u64,
     /// How many octets the routes take that were noted since a play began.
     noted: u64,
+    /// Where the last route of a peer of each hash was put or found.
+    lasts: Vec<u32>,
     ghost bounded: { vec_len routes.places ≤ MOST_PLACES },
+    ghost few: { vec_len lasts ≤ LASTS },
     ghost fitting: { vec_len routes.places ≤ MOST_TIMES * stood + FIRST_PLACES },
 }
 
@@ -53,40 +63,74 @@ impl KnownRoutes {
             stood: 0,
             released: 0,
             noted: 0,
+            lasts: Vec::new(alloc),
         }
     }
 
-    /// The route, or one that is here and equal.
-    pub fn known(&mut self, route: &Rc<Route>) -> Result<Rc<Route>, AllocError>
+    /// The route of a peer, or one that is here and equal. The peer's last one is looked at first.
+    pub fn known(&mut self, peer: &Peer, route: &Rc<Route>) -> Result<Rc<Route>, AllocError>
         ensures { IfOk result (λ known. known.value ≡ route.now.value) }
     {
-        let hash = hash_of(route);
-        if let Some(known) = find(&self.routes.places, hash, route) {
+        let last = (peer_hash(peer) >> LOWEST_BITS) as usize;
+        if let Some(known) = self.last(last, route) {
             return known.clone();
         }
-        self.note(hash, route.clone()?);
+        let hash = hash_of(route);
+        if let Some((index, found)) = find(&self.routes.places, hash, route) {
+            let known = found.clone()?;
+            self.note_last(last, index);
+            return Ok(known);
+        }
+        let index = self.note(hash, route.clone()?);
+        self.note_last(last, index);
         route.clone()
     }
 
     /// The same, unless the route is long, so that the cost has a bound: then it is the route.
-    pub fn known_if_short(&mut self, route: &Rc<Route>) -> Result<Rc<Route>, AllocError>
+    pub fn known_if_short(
+        &mut self,
+        peer: &Peer,
+        route: &Rc<Route>,
+    ) -> Result<Rc<Route>, AllocError>
         ensures { IfOk result (λ known. known.value ≡ route.now.value) }
     {
         if is_short(route) {
-            return self.known(route);
+            return self.known(peer, route);
         }
         route.clone()
     }
 
-    /// Notes a route that isn't here.
-    fn note(&mut self, hash: u32, route: Rc<Route>) {
+    /// The route that stands where the last one of a peer was, if it equals this one.
+    #[inline]
+    fn last(&self, last: usize, route: &Route) -> Option<&Rc<Route>>
+        ensures { IfSome result (λ known. known.now.value ≡ route.now) }
+    {
+        let index = *self.lasts.get(last)? as usize;
+        match self.routes.places.get(index) {
+            Some(Place::Taken(_, known)) if same_route(known, route) => Some(known),
+            _ => None,
+        }
+    }
+
+    /// Notes where the last route of a peer stands, unless memory is refused for that.
+    fn note_last(&mut self, last: usize, index: usize) {
+        if self.lasts.is_empty() {
+            let _ = self.lasts.resize(LASTS, 0);
+        }
+        if let Some(place) = self.lasts.get_mut(last) {
+            *place = u32::try_from(index).unwrap_or(u32::MAX);
+        }
+    }
+
+    /// Notes a route that isn't here, and answers where it stands then, if it does.
+    fn note(&mut self, hash: u32, route: Rc<Route>) -> usize {
         let count = self.routes.places.len();
         if count < MOST_PLACES && self.routes.taken >= count / 4 * 3 {
             self.widen();
         }
         let octets = route_size(&route);
         self.noted = self.noted.saturating_add(octets);
-        self.routes.add(hash, route, octets);
+        self.routes.add(hash, route, octets)
     }
 
     /// Makes two and a half times as many places as there are routes, unless memory is refused.

@@ -1,11 +1,9 @@
 -- The entries of an event's step: those slots of a map that have a route before the event or then.
 use Rattle.std.proofs.Common.{◌≡◌, Bool, true, false, cond, ◌&&◌, ◌||◌, List, [], ◌∷◌, ◌++◌, map, Option, Some, None, Result, Ok, Err, IfOk, Vec, is_some, refl, sym, ap, ap₂, subst, ◌∙◌, append-nil}
 use Rattle.std.specs.List.{AllByRecursion, list_any, filter, IsDistinct}
-use Rattle.std.specs.List.Sorted.{IsStrictlySortedBy}
 use Rattle.std.specs.Map.{keys_of}
 use Rattle.std.specs.Option.{option_map}
 use Rattle.std.specs.Ordering.{eq_by_cmp}
-use Rattle.std.specs.declared.cmp.Ordering.TheVariants.{Less}
 use Rattle.std.specs.Cmp.{eq_by_cmp_equiv}
 use Rattle.std.specs.FinMap.{get}
 use Rattle.std.specs.FinSet.{from_list, contains-from_list}
@@ -13,7 +11,7 @@ use Rattle.std.specs.declared.alloc.Global.{Global}
 use Rattle.std.specs.declared.rc.Rc.{Rc}
 use Rattle.std.proofs.lemmas.Map.{NonePasses, lookup-none}
 use Rattle.std.proofs.lemmas.Map.Entries.{lookup_head, none_past_head}
-use Rattle.std.proofs.lemmas.Map.Keys.{sorted_head, sorted_tail, IsDistinct-tail, IsDistinct-from_sorted}
+use Rattle.std.proofs.lemmas.Map.Keys.{IsDistinct-tail}
 use Rattle.rib_player.specs.declared.pair.Pair.{Pair}
 use Rattle.mrt_events.specs.declared.event.Route.{Route}
 use Rattle.mrt_events.specs.declared.event.Event.{Event}
@@ -24,7 +22,7 @@ use Rattle.rib_player.specs.Tables.{Routes, table_after, is_named, named_pairs}
 use Rattle.rib_player.specs.Store.{route_in}
 use Rattle.rib_player.specs.Holding.{Slots, slot_at}
 use Rattle.rib_player.specs.Journal.{Side, sides_of, pairs_in}
-use Rattle.rib_player.specs.Sides.{slot_side, sides_across, AreOrdered, IsStepFor}
+use Rattle.rib_player.specs.Sides.{slot_side, sides_across, AreDistinct, IsStepFor}
 use Rattle.rib_player.specs.Changes.{found, is_lost, effect_of, noted_effect, or_absent}
 use Rattle.rib_player.proofs.PairLaws.{pair_cmp_total, same_pair}
 use Rattle.rib_player.proofs.TableLaws.{get-table_after, contains-named_pairs}
@@ -45,30 +43,29 @@ keys_of-sides : (slots : Slots) → keys_of (map slot_side slots) ≡ keys_of sl
 keys_of-sides [] = refl
 keys_of-sides (slot ∷ slots) = ap (λ ks. slot.0 ∷ ks) (keys_of-sides slots)
 
--- what is below each of these sides is so with some left out
-below-filter : (test : Side → Bool) (pair : Pair) (sides : List Side) → AllByRecursion (λ q. pair_cmp pair q ≡ Less) (pairs_in sides)
-    → AllByRecursion (λ q. pair_cmp pair q ≡ Less) (pairs_in (filter test sides))
-below-filter test pair [] below = tt
-below-filter test pair (side ∷ sides) below = at (test side) (below-filter test pair sides below.1)
+apart-filter : (test : Side → Bool) (pair : Pair) (sides : List Side) → AllByRecursion (λ q. eq_by_cmp pair_cmp pair q ≡ false) (pairs_in sides)
+    → AllByRecursion (λ q. eq_by_cmp pair_cmp pair q ≡ false) (pairs_in (filter test sides))
+apart-filter test pair [] apart = tt
+apart-filter test pair (side ∷ sides) apart = at (test side) (apart-filter test pair sides apart.1)
   where
-    at : (b : Bool) → AllByRecursion (λ q. pair_cmp pair q ≡ Less) (pairs_in (filter test sides)) → AllByRecursion (λ q. pair_cmp pair q ≡ Less) (pairs_in (cond b (side ∷ filter test sides) (filter test sides)))
-    at true rest = (below.0, rest)
+    at : (b : Bool) → AllByRecursion (λ q. eq_by_cmp pair_cmp pair q ≡ false) (pairs_in (filter test sides)) → AllByRecursion (λ q. eq_by_cmp pair_cmp pair q ≡ false) (pairs_in (cond b (side ∷ filter test sides) (filter test sides)))
+    at true rest = (apart.0, rest)
     at false rest = rest
 
--- sides in order are so with some left out
-ordered-filter : (test : Side → Bool) (sides : List Side) → AreOrdered sides → AreOrdered (filter test sides)
-unfolding IsStrictlySortedBy
-ordered-filter test [] ordered = ordered
-ordered-filter test (side ∷ sides) ordered = at (test side) (ordered-filter test sides (sorted_tail pair_cmp side.0 (pairs_in sides) ordered))
+-- of sides of different pairs some may be left out
+distinct-filter : (test : Side → Bool) (sides : List Side) → AreDistinct sides → AreDistinct (filter test sides)
+unfolding IsDistinct
+distinct-filter test [] distinct = distinct
+distinct-filter test (side ∷ sides) distinct = at (test side) (distinct-filter test sides distinct.1)
   where
-    at : (b : Bool) → AreOrdered (filter test sides) → AreOrdered (cond b (side ∷ filter test sides) (filter test sides))
-    at true rest = (below-filter test side.0 sides (sorted_head pair_cmp side.0 (pairs_in sides) ordered), rest)
+    at : (b : Bool) → AreDistinct (filter test sides) → AreDistinct (cond b (side ∷ filter test sides) (filter test sides))
+    at true rest = (apart-filter test side.0 sides distinct.0, rest)
     at false rest = rest
 
--- the sides of slots in order, some left out, are in order
-pub ordered-sides : (test : Side → Bool) (slots : Slots) (sides : List Side) → IsStrictlySortedBy pair_cmp (keys_of slots) → sides ≡ filter test (map slot_side slots) → AreOrdered sides
-ordered-sides test slots sides sorted is =
-    subst AreOrdered (sym is) (ordered-filter test (map slot_side slots) (subst (IsStrictlySortedBy pair_cmp) (sym (keys_of-sides slots)) sorted))
+-- so they may of the sides of slots
+pub distinct-sides : (test : Side → Bool) (slots : Slots) (sides : List Side) → IsDistinct (eq_by_cmp pair_cmp) (keys_of slots) → sides ≡ filter test (map slot_side slots) → AreDistinct sides
+distinct-sides test slots sides distinct is =
+    subst AreDistinct (sym is) (distinct-filter test (map slot_side slots) (subst (IsDistinct (eq_by_cmp pair_cmp)) (sym (keys_of-sides slots)) distinct))
 
 -- a loop over slots is done where none is left
 pub sides-done : (test : Side → Bool) (so_far all : List Side) (rest : Slots) → so_far ++ filter test (map slot_side rest) ≡ all → rest ≡ [] → so_far ≡ all
@@ -168,12 +165,12 @@ pub IsStepFor-made : (routes : Routes) (event : Event) (changes : Changes) (slot
     → ((q : Pair) → noted_effect changes q ≡ effect q event)
     → ((q : Pair) → found slots q ≡ or_absent (found changes.routes.items q) (is_lost changes.lost.keys q && is_some (get routes q)))
     → IsDistinct (eq_by_cmp pair_cmp) (keys_of slots)
-    → AreOrdered sides
+    → AreDistinct sides
     → sides ≡ filter (has_route (get routes)) (map slot_side slots)
     → IsStepFor routes event sides
-IsStepFor-made routes event changes slots sides notes then keys ordered is =
+IsStepFor-made routes event changes slots sides notes then keys distinct is =
     record {
-      ordered = ordered;
+      distinct = distinct;
       after = is
           ∙ sym (sides_across-found (get (table_after routes event)) (has_route (get routes)) slots keys (λ q route there.
           get-table_after routes event q
@@ -194,10 +191,10 @@ IsStepFor-made routes event changes slots sides notes then keys ordered is =
 pub IsStepFor-answered : {E : Type 0} (routes : Routes) (event : Event) (changes : Changes) (slots : Slots) (result : Result (Vec Entry Global) E)
     → ((q : Pair) → noted_effect changes q ≡ effect q event)
     → ((q : Pair) → found slots q ≡ or_absent (found changes.routes.items q) (is_lost changes.lost.keys q && is_some (get routes q)))
-    → IsStrictlySortedBy pair_cmp (keys_of slots)
-    → IfOk result (λ entries. AreOrdered (sides_of entries.items))
+    → IsDistinct (eq_by_cmp pair_cmp) (keys_of slots)
+    → IfOk result (λ entries. AreDistinct (sides_of entries.items))
     → IfOk result (λ entries. sides_of entries.items ≡ filter (has_route (get routes)) (map slot_side slots))
     → IfOk result (λ entries. IsStepFor routes event (sides_of entries.items))
-IsStepFor-answered routes event changes slots (Ok entries) notes then sorted ordered is =
-    IsStepFor-made routes event changes slots (sides_of entries.items) notes then (IsDistinct-from_sorted pair_cmp (keys_of slots) sorted) ordered is
-IsStepFor-answered routes event changes slots (Err refused) notes then sorted ordered is = tt
+IsStepFor-answered routes event changes slots (Ok entries) notes then keys distinct is =
+    IsStepFor-made routes event changes slots (sides_of entries.items) notes then keys distinct is
+IsStepFor-answered routes event changes slots (Err refused) notes then keys distinct is = tt

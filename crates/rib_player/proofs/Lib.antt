@@ -1,6 +1,8 @@
 pub mod PairLaws
 pub mod TableLaws
 pub mod StoreLaws
+pub mod NumberLaws
+pub mod RowLaws
 pub mod PeerLaws
 pub mod HistoryLaws
 pub mod AlongHistory

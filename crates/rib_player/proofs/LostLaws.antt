@@ -15,6 +15,7 @@ use Rattle.mrt_events.specs.declared.event.Event.{Event}
 use Rattle.mrt_events.specs.Peer.{peer_cmp}
 use Rattle.mrt_events.proofs.PeerLaws.{peer_cmp_total}
 use Rattle.std.specs.declared.alloc.Global.{Global}
+use Rattle.std.proofs.lemmas.Map.Keys.{IsDistinct-from_sorted}
 use Rattle.rib_player.specs.declared.pair.Pair.{Pair}
 use Rattle.rib_player.specs.Entries.{Entry}
 use Rattle.rib_player.specs.declared.changes.Changes.{Changes}
@@ -23,7 +24,7 @@ use Rattle.rib_player.specs.Changes.{found, is_lost, effect_of, noted_effect}
 use Rattle.rib_player.specs.History.{pair_cmp, pair_of, effect, where_true, Clear, route_after}
 use Rattle.rib_player.specs.Tables.{Routes, table_after, is_named, named_pairs}
 use Rattle.rib_player.specs.Journal.{Side, sides_of, pairs_in}
-use Rattle.rib_player.specs.Sides.{cleared_side, sides_across, AreOrdered, IsStepFor}
+use Rattle.rib_player.specs.Sides.{cleared_side, sides_across, AreDistinct, IsStepFor}
 use Rattle.rib_player.proofs.PairLaws.{pair_cmp_total}
 use Rattle.rib_player.proofs.StoreLaws.{same_pairs, same_peer}
 use Rattle.rib_player.proofs.TableLaws.{get-table_after, contains-named_pairs}
@@ -45,14 +46,13 @@ below-cleared : (peer : Peer) (n : Network) (prefixes : List Network) → AllByR
 below-cleared peer n [] below = tt
 below-cleared peer n (m ∷ prefixes) below = (of_one_peer peer n m ∙ below.0, below-cleared peer n prefixes below.1)
 
-pub ordered-cleared : (peer : Peer) (prefixes : List Network) → IsStrictlySortedBy network_cmp prefixes → AreOrdered (map (cleared_side peer) prefixes)
+ordered-cleared : (peer : Peer) (prefixes : List Network) → IsStrictlySortedBy network_cmp prefixes → IsStrictlySortedBy pair_cmp (pairs_in (map (cleared_side peer) prefixes))
 unfolding IsStrictlySortedBy
 ordered-cleared peer [] sorted = tt
 ordered-cleared peer (n ∷ prefixes) sorted = (below-cleared peer n prefixes sorted.0, ordered-cleared peer prefixes sorted.1)
 
-pub ordered-none : AreOrdered []
-unfolding IsStrictlySortedBy
-ordered-none = tt
+pub distinct-cleared : (peer : Peer) (prefixes : List Network) → IsStrictlySortedBy network_cmp prefixes → AreDistinct (map (cleared_side peer) prefixes)
+distinct-cleared peer prefixes sorted = IsDistinct-from_sorted pair_cmp (pairs_in (map (cleared_side peer) prefixes)) (ordered-cleared peer prefixes sorted)
 
 -- the sides of pairs that a peer loses are those of the step of an event that does nothing else
 module _ (routes : Routes) (event : Event) (peer : Peer) (alone : (q : Pair) → effect q event ≡ where_true (same_peer q.peer peer) Clear) where
@@ -70,10 +70,10 @@ module _ (routes : Routes) (event : Event) (peer : Peer) (alone : (q : Pair) →
   across [] absent of_peer = refl
   across (side ∷ sides) absent of_peer = ap₂ (λ r ss. (side.0, r) ∷ ss) (absent.0 ∙ none_then side.0 of_peer.0) (across sides absent.1 of_peer.1)
 
-  pub IsStepFor-lost : (sides : List Side) → AllByRecursion (λ (side : Side). side.1 ≡ None) sides → AreOrdered sides
+  pub IsStepFor-lost : (sides : List Side) → AllByRecursion (λ (side : Side). side.1 ≡ None) sides → AreDistinct sides
       → ((q : Pair) → list_any (eq_by_cmp pair_cmp q) (pairs_in sides) ≡ (same_peer q.peer peer && is_some (finite.get routes q))) → IsStepFor routes event sides
-  IsStepFor-lost sides absent ordered named = record {
-    ordered = ordered;
+  IsStepFor-lost sides absent distinct named = record {
+    distinct = distinct;
     after = across sides absent (of_peer (pairs_in sides) (λ q there. first (same_peer q.peer peer) (is_some (finite.get routes q)) (sym (named q) ∙ there)));
     names = same_pairs (from_list (pairs_in sides)) (named_pairs routes event) (λ q.
         contains-from_list pair_cmp_total (pairs_in sides) q ∙ named q ∙ named-then (same_peer q.peer peer) (finite.get routes q)
@@ -95,10 +95,10 @@ module _ (routes : Routes) (event : Event) (peer : Peer) (alone : (q : Pair) →
   pub IsStepFor-lost_answered : {E : Type 0} (result : Result (Vec Entry Global) E)
       → IfOk result (λ entries. (q : Pair) → list_any (eq_by_cmp pair_cmp q) (pairs_in (sides_of entries.items)) ≡ (same_peer q.peer peer && is_some (finite.get routes q)))
       → IfOk result (λ entries. AllByRecursion (λ (side : Side). side.1 ≡ None) (sides_of entries.items))
-      → IfOk result (λ entries. AreOrdered (sides_of entries.items))
+      → IfOk result (λ entries. AreDistinct (sides_of entries.items))
       → IfOk result (λ entries. IsStepFor routes event (sides_of entries.items))
-  IsStepFor-lost_answered (Ok entries) named absent ordered = IsStepFor-lost (sides_of entries.items) absent ordered named
-  IsStepFor-lost_answered (Err refused) named absent ordered = tt
+  IsStepFor-lost_answered (Ok entries) named absent distinct = IsStepFor-lost (sides_of entries.items) absent distinct named
+  IsStepFor-lost_answered (Err refused) named absent distinct = tt
 
 -- an event of which nothing but a loss is noted does just that
 pub lost-alone : (event : Event) (changes : Changes) (peer : Peer) → ((q : Pair) → noted_effect changes q ≡ effect q event) → changes.routes.items ≡ [] → changes.lost.keys ≡ peer ∷ []

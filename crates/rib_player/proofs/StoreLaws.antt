@@ -1,5 +1,5 @@
 -- What the stores of all peers hold together, pair by pair.
-use Rattle.std.proofs.Common.{◌≡◌, ℕ, zero, suc, ◌+◌, ◌<◌, Bool, true, false, cond, not, ◌||◌, ◌&&◌, List, [], ◌∷◌, map, Option, Some, None, is_some, IsSome, IfSome, IfNone, Result, Ok, Err, OnOk, OnErr, Bor, refl, sym, ap, ap₂, subst, ◌∙◌, arith}
+use Rattle.std.proofs.Common.{◌≡◌, ℕ, zero, suc, ◌+◌, ◌<◌, Bool, true, false, cond, not, ◌||◌, ◌&&◌, List, [], ◌∷◌, map, Option, Some, None, is_some, IsSome, IfSome, IfNone, Result, Ok, Err, OnOk, OnErr, OnSome, Bor, refl, sym, ap, ap₂, subst, ◌∙◌, arith}
 use lib.Dec.{eqb}
 use Rattle.std.specs.List.{list_any, flat_map, filter}
 use Rattle.std.specs.Map.{set_value}
@@ -44,6 +44,17 @@ same_peer = eq_by_cmp peer_cmp
 
 abbrev pub same_network : Network → Network → Bool
 same_network = eq_by_cmp network_cmp
+
+-- what holds where an option is some
+pub when_some : {A P : Type 0} (o : Option A) (x : A) → o ≡ Some x → OnSome o P → P
+when_some {P = P} o x is on = subst (λ o. OnSome o P) is on
+
+pub always : {A P : Type 0} (o : Option A) → P → OnSome o P
+always None p = tt
+always (Some x) p = p
+
+pub never : {A : Type 0} (P : Type 0) (o : Option A) → o ≡ None → OnSome o P
+never P o is = subst (λ o. OnSome o P) (sym is) tt
 
 -- peers that tie are one
 pub one_peer : (a b : Peer) → same_peer a b ≡ true → a ≡ b

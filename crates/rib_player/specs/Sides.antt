@@ -1,8 +1,7 @@
 -- Private.
--- The sides of steps: in order, each of a key, and as an event makes them.
+-- The sides of steps: each of another pair, which is a key, and as an event makes them.
 use Rattle.std.specs.Prelude.{◌≡◌, ℕ, true, None, List, [], map, slice_index_or, Option}
 use Rattle.std.specs.List.{AllByRecursion, IsDistinct}
-use Rattle.std.specs.List.Sorted.{IsStrictlySortedBy}
 use Rattle.std.specs.Ordering.{eq_by_cmp}
 use Rattle.std.specs.FinMap.{get}
 use Rattle.std.specs.FinSet.{contains, from_list}
@@ -43,12 +42,8 @@ pub record IsKept (keys : Pairs) (sides : List Side) : Type 0 where
 abbrev pub sides_at : List (List Side) → ℕ → List Side
 sides_at steps index = slice_index_or steps index []
 
--- the pairs of a step rise, so that one is found by a binary search
-abbrev pub AreOrdered : List Side → Type 0
-AreOrdered sides = IsStrictlySortedBy pair_cmp (pairs_in sides)
-
 -- the entries of an event's step over a table
 pub record IsStepFor (routes : Routes) (event : Event) (sides : List Side) : Type 0 where
-  pub ordered : AreOrdered sides
+  pub distinct : AreDistinct sides
   pub after : sides ≡ sides_across (table_after routes event) sides
   pub names : from_list (pairs_in sides) ≡ named_pairs routes event

@@ -1,8 +1,7 @@
 //! What an event does, pair by pair.
 
 ghost use Rattle.std.specs.Prelude.{◌≡◌, ◌++◌, ◌||◌, ◌&&◌, [], ◌∷◌, ◌≢◌, IfOk, IfSome, IfNone, OnOk, OnErr, Some, None, true, false, is_some, if◌then◌else◌, map, slice_get};
-ghost use Rattle.std.specs.List.{AllByRecursion, list_any, filter};
-ghost use Rattle.std.specs.List.Sorted.{IsStrictlySortedBy};
+ghost use Rattle.std.specs.List.{AllByRecursion, IsDistinct, list_any, filter};
 ghost use Rattle.std.specs.Map.{keys_of};
 ghost use Rattle.std.specs.Ordering.{eq_by_cmp};
 ghost use Rattle.std.specs.FinMap as finite;
@@ -16,14 +15,15 @@ ghost use Rattle.rib_player.specs.Store.{route_in};
 ghost use Rattle.rib_player.specs.Holding.{slot_at};
 ghost use Rattle.rib_player.specs.Changes.{noted_effect, found, is_lost, or_absent, effect_of, items_effect, HasRoute};
 ghost use Rattle.rib_player.specs.Journal.{side_of, sides_of, pairs_in};
-ghost use Rattle.rib_player.specs.Sides.{cleared_side, slot_side, AreOrdered, IsStepFor};
+ghost use Rattle.rib_player.specs.Sides.{cleared_side, slot_side, AreDistinct, IsStepFor};
 
 use crate::entry::Entry;
 use crate::pair::Pair;
+use crate::stores::Marks;
 use crate::table::Table;
 use ip_prefix::Prefix;
-use known_routes::{KnownPeers, KnownRoutes};
-use mrt_events::{ESTABLISHED, Event, Item, Peer, Route};
+use known_routes::KnownRoutes;
+use mrt_events::{ESTABLISHED, Event, Item, Peer, Route, same_peer};
 use prefix_store::PrefixStore;
 use std::alloc::{AllocError, Global};
 use std::collections::BTreeSet;
@@ -90,7 +90,7 @@ impl Changes {
                     peer: *peer,
                     prefix: *prefix,
                 };
-                self.note_route(pair, Some(known.known_if_short(route)?))
+                self.note_route(pair, Some(known.known_if_short(peer, route)?))
             }
             Item::Withdraw(peer, prefix) => {
                 let pair = Pair {
@@ -146,10 +146,10 @@ impl Changes {
         ensures { OnOk result ((q : Pair) → noted_effect self.new q
             ≡ later (items_effect q items.now) (noted_effect self.old q)) }
     {
-        let Some(route) = first_route(items) else {
+        let Some((peer, route)) = first_route(items) else {
             return self.note_each(items, known);
         };
-        let route = known.known(route)?;
+        let route = known.known(peer, route)?;
         let mut rest = items.len();
         'items: while rest > 0 {
             rest -= 1;
@@ -159,21 +159,21 @@ impl Changes {
     }
 }
 
-/// The route that the item announces, if it announces one.
-fn announced_route(item: &Item) -> Option<&Rc<Route>>
-    ensures { IfSome result (λ route. HasRoute route.now.value (saying item.now)) }
+/// The peer of the item and the route that it announces, if it announces one.
+fn announced_route(item: &Item) -> Option<(&Peer, &Rc<Route>)>
+    ensures { IfSome result (λ told. HasRoute told.1.now.value (saying item.now)) }
 {
     match item {
-        Item::Announce(_, _, route) => Some(route),
+        Item::Announce(peer, _, route) => Some((peer, route)),
         Item::Withdraw(_, _) => None,
         Item::State(_, _, _) => None,
     }
 }
 
-/// The route that the first item announces, if it announces one.
-fn first_route(items: &[Item]) -> Option<&Rc<Route>>
-    ensures { IfSome result (λ route. IfSome (slice_get items.now 0) (λ item.
-        HasRoute route.now.value (saying item))) }
+/// The peer of the first item and the route that it announces, if it announces one.
+fn first_route(items: &[Item]) -> Option<(&Peer, &Rc<Route>)>
+    ensures { IfSome result (λ told. IfSome (slice_get items.now 0) (λ item.
+        HasRoute told.1.now.value (saying item))) }
 {
     announced_route(items.first()?)
 }
@@ -240,22 +240,44 @@ fn cleared_in<S: PrefixStore<Rc<Route>>>(
     Ok(entries)
 }
 
+/// The peer, shared with the table, or with the entry that was made last.
+fn shared_peer<S: PrefixStore<Rc<Route>>>(
+    alloc: Global,
+    table: &Table<S>,
+    last: Option<&Entry>,
+    peer: &Peer,
+) -> Result<Rc<Peer>, AllocError>
+    ensures { IfOk result (λ shared. shared.value ≡ peer.now) }
+{
+    if let Some(shared) = table.shared_peer(peer) {
+        return shared.clone();
+    }
+    if let Some(entry) = last {
+        if same_peer(entry.peer(), peer) {
+            return entry.shared_peer().clone();
+        }
+    }
+    Ok(Rc::new(alloc, *peer)?)
+}
+
 /// The entries of all pairs of a peer that have a route, and none then.
 fn lost_entries<S: PrefixStore<Rc<Route>>>(
     alloc: Global,
     peer: &Peer,
     table: &Table<S>,
-    peers: &mut KnownPeers,
 ) -> Result<Vec<Entry>, AllocError>
     ensures named { IfOk result (λ entries. (q : Pair) →
         list_any (eq_by_cmp pair_cmp q) (pairs_in (sides_of entries.items))
         ≡ (eq_by_cmp peer_cmp q.peer peer.now && is_some (finite.get table.now.routes q))) }
     ensures absent { IfOk result (λ entries.
         AllByRecursion (λ side. side.1 ≡ None) (sides_of entries.items)) }
-    ensures ordered { IfOk result (λ entries. AreOrdered (sides_of entries.items)) }
+    ensures distinct { IfOk result (λ entries. AreDistinct (sides_of entries.items)) }
 {
     match table.store(peer) {
-        Some(store) => cleared_in(alloc, store, &peers.known(peer)?),
+        Some(store) => {
+            let shared = shared_peer(alloc, table, None, peer)?;
+            cleared_in(alloc, store, &shared)
+        }
         None => Ok(Vec::new(alloc)),
     }
 }
@@ -277,7 +299,6 @@ fn routes_then<S: PrefixStore<Rc<Route>>>(
     alloc: Global,
     changes: Changes,
     table: &Table<S>,
-    peers: &mut KnownPeers,
 ) -> Result<Slots, AllocError>
     ensures { IfOk result (λ routes. (q : Pair) → found routes.items q
         ≡ or_absent (found changes.routes.items q)
@@ -285,7 +306,7 @@ fn routes_then<S: PrefixStore<Rc<Route>>>(
 {
     let Changes { mut routes, lost } = changes;
     'peers: for peer in lost {
-        let entries = lost_entries(alloc, &peer, table, peers)?;
+        let entries = lost_entries(alloc, &peer, table)?;
         note_absent(&mut routes, &entries)?;
     }
     Ok(routes)
@@ -293,8 +314,8 @@ fn routes_then<S: PrefixStore<Rc<Route>>>(
 
 /// The same in the order of their pairs, each once.
 fn in_order(routes: Slots) -> Result<Slots, AllocError>
-    ensures ordered { IfOk result (λ ordered.
-        IsStrictlySortedBy pair_cmp (keys_of ordered.items)) }
+    ensures distinct { IfOk result (λ ordered.
+        IsDistinct (eq_by_cmp pair_cmp) (keys_of ordered.items)) }
     ensures found { IfOk result (λ ordered. (q : Pair) →
         found ordered.items q ≡ found routes.items q) }
 {
@@ -304,15 +325,32 @@ fn in_order(routes: Slots) -> Result<Slots, AllocError>
     Ok(ordered)
 }
 
+/// The same, each pair once. As the entries of a table's record have it, mostly no peer stands there
+/// twice.
+fn each_once<S: PrefixStore<Rc<Route>>>(
+    routes: Slots,
+    table: &Table<S>,
+    marks: &mut Marks,
+) -> Result<Slots, AllocError>
+    ensures distinct { IfOk result (λ once.
+        IsDistinct (eq_by_cmp pair_cmp) (keys_of once.items)) }
+    ensures found { IfOk result (λ once. (q : Pair) →
+        found once.items q ≡ found routes.items q) }
+{
+    if table.are_of_different_peers(&routes, marks) {
+        return Ok(routes);
+    }
+    in_order(routes)
+}
+
 /// The entries of those pairs that have a route before or then.
 fn entries_of<S: PrefixStore<Rc<Route>>>(
     alloc: Global,
     routes: Slots,
     table: &Table<S>,
-    peers: &mut KnownPeers,
 ) -> Result<Vec<Entry>, AllocError>
-    requires { IsStrictlySortedBy pair_cmp (keys_of routes.items) }
-    ensures ordered { IfOk result (λ entries. AreOrdered (sides_of entries.items)) }
+    requires { IsDistinct (eq_by_cmp pair_cmp) (keys_of routes.items) }
+    ensures distinct { IfOk result (λ entries. AreDistinct (sides_of entries.items)) }
     ensures sides { IfOk result (λ entries. sides_of entries.items
         ≡ filter (λ side. is_some side.1 || is_some (finite.get table.now.routes side.0))
         (map slot_side routes.items)) }
@@ -320,7 +358,7 @@ fn entries_of<S: PrefixStore<Rc<Route>>>(
     let mut entries = Vec::with_capacity(alloc, routes.len())?;
     'routes: for (pair, other) in routes {
         if other.is_some() || table.route(&pair).is_some() {
-            let peer = peers.known(&pair.peer)?;
+            let peer = shared_peer(alloc, table, entries.last(), &pair.peer)?;
             entries.push(Entry::new(alloc, peer, &pair.prefix, other)?)?;
         }
     }
@@ -335,20 +373,20 @@ pub(crate) fn step_for<S: PrefixStore<Rc<Route>>>(
     event: &Event,
     table: &Table<S>,
     known: &mut KnownRoutes,
-    peers: &mut KnownPeers,
+    marks: &mut Marks,
 ) -> Result<Vec<Entry>, AllocError>
     ensures { IfOk result (λ entries.
         IsStepFor table.now.routes event.now (sides_of entries.items)) }
 {
     let changes = changes_of(alloc, event, known)?;
     if let Some(peer) = changes.only_loss() {
-        return lost_entries(alloc, &peer, table, peers);
+        return lost_entries(alloc, &peer, table);
     }
-    let then = routes_then(alloc, changes, table, peers)?;
+    let then = routes_then(alloc, changes, table)?;
     let noted = then.len();
-    let routes = in_order(then)?;
+    let routes = each_once(then, table, marks)?;
     if routes.len() < noted {
         known.note_unused();
     }
-    entries_of(alloc, routes, table, peers)
+    entries_of(alloc, routes, table)
 }

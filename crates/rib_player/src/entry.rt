@@ -117,18 +117,26 @@ impl Entry {
         }
     }
 
+    /// The peer of its pair, which other entries may share.
+    #[inline]
+    pub(crate) fn shared_peer(&self) -> &Rc<Peer>
+        ensures { result.now.value ≡ self.now.pair.peer }
+    {
+        match &self.kept {
+            Kept::V4Absent(_, _, peer) => peer,
+            Kept::V4Present(_, _, peer, _) => peer,
+            Kept::V6Absent(_, pair) => &pair.peer,
+            Kept::V6Present(_, pair, _) => &pair.peer,
+            Kept::Taken => unreachable!(),
+        }
+    }
+
     /// The peer of its pair.
     #[inline]
     pub(crate) fn peer(&self) -> &Peer
         ensures { result.now ≡ self.now.pair.peer }
     {
-        match &self.kept {
-            Kept::V4Absent(_, _, peer) => &**peer,
-            Kept::V4Present(_, _, peer, _) => &**peer,
-            Kept::V6Absent(_, pair) => &*pair.peer,
-            Kept::V6Present(_, pair, _) => &*pair.peer,
-            Kept::Taken => unreachable!(),
-        }
+        &**self.shared_peer()
     }
 
     /// The prefix of its pair.

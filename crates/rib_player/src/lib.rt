@@ -11,6 +11,7 @@ mod pair;
 mod player;
 mod reached_steps;
 mod reaching;
+mod stores;
 mod table;
 
 pub use laws::{

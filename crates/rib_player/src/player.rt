@@ -12,8 +12,9 @@ use crate::claims::{Claims, give_up_claims};
 use crate::entry::End;
 use crate::journal::{Journal, Step, cross_step, let_go_of, named_from, put_entries};
 use crate::reached_steps::{Reached, reach_ahead, reach_back};
+use crate::stores::Marks;
 use crate::table::Table;
-use known_routes::{KnownPeers, KnownRoutes};
+use known_routes::KnownRoutes;
 use mrt_events::{Event, Route};
 use prefix_store::PrefixStore;
 use std::alloc::{AllocError, Global};
@@ -46,8 +47,8 @@ pub struct Player<S: PrefixStore<Rc<Route>>> {
     claims: Claims,
     /// The routes of steps, so that equal ones are one.
     known: KnownRoutes,
-    /// The peers of steps, alike.
-    peers: KnownPeers,
+    /// The peers that the record names which is played.
+    marks: Marks,
     /// Where steps were reached before they were crossed.
     reached: Reached,
 }
@@ -87,7 +88,7 @@ impl<S: PrefixStore<Rc<Route>>> Player<S> {
             journal: Journal::new(alloc),
             claims: Claims::new(alloc),
             known: KnownRoutes::new(alloc),
-            peers: KnownPeers::new(alloc),
+            marks: Marks::new(alloc),
             reached: Reached::nowhere(),
         }
     }
@@ -204,7 +205,7 @@ impl<S: PrefixStore<Rc<Route>>> Player<S> {
             event,
             &self.table,
             &mut self.known,
-            &mut self.peers,
+            &mut self.marks,
         )?;
         self.journal.make_room()?;
         let dropped = self.journal.steps.len() - self.journal.cursor;

@@ -1,7 +1,8 @@
 //! The routes of all peers.
 
-ghost use Rattle.std.specs.Prelude.{◌≡◌, ◌<◌, ◌&&◌, Some, true, false, not, is_some, slice_get, Option, None, if◌then◌else◌, map, IfSome, IfNone, IfOk, OnOk, OnErr, take, vec_capacity};
-ghost use Rattle.std.specs.List.{list_any};
+ghost use Rattle.std.specs.Prelude.{◌≡◌, ◌<◌, ◌&&◌, Some, true, false, not, is_some, slice_get, Option, None, if◌then◌else◌, map, IfSome, IfNone, IfOk, IsTrue, OnOk, OnErr, take, vec_capacity};
+ghost use Rattle.std.specs.List.{IsDistinct};
+ghost use Rattle.std.specs.Map.{keys_of};
 ghost use Rattle.std.specs.Option.{option_map, option_copied};
 ghost use Rattle.std.specs.Ordering.{eq_by_cmp};
 ghost use Rattle.std.specs.FinMap as finite;
@@ -13,16 +14,17 @@ ghost use Rattle.mrt_events.specs.Peer.{peer_cmp};
 ghost use Rattle.rib_player.specs.History.{pair_cmp, pair_of};
 ghost use Rattle.prefix_store.specs.Stored.{put, counted};
 ghost use Rattle.prefix_store.specs.Lookups.{above};
-ghost use Rattle.rib_player.specs.Store.{route_in, store_at, keys_in, routes_in, peer_routes, routed_peers};
+ghost use Rattle.rib_player.specs.Store.{route_in, keys_in, routes_in, peer_routes, routed_peers};
 ghost use Rattle.rib_player.specs.Lookups.{IsBest, pointed_routes, peers_above, routed_stores, peer_count};
 ghost use Rattle.rib_player.specs.Holding.{value_of, IsLeft};
+ghost use Rattle.rib_player.specs.StoresByPeer.{stores_in, stores_of};
 
 use crate::pair::Pair;
+use crate::stores::{Marks, Stores};
 use ip_prefix::{Addr, Prefix};
 use mrt_events::{Peer, Route};
 use prefix_store::PrefixStore;
 use std::alloc::{AllocError, Global};
-use std::collections::BTreeMap;
 use std::collections::btree_map::Range;
 use std::marker::Model;
 use std::ops::Bound;
@@ -33,7 +35,7 @@ use std::rc::Rc;
 #[derive(Drop)]
 pub struct Table<S: PrefixStore<Rc<Route>>> {
     alloc: Global,
-    stores: BTreeMap<Peer, S>,
+    stores: Stores<S>,
     /// How many nodes were passed to reach pairs before their routes changed. Nothing reads it; without
     /// it a compiler may leave out the fetching.
     passed: u64,
@@ -42,17 +44,18 @@ pub struct Table<S: PrefixStore<Rc<Route>>> {
 impl<S: PrefixStore<Rc<Route>>> Model for Table<S> {
     ghost use Rattle.rib_player.specs.Store.{Contents, keys_in, routes_in};
     ghost use Rattle.rib_player.specs.Holding.{coded_contents, IsHeld};
+    ghost use Rattle.rib_player.specs.StoresByPeer.{stores_in};
 
     ghost Value = { Contents };
 
     ghost coded = { coded_contents };
 
     ghost view = { λ a. record {
-      keys = keys_in S.keys a.stores.entries;
-      routes = routes_in S.routes a.stores.entries;
+      keys = keys_in S.keys (stores_in a.stores);
+      routes = routes_in S.routes (stores_in a.stores);
     } };
 
-    ghost invariant = { λ a. IsHeld S.keys a.stores.entries };
+    ghost invariant = { λ a. IsHeld S.keys (stores_in a.stores) };
 }
 
 impl<S: PrefixStore<Rc<Route>>> Table<S> {
@@ -62,7 +65,7 @@ impl<S: PrefixStore<Rc<Route>>> Table<S> {
     {
         Table {
             alloc,
-            stores: BTreeMap::new(alloc),
+            stores: Stores::new(alloc),
             passed: 0,
         }
     }
@@ -135,7 +138,7 @@ impl<S: PrefixStore<Rc<Route>>> Table<S> {
         ensures routes { self.new.routes ≡ self.old.routes }
     {
         if drop_key(&mut self.stores, pair) {
-            drop_store(&mut self.stores, &pair.peer);
+            self.stores.remove(&pair.peer);
         }
     }
 
@@ -212,7 +215,26 @@ impl<S: PrefixStore<Rc<Route>>> Table<S> {
             Some(peer) => Bound::Excluded(*peer),
             None => Bound::Unbounded,
         };
-        first_routed(self.stores.range((low, Bound::Unbounded)))
+        let numbers = self.stores.order.range((low, Bound::Unbounded));
+        first_routed(&self.stores, numbers)
+    }
+
+    /// The peer, where it has a key, as entries share it.
+    pub(crate) fn shared_peer(&self, peer: &Peer) -> Option<&Rc<Peer>>
+        ensures { IfSome result (λ shared. shared.now.value ≡ peer.now) }
+    {
+        self.stores.shared_peer(peer)
+    }
+
+    /// Whether all these pairs are known to be of different peers.
+    pub(crate) fn are_of_different_peers(
+        &self,
+        slots: &[(Pair, Option<Rc<Route>>)],
+        marks: &mut Marks,
+    ) -> bool
+        ensures { IsTrue result → IsDistinct (eq_by_cmp pair_cmp) (keys_of slots.now) }
+    {
+        self.stores.are_of_different_peers(slots, marks)
     }
 
     /// The peer's store, where it has a key.
@@ -232,15 +254,20 @@ impl<S: PrefixStore<Rc<Route>>> Table<S> {
     }
 }
 
-/// The first store with a route: its peer, and how many routes it has.
-fn first_routed<'a, S: PrefixStore<Rc<Route>>>(stores: Range<'a, Peer, S>) -> Option<(Peer, u64)>
-    ensures { result ≡
-        option_map (peer_count S.routes) (slice_get (routed_stores S.routes stores.entry) 0) }
+/// The first of these stores that has a route: its peer, and how many routes it has.
+fn first_routed<'a, S: PrefixStore<Rc<Route>>>(
+    stores: &Stores<S>,
+    numbers: Range<'a, Peer, usize>,
+) -> Option<(Peer, u64)>
+    ensures { result ≡ option_map (peer_count S.routes)
+        (slice_get (routed_stores S.routes (stores_of stores.now.held numbers.entry)) 0) }
 {
-    'stores: for (peer, store) in stores {
-        let count = store.route_count();
-        if count > 0 {
-            return Some((*peer, count));
+    'numbers: for (peer, number) in numbers {
+        if let Some(store) = stores.held.get(*number) {
+            let count = store.route_count();
+            if count > 0 {
+                return Some((*peer, count));
+            }
         }
     }
     None
@@ -256,19 +283,12 @@ fn store_with<S: PrefixStore<Rc<Route>>>(alloc: Global, prefix: Prefix) -> Resul
     Ok(store)
 }
 
-/// Drops the peer's store.
-fn drop_store<S: PrefixStore<Rc<Route>>>(stores: &mut BTreeMap<Peer, S>, peer: &Peer)
-    ensures { (p : Peer) → store_at stores.new.entries p
-        ≡ (if eq_by_cmp peer_cmp peer.now p then None else store_at stores.old.entries p) }
-{
-    stores.remove(peer);
-}
-
 /// Drops a key that has no route, and answers whether its peer's store has none left.
-fn drop_key<S: PrefixStore<Rc<Route>>>(stores: &mut BTreeMap<Peer, S>, pair: &Pair) -> bool
-    requires key { set.contains (keys_in S.keys stores.old.entries) pair.now ≡ true }
-    requires free { finite.get (routes_in S.routes stores.old.entries) pair.now ≡ None }
-    ensures left { IsLeft S.keys S.routes stores.old.entries stores.new.entries pair.now result }
+fn drop_key<S: PrefixStore<Rc<Route>>>(stores: &mut Stores<S>, pair: &Pair) -> bool
+    requires key { set.contains (keys_in S.keys (stores_in stores.old)) pair.now ≡ true }
+    requires free { finite.get (routes_in S.routes (stores_in stores.old)) pair.now ≡ None }
+    ensures left { IsLeft S.keys S.routes (stores_in stores.old) (stores_in stores.new)
+        pair.now result }
 {
     if let Some(store) = stores.get_mut(&pair.peer) {
         store.discard(&pair.prefix);

@@ -5,6 +5,7 @@ use Rattle.std.specs.Map.{keys_of}
 use Rattle.std.specs.Option.{option_map}
 use Rattle.std.proofs.lemmas.List.Sorted.{answers_always}
 use Rattle.std.proofs.lemmas.Fn.{dedup_same}
+use Rattle.std.proofs.lemmas.Map.Keys.{IsDistinct-from_sorted}
 use Rattle.rib_player.specs.History.{pair_cmp}
 use Rattle.rib_player.specs.Store.{route_in}
 use Rattle.rib_player.specs.Holding.{Slots, slot_at}
@@ -16,10 +17,10 @@ use Rattle.rib_player.proofs.changes.in_order.Goals.{After-dedup_by_key}
 kept : (c : After-dedup_by_key) → c.dedup_by_key.new.self.items ≡ dedup of_one_pair c.sort_by_key.new.self.items
 kept c = dedup_same _ of_one_pair _ (λ x y b f x' y' told. search rules) _ _ c.dedup_by_key.ensures.filtered
 
-pub returns-clause-ordered : goal.returns-clause-ordered
-returns-clause-ordered c =
-    subst (λ (slots : Slots). IsStrictlySortedBy pair_cmp (keys_of slots)) (sym (kept c))
-    (ordered-dedup c.sort_by_key.new.self.items (c.in_ok-sort_by_key.ensures.sorted (λ slot. slot.0) (answers_always _ _ _ (λ f a r g called. search rules))))
+pub returns-clause-distinct : goal.returns-clause-distinct
+returns-clause-distinct c =
+    IsDistinct-from_sorted pair_cmp (keys_of c.dedup_by_key.new.self.items) (subst (λ (slots : Slots). IsStrictlySortedBy pair_cmp (keys_of slots)) (sym (kept c))
+    (ordered-dedup c.sort_by_key.new.self.items (c.in_ok-sort_by_key.ensures.sorted (λ slot. slot.0) (answers_always _ _ _ (λ f a r g called. search rules)))))
 
 pub returns-clause-found : goal.returns-clause-found
 returns-clause-found c = λ q.

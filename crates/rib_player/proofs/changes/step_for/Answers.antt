@@ -6,11 +6,11 @@ use Rattle.rib_player.proofs.changes.step_for.Goals as goal
 pub returns : goal.returns
 returns g c =
     IsStepFor-answered c.args.table.now.routes c.args.event.now c.in_ok-changes.changes c.in_ok-routes.routes.items c.entries_of.result
-    c.in_ok-changes.ensures (λ q. c.in_ok-routes.ensures.found q ∙ c.in_ok-then.ensures q) c.in_ok-routes.ensures.ordered c.entries_of.ensures.ordered c.entries_of.ensures.sides
+    c.in_ok-changes.ensures (λ q. c.in_ok-routes.ensures.found q ∙ c.in_ok-then.ensures q) c.in_ok-routes.ensures.distinct c.entries_of.ensures.distinct c.entries_of.ensures.sides
 
 -- what the changes do is the loss alone
 pub returns-in-Some : goal.returns-in-Some
 returns-in-Some g c =
     IsStepFor-lost_answered c.args.table.now.routes c.args.event.now c.in-Some.peer
     (lost-alone c.args.event.now c.in_ok-changes.changes c.in-Some.peer c.in_ok-changes.ensures c.in-Some.ensures.some.0 c.in-Some.ensures.some.1)
-    c.lost_entries.result c.lost_entries.ensures.named c.lost_entries.ensures.absent c.lost_entries.ensures.ordered
+    c.lost_entries.result c.lost_entries.ensures.named c.lost_entries.ensures.absent c.lost_entries.ensures.distinct

@@ -1,15 +1,13 @@
 use Rattle.std.proofs.Common.{◌≡◌, ℕ, ◌+◌, List, length, take, arith, refl, ap, ap₂, sym, subst, ◌∙◌}
 use Rattle.std.specs.Vec.{with_items}
 use Rattle.std.proofs.lemmas.List.{with_items_is, length_push, length-take-le}
-use Rattle.std.proofs.lemmas.Map.Keys.{IsDistinct-from_sorted}
 use Rattle.rib_player.specs.declared.pair.Pair.{Pair}
 use Rattle.rib_player.specs.Entries.{Entry}
 use Rattle.rib_player.specs.declared.journal.Step.{Step}
 use Rattle.rib_player.specs.declared.entry.End.TheVariants.{Last}
-use Rattle.rib_player.specs.History.{pair_cmp}
 use Rattle.rib_player.specs.Timeline.{after_play}
 use Rattle.rib_player.specs.Claims.{one_if, claims_beyond, held_claims}
-use Rattle.rib_player.specs.Journal.{sides_of, pairs_in, steps_of, timeline_of, behind_forgotten}
+use Rattle.rib_player.specs.Journal.{sides_of, steps_of, timeline_of, behind_forgotten}
 use Rattle.rib_player.specs.Sides.{AreDistinct, IsStepFor}
 use Rattle.rib_player.specs.Marks.{marks_of, marks_by_step, step_marks, gives_up_by}
 use Rattle.rib_player.specs.Played.{IsPlayed, AreClaimed, CanDrop}
@@ -25,7 +23,7 @@ step : (g : Over) (c : After-as_mut_slice g) → IsStepFor c.self.inside.table.r
 step g c = subst (λ es. IsStepFor c.self.inside.table.routes c.args.event.now (sides_of es)) (sym c.as_mut_slice.ensures.value) c.in_ok-entries.ensures
 
 distinct : (g : Over) (c : After-as_mut_slice g) → AreDistinct (sides_of c.as_mut_slice.result.now)
-distinct g c = IsDistinct-from_sorted pair_cmp (pairs_in (sides_of c.as_mut_slice.result.now)) (step g c).ordered
+distinct g c = (step g c).distinct
 
 pub put_entries-requires-clause-distinct : goal.put_entries-requires-clause-distinct
 put_entries-requires-clause-distinct g c = distinct g (goal.at.put_entries-requires-clause-distinct g c).After-as_mut_slice
@@ -105,7 +103,7 @@ then g c =
     × IsPlayed c.drop_ahead.new.table.keys (claims_beyond c.drop_ahead.new.claims) c.drop_ahead.new.table.routes (journal.cursor + 1) items) (sym c.push_back_reserved.ensures.items)
     (after_play-on c.self.inside.table.keys c.drop_ahead.new.table.keys (claims_beyond c.self.inside.claims) (claims_beyond c.drop_ahead.new.claims) c.self.inside.table.routes c.drop_ahead.new.table.routes
     journal.cursor journal.steps.items c.drop_ahead.new.self.steps.items sides (new g c) c.args.event.now c.self.invariant.played step
-    (IsDistinct-from_sorted pair_cmp (pairs_in sides) step.ordered) (left g c) (c.drop_ahead.ensures.routes ∙ c.in_ok-put_entries.ensures.routes)
+    step.distinct (left g c) (c.drop_ahead.ensures.routes ∙ c.in_ok-put_entries.ensures.routes)
     (ap sides_of (entries_then g c) ∙ c.in_ok-put_entries.ensures.sides) (ap marks_of (entries_then g c) ∙ c.in_ok-put_entries.ensures.marks)
     c.drop_ahead.ensures.held (claimed_then g c))
 

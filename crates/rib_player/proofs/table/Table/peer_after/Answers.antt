@@ -1,4 +1,5 @@
-use Rattle.std.proofs.Common.{Some, None, slice_get, refl, sym, ap, ◌∙◌}
+use Rattle.std.proofs.Common.{Some, None, slice_get, refl, sym, ap, subst, ◌∙◌}
+use Rattle.std.specs.List.Sorted.{IsStrictlySortedBy}
 use Rattle.std.specs.Ordering.{is_lt}
 use Rattle.std.specs.Option.{option_map, option_copied}
 use Rattle.std.specs.FinMap as finite
@@ -9,21 +10,27 @@ use Rattle.mrt_events.specs.Peer.{peer_cmp}
 use Rattle.prefix_store.specs.Stored.{counted}
 use Rattle.rib_player.specs.Store.{peer_routes, routed_peers}
 use Rattle.rib_player.specs.Lookups.{peers_above}
+use Rattle.rib_player.specs.StoresByPeer.{stores_in, stores_of}
+use Rattle.rib_player.specs.Numbered.{peers_in}
 use Rattle.rib_player.proofs.PeerLaws.{first_counted}
+use Rattle.rib_player.proofs.NumberLaws.{keys-stores_of, stores_of-filter}
 use Rattle.rib_player.proofs.table.Table.peer_after.Goals as goal
 use Rattle.rib_player.proofs.table.Table.peer_after.Goals.{in-Some, in-None}
 
 pub returns : goal.returns
 returns g c =
-    let stores = c.self.inside.stores.entries in
+    let held = c.self.inside.stores.held in
+    let order = c.self.inside.stores.order.entries in
+    let stores = stores_in c.self.inside.stores in
     let all = c.args.self.now.routes in
+    let sorted = subst (λ ps. IsStrictlySortedBy peer_cmp ps) (sym (keys-stores_of held (peers_in c.self.inside.stores.names.items) order c.self.inside.stores.numbered.there)) c.range-numbers.ensures.ordered in
     c.first_routed.ensures ∙ elim c.match-peer.branch [
       | in-Some w ↦
-          first_counted g.S.PrefixStore.routes (Some w.in-Some.peer.now) (range_contains peer_cmp (Excluded w.in-Some.peer.now) Unbounded) stores c.range.result all (λ p. and-true (is_lt (peer_cmp w.in-Some.peer.now p)))
-          c.range.ensures.ordered (c.range.ensures.between tt ∙ ap (λ b. entries_between peer_cmp b Unbounded stores) w.low-is) (ap (λ s. s.routes) c.self.view_is)
+          first_counted g.S.PrefixStore.routes (Some w.in-Some.peer.now) (range_contains peer_cmp (Excluded w.in-Some.peer.now) Unbounded) stores (stores_of held c.range-numbers.result) all (λ p. and-true (is_lt (peer_cmp w.in-Some.peer.now p)))
+          sorted (ap (stores_of held) (c.range-numbers.ensures.between tt ∙ ap (λ b. entries_between peer_cmp b Unbounded order) w.low-is) ∙ stores_of-filter held (range_contains peer_cmp (Excluded w.in-Some.peer.now) Unbounded) order) (ap (λ s. s.routes) c.self.view_is)
           ∙ ap (λ low. option_map (λ p. (p, counted (finite.len (peer_routes all p)))) (slice_get (peers_above (option_copied low) (routed_peers all)) 0)) (sym w.in-Some.is)
       | in-None w ↦
-          first_counted g.S.PrefixStore.routes None (range_contains peer_cmp Unbounded Unbounded) stores c.range.result all (λ p. refl)
-          c.range.ensures.ordered (c.range.ensures.between tt ∙ ap (λ b. entries_between peer_cmp b Unbounded stores) w.low-is) (ap (λ s. s.routes) c.self.view_is)
+          first_counted g.S.PrefixStore.routes None (range_contains peer_cmp Unbounded Unbounded) stores (stores_of held c.range-numbers.result) all (λ p. refl)
+          sorted (ap (stores_of held) (c.range-numbers.ensures.between tt ∙ ap (λ b. entries_between peer_cmp b Unbounded order) w.low-is) ∙ stores_of-filter held (range_contains peer_cmp Unbounded Unbounded) order) (ap (λ s. s.routes) c.self.view_is)
           ∙ ap (λ low. option_map (λ p. (p, counted (finite.len (peer_routes all p)))) (slice_get (peers_above (option_copied low) (routed_peers all)) 0)) (sym w.in-None.is)
     ]

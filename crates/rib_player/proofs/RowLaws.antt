@@ -1,0 +1,98 @@
+-- Rows of pairs whose peers differ, and lists of peers that are pointed to.
+use Rattle.std.proofs.Common.{◌≡◌, ◌≢◌, ℕ, ◌<◌, Bool, true, false, List, [], ◌∷◌, ◌++◌, set, length, get_or, Option, Some, None, IfSome, slice_get, refl, sym, ap, ◌∙◌, arith}
+use Rattle.std.specs.Borrow.{Bor}
+use Rattle.std.specs.List.{AllByRecursion, IsDistinct}
+use Rattle.std.specs.Map.{lookup, keys_of}
+use Rattle.std.specs.Option.{option_map, unwrap_or}
+use Rattle.std.specs.Ordering.{eq_by_cmp}
+use Rattle.std.specs.declared.alloc.Global.{Global}
+use Rattle.std.specs.declared.rc.Rc.{Rc}
+use Rattle.std.proofs.lemmas.List.{length-map, length-set, length_push, get_or-set_same, get_or-set_other, get_or_push, get_or_append_left}
+use Rattle.std.proofs.lemmas.Option.{slice_get-map, slice_get-get_or, slice_get_within}
+use Rattle.mrt_events.specs.declared.peer.Peer.{Peer}
+use Rattle.rib_player.specs.declared.pair.Pair.{Pair}
+use Rattle.rib_player.specs.declared.stores.Marks.{Marks}
+use Rattle.rib_player.specs.History.{pair_cmp}
+use Rattle.rib_player.specs.Numbered.{peers_in}
+use Rattle.rib_player.specs.Marked.{is_marked}
+use Rattle.rib_player.proofs.PairLaws.{same_pair}
+use Rattle.rib_player.proofs.StoreLaws.{same_peer}
+
+module _ {R : Type 0} (order : List (Peer × ℕ)) where
+  -- the pair's peer has a number, which was seen
+  abbrev pub IsSeen : Marks → Pair × R → Type 0
+  IsSeen marks e = (n : ℕ) × (lookup (same_peer e.0.peer) order ≡ Some n) × (is_marked marks n ≡ true)
+
+  module _ (marks marks' : Marks) (s : Pair × R) (number : ℕ) (is : lookup (same_peer s.0.peer) order ≡ Some number) where
+    -- a pair of a number that wasn't seen is another
+    apart : is_marked marks number ≡ false → (e : Pair × R) → IsSeen marks e → eq_by_cmp pair_cmp e.0 s.0 ≡ false
+    apart new e seen = at (eq_by_cmp pair_cmp e.0 s.0) refl
+      where
+        at : (b : Bool) → eq_by_cmp pair_cmp e.0 s.0 ≡ b → eq_by_cmp pair_cmp e.0 s.0 ≡ false
+        at true same =
+            let one : seen.0 ≡ number = ap (λ o. unwrap_or o 0) (sym seen.1 ∙ ap (λ (q : Pair). lookup (same_peer q.peer) order) (same_pair e.0 s.0 same) ∙ is) in
+            let lost : true ≡ false = sym seen.2 ∙ ap (is_marked marks) one ∙ new in
+            cc
+        at false same = same
+
+    apart-more : (e : Pair × R) (es : List (Pair × R)) → eq_by_cmp pair_cmp e.0 s.0 ≡ false → AllByRecursion (λ q. eq_by_cmp pair_cmp e.0 q ≡ false) (keys_of es)
+        → AllByRecursion (λ q. eq_by_cmp pair_cmp e.0 q ≡ false) (keys_of (es ++ s ∷ []))
+    apart-more e [] this rest = (this, tt)
+    apart-more e (f ∷ es) this rest = (rest.0, apart-more e es this rest.1)
+
+    pub distinct-more : is_marked marks number ≡ false → (es : List (Pair × R)) → AllByRecursion (IsSeen marks) es
+        → IsDistinct (eq_by_cmp pair_cmp) (keys_of es) → IsDistinct (eq_by_cmp pair_cmp) (keys_of (es ++ s ∷ []))
+    unfolding IsDistinct
+    distinct-more new [] seen distinct = (tt, tt)
+    distinct-more new (e ∷ es) seen distinct = (apart-more e es (apart new e seen.0) distinct.0, distinct-more new es seen.1 distinct.1)
+
+    pub seen-more : is_marked marks' number ≡ true → ((n : ℕ) → is_marked marks n ≡ true → is_marked marks' n ≡ true)
+        → (es : List (Pair × R)) → AllByRecursion (IsSeen marks) es → AllByRecursion (IsSeen marks') (es ++ s ∷ [])
+    seen-more marked others [] seen = ((number, is, marked), tt)
+    seen-more marked others (e ∷ es) seen = ((seen.0.0, seen.0.1, others seen.0.0 seen.0.2), seen-more marked others es seen.1)
+
+-- no pairs are distinct
+pub distinct-none : IsDistinct (eq_by_cmp pair_cmp) []
+unfolding IsDistinct
+distinct-none = tt
+
+-- ---- what stands in a list of peers that are pointed to
+
+value : Rc Peer Global → Peer
+value shared = shared.value
+
+name-read : (names : List (Rc Peer Global)) (k : ℕ) (d : Rc Peer Global) → k < length names → slice_get (peers_in names) k ≡ Some (get_or names k d).value
+unfolding value
+name-read names k d within = slice_get-map value names k ∙ ap (option_map value) (slice_get-get_or names k d within)
+
+name-within : (names : List (Rc Peer Global)) (k : ℕ) (p : Peer) → slice_get (peers_in names) k ≡ Some p → k < length names
+unfolding value
+name-within names k p named =
+    let within = slice_get_within (peers_in names) k p named in
+    omega (arith, within, length-map names value)
+
+pub name-at : (names : List (Rc Peer Global)) (k : ℕ) (p : Peer) (found : Option (Bor (Rc Peer Global))) → IfSome found (λ shared. shared.now ≡ get_or names k shared.now)
+    → slice_get (peers_in names) k ≡ Some p → IfSome found (λ shared. shared.now.value ≡ p)
+name-at names k p None is named = tt
+name-at names k p (Some shared) is named =
+    ap (λ o. unwrap_or o p) (ap (λ (s : Rc Peer Global). Some s.value) is ∙ sym (name-read names k shared.now (name-within names k p named)) ∙ named)
+
+pub name-set : (names : List (Rc Peer Global)) (k : ℕ) (peer : Rc Peer Global) → k < length names → slice_get (peers_in (set names k peer)) k ≡ Some peer.value
+name-set names k peer within =
+    name-read (set names k peer) k peer (omega (arith, within, length-set names k peer)) ∙ ap (λ (s : Rc Peer Global). Some s.value) (get_or-set_same names k peer peer within)
+
+pub name-set_other : (names : List (Rc Peer Global)) (k : ℕ) (peer : Rc Peer Global) (other : ℕ) (p : Peer) → other ≢ k → slice_get (peers_in names) other ≡ Some p → slice_get (peers_in (set names k peer)) other ≡ Some p
+name-set_other names k peer other p differs named =
+    let within = name-within names other p named in
+    name-read (set names k peer) other peer (omega (arith, within, length-set names k peer)) ∙ ap (λ (s : Rc Peer Global). Some s.value) (get_or-set_other names k other peer peer differs)
+    ∙ sym (name-read names other peer within) ∙ named
+
+pub name-push : (names : List (Rc Peer Global)) (k : ℕ) (peer : Rc Peer Global) → length names ≡ k → slice_get (peers_in (names ++ peer ∷ [])) k ≡ Some peer.value
+name-push names k peer last =
+    name-read (names ++ peer ∷ []) k peer (omega (arith, last, length_push names peer)) ∙ ap (λ (s : Rc Peer Global). Some s.value) (get_or_push names peer peer k last)
+
+pub name-push_other : (names : List (Rc Peer Global)) (peer : Rc Peer Global) (other : ℕ) (p : Peer) → slice_get (peers_in names) other ≡ Some p → slice_get (peers_in (names ++ peer ∷ [])) other ≡ Some p
+name-push_other names peer other p named =
+    let within = name-within names other p named in
+    name-read (names ++ peer ∷ []) other peer (omega (arith, within, length_push names peer)) ∙ ap (λ (s : Rc Peer Global). Some s.value) (get_or_append_left names (peer ∷ []) peer other within)
+    ∙ sym (name-read names other peer within) ∙ named
