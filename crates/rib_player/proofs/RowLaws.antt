@@ -18,6 +18,32 @@ use Rattle.rib_player.specs.Marked.{is_marked}
 use Rattle.rib_player.proofs.PairLaws.{same_pair}
 use Rattle.rib_player.proofs.StoreLaws.{same_peer}
 
+module _ {R : Type 0} where
+  -- a pair more, which is none of those before it
+  pub apart-more : (e s : Pair × R) (es : List (Pair × R)) → eq_by_cmp pair_cmp e.0 s.0 ≡ false → AllByRecursion (λ q. eq_by_cmp pair_cmp e.0 q ≡ false) (keys_of es)
+      → AllByRecursion (λ q. eq_by_cmp pair_cmp e.0 q ≡ false) (keys_of (es ++ s ∷ []))
+  apart-more e s [] this rest = (this, tt)
+  apart-more e s (f ∷ es) this rest = (rest.0, apart-more e s es this rest.1)
+
+  pub distinct-apart : (s : Pair × R) (es : List (Pair × R)) → AllByRecursion (λ e. eq_by_cmp pair_cmp e.0 s.0 ≡ false) es
+      → IsDistinct (eq_by_cmp pair_cmp) (keys_of es) → IsDistinct (eq_by_cmp pair_cmp) (keys_of (es ++ s ∷ []))
+  unfolding IsDistinct
+  distinct-apart s [] apart distinct = (tt, tt)
+  distinct-apart s (e ∷ es) apart distinct = (apart-more e s es apart.0 distinct.0, distinct-apart s es apart.1 distinct.1)
+
+  pub all-apart : (s : Pair) (e : Pair × R) (es : List (Pair × R)) → eq_by_cmp pair_cmp e.0 s ≡ false → AllByRecursion (λ f. eq_by_cmp pair_cmp f.0 s ≡ false) es
+      → AllByRecursion (λ f. eq_by_cmp pair_cmp f.0 s ≡ false) (es ++ e ∷ [])
+  all-apart s e [] this rest = (this, tt)
+  all-apart s e (f ∷ es) this rest = (rest.0, all-apart s e es this rest.1)
+
+-- pairs that aren't the same don't tie
+pub not-tied : (a b : Pair) → (a ≡ b → ⊥) → eq_by_cmp pair_cmp a b ≡ false
+not-tied a b differ = at (eq_by_cmp pair_cmp a b) refl
+  where
+    at : (t : Bool) → eq_by_cmp pair_cmp a b ≡ t → eq_by_cmp pair_cmp a b ≡ false
+    at true is = absurd (differ (same_pair a b is))
+    at false is = is
+
 module _ {R : Type 0} (order : List (Peer × ℕ)) where
   -- the pair's peer has a number, which was seen
   abbrev pub IsSeen : Marks → Pair × R → Type 0
@@ -35,16 +61,13 @@ module _ {R : Type 0} (order : List (Peer × ℕ)) where
             cc
         at false same = same
 
-    apart-more : (e : Pair × R) (es : List (Pair × R)) → eq_by_cmp pair_cmp e.0 s.0 ≡ false → AllByRecursion (λ q. eq_by_cmp pair_cmp e.0 q ≡ false) (keys_of es)
-        → AllByRecursion (λ q. eq_by_cmp pair_cmp e.0 q ≡ false) (keys_of (es ++ s ∷ []))
-    apart-more e [] this rest = (this, tt)
-    apart-more e (f ∷ es) this rest = (rest.0, apart-more e es this rest.1)
-
     pub distinct-more : is_marked marks number ≡ false → (es : List (Pair × R)) → AllByRecursion (IsSeen marks) es
         → IsDistinct (eq_by_cmp pair_cmp) (keys_of es) → IsDistinct (eq_by_cmp pair_cmp) (keys_of (es ++ s ∷ []))
-    unfolding IsDistinct
-    distinct-more new [] seen distinct = (tt, tt)
-    distinct-more new (e ∷ es) seen distinct = (apart-more e es (apart new e seen.0) distinct.0, distinct-more new es seen.1 distinct.1)
+    distinct-more new es seen distinct = distinct-apart s es (all-seen es seen) distinct
+      where
+        all-seen : (es : List (Pair × R)) → AllByRecursion (IsSeen marks) es → AllByRecursion (λ e. eq_by_cmp pair_cmp e.0 s.0 ≡ false) es
+        all-seen [] seen = tt
+        all-seen (e ∷ es) seen = (apart new e seen.0, all-seen es seen.1)
 
     pub seen-more : is_marked marks' number ≡ true → ((n : ℕ) → is_marked marks n ≡ true → is_marked marks' n ≡ true)
         → (es : List (Pair × R)) → AllByRecursion (IsSeen marks) es → AllByRecursion (IsSeen marks') (es ++ s ∷ [])

@@ -1,6 +1,6 @@
 //! What an event does, pair by pair.
 
-ghost use Rattle.std.specs.Prelude.{◌≡◌, ◌++◌, ◌||◌, ◌&&◌, [], ◌∷◌, ◌≢◌, IfOk, IfSome, IfNone, OnOk, OnErr, Some, None, true, false, is_some, if◌then◌else◌, map, slice_get};
+ghost use Rattle.std.specs.Prelude.{◌≡◌, ◌↔◌, IsTrue, ◌++◌, ◌||◌, ◌&&◌, [], ◌∷◌, ◌≢◌, IfOk, IfSome, IfNone, OnOk, OnErr, Some, None, true, false, is_some, if◌then◌else◌, map, slice_get};
 ghost use Rattle.std.specs.List.{AllByRecursion, IsDistinct, list_any, filter};
 ghost use Rattle.std.specs.Map.{keys_of};
 ghost use Rattle.std.specs.Ordering.{eq_by_cmp};
@@ -23,7 +23,7 @@ use crate::stores::Marks;
 use crate::table::Table;
 use ip_prefix::Prefix;
 use known_routes::KnownRoutes;
-use mrt_events::{ESTABLISHED, Event, Item, Peer, Route, same_peer};
+use mrt_events::{ESTABLISHED, Event, Item, Peer, Route, same_peer, same_prefix};
 use prefix_store::PrefixStore;
 use std::alloc::{AllocError, Global};
 use std::collections::BTreeSet;
@@ -240,16 +240,18 @@ fn cleared_in<S: PrefixStore<Rc<Route>>>(
     Ok(entries)
 }
 
-/// The peer, shared with the table, or with the entry that was made last.
+/// The peer, shared with the table, where its number is tried behind this one, or with the entry that
+/// was made last.
 fn shared_peer<S: PrefixStore<Rc<Route>>>(
     alloc: Global,
     table: &Table<S>,
+    number: &mut Option<usize>,
     last: Option<&Entry>,
     peer: &Peer,
 ) -> Result<Rc<Peer>, AllocError>
     ensures { IfOk result (λ shared. shared.value ≡ peer.now) }
 {
-    if let Some(shared) = table.shared_peer(peer) {
+    if let Some(shared) = table.shared_peer(number, peer) {
         return shared.clone();
     }
     if let Some(entry) = last {
@@ -275,7 +277,7 @@ fn lost_entries<S: PrefixStore<Rc<Route>>>(
 {
     match table.store(peer) {
         Some(store) => {
-            let shared = shared_peer(alloc, table, None, peer)?;
+            let shared = shared_peer(alloc, table, &mut None, None, peer)?;
             cleared_in(alloc, store, &shared)
         }
         None => Ok(Vec::new(alloc)),
@@ -325,8 +327,44 @@ fn in_order(routes: Slots) -> Result<Slots, AllocError>
     Ok(ordered)
 }
 
+/// How many slots are compared with each other at most.
+const FEW: usize = 8;
+
+/// Whether two pairs are the same.
+#[inline]
+fn same_pair(one: &Pair, other: &Pair) -> bool
+    ensures { IsTrue result ↔ (one.now ≡ other.now) }
+{
+    same_prefix(&one.prefix, &other.prefix) && same_peer(&one.peer, &other.peer)
+}
+
+/// Whether the pair has one of these slots.
+fn has_slot(slots: &[(Pair, Option<Rc<Route>>)], pair: &Pair) -> bool
+    ensures { result ≡ false →
+        AllByRecursion (λ slot. eq_by_cmp pair_cmp slot.0 pair.now ≡ false) slots.now }
+{
+    'slots: for slot in slots {
+        if same_pair(&slot.0, pair) {
+            return true;
+        }
+    }
+    false
+}
+
+/// Whether no pair has two of these slots.
+fn are_different(slots: &[(Pair, Option<Rc<Route>>)]) -> bool
+    ensures { IsTrue result → IsDistinct (eq_by_cmp pair_cmp) (keys_of slots.now) }
+{
+    'slots: for index in 0..slots.len() {
+        if has_slot(&slots[..index], &slots[index].0) {
+            return false;
+        }
+    }
+    true
+}
+
 /// The same, each pair once. As the entries of a table's record have it, mostly no peer stands there
-/// twice.
+/// twice, and as a message has it, no prefix.
 fn each_once<S: PrefixStore<Rc<Route>>>(
     routes: Slots,
     table: &Table<S>,
@@ -338,6 +376,9 @@ fn each_once<S: PrefixStore<Rc<Route>>>(
         found once.items q ≡ found routes.items q) }
 {
     if table.are_of_different_peers(&routes, marks) {
+        return Ok(routes);
+    }
+    if routes.len() <= FEW && are_different(&routes) {
         return Ok(routes);
     }
     in_order(routes)
@@ -356,9 +397,10 @@ fn entries_of<S: PrefixStore<Rc<Route>>>(
         (map slot_side routes.items)) }
 {
     let mut entries = Vec::with_capacity(alloc, routes.len())?;
+    let mut number = None;
     'routes: for (pair, other) in routes {
         if other.is_some() || table.route(&pair).is_some() {
-            let peer = shared_peer(alloc, table, entries.last(), &pair.peer)?;
+            let peer = shared_peer(alloc, table, &mut number, entries.last(), &pair.peer)?;
             entries.push(Entry::new(alloc, peer, &pair.prefix, other)?)?;
         }
     }

@@ -50,6 +50,10 @@ pub(crate) struct Stores<S> {
     /// The number that a peer of each hash may have, if it has one. Of several peers one is found so,
     /// the others by their order.
     places: Vec<u32>,
+    /// The number whose store was written behind that of each one, the last time.
+    next: Vec<u32>,
+    /// The number whose store was written last.
+    last: usize,
     ghost numbered: { AreNumbered held (peers_in names.items) order.entries } by { Prim.hlevel props },
 }
 
@@ -73,6 +77,8 @@ impl<S> Stores<S> {
             held: Slab::new(alloc),
             names: Vec::new(alloc),
             places: Vec::new(alloc),
+            next: Vec::new(alloc),
+            last: 0,
         }
     }
 
@@ -102,11 +108,31 @@ impl<S> Stores<S> {
         self.order.get(peer).copied()
     }
 
-    /// The peer, if it has a store.
-    pub(crate) fn shared_peer(&self, peer: &Peer) -> Option<&Rc<Peer>>
+    /// The same, where this number, or the one that followed it the last time, is mostly the peer's.
+    #[inline]
+    fn number_behind(&self, last: usize, peer: &Peer) -> Option<usize>
+        ensures { result ≡ lookup (eq_by_cmp peer_cmp peer.now) self.now.order.entries }
+    {
+        if self.has_number(last, peer) {
+            return Some(last);
+        }
+        if let Some(next) = self.next.get(last) {
+            let next = *next as usize;
+            if self.has_number(next, peer) {
+                return Some(next);
+            }
+        }
+        self.number_of(peer)
+    }
+
+    /// The peer, if it has a store. Its number is tried behind this one, or the one written last, and
+    /// stands there then.
+    pub(crate) fn shared_peer(&self, last: &mut Option<usize>, peer: &Peer) -> Option<&Rc<Peer>>
         ensures { IfSome result (λ shared. shared.now.value ≡ peer.now) }
     {
-        self.names.get(self.number_of(peer)?)
+        let number = self.number_behind(last.unwrap_or(self.last), peer)?;
+        *last = Some(number);
+        self.names.get(number)
     }
 
     /// Whether all these pairs are of peers that have stores, no two of one.
@@ -114,13 +140,15 @@ impl<S> Stores<S> {
         ensures { IsTrue result → IsDistinct (eq_by_cmp pair_cmp) (keys_of slots.now) }
     {
         marks.begin();
+        let mut last = self.last;
         'slots: for slot in slots {
-            let Some(number) = self.number_of(&slot.0.peer) else {
+            let Some(number) = self.number_behind(last, &slot.0.peer) else {
                 return false;
             };
             if !marks.is_new(number) {
                 return false;
             }
+            last = number;
         }
         true
     }
@@ -130,7 +158,7 @@ impl<S> Stores<S> {
     pub(crate) fn get(&self, peer: &Peer) -> Option<&S>
         ensures { option_copied result ≡ store_at (stores_in self.now) peer.now }
     {
-        self.held.get(self.number_of(peer)?)
+        self.held.get(self.number_behind(self.last, peer)?)
     }
 
     /// The same, to be written.
@@ -139,7 +167,9 @@ impl<S> Stores<S> {
         ensures* writes_back { sem 𝓛 (lends_store S.row self.entry peer.now result) }
         ensures value { option_copied_mut result ≡ store_at (stores_in self.old) peer.now }
     {
-        let number = self.number_of(peer)?;
+        let number = self.number_behind(self.last, peer)?;
+        note_next(&mut self.next, self.last, number);
+        self.last = number;
         self.held.get_mut(number)
     }
 }
@@ -157,18 +187,22 @@ impl<S: Drop> Stores<S> {
         self.held.reserve(1)?;
         let number = self.held.vacant_key();
         let shared = Rc::new(self.alloc, peer)?;
-        set_name(&mut self.names, number, shared)?;
+        put_name(&mut self.names, number, shared)?;
         self.order.insert(peer, number)?;
         self.held.insert_reserved(store);
         self.note_place(&peer, number);
         Ok(())
     }
 
-    /// Notes where the number stands, unless memory is refused for the places.
+    /// Notes where the number stands, and makes room for the one that follows it, unless memory is
+    /// refused.
     fn note_place(&mut self, peer: &Peer, number: usize)
         ensures order { self.new.order ≡ self.old.order }
         ensures held { self.new.held ≡ self.old.held }
     {
+        if self.next.len() <= number {
+            let _ = self.next.resize(number.saturating_add(1), 0);
+        }
         if self.places.is_empty() {
             let _ = self.places.resize(PLACES, 0);
         }
@@ -188,8 +222,19 @@ impl<S: Drop> Stores<S> {
     }
 }
 
+/// Notes that a number followed another.
+#[inline]
+fn note_next(next: &mut Vec<u32>, last: usize, number: usize) {
+    if last == number {
+        return;
+    }
+    if let Some(next) = next.get_mut(last) {
+        *next = u32::try_from(number).unwrap_or(u32::MAX);
+    }
+}
+
 /// Puts the peer at its number, where it is the next one at most.
-fn set_name(names: &mut Vec<Rc<Peer>>, number: usize, peer: Rc<Peer>) -> Result<(), AllocError>
+fn put_name(names: &mut Vec<Rc<Peer>>, number: usize, peer: Rc<Peer>) -> Result<(), AllocError>
     ensures named { OnOk result (slice_get (peers_in names.new.items) number ≡ Some peer.value) }
     ensures others { (other : ℕ) (p : Peer) → other ≢ number →
         slice_get (peers_in names.old.items) other ≡ Some p →

@@ -219,11 +219,12 @@ impl<S: PrefixStore<Rc<Route>>> Table<S> {
         first_routed(&self.stores, numbers)
     }
 
-    /// The peer, where it has a key, as entries share it.
-    pub(crate) fn shared_peer(&self, peer: &Peer) -> Option<&Rc<Peer>>
+    /// The peer, where it has a key, as entries share it. Its number is tried behind this one, or
+    /// the one written last, and stands there then.
+    pub(crate) fn shared_peer(&self, last: &mut Option<usize>, peer: &Peer) -> Option<&Rc<Peer>>
         ensures { IfSome result (λ shared. shared.now.value ≡ peer.now) }
     {
-        self.stores.shared_peer(peer)
+        self.stores.shared_peer(last, peer)
     }
 
     /// Whether all these pairs are known to be of different peers.

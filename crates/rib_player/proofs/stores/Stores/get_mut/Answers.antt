@@ -14,14 +14,14 @@ returns-in_err-number g c =
       (sym (ap ghost_name_of none), λ w. never _ c.from_residual.result none, refl),
       record {
         writes_back = tt;
-        value = ap option_copied_mut none ∙ found-store s.held (peers_in s.names.items) s.order.entries s.numbered c.args.peer.now None (sym c.in_err-number.was ∙ c.number_of.ensures);
+        value = ap option_copied_mut none ∙ found-store s.held (peers_in s.names.items) s.order.entries s.numbered c.args.peer.now None (sym c.in_err-number.was ∙ c.number_behind.ensures);
       },
     )
 
 pub invariant_of-self-lent : goal.invariant_of-self-lent
 invariant_of-self-lent g c r =
     let s = c.args.self.now in
-    let found : lookup (same_peer c.args.peer.now) s.order.entries ≡ Some c.in_ok-number.number = sym (sym c.in_ok-number.was ∙ c.number_of.ensures) in (
+    let found : lookup (same_peer c.args.peer.now) s.order.entries ≡ Some c.in_ok-number.number = sym (sym c.in_ok-number.was ∙ c.number_behind.ensures) in (
       λ w. (
         numbered-write s.held _ (peers_in s.names.items) s.order.entries s.numbered c.args.peer.now c.in_ok-number.number w found
             (Updates-with_value s.held c.in_ok-number.number w (held-there s.held (peers_in s.names.items) s.order.entries s.numbered c.args.peer.now c.in_ok-number.number found)),
@@ -33,7 +33,7 @@ invariant_of-self-lent g c r =
 pub returns : goal.returns
 returns g c =
     let s = c.args.self.now in
-    let found : lookup (same_peer c.args.peer.now) s.order.entries ≡ Some c.in_ok-number.number = sym (sym c.in_ok-number.was ∙ c.number_of.ensures) in (
+    let found : lookup (same_peer c.args.peer.now) s.order.entries ≡ Some c.in_ok-number.number = sym (sym c.in_ok-number.was ∙ c.number_behind.ensures) in (
       (
         refl,
         λ w. always c.get_mut.result (stores-write s.held _ (peers_in s.names.items) s.order.entries s.numbered c.args.peer.now c.in_ok-number.number w found

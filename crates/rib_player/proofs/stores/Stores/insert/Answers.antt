@@ -13,8 +13,8 @@ invariant_of-self-in-Break-branch-4 g c =
     let s = c.args.self.now in
     let are = numbered-kept s.held c.reserve.new.self (peers_in s.names.items) s.order.entries s.numbered c.reserve.ensures.rest_kept in
     record {
-      numbered = subst (λ es. AreNumbered c.reserve.new.self (peers_in c.set_name.new.names.items) es) (sym c.in_err-insert.ensures.err)
-          (numbered-named c.reserve.new.self (peers_in s.names.items) (peers_in c.set_name.new.names.items) s.order.entries are c.vacant_key-number.result c.vacant_key-number.ensures.vacant c.set_name.ensures.others);
+      numbered = subst (λ es. AreNumbered c.reserve.new.self (peers_in c.put_name.new.names.items) es) (sym c.in_err-insert.ensures.err)
+          (numbered-named c.reserve.new.self (peers_in s.names.items) (peers_in c.put_name.new.names.items) s.order.entries are c.vacant_key-number.result c.vacant_key-number.ensures.vacant c.put_name.ensures.others);
     }
 
 pub invariant_of-self-2 : goal.invariant_of-self-2
@@ -24,9 +24,9 @@ invariant_of-self-2 g c =
     let none : lookup (same_peer c.args.peer) s.order.entries ≡ None = no-number s.held (peers_in s.names.items) s.order.entries s.numbered c.args.peer c.requires in
     record {
       numbered = numbered-insert c.reserve.new.self c.insert_reserved.new.self (peers_in s.names.items) s.order.entries are
-          (peers_in c.set_name.new.names.items) c.insert.new.self.entries c.args.peer c.vacant_key-number.result c.args.store none c.vacant_key-number.ensures.vacant
+          (peers_in c.put_name.new.names.items) c.insert.new.self.entries c.args.peer c.vacant_key-number.result c.args.store none c.vacant_key-number.ensures.vacant
           (subst (λ k. slab.Updates c.reserve.new.self c.insert_reserved.new.self k (Some c.args.store)) (c.insert_reserved.ensures.key ∙ sym c.vacant_key-number.ensures.value) c.insert_reserved.ensures.updates)
-          (c.in_ok-set_name.ensures.named ∙ ap Some c.in_ok-shared.ensures.ok) c.set_name.ensures.others c.in_ok-insert.ensures.entries c.in_ok-insert.ensures.updates.0;
+          (c.in_ok-put_name.ensures.named ∙ ap Some c.in_ok-shared.ensures.ok) c.put_name.ensures.others c.in_ok-insert.ensures.entries c.in_ok-insert.ensures.updates.0;
     }
 
 pub returns-clause-added : goal.returns-clause-added
@@ -36,7 +36,7 @@ returns-clause-added g c p =
     let none : lookup (same_peer c.args.peer) s.order.entries ≡ None = no-number s.held (peers_in s.names.items) s.order.entries s.numbered c.args.peer c.requires in
     ap₂ (λ h o. store_at (stores_of h o.entries) p) c.note_place.ensures.held c.note_place.ensures.order
     ∙ stores-insert c.reserve.new.self c.insert_reserved.new.self (peers_in s.names.items) s.order.entries are
-    (peers_in c.set_name.new.names.items) c.insert.new.self.entries c.args.peer c.vacant_key-number.result c.args.store none c.vacant_key-number.ensures.vacant
+    (peers_in c.put_name.new.names.items) c.insert.new.self.entries c.args.peer c.vacant_key-number.result c.args.store none c.vacant_key-number.ensures.vacant
     (subst (λ k. slab.Updates c.reserve.new.self c.insert_reserved.new.self k (Some c.args.store)) (c.insert_reserved.ensures.key ∙ sym c.vacant_key-number.ensures.value) c.insert_reserved.ensures.updates)
-    (c.in_ok-set_name.ensures.named ∙ ap Some c.in_ok-shared.ensures.ok) c.set_name.ensures.others c.in_ok-insert.ensures.entries c.in_ok-insert.ensures.updates.0 p
+    (c.in_ok-put_name.ensures.named ∙ ap Some c.in_ok-shared.ensures.ok) c.put_name.ensures.others c.in_ok-insert.ensures.entries c.in_ok-insert.ensures.updates.0 p
     ∙ ap (λ h. cond (same_peer c.args.peer p) (Some c.args.store) (store_at (stores_of h s.order.entries) p)) c.reserve.ensures.rest_kept

@@ -1,7 +1,7 @@
 use Rattle.std.proofs.Common.{◌≡◌, Some, slice_get, length, sym, subst, arith}
 use Rattle.rib_player.specs.Numbered.{peers_in}
 use Rattle.rib_player.proofs.RowLaws.{name-set, name-set_other, name-push, name-push_other}
-use Rattle.rib_player.proofs.stores.set_name.Goals as goal
+use Rattle.rib_player.proofs.stores.put_name.Goals as goal
 
 pub returns-then-number-len-clause-named : goal.returns-then-number-len-clause-named
 returns-then-number-len-clause-named c = name-set c.args.names.now.items c.args.number c.args.peer (omega (arith, c.if-number-len.true, c.len.ensures))
