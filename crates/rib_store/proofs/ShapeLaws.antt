@@ -1,5 +1,5 @@
 -- What a tree holds, however its nodes lie in memory.
-use Rattle.std.proofs.Common.{◌≡◌, ◌⊎◌, inl, inr, Bool, true, false, cond, Option, Some, None, List, refl, ap, sym, subst, ◌∙◌}
+use Rattle.std.proofs.Common.{◌≡◌, ◌⊎◌, ◌||◌, is_some, inl, inr, Bool, true, false, cond, Option, Some, None, List, refl, ap, sym, subst, ◌∙◌}
 use Rattle.std.specs.Prelude.{IsSome}
 use Rattle.ip_prefix.specs.declared.turn.Turn.{Turn}
 use Rattle.ip_prefix.specs.declared.turn.Turn.TheVariants.{Outside, Here, Left, Right}
@@ -7,7 +7,7 @@ use Rattle.ip_prefix.specs.Network.{Network}
 use Rattle.ip_prefix.specs.Turns.{way, turn_of}
 use Rattle.rib_store.specs.declared.tree.Tree.{Tree}
 use Rattle.rib_store.specs.declared.tree.Tree.TheVariants as tree
-use Rattle.rib_store.specs.Shape.{Shape, Empty, shape_of, leaf_slot, IsLeaf, IsMarked}
+use Rattle.rib_store.specs.Shape.{Shape, Empty, shape_of, leaf_slot, IsLeaf, IsMarked, is_routed}
 use Rattle.rib_store.specs.Tree.{at, root, chosen, same_way, IsPut, IsRooted, IsShaped, IsPlaced, IsGrown}
 use Rattle.rib_store.proofs.TreeLaws.{shaped_rooted, root_rooted}
 use Rattle.rib_store.proofs.GrowthLaws.{placed_left, placed_right, grown_here, leaf_shaped, leaf_slots}
@@ -55,6 +55,13 @@ marked_leaf (tree.Bare other) key is = tt
 marked_leaf (tree.Leaf other route) key is = tt
 marked_leaf (tree.Rooted' routed other p slot left right) key is = absurd is
 
+-- it has a route where its mark would say so
+pub routed_leaf : {K R : Type 0} (t : Tree K R) (key : K) → IsLeaf key t → (is_some (leaf_slot t) || (false || false)) ≡ is_routed t
+routed_leaf tree.Empty key is = absurd is
+routed_leaf (tree.Bare other) key is = refl
+routed_leaf (tree.Leaf other route) key is = refl
+routed_leaf (tree.Rooted' routed other p slot left right) key is = absurd is
+
 -- the first key of a tree
 pub lone_placed : {R : Type 0} (key : Network) (route : Option R) (t : Shape R) → IsRooted key (Some route) Empty Empty t → IsPlaced (way key) (Some route) Empty t
 lone_placed key route t is = record {
@@ -88,6 +95,16 @@ pub none_below : {K R : Type 0} (network : K → Network) (t : Tree K R) (prefix
     → turn_of (way (network prefix)) key ≡ side → at (shape_of network t) key ≡ None
 none_below network t prefix key side is (inl left) turn = at_leaf network t prefix is key ∙ ap (λ w. chosen w None (Some (leaf_slot t)) None None) (turn ∙ left)
 none_below network t prefix key side is (inr right) turn = at_leaf network t prefix is key ∙ ap (λ w. chosen w None (Some (leaf_slot t)) None None) (turn ∙ right)
+
+-- nor is one that isn't the leaf's
+pub none_apart : {K R : Type 0} (network : K → Network) (t : Tree K R) (prefix : K) (key : List Bool) → IsLeaf prefix t → (turn_of (way (network prefix)) key ≡ Here → ⊥) → at (shape_of network t) key ≡ None
+none_apart network t prefix key is apart = by (turn_of (way (network prefix)) key) refl
+  where
+    by : (u : Turn) → turn_of (way (network prefix)) key ≡ u → at (shape_of network t) key ≡ None
+    by Outside e = none_outside network t prefix key is e
+    by Here e = absurd (apart e)
+    by Left e = none_below network t prefix key Left is (inl refl) e
+    by Right e = none_below network t prefix key Right is (inr refl) e
 
 -- ---- keys that go
 

@@ -1,12 +1,11 @@
 //! Keys and routes come and go in place: nodes are split and joined.
 
-ghost use Rattle.std.specs.Prelude.{◌≡◌, ◌≢◌, ◌⊎◌, ◌||◌, Option, Some, None, List, Bool, true, false, is_some, not};
+ghost use Rattle.std.specs.Prelude.{◌≡◌, ◌≢◌, ◌⊎◌, ◌||◌, Some, None, List, Bool, true, false, is_some, not};
 ghost use Rattle.std.specs.Prelude.{IsSome, OnOk, OnErr, IfOk};
 ghost use Rattle.ip_prefix.specs.Turns.{way, turn_of};
-ghost use Rattle.ip_prefix.specs.Network.{Network};
 ghost use Rattle.ip_prefix.specs.declared.turn.Turn.TheVariants.{Outside, Here, Left, Right};
 ghost use Rattle.rib_store.specs.Shape.{Empty, shape_of, leaf_slot, is_filled, is_routed, any_routed, IsLeaf, IsMarked};
-ghost use Rattle.rib_store.specs.Tree.{at, root, slot_of, kept, AreOf, IsOn, IsShaped, IsNearlyShaped, IsPut, IsPlaced, IsGrown, IsRooted, IsRootedOver};
+ghost use Rattle.rib_store.specs.Tree.{at, root, slot_of, kept, AreOf, IsOn, IsShaped, IsNearlyShaped, IsPut, IsPlaced, IsGrown, IsHung, IsRooted, IsRootedOver};
 ghost use Rattle.rib_store.specs.Slots.{route_found};
 
 use crate::tree::{Node, Slot, Tree};
@@ -88,7 +87,7 @@ impl<K: Packed, R: Drop> Tree<K, R> {
                 let made = match prefix.turn(key) {
                     Turn::Outside => {
                         let mut none = None;
-                        return place_beside(self, &prefix.wide(), alloc, key, &mut none);
+                        return put_beside(self, &prefix.wide(), alloc, key, &mut none);
                     }
                     Turn::Here => node.slot.occupy(),
                     Turn::Left => node.left.ensure(alloc, key)?,
@@ -132,11 +131,11 @@ impl<K: Packed, R: Drop> Tree<K, R> {
             }
             Tree::Bare(prefix) => {
                 let prefix = *prefix;
-                place_at_leaf(self, prefix, alloc, key, route)
+                put_at_leaf(self, prefix, alloc, key, route)
             }
             Tree::Leaf(prefix, _) => {
                 let prefix = *prefix;
-                place_at_leaf(self, prefix, alloc, key, route)
+                put_at_leaf(self, prefix, alloc, key, route)
             }
             Tree::Rooted(routed, prefix, node) => {
                 let prefix = *prefix;
@@ -144,7 +143,7 @@ impl<K: Packed, R: Drop> Tree<K, R> {
                 let brought = route.is_some();
                 let made = match prefix.turn(key) {
                     Turn::Outside => {
-                        return place_beside(self, &prefix.wide(), alloc, key, route);
+                        return put_beside(self, &prefix.wide(), alloc, key, route);
                     }
                     Turn::Here => node.slot.put(route),
                     Turn::Left => node.left.put(alloc, key, route)?,
@@ -159,7 +158,7 @@ impl<K: Packed, R: Drop> Tree<K, R> {
 
 /// Makes the prefix, which the root's doesn't cover, a key above the root or beside it, with the route,
 /// and answers that it is new.
-fn place_beside<K: Packed, R: Drop>(
+fn put_beside<K: Packed, R: Drop>(
     tree: &mut Tree<K, R>,
     prefix: &Prefix,
     alloc: Global,
@@ -190,7 +189,7 @@ fn place_beside<K: Packed, R: Drop>(
 
 /// Puts the route at the key, beside or below one that has no others below it, or there. Answers
 /// whether the key is new.
-fn place_at_leaf<K: Packed, R: Drop>(
+fn put_at_leaf<K: Packed, R: Drop>(
     tree: &mut Tree<K, R>,
     prefix: K,
     alloc: Global,
@@ -207,8 +206,9 @@ fn place_at_leaf<K: Packed, R: Drop>(
     ensures given { OnOk result
         (route.new ≡ route_found (at (shape_of K.network tree.old) (way key.now))) }
     ensures marked { OnOk result (IsMarked tree.new) }
-    ensures routed { OnOk result (turn_of (way (K.network prefix)) (way key.now) ≢ Here →
-        is_routed tree.new ≡ (is_some route.old || is_routed tree.old)) }
+    ensures quiet { OnOk result (route.old ≡ None →
+        turn_of (way (K.network prefix)) (way key.now) ≢ Here →
+        is_routed tree.new ≡ is_routed tree.old) }
     ensures brought { OnOk result (is_some route.old ≡ true → is_routed tree.new ≡ true) }
     ensures refused { OnErr result (tree.new ≡ tree.old) }
     ensures kept { OnErr result (route.new ≡ route.old) }
@@ -216,7 +216,7 @@ fn place_at_leaf<K: Packed, R: Drop>(
 {
     let side = prefix.turn(key);
     match side {
-        Turn::Outside => place_beside(tree, &prefix.wide(), alloc, key, route),
+        Turn::Outside => put_beside(tree, &prefix.wide(), alloc, key, route),
         Turn::Here => {
             exchange_leaf(tree, prefix, route);
             Ok(false)
@@ -352,7 +352,7 @@ fn grow_leaf<K: Packed, R: Drop>(
         return Ok(false);
     }
     let mut none = None;
-    place_at_leaf(tree, prefix, alloc, key, &mut none)
+    put_at_leaf(tree, prefix, alloc, key, &mut none)
 }
 
 /// Puts a leaf below one that had none, on this side.
@@ -366,13 +366,11 @@ fn hang<K: Packed, R: Drop>(
     requires leaf { IsLeaf prefix tree.old }
     requires side { (side ≡ Left) ⊎ (side ≡ Right) }
     requires marked { IsMarked leaf }
-    ensures placed { (key : Network) (route : Option R) →
-        IsRooted key (Some route) Empty Empty (shape_of K.network leaf) →
-        turn_of (way (K.network prefix)) (way key) ≡ side →
-        IsPlaced (way key) (Some route) (shape_of K.network tree.old)
-        (shape_of K.network tree.new) }
+    ensures placed { IsHung (way (K.network prefix)) side (shape_of K.network leaf)
+        (shape_of K.network tree.old) (shape_of K.network tree.new) }
     ensures marked { IsMarked tree.new }
-    ensures routed { is_routed tree.new ≡ (is_routed leaf || is_routed tree.old) }
+    ensures routed { is_routed tree.new ≡
+        (is_some (leaf_slot tree.old) || (false || is_routed leaf)) }
 {
     let mut node = node;
     node.slot = slot_in(mem::replace(tree, Tree::Empty));
@@ -462,9 +460,11 @@ fn split<K: Packed, R: Drop>(
     requires kind { key.now.family ≡ K.family }
     requires outside { turn_of (way prefix.now) (way key.now) ≡ Outside }
     requires branch { slot_of node.value.slot ≡ None }
+    requires bare { is_filled node.value.slot ≡ false }
     requires leaf { IsRooted key.now (Some (leaf_slot leaf)) Empty Empty
         (shape_of K.network leaf) }
     requires marked_leaf { IsMarked leaf }
+    requires routed_leaf { is_routed leaf ≡ is_some (leaf_slot leaf) }
     ensures placed { IsPlaced (way key.now) (Some (leaf_slot leaf))
         (shape_of K.network tree.old) (shape_of K.network tree.new) }
     ensures marked { IsMarked tree.new }
