@@ -148,53 +148,51 @@ put_leaf Here none v = refl
 put_leaf Left none v = refl
 put_leaf Right none v = refl
 
-pub leaf_slots : {R : Type 0} (key : Network) (t : Shape R) → IsRooted key (Some None) Empty Empty t → IsPut (λ q. None) (way key) (Some None) (at t)
-leaf_slots key t is q = at_rooted t key (Some None) Empty Empty is q ∙ put_leaf (turn_of (way key) q) None (Some None)
+pub leaf_slots : {R : Type 0} (key : Network) (route : Option R) (t : Shape R) → IsRooted key (Some route) Empty Empty t → IsPut (λ q. None) (way key) (Some route) (at t)
+leaf_slots key route t is q = at_rooted t key (Some route) Empty Empty is q ∙ put_leaf (turn_of (way key) q) None (Some route)
 
-pub leaf_shaped : {R : Type 0} (key : Network) (t : Shape R) → IsRooted key (Some None) Empty Empty t → IsShaped t
-leaf_shaped key t is = shaped_rooted t key (Some None) Empty Empty is (record { left = tt; right = tt }, tt, tt, tt)
+pub leaf_shaped : {R : Type 0} (key : Network) (route : Option R) (t : Shape R) → IsRooted key (Some route) Empty Empty t → IsShaped t
+leaf_shaped key route t is = shaped_rooted t key (Some route) Empty Empty is (record { left = tt; right = tt }, tt, tt, tt)
 
 -- nothing is at a key outside of the way to the root
-at_outside : {R : Type 0} (t : Shape R) (b key : List Bool) → root t ≡ Some b → turn_of b key ≡ Outside → at t key ≡ None
+pub at_outside : {R : Type 0} (t : Shape R) (b key : List Bool) → root t ≡ Some b → turn_of b key ≡ Outside → at t key ≡ None
 at_outside Empty b key e out = refl
 at_outside (Rooted prefix slot l r) b key e out =
     let same : way prefix ≡ b = cc in
     chosen_at (turn_of (way prefix) key) None (slot_of slot) (at l key) (at r key) None Outside (ap (λ x. turn_of x key) same ∙ out) refl
 
 -- what stands on the other side of a new node: nothing, where the node is the key, or the key
-pub data Beside {R : Type 0} (key above : Network) (slot : Option (Option R)) (beside : Shape R) : Type 0 where
-  is_key : turn_of (way above) (way key) ≡ Here → slot ≡ Some None → beside ≡ Empty → Beside key above slot beside
-  is_branch : (turn_of (way above) (way key) ≡ Here → ⊥) → slot ≡ None → IsRooted key (Some None) Empty Empty beside → Beside key above slot beside
+pub data Beside {R : Type 0} (key above : Network) (route : Option R) (slot : Option (Option R)) (beside : Shape R) : Type 0 where
+  is_key : turn_of (way above) (way key) ≡ Here → slot ≡ Some route → beside ≡ Empty → Beside key above route slot beside
+  is_branch : (turn_of (way above) (way key) ≡ Here → ⊥) → slot ≡ None → IsRooted key (Some route) Empty Empty beside → Beside key above route slot beside
 
 -- the key is above the tree, or a branch is
-over_side : {R : Type 0} {old new : Shape R} (key above : Network) (b : List Bool) (slot : Option (Option R)) (beside : Shape R) (bit : Bool)
+over_side : {R : Type 0} {old new : Shape R} (key above : Network) (b : List Bool) (route : Option R) (slot : Option (Option R)) (beside : Shape R) (bit : Bool)
     → at old (way key) ≡ None → root old ≡ Some b → IsShaped old → way above ≡ shared b (way key) → turn_of (way above) b ≡ side bit
     → (turn_of (way above) (way key) ≡ Here) ⊎ (turn_of (way above) (way key) ≡ side (not bit))
-    → IsRooted above slot (cond bit beside old) (cond bit old beside) new → Beside key above slot beside → IsGrown (way key) old new
-over_side {R} {old} {new} key above b slot beside false none e shaped bits below parts is (is_key here slot_is empty) =
-    let is' : IsRooted above (Some None) old Empty new = subst (λ (x : Option (Option R) × Shape R). IsRooted above x.0 old x.1 new) (λ i. (slot_is i, empty i)) is in
+    → IsRooted above slot (cond bit beside old) (cond bit old beside) new → Beside key above route slot beside → IsPlaced (way key) (Some route) old new
+over_side {R} {old} {new} key above b route slot beside false none e shaped bits below parts is (is_key here slot_is empty) =
+    let is' : IsRooted above (Some route) old Empty new = subst (λ (x : Option (Option R) × Shape R). IsRooted above x.0 old x.1 new) (λ i. (slot_is i, empty i)) is in
     record {
-      shaped = shaped_rooted new above (Some None) old Empty is' (record { left = on_side old (way above) b false e below; right = tt }, tt, shaped, tt);
-      slots = λ q. at_rooted new above (Some None) old Empty is' q
-          ∙ put_from (at old) _ (λ q. chosen (turn_of (way above) q) None (Some None) (at old q) None) (way key) (kept (at old (way key))) (at_left (way above) old (on_side old (way above) b false e below))
-          (subst (λ v. IsPut (λ q. chosen (turn_of (way above) q) None None (at old q) None) (way key) v (λ q. chosen (turn_of (way above) q) None (Some None) (at old q) None)) (ap kept (sym none))
-          (put_here (way above) (way key) None None (Some None) (at old) (λ q. None) here)) q;
-      roots = root_rooted new above (Some None) old Empty is' ∙ ap Some bits ∙ sym (ap (λ o. Some (joined o (way key))) e);
+      shaped = shaped_rooted new above (Some route) old Empty is' (record { left = on_side old (way above) b false e below; right = tt }, tt, shaped, tt);
+      slots = λ q. at_rooted new above (Some route) old Empty is' q
+          ∙ put_from (at old) _ (λ q. chosen (turn_of (way above) q) None (Some route) (at old q) None) (way key) (Some route) (at_left (way above) old (on_side old (way above) b false e below))
+          (put_here (way above) (way key) None None (Some route) (at old) (λ q. None) here) q;
+      roots = root_rooted new above (Some route) old Empty is' ∙ ap Some bits ∙ sym (ap (λ o. Some (joined o (way key))) e);
     }
-over_side {R} {old} {new} key above b slot beside true none e shaped bits below parts is (is_key here slot_is empty) =
-    let is' : IsRooted above (Some None) Empty old new = subst (λ (x : Option (Option R) × Shape R). IsRooted above x.0 x.1 old new) (λ i. (slot_is i, empty i)) is in
+over_side {R} {old} {new} key above b route slot beside true none e shaped bits below parts is (is_key here slot_is empty) =
+    let is' : IsRooted above (Some route) Empty old new = subst (λ (x : Option (Option R) × Shape R). IsRooted above x.0 x.1 old new) (λ i. (slot_is i, empty i)) is in
     record {
-      shaped = shaped_rooted new above (Some None) Empty old is' (record { left = tt; right = on_side old (way above) b true e below }, tt, tt, shaped);
-      slots = λ q. at_rooted new above (Some None) Empty old is' q
-          ∙ put_from (at old) _ (λ q. chosen (turn_of (way above) q) None (Some None) None (at old q)) (way key) (kept (at old (way key))) (at_right (way above) old (on_side old (way above) b true e below))
-          (subst (λ v. IsPut (λ q. chosen (turn_of (way above) q) None None None (at old q)) (way key) v (λ q. chosen (turn_of (way above) q) None (Some None) None (at old q))) (ap kept (sym none))
-          (put_here (way above) (way key) None None (Some None) (λ q. None) (at old) here)) q;
-      roots = root_rooted new above (Some None) Empty old is' ∙ ap Some bits ∙ sym (ap (λ o. Some (joined o (way key))) e);
+      shaped = shaped_rooted new above (Some route) Empty old is' (record { left = tt; right = on_side old (way above) b true e below }, tt, tt, shaped);
+      slots = λ q. at_rooted new above (Some route) Empty old is' q
+          ∙ put_from (at old) _ (λ q. chosen (turn_of (way above) q) None (Some route) None (at old q)) (way key) (Some route) (at_right (way above) old (on_side old (way above) b true e below))
+          (put_here (way above) (way key) None None (Some route) (λ q. None) (at old) here) q;
+      roots = root_rooted new above (Some route) Empty old is' ∙ ap Some bits ∙ sym (ap (λ o. Some (joined o (way key))) e);
     }
-over_side {R} {old} {new} key above b slot beside false none e shaped bits below parts is (is_branch apart slot_is leaf) =
+over_side {R} {old} {new} key above b route slot beside false none e shaped bits below parts is (is_branch apart slot_is leaf) =
     let is' : IsRooted above None old beside new = subst (λ x. IsRooted above x old beside new) slot_is is in
     let there : turn_of (way above) (way key) ≡ Right = elim parts [ inl here ↦ absurd (apart here) | inr there ↦ there ] in
-    let beside_top = root_rooted beside key (Some None) Empty Empty leaf in
+    let beside_top = root_rooted beside key (Some route) Empty Empty leaf in
     record {
       shaped = shaped_rooted new above None old beside is' (
         record {
@@ -203,18 +201,17 @@ over_side {R} {old} {new} key above b slot beside false none e shaped bits below
         },
         (some_is (root old) b e, some_is (root beside) (way key) beside_top),
         shaped,
-        leaf_shaped key beside leaf,
+        leaf_shaped key route beside leaf,
       );
       slots = λ q. at_rooted new above None old beside is' q
-          ∙ put_from (at old) _ (λ q. chosen (turn_of (way above) q) None None (at old q) (at beside q)) (way key) (kept (at old (way key))) (at_left (way above) old (on_side old (way above) b false e below))
-          (subst (λ v. IsPut (λ q. chosen (turn_of (way above) q) None None (at old q) None) (way key) v (λ q. chosen (turn_of (way above) q) None None (at old q) (at beside q))) (ap kept (sym none))
-          (put_right (way above) (way key) None None (Some None) (at old) (λ q. None) (at beside) there (leaf_slots key beside leaf))) q;
+          ∙ put_from (at old) _ (λ q. chosen (turn_of (way above) q) None None (at old q) (at beside q)) (way key) (Some route) (at_left (way above) old (on_side old (way above) b false e below))
+          (put_right (way above) (way key) None None (Some route) (at old) (λ q. None) (at beside) there (leaf_slots key route beside leaf)) q;
       roots = root_rooted new above None old beside is' ∙ ap Some bits ∙ sym (ap (λ o. Some (joined o (way key))) e);
     }
-over_side {R} {old} {new} key above b slot beside true none e shaped bits below parts is (is_branch apart slot_is leaf) =
+over_side {R} {old} {new} key above b route slot beside true none e shaped bits below parts is (is_branch apart slot_is leaf) =
     let is' : IsRooted above None beside old new = subst (λ x. IsRooted above x beside old new) slot_is is in
     let there : turn_of (way above) (way key) ≡ Left = elim parts [ inl here ↦ absurd (apart here) | inr there ↦ there ] in
-    let beside_top = root_rooted beside key (Some None) Empty Empty leaf in
+    let beside_top = root_rooted beside key (Some route) Empty Empty leaf in
     record {
       shaped = shaped_rooted new above None beside old is' (
         record {
@@ -222,13 +219,12 @@ over_side {R} {old} {new} key above b slot beside true none e shaped bits below 
           right = on_side old (way above) b true e below;
         },
         (some_is (root beside) (way key) beside_top, some_is (root old) b e),
-        leaf_shaped key beside leaf,
+        leaf_shaped key route beside leaf,
         shaped,
       );
       slots = λ q. at_rooted new above None beside old is' q
-          ∙ put_from (at old) _ (λ q. chosen (turn_of (way above) q) None None (at beside q) (at old q)) (way key) (kept (at old (way key))) (at_right (way above) old (on_side old (way above) b true e below))
-          (subst (λ v. IsPut (λ q. chosen (turn_of (way above) q) None None None (at old q)) (way key) v (λ q. chosen (turn_of (way above) q) None None (at beside q) (at old q))) (ap kept (sym none))
-          (put_left (way above) (way key) None None (Some None) (λ q. None) (at beside) (at old) there (leaf_slots key beside leaf))) q;
+          ∙ put_from (at old) _ (λ q. chosen (turn_of (way above) q) None None (at beside q) (at old q)) (way key) (Some route) (at_right (way above) old (on_side old (way above) b true e below))
+          (put_left (way above) (way key) None None (Some route) (λ q. None) (at beside) (at old) there (leaf_slots key route beside leaf)) q;
       roots = root_rooted new above None beside old is' ∙ ap Some bits ∙ sym (ap (λ o. Some (joined o (way key))) e);
     }
 
@@ -243,13 +239,17 @@ by_side Outside true x y e = cc
 by_side Here false x y e = cc
 by_side Here true x y e = cc
 
-pub grown_over : {R : Type 0} {old new : Shape R} (key above : Network) (b : List Bool) (slot : Option (Option R)) (beside : Shape R) (t : Turn)
+pub placed_over : {R : Type 0} {old new : Shape R} (key above : Network) (b : List Bool) (route : Option R) (slot : Option (Option R)) (beside : Shape R) (t : Turn)
     → turn_of b (way key) ≡ Outside → root old ≡ Some b → IsShaped old → way above ≡ shared b (way key) → t ≡ turn_of (way above) b
-    → IsRooted above slot (chosen t beside beside old beside) (chosen t old old beside old) new → Beside key above slot beside → IsGrown (way key) old new
-grown_over {R} {old} {new} key above b slot beside t out e shaped bits turn is beside_is =
+    → IsRooted above slot (chosen t beside beside old beside) (chosen t old old beside old) new → Beside key above route slot beside → IsPlaced (way key) (Some route) old new
+placed_over {R} {old} {new} key above b route slot beside t out e shaped bits turn is beside_is =
     let p = parts b (way key) out in
     let below : turn_of (way above) b ≡ side p.bit = ap (λ x. turn_of x b) bits ∙ p.below in
     let key_part : (turn_of (way above) (way key) ≡ Here) ⊎ (turn_of (way above) (way key) ≡ side (not p.bit)) = subst (λ x. (turn_of x (way key) ≡ Here) ⊎ (turn_of x (way key) ≡ side (not p.bit))) (sym bits) p.key in
     let sides = by_side t p.bit beside old (turn ∙ below) in
-    over_side key above b slot beside p.bit (at_outside old b (way key) e out) e shaped bits below key_part
+    over_side key above b route slot beside p.bit (at_outside old b (way key) e out) e shaped bits below key_part
     (subst (λ (x : Shape R × Shape R). IsRooted above slot x.0 x.1 new) (λ i. (sides.0 i, sides.1 i)) is) beside_is
+
+-- a key is there without a route, where it was none
+pub grown_from : {R : Type 0} {old new : Shape R} (key : List Bool) → at old key ≡ None → IsPlaced key (Some None) old new → IsGrown key old new
+grown_from {R} {old} {new} key none placed = subst (λ v. IsPlaced key v old new) (ap kept (sym none)) placed

@@ -1,5 +1,5 @@
 -- What a tree holds, however its nodes lie in memory.
-use Rattle.std.proofs.Common.{◌≡◌, ◌⊎◌, inl, inr, Bool, true, false, cond, Option, Some, None, List, refl, ap, sym, subst, ◌∙◌}
+use Rattle.std.proofs.Common.{◌≡◌, ◌⊎◌, ◌||◌, is_some, inl, inr, Bool, true, false, cond, Option, Some, None, List, refl, ap, sym, subst, ◌∙◌}
 use Rattle.std.specs.Prelude.{IsSome}
 use Rattle.ip_prefix.specs.declared.turn.Turn.{Turn}
 use Rattle.ip_prefix.specs.declared.turn.Turn.TheVariants.{Outside, Here, Left, Right}
@@ -7,10 +7,10 @@ use Rattle.ip_prefix.specs.Network.{Network}
 use Rattle.ip_prefix.specs.Turns.{way, turn_of}
 use Rattle.rib_store.specs.declared.tree.Tree.{Tree}
 use Rattle.rib_store.specs.declared.tree.Tree.TheVariants as tree
-use Rattle.rib_store.specs.Shape.{Shape, Empty, shape_of, leaf_slot, IsLeaf, IsMarked}
-use Rattle.rib_store.specs.Tree.{at, root, chosen, same_way, IsPut, IsRooted, IsShaped, IsGrown}
+use Rattle.rib_store.specs.Shape.{Shape, Empty, shape_of, leaf_slot, IsLeaf, IsMarked, is_routed}
+use Rattle.rib_store.specs.Tree.{at, root, chosen, same_way, IsPut, IsRooted, IsShaped, IsPlaced, IsGrown}
 use Rattle.rib_store.proofs.TreeLaws.{shaped_rooted, root_rooted}
-use Rattle.rib_store.proofs.GrowthLaws.{grown_left, grown_right, grown_here, leaf_shaped, leaf_slots}
+use Rattle.rib_store.proofs.GrowthLaws.{placed_left, placed_right, grown_here, leaf_shaped, leaf_slots}
 use Rattle.rib_store.proofs.WayLaws.{same_is}
 use Rattle.rib_store.proofs.ChangeLaws.{put_here, put_from}
 
@@ -55,24 +55,31 @@ marked_leaf (tree.Bare other) key is = tt
 marked_leaf (tree.Leaf other route) key is = tt
 marked_leaf (tree.Rooted' routed other p slot left right) key is = absurd is
 
+-- it has a route where its mark would say so
+pub routed_leaf : {K R : Type 0} (t : Tree K R) (key : K) → IsLeaf key t → (is_some (leaf_slot t) || (false || false)) ≡ is_routed t
+routed_leaf tree.Empty key is = absurd is
+routed_leaf (tree.Bare other) key is = refl
+routed_leaf (tree.Leaf other route) key is = refl
+routed_leaf (tree.Rooted' routed other p slot left right) key is = absurd is
+
 -- the first key of a tree
-lone_grown : {R : Type 0} (key : Network) (t : Shape R) → IsRooted key (Some None) Empty Empty t → IsGrown (way key) Empty t
-lone_grown key t is = record {
-  shaped = leaf_shaped key t is;
-  slots = leaf_slots key t is;
-  roots = root_rooted t key (Some None) Empty Empty is;
+pub lone_placed : {R : Type 0} (key : Network) (route : Option R) (t : Shape R) → IsRooted key (Some route) Empty Empty t → IsPlaced (way key) (Some route) Empty t
+lone_placed key route t is = record {
+  shaped = leaf_shaped key route t is;
+  slots = leaf_slots key route t is;
+  roots = root_rooted t key (Some route) Empty Empty is;
 }
 
 -- a key below one that had none
-pub hung : {K R : Type 0} (network : K → Network) (old : Tree K R) (new : Shape R) (prefix : K) (key : Network) (slot : Option (Option R)) (below : Shape R) (side : Turn)
-    → IsLeaf prefix old → (side ≡ Left) ⊎ (side ≡ Right) → turn_of (way (network prefix)) (way key) ≡ side → slot ≡ Some (leaf_slot old) → IsRooted key (Some None) Empty Empty below
-    → IsRooted (network prefix) slot (chosen side Empty Empty below Empty) (chosen side below below Empty below) new → IsGrown (way key) (shape_of network old) new
-hung {K} {R} network old new prefix key slot below side was (inl left) turn slot_is leaf is =
+pub hung : {K R : Type 0} (network : K → Network) (old : Tree K R) (new : Shape R) (prefix : K) (key : Network) (route : Option R) (slot : Option (Option R)) (below : Shape R) (side : Turn)
+    → IsLeaf prefix old → (side ≡ Left) ⊎ (side ≡ Right) → turn_of (way (network prefix)) (way key) ≡ side → slot ≡ Some (leaf_slot old) → IsRooted key (Some route) Empty Empty below
+    → IsRooted (network prefix) slot (chosen side Empty Empty below Empty) (chosen side below below Empty below) new → IsPlaced (way key) (Some route) (shape_of network old) new
+hung {K} {R} network old new prefix key route slot below side was (inl left) turn slot_is leaf is =
     let is' : IsRooted (network prefix) (Some (leaf_slot old)) below Empty new = subst (λ (x : Turn × Option (Option R)). IsRooted (network prefix) x.1 (chosen x.0 Empty Empty below Empty) (chosen x.0 below below Empty below) new) (λ i. (left i, slot_is i)) is in
-    grown_left (way key) (network prefix) (Some (leaf_slot old)) Empty Empty below (rooted_leaf network old prefix was) is' (turn ∙ left) (shaped_leaf network old prefix was) (lone_grown key below leaf)
-hung {K} {R} network old new prefix key slot below side was (inr right) turn slot_is leaf is =
+    placed_left (way key) (network prefix) (Some (leaf_slot old)) (Some route) Empty Empty below (rooted_leaf network old prefix was) is' (turn ∙ left) (shaped_leaf network old prefix was) (lone_placed key route below leaf)
+hung {K} {R} network old new prefix key route slot below side was (inr right) turn slot_is leaf is =
     let is' : IsRooted (network prefix) (Some (leaf_slot old)) Empty below new = subst (λ (x : Turn × Option (Option R)). IsRooted (network prefix) x.1 (chosen x.0 Empty Empty below Empty) (chosen x.0 below below Empty below) new) (λ i. (right i, slot_is i)) is in
-    grown_right (way key) (network prefix) (Some (leaf_slot old)) Empty Empty below (rooted_leaf network old prefix was) is' (turn ∙ right) (shaped_leaf network old prefix was) (lone_grown key below leaf)
+    placed_right (way key) (network prefix) (Some (leaf_slot old)) (Some route) Empty Empty below (rooted_leaf network old prefix was) is' (turn ∙ right) (shaped_leaf network old prefix was) (lone_placed key route below leaf)
 
 -- no key is outside
 pub none_outside : {K R : Type 0} (network : K → Network) (t : Tree K R) (prefix : K) (key : List Bool) → IsLeaf prefix t → turn_of (way (network prefix)) key ≡ Outside → at (shape_of network t) key ≡ None
@@ -88,6 +95,16 @@ pub none_below : {K R : Type 0} (network : K → Network) (t : Tree K R) (prefix
     → turn_of (way (network prefix)) key ≡ side → at (shape_of network t) key ≡ None
 none_below network t prefix key side is (inl left) turn = at_leaf network t prefix is key ∙ ap (λ w. chosen w None (Some (leaf_slot t)) None None) (turn ∙ left)
 none_below network t prefix key side is (inr right) turn = at_leaf network t prefix is key ∙ ap (λ w. chosen w None (Some (leaf_slot t)) None None) (turn ∙ right)
+
+-- nor is one that isn't the leaf's
+pub none_apart : {K R : Type 0} (network : K → Network) (t : Tree K R) (prefix : K) (key : List Bool) → IsLeaf prefix t → (turn_of (way (network prefix)) key ≡ Here → ⊥) → at (shape_of network t) key ≡ None
+none_apart network t prefix key is apart = by (turn_of (way (network prefix)) key) refl
+  where
+    by : (u : Turn) → turn_of (way (network prefix)) key ≡ u → at (shape_of network t) key ≡ None
+    by Outside e = none_outside network t prefix key is e
+    by Here e = absurd (apart e)
+    by Left e = none_below network t prefix key Left is (inl refl) e
+    by Right e = none_below network t prefix key Right is (inr refl) e
 
 -- ---- keys that go
 

@@ -120,6 +120,11 @@ pub record IsPlaced {R : Type 0} (key : List Bool) (slot : Option (Option R)) (o
   pub slots : IsPut (at old) key slot (at new)
   pub roots : root new ≡ Some (joined (root old) key)
 
+-- whatever key a leaf has on this side of a root, it is there with the leaf's route
+abbrev pub IsHung : {R : Type 0} → List Bool → Turn → Shape R → Shape R → Shape R → Type 0
+IsHung {R} prefix side leaf old new =
+    (key : Network) (route : Option R) → IsRooted key (Some route) Empty Empty leaf → turn_of prefix (way key) ≡ side → IsPlaced (way key) (Some route) old new
+
 -- a key is there, with what it had if it was one
 abbrev pub IsGrown : {R : Type 0} → List Bool → Shape R → Shape R → Type 0
 IsGrown key old new = IsPlaced key (kept (at old key)) old new

@@ -1,11 +1,11 @@
 //! Keys and routes come and go in place: nodes are split and joined.
 
-ghost use Rattle.std.specs.Prelude.{◌≡◌, ◌⊎◌, Some, None, List, Bool, true, false, is_some, not};
+ghost use Rattle.std.specs.Prelude.{◌≡◌, ◌≢◌, ◌⊎◌, ◌||◌, Some, None, List, Bool, true, false, is_some, not};
 ghost use Rattle.std.specs.Prelude.{IsSome, OnOk, OnErr, IfOk};
 ghost use Rattle.ip_prefix.specs.Turns.{way, turn_of};
-ghost use Rattle.ip_prefix.specs.declared.turn.Turn.TheVariants.{Outside, Left, Right};
+ghost use Rattle.ip_prefix.specs.declared.turn.Turn.TheVariants.{Outside, Here, Left, Right};
 ghost use Rattle.rib_store.specs.Shape.{Empty, shape_of, leaf_slot, is_filled, is_routed, any_routed, IsLeaf, IsMarked};
-ghost use Rattle.rib_store.specs.Tree.{at, root, slot_of, kept, AreOf, IsOn, IsShaped, IsNearlyShaped, IsPut, IsPlaced, IsGrown, IsRootedOver};
+ghost use Rattle.rib_store.specs.Tree.{at, root, slot_of, kept, AreOf, IsOn, IsShaped, IsNearlyShaped, IsPut, IsPlaced, IsGrown, IsHung, IsRooted, IsRootedOver};
 ghost use Rattle.rib_store.specs.Slots.{route_found};
 
 use crate::tree::{Node, Slot, Tree};
@@ -86,8 +86,8 @@ impl<K: Packed, R: Drop> Tree<K, R> {
                 let node = &mut **node;
                 let made = match prefix.turn(key) {
                     Turn::Outside => {
-                        split(self, &prefix.wide(), alloc, key)?;
-                        return Ok(true);
+                        let mut none = None;
+                        return put_beside(self, &prefix.wide(), alloc, key, &mut none);
                     }
                     Turn::Here => node.slot.occupy(),
                     Turn::Left => node.left.ensure(alloc, key)?,
@@ -125,11 +125,26 @@ impl<K: Packed, R: Drop> Tree<K, R> {
         ensures known { OnErr result (at (shape_of K.network self.old) (way key.now) ≡ None) }
     {
         match self {
+            Tree::Empty => {
+                *self = leaf_with(K::of(key), route);
+                Ok(true)
+            }
+            Tree::Bare(prefix) => {
+                let prefix = *prefix;
+                put_at_leaf(self, prefix, alloc, key, route)
+            }
+            Tree::Leaf(prefix, _) => {
+                let prefix = *prefix;
+                put_at_leaf(self, prefix, alloc, key, route)
+            }
             Tree::Rooted(routed, prefix, node) => {
+                let prefix = *prefix;
                 let node = &mut **node;
                 let brought = route.is_some();
                 let made = match prefix.turn(key) {
-                    Turn::Outside => return place(self, alloc, key, route),
+                    Turn::Outside => {
+                        return put_beside(self, &prefix.wide(), alloc, key, route);
+                    }
                     Turn::Here => node.slot.put(route),
                     Turn::Left => node.left.put(alloc, key, route)?,
                     Turn::Right => node.right.put(alloc, key, route)?,
@@ -137,21 +152,52 @@ impl<K: Packed, R: Drop> Tree<K, R> {
                 *routed = node.is_routed_with(brought);
                 Ok(made)
             }
-            _ => place(self, alloc, key, route),
         }
     }
 }
 
-/// Makes the prefix a key and puts the route there, one after the other.
-fn place<K: Packed, R: Drop>(
+/// Makes the prefix, which the root's doesn't cover, a key above the root or beside it, with the route,
+/// and answers that it is new.
+fn put_beside<K: Packed, R: Drop>(
     tree: &mut Tree<K, R>,
+    prefix: &Prefix,
     alloc: Global,
     key: &Prefix,
     route: &mut Option<R>,
 ) -> Result<bool, AllocError>
+    requires root { root (shape_of K.network tree.old) ≡ Some (way prefix.now) }
     requires shaped { IsShaped (shape_of K.network tree.old) }
     requires marked { IsMarked tree.old }
-    requires family { AreOf key.now.family (shape_of K.network tree.old) }
+    requires family { prefix.now.family ≡ key.now.family }
+    requires kind { key.now.family ≡ K.family }
+    requires outside { turn_of (way prefix.now) (way key.now) ≡ Outside }
+    ensures made { IfOk result (λ made. made ≡ true) }
+    ensures placed { OnOk result (IsPlaced (way key.now) (Some route.old)
+        (shape_of K.network tree.old) (shape_of K.network tree.new)) }
+    ensures marked { OnOk result (IsMarked tree.new) }
+    ensures routed { OnOk result
+        (is_routed tree.new ≡ (is_some route.old || is_routed tree.old)) }
+    ensures taken { OnOk result (route.new ≡ None) }
+    ensures refused { OnErr result (tree.new ≡ tree.old) }
+    ensures kept { OnErr result (route.new ≡ route.old) }
+{
+    let node = lone(alloc)?;
+    let leaf = leaf_with(K::of(key), route);
+    split(tree, prefix, node, key, leaf);
+    Ok(true)
+}
+
+/// Puts the route at the key, beside or below one that has no others below it, or there. Answers
+/// whether the key is new.
+fn put_at_leaf<K: Packed, R: Drop>(
+    tree: &mut Tree<K, R>,
+    prefix: K,
+    alloc: Global,
+    key: &Prefix,
+    route: &mut Option<R>,
+) -> Result<bool, AllocError>
+    requires leaf { IsLeaf prefix tree.old }
+    requires family { (K.network prefix).family ≡ key.now.family }
     requires kind { key.now.family ≡ K.family }
     ensures made { IfOk result (λ made. made ≡
         not (is_some (at (shape_of K.network tree.old) (way key.now)))) }
@@ -160,14 +206,28 @@ fn place<K: Packed, R: Drop>(
     ensures given { OnOk result
         (route.new ≡ route_found (at (shape_of K.network tree.old) (way key.now))) }
     ensures marked { OnOk result (IsMarked tree.new) }
+    ensures quiet { OnOk result (route.old ≡ None →
+        turn_of (way (K.network prefix)) (way key.now) ≢ Here →
+        is_routed tree.new ≡ is_routed tree.old) }
     ensures brought { OnOk result (is_some route.old ≡ true → is_routed tree.new ≡ true) }
     ensures refused { OnErr result (tree.new ≡ tree.old) }
     ensures kept { OnErr result (route.new ≡ route.old) }
     ensures known { OnErr result (at (shape_of K.network tree.old) (way key.now) ≡ None) }
 {
-    let made = tree.ensure(alloc, key)?;
-    tree.exchange(key, route);
-    Ok(made)
+    let side = prefix.turn(key);
+    match side {
+        Turn::Outside => put_beside(tree, &prefix.wide(), alloc, key, route),
+        Turn::Here => {
+            exchange_leaf(tree, prefix, route);
+            Ok(false)
+        }
+        Turn::Left | Turn::Right => {
+            let node = lone(alloc)?;
+            let leaf = leaf_with(K::of(key), route);
+            hang(tree, prefix, node, leaf, side);
+            Ok(true)
+        }
+    }
 }
 
 impl<K: Packed, R: Drop> Tree<K, R> {
@@ -288,47 +348,47 @@ fn grow_leaf<K: Packed, R: Drop>(
     ensures refused { OnErr result (tree.new ≡ tree.old) }
     ensures known { OnErr result (at (shape_of K.network tree.old) (way key.now) ≡ None) }
 {
-    match prefix.turn(key) {
-        Turn::Outside => {
-            split(tree, &prefix.wide(), alloc, key)?;
-            Ok(true)
-        }
-        Turn::Here => Ok(false),
-        Turn::Left => {
-            hang(tree, prefix, alloc, key, Turn::Left)?;
-            Ok(true)
-        }
-        Turn::Right => {
-            hang(tree, prefix, alloc, key, Turn::Right)?;
-            Ok(true)
-        }
+    if let Turn::Here = prefix.turn(key) {
+        return Ok(false);
     }
+    let mut none = None;
+    put_at_leaf(tree, prefix, alloc, key, &mut none)
 }
 
-/// Puts a key below one that had none, on this side.
+/// Puts a leaf below one that had none, on this side.
 fn hang<K: Packed, R: Drop>(
     tree: &mut Tree<K, R>,
     prefix: K,
-    alloc: Global,
-    key: &Prefix,
+    node: Box<Node<K, R>>,
+    leaf: Tree<K, R>,
     side: Turn,
-) -> Result<(), AllocError>
+)
     requires leaf { IsLeaf prefix tree.old }
-    requires kind { key.now.family ≡ K.family }
     requires side { (side ≡ Left) ⊎ (side ≡ Right) }
-    requires turn { turn_of (way (K.network prefix)) (way key.now) ≡ side }
-    ensures grown { OnOk result (IsGrown (way key.now) (shape_of K.network tree.old)
-        (shape_of K.network tree.new)) }
-    ensures marked { OnOk result (IsMarked tree.new) }
-    ensures routed { OnOk result (is_routed tree.new ≡ is_routed tree.old) }
-    ensures refused { OnErr result (tree.new ≡ tree.old) }
+    requires marked { IsMarked leaf }
+    ensures placed { IsHung (way (K.network prefix)) side (shape_of K.network leaf)
+        (shape_of K.network tree.old) (shape_of K.network tree.new) }
+    ensures marked { IsMarked tree.new }
+    ensures routed { is_routed tree.new ≡
+        (is_some (leaf_slot tree.old) || (false || is_routed leaf)) }
 {
-    let mut node = lone(alloc)?;
-    let slot = slot_in(mem::replace(tree, Tree::Empty));
-    node.slot = slot;
-    let below = Tree::Bare(K::of(key));
-    put_root(tree, prefix, node, Tree::Empty, below, side);
-    Ok(())
+    let mut node = node;
+    node.slot = slot_in(mem::replace(tree, Tree::Empty));
+    put_root(tree, prefix, node, Tree::Empty, leaf, side);
+}
+
+/// A key without others below it, with the route, which is taken.
+fn leaf_with<K: Packed, R: Drop>(prefix: K, route: &mut Option<R>) -> Tree<K, R>
+    ensures leaf { IsLeaf prefix result }
+    ensures marked { IsMarked result }
+    ensures slot { leaf_slot result ≡ route.old }
+    ensures routed { is_routed result ≡ is_some route.old }
+    ensures taken { route.new ≡ None }
+{
+    match route.take() {
+        Some(route) => Tree::Leaf(prefix, route),
+        None => Tree::Bare(prefix),
+    }
 }
 
 /// The slot of a key without others below it.
@@ -385,43 +445,41 @@ fn put_root<K: Packed, R: Drop>(
     *tree = Tree::Rooted(routed, prefix, node);
 }
 
-/// Puts a key that the root's prefix doesn't cover above the root or beside it.
+/// Puts a leaf whose key the root's prefix doesn't cover above the root or beside it.
 fn split<K: Packed, R: Drop>(
     tree: &mut Tree<K, R>,
     prefix: &Prefix,
-    alloc: Global,
+    node: Box<Node<K, R>>,
     key: &Prefix,
-) -> Result<(), AllocError>
+    leaf: Tree<K, R>,
+)
     requires root { root (shape_of K.network tree.old) ≡ Some (way prefix.now) }
     requires shaped { IsShaped (shape_of K.network tree.old) }
     requires marked { IsMarked tree.old }
     requires family { prefix.now.family ≡ key.now.family }
     requires kind { key.now.family ≡ K.family }
     requires outside { turn_of (way prefix.now) (way key.now) ≡ Outside }
-    ensures grown { OnOk result (IsGrown (way key.now) (shape_of K.network tree.old)
-        (shape_of K.network tree.new)) }
-    ensures marked { OnOk result (IsMarked tree.new) }
-    ensures routed { OnOk result (is_routed tree.new ≡ is_routed tree.old) }
-    ensures refused { OnErr result (tree.new ≡ tree.old) }
+    requires branch { slot_of node.value.slot ≡ None }
+    requires bare { is_filled node.value.slot ≡ false }
+    requires leaf { IsRooted key.now (Some (leaf_slot leaf)) Empty Empty
+        (shape_of K.network leaf) }
+    requires marked_leaf { IsMarked leaf }
+    requires routed_leaf { is_routed leaf ≡ is_some (leaf_slot leaf) }
+    ensures placed { IsPlaced (way key.now) (Some (leaf_slot leaf))
+        (shape_of K.network tree.old) (shape_of K.network tree.new) }
+    ensures marked { IsMarked tree.new }
+    ensures routed { is_routed tree.new ≡ (is_some (leaf_slot leaf) || is_routed tree.old) }
 {
     let common = prefix.common(key);
     let side = common.turn(prefix);
-    let mut above = lone(alloc)?;
+    let mut above = node;
     let below = mem::replace(tree, Tree::Empty);
     if let Turn::Here = common.turn(key) {
-        above.slot = Slot::Vacant;
+        above.slot = slot_in(leaf);
         put_root(tree, K::of(&common), above, Tree::Empty, below, side);
-        return Ok(());
+        return;
     }
-    put_root(
-        tree,
-        K::of(&common),
-        above,
-        Tree::Bare(K::of(key)),
-        below,
-        side,
-    );
-    Ok(())
+    put_root(tree, K::of(&common), above, leaf, below, side);
 }
 
 /// The route of a key without others below it, or its absence, and the argument change places.
@@ -432,10 +490,7 @@ fn exchange_leaf<K: Packed, R: Drop>(tree: &mut Tree<K, R>, prefix: K, route: &m
     ensures slot { leaf_slot tree.new ≡ route.old }
     ensures given { leaf_slot tree.old ≡ route.new }
 {
-    let new = match route.take() {
-        Some(route) => Tree::Leaf(prefix, route),
-        None => Tree::Bare(prefix),
-    };
+    let new = leaf_with(prefix, route);
     if let Tree::Leaf(_, old) = mem::replace(tree, new) {
         *route = Some(old);
     }
