@@ -56,8 +56,8 @@ pub(crate) fn add_step<'a, S: PrefixStore<Rc<Route>>>(
     }
 }
 
-/// The store of the entries' peer, where they are of one and it has many keys. They are in the order
-/// of their pairs.
+/// The store of the entries' peer, where it has many keys. They are of one, as those of a message, where
+/// the first and the last are; where others stand between, too much is reached.
 fn only_store<'a, S: PrefixStore<Rc<Route>>>(
     table: &'a Table<S>,
     entries: &[Entry],
