@@ -74,21 +74,25 @@ def old_entry(number, peer, attributes):
 
 # Messages.
 
-# The subtype and the session of records with AS numbers of so many octets.
-SESSIONS = {width: (subtype, struct.pack(form, NEIGHBOUR, 64497, 0, 1, PEER, 0xC00002FE))
-            for width, subtype, form in ((2, 1, '>HHHHII'), (4, 4, '>IIHHII'))}
+# The subtype of records with AS numbers of so many octets, and the form of their sessions.
+SESSIONS = {2: (1, '>HHHHII'), 4: (4, '>IIHHII')}
 
 
-def message(withdrawn, attributes, announced, width=4):
+def session(width, peer=0):
+    """That with the peer of this number."""
+    return struct.pack(SESSIONS[width][1], NEIGHBOUR, 64497, 0, 1, PEER + peer, 0xC00002FE)
+
+
+def message(withdrawn, attributes, announced, width=4, peer=0):
     """An UPDATE."""
     body = struct.pack('>H', len(withdrawn)) + withdrawn + struct.pack('>H', len(attributes)) + attributes + announced
-    subtype, session = SESSIONS[width]
-    return record(BGP4MP, subtype, session + b'\xff' * 16 + struct.pack('>HB', 19 + len(body), UPDATE) + body)
+    return record(BGP4MP, SESSIONS[width][0],
+                  session(width, peer) + b'\xff' * 16 + struct.pack('>HB', 19 + len(body), UPDATE) + body)
 
 
 def loss():
     """The loss of the session."""
-    return record(BGP4MP, 5, SESSIONS[4][1] + struct.pack('>HH', 6, 1))
+    return record(BGP4MP, 5, session(4) + struct.pack('>HH', 6, 1))
 
 
 def prefix(bits, number):

@@ -147,6 +147,20 @@ def coming_and_going(rounds, prefixes):
         yield message(found, b'', b'')
 
 
+def many_peers(count):
+    """The announcement of an address by each of so many peers."""
+    for peer in range(count):
+        yield message(b'', route(segment(4, 64496)), host(0), peer=peer)
+
+
+def many_peers_gone(count, addresses):
+    """The same, and then their withdrawals; and then announcements of so many addresses by one peer."""
+    yield from many_peers(count)
+    for peer in range(count):
+        yield message(host(0), b'', b'', peer=peer)
+    yield from short_attributes(addresses)
+
+
 def alike(count):
     """Announcements of IPv6 prefixes of 80 bits that share 48, and then their withdrawals."""
     found = [wide(80, bytes.fromhex('20010DB80001') + number.to_bytes(4, 'big')) for number in range(count)]

@@ -4,6 +4,7 @@ use Rattle.std.specs.Prelude.{◌≡◌, ◌≤◌, List, [], ◌∷◌, length,
 use Rattle.mrt_events.specs.declared.peer.Peer.{Peer}
 use Rattle.mrt_events.specs.declared.event.Route.{Route}
 use Rattle.mrt_events.specs.declared.event.Shared.{Shared}
+use Rattle.mrt_events.specs.declared.event.SharedRanges.{SharedRanges}
 use Rattle.mrt_events.specs.Event.{Saying, Announced, Withdrawn, Changed}
 
 -- what is said announces a prefix of this peer with this route
@@ -24,3 +25,8 @@ pub record IsSharedIn (shared : Shared) (sayings : List Saying) : Type 0 where
   pub ordered : shared.start ≤ shared.end
   pub within : shared.end ≤ length sayings
   pub alike : AreOfOneRoute (slice_range sayings shared.start shared.end)
+
+-- and those in each of these ranges
+pub record AreSharedIn (ranges : SharedRanges) (sayings : List Saying) : Type 0 where
+  pub first : IsSharedIn (record { start = ranges.start; end = ranges.middle }) sayings
+  pub second : IsSharedIn (record { start = ranges.middle; end = ranges.end }) sayings

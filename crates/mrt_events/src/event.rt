@@ -77,41 +77,56 @@ pub struct Shared {
     pub end: usize,
 }
 
+/// Two such ranges, one behind the other, each of which may be empty.
+#[derive(Clone, Copy, Debug, PartialEq, Eq)]
+pub struct SharedRanges {
+    /// The place of the first item of the first range.
+    pub start: usize,
+    /// The place behind its last, where the second range begins.
+    pub middle: usize,
+    /// The place behind the last item of the second range.
+    pub end: usize,
+}
+
 /// Items in order. Contracts see what they say, each route by its value.
 #[derive(Debug, Drop)]
 pub struct Items {
     items: Vec<Item>,
-    shared: Shared,
+    shared: SharedRanges,
 }
 
 impl Model for Items {
     ghost use Rattle.std.specs.Prelude.{List, map};
     ghost use Rattle.mrt_events.specs.Event.{Saying, saying};
-    ghost use Rattle.mrt_events.specs.SharedRoute.{IsSharedIn};
+    ghost use Rattle.mrt_events.specs.SharedRoute.{AreSharedIn};
 
     ghost Value = { List Saying };
 
     ghost view = { λ a. map saying a.items.items };
 
-    ghost invariant = { λ a. IsSharedIn a.shared (map saying a.items.items) };
+    ghost invariant = { λ a. AreSharedIn a.shared (map saying a.items.items) };
 }
 
 impl Items {
     ghost use Rattle.std.specs.Prelude.{◌≤◌, length, map, slice_range};
     ghost use Rattle.mrt_events.specs.Event.{saying};
-    ghost use Rattle.mrt_events.specs.SharedRoute.{AreOfOneRoute, IsSharedIn};
+    ghost use Rattle.mrt_events.specs.SharedRoute.{AreOfOneRoute, AreSharedIn};
 
     /// The items of the vector, of which nothing is known.
     pub fn from_vec(items: Vec<Item>) -> Items
         ensures { result ≡ map saying items.items }
     {
-        let shared = Shared { start: 0, end: 0 };
+        let shared = SharedRanges {
+            start: 0,
+            middle: 0,
+            end: 0,
+        };
         Items { items, shared }
     }
 
-    /// The items of the vector, of which those in the range are known to share a route.
-    pub fn sharing(items: Vec<Item>, shared: Shared) -> Items
-        requires { IsSharedIn shared (map saying items.items) }
+    /// The items of the vector, of which those in each range are known to share a route.
+    pub fn sharing(items: Vec<Item>, shared: SharedRanges) -> Items
+        requires { AreSharedIn shared (map saying items.items) }
         ensures { result ≡ map saying items.items }
     {
         Items { items, shared }
@@ -138,6 +153,17 @@ impl Items {
         ensures ordered { result.start ≤ result.end }
         ensures within { result.end ≤ length self.now }
         ensures alike { AreOfOneRoute (slice_range self.now result.start result.end) }
+    {
+        let SharedRanges { start, middle, end } = self.shared;
+        if end.saturating_sub(middle) > middle.saturating_sub(start) {
+            return Shared { start: middle, end };
+        }
+        Shared { start, end: middle }
+    }
+
+    /// The same, both ranges, of which the longer one is answered there.
+    pub fn shared_ranges(&self) -> SharedRanges
+        ensures { AreSharedIn result self.now }
     {
         self.shared
     }

@@ -8,7 +8,7 @@ mod peer;
 mod route_memory;
 mod same;
 
-pub use event::{ESTABLISHED, Event, Item, Items, Route, Shared, Tag, Time};
+pub use event::{ESTABLISHED, Event, Item, Items, Route, Shared, SharedRanges, Tag, Time};
 pub use laws::peer_order;
 pub use peer::Peer;
 pub use route_memory::{route_room, route_size};

@@ -1,5 +1,5 @@
 -- Which items of a message share a route.
-use Rattle.std.proofs.Common.{◌≡◌, ◌⊎◌, inl, inr, ℕ, ◌+◌, ◌-◌, map, take, List, [], ◌∷◌, ◌++◌, length, length-append, All, Option, Some, None, refl, ap, sym, subst, ◌∙◌, arith, append_assoc, append-nil}
+use Rattle.std.proofs.Common.{◌≡◌, ℕ, ◌+◌, ◌-◌, map, take, List, [], ◌∷◌, ◌++◌, length, length-append, All, Option, Some, None, refl, ap, sym, subst, ◌∙◌, arith, append_assoc, append-nil}
 use Rattle.std.proofs.lemmas.List.{take_at, drop_at, length-map}
 use Rattle.std.proofs.lemmas.List.Elements.{All-map}
 use Rattle.ip_prefix.specs.Network.{Network}
@@ -7,9 +7,8 @@ use Rattle.bgp_wire.specs.declared.attrs.Attrs.{Attrs}
 use Rattle.mrt_events.specs.declared.peer.Peer.{Peer}
 use Rattle.mrt_events.specs.declared.event.Route.{Route}
 use Rattle.mrt_events.specs.declared.event.Item.{Item}
-use Rattle.mrt_events.specs.declared.event.Shared.{Shared}
 use Rattle.mrt_events.specs.Event.{Saying, Announced, saying}
-use Rattle.mrt_events.specs.SharedRoute.{Announces, AreOfOneRoute, IsSharedIn}
+use Rattle.mrt_events.specs.SharedRoute.{Announces, AreOfOneRoute, IsSharedIn, AreSharedIn}
 use Rattle.mrt_wire.specs.Items.{announcements, mp_announcements, route_of}
 use Rattle.mrt_wire.specs.Judging.{Adds}
 
@@ -40,14 +39,15 @@ part_shared before part behind a b start end one =
 added_count : (old new : List Item) (more : List Saying) → Adds old new more → length new ≡ length (map saying old) + length more
 added_count old new more adds = sym (length-map new saying) ∙ ap length adds ∙ length-append (map saying old) more
 
--- the range of one of two kinds of announcements that were added
-pub shared_range : (old between new : List Item) (first second : List Saying) (a b c : ℕ) (shared : Shared) → a ≡ length old → b ≡ length between → c ≡ length new → Adds old between first → Adds between new second
-    → AreOfOneRoute first → AreOfOneRoute second → (shared ≡ record { start = a; end = b }) ⊎ (shared ≡ record { start = b; end = c }) → IsSharedIn shared (map saying new)
-shared_range old between new first second a b c shared start middle end adds adds' one one' (inl e) =
-    let said : map saying new ≡ map saying old ++ (first ++ second) = adds' ∙ ap (λ l. l ++ second) adds ∙ append_assoc (map saying old) first second in
-    let part = part_shared (map saying old) first second a b (start ∙ sym (length-map old saying)) (middle ∙ added_count old between first adds) one in
-    subst (λ s. IsSharedIn s (map saying new)) (sym e) (subst (λ l. IsSharedIn (record { start = a; end = b }) l) (sym said) part)
-shared_range old between new first second a b c shared start middle end adds adds' one one' (inr e) =
-    let said : map saying new ≡ map saying between ++ (second ++ []) = adds' ∙ ap (λ l. map saying between ++ l) (sym (append-nil second)) in
-    let part = part_shared (map saying between) second [] b c (middle ∙ sym (length-map between saying)) (end ∙ added_count between new second adds') one' in
-    subst (λ s. IsSharedIn s (map saying new)) (sym e) (subst (λ l. IsSharedIn (record { start = b; end = c }) l) (sym said) part)
+-- the ranges of two kinds of announcements that were added
+pub shared_ranges : (old between new : List Item) (first second : List Saying) (a b c : ℕ) → a ≡ length old → b ≡ length between → c ≡ length new → Adds old between first → Adds between new second
+    → AreOfOneRoute first → AreOfOneRoute second → AreSharedIn (record { start = a; middle = b; end = c }) (map saying new)
+shared_ranges old between new first second a b c start middle end adds adds' one one' =
+    let all : map saying new ≡ map saying old ++ (first ++ second) = adds' ∙ ap (λ l. l ++ second) adds ∙ append_assoc (map saying old) first second in
+    let last : map saying new ≡ map saying between ++ (second ++ []) = adds' ∙ ap (λ l. map saying between ++ l) (sym (append-nil second)) in
+    record {
+      first = subst (λ l. IsSharedIn (record { start = a; end = b }) l) (sym all)
+          (part_shared (map saying old) first second a b (start ∙ sym (length-map old saying)) (middle ∙ added_count old between first adds) one);
+      second = subst (λ l. IsSharedIn (record { start = b; end = c }) l) (sym last)
+          (part_shared (map saying between) second [] b c (middle ∙ sym (length-map between saying)) (end ∙ added_count between new second adds') one');
+    }

@@ -20,7 +20,7 @@ mod update;
 
 pub use laws::{no_octets_without_a_split, one_content, one_split, record_numbers};
 pub use mrt_events::{
-    ESTABLISHED, Event, Item, Items, Peer, Route, Shared, Tag, Time, route_size, same_peer,
+    ESTABLISHED, Event, Item, Items, Peer, Route, Shared, SharedRanges, Tag, Time, route_size, same_peer,
     same_prefix, same_route,
 };
 pub use mrt_frames::{

@@ -11,7 +11,7 @@ use crate::route_pool::{
 };
 use bgp_wire::{UpdateParts, WireFault};
 use ip_prefix::Prefix;
-use mrt_events::{Item, Items, Peer, Route, Shared};
+use mrt_events::{Item, Items, Peer, Route, SharedRanges};
 use std::alloc::{AllocError, Global};
 use std::mem;
 use std::rc::Rc;
@@ -139,7 +139,12 @@ impl Pool {
         self.read.restart();
         let mut items = self.kept_items(alloc);
         items.push(Item::Announce(peer, prefix, route))?;
-        Ok(Items::sharing(items, Shared { start: 0, end: 1 }))
+        let alone = SharedRanges {
+            start: 0,
+            middle: 1,
+            end: 1,
+        };
+        Ok(Items::sharing(items, alone))
     }
 
     /// Keeps the room of items.

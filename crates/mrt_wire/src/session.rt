@@ -1,11 +1,12 @@
 //! Reading what happened in a session with a peer (RFC 6396, section 4.4).
 
-ghost use Rattle.std.specs.Prelude.{◌≡◌, ℕ, List, IfSome, IfNone};
+ghost use Rattle.std.specs.Prelude.{◌≡◌, ◌∷◌, [], ℕ, List, IfOk, IfSome, IfNone};
 ghost use Rattle.ip_prefix.specs.Address.{octet_count};
 ghost use Rattle.ip_prefix.specs.Sequences.{Begins};
 ghost use Rattle.ip_prefix.specs.Fronts.{BeginsWithNone};
 ghost use Rattle.bgp_wire.specs.Number.{octets_at};
 ghost use Rattle.bgp_wire.specs.Readers.{Finds, Reads};
+ghost use Rattle.mrt_events.specs.Event.{Changed};
 ghost use Rattle.mrt_wire.specs.Bodies.{FindsField};
 ghost use Rattle.mrt_wire.specs.Items.{receipt_items, session_items};
 ghost use Rattle.mrt_wire.specs.Judging.{Told, session_told};
@@ -15,11 +16,11 @@ use crate::fields::{Field, fill_address, skip, split_asn, split_short, split_wor
 use crate::peers::blank_peer;
 use crate::pool::Pool;
 use crate::profile::{SessionForm, SessionKind};
-use crate::update::{items_of_change, items_of_message};
+use crate::update::items_of_message;
 use bgp_wire::{AsWidth, WireFault, replace_message};
 use ip_prefix::{Addr, Family};
-use mrt_events::{Items, Peer};
-use std::alloc::Global;
+use mrt_events::{Item, Items, Peer};
+use std::alloc::{AllocError, Global};
 
 /// How many octets the index of an interface has (RFC 6396, section 4.4.1).
 const INTERFACE_SIZE: usize = 2;
@@ -200,6 +201,15 @@ fn split_micros(octets: &[u8]) -> Option<Field<'_, u32>>
         return None;
     }
     Some(micros)
+}
+
+/// What a state change says.
+fn items_of_change(alloc: Global, change: &StateChange) -> Result<Items, AllocError>
+    ensures { IfOk result (λ items.
+        items ≡ Changed change.now.peer change.now.old change.now.new ∷ []) }
+{
+    let items = vec![in alloc; Item::State(change.peer, change.old, change.new)]?;
+    Ok(Items::from_vec(items))
 }
 
 /// What the state change says that the octets are.

@@ -1,17 +1,16 @@
 //! What messages say of routes.
 
-ghost use Rattle.std.specs.Prelude.{◌≡◌, ◌⊎◌, ◌++◌, ◌∷◌, [], true, map, OnOk, IfOk};
+ghost use Rattle.std.specs.Prelude.{◌≡◌, ◌++◌, ◌∷◌, [], true, map, OnOk, IfOk};
 ghost use Rattle.bgp_wire.specs.Parts.{message_in, update_in};
-ghost use Rattle.mrt_events.specs.Event.{Withdrawn, Changed, saying};
+ghost use Rattle.mrt_events.specs.Event.{Withdrawn, saying};
 ghost use Rattle.mrt_wire.specs.Items.{announcements, message_items, update_items};
 ghost use Rattle.mrt_wire.specs.Judging.{Adds, announced_through, announced_with};
 
 use crate::pool::Pool;
 use crate::route_pool::RoutePool;
-use crate::session::StateChange;
 use bgp_wire::{Attrs, MessageKind, Prefixes, UpdateParts};
 use ip_prefix::Addr;
-use mrt_events::{Item, Items, Peer, Route, Shared};
+use mrt_events::{Item, Items, Peer, Route, SharedRanges};
 use std::alloc::{AllocError, Global};
 use std::rc::Rc;
 
@@ -121,18 +120,6 @@ fn prefix_count(parts: &UpdateParts) -> usize {
         .saturating_add(mp_announced)
 }
 
-/// Which of two ranges that follow one another is longer, or the first.
-#[inline]
-fn longer_range(start: usize, middle: usize, end: usize) -> Shared
-    ensures { (result ≡ record { start = start; end = middle })
-        ⊎ (result ≡ record { start = middle; end = end }) }
-{
-    if end.saturating_sub(middle) > middle.saturating_sub(start) {
-        return Shared { start: middle, end };
-    }
-    Shared { start, end: middle }
-}
-
 /// What the UPDATE says that was read last. Its attributes are given away.
 #[inline]
 fn items_of_update(
@@ -176,8 +163,7 @@ fn items_of_update(
         pool.parts.mp_hop,
     )?;
     let end = items.len();
-    let shared = longer_range(start, middle, end);
-    Ok(Items::sharing(items, shared))
+    Ok(Items::sharing(items, SharedRanges { start, middle, end }))
 }
 
 /// What the message says that was read last.
@@ -196,13 +182,4 @@ pub(crate) fn items_of_message(
         MessageKind::Update => items_of_update(alloc, pool, peer, seconds),
         MessageKind::Other(_) => Ok(Items::from_vec(Vec::new(alloc))),
     }
-}
-
-/// What a state change says.
-pub(crate) fn items_of_change(alloc: Global, change: &StateChange) -> Result<Items, AllocError>
-    ensures { IfOk result (λ items.
-        items ≡ Changed change.now.peer change.now.old change.now.new ∷ []) }
-{
-    let items = vec![in alloc; Item::State(change.peer, change.old, change.new)]?;
-    Ok(Items::from_vec(items))
 }

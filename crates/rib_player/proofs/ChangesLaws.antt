@@ -240,17 +240,26 @@ items_effect-append q (x ∷ xs) ys =
     ap (later (item_effect q (saying x))) (items_effect-append q xs ys)
     ∙ later-together (item_effect q (saying x)) (items_effect q xs) (items_effect q ys)
 
--- what is noted of three parts of the items, from the last to the first, is what all of them do
-pub effect-parts : (q : Pair) (items : List Item) (a b : ℕ) (third second first : Effect) → a ≤ b
-    → third ≡ later (items_effect q (drop b items)) Keep
+-- what is noted of a range, in front of what is noted from its end on
+noted-from : (q : Pair) (items : List Item) (a b : ℕ) (behind here : Effect) → a ≤ b → behind ≡ items_effect q (drop b items)
+    → here ≡ later (items_effect q (take (b - a) (drop a items))) behind → here ≡ items_effect q (drop a items)
+noted-from q items a b behind here le back front =
+    let rest : drop (b - a) (drop a items) ≡ drop b items = drop-drop (b - a) a items ∙ ap (λ n. drop n items) {x = a + (b - a)} {y = b} (omega (arith, le)) in
+    front
+    ∙ ap (later (items_effect q (take (b - a) (drop a items)))) (back ∙ ap (items_effect q) (sym rest))
+    ∙ sym (items_effect-append q (take (b - a) (drop a items)) (drop (b - a) (drop a items)))
+    ∙ ap (items_effect q) (take-append-drop (b - a) (drop a items))
+
+-- what is noted of four parts of the items, from the last to the first, is what all of them do
+pub effect-parts : (q : Pair) (items : List Item) (a b c : ℕ) (fourth third second first : Effect) → a ≤ b → b ≤ c
+    → fourth ≡ later (items_effect q (drop c items)) Keep
+    → third ≡ later (items_effect q (take (c - b) (drop b items))) fourth
     → second ≡ later (items_effect q (take (b - a) (drop a items))) third
     → first ≡ later (items_effect q (take a items)) second
     → first ≡ items_effect q items
-effect-parts q items a b third second first le back middle front =
-    let behind : drop (b - a) (drop a items) ≡ drop b items = drop-drop (b - a) a items ∙ ap (λ n. drop n items) {x = a + (b - a)} {y = b} (omega (arith, le)) in
+effect-parts q items a b c fourth third second first le le' back behind middle front =
     front
-    ∙ ap (later (items_effect q (take a items))) (middle ∙ ap (later (items_effect q (take (b - a) (drop a items)))) (back ∙ ap (items_effect q) (sym behind)))
-    ∙ ap (later (items_effect q (take a items))) (sym (items_effect-append q (take (b - a) (drop a items)) (drop (b - a) (drop a items))) ∙ ap (items_effect q) (take-append-drop (b - a) (drop a items)))
+    ∙ ap (later (items_effect q (take a items))) (noted-from q items a b third second le (noted-from q items b c fourth third le' back behind) middle)
     ∙ sym (items_effect-append q (take a items) (drop a items))
     ∙ ap (items_effect q) (take-append-drop a items)
 

@@ -1,6 +1,7 @@
 pub mod PairLaws
 pub mod TableLaws
 pub mod StoreLaws
+pub mod ListLaws
 pub mod NumberLaws
 pub mod RowLaws
 pub mod PeerLaws

@@ -1,14 +1,14 @@
 -- Rows of pairs whose peers differ, and lists of peers that are pointed to.
-use Rattle.std.proofs.Common.{◌≡◌, ◌≢◌, ℕ, ◌<◌, Bool, true, false, List, [], ◌∷◌, ◌++◌, set, length, get_or, Option, Some, None, IfSome, slice_get, refl, sym, ap, ◌∙◌, arith}
+use Rattle.std.proofs.Common.{◌≡◌, ◌≢◌, ℕ, ◌<◌, Bool, true, false, List, [], ◌∷◌, ◌++◌, length, get_or, Option, Some, None, IfSome, slice_get, refl, sym, ap, ◌∙◌, arith}
 use Rattle.std.specs.Borrow.{Bor}
 use Rattle.std.specs.List.{AllByRecursion, IsDistinct}
 use Rattle.std.specs.Map.{lookup, keys_of}
-use Rattle.std.specs.Option.{option_map, unwrap_or}
+use Rattle.std.specs.Option.{option_map, option_copied, unwrap_or}
+use Rattle.std.specs.Slice.{IsItemAt}
 use Rattle.std.specs.Ordering.{eq_by_cmp}
 use Rattle.std.specs.declared.alloc.Global.{Global}
 use Rattle.std.specs.declared.rc.Rc.{Rc}
-use Rattle.std.proofs.lemmas.List.{length-map, length-set, length_push, get_or-set_same, get_or-set_other, get_or_push, get_or_append_left}
-use Rattle.std.proofs.lemmas.Option.{slice_get-map, slice_get-get_or, slice_get_within}
+use Rattle.std.proofs.lemmas.Option.{slice_get-map}
 use Rattle.mrt_events.specs.declared.peer.Peer.{Peer}
 use Rattle.rib_player.specs.declared.pair.Pair.{Pair}
 use Rattle.rib_player.specs.declared.stores.Marks.{Marks}
@@ -17,6 +17,7 @@ use Rattle.rib_player.specs.Numbered.{peers_in}
 use Rattle.rib_player.specs.Marked.{is_marked}
 use Rattle.rib_player.proofs.PairLaws.{same_pair}
 use Rattle.rib_player.proofs.StoreLaws.{same_peer}
+use Rattle.rib_player.proofs.ListLaws.{copied-at}
 
 module _ {R : Type 0} where
   -- a pair more, which is none of those before it
@@ -84,38 +85,20 @@ distinct-none = tt
 value : Rc Peer Global → Peer
 value shared = shared.value
 
-name-read : (names : List (Rc Peer Global)) (k : ℕ) (d : Rc Peer Global) → k < length names → slice_get (peers_in names) k ≡ Some (get_or names k d).value
+-- the peer that stands where one is found
+pub name-there : (names : List (Rc Peer Global)) (k : ℕ) (found : Option (Bor (Rc Peer Global))) (name : Bor (Rc Peer Global)) → found ≡ Some name → IsItemAt names k found
+    → slice_get (peers_in names) k ≡ Some name.now.value
 unfolding value
-name-read names k d within = slice_get-map value names k ∙ ap (option_map value) (slice_get-get_or names k d within)
+name-there names k found name is item =
+    slice_get-map value names k ∙ ap (option_map value) (sym (copied-at names k found item) ∙ ap option_copied is)
 
-name-within : (names : List (Rc Peer Global)) (k : ℕ) (p : Peer) → slice_get (peers_in names) k ≡ Some p → k < length names
+pub no-name : (names : List (Rc Peer Global)) (k : ℕ) (found : Option (Bor (Rc Peer Global))) → found ≡ None → IsItemAt names k found → slice_get (peers_in names) k ≡ None
 unfolding value
-name-within names k p named =
-    let within = slice_get_within (peers_in names) k p named in
-    omega (arith, within, length-map names value)
+no-name names k found is item =
+    slice_get-map value names k ∙ ap (option_map value) (sym (copied-at names k found item) ∙ ap option_copied is)
 
-pub name-at : (names : List (Rc Peer Global)) (k : ℕ) (p : Peer) (found : Option (Bor (Rc Peer Global))) → IfSome found (λ shared. shared.now ≡ get_or names k shared.now)
+-- it is the peer that stands there
+pub name-at : (names : List (Rc Peer Global)) (k : ℕ) (p : Peer) (found : Option (Bor (Rc Peer Global))) → IsItemAt names k found
     → slice_get (peers_in names) k ≡ Some p → IfSome found (λ shared. shared.now.value ≡ p)
-name-at names k p None is named = tt
-name-at names k p (Some shared) is named =
-    ap (λ o. unwrap_or o p) (ap (λ (s : Rc Peer Global). Some s.value) is ∙ sym (name-read names k shared.now (name-within names k p named)) ∙ named)
-
-pub name-set : (names : List (Rc Peer Global)) (k : ℕ) (peer : Rc Peer Global) → k < length names → slice_get (peers_in (set names k peer)) k ≡ Some peer.value
-name-set names k peer within =
-    name-read (set names k peer) k peer (omega (arith, within, length-set names k peer)) ∙ ap (λ (s : Rc Peer Global). Some s.value) (get_or-set_same names k peer peer within)
-
-pub name-set_other : (names : List (Rc Peer Global)) (k : ℕ) (peer : Rc Peer Global) (other : ℕ) (p : Peer) → other ≢ k → slice_get (peers_in names) other ≡ Some p → slice_get (peers_in (set names k peer)) other ≡ Some p
-name-set_other names k peer other p differs named =
-    let within = name-within names other p named in
-    name-read (set names k peer) other peer (omega (arith, within, length-set names k peer)) ∙ ap (λ (s : Rc Peer Global). Some s.value) (get_or-set_other names k other peer peer differs)
-    ∙ sym (name-read names other peer within) ∙ named
-
-pub name-push : (names : List (Rc Peer Global)) (k : ℕ) (peer : Rc Peer Global) → length names ≡ k → slice_get (peers_in (names ++ peer ∷ [])) k ≡ Some peer.value
-name-push names k peer last =
-    name-read (names ++ peer ∷ []) k peer (omega (arith, last, length_push names peer)) ∙ ap (λ (s : Rc Peer Global). Some s.value) (get_or_push names peer peer k last)
-
-pub name-push_other : (names : List (Rc Peer Global)) (peer : Rc Peer Global) (other : ℕ) (p : Peer) → slice_get (peers_in names) other ≡ Some p → slice_get (peers_in (names ++ peer ∷ [])) other ≡ Some p
-name-push_other names peer other p named =
-    let within = name-within names other p named in
-    name-read (names ++ peer ∷ []) other peer (omega (arith, within, length_push names peer)) ∙ ap (λ (s : Rc Peer Global). Some s.value) (get_or_append_left names (peer ∷ []) peer other within)
-    ∙ sym (name-read names other peer within) ∙ named
+name-at names k p None item named = tt
+name-at names k p (Some shared) item named = ap (λ o. unwrap_or o p) (sym (name-there names k (Some shared) shared refl item) ∙ named)

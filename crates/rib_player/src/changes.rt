@@ -18,6 +18,7 @@ ghost use Rattle.rib_player.specs.Journal.{side_of, sides_of, pairs_in};
 ghost use Rattle.rib_player.specs.Sides.{cleared_side, slot_side, AreDistinct, IsStepFor};
 
 use crate::entry::Entry;
+use crate::numbered_peer::{NO_NUMBER, NumberedPeer};
 use crate::pair::Pair;
 use crate::stores::Marks;
 use crate::table::Table;
@@ -187,9 +188,10 @@ fn changes_of(alloc: Global, event: &Event, known: &mut KnownRoutes) -> Result<C
         lost: BTreeSet::new(alloc),
     };
     let items = event.items.as_slice();
-    let shared = event.items.shared();
+    let shared = event.items.shared_ranges();
     changes.note_each(&items[shared.end..], known)?;
-    changes.note_shared(&items[shared.start..shared.end], known)?;
+    changes.note_shared(&items[shared.middle..shared.end], known)?;
+    changes.note_shared(&items[shared.start..shared.middle], known)?;
     changes.note_each(&items[..shared.start], known)?;
     if changes.routes.len() < items.len() {
         known.note_unused();
@@ -203,7 +205,7 @@ const MANY: usize = 64;
 /// Appends the entries of the pairs of a peer that have these routes, and none then.
 fn add_cleared(
     alloc: Global,
-    peer: &Rc<Peer>,
+    peer: &Rc<NumberedPeer>,
     found: &[(Prefix, &Rc<Route>)],
     entries: &mut Vec<Entry>,
 ) -> Result<(), AllocError>
@@ -220,7 +222,7 @@ fn add_cleared(
 fn cleared_in<S: PrefixStore<Rc<Route>>>(
     alloc: Global,
     store: &S,
-    peer: &Rc<Peer>,
+    peer: &Rc<NumberedPeer>,
 ) -> Result<Vec<Entry>, AllocError>
     ensures { IfOk result (λ entries. sides_of entries.items
         ≡ map (cleared_side peer.now.value) (finite.keys (S.routes store.now))) }
@@ -240,26 +242,26 @@ fn cleared_in<S: PrefixStore<Rc<Route>>>(
     Ok(entries)
 }
 
-/// The peer, shared with the table, where its number is tried behind this one, or with the entry that
-/// was made last.
+/// The peer, shared with the entry that was made last, or with the table, where this number is tried
+/// first.
 fn shared_peer<S: PrefixStore<Rc<Route>>>(
     alloc: Global,
     table: &Table<S>,
-    number: &mut Option<usize>,
+    number: usize,
     last: Option<&Entry>,
     peer: &Peer,
-) -> Result<Rc<Peer>, AllocError>
+) -> Result<Rc<NumberedPeer>, AllocError>
     ensures { IfOk result (λ shared. shared.value ≡ peer.now) }
 {
-    if let Some(shared) = table.shared_peer(number, peer) {
-        return shared.clone();
-    }
     if let Some(entry) = last {
         if same_peer(entry.peer(), peer) {
             return entry.shared_peer().clone();
         }
     }
-    Ok(Rc::new(alloc, *peer)?)
+    if let Some(shared) = table.shared_peer(number, peer) {
+        return shared.clone();
+    }
+    Ok(Rc::new(alloc, NumberedPeer::new(*peer, NO_NUMBER))?)
 }
 
 /// The entries of all pairs of a peer that have a route, and none then.
@@ -277,7 +279,7 @@ fn lost_entries<S: PrefixStore<Rc<Route>>>(
 {
     match table.store(peer) {
         Some(store) => {
-            let shared = shared_peer(alloc, table, &mut None, None, peer)?;
+            let shared = shared_peer(alloc, table, NO_NUMBER, None, peer)?;
             cleared_in(alloc, store, &shared)
         }
         None => Ok(Vec::new(alloc)),
@@ -389,6 +391,7 @@ fn entries_of<S: PrefixStore<Rc<Route>>>(
     alloc: Global,
     routes: Slots,
     table: &Table<S>,
+    marks: &Marks,
 ) -> Result<Vec<Entry>, AllocError>
     requires { IsDistinct (eq_by_cmp pair_cmp) (keys_of routes.items) }
     ensures distinct { IfOk result (λ entries. AreDistinct (sides_of entries.items)) }
@@ -397,10 +400,12 @@ fn entries_of<S: PrefixStore<Rc<Route>>>(
         (map slot_side routes.items)) }
 {
     let mut entries = Vec::with_capacity(alloc, routes.len())?;
-    let mut number = None;
+    let mut index = 0usize;
     'routes: for (pair, other) in routes {
+        let number = marks.number(index);
+        index = index.wrapping_add(1);
         if other.is_some() || table.route(&pair).is_some() {
-            let peer = shared_peer(alloc, table, &mut number, entries.last(), &pair.peer)?;
+            let peer = shared_peer(alloc, table, number, entries.last(), &pair.peer)?;
             entries.push(Entry::new(alloc, peer, &pair.prefix, other)?)?;
         }
     }
@@ -430,5 +435,5 @@ pub(crate) fn step_for<S: PrefixStore<Rc<Route>>>(
     if routes.len() < noted {
         known.note_unused();
     }
-    entries_of(alloc, routes, table)
+    entries_of(alloc, routes, table, marks)
 }

@@ -10,6 +10,7 @@ ghost use Rattle.rib_player.specs.Store.{route_in};
 ghost use Rattle.rib_player.specs.Kept.{new_entry, pair_kept, other_kept, marks_kept, IsWhole};
 ghost use Rattle.rib_player.specs.Marks.{mark_of, gives_up};
 
+use crate::numbered_peer::NumberedPeer;
 use crate::pair::Pair;
 use crate::table::Table;
 use ip_prefix::{Family, Prefix};
@@ -46,8 +47,8 @@ pub(crate) enum End {
 /// its peer in memory of its own.
 #[derive(Drop)]
 enum Kept {
-    V4Absent(Marks, V4Prefix, Rc<Peer>),
-    V4Present(Marks, V4Prefix, Rc<Peer>, Rc<Route>),
+    V4Absent(Marks, V4Prefix, Rc<NumberedPeer>),
+    V4Present(Marks, V4Prefix, Rc<NumberedPeer>, Rc<Route>),
     V6Absent(Marks, Box<V6Pair>),
     V6Present(Marks, Box<V6Pair>, Rc<Route>),
     /// Nothing, while an entry is put together anew.
@@ -58,7 +59,7 @@ enum Kept {
 #[derive(Drop)]
 struct V6Pair {
     prefix: Prefix,
-    peer: Rc<Peer>,
+    peer: Rc<NumberedPeer>,
 }
 
 /// How many octets an entry takes at most, besides an IPv6 prefix.
@@ -86,7 +87,7 @@ impl Entry {
     /// An entry that wasn't put yet, with the route that its pair has behind the step.
     pub(crate) fn new(
         alloc: Global,
-        peer: Rc<Peer>,
+        peer: Rc<NumberedPeer>,
         prefix: &Prefix,
         other: Option<Rc<Route>>,
     ) -> Result<Entry, AllocError>
@@ -119,7 +120,7 @@ impl Entry {
 
     /// The peer of its pair, which other entries may share.
     #[inline]
-    pub(crate) fn shared_peer(&self) -> &Rc<Peer>
+    pub(crate) fn shared_peer(&self) -> &Rc<NumberedPeer>
         ensures { result.now.value ≡ self.now.pair.peer }
     {
         match &self.kept {
@@ -136,7 +137,7 @@ impl Entry {
     pub(crate) fn peer(&self) -> &Peer
         ensures { result.now ≡ self.now.pair.peer }
     {
-        &**self.shared_peer()
+        self.shared_peer().peer()
     }
 
     /// The prefix of its pair.
@@ -208,8 +209,9 @@ impl Entry {
         ensures behind { self.new.behind ≡ self.old.behind }
     {
         let pair = self.pair();
+        let number = self.shared_peer().number();
         let (absent, mut other) = replace(&mut self.kept, Kept::Taken).without_route();
-        table.exchange(&pair, &mut other);
+        table.exchange(&pair, number, &mut other);
         self.kept = absent.with_route(other);
     }
 }
@@ -239,9 +241,10 @@ impl Entry {
         ensures kept { OnErr result (self.new ≡ self.old) }
     {
         let pair = self.pair();
+        let number = self.shared_peer().number();
         let (absent, mut other) = replace(&mut self.kept, Kept::Taken).without_route();
         let behind = other.is_some();
-        let put = table.put(&pair, &mut other);
+        let put = table.put(&pair, number, &mut other);
         let before = other.is_some();
         self.kept = absent.with_route(other);
         let made = put?;
@@ -252,11 +255,11 @@ impl Entry {
 
 /// A pair with a prefix of IPv4.
 #[inline]
-fn v4_pair(prefix: &V4Prefix, peer: &Rc<Peer>) -> Pair
+fn v4_pair(prefix: &V4Prefix, peer: &Rc<NumberedPeer>) -> Pair
     ensures { result ≡ pair_of peer.now.value (v4_network prefix.now) }
 {
     Pair {
-        peer: **peer,
+        peer: *peer.peer(),
         prefix: prefix.wide(),
     }
 }
@@ -267,7 +270,7 @@ fn v6_pair(pair: &V6Pair) -> Pair
     ensures { result ≡ pair_of pair.now.peer.value pair.now.prefix }
 {
     Pair {
-        peer: *pair.peer,
+        peer: *pair.peer.peer(),
         prefix: pair.prefix,
     }
 }
@@ -277,7 +280,7 @@ impl Kept {
     fn absent(
         alloc: Global,
         marks: Marks,
-        peer: Rc<Peer>,
+        peer: Rc<NumberedPeer>,
         prefix: &Prefix,
     ) -> Result<Kept, AllocError>
         ensures pair { IfOk result (λ kept. pair_kept kept ≡ pair_of peer.value prefix.now) }

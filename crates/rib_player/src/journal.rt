@@ -19,6 +19,7 @@ ghost use Rattle.rib_player.specs.Played.{AreClaimed, CanDrop};
 use crate::claims::{Claims, give_up_claims, put_entry};
 use crate::entry::{End, Entry};
 use crate::reaching::{ENTRIES_AT_ONCE, reach_entries};
+use crate::room::{LEAST_ROOM, MOST_TIMES};
 use crate::table::Table;
 use known_routes::KnownRoutes;
 use mrt_events::Route;
@@ -42,12 +43,6 @@ pub(crate) struct Journal {
     /// How many were forgotten.
     pub(crate) floor: u64,
 }
-
-/// How many times as many steps as are kept there may be room for, before some is given back.
-const MOST_TIMES: usize = 4;
-
-/// For how many steps there may be room, however few are kept.
-const LEAST_ROOM: usize = 1024;
 
 /// How many pairs the steps from the index on name, in all.
 pub(crate) fn named_from(steps: &VecDeque<Step>, start: usize) -> u64

@@ -7,10 +7,12 @@ mod counts;
 mod entry;
 mod journal;
 mod laws;
+mod numbered_peer;
 mod pair;
 mod player;
 mod reached_steps;
 mod reaching;
+mod room;
 mod stores;
 mod table;
 

@@ -138,6 +138,7 @@ impl<S: PrefixStore<Rc<Route>>> Player<S> {
         ensures refused { OnErr result (self.new ≡ self.old) }
     {
         self.known.begin();
+        self.table.give_back_room();
         let played = self.play_step(event);
         if played.is_err() {
             self.known.note_unused();

@@ -62,11 +62,11 @@ fn only_store<'a, S: PrefixStore<Rc<Route>>>(
     table: &'a Table<S>,
     entries: &[Entry],
 ) -> Option<&'a S> {
-    let peer = entries.first()?.peer();
-    if entries.last()?.peer() != peer {
+    let peer = entries.first()?.shared_peer();
+    if entries.last()?.peer() != peer.peer() {
         return None;
     }
-    let store = table.store(peer)?;
+    let store = table.numbered_store(peer)?;
     if store.key_count() < LEAST_KEYS {
         return None;
     }

@@ -1,6 +1,6 @@
 //! The stores of peers. Each peer that has one has a number, by which it is found.
 
-ghost use Rattle.std.specs.Prelude.{◌≡◌, ◌≢◌, ℕ, [], Some, None, true, false, IsTrue, IfSome, if◌then◌else◌, slice_get, OnOk, OnErr};
+ghost use Rattle.std.specs.Prelude.{◌≡◌, ◌≤◌, ℕ, [], Some, None, true, false, IsTrue, IsSome, IfSome, if◌then◌else◌, slice_get, OnOk, OnErr, vec_len};
 ghost use Rattle.std.specs.Option.{option_copied, option_copied_mut};
 ghost use Rattle.std.specs.Borrow.{sem};
 ghost use Rattle.std.specs.Map.{lookup, keys_of};
@@ -8,16 +8,18 @@ ghost use Rattle.std.specs.List.{IsDistinct};
 ghost use Rattle.std.specs.Ordering.{eq_by_cmp};
 ghost use Rattle.mrt_events.specs.declared.peer.Peer.{Peer};
 ghost use Rattle.mrt_events.specs.Peer.{peer_cmp};
+ghost use Rattle.rib_player.specs.declared.stores.TheConstants.{PLACES};
 ghost use Rattle.rib_player.specs.History.{pair_cmp};
 ghost use Rattle.rib_player.specs.Store.{store_at};
 ghost use Rattle.rib_player.specs.Numbered.{peers_in, AreNumbered};
 ghost use Rattle.rib_player.specs.Marked.{is_marked};
 ghost use Rattle.std.proofs.Props.{props};
 
+use crate::numbered_peer::{NO_NUMBER, NumberedPeer};
 use crate::pair::Pair;
+use crate::room::give_back;
 use known_routes::peer_hash;
 use mrt_events::{Peer, same_peer};
-use slab::Slab;
 use std::alloc::{AllocError, Global};
 use std::collections::BTreeMap;
 use std::rc::Rc;
@@ -35,6 +37,8 @@ pub(crate) struct Marks {
     pub(crate) rows: Vec<u64>,
     /// The row that is looked at.
     pub(crate) row: u64,
+    /// The numbers of its peers, as far as memory was there.
+    numbers: Vec<u32>,
 }
 
 /// Stores, at most one for each peer.
@@ -44,17 +48,14 @@ pub(crate) struct Stores<S> {
     /// The number of each peer that has a store, in the order of peers.
     pub(crate) order: BTreeMap<Peer, usize>,
     /// The stores, by number.
-    pub(crate) held: Slab<S>,
-    /// The peers, by number; where no store has it, the one that had it last.
-    pub(crate) names: Vec<Rc<Peer>>,
+    pub(crate) held: Vec<S>,
+    /// Their peers, by number.
+    pub(crate) names: Vec<Rc<NumberedPeer>>,
     /// The number that a peer of each hash may have, if it has one. Of several peers one is found so,
     /// the others by their order.
     places: Vec<u32>,
-    /// The number whose store was written behind that of each one, the last time.
-    next: Vec<u32>,
-    /// The number whose store was written last.
-    last: usize,
-    ghost numbered: { AreNumbered held (peers_in names.items) order.entries } by { Prim.hlevel props },
+    ghost numbered: { AreNumbered held.items (peers_in names.items) order.entries } by { Prim.hlevel props },
+    ghost few: { vec_len places ≤ PLACES },
 }
 
 /// The place of a peer's number.
@@ -74,11 +75,9 @@ impl<S> Stores<S> {
         Stores {
             alloc,
             order: BTreeMap::new(alloc),
-            held: Slab::new(alloc),
+            held: Vec::new(alloc),
             names: Vec::new(alloc),
             places: Vec::new(alloc),
-            next: Vec::new(alloc),
-            last: 0,
         }
     }
 
@@ -89,16 +88,19 @@ impl<S> Stores<S> {
             lookup (eq_by_cmp peer_cmp peer.now) self.now.order.entries ≡ Some number }
     {
         match self.names.get(number) {
-            Some(name) => same_peer(name, peer) && self.held.contains(number),
+            Some(name) => same_peer(name.peer(), peer),
             None => false,
         }
     }
 
-    /// The number of the peer, if it has a store.
+    /// The number of the peer, if it has a store. This one is tried first.
     #[inline]
-    fn number_of(&self, peer: &Peer) -> Option<usize>
+    fn number_of(&self, number: usize, peer: &Peer) -> Option<usize>
         ensures { result ≡ lookup (eq_by_cmp peer_cmp peer.now) self.now.order.entries }
     {
+        if self.has_number(number, peer) {
+            return Some(number);
+        }
         if let Some(number) = self.places.get(place_of(peer)) {
             let number = *number as usize;
             if self.has_number(number, peer) {
@@ -108,69 +110,61 @@ impl<S> Stores<S> {
         self.order.get(peer).copied()
     }
 
-    /// The same, where this number, or the one that followed it the last time, is mostly the peer's.
-    #[inline]
-    fn number_behind(&self, last: usize, peer: &Peer) -> Option<usize>
-        ensures { result ≡ lookup (eq_by_cmp peer_cmp peer.now) self.now.order.entries }
-    {
-        if self.has_number(last, peer) {
-            return Some(last);
-        }
-        if let Some(next) = self.next.get(last) {
-            let next = *next as usize;
-            if self.has_number(next, peer) {
-                return Some(next);
-            }
-        }
-        self.number_of(peer)
-    }
-
-    /// The peer, if it has a store. Its number is tried behind this one, or the one written last, and
-    /// stands there then.
-    pub(crate) fn shared_peer(&self, last: &mut Option<usize>, peer: &Peer) -> Option<&Rc<Peer>>
+    /// The peer, if it has a store. This number is tried first.
+    pub(crate) fn shared_peer(&self, number: usize, peer: &Peer) -> Option<&Rc<NumberedPeer>>
         ensures { IfSome result (λ shared. shared.now.value ≡ peer.now) }
     {
-        let number = self.number_behind(last.unwrap_or(self.last), peer)?;
-        *last = Some(number);
-        self.names.get(number)
+        self.names.get(self.number_of(number, peer)?)
     }
 
     /// Whether all these pairs are of peers that have stores, no two of one.
     pub(crate) fn are_of_different_peers<R>(&self, slots: &[(Pair, R)], marks: &mut Marks) -> bool
         ensures { IsTrue result → IsDistinct (eq_by_cmp pair_cmp) (keys_of slots.now) }
     {
-        marks.begin();
-        let mut last = self.last;
+        marks.begin(self.names.len());
         'slots: for slot in slots {
-            let Some(number) = self.number_behind(last, &slot.0.peer) else {
+            let Some(number) = self.number_of(NO_NUMBER, &slot.0.peer) else {
                 return false;
             };
             if !marks.is_new(number) {
                 return false;
             }
-            last = number;
         }
         true
     }
 
-    /// The store of the peer.
+    /// The store at the number.
     #[inline]
-    pub(crate) fn get(&self, peer: &Peer) -> Option<&S>
+    pub(crate) fn at(&self, number: usize) -> Option<&S>
+        ensures { option_copied result ≡ slice_get self.now.held.items number }
+    {
+        self.held.get(number)
+    }
+
+    /// The store of the peer. This number is tried first.
+    #[inline]
+    pub(crate) fn get(&self, number: usize, peer: &Peer) -> Option<&S>
         ensures { option_copied result ≡ store_at (stores_in self.now) peer.now }
     {
-        self.held.get(self.number_behind(self.last, peer)?)
+        self.at(self.number_of(number, peer)?)
     }
 
     /// The same, to be written.
     #[inline]
-    pub(crate) fn get_mut(&mut self, peer: &Peer) -> Option<&mut S>
+    pub(crate) fn get_mut(&mut self, number: usize, peer: &Peer) -> Option<&mut S>
         ensures* writes_back { sem 𝓛 (lends_store S.row self.entry peer.now result) }
         ensures value { option_copied_mut result ≡ store_at (stores_in self.old) peer.now }
     {
-        let number = self.number_behind(self.last, peer)?;
-        note_next(&mut self.next, self.last, number);
-        self.last = number;
+        let number = self.number_of(number, peer)?;
         self.held.get_mut(number)
+    }
+
+    /// Gives back room that is too much for the stores that there are.
+    pub(crate) fn give_back_room(&mut self)
+        ensures { stores_in self.new ≡ stores_in self.old }
+    {
+        give_back(&mut self.held);
+        give_back(&mut self.names);
     }
 }
 
@@ -185,70 +179,57 @@ impl<S: Drop> Stores<S> {
         ensures refused { OnErr result (stores_in self.new ≡ stores_in self.old) }
     {
         self.held.reserve(1)?;
-        let number = self.held.vacant_key();
-        let shared = Rc::new(self.alloc, peer)?;
-        put_name(&mut self.names, number, shared)?;
+        self.names.reserve(1)?;
+        let number = self.held.len();
+        let name = Rc::new(self.alloc, NumberedPeer::new(peer, number))?;
         self.order.insert(peer, number)?;
-        self.held.insert_reserved(store);
-        self.note_place(&peer, number);
+        self.held.push_reserved(store);
+        self.names.push_reserved(name);
+        note_place(&mut self.places, &peer, number);
         Ok(())
     }
 
-    /// Notes where the number stands, and makes room for the one that follows it, unless memory is
-    /// refused.
-    fn note_place(&mut self, peer: &Peer, number: usize)
-        ensures order { self.new.order ≡ self.old.order }
-        ensures held { self.new.held ≡ self.old.held }
-    {
-        if self.next.len() <= number {
-            let _ = self.next.resize(number.saturating_add(1), 0);
-        }
-        if self.places.is_empty() {
-            let _ = self.places.resize(PLACES, 0);
-        }
-        if let Some(place) = self.places.get_mut(place_of(peer)) {
-            *place = u32::try_from(number).unwrap_or(u32::MAX);
-        }
-    }
-
-    /// Drops the store of a peer, if it has one.
+    /// Drops the store of a peer, if it has one. The store that stood last gets its number.
     pub(crate) fn remove(&mut self, peer: &Peer)
         ensures { (p : Peer) → store_at (stores_in self.new) p
             ≡ (if eq_by_cmp peer_cmp peer.now p then None else store_at (stores_in self.old) p) }
     {
-        if let Some(number) = self.order.remove(peer) {
-            self.held.try_remove(number);
+        let Some(number) = self.order.remove(peer) else {
+            return;
+        };
+        self.held.swap_remove(number);
+        self.names.swap_remove(number);
+        if let Some(name) = self.names.get(number) {
+            let moved = *name.peer();
+            renumber(&mut self.order, &moved, number);
+            note_place(&mut self.places, &moved, number);
         }
     }
 }
 
-/// Notes that a number followed another.
-#[inline]
-fn note_next(next: &mut Vec<u32>, last: usize, number: usize) {
-    if last == number {
-        return;
-    }
-    if let Some(next) = next.get_mut(last) {
-        *next = u32::try_from(number).unwrap_or(u32::MAX);
+/// Gives the peer, which has a number, this one.
+fn renumber(order: &mut BTreeMap<Peer, usize>, peer: &Peer, number: usize)
+    requires { IsSome (lookup (eq_by_cmp peer_cmp peer.now) order.old.entries) }
+    ensures { (p : Peer) → lookup (eq_by_cmp peer_cmp p) order.new.entries
+        ≡ (if eq_by_cmp peer_cmp peer.now p then Some number
+        else lookup (eq_by_cmp peer_cmp p) order.old.entries) }
+{
+    if let Some(held) = order.get_mut(peer) {
+        *held = number;
     }
 }
 
-/// Puts the peer at its number, where it is the next one at most.
-fn put_name(names: &mut Vec<Rc<Peer>>, number: usize, peer: Rc<Peer>) -> Result<(), AllocError>
-    ensures named { OnOk result (slice_get (peers_in names.new.items) number ≡ Some peer.value) }
-    ensures others { (other : ℕ) (p : Peer) → other ≢ number →
-        slice_get (peers_in names.old.items) other ≡ Some p →
-        slice_get (peers_in names.new.items) other ≡ Some p }
-    ensures refused { OnErr result (names.new.items ≡ names.old.items) }
+/// Notes where the number stands, unless memory is refused.
+fn note_place(places: &mut Vec<u32>, peer: &Peer, number: usize)
+    requires { vec_len places.old ≤ PLACES }
+    ensures { vec_len places.new ≤ PLACES }
 {
-    if number < names.len() {
-        names[number] = peer;
-        return Ok(());
+    if places.is_empty() {
+        let _ = places.resize(PLACES, 0);
     }
-    if number > names.len() {
-        return Err(AllocError);
+    if let Some(place) = places.get_mut(place_of(peer)) {
+        *place = u32::try_from(number).unwrap_or(u32::MAX);
     }
-    Ok(names.push(peer)?)
 }
 
 impl Marks {
@@ -257,12 +238,16 @@ impl Marks {
         Marks {
             rows: Vec::new(alloc),
             row: 0,
+            numbers: Vec::new(alloc),
         }
     }
 
-    /// Begins another row.
-    fn begin(&mut self) {
+    /// Begins another row, where so many peers have numbers.
+    fn begin(&mut self, count: usize) {
         self.row = self.row.wrapping_add(1);
+        self.numbers.clear();
+        self.rows.truncate(count);
+        give_back(&mut self.rows);
     }
 
     /// Whether the number is known to be new in this row. It is marked then.
@@ -282,6 +267,16 @@ impl Marks {
         }
         let is_new = self.rows[number] != self.row;
         self.rows[number] = self.row;
+        let _ = self.numbers.push(u32::try_from(number).unwrap_or(u32::MAX));
         is_new
+    }
+
+    /// The number of the peer that stands so far behind the first of the row, where it was noted.
+    #[inline]
+    pub(crate) fn number(&self, index: usize) -> usize {
+        match self.numbers.get(index) {
+            Some(number) => *number as usize,
+            None => NO_NUMBER,
+        }
     }
 }

@@ -19,6 +19,7 @@ ghost use Rattle.rib_player.specs.Lookups.{IsBest, pointed_routes, peers_above, 
 ghost use Rattle.rib_player.specs.Holding.{value_of, IsLeft};
 ghost use Rattle.rib_player.specs.StoresByPeer.{stores_in, stores_of};
 
+use crate::numbered_peer::{NO_NUMBER, NumberedPeer};
 use crate::pair::Pair;
 use crate::stores::{Marks, Stores};
 use ip_prefix::{Addr, Prefix};
@@ -77,15 +78,22 @@ impl<S: PrefixStore<Rc<Route>>> Table<S> {
         self.passed = self.passed.wrapping_add(passed);
     }
 
+    /// Gives back room that is too much for the peers that there are.
+    pub(crate) fn give_back_room(&mut self)
+        ensures { self.new ≡ self.old }
+    {
+        self.stores.give_back_room();
+    }
+
     /// Makes the pair a key, so that a route can be put there without memory. Answers whether it
     /// is new. Refused, it may drop the store that it made for the key, and that key with it.
-    pub(crate) fn ensure(&mut self, pair: &Pair) -> Result<bool, AllocError>
+    fn ensure(&mut self, pair: &Pair) -> Result<bool, AllocError>
         ensures keys { OnOk result (self.new.keys ≡ set.insert self.old.keys pair.now) }
         ensures made { IfOk result (λ made. made ≡ not (set.contains self.old.keys pair.now)) }
         ensures routes { self.new.routes ≡ self.old.routes }
         ensures refused { OnErr result (self.new.keys ≡ self.old.keys) }
     {
-        if let Some(store) = self.stores.get_mut(&pair.peer) {
+        if let Some(store) = self.stores.get_mut(NO_NUMBER, &pair.peer) {
             return store.ensure(pair.prefix);
         }
         let store = store_with(self.alloc, pair.prefix)?;
@@ -93,24 +101,31 @@ impl<S: PrefixStore<Rc<Route>>> Table<S> {
         Ok(true)
     }
 
-    /// The route at the pair, or its absence, and the argument change places.
-    pub(crate) fn exchange(&mut self, pair: &Pair, route: &mut Option<Rc<Route>>)
+    /// The route at the pair, or its absence, and the argument change places. This number of its
+    /// peer is tried first.
+    pub(crate) fn exchange(
+        &mut self,
+        pair: &Pair,
+        number: usize,
+        route: &mut Option<Rc<Route>>,
+    )
         requires { set.contains self.old.keys pair.now ≡ true }
         ensures keys { self.new.keys ≡ self.old.keys }
         ensures routes { self.new.routes ≡ put self.old.routes pair.now (route_in route.old) }
         ensures given { route_in route.new ≡ finite.get self.old.routes pair.now }
     {
-        if let Some(store) = self.stores.get_mut(&pair.peer) {
+        if let Some(store) = self.stores.get_mut(number, &pair.peer) {
             store.exchange(&pair.prefix, route);
         }
     }
 
     /// Puts the route at the pair, which is made a key where it was none: what was there and the
     /// argument change places. Answers whether the key is new. Refused, it may drop the store that
-    /// it made for the key, and that key with it.
+    /// it made for the key, and that key with it. This number of its peer is tried first.
     pub(crate) fn put(
         &mut self,
         pair: &Pair,
+        number: usize,
         route: &mut Option<Rc<Route>>,
     ) -> Result<bool, AllocError>
         ensures keys { OnOk result (self.new.keys ≡ set.insert self.old.keys pair.now) }
@@ -122,11 +137,11 @@ impl<S: PrefixStore<Rc<Route>>> Table<S> {
         ensures held { OnErr result (self.new.routes ≡ self.old.routes) }
         ensures kept { OnErr result (route.new ≡ route.old) }
     {
-        if let Some(store) = self.stores.get_mut(&pair.peer) {
+        if let Some(store) = self.stores.get_mut(number, &pair.peer) {
             return store.put(&pair.prefix, route);
         }
         let made = self.ensure(pair)?;
-        self.exchange(pair, route);
+        self.exchange(pair, NO_NUMBER, route);
         Ok(made)
     }
 
@@ -147,7 +162,7 @@ impl<S: PrefixStore<Rc<Route>>> Table<S> {
         ensures { option_map (λ route. route.now.value) result ≡
             finite.get self.now.routes pair.now }
     {
-        self.stores.get(&pair.peer)?.get(&pair.prefix)
+        self.stores.get(NO_NUMBER, &pair.peer)?.get(&pair.prefix)
     }
 
     /// The route that the peer has to the prefix.
@@ -169,7 +184,7 @@ impl<S: PrefixStore<Rc<Route>>> Table<S> {
         ensures { IsBest self.now.routes peer.now addr.now
             (option_map (λ found. (found.0, found.1.now.value)) result) }
     {
-        let store = self.stores.get(peer)?;
+        let store = self.stores.get(NO_NUMBER, peer)?;
         store.longest(addr)
     }
 
@@ -180,7 +195,7 @@ impl<S: PrefixStore<Rc<Route>>> Table<S> {
             slice_get (above (option_copied prefix.entry)
             (finite.entries (peer_routes self.now.routes peer.now))) 0 }
     {
-        let routes = self.stores.get(peer)?;
+        let routes = self.stores.get(NO_NUMBER, peer)?;
         routes.after(prefix)
     }
 
@@ -198,7 +213,7 @@ impl<S: PrefixStore<Rc<Route>>> Table<S> {
             (finite.entries (peer_routes self.now.routes peer.now))) }
         ensures room { vec_capacity found.new ≡ vec_capacity found.old }
     {
-        match self.stores.get(peer) {
+        match self.stores.get(NO_NUMBER, peer) {
             Some(store) => store.next_routes(prefix, found),
             None => found.clear(),
         }
@@ -219,12 +234,16 @@ impl<S: PrefixStore<Rc<Route>>> Table<S> {
         first_routed(&self.stores, numbers)
     }
 
-    /// The peer, where it has a key, as entries share it. Its number is tried behind this one, or
-    /// the one written last, and stands there then.
-    pub(crate) fn shared_peer(&self, last: &mut Option<usize>, peer: &Peer) -> Option<&Rc<Peer>>
+    /// The peer, where it has a key, as entries share it. This number is tried first.
+    pub(crate) fn shared_peer(&self, number: usize, peer: &Peer) -> Option<&Rc<NumberedPeer>>
         ensures { IfSome result (λ shared. shared.now.value ≡ peer.now) }
     {
-        self.stores.shared_peer(last, peer)
+        self.stores.shared_peer(number, peer)
+    }
+
+    /// The store of the peer, where it has a key. This number is tried first.
+    pub(crate) fn numbered_store(&self, peer: &NumberedPeer) -> Option<&S> {
+        self.stores.get(peer.number(), peer.peer())
     }
 
     /// Whether all these pairs are known to be of different peers.
@@ -251,7 +270,7 @@ impl<S: PrefixStore<Rc<Route>>> Table<S> {
         ensures absent { IfNone result ((n : Network) →
             finite.get self.now.routes (pair_of peer.now n) ≡ None) }
     {
-        self.stores.get(peer)
+        self.stores.get(NO_NUMBER, peer)
     }
 }
 
@@ -261,10 +280,10 @@ fn first_routed<'a, S: PrefixStore<Rc<Route>>>(
     numbers: Range<'a, Peer, usize>,
 ) -> Option<(Peer, u64)>
     ensures { result ≡ option_map (peer_count S.routes)
-        (slice_get (routed_stores S.routes (stores_of stores.now.held numbers.entry)) 0) }
+        (slice_get (routed_stores S.routes (stores_of stores.now.held.items numbers.entry)) 0) }
 {
     'numbers: for (peer, number) in numbers {
-        if let Some(store) = stores.held.get(*number) {
+        if let Some(store) = stores.at(*number) {
             let count = store.route_count();
             if count > 0 {
                 return Some((*peer, count));
@@ -291,7 +310,7 @@ fn drop_key<S: PrefixStore<Rc<Route>>>(stores: &mut Stores<S>, pair: &Pair) -> b
     ensures left { IsLeft S.keys S.routes (stores_in stores.old) (stores_in stores.new)
         pair.now result }
 {
-    if let Some(store) = stores.get_mut(&pair.peer) {
+    if let Some(store) = stores.get_mut(NO_NUMBER, &pair.peer) {
         store.discard(&pair.prefix);
         return store.key_count() == 0;
     }

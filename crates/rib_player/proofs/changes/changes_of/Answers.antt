@@ -10,18 +10,24 @@ use Rattle.rib_player.proofs.changes.changes_of.Goals as goal
 
 pub note_shared-requires : goal.note_shared-requires
 note_shared-requires c =
-    said_range c.as_slice-items.result.now _ c.shared-shared.result.start _ c.as_slice-items.ensures c.shared-shared.ensures.alike
+    said_range c.as_slice-items.result.now _ c.shared_ranges-shared.result.middle _ c.as_slice-items.ensures c.shared_ranges-shared.ensures.second.alike
+
+pub note_shared-requires-2 : goal.note_shared-requires-2
+note_shared-requires-2 c =
+    said_range c.as_slice-items.result.now _ c.shared_ranges-shared.result.start _ c.as_slice-items.ensures c.shared_ranges-shared.ensures.first.alike
 
 pub returns : goal.returns
 returns c =
     let items = c.as_slice-items.result.now in
-    let start = c.shared-shared.result.start in
-    let end = c.shared-shared.result.end in
-    λ (q : Pair). effect-parts q items start end (noted_effect c.note_each.new.self q) (noted_effect c.note_shared.new.self q) (noted_effect c.note_each-2.new.self q)
-    c.shared-shared.ensures.ordered
+    let ranges = c.shared_ranges-shared.result in
+    let shared = c.shared_ranges-shared.ensures in
+    λ (q : Pair). effect-parts q items ranges.start ranges.middle ranges.end
+    (noted_effect c.note_each.new.self q) (noted_effect c.note_shared.new.self q) (noted_effect c.note_shared-2.new.self q) (noted_effect c.note_each-2.new.self q)
+    shared.first.ordered shared.second.ordered
     (c.in_ok-note_each.ensures q
-    ∙ ap₂ (λ l before. later (items_effect q l) before) (take_all _ (drop end items) (omega (arith, length-drop end items)))
+    ∙ ap₂ (λ l before. later (items_effect q l) before) (take_all _ (drop ranges.end items) (omega (arith, length-drop ranges.end items)))
     (ap₂ (λ (slots : Slots) peers. effect_of (found slots q) (is_lost peers q)) c.in_ok-with_capacity.ensures.items c.new.ensures.empty))
     (c.in_ok-note_shared.ensures q)
+    (c.in_ok-note_shared-2.ensures q)
     (c.in_ok-note_each-2.ensures q)
     ∙ ap last_effect (sym (effects-sayings q items) ∙ ap (map (item_effect q)) c.as_slice-items.ensures)

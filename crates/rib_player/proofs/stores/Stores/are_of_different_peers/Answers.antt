@@ -21,7 +21,7 @@ slots-preserved g c =
     let slots = c.args.slots.now in
     let slot = c.slot-item.result in
     let number = c.in-Some.number in
-    let is : lookup (same_peer slot.0.peer) order ≡ Some number = sym c.number_behind.ensures ∙ c.in-Some.is in
+    let is : lookup (same_peer slot.0.peer) order ≡ Some number = sym c.number_of.ensures ∙ c.in-Some.is in
     let more : take (c.slots.slot-index + 1) slots ≡ take c.slots.slot-index slots ++ slot ∷ [] =
     take_more slots c.slots.slot-index slot c.slots-test.true ∙ ap (λ e. take c.slots.slot-index slots ++ e ∷ []) (sym c.slot-item.is) in
     record {

@@ -1,5 +1,4 @@
 use Rattle.std.proofs.Common.{Some, None, slice_get, refl, sym, ap, subst, ◌∙◌}
-use Rattle.std.specs.List.Sorted.{IsStrictlySortedBy}
 use Rattle.std.specs.Ordering.{is_lt}
 use Rattle.std.specs.Option.{option_map, option_copied}
 use Rattle.std.specs.FinMap as finite
@@ -11,19 +10,18 @@ use Rattle.prefix_store.specs.Stored.{counted}
 use Rattle.rib_player.specs.Store.{peer_routes, routed_peers}
 use Rattle.rib_player.specs.Lookups.{peers_above}
 use Rattle.rib_player.specs.StoresByPeer.{stores_in, stores_of}
-use Rattle.rib_player.specs.Numbered.{peers_in}
 use Rattle.rib_player.proofs.PeerLaws.{first_counted}
-use Rattle.rib_player.proofs.NumberLaws.{keys-stores_of, stores_of-filter}
+use Rattle.rib_player.proofs.NumberLaws.{sorted-stores_of, stores_of-filter}
 use Rattle.rib_player.proofs.table.Table.peer_after.Goals as goal
 use Rattle.rib_player.proofs.table.Table.peer_after.Goals.{in-Some, in-None}
 
 pub returns : goal.returns
 returns g c =
-    let held = c.self.inside.stores.held in
+    let held = c.self.inside.stores.held.items in
     let order = c.self.inside.stores.order.entries in
     let stores = stores_in c.self.inside.stores in
     let all = c.args.self.now.routes in
-    let sorted = subst (λ ps. IsStrictlySortedBy peer_cmp ps) (sym (keys-stores_of held (peers_in c.self.inside.stores.names.items) order c.self.inside.stores.numbered.there)) c.range-numbers.ensures.ordered in
+    let sorted = sorted-stores_of held order c.range-numbers.ensures.ordered in
     c.first_routed.ensures ∙ elim c.match-peer.branch [
       | in-Some w ↦
           first_counted g.S.PrefixStore.routes (Some w.in-Some.peer.now) (range_contains peer_cmp (Excluded w.in-Some.peer.now) Unbounded) stores (stores_of held c.range-numbers.result) all (λ p. and-true (is_lt (peer_cmp w.in-Some.peer.now p)))

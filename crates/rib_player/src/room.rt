@@ -1,0 +1,19 @@
+//! Room of lists, of which some is given back where it is far too much for what stands there.
+
+ghost use Rattle.std.specs.Prelude.{◌≡◌};
+
+/// How many times as much as stands there, there may be room for.
+pub(crate) const MOST_TIMES: usize = 4;
+
+/// For how much there may be room, however little stands there.
+pub(crate) const LEAST_ROOM: usize = 1024;
+
+/// Gives back what is too much room for a list, unless memory is refused for the smaller one.
+pub(crate) fn give_back<T>(list: &mut Vec<T>)
+    ensures { list.new.items ≡ list.old.items }
+{
+    let kept = list.len().max(LEAST_ROOM);
+    if list.capacity() / MOST_TIMES > kept {
+        list.shrink_to(kept);
+    }
+}
