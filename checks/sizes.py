@@ -13,11 +13,11 @@ from pathlib import Path
 
 TOP = Path(__file__).resolve().parent.parent
 NOTED = {
-    'functions whose name begins with no verb of docs/architecture.md': 599,
+    'functions whose name begins with no verb of docs/architecture.md': 595,
     'functions of more than five parameters': 10,
     'clauses of more than 160 characters': 43,
     'files of more than 320 lines': 5,
-    'pairs of files that import each other': 6,
+    'pairs of files that import each other': 5,
 }
 # Programs and libraries that only check or measure.
 CHECKS = ('library_tests', 'rows', 'store_bench', 'test_devices', 'workloads')

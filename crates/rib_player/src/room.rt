@@ -9,7 +9,7 @@ pub(crate) const MOST_TIMES: usize = 4;
 pub(crate) const LEAST_ROOM: usize = 1024;
 
 /// Gives back what is too much room for a list, unless memory is refused for the smaller one.
-pub(crate) fn give_back<T>(list: &mut Vec<T>)
+pub(crate) fn give_back_room<T>(list: &mut Vec<T>)
     ensures { list.new.items ≡ list.old.items }
 {
     let kept = list.len().max(LEAST_ROOM);

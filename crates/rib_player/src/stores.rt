@@ -11,13 +11,13 @@ ghost use Rattle.mrt_events.specs.Peer.{peer_cmp};
 ghost use Rattle.rib_player.specs.declared.stores.TheConstants.{PLACES};
 ghost use Rattle.rib_player.specs.History.{pair_cmp};
 ghost use Rattle.rib_player.specs.Store.{store_at};
-ghost use Rattle.rib_player.specs.Numbered.{peers_in, AreNumbered};
+ghost use Rattle.rib_player.specs.Numbered.{peers_in, AreNumbered, IsNumberedAnew};
 ghost use Rattle.rib_player.specs.Marked.{is_marked};
 ghost use Rattle.std.proofs.Props.{props};
 
 use crate::numbered_peer::{NO_NUMBER, NumberedPeer};
 use crate::pair::Pair;
-use crate::room::give_back;
+use crate::room::give_back_room;
 use known_routes::peer_hash;
 use mrt_events::{Peer, same_peer};
 use std::alloc::{AllocError, Global};
@@ -163,8 +163,8 @@ impl<S> Stores<S> {
     pub(crate) fn give_back_room(&mut self)
         ensures { stores_in self.new ≡ stores_in self.old }
     {
-        give_back(&mut self.held);
-        give_back(&mut self.names);
+        give_back_room(&mut self.held);
+        give_back_room(&mut self.names);
     }
 }
 
@@ -210,9 +210,7 @@ impl<S: Drop> Stores<S> {
 /// Gives the peer, which has a number, this one.
 fn renumber(order: &mut BTreeMap<Peer, usize>, peer: &Peer, number: usize)
     requires { IsSome (lookup (eq_by_cmp peer_cmp peer.now) order.old.entries) }
-    ensures { (p : Peer) → lookup (eq_by_cmp peer_cmp p) order.new.entries
-        ≡ (if eq_by_cmp peer_cmp peer.now p then Some number
-        else lookup (eq_by_cmp peer_cmp p) order.old.entries) }
+    ensures { IsNumberedAnew order.old.entries order.new.entries peer.now number }
 {
     if let Some(held) = order.get_mut(peer) {
         *held = number;
@@ -247,7 +245,7 @@ impl Marks {
         self.row = self.row.wrapping_add(1);
         self.numbers.clear();
         self.rows.truncate(count);
-        give_back(&mut self.rows);
+        give_back_room(&mut self.rows);
     }
 
     /// Whether the number is known to be new in this row. It is marked then.

@@ -103,12 +103,7 @@ impl<S: PrefixStore<Rc<Route>>> Table<S> {
 
     /// The route at the pair, or its absence, and the argument change places. This number of its
     /// peer is tried first.
-    pub(crate) fn exchange(
-        &mut self,
-        pair: &Pair,
-        number: usize,
-        route: &mut Option<Rc<Route>>,
-    )
+    pub(crate) fn exchange(&mut self, pair: &Pair, number: usize, route: &mut Option<Rc<Route>>)
         requires { set.contains self.old.keys pair.now ≡ true }
         ensures keys { self.new.keys ≡ self.old.keys }
         ensures routes { self.new.routes ≡ put self.old.routes pair.now (route_in route.old) }
