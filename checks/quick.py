@@ -112,7 +112,7 @@ def faults_of_crates():
         if (crate / 'src/lib.rt').is_file() and not is_tests:
             for file in sorted((crate / 'src').rglob('*.rt')):
                 if '#[test]' in file.read_text():
-                    yield file, 'tests of a library stand in library_tests'
+                    yield file, 'tests of a library stand in library_tests or play_tests'
 
 
 def anchors_of(document):

@@ -20,7 +20,7 @@ NOTED = {
     'pairs of files that import each other': 5,
 }
 # Programs and libraries that only check or measure.
-CHECKS = ('library_tests', 'rows', 'store_bench', 'test_devices', 'workloads')
+CHECKS = ('row_parts', 'rows', 'store_bench', 'test_devices', 'workloads')
 
 FUNCTION = re.compile(r'^ *(?:pub(?:\([^)]*\))? )?(?:const )?fn (\w+)(?:<[^>]*>)?\(', re.M)
 CLAUSE = re.compile(r'\b(?:requires|ensures)\b[^{]*\{((?:[^{}]|\{[^{}]*\})*)\}')

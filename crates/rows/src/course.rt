@@ -12,15 +12,15 @@
 //!
 //! Other lines are questions (`player.rt`). Each line is answered by one.
 
-use crate::items::Brought;
-use crate::marks::{self, Marks};
 use crate::player::put_seen;
-use crate::shown::Shown;
 use crate::watched::IsWatched;
-use crate::words::{REFUSED, UNREAD, number_word, peer_words, put_count, put_within, split_word};
 use mrt_wire::{Event, Item, Peer, Route};
 use rib_player::{PlayFault, Player};
 use rib_store::{GREATEST_COUNT, PrefixStore};
+use row_parts::marks::{self, Marks};
+use row_parts::{
+    Brought, REFUSED, Shown, UNREAD, number_word, peer_words, put_count, put_within, split_word,
+};
 use std::alloc::{AllocError, Global};
 use std::rc::Rc;
 use std::str;

@@ -2,46 +2,23 @@
 //! carries them out, and prints how many agree and each that differs.
 #![tactic(auto)]
 
-mod again;
-mod answer;
-mod appended;
 mod call;
 mod commands;
 mod course;
-mod devices;
-mod events;
 mod file;
-mod group;
-mod items;
-mod marks;
-mod names;
 mod nodes;
-mod parts;
-mod paths;
+mod played;
 mod player;
-mod printed;
-mod routes;
-mod row;
-mod runs;
-mod settings;
-mod shown;
-mod spelled;
 mod store;
-mod tally;
-mod turns;
-mod values;
 mod watched;
-mod wire;
-mod words;
 
 use file::read_rows;
-use names::Names;
+use row_parts::{Names, Tally};
 use std::alloc::Global;
 use std::fs::File;
 use std::io::{self, Read};
 use std::process::ExitCode;
 use std::{env, str};
-use tally::Tally;
 
 fn main(rt: HostRuntime) -> ExitCode {
     match run(&rt) {

@@ -12,16 +12,15 @@
 //!     shared PEER PEER LEAST MOST         how many prefixes have one route of both, in one place
 //!     peers, longest PEER ADDRESS
 
-use crate::shown::Shown;
 use crate::watched::IsWatched;
-use crate::wire::put_fields;
-use crate::words::{
-    UNREAD, address_word, peer_words, prefix_word, put_count, put_peer, put_within,
-};
 use ip_prefix::Prefix;
 use mrt_wire::{Peer, Route};
 use rib_player::{Player, Table};
 use rib_store::PrefixStore;
+use row_parts::{
+    Shown, UNREAD, address_word, peer_words, prefix_word, put_count, put_fields, put_peer,
+    put_within,
+};
 use std::rc::Rc;
 
 /// More peers, and more routes of one, than are walked over.

@@ -14,14 +14,13 @@
 //!
 //! Each is answered by a line.
 
-use crate::marks::Marks;
 use crate::nodes::HasNodes;
-use crate::shown::Shown;
-use crate::words::{
-    REFUSED, UNREAD, address_word, number_word, prefix_word, put_count, split_word,
-};
 use ip_prefix::{Addr, Prefix};
 use rib_store::{LeftStore, MapStore, Places, PrefixStore, RadixStore};
+use row_parts::marks::Marks;
+use row_parts::{
+    REFUSED, Shown, UNREAD, address_word, number_word, prefix_word, put_count, split_word,
+};
 use std::alloc::{AllocError, Global};
 use std::str;
 

@@ -3,7 +3,6 @@
 ghost use Rattle.std.specs.Prelude.{◌≡◌, None, false};
 
 use super::LINE;
-use super::octets::{MULTICAST, MULTICAST_REPORT, STATE_CHANGE, octets_of};
 use bgpdump_lines::{OutFault, Outcome, Output, WriteOutput, put_all, run_dump};
 use mrt_wire::Stamp;
 use std::alloc::{AllocError, Global};
@@ -11,7 +10,9 @@ use std::cell::Cell;
 use std::io::{self, ErrorKind, Write};
 use std::process::Abort;
 use std::test::Fail;
-use test_devices::{CountedOutput, SlowOutput, WatchingInput};
+use test_devices::{
+    CountedOutput, MULTICAST, MULTICAST_REPORT, STATE_CHANGE, SlowOutput, WatchingInput, octets_of,
+};
 
 /// A writer that takes nothing, and whose `flush` fails.
 #[derive(Drop)]

@@ -1,6 +1,5 @@
 //! What the events of sources say, and what inputs pass on.
 
-use super::octets::{STATE_CHANGE, octets_of};
 use ip_prefix::Addr;
 use mrt_wire::{
     Event, InFault, Input, Item, Items, Next, Peer, ReadInput, Shared, Source, SourceFault, Stamp,
@@ -10,6 +9,7 @@ use std::alloc::Global;
 use std::io::{self, ErrorKind, Read};
 use std::process::Abort;
 use std::test::Fail;
+use test_devices::{STATE_CHANGE, octets_of};
 
 /// The event of an answer.
 fn event_of(answer: Result<Next, SourceFault>) -> Option<Event> {

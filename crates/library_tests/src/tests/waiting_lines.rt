@@ -1,13 +1,12 @@
 //! What a run passes on before it waits for its input.
 
 use super::LINE;
-use super::octets::{STATE_CHANGE, octets_of};
 use bgpdump_lines::{Outcome, run_dump};
 use mrt_wire::Stamp;
 use std::alloc::{AllocError, Global};
 use std::process::Abort;
 use std::test::Fail;
-use test_devices::{HandInput, PassingOutput};
+use test_devices::{HandInput, PassingOutput, STATE_CHANGE, octets_of};
 
 /// How many octets a record of the tests has.
 const SIZE: usize = 32;

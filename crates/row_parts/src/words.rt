@@ -7,6 +7,9 @@ use mrt_wire::Peer;
 /// What is answered to a line that can't be read.
 pub const UNREAD: &[u8] = b"unread";
 
+/// What is answered where there is no value.
+pub(crate) const NONE: &[u8] = b"none";
+
 /// What is answered where memory is refused.
 pub const REFUSED: &[u8] = b"refused";
 

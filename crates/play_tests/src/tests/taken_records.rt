@@ -3,13 +3,14 @@
 ghost use Rattle.std.specs.Prelude.{◌≡◌, None, false};
 
 use super::Routes;
-use super::octets::{MULTICAST, MULTICAST_REPORT, STATE_CHANGE, octets_of};
 use bgpdump_tool::run_play;
 use mrt_wire::Stamp;
 use std::alloc::{AllocError, Global};
 use std::cell::Cell;
 use std::test::Fail;
-use test_devices::{CountedOutput, WatchingInput};
+use test_devices::{
+    CountedOutput, MULTICAST, MULTICAST_REPORT, STATE_CHANGE, WatchingInput, octets_of,
+};
 
 /// Carries out a script over a record and a state change, and tells how much was written when the
 /// second one was asked for.

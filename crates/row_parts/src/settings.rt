@@ -11,13 +11,13 @@
 use crate::marks;
 use crate::shown::Shown;
 use crate::words::{REFUSED, UNREAD, split_word};
-use bgpdump_tool::{Mode, Settings, UsageFault, settings};
+use bgpdump_command_line::{Mode, Settings, UsageFault, settings};
 use mrt_wire::Stamp;
 use std::alloc::{AllocError, Global};
 use std::str;
 
 /// Appends what is answered to the lines.
-pub fn put_settings(alloc: Global, script: &[u8], text: &mut Shown) {
+pub(crate) fn put_settings(alloc: Global, script: &[u8], text: &mut Shown) {
     for line in str::from_utf8(script).unwrap_or("").lines() {
         put_answer(alloc, line, text);
         text.put(b"\n");

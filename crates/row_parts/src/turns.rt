@@ -12,7 +12,7 @@ use crate::words::{UNREAD, address_word, prefix_word, split_word};
 use ip_prefix::{Addr, Family, Prefix, Turn, V4_BITS, V4_OCTETS};
 
 /// Appends what a line asks of two.
-pub fn put_between(name: &str, rest: &str, text: &mut Shown) {
+pub(crate) fn put_between(name: &str, rest: &str, text: &mut Shown) {
     let (one, other) = split_word(rest);
     match name {
         "compare" => put_compared(one, other, text),

@@ -3,12 +3,12 @@
 use crate::appended::{Front, put_appended};
 use crate::events::{LIMIT, MOST_ANSWERS};
 use crate::shown::Shown;
-use bgpdump_tool::put_lines;
+use bgpdump_lines::put_lines;
 use mrt_wire::{Next, ReadInput, Source, SourceFault, Stamp};
 use std::alloc::Global;
 
 /// Appends the lines of each event that a source answers.
-pub fn put_printed(alloc: Global, octets: &[u8], text: &mut Shown) {
+pub(crate) fn put_printed(alloc: Global, octets: &[u8], text: &mut Shown) {
     let mut source = Source::new(alloc, Stamp::Dump, LIMIT);
     let mut input = ReadInput::new(octets);
     for _ in 0..MOST_ANSWERS {

@@ -8,16 +8,12 @@
 //!     out=N err=N     after how many octets each output fails
 //!     out-fails=1 err-fails=1     an output whose finish fails
 
-use crate::answer::Answer;
 use crate::events::LIMIT;
 use crate::shown::Shown;
 use crate::words::put_count;
-use bgpdump_tool::{Outcome, run_dump, run_play};
-use mrt_wire::{Input, Next, ReadInput, Route, Source, SourceFault, Stamp};
-use rib_store::PrefixStore;
-use std::alloc::{AllocError, Global};
-use std::rc::Rc;
-use test_devices::{EndedInput, SlowInput, SlowOutput};
+use mrt_wire::{Input, Next, ReadInput, Source, SourceFault, Stamp};
+use std::alloc::Global;
+use test_devices::{EndedInput, SlowInput};
 
 /// A number of octets that no row reaches.
 const MANY: usize = usize::MAX;
@@ -25,28 +21,31 @@ const MANY: usize = usize::MAX;
 /// What devices do.
 #[derive(Clone, Copy)]
 pub struct Devices {
-    step: usize,
-    sound: usize,
+    /// How many octets move a call.
+    pub step: usize,
+    /// After how many octets the input fails, and each output.
+    pub sound: usize,
+    pub out: usize,
+    pub err: usize,
+    /// Whether the finish of each output succeeds.
+    pub out_finishes: bool,
+    pub err_finishes: bool,
     end: usize,
     limit: u64,
-    out: usize,
-    err: usize,
-    out_finishes: bool,
-    err_finishes: bool,
 }
 
 impl Devices {
     /// Those that the words tell.
-    pub fn spelled(words: &str) -> Option<Devices> {
+    pub(crate) fn spelled(words: &str) -> Option<Devices> {
         let mut devices = Devices {
             step: MANY,
             sound: MANY,
-            end: MANY,
-            limit: LIMIT,
             out: MANY,
             err: MANY,
             out_finishes: true,
             err_finishes: true,
+            end: MANY,
+            limit: LIMIT,
         };
         for word in words.split_whitespace() {
             let (name, number) = word.split_once("=")?;
@@ -74,55 +73,13 @@ impl Devices {
     }
 }
 
-/// The lines and the reports of a dump over devices.
-pub fn dump_by(
-    alloc: Global,
-    devices: Devices,
-    stamp: Stamp,
-    octets: &[u8],
-) -> Result<Answer, AllocError> {
-    let mut input = SlowInput::new(octets, devices.step, devices.sound);
-    let mut out = SlowOutput::new(alloc, devices.step, devices.out, devices.out_finishes);
-    let mut err = SlowOutput::new(alloc, devices.step, devices.err, devices.err_finishes);
-    let outcome = run_dump(alloc, &mut input, &mut out, &mut err, stamp);
-    answer_of(alloc, outcome, out, err)
-}
-
-/// The replies and the reports of a script over devices.
-pub fn play_by<S: PrefixStore<Rc<Route>>>(
-    alloc: Global,
-    devices: Devices,
-    stamp: Stamp,
-    octets: &[u8],
-    script: &[u8],
-) -> Result<Answer, AllocError> {
-    let mut input = SlowInput::new(octets, devices.step, devices.sound);
-    let mut out = SlowOutput::new(alloc, devices.step, devices.out, devices.out_finishes);
-    let mut err = SlowOutput::new(alloc, devices.step, devices.err, devices.err_finishes);
-    let outcome = run_play::<S, _, _, _>(alloc, &mut input, script, &mut out, &mut err, stamp);
-    answer_of(alloc, outcome, out, err)
-}
-
-/// What a run over these outputs answers.
-fn answer_of(
-    alloc: Global,
-    outcome: Outcome,
-    out: SlowOutput,
-    err: SlowOutput,
-) -> Result<Answer, AllocError> {
-    let ended = format!(in alloc; "{outcome:?} {} {}", out.finish_calls, err.finish_calls)?;
-    let mut answer = Answer::of_run(alloc, outcome, out.text, err.text);
-    answer.ended.extend_from_slice(ended.as_bytes())?;
-    Ok(answer)
-}
-
 /// Appends what a source answers to four calls over octets.
-pub fn put_calls(alloc: Global, octets: &[u8], text: &mut Shown) {
+pub(crate) fn put_calls(alloc: Global, octets: &[u8], text: &mut Shown) {
     put_four(alloc, LIMIT, &mut ReadInput::new(octets), text);
 }
 
 /// The same over an input of devices.
-pub fn put_calls_by(alloc: Global, devices: Devices, octets: &[u8], text: &mut Shown) {
+pub(crate) fn put_calls_by(alloc: Global, devices: Devices, octets: &[u8], text: &mut Shown) {
     if devices.end == MANY {
         let mut input = SlowInput::new(octets, devices.step, devices.sound);
         return put_four(alloc, devices.limit, &mut input, text);

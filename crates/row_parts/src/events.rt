@@ -10,13 +10,13 @@ use mrt_wire::{
 use std::alloc::Global;
 
 /// More answers than any row has.
-pub const MOST_ANSWERS: u32 = 10_000;
+pub(crate) const MOST_ANSWERS: u32 = 10_000;
 
 /// More octets than any row has.
-pub const LIMIT: u64 = 1 << 40;
+pub(crate) const LIMIT: u64 = 1 << 40;
 
 /// Appends what a source answers up to the end, or up to a fault of its own.
-pub fn put_events(alloc: Global, stamp: Stamp, octets: &[u8], text: &mut Shown) {
+pub(crate) fn put_events(alloc: Global, stamp: Stamp, octets: &[u8], text: &mut Shown) {
     let mut source = Source::new(alloc, stamp, LIMIT);
     let mut input = ReadInput::new(octets);
     for _ in 0..MOST_ANSWERS {
@@ -31,7 +31,7 @@ pub fn put_events(alloc: Global, stamp: Stamp, octets: &[u8], text: &mut Shown) 
 }
 
 /// What a source answers next, by a call that is marked.
-pub fn next_of<I: Input>(
+pub(crate) fn next_of<I: Input>(
     alloc: Global,
     source: &mut Source,
     input: &mut I,
@@ -43,7 +43,11 @@ pub fn next_of<I: Input>(
 }
 
 /// The line of a fault of the source. Where memory was refused, the source is spent behind it.
-pub fn word_of<I: Input>(fault: SourceFault, source: &mut Source, input: &mut I) -> &'static [u8] {
+pub(crate) fn word_of<I: Input>(
+    fault: SourceFault,
+    source: &mut Source,
+    input: &mut I,
+) -> &'static [u8] {
     match fault {
         SourceFault::Memory if is_spent(source, input) => b"refused\n",
         SourceFault::Memory => b"refused, and not spent\n",
@@ -99,7 +103,7 @@ fn tag_word(tag: Tag) -> &'static str {
 }
 
 /// Appends an item: `+` and a route, `-` and a prefix, or `=` and two states, each with its peer.
-pub fn put_item(item: &Item, text: &mut Shown) {
+pub(crate) fn put_item(item: &Item, text: &mut Shown) {
     match item {
         Item::Announce(peer, prefix, route) => {
             put_prefix(b"+", peer, prefix, text);
@@ -111,7 +115,7 @@ pub fn put_item(item: &Item, text: &mut Shown) {
 }
 
 /// Appends a mark, a peer, a space and a prefix.
-pub fn put_prefix(mark: &[u8], peer: &Peer, prefix: &Prefix, text: &mut Shown) {
+pub(crate) fn put_prefix(mark: &[u8], peer: &Peer, prefix: &Prefix, text: &mut Shown) {
     text.put(mark);
     put_peer(peer, text);
     text.put(b" ");
@@ -140,6 +144,6 @@ fn put_states(peer: &Peer, old: u16, new: u16, text: &mut Shown) {
 }
 
 /// Appends the number, the place and the kind of a faulty record.
-pub fn put_fault(alloc: Global, fault: &RecordFault, text: &mut Shown) {
+pub(crate) fn put_fault(alloc: Global, fault: &RecordFault, text: &mut Shown) {
     text.put_made(format!(in alloc; "{} {} {:?}", fault.number, fault.offset, fault.kind));
 }

@@ -3,7 +3,6 @@
 ghost use Rattle.std.specs.Prelude.{◌≡◌, None, false};
 
 use super::Routes;
-use super::octets::{MULTICAST, octets_of};
 use super::played_scripts::{Played, SOUND, assert_played, play_on};
 use bgpdump_tool::{OutFault, Outcome, Output, run_play};
 use ip_prefix::{Addr, Prefix};
@@ -13,6 +12,7 @@ use std::alloc::{AllocError, Global};
 use std::process::Abort;
 use std::rc::Rc;
 use std::test::Fail;
+use test_devices::{MULTICAST, octets_of};
 
 /// A store that makes no new key where it has so many.
 #[derive(Drop)]

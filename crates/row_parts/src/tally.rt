@@ -33,7 +33,7 @@ impl<'a> Tally<'a> {
     }
 
     /// Counts a row of which no call differs.
-    pub fn allow(&mut self) {
+    pub(crate) fn allow(&mut self) {
         if self.is_refused {
             self.refused = self.refused.saturating_add(1);
         } else {
@@ -43,7 +43,7 @@ impl<'a> Tally<'a> {
     }
 
     /// Notes that memory was refused in a call of the row.
-    pub fn note_refusal(&mut self) {
+    pub(crate) fn note_refusal(&mut self) {
         self.is_refused = true;
     }
 
@@ -56,7 +56,7 @@ impl<'a> Tally<'a> {
     }
 
     /// Counts a row that differs, and shows what the call answers in its place.
-    pub fn deny_row(&mut self, row: &Row, answer: &Answer, why: &str) {
+    pub(crate) fn deny_row(&mut self, row: &Row, answer: &Answer, why: &str) {
         self.deny(row.line, why);
         self.text.put(&answer.out);
         self.text.put(&answer.err);

@@ -19,7 +19,7 @@ use crate::paths::{numbers_of, path_of};
 use crate::shown::Shown;
 use crate::spelled::put_digits;
 use crate::turns::put_between;
-use crate::words::{UNREAD, address_word, number_word, prefix_word, split_word};
+use crate::words::{NONE, UNREAD, address_word, number_word, prefix_word, split_word};
 use bgp_wire::{AsPath, WireFault, put_communities};
 use ip_prefix::{Addr, Prefix, V4_OCTETS, V6_OCTETS, put_decimal};
 use std::alloc::{AllocError, Global};
@@ -28,11 +28,8 @@ use std::str;
 /// What stands in front of a text where the line names nothing else.
 const BEFORE: &str = "before";
 
-/// What is answered where there is no value.
-pub const NONE: &[u8] = b"none";
-
 /// Appends what is answered to the lines.
-pub fn put_values(alloc: Global, script: &[u8], text: &mut Shown) {
+pub(crate) fn put_values(alloc: Global, script: &[u8], text: &mut Shown) {
     for line in str::from_utf8(script).unwrap_or("").lines() {
         put_answer(alloc, line, text);
         text.put(b"\n");

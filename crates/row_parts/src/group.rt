@@ -8,7 +8,7 @@ const MESSAGE_FRONT: usize = 18;
 
 /// What becomes of the octets between a word like `2{` and its `}`.
 #[derive(Clone, Copy)]
-pub enum Group {
+pub(crate) enum Group {
     /// Their number stands before them, in so many octets.
     Counted(usize),
     /// They are the type and the body of a message, whose marker and length stand before them.
@@ -21,7 +21,7 @@ pub enum Group {
 
 impl Group {
     /// The group that the word begins.
-    pub fn begun_by(word: &str) -> Option<Group> {
+    pub(crate) fn begun_by(word: &str) -> Option<Group> {
         match word.strip_suffix("{")? {
             "1" => Some(Group::Counted(1)),
             "2" => Some(Group::Counted(2)),
@@ -36,7 +36,7 @@ impl Group {
     }
 
     /// Appends the group that has these octets.
-    pub fn put(self, body: &[u8], octets: &mut Vec<u8>) -> Result<(), AllocError> {
+    pub(crate) fn put(self, body: &[u8], octets: &mut Vec<u8>) -> Result<(), AllocError> {
         match self {
             Group::Counted(width) => {
                 put_number(width, body.len(), octets)?;

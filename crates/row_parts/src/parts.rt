@@ -9,13 +9,12 @@
 //! A prefix is answered with its least address, its length and its family.
 
 use crate::shown::Shown;
-use crate::values::NONE;
-use crate::words::{UNREAD, address_word, prefix_word, split_word};
+use crate::words::{NONE, UNREAD, address_word, prefix_word, split_word};
 use ip_prefix::{Addr, Family, Prefix, V4_OCTETS, V6_OCTETS};
 use std::alloc::Global;
 
 /// The family that a word names.
-pub fn family_word(word: &str) -> Option<Family> {
+pub(crate) fn family_word(word: &str) -> Option<Family> {
     match word {
         "v4" => Some(Family::V4),
         "v6" => Some(Family::V6),
@@ -24,7 +23,7 @@ pub fn family_word(word: &str) -> Option<Family> {
 }
 
 /// Appends a part that a line names.
-pub fn put_part(alloc: Global, name: &str, rest: &str, text: &mut Shown) {
+pub(crate) fn put_part(alloc: Global, name: &str, rest: &str, text: &mut Shown) {
     let (word, number) = split_word(rest);
     match name {
         "half" => put_half(alloc, prefix_word(word), text),

@@ -10,7 +10,7 @@ use std::alloc::{AllocError, Global};
 use std::str;
 
 /// Appends the text of two paths joined, which stand in the lines of a script.
-pub fn put_joined(alloc: Global, script: &[u8], text: &mut Shown) {
+pub(crate) fn put_joined(alloc: Global, script: &[u8], text: &mut Shown) {
     match joined(alloc, script) {
         Ok(path) => text.put_path(&path),
         Err(AllocError) => text.put(REFUSED),
@@ -19,7 +19,7 @@ pub fn put_joined(alloc: Global, script: &[u8], text: &mut Shown) {
 }
 
 /// Appends how many segments they have joined.
-pub fn put_segment_count(alloc: Global, script: &[u8], text: &mut Shown) {
+pub(crate) fn put_segment_count(alloc: Global, script: &[u8], text: &mut Shown) {
     match joined(alloc, script) {
         Ok(path) => put_count(b"", path.segments.as_slice().len() as u64, text),
         Err(AllocError) => text.put(REFUSED),
@@ -39,7 +39,7 @@ fn joined(alloc: Global, script: &[u8]) -> Result<AsPath, AllocError> {
 }
 
 /// The path that a line spells.
-pub fn path_of(alloc: Global, line: &str) -> Result<AsPath, AllocError> {
+pub(crate) fn path_of(alloc: Global, line: &str) -> Result<AsPath, AllocError> {
     let mut segments = Vec::new(alloc);
     for part in line.split("|") {
         if !part.trim().is_empty() {
@@ -66,7 +66,7 @@ fn segment_of(alloc: Global, text: &str) -> Result<Segment, AllocError> {
 }
 
 /// The numbers that a text spells, with anything between them.
-pub fn numbers_of(alloc: Global, text: &str) -> Result<Vec<u32>, AllocError> {
+pub(crate) fn numbers_of(alloc: Global, text: &str) -> Result<Vec<u32>, AllocError> {
     let mut numbers = Vec::new(alloc);
     for word in text.split(|letter: char| !letter.is_ascii_digit()) {
         if let Ok(number) = word.parse::<u32>() {

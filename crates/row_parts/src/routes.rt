@@ -106,7 +106,7 @@ fn put_route(route: &Route, text: &mut Shown) {
 }
 
 /// Appends a line for each item that a source answers, or for another answer.
-pub fn put_routes(alloc: Global, keeping: Keeping, octets: &[u8], text: &mut Shown) {
+pub(crate) fn put_routes(alloc: Global, keeping: Keeping, octets: &[u8], text: &mut Shown) {
     let mut source = Source::new(alloc, Stamp::Change, LIMIT);
     let mut input = ReadInput::new(octets);
     let mut held = Held::new(alloc, keeping);
@@ -172,7 +172,7 @@ fn put_lines(items: &[Item], text: &mut Shown) {
 
 /// Appends of each event a line: which items are known to share a route, and of each item the place
 /// of the first that has its route.
-pub fn put_shared(alloc: Global, octets: &[u8], text: &mut Shown) {
+pub(crate) fn put_shared(alloc: Global, octets: &[u8], text: &mut Shown) {
     let mut source = Source::new(alloc, Stamp::Dump, LIMIT);
     let mut input = ReadInput::new(octets);
     for _ in 0..MOST_ANSWERS {
