@@ -8,8 +8,8 @@ use Rattle.clap.specs.declared.builder.value_parser.ValueParser.{ValueParser}
 use Rattle.clap.specs.declared.builder.value_parser.ValueParser.TheVariants as parser
 use Rattle.clap.specs.declared.error.ErrorKind.{ErrorKind}
 use Rattle.clap.specs.declared.error.ErrorKind.TheVariants.{DisplayHelp}
-use Rattle.mrt_wire.specs.declared.Stamp.{Stamp}
-use Rattle.mrt_wire.specs.declared.Stamp.TheVariants.{Dump, Change}
+use Rattle.mrt_events.specs.declared.Stamp.{Stamp}
+use Rattle.mrt_events.specs.declared.Stamp.TheVariants.{Dump, Change}
 use Rattle.bgpdump_command_line.specs.declared.usage.Mode.{Mode}
 use Rattle.bgpdump_command_line.specs.declared.usage.Mode.TheVariants as mode
 use Rattle.bgpdump_command_line.specs.declared.usage.Settings.{Settings}

@@ -10,7 +10,7 @@ use crate::arguments::{CHANGE, INPUT, LINES, OUTPUT, SCRIPT, TIMES, command};
 use crate::usage::{Mode, STANDARD_INPUT, Settings, UsageFault};
 use clap::ArgMatches;
 use clap::error::ErrorKind;
-use mrt_wire::Stamp;
+use mrt_events::Stamp;
 use std::alloc::{AllocError, Global};
 
 /// What the words ask for. The first of them is the program's own name.

@@ -3,7 +3,7 @@
 ghost use Rattle.std.specs.Prelude.{◌≡◌};
 ghost use Rattle.bgpdump_command_line.specs.declared.usage.UsageFault.TheVariants.{Memory};
 
-use mrt_wire::Stamp;
+use mrt_events::Stamp;
 use std::alloc::AllocError;
 use thiserror::Error;
 

@@ -1,7 +1,7 @@
 -- How far a run of a script came that memory or an output broke off.
 use Rattle.std.proofs.Common.{◌≡◌, inl, inr, ℕ, true, Ok, Err, List, [], ◌∷◌, ◌++◌, Option, refl, sym, ap, subst, ◌∙◌, append-nil, arith}
 use Rattle.std.specs.Io.KnownBytes.{Keeps}
-use Rattle.mrt_wire.specs.declared.stamp.Stamp.{Stamp}
+use Rattle.mrt_events.specs.declared.stamp.Stamp.{Stamp}
 use Rattle.mrt_wire.specs.declared.SourceFault.{SourceFault}
 use Rattle.mrt_wire.specs.declared.next.Phase.TheVariants.{Ended}
 use Rattle.mrt_wire.specs.Results.{Finding}

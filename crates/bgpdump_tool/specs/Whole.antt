@@ -1,6 +1,6 @@
 -- What a whole run of a script writes and takes.
 use Rattle.std.specs.Prelude.{◌≤◌, ℕ, List, [], length, Option}
-use Rattle.mrt_wire.specs.declared.stamp.Stamp.{Stamp}
+use Rattle.mrt_events.specs.declared.stamp.Stamp.{Stamp}
 use Rattle.bgpdump_lines.specs.declared.outcome.Outcome.{Outcome}
 use Rattle.bgpdump_lines.specs.Run.{Outputs, Writes, EndedByInput, all_results, OverTaken, EndsOverAll}
 use Rattle.bgpdump_tool.specs.declared.script.TheConstants.{LONGEST_SCRIPT}

@@ -5,7 +5,7 @@ use Rattle.std.proofs.lemmas.List.{append_assoc, append-nil}
 use Rattle.mrt_frames.specs.declared.fault.RecordKind.{RecordKind}
 use Rattle.mrt_frames.specs.declared.fault.RecordKind.TheVariants.{CutRecord, TooLong, Unsupported, Malformed, NoIndex, PeerIndex}
 use Rattle.mrt_events.specs.declared.event.Event.{Event}
-use Rattle.mrt_wire.specs.declared.stamp.Stamp.{Stamp}
+use Rattle.mrt_events.specs.declared.stamp.Stamp.{Stamp}
 use Rattle.mrt_frames.specs.Record.{Record, spelling, IsRecord, BeginsWithNoRecord}
 use Rattle.mrt_wire.specs.Profile.{IsSupported}
 use Rattle.mrt_wire.specs.Content.{Content, IsBody}

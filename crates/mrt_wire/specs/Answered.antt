@@ -12,7 +12,7 @@ use Rattle.mrt_frames.specs.Taken.{EndsAt}
 use Rattle.mrt_wire.specs.declared.next.Phase.TheVariants.{Ended, Spent}
 use Rattle.mrt_wire.specs.declared.next.Next.{Next}
 use Rattle.mrt_wire.specs.declared.next.Next.TheVariants as next
-use Rattle.mrt_wire.specs.declared.stamp.Stamp.{Stamp}
+use Rattle.mrt_events.specs.declared.stamp.Stamp.{Stamp}
 use Rattle.mrt_wire.specs.Verdict.{Frame, ReadsAs, Index}
 use Rattle.mrt_wire.specs.Results.{Finding, Found, Bad, finding, fault_findings}
 use Rattle.mrt_wire.specs.Place.{Place, place_behind, results}

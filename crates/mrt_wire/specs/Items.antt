@@ -9,8 +9,8 @@ use Rattle.bgp_wire.specs.declared.message.Message.TheVariants as message
 use Rattle.bgp_wire.specs.declared.message.Update.{Update}
 use Rattle.mrt_events.specs.declared.peer.Peer.{Peer}
 use Rattle.mrt_events.specs.declared.event.Route.{Route}
-use Rattle.mrt_wire.specs.declared.stamp.Stamp.{Stamp}
-use Rattle.mrt_wire.specs.declared.stamp.Stamp.TheVariants.{Dump, Change}
+use Rattle.mrt_events.specs.declared.stamp.Stamp.{Stamp}
+use Rattle.mrt_events.specs.declared.stamp.Stamp.TheVariants.{Dump, Change}
 use Rattle.mrt_events.specs.Event.{Saying, Announced, Withdrawn, Changed}
 use Rattle.mrt_wire.specs.Rib.{RibEntry, PrefixEntries}
 use Rattle.mrt_wire.specs.TableDump.{PeerEntry}

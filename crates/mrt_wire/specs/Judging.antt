@@ -8,7 +8,7 @@ use Rattle.bgp_wire.specs.Readers.{Refuses}
 use Rattle.bgp_wire.specs.declared.attrs.Attrs.{Attrs}
 use Rattle.bgp_wire.specs.declared.WireFault.{WireFault}
 use Rattle.bgp_wire.specs.declared.WireFault.TheVariants as wire
-use Rattle.mrt_wire.specs.declared.stamp.Stamp.{Stamp}
+use Rattle.mrt_events.specs.declared.stamp.Stamp.{Stamp}
 use Rattle.mrt_events.specs.declared.event.Event.{Event}
 use Rattle.mrt_events.specs.declared.event.Item.{Item}
 use Rattle.mrt_events.specs.declared.event.Route.{Route}

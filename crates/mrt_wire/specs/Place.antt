@@ -1,6 +1,6 @@
 -- Where a source stands.
 use Rattle.std.specs.Prelude.{ℕ, ◌+◌, List, [], ◌∷◌, length, None}
-use Rattle.mrt_wire.specs.declared.stamp.Stamp.{Stamp}
+use Rattle.mrt_events.specs.declared.stamp.Stamp.{Stamp}
 use Rattle.mrt_wire.specs.declared.next.Phase.{Phase}
 use Rattle.mrt_wire.specs.declared.next.Phase.TheVariants.{Reading}
 use Rattle.mrt_frames.specs.Record.{spelling}

@@ -1,7 +1,7 @@
 -- The frames of a list of octets.
 use Rattle.std.specs.Prelude.{◌≡◌, ℕ, List, ◌++◌}
 use Rattle.std.specs.List.{flat_map, AllByRecursion}
-use Rattle.mrt_wire.specs.declared.stamp.Stamp.{Stamp}
+use Rattle.mrt_events.specs.declared.stamp.Stamp.{Stamp}
 use Rattle.mrt_frames.specs.Record.{spelling, IsRecord, BeginsWithNoRecord}
 use Rattle.mrt_wire.specs.Verdict.{Frame, Index, Readings}
 

@@ -2,7 +2,7 @@
 
 ghost use Rattle.std.specs.Prelude.{◌≡◌};
 ghost use Rattle.mrt_wire.specs.declared.judging.Refusal.TheVariants.{Memory};
-ghost use Rattle.mrt_wire.specs.declared.stamp.Stamp.{Stamp};
+ghost use Rattle.mrt_events.specs.declared.stamp.Stamp.{Stamp};
 ghost use Rattle.mrt_wire.specs.Profile.{HasForm};
 ghost use Rattle.mrt_wire.specs.Verdict.{Index, peers_in, entries_fault, table_event, session_tag, session_event};
 ghost use Rattle.mrt_wire.specs.Judging.{Judges, body_refusal, taken_record};
@@ -13,11 +13,10 @@ use crate::pool::Pool;
 use crate::profile::{Form, SessionForm, form_of};
 use crate::rib::{Snapshot, read_rib};
 use crate::session::read_session;
-use crate::stamp::Stamp;
 use crate::table_dump::{Dating, read_peer_entry};
 use bgp_wire::WireFault;
 use ip_prefix::Family;
-use mrt_events::{Event, Items, Peer, Tag, Time};
+use mrt_events::{Event, Items, Peer, Stamp, Tag, Time};
 use mrt_frames::{Header, RecordKind};
 use std::alloc::{AllocError, Global};
 

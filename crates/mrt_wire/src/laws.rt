@@ -1,7 +1,7 @@
 //! Laws of what the contracts cite of the octets of records.
 
 ghost use Rattle.std.specs.Prelude.{◌≡◌, ℕ, List};
-ghost use Rattle.mrt_wire.specs.declared.stamp.Stamp.{Stamp};
+ghost use Rattle.mrt_events.specs.declared.stamp.Stamp.{Stamp};
 ghost use Rattle.mrt_frames.specs.declared.frames.TheConstants.{LONGEST_BODY};
 ghost use Rattle.mrt_frames.specs.declared.header.TheConstants.{HEADER_SIZE};
 ghost use Rattle.mrt_wire.specs.declared.peer_index.TheConstants.{ID_SIZE, IPV6_PEER, AS4_PEER};

@@ -20,12 +20,11 @@ mod update;
 
 pub use laws::{no_octets_without_a_split, one_content, one_split, record_numbers};
 pub use mrt_events::{
-    ESTABLISHED, Event, Item, Items, Peer, Route, Shared, SharedRanges, Tag, Time, route_size,
-    same_peer, same_prefix, same_route,
+    ESTABLISHED, Event, Item, Items, Peer, Route, Shared, SharedRanges, Stamp, Tag, Time,
+    route_size, same_peer, same_prefix, same_route,
 };
 pub use mrt_frames::{
     BufferedInput, InFault, Input, ReadInput, RecordFault, RecordKind, SourceFault,
 };
 pub use next::{Next, Phase};
 pub use source::Source;
-pub use stamp::Stamp;

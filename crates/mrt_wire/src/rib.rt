@@ -13,10 +13,10 @@ ghost use Rattle.mrt_wire.specs.Judging.{Adds, AreItemsOf, IsTimed, entry_read};
 use crate::fields::{skip, split_short, split_sized, split_word};
 use crate::pool::Pool;
 use crate::route_pool::SentAttrs;
-use crate::stamp::Stamp;
+use crate::stamp::time_of;
 use bgp_wire::{AsWidth, WireFault};
 use ip_prefix::{Family, Prefix};
-use mrt_events::{Item, Peer, Route};
+use mrt_events::{Item, Peer, Route, Stamp};
 use std::alloc::{AllocError, Global};
 use std::rc::Rc;
 
@@ -97,7 +97,7 @@ fn read_entry<'a>(
     let Some(framed) = frame_entry(octets) else {
         return Err(WireFault::Malformed);
     };
-    let time = snapshot.stamp.time_of(snapshot.seconds, framed.time);
+    let time = time_of(snapshot.stamp, snapshot.seconds, framed.time);
     let sent = SentAttrs {
         octets: framed.attributes,
         family,

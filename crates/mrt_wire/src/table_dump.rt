@@ -13,10 +13,10 @@ use crate::fields::{Field, fill_address, skip, split_asn, split_octet, split_siz
 use crate::peers::{blank_peer, place_of};
 use crate::pool::Pool;
 use crate::route_pool::SentAttrs;
-use crate::stamp::Stamp;
+use crate::stamp::time_of;
 use bgp_wire::{AsWidth, WireFault};
 use ip_prefix::{Addr, Family, Prefix, V4_OCTETS};
-use mrt_events::{Items, Peer};
+use mrt_events::{Items, Peer, Stamp};
 use std::alloc::Global;
 
 /// How many octets the numbers of the view and of the record have.
@@ -117,7 +117,7 @@ fn read_entry_of(
     let Some(entry) = frame_entry(family, octets) else {
         return Err(WireFault::Malformed);
     };
-    let time = dating.stamp.time_of(dating.seconds, entry.time);
+    let time = time_of(dating.stamp, dating.seconds, entry.time);
     let sent = SentAttrs {
         octets: entry.attributes,
         family,
