@@ -83,6 +83,9 @@ SHAPES = (
     Shape('prefixes of 80 bits share 48', 10_000, shaped.alike, lambda size: one_by_one(size, 2 * size), 9 * MIB),
     Shape('prefixes come and go', 100, partial(shaped.coming_and_going, prefixes=500),
           lambda size: one_by_one(size, 2 * size), 6 * MIB),
+    Shape('peers of an address each, played', 50_000, shaped.many_peers, all_forgotten, 40 * MIB),
+    Shape('peers go, and addresses of one come', 50_000, lambda size: shaped.many_peers_gone(size, size),
+          lambda size: 'next %d\nforget 0\nnext 4294967295\n' % (2 * size), 48 * MIB),
     Shape('prefixes of all lengths, played', 2_000, partial(shaped.all_lengths, times=160), all_steps),
 )
 
