@@ -1,8 +1,7 @@
 -- What the stores of all peers hold together, pair by pair.
-use Rattle.std.proofs.Common.{◌≡◌, ℕ, zero, suc, ◌+◌, ◌<◌, Bool, true, false, cond, not, ◌||◌, ◌&&◌, List, [], ◌∷◌, map, Option, Some, None, is_some, IsSome, IfSome, IfNone, Result, Ok, Err, OnOk, OnErr, OnSome, Bor, refl, sym, ap, ap₂, subst, ◌∙◌, arith}
+use Rattle.std.proofs.Common.{◌≡◌, ℕ, zero, suc, ◌+◌, ◌<◌, Bool, true, false, cond, not, ◌||◌, ◌&&◌, List, [], ◌∷◌, map, Option, Some, None, is_some, IfSome, IfNone, Result, Ok, Err, OnOk, OnErr, OnSome, Bor, refl, sym, ap, ap₂, subst, ◌∙◌, arith}
 use lib.Dec.{eqb}
 use Rattle.std.specs.List.{list_any, flat_map, filter}
-use Rattle.std.specs.Map.{set_value}
 use Rattle.std.specs.Option.{option_map, option_copied}
 use Rattle.std.specs.Ordering.{eq_by_cmp}
 use Rattle.std.specs.Cmp.{eq_by_cmp_equiv, Equal-is, both_tied}
@@ -14,7 +13,6 @@ use Rattle.std.specs.declared.alloc.Global.{Global}
 use Rattle.std.specs.declared.rc.Rc.{Rc}
 use Rattle.std.proofs.lemmas.Bool.{eqb-true}
 use Rattle.std.proofs.lemmas.List.Folds.{list_any-append}
-use Rattle.std.proofs.lemmas.Map.{lookup-set_value}
 use Rattle.std.proofs.lemmas.Map.Views.{any-filter_same}
 use Rattle.ip_prefix.specs.Address.{Address}
 use Rattle.ip_prefix.specs.Network.{Network}
@@ -234,12 +232,6 @@ module _ {S : Type 0} (routes : S → stored.Routes (Rc Route Global)) where
       at : (q : Pair) (a : Bool) → same_peer q.peer peer ≡ a → cond a (stored_route routes w q.prefix) (finite.get (routes_in routes old) q) ≡ finite.get (routes_in routes old) q
       at q true e = is q.prefix ∙ ap (λ p. stored_route routes (store_at old p) q.prefix) (sym (one_peer q.peer peer e)) ∙ sym (get-routes_in old q)
       at q false e = refl
-
--- a store that is written is the peer's
-pub store_at-write : {S : Type 0} (stores : Stores S) (peer : Peer) (store : S) → IsSome (store_at stores peer)
-    → (p : Peer) → store_at (set_value (same_peer peer) stores store) p ≡ cond (same_peer peer p) (Some store) (store_at stores p)
-store_at-write stores peer store there p =
-    lookup-set_value (eq_by_cmp_equiv peer_cmp_total) (same_peer peer) (λ x y e. sym ((eq_by_cmp_equiv peer_cmp_total).congr x peer y (peer_symm x peer ∙ e))) p store stores there
 
 -- no stores
 pub keys_in-none : {S : Type 0} (keys : S → stored.Keys) (stores : Stores S) → stores ≡ [] → keys_in keys stores ≡ set.empty

@@ -185,11 +185,13 @@ impl<S: Drop> Stores<S> {
         self.order.insert(peer, number)?;
         self.held.push_reserved(store);
         self.names.push_reserved(name);
+        add_places(&mut self.places);
         note_place(&mut self.places, &peer, number);
         Ok(())
     }
 
-    /// Drops the store of a peer, if it has one. The store that stood last gets its number.
+    /// Drops the store of a peer, if it has one. The store that stood last gets its number. It takes
+    /// no memory.
     pub(crate) fn remove(&mut self, peer: &Peer)
         ensures { (p : Peer) → store_at (stores_in self.new) p
             ≡ (if eq_by_cmp peer_cmp peer.now p then None else store_at (stores_in self.old) p) }
@@ -217,14 +219,21 @@ fn renumber(order: &mut BTreeMap<Peer, usize>, peer: &Peer, number: usize)
     }
 }
 
-/// Notes where the number stands, unless memory is refused.
-fn note_place(places: &mut Vec<u32>, peer: &Peer, number: usize)
+/// Adds the places, if there are none, unless memory is refused.
+fn add_places(places: &mut Vec<u32>)
     requires { vec_len places.old ≤ PLACES }
     ensures { vec_len places.new ≤ PLACES }
 {
     if places.is_empty() {
         let _ = places.resize(PLACES, 0);
     }
+}
+
+/// Notes where the number stands, if there are places.
+fn note_place(places: &mut Vec<u32>, peer: &Peer, number: usize)
+    requires { vec_len places.old ≤ PLACES }
+    ensures { vec_len places.new ≤ PLACES }
+{
     if let Some(place) = places.get_mut(place_of(peer)) {
         *place = u32::try_from(number).unwrap_or(u32::MAX);
     }
@@ -243,6 +252,7 @@ impl Marks {
     /// Begins another row, where so many peers have numbers.
     fn begin(&mut self, count: usize) {
         self.row = self.row.wrapping_add(1);
+        give_back_room(&mut self.numbers);
         self.numbers.clear();
         self.rows.truncate(count);
         give_back_room(&mut self.rows);
