@@ -22,6 +22,9 @@ pub unmarked_first : {K R : Type 0} (network : K → Network) (t : Tree K R) →
 unmarked_first network tree.Empty marked e = refl
 unmarked_first network (tree.Bare key) marked e = refl
 unmarked_first network (tree.Leaf key route) marked e = cc
+unmarked_first network (tree.Forked' routed key p left right) marked e =
+    none_of (network key) Branch (is_routed left) (is_routed right) (first (shape_of network left)) (first (shape_of network right)) (sym marked.0 ∙ e)
+    (unmarked_first network left marked.1) (unmarked_first network right marked.2)
 unmarked_first network (tree.Rooted' routed key p slot left right) marked e =
     none_of (network key) slot (is_routed left) (is_routed right) (first (shape_of network left)) (first (shape_of network right)) (sym marked.0 ∙ e)
     (unmarked_first network left marked.1) (unmarked_first network right marked.2)

@@ -9,7 +9,7 @@ use Rattle.rib_store.specs.declared.tree.Tree.{Tree}
 use Rattle.rib_store.specs.declared.tree.Tree.TheVariants as tree
 use Rattle.rib_store.specs.Shape.{Shape, Empty, shape_of, leaf_slot, IsLeaf, IsMarked, is_routed}
 use Rattle.rib_store.specs.Tree.{at, root, chosen, same_way, IsPut, IsRooted, IsShaped, IsPlaced, IsGrown}
-use Rattle.rib_store.proofs.TreeLaws.{shaped_rooted, root_rooted}
+use Rattle.rib_store.proofs.TreeLaws.{at_rooted, shaped_rooted, root_rooted}
 use Rattle.rib_store.proofs.GrowthLaws.{placed_left, placed_right, grown_here, leaf_shaped, leaf_slots}
 use Rattle.rib_store.proofs.WayLaws.{same_is}
 use Rattle.rib_store.proofs.ChangeLaws.{put_here, put_from}
@@ -20,6 +20,7 @@ pub at_leaf : {K R : Type 0} (network : K → Network) (t : Tree K R) (key : K) 
 at_leaf network tree.Empty key is q = absurd is
 at_leaf network (tree.Bare other) key is q = ap (λ k. chosen (turn_of (way (network k)) q) None (Some None) None None) is
 at_leaf network (tree.Leaf other route) key is q = ap (λ k. chosen (turn_of (way (network k)) q) None (Some (Some route)) None None) is
+at_leaf network (tree.Forked' routed other p left right) key is q = absurd is
 at_leaf network (tree.Rooted' routed other p slot left right) key is q = absurd is
 
 here : {A : Type 0} (t : Turn) (x : A) → IsSome (chosen t None (Some x) None None) → t ≡ Here
@@ -43,6 +44,7 @@ pub rooted_leaf : {K R : Type 0} (network : K → Network) (t : Tree K R) (key :
 rooted_leaf network tree.Empty key is = absurd is
 rooted_leaf network (tree.Bare other) key is = (ap network is, refl, refl, refl)
 rooted_leaf network (tree.Leaf other route) key is = (ap network is, refl, refl, refl)
+rooted_leaf network (tree.Forked' routed other p left right) key is = absurd is
 rooted_leaf network (tree.Rooted' routed other p slot left right) key is = absurd is
 
 pub shaped_leaf : {K R : Type 0} (network : K → Network) (t : Tree K R) (key : K) → IsLeaf key t → IsShaped (shape_of network t)
@@ -53,6 +55,7 @@ pub marked_leaf : {K R : Type 0} (t : Tree K R) (key : K) → IsLeaf key t → I
 marked_leaf tree.Empty key is = tt
 marked_leaf (tree.Bare other) key is = tt
 marked_leaf (tree.Leaf other route) key is = tt
+marked_leaf (tree.Forked' routed other p left right) key is = absurd is
 marked_leaf (tree.Rooted' routed other p slot left right) key is = absurd is
 
 -- it has a route where its mark would say so
@@ -60,6 +63,7 @@ pub routed_leaf : {K R : Type 0} (t : Tree K R) (key : K) → IsLeaf key t → (
 routed_leaf tree.Empty key is = absurd is
 routed_leaf (tree.Bare other) key is = refl
 routed_leaf (tree.Leaf other route) key is = refl
+routed_leaf (tree.Forked' routed other p left right) key is = absurd is
 routed_leaf (tree.Rooted' routed other p slot left right) key is = absurd is
 
 -- the first key of a tree
@@ -128,6 +132,18 @@ pub leaf_other : {K R : Type 0} (network : K → Network) (t : Tree K R) (prefix
 leaf_other network t prefix key is apart =
     none_put (at (shape_of network t)) None key (at_leaf network t prefix is key ∙ not_here (turn_of (way (network prefix)) key) (leaf_slot t) apart)
 
+neither : {A : Type 0} (t : Turn) (x y : Option A) → (t ≡ Left → ⊥) → (t ≡ Right → ⊥) → chosen t None None x y ≡ None
+neither Outside x y left right = refl
+neither Here x y left right = refl
+neither Left x y left right = absurd (left refl)
+neither Right x y left right = absurd (right refl)
+
+-- nor is it one that isn't below a branch
+pub fork_other : {R : Type 0} (t : Shape R) (prefix : Network) (l r : Shape R) (key : List Bool) → IsRooted prefix None l r t
+    → (turn_of (way prefix) key ≡ Left → ⊥) → (turn_of (way prefix) key ≡ Right → ⊥) → IsPut (at t) key None (at t)
+fork_other t prefix l r key is left right =
+    none_put (at t) None key (at_rooted t prefix None l r is key ∙ neither (turn_of (way prefix) key) (at l key) (at r key) left right)
+
 nothing : {A : Type 0} (t : Turn) → ◌≡◌ {A = Option A} None (chosen t None None None None)
 nothing Outside = refl
 nothing Here = refl
@@ -146,4 +162,5 @@ pub not_empty : {K R : Type 0} (network : K → Network) (t : Tree K R) → (t �
 not_empty network tree.Empty some = absurd (some refl)
 not_empty network (tree.Bare key) some = refl
 not_empty network (tree.Leaf key route) some = refl
+not_empty network (tree.Forked' routed key p left right) some = refl
 not_empty network (tree.Rooted' routed key p slot left right) some = refl

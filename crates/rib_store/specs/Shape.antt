@@ -17,6 +17,7 @@ abbrev pub shape_of : {K R : Type 0} → (K → Network) → Tree K R → Shape 
 shape_of network tree.Empty = Empty
 shape_of network (tree.Bare key) = Rooted (network key) Vacant Empty Empty
 shape_of network (tree.Leaf key route) = Rooted (network key) (Filled route) Empty Empty
+shape_of network (tree.Forked' routed key p left right) = Rooted (network key) Branch (shape_of network left) (shape_of network right)
 shape_of network (tree.Rooted' routed key p slot left right) = Rooted (network key) slot (shape_of network left) (shape_of network right)
 
 -- the route of a key without others below it
@@ -24,6 +25,7 @@ abbrev pub leaf_slot : {K R : Type 0} → Tree K R → Option R
 leaf_slot tree.Empty = None
 leaf_slot (tree.Bare key) = None
 leaf_slot (tree.Leaf key route) = Some route
+leaf_slot (tree.Forked' routed key p left right) = None
 leaf_slot (tree.Rooted' routed key p slot left right) = None
 
 -- it is this key, without others below it
@@ -31,7 +33,24 @@ abbrev pub IsLeaf : {K R : Type 0} → K → Tree K R → Type 0
 IsLeaf key tree.Empty = ⊥
 IsLeaf key (tree.Bare other) = other ≡ key
 IsLeaf key (tree.Leaf other route) = other ≡ key
+IsLeaf key (tree.Forked' routed other p left right) = ⊥
 IsLeaf key (tree.Rooted' routed other p slot left right) = ⊥
+
+-- it is this branch, without room for a route
+abbrev pub IsFork : {K R : Type 0} → K → Tree K R → Type 0
+IsFork key tree.Empty = ⊥
+IsFork key (tree.Bare other) = ⊥
+IsFork key (tree.Leaf other route) = ⊥
+IsFork key (tree.Forked' routed other p left right) = other ≡ key
+IsFork key (tree.Rooted' routed other p slot left right) = ⊥
+
+-- it has room for a route, and may have others below it
+abbrev pub IsNode : {K R : Type 0} → Tree K R → Type 0
+IsNode tree.Empty = ⊥
+IsNode (tree.Bare key) = ⊥
+IsNode (tree.Leaf key route) = ⊥
+IsNode (tree.Forked' routed key p left right) = ⊥
+IsNode (tree.Rooted' routed key p slot left right) = Unit {0}
 
 -- ---- the marks
 
@@ -46,6 +65,7 @@ abbrev pub is_routed : {K R : Type 0} → Tree K R → Bool
 is_routed tree.Empty = false
 is_routed (tree.Bare key) = false
 is_routed (tree.Leaf key route) = true
+is_routed (tree.Forked' routed key p left right) = routed
 is_routed (tree.Rooted' routed key p slot left right) = routed
 
 -- whether the slot has a route, or some key of the two trees, by the marks of their roots
@@ -57,4 +77,5 @@ abbrev pub IsMarked : {K R : Type 0} → Tree K R → Type 0
 IsMarked tree.Empty = Unit {0}
 IsMarked (tree.Bare key) = Unit {0}
 IsMarked (tree.Leaf key route) = Unit {0}
+IsMarked (tree.Forked' routed key p left right) = (routed ≡ any_routed Branch left right) × IsMarked left × IsMarked right
 IsMarked (tree.Rooted' routed key p slot left right) = (routed ≡ any_routed slot left right) × IsMarked left × IsMarked right

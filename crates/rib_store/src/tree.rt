@@ -3,6 +3,7 @@
 ghost use Rattle.std.specs.Prelude.{◌≡◌, true, Some, None, is_some, MatchOption, [], ◌∷◌, vec_capacity};
 ghost use Rattle.std.specs.Option.{option_copied, option_map, option_to_list};
 ghost use Rattle.prefix_store.specs.Lookups.{pointed};
+ghost use Rattle.rib_store.specs.declared.tree.Slot.TheVariants.{Branch};
 ghost use Rattle.rib_store.specs.Tree.{slot_of};
 ghost use Rattle.rib_store.specs.Walks.{routed_at, filled};
 ghost use Rattle.rib_store.specs.Shape.{is_routed, is_filled, any_routed};
@@ -27,9 +28,19 @@ pub(crate) enum Tree<K, R> {
     Bare(K),
     /// A key and its route, without keys below it.
     Leaf(K, R),
-    /// Whether there is a route here or below, a key or a branch, and what lies below it. A walk
-    /// passes by where there is none, without a look at the node.
+    /// Whether there is a route below, a branch, and what lies below it. A walk passes by where
+    /// there is none, without a look at what lies there.
+    Forked(bool, K, Box<Fork<K, R>>),
+    /// The same of a key, or of a branch that was one: a key that goes asks for no memory.
     Rooted(bool, K, Box<Node<K, R>>),
+}
+
+/// What lies below a branch.
+#[cycle(tree)]
+#[derive(Drop)]
+pub(crate) struct Fork<K, R> {
+    left: Tree<K, R>,
+    right: Tree<K, R>,
 }
 
 /// What a node has that may have keys below it.
@@ -41,7 +52,17 @@ pub(crate) struct Node<K, R> {
     right: Tree<K, R>,
 }
 
-/// How many octets a node of IPv4 takes at most where a route is a pointer.
+/// How many octets a branch of IPv4 takes at most where a route is a pointer.
+const V4_FORK_OCTETS: usize = 32;
+
+/// The same of IPv6.
+const V6_FORK_OCTETS: usize = 80;
+
+const _: () = prove!(size_of::<Fork<V4Prefix, Rc<u32>>>() <= V4_FORK_OCTETS);
+
+const _: () = prove!(size_of::<Fork<Prefix, Rc<u32>>>() <= V6_FORK_OCTETS);
+
+/// How many octets another node of IPv4 takes at most.
 const V4_NODE_OCTETS: usize = 48;
 
 /// The same of IPv6.
@@ -72,7 +93,25 @@ impl<K, R> Tree<K, R> {
             Tree::Bare(_) => false,
             Tree::Leaf(_, _) => true,
             Tree::Rooted(routed, _, _) => *routed,
+            Tree::Forked(routed, _, _) => *routed,
         }
+    }
+}
+
+impl<K, R> Fork<K, R> {
+    /// Whether some key below it has a route.
+    fn is_routed(&self) -> bool
+        ensures { result ≡ any_routed Branch self.now.left self.now.right }
+    {
+        self.left.is_routed() || self.right.is_routed()
+    }
+
+    /// The same, where a route was brought there, or where it has to be seen.
+    fn is_routed_with(&self, brought: bool) -> bool
+        requires { brought ≡ true → any_routed Branch self.now.left self.now.right ≡ true }
+        ensures { result ≡ any_routed Branch self.now.left self.now.right }
+    {
+        brought || self.is_routed()
     }
 }
 

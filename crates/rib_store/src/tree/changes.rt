@@ -2,13 +2,15 @@
 
 ghost use Rattle.std.specs.Prelude.{◌≡◌, ◌≢◌, ◌⊎◌, ◌||◌, Some, None, List, Bool, true, false, is_some, not};
 ghost use Rattle.std.specs.Prelude.{IsSome, OnOk, OnErr, IfOk};
+ghost use Rattle.ip_prefix.specs.Network.{Network};
 ghost use Rattle.ip_prefix.specs.Turns.{way, turn_of};
+ghost use Rattle.rib_store.specs.declared.tree.Slot.TheVariants.{Branch};
 ghost use Rattle.ip_prefix.specs.declared.turn.Turn.TheVariants.{Outside, Here, Left, Right};
-ghost use Rattle.rib_store.specs.Shape.{Empty, shape_of, leaf_slot, is_filled, is_routed, any_routed, IsLeaf, IsMarked};
+ghost use Rattle.rib_store.specs.Shape.{Empty, shape_of, leaf_slot, is_filled, is_routed, any_routed, IsLeaf, IsFork, IsNode, IsMarked};
 ghost use Rattle.rib_store.specs.Tree.{at, root, slot_of, kept, AreOf, IsOn, IsShaped, IsNearlyShaped, IsPut, IsPlaced, IsGrown, IsHung, IsRooted, IsRootedOver};
 ghost use Rattle.rib_store.specs.Slots.{route_found};
 
-use crate::tree::{Node, Slot, Tree};
+use crate::tree::{Fork, Node, Slot, Tree};
 use ip_prefix::{Prefix, Turn};
 use prefix_store::Packed;
 use std::alloc::{AllocError, Global};
@@ -48,6 +50,16 @@ impl<K: Packed, R: Drop> Tree<K, R> {
                     Turn::Right => node.right.exchange(key, route),
                 }
                 *routed = node.is_routed_with(brought);
+            }
+            Tree::Forked(routed, prefix, fork) => {
+                let fork = &mut **fork;
+                let brought = route.is_some();
+                match prefix.turn_covered(key) {
+                    Turn::Left => fork.left.exchange(key, route),
+                    Turn::Right => fork.right.exchange(key, route),
+                    _ => return,
+                }
+                *routed = fork.is_routed_with(brought);
             }
         }
     }
@@ -94,6 +106,22 @@ impl<K: Packed, R: Drop> Tree<K, R> {
                     Turn::Right => node.right.ensure(alloc, key)?,
                 };
                 Ok(made)
+            }
+            Tree::Forked(_, prefix, fork) => {
+                let prefix = *prefix;
+                let fork = &mut **fork;
+                match prefix.turn(key) {
+                    Turn::Outside => {
+                        let mut none = None;
+                        put_beside(self, &prefix.wide(), alloc, key, &mut none)
+                    }
+                    Turn::Here => {
+                        let mut none = None;
+                        put_at_fork(self, prefix, alloc, &mut none)
+                    }
+                    Turn::Left => fork.left.ensure(alloc, key),
+                    Turn::Right => fork.right.ensure(alloc, key),
+                }
             }
         }
     }
@@ -152,6 +180,21 @@ impl<K: Packed, R: Drop> Tree<K, R> {
                 *routed = node.is_routed_with(brought);
                 Ok(made)
             }
+            Tree::Forked(routed, prefix, fork) => {
+                let prefix = *prefix;
+                let fork = &mut **fork;
+                let brought = route.is_some();
+                let made = match prefix.turn(key) {
+                    Turn::Outside => {
+                        return put_beside(self, &prefix.wide(), alloc, key, route);
+                    }
+                    Turn::Here => return put_at_fork(self, prefix, alloc, route),
+                    Turn::Left => fork.left.put(alloc, key, route)?,
+                    Turn::Right => fork.right.put(alloc, key, route)?,
+                };
+                *routed = fork.is_routed_with(brought);
+                Ok(made)
+            }
         }
     }
 }
@@ -181,9 +224,50 @@ fn put_beside<K: Packed, R: Drop>(
     ensures refused { OnErr result (tree.new ≡ tree.old) }
     ensures kept { OnErr result (route.new ≡ route.old) }
 {
-    let node = lone(alloc)?;
+    let common = prefix.common(key);
+    let side = common.turn(prefix);
+    if let Turn::Here = common.turn(key) {
+        let mut node = lone(alloc)?;
+        node.slot = slot_in(leaf_with(K::of(key), route));
+        let below = mem::replace(tree, Tree::Empty);
+        put_root(tree, K::of(&common), node, Tree::Empty, below, side);
+        return Ok(true);
+    }
+    let fork = lone_fork(alloc)?;
     let leaf = leaf_with(K::of(key), route);
-    split(tree, prefix, node, key, leaf);
+    let below = mem::replace(tree, Tree::Empty);
+    put_fork(tree, K::of(&common), fork, leaf, below, side);
+    Ok(true)
+}
+
+/// Makes the branch at the root a key, with the route, and answers that it is new.
+fn put_at_fork<K: Packed, R: Drop>(
+    tree: &mut Tree<K, R>,
+    prefix: K,
+    alloc: Global,
+    route: &mut Option<R>,
+) -> Result<bool, AllocError>
+    requires fork { IsFork prefix tree.old }
+    requires shaped { IsShaped (shape_of K.network tree.old) }
+    requires marked { IsMarked tree.old }
+    ensures made { IfOk result (λ made. made ≡ true) }
+    ensures placed { OnOk result ((key : Network) →
+        turn_of (way (K.network prefix)) (way key) ≡ Here → IsPlaced (way key) (Some route.old)
+        (shape_of K.network tree.old) (shape_of K.network tree.new)) }
+    ensures marked { OnOk result (IsMarked tree.new) }
+    ensures routed { OnOk result
+        (is_routed tree.new ≡ (is_some route.old || is_routed tree.old)) }
+    ensures taken { OnOk result (route.new ≡ None) }
+    ensures refused { OnErr result (tree.new ≡ tree.old) }
+    ensures kept { OnErr result (route.new ≡ route.old) }
+{
+    let mut node = lone(alloc)?;
+    node.slot = slot_in(leaf_with(prefix, route));
+    if let Tree::Forked(_, _, fork) = tree {
+        let left = mem::replace(&mut fork.left, Tree::Empty);
+        let right = mem::replace(&mut fork.right, Tree::Empty);
+        put_root(tree, prefix, node, left, right, Turn::Right);
+    }
     Ok(true)
 }
 
@@ -265,6 +349,16 @@ impl<K: Packed, R: Drop> Tree<K, R> {
                 join(self);
                 fold_leaf(self);
             }
+            Tree::Forked(routed, prefix, fork) => {
+                let fork = &mut **fork;
+                match prefix.turn(key) {
+                    Turn::Left => fork.left.discard(key),
+                    Turn::Right => fork.right.discard(key),
+                    _ => return,
+                }
+                *routed = fork.is_routed();
+                join_fork(self);
+            }
         }
     }
 }
@@ -288,6 +382,7 @@ fn discard_leaf<K: Packed, R: Drop>(tree: &mut Tree<K, R>, prefix: K, key: &Pref
 fn join<K: Packed, R: Drop>(tree: &mut Tree<K, R>)
     requires shaped { IsNearlyShaped (shape_of K.network tree.old) }
     requires marked { IsMarked tree.old }
+    requires node { IsNode tree.old }
     ensures shaped { IsShaped (shape_of K.network tree.new) }
     ensures marked { IsMarked tree.new }
     ensures slots { (q : List Bool) → at (shape_of K.network tree.new) q
@@ -304,6 +399,29 @@ fn join<K: Packed, R: Drop>(tree: &mut Tree<K, R>)
                 let child = mem::replace(&mut node.left, Tree::Empty);
                 *tree = child;
             }
+        }
+    }
+}
+
+/// Takes the root away where it is no branch any more, since nothing lies on one side of it.
+fn join_fork<K: Packed, R: Drop>(tree: &mut Tree<K, R>)
+    requires shaped { IsNearlyShaped (shape_of K.network tree.old) }
+    requires marked { IsMarked tree.old }
+    requires fork { (key : K) × IsFork key tree.old }
+    ensures shaped { IsShaped (shape_of K.network tree.new) }
+    ensures marked { IsMarked tree.new }
+    ensures slots { (q : List Bool) → at (shape_of K.network tree.new) q
+        ≡ at (shape_of K.network tree.old) q }
+    ensures sides { (from : List Bool) (bit : Bool) → IsOn from bit (shape_of K.network tree.old)
+        → IsOn from bit (shape_of K.network tree.new) }
+{
+    if let Tree::Forked(_, _, fork) = tree {
+        if let Tree::Empty = fork.left {
+            let child = mem::replace(&mut fork.right, Tree::Empty);
+            *tree = child;
+        } else if let Tree::Empty = fork.right {
+            let child = mem::replace(&mut fork.left, Tree::Empty);
+            *tree = child;
         }
     }
 }
@@ -418,6 +536,45 @@ fn lone<K: Packed, R: Drop>(alloc: Global) -> Result<Box<Node<K, R>>, AllocError
     Ok(node)
 }
 
+/// A branch with nothing below it yet, which has no room for a key's route.
+fn lone_fork<K: Packed, R: Drop>(alloc: Global) -> Result<Box<Fork<K, R>>, AllocError> {
+    let fork = Box::new(
+        alloc,
+        Fork {
+            left: Tree::Empty,
+            right: Tree::Empty,
+        },
+    )?;
+    Ok(fork)
+}
+
+/// Puts a branch at the root, with a tree on a side of it, and a leaf on the other side.
+fn put_fork<K: Packed, R: Drop>(
+    tree: &mut Tree<K, R>,
+    prefix: K,
+    fork: Box<Fork<K, R>>,
+    leaf: Tree<K, R>,
+    below: Tree<K, R>,
+    side: Turn,
+)
+    requires leaf { IsMarked leaf }
+    requires below { IsMarked below }
+    ensures marked { IsMarked tree.new }
+    ensures routed { is_routed tree.new ≡ any_routed Branch leaf below }
+    ensures rooted { IsRootedOver (K.network prefix) None side
+        (shape_of K.network leaf) (shape_of K.network below) (shape_of K.network tree.new) }
+{
+    let mut fork = fork;
+    let (left, right) = match side {
+        Turn::Left => (below, leaf),
+        _ => (leaf, below),
+    };
+    fork.left = left;
+    fork.right = right;
+    let routed = fork.is_routed();
+    *tree = Tree::Forked(routed, prefix, fork);
+}
+
 /// Puts a node at the root, with a tree on a side of it, and another on the other side.
 fn put_root<K: Packed, R: Drop>(
     tree: &mut Tree<K, R>,
@@ -443,43 +600,6 @@ fn put_root<K: Packed, R: Drop>(
     node.right = right;
     let routed = node.is_routed();
     *tree = Tree::Rooted(routed, prefix, node);
-}
-
-/// Puts a leaf whose key the root's prefix doesn't cover above the root or beside it.
-fn split<K: Packed, R: Drop>(
-    tree: &mut Tree<K, R>,
-    prefix: &Prefix,
-    node: Box<Node<K, R>>,
-    key: &Prefix,
-    leaf: Tree<K, R>,
-)
-    requires root { root (shape_of K.network tree.old) ≡ Some (way prefix.now) }
-    requires shaped { IsShaped (shape_of K.network tree.old) }
-    requires marked { IsMarked tree.old }
-    requires family { prefix.now.family ≡ key.now.family }
-    requires kind { key.now.family ≡ K.family }
-    requires outside { turn_of (way prefix.now) (way key.now) ≡ Outside }
-    requires branch { slot_of node.value.slot ≡ None }
-    requires bare { is_filled node.value.slot ≡ false }
-    requires leaf { IsRooted key.now (Some (leaf_slot leaf)) Empty Empty
-        (shape_of K.network leaf) }
-    requires marked_leaf { IsMarked leaf }
-    requires routed_leaf { is_routed leaf ≡ is_some (leaf_slot leaf) }
-    ensures placed { IsPlaced (way key.now) (Some (leaf_slot leaf))
-        (shape_of K.network tree.old) (shape_of K.network tree.new) }
-    ensures marked { IsMarked tree.new }
-    ensures routed { is_routed tree.new ≡ (is_some (leaf_slot leaf) || is_routed tree.old) }
-{
-    let common = prefix.common(key);
-    let side = common.turn(prefix);
-    let mut above = node;
-    let below = mem::replace(tree, Tree::Empty);
-    if let Turn::Here = common.turn(key) {
-        above.slot = slot_in(leaf);
-        put_root(tree, K::of(&common), above, Tree::Empty, below, side);
-        return;
-    }
-    put_root(tree, K::of(&common), above, leaf, below, side);
 }
 
 /// The route of a key without others below it, or its absence, and the argument change places.

@@ -78,14 +78,16 @@ impl<'a, R> Descent<'a, R> {
 /// What lies below the root on the side of the bit behind its prefix, where that is one of so many.
 #[inline]
 fn below<'a, K: Packed, R>(tree: &'a Tree<K, R>, bits: u64, depth: u8) -> Option<&'a Tree<K, R>> {
-    let Tree::Rooted(_, prefix, node) = tree else {
-        return None;
+    let (prefix, left, right) = match tree {
+        Tree::Forked(_, prefix, fork) => (prefix, &fork.left, &fork.right),
+        Tree::Rooted(_, prefix, node) => (prefix, &node.left, &node.right),
+        _ => return None,
     };
     if prefix.len() >= depth {
         return None;
     }
-    let right = bits.wrapping_shl(u32::from(prefix.len())) >> (u64::BITS - 1) == 1;
-    Some(if right { &node.right } else { &node.left })
+    let is_right = bits.wrapping_shl(u32::from(prefix.len())) >> (u64::BITS - 1) == 1;
+    Some(if is_right { right } else { left })
 }
 
 /// Descents that go down at once.

@@ -36,6 +36,11 @@ impl<K: Packed, R> Tree<K, R> {
                 Turn::Left => node.left.slot(key),
                 Turn::Right => node.right.slot(key),
             },
+            Tree::Forked(_, prefix, fork) => match prefix.turn(key) {
+                Turn::Left => fork.left.slot(key),
+                Turn::Right => fork.right.slot(key),
+                _ => None,
+            },
         }
     }
 
@@ -73,6 +78,14 @@ impl<K: Packed, R> Tree<K, R> {
                     None => node.slot.routed(prefix.wide()),
                 }
             }
+            Tree::Forked(_, prefix, fork) => {
+                *met += 1;
+                match prefix.turn(key) {
+                    Turn::Left => fork.left.longest(key, met),
+                    Turn::Right => fork.right.longest(key, met),
+                    _ => None,
+                }
+            }
         }
     }
 
@@ -96,6 +109,15 @@ impl<K: Packed, R> Tree<K, R> {
                         Some(found) => Some(found),
                         None => node.right.first(),
                     },
+                }
+            }
+            Tree::Forked(routed, _, fork) => {
+                if !*routed {
+                    return None;
+                }
+                match fork.left.first() {
+                    Some(found) => Some(found),
+                    None => fork.right.first(),
                 }
             }
         }
@@ -141,6 +163,19 @@ impl<K: Packed, R> Tree<K, R> {
                     Turn::Right => node.right.after(low),
                 }
             }
+            Tree::Forked(_, prefix, fork) => match prefix.turn(low) {
+                Turn::Outside if *low < prefix.wide() => self.first(),
+                Turn::Outside => None,
+                Turn::Here => match fork.left.first() {
+                    Some(found) => Some(found),
+                    None => fork.right.first(),
+                },
+                Turn::Left => match fork.left.after(low) {
+                    Some(found) => Some(found),
+                    None => fork.right.first(),
+                },
+                Turn::Right => fork.right.after(low),
+            },
         }
     }
 
@@ -167,6 +202,16 @@ impl<K: Packed, R> Tree<K, R> {
                 node.slot.add_routed(prefix.wide(), found);
                 node.left.add_all(found);
                 node.right.add_all(found);
+            }
+            Tree::Forked(any, _, fork) => {
+                if !*any {
+                    return;
+                }
+                if found.len() == found.capacity() {
+                    return;
+                }
+                fork.left.add_all(found);
+                fork.right.add_all(found);
             }
         }
     }
@@ -210,6 +255,19 @@ impl<K: Packed, R> Tree<K, R> {
                     Turn::Right => node.right.add_above(low, found),
                 }
             }
+            Tree::Forked(_, prefix, fork) => match prefix.turn(low) {
+                Turn::Outside if *low < prefix.wide() => self.add_all(found),
+                Turn::Outside => {}
+                Turn::Here => {
+                    fork.left.add_all(found);
+                    fork.right.add_all(found);
+                }
+                Turn::Left => {
+                    fork.left.add_above(low, found);
+                    fork.right.add_all(found);
+                }
+                Turn::Right => fork.right.add_above(low, found),
+            },
         }
     }
 
@@ -225,6 +283,11 @@ impl<K: Packed, R> Tree<K, R> {
                 .left
                 .node_count()
                 .saturating_add(node.right.node_count())
+                .saturating_add(1),
+            Tree::Forked(_, _, fork) => fork
+                .left
+                .node_count()
+                .saturating_add(fork.right.node_count())
                 .saturating_add(1),
         }
     }
@@ -244,6 +307,10 @@ impl<K: Packed, R> Tree<K, R> {
                     _ => below.saturating_add(1),
                 }
             }
+            Tree::Forked(_, _, fork) => fork
+                .left
+                .key_count()
+                .saturating_add(fork.right.key_count()),
         }
     }
 
@@ -265,6 +332,10 @@ impl<K: Packed, R> Tree<K, R> {
                     _ => below,
                 }
             }
+            Tree::Forked(_, _, fork) => fork
+                .left
+                .route_count()
+                .saturating_add(fork.right.route_count()),
         }
     }
 }

@@ -1,5 +1,6 @@
 use Rattle.std.proofs.Common.{◌++◌, vec_capacity, sym, ap, ◌∙◌}
 use Rattle.ip_prefix.specs.declared.turn.Turn.TheVariants.{Here, Left}
+use Rattle.rib_store.specs.declared.tree.Slot.TheVariants.{Branch}
 use Rattle.rib_store.specs.Shape.{shape_of}
 use Rattle.prefix_store.specs.Lookups.{pointed}
 use Rattle.rib_store.specs.Walks.{all_routes, all_behind, filled}
@@ -29,3 +30,27 @@ returns-in-Left-clause-found g t c =
     ∙ (λ i. fill (all_behind (shape_of net (c.deref-in-Left.ensures i).left) low ++ all_routes (shape_of net (c.deref-in-Left-2.ensures i).right)))
     ∙ ap fill (sym (behind-turn (net c.in-Rooted.prefix) n.slot (shape_of net n.left) (shape_of net n.right) low Left (sym c.turn-in-Rooted.ensures ∙ c.in-Left.is)))
     ∙ ap (λ tree. fill (all_behind (shape_of net tree) low)) (sym c.in-Rooted.is)
+
+pub returns-in-Here-turn-clause-found : goal.returns-in-Here-turn-clause-found
+returns-in-Here-turn-clause-found g t c =
+    let net = g.K.Packed.network in
+    let n = c.in-Forked.fork.value in
+    let low = c.args.low.now in
+    let fill = filled (vec_capacity c.args.found.now) (pointed c.args.found.now.items) in
+    filled-then (vec_capacity c.args.found.now) (vec_capacity c.add_all-in-Here-turn.new.found) (pointed c.args.found.now.items) (pointed c.add_all-in-Here-turn.new.found.items) (pointed c.add_all-in-Here-turn-2.new.found.items) _ _
+    c.add_all-in-Here-turn.ensures.room c.add_all-in-Here-turn.ensures.found c.add_all-in-Here-turn-2.ensures.found
+    ∙ (λ i. fill (all_routes (shape_of net (c.deref-in-Here-turn.ensures i).left) ++ all_routes (shape_of net (c.deref-in-Here-turn-2.ensures i).right)))
+    ∙ ap fill (sym (behind-turn (net c.in-Forked.prefix) Branch (shape_of net n.left) (shape_of net n.right) low Here (sym c.turn-in-Forked.ensures ∙ c.in-Here-turn.is)))
+    ∙ ap (λ tree. fill (all_behind (shape_of net tree) low)) (sym c.in-Forked.is)
+
+pub returns-in-Left-turn-clause-found : goal.returns-in-Left-turn-clause-found
+returns-in-Left-turn-clause-found g t c =
+    let net = g.K.Packed.network in
+    let n = c.in-Forked.fork.value in
+    let low = c.args.low.now in
+    let fill = filled (vec_capacity c.args.found.now) (pointed c.args.found.now.items) in
+    filled-then (vec_capacity c.args.found.now) (vec_capacity c.add_above-in-Left-turn.new.found) (pointed c.args.found.now.items) (pointed c.add_above-in-Left-turn.new.found.items) (pointed c.add_all-in-Left-turn.new.found.items) _ _
+    c.add_above-in-Left-turn.ensures.room c.add_above-in-Left-turn.ensures.found c.add_all-in-Left-turn.ensures.found
+    ∙ (λ i. fill (all_behind (shape_of net (c.deref-in-Left-turn.ensures i).left) low ++ all_routes (shape_of net (c.deref-in-Left-turn-2.ensures i).right)))
+    ∙ ap fill (sym (behind-turn (net c.in-Forked.prefix) Branch (shape_of net n.left) (shape_of net n.right) low Left (sym c.turn-in-Forked.ensures ∙ c.in-Left-turn.is)))
+    ∙ ap (λ tree. fill (all_behind (shape_of net tree) low)) (sym c.in-Forked.is)

@@ -1,11 +1,13 @@
 use Rattle.std.proofs.Common.{◌≡◌, None, cond, refl, sym, ap, ◌∙◌}
 use Rattle.ip_prefix.specs.declared.turn.Turn.TheVariants.{Outside, Here, Left, Right}
 use Rattle.ip_prefix.specs.Turns.{way, turn_of}
+use Rattle.rib_store.specs.declared.tree.Slot.TheVariants.{Branch}
 use Rattle.rib_store.specs.Shape.{Rooted, shape_of}
 use Rattle.rib_store.specs.Tree.{at, same_way, slot_of, IsRooted}
 use Rattle.rib_store.proofs.TreeLaws.{at_rooted}
+use Rattle.rib_store.proofs.ShapeLaws.{fork_other}
 use Rattle.rib_store.proofs.ChangeLaws.{put_outside, fork_left, fork_right, fork_here}
-use Rattle.rib_store.proofs.tree.Tree.+discard.Goals.{in-Here, in-Left, in-Right}
+use Rattle.rib_store.proofs.tree.Tree.+discard.Goals.{in-Here, in-Left, in-Right, in-Left-turn, in-Right-turn}
 use Rattle.rib_store.proofs.tree.Tree.+discard.Goals as goal
 
 pub returns-in-Outside-clause-slots : goal.returns-in-Outside-clause-slots
@@ -41,4 +43,38 @@ returns-after-turn-clause-slots g t c = λ q.
           let turn : turn_of (way prefix) key ≡ Right = cc in
           let is : IsRooted prefix (slot_of n.slot) (shape_of net n.left) (shape_of net w.discard-in-Right.new.self) new = rw w.node-is (refl, refl, refl, refl) in
           fork_right (shape_of net c.args.self.now) new prefix (slot_of n.slot) None (shape_of net n.left) (shape_of net n.right) (shape_of net w.discard-in-Right.new.self) key was is turn w.discard-in-Right.ensures.slots q
+    ]
+
+pub returns-in_default-clause-slots : goal.returns-in_default-clause-slots
+returns-in_default-clause-slots g t c = λ q.
+    let net = g.K.Packed.network in
+    let n = c.deref_mut-fork.result.now in
+    let prefix = net c.in-Forked.prefix in
+    let key = way c.args.key.now in
+    let old = shape_of net c.args.self.now in
+    let was : IsRooted prefix None (shape_of net n.left) (shape_of net n.right) old = rw c.in-Forked.is (cc, cc, cc, refl) in
+    let left : turn_of (way prefix) key ≡ Left → ⊥ = λ e. c.in_default.not-Left (c.turn-in-Forked.ensures ∙ e) in
+    let right : turn_of (way prefix) key ≡ Right → ⊥ = λ e. c.in_default.not-Right (c.turn-in-Forked.ensures ∙ e) in
+    sym (at_rooted old prefix None (shape_of net n.left) (shape_of net n.right) was q)
+    ∙ fork_other old prefix (shape_of net n.left) (shape_of net n.right) key was left right q
+
+pub returns-after-turn-2-clause-slots : goal.returns-after-turn-2-clause-slots
+returns-after-turn-2-clause-slots g t c = λ q.
+    let net = g.K.Packed.network in
+    let n = c.deref_mut-fork.result.now in
+    let m = c.match-turn-2.fork in
+    let prefix = net c.in-Forked.prefix in
+    let key = way c.args.key.now in
+    let old = shape_of net c.args.self.now in
+    let new = Rooted prefix Branch (shape_of net m.left) (shape_of net m.right) in
+    let was : IsRooted prefix None (shape_of net n.left) (shape_of net n.right) old = rw c.in-Forked.is (cc, cc, cc, refl) in
+    c.join_fork.ensures.slots q ∙ elim c.match-turn-2.branch [
+      | in-Left-turn w ↦
+          let turn : turn_of (way prefix) key ≡ Left = cc in
+          let is : IsRooted prefix None (shape_of net w.discard-in-Left-turn.new.self) (shape_of net n.right) new = rw w.fork-is (refl, refl, refl, refl) in
+          fork_left old new prefix None None (shape_of net n.left) (shape_of net n.right) (shape_of net w.discard-in-Left-turn.new.self) key was is turn w.discard-in-Left-turn.ensures.slots q
+      | in-Right-turn w ↦
+          let turn : turn_of (way prefix) key ≡ Right = cc in
+          let is : IsRooted prefix None (shape_of net n.left) (shape_of net w.discard-in-Right-turn.new.self) new = rw w.fork-is (refl, refl, refl, refl) in
+          fork_right old new prefix None None (shape_of net n.left) (shape_of net n.right) (shape_of net w.discard-in-Right-turn.new.self) key was is turn w.discard-in-Right-turn.ensures.slots q
     ]

@@ -9,3 +9,10 @@ returns-then-not-routed g t c =
     let mark : c.in-Rooted.routed ≡ false = cc in
     let off : is_routed c.args.self.now ≡ false = ap is_routed c.in-Rooted.is ∙ mark in
     unmarked_first net c.args.self.now c.requires off
+
+pub returns-then-not-routed-2 : goal.returns-then-not-routed-2
+returns-then-not-routed-2 g t c =
+    let net = g.K.Packed.network in
+    let mark : c.in-Forked.routed ≡ false = cc in
+    let off : is_routed c.args.self.now ≡ false = ap is_routed c.in-Forked.is ∙ mark in
+    unmarked_first net c.args.self.now c.requires off

@@ -44,3 +44,14 @@ returns-in_default g t c =
     let left = ap (λ m. length (routed (slots_of (shape_of net m.left)))) c.deref.ensures in
     let right = ap (λ m. length (routed (slots_of (shape_of net m.right)))) c.deref-in-Rooted.ensures in
     omega (arith, all, here, left, right, c.route_count.ensures, c.route_count-in-Rooted.ensures, c.saturating_add-below.ensures)
+
+pub returns-in-Forked : goal.returns-in-Forked
+returns-in-Forked g t c =
+    let net = g.K.Packed.network in
+    let n = c.in-Forked.fork.value in
+    let prefix = net c.in-Forked.field-1 in
+    let is : IsRooted prefix None (shape_of net n.left) (shape_of net n.right) (shape_of net c.args.self.now) = rw c.in-Forked.is (refl, refl, refl, refl) in
+    let all = length-routed-rooted (shape_of net c.args.self.now) prefix None (shape_of net n.left) (shape_of net n.right) is in
+    let left = ap (λ m. length (routed (slots_of (shape_of net m.left)))) c.deref-in-Forked.ensures in
+    let right = ap (λ m. length (routed (slots_of (shape_of net m.right)))) c.deref-in-Forked-2.ensures in
+    omega (arith, all, left, right, c.route_count-in-Forked.ensures, c.route_count-in-Forked-2.ensures, c.saturating_add-in-Forked.ensures)
