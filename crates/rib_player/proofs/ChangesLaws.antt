@@ -1,15 +1,10 @@
 -- What is noted of an event's items and of lost peers' pairs, step by step.
 use Rattle.std.proofs.Common.{◌≡◌, ℕ, zero, suc, ◌+◌, ◌-◌, ◌<◌, ◌≤◌, ◌++◌, Bool, true, false, cond, ◌&&◌, ◌||◌, List, [], ◌∷◌, map, take, get_or, length, drop, drop-cons, Option, Some, None, is_some, IfSome, slice_get, refl, sym, subst, ap, ap₂, ◌∙◌, arith}
-use Rattle.std.specs.List.{list_any}
+use Rattle.std.specs.List.{AllByRecursion, list_any}
 use Rattle.std.proofs.lemmas.List.{drop-drop, take-append-drop, get_or-map, length-map}
 use Rattle.std.proofs.lemmas.List.Elements.{All-get_or}
-use Rattle.std.specs.Option.{option_map}
 use Rattle.std.specs.Ordering.{eq_by_cmp}
-use Rattle.std.specs.Cmp.{eq_by_cmp_equiv}
-use Rattle.std.specs.declared.alloc.Global.{Global}
-use Rattle.std.specs.declared.rc.Rc.{Rc}
 use Rattle.std.proofs.Math.Bool.{and-or_distrib_right}
-use Rattle.std.proofs.lemmas.List.Folds.{list_any_more}
 use Rattle.mrt_events.specs.declared.peer.Peer.{Peer}
 use Rattle.rib_player.specs.declared.pair.Pair.{Pair}
 use Rattle.mrt_events.specs.declared.event.Route.{Route}
@@ -17,32 +12,26 @@ use Rattle.mrt_events.specs.declared.event.Item.{Item}
 use Rattle.mrt_events.specs.Event.{Saying, Announced, Withdrawn, Changed, saying}
 use Rattle.mrt_events.specs.SharedRoute.{Announces, AreOfOneRoute}
 use Rattle.rib_player.specs.History.{pair_cmp, Effect, Keep, Clear, Set, where_true, item_effect, later}
-use Rattle.rib_player.specs.Store.{route_in}
-use Rattle.rib_player.specs.Holding.{Slots, slot_at}
+use Rattle.rib_player.specs.Journal.{Side, pairs_in}
 use Rattle.rib_player.specs.Changes.{found, is_lost, effect_of, or_absent, items_effect, HasRoute}
-use Rattle.rib_player.proofs.PairLaws.{pair_cmp_total, same_pair}
-use Rattle.octet_forms.proofs.Options.{is_some-option_map}
-
--- a slot
-abbrev Slot : Type 0
-Slot = Option (Rc Route Global)
+use Rattle.rib_player.proofs.PairLaws.{same_pair}
 
 -- the first of two, where there is one
-abbrev either_slot : Option Slot → Option Slot → Option Slot
-either_slot None second = second
-either_slot (Some slot) second = Some slot
+abbrev either_found : Option (Option Route) → Option (Option Route) → Option (Option Route)
+either_found None second = second
+either_found (Some kept) second = Some kept
 
-behind-none : (slot second : Option Slot) → is_some slot ≡ false → either_slot slot second ≡ second
+behind-none : (first second : Option (Option Route)) → is_some first ≡ false → either_found first second ≡ second
 behind-none None second e = refl
-behind-none (Some slot) second e = cc
+behind-none (Some kept) second e = cc
 
-behind-some : (slot second : Option Slot) → is_some slot ≡ true → either_slot slot second ≡ slot
+behind-some : (first second : Option (Option Route)) → is_some first ≡ true → either_found first second ≡ first
 behind-some None second e = cc
-behind-some (Some slot) second e = refl
+behind-some (Some kept) second e = refl
 
-before-none : (slot : Option Slot) → either_slot slot None ≡ slot
+before-none : (first : Option (Option Route)) → either_found first None ≡ first
 before-none None = refl
-before-none (Some slot) = refl
+before-none (Some kept) = refl
 
 -- where something is kept or the peer is lost, no earlier effect counts
 decided : (first : Effect) (kept : Option (Option Route)) (lost : Bool) → (is_some kept || lost) ≡ true → later first (effect_of kept lost) ≡ effect_of kept lost
@@ -58,97 +47,87 @@ later-keep Clear = refl
 later-keep (Set route) = refl
 
 -- where something is noted of a pair, an earlier effect on it changes nothing
-pub noted_effect-decided : (slots : Slots) (peers : List Peer) (pair : Pair) (first : Effect) (q : Pair) → (is_some (slot_at slots pair) || is_lost peers pair) ≡ true
-    → effect_of (found slots q) (is_lost peers q) ≡ later (where_true (eq_by_cmp pair_cmp q pair) first) (effect_of (found slots q) (is_lost peers q))
-noted_effect-decided slots peers pair first q there = at (eq_by_cmp pair_cmp q pair) refl
+noted_effect-decided : (sides : List Side) (peers : List Peer) (pair : Pair) (first : Effect) (q : Pair) → (is_some (found sides pair) || is_lost peers pair) ≡ true
+    → effect_of (found sides q) (is_lost peers q) ≡ later (where_true (eq_by_cmp pair_cmp q pair) first) (effect_of (found sides q) (is_lost peers q))
+noted_effect-decided sides peers pair first q there = at (eq_by_cmp pair_cmp q pair) refl
   where
-    at : (b : Bool) → eq_by_cmp pair_cmp q pair ≡ b → effect_of (found slots q) (is_lost peers q) ≡ later (where_true b first) (effect_of (found slots q) (is_lost peers q))
-    at true e =
-        let here : (is_some (slot_at slots q) || is_lost peers q) ≡ true = ap (λ p. is_some (slot_at slots p) || is_lost peers p) (same_pair q pair e) ∙ there in
-        sym (decided first (found slots q) (is_lost peers q) (ap (λ b. b || is_lost peers q) (is_some-option_map route_in (slot_at slots q)) ∙ here))
-    at false e = sym (later-keep (effect_of (found slots q) (is_lost peers q)))
+    at : (b : Bool) → eq_by_cmp pair_cmp q pair ≡ b → effect_of (found sides q) (is_lost peers q) ≡ later (where_true b first) (effect_of (found sides q) (is_lost peers q))
+    at true e = sym (decided first (found sides q) (is_lost peers q) (ap (λ p. is_some (found sides p) || is_lost peers p) (same_pair q pair e) ∙ there))
+    at false e = sym (later-keep (effect_of (found sides q) (is_lost peers q)))
 
 -- where something is kept, it doesn't matter whether the peer is lost
 effect_of-kept : (kept : Option Route) (lost : Bool) → effect_of (Some kept) lost ≡ effect_of (Some kept) false
 effect_of-kept (Some route) lost = refl
 effect_of-kept None lost = refl
 
--- where there is no slot and the peer is not lost, the effect is Keep
-effect_of-none : (slot : Option Slot) (lost : Bool) → (is_some slot || lost) ≡ false → effect_of (option_map route_in slot) lost ≡ Keep
+-- where nothing is kept and the peer is not lost, the effect is Keep
+effect_of-none : (kept : Option (Option Route)) (lost : Bool) → (is_some kept || lost) ≡ false → effect_of kept lost ≡ Keep
 effect_of-none None true e = cc
 effect_of-none None false e = refl
-effect_of-none (Some slot) lost e = cc
+effect_of-none (Some kept) lost e = cc
 
--- what is appended to slots counts where nothing stands there for its pair
-pub slot_at-push : (slots : Slots) (pair : Pair) (slot : Slot) (q : Pair) → slot_at (slots ++ (pair, slot) ∷ []) q ≡ either_slot (slot_at slots q) (cond (eq_by_cmp pair_cmp q pair) (Some slot) None)
-slot_at-push [] pair slot q = refl
-slot_at-push (first ∷ slots) pair slot q = at (slot_at-push slots pair slot q) (eq_by_cmp pair_cmp q first.0)
+-- what is appended to sides counts where none is of its pair
+found-push : (sides : List Side) (side : Side) (q : Pair) → found (sides ++ side ∷ []) q ≡ either_found (found sides q) (cond (eq_by_cmp pair_cmp q side.0) (Some side.1) None)
+found-push [] side q = refl
+found-push (first ∷ sides) side q = at (found-push sides side q) (eq_by_cmp pair_cmp q first.0)
   where
-    at : slot_at (slots ++ (pair, slot) ∷ []) q ≡ either_slot (slot_at slots q) (cond (eq_by_cmp pair_cmp q pair) (Some slot) None)
-        → (b : Bool) → cond b (Some first.1) (slot_at (slots ++ (pair, slot) ∷ []) q) ≡ either_slot (cond b (Some first.1) (slot_at slots q)) (cond (eq_by_cmp pair_cmp q pair) (Some slot) None)
+    at : found (sides ++ side ∷ []) q ≡ either_found (found sides q) (cond (eq_by_cmp pair_cmp q side.0) (Some side.1) None)
+        → (b : Bool) → cond b (Some first.1) (found (sides ++ side ∷ []) q) ≡ either_found (cond b (Some first.1) (found sides q)) (cond (eq_by_cmp pair_cmp q side.0) (Some side.1) None)
     at rest true = refl
     at rest false = rest
 
--- where nothing stands for the pair, it has a slot then
-pub push-free : (old new : Slots) (pair : Pair) (slot : Slot) → new ≡ old ++ (pair, slot) ∷ [] → is_some (slot_at old pair) ≡ false
-    → (q : Pair) → slot_at new q ≡ cond (eq_by_cmp pair_cmp pair q) (Some slot) (slot_at old q)
-push-free old new pair slot is none q =
-    ap (λ slots. slot_at slots q) is
-    ∙ slot_at-push old pair slot q
-    ∙ ap (λ b. either_slot (slot_at old q) (cond b (Some slot) None)) ((eq_by_cmp_equiv pair_cmp_total).symm q pair)
-    ∙ at (eq_by_cmp pair_cmp pair q) refl
+-- where none is of the pair, it counts then
+push-free : (sides : List Side) (side : Side) → is_some (found sides side.0) ≡ false
+    → (q : Pair) → found (sides ++ side ∷ []) q ≡ cond (eq_by_cmp pair_cmp q side.0) (Some side.1) (found sides q)
+push-free sides side none q = found-push sides side q ∙ at (eq_by_cmp pair_cmp q side.0) refl
   where
-    at : (b : Bool) → eq_by_cmp pair_cmp pair q ≡ b → either_slot (slot_at old q) (cond b (Some slot) None) ≡ cond b (Some slot) (slot_at old q)
-    at true e = behind-none (slot_at old q) (Some slot) (ap (λ p. is_some (slot_at old p)) (sym (same_pair pair q e)) ∙ none)
-    at false e = before-none (slot_at old q)
+    at : (b : Bool) → eq_by_cmp pair_cmp q side.0 ≡ b → either_found (found sides q) (cond b (Some side.1) None) ≡ cond b (Some side.1) (found sides q)
+    at true e = behind-none (found sides q) (Some side.1) (ap (λ p. is_some (found sides p)) (same_pair q side.0 e) ∙ none)
+    at false e = before-none (found sides q)
 
--- where something stands for it, nothing changes
-pub push-taken : (old new : Slots) (pair : Pair) (slot : Slot) → new ≡ old ++ (pair, slot) ∷ [] → is_some (slot_at old pair) ≡ true
-    → (q : Pair) → slot_at new q ≡ slot_at old q
-push-taken old new pair slot is there q =
-    ap (λ slots. slot_at slots q) is
-    ∙ slot_at-push old pair slot q
-    ∙ at (eq_by_cmp pair_cmp q pair) refl
+-- where one is, nothing changes
+push-taken : (sides : List Side) (side : Side) → is_some (found sides side.0) ≡ true → (q : Pair) → found (sides ++ side ∷ []) q ≡ found sides q
+push-taken sides side there q = found-push sides side q ∙ at (eq_by_cmp pair_cmp q side.0) refl
   where
-    at : (b : Bool) → eq_by_cmp pair_cmp q pair ≡ b → either_slot (slot_at old q) (cond b (Some slot) None) ≡ slot_at old q
-    at true e = behind-some (slot_at old q) (Some slot) (ap (λ p. is_some (slot_at old p)) (same_pair q pair e) ∙ there)
-    at false e = before-none (slot_at old q)
+    at : (b : Bool) → eq_by_cmp pair_cmp q side.0 ≡ b → either_found (found sides q) (cond b (Some side.1) None) ≡ found sides q
+    at true e = behind-some (found sides q) (Some side.1) (ap (λ p. is_some (found sides p)) (same_pair q side.0 e) ∙ there)
+    at false e = before-none (found sides q)
 
--- where nothing is noted of a pair, what is put into its slot comes before all that is noted
-pub noted_effect-put : (old new : Slots) (peers : List Peer) (pair : Pair) (slot : Slot) (q : Pair) → (is_some (slot_at old pair) || is_lost peers pair) ≡ false
-    → slot_at new q ≡ cond (eq_by_cmp pair_cmp pair q) (Some slot) (slot_at old q)
-    → effect_of (found new q) (is_lost peers q) ≡ later (where_true (eq_by_cmp pair_cmp q pair) (effect_of (Some (route_in slot)) false)) (effect_of (found old q) (is_lost peers q))
-noted_effect-put old new peers pair slot q none put =
-    ap (λ s. effect_of (option_map route_in s) (is_lost peers q)) put
-    ∙ at (eq_by_cmp pair_cmp pair q) refl
-    ∙ ap (λ b. later (where_true b (effect_of (Some (route_in slot)) false)) (effect_of (found old q) (is_lost peers q))) ((eq_by_cmp_equiv pair_cmp_total).symm pair q)
+-- where nothing is noted of a pair, what is appended for it comes before all that is noted
+noted_effect-put : (sides : List Side) (peers : List Peer) (side : Side) (q : Pair) → (is_some (found sides side.0) || is_lost peers side.0) ≡ false
+    → found (sides ++ side ∷ []) q ≡ cond (eq_by_cmp pair_cmp q side.0) (Some side.1) (found sides q)
+    → effect_of (found (sides ++ side ∷ []) q) (is_lost peers q)
+    ≡ later (where_true (eq_by_cmp pair_cmp q side.0) (effect_of (Some side.1) false)) (effect_of (found sides q) (is_lost peers q))
+noted_effect-put sides peers side q none put =
+    ap (λ k. effect_of k (is_lost peers q)) put
+    ∙ at (eq_by_cmp pair_cmp q side.0) refl
   where
-    at : (b : Bool) → eq_by_cmp pair_cmp pair q ≡ b
-        → effect_of (option_map route_in (cond b (Some slot) (slot_at old q))) (is_lost peers q) ≡ later (where_true b (effect_of (Some (route_in slot)) false)) (effect_of (found old q) (is_lost peers q))
+    at : (b : Bool) → eq_by_cmp pair_cmp q side.0 ≡ b
+        → effect_of (cond b (Some side.1) (found sides q)) (is_lost peers q) ≡ later (where_true b (effect_of (Some side.1) false)) (effect_of (found sides q) (is_lost peers q))
     at true e =
-        let here : (is_some (slot_at old q) || is_lost peers q) ≡ false = ap (λ p. is_some (slot_at old p) || is_lost peers p) (sym (same_pair pair q e)) ∙ none in
-        effect_of-kept (route_in slot) (is_lost peers q)
-        ∙ ap (later (effect_of (Some (route_in slot)) false)) (sym (effect_of-none (slot_at old q) (is_lost peers q) here))
-    at false e = sym (later-keep (effect_of (found old q) (is_lost peers q)))
+        let here : (is_some (found sides q) || is_lost peers q) ≡ false = ap (λ p. is_some (found sides p) || is_lost peers p) (same_pair q side.0 e) ∙ none in
+        effect_of-kept side.1 (is_lost peers q)
+        ∙ ap (later (effect_of (Some side.1) false)) (sym (effect_of-none (found sides q) (is_lost peers q) here))
+    at false e = sym (later-keep (effect_of (found sides q) (is_lost peers q)))
 
--- where the peer isn't lost, what is put into a pair's slot, unless something is there, comes before all that is noted
-pub noted_effect-first : (old new : Slots) (peers : List Peer) (pair : Pair) (slot : Slot) (q : Pair) → is_lost peers pair ≡ false
-    → (is_some (slot_at old pair) ≡ false → (q : Pair) → slot_at new q ≡ cond (eq_by_cmp pair_cmp pair q) (Some slot) (slot_at old q))
-    → (is_some (slot_at old pair) ≡ true → (q : Pair) → slot_at new q ≡ slot_at old q)
-    → effect_of (found new q) (is_lost peers q) ≡ later (where_true (eq_by_cmp pair_cmp q pair) (effect_of (Some (route_in slot)) false)) (effect_of (found old q) (is_lost peers q))
-noted_effect-first old new peers pair slot q held free taken = at (is_some (slot_at old pair)) refl
+-- where the peer isn't lost, what is appended for a pair comes before all that is noted
+pub noted_effect-first : (sides : List Side) (peers : List Peer) (side : Side) (q : Pair) → is_lost peers side.0 ≡ false
+    → effect_of (found (sides ++ side ∷ []) q) (is_lost peers q)
+    ≡ later (where_true (eq_by_cmp pair_cmp q side.0) (effect_of (Some side.1) false)) (effect_of (found sides q) (is_lost peers q))
+noted_effect-first sides peers side q held = at (is_some (found sides side.0)) refl
   where
-    at : (b : Bool) → is_some (slot_at old pair) ≡ b
-        → effect_of (found new q) (is_lost peers q) ≡ later (where_true (eq_by_cmp pair_cmp q pair) (effect_of (Some (route_in slot)) false)) (effect_of (found old q) (is_lost peers q))
+    at : (b : Bool) → is_some (found sides side.0) ≡ b
+        → effect_of (found (sides ++ side ∷ []) q) (is_lost peers q)
+        ≡ later (where_true (eq_by_cmp pair_cmp q side.0) (effect_of (Some side.1) false)) (effect_of (found sides q) (is_lost peers q))
     at true e =
-        ap (λ s. effect_of (option_map route_in s) (is_lost peers q)) (taken e q)
-        ∙ noted_effect-decided old peers pair (effect_of (Some (route_in slot)) false) q (ap (λ b. b || is_lost peers pair) e)
-    at false e = noted_effect-put old new peers pair slot q (ap (λ b. b || is_lost peers pair) e ∙ held) (free e q)
+        ap (λ k. effect_of k (is_lost peers q)) (push-taken sides side e q)
+        ∙ noted_effect-decided sides peers side.0 (effect_of (Some side.1) false) q (ap (λ b. b || is_lost peers side.0) e)
+    at false e = noted_effect-put sides peers side q (ap (λ b. b || is_lost peers side.0) e ∙ held) (push-free sides side e q)
 
 -- where the peer is lost, an earlier effect changes nothing
-pub noted_effect-lost : (slots : Slots) (peers : List Peer) (pair : Pair) (first : Effect) (q : Pair) → is_lost peers pair ≡ true
-    → effect_of (found slots q) (is_lost peers q) ≡ later (where_true (eq_by_cmp pair_cmp q pair) first) (effect_of (found slots q) (is_lost peers q))
-noted_effect-lost slots peers pair first q lost = noted_effect-decided slots peers pair first q (either (is_some (slot_at slots pair)))
+pub noted_effect-lost : (sides : List Side) (peers : List Peer) (pair : Pair) (first : Effect) (q : Pair) → is_lost peers pair ≡ true
+    → effect_of (found sides q) (is_lost peers q) ≡ later (where_true (eq_by_cmp pair_cmp q pair) first) (effect_of (found sides q) (is_lost peers q))
+noted_effect-lost sides peers pair first q lost = noted_effect-decided sides peers pair first q (either (is_some (found sides pair)))
   where
     either : (b : Bool) → (b || is_lost peers pair) ≡ true
     either true = refl
@@ -160,62 +139,31 @@ or_absent-more (Some route) some more = refl
 or_absent-more None true more = refl
 or_absent-more None false more = refl
 
--- what is kept stays
-or_absent-kept : (kept : Option (Option Route)) (absent : Bool) → is_some kept ≡ true → kept ≡ or_absent kept absent
-or_absent-kept None absent e = cc
-or_absent-kept (Some route) absent e = refl
-
--- and so does what is found where the pair is not among those
+-- what is found stays where the pair is not among those
 pub or_absent-false : (kept : Option (Option Route)) → kept ≡ or_absent kept false
 or_absent-false None = refl
 or_absent-false (Some route) = refl
 
--- a pair that has a slot, among those that lose their route, changes nothing
-pub found-there : (slots : Slots) (pair q : Pair) → is_some (slot_at slots pair) ≡ true → found slots q ≡ or_absent (found slots q) (eq_by_cmp pair_cmp q pair)
-found-there slots pair q there = at (eq_by_cmp pair_cmp q pair) refl
+-- of sides without a route each pair loses its own
+found-lost : (sides : List Side) → AllByRecursion (λ side. side.1 ≡ None) sides → (q : Pair) → found sides q ≡ or_absent None (list_any (eq_by_cmp pair_cmp q) (pairs_in sides))
+found-lost [] absent q = refl
+found-lost (side ∷ sides) absent q = at (found-lost sides absent.1 q) (eq_by_cmp pair_cmp q side.0)
   where
-    at : (b : Bool) → eq_by_cmp pair_cmp q pair ≡ b → found slots q ≡ or_absent (found slots q) b
-    at true e = or_absent-kept (found slots q) true (is_some-option_map route_in (slot_at slots q) ∙ ap (λ p. is_some (slot_at slots p)) (same_pair q pair e) ∙ there)
-    at false e = or_absent-false (found slots q)
+    at : found sides q ≡ or_absent None (list_any (eq_by_cmp pair_cmp q) (pairs_in sides))
+        → (b : Bool) → cond b (Some side.1) (found sides q) ≡ or_absent None (b || list_any (eq_by_cmp pair_cmp q) (pairs_in sides))
+    at rest true = ap Some absent.0
+    at rest false = rest
 
--- where there is no slot, a pair among those has no route
-or_absent-none : (slot : Option Slot) → is_some slot ≡ false → Some None ≡ or_absent (option_map route_in slot) true
-or_absent-none None e = refl
-or_absent-none (Some slot) e = cc
-
--- a pair without a slot gets one without a route
-pub found-put : (old new : Slots) (pair q : Pair) → is_some (slot_at old pair) ≡ false → slot_at new q ≡ cond (eq_by_cmp pair_cmp pair q) (Some None) (slot_at old q)
-    → found new q ≡ or_absent (found old q) (eq_by_cmp pair_cmp q pair)
-found-put old new pair q none put =
-    ap (option_map route_in) put
-    ∙ at (eq_by_cmp pair_cmp pair q) refl
-    ∙ ap (or_absent (found old q)) ((eq_by_cmp_equiv pair_cmp_total).symm pair q)
+-- behind others they lose it where nothing is kept for it
+pub found-absent : (sides lost : List Side) → AllByRecursion (λ side. side.1 ≡ None) lost → (q : Pair)
+    → found (sides ++ lost) q ≡ or_absent (found sides q) (list_any (eq_by_cmp pair_cmp q) (pairs_in lost))
+found-absent [] lost absent q = found-lost lost absent q
+found-absent (side ∷ sides) lost absent q = at (found-absent sides lost absent q) (eq_by_cmp pair_cmp q side.0)
   where
-    at : (b : Bool) → eq_by_cmp pair_cmp pair q ≡ b → option_map route_in (cond b (Some None) (slot_at old q)) ≡ or_absent (found old q) b
-    at true e = or_absent-none (slot_at old q) (ap (λ p. is_some (slot_at old p)) (sym (same_pair pair q e)) ∙ none)
-    at false e = or_absent-false (found old q)
-
--- a pair gets a slot without a route, unless something is there
-pub found-first : (old new : Slots) (pair q : Pair)
-    → (is_some (slot_at old pair) ≡ false → (q : Pair) → slot_at new q ≡ cond (eq_by_cmp pair_cmp pair q) (Some None) (slot_at old q))
-    → (is_some (slot_at old pair) ≡ true → (q : Pair) → slot_at new q ≡ slot_at old q)
-    → found new q ≡ or_absent (found old q) (eq_by_cmp pair_cmp q pair)
-found-first old new pair q free taken = at (is_some (slot_at old pair)) refl
-  where
-    at : (b : Bool) → is_some (slot_at old pair) ≡ b → found new q ≡ or_absent (found old q) (eq_by_cmp pair_cmp q pair)
-    at true e = ap (option_map route_in) (taken e q) ∙ found-there old pair q e
-    at false e = found-put old new pair q e (free e q)
-
--- one more of a list of pairs that lose their route
-pub found-more : (pairs : List Pair) (i : ℕ) (pair : Pair) (kept old new : Option (Option Route)) (q : Pair) → i < length pairs → pair ≡ get_or pairs i pair
-    → old ≡ or_absent kept (list_any (eq_by_cmp pair_cmp q) (take i pairs)) → new ≡ or_absent old (eq_by_cmp pair_cmp q pair)
-    → new ≡ or_absent kept (list_any (eq_by_cmp pair_cmp q) (take (i + 1) pairs))
-found-more pairs i pair kept old new q h at before step =
-    step
-    ∙ ap (λ k. or_absent k (eq_by_cmp pair_cmp q pair)) before
-    ∙ or_absent-more kept (list_any (eq_by_cmp pair_cmp q) (take i pairs)) (eq_by_cmp pair_cmp q pair)
-    ∙ ap (λ p. or_absent kept (list_any (eq_by_cmp pair_cmp q) (take i pairs) || eq_by_cmp pair_cmp q p)) at
-    ∙ ap (or_absent kept) (sym (list_any_more (eq_by_cmp pair_cmp q) pairs i pair h))
+    at : found (sides ++ lost) q ≡ or_absent (found sides q) (list_any (eq_by_cmp pair_cmp q) (pairs_in lost))
+        → (b : Bool) → cond b (Some side.1) (found (sides ++ lost) q) ≡ or_absent (cond b (Some side.1) (found sides q)) (list_any (eq_by_cmp pair_cmp q) (pairs_in lost))
+    at rest true = refl
+    at rest false = rest
 
 -- of three effects it doesn't matter which two are taken together
 later-together : (first second third : Effect) → later first (later second third) ≡ later (later first second) third

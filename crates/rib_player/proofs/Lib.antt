@@ -21,6 +21,6 @@ pub mod CountedLaws
 pub mod CountLaws
 pub mod KeyLaws
 pub mod PlayedLaws
-pub mod SlotLaws
+pub mod OrderedLaws
 pub mod ForgetLaws
 pub mod FloorLaws

@@ -19,7 +19,6 @@ use Rattle.std.proofs.lemmas.Map.Keys.{IsDistinct-from_sorted}
 use Rattle.rib_player.specs.declared.pair.Pair.{Pair}
 use Rattle.rib_player.specs.Entries.{Entry}
 use Rattle.rib_player.specs.declared.changes.Changes.{Changes}
-use Rattle.rib_player.specs.Holding.{Slots}
 use Rattle.rib_player.specs.Changes.{found, is_lost, effect_of, noted_effect}
 use Rattle.rib_player.specs.History.{pair_cmp, pair_of, effect, where_true, Clear, route_after}
 use Rattle.rib_player.specs.Tables.{Routes, table_after, is_named, named_pairs}
@@ -101,8 +100,8 @@ module _ (routes : Routes) (event : Event) (peer : Peer) (alone : (q : Pair) →
   IsStepFor-lost_answered (Err refused) named absent distinct = tt
 
 -- an event of which nothing but a loss is noted does just that
-pub lost-alone : (event : Event) (changes : Changes) (peer : Peer) → ((q : Pair) → noted_effect changes q ≡ effect q event) → changes.routes.items ≡ [] → changes.lost.keys ≡ peer ∷ []
+pub lost-alone : (event : Event) (changes : Changes) (peer : Peer) → ((q : Pair) → noted_effect changes q ≡ effect q event) → changes.entries.items ≡ [] → changes.lost.keys ≡ peer ∷ []
     → (q : Pair) → effect q event ≡ where_true (same_peer q.peer peer) Clear
 lost-alone event changes peer notes none one q =
-    sym (notes q) ∙ ap₂ (λ (slots : Slots) (peers : List Peer). effect_of (found slots q) (is_lost peers q)) none one
+    sym (notes q) ∙ ap₂ (λ (entries : List Entry) (peers : List Peer). effect_of (found (sides_of entries) q) (is_lost peers q)) none one
     ∙ ap (λ b. where_true b Clear) (or-false (same_peer q.peer peer))

@@ -1,5 +1,5 @@
 -- Rows of pairs whose peers differ, and lists of peers that are pointed to.
-use Rattle.std.proofs.Common.{◌≡◌, ◌≢◌, ℕ, ◌<◌, Bool, true, false, List, [], ◌∷◌, ◌++◌, length, get_or, Option, Some, None, IfSome, slice_get, refl, sym, ap, ◌∙◌, arith}
+use Rattle.std.proofs.Common.{◌≡◌, ◌≢◌, ℕ, ◌+◌, ◌<◌, Bool, true, false, List, [], ◌∷◌, ◌++◌, take, length, get_or, Option, Some, None, IfSome, slice_get, refl, sym, ap, ◌∙◌, arith}
 use Rattle.std.specs.Borrow.{Bor}
 use Rattle.std.specs.List.{AllByRecursion, IsDistinct}
 use Rattle.std.specs.Map.{lookup, keys_of}
@@ -8,11 +8,14 @@ use Rattle.std.specs.Slice.{IsItemAt}
 use Rattle.std.specs.Ordering.{eq_by_cmp}
 use Rattle.std.specs.declared.alloc.Global.{Global}
 use Rattle.std.specs.declared.rc.Rc.{Rc}
+use Rattle.std.proofs.lemmas.List.{map-append, take_more}
 use Rattle.std.proofs.lemmas.Option.{slice_get-map}
 use Rattle.mrt_events.specs.declared.peer.Peer.{Peer}
 use Rattle.rib_player.specs.declared.pair.Pair.{Pair}
 use Rattle.rib_player.specs.declared.stores.Marks.{Marks}
+use Rattle.rib_player.specs.Entries.{Entry}
 use Rattle.rib_player.specs.History.{pair_cmp}
+use Rattle.rib_player.specs.Journal.{side_of, sides_of}
 use Rattle.rib_player.specs.Numbered.{peers_in}
 use Rattle.rib_player.specs.Marked.{is_marked}
 use Rattle.rib_player.proofs.PairLaws.{same_pair}
@@ -36,6 +39,11 @@ module _ {R : Type 0} where
       → AllByRecursion (λ f. eq_by_cmp pair_cmp f.0 s ≡ false) (es ++ e ∷ [])
   all-apart s e [] this rest = (this, tt)
   all-apart s e (f ∷ es) this rest = (rest.0, all-apart s e es this rest.1)
+
+-- the sides of one entry more
+pub sides-more : (entries : List Entry) (i : ℕ) (e : Entry) → e ≡ get_or entries i e → i < length entries → sides_of (take (i + 1) entries) ≡ sides_of (take i entries) ++ side_of e ∷ []
+sides-more entries i e at within =
+    ap sides_of (take_more entries i e within ∙ ap (λ x. take i entries ++ x ∷ []) (sym at)) ∙ map-append side_of (take i entries) (e ∷ [])
 
 -- pairs that aren't the same don't tie
 pub not-tied : (a b : Pair) → (a ≡ b → ⊥) → eq_by_cmp pair_cmp a b ≡ false

@@ -2,7 +2,7 @@
 -- What is noted of an event's items, pair by pair.
 use Rattle.std.specs.Prelude.{Bool, true, false, List, map, Option, Some, None, ◌≡◌}
 use Rattle.std.specs.List.{list_any}
-use Rattle.std.specs.Option.{option_map}
+use Rattle.std.specs.Map.{lookup}
 use Rattle.std.specs.Ordering.{eq_by_cmp}
 use Rattle.mrt_events.specs.declared.peer.Peer.{Peer}
 use Rattle.rib_player.specs.declared.pair.Pair.{Pair}
@@ -11,13 +11,12 @@ use Rattle.rib_player.specs.declared.changes.Changes.{Changes}
 use Rattle.mrt_events.specs.Peer.{peer_cmp}
 use Rattle.mrt_events.specs.declared.event.Item.{Item}
 use Rattle.mrt_events.specs.Event.{Saying, Announced, Withdrawn, Changed, saying}
-use Rattle.rib_player.specs.History.{Effect, Clear, Set, where_true, item_effect, last_effect}
-use Rattle.rib_player.specs.Store.{route_in}
-use Rattle.rib_player.specs.Holding.{Slots, slot_at}
+use Rattle.rib_player.specs.History.{pair_cmp, Effect, Clear, Set, where_true, item_effect, last_effect}
+use Rattle.rib_player.specs.Journal.{Side, sides_of}
 
--- the route, or its absence, that is kept for a pair
-abbrev pub found : Slots → Pair → Option (Option Route)
-found slots pair = option_map route_in (slot_at slots pair)
+-- the route, or its absence, that the first side of a pair has
+abbrev pub found : List Side → Pair → Option (Option Route)
+found sides pair = lookup (eq_by_cmp pair_cmp pair) sides
 
 -- the pair's peer is among these
 abbrev pub is_lost : List Peer → Pair → Bool
@@ -31,7 +30,7 @@ effect_of None lost = where_true lost Clear
 
 -- what is noted for a pair
 abbrev pub noted_effect : Changes → Pair → Effect
-noted_effect changes pair = effect_of (found changes.routes.items pair) (is_lost changes.lost.keys pair)
+noted_effect changes pair = effect_of (found (sides_of changes.entries.items) pair) (is_lost changes.lost.keys pair)
 
 -- what is kept for a pair once it is among those that lose their route
 abbrev pub or_absent : Option (Option Route) → Bool → Option (Option Route)

@@ -1,7 +1,6 @@
 -- Private.
--- How the stores of peers are kept, and how a pair is found among slots.
-use Rattle.std.specs.Prelude.{◌≡◌, ◌<◌, Bool, ◌==◌, if◌then◌else◌, List, Option, Some, IfSome, refl}
-use Rattle.std.specs.Map.{lookup}
+-- How the stores of peers are kept.
+use Rattle.std.specs.Prelude.{◌≡◌, ◌<◌, Bool, ◌==◌, if◌then◌else◌, Option, Some, IfSome, refl}
 use Rattle.std.specs.Ordering.{eq_by_cmp}
 use Rattle.std.specs.Coded.{Coded, code_by, coded×}
 use Rattle.std.specs.declared.rc.Rc.{Rc}
@@ -16,7 +15,6 @@ use Rattle.prefix_store.specs.Stored as stored
 use Rattle.prefix_store.specs.Contents as contents
 use Rattle.rib_player.specs.declared.pair.Pair.{Pair}
 use Rattle.rib_player.specs.Codes.{coded_pair}
-use Rattle.rib_player.specs.History.{pair_cmp}
 use Rattle.rib_player.specs.Tables.{Routes, Pairs}
 use Rattle.rib_player.specs.Store.{Contents, Stores, store_at}
 
@@ -28,14 +26,6 @@ coded_contents =
 -- the route behind a pointer
 abbrev pub value_of : Rc Route Global → Route
 value_of shared = shared.value
-
--- a map of slots, by its entries
-abbrev pub Slots : Type 0
-Slots = List (Pair × Option (Rc Route Global))
-
--- the slot at a pair
-abbrev pub slot_at : Slots → Pair → Option (Option (Rc Route Global))
-slot_at slots pair = lookup (eq_by_cmp pair_cmp pair) slots
 
 -- each store has a key
 abbrev pub IsHeld : {S : Type 0} → (S → stored.Keys) → Stores S → Type 0

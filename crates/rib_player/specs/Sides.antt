@@ -1,25 +1,17 @@
 -- Private.
 -- The sides of steps: each of another pair, which is a key, and as an event makes them.
-use Rattle.std.specs.Prelude.{◌≡◌, ℕ, true, None, List, [], map, slice_index_or, Option}
+use Rattle.std.specs.Prelude.{◌≡◌, ℕ, true, None, List, [], map, slice_index_or}
 use Rattle.std.specs.List.{AllByRecursion, IsDistinct}
 use Rattle.std.specs.Ordering.{eq_by_cmp}
 use Rattle.std.specs.FinMap.{get}
 use Rattle.std.specs.FinSet.{contains, from_list}
-use Rattle.std.specs.declared.alloc.Global.{Global}
-use Rattle.std.specs.declared.rc.Rc.{Rc}
 use Rattle.ip_prefix.specs.Network.{Network}
 use Rattle.mrt_events.specs.declared.peer.Peer.{Peer}
-use Rattle.mrt_events.specs.declared.event.Route.{Route}
 use Rattle.mrt_events.specs.declared.event.Event.{Event}
 use Rattle.rib_player.specs.declared.pair.Pair.{Pair}
 use Rattle.rib_player.specs.History.{pair_cmp, pair_of}
 use Rattle.rib_player.specs.Tables.{Routes, Pairs, table_after, named_pairs}
-use Rattle.rib_player.specs.Store.{route_in}
 use Rattle.rib_player.specs.Journal.{Side, pairs_in}
-
--- the side of a slot
-abbrev pub slot_side : Pair × Option (Rc Route Global) → Side
-slot_side slot = (slot.0, route_in slot.1)
 
 -- the same pairs with the routes that a table has
 abbrev pub sides_across : Routes → List Side → List Side

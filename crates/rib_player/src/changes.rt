@@ -2,7 +2,6 @@
 
 ghost use Rattle.std.specs.Prelude.{◌≡◌, ◌↔◌, IsTrue, ◌++◌, ◌||◌, ◌&&◌, [], ◌∷◌, ◌≢◌, IfOk, IfSome, IfNone, OnOk, OnErr, Some, None, true, false, is_some, if◌then◌else◌, map, slice_get};
 ghost use Rattle.std.specs.List.{AllByRecursion, IsDistinct, list_any, filter};
-ghost use Rattle.std.specs.Map.{keys_of};
 ghost use Rattle.std.specs.Ordering.{eq_by_cmp};
 ghost use Rattle.std.specs.FinMap as finite;
 ghost use Rattle.mrt_events.specs.Event.{saying};
@@ -12,10 +11,9 @@ ghost use Rattle.mrt_events.specs.declared.peer.Peer.{Peer};
 ghost use Rattle.mrt_events.specs.Peer.{peer_cmp};
 ghost use Rattle.rib_player.specs.History.{pair_cmp, Clear, where_true, item_effect, later, effect};
 ghost use Rattle.rib_player.specs.Store.{route_in};
-ghost use Rattle.rib_player.specs.Holding.{slot_at};
 ghost use Rattle.rib_player.specs.Changes.{noted_effect, found, is_lost, or_absent, effect_of, items_effect, HasRoute};
 ghost use Rattle.rib_player.specs.Journal.{side_of, sides_of, pairs_in};
-ghost use Rattle.rib_player.specs.Sides.{cleared_side, slot_side, AreDistinct, IsStepFor};
+ghost use Rattle.rib_player.specs.Sides.{cleared_side, AreDistinct, IsStepFor};
 
 use crate::entry::Entry;
 use crate::numbered_peer::{NO_NUMBER, NumberedPeer};
@@ -30,30 +28,35 @@ use std::alloc::{AllocError, Global};
 use std::collections::BTreeSet;
 use std::rc::Rc;
 
-/// Pairs, each with its route, or the absence of one. Of a pair that stands there more than once the
-/// first counts.
-type Slots = Vec<(Pair, Option<Rc<Route>>)>;
-
 /// What the last items of an event do. Of the items that concern a pair the last decides, so items
 /// are noted from the last to the first, but for those that stand before the loss of their peer.
 #[derive(Drop)]
 pub(crate) struct Changes {
-    /// The pairs that items name, with the route that they have then.
-    pub(crate) routes: Slots,
-    /// The peers whose session is lost, before all that is noted of them in `routes`.
+    alloc: Global,
+    /// The entries of the pairs that items name, with the route that they have then. Of those of a
+    /// pair the first counts.
+    pub(crate) entries: Vec<Entry>,
+    /// The peers whose session is lost, before all that is noted of them in `entries`.
     pub(crate) lost: BTreeSet<Peer>,
 }
 
 impl Changes {
     /// Notes the route that the pair has then, or its absence.
-    fn note_route(&mut self, pair: Pair, route: Option<Rc<Route>>) -> Result<(), AllocError>
+    fn note_route<S: PrefixStore<Rc<Route>>>(
+        &mut self,
+        table: &Table<S>,
+        pair: &Pair,
+        route: Option<Rc<Route>>,
+    ) -> Result<(), AllocError>
         ensures { OnOk result ((q : Pair) → noted_effect self.new q
             ≡ later
-            (where_true (eq_by_cmp pair_cmp q pair) (effect_of (Some (route_in route)) false))
+            (where_true (eq_by_cmp pair_cmp q pair.now) (effect_of (Some (route_in route)) false))
             (noted_effect self.old q)) }
     {
         if !self.lost.contains(&pair.peer) {
-            self.routes.push((pair, route))?;
+            let peer = shared_peer(self.alloc, table, self.entries.last(), &pair.peer)?;
+            let entry = Entry::new(self.alloc, peer, &pair.prefix, route)?;
+            self.entries.push(entry)?;
         }
         Ok(())
     }
@@ -70,18 +73,23 @@ impl Changes {
     /// The peer whose lost session is all that is noted, where it is that.
     fn only_loss(&self) -> Option<Peer>
         ensures some { IfSome result (λ peer.
-            (self.now.routes.items ≡ []) × (self.now.lost.keys ≡ peer ∷ [])) }
+            (self.now.entries.items ≡ []) × (self.now.lost.keys ≡ peer ∷ [])) }
         ensures none { IfNone result ((peer : Peer) →
-            self.now.routes.items ≡ [] → self.now.lost.keys ≢ peer ∷ []) }
+            self.now.entries.items ≡ [] → self.now.lost.keys ≢ peer ∷ []) }
     {
-        if !self.routes.is_empty() || self.lost.len() > 1 {
+        if !self.entries.is_empty() || self.lost.len() > 1 {
             return None;
         }
         self.lost.first().copied()
     }
 
     /// Notes what the item does, which stands before all that are noted.
-    fn note(&mut self, item: &Item, known: &mut KnownRoutes) -> Result<(), AllocError>
+    fn note<S: PrefixStore<Rc<Route>>>(
+        &mut self,
+        table: &Table<S>,
+        item: &Item,
+        known: &mut KnownRoutes,
+    ) -> Result<(), AllocError>
         ensures { OnOk result ((q : Pair) → noted_effect self.new q
             ≡ later (item_effect q (saying item.now)) (noted_effect self.old q)) }
     {
@@ -91,14 +99,14 @@ impl Changes {
                     peer: *peer,
                     prefix: *prefix,
                 };
-                self.note_route(pair, Some(known.known_if_short(peer, route)?))
+                self.note_route(table, &pair, Some(known.known_if_short(peer, route)?))
             }
             Item::Withdraw(peer, prefix) => {
                 let pair = Pair {
                     peer: *peer,
                     prefix: *prefix,
                 };
-                self.note_route(pair, None)
+                self.note_route(table, &pair, None)
             }
             Item::State(peer, old, new) => {
                 if *old == ESTABLISHED && *new != ESTABLISHED {
@@ -110,20 +118,30 @@ impl Changes {
     }
 
     /// Notes what the items do, which stand before all that are noted.
-    fn note_each(&mut self, items: &[Item], known: &mut KnownRoutes) -> Result<(), AllocError>
+    fn note_each<S: PrefixStore<Rc<Route>>>(
+        &mut self,
+        table: &Table<S>,
+        items: &[Item],
+        known: &mut KnownRoutes,
+    ) -> Result<(), AllocError>
         ensures { OnOk result ((q : Pair) → noted_effect self.new q
             ≡ later (items_effect q items.now) (noted_effect self.old q)) }
     {
         let mut rest = items.len();
         'items: while rest > 0 {
             rest -= 1;
-            self.note(&items[rest], known)?;
+            self.note(table, &items[rest], known)?;
         }
         Ok(())
     }
 
     /// Notes what an item does that announces this route, which stands before all that are noted.
-    fn note_announced(&mut self, item: &Item, route: &Rc<Route>) -> Result<(), AllocError>
+    fn note_announced<S: PrefixStore<Rc<Route>>>(
+        &mut self,
+        table: &Table<S>,
+        item: &Item,
+        route: &Rc<Route>,
+    ) -> Result<(), AllocError>
         requires { HasRoute route.now.value (saying item.now) }
         ensures { OnOk result ((q : Pair) → noted_effect self.new q
             ≡ later (item_effect q (saying item.now)) (noted_effect self.old q)) }
@@ -134,7 +152,7 @@ impl Changes {
                     peer: *peer,
                     prefix: *prefix,
                 };
-                self.note_route(pair, Some(route.clone()?))
+                self.note_route(table, &pair, Some(route.clone()?))
             }
             Item::Withdraw(_, _) => unreachable!(),
             Item::State(_, _, _) => unreachable!(),
@@ -142,19 +160,24 @@ impl Changes {
     }
 
     /// Notes what items do that share a route, which stand before all that are noted.
-    fn note_shared(&mut self, items: &[Item], known: &mut KnownRoutes) -> Result<(), AllocError>
+    fn note_shared<S: PrefixStore<Rc<Route>>>(
+        &mut self,
+        table: &Table<S>,
+        items: &[Item],
+        known: &mut KnownRoutes,
+    ) -> Result<(), AllocError>
         requires { AreOfOneRoute (map saying items.now) }
         ensures { OnOk result ((q : Pair) → noted_effect self.new q
             ≡ later (items_effect q items.now) (noted_effect self.old q)) }
     {
         let Some((peer, route)) = first_route(items) else {
-            return self.note_each(items, known);
+            return self.note_each(table, items, known);
         };
         let route = known.known(peer, route)?;
         let mut rest = items.len();
         'items: while rest > 0 {
             rest -= 1;
-            self.note_announced(&items[rest], &route)?;
+            self.note_announced(table, &items[rest], &route)?;
         }
         Ok(())
     }
@@ -180,20 +203,26 @@ fn first_route(items: &[Item]) -> Option<(&Peer, &Rc<Route>)>
 }
 
 /// What the event does.
-fn changes_of(alloc: Global, event: &Event, known: &mut KnownRoutes) -> Result<Changes, AllocError>
+fn changes_of<S: PrefixStore<Rc<Route>>>(
+    alloc: Global,
+    event: &Event,
+    table: &Table<S>,
+    known: &mut KnownRoutes,
+) -> Result<Changes, AllocError>
     ensures { IfOk result (λ changes. (q : Pair) → noted_effect changes q ≡ effect q event.now) }
 {
     let mut changes = Changes {
-        routes: Vec::with_capacity(alloc, event.items.as_slice().len())?,
+        alloc,
+        entries: Vec::with_capacity(alloc, event.items.as_slice().len())?,
         lost: BTreeSet::new(alloc),
     };
     let items = event.items.as_slice();
     let shared = event.items.shared_ranges();
-    changes.note_each(&items[shared.end..], known)?;
-    changes.note_shared(&items[shared.middle..shared.end], known)?;
-    changes.note_shared(&items[shared.start..shared.middle], known)?;
-    changes.note_each(&items[..shared.start], known)?;
-    if changes.routes.len() < items.len() {
+    changes.note_each(table, &items[shared.end..], known)?;
+    changes.note_shared(table, &items[shared.middle..shared.end], known)?;
+    changes.note_shared(table, &items[shared.start..shared.middle], known)?;
+    changes.note_each(table, &items[..shared.start], known)?;
+    if changes.entries.len() < items.len() {
         known.note_unused();
     }
     Ok(changes)
@@ -242,12 +271,10 @@ fn cleared_in<S: PrefixStore<Rc<Route>>>(
     Ok(entries)
 }
 
-/// The peer, shared with the entry that was made last, or with the table, where this number is tried
-/// first.
+/// The peer, shared with the entry that was made last, or with the table.
 fn shared_peer<S: PrefixStore<Rc<Route>>>(
     alloc: Global,
     table: &Table<S>,
-    number: usize,
     last: Option<&Entry>,
     peer: &Peer,
 ) -> Result<Rc<NumberedPeer>, AllocError>
@@ -258,7 +285,7 @@ fn shared_peer<S: PrefixStore<Rc<Route>>>(
             return entry.shared_peer().clone();
         }
     }
-    if let Some(shared) = table.shared_peer(number, peer) {
+    if let Some(shared) = table.shared_peer(peer) {
         return shared.clone();
     }
     Ok(Rc::new(alloc, NumberedPeer::new(*peer, NO_NUMBER))?)
@@ -279,138 +306,130 @@ fn lost_entries<S: PrefixStore<Rc<Route>>>(
 {
     match table.store(peer) {
         Some(store) => {
-            let shared = shared_peer(alloc, table, NO_NUMBER, None, peer)?;
+            let shared = shared_peer(alloc, table, None, peer)?;
             cleared_in(alloc, store, &shared)
         }
         None => Ok(Vec::new(alloc)),
     }
 }
 
-/// Notes that the entries' pairs have no route any more, but for those that items name.
-fn note_absent(routes: &mut Slots, entries: &[Entry]) -> Result<(), AllocError>
-    ensures { OnOk result ((q : Pair) → found routes.new.items q
-        ≡ or_absent (found routes.old.items q)
-        (list_any (eq_by_cmp pair_cmp q) (pairs_in (sides_of entries.now)))) }
-{
-    'entries: for entry in entries {
-        routes.push((entry.pair(), None))?;
-    }
-    Ok(())
-}
-
-/// The pairs that the event may name, with the route that they have then.
-fn routes_then<S: PrefixStore<Rc<Route>>>(
-    alloc: Global,
+/// The entries of the pairs that the event may name, with the route that they have then. Of those
+/// of a pair the first counts.
+fn entries_then<S: PrefixStore<Rc<Route>>>(
     changes: Changes,
     table: &Table<S>,
-) -> Result<Slots, AllocError>
-    ensures { IfOk result (λ routes. (q : Pair) → found routes.items q
-        ≡ or_absent (found changes.routes.items q)
+) -> Result<Vec<Entry>, AllocError>
+    ensures { IfOk result (λ entries. (q : Pair) → found (sides_of entries.items) q
+        ≡ or_absent (found (sides_of changes.entries.items) q)
         (is_lost changes.lost.keys q && is_some (finite.get table.now.routes q))) }
 {
-    let Changes { mut routes, lost } = changes;
+    let Changes {
+        alloc,
+        mut entries,
+        lost,
+    } = changes;
     'peers: for peer in lost {
-        let entries = lost_entries(alloc, &peer, table)?;
-        note_absent(&mut routes, &entries)?;
+        let mut absent = lost_entries(alloc, &peer, table)?;
+        entries.append(&mut absent)?;
     }
-    Ok(routes)
+    Ok(entries)
 }
 
-/// The same in the order of their pairs, each once.
-fn in_order(routes: Slots) -> Result<Slots, AllocError>
-    ensures distinct { IfOk result (λ ordered.
-        IsDistinct (eq_by_cmp pair_cmp) (keys_of ordered.items)) }
+/// The same in the order of their pairs, one for each.
+fn in_order(entries: Vec<Entry>) -> Result<Vec<Entry>, AllocError>
+    ensures distinct { IfOk result (λ ordered. AreDistinct (sides_of ordered.items)) }
     ensures found { IfOk result (λ ordered. (q : Pair) →
-        found ordered.items q ≡ found routes.items q) }
+        found (sides_of ordered.items) q ≡ found (sides_of entries.items) q) }
 {
-    let mut ordered = routes;
-    ordered.sort_by_key(|slot| slot.0)?;
-    ordered.dedup_by_key(|slot| slot.0);
+    let mut ordered = entries;
+    ordered.sort_by_key(|entry| entry.pair())?;
+    ordered.dedup_by_key(|entry| entry.pair());
     Ok(ordered)
 }
 
-/// How many slots are compared with each other at most.
+/// How many entries are compared with each other at most.
 const FEW: usize = 8;
 
-/// Whether two pairs are the same.
+/// Whether two entries are of one pair.
 #[inline]
-fn same_pair(one: &Pair, other: &Pair) -> bool
-    ensures { IsTrue result ↔ (one.now ≡ other.now) }
+fn are_of_one_pair(one: &Entry, other: &Entry) -> bool
+    ensures { IsTrue result ↔ (one.now.pair ≡ other.now.pair) }
 {
-    same_prefix(&one.prefix, &other.prefix) && same_peer(&one.peer, &other.peer)
+    same_prefix(&one.prefix(), &other.prefix()) && same_peer(one.peer(), other.peer())
 }
 
-/// Whether the pair has one of these slots.
-fn has_slot(slots: &[(Pair, Option<Rc<Route>>)], pair: &Pair) -> bool
-    ensures { result ≡ false →
-        AllByRecursion (λ slot. eq_by_cmp pair_cmp slot.0 pair.now ≡ false) slots.now }
+/// Whether one of these is of the entry's pair.
+fn has_pair(entries: &[Entry], entry: &Entry) -> bool
+    ensures { result ≡ false → AllByRecursion
+        (λ side. eq_by_cmp pair_cmp side.0 entry.now.pair ≡ false) (sides_of entries.now) }
 {
-    'slots: for slot in slots {
-        if same_pair(&slot.0, pair) {
+    'entries: for other in entries {
+        if are_of_one_pair(other, entry) {
             return true;
         }
     }
     false
 }
 
-/// Whether no pair has two of these slots.
-fn are_different(slots: &[(Pair, Option<Rc<Route>>)]) -> bool
-    ensures { IsTrue result → IsDistinct (eq_by_cmp pair_cmp) (keys_of slots.now) }
+/// Whether no two of these are of one pair.
+fn are_different(entries: &[Entry]) -> bool
+    ensures { IsTrue result → AreDistinct (sides_of entries.now) }
 {
-    'slots: for index in 0..slots.len() {
-        if has_slot(&slots[..index], &slots[index].0) {
+    'entries: for index in 0..entries.len() {
+        if has_pair(&entries[..index], &entries[index]) {
             return false;
         }
     }
     true
 }
 
-/// The same, each pair once. As the entries of a table's record have it, mostly no peer stands there
-/// twice, and as a message has it, no prefix.
-fn each_once<S: PrefixStore<Rc<Route>>>(
-    routes: Slots,
-    table: &Table<S>,
-    marks: &mut Marks,
-) -> Result<Slots, AllocError>
-    ensures distinct { IfOk result (λ once.
-        IsDistinct (eq_by_cmp pair_cmp) (keys_of once.items)) }
-    ensures found { IfOk result (λ once. (q : Pair) →
-        found once.items q ≡ found routes.items q) }
-{
-    if table.are_of_different_peers(&routes, marks) {
-        return Ok(routes);
+/// Whether the first and the last of several are of one peer, as those of a message are.
+fn are_of_message(entries: &[Entry]) -> bool {
+    match (entries.first(), entries.last()) {
+        (Some(first), Some(last)) => entries.len() > 1 && same_peer(first.peer(), last.peer()),
+        _ => false,
     }
-    if routes.len() <= FEW && are_different(&routes) {
-        return Ok(routes);
-    }
-    in_order(routes)
 }
 
-/// The entries of those pairs that have a route before or then.
-fn entries_of<S: PrefixStore<Rc<Route>>>(
-    alloc: Global,
-    routes: Slots,
+/// The same, one for each pair. As the entries of a table's record have it, mostly no peer stands
+/// there twice, and as a message has it, no prefix.
+fn each_once<S: PrefixStore<Rc<Route>>>(
+    entries: Vec<Entry>,
     table: &Table<S>,
-    marks: &Marks,
+    marks: &mut Marks,
 ) -> Result<Vec<Entry>, AllocError>
-    requires { IsDistinct (eq_by_cmp pair_cmp) (keys_of routes.items) }
-    ensures distinct { IfOk result (λ entries. AreDistinct (sides_of entries.items)) }
-    ensures sides { IfOk result (λ entries. sides_of entries.items
-        ≡ filter (λ side. is_some side.1 || is_some (finite.get table.now.routes side.0))
-        (map slot_side routes.items)) }
+    ensures distinct { IfOk result (λ once. AreDistinct (sides_of once.items)) }
+    ensures found { IfOk result (λ once. (q : Pair) →
+        found (sides_of once.items) q ≡ found (sides_of entries.items) q) }
 {
-    let mut entries = Vec::with_capacity(alloc, routes.len())?;
-    let mut index = 0usize;
-    'routes: for (pair, other) in routes {
-        let number = marks.number(index);
-        index = index.wrapping_add(1);
-        if other.is_some() || table.route(&pair).is_some() {
-            let peer = shared_peer(alloc, table, number, entries.last(), &pair.peer)?;
-            entries.push(Entry::new(alloc, peer, &pair.prefix, other)?)?;
-        }
+    if !are_of_message(&entries) && table.are_of_different_peers(&entries, marks) {
+        return Ok(entries);
     }
-    entries.shrink_to_fit();
-    Ok(entries)
+    if entries.len() <= FEW && are_different(&entries) {
+        return Ok(entries);
+    }
+    in_order(entries)
+}
+
+/// Whether the entry's pair has a route before or then.
+#[inline]
+fn is_routed<S: PrefixStore<Rc<Route>>>(entry: &Entry, table: &Table<S>) -> bool
+    ensures { result ≡ (is_some (route_in entry.now.other)
+        || is_some (finite.get table.now.routes entry.now.pair)) }
+{
+    entry.route().is_some() || table.route(&entry.pair()).is_some()
+}
+
+/// Those of pairs that have a route before or then.
+fn routed_entries<S: PrefixStore<Rc<Route>>>(entries: Vec<Entry>, table: &Table<S>) -> Vec<Entry>
+    ensures { sides_of result.items
+        ≡ filter (λ side. is_some side.1 || is_some (finite.get table.now.routes side.0))
+        (sides_of entries.items) }
+{
+    let mut routed = entries;
+    routed.retain(|entry| is_routed(entry, table));
+    routed.shrink_to_fit();
+    routed
 }
 
 /// The entries of the event's step over a table. Those of a lost session alone, which may be many,
@@ -425,15 +444,15 @@ pub(crate) fn step_for<S: PrefixStore<Rc<Route>>>(
     ensures { IfOk result (λ entries.
         IsStepFor table.now.routes event.now (sides_of entries.items)) }
 {
-    let changes = changes_of(alloc, event, known)?;
+    let changes = changes_of(alloc, event, table, known)?;
     if let Some(peer) = changes.only_loss() {
         return lost_entries(alloc, &peer, table);
     }
-    let then = routes_then(alloc, changes, table)?;
+    let then = entries_then(changes, table)?;
     let noted = then.len();
-    let routes = each_once(then, table, marks)?;
-    if routes.len() < noted {
+    let once = each_once(then, table, marks)?;
+    if once.len() < noted {
         known.note_unused();
     }
-    entries_of(alloc, routes, table, marks)
+    Ok(routed_entries(once, table))
 }

@@ -1,24 +1,22 @@
 //! The entries of steps, in little memory.
 
-ghost use Rattle.std.specs.Prelude.{◌≡◌, true, not, is_some, None, IfOk, OnOk, OnErr};
-ghost use Rattle.std.specs.FinMap as finite;
-ghost use Rattle.std.specs.FinSet as set;
+ghost use Rattle.std.specs.Prelude.{◌≡◌, None, IfOk};
+ghost use Rattle.std.specs.Option.{option_copied};
 ghost use Rattle.prefix_store.specs.Packed.{v4_network};
-ghost use Rattle.prefix_store.specs.Stored.{put};
 ghost use Rattle.rib_player.specs.History.{pair_of};
-ghost use Rattle.rib_player.specs.Store.{route_in};
 ghost use Rattle.rib_player.specs.Kept.{new_entry, pair_kept, other_kept, marks_kept, IsWhole};
 ghost use Rattle.rib_player.specs.Marks.{mark_of, gives_up};
 
+mod crossing;
+
 use crate::numbered_peer::NumberedPeer;
 use crate::pair::Pair;
-use crate::table::Table;
 use ip_prefix::{Family, Prefix};
 use mrt_events::{Peer, Route};
-use prefix_store::{Packed, PrefixStore, V4Prefix};
+use prefix_store::{Packed, V4Prefix};
 use std::alloc::{AllocError, Global};
 use std::marker::Model;
-use std::mem::{replace, size_of};
+use std::mem::size_of;
 use std::rc::Rc;
 
 /// A pair that a step names, and its route, or the absence of one, on the other side of the
@@ -156,7 +154,9 @@ impl Entry {
 
     /// Its route, where it has one.
     #[inline]
-    pub(crate) fn route(&self) -> Option<&Rc<Route>> {
+    pub(crate) fn route(&self) -> Option<&Rc<Route>>
+        ensures { option_copied result ≡ self.now.other }
+    {
         match &self.kept {
             Kept::V4Present(_, _, _, route) => Some(route),
             Kept::V6Present(_, _, route) => Some(route),
@@ -194,62 +194,6 @@ impl Entry {
             Kept::V6Present(marks, _, _) => *marks = new,
             Kept::Taken => unreachable!(),
         }
-    }
-
-    /// Its route and the table's change places.
-    #[inline(always)]
-    pub(crate) fn exchange<S: PrefixStore<Rc<Route>>>(&mut self, table: &mut Table<S>)
-        requires { set.contains table.old.keys self.old.pair ≡ true }
-        ensures keys { table.new.keys ≡ table.old.keys }
-        ensures routes { table.new.routes ≡
-            put table.old.routes self.old.pair (route_in self.old.other) }
-        ensures given { route_in self.new.other ≡ finite.get table.old.routes self.old.pair }
-        ensures pair { self.new.pair ≡ self.old.pair }
-        ensures before { self.new.before ≡ self.old.before }
-        ensures behind { self.new.behind ≡ self.old.behind }
-    {
-        let pair = self.pair();
-        let number = self.shared_peer().number();
-        let (absent, mut other) = replace(&mut self.kept, Kept::Taken).without_route();
-        table.exchange(&pair, number, &mut other);
-        self.kept = absent.with_route(other);
-    }
-}
-
-impl Entry {
-    /// Its route and the table's change places, where its pair is made a key if it was none; it
-    /// notes on which sides of the step the pair has a route. Answers whether the key is new.
-    /// Refused, nothing has changed.
-    #[inline]
-    pub(crate) fn put<S: PrefixStore<Rc<Route>>>(
-        &mut self,
-        table: &mut Table<S>,
-    ) -> Result<bool, AllocError>
-        ensures keys { OnOk result (table.new.keys ≡ set.insert table.old.keys self.old.pair) }
-        ensures made { IfOk result (λ made.
-            made ≡ not (set.contains table.old.keys self.old.pair)) }
-        ensures before { OnOk result
-            (self.new.before ≡ is_some (finite.get table.old.routes self.old.pair)) }
-        ensures behind { OnOk result (self.new.behind ≡ is_some self.old.other) }
-        ensures routes { OnOk result (table.new.routes ≡
-            put table.old.routes self.old.pair (route_in self.old.other)) }
-        ensures given { OnOk result
-            (route_in self.new.other ≡ finite.get table.old.routes self.old.pair) }
-        ensures pair { self.new.pair ≡ self.old.pair }
-        ensures refused { OnErr result (table.new.keys ≡ table.old.keys) }
-        ensures held { OnErr result (table.new.routes ≡ table.old.routes) }
-        ensures kept { OnErr result (self.new ≡ self.old) }
-    {
-        let pair = self.pair();
-        let number = self.shared_peer().number();
-        let (absent, mut other) = replace(&mut self.kept, Kept::Taken).without_route();
-        let behind = other.is_some();
-        let put = table.put(&pair, number, &mut other);
-        let before = other.is_some();
-        self.kept = absent.with_route(other);
-        let made = put?;
-        self.set_marks(Marks { before, behind });
-        Ok(made)
     }
 }
 

@@ -3,20 +3,20 @@
 ghost use Rattle.std.specs.Prelude.{◌≡◌, ◌≤◌, ℕ, [], Some, None, true, false, IsTrue, IsSome, IfSome, if◌then◌else◌, slice_get, OnOk, OnErr, vec_len};
 ghost use Rattle.std.specs.Option.{option_copied, option_copied_mut};
 ghost use Rattle.std.specs.Borrow.{sem};
-ghost use Rattle.std.specs.Map.{lookup, keys_of};
-ghost use Rattle.std.specs.List.{IsDistinct};
+ghost use Rattle.std.specs.Map.{lookup};
 ghost use Rattle.std.specs.Ordering.{eq_by_cmp};
 ghost use Rattle.mrt_events.specs.declared.peer.Peer.{Peer};
 ghost use Rattle.mrt_events.specs.Peer.{peer_cmp};
 ghost use Rattle.rib_player.specs.declared.stores.TheConstants.{PLACES};
-ghost use Rattle.rib_player.specs.History.{pair_cmp};
 ghost use Rattle.rib_player.specs.Store.{store_at};
 ghost use Rattle.rib_player.specs.Numbered.{peers_in, AreNumbered, IsNumberedAnew};
 ghost use Rattle.rib_player.specs.Marked.{is_marked};
+ghost use Rattle.rib_player.specs.Journal.{sides_of};
+ghost use Rattle.rib_player.specs.Sides.{AreDistinct};
 ghost use Rattle.std.proofs.Props.{props};
 
+use crate::entry::Entry;
 use crate::numbered_peer::{NO_NUMBER, NumberedPeer};
-use crate::pair::Pair;
 use crate::room::give_back_room;
 use known_routes::peer_hash;
 use mrt_events::{Peer, same_peer};
@@ -37,8 +37,6 @@ pub(crate) struct Marks {
     pub(crate) rows: Vec<u64>,
     /// The row that is looked at.
     pub(crate) row: u64,
-    /// The numbers of its peers, as far as memory was there.
-    numbers: Vec<u32>,
 }
 
 /// Stores, at most one for each peer.
@@ -93,14 +91,10 @@ impl<S> Stores<S> {
         }
     }
 
-    /// The number of the peer, if it has a store. This one is tried first.
-    #[inline]
-    fn number_of(&self, number: usize, peer: &Peer) -> Option<usize>
+    /// The number of the peer, if it has a store, by its place or in the order of peers.
+    fn sought_number(&self, peer: &Peer) -> Option<usize>
         ensures { result ≡ lookup (eq_by_cmp peer_cmp peer.now) self.now.order.entries }
     {
-        if self.has_number(number, peer) {
-            return Some(number);
-        }
         if let Some(number) = self.places.get(place_of(peer)) {
             let number = *number as usize;
             if self.has_number(number, peer) {
@@ -110,20 +104,32 @@ impl<S> Stores<S> {
         self.order.get(peer).copied()
     }
 
-    /// The peer, if it has a store. This number is tried first.
-    pub(crate) fn shared_peer(&self, number: usize, peer: &Peer) -> Option<&Rc<NumberedPeer>>
-        ensures { IfSome result (λ shared. shared.now.value ≡ peer.now) }
+    /// The same. This one is tried first.
+    #[inline]
+    fn number_of(&self, number: usize, peer: &Peer) -> Option<usize>
+        ensures { result ≡ lookup (eq_by_cmp peer_cmp peer.now) self.now.order.entries }
     {
-        self.names.get(self.number_of(number, peer)?)
+        if self.has_number(number, peer) {
+            return Some(number);
+        }
+        self.sought_number(peer)
     }
 
-    /// Whether all these pairs are of peers that have stores, no two of one.
-    pub(crate) fn are_of_different_peers<R>(&self, slots: &[(Pair, R)], marks: &mut Marks) -> bool
-        ensures { IsTrue result → IsDistinct (eq_by_cmp pair_cmp) (keys_of slots.now) }
+    /// The peer, if it has a store.
+    pub(crate) fn shared_peer(&self, peer: &Peer) -> Option<&Rc<NumberedPeer>>
+        ensures { IfSome result (λ shared. shared.now.value ≡ peer.now) }
+    {
+        self.names.get(self.sought_number(peer)?)
+    }
+
+    /// Whether all these entries are of peers that have stores, no two of one.
+    pub(crate) fn are_of_different_peers(&self, entries: &[Entry], marks: &mut Marks) -> bool
+        ensures { IsTrue result → AreDistinct (sides_of entries.now) }
     {
         marks.begin(self.names.len());
-        'slots: for slot in slots {
-            let Some(number) = self.number_of(NO_NUMBER, &slot.0.peer) else {
+        'entries: for entry in entries {
+            let peer = entry.shared_peer();
+            let Some(number) = self.number_of(peer.number(), peer.peer()) else {
                 return false;
             };
             if !marks.is_new(number) {
@@ -245,15 +251,12 @@ impl Marks {
         Marks {
             rows: Vec::new(alloc),
             row: 0,
-            numbers: Vec::new(alloc),
         }
     }
 
     /// Begins another row, where so many peers have numbers.
     fn begin(&mut self, count: usize) {
         self.row = self.row.wrapping_add(1);
-        give_back_room(&mut self.numbers);
-        self.numbers.clear();
         self.rows.truncate(count);
         give_back_room(&mut self.rows);
     }
@@ -275,16 +278,6 @@ impl Marks {
         }
         let is_new = self.rows[number] != self.row;
         self.rows[number] = self.row;
-        let _ = self.numbers.push(u32::try_from(number).unwrap_or(u32::MAX));
         is_new
-    }
-
-    /// The number of the peer that stands so far behind the first of the row, where it was noted.
-    #[inline]
-    pub(crate) fn number(&self, index: usize) -> usize {
-        match self.numbers.get(index) {
-            Some(number) => *number as usize,
-            None => NO_NUMBER,
-        }
     }
 }

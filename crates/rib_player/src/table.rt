@@ -1,24 +1,24 @@
 //! The routes of all peers.
 
 ghost use Rattle.std.specs.Prelude.{◌≡◌, ◌<◌, ◌&&◌, Some, true, false, not, is_some, slice_get, Option, None, if◌then◌else◌, map, IfSome, IfNone, IfOk, IsTrue, OnOk, OnErr, take, vec_capacity};
-ghost use Rattle.std.specs.List.{IsDistinct};
-ghost use Rattle.std.specs.Map.{keys_of};
 ghost use Rattle.std.specs.Option.{option_map, option_copied};
-ghost use Rattle.std.specs.Ordering.{eq_by_cmp};
 ghost use Rattle.std.specs.FinMap as finite;
 ghost use Rattle.std.specs.FinSet as set;
 ghost use Rattle.ip_prefix.specs.Network.{Network};
 ghost use Rattle.rib_player.specs.declared.pair.Pair.{Pair};
 ghost use Rattle.mrt_events.specs.declared.peer.Peer.{Peer};
 ghost use Rattle.mrt_events.specs.Peer.{peer_cmp};
-ghost use Rattle.rib_player.specs.History.{pair_cmp, pair_of};
+ghost use Rattle.rib_player.specs.History.{pair_of};
 ghost use Rattle.prefix_store.specs.Stored.{put, counted};
 ghost use Rattle.prefix_store.specs.Lookups.{above};
 ghost use Rattle.rib_player.specs.Store.{route_in, keys_in, routes_in, peer_routes, routed_peers};
 ghost use Rattle.rib_player.specs.Lookups.{IsBest, pointed_routes, peers_above, routed_stores, peer_count};
 ghost use Rattle.rib_player.specs.Holding.{value_of, IsLeft};
 ghost use Rattle.rib_player.specs.StoresByPeer.{stores_in, stores_of};
+ghost use Rattle.rib_player.specs.Journal.{sides_of};
+ghost use Rattle.rib_player.specs.Sides.{AreDistinct};
 
+use crate::entry::Entry;
 use crate::numbered_peer::{NO_NUMBER, NumberedPeer};
 use crate::pair::Pair;
 use crate::stores::{Marks, Stores};
@@ -229,11 +229,11 @@ impl<S: PrefixStore<Rc<Route>>> Table<S> {
         first_routed(&self.stores, numbers)
     }
 
-    /// The peer, where it has a key, as entries share it. This number is tried first.
-    pub(crate) fn shared_peer(&self, number: usize, peer: &Peer) -> Option<&Rc<NumberedPeer>>
+    /// The peer, where it has a key, as entries share it.
+    pub(crate) fn shared_peer(&self, peer: &Peer) -> Option<&Rc<NumberedPeer>>
         ensures { IfSome result (λ shared. shared.now.value ≡ peer.now) }
     {
-        self.stores.shared_peer(number, peer)
+        self.stores.shared_peer(peer)
     }
 
     /// The store of the peer, where it has a key. This number is tried first.
@@ -241,15 +241,11 @@ impl<S: PrefixStore<Rc<Route>>> Table<S> {
         self.stores.get(peer.number(), peer.peer())
     }
 
-    /// Whether all these pairs are known to be of different peers.
-    pub(crate) fn are_of_different_peers(
-        &self,
-        slots: &[(Pair, Option<Rc<Route>>)],
-        marks: &mut Marks,
-    ) -> bool
-        ensures { IsTrue result → IsDistinct (eq_by_cmp pair_cmp) (keys_of slots.now) }
+    /// Whether all these entries are known to be of different peers.
+    pub(crate) fn are_of_different_peers(&self, entries: &[Entry], marks: &mut Marks) -> bool
+        ensures { IsTrue result → AreDistinct (sides_of entries.now) }
     {
-        self.stores.are_of_different_peers(slots, marks)
+        self.stores.are_of_different_peers(entries, marks)
     }
 
     /// The peer's store, where it has a key.

@@ -6,8 +6,7 @@ use Rattle.ip_prefix.specs.Network.{Network}
 use Rattle.ip_prefix.specs.Turns.{way, turn_of, shared, side}
 use Rattle.rib_store.specs.Shape.{Shape}
 use Rattle.rib_store.specs.Shape.{Empty, Rooted}
-use Rattle.rib_store.specs.Tree.{at, slot_of, chosen, root, kept, joined, same_way, IsOn, IsRooted, IsShaped, IsPut, IsPlaced, IsGrown, Stands}
-use Rattle.ip_prefix.proofs.Turns.{here_from}
+use Rattle.rib_store.specs.Tree.{at, slot_of, chosen, root, kept, joined, IsOn, IsRooted, IsShaped, IsPut, IsPlaced, IsGrown, Stands}
 use Rattle.rib_store.specs.Slots.{route_found}
 use Rattle.rib_store.proofs.WayLaws.{turn_shared, shared_inside, parts}
 use Rattle.rib_store.proofs.TreeLaws.{at_left, at_right, at_rooted, rooted_shaped, shaped_rooted, root_rooted, some_is, on_side}
@@ -122,23 +121,6 @@ grown_here {R} {old} {new} key prefix slot l r was is there shaped =
 pub kept_found : {R : Type 0} (slot : Option (Option R)) → kept slot ≡ Some (route_found slot)
 kept_found None = refl
 kept_found (Some slot) = refl
-
--- what a key has that is there by now
-pub grown_slot : {R : Type 0} (key : List Bool) (old mid : Shape R) → IsGrown key old mid → at mid key ≡ Some (route_found (at old key))
-grown_slot key old mid grown =
-    grown.slots key ∙ ap (λ t. cond (chosen t false true false false) (kept (at old key)) (at old key)) (here_from key) ∙ kept_found (at old key)
-
--- a key that is there by now gets this slot
-pub placed_then : {R : Type 0} {old new : Shape R} (key : List Bool) (v : Option (Option R)) (mid : Shape R) → IsGrown key old mid → IsShaped new → IsPut (at mid) key v (at new) → root new ≡ root mid → IsPlaced key v old new
-placed_then {R} {old} {new} key v mid grown shaped put roots = record {
-  shaped = shaped;
-  slots = λ q. put q ∙ ap (cond (same_way key q) v) (grown.slots q) ∙ twice (same_way key q) (kept (at old key)) (at old q);
-  roots = roots ∙ grown.roots;
-}
-  where
-    twice : (b : Bool) (u w : Option (Option R)) → cond b v (cond b u w) ≡ cond b v w
-    twice true u w = refl
-    twice false u w = refl
 
 -- ---- a leaf, and a node above
 

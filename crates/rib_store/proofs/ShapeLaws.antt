@@ -7,7 +7,7 @@ use Rattle.ip_prefix.specs.Network.{Network}
 use Rattle.ip_prefix.specs.Turns.{way, turn_of}
 use Rattle.rib_store.specs.declared.tree.Tree.{Tree}
 use Rattle.rib_store.specs.declared.tree.Tree.TheVariants as tree
-use Rattle.rib_store.specs.Shape.{Shape, Empty, shape_of, leaf_slot, IsLeaf, IsMarked, is_routed}
+use Rattle.rib_store.specs.Shape.{Shape, Empty, shape_of, leaf_slot, IsLeaf, IsNotBelow, IsMarked, is_routed}
 use Rattle.rib_store.specs.Tree.{at, root, chosen, same_way, IsPut, IsRooted, IsShaped, IsPlaced, IsGrown}
 use Rattle.rib_store.proofs.TreeLaws.{at_rooted, shaped_rooted, root_rooted}
 use Rattle.rib_store.proofs.GrowthLaws.{placed_left, placed_right, grown_here, leaf_shaped, leaf_slots}
@@ -109,6 +109,14 @@ none_apart network t prefix key is apart = by (turn_of (way (network prefix)) ke
     by Here e = absurd (apart e)
     by Left e = none_below network t prefix key Left is (inl refl) e
     by Right e = none_below network t prefix key Right is (inr refl) e
+
+-- ---- keys at the root
+
+pub not_below : (t : Turn) → (t ≡ Left → ⊥) → (t ≡ Right → ⊥) → IsNotBelow t
+not_below Outside left right = tt
+not_below Here left right = tt
+not_below Left left right = left refl
+not_below Right left right = right refl
 
 -- ---- keys that go
 

@@ -2,6 +2,9 @@
 -- A radix tree, however its nodes lie in memory.
 use Rattle.std.specs.Prelude.{◌≡◌, Bool, true, false, ◌||◌, Option, Some, None}
 use Rattle.ip_prefix.specs.Network.{Network}
+use Rattle.ip_prefix.specs.declared.turn.Turn.{Turn}
+use Rattle.ip_prefix.specs.declared.turn.Turn.TheVariants.{Outside, Here, Left, Right}
+use Rattle.ip_prefix.specs.Turns.{way, turn_of}
 use Rattle.rib_store.specs.declared.tree.Slot.{Slot}
 use Rattle.rib_store.specs.declared.tree.Slot.TheVariants.{Branch, Vacant, Filled}
 use Rattle.rib_store.specs.declared.tree.Tree.{Tree}
@@ -51,6 +54,21 @@ IsNode (tree.Bare key) = ⊥
 IsNode (tree.Leaf key route) = ⊥
 IsNode (tree.Forked' routed key p left right) = ⊥
 IsNode (tree.Rooted' routed key p slot left right) = Unit {0}
+
+-- what turns so isn't below
+abbrev pub IsNotBelow : Turn → Type 0
+IsNotBelow Outside = Unit {0}
+IsNotBelow Here = Unit {0}
+IsNotBelow Left = ⊥
+IsNotBelow Right = ⊥
+
+-- the key isn't below the root, or nothing is
+abbrev pub IsAtRoot : {K R : Type 0} → (K → Network) → Network → Tree K R → Type 0
+IsAtRoot network key tree.Empty = Unit {0}
+IsAtRoot network key (tree.Bare other) = Unit {0}
+IsAtRoot network key (tree.Leaf other route) = Unit {0}
+IsAtRoot network key (tree.Forked' routed other p left right) = IsNotBelow (turn_of (way (network other)) (way key))
+IsAtRoot network key (tree.Rooted' routed other p slot left right) = IsNotBelow (turn_of (way (network other)) (way key))
 
 -- ---- the marks
 

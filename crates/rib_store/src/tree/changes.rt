@@ -6,7 +6,7 @@ ghost use Rattle.ip_prefix.specs.Network.{Network};
 ghost use Rattle.ip_prefix.specs.Turns.{way, turn_of};
 ghost use Rattle.rib_store.specs.declared.tree.Slot.TheVariants.{Branch};
 ghost use Rattle.ip_prefix.specs.declared.turn.Turn.TheVariants.{Outside, Here, Left, Right};
-ghost use Rattle.rib_store.specs.Shape.{Empty, shape_of, leaf_slot, is_filled, is_routed, any_routed, IsLeaf, IsFork, IsNode, IsMarked};
+ghost use Rattle.rib_store.specs.Shape.{Empty, shape_of, leaf_slot, is_filled, is_routed, any_routed, IsLeaf, IsFork, IsNode, IsAtRoot, IsMarked};
 ghost use Rattle.rib_store.specs.Tree.{at, root, slot_of, kept, AreOf, IsOn, IsShaped, IsNearlyShaped, IsPut, IsPlaced, IsGrown, IsHung, IsRooted, IsRootedOver};
 ghost use Rattle.rib_store.specs.Slots.{route_found};
 
@@ -153,47 +153,92 @@ impl<K: Packed, R: Drop> Tree<K, R> {
         ensures known { OnErr result (at (shape_of K.network self.old) (way key.now) ≡ None) }
     {
         match self {
-            Tree::Empty => {
-                *self = leaf_with(K::of(key), route);
-                Ok(true)
-            }
-            Tree::Bare(prefix) => {
-                let prefix = *prefix;
-                put_at_leaf(self, prefix, alloc, key, route)
-            }
-            Tree::Leaf(prefix, _) => {
-                let prefix = *prefix;
-                put_at_leaf(self, prefix, alloc, key, route)
-            }
             Tree::Rooted(routed, prefix, node) => {
-                let prefix = *prefix;
                 let node = &mut **node;
                 let brought = route.is_some();
                 let made = match prefix.turn(key) {
-                    Turn::Outside => {
-                        return put_beside(self, &prefix.wide(), alloc, key, route);
-                    }
-                    Turn::Here => node.slot.put(route),
                     Turn::Left => node.left.put(alloc, key, route)?,
                     Turn::Right => node.right.put(alloc, key, route)?,
+                    _ => return put_at_root(self, alloc, key, route),
                 };
                 *routed = node.is_routed_with(brought);
                 Ok(made)
             }
             Tree::Forked(routed, prefix, fork) => {
-                let prefix = *prefix;
                 let fork = &mut **fork;
                 let brought = route.is_some();
                 let made = match prefix.turn(key) {
-                    Turn::Outside => {
-                        return put_beside(self, &prefix.wide(), alloc, key, route);
-                    }
-                    Turn::Here => return put_at_fork(self, prefix, alloc, route),
                     Turn::Left => fork.left.put(alloc, key, route)?,
                     Turn::Right => fork.right.put(alloc, key, route)?,
+                    _ => return put_at_root(self, alloc, key, route),
                 };
                 *routed = fork.is_routed_with(brought);
                 Ok(made)
+            }
+            _ => put_at_root(self, alloc, key, route),
+        }
+    }
+}
+
+/// The same where the key doesn't lie below the root, or nothing does. It stands by itself, so that a
+/// way down takes few instructions a node.
+#[inline(never)]
+fn put_at_root<K: Packed, R: Drop>(
+    tree: &mut Tree<K, R>,
+    alloc: Global,
+    key: &Prefix,
+    route: &mut Option<R>,
+) -> Result<bool, AllocError>
+    requires at_root { IsAtRoot K.network key.now tree.old }
+    requires shaped { IsShaped (shape_of K.network tree.old) }
+    requires marked { IsMarked tree.old }
+    requires family { AreOf key.now.family (shape_of K.network tree.old) }
+    requires kind { key.now.family ≡ K.family }
+    ensures made { IfOk result (λ made. made ≡
+        not (is_some (at (shape_of K.network tree.old) (way key.now)))) }
+    ensures placed { OnOk result (IsPlaced (way key.now) (Some route.old)
+        (shape_of K.network tree.old) (shape_of K.network tree.new)) }
+    ensures given { OnOk result
+        (route.new ≡ route_found (at (shape_of K.network tree.old) (way key.now))) }
+    ensures marked { OnOk result (IsMarked tree.new) }
+    ensures brought { OnOk result (is_some route.old ≡ true → is_routed tree.new ≡ true) }
+    ensures refused { OnErr result (tree.new ≡ tree.old) }
+    ensures kept { OnErr result (route.new ≡ route.old) }
+    ensures known { OnErr result (at (shape_of K.network tree.old) (way key.now) ≡ None) }
+{
+    match tree {
+        Tree::Empty => {
+            *tree = leaf_with(K::of(key), route);
+            Ok(true)
+        }
+        Tree::Bare(prefix) => {
+            let prefix = *prefix;
+            put_at_leaf(tree, prefix, alloc, key, route)
+        }
+        Tree::Leaf(prefix, _) => {
+            let prefix = *prefix;
+            put_at_leaf(tree, prefix, alloc, key, route)
+        }
+        Tree::Rooted(routed, prefix, node) => {
+            let prefix = *prefix;
+            let node = &mut **node;
+            let brought = route.is_some();
+            match prefix.turn(key) {
+                Turn::Outside => put_beside(tree, &prefix.wide(), alloc, key, route),
+                Turn::Here => {
+                    let made = node.slot.put(route);
+                    *routed = node.is_routed_with(brought);
+                    Ok(made)
+                }
+                _ => unreachable!(),
+            }
+        }
+        Tree::Forked(_, prefix, _) => {
+            let prefix = *prefix;
+            match prefix.turn(key) {
+                Turn::Outside => put_beside(tree, &prefix.wide(), alloc, key, route),
+                Turn::Here => put_at_fork(tree, prefix, alloc, route),
+                _ => unreachable!(),
             }
         }
     }

@@ -1,20 +1,15 @@
-use Rattle.std.proofs.Common.{◌≡◌, ◌+◌, ◌++◌, [], ◌∷◌, take, get_or, sym, subst}
-use Rattle.std.specs.List.{IsDistinct}
-use Rattle.std.specs.Map.{keys_of}
-use Rattle.std.specs.Ordering.{eq_by_cmp}
-use Rattle.std.proofs.lemmas.List.{take_more}
-use Rattle.rib_player.specs.History.{pair_cmp}
-use Rattle.rib_player.proofs.RowLaws.{distinct-none, distinct-apart}
+use Rattle.std.proofs.Common.{◌≡◌, ◌+◌, ◌++◌, [], ◌∷◌, take, sym, subst}
+use Rattle.rib_player.specs.Journal.{side_of, sides_of}
+use Rattle.rib_player.specs.Sides.{AreDistinct}
+use Rattle.rib_player.proofs.RowLaws.{distinct-none, distinct-apart, sides-more}
 use Rattle.rib_player.proofs.changes.are_different.Goals as goal
 
-pub slots-init : goal.slots-init
-slots-init c = distinct-none
+pub entries-init : goal.entries-init
+entries-init c = distinct-none
 
-pub slots-preserved : goal.slots-preserved
-slots-preserved c =
-    let slots = c.args.slots.now in
-    let slot = get_or slots c.slots.index c.index-slots-index.result in
-    let more : take (c.slots.index + 1) slots ≡ take c.slots.index slots ++ slot ∷ [] =
-    take_more slots c.slots.index c.index-slots-index.result c.slots-test.true in
-    subst (λ es. IsDistinct (eq_by_cmp pair_cmp) (keys_of es)) (sym more)
-    (distinct-apart slot (take c.slots.index slots) (c.has_slot.ensures c.if-has_slot.false) c.slots.invariant)
+pub entries-preserved : goal.entries-preserved
+entries-preserved c =
+    let entries = c.args.entries.now in
+    let entry = c.index-entries-index.result in
+    subst AreDistinct (sym (sides-more entries c.entries.index entry c.index-entries-index.is c.entries-test.true))
+    (distinct-apart (side_of entry) (sides_of (take c.entries.index entries)) (c.has_pair.ensures c.if-has_pair.false) c.entries.invariant)

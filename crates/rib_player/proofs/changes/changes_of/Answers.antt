@@ -1,23 +1,24 @@
-use Rattle.std.proofs.Common.{map, drop, sym, ap, ap₂, ◌∙◌, length-drop, arith}
+use Rattle.std.proofs.Common.{List, map, drop, sym, ap, ap₂, ◌∙◌, length-drop, arith}
 use Rattle.std.proofs.lemmas.List.{take_all}
 use Rattle.mrt_events.proofs.SharedLaws.{said_range}
 use Rattle.rib_player.specs.declared.pair.Pair.{Pair}
 use Rattle.rib_player.specs.History.{item_effect, later, last_effect}
-use Rattle.rib_player.specs.Holding.{Slots}
+use Rattle.rib_player.specs.Entries.{Entry}
+use Rattle.rib_player.specs.Journal.{sides_of}
 use Rattle.rib_player.specs.Changes.{noted_effect, found, is_lost, effect_of, items_effect}
 use Rattle.rib_player.proofs.ChangesLaws.{effect-parts, effects-sayings}
 use Rattle.rib_player.proofs.changes.changes_of.Goals as goal
 
 pub note_shared-requires : goal.note_shared-requires
-note_shared-requires c =
+note_shared-requires g c =
     said_range c.as_slice-items.result.now _ c.shared_ranges-shared.result.middle _ c.as_slice-items.ensures c.shared_ranges-shared.ensures.second.alike
 
 pub note_shared-requires-2 : goal.note_shared-requires-2
-note_shared-requires-2 c =
+note_shared-requires-2 g c =
     said_range c.as_slice-items.result.now _ c.shared_ranges-shared.result.start _ c.as_slice-items.ensures c.shared_ranges-shared.ensures.first.alike
 
 pub returns : goal.returns
-returns c =
+returns g c =
     let items = c.as_slice-items.result.now in
     let ranges = c.shared_ranges-shared.result in
     let shared = c.shared_ranges-shared.ensures in
@@ -26,7 +27,7 @@ returns c =
     shared.first.ordered shared.second.ordered
     (c.in_ok-note_each.ensures q
     ∙ ap₂ (λ l before. later (items_effect q l) before) (take_all _ (drop ranges.end items) (omega (arith, length-drop ranges.end items)))
-    (ap₂ (λ (slots : Slots) peers. effect_of (found slots q) (is_lost peers q)) c.in_ok-with_capacity.ensures.items c.new.ensures.empty))
+    (ap₂ (λ (entries : List Entry) peers. effect_of (found (sides_of entries) q) (is_lost peers q)) c.in_ok-with_capacity.ensures.items c.new.ensures.empty))
     (c.in_ok-note_shared.ensures q)
     (c.in_ok-note_shared-2.ensures q)
     (c.in_ok-note_each-2.ensures q)

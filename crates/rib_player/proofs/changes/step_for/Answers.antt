@@ -1,12 +1,13 @@
 use Rattle.std.proofs.Common.{◌∙◌}
-use Rattle.rib_player.proofs.EntryLaws.{IsStepFor-answered}
+use Rattle.rib_player.specs.Journal.{sides_of}
+use Rattle.rib_player.proofs.EntryLaws.{IsStepFor-made}
 use Rattle.rib_player.proofs.LostLaws.{IsStepFor-lost_answered, lost-alone}
 use Rattle.rib_player.proofs.changes.step_for.Goals as goal
 
 pub returns : goal.returns
 returns g c =
-    IsStepFor-answered c.args.table.now.routes c.args.event.now c.in_ok-changes.changes c.in_ok-routes.routes.items c.entries_of.result
-    c.in_ok-changes.ensures (λ q. c.in_ok-routes.ensures.found q ∙ c.in_ok-then.ensures q) c.in_ok-routes.ensures.distinct c.entries_of.ensures.distinct c.entries_of.ensures.sides
+    IsStepFor-made c.args.table.now.routes c.args.event.now c.in_ok-changes.changes (sides_of c.in_ok-once.once.items) (sides_of c.routed_entries.result.items)
+    c.in_ok-changes.ensures (λ q. c.in_ok-once.ensures.found q ∙ c.in_ok-then.ensures q) c.in_ok-once.ensures.distinct c.routed_entries.ensures
 
 -- what the changes do is the loss alone
 pub returns-in-Some : goal.returns-in-Some

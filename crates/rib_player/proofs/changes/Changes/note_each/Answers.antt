@@ -6,7 +6,7 @@ use Rattle.rib_player.proofs.ChangesLaws.{items_effect-more}
 use Rattle.rib_player.proofs.changes.Changes.note_each.Goals as goal
 
 pub items-preserved : goal.items-preserved
-items-preserved c =
+items-preserved g c =
     let items = c.args.items.now in
     let within : c.items.rest - 1 < length items = omega (arith, c.items.invariant.within) in
     let next : suc (c.items.rest - 1) ≡ c.items.rest = omega arith in
@@ -17,6 +17,6 @@ items-preserved c =
     }
 
 pub returns : goal.returns
-returns c =
+returns g c =
     λ (q : Pair). c.items.invariant.noted_is q
     ∙ ap (λ n. later (items_effect q (drop n c.args.items.now)) (noted_effect c.args.self.now q)) {x = c.items.rest} {y = 0} (omega arith)

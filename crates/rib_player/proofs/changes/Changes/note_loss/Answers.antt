@@ -2,13 +2,14 @@ use Rattle.std.proofs.Common.{ap, ◌∙◌}
 use Rattle.std.specs.Cmp.{eq_by_cmp_equiv}
 use Rattle.mrt_events.proofs.PeerLaws.{peer_cmp_total}
 use Rattle.rib_player.specs.History.{Clear, later, where_true}
+use Rattle.rib_player.specs.Journal.{sides_of}
 use Rattle.rib_player.specs.Changes.{found, is_lost, effect_of}
 use Rattle.rib_player.proofs.ChangesLaws.{lost-noted}
 use Rattle.rib_player.proofs.changes.Changes.note_loss.Goals as goal
 
 pub returns : goal.returns
 returns c = λ q.
-    let kept = found c.args.self.now.routes.items q in
+    let kept = found (sides_of c.args.self.now.entries.items) q in
     let lost = is_lost c.args.self.now.lost.keys q in
     ap (effect_of kept) (c.in_ok-insert.ensures.updates.0 q.peer)
     ∙ lost-noted kept _ lost

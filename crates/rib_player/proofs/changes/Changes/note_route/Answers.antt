@@ -1,16 +1,25 @@
-use Rattle.std.proofs.Common.{false, Some, sym, ◌∙◌}
-use Rattle.rib_player.specs.Changes.{effect_of}
+use Rattle.std.proofs.Common.{◌≡◌, ◌++◌, [], ◌∷◌, false, Some, sym, ap, ◌∙◌}
+use Rattle.std.proofs.lemmas.List.{map-append}
+use Rattle.rib_player.specs.Changes.{found, is_lost, effect_of}
+use Rattle.rib_player.specs.History.{pair_of}
+use Rattle.rib_player.specs.Journal.{Side, side_of, sides_of}
 use Rattle.rib_player.specs.Store.{route_in}
-use Rattle.rib_player.proofs.ChangesLaws.{noted_effect-first, noted_effect-lost, push-free, push-taken}
+use Rattle.rib_player.proofs.ChangesLaws.{noted_effect-first, noted_effect-lost}
 use Rattle.rib_player.proofs.changes.Changes.note_route.Goals as goal
 
 pub returns-in_ok-push : goal.returns-in_ok-push
-returns-in_ok-push c =
+returns-in_ok-push g c = λ q.
     let old = c.args.self.now in
-    λ q. noted_effect-first old.routes.items c.push.new.self.items old.lost.keys c.args.pair c.args.route q
-    (sym c.contains.ensures ∙ c.if-not-contains.true) (push-free old.routes.items c.push.new.self.items c.args.pair c.args.route c.in_ok-push.ensures.items) (push-taken old.routes.items c.push.new.self.items c.args.pair c.args.route c.in_ok-push.ensures.items)
+    let pair = c.args.pair.now in
+    let sides = sides_of old.entries.items in
+    let side : side_of c.in_ok-entry.entry ≡ (pair, route_in c.args.route) =
+    ap side_of c.in_ok-entry.ensures ∙ ap (λ peer. (pair_of peer pair.prefix, route_in c.args.route)) c.in_ok-peer.ensures in
+    let pushed : sides_of c.push.new.self.items ≡ sides ++ (pair, route_in c.args.route) ∷ [] =
+    ap sides_of c.in_ok-push.ensures.items ∙ map-append side_of old.entries.items (c.in_ok-entry.entry ∷ []) ∙ ap (λ (s : Side). sides ++ s ∷ []) side in
+    ap (λ ss. effect_of (found ss q) (is_lost old.lost.keys q)) pushed
+    ∙ noted_effect-first sides old.lost.keys (pair, route_in c.args.route) q (sym c.contains.ensures ∙ c.if-not-contains.true)
 
 pub returns-else-not-contains : goal.returns-else-not-contains
-returns-else-not-contains c =
+returns-else-not-contains g c =
     let old = c.args.self.now in
-    λ q. noted_effect-lost old.routes.items old.lost.keys c.args.pair (effect_of (Some (route_in c.args.route)) false) q (sym c.contains.ensures ∙ c.if-not-contains.false)
+    λ q. noted_effect-lost (sides_of old.entries.items) old.lost.keys c.args.pair.now (effect_of (Some (route_in c.args.route)) false) q (sym c.contains.ensures ∙ c.if-not-contains.false)

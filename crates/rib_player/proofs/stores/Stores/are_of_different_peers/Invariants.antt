@@ -1,13 +1,12 @@
 use Rattle.std.proofs.Common.{take}
-use Rattle.std.specs.List.{AllByRecursion, IsDistinct}
-use Rattle.std.specs.Map.{keys_of}
-use Rattle.std.specs.Ordering.{eq_by_cmp}
-use Rattle.rib_player.specs.History.{pair_cmp}
+use Rattle.std.specs.List.{AllByRecursion}
+use Rattle.rib_player.specs.Journal.{sides_of}
+use Rattle.rib_player.specs.Sides.{AreDistinct}
 use Rattle.rib_player.proofs.RowLaws.{IsSeen}
 use Rattle.rib_player.proofs.stores.Stores.are_of_different_peers.Given as goal
 
-abbrev pub invariant-slots : goal.invariant-slots
-invariant-slots g l = record {
-  seen : AllByRecursion (IsSeen l.self.order.entries l.marks) (take l.slot-index l.slots);
-  distinct : IsDistinct (eq_by_cmp pair_cmp) (keys_of (take l.slot-index l.slots));
+abbrev pub invariant-entries : goal.invariant-entries
+invariant-entries g l = record {
+  seen : AllByRecursion (IsSeen l.self.order.entries l.marks) (sides_of (take l.entry-index l.entries));
+  distinct : AreDistinct (sides_of (take l.entry-index l.entries));
 }

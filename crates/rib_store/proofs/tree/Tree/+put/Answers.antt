@@ -1,12 +1,12 @@
-use Rattle.std.proofs.Common.{◌≡◌, ◌||◌, Some, None, refl, ap, ◌∙◌}
-use Rattle.std.proofs.lemmas.Result.{on_ok_weaker}
-use Rattle.ip_prefix.specs.declared.turn.Turn.TheVariants.{Here, Left, Right}
+use Rattle.std.proofs.Common.{◌≡◌, Some, None, refl, subst}
+use Rattle.ip_prefix.specs.declared.turn.Turn.TheVariants.{Left, Right}
 use Rattle.ip_prefix.specs.Turns.{way, turn_of}
 use Rattle.rib_store.specs.declared.tree.Slot.TheVariants.{Branch}
-use Rattle.rib_store.specs.Shape.{Rooted, shape_of}
+use Rattle.rib_store.specs.Shape.{Rooted, shape_of, IsNotBelow}
 use Rattle.rib_store.specs.Tree.{slot_of, IsRooted}
-use Rattle.rib_store.proofs.GrowthLaws.{placed_left, placed_right, placed_here}
-use Rattle.rib_store.proofs.tree.Tree.+put.Goals.{in-Here, in-Left+in_ok-made-in-Left, in-Right+in_ok-made-in-Right, in-Left-turn+in_ok-made-in-Left-turn, in-Right-turn+in_ok-made-in-Right-turn}
+use Rattle.rib_store.proofs.GrowthLaws.{placed_left, placed_right}
+use Rattle.rib_store.proofs.ShapeLaws.{not_below}
+use Rattle.rib_store.proofs.tree.Tree.+put.Goals.{in-Left+in_ok-made-in-Left, in-Right+in_ok-made-in-Right, in-Left-turn+in_ok-made-in-Left-turn, in-Right-turn+in_ok-made-in-Right-turn}
 use Rattle.rib_store.proofs.tree.Tree.+put.Goals as goal
 
 pub returns-after-turn-clause-placed : goal.returns-after-turn-clause-placed
@@ -21,10 +21,6 @@ returns-after-turn-clause-placed g t c =
     let new = Rooted prefix m.slot (shape_of net m.left) (shape_of net m.right) in
     let was : IsRooted prefix (slot_of n.slot) (shape_of net n.left) (shape_of net n.right) old = rw c.in-Rooted.is (cc, cc, cc, cc) in
     elim c.match-turn.branch [
-      | in-Here w ↦
-          let turn : turn_of (way prefix) key ≡ Here = cc in
-          let is : IsRooted prefix slot (shape_of net n.left) (shape_of net n.right) new = rw w.node-is (refl, refl, refl, w.put-made.ensures.slot) in
-          placed_here key prefix (slot_of n.slot) slot (shape_of net n.left) (shape_of net n.right) was is turn c.requires.shaped tt
       | in-Left+in_ok-made-in-Left w ↦
           let turn : turn_of (way prefix) key ≡ Left = cc in
           let is : IsRooted prefix (slot_of n.slot) (shape_of net w.put.new.self) (shape_of net n.right) new = rw w.node-is (refl, refl, refl, refl) in
@@ -34,10 +30,6 @@ returns-after-turn-clause-placed g t c =
           let is : IsRooted prefix (slot_of n.slot) (shape_of net n.left) (shape_of net w.put-in-Right.new.self) new = rw w.node-is (refl, refl, refl, refl) in
           placed_right key prefix (slot_of n.slot) slot (shape_of net n.left) (shape_of net n.right) (shape_of net w.put-in-Right.new.self) was is turn c.requires.shaped w.in_ok-made-in-Right.ensures.placed
     ]
-
-pub returns-in-Here-turn-clause-brought : goal.returns-in-Here-turn-clause-brought
-returns-in-Here-turn-clause-brought g t c =
-    on_ok_weaker c.put_at_fork.result (λ routed some. routed ∙ ap (λ brought. brought || c.in-Forked.routed) some) c.put_at_fork.ensures.routed
 
 pub returns-after-turn-2-clause-placed : goal.returns-after-turn-2-clause-placed
 returns-after-turn-2-clause-placed g t c =
@@ -60,3 +52,11 @@ returns-after-turn-2-clause-placed g t c =
           let is : IsRooted prefix None (shape_of net n.left) (shape_of net w.put-in-Right-turn.new.self) new = rw w.fork-is (refl, refl, refl, refl) in
           placed_right key prefix None slot (shape_of net n.left) (shape_of net n.right) (shape_of net w.put-in-Right-turn.new.self) was is turn c.requires.shaped w.in_ok-made-in-Right-turn.ensures.placed
     ]
+
+pub put_at_root-requires-clause-at_root : goal.put_at_root-requires-clause-at_root
+put_at_root-requires-clause-at_root g t c =
+    subst IsNotBelow c.turn.ensures (not_below c.turn.result c.in_default-turn.not-Left c.in_default-turn.not-Right)
+
+pub put_at_root-requires-in_default-turn-2-clause-at_root : goal.put_at_root-requires-in_default-turn-2-clause-at_root
+put_at_root-requires-in_default-turn-2-clause-at_root g t c =
+    subst IsNotBelow c.turn-in-Forked.ensures (not_below c.turn-in-Forked.result c.in_default-turn-2.not-Left c.in_default-turn-2.not-Right)

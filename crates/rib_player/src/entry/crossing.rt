@@ -1,0 +1,73 @@
+//! An entry and the table exchange their routes.
+
+ghost use Rattle.std.specs.Prelude.{◌≡◌, true, not, is_some, IfOk, OnOk, OnErr};
+ghost use Rattle.std.specs.FinMap as finite;
+ghost use Rattle.std.specs.FinSet as set;
+ghost use Rattle.prefix_store.specs.Stored.{put};
+ghost use Rattle.rib_player.specs.Store.{route_in};
+
+use crate::entry::{Entry, Kept, Marks};
+use crate::table::Table;
+use mrt_events::Route;
+use prefix_store::PrefixStore;
+use std::alloc::AllocError;
+use std::mem::replace;
+use std::rc::Rc;
+
+impl Entry {
+    /// Its route and the table's change places.
+    #[inline(always)]
+    pub(crate) fn exchange<S: PrefixStore<Rc<Route>>>(&mut self, table: &mut Table<S>)
+        requires { set.contains table.old.keys self.old.pair ≡ true }
+        ensures keys { table.new.keys ≡ table.old.keys }
+        ensures routes { table.new.routes ≡
+            put table.old.routes self.old.pair (route_in self.old.other) }
+        ensures given { route_in self.new.other ≡ finite.get table.old.routes self.old.pair }
+        ensures pair { self.new.pair ≡ self.old.pair }
+        ensures before { self.new.before ≡ self.old.before }
+        ensures behind { self.new.behind ≡ self.old.behind }
+    {
+        let pair = self.pair();
+        let number = self.shared_peer().number();
+        let (absent, mut other) = replace(&mut self.kept, Kept::Taken).without_route();
+        table.exchange(&pair, number, &mut other);
+        self.kept = absent.with_route(other);
+    }
+}
+
+impl Entry {
+    /// Its route and the table's change places, where its pair is made a key if it was none; it
+    /// notes on which sides of the step the pair has a route. Answers whether the key is new.
+    /// Refused, nothing has changed.
+    #[inline]
+    pub(crate) fn put<S: PrefixStore<Rc<Route>>>(
+        &mut self,
+        table: &mut Table<S>,
+    ) -> Result<bool, AllocError>
+        ensures keys { OnOk result (table.new.keys ≡ set.insert table.old.keys self.old.pair) }
+        ensures made { IfOk result (λ made.
+            made ≡ not (set.contains table.old.keys self.old.pair)) }
+        ensures before { OnOk result
+            (self.new.before ≡ is_some (finite.get table.old.routes self.old.pair)) }
+        ensures behind { OnOk result (self.new.behind ≡ is_some self.old.other) }
+        ensures routes { OnOk result (table.new.routes ≡
+            put table.old.routes self.old.pair (route_in self.old.other)) }
+        ensures given { OnOk result
+            (route_in self.new.other ≡ finite.get table.old.routes self.old.pair) }
+        ensures pair { self.new.pair ≡ self.old.pair }
+        ensures refused { OnErr result (table.new.keys ≡ table.old.keys) }
+        ensures held { OnErr result (table.new.routes ≡ table.old.routes) }
+        ensures kept { OnErr result (self.new ≡ self.old) }
+    {
+        let pair = self.pair();
+        let number = self.shared_peer().number();
+        let (absent, mut other) = replace(&mut self.kept, Kept::Taken).without_route();
+        let behind = other.is_some();
+        let put = table.put(&pair, number, &mut other);
+        let before = other.is_some();
+        self.kept = absent.with_route(other);
+        let made = put?;
+        self.set_marks(Marks { before, behind });
+        Ok(made)
+    }
+}
