@@ -147,10 +147,11 @@ impl Pool {
         Ok(Items::sharing(items, alone))
     }
 
-    /// Keeps the room of items.
+    /// Keeps the room of items, unless there is as much already: a message that says nothing has none.
     #[inline(always)]
     pub(crate) fn keep_items(&mut self, items: Vec<Item>) {
-        if items.capacity() <= MOST_ITEMS {
+        let most = items.capacity();
+        if most > self.items.capacity() && most <= MOST_ITEMS {
             let mut emptied = items;
             emptied.clear();
             self.items = emptied;

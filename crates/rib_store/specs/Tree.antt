@@ -125,6 +125,10 @@ abbrev pub IsHung : {R : Type 0} → List Bool → Turn → Shape R → Shape R 
 IsHung {R} prefix side leaf old new =
     (key : Network) (route : Option R) → IsRooted key (Some route) Empty Empty leaf → turn_of prefix (way key) ≡ side → IsPlaced (way key) (Some route) old new
 
+-- the key that lies at the prefix is there and has this slot
+abbrev pub IsPlacedAt : {R : Type 0} → Network → Option (Option R) → Shape R → Shape R → Type 0
+IsPlacedAt prefix slot old new = (key : Network) → turn_of (way prefix) (way key) ≡ Here → IsPlaced (way key) slot old new
+
 -- a key is there, with what it had if it was one
 abbrev pub IsGrown : {R : Type 0} → List Bool → Shape R → Shape R → Type 0
 IsGrown key old new = IsPlaced key (kept (at old key)) old new

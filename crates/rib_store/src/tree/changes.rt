@@ -7,7 +7,7 @@ ghost use Rattle.ip_prefix.specs.Turns.{way, turn_of};
 ghost use Rattle.rib_store.specs.declared.tree.Slot.TheVariants.{Branch};
 ghost use Rattle.ip_prefix.specs.declared.turn.Turn.TheVariants.{Outside, Here, Left, Right};
 ghost use Rattle.rib_store.specs.Shape.{Empty, shape_of, leaf_slot, is_filled, is_routed, any_routed, IsLeaf, IsFork, IsNode, IsAtRoot, IsMarked};
-ghost use Rattle.rib_store.specs.Tree.{at, root, slot_of, kept, AreOf, IsOn, IsShaped, IsNearlyShaped, IsPut, IsPlaced, IsGrown, IsHung, IsRooted, IsRootedOver};
+ghost use Rattle.rib_store.specs.Tree.{at, root, slot_of, kept, AreOf, IsOn, IsShaped, IsNearlyShaped, IsPut, IsPlaced, IsPlacedAt, IsGrown, IsHung, IsRooted, IsRootedOver};
 ghost use Rattle.rib_store.specs.Slots.{route_found};
 
 use crate::tree::{Fork, Node, Slot, Tree};
@@ -280,8 +280,7 @@ fn put_beside<K: Packed, R: Drop>(
     }
     let fork = lone_fork(alloc)?;
     let leaf = leaf_with(K::of(key), route);
-    let below = mem::replace(tree, Tree::Empty);
-    put_fork(tree, K::of(&common), fork, leaf, below, side);
+    put_fork(tree, K::of(&common), fork, leaf, side);
     Ok(true)
 }
 
@@ -296,8 +295,7 @@ fn put_at_fork<K: Packed, R: Drop>(
     requires shaped { IsShaped (shape_of K.network tree.old) }
     requires marked { IsMarked tree.old }
     ensures made { IfOk result (λ made. made ≡ true) }
-    ensures placed { OnOk result ((key : Network) →
-        turn_of (way (K.network prefix)) (way key) ≡ Here → IsPlaced (way key) (Some route.old)
+    ensures placed { OnOk result (IsPlacedAt (K.network prefix) (Some route.old)
         (shape_of K.network tree.old) (shape_of K.network tree.new)) }
     ensures marked { OnOk result (IsMarked tree.new) }
     ensures routed { OnOk result
@@ -593,23 +591,23 @@ fn lone_fork<K: Packed, R: Drop>(alloc: Global) -> Result<Box<Fork<K, R>>, Alloc
     Ok(fork)
 }
 
-/// Puts a branch at the root, with a tree on a side of it, and a leaf on the other side.
+/// Puts a branch above the root, which lies on this side of it then, and a leaf on the other side.
 fn put_fork<K: Packed, R: Drop>(
     tree: &mut Tree<K, R>,
     prefix: K,
     fork: Box<Fork<K, R>>,
     leaf: Tree<K, R>,
-    below: Tree<K, R>,
     side: Turn,
 )
     requires leaf { IsMarked leaf }
-    requires below { IsMarked below }
+    requires below { IsMarked tree.old }
     ensures marked { IsMarked tree.new }
-    ensures routed { is_routed tree.new ≡ any_routed Branch leaf below }
+    ensures routed { is_routed tree.new ≡ any_routed Branch leaf tree.old }
     ensures rooted { IsRootedOver (K.network prefix) None side
-        (shape_of K.network leaf) (shape_of K.network below) (shape_of K.network tree.new) }
+        (shape_of K.network leaf) (shape_of K.network tree.old) (shape_of K.network tree.new) }
 {
     let mut fork = fork;
+    let below = mem::replace(tree, Tree::Empty);
     let (left, right) = match side {
         Turn::Left => (below, leaf),
         _ => (leaf, below),

@@ -43,13 +43,11 @@ returns-clause-placed g c =
     let shares : way top ≡ shared (way old) (way key) = ap way (above ∙ c.common-common.ensures) ∙ way-shared old key c.requires.family in
     let apart : turn_of (way top) (way key) ≡ Here → ⊥ = λ e. c.in_default.not-Here (cc) in
     let turn : side ≡ turn_of (way top) (way old) = c.turn-side.ensures ∙ (λ i. turn_of (way (sym above i)) (way old)) in
-    placed_over key top (way old) c.args.route.now None beside side c.requires.outside c.requires.root c.requires.shaped shares turn
-    (subst (λ t. IsRooted top None (chosen side beside beside (shape_of net t) beside) (chosen side (shape_of net t) (shape_of net t) beside (shape_of net t)) (shape_of net c.put_fork.new.tree))
-    c.replace-below-2.ensures.value c.put_fork.ensures.rooted)
+    placed_over key top (way old) c.args.route.now None beside side c.requires.outside c.requires.root c.requires.shaped shares turn c.put_fork.ensures.rooted
     (is_branch apart refl
     (subst (λ r. IsRooted key (Some r) Empty Empty beside) c.leaf_with-leaf.ensures.slot
     (subst (λ n. IsRooted n (Some (leaf_slot leaf)) Empty Empty beside) c.of-2.ensures (rooted_leaf net leaf c.of-2.result c.leaf_with-leaf.ensures.leaf))))
 
 pub returns-clause-routed : goal.returns-clause-routed
 returns-clause-routed g c =
-    c.put_fork.ensures.routed ∙ ap₂ (λ new t. new || is_routed t) c.leaf_with-leaf.ensures.routed c.replace-below-2.ensures.value
+    c.put_fork.ensures.routed ∙ ap (λ new. new || is_routed c.args.tree.now) c.leaf_with-leaf.ensures.routed
