@@ -9,7 +9,7 @@ ghost use Rattle.mrt_events.specs.SharedRoute.{AreOfOneRoute};
 ghost use Rattle.rib_player.specs.declared.pair.Pair.{Pair};
 ghost use Rattle.mrt_events.specs.declared.peer.Peer.{Peer};
 ghost use Rattle.mrt_events.specs.Peer.{peer_cmp};
-ghost use Rattle.rib_player.specs.History.{pair_cmp, Clear, where_true, item_effect, later, effect};
+ghost use Rattle.rib_player.specs.History.{pair_cmp, pair_of, Clear, where_true, item_effect, later, effect};
 ghost use Rattle.rib_player.specs.Store.{route_in};
 ghost use Rattle.rib_player.specs.Changes.{noted_effect, found, is_lost, or_absent, effect_of, items_effect, HasRoute};
 ghost use Rattle.rib_player.specs.Journal.{side_of, sides_of, pairs_in};
@@ -17,7 +17,6 @@ ghost use Rattle.rib_player.specs.Sides.{cleared_side, AreDistinct, IsStepFor};
 
 use crate::entry::Entry;
 use crate::numbered_peer::{NO_NUMBER, NumberedPeer};
-use crate::pair::Pair;
 use crate::stores::Marks;
 use crate::table::Table;
 use ip_prefix::Prefix;
@@ -41,21 +40,21 @@ pub(crate) struct Changes {
 }
 
 impl Changes {
-    /// Notes the route that the pair has then, or its absence.
+    /// Notes the route that the peer has to the prefix then, or its absence.
     fn note_route<S: PrefixStore<Rc<Route>>>(
         &mut self,
         table: &Table<S>,
-        pair: &Pair,
+        peer: &Peer,
+        prefix: &Prefix,
         route: Option<Rc<Route>>,
     ) -> Result<(), AllocError>
         ensures { OnOk result ((q : Pair) → noted_effect self.new q
-            ≡ later
-            (where_true (eq_by_cmp pair_cmp q pair.now) (effect_of (Some (route_in route)) false))
-            (noted_effect self.old q)) }
+            ≡ later (where_true (eq_by_cmp pair_cmp q (pair_of peer.now prefix.now))
+            (effect_of (Some (route_in route)) false)) (noted_effect self.old q)) }
     {
-        if !self.lost.contains(&pair.peer) {
-            let peer = shared_peer(self.alloc, table, self.entries.last(), &pair.peer)?;
-            let entry = Entry::new(self.alloc, peer, &pair.prefix, route)?;
+        if !self.lost.contains(peer) {
+            let shared = shared_peer(self.alloc, table, self.entries.last(), peer)?;
+            let entry = Entry::new(self.alloc, shared, prefix, route)?;
             self.entries.push(entry)?;
         }
         Ok(())
@@ -95,19 +94,10 @@ impl Changes {
     {
         match item {
             Item::Announce(peer, prefix, route) => {
-                let pair = Pair {
-                    peer: *peer,
-                    prefix: *prefix,
-                };
-                self.note_route(table, &pair, Some(known.known_if_short(peer, route)?))
+                let known = known.known_if_short(peer, route)?;
+                self.note_route(table, peer, prefix, Some(known))
             }
-            Item::Withdraw(peer, prefix) => {
-                let pair = Pair {
-                    peer: *peer,
-                    prefix: *prefix,
-                };
-                self.note_route(table, &pair, None)
-            }
+            Item::Withdraw(peer, prefix) => self.note_route(table, peer, prefix, None),
             Item::State(peer, old, new) => {
                 if *old == ESTABLISHED && *new != ESTABLISHED {
                     self.note_loss(*peer)?;
@@ -148,11 +138,7 @@ impl Changes {
     {
         match item {
             Item::Announce(peer, prefix, _) => {
-                let pair = Pair {
-                    peer: *peer,
-                    prefix: *prefix,
-                };
-                self.note_route(table, &pair, Some(route.clone()?))
+                self.note_route(table, peer, prefix, Some(route.clone()?))
             }
             Item::Withdraw(_, _) => unreachable!(),
             Item::State(_, _, _) => unreachable!(),

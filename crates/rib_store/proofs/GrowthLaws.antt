@@ -143,6 +143,12 @@ at_outside (Rooted prefix slot l r) b key e out =
     let same : way prefix ≡ b = cc in
     chosen_at (turn_of (way prefix) key) None (slot_of slot) (at l key) (at r key) None Outside (ap (λ x. turn_of x key) same ∙ out) refl
 
+-- what two ways share covers both
+pub shared_covers : (b key : List Bool) → turn_of b key ≡ Outside → (turn_of (shared b key) b ≡ Outside → ⊥) × (turn_of (shared b key) key ≡ Outside → ⊥)
+shared_covers b key out =
+    let p = parts b key out in
+    (not_outside _ p.bit p.below, elim p.key [ inl here ↦ here_inside _ here | inr there ↦ not_outside _ (not p.bit) there ])
+
 -- what stands on the other side of a new node: nothing, where the node is the key, or the key
 pub data Beside {R : Type 0} (key above : Network) (route : Option R) (slot : Option (Option R)) (beside : Shape R) : Type 0 where
   is_key : turn_of (way above) (way key) ≡ Here → slot ≡ Some route → beside ≡ Empty → Beside key above route slot beside

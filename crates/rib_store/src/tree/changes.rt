@@ -270,8 +270,8 @@ fn put_beside<K: Packed, R: Drop>(
     ensures kept { OnErr result (route.new ≡ route.old) }
 {
     let common = prefix.common(key);
-    let side = common.turn(prefix);
-    if let Turn::Here = common.turn(key) {
+    let side = common.turn_covered(prefix);
+    if let Turn::Here = common.turn_covered(key) {
         let mut node = lone(alloc)?;
         node.slot = slot_in(leaf_with(K::of(key), route));
         let below = mem::replace(tree, Tree::Empty);

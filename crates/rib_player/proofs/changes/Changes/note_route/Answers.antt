@@ -10,10 +10,10 @@ use Rattle.rib_player.proofs.changes.Changes.note_route.Goals as goal
 pub returns-in_ok-push : goal.returns-in_ok-push
 returns-in_ok-push g c = λ q.
     let old = c.args.self.now in
-    let pair = c.args.pair.now in
+    let pair = pair_of c.args.peer.now c.args.prefix.now in
     let sides = sides_of old.entries.items in
     let side : side_of c.in_ok-entry.entry ≡ (pair, route_in c.args.route) =
-    ap side_of c.in_ok-entry.ensures ∙ ap (λ peer. (pair_of peer pair.prefix, route_in c.args.route)) c.in_ok-peer.ensures in
+    ap side_of c.in_ok-entry.ensures ∙ ap (λ peer. (pair_of peer c.args.prefix.now, route_in c.args.route)) c.in_ok-shared.ensures in
     let pushed : sides_of c.push.new.self.items ≡ sides ++ (pair, route_in c.args.route) ∷ [] =
     ap sides_of c.in_ok-push.ensures.items ∙ map-append side_of old.entries.items (c.in_ok-entry.entry ∷ []) ∙ ap (λ (s : Side). sides ++ s ∷ []) side in
     ap (λ ss. effect_of (found ss q) (is_lost old.lost.keys q)) pushed
@@ -22,4 +22,4 @@ returns-in_ok-push g c = λ q.
 pub returns-else-not-contains : goal.returns-else-not-contains
 returns-else-not-contains g c =
     let old = c.args.self.now in
-    λ q. noted_effect-lost (sides_of old.entries.items) old.lost.keys c.args.pair.now (effect_of (Some (route_in c.args.route)) false) q (sym c.contains.ensures ∙ c.if-not-contains.false)
+    λ q. noted_effect-lost (sides_of old.entries.items) old.lost.keys (pair_of c.args.peer.now c.args.prefix.now) (effect_of (Some (route_in c.args.route)) false) q (sym c.contains.ensures ∙ c.if-not-contains.false)
