@@ -80,6 +80,8 @@ KNOWN = {
     'steps behind a floor': (0, 0),
     'steps of announcements and withdrawals by turns': (0, 0),
     'steps of routes that come again': (0, 0),
+    'the first of two peers goes': (20, 6),
+    'the second of two peers goes': (20, 6),
     'a script that prints a large table': (153, 10),
 }
 

@@ -283,6 +283,25 @@ def forgettings():
                      at(2_499, 2_399, 301, 1), at(2_399, 2_399, 301, 1), at(3_000, 2_399, 301, 0))
 
 
+# Two new peers of which one goes.
+
+def going(peer, stays, title):
+    """The first two peers of a player: one loses its session, and its steps are forgotten without memory, also where
+    a request of the first event was done without."""
+    event = f'play {announced(102, WIDE, NEW)}, {announced(103, WIDE, OTHER_NEW)}'
+    loss = f'play ={peer} 6 1', 'dropped 0'
+    forgotten = ('alone', 'alone'), ('forget 0', 'forgot 2'), *Seen(2, 0, 0, NOTHING, *stays, floor=2).lines()
+    refused = ('alone', 'alone'), ('forget 0', 'forgot 1'), *Seen(1, 0, 0, NOTHING, floor=1).lines()
+    return row('player', title, [('mark', 'marked'), (event, 'dropped 0'), loss, *forgotten],
+               [('mark', 'marked'), (event, 'refused'), loss, *refused])
+
+
+def goings():
+    """Each of both goes."""
+    yield going(NEW, (NOTHING, Peer(1, 1, 103)), 'the first of two peers goes')
+    yield going(OTHER_NEW, (Peer(1, 1, 102), NOTHING), 'the second of two peers goes')
+
+
 def large_table():
     """A script that prints a table of more than a hundred routes."""
     prefixes = range(1, 102)
@@ -297,5 +316,5 @@ def large_table():
 
 def rows_of_steps():
     """All these rows."""
-    return [*(course.row() for course in courses()), *(forgetting.row() for forgetting in forgettings()),
+    return [*(course.row() for course in courses()), *(forgetting.row() for forgetting in forgettings()), *goings(),
             large_table()]
