@@ -5,11 +5,12 @@
 
 Each edit that must fail still applies, and is named by the file and the function that it turns, in
 which its text lies, those of inner functions too, which the gate doesn't try; `rt fmt` changes
-nothing; tests stand in a crate of their own; links between documents lead somewhere, and the edits
-that docs/proved.md names are there; the texts of each example are there; the files of rows and their
-counts are named; the version is the same wherever it is named.
+nothing; tests stand in a crate of their own; no two files of a crate import each other; links between
+documents lead somewhere, and the edits that docs/proved.md names are there; the texts of each example
+are there; the files of rows and their counts are named; the version is the same wherever it is named.
 The status is 1 where something is wrong, and each fault is told on a line of its own.
 """
+import itertools
 import re
 import shutil
 import subprocess
@@ -115,6 +116,35 @@ def faults_of_crates():
                     yield file, 'tests of a library stand in library_tests or play_tests'
 
 
+def paths_of(words):
+    """The paths that a `use` names, those of its groups one by one."""
+    while group := re.search(r'([\w:]*)\{([^{}]*)\}', words):
+        parts = [group[1] + it.strip() for it in group[2].split(',') if it.strip()]
+        words = words[:group.start()] + ', '.join(parts) + words[group.end():]
+    return words.split(', ')
+
+
+def imports_of(module, text, modules):
+    """The modules of its crate that a file imports from. What it hands out of others isn't imported."""
+    for words in re.findall(r'^ *use ((?:crate|super)\b[^;]*);', text, re.M):
+        for parts in (path.split('::') for path in paths_of(words)):
+            rises = parts.count('super')
+            whole = [*module.split('::')[:-rises], *parts[rises:]] if rises else parts[1:]
+            fronts = {'::'.join(whole[:size]) for size in range(1, len(whole) + 1)}
+            yield max(fronts & modules, key=len, default=None)
+
+
+def faults_of_imports():
+    """The files of a crate that import each other."""
+    for crate in sorted((TOP / 'crates').iterdir()):
+        files = {'::'.join(it.relative_to(crate / 'src').with_suffix('').parts): it
+                 for it in sorted((crate / 'src').rglob('*.rt'))}
+        imports = {name: {*imports_of(name, file.read_text(), files.keys())} for name, file in files.items()}
+        for one, other in itertools.combinations(files, 2):
+            if one in imports[other] and other in imports[one]:
+                yield files[one], f'it and {files[other].relative_to(crate)} import each other'
+
+
 def anchors_of(document):
     """The anchors of a document's headings, as its readers make them."""
     for heading in re.findall(r'^#+ (.*)$', document.read_text(), re.M):
@@ -168,8 +198,8 @@ def faults_of_version():
 def main():
     found = [
         (place, fault)
-        for faults in (faults_of_edits, faults_of_named_edits, faults_of_format, faults_of_crates, faults_of_links,
-                       faults_of_examples, faults_of_rows, faults_of_version)
+        for faults in (faults_of_edits, faults_of_named_edits, faults_of_format, faults_of_crates, faults_of_imports,
+                       faults_of_links, faults_of_examples, faults_of_rows, faults_of_version)
         for place, fault in faults()
     ]
     for place, fault in found:

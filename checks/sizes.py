@@ -17,7 +17,6 @@ NOTED = {
     'functions of more than five parameters': 10,
     'clauses of more than 160 characters': 43,
     'files of more than 320 lines': 5,
-    'pairs of files that import each other': 5,
 }
 # Programs and libraries that only check or measure.
 CHECKS = ('row_parts', 'rows', 'store_bench', 'test_devices', 'workloads')
@@ -27,16 +26,15 @@ CLAUSE = re.compile(r'\b(?:requires|ensures)\b[^{]*\{((?:[^{}]|\{[^{}]*\})*)\}')
 
 
 def files_of_product():
-    """The files of the program and its libraries, by crate."""
+    """The files of the program and its libraries."""
     for crate in sorted((TOP / 'crates').iterdir()):
         if crate.name not in CHECKS and not crate.name.endswith('_tests'):
-            yield crate.name, sorted((crate / 'src').rglob('*.rt'))
+            yield from sorted((crate / 'src').rglob('*.rt'))
 
 
 def texts():
-    for _, files in files_of_product():
-        for file in files:
-            yield file.relative_to(TOP), file.read_text()
+    for file in files_of_product():
+        yield file.relative_to(TOP), file.read_text()
 
 
 def parameters_behind(text, start):
@@ -77,26 +75,8 @@ def long_files():
     return [f'{file}: {text.count(chr(10))} lines' for file, text in texts() if text.count('\n') > 320]
 
 
-def imports_of(module, text, modules):
-    """The other modules of a crate that this one imports."""
-    for root, path in re.findall(r'^use (crate|super)::([^;]*);', text, re.M):
-        whole = path if root == 'crate' else '::'.join([*module.split('::')[:-1], path])
-        yield from (it for it in modules if it != module and (whole == it or whole.startswith(it + '::')))
-
-
-def mutual_imports():
-    found = []
-    for crate, files in files_of_product():
-        names = {str(it.relative_to(TOP / 'crates' / crate / 'src'))[:-3].replace('/', '::'): it for it in files}
-        imports = {name: set(imports_of(name, file.read_text(), names)) for name, file in names.items()}
-        found += [f'{crate}: {one} and {other}' for one in imports for other in imports[one]
-                  if one < other and one in imports[other]]
-    return found
-
-
 def main():
-    found = zip(NOTED, (functions_without_a_verb(), functions_of_many_parameters(), long_clauses(), long_files(),
-                        mutual_imports()))
+    found = zip(NOTED, (functions_without_a_verb(), functions_of_many_parameters(), long_clauses(), long_files()))
     differs = False
     for what, places in found:
         if '--list' in sys.argv:

@@ -1,8 +1,8 @@
 -- How many numbers octets hold.
 use Rattle.std.proofs.Common.{◌≡◌, ℕ, ◌+◌, ◌*◌, ◌/◌, ◌%◌, List, length, ap, ◌∙◌, arith}
 use Rattle.ip_prefix.specs.Sequences.{SpellsAll}
-use Rattle.bgp_paths.specs.declared.path.AsWidth.{AsWidth}
-use Rattle.bgp_paths.specs.declared.path.AsWidth.TheVariants.{Two, Four}
+use Rattle.bgp_paths.specs.declared.numbers.AsWidth.{AsWidth}
+use Rattle.bgp_paths.specs.declared.numbers.AsWidth.TheVariants.{Two, Four}
 use Rattle.bgp_paths.specs.Number.{octets_at, SpellsAsn}
 use Rattle.bgp_paths.proofs.OneFront.{length-numbers}
 

@@ -1,8 +1,8 @@
 -- The longest front of hops that has a weight.
 use Rattle.std.proofs.Common.{◌≡◌, ℕ, zero, suc, ◌+◌, ◌-◌, ◌<◌, ◌≤◌, List, [], ◌∷◌, ◌++◌, length, take, refl, ap, sym, subst, ◌∙◌, arith}
 use Rattle.octet_forms.proofs.Lists.{append_parts}
-use Rattle.bgp_paths.specs.declared.path.SegmentKind.{SegmentKind}
-use Rattle.bgp_paths.specs.declared.path.SegmentKind.TheVariants.{AsSet, AsSequence, ConfedSequence, ConfedSet}
+use Rattle.bgp_paths.specs.declared.segment.SegmentKind.{SegmentKind}
+use Rattle.bgp_paths.specs.declared.segment.SegmentKind.TheVariants.{AsSet, AsSequence, ConfedSequence, ConfedSet}
 use Rattle.bgp_paths.specs.Merge.{Hop, single_number, hops_by, hop_weight, weight_of, IsLongest}
 use Rattle.bgp_paths.proofs.Weights.{weight_by, weight_of-cons, light}
 

@@ -3,9 +3,9 @@ use Rattle.std.proofs.Common.{◌≡◌, ℕ, zero, suc, ◌+◌, ◌-◌, ◌<�
 use Rattle.std.specs.Prelude.{◌==◌}
 use Rattle.std.proofs.lemmas.Bool.{cond-true, cond-false, cases_lt}
 use Rattle.std.proofs.lemmas.List.{map-append, length-take-le}
-use Rattle.bgp_paths.specs.declared.path.SegmentKind.{SegmentKind}
-use Rattle.bgp_paths.specs.declared.path.SegmentKind.TheVariants.{AsSet, AsSequence, ConfedSequence, ConfedSet}
-use Rattle.bgp_paths.specs.declared.path.Segment.{Segment}
+use Rattle.bgp_paths.specs.declared.segment.SegmentKind.{SegmentKind}
+use Rattle.bgp_paths.specs.declared.segment.SegmentKind.TheVariants.{AsSet, AsSequence, ConfedSequence, ConfedSet}
+use Rattle.bgp_paths.specs.declared.segment.Segment.{Segment}
 use Rattle.bgp_paths.specs.Merge.{Hop, hops_by, hops_from, hop_weight, weight_of, joined_hops, gathered_hops, segments_of}
 use Rattle.bgp_paths.proofs.Weights.{weight_by, cut_fits, segment_weight, total, weight-hops_by, total-append}
 use Rattle.bgp_paths.proofs.Fronts.{hops_before, front, front-append, front_cut}

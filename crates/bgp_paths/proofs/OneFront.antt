@@ -7,11 +7,11 @@ use Rattle.ip_prefix.specs.Fronts.{IsCode}
 use Rattle.octet_forms.proofs.Lists.{append_parts}
 use Rattle.octet_forms.proofs.Sequences.{one_list}
 use Rattle.octet_forms.proofs.Sequences.{length_together}
-use Rattle.bgp_paths.specs.declared.path.AsWidth.{AsWidth}
-use Rattle.bgp_paths.specs.declared.path.AsWidth.TheVariants.{Two, Four}
-use Rattle.bgp_paths.specs.declared.path.SegmentKind.{SegmentKind}
-use Rattle.bgp_paths.specs.declared.path.SegmentKind.TheVariants.{AsSet, AsSequence, ConfedSequence, ConfedSet}
-use Rattle.bgp_paths.specs.declared.path.Segment.{Segment}
+use Rattle.bgp_paths.specs.declared.numbers.AsWidth.{AsWidth}
+use Rattle.bgp_paths.specs.declared.numbers.AsWidth.TheVariants.{Two, Four}
+use Rattle.bgp_paths.specs.declared.segment.SegmentKind.{SegmentKind}
+use Rattle.bgp_paths.specs.declared.segment.SegmentKind.TheVariants.{AsSet, AsSequence, ConfedSequence, ConfedSet}
+use Rattle.bgp_paths.specs.declared.segment.Segment.{Segment}
 use Rattle.bgp_paths.specs.Number.{bits_at, octets_at, limit_at, SpellsAsn}
 use Rattle.bgp_paths.specs.declared.path.AsPath.{AsPath}
 use Rattle.bgp_paths.specs.Path.{kind_code, SpellsPath, SpellsSegment}

@@ -2,9 +2,9 @@
 -- One segment more of a path.
 use Rattle.std.specs.Prelude.{◌≡◌, ℕ, List, [], ◌∷◌, ◌++◌}
 use Rattle.ip_prefix.specs.Sequences.{SpellsAll}
-use Rattle.bgp_paths.specs.declared.path.AsWidth.{AsWidth}
-use Rattle.bgp_paths.specs.declared.path.SegmentKind.{SegmentKind}
-use Rattle.bgp_paths.specs.declared.path.Segment.{Segment}
+use Rattle.bgp_paths.specs.declared.numbers.AsWidth.{AsWidth}
+use Rattle.bgp_paths.specs.declared.segment.SegmentKind.{SegmentKind}
+use Rattle.bgp_paths.specs.declared.segment.Segment.{Segment}
 use Rattle.bgp_paths.specs.Number.{SpellsAsn}
 
 -- these segments are those, with one behind them of the kind and of the numbers that the octets spell

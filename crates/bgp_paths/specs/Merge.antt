@@ -1,9 +1,9 @@
 -- A path with two-octet AS numbers joined with the four-octet one that was sent beside it (RFC 6793, section 4.2.3).
 use Rattle.std.specs.Prelude.{◌≡◌, ℕ, suc, ◌-◌, ◌<◌, ◌≤◌, ◌==◌, if◌then◌else◌, List, [], ◌∷◌, ◌++◌, length, map}
 use Rattle.std.specs.List.{flat_map, sum_by}
-use Rattle.bgp_paths.specs.declared.path.SegmentKind.{SegmentKind}
-use Rattle.bgp_paths.specs.declared.path.SegmentKind.TheVariants.{AsSet, AsSequence, ConfedSequence, ConfedSet}
-use Rattle.bgp_paths.specs.declared.path.Segment.{Segment}
+use Rattle.bgp_paths.specs.declared.segment.SegmentKind.{SegmentKind}
+use Rattle.bgp_paths.specs.declared.segment.SegmentKind.TheVariants.{AsSet, AsSequence, ConfedSequence, ConfedSet}
+use Rattle.bgp_paths.specs.declared.segment.Segment.{Segment}
 use Rattle.bgp_paths.specs.declared.path.AsPath.{AsPath}
 
 -- what counts by itself in a path, a number of a sequence or a whole segment of another kind, and the place of its segment in the path

@@ -1,8 +1,8 @@
 -- How numbers are sent: the most significant octet first.
 use Rattle.std.specs.Prelude.{◌≡◌, ℕ, ◌<◌, ◌^◌, List}
 use Rattle.std.specs.Int.{Width, w16, w32, to_be_bytes}
-use Rattle.bgp_paths.specs.declared.path.AsWidth.{AsWidth}
-use Rattle.bgp_paths.specs.declared.path.AsWidth.TheVariants.{Two, Four}
+use Rattle.bgp_paths.specs.declared.numbers.AsWidth.{AsWidth}
+use Rattle.bgp_paths.specs.declared.numbers.AsWidth.TheVariants.{Two, Four}
 
 -- the octets of a number of so many bits, which is below a limit
 pub record SpellsNumber (bits : Width) (limit : ℕ) (n : ℕ) (octets : List ℕ) : Type 0 where

@@ -1,9 +1,9 @@
 -- The printed texts of paths and communities.
 use Rattle.std.specs.Prelude.{ℕ, ◌^◌, ◌/◌, ◌%◌, ◌==◌, if◌then◌else◌, List, [], ◌∷◌, ◌++◌, map, decimal, codes}
 use Rattle.std.specs.List.{flat_map, join_with_byte}
-use Rattle.bgp_paths.specs.declared.path.SegmentKind.{SegmentKind}
-use Rattle.bgp_paths.specs.declared.path.SegmentKind.TheVariants.{AsSet, AsSequence, ConfedSequence, ConfedSet}
-use Rattle.bgp_paths.specs.declared.path.Segment.{Segment}
+use Rattle.bgp_paths.specs.declared.segment.SegmentKind.{SegmentKind}
+use Rattle.bgp_paths.specs.declared.segment.SegmentKind.TheVariants.{AsSet, AsSequence, ConfedSequence, ConfedSet}
+use Rattle.bgp_paths.specs.declared.segment.Segment.{Segment}
 use Rattle.bgp_paths.specs.declared.path.AsPath.{AsPath}
 use Rattle.bgp_paths.specs.declared.text.Marks.{Marks}
 use Rattle.ip_prefix.specs.declared.text.TheConstants.{COLON}

@@ -9,12 +9,14 @@ mod numbers;
 mod path;
 mod path_reader;
 mod replacing;
+mod segment;
 mod text;
 
 pub use fault::WireFault;
 pub use laws::{merge_keeps_the_weight, one_merge, one_path, path_numbers, text_marks};
 pub use merge::merge_paths;
-pub use numbers::fill_numbers;
-pub use path::{AsNumbers, AsPath, AsWidth, Segment, SegmentKind, Segments};
+pub use numbers::{AsWidth, fill_numbers};
+pub use path::{AsPath, Segments};
 pub use replacing::{copy_numbers, copy_path};
+pub use segment::{AsNumbers, Segment, SegmentKind};
 pub use text::{append_communities, put_communities};

@@ -6,8 +6,9 @@ ghost use Rattle.bgp_paths.specs.Merge.{IsMerge, IsLongest, path_weight, weight_
 ghost use Rattle.bgp_paths.specs.Merge.{Hop, hops_by, hops_from, segments_of, plain_segments};
 ghost use Rattle.bgp_paths.specs.declared.path.AsPath.{AsPath};
 
-use crate::path::{AsNumbers, AsPath, Segment, SegmentKind, Segments};
+use crate::path::{AsPath, Segments};
 use crate::path_reader::fit;
+use crate::segment::{AsNumbers, Segment, SegmentKind};
 use std::alloc::{AllocError, Global};
 
 /// AS_PATH joined with AS4_PATH (RFC 6793, section 4.2.3). Segments of a confederation in AS4_PATH

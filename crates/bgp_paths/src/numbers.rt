@@ -7,9 +7,17 @@ ghost use Rattle.bgp_paths.specs.Number.{SpellsAsn, octets_at};
 ghost use Rattle.bgp_paths.specs.Readers.{Refuses};
 
 use crate::fault::WireFault;
-use crate::path::AsWidth;
 use byteorder::{BigEndian, ByteOrder};
 use std::alloc::AllocError;
+
+/// How many octets an AS number takes.
+#[derive(Clone, Copy, Debug, PartialEq, Eq)]
+pub enum AsWidth {
+    /// Two, as before RFC 6793.
+    Two,
+    /// Four (RFC 6793).
+    Four,
+}
 
 impl AsWidth {
     /// How many octets a number takes.

@@ -3,120 +3,15 @@
 ghost use Rattle.std.specs.Prelude.{◌≡◌, [], OnOk, IfErr};
 ghost use Rattle.ip_prefix.specs.Sequences.{SpellsAll};
 ghost use Rattle.bgp_paths.specs.Segments.{no_path};
-ghost use Rattle.bgp_paths.specs.Number.{SpellsAsn};
 ghost use Rattle.bgp_paths.specs.Path.{SpellsSegment, SpellsPath};
 ghost use Rattle.bgp_paths.specs.Readers.{Refuses};
 
 use crate::fault::WireFault;
-use crate::numbers::fill_numbers;
+use crate::numbers::AsWidth;
 use crate::path_reader::{fill_segments, fit};
+use crate::segment::Segment;
 use std::alloc::{AllocError, Global};
 use std::marker::Model;
-
-/// For how many numbers more than it has a segment has room at most.
-pub(crate) const MOST_SPARE: u8 = 8;
-
-/// How many octets an AS number takes.
-#[derive(Clone, Copy, Debug, PartialEq, Eq)]
-pub enum AsWidth {
-    /// Two, as before RFC 6793.
-    Two,
-    /// Four (RFC 6793).
-    Four,
-}
-
-/// The kinds of segments of a path (RFC 4271, section 4.3; RFC 5065, section 3).
-#[derive(Clone, Copy, Debug, PartialEq, Eq)]
-pub enum SegmentKind {
-    /// AS numbers in no order.
-    AsSet,
-    /// AS numbers in order.
-    AsSequence,
-    /// AS numbers of a confederation's members, in order.
-    ConfedSequence,
-    /// AS numbers of a confederation's members, in no order.
-    ConfedSet,
-}
-
-/// The AS numbers of a segment.
-#[derive(Debug, Drop)]
-pub struct AsNumbers {
-    numbers: Vec<u32>,
-}
-
-impl Model for AsNumbers {
-    ghost use Rattle.std.specs.Prelude.{ℕ, List};
-
-    ghost Value = { List ℕ };
-
-    ghost view = { λ a. a.numbers.items };
-}
-
-impl Clone for AsNumbers {
-    ghost is_clone = { λ numbers copy. copy ≡ numbers };
-
-    fn clone(&self) -> Result<AsNumbers, AllocError> {
-        let numbers = Vec::from_slice(*self.numbers.allocator(), self.as_slice())?;
-        Ok(AsNumbers::from_vec(numbers))
-    }
-}
-
-impl AsNumbers {
-    /// These numbers.
-    #[inline]
-    pub fn from_vec(numbers: Vec<u32>) -> AsNumbers
-        ensures { result ≡ numbers.items }
-    {
-        AsNumbers { numbers }
-    }
-
-    /// The numbers as a vector.
-    #[inline]
-    pub fn into_vec(self) -> Vec<u32>
-        ensures { result.items ≡ self }
-    {
-        let AsNumbers { numbers: kept } = self;
-        kept
-    }
-
-    /// The numbers in order.
-    #[inline]
-    pub fn as_slice(&self) -> &[u32]
-        ensures { result.now ≡ self.now }
-    {
-        self.numbers.as_slice()
-    }
-
-    /// Makes them those that the octets are. Refused, nothing is said of them.
-    #[inline(always)]
-    pub(crate) fn fill(&mut self, width: AsWidth, octets: &[u8]) -> Result<(), WireFault>
-        ensures filled { OnOk result (SpellsAll (SpellsAsn width) self.new octets.now) }
-        ensures refused { IfErr result (Refuses (SpellsAll (SpellsAsn width)) octets.now) }
-    {
-        fill_numbers(&mut self.numbers, width, octets, MOST_SPARE)
-    }
-}
-
-/// A segment of a path.
-#[derive(Debug, Drop)]
-pub struct Segment {
-    /// Its numbers.
-    pub numbers: AsNumbers,
-    /// Its kind.
-    pub kind: SegmentKind,
-}
-
-impl Clone for Segment {
-    ghost is_clone = { λ segment copy. copy ≡ segment };
-
-    fn clone(&self) -> Result<Segment, AllocError> {
-        let numbers = self.numbers.clone()?;
-        Ok(Segment {
-            numbers,
-            kind: self.kind,
-        })
-    }
-}
 
 /// The segments of a path.
 #[derive(Debug, Drop)]
@@ -126,7 +21,7 @@ pub struct Segments {
 
 impl Model for Segments {
     ghost use Rattle.std.specs.Prelude.{List};
-    ghost use Rattle.bgp_paths.specs.declared.path.Segment.{Segment};
+    ghost use Rattle.bgp_paths.specs.declared.segment.Segment.{Segment};
 
     ghost Value = { List Segment };
 

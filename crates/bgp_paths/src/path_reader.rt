@@ -10,7 +10,8 @@ ghost use Rattle.bgp_paths.specs.Readers.{Finds, Refuses};
 ghost use Rattle.bgp_paths.specs.Appending.{AppendsSegment};
 
 use crate::fault::WireFault;
-use crate::path::{AsNumbers, AsWidth, Segment, SegmentKind};
+use crate::numbers::AsWidth;
+use crate::segment::{AsNumbers, Segment, SegmentKind};
 use std::alloc::Global;
 
 /// The type of a set (RFC 4271, section 4.3).

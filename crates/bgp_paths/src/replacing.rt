@@ -3,8 +3,9 @@
 ghost use Rattle.std.specs.Prelude.{◌≡◌, ◌≤◌, ◌+◌, ◌++◌, ◌∷◌, [], OnOk, IfOk, length, take, vec_len};
 
 use crate::numbers::make_room;
-use crate::path::{AsNumbers, AsPath, MOST_SPARE, Segment, Segments};
+use crate::path::{AsPath, Segments};
 use crate::path_reader::fit;
+use crate::segment::{AsNumbers, MOST_SPARE, Segment};
 use std::alloc::{AllocError, Global};
 use std::mem;
 

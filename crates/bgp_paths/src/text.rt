@@ -8,7 +8,8 @@ ghost use Rattle.ip_prefix.specs.Written.{IsWritten, ended_words};
 ghost use Rattle.octet_text.specs.declared.cursor.TheConstants.{SPACE};
 ghost use Rattle.bgp_paths.specs.Printed.{StillBegins};
 
-use crate::path::{AsPath, Segment, SegmentKind};
+use crate::path::AsPath;
+use crate::segment::{Segment, SegmentKind};
 use ip_prefix::{COLON, SPACE, Text, WORD_ROOM, Word, put_octets, write_ended_pair};
 use std::alloc::AllocError;
 

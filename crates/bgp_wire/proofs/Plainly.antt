@@ -5,8 +5,8 @@ use Rattle.ip_prefix.specs.Address.{Address}
 use Rattle.bgp_wire.specs.declared.attrs.Attrs.{Attrs}
 use Rattle.bgp_wire.specs.declared.framing.TheConstants.{NEXT_HOP}
 use Rattle.bgp_wire.specs.declared.parts.UpdateParts.{UpdateParts}
-use Rattle.bgp_paths.specs.declared.path.AsWidth.{AsWidth}
-use Rattle.bgp_paths.specs.declared.path.AsWidth.TheVariants.{Two, Four}
+use Rattle.bgp_paths.specs.declared.numbers.AsWidth.{AsWidth}
+use Rattle.bgp_paths.specs.declared.numbers.AsWidth.TheVariants.{Two, Four}
 use Rattle.bgp_wire.specs.Attribute.{Attribute, first_value}
 use Rattle.bgp_wire.specs.Content.{Says, SpellsRibAttrs}
 use Rattle.bgp_wire.specs.Parts.{SpellsParts}

@@ -2,8 +2,8 @@
 use Rattle.std.specs.Prelude.{◌≡◌, ◌⊎◌, ◌==◌, ℕ, Bool, true, false, not, if◌then◌else◌, List, Option, Some, None}
 use Rattle.bgp_wire.specs.declared.as4.TheConstants.{AS_TRANS}
 use Rattle.bgp_wire.specs.declared.framing.TheConstants.{AS_PATH, AGGREGATOR, AS4_PATH, AS4_AGGREGATOR}
-use Rattle.bgp_paths.specs.declared.path.AsWidth.{AsWidth}
-use Rattle.bgp_paths.specs.declared.path.AsWidth.TheVariants.{Two, Four}
+use Rattle.bgp_paths.specs.declared.numbers.AsWidth.{AsWidth}
+use Rattle.bgp_paths.specs.declared.numbers.AsWidth.TheVariants.{Two, Four}
 use Rattle.bgp_paths.specs.declared.path.AsPath.{AsPath}
 use Rattle.bgp_wire.specs.declared.attrs.Aggregator.{Aggregator}
 use Rattle.bgp_wire.specs.Attribute.{Attribute, first_value}

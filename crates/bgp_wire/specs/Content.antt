@@ -4,7 +4,7 @@ use Rattle.ip_prefix.specs.declared.addr.Family.{Family}
 use Rattle.ip_prefix.specs.Address.{Address}
 use Rattle.ip_prefix.specs.Sequences.{SpellsAll}
 use Rattle.bgp_wire.specs.declared.framing.TheConstants.{ORIGIN, NEXT_HOP, MULTI_EXIT_DISC, LOCAL_PREF, ATOMIC_AGGREGATE, COMMUNITIES, MP_REACH_NLRI}
-use Rattle.bgp_paths.specs.declared.path.AsWidth.{AsWidth}
+use Rattle.bgp_paths.specs.declared.numbers.AsWidth.{AsWidth}
 use Rattle.bgp_wire.specs.declared.attrs.Attrs.{Attrs}
 use Rattle.bgp_paths.specs.Number.{SpellsWord}
 use Rattle.bgp_wire.specs.Attribute.{Attribute, SpellsAttributes, first_value, repeats}

@@ -2,7 +2,7 @@
 -- How octets begin with an address family and its use, and attributes with a next hop of their own.
 use Rattle.std.specs.Prelude.{◌≡◌, ℕ, ◌<◌, List, ◌++◌, length, Option, Some, None}
 use Rattle.ip_prefix.specs.Address.{Address}
-use Rattle.bgp_paths.specs.declared.path.AsWidth.{AsWidth}
+use Rattle.bgp_paths.specs.declared.numbers.AsWidth.{AsWidth}
 use Rattle.bgp_wire.specs.declared.next_hop.TheConstants.{FAMILY_SIZE}
 use Rattle.bgp_wire.specs.declared.reach.Scope.{Scope}
 use Rattle.bgp_wire.specs.declared.reach.Scope.TheVariants.{Unicast, Another}

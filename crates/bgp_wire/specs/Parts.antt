@@ -1,10 +1,10 @@
 -- Private.
 -- An UPDATE in parts.
 use Rattle.std.specs.Prelude.{◌≡◌, ℕ, List, [], Option, None}
-use Rattle.bgp_paths.specs.declared.path.AsWidth.{AsWidth}
+use Rattle.bgp_paths.specs.declared.numbers.AsWidth.{AsWidth}
 use Rattle.bgp_wire.specs.declared.message.Message.{Message}
 use Rattle.bgp_wire.specs.declared.message.Message.TheVariants as messages
-use Rattle.bgp_wire.specs.declared.message.Update.{Update}
+use Rattle.bgp_wire.specs.declared.parts.Update.{Update}
 use Rattle.bgp_wire.specs.declared.parts.UpdateParts.{UpdateParts}
 use Rattle.bgp_wire.specs.declared.parts.MessageKind.{MessageKind}
 use Rattle.bgp_wire.specs.declared.parts.MessageKind.TheVariants as kinds

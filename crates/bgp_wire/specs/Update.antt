@@ -5,11 +5,11 @@ use Rattle.ip_prefix.specs.declared.addr.Family.TheVariants.{V4}
 use Rattle.ip_prefix.specs.Network.{Network}
 use Rattle.ip_prefix.specs.Sequences.{SpellsAll}
 use Rattle.ip_prefix.specs.Wire.{SpellsNetwork}
-use Rattle.bgp_paths.specs.declared.path.AsWidth.{AsWidth}
+use Rattle.bgp_paths.specs.declared.numbers.AsWidth.{AsWidth}
 use Rattle.bgp_wire.specs.declared.attrs.Attrs.{Attrs}
 use Rattle.bgp_wire.specs.declared.framing.TheConstants.{NEXT_HOP, MP_REACH_NLRI, MP_UNREACH_NLRI}
 use Rattle.bgp_wire.specs.declared.message.TheConstants.{MARKER_SIZE, UPDATE}
-use Rattle.bgp_wire.specs.declared.message.Update.{Update}
+use Rattle.bgp_wire.specs.declared.parts.Update.{Update}
 use Rattle.bgp_wire.specs.declared.message.Message.{Message}
 use Rattle.bgp_wire.specs.declared.message.Message.TheVariants as messages
 use Rattle.bgp_wire.specs.Attribute.{Attribute, SpellsAttributes, first_value, repeats}

@@ -1,7 +1,7 @@
 //! AS4_PATH and AS4_AGGREGATOR beside AS numbers of two octets (RFC 6793, section 4.2.3).
 
 ghost use Rattle.std.specs.Prelude.{◌≡◌, List, IfOk, OnOk};
-ghost use Rattle.bgp_paths.specs.declared.path.AsWidth.TheVariants.{Two};
+ghost use Rattle.bgp_paths.specs.declared.numbers.AsWidth.TheVariants.{Two};
 ghost use Rattle.bgp_wire.specs.As4.{ignores_as4, joined_aggregator, IsJoined};
 ghost use Rattle.bgp_wire.specs.Attribute.{Attribute};
 ghost use Rattle.bgp_wire.specs.Content.{Says};

@@ -8,10 +8,10 @@ ghost use Rattle.bgp_wire.specs.declared.message.TheConstants.{UPDATE, HEADER_SI
 ghost use Rattle.bgp_wire.specs.declared.next_hop.TheConstants.{FAMILY_SIZE, LINK_LOCAL_SIZE};
 ghost use Rattle.bgp_wire.specs.declared.reach.TheConstants.{AFI_IPV4, AFI_IPV6, SAFI_UNICAST};
 ghost use Rattle.bgp_wire.specs.declared.values.TheConstants.{ORIGIN_IGP, ORIGIN_EGP, ORIGIN_INCOMPLETE};
-ghost use Rattle.bgp_paths.specs.declared.path.AsWidth.{AsWidth};
+ghost use Rattle.bgp_paths.specs.declared.numbers.AsWidth.{AsWidth};
 ghost use Rattle.bgp_wire.specs.declared.attrs.Attrs.{Attrs};
 ghost use Rattle.bgp_wire.specs.declared.message.Message.{Message};
-ghost use Rattle.bgp_wire.specs.declared.message.Update.{Update};
+ghost use Rattle.bgp_wire.specs.declared.parts.Update.{Update};
 ghost use Rattle.bgp_wire.specs.Attribute.{Attribute, SpellsAttributes};
 ghost use Rattle.bgp_wire.specs.Content.{SpellsRibAttrs};
 ghost use Rattle.bgp_wire.specs.Update.{SpellsMessage, SpellsUpdate};

@@ -25,7 +25,7 @@ pub use bgp_paths::{
 };
 pub use framing::{AS_PATH, EXTENDED_LENGTH, MP_REACH_NLRI, ORIGIN};
 pub use laws::{attribute_numbers, one_attribute_list, one_message, one_table_entry};
-pub use message::{Message, Update, read_message, replace_message};
-pub use parts::{MessageKind, UpdateParts};
+pub use message::{Message, read_message, replace_message};
+pub use parts::{MessageKind, Update, UpdateParts};
 pub use prefixes::Prefixes;
 pub use rib_entry::{read_rib_attrs, replace_rib_attrs};

@@ -5,10 +5,8 @@ ghost use Rattle.bgp_wire.specs.Update.{IsMessage, SpellsMessage};
 ghost use Rattle.bgp_paths.specs.Readers.{Reads, Refuses};
 ghost use Rattle.bgp_wire.specs.Parts.{message_in, no_parts};
 
-use crate::attrs::Attrs;
 use crate::lengths::{LENGTH_SIZE, read_length};
-use crate::parts::{MessageKind, UpdateParts};
-use crate::prefixes::Prefixes;
+use crate::parts::{MessageKind, Update, UpdateParts};
 use crate::update::fill_update;
 use bgp_paths::{AsWidth, WireFault};
 use std::alloc::Global;
@@ -20,24 +18,6 @@ pub enum Message {
     Update(Update),
     /// A message of another type, with that type. Its body isn't read.
     Other(u8),
-}
-
-/// An UPDATE: prefixes that a peer withdraws and prefixes that it announces.
-#[derive(Debug, Drop)]
-pub struct Update {
-    /// The IPv4 prefixes that are withdrawn.
-    pub withdrawn: Prefixes,
-    /// The prefixes that MP_UNREACH_NLRI withdraws (RFC 4760, section 4).
-    pub mp_withdrawn: Prefixes,
-    /// The attributes of `announced`, with the next hop of NEXT_HOP.
-    pub attrs: Attrs,
-    /// The IPv4 prefixes that are announced.
-    pub announced: Prefixes,
-    /// The attributes of `mp_announced`, where there are such prefixes: `attrs` with the next hop
-    /// of MP_REACH_NLRI.
-    pub mp_attrs: Option<Attrs>,
-    /// The prefixes that MP_REACH_NLRI announces (RFC 4760, section 3).
-    pub mp_announced: Prefixes,
 }
 
 /// The type of an UPDATE (RFC 4271, section 4.1).

@@ -1,14 +1,31 @@
-//! An UPDATE in parts, which others are read in place of.
+//! An UPDATE, whole and in parts; others are read in place of its parts.
 
 ghost use Rattle.std.specs.Prelude.{◌≡◌, IfOk};
 ghost use Rattle.bgp_wire.specs.Reach.{attrs_with};
 ghost use Rattle.bgp_wire.specs.Parts.{no_parts, update_in};
 
 use crate::attrs::Attrs;
-use crate::message::Update;
 use crate::prefixes::Prefixes;
 use ip_prefix::Addr;
 use std::alloc::{AllocError, Global};
+
+/// An UPDATE: prefixes that a peer withdraws and prefixes that it announces.
+#[derive(Debug, Drop)]
+pub struct Update {
+    /// The IPv4 prefixes that are withdrawn.
+    pub withdrawn: Prefixes,
+    /// The prefixes that MP_UNREACH_NLRI withdraws (RFC 4760, section 4).
+    pub mp_withdrawn: Prefixes,
+    /// The attributes of `announced`, with the next hop of NEXT_HOP.
+    pub attrs: Attrs,
+    /// The IPv4 prefixes that are announced.
+    pub announced: Prefixes,
+    /// The attributes of `mp_announced`, where there are such prefixes: `attrs` with the next hop
+    /// of MP_REACH_NLRI.
+    pub mp_attrs: Option<Attrs>,
+    /// The prefixes that MP_REACH_NLRI announces (RFC 4760, section 3).
+    pub mp_announced: Prefixes,
+}
 
 /// An UPDATE in parts. The attributes of the prefixes that MP_REACH_NLRI announces aren't there:
 /// they are `attrs` but for the next hop.

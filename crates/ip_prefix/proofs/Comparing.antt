@@ -12,7 +12,7 @@ use Rattle.std.proofs.Math.Nat.{mod-eq_of_lt}
 use Rattle.ip_prefix.specs.Bits.{bits_of}
 use Rattle.ip_prefix.specs.BitLemmas.{length-bits_of}
 use Rattle.ip_prefix.specs.Halves.{whole}
-use Rattle.ip_prefix.specs.declared.addr.TheConstants.{HALF_BITS}
+use Rattle.ip_prefix.specs.declared.number.TheConstants.{HALF_BITS}
 use Rattle.ip_prefix.specs.declared.addr.Addr.TheInside.{Inside}
 use Rattle.ip_prefix.specs.declared.addr.Family.{Family}
 use Rattle.ip_prefix.specs.declared.addr.Family.TheVariants.{V4, V6}

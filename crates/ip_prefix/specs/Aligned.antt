@@ -3,7 +3,8 @@
 use Rattle.std.specs.Prelude.{◌≡◌, ℕ, ◌-◌, ◌^◌, ◌%◌, ◌<◌}
 use Rattle.ip_prefix.specs.declared.addr.Family.{Family}
 use Rattle.ip_prefix.specs.declared.addr.Family.TheVariants.{V4, V6}
-use Rattle.ip_prefix.specs.declared.addr.TheConstants.{V4_BITS, V6_BITS, NUMBER_BITS}
+use Rattle.ip_prefix.specs.declared.addr.TheConstants.{V4_BITS, V6_BITS}
+use Rattle.ip_prefix.specs.declared.number.TheConstants.{NUMBER_BITS}
 use Rattle.ip_prefix.specs.Highest.{highest_bits}
 use Rattle.ip_prefix.specs.Filled.{number_from}
 use Rattle.ip_prefix.specs.BitLemmas.{number-highest}

@@ -3,7 +3,7 @@
 use Rattle.std.specs.Prelude.{ℕ, ◌*◌, ◌-◌, ◌^◌, ◌/◌, Bool, List, length}
 use Rattle.std.specs.declared.cmp.Ordering.{Ordering}
 use Rattle.std.specs.Ordering.{nat_cmp, ordering_then}
-use Rattle.ip_prefix.specs.declared.addr.TheConstants.{NUMBER_BITS}
+use Rattle.ip_prefix.specs.declared.number.TheConstants.{NUMBER_BITS}
 use Rattle.ip_prefix.specs.Bits.{number_of}
 use Rattle.ip_prefix.specs.Network.{Network, least_address}
 use Rattle.ip_prefix.specs.Order.{address_cmp}

@@ -2,7 +2,7 @@
 -- How a number is kept as two halves.
 use Rattle.std.specs.Prelude.{◌≡◌, ℕ, ◌+◌, ◌*◌, ◌^◌, ◌/◌, ◌%◌, ◌<◌}
 use Rattle.std.proofs.Common.{arith}
-use Rattle.ip_prefix.specs.declared.addr.TheConstants.{HALF_BITS}
+use Rattle.ip_prefix.specs.declared.number.TheConstants.{HALF_BITS}
 
 -- the number of two halves
 abbrev pub whole : ℕ → ℕ → ℕ

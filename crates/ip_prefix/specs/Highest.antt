@@ -1,6 +1,6 @@
 -- The highest bits of the numbers that addresses and prefixes are kept as.
 use Rattle.std.specs.Prelude.{ℕ, ◌-◌, ◌^◌, ◌/◌, Bool, List}
-use Rattle.ip_prefix.specs.declared.addr.TheConstants.{NUMBER_BITS}
+use Rattle.ip_prefix.specs.declared.number.TheConstants.{NUMBER_BITS}
 use Rattle.ip_prefix.specs.Bits.{bits_of}
 
 -- so many of the highest bits

@@ -7,7 +7,7 @@ ghost use Rattle.ip_prefix.specs.Bits.{bits_of_octets};
 ghost use Rattle.ip_prefix.specs.Highest.{highest_bits};
 ghost use Rattle.ip_prefix.specs.Order.{family_cmp};
 
-use crate::number::Number;
+use crate::number::{NUMBER_BITS, Number};
 use std::cmp::Ordering;
 use std::marker::Model;
 
@@ -31,12 +31,6 @@ pub(crate) const GROUP_BITS: usize = 16;
 
 /// How many groups an IPv6 address is written in.
 pub(crate) const GROUP_COUNT: usize = 8;
-
-/// How many bits the numbers have that addresses and prefixes are kept as.
-pub(crate) const NUMBER_BITS: u8 = 128;
-
-/// How many bits half such a number has.
-pub(crate) const HALF_BITS: u8 = 64;
 
 /// The two families of Internet addresses.
 #[derive(Clone, Copy, Debug, PartialEq, Eq, PartialOrd, Ord)]

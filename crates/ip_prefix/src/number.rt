@@ -3,9 +3,14 @@
 ghost use Rattle.std.specs.Prelude.{◌≡◌, ◌-◌, ◌/◌, ◌^◌, ◌<◌, ◌==◌, bit_and};
 ghost use Rattle.std.specs.Ordering.{nat_cmp};
 
-use crate::addr::{HALF_BITS, NUMBER_BITS};
 use std::cmp::Ordering;
 use std::marker::Model;
+
+/// How many bits the numbers have that addresses and prefixes are kept as.
+pub(crate) const NUMBER_BITS: u8 = 128;
+
+/// How many bits half such a number has.
+pub(crate) const HALF_BITS: u8 = 64;
 
 /// A number of 128 bits. It is kept as two halves, so that what holds it is aligned to eight octets
 /// and not to sixteen.
@@ -17,7 +22,7 @@ pub(crate) struct Number {
 
 impl Model for Number {
     ghost use Rattle.std.specs.Prelude.{ℕ, ◌^◌, ◌/◌, ◌%◌, ◌<◌};
-    ghost use Rattle.ip_prefix.specs.declared.addr.TheConstants.{HALF_BITS};
+    ghost use Rattle.ip_prefix.specs.declared.number.TheConstants.{HALF_BITS};
     ghost use Rattle.ip_prefix.specs.Halves.{whole, high-again, low-again};
 
     ghost Value = { ℕ };

@@ -12,10 +12,8 @@ ghost use Rattle.ip_prefix.specs.Covering.{covers};
 ghost use Rattle.octet_forms.specs.Fronts.{BeginsWithNone};
 ghost use Rattle.ip_prefix.specs.Wire.{SpellsNetwork};
 
-use crate::addr::{
-    Addr, Family, HALF_BITS, NUMBER_BITS, OCTET_BITS, V4_BITS, V6_OCTETS, compare_families,
-};
-use crate::number::Number;
+use crate::addr::{Addr, Family, OCTET_BITS, V4_BITS, V6_OCTETS, compare_families};
+use crate::number::{HALF_BITS, NUMBER_BITS, Number};
 use std::cmp::Ordering;
 use std::marker::Model;
 

@@ -2,7 +2,8 @@
 
 ghost use Rattle.std.specs.Prelude.{◌≡◌, ◌≢◌, ℕ, ◌+◌, ◌-◌, ◌≤◌, ◌++◌, Bool, false, List, length, replicate, take};
 ghost use Rattle.ip_prefix.specs.declared.addr.Family.{Family};
-ghost use Rattle.ip_prefix.specs.declared.addr.TheConstants.{V4_BITS, NUMBER_BITS};
+ghost use Rattle.ip_prefix.specs.declared.addr.TheConstants.{V4_BITS};
+ghost use Rattle.ip_prefix.specs.declared.number.TheConstants.{NUMBER_BITS};
 ghost use Rattle.ip_prefix.specs.Bits.{bits_of, bits_of_octets};
 ghost use Rattle.ip_prefix.specs.Network.{Network, network_of};
 ghost use Rattle.ip_prefix.specs.declared.turn.Turn.TheVariants.{Outside};

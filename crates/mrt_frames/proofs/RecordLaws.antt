@@ -1,6 +1,6 @@
 -- Laws of records: none begins another, so octets split into records in one way.
 use Rattle.std.proofs.Common.{◌≡◌, ℕ, ◌<◌, List, ◌++◌, length, take, drop, ap, arith, length-append}
-use Rattle.mrt_frames.specs.declared.frames.TheConstants.{LONGEST_BODY}
+use Rattle.mrt_frames.specs.declared.header.TheConstants.{LONGEST_BODY}
 use Rattle.mrt_frames.specs.Record.{Record, IsHeader, header_octets, spelling, IsRecord, BeginsWithNoRecord}
 use Rattle.octet_forms.proofs.Lists.{append_parts}
 use Rattle.octet_forms.proofs.Numbers.{same_w16, same_w32}

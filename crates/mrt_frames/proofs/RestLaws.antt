@@ -8,7 +8,7 @@ use Rattle.mrt_frames.specs.declared.fault.RecordKind.TheVariants.{CutRecord, To
 use Rattle.mrt_frames.specs.declared.fault.SourceFault.{SourceFault}
 use Rattle.mrt_frames.specs.declared.frames.Front.TheVariants as answer
 use Rattle.mrt_frames.specs.declared.header.Header.{Header}
-use Rattle.mrt_frames.specs.declared.frames.TheConstants.{LONGEST_BODY}
+use Rattle.mrt_frames.specs.declared.header.TheConstants.{LONGEST_BODY}
 use Rattle.mrt_frames.specs.Record.{IsHeader, header_octets}
 use Rattle.mrt_frames.specs.Rest.{rest_kind, rest_fault, stated_size}
 use Rattle.mrt_frames.specs.Taking.{IsBegun}

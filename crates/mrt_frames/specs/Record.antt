@@ -1,7 +1,7 @@
 -- MRT records, and how they stand in a list of octets (RFC 6396, section 2).
 use Rattle.std.specs.Prelude.{◌≡◌, ℕ, ◌<◌, ◌≤◌, ◌^◌, List, ◌++◌, length}
 use Rattle.std.specs.Int.{to_be_bytes, w16, w32}
-use Rattle.mrt_frames.specs.declared.frames.TheConstants.{LONGEST_BODY}
+use Rattle.mrt_frames.specs.declared.header.TheConstants.{LONGEST_BODY}
 
 -- a record: the fields of its header, where kind is its type, but for the length, which is that of the body, and the body
 pub record Record : Type 0 where

@@ -3,8 +3,7 @@ use Rattle.std.specs.Prelude.{ℕ, Option, Some, None, List, [], ◌∷◌, leng
 use Rattle.std.specs.Int.{from_be_bytes, w32}
 use Rattle.mrt_frames.specs.declared.fault.RecordKind.{RecordKind}
 use Rattle.mrt_frames.specs.declared.fault.RecordKind.TheVariants.{CutRecord, TooLong}
-use Rattle.mrt_frames.specs.declared.frames.TheConstants.{LONGEST_BODY}
-use Rattle.mrt_frames.specs.declared.header.TheConstants.{HEADER_SIZE}
+use Rattle.mrt_frames.specs.declared.header.TheConstants.{HEADER_SIZE, LONGEST_BODY}
 
 -- the length that a header states
 abbrev pub stated_size : List ℕ → ℕ

@@ -4,7 +4,7 @@ ghost use Rattle.std.specs.Prelude.{◌≡◌, ◌≤◌, ◌<◌, ◌+◌, ◌-
 ghost use Rattle.mrt_frames.specs.Device.{Fills, FillsWithin, PassesWithin, is_read};
 
 use crate::fault::SourceFault;
-use crate::frames::LONGEST_BODY;
+use crate::header::LONGEST_BODY;
 use crate::input::{InFault, Input};
 use std::alloc::AllocError;
 

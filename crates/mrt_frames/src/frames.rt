@@ -6,12 +6,9 @@ ghost use Rattle.mrt_frames.specs.Taken.{TakesOctets, TakesHeader, TakesBody, Pa
 
 use crate::buffer::{fill_body, fill_within, pass_over};
 use crate::fault::{RecordKind, SourceFault};
-use crate::header::{HEADER_SIZE, Header, read_header};
+use crate::header::{HEADER_SIZE, Header, LONGEST_BODY, read_header};
 use crate::input::Input;
 use std::alloc::Global;
-
-/// The greatest length that a header may state.
-pub const LONGEST_BODY: u32 = 16_777_216;
 
 /// For how many octets of a body room is kept at most behind a shorter one.
 const MOST_KEPT: usize = 1 << 18;

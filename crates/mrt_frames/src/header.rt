@@ -8,6 +8,9 @@ use crate::octets::{u16_at, u32_at};
 /// How many octets a header has.
 pub const HEADER_SIZE: usize = 12;
 
+/// The greatest length that a header may state.
+pub const LONGEST_BODY: u32 = 16_777_216;
+
 /// The fields of a header.
 #[derive(Clone, Copy)]
 pub struct Header {

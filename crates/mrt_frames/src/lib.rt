@@ -9,6 +9,6 @@ mod input;
 mod octets;
 
 pub use fault::{RecordFault, RecordKind, SourceFault};
-pub use frames::{FrameReader, Front, LONGEST_BODY, Profile};
-pub use header::{HEADER_SIZE, Header};
+pub use frames::{FrameReader, Front, Profile};
+pub use header::{HEADER_SIZE, Header, LONGEST_BODY};
 pub use input::{BufferedInput, InFault, Input, ReadInput};

@@ -6,7 +6,7 @@ use Rattle.std.proofs.lemmas.Nat.{be_bytes_2, be_bytes_4}
 use Rattle.std.specs.Int.{to_be_bytes, from_be_bytes, w16, w32}
 use Rattle.mrt_frames.specs.declared.fault.RecordKind.TheVariants.{Unsupported, Malformed}
 use Rattle.mrt_events.specs.declared.stamp.Stamp.{Stamp}
-use Rattle.mrt_frames.specs.declared.frames.TheConstants.{LONGEST_BODY}
+use Rattle.mrt_frames.specs.declared.header.TheConstants.{LONGEST_BODY}
 use Rattle.mrt_frames.specs.Record.{Record, IsHeader, header_octets, spelling, IsRecord, BeginsWithNoRecord}
 use Rattle.mrt_frames.specs.Parts.{record_of, IsOctets}
 use Rattle.mrt_frames.specs.declared.fault.RecordKind.{RecordKind}

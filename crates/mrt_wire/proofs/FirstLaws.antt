@@ -11,7 +11,7 @@ use Rattle.std.specs.Io.KnownBytes.{Consumes}
 use Rattle.mrt_frames.specs.declared.fault.SourceFault.{SourceFault}
 use Rattle.mrt_wire.specs.declared.next.Next.{Next}
 use Rattle.mrt_wire.specs.declared.next.Next.TheVariants as next
-use Rattle.mrt_frames.specs.declared.frames.TheConstants.{LONGEST_BODY}
+use Rattle.mrt_frames.specs.declared.header.TheConstants.{LONGEST_BODY}
 use Rattle.mrt_frames.specs.Record.{Record, spelling, IsRecord, BeginsWithNoRecord}
 use Rattle.mrt_wire.specs.Verdict.{Frame}
 use Rattle.mrt_wire.specs.Splitting.{Splits, spellings}

@@ -2,8 +2,7 @@
 
 ghost use Rattle.std.specs.Prelude.{◌≡◌, ℕ, List};
 ghost use Rattle.mrt_events.specs.declared.stamp.Stamp.{Stamp};
-ghost use Rattle.mrt_frames.specs.declared.frames.TheConstants.{LONGEST_BODY};
-ghost use Rattle.mrt_frames.specs.declared.header.TheConstants.{HEADER_SIZE};
+ghost use Rattle.mrt_frames.specs.declared.header.TheConstants.{HEADER_SIZE, LONGEST_BODY};
 ghost use Rattle.mrt_wire.specs.declared.peer_index.TheConstants.{ID_SIZE, IPV6_PEER, AS4_PEER};
 ghost use Rattle.mrt_wire.specs.declared.profile.TheConstants.{TABLE_DUMP, AFI_IPV4, AFI_IPV6, TABLE_DUMP_V2, BGP4MP, BGP4MP_ET, PEER_INDEX_TABLE, RIB_IPV4_UNICAST, RIB_IPV6_UNICAST, BGP4MP_STATE_CHANGE, BGP4MP_MESSAGE, BGP4MP_MESSAGE_AS4, BGP4MP_STATE_CHANGE_AS4};
 ghost use Rattle.mrt_wire.specs.declared.rib.TheConstants.{SEQUENCE_SIZE};

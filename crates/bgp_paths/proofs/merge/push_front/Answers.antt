@@ -1,7 +1,7 @@
 use Rattle.std.proofs.Common.{◌≡◌, ◌<◌, ◌≤◌, ◌+◌, ◌-◌, ◌++◌, length, take, drop, ap, sym, ◌∙◌, arith, length-take-le}
 use Rattle.std.proofs.lemmas.Result.{on_ok_weaker}
 use Rattle.bgp_paths.specs.Merge.{hops_by, hops_from, segments_of}
-use Rattle.bgp_paths.specs.declared.path.SegmentKind.TheVariants.{AsSequence}
+use Rattle.bgp_paths.specs.declared.segment.SegmentKind.TheVariants.{AsSequence}
 use Rattle.bgp_paths.proofs.Weights.{segment_weight, weight-hops_by, cut_fits}
 use Rattle.bgp_paths.proofs.Fronts.{front, front_longest}
 use Rattle.bgp_paths.proofs.Gathering.{kept_segments, piece, segments_of-hops_by}

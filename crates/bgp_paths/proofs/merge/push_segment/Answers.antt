@@ -1,6 +1,6 @@
 use Rattle.std.proofs.Common.{◌≡◌, [], ◌∷◌, ◌++◌, length, ap, sym, ◌∙◌, eq-eqb, rules}
 use Rattle.std.proofs.lemmas.Bool.{both_ways}
-use Rattle.bgp_paths.specs.declared.path.SegmentKind.TheVariants.{AsSequence}
+use Rattle.bgp_paths.specs.declared.segment.SegmentKind.TheVariants.{AsSequence}
 use Rattle.bgp_paths.proofs.Gathering.{piece_is, segments_of-hops_by}
 use Rattle.bgp_paths.proofs.merge.push_segment.Goals as goal
 use Rattle.bgp_paths.proofs.merge.push_segment.Goals.{else-eq-via-then-eq+else-is_empty, else-eq-via-else-eq}

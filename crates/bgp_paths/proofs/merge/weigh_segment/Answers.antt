@@ -1,7 +1,7 @@
 use Rattle.std.proofs.Common.{length, ap, sym, ◌∙◌}
 use Rattle.bgp_paths.specs.Merge.{weight_of, hops_by}
 use Rattle.bgp_paths.proofs.Weights.{weight-hops_by}
-use Rattle.bgp_paths.specs.declared.path.SegmentKind.TheVariants.{AsSequence}
+use Rattle.bgp_paths.specs.declared.segment.SegmentKind.TheVariants.{AsSequence}
 use Rattle.bgp_paths.proofs.merge.weigh_segment.Goals as goal
 
 pub returns-in-AsSequence : goal.returns-in-AsSequence

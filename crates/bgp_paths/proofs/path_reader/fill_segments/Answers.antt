@@ -3,7 +3,7 @@ use Rattle.std.proofs.lemmas.Result.{err_from_is_err_and}
 use Rattle.ip_prefix.specs.Sequences.{Begins, SpellsAll}
 use Rattle.octet_forms.proofs.Lists.{nonempty}
 use Rattle.octet_forms.proofs.Sequences.{one_more, none_at_all}
-use Rattle.bgp_paths.specs.declared.path.Segment.{Segment}
+use Rattle.bgp_paths.specs.declared.segment.Segment.{Segment}
 use Rattle.bgp_paths.specs.Path.{SpellsSegment}
 use Rattle.bgp_paths.specs.Segments.{IsFramed}
 use Rattle.bgp_paths.specs.Readers.{Refuses}

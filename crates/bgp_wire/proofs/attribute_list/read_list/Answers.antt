@@ -5,7 +5,7 @@ use Rattle.octet_forms.proofs.Lists.{nonempty, no_elements}
 use Rattle.octet_forms.proofs.Sequences.{one_more, none_at_all, goes_on, all_read}
 use Rattle.bgp_paths.specs.declared.fault.WireFault.{WireFault}
 use Rattle.bgp_paths.specs.declared.fault.WireFault.TheVariants.{Malformed, Memory}
-use Rattle.bgp_paths.specs.declared.path.AsWidth.{AsWidth}
+use Rattle.bgp_paths.specs.declared.numbers.AsWidth.{AsWidth}
 use Rattle.bgp_wire.specs.Attribute.{Attribute, SpellsAttribute, first_value}
 use Rattle.bgp_wire.specs.PlainValues.{FirstOf, firsts_of, with_value, ReadSoFar, SaysPlainly, SpellsPlainly}
 use Rattle.bgp_paths.specs.Readers.{Refuses}

@@ -1,10 +1,10 @@
 use Rattle.std.proofs.Common.{◌≡◌, ℕ, List, Err, IfErr, ap, sym, subst, ◌∙◌}
 use Rattle.std.proofs.lemmas.Result.{err_from_is_err_and}
-use Rattle.bgp_paths.specs.declared.path.AsWidth.{AsWidth}
+use Rattle.bgp_paths.specs.declared.numbers.AsWidth.{AsWidth}
 use Rattle.bgp_wire.specs.declared.message.Message.{Message}
 use Rattle.bgp_wire.specs.declared.message.Message.TheVariants as messages
 use Rattle.bgp_wire.specs.declared.message.TheConstants.{UPDATE}
-use Rattle.bgp_wire.specs.declared.message.Update.{Update}
+use Rattle.bgp_wire.specs.declared.parts.Update.{Update}
 use Rattle.bgp_paths.specs.Readers.{Refuses}
 use Rattle.bgp_wire.specs.Update.{IsMessage, SpellsUpdate, SpellsMessage}
 use Rattle.bgp_paths.proofs.Refusing.{refused_part}
