@@ -113,7 +113,7 @@ def faults_of_crates():
         if (crate / 'src/lib.rt').is_file() and not is_tests:
             for file in sorted((crate / 'src').rglob('*.rt')):
                 if '#[test]' in file.read_text():
-                    yield file, 'tests of a library stand in library_tests or play_tests'
+                    yield file, 'tests of a library stand in value_tests, library_tests or play_tests'
 
 
 def paths_of(words):
