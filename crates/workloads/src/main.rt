@@ -1,30 +1,15 @@
-//! Does a job that users wait for, over an input that it makes itself, and prints digests of all
+//! Does a job that users wait for, over an input that is made of a seed, and prints digests of all
 //! that was written: `workloads JOB SEED HUNDREDTHS`, or all jobs, one behind the other. It is what
 //! `bench/run` times.
 #![tactic(auto)]
 
-mod attributes;
-mod bodies;
-mod chance;
-mod digest;
-mod file;
-mod jobs;
-mod messages;
-mod octets;
-mod paths;
-mod peers;
-mod pools;
-mod prefixes;
 mod runs;
-mod script;
-mod storms;
-mod tables;
-mod updates;
-mod world;
 
-use jobs::Size;
-use runs::Ran;
+use runs::{Ran, dumped, played};
+use std::alloc::AllocError;
 use std::{env, io};
+use workload_inputs::File;
+use workload_inputs::jobs::{self, Scripted, Size};
 
 /// The jobs.
 const JOBS: [&str; 6] = ["tables", "updates", "play", "ask", "forget", "storm"];
@@ -68,20 +53,34 @@ fn do_job(rt: &HostRuntime, job: &str, size: Size) -> io::Result<()> {
     let alloc = rt.alloc();
     match job {
         "tables" => {
-            print_run(rt, "table", jobs::dump_table(alloc, size))?;
-            print_run(rt, "old table", jobs::dump_old_table(alloc, size))
+            print_dump(rt, "table", jobs::table(alloc, size))?;
+            print_dump(rt, "old table", jobs::old_table(alloc, size))
         }
         "updates" => {
-            print_run(rt, "updates", jobs::dump_updates(alloc, size, false))?;
-            let ran = jobs::dump_updates(alloc, size, true);
-            print_run(rt, "precise updates", ran)
+            print_dump(rt, "updates", jobs::updates(alloc, size, false))?;
+            print_dump(rt, "precise updates", jobs::updates(alloc, size, true))
         }
-        "play" => print_run(rt, job, jobs::play(alloc, size)),
-        "ask" => print_run(rt, job, jobs::ask(alloc, size)),
-        "forget" => print_run(rt, job, jobs::forget(alloc, size)),
-        "storm" => print_run(rt, job, jobs::storm(alloc, size)),
+        "play" => print_play(rt, job, jobs::play(alloc, size)),
+        "ask" => print_play(rt, job, jobs::ask(alloc, size)),
+        "forget" => print_play(rt, job, jobs::forget(alloc, size)),
+        "storm" => print_play(rt, job, jobs::storm(alloc, size)),
         _ => print_usage(rt),
     }
+}
+
+/// Dumps a file, and prints what that gave.
+fn print_dump(rt: &HostRuntime, name: &str, file: Result<File, AllocError>) -> io::Result<()> {
+    print_run(rt, name, dumped(rt.alloc(), file?))
+}
+
+/// Plays a script over a file, and prints what that gave.
+fn print_play(
+    rt: &HostRuntime,
+    name: &str,
+    scripted: Result<Scripted, AllocError>,
+) -> io::Result<()> {
+    let Scripted { file, script } = scripted?;
+    print_run(rt, name, played(rt.alloc(), file, script.as_str()))
 }
 
 /// Prints how a run ended, and the digests of what it wrote.

@@ -1,7 +1,5 @@
 //! Runs over files, as the program makes them: through buffers of 64 KiB.
 
-use crate::digest::{Digest, Sum};
-use crate::file::File;
 use bgpdump_tool::{Outcome, WriteOutput, run_dump, run_play};
 use mrt_wire::{BufferedInput, Route, Stamp};
 use rib_store::{LeftStore, RadixStore};
@@ -9,6 +7,7 @@ use std::alloc::Global;
 use std::io;
 use std::io::{BufReader, BufWriter};
 use std::rc::Rc;
+use workload_inputs::{Digest, File, Sum};
 
 /// How many octets each buffer holds.
 const BUFFER: usize = 65_536;

@@ -45,7 +45,7 @@ pub(crate) struct Part {
 
 /// A file: parts one behind the other, each made as it is read.
 #[derive(Drop)]
-pub(crate) struct File {
+pub struct File {
     world: World,
     parts: Vec<Part>,
     /// The part that is made, and how many of its records are.

@@ -21,17 +21,18 @@ struct Lanes {
     fourth: u64,
 }
 
-/// What a digest gives: a number that hangs on all octets that were written, and how many they
-/// were.
+/// What a digest gives.
 #[derive(Clone, Copy)]
-pub(crate) struct Sum {
-    pub(crate) number: u64,
-    pub(crate) length: u64,
+pub struct Sum {
+    /// A number that hangs on all octets that were written.
+    pub number: u64,
+    /// How many they were.
+    pub length: u64,
 }
 
 /// A writer that keeps a digest and the length of what is written, however that comes in pieces.
 #[derive(Drop)]
-pub(crate) struct Digest {
+pub struct Digest {
     lanes: Lanes,
     /// The octets that aren't taken in yet.
     rest: [u8; BLOCK],
@@ -70,7 +71,7 @@ impl Lanes {
 
 impl Digest {
     /// The digest of nothing.
-    pub(crate) fn new() -> Self {
+    pub fn new() -> Self {
         Digest {
             lanes: Lanes {
                 first: 1,
@@ -85,7 +86,7 @@ impl Digest {
     }
 
     /// What it gives for all that was written.
-    pub(crate) fn sum(&self) -> Sum {
+    pub fn sum(&self) -> Sum {
         let lanes = self.lanes.with_block(&self.rest);
         let number = with_word(with_word(self.length, lanes.first), lanes.second);
         let number = with_word(with_word(number, lanes.third), lanes.fourth);

@@ -1,23 +1,32 @@
-//! The jobs that are timed.
+//! What the jobs that are timed go over.
 
 ghost use Rattle.std.specs.Prelude.{◌<◌};
 
 use crate::chance::Chance;
 use crate::file::{File, Kind, Part};
 use crate::peers::Peer;
-use crate::runs::{Ran, dumped, played};
 use crate::script::Script;
 use crate::tables::Entries;
 use crate::updates::Course;
 use crate::world::{Counts, World};
 use std::alloc::{AllocError, Global};
-use std::io;
 
 /// What a job is made of: a seed, and how large it is, in hundredths.
 #[derive(Clone, Copy)]
-pub(crate) struct Size {
-    pub(crate) seed: u64,
-    pub(crate) hundredths: u32,
+pub struct Size {
+    /// What all draws hang on.
+    pub seed: u64,
+    /// How many hundredths of the whole job.
+    pub hundredths: u32,
+}
+
+/// A file, and the script that goes over it.
+#[derive(Drop)]
+pub struct Scripted {
+    /// The file.
+    pub file: File,
+    /// The script.
+    pub script: String,
 }
 
 impl Size {
@@ -82,19 +91,22 @@ fn file(
     Ok(File::new(alloc, world, parts))
 }
 
-/// The replies to a script over a file of these parts.
-fn replies(
+/// A file of these parts, and the script over it.
+fn with_script(
     alloc: Global,
     size: Size,
     counts: Counts,
     parts: &[(Kind, u32)],
-    script: &str,
-) -> io::Result<Ran> {
-    played(alloc, file(alloc, size, counts, parts)?, script)
+    script: String,
+) -> Result<Scripted, AllocError> {
+    Ok(Scripted {
+        file: file(alloc, size, counts, parts)?,
+        script,
+    })
 }
 
-/// The lines of a collector's table.
-pub(crate) fn dump_table(alloc: Global, size: Size) -> io::Result<Ran> {
+/// A collector's table.
+pub fn table(alloc: Global, size: Size) -> Result<File, AllocError> {
     let mut counts = COLLECTOR;
     counts.v4_prefixes = size.of(110_000);
     counts.v6_prefixes = size.of(22_000);
@@ -103,26 +115,26 @@ pub(crate) fn dump_table(alloc: Global, size: Size) -> io::Result<Ran> {
         (Kind::Rib(entries(false)), 110_000),
         (Kind::Rib(entries(true)), 22_000),
     ];
-    dumped(alloc, file(alloc, size, counts, &parts)?)
+    file(alloc, size, counts, &parts)
 }
 
-/// The lines of a table of the old kind.
-pub(crate) fn dump_old_table(alloc: Global, size: Size) -> io::Result<Ran> {
+/// A table of the old kind.
+pub fn old_table(alloc: Global, size: Size) -> Result<File, AllocError> {
     let parts = [
         (Kind::OldTable(false), 1_600_000),
         (Kind::OldTable(true), 200_000),
     ];
-    dumped(alloc, file(alloc, size, COLLECTOR, &parts)?)
+    file(alloc, size, COLLECTOR, &parts)
 }
 
-/// The lines of updates, with microseconds or without.
-pub(crate) fn dump_updates(alloc: Global, size: Size, precise: bool) -> io::Result<Ran> {
+/// Updates, with microseconds or without.
+pub fn updates(alloc: Global, size: Size, precise: bool) -> Result<File, AllocError> {
     let parts = [(Kind::Updates(course(precise, 2)), 800_000)];
-    dumped(alloc, file(alloc, size, COLLECTOR, &parts)?)
+    file(alloc, size, COLLECTOR, &parts)
 }
 
-/// A table played, and updates behind it; then back and forth over them, and questions.
-pub(crate) fn play(alloc: Global, size: Size) -> io::Result<Ran> {
+/// A table, and updates behind it; the script goes back and forth over them, and asks.
+pub fn play(alloc: Global, size: Size) -> Result<Scripted, AllocError> {
     let counts = Counts {
         v4_peers: 40,
         v6_peers: 20,
@@ -137,7 +149,7 @@ pub(crate) fn play(alloc: Global, size: Size) -> io::Result<Ran> {
         (Kind::Updates(course(false, 2)), 150_000),
     ];
     let script = way(alloc, size).whole()?;
-    replies(alloc, size, counts, &parts, script.as_str())
+    with_script(alloc, size, counts, &parts, script)
 }
 
 /// The commands that go over a table and updates, back and forth.
@@ -164,8 +176,8 @@ fn put_steps(script: &mut Script, line: &str, size: Size) {
     }
 }
 
-/// Questions about the routes of a few peers with large tables.
-pub(crate) fn ask(alloc: Global, size: Size) -> io::Result<Ran> {
+/// A few peers with large tables, and questions about their routes.
+pub fn ask(alloc: Global, size: Size) -> Result<Scripted, AllocError> {
     let counts = Counts {
         v4_peers: 3,
         v6_peers: 1,
@@ -180,7 +192,7 @@ pub(crate) fn ask(alloc: Global, size: Size) -> io::Result<Ran> {
         (Kind::Updates(course(false, 2)), 60_000),
     ];
     let script = questions(alloc, size, counts)?;
-    replies(alloc, size, counts, &parts, script.as_str())
+    with_script(alloc, size, counts, &parts, script)
 }
 
 /// A script of questions, and of steps in between.
@@ -230,13 +242,13 @@ fn put_question(script: &mut Script, world: &World, chance: &mut Chance) {
     script.put_len(network.len);
 }
 
-/// A stream of updates, of which the last steps are kept.
-pub(crate) fn forget(alloc: Global, size: Size) -> io::Result<Ran> {
+/// A stream of updates; the script keeps the last steps.
+pub fn forget(alloc: Global, size: Size) -> Result<Scripted, AllocError> {
     let mut counts = COLLECTOR;
     counts.kinds = 400;
     let parts = [(Kind::Updates(course(true, 50)), 60_000)];
     let script = forgetting(alloc, size).whole()?;
-    replies(alloc, size, counts, &parts, script.as_str())
+    with_script(alloc, size, counts, &parts, script)
 }
 
 /// The commands that go on, and forget what lies long behind.
@@ -251,7 +263,7 @@ fn forgetting(alloc: Global, size: Size) -> Script {
 
 /// A peer that loses its session and announces all anew, a leak of longer prefixes, messages with
 /// many prefixes and long paths, and records that are reported.
-pub(crate) fn storm(alloc: Global, size: Size) -> io::Result<Ran> {
+pub fn storm(alloc: Global, size: Size) -> Result<Scripted, AllocError> {
     let counts = Counts {
         v4_peers: 20,
         v6_peers: 10,
@@ -272,7 +284,7 @@ pub(crate) fn storm(alloc: Global, size: Size) -> io::Result<Ran> {
         (Kind::Flap, 200),
     ];
     let script = turns(alloc, size).whole()?;
-    replies(alloc, size, counts, &parts, script.as_str())
+    with_script(alloc, size, counts, &parts, script)
 }
 
 /// The commands that go on, back, and on again.
