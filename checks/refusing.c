@@ -9,7 +9,7 @@
      REFUSING_MARKED   1: requests count, and fail, only inside the calls that the program marks
 
    The program marks them by asking for blocks of these sizes, which count as no requests:
-   crates/row_parts/src/marks.rt has the same three. */
+   crates/row_values/src/marks.rt has the same three. */
 #define _GNU_SOURCE
 #include <dlfcn.h>
 #include <errno.h>

@@ -19,7 +19,8 @@ NOTED = {
     'files of more than 320 lines': 5,
 }
 # Programs and libraries that only check or measure.
-CHECKS = ('row_parts', 'rows', 'store_bench', 'test_devices', 'workload_inputs', 'workloads')
+CHECKS = ('row_parts', 'row_stores', 'row_values', 'rows', 'store_bench', 'test_devices', 'workload_inputs',
+          'workloads')
 
 FUNCTION = re.compile(r'^ *(?:pub(?:\([^)]*\))? )?(?:const )?fn (\w+)(?:<[^>]*>)?\(', re.M)
 CLAUSE = re.compile(r'\b(?:requires|ensures)\b[^{]*\{((?:[^{}]|\{[^{}]*\})*)\}')

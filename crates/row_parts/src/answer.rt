@@ -1,7 +1,7 @@
 //! What a call answers.
 
-use crate::shown::Shown;
 use bgpdump_lines::Outcome;
+use row_values::Shown;
 use std::alloc::{AllocError, Global};
 use test_devices::SlowOutput;
 

@@ -2,10 +2,9 @@
 
 use crate::answer::Answer;
 use crate::devices::Devices;
-use crate::names::Names;
 use crate::row::Row;
-use crate::spelled::Spelled;
 use crate::tally::Tally;
+use row_values::{Names, Spelled};
 use std::alloc::{AllocError, Global};
 
 /// A call that a row makes.

@@ -9,9 +9,8 @@
 //!     out-fails=1 err-fails=1     an output whose finish fails
 
 use crate::events::LIMIT;
-use crate::shown::Shown;
-use crate::words::put_count;
 use mrt_wire::{Input, Next, ReadInput, Source, SourceFault, Stamp};
+use row_values::{Shown, put_count};
 use std::alloc::Global;
 use test_devices::{EndedInput, SlowInput};
 

@@ -3,10 +3,10 @@
 
 use crate::answer::Answer;
 use crate::devices::Devices;
-use crate::marks;
 use crate::row::Row;
 use bgpdump_lines::{WriteOutput, run_dump};
 use mrt_wire::{ReadInput, Stamp};
+use row_values::marks;
 use std::alloc::{AllocError, Global};
 use test_devices::{SlowInput, SlowOutput};
 

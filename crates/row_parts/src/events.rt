@@ -1,12 +1,10 @@
 //! What a source answers, as a text: a line for each answer.
 
-use crate::marks;
-use crate::shown::Shown;
-use crate::words::{put_count, put_peer};
 use ip_prefix::Prefix;
 use mrt_wire::{
     Event, Input, Item, Next, Peer, ReadInput, RecordFault, Route, Source, SourceFault, Stamp, Tag,
 };
+use row_values::{Shown, marks, put_count, put_peer};
 use std::alloc::Global;
 
 /// More answers than any row has.

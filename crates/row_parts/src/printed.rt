@@ -1,10 +1,9 @@
 //! The lines of events, which a call of the libraries appends to a text.
 
-use crate::appended::{Front, put_appended};
 use crate::events::{LIMIT, MOST_ANSWERS};
-use crate::shown::Shown;
 use bgpdump_lines::put_lines;
 use mrt_wire::{Next, ReadInput, Source, SourceFault, Stamp};
+use row_values::{Front, Shown, put_appended};
 use std::alloc::Global;
 
 /// Appends the lines of each event that a source answers.

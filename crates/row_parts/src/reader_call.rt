@@ -1,22 +1,21 @@
 //! The calls that need neither a player nor a store.
 
-use crate::again::{Again, put_again, put_parts};
 use crate::answer::Answer;
 use crate::call::IsCall;
 use crate::devices::{Devices, put_calls, put_calls_by};
 use crate::dumped::{dump, dump_by};
 use crate::events::put_events;
-use crate::paths::{put_joined, put_segment_count};
 use crate::printed::put_printed;
 use crate::routes::{Keeping, put_routes, put_shared};
 use crate::row::Row;
 use crate::settings::put_settings;
-use crate::shown::Shown;
-use crate::values::put_values;
-use crate::wire::{put_entry, put_message, put_segments, put_summary};
 use bgp_wire::AsWidth;
 use ip_prefix::Family;
 use mrt_wire::Stamp;
+use row_values::{
+    Again, Shown, put_again, put_entry, put_joined, put_message, put_parts, put_segment_count,
+    put_segments, put_summary, put_values,
+};
 use std::alloc::{AllocError, Global};
 
 /// A call that needs neither a player nor a store.

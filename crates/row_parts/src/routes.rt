@@ -1,10 +1,8 @@
 //! The routes that a source announces, in full, and which items share one.
 
 use crate::events::{LIMIT, MOST_ANSWERS, next_of, put_fault, put_item, put_prefix, word_of};
-use crate::shown::Shown;
-use crate::wire::put_attrs;
-use crate::words::put_count;
 use mrt_wire::{Event, Input, Item, Next, ReadInput, Route, Source, SourceFault, Stamp};
+use row_values::{Shown, put_attrs, put_count};
 use std::alloc::{AllocError, Global};
 use std::rc::Rc;
 

@@ -14,10 +14,8 @@
 
 use crate::answer::Answer;
 use crate::devices::Devices;
-use crate::names::Names;
-use crate::spelled::{Spelled, put_digits};
-use crate::words::REFUSED;
 use bgpdump_lines::Outcome;
+use row_values::{Names, REFUSED, Spelled, put_digits};
 use std::alloc::{AllocError, Global};
 
 /// A row, as far as its lines were read.

@@ -8,11 +8,9 @@
 //!
 //! Each is answered by a line, but for a text that has several.
 
-use crate::marks;
-use crate::shown::Shown;
-use crate::words::{REFUSED, UNREAD, split_word};
 use bgpdump_command_line::{Mode, Settings, UsageFault, settings};
 use mrt_wire::Stamp;
+use row_values::{REFUSED, Shown, UNREAD, marks, split_word};
 use std::alloc::{AllocError, Global};
 use std::str;
 

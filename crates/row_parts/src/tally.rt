@@ -2,7 +2,7 @@
 
 use crate::answer::Answer;
 use crate::row::Row;
-use crate::shown::Shown;
+use row_values::Shown;
 use std::alloc::{AllocError, Global};
 
 /// How many rows of a file agree, were refused memory and differ, and what is printed of it.

@@ -3,11 +3,11 @@
 use crate::commands::put_commands;
 use crate::course::put_answers;
 use crate::played::{play, play_by};
-use crate::store::put_stored;
-use crate::watched::Watched;
 use mrt_wire::{Route, Stamp};
 use rib_store::{LeftStore, MapStore, RadixStore};
-use row_parts::{Answer, Devices, IsCall, Row, Shown};
+use row_parts::{Answer, Devices, IsCall, Row};
+use row_stores::{Watched, put_stored};
+use row_values::Shown;
 use std::alloc::{AllocError, Global};
 use std::rc::Rc;
 

@@ -1,7 +1,7 @@
 //! What the lines of a script are, as a text.
 
 use bgpdump_tool::{Command, read_command};
-use row_parts::{Shown, put_peer};
+use row_values::{Shown, put_peer};
 
 /// Appends a line for each line of a script: the command that it is, in full, or `no command`.
 pub fn put_commands(script: &[u8], text: &mut Shown) {

@@ -13,12 +13,12 @@
 //! Other lines are questions (`player.rt`). Each line is answered by one.
 
 use crate::player::put_seen;
-use crate::watched::IsWatched;
 use mrt_wire::{Event, Item, Peer, Route};
 use rib_player::{PlayFault, Player};
 use rib_store::{GREATEST_COUNT, PrefixStore};
-use row_parts::marks::{self, Marks};
-use row_parts::{
+use row_stores::IsWatched;
+use row_values::marks::{self, Marks};
+use row_values::{
     Brought, REFUSED, Shown, UNREAD, number_word, peer_words, put_count, put_within, split_word,
 };
 use std::alloc::{AllocError, Global};

@@ -5,7 +5,8 @@
 //! with them. `#` begins a comment.
 
 use crate::call::player_calls;
-use row_parts::{Names, Row, Spelled, Tally, carry_out, reader_calls};
+use row_parts::{Row, Tally, carry_out, reader_calls};
+use row_values::{Names, Spelled};
 use std::alloc::Global;
 
 /// What the lines read so far have begun.

@@ -6,14 +6,12 @@ mod call;
 mod commands;
 mod course;
 mod file;
-mod nodes;
 mod played;
 mod player;
-mod store;
-mod watched;
 
 use file::read_rows;
-use row_parts::{Names, Tally};
+use row_parts::Tally;
+use row_values::Names;
 use std::alloc::Global;
 use std::fs::File;
 use std::io::{self, Read};

@@ -4,7 +4,8 @@
 use bgpdump_tool::{WriteOutput, run_play};
 use mrt_wire::{ReadInput, Route, Stamp};
 use rib_store::PrefixStore;
-use row_parts::{Answer, Devices, Row, marks, room_for};
+use row_parts::{Answer, Devices, Row, room_for};
+use row_values::marks;
 use std::alloc::{AllocError, Global};
 use std::rc::Rc;
 use test_devices::{SlowInput, SlowOutput};

@@ -12,12 +12,12 @@
 //!     shared PEER PEER LEAST MOST         how many prefixes have one route of both, in one place
 //!     peers, longest PEER ADDRESS
 
-use crate::watched::IsWatched;
 use ip_prefix::Prefix;
 use mrt_wire::{Peer, Route};
 use rib_player::{Player, Table};
 use rib_store::PrefixStore;
-use row_parts::{
+use row_stores::IsWatched;
+use row_values::{
     Shown, UNREAD, address_word, peer_words, prefix_word, put_count, put_fields, put_peer,
     put_within,
 };

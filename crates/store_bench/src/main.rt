@@ -6,7 +6,7 @@ ghost use Rattle.std.specs.Prelude.{◌<◌};
 
 use bgp_wire::{AsWidth, Attrs, WireFault, read_rib_attrs};
 use ip_prefix::{Addr, Family, Prefix};
-use mrt_wire::{Event, Item, Items, Peer, Route, Tag, Time};
+use mrt_events::{Event, Item, Items, Peer, Route, Tag, Time};
 use rib_player::{PlayFault, Player};
 use rib_store::{MapStore, PrefixStore, RadixStore};
 use std::alloc::{AllocError, Global};

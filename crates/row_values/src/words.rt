@@ -2,7 +2,7 @@
 
 use crate::shown::Shown;
 use ip_prefix::{Addr, Prefix};
-use mrt_wire::Peer;
+use mrt_events::Peer;
 
 /// What is answered to a line that can't be read.
 pub const UNREAD: &[u8] = b"unread";

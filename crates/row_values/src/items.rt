@@ -11,7 +11,7 @@ use crate::spelled::Spelled;
 use crate::words::{peer_words, prefix_word, split_word};
 use bgp_wire::{AsWidth, Attrs, read_rib_attrs};
 use ip_prefix::Family;
-use mrt_wire::{Event, Item, Items, Peer, Route, Tag, Time};
+use mrt_events::{Event, Item, Items, Peer, Route, Tag, Time};
 use std::alloc::Global;
 use std::rc::{Rc, Weak};
 

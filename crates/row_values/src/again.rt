@@ -37,7 +37,7 @@ fn split_list(octets: &[u8]) -> Option<(&[u8], &[u8])> {
 }
 
 /// Appends what lists of attributes say, each in place of the one before.
-pub(crate) fn put_again(alloc: Global, again: Again, octets: &[u8], text: &mut Shown) {
+pub fn put_again(alloc: Global, again: Again, octets: &[u8], text: &mut Shown) {
     let mut attrs = Attrs::none(alloc);
     let mut left = octets;
     for _ in 0..octets.len() {
@@ -86,7 +86,7 @@ fn has_lists(attrs: &Attrs) -> bool {
 }
 
 /// Appends what messages with AS numbers of two octets say, each read in place of the one before.
-pub(crate) fn put_parts(alloc: Global, octets: &[u8], text: &mut Shown) {
+pub fn put_parts(alloc: Global, octets: &[u8], text: &mut Shown) {
     let mut parts = UpdateParts::none(alloc);
     let mut left = octets;
     for _ in 0..octets.len() {

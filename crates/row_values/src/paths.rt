@@ -10,7 +10,7 @@ use std::alloc::{AllocError, Global};
 use std::str;
 
 /// Appends the text of two paths joined, which stand in the lines of a script.
-pub(crate) fn put_joined(alloc: Global, script: &[u8], text: &mut Shown) {
+pub fn put_joined(alloc: Global, script: &[u8], text: &mut Shown) {
     match joined(alloc, script) {
         Ok(path) => text.put_path(&path),
         Err(AllocError) => text.put(REFUSED),
@@ -19,7 +19,7 @@ pub(crate) fn put_joined(alloc: Global, script: &[u8], text: &mut Shown) {
 }
 
 /// Appends how many segments they have joined.
-pub(crate) fn put_segment_count(alloc: Global, script: &[u8], text: &mut Shown) {
+pub fn put_segment_count(alloc: Global, script: &[u8], text: &mut Shown) {
     match joined(alloc, script) {
         Ok(path) => put_count(b"", path.segments.as_slice().len() as u64, text),
         Err(AllocError) => text.put(REFUSED),

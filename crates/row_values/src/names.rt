@@ -40,7 +40,7 @@ impl Names {
     }
 
     /// The octets that the name stands for.
-    pub(crate) fn get(&self, name: &str) -> Option<&[u8]> {
+    pub fn get(&self, name: &str) -> Option<&[u8]> {
         for named in self.all.iter().rev() {
             if named.name.as_str() == name {
                 return Some(named.octets.as_slice());

@@ -45,7 +45,7 @@ impl Shown {
     }
 
     /// Appends the text of a path.
-    pub(crate) fn put_path(&mut self, path: &AsPath) {
+    pub fn put_path(&mut self, path: &AsPath) {
         let put = path.put_text(&mut self.octets);
         self.note(put);
     }
@@ -57,7 +57,7 @@ impl Shown {
     }
 
     /// Appends a text that was made, where there was memory for it.
-    pub(crate) fn put_made(&mut self, made: Result<String, AllocError>) {
+    pub fn put_made(&mut self, made: Result<String, AllocError>) {
         match made {
             Ok(text) => self.put(text.as_bytes()),
             Err(AllocError) => self.is_whole = false,
@@ -71,14 +71,14 @@ impl Shown {
     }
 
     /// Notes that something was left out, where memory was refused.
-    pub(crate) fn note(&mut self, put: Result<(), AllocError>) {
+    pub fn note(&mut self, put: Result<(), AllocError>) {
         if put.is_err() {
             self.is_whole = false;
         }
     }
 
     /// The text, where nothing was left out.
-    pub(crate) fn whole(self) -> Result<Vec<u8>, AllocError> {
+    pub fn whole(self) -> Result<Vec<u8>, AllocError> {
         if self.is_whole {
             return Ok(self.octets);
         }

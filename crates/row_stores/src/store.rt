@@ -17,8 +17,8 @@
 use crate::nodes::HasNodes;
 use ip_prefix::{Addr, Prefix};
 use rib_store::{LeftStore, MapStore, Places, PrefixStore, RadixStore};
-use row_parts::marks::Marks;
-use row_parts::{
+use row_values::marks::Marks;
+use row_values::{
     REFUSED, Shown, UNREAD, address_word, number_word, prefix_word, put_count, split_word,
 };
 use std::alloc::{AllocError, Global};

@@ -2,7 +2,7 @@
 
 use crate::nodes::HasNodes;
 use ip_prefix::{Addr, Prefix};
-use mrt_wire::Route;
+use mrt_events::Route;
 use rib_store::{Place, Places, PrefixStore};
 use std::alloc::{AllocError, Global};
 use std::cell::Cell;

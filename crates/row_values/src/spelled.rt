@@ -32,7 +32,7 @@ fn digit_value(digit: u8) -> Option<u8> {
 }
 
 /// Appends the octets that digits spell, two for each, and answers whether they do.
-pub(crate) fn put_digits(word: &str, octets: &mut Vec<u8>) -> bool {
+pub fn put_digits(word: &str, octets: &mut Vec<u8>) -> bool {
     let mut high = None;
     let mut are_digits = true;
     for digit in word.bytes() {
@@ -54,7 +54,7 @@ impl Spelled {
     }
 
     /// None yet, and so many of each `front{` at most.
-    pub(crate) fn cut(alloc: Global, cut: usize) -> Self {
+    pub fn cut(alloc: Global, cut: usize) -> Self {
         Spelled {
             alloc,
             octets: Vec::new(alloc),
@@ -65,7 +65,7 @@ impl Spelled {
     }
 
     /// How many octets the longest `front{` has.
-    pub(crate) fn fronts(&self) -> usize {
+    pub fn fronts(&self) -> usize {
         self.fronts
     }
 

@@ -7,13 +7,13 @@ use std::alloc::{AllocError, Global};
 
 /// What stands in a text before a call, without room behind it.
 #[derive(Clone, Copy)]
-pub(crate) struct Front<'a> {
-    pub(crate) alloc: Global,
-    pub(crate) octets: &'a [u8],
+pub struct Front<'a> {
+    pub alloc: Global,
+    pub octets: &'a [u8],
 }
 
 /// Appends what a call appends behind this front, or that memory is refused for it.
-pub(crate) fn put_appended<F: FnOnce(&mut Vec<u8>) -> Result<(), AllocError>>(
+pub fn put_appended<F: FnOnce(&mut Vec<u8>) -> Result<(), AllocError>>(
     front: Front<'_>,
     put: F,
     text: &mut Shown,

@@ -33,13 +33,7 @@ fn entry_of(
 }
 
 /// Appends what the octets say as attributes of a table's entry, shown of a copy.
-pub(crate) fn put_entry(
-    alloc: Global,
-    family: Family,
-    width: AsWidth,
-    octets: &[u8],
-    text: &mut Shown,
-) {
+pub fn put_entry(alloc: Global, family: Family, width: AsWidth, octets: &[u8], text: &mut Shown) {
     match entry_of(alloc, family, width, octets) {
         Ok(attrs) => put_copy(&attrs, text),
         Err(fault) => put_unread(fault, text),
@@ -63,7 +57,7 @@ fn message_of(alloc: Global, width: AsWidth, octets: &[u8]) -> Result<Message, W
 }
 
 /// Appends what a message says: its prefixes and next hops, or its type where it is no UPDATE.
-pub(crate) fn put_summary(alloc: Global, width: AsWidth, octets: &[u8], text: &mut Shown) {
+pub fn put_summary(alloc: Global, width: AsWidth, octets: &[u8], text: &mut Shown) {
     match message_of(alloc, width, octets) {
         Ok(message) => put_message_summary(&message, text),
         Err(fault) => put_unread(fault, text),
@@ -79,7 +73,7 @@ fn put_message_summary(message: &Message, text: &mut Shown) {
 }
 
 /// Appends what the attributes of an UPDATE say, and behind them those of MP_REACH_NLRI.
-pub(crate) fn put_message(alloc: Global, width: AsWidth, octets: &[u8], text: &mut Shown) {
+pub fn put_message(alloc: Global, width: AsWidth, octets: &[u8], text: &mut Shown) {
     match message_of(alloc, width, octets) {
         Ok(message) => put_message_attrs(&message, text),
         Err(fault) => put_unread(fault, text),
@@ -137,7 +131,7 @@ fn put_hop(word: &[u8], attrs: &Attrs, text: &mut Shown) {
 }
 
 /// Appends what attributes say, as one line.
-pub(crate) fn put_attrs(attrs: &Attrs, text: &mut Shown) {
+pub fn put_attrs(attrs: &Attrs, text: &mut Shown) {
     put_fields(attrs, text);
     text.put(b"\n");
 }
@@ -193,7 +187,7 @@ fn put_aggregator(aggregator: Option<Aggregator>, text: &mut Shown) {
 }
 
 /// Appends the segments of the path that the octets say: of each its kind and its numbers.
-pub(crate) fn put_segments(alloc: Global, width: AsWidth, octets: &[u8], text: &mut Shown) {
+pub fn put_segments(alloc: Global, width: AsWidth, octets: &[u8], text: &mut Shown) {
     match entry_of(alloc, Family::V4, width, octets) {
         Ok(attrs) => put_path_segments(alloc, &attrs.path, text),
         Err(fault) => put_unread(fault, text),

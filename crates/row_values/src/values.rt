@@ -29,7 +29,7 @@ use std::str;
 const BEFORE: &str = "before";
 
 /// Appends what is answered to the lines.
-pub(crate) fn put_values(alloc: Global, script: &[u8], text: &mut Shown) {
+pub fn put_values(alloc: Global, script: &[u8], text: &mut Shown) {
     for line in str::from_utf8(script).unwrap_or("").lines() {
         put_answer(alloc, line, text);
         text.put(b"\n");
