@@ -3,12 +3,14 @@ use Rattle.std.specs.Prelude.{ℕ, ◌-◌, if◌then◌else◌, Bool, Option, S
 use Rattle.std.specs.Option.{unwrap_or}
 use Rattle.std.specs.List.{flat_map}
 use Rattle.ip_prefix.specs.Address.{Address}
+use Rattle.ip_prefix.specs.Network.{Network}
 use Rattle.ip_prefix.specs.Text.{address_text, network_text}
 use Rattle.bgp_wire.specs.declared.attrs.Origin.{Origin}
 use Rattle.bgp_wire.specs.declared.attrs.Origin.TheVariants.{Igp, Egp, Incomplete}
 use Rattle.bgp_wire.specs.declared.attrs.Aggregator.{Aggregator}
 use Rattle.bgp_wire.specs.declared.attrs.Attrs.{Attrs}
 use Rattle.bgp_wire.specs.Text.{path_text, communities_text}
+use Rattle.mrt_events.specs.declared.peer.Peer.{Peer}
 use Rattle.mrt_events.specs.declared.event.Route.{Route}
 use Rattle.mrt_events.specs.declared.event.Time.{Time}
 use Rattle.mrt_events.specs.declared.event.Tag.{Tag}
@@ -103,18 +105,32 @@ attribute_fields attrs =
     ∷ number_or_zero attrs.local_pref ∷ number_or_zero attrs.med ∷ communities_text attrs.communities
     ∷ aggregate_word attrs.atomic ∷ aggregator_text attrs.aggregator ∷ [] ∷ []
 
+-- the line of what an item says, behind its first field
+abbrev pub line_behind : List ℕ → Time → Tag → Saying → List ℕ
+line_behind first time tag (Announced peer network route) =
+    line_of (first ∷ route_time_text time tag route ∷ route_letter tag
+    ∷ address_text peer.addr ∷ decimal peer.asn ∷ network_text network ∷ attribute_fields route.attrs)
+line_behind first time tag (Withdrawn peer network) =
+    line_of (first ∷ time_text tag time ∷ codes "W"
+    ∷ address_text peer.addr ∷ decimal peer.asn ∷ network_text network ∷ [])
+line_behind first time tag (Changed peer old new) =
+    line_of (first ∷ time_text tag time ∷ codes "STATE"
+    ∷ address_text peer.addr ∷ decimal peer.asn ∷ decimal old ∷ decimal new ∷ [])
+
 -- the line of what an item says
 abbrev pub item_line : Time → Tag → Saying → List ℕ
-item_line time tag (Announced peer network route) =
-    line_of (word tag ∷ route_time_text time tag route ∷ route_letter tag
-    ∷ address_text peer.addr ∷ decimal peer.asn ∷ network_text network ∷ attribute_fields route.attrs)
-item_line time tag (Withdrawn peer network) =
-    line_of (word tag ∷ time_text tag time ∷ codes "W"
-    ∷ address_text peer.addr ∷ decimal peer.asn ∷ network_text network ∷ [])
-item_line time tag (Changed peer old new) =
-    line_of (word tag ∷ time_text tag time ∷ codes "STATE"
-    ∷ address_text peer.addr ∷ decimal peer.asn ∷ decimal old ∷ decimal new ∷ [])
+item_line time tag = line_behind (word tag) time tag
 
 -- the lines of an event, one for each item
 abbrev pub event_lines : Event → List ℕ
 event_lines event = flat_map (item_line event.time event.tag) event.items
+
+-- the first field of the lines of a peer's table
+abbrev pub rib_word : List ℕ
+rib_word = codes "RIB"
+
+-- the line of a route in the table of a peer
+abbrev pub rib_line : Peer → Network × Route → List ℕ
+rib_line peer entry =
+    line_of (rib_word ∷ decimal entry.1.time ∷ codes "B"
+    ∷ address_text peer.addr ∷ decimal peer.asn ∷ network_text entry.0 ∷ attribute_fields entry.1.attrs)

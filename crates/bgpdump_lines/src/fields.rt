@@ -47,7 +47,7 @@ pub fn put_peer(peer: &Peer, text: &mut Text) -> Result<(), AllocError>
 
 /// Appends a bar and a prefix.
 #[inline(always)]
-pub fn put_prefix(prefix: &Prefix, text: &mut Text) -> Result<(), AllocError>
+pub(crate) fn put_prefix(prefix: &Prefix, text: &mut Text) -> Result<(), AllocError>
     ensures appended { OnOk result
         (text.new ≡ text.old ++ (bar ∷ network_text prefix.now)) }
     ensures kept { OnErr result (StillBegins text.old text.new) }
@@ -146,7 +146,7 @@ fn put_aggregator(aggregator: Option<Aggregator>, text: &mut Text) -> Result<(),
 }
 
 /// Appends what stands behind the prefix in the line of a route with these attributes.
-pub fn put_attributes(attrs: &Attrs, text: &mut Text) -> Result<(), AllocError>
+pub(crate) fn put_attributes(attrs: &Attrs, text: &mut Text) -> Result<(), AllocError>
     ensures appended { OnOk result
         (text.new ≡ text.old ++ (bar ∷ line_of (attribute_fields attrs.now))) }
     ensures kept { OnErr result (StillBegins text.old text.new) }

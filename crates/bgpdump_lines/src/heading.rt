@@ -1,10 +1,12 @@
-//! What the lines of an event begin with.
+//! What the lines of an event, or of a table, begin with.
 
 ghost use Rattle.std.specs.Prelude.{◌≡◌, ◌∷◌, ◌++◌, OnOk, OnErr};
 ghost use Rattle.bgp_wire.specs.Printed.{StillBegins};
-ghost use Rattle.bgpdump_lines.specs.Lines.{bar, word, micros_text, time_text, route_time_text};
+ghost use Rattle.bgpdump_lines.specs.Lines.{bar, micros_text, time_text, route_time_text};
 ghost use Rattle.bgpdump_lines.specs.Lines.{route_letter};
-ghost use Rattle.bgpdump_lines.specs.Heading.{route_head};
+ghost use Rattle.bgpdump_lines.specs.Heading.{first_field, route_head};
+ghost use Rattle.bgpdump_lines.specs.declared.heading.First.TheVariants.{Record, Rib};
+ghost use Rattle.mrt_events.specs.declared.event.Tag.TheVariants.{TableDump2};
 
 use crate::fields::put_field;
 use ip_prefix::Text;
@@ -14,9 +16,20 @@ use std::alloc::AllocError;
 /// How many digits the microseconds of a line have at least.
 const MICROS_DIGITS: usize = 6;
 
-/// What the lines of an event have in common.
+/// What the first field of a line tells.
+#[derive(Clone, Copy)]
+pub(crate) enum First {
+    /// The kind of record that the line is from.
+    Record,
+    /// That the line is of the table of a peer.
+    Rib,
+}
+
+/// What the lines of an event, or of a table, have in common.
 #[derive(Clone, Copy)]
 pub(crate) struct Heading {
+    /// What they begin with.
+    pub(crate) first: First,
     /// When the record was written.
     pub(crate) time: Time,
     /// What kind of record it is.
@@ -27,29 +40,48 @@ impl Heading {
     /// That of an event.
     #[inline(always)]
     pub(crate) fn of(event: &Event) -> Heading
+        ensures first { result.first ≡ Record }
         ensures time { result.time ≡ event.now.time }
         ensures tag { result.tag ≡ event.now.tag }
     {
         Heading {
+            first: First::Record,
             time: event.time,
             tag: event.tag,
+        }
+    }
+
+    /// That of the table of a peer: its lines are those of an entry of a table, but for what they begin
+    /// with.
+    #[inline(always)]
+    pub(crate) fn of_table() -> Heading
+        ensures first { result.first ≡ Rib }
+        ensures tag { result.tag ≡ TableDump2 }
+    {
+        Heading {
+            first: First::Rib,
+            time: Time {
+                seconds: 0,
+                micros: None,
+            },
+            tag: Tag::TableDump2,
         }
     }
 }
 
 /// Appends the first field of a line.
 #[inline(always)]
-fn put_word(tag: Tag, text: &mut Text) -> Result<(), AllocError>
-    ensures appended { OnOk result (text.new ≡ text.old ++ word tag) }
+fn put_word(heading: &Heading, text: &mut Text) -> Result<(), AllocError>
+    ensures appended { OnOk result (text.new ≡ text.old ++ first_field heading.now) }
     ensures kept { OnErr result (StillBegins text.old text.new) }
 {
-    match tag {
-        Tag::TableDump => text.extend_from_slice(b"TABLE_DUMP")?,
-        Tag::TableDump2 => text.extend_from_slice(b"TABLE_DUMP2")?,
-        Tag::Bgp4mp => text.extend_from_slice(b"BGP4MP")?,
-        Tag::Bgp4mpEt => text.extend_from_slice(b"BGP4MP_ET")?,
+    match (heading.first, heading.tag) {
+        (First::Rib, _) => text.extend_from_slice(b"RIB"),
+        (First::Record, Tag::TableDump) => text.extend_from_slice(b"TABLE_DUMP"),
+        (First::Record, Tag::TableDump2) => text.extend_from_slice(b"TABLE_DUMP2"),
+        (First::Record, Tag::Bgp4mp) => text.extend_from_slice(b"BGP4MP"),
+        (First::Record, Tag::Bgp4mpEt) => text.extend_from_slice(b"BGP4MP_ET"),
     }
-    Ok(())
 }
 
 /// Appends microseconds, behind zeros where they have fewer digits than are printed. They are
@@ -86,10 +118,10 @@ fn put_time(heading: &Heading, text: &mut Text) -> Result<(), AllocError>
 #[inline(always)]
 pub(crate) fn put_head(heading: &Heading, text: &mut Text) -> Result<(), AllocError>
     ensures appended { OnOk result (text.new ≡
-        text.old ++ (word heading.now.tag ++ bar ∷ time_text heading.now.tag heading.now.time)) }
+        text.old ++ (first_field heading.now ++ bar ∷ time_text heading.now.tag heading.now.time)) }
     ensures kept { OnErr result (StillBegins text.old text.new) }
 {
-    put_word(heading.tag, text)?;
+    put_word(heading, text)?;
     put_time(heading, text)
 }
 
@@ -129,7 +161,7 @@ pub(crate) fn put_route_head(
         text.old ++ route_head heading.now route.now) }
     ensures kept { OnErr result (StillBegins text.old text.new) }
 {
-    put_word(heading.tag, text)?;
+    put_word(heading, text)?;
     put_route_time(heading, route, text)?;
     put_letter(heading.tag, text)
 }

@@ -28,7 +28,7 @@ const FEW: usize = 64;
 const ENOUGH: usize = 1 << 16;
 
 /// Writes the text and clears it, where it is long. Returned is the line that it ends in then.
-fn write_long<'a, O: Output>(
+pub(crate) fn write_long<'a, O: Output>(
     out: &mut O,
     last: Option<LastLine<'a>>,
     text: &mut Text,

@@ -19,7 +19,8 @@ use Rattle.rib_player.specs.Tables.{Routes}
 use Rattle.bgpdump_lines.specs.declared.fault.WriteFault.{WriteFault}
 use Rattle.bgpdump_lines.specs.declared.fault.WriteFault.TheVariants.{Write, Memory}
 use Rattle.bgpdump_lines.specs.Device.{AppendsFront}
-use Rattle.bgpdump_tool.specs.Replies.{peer_line, peer_lines, rib_line}
+use Rattle.bgpdump_lines.specs.Lines.{rib_line}
+use Rattle.bgpdump_tool.specs.Replies.{peer_line, peer_lines}
 use Rattle.bgpdump_lines.specs.Writing.{Puts, PutsPart}
 use Rattle.bgpdump_lines.proofs.WritingLaws.{AppendsFront-none, AppendsFront-behind, AppendsFront-longer, lines_next}
 
@@ -81,22 +82,11 @@ module _ {A : Type 0} (line : A → List ℕ) (all : List A) where
       (AppendsFront-behind old mid new (flat_map line p.done) (flat_map line (items ++ behind)) p.appended
       (subst (AppendsFront mid new) (sym (flat_map-append line items behind)) (AppendsFront-longer mid new (flat_map line items) (flat_map line behind) put)))
 
-  -- one more line behind a front of the items, and a fault in it
-  pub lines-next : (i : ℕ) (d : A) (old mid new : Option (List ℕ)) → i < length all → Appends old mid (flat_map line (take i all)) → Appends mid new (line (get_or all i d)) → Appends old new (flat_map line (take (i + 1) all))
-  lines-next i d old mid new lt p appended = subst (Appends old new) (sym (lines_next line all i d lt)) (Appends-trans old mid new (flat_map line (take i all)) (line (get_or all i d)) p appended)
-
-  pub lines-stop : (i : ℕ) (d : A) (old mid new : Option (List ℕ)) (fault : WriteFault) → i < length all → Appends old mid (flat_map line (take i all)) → Puts {A = Unit {0}} mid new (line (get_or all i d)) (Err fault) → AppendsFront old new (flat_map line all)
-  lines-stop i d old mid new fault lt p put =
-      subst (AppendsFront old new) (sym (flat_map-append line (take (i + 1) all) (drop (i + 1) all)) ∙ ap (flat_map line) (take-append-drop (i + 1) all))
-      (AppendsFront-longer old new (flat_map line (take (i + 1) all)) (flat_map line (drop (i + 1) all))
-      (subst (AppendsFront old new) (sym (lines_next line all i d lt))
-      (AppendsFront-behind old mid new (flat_map line (take i all)) (line (get_or all i d)) p (AppendsFront-put mid new (line (get_or all i d)) fault put))))
-
-  pub lines-all : (i : ℕ) (old new : Option (List ℕ)) → length all ≤ i → Appends old new (flat_map line (take i all)) → Appends old new (flat_map line all)
-  lines-all i old new ge p = subst (λ xs. Appends old new (flat_map line xs)) (take_all i all ge) p
-
 -- the lines of routes that are pointed to
-pub lines-pointed : (peer : Peer) (found : List (Network × Bor (Rc Route Global))) → flat_map (λ f. rib_line peer (f.0, f.1.now.value)) found ≡ flat_map (rib_line peer) (pointed_routes found)
+abbrev pub pointed_lines : Peer → List (Network × Bor (Rc Route Global)) → List ℕ
+pointed_lines peer found = flat_map (λ f. rib_line peer (f.0, f.1.now.value)) found
+
+pub lines-pointed : (peer : Peer) (found : List (Network × Bor (Rc Route Global))) → pointed_lines peer found ≡ flat_map (rib_line peer) (pointed_routes found)
 lines-pointed peer [] = refl
 lines-pointed peer (f ∷ found) = ap (λ l. rib_line peer (f.0, f.1.now.value) ++ l) (lines-pointed peer found)
 

@@ -10,7 +10,6 @@ pub mod Command
 pub use Rattle.bgpdump_command_line.specs.CommandLine
 pub mod Script
 pub mod Replies
-pub mod Front
 pub mod State
 pub mod Meaning
 pub mod Course

@@ -5,14 +5,14 @@ use Rattle.std.specs.Option.{option_map}
 use Rattle.std.specs.FinMap as finite
 use Rattle.ip_prefix.specs.Address.{Address}
 use Rattle.ip_prefix.specs.Network.{Network, contains}
-use Rattle.ip_prefix.specs.Text.{address_text, network_text}
+use Rattle.ip_prefix.specs.Text.{address_text}
 use Rattle.mrt_events.specs.declared.peer.Peer.{Peer}
 use Rattle.mrt_events.specs.declared.event.Route.{Route}
 use Rattle.prefix_store.specs.Stored.{counted}
 use Rattle.rib_player.specs.History.{pair_of}
 use Rattle.rib_player.specs.Tables.{Routes}
 use Rattle.rib_player.specs.Store.{peer_routes, routed_peers}
-use Rattle.bgpdump_lines.specs.Lines.{line_feed, line_of, attribute_fields}
+use Rattle.bgpdump_lines.specs.Lines.{line_feed, line_of, rib_line}
 
 -- `at`, the position, and whether the end was met
 abbrev pub at_text : ℕ → Bool → List ℕ
@@ -29,12 +29,6 @@ forgot_text position floor number =
 
 abbrev pub none_text : List ℕ
 none_text = codes "none" ++ line_feed ∷ []
-
--- the line of a route in the table of a peer
-abbrev pub rib_line : Peer → Network × Route → List ℕ
-rib_line peer entry =
-    line_of (codes "RIB" ∷ decimal entry.1.time ∷ codes "B"
-    ∷ address_text peer.addr ∷ decimal peer.asn ∷ network_text entry.0 ∷ attribute_fields entry.1.attrs)
 
 -- the line of a route, where there is one
 abbrev pub found_text : Peer → Option (Network × Route) → List ℕ

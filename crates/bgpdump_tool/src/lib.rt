@@ -6,7 +6,6 @@ mod command;
 mod commands;
 mod laws;
 mod play;
-mod printed;
 mod replies;
 mod script;
 mod session;

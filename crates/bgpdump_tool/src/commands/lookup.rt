@@ -4,8 +4,8 @@ ghost use Rattle.std.specs.Prelude.{◌≡◌, ◌||◌};
 ghost use Rattle.bgpdump_tool.specs.Replies.{best_text};
 ghost use Rattle.bgpdump_lines.specs.Writing.{Puts, is_write};
 
-use crate::replies::{write_none, write_rib_line};
-use bgpdump_lines::{Output, WriteFault};
+use crate::replies::write_none;
+use bgpdump_lines::{Output, WriteFault, write_rib_line};
 use ip_prefix::{Addr, Text};
 use mrt_wire::{Peer, Route};
 use prefix_store::PrefixStore;
@@ -26,7 +26,7 @@ pub(crate) fn lookup<S: PrefixStore<Rc<Route>>, O: Output>(
     ensures failed { O.failed out.new ≡ (O.failed out.old || is_write result) }
 {
     match table.longest(peer, addr) {
-        Some(found) => write_rib_line(peer, &found.0, found.1, out, text),
+        Some(found) => write_rib_line(out, peer, &found.0, found.1, text),
         None => write_none(out),
     }
 }

@@ -4,8 +4,8 @@ ghost use Rattle.std.specs.Prelude.{◌≡◌, ◌||◌};
 ghost use Rattle.bgpdump_tool.specs.Replies.{route_text};
 ghost use Rattle.bgpdump_lines.specs.Writing.{Puts, is_write};
 
-use crate::replies::{write_none, write_rib_line};
-use bgpdump_lines::{Output, WriteFault};
+use crate::replies::write_none;
+use bgpdump_lines::{Output, WriteFault, write_rib_line};
 use ip_prefix::{Prefix, Text};
 use mrt_wire::{Peer, Route};
 use prefix_store::PrefixStore;
@@ -25,7 +25,7 @@ pub(crate) fn route<S: PrefixStore<Rc<Route>>, O: Output>(
     ensures failed { O.failed out.new ≡ (O.failed out.old || is_write result) }
 {
     match table.get(peer, prefix) {
-        Some(route) => write_rib_line(peer, prefix, route, out, text),
+        Some(route) => write_rib_line(out, peer, prefix, route, text),
         None => write_none(out),
     }
 }

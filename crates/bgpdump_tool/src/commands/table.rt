@@ -1,14 +1,10 @@
 //! The routes of a peer.
 
 ghost use Rattle.std.specs.Prelude.{◌≡◌, ◌<◌, ◌++◌, ◌||◌, OnOk, vec_capacity};
-ghost use Rattle.std.specs.List.{flat_map};
-ghost use Rattle.rib_player.specs.Lookups.{pointed_routes};
-ghost use Rattle.bgpdump_tool.specs.Replies.{rib_line, routes_line, table_text};
+ghost use Rattle.bgpdump_tool.specs.Replies.{routes_line, table_text};
 ghost use Rattle.bgpdump_lines.specs.Writing.{Puts, PutsPart, is_write};
 
-use crate::printed::PrintedRoute;
-use crate::replies::write_table_line;
-use bgpdump_lines::{Output, WriteFault, put_all};
+use bgpdump_lines::{Output, WriteFault, put_all, write_rib_line, write_rib_lines};
 use ip_prefix::{Prefix, Text};
 use mrt_wire::{Peer, Route};
 use prefix_store::PrefixStore;
@@ -40,30 +36,11 @@ fn write_routes_line<O: Output>(routes: u64, out: &mut O, text: &mut Text) -> Re
     Ok(())
 }
 
-/// Writes these routes of the peer, each on a line. The text is scratch.
-fn write_found<O: Output>(
-    peer: &Peer,
-    found: &[(Prefix, &Rc<Route>)],
-    printed: &mut PrintedRoute,
-    out: &mut O,
-    text: &mut Text,
-) -> Result<(), WriteFault>
-    ensures text { PutsPart (O.written out.old) (O.written out.new)
-        (flat_map (rib_line peer.now) (pointed_routes found.now)) result }
-    ensures failed { O.failed out.new ≡ (O.failed out.old || is_write result) }
-{
-    'routes: for entry in found {
-        write_table_line(peer, &entry.0, entry.1, printed, out, text)?;
-    }
-    Ok(())
-}
-
 /// Writes all routes of the peer, each on a line, as they come, and then how many they are: one by
 /// one, without room for more. The text is scratch.
 fn one_by_one<S: PrefixStore<Rc<Route>>, O: Output>(
     table: &Table<S>,
     peer: &Peer,
-    printed: &mut PrintedRoute,
     out: &mut O,
     text: &mut Text,
 ) -> Result<(), WriteFault>
@@ -74,7 +51,7 @@ fn one_by_one<S: PrefixStore<Rc<Route>>, O: Output>(
     let mut low = None;
     let mut written: u64 = 0;
     'routes: while let Some(found) = table.after(peer, low.as_ref()) {
-        write_table_line(peer, &found.0, found.1, printed, out, text)?;
+        write_rib_line(out, peer, &found.0, found.1, text)?;
         written = written.saturating_add(1);
         low = Some(found.0);
     }
@@ -87,7 +64,6 @@ fn many_at_once<'a, S: PrefixStore<Rc<Route>>, O: Output>(
     table: &'a Table<S>,
     peer: &Peer,
     room: Vec<(Prefix, &'a Rc<Route>)>,
-    printed: &mut PrintedRoute,
     out: &mut O,
     text: &mut Text,
 ) -> Result<(), WriteFault>
@@ -105,7 +81,7 @@ fn many_at_once<'a, S: PrefixStore<Rc<Route>>, O: Output>(
             break;
         };
         last = Some(end.0);
-        write_found(peer, &found, printed, out, text)?;
+        write_rib_lines(out, peer, &found, text)?;
         count = count.saturating_add(found.len() as u64);
     }
     write_routes_line(count, out, text)
@@ -124,9 +100,8 @@ pub(crate) fn table<S: PrefixStore<Rc<Route>>, O: Output>(
         (table_text table.now.routes peer.now) result }
     ensures failed { O.failed out.new ≡ (O.failed out.old || is_write result) }
 {
-    let mut printed = PrintedRoute::none(alloc);
     match Vec::with_capacity(alloc, MANY) {
-        Ok(room) => many_at_once(table, peer, room, &mut printed, out, text),
-        Err(_) => one_by_one(table, peer, &mut printed, out, text),
+        Ok(room) => many_at_once(table, peer, room, out, text),
+        Err(_) => one_by_one(table, peer, out, text),
     }
 }

@@ -4,8 +4,8 @@ use Rattle.std.proofs.lemmas.Result.{err_from_is_err_and}
 use Rattle.std.specs.List.{flat_map}
 use Rattle.mrt_events.specs.declared.event.Item.{Item}
 use Rattle.mrt_events.specs.Event.{saying}
-use Rattle.bgpdump_lines.specs.Lines.{item_line}
-use Rattle.bgpdump_lines.specs.Heading.{headed_line}
+use Rattle.bgpdump_lines.specs.Lines.{item_line, line_behind}
+use Rattle.bgpdump_lines.specs.Heading.{headed_line, word_of}
 use Rattle.bgpdump_lines.specs.Device.{AppendsFront}
 use Rattle.bgpdump_lines.specs.Writing.{Passes}
 use Rattle.bgpdump_lines.proofs.LineLaws.{lines-three}
@@ -20,7 +20,7 @@ write_shared-requires g c =
 pub returns-in_err-write_items-clause-text : goal.returns-in_err-write_items-clause-text
 returns-in_err-write_items-clause-text g c =
     let line = headed_line c.of-heading.result in
-    let same : flat_map (item_line c.args.event.now.time c.args.event.now.tag) c.args.event.now.items ≡ flat_map line c.args.event.now.items = λ i. flat_map (item_line (sym c.of-heading.ensures.time i) (sym c.of-heading.ensures.tag i)) c.args.event.now.items in
+    let same : flat_map (item_line c.args.event.now.time c.args.event.now.tag) c.args.event.now.items ≡ flat_map line c.args.event.now.items = λ i. flat_map (line_behind (word_of (sym c.of-heading.ensures.first i) (sym c.of-heading.ensures.tag i)) (sym c.of-heading.ensures.time i) (sym c.of-heading.ensures.tag i)) c.args.event.now.items in
     let items = c.as_slice-items.result.now in
     let three = same ∙ lines-three line items _ c.shared-shared.result.start c.shared-shared.result.end c.shared-shared.ensures.ordered c.as_slice-items.ensures in
     let p = err_from_is_err_and c.from_residual.result c.from_residual.ensures.1 in
@@ -29,7 +29,7 @@ returns-in_err-write_items-clause-text g c =
 pub returns-in_err-write_shared-clause-text : goal.returns-in_err-write_shared-clause-text
 returns-in_err-write_shared-clause-text g c =
     let line = headed_line c.of-heading.result in
-    let same : flat_map (item_line c.args.event.now.time c.args.event.now.tag) c.args.event.now.items ≡ flat_map line c.args.event.now.items = λ i. flat_map (item_line (sym c.of-heading.ensures.time i) (sym c.of-heading.ensures.tag i)) c.args.event.now.items in
+    let same : flat_map (item_line c.args.event.now.time c.args.event.now.tag) c.args.event.now.items ≡ flat_map line c.args.event.now.items = λ i. flat_map (line_behind (word_of (sym c.of-heading.ensures.first i) (sym c.of-heading.ensures.tag i)) (sym c.of-heading.ensures.time i) (sym c.of-heading.ensures.tag i)) c.args.event.now.items in
     let items = c.as_slice-items.result.now in
     let a = g.O.Output.written c.args.out.now in
     let d = g.O.Output.written c.write_shared.new.out in
@@ -41,7 +41,7 @@ returns-in_err-write_shared-clause-text g c =
 pub returns-in_err-write_items-2-clause-text : goal.returns-in_err-write_items-2-clause-text
 returns-in_err-write_items-2-clause-text g c =
     let line = headed_line c.of-heading.result in
-    let same : flat_map (item_line c.args.event.now.time c.args.event.now.tag) c.args.event.now.items ≡ flat_map line c.args.event.now.items = λ i. flat_map (item_line (sym c.of-heading.ensures.time i) (sym c.of-heading.ensures.tag i)) c.args.event.now.items in
+    let same : flat_map (item_line c.args.event.now.time c.args.event.now.tag) c.args.event.now.items ≡ flat_map line c.args.event.now.items = λ i. flat_map (line_behind (word_of (sym c.of-heading.ensures.first i) (sym c.of-heading.ensures.tag i)) (sym c.of-heading.ensures.time i) (sym c.of-heading.ensures.tag i)) c.args.event.now.items in
     let f : List Item → List ℕ = λ l. flat_map line (map saying l) in
     let items = c.as_slice-items.result.now in
     let start = c.shared-shared.result.start in
@@ -63,7 +63,7 @@ returns-in_err-write_items-2-clause-text g c =
 pub returns-clause-text : goal.returns-clause-text
 returns-clause-text g c =
     let line = headed_line c.of-heading.result in
-    let same : flat_map (item_line c.args.event.now.time c.args.event.now.tag) c.args.event.now.items ≡ flat_map line c.args.event.now.items = λ i. flat_map (item_line (sym c.of-heading.ensures.time i) (sym c.of-heading.ensures.tag i)) c.args.event.now.items in
+    let same : flat_map (item_line c.args.event.now.time c.args.event.now.tag) c.args.event.now.items ≡ flat_map line c.args.event.now.items = λ i. flat_map (line_behind (word_of (sym c.of-heading.ensures.first i) (sym c.of-heading.ensures.tag i)) (sym c.of-heading.ensures.time i) (sym c.of-heading.ensures.tag i)) c.args.event.now.items in
     let f : List Item → List ℕ = λ l. flat_map line (map saying l) in
     let items = c.as_slice-items.result.now in
     let start = c.shared-shared.result.start in

@@ -11,11 +11,12 @@ use Rattle.prefix_store.specs.Lookups.{above}
 use Rattle.prefix_store.proofs.AboveLaws.{above-none, above-front, none-left, routes_sorted}
 use Rattle.rib_player.specs.Store.{peer_routes}
 use Rattle.rib_player.specs.Lookups.{pointed_routes}
-use Rattle.bgpdump_tool.specs.Replies.{rib_line, routes_line}
+use Rattle.bgpdump_lines.specs.Lines.{rib_line}
+use Rattle.bgpdump_tool.specs.Replies.{routes_line}
 use Rattle.bgpdump_lines.specs.Device.{AppendsFront}
 use Rattle.bgpdump_lines.specs.Writing.{Puts}
 use Rattle.bgpdump_lines.proofs.WritingLaws.{AppendsFront-longer}
-use Rattle.bgpdump_tool.proofs.WalkLaws.{Walked-start, Walked-many, Walked-end, Walked-breaks, PutsPart-behind, some_last, last_none, length-pointed}
+use Rattle.bgpdump_tool.proofs.WalkLaws.{Walked-start, Walked-many, Walked-end, Walked-breaks, PutsPart-behind, some_last, last_none, length-pointed, lines-pointed, pointed_lines}
 use Rattle.bgpdump_tool.proofs.commands.table.many_at_once.Given.{Over}
 use Rattle.bgpdump_tool.proofs.commands.table.many_at_once.Goals as goal
 use Rattle.bgpdump_tool.proofs.commands.table.many_at_once.Goals.{In-Some, In_default}
@@ -44,17 +45,18 @@ next g c =
     above-front c.routes.last (finite.entries routes) (routes_sorted routes) (vec_capacity c.routes.found) (pointed_routes c.next_routes.new.found.items) (c.in-Some.end.now.0, c.in-Some.end.now.1.now.value)
     (c.next_routes.ensures.found ∙ ap (λ low. take (vec_capacity c.routes.found) (above low (finite.entries routes))) c.as_ref.ensures.value) (last g c)
 
-pub returns-in_err-write_found-clause-text : goal.returns-in_err-write_found-clause-text
-returns-in_err-write_found-clause-text g c =
-    let b = (goal.at.returns-in_err-write_found-clause-text g c).In-Some in
+pub returns-in_err-write_rib_lines-clause-text : goal.returns-in_err-write_rib_lines-clause-text
+returns-in_err-write_rib_lines-clause-text g c =
+    let b = (goal.at.returns-in_err-write_rib_lines-clause-text g c).In-Some in
     let line = rib_line c.args.peer.now in
     let entries = finite.entries (peer_routes c.args.table.now.routes c.args.peer.now) in
     let found = pointed_routes c.next_routes.new.found.items in
     let old = g.O.Output.written c.args.out.now in
     let mid = g.O.Output.written c.routes.out in
-    let new = g.O.Output.written c.write_found.new.out in
+    let new = g.O.Output.written c.write_rib_lines.new.out in
     let p = err_from_is_err_and c.from_residual.result c.from_residual.ensures.1 in
-    let put = subst (λ items. AppendsFront mid new (flat_map line (pointed_routes items))) c.deref-in-routes.ensures.value c.in_err-write_found.ensures.text in
+    let put = subst (AppendsFront mid new) (lines-pointed c.args.peer.now c.next_routes.new.found.items)
+    (subst (λ items. AppendsFront mid new (pointed_lines c.args.peer.now items)) c.deref-in-routes.ensures.value c.in_err-write_rib_lines.ensures.text) in
     rw p.1 (AppendsFront-longer old new (flat_map line entries) _
     (Walked-breaks line entries found _ _ old mid new (next g b) c.routes.invariant.walked put))
 
@@ -76,8 +78,9 @@ routes-preserved g c =
     let found = pointed_routes items in
     let old = g.O.Output.written c.args.out.now in
     let mid = g.O.Output.written c.routes.out in
-    let new = g.O.Output.written c.write_found.new.out in
-    let put = subst (λ items. Appends mid new (flat_map line (pointed_routes items))) c.deref-in-routes.ensures.value c.in_ok-write_found.ensures.text in
+    let new = g.O.Output.written c.write_rib_lines.new.out in
+    let put = subst (Appends mid new) (lines-pointed c.args.peer.now items)
+    (subst (λ items. Appends mid new (pointed_lines c.args.peer.now items)) c.deref-in-routes.ensures.value c.in_ok-write_rib_lines.ensures.text) in
     let done = c.routes.invariant.walked.done in
     let size : length found ≡ c.len.result = length-pointed items ∙ sym c.next_routes.new.found.ok.0 ∙ sym c.len.ensures in
     let more : length (done ++ found) ≡ length done + c.len.result = length-append done found ∙ ap (λ n. length done + n) size in

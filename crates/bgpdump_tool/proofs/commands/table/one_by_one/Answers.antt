@@ -11,7 +11,8 @@ use Rattle.prefix_store.specs.Stored.{counted}
 use Rattle.prefix_store.specs.Lookups.{above}
 use Rattle.prefix_store.proofs.AboveLaws.{above-none, above-next, none-above, routes_sorted}
 use Rattle.rib_player.specs.Store.{peer_routes}
-use Rattle.bgpdump_tool.specs.Replies.{rib_line, routes_line}
+use Rattle.bgpdump_lines.specs.Lines.{rib_line}
+use Rattle.bgpdump_tool.specs.Replies.{routes_line}
 use Rattle.bgpdump_lines.specs.Writing.{Puts}
 use Rattle.bgpdump_lines.proofs.WritingLaws.{AppendsFront-longer}
 use Rattle.bgpdump_tool.proofs.WalkLaws.{Walked-start, Walked-next, Walked-end, Walked-stops, PutsPart-behind}
@@ -35,16 +36,16 @@ next g c =
     above-next c.routes.low (finite.entries routes) (c.in-Some.found.0, c.in-Some.found.1.now.value) (routes_sorted routes)
     (ap (λ low. slice_get (above low (finite.entries routes)) 0) (sym c.as_ref.ensures.value) ∙ sym c.after.ensures ∙ ap (option_map {U = Network × Route} (λ f. (f.0, f.1.now.value))) c.in-Some.is)
 
-pub returns-in_err-write_table_line-clause-text : goal.returns-in_err-write_table_line-clause-text
-returns-in_err-write_table_line-clause-text g c =
-    let b = (goal.at.returns-in_err-write_table_line-clause-text g c).In-Some in
+pub returns-in_err-write_rib_line-clause-text : goal.returns-in_err-write_rib_line-clause-text
+returns-in_err-write_rib_line-clause-text g c =
+    let b = (goal.at.returns-in_err-write_rib_line-clause-text g c).In-Some in
     let entries = finite.entries (peer_routes c.args.table.now.routes c.args.peer.now) in
     let old = g.O.Output.written c.args.out.now in
-    let new = g.O.Output.written c.write_table_line.new.out in
+    let new = g.O.Output.written c.write_rib_line.new.out in
     let p = err_from_is_err_and c.from_residual.result c.from_residual.ensures.1 in
     rw p.1 (AppendsFront-longer old new (flat_map (rib_line c.args.peer.now) entries) _
-    (Walked-stops (rib_line c.args.peer.now) entries (c.in-Some.found.0, c.in-Some.found.1.now.value) _ _ old (g.O.Output.written c.routes.out) new c.in_err-write_table_line.field-0.0
-    (next g b) c.routes.invariant.walked c.in_err-write_table_line.ensures.text))
+    (Walked-stops (rib_line c.args.peer.now) entries (c.in-Some.found.0, c.in-Some.found.1.now.value) _ _ old (g.O.Output.written c.routes.out) new c.in_err-write_rib_line.field-0.0
+    (next g b) c.routes.invariant.walked c.in_err-write_rib_line.ensures.text))
 
 pub routes-smaller : goal.routes-smaller
 routes-smaller g c = omega (arith, ap length (next g (goal.at.routes-smaller g c).In-Some))
@@ -55,8 +56,8 @@ routes-preserved g c =
     let entries = finite.entries (peer_routes c.args.table.now.routes c.args.peer.now) in
     let entry : Network × Route = (c.in-Some.found.0, c.in-Some.found.1.now.value) in
     record {
-      walked = Walked-next (rib_line c.args.peer.now) entries entry _ _ (g.O.Output.written c.args.out.now) (g.O.Output.written c.routes.out) (g.O.Output.written c.write_table_line.new.out)
-          (next g b) c.routes.invariant.walked c.in_ok-write_table_line.ensures.text;
+      walked = Walked-next (rib_line c.args.peer.now) entries entry _ _ (g.O.Output.written c.args.out.now) (g.O.Output.written c.routes.out) (g.O.Output.written c.write_rib_line.new.out)
+          (next g b) c.routes.invariant.walked c.in_ok-write_rib_line.ensures.text;
       count = omega (arith, c.saturating_add-written.ensures, c.routes.invariant.count, length_push c.routes.invariant.walked.done entry);
       failed = search rules;
     }

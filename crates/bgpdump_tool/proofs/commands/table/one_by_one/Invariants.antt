@@ -4,7 +4,7 @@ use Rattle.std.specs.FinMap as finite
 use Rattle.prefix_store.specs.Stored.{counted}
 use Rattle.prefix_store.specs.Lookups.{above}
 use Rattle.rib_player.specs.Store.{peer_routes}
-use Rattle.bgpdump_tool.specs.Replies.{rib_line}
+use Rattle.bgpdump_lines.specs.Lines.{rib_line}
 use Rattle.bgpdump_tool.proofs.WalkLaws.{Walked}
 use Rattle.bgpdump_tool.proofs.commands.table.one_by_one.Given as goal
 
