@@ -2,9 +2,7 @@
 
 ghost use Rattle.std.specs.Prelude.{◌≡◌, ◌++◌, ◌||◌, OnOk, IfOk, IfSome};
 ghost use Rattle.std.specs.List.{flat_map};
-ghost use Rattle.mrt_events.specs.Event.{Announced};
-ghost use Rattle.bgpdump_lines.specs.Copying.{EndsIn};
-ghost use Rattle.bgpdump_lines.specs.Heading.{headed_line};
+ghost use Rattle.bgpdump_lines.specs.Copying.{EndsIn, said_line};
 ghost use Rattle.bgpdump_lines.specs.Lines.{rib_line};
 ghost use Rattle.bgpdump_lines.specs.Writing.{PassesPart, Puts, PutsPart, is_write};
 
@@ -29,8 +27,7 @@ fn write_next_line<'a, O: Output>(
 ) -> Result<LastLine<'a>, WriteFault>
     requires { IfSome last (λ line. EndsIn heading.now line text.old) }
     ensures text { PassesPart (O.written out.old) (O.written out.new) text.old text.new
-        (headed_line heading.now
-        (Announced said.entry.peer.now said.entry.prefix.now said.entry.route.now)) result }
+        (said_line heading.now said.entry) result }
     ensures last { IfOk result (λ line. EndsIn heading.now line text.new) }
     ensures failed { O.failed out.new ≡ (O.failed out.old || is_write result) }
 {

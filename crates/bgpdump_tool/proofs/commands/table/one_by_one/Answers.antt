@@ -1,4 +1,5 @@
-use Rattle.std.proofs.Common.{◌≡◌, ◌∷◌, [], Some, slice_get, length, arith, rules, refl, sym, ap, subst, ◌∙◌}
+use Rattle.std.specs.Io.KnownBytes.{Appends}
+use Rattle.std.proofs.Common.{◌≡◌, ◌∷◌, [], Some, Err, slice_get, length, arith, rules, refl, sym, ap, subst, ◌∙◌}
 use Rattle.std.specs.List.{flat_map}
 use Rattle.std.specs.Option.{option_map}
 use Rattle.std.specs.FinMap as finite
@@ -45,7 +46,8 @@ returns-in_err-write_rib_line-clause-text g c =
     let p = err_from_is_err_and c.from_residual.result c.from_residual.ensures.1 in
     rw p.1 (AppendsFront-longer old new (flat_map (rib_line c.args.peer.now) entries) _
     (Walked-stops (rib_line c.args.peer.now) entries (c.in-Some.found.0, c.in-Some.found.1.now.value) _ _ old (g.O.Output.written c.routes.out) new c.in_err-write_rib_line.field-0.0
-    (next g b) c.routes.invariant.walked c.in_err-write_rib_line.ensures.text))
+    (next g b) c.routes.invariant.walked
+    (subst (λ (route : Route). Puts {A = Unit {0}} (g.O.Output.written c.routes.out) new (rib_line c.args.peer.now (c.in-Some.found.0, route)) (Err c.in_err-write_rib_line.field-0.0)) c.deref.ensures c.in_err-write_rib_line.ensures.text)))
 
 pub routes-smaller : goal.routes-smaller
 routes-smaller g c = omega (arith, ap length (next g (goal.at.routes-smaller g c).In-Some))
@@ -57,7 +59,8 @@ routes-preserved g c =
     let entry : Network × Route = (c.in-Some.found.0, c.in-Some.found.1.now.value) in
     record {
       walked = Walked-next (rib_line c.args.peer.now) entries entry _ _ (g.O.Output.written c.args.out.now) (g.O.Output.written c.routes.out) (g.O.Output.written c.write_rib_line.new.out)
-          (next g b) c.routes.invariant.walked c.in_ok-write_rib_line.ensures.text;
+          (next g b) c.routes.invariant.walked
+          (subst (λ (route : Route). Appends (g.O.Output.written c.routes.out) (g.O.Output.written c.write_rib_line.new.out) (rib_line c.args.peer.now (c.in-Some.found.0, route))) c.deref.ensures c.in_ok-write_rib_line.ensures.text);
       count = omega (arith, c.saturating_add-written.ensures, c.routes.invariant.count, length_push c.routes.invariant.walked.done entry);
       failed = search rules;
     }

@@ -1,0 +1,6 @@
+-- What the prover finds, named so that it refuses a wrong body sooner.
+use Rattle.std.proofs.Common.{refl}
+use Rattle.bgpdump_lines.proofs.heading.Heading.of_table.Goals as goal
+
+pub returns-clause-tag : goal.returns-clause-tag
+returns-clause-tag c = refl
