@@ -82,7 +82,7 @@ KNOWN = {
     'steps of routes that come again': (0, 0),
     'the first of two peers goes': (20, 6),
     'the second of two peers goes': (20, 6),
-    'a script that prints a large table': (153, 10),
+    'a script that prints a large table': (161, 8),
 }
 
 # The most requests, where more would tell that a step costs what the table holds.
