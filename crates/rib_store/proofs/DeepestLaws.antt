@@ -10,16 +10,15 @@ use Rattle.ip_prefix.proofs.Containing.{contains_parts}
 use Rattle.ip_prefix.proofs.Turns.{covers-way, here_only, here_from}
 use Rattle.rib_store.specs.Shape.{Shape}
 use Rattle.rib_store.specs.Shape.{Empty, Rooted}
-use Rattle.rib_store.specs.declared.forest.Forest.{Forest}
 use Rattle.prefix_store.specs.Lookups.{IsLongest, IsLongestOf}
 use Rattle.rib_store.specs.Slots.{route_found, routes_in}
 use Rattle.rib_store.specs.Tree.{at, slot_of, chosen, IsShaped}
 use Rattle.rib_store.specs.Walks.{either_of, routed_at, deepest}
-use Rattle.rib_store.specs.Forest.{slots_in, tree_of, IsPlanted}
+use Rattle.rib_store.specs.Store.{Trees, slots_in, tree_of, IsPlanted}
 use Rattle.rib_store.proofs.WayLaws.{begin_outside, begin_side, begin_in, turn_longer, length-way}
 use Rattle.rib_store.proofs.TreeLaws.{at_left, at_right}
 use Rattle.rib_store.proofs.SlotLaws.{get-routes_in}
-use Rattle.rib_store.proofs.ForestLaws.{slot_at-tree_of, shaped-family}
+use Rattle.rib_store.proofs.StoreLaws.{slot_at-tree_of, shaped-family}
 
 -- the slot has the route, and the key begins with its way
 abbrev pub Holds : {R : Type 0} → (List Bool → Option (Option R)) → List Bool → List Bool → R → Type 0
@@ -182,7 +181,7 @@ longest-same one other address (Some found) same is =
     (is.0, sym (same found.0 is.0) ∙ is.1, λ n within some. is.2 n within (ap is_some (same n within) ∙ some))
 
 -- that is found in the tree of the address's family
-pub longest-is : {R : Type 0} (f : Forest R) → IsPlanted f → (address : Address) → IsLongest (routes_in (slots_in f)) address (deepest (tree_of address.family f) (way (host address)))
+pub longest-is : {R : Type 0} (f : Trees R) → IsPlanted f → (address : Address) → IsLongest (routes_in (slots_in f)) address (deepest (tree_of address.family f) (way (host address)))
 longest-is f planted address =
     longest-same (λ n. route_found (at (tree_of address.family f) (way n))) (finite.get (routes_in (slots_in f))) address (deepest (tree_of address.family f) (way (host address)))
     (λ n within. sym (get-routes_in (slots_in f) n ∙ ap route_found (slot_at-tree_of f planted n address.family (contains_parts n address within).0)))

@@ -1,11 +1,11 @@
 -- Lists filled as far as there is room, and the routes that walks down a tree append to them.
 use Rattle.prefix_store.proofs.AboveLaws.{take-nil}
-use Rattle.std.proofs.Common.{◌≡◌, ℕ, zero, suc, ◌-◌, Bool, true, false, cond, List, [], ◌∷◌, ◌++◌, take, length, Option, Some, None, refl, sym, ap, ap₂, ◌∙◌, arith, append_assoc, length-append}
+use Rattle.std.proofs.Common.{◌≡◌, ℕ, zero, suc, ◌-◌, Bool, true, false, cond, List, [], ◌∷◌, ◌++◌, take, length, Option, Some, None, Vec, Global, vec_capacity, Bor, refl, sym, ap, ap₂, ◌∙◌, arith, append_assoc, length-append}
 use Rattle.std.proofs.lemmas.List.{append-nil, length-take}
 use Rattle.std.proofs.Math.Seq.{take-append_seam}
 use Rattle.std.specs.Option.{option_to_list}
 use Rattle.ip_prefix.specs.Network.{Network}
-use Rattle.prefix_store.specs.Lookups.{is_above, above}
+use Rattle.prefix_store.specs.Lookups.{is_above, above, pointed}
 use Rattle.ip_prefix.specs.declared.turn.Turn.{Turn}
 use Rattle.ip_prefix.specs.Order.{network_cmp}
 use Rattle.ip_prefix.specs.Turns.{way, turn_of}
@@ -18,13 +18,12 @@ use Rattle.rib_store.specs.Shape.{Empty, Rooted}
 use Rattle.rib_store.specs.Tree.{chosen, own, slots_of, slot_of, IsOn, IsShaped}
 use Rattle.rib_store.specs.Slots.{Slots, routed}
 use Rattle.rib_store.specs.Walks.{routed_at, all_routes, all_behind, filled}
-use Rattle.prefix_store.proofs.AboveLaws.{none-above}
+use Rattle.prefix_store.proofs.AboveLaws.{none-above, above-none}
 use Rattle.rib_store.proofs.MarkLaws.{unmarked_first}
 use Rattle.rib_store.proofs.WayLaws.{below, left_first, node_first, not_itself, as_node}
 use Rattle.rib_store.proofs.WalkLaws.{first-routed, routed-append, next-all, next-none, above-ways, not_out, all-on, AllKeys-own, AllKeys-append}
-use Rattle.rib_store.specs.declared.forest.Forest.{Forest}
-use Rattle.rib_store.specs.Forest.{v4_of, v6_of, slots_in, IsPlanted}
-use Rattle.rib_store.proofs.ForestLaws.{first_side}
+use Rattle.rib_store.specs.Store.{Trees, IsPlanted}
+use Rattle.rib_store.proofs.StoreLaws.{first_side, entries_in, routed-entries}
 use Rattle.ip_prefix.proofs.Turns.{here_only}
 use Rattle.ip_prefix.specs.declared.turn.Turn.TheVariants.{Outside, Here, Left, Right}
 use Rattle.ip_prefix.specs.declared.addr.Family.TheVariants.{V4, V6}
@@ -160,17 +159,36 @@ behind-above {R} (Rooted prefix slot l r) shaped low = turns (turn_of (way prefi
 
 -- ---- those of both trees
 
-pub all-forest : {R : Type 0} (forest : Forest R) → all_routes (v4_of forest) ++ all_routes (v6_of forest) ≡ routed (slots_in forest)
-all-forest f = (λ i. all-routed (v4_of f) i ++ all-routed (v6_of f) i) ∙ sym (routed-append (slots_of (v4_of f)) (slots_of (v6_of f)))
+pub all-trees : {R : Type 0} (trees : Trees R) → IsPlanted trees → all_routes trees.v4 ++ all_routes trees.v6 ≡ above None (entries_in trees)
+all-trees f planted =
+    (λ i. all-routed f.v4 i ++ all-routed f.v6 i)
+    ∙ sym (routed-append (slots_of f.v4) (slots_of f.v6))
+    ∙ routed-entries f planted
+    ∙ sym (above-none (entries_in f))
 
 -- above a prefix of IPv4 stand all of IPv6
-pub above-v4 : {R : Type 0} (forest : Forest R) → IsPlanted forest → (low : Network) → low.family ≡ V4 → all_behind (v4_of forest) low ++ all_routes (v6_of forest) ≡ above (Some low) (routed (slots_in forest))
+pub above-v4 : {R : Type 0} (trees : Trees R) → IsPlanted trees → (low : Network) → low.family ≡ V4 → all_behind trees.v4 low ++ all_routes trees.v6 ≡ above (Some low) (entries_in trees)
 above-v4 f planted low e =
-    (λ i. behind-above (v4_of f) planted.v4 low i ++ all-above low [] true (v6_of f) planted.v6 planted.sides.right (λ n h. (left_first [] (way low) (way n) (first_side low V4 e) h).0) i)
-    ∙ sym (above-append low (slots_of (v4_of f)) (slots_of (v6_of f)))
+    (λ i. behind-above f.v4 planted.v4 low i ++ all-above low [] true f.v6 planted.v6 planted.sides.right (λ n h. (left_first [] (way low) (way n) (first_side low V4 e) h).0) i)
+    ∙ sym (above-append low (slots_of f.v4) (slots_of f.v6))
+    ∙ ap (above (Some low)) (routed-entries f planted)
 
 -- and above one of IPv6 none of IPv4
-pub above-v6 : {R : Type 0} (forest : Forest R) → IsPlanted forest → (low : Network) → low.family ≡ V6 → all_behind (v6_of forest) low ≡ above (Some low) (routed (slots_in forest))
+pub above-v6 : {R : Type 0} (trees : Trees R) → IsPlanted trees → (low : Network) → low.family ≡ V6 → all_behind trees.v6 low ≡ above (Some low) (entries_in trees)
 above-v6 f planted low e =
-    (λ i. none-above-side low [] false (v4_of f) planted.v4 planted.sides.left (λ n h. (left_first [] (way n) (way low) h (first_side low V6 e)).1) i ++ behind-above (v6_of f) planted.v6 low i)
-    ∙ sym (above-append low (slots_of (v4_of f)) (slots_of (v6_of f)))
+    (λ i. none-above-side low [] false f.v4 planted.v4 planted.sides.left (λ n h. (left_first [] (way n) (way low) h (first_side low V6 e)).1) i ++ behind-above f.v6 planted.v6 low i)
+    ∙ sym (above-append low (slots_of f.v4) (slots_of f.v6))
+    ∙ ap (above (Some low)) (routed-entries f planted)
+
+-- a list that was cleared and then filled
+pub filled_anew : {R : Type 0} (room : ℕ) (cleared new : Vec (Network × Bor R) Global) (xs : List (Network × R)) → vec_capacity cleared ≡ room → cleared.items ≡ []
+    → pointed new.items ≡ filled (vec_capacity cleared) (pointed cleared.items) xs → pointed new.items ≡ take room xs
+filled_anew room cleared new xs same none found = found ∙ ap₂ (λ r items. filled r (pointed items) xs) same none ∙ filled-front room xs
+
+-- and with more
+pub filled_twice : {R : Type 0} (room : ℕ) (cleared mid new : Vec (Network × Bor R) Global) (xs ys : List (Network × R)) → vec_capacity cleared ≡ room → cleared.items ≡ []
+    → vec_capacity mid ≡ vec_capacity cleared → pointed mid.items ≡ filled (vec_capacity cleared) (pointed cleared.items) xs
+    → pointed new.items ≡ filled (vec_capacity mid) (pointed mid.items) ys → pointed new.items ≡ take room (xs ++ ys)
+filled_twice room cleared mid new xs ys same none still found more =
+    filled_anew room cleared new (xs ++ ys) same none
+    (filled-then (vec_capacity cleared) (vec_capacity mid) (pointed cleared.items) (pointed mid.items) (pointed new.items) xs ys still found more)

@@ -25,19 +25,18 @@ use Rattle.ip_prefix.proofs.Turns.{covers-way}
 use Rattle.rib_store.specs.declared.tree.Slot.TheVariants.{Branch, Vacant, Filled}
 use Rattle.rib_store.specs.Shape.{Shape}
 use Rattle.rib_store.specs.Shape.{Empty, Rooted}
-use Rattle.rib_store.specs.declared.forest.Forest.{Forest}
 use Rattle.prefix_store.specs.Stored.{Keys}
 use Rattle.rib_store.specs.Slots.{Slots, keys_in}
 use Rattle.rib_store.specs.Tree.{own, slots_of, slot_of, chosen, same_way, root, AreSides, IsOn, IsShaped}
 use Rattle.rib_store.specs.Walks.{node_count}
-use Rattle.rib_store.specs.Forest.{v4_of, v6_of, slots_in, IsPlanted}
+use Rattle.rib_store.specs.Store.{Trees, slots_in, IsPlanted}
 use Rattle.rib_store.specs.Nodes.{is_node, AreNodes}
 use Rattle.prefix_store.proofs.AboveLaws.{is_less}
 use Rattle.rib_store.proofs.WayLaws.{beyond, turn_through, first_turn, node_first, left_first}
 use Rattle.prefix_store.proofs.StoredLaws.{same_prefix}
 use Rattle.rib_store.proofs.SlotLaws.{len-from_list, len-keys_in}
 use Rattle.rib_store.proofs.WalkLaws.{cmp-ways, tied-ways, keys_of-append, sorted-append}
-use Rattle.rib_store.proofs.ForestLaws.{sorted-slots_in}
+use Rattle.rib_store.proofs.StoreLaws.{sorted-slots_in}
 use Rattle.rib_store.proofs.NodeLaws.{node_at, any_key, by_turn, at_here, at_side, told, told_left, told_right}
 
 -- whether the prefix is in the list
@@ -215,35 +214,35 @@ sorted-nodes_of (Rooted prefix slot l r) shaped =
 -- ---- both families
 
 -- the nodes of both trees
-abbrev pub all_nodes : {R : Type 0} → Forest R → Keys
-all_nodes f = set.from_list (nodes_of (v4_of f) ++ nodes_of (v6_of f))
+abbrev pub all_nodes : {R : Type 0} → Trees R → Keys
+all_nodes f = set.from_list (nodes_of f.v4 ++ nodes_of f.v6)
 
-pub len-all_nodes : {R : Type 0} (f : Forest R) → IsPlanted f → set.len (all_nodes f) ≡ node_count (v4_of f) + node_count (v6_of f)
+pub len-all_nodes : {R : Type 0} (f : Trees R) → IsPlanted f → set.len (all_nodes f) ≡ node_count f.v4 + node_count f.v6
 len-all_nodes f planted =
-    let sorted = sorted-nodes [] (v4_of f) (v6_of f) planted.sides planted.v4 planted.v6 (sorted-nodes_of (v4_of f) planted.v4) (sorted-nodes_of (v6_of f) planted.v6) in
-    len-from_list (nodes_of (v4_of f) ++ nodes_of (v6_of f)) (IsDistinct-from_sorted network_cmp _ sorted)
-    ∙ omega (arith, length-append (nodes_of (v4_of f)) (nodes_of (v6_of f)), length-nodes_of (v4_of f), length-nodes_of (v6_of f))
+    let sorted = sorted-nodes [] f.v4 f.v6 planted.sides planted.v4 planted.v6 (sorted-nodes_of f.v4 planted.v4) (sorted-nodes_of f.v6 planted.v6) in
+    len-from_list (nodes_of f.v4 ++ nodes_of f.v6) (IsDistinct-from_sorted network_cmp _ sorted)
+    ∙ omega (arith, length-append (nodes_of f.v4) (nodes_of f.v6), length-nodes_of f.v4, length-nodes_of f.v6)
 
 -- some key of either tree passes
-abbrev either_key : {R : Type 0} → (List Bool → Bool) → Forest R → Bool
-either_key test f = any_key test (v4_of f) || any_key test (v6_of f)
+abbrev either_key : {R : Type 0} → (List Bool → Bool) → Trees R → Bool
+either_key test f = any_key test f.v4 || any_key test f.v6
 
 -- a node of either tree stands exactly where a key is, or where keys lie on both sides
-told_both : {R : Type 0} (f : Forest R) → IsPlanted f → (q : List Bool) (bit : Bool) → turn_of [] q ≡ side bit
-    → (node_at (v4_of f) q || node_at (v6_of f) q) ≡ (either_key (by_turn at_here q) f || (either_key (by_turn (at_side false) q) f && either_key (by_turn (at_side true) q) f))
+told_both : {R : Type 0} (f : Trees R) → IsPlanted f → (q : List Bool) (bit : Bool) → turn_of [] q ≡ side bit
+    → (node_at f.v4 q || node_at f.v6 q) ≡ (either_key (by_turn at_here q) f || (either_key (by_turn (at_side false) q) f && either_key (by_turn (at_side true) q) f))
 told_both f planted q false e =
-    let only = λ (w : Turn → Bool) (out : w Outside ≡ false). told_left [] None (v4_of f) (v6_of f) q w out planted.sides.right planted.v6 e in
-    ap (λ b. node_at (v4_of f) q || b) (node_right [] (v6_of f) planted.sides.right q ∙ ap (λ t. chosen t false false false (node_at (v6_of f) q)) e)
-    ∙ or-false (node_at (v4_of f) q) ∙ told (v4_of f) q planted.v4
+    let only = λ (w : Turn → Bool) (out : w Outside ≡ false). told_left [] None f.v4 f.v6 q w out planted.sides.right planted.v6 e in
+    ap (λ b. node_at f.v4 q || b) (node_right [] f.v6 planted.sides.right q ∙ ap (λ t. chosen t false false false (node_at f.v6 q)) e)
+    ∙ or-false (node_at f.v4 q) ∙ told f.v4 q planted.v4
     ∙ sym (λ i. only at_here refl i || (only (at_side false) refl i && only (at_side true) refl i))
 told_both f planted q true e =
-    let only = λ (w : Turn → Bool) (out : w Outside ≡ false). told_right [] None (v4_of f) (v6_of f) q w out planted.sides.left planted.v4 e in
-    ap (λ b. b || node_at (v6_of f) q) (node_left [] (v4_of f) planted.sides.left q ∙ ap (λ t. chosen t false false (node_at (v4_of f) q) false) e)
-    ∙ told (v6_of f) q planted.v6
+    let only = λ (w : Turn → Bool) (out : w Outside ≡ false). told_right [] None f.v4 f.v6 q w out planted.sides.left planted.v4 e in
+    ap (λ b. b || node_at f.v6 q) (node_left [] f.v4 planted.sides.left q ∙ ap (λ t. chosen t false false (node_at f.v4 q) false) e)
+    ∙ told f.v6 q planted.v6
     ∙ sym (λ i. only at_here refl i || (only (at_side false) refl i && only (at_side true) refl i))
 
-either-keys : {R : Type 0} (p : Network → Bool) (test : List Bool → Bool) → ((n : Network) → p n ≡ test (way n)) → (f : Forest R) → list_any p (keys_of (slots_in f)) ≡ either_key test f
-either-keys p test same f = any-append p (slots_of (v4_of f)) (slots_of (v6_of f)) ∙ (λ i. any-keys p test same (v4_of f) i || any-keys p test same (v6_of f) i)
+either-keys : {R : Type 0} (p : Network → Bool) (test : List Bool → Bool) → ((n : Network) → p n ≡ test (way n)) → (f : Trees R) → list_any p (keys_of (slots_in f)) ≡ either_key test f
+either-keys p test same f = any-append p (slots_of f.v4) (slots_of f.v6) ∙ (λ i. any-keys p test same f.v4 i || any-keys p test same f.v6 i)
 
 -- a prefix that is a key needs no more
 or_absent : (a b : Bool) → (a || b) ≡ (a || (not a && b))
@@ -251,7 +250,7 @@ or_absent true b = refl
 or_absent false b = refl
 
 -- by the words of the keys
-is_node-keys : {R : Type 0} (f : Forest R) (q : Network)
+is_node-keys : {R : Type 0} (f : Trees R) (q : Network)
     → is_node (keys_in (slots_in f)) q ≡ (either_key (by_turn at_here (way q)) f || (either_key (by_turn (at_side false) (way q)) f && either_key (by_turn (at_side true) (way q)) f))
 is_node-keys f q =
     let here = contains-keys_of (slots_in f) q ∙ either-keys (eq_by_cmp network_cmp q) (by_turn at_here (way q)) (tied-turn q) f in
@@ -262,14 +261,14 @@ is_node-keys f q =
 some_side : (q : Network) → (bit : Bool) × (turn_of [] (way q) ≡ side bit)
 some_side q = (family_bit q.family, first_turn q)
 
-pub node-is : {R : Type 0} (f : Forest R) → IsPlanted f → (q : Network) → (node_at (v4_of f) (way q) || node_at (v6_of f) (way q)) ≡ is_node (keys_in (slots_in f)) q
+pub node-is : {R : Type 0} (f : Trees R) → IsPlanted f → (q : Network) → (node_at f.v4 (way q) || node_at f.v6 (way q)) ≡ is_node (keys_in (slots_in f)) q
 node-is f planted q = let s = some_side q in told_both f planted (way q) s.0 s.1 ∙ sym (is_node-keys f q)
 
-pub are_nodes : {R : Type 0} (f : Forest R) → IsPlanted f → AreNodes (keys_in (slots_in f)) (all_nodes f)
+pub are_nodes : {R : Type 0} (f : Trees R) → IsPlanted f → AreNodes (keys_in (slots_in f)) (all_nodes f)
 are_nodes f planted q =
-    contains-from_list network_cmp_total (nodes_of (v4_of f) ++ nodes_of (v6_of f)) q
-    ∙ list_any-append (eq_by_cmp network_cmp q) (nodes_of (v4_of f)) (nodes_of (v6_of f))
-    ∙ (λ i. is_in-nodes_of (v4_of f) q planted.v4 i || is_in-nodes_of (v6_of f) q planted.v6 i)
+    contains-from_list network_cmp_total (nodes_of f.v4 ++ nodes_of f.v6) q
+    ∙ list_any-append (eq_by_cmp network_cmp q) (nodes_of f.v4) (nodes_of f.v6)
+    ∙ (λ i. is_in-nodes_of f.v4 q planted.v4 i || is_in-nodes_of f.v6 q planted.v6 i)
     ∙ node-is f planted q
 
 -- ---- at most two a key
@@ -290,8 +289,8 @@ twice (Rooted prefix Branch l r) shaped =
 twice (Rooted prefix Vacant l r) shaped = omega (arith, twice l shaped.2, twice r shaped.3, length-append (slots_of l) (slots_of r))
 twice (Rooted prefix (Filled route) l r) shaped = omega (arith, twice l shaped.2, twice r shaped.3, length-append (slots_of l) (slots_of r))
 
-pub len-keys_in-forest : {R : Type 0} (f : Forest R) → IsPlanted f → set.len (keys_in (slots_in f)) ≡ length (slots_of (v4_of f)) + length (slots_of (v6_of f))
-len-keys_in-forest f planted = len-keys_in (slots_in f) (IsDistinct-from_sorted network_cmp _ (sorted-slots_in f planted)) ∙ length-append (slots_of (v4_of f)) (slots_of (v6_of f))
+pub len-keys_in-trees : {R : Type 0} (f : Trees R) → IsPlanted f → set.len (keys_in (slots_in f)) ≡ length (slots_of f.v4) + length (slots_of f.v6)
+len-keys_in-trees f planted = len-keys_in (slots_in f) (IsDistinct-from_sorted network_cmp _ (sorted-slots_in f planted)) ∙ length-append (slots_of f.v4) (slots_of f.v6)
 
-pub twice_both : {R : Type 0} (f : Forest R) → IsPlanted f → node_count (v4_of f) + node_count (v6_of f) ≤ 2 * set.len (keys_in (slots_in f))
-twice_both f planted = omega (arith, twice (v4_of f) planted.v4, twice (v6_of f) planted.v6, len-keys_in-forest f planted)
+pub twice_both : {R : Type 0} (f : Trees R) → IsPlanted f → node_count f.v4 + node_count f.v6 ≤ 2 * set.len (keys_in (slots_in f))
+twice_both f planted = omega (arith, twice f.v4 planted.v4, twice f.v6 planted.v6, len-keys_in-trees f planted)

@@ -22,18 +22,17 @@ use Rattle.ip_prefix.proofs.Containing.{contains_parts}
 use Rattle.ip_prefix.proofs.Turns.{here_only}
 use Rattle.rib_store.specs.Shape.{Shape}
 use Rattle.rib_store.specs.Shape.{Empty, Rooted}
-use Rattle.rib_store.specs.declared.forest.Forest.{Forest}
 use Rattle.prefix_store.specs.Stored.{Keys}
 use Rattle.rib_store.specs.Slots.{keys_in}
 use Rattle.rib_store.specs.Tree.{chosen, root, IsOn, IsShaped}
 use Rattle.rib_store.specs.Walks.{visits}
-use Rattle.rib_store.specs.Forest.{v4_of, v6_of, slots_in, tree_of, IsPlanted}
+use Rattle.rib_store.specs.Store.{Trees, slots_in, tree_of, IsPlanted}
 use Rattle.rib_store.specs.Nodes.{is_node, AreNodesTo, IsOrOneMore}
 use Rattle.prefix_store.proofs.AboveLaws.{is_less}
 use Rattle.rib_store.proofs.WayLaws.{turn_through, node_first, begin_outside, begin_side, begin_in, turn_longer, length-way}
 use Rattle.rib_store.proofs.SlotLaws.{len-from_list}
 use Rattle.rib_store.proofs.WalkLaws.{cmp-ways, tied-ways}
-use Rattle.rib_store.proofs.ForestLaws.{first_side, shaped-family}
+use Rattle.rib_store.proofs.StoreLaws.{first_side, shaped-family}
 use Rattle.rib_store.proofs.NodeLaws.{node_at}
 use Rattle.rib_store.proofs.NodeSetLaws.{is_in, node-is, node_left, node_right}
 use Rattle.rib_store.proofs.DeepestLaws.{host, contains-way}
@@ -168,21 +167,21 @@ sorted-path {R} (Rooted prefix slot l r) key shaped = turns (turn_of (way prefix
 -- ---- in the tree of the address's family
 
 -- the nodes that contain the address
-abbrev pub met_nodes : {R : Type 0} → Forest R → Address → Keys
+abbrev pub met_nodes : {R : Type 0} → Trees R → Address → Keys
 met_nodes f address = set.from_list (path_in (tree_of address.family f) (way (host address)))
 
-len-met : {R : Type 0} (f : Forest R) → IsPlanted f → (address : Address) → set.len (met_nodes f address) ≡ length (path_in (tree_of address.family f) (way (host address)))
+len-met : {R : Type 0} (f : Trees R) → IsPlanted f → (address : Address) → set.len (met_nodes f address) ≡ length (path_in (tree_of address.family f) (way (host address)))
 len-met f planted address =
     len-from_list (path_in (tree_of address.family f) (way (host address)))
     (IsDistinct-from_sorted network_cmp _ (sorted-path (tree_of address.family f) (way (host address)) (shaped-family f planted address.family)))
 
 -- of both trees, the one of the family has the nodes of the family
-in_family : {R : Type 0} (f : Forest R) → IsPlanted f → (q : Network) (family : Family) → q.family ≡ family → (node_at (v4_of f) (way q) || node_at (v6_of f) (way q)) ≡ node_at (tree_of family f) (way q)
+in_family : {R : Type 0} (f : Trees R) → IsPlanted f → (q : Network) (family : Family) → q.family ≡ family → (node_at f.v4 (way q) || node_at f.v6 (way q)) ≡ node_at (tree_of family f) (way q)
 in_family f planted q V4 e =
-    ap (λ b. node_at (v4_of f) (way q) || b) (node_right [] (v6_of f) planted.sides.right (way q) ∙ ap (λ t. chosen t false false false (node_at (v6_of f) (way q))) (first_side q V4 e))
-    ∙ or-false (node_at (v4_of f) (way q))
+    ap (λ b. node_at f.v4 (way q) || b) (node_right [] f.v6 planted.sides.right (way q) ∙ ap (λ t. chosen t false false false (node_at f.v6 (way q))) (first_side q V4 e))
+    ∙ or-false (node_at f.v4 (way q))
 in_family f planted q V6 e =
-    ap (λ b. b || node_at (v6_of f) (way q)) (node_left [] (v4_of f) planted.sides.left (way q) ∙ ap (λ t. chosen t false false (node_at (v4_of f) (way q)) false) (first_side q V6 e))
+    ap (λ b. b || node_at f.v6 (way q)) (node_left [] f.v4 planted.sides.left (way q) ∙ ap (λ t. chosen t false false (node_at f.v4 (way q)) false) (first_side q V6 e))
 
 and_same : (a b c : Bool) → (c ≡ true → a ≡ b) → (a && c) ≡ (b && c)
 and_same a b true same = ap (λ x. x && true) (same refl)
@@ -191,7 +190,7 @@ and_same true false false same = refl
 and_same false true false same = refl
 and_same false false false same = refl
 
-pub are_nodes_to : {R : Type 0} (f : Forest R) → IsPlanted f → (address : Address) → AreNodesTo (keys_in (slots_in f)) address (met_nodes f address)
+pub are_nodes_to : {R : Type 0} (f : Trees R) → IsPlanted f → (address : Address) → AreNodesTo (keys_in (slots_in f)) address (met_nodes f address)
 are_nodes_to f planted address n =
     contains-from_list network_cmp_total (path_in (tree_of address.family f) (way (host address))) n
     ∙ met (tree_of address.family f) (way (host address)) n (shaped-family f planted address.family)
@@ -200,17 +199,17 @@ are_nodes_to f planted address n =
     (λ within. sym (in_family f planted n address.family (contains_parts n address within).0) ∙ node-is f planted n)
 
 -- the counter shows as many, or one more
-pub visits-met : {R : Type 0} (f : Forest R) → IsPlanted f → (address : Address) (old new : ℕ) → new ≡ old + visits (tree_of address.family f) (way (host address)) → IsOrOneMore (old + set.len (met_nodes f address)) new
+pub visits-met : {R : Type 0} (f : Trees R) → IsPlanted f → (address : Address) (old new : ℕ) → new ≡ old + visits (tree_of address.family f) (way (host address)) → IsOrOneMore (old + set.len (met_nodes f address)) new
 visits-met f planted address old new e =
     let size = len-met f planted address in
     elim (visits_path (tree_of address.family f) (way (host address))) [ inl h ↦ inl (omega (arith, size, e, h)) | inr h ↦ inr (omega (arith, size, e, h)) ]
 
-pub visits-few : {R : Type 0} (f : Forest R) → IsPlanted f → (address : Address) → visits (tree_of address.family f) (way (host address)) ≤ length address.bits + 1
+pub visits-few : {R : Type 0} (f : Trees R) → IsPlanted f → (address : Address) → visits (tree_of address.family f) (way (host address)) ≤ length address.bits + 1
 visits-few f planted address = families address.family
   where
     some : 1 ≤ length (way (host address))
     some = omega (arith, length-way (host address))
 
     families : (family : Family) → visits (tree_of family f) (way (host address)) ≤ length address.bits + 1
-    families V4 = omega (arith, length-way (host address), visits-most (v4_of f) false (way (host address)) planted.v4 planted.sides.left some)
-    families V6 = omega (arith, length-way (host address), visits-most (v6_of f) true (way (host address)) planted.v6 planted.sides.right some)
+    families V4 = omega (arith, length-way (host address), visits-most f.v4 false (way (host address)) planted.v4 planted.sides.left some)
+    families V6 = omega (arith, length-way (host address), visits-most f.v6 true (way (host address)) planted.v6 planted.sides.right some)

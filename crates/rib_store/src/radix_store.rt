@@ -1,21 +1,20 @@
 //! A store that is a radix tree for each family.
 
 ghost use mir.Val.{bool_byte};
-ghost use Rattle.std.specs.Prelude.{◌≡◌, ℕ, ◌+◌, ◌*◌, ◌≤◌};
-ghost use Rattle.std.specs.Option.{option_map};
+ghost use Rattle.std.specs.Prelude.{◌≡◌, ℕ, ◌+◌, ◌*◌, ◌≤◌, is_some};
+ghost use Rattle.std.specs.Option.{option_map, option_copied};
 ghost use Rattle.std.specs.FinMap as finite;
 ghost use Rattle.std.specs.FinSet as set;
 ghost use Rattle.ip_prefix.specs.Address.{bit_count};
 ghost use Rattle.prefix_store.specs.Stored.{Keys, counted};
 ghost use Rattle.prefix_store.specs.Lookups.{IsLongest};
-ghost use Rattle.rib_store.specs.Slots.{keys_in, routes_in};
-ghost use Rattle.rib_store.specs.Forest.{slots_in, IsPlanted};
+ghost use Rattle.rib_store.specs.Slots.{route_found};
+ghost use Rattle.rib_store.specs.Store.{trees_of, contents_of, IsPlanted};
 ghost use Rattle.rib_store.specs.Nodes.{AreNodes, AreNodesTo, IsOrOneMore};
 
-use crate::forest::Forest;
-use crate::tree::{Descent, Descents};
-use ip_prefix::{Addr, Prefix};
-use prefix_store::{GREATEST_COUNT, Place, Places, PrefixStore};
+use crate::tree::{Descent, Descents, Tree};
+use ip_prefix::{Addr, Family, Prefix};
+use prefix_store::{GREATEST_COUNT, Place, Places, PrefixStore, V4Prefix};
 use std::alloc::{AllocError, Global};
 use std::marker::Model;
 
@@ -26,22 +25,23 @@ use std::marker::Model;
 #[derive(Drop)]
 pub struct RadixStore<R> {
     alloc: Global,
-    forest: Forest<R>,
+    v4: Tree<V4Prefix, R>,
+    v6: Tree<Prefix, R>,
     key_count: u64,
     route_count: u64,
 }
 
 impl<R> Model for RadixStore<R> {
     ghost use Rattle.prefix_store.specs.Contents.{Contents, coded_contents};
-    ghost use Rattle.rib_store.specs.Forest.{contents_of, IsCounted};
+    ghost use Rattle.rib_store.specs.Store.{trees_of, contents_of, IsCounted};
 
     ghost Value = { Contents R };
 
     ghost coded = { coded_contents R.code };
 
-    ghost view = { λ s. contents_of s.forest };
+    ghost view = { λ s. contents_of (trees_of s.v4 s.v6) };
 
-    ghost invariant = { λ s. IsCounted s.forest s.key_count s.route_count };
+    ghost invariant = { λ s. IsCounted s.v4 s.v6 s.key_count s.route_count };
 }
 
 impl<R: Drop> RadixStore<R> {
@@ -52,7 +52,7 @@ impl<R: Drop> RadixStore<R> {
             (result ≡ counted (set.len nodes)) }
         ensures twice { result ≤ 2 * set.len self.now.keys }
     {
-        self.forest.node_count()
+        self.v4.node_count().saturating_add(self.v6.node_count())
     }
 
     /// The answer of [`PrefixStore::longest`]. Each node that the look-up meets adds one to the
@@ -65,7 +65,24 @@ impl<R: Drop> RadixStore<R> {
         ensures met { (nodes : Keys) × AreNodesTo self.now.keys addr.now nodes ×
             IsOrOneMore (met.old + set.len nodes) met.new }
     {
-        self.forest.longest(addr, met)
+        let key = Prefix::host(*addr);
+        match addr.family() {
+            Family::V4 => self.v4.longest(&key, met),
+            Family::V6 => self.v6.longest(&key, met),
+        }
+    }
+
+    /// The key's room, where it is a key, and the route in it.
+    #[inline]
+    fn slot(&self, prefix: &Prefix) -> Option<Option<&R>>
+        ensures key { is_some result ≡ set.contains self.now.keys prefix.now }
+        ensures route { route_found (option_map (λ slot. option_copied slot) result)
+            ≡ finite.get self.now.routes prefix.now }
+    {
+        match prefix.family() {
+            Family::V4 => self.v4.slot(prefix),
+            Family::V6 => self.v6.slot(prefix),
+        }
     }
 }
 
@@ -77,63 +94,92 @@ impl<R: Drop> PrefixStore<R> for RadixStore<R> {
     fn new(alloc: Global) -> Self {
         RadixStore {
             alloc,
-            forest: Forest::new(),
+            v4: Tree::Empty,
+            v6: Tree::Empty,
             key_count: 0,
             route_count: 0,
         }
     }
 
     fn ensure(&mut self, prefix: Prefix) -> Result<bool, AllocError> {
-        let made = self.forest.ensure(self.alloc, &prefix)?;
+        let made = match prefix.family() {
+            Family::V4 => self.v4.ensure(self.alloc, &prefix),
+            Family::V6 => self.v6.ensure(self.alloc, &prefix),
+        }?;
         self.key_count = self.key_count.saturating_add(u64::from(made));
         Ok(made)
     }
 
     fn exchange(&mut self, prefix: &Prefix, route: &mut Option<R>) {
         let brought = route.is_some();
-        self.forest.exchange(prefix, route);
-        self.route_count = routes_after(self.route_count, brought, route.is_some(), &self.forest);
+        match prefix.family() {
+            Family::V4 => self.v4.exchange(prefix, route),
+            Family::V6 => self.v6.exchange(prefix, route),
+        }
+        let given = route.is_some();
+        self.route_count = routes_after(self.route_count, brought, given, &self.v4, &self.v6);
     }
 
     fn put(&mut self, prefix: &Prefix, route: &mut Option<R>) -> Result<bool, AllocError> {
         let brought = route.is_some();
-        let made = self.forest.put(self.alloc, prefix, route)?;
+        let made = match prefix.family() {
+            Family::V4 => self.v4.put(self.alloc, prefix, route),
+            Family::V6 => self.v6.put(self.alloc, prefix, route),
+        }?;
         self.key_count = self.key_count.saturating_add(u64::from(made));
-        self.route_count = routes_after(self.route_count, brought, route.is_some(), &self.forest);
+        let given = route.is_some();
+        self.route_count = routes_after(self.route_count, brought, given, &self.v4, &self.v6);
         Ok(made)
     }
 
     fn discard(&mut self, prefix: &Prefix) {
-        self.forest.discard(prefix);
-        self.key_count = keys_less_one(self.key_count, &self.forest);
+        match prefix.family() {
+            Family::V4 => self.v4.discard(prefix),
+            Family::V6 => self.v6.discard(prefix),
+        }
+        self.key_count = keys_less_one(self.key_count, &self.v4, &self.v6);
     }
 
     fn has_key(&self, prefix: &Prefix) -> bool {
-        self.forest.has_key(prefix)
+        self.slot(prefix).is_some()
     }
 
     fn get(&self, prefix: &Prefix) -> Option<&R> {
-        self.forest.get(prefix)
+        self.slot(prefix)?
     }
 
     fn longest(&self, addr: &Addr) -> Option<(Prefix, &R)> {
         let mut met = 0;
-        self.forest.longest(addr, &mut met)
+        self.longest_counted(addr, &mut met)
     }
 
     fn after(&self, prefix: Option<&Prefix>) -> Option<(Prefix, &R)> {
-        match prefix {
-            Some(low) => self.forest.after(low),
-            None => self.forest.first(),
+        let found = match prefix {
+            None => self.v4.first(),
+            Some(low) => match low.family() {
+                Family::V4 => self.v4.after(low),
+                Family::V6 => return self.v6.after(low),
+            },
+        };
+        match found {
+            Some(found) => Some(found),
+            None => self.v6.first(),
         }
     }
 
     fn next_routes<'a>(&'a self, prefix: Option<&Prefix>, found: &mut Vec<(Prefix, &'a R)>) {
         found.clear();
         match prefix {
-            Some(low) => self.forest.add_above(low, found),
-            None => self.forest.add_all(found),
+            None => self.v4.add_all(found),
+            Some(low) => match low.family() {
+                Family::V4 => self.v4.add_above(low, found),
+                Family::V6 => {
+                    self.v6.add_above(low, found);
+                    return;
+                }
+            },
         }
+        self.v6.add_all(found);
     }
 
     fn reach(places: &Places<'_, Self>) -> u64 {
@@ -165,16 +211,26 @@ fn descent_to<'a, R: Drop>(place: &Place<'a, RadixStore<R>>) -> Descent<'a, R> {
         return Descent::ended();
     };
     let store: &'a RadixStore<R> = *store;
-    store.forest.descent(prefix)
+    match prefix.family() {
+        Family::V4 => Descent::in_v4(&store.v4, prefix),
+        Family::V6 => Descent::in_v6(&store.v6, prefix),
+    }
 }
 
 /// The count of the routes once one was brought and one given back, where they were. A count that
 /// had stopped at the greatest number is made anew.
-fn routes_after<R: Drop>(count: u64, brought: bool, given: bool, forest: &Forest<R>) -> u64
-    requires planted { IsPlanted forest.now }
+fn routes_after<R: Drop>(
+    count: u64,
+    brought: bool,
+    given: bool,
+    v4: &Tree<V4Prefix, R>,
+    v6: &Tree<Prefix, R>,
+) -> u64
+    requires planted { IsPlanted (trees_of v4.now v6.now) }
     requires count { (old : ℕ) × (count ≡ counted old) ×
-        (finite.len (routes_in (slots_in forest.now)) + bool_byte given ≡ old + bool_byte brought) }
-    ensures { result ≡ counted (finite.len (routes_in (slots_in forest.now))) }
+        (finite.len (contents_of (trees_of v4.now v6.now)).routes + bool_byte given
+        ≡ old + bool_byte brought) }
+    ensures { result ≡ counted (finite.len (contents_of (trees_of v4.now v6.now)).routes) }
 {
     if brought == given {
         return count;
@@ -183,19 +239,19 @@ fn routes_after<R: Drop>(count: u64, brought: bool, given: bool, forest: &Forest
         return count.saturating_add(1);
     }
     if count == GREATEST_COUNT {
-        return forest.route_count();
+        return v4.route_count().saturating_add(v6.route_count());
     }
     count - 1
 }
 
 /// The count of the keys once one is gone.
-fn keys_less_one<R: Drop>(count: u64, forest: &Forest<R>) -> u64
-    requires planted { IsPlanted forest.now }
-    requires count { count ≡ counted (set.len (keys_in (slots_in forest.now)) + 1) }
-    ensures { result ≡ counted (set.len (keys_in (slots_in forest.now))) }
+fn keys_less_one<R: Drop>(count: u64, v4: &Tree<V4Prefix, R>, v6: &Tree<Prefix, R>) -> u64
+    requires planted { IsPlanted (trees_of v4.now v6.now) }
+    requires count { count ≡ counted (set.len (contents_of (trees_of v4.now v6.now)).keys + 1) }
+    ensures { result ≡ counted (set.len (contents_of (trees_of v4.now v6.now)).keys) }
 {
     if count == GREATEST_COUNT {
-        return forest.key_count();
+        return v4.key_count().saturating_add(v6.key_count());
     }
     count - 1
 }

@@ -1,8 +1,19 @@
-use Rattle.std.proofs.Common.{ap, ◌∙◌}
+use Rattle.std.proofs.Common.{arith, ap, ◌∙◌}
+use Rattle.std.specs.FinSet as set
 use Rattle.rib_store.specs.Nodes.{is_node}
+use Rattle.rib_store.specs.Store.{trees_of}
+use Rattle.rib_store.proofs.NodeSetLaws.{all_nodes, are_nodes, len-all_nodes, twice_both}
 use Rattle.rib_store.proofs.radix_store.RadixStore.nodes.Goals as goal
 
-pub returns-clause-nodes : goal.returns-clause-nodes
-returns-clause-nodes g c =
-    let counted = c.node_count.ensures.nodes in
-    (counted.0, λ n. counted.1 n ∙ ap (λ s. is_node s.keys n) c.self.view_is, counted.2)
+pub returns : goal.returns
+returns g c =
+    let f = trees_of c.self.inside.v4 c.self.inside.v6 in
+    let planted = c.self.invariant.planted in
+    record {
+      nodes = (
+        all_nodes f,
+        λ n. are_nodes f planted n ∙ ap (λ s. is_node s.keys n) c.self.view_is,
+        omega (arith, len-all_nodes f planted, c.node_count.ensures, c.node_count-2.ensures, c.saturating_add.ensures),
+      );
+      twice = omega (arith, twice_both f planted, ap (λ s. set.len s.keys) c.self.view_is, c.node_count.ensures, c.node_count-2.ensures, c.saturating_add.ensures);
+    }

@@ -1,35 +1,32 @@
-use Rattle.std.proofs.Common.{Some, take, vec_capacity, sym, ap, ap₂, ◌∙◌}
+use Rattle.std.proofs.Common.{take, vec_capacity, sym, ap, ap₂, ◌∙◌}
 use Rattle.std.specs.FinMap as finite
 use Rattle.std.specs.Option.{option_copied}
 use Rattle.prefix_store.specs.Lookups.{above, pointed}
-use Rattle.rib_store.specs.Slots.{routed}
-use Rattle.rib_store.specs.Walks.{filled}
-use Rattle.rib_store.specs.Forest.{slots_in}
-use Rattle.rib_store.proofs.RoutedLaws.{entries-routes_in}
-use Rattle.prefix_store.proofs.AboveLaws.{above-none}
-use Rattle.rib_store.proofs.FillLaws.{filled-front}
-use Rattle.rib_store.proofs.ForestLaws.{sorted-slots_in}
+use Rattle.rib_store.specs.Store.{trees_of}
+use Rattle.rib_store.proofs.FillLaws.{all-trees, above-v4, above-v6, filled_anew, filled_twice}
 use Rattle.rib_store.proofs.radix_store.RadixStorePrefixStore.next_routes.Goals as goal
+use Rattle.rib_store.proofs.radix_store.RadixStorePrefixStore.next_routes.Goals.{in-None, in-Some+in-V4}
 
-pub returns-in-Some-clause-found : goal.returns-in-Some-clause-found
-returns-in-Some-clause-found g c =
-    let f = c.self.inside.forest in
+pub returns-in-V6-clause-found : goal.returns-in-V6-clause-found
+returns-in-V6-clause-found g c =
     let room = vec_capacity c.args.found.now in
-    let all = above (Some c.in-Some.low.now) (routed (slots_in f)) in
-    c.add_above.ensures.found
-    ∙ ap₂ (λ r items. filled r (pointed items) all) c.clear.ensures.capacity c.clear.ensures.items
-    ∙ filled-front room all
-    ∙ ap (λ routes. take room (above (Some c.in-Some.low.now) routes)) (sym (entries-routes_in (slots_in f) (sorted-slots_in f c.self.invariant.planted)))
-    ∙ ap (λ s. take room (above (Some c.in-Some.low.now) (finite.entries s.routes))) c.self.view_is
-    ∙ ap (λ low. take room (above (option_copied low) (finite.entries c.args.self.now.routes))) (sym c.in-Some.is)
+    filled_anew room c.clear.new.self c.add_above-in-V6.new.found _ c.clear.ensures.capacity c.clear.ensures.items c.add_above-in-V6.ensures.found
+    ∙ ap (take room) (above-v6 (trees_of c.self.inside.v4 c.self.inside.v6) c.self.invariant.planted c.in-Some.low.now (sym c.family.ensures ∙ c.in-V6.is))
+    ∙ ap₂ (λ low s. take room (above (option_copied low) (finite.entries s.routes))) (sym c.in-Some.is) c.self.view_is
 
-pub returns-in-None-clause-found : goal.returns-in-None-clause-found
-returns-in-None-clause-found g c =
-    let f = c.self.inside.forest in
+pub returns-clause-found : goal.returns-clause-found
+returns-clause-found g c =
     let room = vec_capacity c.args.found.now in
-    let all = routed (slots_in f) in
-    c.add_all.ensures.found
-    ∙ ap₂ (λ r items. filled r (pointed items) all) c.clear.ensures.capacity c.clear.ensures.items
-    ∙ filled-front room all
-    ∙ ap (take room) (sym (entries-routes_in (slots_in f) (sorted-slots_in f c.self.invariant.planted)) ∙ ap (λ s. finite.entries s.routes) c.self.view_is ∙ sym (above-none (finite.entries c.args.self.now.routes)))
-    ∙ ap (λ low. take room (above (option_copied low) (finite.entries c.args.self.now.routes))) (sym c.in-None.is)
+    let f = trees_of c.self.inside.v4 c.self.inside.v6 in
+    elim c.match-prefix.branch [
+      | in-None w ↦
+          filled_twice room c.clear.new.self c.match-prefix.found c.add_all-2.new.found _ _ c.clear.ensures.capacity c.clear.ensures.items
+          (ap vec_capacity w.found-is ∙ w.add_all.ensures.room) (ap (λ v. pointed v.items) w.found-is ∙ w.add_all.ensures.found) c.add_all-2.ensures.found
+          ∙ ap (take room) (all-trees f c.self.invariant.planted)
+          ∙ ap₂ (λ low s. take room (above (option_copied low) (finite.entries s.routes))) (sym w.in-None.is) c.self.view_is
+      | in-Some+in-V4 w ↦
+          filled_twice room c.clear.new.self c.match-prefix.found c.add_all-2.new.found _ _ c.clear.ensures.capacity c.clear.ensures.items
+          (ap vec_capacity w.found-is ∙ w.add_above.ensures.room) (ap (λ v. pointed v.items) w.found-is ∙ w.add_above.ensures.found) c.add_all-2.ensures.found
+          ∙ ap (take room) (above-v4 f c.self.invariant.planted w.in-Some.low.now (sym w.family.ensures ∙ w.in-V4.is))
+          ∙ ap₂ (λ low s. take room (above (option_copied low) (finite.entries s.routes))) (sym w.in-Some.is) c.self.view_is
+    ]

@@ -1,0 +1,182 @@
+-- A tree for each family, as the two sides of a root above both.
+use Rattle.std.proofs.Common.{◌≡◌, Bool, true, false, cond, List, [], Option, Some, None, is_some, not, slice_get, refl, sym, ap, subst, ◌∙◌}
+use Rattle.std.specs.Prelude.{IsSome}
+use Rattle.std.specs.List.Sorted.{IsStrictlySortedBy}
+use Rattle.std.specs.FinMap as finite
+use Rattle.std.specs.FinSet as set
+use Rattle.std.specs.Map.{keys_of}
+use Rattle.std.specs.Ordering.{eq_by_cmp}
+use Rattle.std.specs.Cmp.{eq_by_cmp_equiv}
+use Rattle.ip_prefix.specs.declared.addr.Family.{Family}
+use Rattle.ip_prefix.specs.declared.addr.Family.TheVariants.{V4, V6}
+use Rattle.ip_prefix.specs.declared.turn.Turn.{Turn}
+use Rattle.ip_prefix.specs.declared.turn.Turn.TheVariants.{Outside, Here, Left, Right}
+use Rattle.ip_prefix.specs.Network.{Network}
+use Rattle.ip_prefix.specs.Order.{network_cmp}
+use Rattle.ip_prefix.specs.OrderLaws.{network_cmp_total}
+use Rattle.ip_prefix.specs.Turns.{family_bit, way, turn_of, side}
+use Rattle.rib_store.specs.Shape.{Shape}
+use Rattle.prefix_store.specs.Stored.{put}
+use Rattle.rib_store.specs.Slots.{Slots, slot_at, keys_in, routes_in, route_found, routed}
+use Rattle.rib_store.specs.Tree.{at, slots_of, chosen, kept, same_way, AreOf, IsOf, IsPut, IsPlaced, IsGrown, IsShaped}
+use Rattle.rib_store.specs.Walks.{either_of, first, behind}
+use Rattle.rib_store.specs.Store.{Trees, slots_in, tree_of, with_tree, IsPlanted, ChangesAt}
+use Rattle.rib_store.proofs.WayLaws.{first_turn, left_first}
+use Rattle.prefix_store.proofs.StoredLaws.{put-same}
+use Rattle.prefix_store.specs.Lookups.{above}
+use Rattle.prefix_store.proofs.AboveLaws.{above-none}
+use Rattle.rib_store.proofs.RoutedLaws.{entries-routes_in}
+use Rattle.rib_store.proofs.SlotLaws.{keys_in-more, routes_in-written, contains-keys_in, get-routes_in}
+use Rattle.rib_store.proofs.TreeLaws.{are_of, at_left, at_right}
+use Rattle.rib_store.proofs.ChangeLaws.{put_left, put_right}
+use Rattle.rib_store.proofs.GrowthLaws.{kept_found, on_placed}
+use Rattle.rib_store.proofs.WalkLaws.{first-next, none-next, behind-next, next-append, first-routed, first-append, routed-append, either_none, slot_at-append, slot_at-slots_of, sorted-sides, sorted-slots_of, tied-ways}
+
+-- what two trees have at a way
+abbrev pub at_sides : {R : Type 0} → Shape R → Shape R → List Bool → Option (Option R)
+at_sides l r q = chosen (turn_of [] q) None None (at l q) (at r q)
+
+by_side : {A : Type 0} (t : Turn) (x y : Option A) → either_of (chosen t None None x None) (chosen t None None None y) ≡ chosen t None None x y
+by_side Outside x y = refl
+by_side Here x y = refl
+by_side Left x y = either_none x
+by_side Right x y = refl
+
+pub slot_at-slots_in : {R : Type 0} (trees : Trees R) → IsPlanted trees → (q : Network) → slot_at (slots_in trees) q ≡ at_sides trees.v4 trees.v6 (way q)
+slot_at-slots_in f planted q =
+    slot_at-append q _ _
+    ∙ (λ i. either_of ((slot_at-slots_of f.v4 planted.v4 q ∙ at_left [] f.v4 planted.sides.left (way q)) i) ((slot_at-slots_of f.v6 planted.v6 q ∙ at_right [] f.v6 planted.sides.right (way q)) i))
+    ∙ by_side (turn_of [] (way q)) (at f.v4 (way q)) (at f.v6 (way q))
+
+-- a key is found in the tree of its family
+pub at_sides-family : {R : Type 0} (trees : Trees R) (q : Network) (family : Family) → q.family ≡ family → at_sides trees.v4 trees.v6 (way q) ≡ at (tree_of family trees) (way q)
+at_sides-family f q family e = ap (λ t. chosen t None None (at f.v4 (way q)) (at f.v6 (way q))) (first_turn q ∙ ap (λ g. side (family_bit g)) e) ∙ families family
+  where
+    families : (g : Family) → chosen (side (family_bit g)) None None (at f.v4 (way q)) (at f.v6 (way q)) ≡ at (tree_of g f) (way q)
+    families V4 = refl
+    families V6 = refl
+
+pub slot_at-tree_of : {R : Type 0} (trees : Trees R) → IsPlanted trees → (q : Network) (family : Family) → q.family ≡ family → slot_at (slots_in trees) q ≡ at (tree_of family trees) (way q)
+slot_at-tree_of f planted q family e = slot_at-slots_in f planted q ∙ at_sides-family f q family e
+
+-- what its tree has at a key tells whether it is one, and its route
+pub key_at : {R : Type 0} (family : Family) (trees : Trees R) (q : Network) (slot : Option (Option R)) → IsPlanted trees → q.family ≡ family → slot ≡ at (tree_of family trees) (way q) → is_some slot ≡ set.contains (keys_in (slots_in trees)) q
+key_at family f q slot planted e found = ap is_some (found ∙ sym (slot_at-tree_of f planted q family e)) ∙ sym (contains-keys_in (slots_in f) q)
+
+pub route_at : {R : Type 0} (family : Family) (trees : Trees R) (q : Network) (slot : Option (Option R)) → IsPlanted trees → q.family ≡ family → slot ≡ at (tree_of family trees) (way q) → route_found slot ≡ finite.get (routes_in (slots_in trees)) q
+route_at family f q slot planted e found = ap route_found (found ∙ sym (slot_at-tree_of f planted q family e)) ∙ sym (get-routes_in (slots_in f) q)
+
+-- a key has a slot there
+pub key_there : {R : Type 0} (trees : Trees R) → IsPlanted trees → (q : Network) (family : Family) → q.family ≡ family → set.contains (keys_in (slots_in trees)) q ≡ true → IsSome (at (tree_of family trees) (way q))
+key_there f planted q family e key = key_at family f q (at (tree_of family f) (way q)) planted e refl ∙ key
+
+-- the family's side of the root of both
+pub first_side : (q : Network) (family : Family) → q.family ≡ family → turn_of [] (way q) ≡ side (family_bit family)
+first_side q family e = first_turn q ∙ ap (λ f. side (family_bit f)) e
+
+-- the keys of both are in order
+pub sorted-slots_in : {R : Type 0} (trees : Trees R) → IsPlanted trees → IsStrictlySortedBy network_cmp (keys_of (slots_in trees))
+sorted-slots_in f planted =
+    sorted-sides [] f.v4 f.v6 planted.sides planted.v4 planted.v6 (sorted-slots_of f.v4 planted.v4) (sorted-slots_of f.v6 planted.v6)
+
+-- the routes of both, in order
+abbrev pub entries_in : {R : Type 0} → Trees R → List (Network × R)
+entries_in trees = finite.entries (routes_in (slots_in trees))
+
+pub routed-entries : {R : Type 0} (trees : Trees R) → IsPlanted trees → routed (slots_in trees) ≡ entries_in trees
+routed-entries f planted = sym (entries-routes_in (slots_in f) (sorted-slots_in f planted))
+
+-- all nodes of a tree are of its family
+pub are_of-family : {R : Type 0} (trees : Trees R) → IsPlanted trees → (family : Family) → AreOf family (tree_of family trees)
+are_of-family f planted V4 = are_of V4 f.v4 planted.v4 planted.sides.left
+are_of-family f planted V6 = are_of V6 f.v6 planted.v6 planted.sides.right
+
+pub shaped-family : {R : Type 0} (trees : Trees R) → IsPlanted trees → (family : Family) → IsShaped (tree_of family trees)
+shaped-family f planted V4 = planted.v4
+shaped-family f planted V6 = planted.v6
+
+-- ---- the tree of a family changed
+
+-- the tree lies on its family's side
+pub of-family : {R : Type 0} (trees : Trees R) → IsPlanted trees → (family : Family) → IsOf family (tree_of family trees)
+of-family f planted V4 = planted.sides.left
+of-family f planted V6 = planted.sides.right
+
+-- a prefix has this slot, the others are as before, and so is all else of the trees
+pub record IsReplaced {R : Type 0} (old : Trees R) (key : Network) (slot : Option (Option R)) (new : Trees R) : Type 0 where
+  pub planted : IsPlanted new
+  pub slots : ChangesAt (slots_in old) key slot (slots_in new)
+
+changed : {R : Type 0} (old new : Trees R) (key : Network) (slot : Option (Option R)) → IsPlanted old → IsPlanted new
+    → IsPut (at_sides old.v4 old.v6) (way key) slot (at_sides new.v4 new.v6) → IsReplaced old key slot new
+changed old new key slot before after put = record {
+  planted = after;
+  slots = λ q. slot_at-slots_in new after q ∙ put (way q) ∙ (λ i. cond (twisted q i) slot (sym (slot_at-slots_in old before q) i));
+}
+  where
+    twisted : (q : Network) → same_way (way key) (way q) ≡ eq_by_cmp network_cmp key q
+    twisted q = sym (tied-ways q key) ∙ (eq_by_cmp_equiv network_cmp_total).symm q key
+
+pub replaced : {R : Type 0} (family : Family) (old : Trees R) (tree : Shape R) (key : Network) (slot : Option (Option R)) → IsPlanted old → key.family ≡ family → IsShaped tree → IsOf family tree
+    → IsPut (at (tree_of family old)) (way key) slot (at tree) → IsReplaced old key slot (with_tree family tree old)
+replaced V4 old tree key slot planted e shaped on put =
+    changed old (with_tree V4 tree old) key slot planted (record { sides = record { left = on; right = planted.sides.right }; v4 = shaped; v6 = planted.v6 })
+    (put_left [] (way key) None None slot (at old.v4) (at tree) (at old.v6) (first_side key V4 e) put)
+replaced V6 old tree key slot planted e shaped on put =
+    changed old (with_tree V6 tree old) key slot planted (record { sides = record { left = planted.sides.left; right = on }; v4 = planted.v4; v6 = shaped })
+    (put_right [] (way key) None None slot (at old.v4) (at old.v6) (at tree) (first_side key V6 e) put)
+
+pub placed : {R : Type 0} (family : Family) (old : Trees R) (tree : Shape R) (key : Network) (slot : Option (Option R)) → IsPlanted old → key.family ≡ family
+    → IsPlaced (way key) slot (tree_of family old) tree → IsReplaced old key slot (with_tree family tree old)
+placed family old tree key slot planted e put =
+    replaced family old tree key slot planted e put.shaped
+    (on_placed (way key) slot (tree_of family old) tree [] (family_bit family) put (of-family old planted family) (first_side key family e)) put.slots
+
+-- whether it was new, and whether it wasn't, by what its tree had
+pub new_key : {R : Type 0} (family : Family) (trees : Trees R) (q : Network) → IsPlanted trees → q.family ≡ family → not (is_some (at (tree_of family trees) (way q))) ≡ not (set.contains (keys_in (slots_in trees)) q)
+new_key family f q planted e = ap not (key_at family f q (at (tree_of family f) (way q)) planted e refl)
+
+pub no_key : {R : Type 0} (family : Family) (trees : Trees R) (q : Network) → IsPlanted trees → q.family ≡ family → at (tree_of family trees) (way q) ≡ None → set.contains (keys_in (slots_in trees)) q ≡ false
+no_key family f q planted e none = sym (key_at family f q (at (tree_of family f) (way q)) planted e refl) ∙ ap is_some none
+
+pub grown : {R : Type 0} (family : Family) (old : Trees R) (tree : Shape R) (key : Network) → IsPlanted old → key.family ≡ family
+    → IsGrown (way key) (tree_of family old) tree → IsReplaced old key (kept (slot_at (slots_in old) key)) (with_tree family tree old)
+grown family old tree key planted e grew =
+    subst (λ slot. IsReplaced old key (kept slot) (with_tree family tree old)) (sym (slot_at-tree_of old planted key family e)) (placed family old tree key (kept (at (tree_of family old) (way key))) planted e grew)
+
+-- ---- the first route, and the first above a prefix
+
+pub after_none : {R : Type 0} (trees : Trees R) → IsPlanted trees → either_of (first trees.v4) (first trees.v6) ≡ slice_get (above None (entries_in trees)) 0
+after_none f planted =
+    (λ i. either_of (first-routed f.v4 i) (first-routed f.v6 i))
+    ∙ sym (ap (λ s. slice_get s 0) (routed-append (slots_of f.v4) (slots_of f.v6)) ∙ first-append (routed (slots_of f.v4)) (routed (slots_of f.v6)))
+    ∙ ap (λ routes. slice_get routes 0) (routed-entries f planted ∙ sym (above-none (entries_in f)))
+
+-- above a prefix of IPv4 stand all of IPv6
+pub after_v4 : {R : Type 0} (trees : Trees R) → IsPlanted trees → (low : Network) → low.family ≡ V4 → either_of (behind trees.v4 low) (first trees.v6) ≡ slice_get (above (Some low) (entries_in trees)) 0
+after_v4 f planted low e =
+    (λ i. either_of (behind-next f.v4 planted.v4 low i) (first-next low [] true f.v6 planted.v6 planted.sides.right (λ n h. (left_first [] (way low) (way n) (first_side low V4 e) h).0) i))
+    ∙ sym (next-append low (slots_of f.v4) (slots_of f.v6))
+    ∙ ap (λ routes. slice_get (above (Some low) routes) 0) (routed-entries f planted)
+
+-- and above one of IPv6 none of IPv4
+pub after_v6 : {R : Type 0} (trees : Trees R) → IsPlanted trees → (low : Network) → low.family ≡ V6 → behind trees.v6 low ≡ slice_get (above (Some low) (entries_in trees)) 0
+after_v6 f planted low e =
+    (λ i. either_of (none-next low [] false f.v4 planted.v4 planted.sides.left (λ n h. (left_first [] (way n) (way low) h (first_side low V6 e)).1) i) (behind-next f.v6 planted.v6 low i))
+    ∙ sym (next-append low (slots_of f.v4) (slots_of f.v6))
+    ∙ ap (λ routes. slice_get (above (Some low) routes) 0) (routed-entries f planted)
+
+-- ---- a key made sure of
+
+kept-changes : {R : Type 0} (old new : Slots R) (prefix : Network) → ChangesAt old prefix (kept (slot_at old prefix)) new → ChangesAt old prefix (Some (route_found (slot_at old prefix))) new
+kept-changes old new prefix changes = subst (λ slot. ChangesAt old prefix slot new) (kept_found (slot_at old prefix)) changes
+
+-- it is a key, and no route changes
+pub keys_in-kept : {R : Type 0} (old new : Slots R) (prefix : Network) → ChangesAt old prefix (kept (slot_at old prefix)) new → keys_in new ≡ set.insert (keys_in old) prefix
+keys_in-kept old new prefix changes = keys_in-more old new prefix (route_found (slot_at old prefix)) (kept-changes old new prefix changes)
+
+pub routes_in-kept : {R : Type 0} (old new : Slots R) (prefix : Network) → ChangesAt old prefix (kept (slot_at old prefix)) new → routes_in new ≡ routes_in old
+routes_in-kept old new prefix changes =
+    routes_in-written old new prefix (route_found (slot_at old prefix)) (kept-changes old new prefix changes)
+    ∙ ap (put (routes_in old) prefix) (sym (get-routes_in old prefix))
+    ∙ put-same (routes_in old) prefix

@@ -1,0 +1,62 @@
+-- Private.
+-- The trees of both families, as two sides of a root above both, and what a store of them holds.
+use Rattle.std.specs.Prelude.{◌≡◌, ℕ, Option, [], ◌++◌, cond}
+use Rattle.std.specs.FinMap as finite
+use Rattle.std.specs.FinSet as set
+use Rattle.std.specs.Ordering.{eq_by_cmp}
+use Rattle.ip_prefix.specs.declared.addr.Family.{Family}
+use Rattle.ip_prefix.specs.declared.addr.Family.TheVariants.{V4, V6}
+use Rattle.ip_prefix.specs.Network.{Network}
+use Rattle.ip_prefix.specs.Order.{network_cmp}
+use Rattle.prefix_store.specs.declared.packed.V4Prefix.{V4Prefix}
+use Rattle.prefix_store.specs.Packed.{v4_network, v6_network}
+use Rattle.prefix_store.specs.Stored.{counted}
+use Rattle.prefix_store.specs.Contents.{Contents}
+use Rattle.rib_store.specs.declared.tree.Tree.{Tree}
+use Rattle.rib_store.specs.Shape.{Shape, shape_of, IsMarked}
+use Rattle.rib_store.specs.Slots.{Slots, slot_at, keys_in, routes_in}
+use Rattle.rib_store.specs.Tree.{slots_of, AreSides, IsShaped}
+
+-- the shapes of both trees
+pub record Trees (R : Type 0) : Type 0 where
+  pub v4 : Shape R
+  pub v6 : Shape R
+
+abbrev pub trees_of : {R : Type 0} → Tree V4Prefix R → Tree Network R → Trees R
+trees_of v4 v6 = record { v4 = shape_of v4_network v4; v6 = shape_of v6_network v6 }
+
+-- the tree of a family
+abbrev pub tree_of : {R : Type 0} → Family → Trees R → Shape R
+tree_of V4 trees = trees.v4
+tree_of V6 trees = trees.v6
+
+-- the trees with this one in the place of that of the family
+abbrev pub with_tree : {R : Type 0} → Family → Shape R → Trees R → Trees R
+with_tree V4 tree trees = record { v4 = tree; v6 = trees.v6 }
+with_tree V6 tree trees = record { v4 = trees.v4; v6 = tree }
+
+-- the keys of both families, each with its slot, in order
+abbrev pub slots_in : {R : Type 0} → Trees R → Slots R
+slots_in trees = slots_of trees.v4 ++ slots_of trees.v6
+
+-- each tree has its shape, and its keys are of its family
+pub record IsPlanted {R : Type 0} (trees : Trees R) : Type 0 where
+  pub sides : AreSides [] trees.v4 trees.v6
+  pub v4 : IsShaped trees.v4
+  pub v6 : IsShaped trees.v6
+
+-- each prefix has the slot that it had, but for one
+abbrev pub ChangesAt : {R : Type 0} → Slots R → Network → Option (Option R) → Slots R → Type 0
+ChangesAt old prefix slot new = (q : Network) → slot_at new q ≡ cond (eq_by_cmp network_cmp prefix q) slot (slot_at old q)
+
+-- the keys and routes of both
+abbrev pub contents_of : {R : Type 0} → Trees R → Contents R
+contents_of trees = record { keys = keys_in (slots_in trees); routes = routes_in (slots_in trees) }
+
+-- both trees, whose marks are right, and counts of their keys and routes
+pub record IsCounted {R : Type 0} (v4 : Tree V4Prefix R) (v6 : Tree Network R) (key_count route_count : ℕ) : Type 0 where
+  pub planted : IsPlanted (trees_of v4 v6)
+  pub v4_marks : IsMarked v4
+  pub v6_marks : IsMarked v6
+  pub keys : key_count ≡ counted (set.len (contents_of (trees_of v4 v6)).keys)
+  pub routes : route_count ≡ counted (finite.len (contents_of (trees_of v4 v6)).routes)
