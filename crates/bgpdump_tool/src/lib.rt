@@ -3,7 +3,7 @@
 #![tactic(auto)]
 
 mod command;
-mod commands;
+mod carrying;
 mod laws;
 mod play;
 mod replies;
