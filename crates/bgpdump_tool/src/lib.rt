@@ -2,8 +2,8 @@
 //! forwards and backwards, and command lines that ask for that or for their lines.
 #![tactic(auto)]
 
-mod command;
 mod carrying;
+mod command;
 mod laws;
 mod play;
 mod replies;
