@@ -366,6 +366,13 @@ Carrying-question command from left s old out out' routes text result stands mea
     Carrying-replied command from left s old old out out' (text (table (take s.cursor s.history))) result (IsLed-answer command from left s old (text (table (take s.cursor s.history))) stands means) refl
     (subst (λ r. PutsPart out out' (text r) result) same replied)
 
+-- one whose reply is a line
+pub Carrying-line : (command : Command) (from : Place) (left : Option (List ℕ)) (s : Standing) (old : Scene) (out out' : Option (List ℕ)) (routes : Routes) (text : Routes → List ℕ) (result : Result (Unit {0}) WriteFault) → Stands from left old s
+    → ((more : List Finding) → meaning command (state_of s more) ≡ answer (text (table (take s.cursor s.history))) (state_of s more)) → routes ≡ current old.player → Puts out out' (text routes) result
+    → CarryingDoes command from left s old old out out' (outcome_result result)
+Carrying-line command from left s old out out' routes text result stands means is replied =
+    Carrying-question command from left s old out out' routes text result stands means is (PutsPart-put out out' (text routes) result replied)
+
 pub Carrying-position : (from : Place) (left : Option (List ℕ)) (s : Standing) (old : Scene) (out out' : Option (List ℕ)) (result : Result (Unit {0}) WriteFault) → Stands from left old s
     → Puts out out' (counted_text old.player.cursor (codes " ahead ") (ahead_of old.player)) result → CarryingDoes Position from left s old old out out' (outcome_result result)
 Carrying-position from left s old out out' result stands put =

@@ -1,6 +1,8 @@
 -- The lines of a script that spell commands.
 use Rattle.std.specs.Prelude.{◌≡◌, ℕ, ◌^◌, ◌<◌, ◌⊎◌, ◌==◌, List, [], ◌∷◌, decimal, codes}
 use Rattle.std.specs.List.{slice_split}
+use Rattle.ip_prefix.specs.Address.{Address}
+use Rattle.ip_prefix.specs.Network.{Network}
 use Rattle.ip_prefix.specs.Spelling.{SpellsAddress, SpellsPrefix}
 use Rattle.mrt_events.specs.declared.peer.Peer.{Peer}
 use Rattle.bgpdump_tool.specs.declared.command.Command.{Command}
@@ -27,39 +29,49 @@ SpellsPeer address peer number = SpellsAddress peer.addr address × SpellsDecima
 abbrev pub SpellsTimes : ℕ → List ℕ → Type 0
 SpellsTimes n word = (0 < n) × SpellsDecimal n word
 
--- the name alone, for once, or the name and how often
-abbrev pub SpellsRepeated : List ℕ → ℕ → List (List ℕ) → Type 0
-SpellsRepeated name n words =
-    ((n ≡ 1) × (words ≡ name ∷ []))
-    ⊎ ((times : List ℕ) × SpellsTimes n times × (words ≡ name ∷ times ∷ []))
+-- what stands behind a command's name: nothing; how often, unless it is once; a number; a peer; or a peer and what is sought in its table
+pub data Arguments : Type 0 where
+  Alone : Arguments
+  Times : ℕ → Arguments
+  Number : ℕ → Arguments
+  OfPeer : Peer → Arguments
+  SoughtPrefix : Peer → Network → Arguments
+  SoughtAddress : Peer → Address → Arguments
 
--- the name and a number
-abbrev pub SpellsNumbered : List ℕ → ℕ → List (List ℕ) → Type 0
-SpellsNumbered name n words = (number : List ℕ) × SpellsDecimal n number × (words ≡ name ∷ number ∷ [])
-
--- the name and a peer
-abbrev pub SpellsOfPeer : List ℕ → Peer → List (List ℕ) → Type 0
-SpellsOfPeer name peer words =
-    (address number : List ℕ) × SpellsPeer address peer number × (words ≡ name ∷ address ∷ number ∷ [])
-
--- the name, a peer and something sought in its table
-abbrev pub SpellsSought : {A : Type 0} → (A → List ℕ → Type 0) → List ℕ → Peer → A → List (List ℕ) → Type 0
-SpellsSought Spells name peer value words =
+-- a peer, and behind it something sought
+abbrev pub SpellsSought : {A : Type 0} → (A → List ℕ → Type 0) → Peer → A → List (List ℕ) → Type 0
+SpellsSought Spells peer value words =
     (address number sought : List ℕ) × SpellsPeer address peer number × Spells value sought
-    × (words ≡ name ∷ address ∷ number ∷ sought ∷ [])
+    × (words ≡ address ∷ number ∷ sought ∷ [])
+
+-- the words are these
+abbrev pub SpellsArguments : Arguments → List (List ℕ) → Type 0
+SpellsArguments Alone words = words ≡ []
+SpellsArguments (Times n) words =
+    ((n ≡ 1) × (words ≡ [])) ⊎ ((times : List ℕ) × SpellsTimes n times × (words ≡ times ∷ []))
+SpellsArguments (Number n) words = (number : List ℕ) × SpellsDecimal n number × (words ≡ number ∷ [])
+SpellsArguments (OfPeer peer) words =
+    (address number : List ℕ) × SpellsPeer address peer number × (words ≡ address ∷ number ∷ [])
+SpellsArguments (SoughtPrefix peer prefix) words = SpellsSought SpellsPrefix peer prefix words
+SpellsArguments (SoughtAddress peer address) words = SpellsSought SpellsAddress peer address words
+
+-- the name of a command, and what stands behind it
+abbrev pub spelling : Command → List ℕ × Arguments
+spelling (Next n) = (codes "next", Times n)
+spelling (Back n) = (codes "back", Times n)
+spelling (Goto n) = (codes "goto", Number n)
+spelling Position = (codes "where", Alone)
+spelling Peers = (codes "peers", Alone)
+spelling (Table peer) = (codes "table", OfPeer peer)
+spelling (Route peer prefix) = (codes "route", SoughtPrefix peer prefix)
+spelling (Lookup peer address) = (codes "lookup", SoughtAddress peer address)
+spelling (Lose peer) = (codes "lose", OfPeer peer)
+spelling (Forget n) = (codes "forget", Number n)
 
 -- the words are those of the command
 abbrev pub SpellsWords : Command → List (List ℕ) → Type 0
-SpellsWords (Next n) words = SpellsRepeated (codes "next") n words
-SpellsWords (Back n) words = SpellsRepeated (codes "back") n words
-SpellsWords (Goto n) words = SpellsNumbered (codes "goto") n words
-SpellsWords Position words = words ≡ codes "where" ∷ []
-SpellsWords Peers words = words ≡ codes "peers" ∷ []
-SpellsWords (Table peer) words = SpellsOfPeer (codes "table") peer words
-SpellsWords (Route peer prefix) words = SpellsSought SpellsPrefix (codes "route") peer prefix words
-SpellsWords (Lookup peer address) words = SpellsSought SpellsAddress (codes "lookup") peer address words
-SpellsWords (Lose peer) words = SpellsOfPeer (codes "lose") peer words
-SpellsWords (Forget n) words = SpellsNumbered (codes "forget") n words
+SpellsWords command words =
+    (more : List (List ℕ)) × SpellsArguments (spelling command).1 more × (words ≡ (spelling command).0 ∷ more)
 
 -- the line spells the command
 abbrev pub SpellsCommand : Command → List ℕ → Type 0

@@ -8,7 +8,7 @@ use Rattle.mrt_events.specs.Event.{Changed}
 use Rattle.mrt_wire.specs.Results.{Finding, Found, Bad}
 use Rattle.rib_player.specs.Tables.{Routes, table}
 use Rattle.mrt_events.specs.declared.event.TheConstants.{ESTABLISHED}
-use Rattle.bgpdump_tool.specs.declared.commands.lose.TheConstants.{IDLE}
+use Rattle.bgpdump_tool.specs.declared.carrying.lose.TheConstants.{IDLE}
 
 -- the events played, how many of them stand before the cursor, how many of these can't be undone any more, and the results that no command has taken yet
 pub record State : Type 0 where

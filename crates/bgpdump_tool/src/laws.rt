@@ -3,7 +3,7 @@
 ghost use Rattle.std.specs.Prelude.{◌≡◌, ℕ, ◌^◌, List, [], ◌∷◌};
 ghost use Rattle.bgpdump_tool.specs.declared.script.TheConstants.{LONGEST_SCRIPT};
 ghost use Rattle.mrt_events.specs.declared.event.TheConstants.{ESTABLISHED};
-ghost use Rattle.bgpdump_tool.specs.declared.commands.lose.TheConstants.{IDLE};
+ghost use Rattle.bgpdump_tool.specs.declared.carrying.lose.TheConstants.{IDLE};
 ghost use Rattle.bgpdump_tool.specs.declared.command.Command.{Command};
 ghost use Rattle.bgpdump_tool.specs.Command.{SpellsCommand};
 ghost use Rattle.ip_prefix.specs.Address.{Address};

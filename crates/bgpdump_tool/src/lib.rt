@@ -2,8 +2,8 @@
 //! forwards and backwards, and command lines that ask for that or for their lines.
 #![tactic(auto)]
 
+mod carrying;
 mod command;
-mod commands;
 mod laws;
 mod play;
 mod replies;

@@ -12,8 +12,8 @@ ghost use Rattle.bgpdump_tool.specs.Whole.{PlaysOverAll, BeganLines, WritesCut, 
 ghost use Rattle.bgpdump_tool.specs.Standing.{HasRoom, scene_of};
 ghost use Rattle.bgpdump_tool.specs.Playing.{CarriesLine, PlaysScript};
 
+use crate::carrying::carry_out;
 use crate::command::read_command;
-use crate::commands::carry_out;
 use crate::script::{LONGEST_SCRIPT, split_line, write_line_report};
 use crate::session::Session;
 use bgpdump_lines::{Outcome, Output, finish_outputs};

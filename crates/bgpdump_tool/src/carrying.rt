@@ -1,0 +1,78 @@
+//! The commands of a script, carried out.
+
+mod back;
+mod forget;
+mod goto;
+mod lookup;
+mod lose;
+mod next;
+mod peers;
+mod position;
+mod route;
+mod table;
+
+ghost use Rattle.std.specs.Prelude.{◌≡◌, ◌+◌, ◌||◌, ℕ};
+ghost use Rattle.bgpdump_tool.specs.declared.script.TheConstants.{LONGEST_SCRIPT};
+ghost use Rattle.bgpdump_lines.specs.Ending.{is_read_fault, is_write_fault, outcome_result};
+ghost use Rattle.bgpdump_tool.specs.Standing.{HasRoom, scene_of};
+ghost use Rattle.bgpdump_tool.specs.Carrying.{CarriesOut};
+
+use crate::command::Command;
+use crate::session::Session;
+use bgpdump_lines::{Outcome, Output, WriteFault};
+use mrt_wire::{Input, Route};
+use prefix_store::PrefixStore;
+use std::rc::Rc;
+
+/// Carries out a command: what it reads and finds faulty is reported, then its reply is written.
+pub(crate) fn carry_out<S: PrefixStore<Rc<Route>>, I: Input, O: Output, E: Output>(
+    session: &mut Session<S>,
+    input: &mut I,
+    out: &mut O,
+    err: &mut E,
+    command: Command,
+) -> Result<(), Outcome>
+    requires room { HasRoom session.old.player session.old.source LONGEST_SCRIPT }
+    ensures carries_out { CarriesOut command
+        (scene_of I.left E.written session.old input.old err.old)
+        (scene_of I.left E.written session.new input.new err.new)
+        (O.written out.old) (O.written out.new) result }
+    ensures room { (lost : ℕ) → HasRoom session.old.player session.old.source lost →
+        HasRoom session.new.player session.new.source (lost + 1) }
+    ensures read { I.failed input.new ≡ (I.failed input.old || is_read_fault result) }
+    ensures wrote { (O.failed out.new || E.failed err.new)
+        ≡ (O.failed out.old || E.failed err.old || is_write_fault result) }
+{
+    let text = &mut session.text;
+    match command {
+        Command::Next(count) => next::next(session, input, out, err, count),
+        Command::Back(count) => replied(back::back(&mut session.player, count, out, text)),
+        Command::Goto(position) => goto::goto(session, input, out, err, position),
+        Command::Position => replied(position::position(&session.player, out, text)),
+        Command::Peers => replied(peers::peers(session.player.table(), out, text)),
+        Command::Table(peer) => {
+            let table = session.player.table();
+            replied(table::table(table, session.alloc, &peer, out, text))
+        }
+        Command::Route(peer, prefix) => {
+            let table = session.player.table();
+            replied(route::route(table, &peer, &prefix, out, text))
+        }
+        Command::Lookup(peer, addr) => {
+            let table = session.player.table();
+            replied(lookup::lookup(table, &peer, &addr, out, text))
+        }
+        Command::Lose(peer) => {
+            let alloc = session.alloc;
+            replied(lose::lose(&mut session.player, alloc, peer, out, text))
+        }
+        Command::Forget(keep) => replied(forget::forget(&mut session.player, keep, out, text)),
+    }
+}
+
+/// How a reply was written, as a run ends.
+fn replied(reply: Result<(), WriteFault>) -> Result<(), Outcome>
+    ensures { result ≡ outcome_result reply }
+{
+    Ok(reply?)
+}
