@@ -7,7 +7,8 @@ use Rattle.std.proofs.lemmas.List.{get_or-set_same, get_or-set_other}
 use Rattle.std.proofs.Math.Bool.{or-false, and-false, or-true}
 use Rattle.bgp_wire.specs.declared.framing.TheConstants.{KINDS}
 use Rattle.bgp_wire.specs.Attribute.{Attribute, first_value, repeats}
-use Rattle.bgp_wire.specs.PlainValues.{FirstOf, firsts_of, value_or, value_at, with_value}
+use Rattle.bgp_wire.specs.PlainValues.{value_or, value_at, with_value}
+use Rattle.bgp_wire.specs.Content.{FirstOf, firsts_of}
 use Rattle.bgp_wire.specs.SeenTypes.{Types, Tells}
 
 -- ---- the first value of a type, with one attribute more

@@ -61,21 +61,16 @@ one_passed Four path other aggregator another list s t = (
 -- attributes with one next hop say one thing
 one_says : (width : AsWidth) (attrs other : Attrs) (list : List Attribute) → attrs.next_hop ≡ other.next_hop → Says width attrs list → Says width other list → attrs ≡ other
 one_says width attrs other list hops s t =
-    let origins = one_optional SpellsOrigin one_origin attrs.origin other.origin (first_value ORIGIN list) s.origin t.origin in
     let passed = one_passed width attrs.path other.path attrs.aggregator other.aggregator list s.passed t.passed in
-    let meds = one_optional SpellsWord one_word attrs.med other.med (first_value MULTI_EXIT_DISC list) s.med t.med in
-    let prefs = one_optional SpellsWord one_word attrs.local_pref other.local_pref (first_value LOCAL_PREF list) s.local_pref t.local_pref in
-    let atomics = one_presence attrs.atomic other.atomic (first_value ATOMIC_AGGREGATE list) s.atomic t.atomic in
-    let words = one_words attrs.communities other.communities (octets_or_none (first_value COMMUNITIES list)) s.communities t.communities in
     λ i. record {
       next_hop = hops i;
       aggregator = passed.1 i;
       path = passed.0 i;
-      communities = words i;
-      med = meds i;
-      local_pref = prefs i;
-      origin = origins i;
-      atomic = atomics i;
+      communities = one_words attrs.communities other.communities (octets_or_none (first_value COMMUNITIES list)) s.communities t.communities i;
+      med = one_optional SpellsWord one_word attrs.med other.med (first_value MULTI_EXIT_DISC list) s.short.1 t.short.1 i;
+      local_pref = one_optional SpellsWord one_word attrs.local_pref other.local_pref (first_value LOCAL_PREF list) s.short.2 t.short.2 i;
+      origin = one_optional SpellsOrigin one_origin attrs.origin other.origin (first_value ORIGIN list) s.short.0 t.short.0 i;
+      atomic = one_presence attrs.atomic other.atomic (first_value ATOMIC_AGGREGATE list) s.short.3 t.short.3 i;
     }
 
 one_hop : (family : Family) (hop other : Option Address) (list : List Attribute) → SaysRibHop family hop list → SaysRibHop family other list → hop ≡ other

@@ -2,46 +2,35 @@
 use Rattle.std.proofs.Common.{ℕ, List, Option}
 use Rattle.ip_prefix.specs.declared.addr.Family.{Family}
 use Rattle.ip_prefix.specs.Address.{Address}
+use Rattle.bgp_paths.specs.declared.path.AsPath.{AsPath}
+use Rattle.bgp_paths.specs.Path.{SpellsPath}
+use Rattle.bgp_wire.specs.declared.attrs.Aggregator.{Aggregator}
 use Rattle.bgp_wire.specs.declared.attrs.Attrs.{Attrs}
-use Rattle.bgp_wire.specs.declared.framing.TheConstants.{NEXT_HOP}
+use Rattle.bgp_wire.specs.As4.{SaysPassed}
+use Rattle.bgp_wire.specs.declared.framing.TheConstants.{AS_PATH, NEXT_HOP, AGGREGATOR}
 use Rattle.bgp_wire.specs.declared.parts.UpdateParts.{UpdateParts}
 use Rattle.bgp_paths.specs.declared.numbers.AsWidth.{AsWidth}
 use Rattle.bgp_paths.specs.declared.numbers.AsWidth.TheVariants.{Two, Four}
 use Rattle.bgp_wire.specs.Attribute.{Attribute, first_value}
-use Rattle.bgp_wire.specs.Content.{Says, SpellsRibAttrs}
+use Rattle.bgp_wire.specs.Content.{Says, SpellsRibAttrs, firsts_of}
 use Rattle.bgp_wire.specs.Parts.{SpellsParts}
-use Rattle.bgp_wire.specs.PlainValues.{firsts_of, SaysPlainly, SpellsPlainly}
-use Rattle.bgp_wire.specs.Value.{SpellsOptional, SpellsIPv4}
+use Rattle.bgp_wire.specs.PlainValues.{SaysPlainly, SpellsPlainly}
+use Rattle.bgp_wire.specs.Value.{SpellsOptional, SpellsIPv4, SpellsAggregator, octets_or_none}
 
--- with a next hop of NEXT_HOP, and with the path and the aggregator as they were before they were joined
+-- the path and the aggregator as they were before they were joined
+passed_plainly : (width : AsWidth) (path : AsPath) (aggregator : Option Aggregator) (list : List Attribute) → SaysPassed width path aggregator list
+    → (own_path : AsPath) × (own : Option Aggregator) × SpellsPath width own_path (octets_or_none (first_value AS_PATH list)) × SpellsOptional SpellsAggregator own (first_value AGGREGATOR list)
+passed_plainly Two path aggregator list s = (s.own_path, s.own, s.path_spelled, s.own_spelled)
+passed_plainly Four path aggregator list s = (path, aggregator, s.path_spelled, s.own_spelled)
+
+-- with these, and with a next hop of NEXT_HOP
 said_plainly : (width : AsWidth) (hop : Option Address) (attrs : Attrs) (list : List Attribute) → Says width attrs list → SpellsOptional SpellsIPv4 hop (first_value NEXT_HOP list)
     → (plain : Attrs) × SaysPlainly width plain (firsts_of list)
-said_plainly Two hop attrs list s h = (
-  record attrs { next_hop = hop; path = s.passed.own_path; aggregator = s.passed.own },
-  record {
-    origin = s.origin;
-    path = s.passed.path_spelled;
-    next_hop = h;
-    med = s.med;
-    local_pref = s.local_pref;
-    atomic = s.atomic;
-    aggregator = s.passed.own_spelled;
-    communities = s.communities;
-  },
-)
-said_plainly Four hop attrs list s h = (
-  record attrs { next_hop = hop },
-  record {
-    origin = s.origin;
-    path = s.passed.path_spelled;
-    next_hop = h;
-    med = s.med;
-    local_pref = s.local_pref;
-    atomic = s.atomic;
-    aggregator = s.passed.own_spelled;
-    communities = s.communities;
-  },
-)
+said_plainly width hop attrs list s h =
+    let passed = passed_plainly width attrs.path attrs.aggregator list s.passed in (
+      record attrs { next_hop = hop; path = passed.0; aggregator = passed.1 },
+      record { short = s.short; path = passed.2; next_hop = h; aggregator = passed.3; communities = s.communities },
+    )
 
 -- octets of a RIB entry's attributes spell plain ones
 pub rib_plainly : (family : Family) (width : AsWidth) (attrs : Attrs) (octets : List ℕ) → SpellsRibAttrs family width attrs octets → (plain : Attrs) × SpellsPlainly width plain octets

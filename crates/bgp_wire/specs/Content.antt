@@ -12,13 +12,26 @@ use Rattle.bgp_wire.specs.Value.{SpellsOptional, octets_or_none, SpellsPresence,
 use Rattle.bgp_wire.specs.As4.{SaysPassed}
 use Rattle.bgp_wire.specs.NextHop.{SpellsRibHop, rib_hop}
 
+-- by the types of attributes, the first value of each
+abbrev pub FirstOf : Type 0
+FirstOf = ℕ → Option (List ℕ)
+
+-- those of a list
+abbrev pub firsts_of : List Attribute → FirstOf
+firsts_of list kind = first_value kind list
+
+-- what values of a few octets say, each by itself
+abbrev pub SaysShort : Attrs → FirstOf → Type 0
+SaysShort attrs first =
+    SpellsOptional SpellsOrigin attrs.origin (first ORIGIN)
+    × SpellsOptional SpellsWord attrs.med (first MULTI_EXIT_DISC)
+    × SpellsOptional SpellsWord attrs.local_pref (first LOCAL_PREF)
+    × SpellsPresence attrs.atomic (first ATOMIC_AGGREGATE)
+
 -- what the first attributes of each type say, but for the next hop; absent communities are none
 pub record Says (width : AsWidth) (attrs : Attrs) (list : List Attribute) : Type 0 where
-  pub origin : SpellsOptional SpellsOrigin attrs.origin (first_value ORIGIN list)
+  pub short : SaysShort attrs (firsts_of list)
   pub passed : SaysPassed width attrs.path attrs.aggregator list
-  pub med : SpellsOptional SpellsWord attrs.med (first_value MULTI_EXIT_DISC list)
-  pub local_pref : SpellsOptional SpellsWord attrs.local_pref (first_value LOCAL_PREF list)
-  pub atomic : SpellsPresence attrs.atomic (first_value ATOMIC_AGGREGATE list)
   pub communities : SpellsAll SpellsWord attrs.communities (octets_or_none (first_value COMMUNITIES list))
 
 -- the next hop of a RIB entry for a prefix of this family, where its attributes name one

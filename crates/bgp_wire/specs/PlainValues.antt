@@ -2,33 +2,23 @@
 -- The values of attributes, each read by itself.
 use Rattle.std.specs.Prelude.{◌≡◌, ℕ, if◌then◌else◌, ◌==◌, List, Option, Some, None}
 use Rattle.ip_prefix.specs.Sequences.{SpellsAll}
-use Rattle.bgp_wire.specs.declared.framing.TheConstants.{ORIGIN, AS_PATH, NEXT_HOP, MULTI_EXIT_DISC, LOCAL_PREF, ATOMIC_AGGREGATE, AGGREGATOR, COMMUNITIES, MP_REACH_NLRI, MP_UNREACH_NLRI, AS4_PATH, AS4_AGGREGATOR}
+use Rattle.bgp_wire.specs.declared.framing.TheConstants.{AS_PATH, NEXT_HOP, AGGREGATOR, COMMUNITIES, MP_REACH_NLRI, MP_UNREACH_NLRI, AS4_PATH, AS4_AGGREGATOR}
 use Rattle.bgp_paths.specs.declared.numbers.AsWidth.{AsWidth}
 use Rattle.bgp_wire.specs.declared.attrs.Attrs.{Attrs}
 use Rattle.bgp_wire.specs.declared.attribute_list.LaterValues.{LaterValues}
-use Rattle.bgp_wire.specs.Attribute.{Attribute, SpellsAttributes, first_value}
+use Rattle.bgp_wire.specs.Attribute.{Attribute, SpellsAttributes}
+use Rattle.bgp_wire.specs.Content.{FirstOf, firsts_of, SaysShort}
 use Rattle.bgp_wire.specs.Lent.{octets_of}
 use Rattle.bgp_paths.specs.Number.{SpellsWord}
 use Rattle.bgp_paths.specs.Path.{SpellsPath}
 use Rattle.bgp_wire.specs.SeenTypes.{Types, Tells}
-use Rattle.bgp_wire.specs.Value.{SpellsOptional, octets_or_none, SpellsPresence, SpellsOrigin, SpellsIPv4, SpellsAggregator}
-
--- by the types of attributes, the first value of each
-abbrev pub FirstOf : Type 0
-FirstOf = ℕ → Option (List ℕ)
-
--- those of a list
-abbrev pub firsts_of : List Attribute → FirstOf
-firsts_of list kind = first_value kind list
+use Rattle.bgp_wire.specs.Value.{SpellsOptional, octets_or_none, SpellsIPv4, SpellsAggregator}
 
 -- what these values say, each by itself: the path with numbers of this width, the aggregator of AGGREGATOR and the next hop of NEXT_HOP
 pub record SaysPlainly (width : AsWidth) (attrs : Attrs) (first : FirstOf) : Type 0 where
-  pub origin : SpellsOptional SpellsOrigin attrs.origin (first ORIGIN)
+  pub short : SaysShort attrs first
   pub path : SpellsPath width attrs.path (octets_or_none (first AS_PATH))
   pub next_hop : SpellsOptional SpellsIPv4 attrs.next_hop (first NEXT_HOP)
-  pub med : SpellsOptional SpellsWord attrs.med (first MULTI_EXIT_DISC)
-  pub local_pref : SpellsOptional SpellsWord attrs.local_pref (first LOCAL_PREF)
-  pub atomic : SpellsPresence attrs.atomic (first ATOMIC_AGGREGATE)
   pub aggregator : SpellsOptional SpellsAggregator attrs.aggregator (first AGGREGATOR)
   pub communities : SpellsAll SpellsWord attrs.communities (octets_or_none (first COMMUNITIES))
 
@@ -62,12 +52,9 @@ SpellsThere {A} Spells content (Some octets) = Spells content octets
 
 -- these values were read; a path and communities whose value isn't there may be any
 pub record ReadSoFar (width : AsWidth) (attrs : Attrs) (later : LaterValues) (first : FirstOf) : Type 0 where
-  pub origin : SpellsOptional SpellsOrigin attrs.origin (first ORIGIN)
+  pub short : SaysShort attrs first
   pub path : SpellsThere (SpellsPath width) attrs.path (first AS_PATH)
   pub next_hop : SpellsOptional SpellsIPv4 attrs.next_hop (first NEXT_HOP)
-  pub med : SpellsOptional SpellsWord attrs.med (first MULTI_EXIT_DISC)
-  pub local_pref : SpellsOptional SpellsWord attrs.local_pref (first LOCAL_PREF)
-  pub atomic : SpellsPresence attrs.atomic (first ATOMIC_AGGREGATE)
   pub aggregator : SpellsOptional SpellsAggregator attrs.aggregator (first AGGREGATOR)
   pub communities : SpellsThere (SpellsAll SpellsWord) attrs.communities (first COMMUNITIES)
   pub kept : AreLater later first

@@ -4,9 +4,9 @@ ghost use Rattle.std.specs.Prelude.{◌≡◌, List, IfOk, OnOk};
 ghost use Rattle.bgp_paths.specs.declared.numbers.AsWidth.TheVariants.{Two};
 ghost use Rattle.bgp_wire.specs.As4.{ignores_as4, joined_aggregator, IsJoined};
 ghost use Rattle.bgp_wire.specs.Attribute.{Attribute};
-ghost use Rattle.bgp_wire.specs.Content.{Says};
+ghost use Rattle.bgp_wire.specs.Content.{firsts_of, Says};
 ghost use Rattle.bgp_wire.specs.Lent.{octets_of};
-ghost use Rattle.bgp_wire.specs.PlainValues.{firsts_of, SaysPlainly, AreLater};
+ghost use Rattle.bgp_wire.specs.PlainValues.{SaysPlainly, AreLater};
 
 use crate::attribute_list::LaterValues;
 use crate::attrs::{Aggregator, Attrs};

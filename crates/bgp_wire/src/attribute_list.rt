@@ -4,7 +4,8 @@ ghost use Rattle.std.specs.Prelude.{◌≡◌, ◌<◌, List, [], Some, OnOk, On
 ghost use Rattle.bgp_wire.specs.declared.framing.TheConstants.{KINDS};
 ghost use Rattle.bgp_wire.specs.Attribute.{Attribute};
 ghost use Rattle.bgp_wire.specs.FirstValues.{HoldsWithValue};
-ghost use Rattle.bgp_wire.specs.PlainValues.{FirstOf, firsts_of, AreLater, ReadSoFar};
+ghost use Rattle.bgp_wire.specs.PlainValues.{AreLater, ReadSoFar};
+ghost use Rattle.bgp_wire.specs.Content.{FirstOf, firsts_of};
 ghost use Rattle.bgp_wire.specs.PlainValues.{SaysPlainly, SpellsPlainly, ReadsList};
 ghost use Rattle.bgp_paths.specs.Readers.{Refuses};
 ghost use Rattle.bgp_wire.specs.SeenTypes.{Tells};

@@ -181,14 +181,9 @@ impl Attrs {
         let old = spare.communities.into_vec();
         let communities = copy_numbers(old, self.communities.as_slice(), MOST_SPARE)?;
         Ok(Attrs {
-            next_hop: self.next_hop,
-            aggregator: self.aggregator,
             path,
             communities: Communities::from_vec(communities),
-            med: self.med,
-            local_pref: self.local_pref,
-            origin: self.origin,
-            atomic: self.atomic,
+            ..*self
         })
     }
 

@@ -1,7 +1,8 @@
 use Rattle.std.proofs.Common.{◌≡◌, Some, Result, Ok, Err, IfErr, ap, sym, ◌∙◌}
 use Rattle.bgp_paths.specs.declared.fault.WireFault.{WireFault}
 use Rattle.bgp_wire.specs.declared.framing.TheConstants.{AGGREGATOR}
-use Rattle.bgp_wire.specs.PlainValues.{FirstOf, SaysPlainly}
+use Rattle.bgp_wire.specs.PlainValues.{SaysPlainly}
+use Rattle.bgp_wire.specs.Content.{FirstOf}
 use Rattle.bgp_paths.specs.Readers.{Refuses}
 use Rattle.bgp_wire.specs.Value.{SpellsAggregator}
 use Rattle.bgp_paths.proofs.Refusing.{refused_part, refused_found}

@@ -7,7 +7,8 @@ use Rattle.bgp_paths.specs.declared.fault.WireFault.{WireFault}
 use Rattle.bgp_paths.specs.declared.fault.WireFault.TheVariants.{Malformed, Memory}
 use Rattle.bgp_paths.specs.declared.numbers.AsWidth.{AsWidth}
 use Rattle.bgp_wire.specs.Attribute.{Attribute, SpellsAttribute, first_value}
-use Rattle.bgp_wire.specs.PlainValues.{FirstOf, firsts_of, with_value, ReadSoFar, SaysPlainly, SpellsPlainly}
+use Rattle.bgp_wire.specs.PlainValues.{with_value, ReadSoFar, SaysPlainly, SpellsPlainly}
+use Rattle.bgp_wire.specs.Content.{FirstOf, firsts_of}
 use Rattle.bgp_paths.specs.Readers.{Refuses}
 use Rattle.bgp_wire.proofs.Noting.{firsts_of-more, later_value, first_of_type, first_value-front}
 use Rattle.bgp_wire.proofs.OneAttribute.{attribute_code}
