@@ -573,7 +573,7 @@ def changing_course():
 
 
 # The hash of a plain route, of a time and a metric alone, as crates/known_routes/src/route_hash.rt has it, and the rows
-# of the first places in which a route of a hash may stand (places.rt there).
+# of the first places in which a route of a hash may stand (place.rt there).
 
 MULTIPLIER, TURN, ABSENT, NO_ORIGIN = 0x9E37_79B9_7F4A_7C15, 5, 1 << 32, 3
 SECOND_ROW, ROWS = 0x9E37_79B1, 255

@@ -16,7 +16,7 @@ NOTED = {
     'functions whose name begins with no verb of docs/architecture.md': 579,
     'functions of more than five parameters': 9,
     'clauses of more than 160 characters': 43,
-    'files of more than 320 lines': 5,
+    'files of more than 320 lines': 0,
 }
 # Programs and libraries that only check or measure.
 CHECKS = ('row_parts', 'row_stores', 'row_values', 'rows', 'store_bench', 'test_devices', 'workload_inputs',

@@ -2,6 +2,7 @@
 #![tactic(auto)]
 
 mod addr;
+mod fronts;
 mod laws;
 mod number;
 mod parse;

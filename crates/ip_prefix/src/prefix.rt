@@ -1,24 +1,20 @@
 //! Prefixes of both families.
 
-ghost use Rattle.std.specs.Prelude.{◌≡◌, ◌-◌, ◌*◌, ◌/◌, ◌^◌, ◌<◌, ◌≤◌, ◌++◌, false, Some, MatchOption, IfSome, IfNone, length, replicate, take, slice_get};
-ghost use Rattle.std.specs.Int.{w128, from_be_bytes};
+ghost use Rattle.std.specs.Prelude.{◌≡◌, ◌-◌, ◌/◌, ◌<◌, ◌≤◌, ◌++◌, false, Some, MatchOption, IfSome, IfNone, length, replicate, take, slice_get};
 ghost use Rattle.ip_prefix.specs.declared.addr.Family.{Family};
 ghost use Rattle.ip_prefix.specs.Address.{IsAddress, bit_count};
-ghost use Rattle.ip_prefix.specs.Bits.{bits_of, bits_of_octets};
+ghost use Rattle.ip_prefix.specs.Bits.{bits_of};
 ghost use Rattle.ip_prefix.specs.Highest.{highest_bits};
-ghost use Rattle.ip_prefix.specs.Filled.{highest_part};
 ghost use Rattle.ip_prefix.specs.Network.{IsNetwork, network_of, least_address, contains};
 ghost use Rattle.ip_prefix.specs.Covering.{covers};
 ghost use Rattle.octet_forms.specs.Fronts.{BeginsWithNone};
 ghost use Rattle.ip_prefix.specs.Wire.{SpellsNetwork};
 
-use crate::addr::{Addr, Family, OCTET_BITS, V4_BITS, V6_OCTETS, compare_families};
+use crate::addr::{Addr, Family, OCTET_BITS, V4_BITS, compare_families};
+use crate::fronts::{highest, number_in_front};
 use crate::number::{HALF_BITS, NUMBER_BITS, Number};
 use std::cmp::Ordering;
 use std::marker::Model;
-
-/// How many octets the most usual prefixes of IPv4 have at most, behind their length.
-const SHORT: usize = 3;
 
 /// A prefix: the addresses of a family that begin with some bits. It is kept as the least of them
 /// and the number of bits.
@@ -270,61 +266,4 @@ impl Ord for Prefix {
             Ordering::Greater => Ordering::Greater,
         }
     }
-}
-
-// The number with its highest bits, as many as are named, and zeros below them. Mostly they lie in
-// its high half.
-#[inline]
-fn highest(number: u128, len: u8) -> u128
-    requires { len ≤ NUMBER_BITS }
-    ensures { result ≡ highest_part len number }
-{
-    if len <= HALF_BITS {
-        return u128::from(front_of_half((number >> HALF_BITS) as u64, len)) << HALF_BITS;
-    }
-    let below = NUMBER_BITS - len;
-    number >> below << below
-}
-
-// A half with its highest bits, as many as are named, and zeros below them.
-#[inline]
-fn front_of_half(half: u64, len: u8) -> u64
-    requires { len ≤ HALF_BITS }
-    ensures { result ≡ half / 2 ^ (HALF_BITS - len) * 2 ^ (HALF_BITS - len) }
-{
-    if len == 0 {
-        return 0;
-    }
-    let below = HALF_BITS - len;
-    half >> below << below
-}
-
-// A number whose highest bits are those of the octets in front, as many as are named. Its other bits
-// may be any. Octets are taken at once where enough stand there, or where three hold all.
-#[inline]
-fn number_in_front(octets: &[u8], size: usize) -> u128
-    requires { (size ≤ length octets.now) × (size ≤ V6_OCTETS) }
-    ensures fits { result < 2 ^ NUMBER_BITS }
-    ensures bits { highest_bits (OCTET_BITS * size) result ≡ bits_of_octets (take size octets.now) }
-{
-    if let Some(front) = octets.first_chunk::<V6_OCTETS>() {
-        return u128::from_be_bytes(*front);
-    }
-    if size <= SHORT {
-        if let Some(front) = octets.first_chunk::<SHORT>() {
-            return number_of_short(*front);
-        }
-    }
-    let mut buffer = [0; V6_OCTETS];
-    buffer[..size].copy_from_slice(&octets[..size]);
-    u128::from_be_bytes(buffer)
-}
-
-// The number that begins with three octets, and then has zeros.
-#[inline]
-fn number_of_short(octets: [u8; SHORT]) -> u128
-    ensures { result ≡ from_be_bytes w128 (octets ++ replicate (V6_OCTETS - SHORT) 0) }
-{
-    let [one, two, three] = octets;
-    u128::from_be_bytes([one, two, three, 0, 0, 0, 0, 0, 0, 0, 0, 0, 0, 0, 0, 0])
 }

@@ -2,7 +2,7 @@
 use Rattle.std.proofs.Common.{ℕ, ◌≤◌, List, length, take, arith}
 use Rattle.std.proofs.lemmas.List.{length-take-le}
 use Rattle.std.proofs.lemmas.List.Sums.{count_by-le-length}
-use Rattle.known_routes.specs.declared.places.Place.{Place}
+use Rattle.known_routes.specs.declared.place.Place.{Place}
 use Rattle.known_routes.specs.Places.{is_taken, taken_in}
 
 -- of so many at most so many

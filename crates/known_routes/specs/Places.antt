@@ -2,8 +2,8 @@
 -- How many routes stand at places.
 use Rattle.std.specs.Prelude.{ℕ, Bool, true, false, List}
 use Rattle.std.specs.List.{count_by}
-use Rattle.known_routes.specs.declared.places.Place.{Place}
-use Rattle.known_routes.specs.declared.places.Place.TheVariants.{Free, Taken}
+use Rattle.known_routes.specs.declared.place.Place.{Place}
+use Rattle.known_routes.specs.declared.place.Place.TheVariants.{Free, Taken}
 
 -- a route stands there
 abbrev pub is_taken : Place → Bool

@@ -2,6 +2,7 @@
 //! equal one that comes later the one that is here stands for it, and takes no memory twice.
 #![tactic(auto)]
 
+mod place;
 mod places;
 mod route_hash;
 mod routes;

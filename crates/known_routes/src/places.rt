@@ -1,10 +1,11 @@
 //! Places for routes, which are found there by a hash.
 
-ghost use Rattle.std.specs.Prelude.{◌≡◌, ◌≤◌, ◌+◌, ◌*◌, IfOk, IfSome, IsTrue, vec_len};
+ghost use Rattle.std.specs.Prelude.{◌≡◌, ◌≤◌, ◌+◌, ◌*◌, IfOk, IsTrue, vec_len};
 ghost use Rattle.known_routes.specs.Places.{taken_in, is_taken};
 ghost use Rattle.known_routes.specs.declared.places.TheConstants.{FIRST_PLACES, MOST_PLACES, MOST_TIMES};
 
-use mrt_events::{Route, route_size, same_route};
+use crate::place::{Place, count_taken, index_of, is_last_owner, is_taken, octets_at, place_for};
+use mrt_events::Route;
 use std::alloc::{AllocError, Global};
 use std::rc::Rc;
 
@@ -17,29 +18,6 @@ pub(crate) const MOST_PLACES: usize = 1 << 24;
 /// How many places there are at most for each route, besides the first.
 const MOST_TIMES: usize = 3;
 
-/// How many places a row has. A route may stand in two of them, so at eight places.
-const ROW: usize = 4;
-
-/// How many places stand before the first row. A large block begins 16 octets behind the start of a
-/// page, one place, so with these each row lies in one line of the cache.
-const BEFORE_ROWS: usize = 3;
-
-/// By which a hash is multiplied for the second row: the odd number next to 2^32 divided by the
-/// golden ratio.
-const SECOND_ROW: u32 = 0x9e37_79b1;
-
-/// How many bits a hash has.
-const HASH_BITS: u32 = 32;
-
-/// Where a route may stand.
-#[derive(Drop)]
-pub(crate) enum Place {
-    /// None does.
-    Free,
-    /// The hash of a route, and the route.
-    Taken(u32, Rc<Route>),
-}
-
 /// Places, and how many of them are taken.
 #[derive(Drop)]
 pub(crate) struct Places {
@@ -50,152 +28,12 @@ pub(crate) struct Places {
     ghost counted: { taken ≡ taken_in places.items },
 }
 
-/// Whether a route stands there.
-#[inline]
-fn is_taken(place: &Place) -> bool
-    ensures { result ≡ is_taken place.now }
-{
-    match place {
-        Place::Free => false,
-        Place::Taken(_, _) => true,
-    }
-}
-
-/// Whether a route stands there that has no other owner.
-fn is_last_owner(place: &Place) -> bool {
-    match place {
-        Place::Free => false,
-        Place::Taken(_, route) => Rc::strong_count(route) == 1,
-    }
-}
-
-/// How many octets the route takes that stands there.
-fn octets_at(place: &Place) -> u64 {
-    match place {
-        Place::Free => 0,
-        Place::Taken(_, route) => route_size(route),
-    }
-}
-
-/// At how many of the places a route stands.
-fn count_taken(places: &[Place]) -> usize
-    ensures { result ≡ taken_in places.now }
-{
-    let mut taken = 0;
-    'places: for place in places {
-        if is_taken(place) {
-            taken += 1;
-        }
-    }
-    taken
-}
-
-/// Where the row of a hash begins, of so many places.
-#[inline]
-fn row_of(hash: u32, count: usize) -> usize {
-    let rows = (count.saturating_sub(BEFORE_ROWS) / ROW) as u64;
-    let row = (u64::from(hash).wrapping_mul(rows) >> HASH_BITS) as usize;
-    row.wrapping_mul(ROW).wrapping_add(BEFORE_ROWS)
-}
-
-/// Where the two rows begin in which a route of this hash may stand, of so many places.
-#[inline]
-fn rows_of(hash: u32, count: usize) -> [usize; 2] {
-    [
-        row_of(hash, count),
-        row_of(hash.wrapping_mul(SECOND_ROW), count),
-    ]
-}
-
 /// How many places so many routes get.
 pub(crate) fn places_for(taken: usize) -> usize
     ensures most { result ≤ MOST_PLACES }
     ensures fitting { result ≤ MOST_TIMES * taken + FIRST_PLACES }
 {
     (taken.saturating_mul(5) / 2).clamp(FIRST_PLACES, MOST_PLACES)
-}
-
-/// A route of this hash that equals this one, in the row that begins there, and where it stands.
-#[inline]
-fn find_in_row<'a>(
-    places: &'a [Place],
-    start: usize,
-    hash: u32,
-    route: &Route,
-) -> Option<(usize, &'a Rc<Route>)>
-    ensures { IfSome result (λ found. found.1.now.value ≡ route.now) }
-{
-    'places: for index in start..start.saturating_add(ROW) {
-        if let Some(Place::Taken(other, known)) = places.get(index) {
-            if *other == hash && same_route(known, route) {
-                return Some((index, known));
-            }
-        }
-    }
-    None
-}
-
-/// A route of this hash that equals this one, and where it stands. The second row is looked at where
-/// the first may be full, since it is filled from the front.
-#[inline]
-pub(crate) fn find<'a>(
-    places: &'a [Place],
-    hash: u32,
-    route: &Route,
-) -> Option<(usize, &'a Rc<Route>)>
-    ensures { IfSome result (λ found. found.1.now.value ≡ route.now) }
-{
-    let [first, second] = rows_of(hash, places.len());
-    if let Some(found) = find_in_row(places, first, hash, route) {
-        return Some(found);
-    }
-    match places.get(first.saturating_add(ROW - 1)) {
-        Some(Place::Taken(_, _)) => find_in_row(places, second, hash, route),
-        _ => None,
-    }
-}
-
-/// The first free place of the row that begins there.
-#[inline]
-fn free_in_row(places: &[Place], start: usize) -> Option<usize> {
-    'places: for index in start..start.saturating_add(ROW) {
-        if let Some(Place::Free) = places.get(index) {
-            return Some(index);
-        }
-    }
-    None
-}
-
-/// A free place for a route of this hash, or else the first of its rows.
-#[inline]
-fn place_for(places: &[Place], hash: u32) -> usize {
-    let [first, second] = rows_of(hash, places.len());
-    match free_in_row(places, first) {
-        Some(index) => index,
-        None => free_in_row(places, second).unwrap_or(first),
-    }
-}
-
-/// Where this very route stands in the row that begins there.
-#[inline]
-fn index_in_row(places: &[Place], start: usize, route: &Rc<Route>) -> Option<usize> {
-    'places: for index in start..start.saturating_add(ROW) {
-        if let Some(Place::Taken(_, known)) = places.get(index) {
-            if Rc::ptr_eq(known, route) {
-                return Some(index);
-            }
-        }
-    }
-    None
-}
-
-/// Where this very route stands in the rows of its hash.
-fn index_of(places: &[Place], hash: u32, route: &Rc<Route>) -> Option<usize> {
-    let [first, second] = rows_of(hash, places.len());
-    match index_in_row(places, first, route) {
-        Some(index) => Some(index),
-        None => index_in_row(places, second, route),
-    }
 }
 
 impl Places {

@@ -4,7 +4,8 @@ ghost use Rattle.std.specs.Prelude.{◌≡◌, ◌≤◌, ◌+◌, ◌*◌, IfOk
 ghost use Rattle.known_routes.specs.declared.routes.TheConstants.{LASTS};
 ghost use Rattle.known_routes.specs.declared.places.TheConstants.{FIRST_PLACES, MOST_PLACES, MOST_TIMES};
 
-use crate::places::{MOST_PLACES, Place, Places, find, places_for};
+use crate::place::{Place, find};
+use crate::places::{MOST_PLACES, Places, places_for};
 use crate::route_hash::{hash_of, peer_hash};
 use mrt_events::{Peer, Route, route_size, same_route};
 use std::alloc::{AllocError, Global};

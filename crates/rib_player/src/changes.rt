@@ -1,9 +1,7 @@
 //! What an event does, pair by pair.
 
-ghost use Rattle.std.specs.Prelude.{◌≡◌, ◌↔◌, IsTrue, ◌++◌, ◌||◌, ◌&&◌, [], ◌∷◌, ◌≢◌, IfOk, IfSome, IfNone, OnOk, OnErr, Some, None, true, false, is_some, if◌then◌else◌, map, slice_get};
-ghost use Rattle.std.specs.List.{AllByRecursion, IsDistinct, list_any, filter};
+ghost use Rattle.std.specs.Prelude.{◌≡◌, ◌||◌, ◌&&◌, [], ◌∷◌, ◌≢◌, IfOk, IfSome, IfNone, OnOk, Some, None, false, map, slice_get};
 ghost use Rattle.std.specs.Ordering.{eq_by_cmp};
-ghost use Rattle.std.specs.FinMap as finite;
 ghost use Rattle.mrt_events.specs.Event.{saying};
 ghost use Rattle.mrt_events.specs.SharedRoute.{AreOfOneRoute};
 ghost use Rattle.rib_player.specs.declared.pair.Pair.{Pair};
@@ -11,17 +9,14 @@ ghost use Rattle.mrt_events.specs.declared.peer.Peer.{Peer};
 ghost use Rattle.mrt_events.specs.Peer.{peer_cmp};
 ghost use Rattle.rib_player.specs.History.{pair_cmp, pair_of, Clear, where_true, item_effect, later, effect};
 ghost use Rattle.rib_player.specs.Store.{route_in};
-ghost use Rattle.rib_player.specs.Changes.{noted_effect, found, is_lost, or_absent, effect_of, items_effect, HasRoute};
-ghost use Rattle.rib_player.specs.Journal.{side_of, sides_of, pairs_in};
-ghost use Rattle.rib_player.specs.Sides.{cleared_side, AreDistinct, IsStepFor};
+ghost use Rattle.rib_player.specs.Changes.{noted_effect, effect_of, items_effect, HasRoute};
 
 use crate::entry::Entry;
 use crate::numbered_peer::{NO_NUMBER, NumberedPeer};
-use crate::stores::Marks;
 use crate::table::Table;
 use ip_prefix::Prefix;
 use known_routes::KnownRoutes;
-use mrt_events::{ESTABLISHED, Event, Item, Peer, Route, same_peer, same_prefix};
+use mrt_events::{ESTABLISHED, Event, Item, Peer, Route, same_peer};
 use prefix_store::PrefixStore;
 use std::alloc::{AllocError, Global};
 use std::collections::BTreeSet;
@@ -189,7 +184,7 @@ fn first_route(items: &[Item]) -> Option<(&Peer, &Rc<Route>)>
 }
 
 /// What the event does.
-fn changes_of<S: PrefixStore<Rc<Route>>>(
+pub(crate) fn changes_of<S: PrefixStore<Rc<Route>>>(
     alloc: Global,
     event: &Event,
     table: &Table<S>,
@@ -214,51 +209,8 @@ fn changes_of<S: PrefixStore<Rc<Route>>>(
     Ok(changes)
 }
 
-/// How many routes of a lost session are asked for at once.
-const MANY: usize = 64;
-
-/// Appends the entries of the pairs of a peer that have these routes, and none then.
-fn add_cleared(
-    alloc: Global,
-    peer: &Rc<NumberedPeer>,
-    found: &[(Prefix, &Rc<Route>)],
-    entries: &mut Vec<Entry>,
-) -> Result<(), AllocError>
-    ensures { OnOk result (sides_of entries.new.items ≡ sides_of entries.old.items
-        ++ map (λ f. cleared_side peer.now.value f.0) found.now) }
-{
-    'routes: for entry in found {
-        entries.push(Entry::new(alloc, peer.clone()?, &entry.0, None)?)?;
-    }
-    Ok(())
-}
-
-/// The entries of those pairs of a peer that have a route in its store, and none then: many at a time.
-fn cleared_in<S: PrefixStore<Rc<Route>>>(
-    alloc: Global,
-    store: &S,
-    peer: &Rc<NumberedPeer>,
-) -> Result<Vec<Entry>, AllocError>
-    ensures { IfOk result (λ entries. sides_of entries.items
-        ≡ map (cleared_side peer.now.value) (finite.keys (S.routes store.now))) }
-{
-    let count = store.route_count() as usize;
-    let mut entries = Vec::with_capacity(alloc, count)?;
-    let mut found = Vec::with_capacity(alloc, count.min(MANY).max(1))?;
-    let mut last = None;
-    'routes: loop {
-        store.next_routes(last.as_ref(), &mut found);
-        let Some(end) = found.last() else {
-            break;
-        };
-        last = Some(end.0);
-        add_cleared(alloc, peer, &found, &mut entries)?;
-    }
-    Ok(entries)
-}
-
 /// The peer, shared with the entry that was made last, or with the table.
-fn shared_peer<S: PrefixStore<Rc<Route>>>(
+pub(crate) fn shared_peer<S: PrefixStore<Rc<Route>>>(
     alloc: Global,
     table: &Table<S>,
     last: Option<&Entry>,
@@ -275,170 +227,4 @@ fn shared_peer<S: PrefixStore<Rc<Route>>>(
         return shared.clone();
     }
     Ok(Rc::new(alloc, NumberedPeer::new(*peer, NO_NUMBER))?)
-}
-
-/// The entries of all pairs of a peer that have a route, and none then.
-fn lost_entries<S: PrefixStore<Rc<Route>>>(
-    alloc: Global,
-    peer: &Peer,
-    table: &Table<S>,
-) -> Result<Vec<Entry>, AllocError>
-    ensures named { IfOk result (λ entries. (q : Pair) →
-        list_any (eq_by_cmp pair_cmp q) (pairs_in (sides_of entries.items))
-        ≡ (eq_by_cmp peer_cmp q.peer peer.now && is_some (finite.get table.now.routes q))) }
-    ensures absent { IfOk result (λ entries.
-        AllByRecursion (λ side. side.1 ≡ None) (sides_of entries.items)) }
-    ensures distinct { IfOk result (λ entries. AreDistinct (sides_of entries.items)) }
-{
-    match table.store(peer) {
-        Some(store) => {
-            let shared = shared_peer(alloc, table, None, peer)?;
-            cleared_in(alloc, store, &shared)
-        }
-        None => Ok(Vec::new(alloc)),
-    }
-}
-
-/// The entries of the pairs that the event may name, with the route that they have then. Of those
-/// of a pair the first counts.
-fn entries_then<S: PrefixStore<Rc<Route>>>(
-    changes: Changes,
-    table: &Table<S>,
-) -> Result<Vec<Entry>, AllocError>
-    ensures { IfOk result (λ entries. (q : Pair) → found (sides_of entries.items) q
-        ≡ or_absent (found (sides_of changes.entries.items) q)
-        (is_lost changes.lost.keys q && is_some (finite.get table.now.routes q))) }
-{
-    let Changes {
-        alloc,
-        mut entries,
-        lost,
-    } = changes;
-    'peers: for peer in lost {
-        let mut absent = lost_entries(alloc, &peer, table)?;
-        entries.append(&mut absent)?;
-    }
-    Ok(entries)
-}
-
-/// The same in the order of their pairs, one for each.
-fn in_order(entries: Vec<Entry>) -> Result<Vec<Entry>, AllocError>
-    ensures distinct { IfOk result (λ ordered. AreDistinct (sides_of ordered.items)) }
-    ensures found { IfOk result (λ ordered. (q : Pair) →
-        found (sides_of ordered.items) q ≡ found (sides_of entries.items) q) }
-{
-    let mut ordered = entries;
-    ordered.sort_by_key(|entry| entry.pair())?;
-    ordered.dedup_by_key(|entry| entry.pair());
-    Ok(ordered)
-}
-
-/// How many entries are compared with each other at most.
-const FEW: usize = 8;
-
-/// Whether two entries are of one pair.
-#[inline]
-fn are_of_one_pair(one: &Entry, other: &Entry) -> bool
-    ensures { IsTrue result ↔ (one.now.pair ≡ other.now.pair) }
-{
-    same_prefix(&one.prefix(), &other.prefix()) && same_peer(one.peer(), other.peer())
-}
-
-/// Whether one of these is of the entry's pair.
-fn has_pair(entries: &[Entry], entry: &Entry) -> bool
-    ensures { result ≡ false → AllByRecursion
-        (λ side. eq_by_cmp pair_cmp side.0 entry.now.pair ≡ false) (sides_of entries.now) }
-{
-    'entries: for other in entries {
-        if are_of_one_pair(other, entry) {
-            return true;
-        }
-    }
-    false
-}
-
-/// Whether no two of these are of one pair.
-fn are_different(entries: &[Entry]) -> bool
-    ensures { IsTrue result → AreDistinct (sides_of entries.now) }
-{
-    'entries: for index in 0..entries.len() {
-        if has_pair(&entries[..index], &entries[index]) {
-            return false;
-        }
-    }
-    true
-}
-
-/// Whether the first and the last of several are of one peer, as those of a message are.
-fn are_of_message(entries: &[Entry]) -> bool {
-    match (entries.first(), entries.last()) {
-        (Some(first), Some(last)) => entries.len() > 1 && same_peer(first.peer(), last.peer()),
-        _ => false,
-    }
-}
-
-/// The same, one for each pair. As the entries of a table's record have it, mostly no peer stands
-/// there twice, and as a message has it, no prefix.
-fn each_once<S: PrefixStore<Rc<Route>>>(
-    entries: Vec<Entry>,
-    table: &Table<S>,
-    marks: &mut Marks,
-) -> Result<Vec<Entry>, AllocError>
-    ensures distinct { IfOk result (λ once. AreDistinct (sides_of once.items)) }
-    ensures found { IfOk result (λ once. (q : Pair) →
-        found (sides_of once.items) q ≡ found (sides_of entries.items) q) }
-{
-    if !are_of_message(&entries) && table.are_of_different_peers(&entries, marks) {
-        return Ok(entries);
-    }
-    if entries.len() <= FEW && are_different(&entries) {
-        return Ok(entries);
-    }
-    in_order(entries)
-}
-
-/// Whether the entry's pair has a route before or then.
-#[inline]
-fn is_routed<S: PrefixStore<Rc<Route>>>(entry: &Entry, table: &Table<S>) -> bool
-    ensures { result ≡ (is_some (route_in entry.now.other)
-        || is_some (finite.get table.now.routes entry.now.pair)) }
-{
-    entry.route().is_some() || table.route(&entry.pair()).is_some()
-}
-
-/// Those of pairs that have a route before or then.
-fn routed_entries<S: PrefixStore<Rc<Route>>>(entries: Vec<Entry>, table: &Table<S>) -> Vec<Entry>
-    ensures { sides_of result.items
-        ≡ filter (λ side. is_some side.1 || is_some (finite.get table.now.routes side.0))
-        (sides_of entries.items) }
-{
-    let mut routed = entries;
-    routed.retain(|entry| is_routed(entry, table));
-    routed.shrink_to_fit();
-    routed
-}
-
-/// The entries of the event's step over a table. Those of a lost session alone, which may be many,
-/// are walked from its store, and stand nowhere else.
-pub(crate) fn step_for<S: PrefixStore<Rc<Route>>>(
-    alloc: Global,
-    event: &Event,
-    table: &Table<S>,
-    known: &mut KnownRoutes,
-    marks: &mut Marks,
-) -> Result<Vec<Entry>, AllocError>
-    ensures { IfOk result (λ entries.
-        IsStepFor table.now.routes event.now (sides_of entries.items)) }
-{
-    let changes = changes_of(alloc, event, table, known)?;
-    if let Some(peer) = changes.only_loss() {
-        return lost_entries(alloc, &peer, table);
-    }
-    let then = entries_then(changes, table)?;
-    let noted = then.len();
-    let once = each_once(then, table, marks)?;
-    if once.len() < noted {
-        known.note_unused();
-    }
-    Ok(routed_entries(once, table))
 }

@@ -7,12 +7,14 @@ mod counts;
 mod entry;
 mod journal;
 mod laws;
+mod losses;
 mod numbered_peer;
 mod pair;
 mod player;
 mod reached_steps;
 mod reaching;
 mod room;
+mod steps;
 mod stores;
 mod table;
 

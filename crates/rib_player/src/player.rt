@@ -7,11 +7,11 @@ ghost use Rattle.rib_player.specs.Timeline.{ahead_of, end_of, current, after_pla
 ghost use Rattle.rib_player.specs.Calls.{fresh, after_undo, after_redo, without_first, forgettable, after_forget};
 ghost use Rattle.rib_player.specs.Wanted.{wanted, named_count, IsWellFormed};
 
-use crate::changes::step_for;
 use crate::claims::{Claims, give_up_claims};
 use crate::entry::End;
 use crate::journal::{Journal, Step, cross_step, let_go_of, named_from, put_entries};
 use crate::reached_steps::{Reached, reach_ahead, reach_back};
+use crate::steps::step_for;
 use crate::stores::Marks;
 use crate::table::Table;
 use known_routes::KnownRoutes;

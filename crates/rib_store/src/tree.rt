@@ -8,9 +8,13 @@ ghost use Rattle.rib_store.specs.Tree.{slot_of};
 ghost use Rattle.rib_store.specs.Walks.{routed_at, filled};
 ghost use Rattle.rib_store.specs.Shape.{is_routed, is_filled, any_routed};
 
-mod changes;
+mod counts;
 mod descents;
+mod keys;
 mod lookups;
+mod nodes;
+mod puts;
+mod routes;
 
 pub(crate) use descents::{Descent, Descents};
 use ip_prefix::Prefix;

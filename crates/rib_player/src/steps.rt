@@ -1,0 +1,167 @@
+//! The entries of a step: each pair once.
+
+ghost use Rattle.std.specs.Prelude.{◌≡◌, ◌↔◌, IsTrue, ◌||◌, ◌&&◌, IfOk, Some, true, false, is_some};
+ghost use Rattle.std.specs.List.{AllByRecursion, filter};
+ghost use Rattle.std.specs.Ordering.{eq_by_cmp};
+ghost use Rattle.std.specs.FinMap as finite;
+ghost use Rattle.rib_player.specs.declared.pair.Pair.{Pair};
+ghost use Rattle.rib_player.specs.History.{pair_cmp};
+ghost use Rattle.rib_player.specs.Store.{route_in};
+ghost use Rattle.rib_player.specs.Changes.{found, is_lost, or_absent};
+ghost use Rattle.rib_player.specs.Journal.{sides_of};
+ghost use Rattle.rib_player.specs.Sides.{AreDistinct, IsStepFor};
+
+use crate::changes::{Changes, changes_of};
+use crate::entry::Entry;
+use crate::losses::lost_entries;
+use crate::stores::Marks;
+use crate::table::Table;
+use known_routes::KnownRoutes;
+use mrt_events::{Event, Route, same_peer, same_prefix};
+use prefix_store::PrefixStore;
+use std::alloc::{AllocError, Global};
+use std::rc::Rc;
+
+/// The entries of the pairs that the event may name, with the route that they have then. Of those
+/// of a pair the first counts.
+fn entries_then<S: PrefixStore<Rc<Route>>>(
+    changes: Changes,
+    table: &Table<S>,
+) -> Result<Vec<Entry>, AllocError>
+    ensures { IfOk result (λ entries. (q : Pair) → found (sides_of entries.items) q
+        ≡ or_absent (found (sides_of changes.entries.items) q)
+        (is_lost changes.lost.keys q && is_some (finite.get table.now.routes q))) }
+{
+    let Changes {
+        alloc,
+        mut entries,
+        lost,
+    } = changes;
+    'peers: for peer in lost {
+        let mut absent = lost_entries(alloc, &peer, table)?;
+        entries.append(&mut absent)?;
+    }
+    Ok(entries)
+}
+
+/// The same in the order of their pairs, one for each.
+fn in_order(entries: Vec<Entry>) -> Result<Vec<Entry>, AllocError>
+    ensures distinct { IfOk result (λ ordered. AreDistinct (sides_of ordered.items)) }
+    ensures found { IfOk result (λ ordered. (q : Pair) →
+        found (sides_of ordered.items) q ≡ found (sides_of entries.items) q) }
+{
+    let mut ordered = entries;
+    ordered.sort_by_key(|entry| entry.pair())?;
+    ordered.dedup_by_key(|entry| entry.pair());
+    Ok(ordered)
+}
+
+/// How many entries are compared with each other at most.
+const FEW: usize = 8;
+
+/// Whether two entries are of one pair.
+#[inline]
+fn are_of_one_pair(one: &Entry, other: &Entry) -> bool
+    ensures { IsTrue result ↔ (one.now.pair ≡ other.now.pair) }
+{
+    same_prefix(&one.prefix(), &other.prefix()) && same_peer(one.peer(), other.peer())
+}
+
+/// Whether one of these is of the entry's pair.
+fn has_pair(entries: &[Entry], entry: &Entry) -> bool
+    ensures { result ≡ false → AllByRecursion
+        (λ side. eq_by_cmp pair_cmp side.0 entry.now.pair ≡ false) (sides_of entries.now) }
+{
+    'entries: for other in entries {
+        if are_of_one_pair(other, entry) {
+            return true;
+        }
+    }
+    false
+}
+
+/// Whether no two of these are of one pair.
+fn are_different(entries: &[Entry]) -> bool
+    ensures { IsTrue result → AreDistinct (sides_of entries.now) }
+{
+    'entries: for index in 0..entries.len() {
+        if has_pair(&entries[..index], &entries[index]) {
+            return false;
+        }
+    }
+    true
+}
+
+/// Whether the first and the last of several are of one peer, as those of a message are.
+fn are_of_message(entries: &[Entry]) -> bool {
+    match (entries.first(), entries.last()) {
+        (Some(first), Some(last)) => entries.len() > 1 && same_peer(first.peer(), last.peer()),
+        _ => false,
+    }
+}
+
+/// The same, one for each pair. As the entries of a table's record have it, mostly no peer stands
+/// there twice, and as a message has it, no prefix.
+fn each_once<S: PrefixStore<Rc<Route>>>(
+    entries: Vec<Entry>,
+    table: &Table<S>,
+    marks: &mut Marks,
+) -> Result<Vec<Entry>, AllocError>
+    ensures distinct { IfOk result (λ once. AreDistinct (sides_of once.items)) }
+    ensures found { IfOk result (λ once. (q : Pair) →
+        found (sides_of once.items) q ≡ found (sides_of entries.items) q) }
+{
+    if !are_of_message(&entries) && table.are_of_different_peers(&entries, marks) {
+        return Ok(entries);
+    }
+    if entries.len() <= FEW && are_different(&entries) {
+        return Ok(entries);
+    }
+    in_order(entries)
+}
+
+/// Whether the entry's pair has a route before or then.
+#[inline]
+fn is_routed<S: PrefixStore<Rc<Route>>>(entry: &Entry, table: &Table<S>) -> bool
+    ensures { result ≡ (is_some (route_in entry.now.other)
+        || is_some (finite.get table.now.routes entry.now.pair)) }
+{
+    entry.route().is_some() || table.route(&entry.pair()).is_some()
+}
+
+/// Those of pairs that have a route before or then.
+fn routed_entries<S: PrefixStore<Rc<Route>>>(entries: Vec<Entry>, table: &Table<S>) -> Vec<Entry>
+    ensures { sides_of result.items
+        ≡ filter (λ side. is_some side.1 || is_some (finite.get table.now.routes side.0))
+        (sides_of entries.items) }
+{
+    let mut routed = entries;
+    routed.retain(|entry| is_routed(entry, table));
+    routed.shrink_to_fit();
+    routed
+}
+
+/// The entries of the event's step over a table. Those of a lost session alone, which may be many,
+/// are walked from its store, and stand nowhere else.
+pub(crate) fn step_for<S: PrefixStore<Rc<Route>>>(
+    alloc: Global,
+    event: &Event,
+    table: &Table<S>,
+    known: &mut KnownRoutes,
+    marks: &mut Marks,
+) -> Result<Vec<Entry>, AllocError>
+    ensures { IfOk result (λ entries.
+        IsStepFor table.now.routes event.now (sides_of entries.items)) }
+{
+    let changes = changes_of(alloc, event, table, known)?;
+    if let Some(peer) = changes.only_loss() {
+        return lost_entries(alloc, &peer, table);
+    }
+    let then = entries_then(changes, table)?;
+    let noted = then.len();
+    let once = each_once(then, table, marks)?;
+    if once.len() < noted {
+        known.note_unused();
+    }
+    Ok(routed_entries(once, table))
+}

@@ -1,0 +1,64 @@
+use Rattle.std.proofs.Common.{◌≡◌, true, false, sym, ap, subst, ◌∙◌}
+use Rattle.ip_prefix.specs.Turns.{way}
+use Rattle.rib_store.specs.declared.tree.Slot.TheVariants.{Branch}
+use Rattle.rib_store.specs.declared.tree.Tree.TheVariants as tree
+use Rattle.rib_store.specs.Shape.{Rooted, shape_of, IsMarked}
+use Rattle.rib_store.specs.Tree.{at, slot_of, IsOn, IsShaped, IsNearlyShaped, Stands}
+use Rattle.rib_store.proofs.TreeLaws.{on_below}
+use Rattle.rib_store.proofs.ChangeLaws.{join_left, join_right}
+use Rattle.rib_store.proofs.ShapeLaws.{not_empty}
+use Rattle.rib_store.proofs.tree.keys.join.Goals as goal
+
+pub returns-in-Empty-clause-slots : goal.returns-in-Empty-clause-slots
+returns-in-Empty-clause-slots g c = λ q.
+    let net = g.K.Packed.network in
+    let n = c.in-Rooted.node.value in
+    let prefix = net c.in-Rooted.field-1 in
+    let shaped : IsNearlyShaped (Rooted prefix n.slot (shape_of net n.left) (shape_of net n.right)) = subst (λ t. IsNearlyShaped (shape_of net t)) c.in-Rooted.is c.requires.shaped in
+    let slot : n.slot ≡ Branch = cc in
+    let left : n.left ≡ tree.Empty = cc in
+    let child : c.replace-child.result ≡ n.right = cc in
+    join_right prefix (shape_of net n.left) (shape_of net n.right) (shape_of net c.replace-child.result) (slot_of n.slot) (ap slot_of slot) (ap (shape_of net) left) (ap (shape_of net) child) shaped.0.right q
+    ∙ sym (ap (λ x. at (shape_of net x) q) c.in-Rooted.is)
+
+pub returns-in-Empty-clause-sides : goal.returns-in-Empty-clause-sides
+returns-in-Empty-clause-sides g c = λ from bit on.
+    let net = g.K.Packed.network in
+    let n = c.in-Rooted.node.value in
+    let prefix = net c.in-Rooted.field-1 in
+    let shaped : IsNearlyShaped (Rooted prefix n.slot (shape_of net n.left) (shape_of net n.right)) = subst (λ t. IsNearlyShaped (shape_of net t)) c.in-Rooted.is c.requires.shaped in
+    let child : c.replace-child.result ≡ n.right = cc in
+    on_below (shape_of net c.replace-child.result) from (way prefix) bit true (subst (λ t. IsOn from bit (shape_of net t)) c.in-Rooted.is on) (subst (λ t. IsOn (way prefix) true (shape_of net t)) (sym child) shaped.0.right)
+
+pub returns-in-Empty-right : goal.returns-in-Empty-right
+returns-in-Empty-right g c =
+    let net = g.K.Packed.network in
+    let n = c.in-Rooted.node.value in
+    let prefix = net c.in-Rooted.field-1 in
+    let shaped : IsNearlyShaped (Rooted prefix n.slot (shape_of net n.left) (shape_of net n.right)) = subst (λ t. IsNearlyShaped (shape_of net t)) c.in-Rooted.is c.requires.shaped in
+    let slot : n.slot ≡ Branch = cc in
+    let right : n.right ≡ tree.Empty = cc in
+    let child : c.replace-child-in-Empty-right.result ≡ n.left = cc in
+    record {
+      shaped = subst (λ t. IsShaped (shape_of net t)) (sym child) shaped.1;
+      marked = subst IsMarked (sym child) (subst IsMarked c.in-Rooted.is c.requires.marked).1;
+      slots = λ q. join_left prefix (shape_of net n.left) (shape_of net n.right) (shape_of net c.replace-child-in-Empty-right.result) (slot_of n.slot) (ap slot_of slot) (ap (shape_of net) right) (ap (shape_of net) child) shaped.0.left q
+          ∙ sym (ap (λ x. at (shape_of net x) q) c.in-Rooted.is);
+      sides = λ from bit on. on_below (shape_of net c.replace-child-in-Empty-right.result) from (way prefix) bit false (subst (λ t. IsOn from bit (shape_of net t)) c.in-Rooted.is on) (subst (λ t. IsOn (way prefix) false (shape_of net t)) (sym child) shaped.0.left);
+    }
+
+pub returns-in_default-right : goal.returns-in_default-right
+returns-in_default-right g c =
+    let net = g.K.Packed.network in
+    let n = c.in-Rooted.node.value in
+    let prefix = net c.in-Rooted.field-1 in
+    let shaped : IsNearlyShaped (Rooted prefix n.slot (shape_of net n.left) (shape_of net n.right)) = subst (λ t. IsNearlyShaped (shape_of net t)) c.in-Rooted.is c.requires.shaped in
+    let slot : n.slot ≡ Branch = cc in
+    let left : n.left ≡ tree.Empty → ⊥ = λ e. c.in_default-left.not-Empty (cc) in
+    let right : n.right ≡ tree.Empty → ⊥ = λ e. c.in_default-right.not-Empty (cc) in
+    record {
+      shaped = (shaped.0, subst (λ s. Stands (slot_of s) (shape_of net n.left) (shape_of net n.right)) (sym slot) (not_empty net n.left left, not_empty net n.right right), shaped.1, shaped.2);
+      marked = subst IsMarked c.in-Rooted.is c.requires.marked;
+      slots = λ q. sym (ap (λ x. at (shape_of net x) q) c.in-Rooted.is);
+      sides = λ from bit on. subst (λ t. IsOn from bit (shape_of net t)) c.in-Rooted.is on;
+    }

@@ -1,0 +1,34 @@
+use Rattle.std.proofs.Common.{◌≡◌, ◌||◌, false, Some, is_some, sym, ap, subst, ◌∙◌}
+use Rattle.ip_prefix.specs.declared.turn.Turn.TheVariants.{Here}
+use Rattle.ip_prefix.specs.Turns.{way, turn_of}
+use Rattle.rib_store.specs.Shape.{Empty, shape_of, leaf_slot}
+use Rattle.rib_store.specs.Tree.{IsRooted}
+use Rattle.rib_store.proofs.GrowthLaws.{placed_here}
+use Rattle.rib_store.proofs.ShapeLaws.{rooted_leaf, shaped_leaf, routed_leaf}
+use Rattle.rib_store.proofs.tree.puts.put_at_leaf.Goals as goal
+
+pub returns-in-Here-clause-placed : goal.returns-in-Here-clause-placed
+returns-in-Here-clause-placed g c =
+    let net = g.K.Packed.network in
+    let prefix = c.args.prefix in
+    let there : turn_of (way (net prefix)) (way c.args.key.now) ≡ Here = cc in
+    placed_here (way c.args.key.now) (net prefix) (Some (leaf_slot c.args.tree.now)) (Some c.args.route.now) Empty Empty
+    (rooted_leaf net c.args.tree.now prefix c.requires.leaf)
+    (subst (λ r. IsRooted (net prefix) (Some r) Empty Empty (shape_of net c.exchange_leaf.new.tree)) c.exchange_leaf.ensures.slot
+    (rooted_leaf net c.exchange_leaf.new.tree prefix c.exchange_leaf.ensures.leaf))
+    there (shaped_leaf net c.args.tree.now prefix c.requires.leaf) tt
+
+pub returns-in_ok-node-in-Left-clause-placed : goal.returns-in_ok-node-in-Left-clause-placed
+returns-in_ok-node-in-Left-clause-placed g c =
+    let net = g.K.Packed.network in
+    let leaf = c.leaf_with-leaf.result in
+    c.hang.ensures.placed c.args.key.now c.args.route.now
+    (subst (λ r. IsRooted c.args.key.now (Some r) Empty Empty (shape_of net leaf)) c.leaf_with-leaf.ensures.slot
+    (subst (λ n. IsRooted n (Some (leaf_slot leaf)) Empty Empty (shape_of net leaf)) c.of.ensures (rooted_leaf net leaf c.of.result c.leaf_with-leaf.ensures.leaf)))
+    (sym c.turn-side.ensures)
+
+pub returns-in_ok-node-in-Left-clause-quiet : goal.returns-in_ok-node-in-Left-clause-quiet
+returns-in_ok-node-in-Left-clause-quiet g c = λ none turn.
+    c.hang.ensures.routed
+    ∙ ap (λ r. is_some (leaf_slot c.args.tree.now) || (false || r)) (c.leaf_with-leaf.ensures.routed ∙ ap is_some none)
+    ∙ routed_leaf c.args.tree.now c.args.prefix c.requires.leaf

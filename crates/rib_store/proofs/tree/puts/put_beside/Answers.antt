@@ -1,0 +1,70 @@
+use Rattle.std.proofs.Common.{◌≡◌, ◌||◌, false, Some, None, is_some, refl, sym, ap, ap₂, subst, ◌∙◌}
+use Rattle.ip_prefix.specs.declared.turn.Turn.TheVariants.{Outside, Here}
+use Rattle.ip_prefix.specs.Turns.{way, turn_of, shared}
+use Rattle.rib_store.specs.Shape.{Empty, shape_of, leaf_slot, is_routed}
+use Rattle.rib_store.specs.Tree.{slot_of, chosen, IsRooted}
+use Rattle.rib_store.proofs.WayLaws.{way-shared}
+use Rattle.rib_store.proofs.ShapeLaws.{rooted_leaf}
+use Rattle.rib_store.proofs.GrowthLaws.{placed_over, is_key, is_branch, shared_covers}
+use Rattle.rib_store.proofs.tree.puts.put_beside.Given.{Over}
+use Rattle.rib_store.proofs.tree.puts.put_beside.Goals.{After-common-common}
+use Rattle.rib_store.proofs.tree.puts.put_beside.Goals as goal
+
+pub returns-in-Here-clause-placed : goal.returns-in-Here-clause-placed
+returns-in-Here-clause-placed g c =
+    let net = g.K.Packed.network in
+    let key = c.args.key.now in
+    let old = c.args.prefix.now in
+    let top = net c.of-in-Here.result in
+    let side = c.turn_covered-side.result in
+    let slot = slot_of c.slot_in.result in
+    let above : top ≡ c.common-common.result = c.of-in-Here.ensures in
+    let shares : way top ≡ shared (way old) (way key) = ap way (above ∙ c.common-common.ensures) ∙ way-shared old key c.requires.family in
+    let there : turn_of (way top) (way key) ≡ Here = cc in
+    let turn : side ≡ turn_of (way top) (way old) = c.turn_covered-side.ensures ∙ (λ i. turn_of (way (sym above i)) (way old)) in
+    placed_over key top (way old) c.args.route.now slot Empty side c.requires.outside c.requires.root c.requires.shaped shares turn
+    (subst (λ t. IsRooted top slot (chosen side Empty Empty (shape_of net t) Empty) (chosen side (shape_of net t) (shape_of net t) Empty (shape_of net t)) (shape_of net c.put_root.new.tree))
+    c.replace-below.ensures.value c.put_root.ensures.rooted)
+    (is_key there (c.slot_in.ensures.slot ∙ ap Some c.leaf_with.ensures.slot) refl)
+
+pub returns-in-Here-clause-routed : goal.returns-in-Here-clause-routed
+returns-in-Here-clause-routed g c =
+    c.put_root.ensures.routed
+    ∙ ap₂ (λ filled t. filled || (false || is_routed t)) (c.slot_in.ensures.filled ∙ ap is_some c.leaf_with.ensures.slot) c.replace-below.ensures.value
+
+pub returns-clause-placed : goal.returns-clause-placed
+returns-clause-placed g c =
+    let net = g.K.Packed.network in
+    let key = c.args.key.now in
+    let old = c.args.prefix.now in
+    let top = net c.of-3.result in
+    let side = c.turn_covered-side.result in
+    let leaf = c.leaf_with-leaf.result in
+    let beside = shape_of net leaf in
+    let above : top ≡ c.common-common.result = c.of-3.ensures in
+    let shares : way top ≡ shared (way old) (way key) = ap way (above ∙ c.common-common.ensures) ∙ way-shared old key c.requires.family in
+    let apart : turn_of (way top) (way key) ≡ Here → ⊥ = λ e. c.in_default.not-Here (cc) in
+    let turn : side ≡ turn_of (way top) (way old) = c.turn_covered-side.ensures ∙ (λ i. turn_of (way (sym above i)) (way old)) in
+    placed_over key top (way old) c.args.route.now None beside side c.requires.outside c.requires.root c.requires.shaped shares turn c.put_fork.ensures.rooted
+    (is_branch apart refl
+    (subst (λ r. IsRooted key (Some r) Empty Empty beside) c.leaf_with-leaf.ensures.slot
+    (subst (λ n. IsRooted n (Some (leaf_slot leaf)) Empty Empty beside) c.of-2.ensures (rooted_leaf net leaf c.of-2.result c.leaf_with-leaf.ensures.leaf))))
+
+pub returns-clause-routed : goal.returns-clause-routed
+returns-clause-routed g c =
+    c.put_fork.ensures.routed ∙ ap (λ new. new || is_routed c.args.tree.now) c.leaf_with-leaf.ensures.routed
+
+-- what the prefix and the key share covers both
+covers : (g : Over) (c : After-common-common g) → let old = way c.args.prefix.now in let key = way c.args.key.now in
+    let common = way c.common-common.result in (turn_of common old ≡ Outside → ⊥) × (turn_of common key ≡ Outside → ⊥)
+covers g c =
+    let old = way c.args.prefix.now in
+    let key = way c.args.key.now in
+    subst (λ way. (turn_of way old ≡ Outside → ⊥) × (turn_of way key ≡ Outside → ⊥)) (sym (ap way c.common-common.ensures ∙ way-shared c.args.prefix.now c.args.key.now c.requires.family))
+    (shared_covers old key c.requires.outside)
+
+pub turn_covered-side-requires : goal.turn_covered-side-requires
+turn_covered-side-requires g c = (covers g (goal.at.turn_covered-side-requires g c).After-common-common).0
+
+pub turn_covered-requires : goal.turn_covered-requires
+turn_covered-requires g c = (covers g (goal.at.turn_covered-requires g c).After-common-common).1

@@ -1,0 +1,144 @@
+//! Nodes, as they are made.
+
+ghost use Rattle.std.specs.Prelude.{◌≡◌, ◌⊎◌, ◌||◌, Some, None, false, is_some};
+ghost use Rattle.std.specs.Prelude.{IfOk};
+ghost use Rattle.ip_prefix.specs.Turns.{way};
+ghost use Rattle.rib_store.specs.declared.tree.Slot.TheVariants.{Branch};
+ghost use Rattle.ip_prefix.specs.declared.turn.Turn.TheVariants.{Left, Right};
+ghost use Rattle.rib_store.specs.Shape.{Empty, shape_of, leaf_slot, is_filled, is_routed, any_routed, IsLeaf, IsMarked};
+ghost use Rattle.rib_store.specs.Tree.{at, root, slot_of, IsHung, IsRootedOver};
+
+use crate::tree::{Fork, Node, Slot, Tree};
+use ip_prefix::Turn;
+use prefix_store::Packed;
+use std::alloc::{AllocError, Global};
+use std::mem;
+
+/// Puts a leaf below one that had none, on this side.
+pub(crate) fn hang<K: Packed, R: Drop>(
+    tree: &mut Tree<K, R>,
+    prefix: K,
+    node: Box<Node<K, R>>,
+    leaf: Tree<K, R>,
+    side: Turn,
+)
+    requires leaf { IsLeaf prefix tree.old }
+    requires side { (side ≡ Left) ⊎ (side ≡ Right) }
+    requires marked { IsMarked leaf }
+    ensures placed { IsHung (way (K.network prefix)) side (shape_of K.network leaf)
+        (shape_of K.network tree.old) (shape_of K.network tree.new) }
+    ensures marked { IsMarked tree.new }
+    ensures routed { is_routed tree.new ≡
+        (is_some (leaf_slot tree.old) || (false || is_routed leaf)) }
+{
+    let mut node = node;
+    node.slot = slot_in(mem::replace(tree, Tree::Empty));
+    put_root(tree, prefix, node, Tree::Empty, leaf, side);
+}
+
+/// A key without others below it, with the route, which is taken.
+pub(crate) fn leaf_with<K: Packed, R: Drop>(prefix: K, route: &mut Option<R>) -> Tree<K, R>
+    ensures leaf { IsLeaf prefix result }
+    ensures marked { IsMarked result }
+    ensures slot { leaf_slot result ≡ route.old }
+    ensures routed { is_routed result ≡ is_some route.old }
+    ensures taken { route.new ≡ None }
+{
+    match route.take() {
+        Some(route) => Tree::Leaf(prefix, route),
+        None => Tree::Bare(prefix),
+    }
+}
+
+/// The slot of a key without others below it.
+pub(crate) fn slot_in<K: Packed, R: Drop>(tree: Tree<K, R>) -> Slot<R>
+    ensures slot { slot_of result ≡ Some (leaf_slot tree) }
+    ensures filled { is_filled result ≡ is_some (leaf_slot tree) }
+{
+    match tree {
+        Tree::Leaf(_, route) => Slot::Filled(route),
+        _ => Slot::Vacant,
+    }
+}
+
+/// A branch with nothing below it yet.
+pub(crate) fn lone<K: Packed, R: Drop>(alloc: Global) -> Result<Box<Node<K, R>>, AllocError>
+    ensures slot { IfOk result (λ node. slot_of node.value.slot ≡ None) }
+    ensures filled { IfOk result (λ node. is_filled node.value.slot ≡ false) }
+{
+    let node = Box::new(
+        alloc,
+        Node {
+            slot: Slot::Branch,
+            left: Tree::Empty,
+            right: Tree::Empty,
+        },
+    )?;
+    Ok(node)
+}
+
+/// A branch with nothing below it yet, which has no room for a key's route.
+pub(crate) fn lone_fork<K: Packed, R: Drop>(alloc: Global) -> Result<Box<Fork<K, R>>, AllocError> {
+    let fork = Box::new(
+        alloc,
+        Fork {
+            left: Tree::Empty,
+            right: Tree::Empty,
+        },
+    )?;
+    Ok(fork)
+}
+
+/// Puts a branch above the root, which lies on this side of it then, and a leaf on the other side.
+pub(crate) fn put_fork<K: Packed, R: Drop>(
+    tree: &mut Tree<K, R>,
+    prefix: K,
+    fork: Box<Fork<K, R>>,
+    leaf: Tree<K, R>,
+    side: Turn,
+)
+    requires leaf { IsMarked leaf }
+    requires below { IsMarked tree.old }
+    ensures marked { IsMarked tree.new }
+    ensures routed { is_routed tree.new ≡ any_routed Branch leaf tree.old }
+    ensures rooted { IsRootedOver (K.network prefix) None side
+        (shape_of K.network leaf) (shape_of K.network tree.old) (shape_of K.network tree.new) }
+{
+    let mut fork = fork;
+    let below = mem::replace(tree, Tree::Empty);
+    let (left, right) = match side {
+        Turn::Left => (below, leaf),
+        _ => (leaf, below),
+    };
+    fork.left = left;
+    fork.right = right;
+    let routed = fork.is_routed();
+    *tree = Tree::Forked(routed, prefix, fork);
+}
+
+/// Puts a node at the root, with a tree on a side of it, and another on the other side.
+pub(crate) fn put_root<K: Packed, R: Drop>(
+    tree: &mut Tree<K, R>,
+    prefix: K,
+    node: Box<Node<K, R>>,
+    beside: Tree<K, R>,
+    below: Tree<K, R>,
+    side: Turn,
+)
+    requires beside { IsMarked beside }
+    requires below { IsMarked below }
+    ensures marked { IsMarked tree.new }
+    ensures routed { is_routed tree.new ≡ any_routed node.value.slot beside below }
+    ensures rooted { IsRootedOver (K.network prefix) (slot_of node.value.slot) side
+        (shape_of K.network beside) (shape_of K.network below) (shape_of K.network tree.new) }
+{
+    let mut node = node;
+    let (left, right) = match side {
+        Turn::Left => (below, beside),
+        _ => (beside, below),
+    };
+    node.left = left;
+    node.right = right;
+    let routed = node.is_routed();
+    *tree = Tree::Rooted(routed, prefix, node);
+}

@@ -1,0 +1,247 @@
+//! Routes put at keys, which are made where they were none.
+
+ghost use Rattle.std.specs.Prelude.{◌≡◌, ◌≢◌, ◌||◌, Some, None, true, false, is_some, not};
+ghost use Rattle.std.specs.Prelude.{OnOk, OnErr, IfOk};
+ghost use Rattle.ip_prefix.specs.Turns.{way, turn_of};
+ghost use Rattle.ip_prefix.specs.declared.turn.Turn.TheVariants.{Outside, Here, Left, Right};
+ghost use Rattle.rib_store.specs.Shape.{Empty, shape_of, is_routed, IsLeaf, IsFork, IsAtRoot, IsMarked};
+ghost use Rattle.rib_store.specs.Tree.{at, root, kept, AreOf, IsShaped, IsPlaced, IsPlacedAt};
+ghost use Rattle.rib_store.specs.Slots.{route_found};
+
+use crate::tree::Tree;
+use crate::tree::nodes::{hang, leaf_with, lone, lone_fork, put_fork, put_root, slot_in};
+use crate::tree::routes::exchange_leaf;
+use ip_prefix::{Prefix, Turn};
+use prefix_store::Packed;
+use std::alloc::{AllocError, Global};
+use std::mem;
+
+impl<K: Packed, R: Drop> Tree<K, R> {
+    /// Puts the route at the key, which is made where it was none, and takes what was there. Answers
+    /// whether the key is new.
+    pub(crate) fn put(
+        &mut self,
+        alloc: Global,
+        key: &Prefix,
+        route: &mut Option<R>,
+    ) -> Result<bool, AllocError>
+        requires shaped { IsShaped (shape_of K.network self.old) }
+        requires marked { IsMarked self.old }
+        requires family { AreOf key.now.family (shape_of K.network self.old) }
+        requires kind { key.now.family ≡ K.family }
+        ensures made { IfOk result (λ made. made ≡
+            not (is_some (at (shape_of K.network self.old) (way key.now)))) }
+        ensures placed { OnOk result (IsPlaced (way key.now) (Some route.old)
+            (shape_of K.network self.old) (shape_of K.network self.new)) }
+        ensures given { OnOk result
+            (route.new ≡ route_found (at (shape_of K.network self.old) (way key.now))) }
+        ensures marked { OnOk result (IsMarked self.new) }
+        ensures brought { OnOk result (is_some route.old ≡ true → is_routed self.new ≡ true) }
+        ensures refused { OnErr result (self.new ≡ self.old) }
+        ensures kept { OnErr result (route.new ≡ route.old) }
+        ensures known { OnErr result (at (shape_of K.network self.old) (way key.now) ≡ None) }
+    {
+        match self {
+            Tree::Rooted(routed, prefix, node) => {
+                let node = &mut **node;
+                let brought = route.is_some();
+                let made = match prefix.turn(key) {
+                    Turn::Left => node.left.put(alloc, key, route)?,
+                    Turn::Right => node.right.put(alloc, key, route)?,
+                    _ => return put_at_root(self, alloc, key, route),
+                };
+                *routed = node.is_routed_with(brought);
+                Ok(made)
+            }
+            Tree::Forked(routed, prefix, fork) => {
+                let fork = &mut **fork;
+                let brought = route.is_some();
+                let made = match prefix.turn(key) {
+                    Turn::Left => fork.left.put(alloc, key, route)?,
+                    Turn::Right => fork.right.put(alloc, key, route)?,
+                    _ => return put_at_root(self, alloc, key, route),
+                };
+                *routed = fork.is_routed_with(brought);
+                Ok(made)
+            }
+            _ => put_at_root(self, alloc, key, route),
+        }
+    }
+}
+
+/// The same where the key doesn't lie below the root, or nothing does. It stands by itself, so that a
+/// way down takes few instructions a node.
+#[inline(never)]
+fn put_at_root<K: Packed, R: Drop>(
+    tree: &mut Tree<K, R>,
+    alloc: Global,
+    key: &Prefix,
+    route: &mut Option<R>,
+) -> Result<bool, AllocError>
+    requires at_root { IsAtRoot K.network key.now tree.old }
+    requires shaped { IsShaped (shape_of K.network tree.old) }
+    requires marked { IsMarked tree.old }
+    requires family { AreOf key.now.family (shape_of K.network tree.old) }
+    requires kind { key.now.family ≡ K.family }
+    ensures made { IfOk result (λ made. made ≡
+        not (is_some (at (shape_of K.network tree.old) (way key.now)))) }
+    ensures placed { OnOk result (IsPlaced (way key.now) (Some route.old)
+        (shape_of K.network tree.old) (shape_of K.network tree.new)) }
+    ensures given { OnOk result
+        (route.new ≡ route_found (at (shape_of K.network tree.old) (way key.now))) }
+    ensures marked { OnOk result (IsMarked tree.new) }
+    ensures brought { OnOk result (is_some route.old ≡ true → is_routed tree.new ≡ true) }
+    ensures refused { OnErr result (tree.new ≡ tree.old) }
+    ensures kept { OnErr result (route.new ≡ route.old) }
+    ensures known { OnErr result (at (shape_of K.network tree.old) (way key.now) ≡ None) }
+{
+    match tree {
+        Tree::Empty => {
+            *tree = leaf_with(K::of(key), route);
+            Ok(true)
+        }
+        Tree::Bare(prefix) => {
+            let prefix = *prefix;
+            put_at_leaf(tree, prefix, alloc, key, route)
+        }
+        Tree::Leaf(prefix, _) => {
+            let prefix = *prefix;
+            put_at_leaf(tree, prefix, alloc, key, route)
+        }
+        Tree::Rooted(routed, prefix, node) => {
+            let prefix = *prefix;
+            let node = &mut **node;
+            let brought = route.is_some();
+            match prefix.turn(key) {
+                Turn::Outside => put_beside(tree, &prefix.wide(), alloc, key, route),
+                Turn::Here => {
+                    let made = node.slot.put(route);
+                    *routed = node.is_routed_with(brought);
+                    Ok(made)
+                }
+                _ => unreachable!(),
+            }
+        }
+        Tree::Forked(_, prefix, _) => {
+            let prefix = *prefix;
+            match prefix.turn(key) {
+                Turn::Outside => put_beside(tree, &prefix.wide(), alloc, key, route),
+                Turn::Here => put_at_fork(tree, prefix, alloc, route),
+                _ => unreachable!(),
+            }
+        }
+    }
+}
+
+/// Makes the prefix, which the root's doesn't cover, a key above the root or beside it, with the route,
+/// and answers that it is new.
+pub(crate) fn put_beside<K: Packed, R: Drop>(
+    tree: &mut Tree<K, R>,
+    prefix: &Prefix,
+    alloc: Global,
+    key: &Prefix,
+    route: &mut Option<R>,
+) -> Result<bool, AllocError>
+    requires root { root (shape_of K.network tree.old) ≡ Some (way prefix.now) }
+    requires shaped { IsShaped (shape_of K.network tree.old) }
+    requires marked { IsMarked tree.old }
+    requires family { prefix.now.family ≡ key.now.family }
+    requires kind { key.now.family ≡ K.family }
+    requires outside { turn_of (way prefix.now) (way key.now) ≡ Outside }
+    ensures made { IfOk result (λ made. made ≡ true) }
+    ensures placed { OnOk result (IsPlaced (way key.now) (Some route.old)
+        (shape_of K.network tree.old) (shape_of K.network tree.new)) }
+    ensures marked { OnOk result (IsMarked tree.new) }
+    ensures routed { OnOk result
+        (is_routed tree.new ≡ (is_some route.old || is_routed tree.old)) }
+    ensures taken { OnOk result (route.new ≡ None) }
+    ensures refused { OnErr result (tree.new ≡ tree.old) }
+    ensures kept { OnErr result (route.new ≡ route.old) }
+{
+    let common = prefix.common(key);
+    let side = common.turn_covered(prefix);
+    if let Turn::Here = common.turn_covered(key) {
+        let mut node = lone(alloc)?;
+        node.slot = slot_in(leaf_with(K::of(key), route));
+        let below = mem::replace(tree, Tree::Empty);
+        put_root(tree, K::of(&common), node, Tree::Empty, below, side);
+        return Ok(true);
+    }
+    let fork = lone_fork(alloc)?;
+    let leaf = leaf_with(K::of(key), route);
+    put_fork(tree, K::of(&common), fork, leaf, side);
+    Ok(true)
+}
+
+/// Makes the branch at the root a key, with the route, and answers that it is new.
+pub(crate) fn put_at_fork<K: Packed, R: Drop>(
+    tree: &mut Tree<K, R>,
+    prefix: K,
+    alloc: Global,
+    route: &mut Option<R>,
+) -> Result<bool, AllocError>
+    requires fork { IsFork prefix tree.old }
+    requires shaped { IsShaped (shape_of K.network tree.old) }
+    requires marked { IsMarked tree.old }
+    ensures made { IfOk result (λ made. made ≡ true) }
+    ensures placed { OnOk result (IsPlacedAt (K.network prefix) (Some route.old)
+        (shape_of K.network tree.old) (shape_of K.network tree.new)) }
+    ensures marked { OnOk result (IsMarked tree.new) }
+    ensures routed { OnOk result
+        (is_routed tree.new ≡ (is_some route.old || is_routed tree.old)) }
+    ensures taken { OnOk result (route.new ≡ None) }
+    ensures refused { OnErr result (tree.new ≡ tree.old) }
+    ensures kept { OnErr result (route.new ≡ route.old) }
+{
+    let mut node = lone(alloc)?;
+    node.slot = slot_in(leaf_with(prefix, route));
+    if let Tree::Forked(_, _, fork) = tree {
+        let left = mem::replace(&mut fork.left, Tree::Empty);
+        let right = mem::replace(&mut fork.right, Tree::Empty);
+        put_root(tree, prefix, node, left, right, Turn::Right);
+    }
+    Ok(true)
+}
+
+/// Puts the route at the key, beside or below one that has no others below it, or there. Answers
+/// whether the key is new.
+pub(crate) fn put_at_leaf<K: Packed, R: Drop>(
+    tree: &mut Tree<K, R>,
+    prefix: K,
+    alloc: Global,
+    key: &Prefix,
+    route: &mut Option<R>,
+) -> Result<bool, AllocError>
+    requires leaf { IsLeaf prefix tree.old }
+    requires family { (K.network prefix).family ≡ key.now.family }
+    requires kind { key.now.family ≡ K.family }
+    ensures made { IfOk result (λ made. made ≡
+        not (is_some (at (shape_of K.network tree.old) (way key.now)))) }
+    ensures placed { OnOk result (IsPlaced (way key.now) (Some route.old)
+        (shape_of K.network tree.old) (shape_of K.network tree.new)) }
+    ensures given { OnOk result
+        (route.new ≡ route_found (at (shape_of K.network tree.old) (way key.now))) }
+    ensures marked { OnOk result (IsMarked tree.new) }
+    ensures quiet { OnOk result (route.old ≡ None →
+        turn_of (way (K.network prefix)) (way key.now) ≢ Here →
+        is_routed tree.new ≡ is_routed tree.old) }
+    ensures brought { OnOk result (is_some route.old ≡ true → is_routed tree.new ≡ true) }
+    ensures refused { OnErr result (tree.new ≡ tree.old) }
+    ensures kept { OnErr result (route.new ≡ route.old) }
+    ensures known { OnErr result (at (shape_of K.network tree.old) (way key.now) ≡ None) }
+{
+    let side = prefix.turn(key);
+    match side {
+        Turn::Outside => put_beside(tree, &prefix.wide(), alloc, key, route),
+        Turn::Here => {
+            exchange_leaf(tree, prefix, route);
+            Ok(false)
+        }
+        Turn::Left | Turn::Right => {
+            let node = lone(alloc)?;
+            let leaf = leaf_with(K::of(key), route);
+            hang(tree, prefix, node, leaf, side);
+            Ok(true)
+        }
+    }
+}

@@ -1,0 +1,132 @@
+//! Routes come and go in the room of keys.
+
+ghost use Rattle.std.specs.Prelude.{◌≡◌, Some, None, true, false, is_some, not};
+ghost use Rattle.std.specs.Prelude.{IsSome};
+ghost use Rattle.ip_prefix.specs.Turns.{way};
+ghost use Rattle.rib_store.specs.declared.tree.Slot.TheVariants.{Branch};
+ghost use Rattle.ip_prefix.specs.declared.turn.Turn.TheVariants.{Outside, Here, Left, Right};
+ghost use Rattle.rib_store.specs.Shape.{Empty, shape_of, leaf_slot, is_filled, is_routed, IsLeaf, IsMarked};
+ghost use Rattle.rib_store.specs.Tree.{at, root, slot_of, kept, IsShaped, IsPut};
+ghost use Rattle.rib_store.specs.Slots.{route_found};
+
+use crate::tree::nodes::leaf_with;
+use crate::tree::{Slot, Tree};
+use ip_prefix::{Prefix, Turn};
+use prefix_store::Packed;
+use std::mem;
+
+impl<K: Packed, R: Drop> Tree<K, R> {
+    /// The key's route, or its absence, and the argument change places.
+    pub(crate) fn exchange(&mut self, key: &Prefix, route: &mut Option<R>)
+        requires shaped { IsShaped (shape_of K.network self.old) }
+        requires marked { IsMarked self.old }
+        requires key { IsSome (at (shape_of K.network self.old) (way key.now)) }
+        ensures shaped { IsShaped (shape_of K.network self.new) }
+        ensures marked { IsMarked self.new }
+        ensures slots { IsPut (at (shape_of K.network self.old)) (way key.now) (Some route.old)
+            (at (shape_of K.network self.new)) }
+        ensures given { at (shape_of K.network self.old) (way key.now) ≡ Some route.new }
+        ensures brought { is_some route.old ≡ true → is_routed self.new ≡ true }
+        ensures root { root (shape_of K.network self.new) ≡ root (shape_of K.network self.old) }
+    {
+        match self {
+            Tree::Empty => {}
+            Tree::Bare(prefix) => {
+                let prefix = *prefix;
+                exchange_leaf(self, prefix, route);
+            }
+            Tree::Leaf(prefix, _) => {
+                let prefix = *prefix;
+                exchange_leaf(self, prefix, route);
+            }
+            Tree::Rooted(routed, prefix, node) => {
+                let node = &mut **node;
+                let brought = route.is_some();
+                match prefix.turn_covered(key) {
+                    Turn::Outside => return,
+                    Turn::Here => node.slot.exchange(route),
+                    Turn::Left => node.left.exchange(key, route),
+                    Turn::Right => node.right.exchange(key, route),
+                }
+                *routed = node.is_routed_with(brought);
+            }
+            Tree::Forked(routed, prefix, fork) => {
+                let fork = &mut **fork;
+                let brought = route.is_some();
+                match prefix.turn_covered(key) {
+                    Turn::Left => fork.left.exchange(key, route),
+                    Turn::Right => fork.right.exchange(key, route),
+                    _ => return,
+                }
+                *routed = fork.is_routed_with(brought);
+            }
+        }
+    }
+}
+
+/// The route of a key without others below it, or its absence, and the argument change places.
+pub(crate) fn exchange_leaf<K: Packed, R: Drop>(
+    tree: &mut Tree<K, R>,
+    prefix: K,
+    route: &mut Option<R>,
+)
+    requires { IsLeaf prefix tree.old }
+    ensures leaf { IsLeaf prefix tree.new }
+    ensures marked { IsMarked tree.new }
+    ensures slot { leaf_slot tree.new ≡ route.old }
+    ensures given { leaf_slot tree.old ≡ route.new }
+{
+    let new = leaf_with(prefix, route);
+    if let Tree::Leaf(_, old) = mem::replace(tree, new) {
+        *route = Some(old);
+    }
+}
+
+impl<R: Drop> Slot<R> {
+    /// A key's route, or its absence, and the argument change places.
+    pub(crate) fn exchange(&mut self, route: &mut Option<R>)
+        requires { IsSome (slot_of self.old) }
+        ensures slot { slot_of self.new ≡ Some route.old }
+        ensures given { slot_of self.old ≡ Some route.new }
+    {
+        let new = match route.take() {
+            Some(route) => Slot::Filled(route),
+            None => Slot::Vacant,
+        };
+        if let Slot::Filled(old) = mem::replace(self, new) {
+            *route = Some(old);
+        }
+    }
+
+    /// A key's slot, with this route or its absence in place of that which was there, and whether it
+    /// is new.
+    pub(crate) fn put(&mut self, route: &mut Option<R>) -> bool
+        ensures slot { slot_of self.new ≡ Some route.old }
+        ensures given { route.new ≡ route_found (slot_of self.old) }
+        ensures made { result ≡ not (is_some (slot_of self.old)) }
+    {
+        let made = self.occupy();
+        self.exchange(route);
+        made
+    }
+
+    /// A key's slot, without a route where it is new, and whether it is.
+    pub(crate) fn occupy(&mut self) -> bool
+        ensures slot { slot_of self.new ≡ kept (slot_of self.old) }
+        ensures filled { is_filled self.new ≡ is_filled self.old }
+        ensures made { result ≡ not (is_some (slot_of self.old)) }
+    {
+        if let Slot::Branch = self {
+            *self = Slot::Vacant;
+            return true;
+        }
+        false
+    }
+
+    /// No key's slot.
+    pub(crate) fn vacate(&mut self)
+        ensures { slot_of self.new ≡ None }
+    {
+        *self = Slot::Branch;
+    }
+}
