@@ -26,7 +26,7 @@ use std::rc::Rc;
 /// are noted from the last to the first, but for those that stand before the loss of their peer.
 #[derive(Drop)]
 pub(crate) struct Changes {
-    alloc: Global,
+    pub(crate) alloc: Global,
     /// The entries of the pairs that items name, with the route that they have then. Of those of a
     /// pair the first counts.
     pub(crate) entries: Vec<Entry>,
@@ -65,7 +65,7 @@ impl Changes {
     }
 
     /// The peer whose lost session is all that is noted, where it is that.
-    fn only_loss(&self) -> Option<Peer>
+    pub(crate) fn only_loss(&self) -> Option<Peer>
         ensures some { IfSome result (λ peer.
             (self.now.entries.items ≡ []) × (self.now.lost.keys ≡ peer ∷ [])) }
         ensures none { IfNone result ((peer : Peer) →
