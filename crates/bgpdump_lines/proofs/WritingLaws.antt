@@ -101,10 +101,6 @@ pub AppendsFront-first : (old new : Option (List ℕ)) (text one more all : List
 AppendsFront-first old new text one more all is put =
     subst (AppendsFront old new) (append_assoc text one more ∙ ap (λ l. text ++ l) (sym is)) (AppendsFront-longer old new (text ++ one) more put)
 
--- the rest at the end
-pub Passes-end : (a b c : Option (List ℕ)) (text more : List ℕ) → Passes a b [] text more → Appends b c text → Appends a c more
-Passes-end a b c text more p q = subst (Appends a c) p.whole (Appends-trans a b c p.front text p.appended q)
-
 -- or a front of it
 pub Passes-end-stops : (a b c : Option (List ℕ)) (text more : List ℕ) → Passes a b [] text more → AppendsFront b c text → AppendsFront a c more
 Passes-end-stops a b c text more p q = subst (AppendsFront a c) p.whole (AppendsFront-behind a b c p.front text p.appended q)

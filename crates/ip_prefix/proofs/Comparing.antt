@@ -11,8 +11,6 @@ use Rattle.std.proofs.lemmas.List.{length-append, length-replicate}
 use Rattle.std.proofs.Math.Nat.{mod-eq_of_lt}
 use Rattle.ip_prefix.specs.Bits.{bits_of}
 use Rattle.ip_prefix.specs.BitLemmas.{length-bits_of}
-use Rattle.ip_prefix.specs.Halves.{whole}
-use Rattle.ip_prefix.specs.declared.number.TheConstants.{HALF_BITS}
 use Rattle.ip_prefix.specs.declared.addr.Addr.TheInside.{Inside}
 use Rattle.ip_prefix.specs.declared.addr.Family.{Family}
 use Rattle.ip_prefix.specs.declared.addr.Family.TheVariants.{V4, V6}
@@ -35,15 +33,6 @@ nat_cmp-add m a b = nat_cmp_is (m + a) (m + b) (nat_cmp a b) (shifted (nat_cmp a
     shifted Less h = omega arith
     shifted Equal h = omega arith
     shifted Greater h = omega arith
-
--- of numbers in two halves the high ones decide, and else the low ones
-pub nat_cmp-halves : (c d a b : ℕ) → a < 2 ^ HALF_BITS → b < 2 ^ HALF_BITS → nat_cmp (whole c a) (whole d b) ≡ ordering_then (nat_cmp c d) (nat_cmp a b)
-nat_cmp-halves c d a b a_in b_in = at (nat_cmp c d) (ranked c d (nat_cmp c d) refl)
-  where
-    at : (r : Ordering) → MatchOrdering r (c < d) (c ≡ d) (d < c) → nat_cmp (whole c a) (whole d b) ≡ ordering_then r (nat_cmp a b)
-    at Less h = let below : whole c a < whole d b = omega (arith, h, a_in, b_in) in sym (nat_cmp_is (whole c a) (whole d b) Less below)
-    at Equal h = ap (λ n. nat_cmp (whole n a) (whole d b)) h ∙ sym (nat_cmp-add (d * 2 ^ HALF_BITS) a b)
-    at Greater h = let above : whole d b < whole c a = omega (arith, h, a_in, b_in) in sym (nat_cmp_is (whole c a) (whole d b) Greater above)
 
 -- the highest digits decide, and else what is below them
 nat_cmp-digits : (m c d a b : ℕ) → c < 2 → d < 2 → a < m → b < m → nat_cmp (c * m + a) (d * m + b) ≡ ordering_then (bool_cmp (c == 1) (d == 1)) (nat_cmp a b)

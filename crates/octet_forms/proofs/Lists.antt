@@ -1,6 +1,6 @@
 -- Lists: their parts, what is written into them, and what holds of each element.
-use Rattle.std.proofs.Common.{◌≡◌, ℕ, zero, suc, ◌+◌, ◌-◌, ◌<◌, ◌≤◌, Bool, true, false, cond, List, [], ◌∷◌, ◌++◌, length, take, drop, get_or, set, replicate, refl, ap, ap₂, sym, ◌∙◌, arith, append_assoc, length-take-le, take-append-drop, eqb-true}
-use Rattle.std.specs.Prelude.{slice_get, nat_eq, filter}
+use Rattle.std.proofs.Common.{◌≡◌, ℕ, zero, suc, ◌+◌, ◌-◌, ◌<◌, ◌≤◌, true, false, List, [], ◌∷◌, ◌++◌, length, take, drop, get_or, set, replicate, refl, ap, ap₂, sym, ◌∙◌, arith, append_assoc, length-take-le, take-append-drop, eqb-true}
+use Rattle.std.specs.Prelude.{slice_get, nat_eq}
 use Rattle.std.specs.List.{AllByRecursion}
 use Rattle.std.proofs.Math.Nat.{add-sub_of_le}
 use Rattle.std.proofs.lemmas.List.{drop-append-le, drop-drop, drop-take, length_push, take-append-le, take_all, take_rest, take-take}
@@ -121,36 +121,4 @@ AllByRecursion-set P [] i new one all = tt
 AllByRecursion-set P (x ∷ xs) zero new one all = (one, all.1)
 AllByRecursion-set P (x ∷ xs) (suc i) new one all = (all.0, AllByRecursion-set P xs i new one all.1)
 
--- what follows from it holds of each too
-pub AllByRecursion-weaker : {A : Type 0} (P Q : A → Type 0) → ((x : A) → P x → Q x) → (xs : List A) → AllByRecursion P xs → AllByRecursion Q xs
-AllByRecursion-weaker P Q then [] all = tt
-AllByRecursion-weaker P Q then (x ∷ xs) all = (then x all.0, AllByRecursion-weaker P Q then xs all.1)
-
 -- ---- filters
-
--- one element before those that a filter keeps
-kept_one : {A : Type 0} (P : A → Type 0) (b : Bool) (x : A) (xs : List A) → (b ≡ true → P x) → AllByRecursion P xs → AllByRecursion P (cond b (x ∷ xs) xs)
-kept_one P true x xs here all = (here refl, all)
-kept_one P false x xs here all = all
-
--- what follows from the test holds of all that is kept
-pub AllByRecursion-filter : {A : Type 0} (p : A → Bool) (P : A → Type 0) → ((x : A) → p x ≡ true → P x) → (xs : List A) → AllByRecursion P (filter p xs)
-AllByRecursion-filter p P holds [] = tt
-AllByRecursion-filter p P holds (x ∷ xs) = kept_one P (p x) x (filter p xs) (holds x) (AllByRecursion-filter p P holds xs)
-
--- nothing is kept where nothing passes
-pub filter_none : {A : Type 0} (p : A → Bool) (xs : List A) → AllByRecursion (λ x. p x ≡ false) xs → filter p xs ≡ []
-filter_none p [] none = refl
-filter_none p (x ∷ xs) none = ap (λ b. cond b (x ∷ filter p xs) (filter p xs)) none.0 ∙ filter_none p xs none.1
-
--- the first element, by a weaker test and then by a stronger one
-within_one : {A : Type 0} (p : A → Bool) (a b : Bool) (x : A) (xs ys : List A) → p x ≡ a → (a ≡ true → b ≡ true) → filter p ys ≡ filter p xs
-    → filter p (cond b (x ∷ ys) ys) ≡ cond a (x ∷ filter p xs) (filter p xs)
-within_one p a true x xs ys e within same = λ i. cond (e i) (x ∷ same i) (same i)
-within_one p true false x xs ys e within same = let lost : false ≡ true = within refl in cc
-within_one p false false x xs ys e within same = same
-
--- a filter loses nothing that a stronger one would keep
-pub filter-filter : {A : Type 0} (p q : A → Bool) → ((x : A) → p x ≡ true → q x ≡ true) → (xs : List A) → filter p (filter q xs) ≡ filter p xs
-filter-filter p q within [] = refl
-filter-filter p q within (x ∷ xs) = within_one p (p x) (q x) x xs (filter q xs) refl (within x) (filter-filter p q within xs)

@@ -49,12 +49,6 @@ turn-more f entries i new x xs whole within is before =
     ∙ ap (λ y. map f (take i entries) ++ (y ∷ xs)) is
     ∙ before
 
--- an element within a list is there whatever stands for one beyond it
-pub get_or-any : {A : Type 0} (xs : List A) (i : ℕ) (a b : A) → i < length xs → get_or xs i a ≡ get_or xs i b
-get_or-any [] i a b within = absurd (omega arith)
-get_or-any (x ∷ xs) zero a b within = refl
-get_or-any (x ∷ xs) (suc i) a b within = get_or-any xs i a b (omega arith)
-
 -- the first of distinct keys are distinct
 pub apart-take : (q : Pair) (i : ℕ) (pairs : List Pair) → AllByRecursion (λ p. tied q p ≡ false) pairs → AllByRecursion (λ p. tied q p ≡ false) (take i pairs)
 apart-take q zero pairs all = tt
@@ -100,12 +94,6 @@ all-front P (y ∷ xs) x all = (all.0, all-front P xs x all.1)
 pub all-last : {X : Type 0} (P : X → Type 0) (xs : List X) (x : X) → AllByRecursion P (xs ++ x ∷ []) → P x
 all-last P [] x all = all.0
 all-last P (y ∷ xs) x all = all-last P xs x all.1
-
--- the pair at an index
-pub pair-at : (entries : List Entry) (i : ℕ) (d : Entry) → i < length entries → get_or (pairs_in (sides_of entries)) i d.pair ≡ (get_or entries i d).pair
-pair-at [] i d within = absurd (omega arith)
-pair-at (e ∷ entries) zero d within = refl
-pair-at (e ∷ entries) (suc i) d within = pair-at entries i d (omega arith)
 
 pub length-pairs : (entries : List Entry) → length (pairs_in (sides_of entries)) ≡ length entries
 length-pairs [] = refl

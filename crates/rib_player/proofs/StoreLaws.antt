@@ -412,8 +412,3 @@ none-named all peer none q = at (same_peer q.peer peer) refl
     at : (b : Bool) → same_peer q.peer peer ≡ b → false ≡ (b && is_some (finite.get all q))
     at true is = sym (ap is_some (ap (λ p. finite.get all (pair_of p q.prefix)) (one_peer q.peer peer is) ∙ none q.prefix))
     at false is = refl
-
--- the pairs of entries
-pub pairs-entries : {R : Type 0} (peer : Peer) (es : List (Network × R)) → map (pair_of peer) (map (λ (e : Network × R). e.0) es) ≡ map (λ (e : Network × R). pair_of peer e.0) es
-pairs-entries peer [] = refl
-pairs-entries peer (e ∷ es) = ap (λ ps. pair_of peer e.0 ∷ ps) (pairs-entries peer es)

@@ -1,6 +1,6 @@
 -- Private.
 -- How the stores of peers are kept.
-use Rattle.std.specs.Prelude.{◌≡◌, ◌<◌, Bool, ◌==◌, if◌then◌else◌, Option, Some, IfSome, refl}
+use Rattle.std.specs.Prelude.{◌≡◌, ◌<◌, Bool, ◌==◌, if◌then◌else◌, Some, IfSome, refl}
 use Rattle.std.specs.Ordering.{eq_by_cmp}
 use Rattle.std.specs.Coded.{Coded, code_by, coded×}
 use Rattle.std.specs.declared.rc.Rc.{Rc}

@@ -8,7 +8,6 @@ use Rattle.std.specs.FinSet.{contains, from_list}
 use Rattle.ip_prefix.specs.Network.{Network}
 use Rattle.mrt_events.specs.declared.peer.Peer.{Peer}
 use Rattle.mrt_events.specs.declared.event.Event.{Event}
-use Rattle.rib_player.specs.declared.pair.Pair.{Pair}
 use Rattle.rib_player.specs.History.{pair_cmp, pair_of}
 use Rattle.rib_player.specs.Tables.{Routes, Pairs, table_after, named_pairs}
 use Rattle.rib_player.specs.Journal.{Side, pairs_in}

@@ -1,4 +1,4 @@
-use Rattle.std.proofs.Common.{◌≡◌, ◌+◌, ◌++◌, [], ◌∷◌, take, sym, subst}
+use Rattle.std.proofs.Common.{take, sym, subst}
 use Rattle.rib_player.specs.Journal.{side_of, sides_of}
 use Rattle.rib_player.specs.Sides.{AreDistinct}
 use Rattle.rib_player.proofs.RowLaws.{distinct-none, distinct-apart, sides-more}

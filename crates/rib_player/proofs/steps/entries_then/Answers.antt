@@ -1,12 +1,9 @@
-use Rattle.std.proofs.Common.{◌≡◌, ◌++◌, ◌&&◌, List, is_some, sym, ap, subst, ◌∙◌}
-use Rattle.std.specs.List.{list_any}
+use Rattle.std.proofs.Common.{◌≡◌, ◌++◌, ◌&&◌, List, is_some, sym, ap, ◌∙◌}
 use Rattle.std.specs.Ordering.{eq_by_cmp}
 use Rattle.std.specs.FinMap as finite
 use Rattle.std.proofs.lemmas.List.{map-append}
 use Rattle.mrt_events.specs.Peer.{peer_cmp}
-use Rattle.rib_player.specs.History.{pair_cmp}
-use Rattle.rib_player.specs.Entries.{Entry}
-use Rattle.rib_player.specs.Journal.{Side, side_of, pairs_in, sides_of}
+use Rattle.rib_player.specs.Journal.{Side, side_of, sides_of}
 use Rattle.rib_player.specs.Changes.{found, is_lost, or_absent}
 use Rattle.rib_player.proofs.ChangesLaws.{found-absent, lost-more, or_absent-false}
 use Rattle.rib_player.proofs.steps.entries_then.Goals as goal

@@ -1,4 +1,4 @@
-use Rattle.std.proofs.Common.{◌≡◌, ◌+◌, ◌++◌, [], ◌∷◌, Some, take, sym, ap, subst, ◌∙◌}
+use Rattle.std.proofs.Common.{◌≡◌, Some, take, sym, ap, subst, ◌∙◌}
 use Rattle.std.specs.List.{AllByRecursion}
 use Rattle.std.specs.Map.{lookup}
 use Rattle.std.proofs.lemmas.List.{take_all}

@@ -1,11 +1,9 @@
-use Rattle.std.proofs.Common.{◌≡◌, ◌∷◌, ◌++◌, [], List, Some, None, map, length, sym, ap, ◌∙◌, arith}
-use Rattle.std.specs.Map.{lookup}
+use Rattle.std.proofs.Common.{◌≡◌, ◌∷◌, ◌++◌, [], List, length, ap, ◌∙◌, arith}
 use Rattle.std.specs.declared.alloc.Global.{Global}
 use Rattle.std.specs.declared.rc.Rc.{Rc}
 use Rattle.std.proofs.lemmas.List.{map-append}
 use Rattle.mrt_events.specs.declared.peer.Peer.{Peer}
 use Rattle.rib_player.specs.Numbered.{peers_in}
-use Rattle.rib_player.proofs.StoreLaws.{same_peer}
 use Rattle.rib_player.proofs.NumberLaws.{no-number, numbered-added, stores-added}
 use Rattle.rib_player.proofs.stores.Stores.insert.Goals as goal
 
