@@ -1,6 +1,6 @@
 //! The bits in front of numbers and octets.
 
-ghost use Rattle.std.specs.Prelude.{◌≡◌, ◌-◌, ◌*◌, ◌/◌, ◌^◌, ◌<◌, ◌≤◌, ◌++◌, Some, length, replicate, take};
+ghost use Rattle.std.specs.Prelude.{◌≡◌, ◌-◌, ◌*◌, ◌/◌, ◌^◌, ◌<◌, ◌≤◌, ◌++◌, length, replicate, take};
 ghost use Rattle.std.specs.Int.{w128, from_be_bytes};
 ghost use Rattle.ip_prefix.specs.Bits.{bits_of_octets};
 ghost use Rattle.ip_prefix.specs.Highest.{highest_bits};

@@ -1,6 +1,6 @@
 //! Prefixes of both families.
 
-ghost use Rattle.std.specs.Prelude.{◌≡◌, ◌-◌, ◌/◌, ◌<◌, ◌≤◌, ◌++◌, false, Some, MatchOption, IfSome, IfNone, length, replicate, take, slice_get};
+ghost use Rattle.std.specs.Prelude.{◌≡◌, ◌-◌, ◌<◌, ◌≤◌, ◌++◌, false, Some, MatchOption, IfSome, IfNone, length, replicate, take, slice_get};
 ghost use Rattle.ip_prefix.specs.declared.addr.Family.{Family};
 ghost use Rattle.ip_prefix.specs.Address.{IsAddress, bit_count};
 ghost use Rattle.ip_prefix.specs.Bits.{bits_of};

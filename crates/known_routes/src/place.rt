@@ -1,6 +1,6 @@
 //! A place for a route, and where a route is looked for among places.
 
-ghost use Rattle.std.specs.Prelude.{◌≡◌, ◌+◌, ◌*◌, IfSome};
+ghost use Rattle.std.specs.Prelude.{◌≡◌, IfSome};
 ghost use Rattle.known_routes.specs.Places.{taken_in, is_taken};
 
 use mrt_events::{Route, route_size, same_route};

@@ -1,7 +1,7 @@
 //! Places for routes, which are found there by a hash.
 
 ghost use Rattle.std.specs.Prelude.{◌≡◌, ◌≤◌, ◌+◌, ◌*◌, IfOk, IsTrue, vec_len};
-ghost use Rattle.known_routes.specs.Places.{taken_in, is_taken};
+ghost use Rattle.known_routes.specs.Places.{taken_in};
 ghost use Rattle.known_routes.specs.declared.places.TheConstants.{FIRST_PLACES, MOST_PLACES, MOST_TIMES};
 
 use crate::place::{Place, count_taken, index_of, is_last_owner, is_taken, octets_at, place_for};

@@ -1,6 +1,6 @@
 //! What an event does, pair by pair.
 
-ghost use Rattle.std.specs.Prelude.{◌≡◌, ◌||◌, ◌&&◌, [], ◌∷◌, ◌≢◌, IfOk, IfSome, IfNone, OnOk, Some, None, false, map, slice_get};
+ghost use Rattle.std.specs.Prelude.{◌≡◌, [], ◌∷◌, ◌≢◌, IfOk, IfSome, IfNone, OnOk, Some, false, map, slice_get};
 ghost use Rattle.std.specs.Ordering.{eq_by_cmp};
 ghost use Rattle.mrt_events.specs.Event.{saying};
 ghost use Rattle.mrt_events.specs.SharedRoute.{AreOfOneRoute};

@@ -1,12 +1,10 @@
 //! Keys come and go: what lies at the root, or below it, is split and joined.
 
-ghost use Rattle.std.specs.Prelude.{◌≡◌, None, List, Bool, true, false, is_some, not};
+ghost use Rattle.std.specs.Prelude.{◌≡◌, None, List, Bool, is_some, not};
 ghost use Rattle.std.specs.Prelude.{OnOk, OnErr, IfOk};
 ghost use Rattle.ip_prefix.specs.Turns.{way};
-ghost use Rattle.rib_store.specs.declared.tree.Slot.TheVariants.{Branch};
-ghost use Rattle.ip_prefix.specs.declared.turn.Turn.TheVariants.{Outside, Here, Left, Right};
-ghost use Rattle.rib_store.specs.Shape.{Empty, shape_of, is_routed, IsLeaf, IsFork, IsNode, IsMarked};
-ghost use Rattle.rib_store.specs.Tree.{at, root, AreOf, IsOn, IsShaped, IsNearlyShaped, IsPut, IsGrown};
+ghost use Rattle.rib_store.specs.Shape.{shape_of, is_routed, IsLeaf, IsFork, IsNode, IsMarked};
+ghost use Rattle.rib_store.specs.Tree.{at, AreOf, IsOn, IsShaped, IsNearlyShaped, IsPut, IsGrown};
 
 use crate::tree::puts::{put_at_fork, put_at_leaf, put_beside};
 use crate::tree::{Slot, Tree};

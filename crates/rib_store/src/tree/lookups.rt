@@ -4,7 +4,6 @@ ghost use Rattle.std.specs.Prelude.{◌≡◌, ◌+◌, ◌≤◌, Some, None, M
 ghost use Rattle.std.specs.Option.{option_map, option_copied};
 ghost use Rattle.ip_prefix.specs.Turns.{way};
 ghost use Rattle.rib_store.specs.Shape.{shape_of, IsMarked};
-ghost use Rattle.rib_store.specs.Slots.{routed};
 ghost use Rattle.prefix_store.specs.Lookups.{pointed};
 ghost use Rattle.rib_store.specs.Tree.{at};
 ghost use Rattle.rib_store.specs.Walks.{deepest, visits, first, behind, all_routes, all_behind, filled};

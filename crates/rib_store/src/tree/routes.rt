@@ -1,11 +1,9 @@
 //! Routes come and go in the room of keys.
 
-ghost use Rattle.std.specs.Prelude.{◌≡◌, Some, None, true, false, is_some, not};
+ghost use Rattle.std.specs.Prelude.{◌≡◌, Some, None, true, is_some, not};
 ghost use Rattle.std.specs.Prelude.{IsSome};
 ghost use Rattle.ip_prefix.specs.Turns.{way};
-ghost use Rattle.rib_store.specs.declared.tree.Slot.TheVariants.{Branch};
-ghost use Rattle.ip_prefix.specs.declared.turn.Turn.TheVariants.{Outside, Here, Left, Right};
-ghost use Rattle.rib_store.specs.Shape.{Empty, shape_of, leaf_slot, is_filled, is_routed, IsLeaf, IsMarked};
+ghost use Rattle.rib_store.specs.Shape.{shape_of, leaf_slot, is_filled, is_routed, IsLeaf, IsMarked};
 ghost use Rattle.rib_store.specs.Tree.{at, root, slot_of, kept, IsShaped, IsPut};
 ghost use Rattle.rib_store.specs.Slots.{route_found};
 
