@@ -52,6 +52,7 @@ pub(crate) struct Stores<S> {
     /// The number that a peer of each hash may have, if it has one. Of several peers one is found so,
     /// the others by their order.
     places: Vec<u32>,
+    // What stands behind `by` shows that it has at most one proof, as a ghost field must.
     ghost numbered: { AreNumbered held.items (peers_in names.items) order.entries } by { Prim.hlevel props },
     ghost few: { vec_len places ≤ PLACES },
 }
