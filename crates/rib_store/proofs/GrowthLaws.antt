@@ -73,25 +73,8 @@ placed_right {R} {old} {new} key prefix slot v l r m was is there shaped placed 
       roots = root_rooted new prefix slot l m is ∙ sym (ap Some (shared_inside (way prefix) key (not_outside _ true there))) ∙ sym (ap (λ o. Some (joined o key)) (root_rooted old prefix slot l r was));
     }
 
--- what a key has below a side is what it has there
-left_slot : {R : Type 0} (old : Shape R) (key : List Bool) (prefix : Network) (slot : Option (Option R)) (l r : Shape R) → IsRooted prefix slot l r old → turn_of (way prefix) key ≡ Left → at l key ≡ at old key
-left_slot old key prefix slot l r was there = sym (at_rooted old prefix slot l r was key ∙ chosen_at (turn_of (way prefix) key) None slot (at l key) (at r key) (at l key) Left there refl)
-
-right_slot : {R : Type 0} (old : Shape R) (key : List Bool) (prefix : Network) (slot : Option (Option R)) (l r : Shape R) → IsRooted prefix slot l r old → turn_of (way prefix) key ≡ Right → at r key ≡ at old key
-right_slot old key prefix slot l r was there = sym (at_rooted old prefix slot l r was key ∙ chosen_at (turn_of (way prefix) key) None slot (at l key) (at r key) (at r key) Right there refl)
-
 pub here_slot : {R : Type 0} (old : Shape R) (key : List Bool) (prefix : Network) (slot : Option (Option R)) (l r : Shape R) → IsRooted prefix slot l r old → turn_of (way prefix) key ≡ Here → slot ≡ at old key
 here_slot old key prefix slot l r was there = sym (at_rooted old prefix slot l r was key ∙ chosen_at (turn_of (way prefix) key) None slot (at l key) (at r key) slot Here there refl)
-
-pub grown_left : {R : Type 0} {old new : Shape R} (key : List Bool) (prefix : Network) (slot : Option (Option R)) (l r m : Shape R) → IsRooted prefix slot l r old → IsRooted prefix slot m r new
-    → turn_of (way prefix) key ≡ Left → IsShaped old → IsGrown key l m → IsGrown key old new
-grown_left {R} {old} key prefix slot l r m was is there shaped grown =
-    placed_left key prefix slot (kept (at old key)) l r m was is there shaped (subst (λ v. IsPlaced key v l m) (ap kept (left_slot old key prefix slot l r was there)) grown)
-
-pub grown_right : {R : Type 0} {old new : Shape R} (key : List Bool) (prefix : Network) (slot : Option (Option R)) (l r m : Shape R) → IsRooted prefix slot l r old → IsRooted prefix slot l m new
-    → turn_of (way prefix) key ≡ Right → IsShaped old → IsGrown key r m → IsGrown key old new
-grown_right {R} {old} key prefix slot l r m was is there shaped grown =
-    placed_right key prefix slot (kept (at old key)) l r m was is there shaped (subst (λ v. IsPlaced key v r m) (ap kept (right_slot old key prefix slot l r was there)) grown)
 
 here_inside : (t : Turn) → t ≡ Here → t ≡ Outside → ⊥
 here_inside t e h = cc
@@ -237,7 +220,3 @@ placed_over {R} {old} {new} key above b route slot beside t out e shaped bits tu
     let sides = by_side t p.bit beside old (turn ∙ below) in
     over_side key above b route slot beside p.bit (at_outside old b (way key) e out) e shaped bits below key_part
     (subst (λ (x : Shape R × Shape R). IsRooted above slot x.0 x.1 new) (λ i. (sides.0 i, sides.1 i)) is) beside_is
-
--- a key is there without a route, where it was none
-pub grown_from : {R : Type 0} {old new : Shape R} (key : List Bool) → at old key ≡ None → IsPlaced key (Some None) old new → IsGrown key old new
-grown_from {R} {old} {new} key none placed = subst (λ v. IsPlaced key v old new) (ap kept (sym none)) placed

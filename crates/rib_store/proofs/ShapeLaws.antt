@@ -8,9 +8,9 @@ use Rattle.ip_prefix.specs.Turns.{way, turn_of}
 use Rattle.rib_store.specs.declared.tree.Tree.{Tree}
 use Rattle.rib_store.specs.declared.tree.Tree.TheVariants as tree
 use Rattle.rib_store.specs.Shape.{Shape, Empty, shape_of, leaf_slot, IsLeaf, IsNotBelow, IsMarked, is_routed}
-use Rattle.rib_store.specs.Tree.{at, root, chosen, same_way, IsPut, IsRooted, IsShaped, IsPlaced, IsGrown}
+use Rattle.rib_store.specs.Tree.{at, root, chosen, same_way, IsPut, IsRooted, IsShaped, IsPlaced}
 use Rattle.rib_store.proofs.TreeLaws.{at_rooted, shaped_rooted, root_rooted}
-use Rattle.rib_store.proofs.GrowthLaws.{placed_left, placed_right, grown_here, leaf_shaped, leaf_slots}
+use Rattle.rib_store.proofs.GrowthLaws.{placed_left, placed_right, leaf_shaped, leaf_slots}
 use Rattle.rib_store.proofs.WayLaws.{same_is}
 use Rattle.rib_store.proofs.ChangeLaws.{put_here, put_from}
 
@@ -85,30 +85,11 @@ hung {K} {R} network old new prefix key route slot below side was (inr right) tu
     let is' : IsRooted (network prefix) (Some (leaf_slot old)) Empty below new = subst (λ (x : Turn × Option (Option R)). IsRooted (network prefix) x.1 (chosen x.0 Empty Empty below Empty) (chosen x.0 below below Empty below) new) (λ i. (right i, slot_is i)) is in
     placed_right (way key) (network prefix) (Some (leaf_slot old)) (Some route) Empty Empty below (rooted_leaf network old prefix was) is' (turn ∙ right) (shaped_leaf network old prefix was) (lone_placed key route below leaf)
 
--- no key is outside
-pub none_outside : {K R : Type 0} (network : K → Network) (t : Tree K R) (prefix : K) (key : List Bool) → IsLeaf prefix t → turn_of (way (network prefix)) key ≡ Outside → at (shape_of network t) key ≡ None
-none_outside network t prefix key is turn = at_leaf network t prefix is key ∙ ap (λ w. chosen w None (Some (leaf_slot t)) None None) turn
-
--- the key was there
-pub leaf_stays : {K R : Type 0} (network : K → Network) (t : Tree K R) (prefix : K) (key : Network) → IsLeaf prefix t → turn_of (way (network prefix)) (way key) ≡ Here → IsGrown (way key) (shape_of network t) (shape_of network t)
-leaf_stays network t prefix key is there =
-    grown_here (way key) (network prefix) (Some (leaf_slot t)) Empty Empty (rooted_leaf network t prefix is) (rooted_leaf network t prefix is) there (shaped_leaf network t prefix is)
-
 -- no key is below
 pub none_below : {K R : Type 0} (network : K → Network) (t : Tree K R) (prefix : K) (key : List Bool) (side : Turn) → IsLeaf prefix t → (side ≡ Left) ⊎ (side ≡ Right)
     → turn_of (way (network prefix)) key ≡ side → at (shape_of network t) key ≡ None
 none_below network t prefix key side is (inl left) turn = at_leaf network t prefix is key ∙ ap (λ w. chosen w None (Some (leaf_slot t)) None None) (turn ∙ left)
 none_below network t prefix key side is (inr right) turn = at_leaf network t prefix is key ∙ ap (λ w. chosen w None (Some (leaf_slot t)) None None) (turn ∙ right)
-
--- nor is one that isn't the leaf's
-pub none_apart : {K R : Type 0} (network : K → Network) (t : Tree K R) (prefix : K) (key : List Bool) → IsLeaf prefix t → (turn_of (way (network prefix)) key ≡ Here → ⊥) → at (shape_of network t) key ≡ None
-none_apart network t prefix key is apart = by (turn_of (way (network prefix)) key) refl
-  where
-    by : (u : Turn) → turn_of (way (network prefix)) key ≡ u → at (shape_of network t) key ≡ None
-    by Outside e = none_outside network t prefix key is e
-    by Here e = absurd (apart e)
-    by Left e = none_below network t prefix key Left is (inl refl) e
-    by Right e = none_below network t prefix key Right is (inr refl) e
 
 -- ---- keys at the root
 

@@ -17,19 +17,18 @@ use Rattle.ip_prefix.specs.OrderLaws.{network_cmp_total}
 use Rattle.ip_prefix.specs.Turns.{family_bit, way, turn_of, side}
 use Rattle.rib_store.specs.Shape.{Shape}
 use Rattle.prefix_store.specs.Stored.{put}
-use Rattle.rib_store.specs.Slots.{Slots, slot_at, keys_in, routes_in, route_found, routed}
+use Rattle.rib_store.specs.Slots.{slot_at, keys_in, routes_in, route_found, routed}
 use Rattle.rib_store.specs.Tree.{at, slots_of, chosen, kept, same_way, AreOf, IsOf, IsPut, IsPlaced, IsGrown, IsShaped}
 use Rattle.rib_store.specs.Walks.{either_of, first, behind}
 use Rattle.rib_store.specs.Store.{Trees, slots_in, tree_of, with_tree, IsPlanted, ChangesAt}
 use Rattle.rib_store.proofs.WayLaws.{first_turn, left_first}
-use Rattle.prefix_store.proofs.StoredLaws.{put-same}
 use Rattle.prefix_store.specs.Lookups.{above}
 use Rattle.prefix_store.proofs.AboveLaws.{above-none}
 use Rattle.rib_store.proofs.RoutedLaws.{entries-routes_in}
-use Rattle.rib_store.proofs.SlotLaws.{keys_in-more, routes_in-written, contains-keys_in, get-routes_in}
+use Rattle.rib_store.proofs.SlotLaws.{contains-keys_in, get-routes_in}
 use Rattle.rib_store.proofs.TreeLaws.{are_of, at_left, at_right}
 use Rattle.rib_store.proofs.ChangeLaws.{put_left, put_right}
-use Rattle.rib_store.proofs.GrowthLaws.{kept_found, on_placed}
+use Rattle.rib_store.proofs.GrowthLaws.{on_placed}
 use Rattle.rib_store.proofs.WalkLaws.{first-next, none-next, behind-next, next-append, first-routed, first-append, routed-append, either_none, slot_at-append, slot_at-slots_of, sorted-sides, sorted-slots_of, tied-ways}
 
 -- what two trees have at a way
@@ -167,16 +166,3 @@ after_v6 f planted low e =
     ∙ ap (λ routes. slice_get (above (Some low) routes) 0) (routed-entries f planted)
 
 -- ---- a key made sure of
-
-kept-changes : {R : Type 0} (old new : Slots R) (prefix : Network) → ChangesAt old prefix (kept (slot_at old prefix)) new → ChangesAt old prefix (Some (route_found (slot_at old prefix))) new
-kept-changes old new prefix changes = subst (λ slot. ChangesAt old prefix slot new) (kept_found (slot_at old prefix)) changes
-
--- it is a key, and no route changes
-pub keys_in-kept : {R : Type 0} (old new : Slots R) (prefix : Network) → ChangesAt old prefix (kept (slot_at old prefix)) new → keys_in new ≡ set.insert (keys_in old) prefix
-keys_in-kept old new prefix changes = keys_in-more old new prefix (route_found (slot_at old prefix)) (kept-changes old new prefix changes)
-
-pub routes_in-kept : {R : Type 0} (old new : Slots R) (prefix : Network) → ChangesAt old prefix (kept (slot_at old prefix)) new → routes_in new ≡ routes_in old
-routes_in-kept old new prefix changes =
-    routes_in-written old new prefix (route_found (slot_at old prefix)) (kept-changes old new prefix changes)
-    ∙ ap (put (routes_in old) prefix) (sym (get-routes_in old prefix))
-    ∙ put-same (routes_in old) prefix

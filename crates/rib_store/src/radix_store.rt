@@ -102,12 +102,11 @@ impl<R: Drop> PrefixStore<R> for RadixStore<R> {
     }
 
     fn ensure(&mut self, prefix: Prefix) -> Result<bool, AllocError> {
-        let made = match prefix.family() {
-            Family::V4 => self.v4.ensure(self.alloc, &prefix),
-            Family::V6 => self.v6.ensure(self.alloc, &prefix),
-        }?;
-        self.key_count = self.key_count.saturating_add(u64::from(made));
-        Ok(made)
+        if self.slot(&prefix).is_some() {
+            return Ok(false);
+        }
+        let mut none = None;
+        self.put(&prefix, &mut none)
     }
 
     fn exchange(&mut self, prefix: &Prefix, route: &mut Option<R>) {

@@ -240,7 +240,8 @@ fn hold_keys<S: PrefixStore<Rc<Route>>>(rt: &HostRuntime) -> Result<(), Fault> {
 fn make_keys<S: PrefixStore<Rc<Route>>>(store: &mut S) -> Result<(), AllocError> {
     for number in 0..ROUTES {
         if let Some(prefix) = prefix_at(number) {
-            store.ensure(prefix)?;
+            let mut none = None;
+            store.put(&prefix, &mut none)?;
         }
     }
     Ok(())

@@ -135,7 +135,7 @@ fn put_at_root<K: Packed, R: Drop>(
 
 /// Makes the prefix, which the root's doesn't cover, a key above the root or beside it, with the route,
 /// and answers that it is new.
-pub(crate) fn put_beside<K: Packed, R: Drop>(
+fn put_beside<K: Packed, R: Drop>(
     tree: &mut Tree<K, R>,
     prefix: &Prefix,
     alloc: Global,
@@ -174,7 +174,7 @@ pub(crate) fn put_beside<K: Packed, R: Drop>(
 }
 
 /// Makes the branch at the root a key, with the route, and answers that it is new.
-pub(crate) fn put_at_fork<K: Packed, R: Drop>(
+fn put_at_fork<K: Packed, R: Drop>(
     tree: &mut Tree<K, R>,
     prefix: K,
     alloc: Global,
@@ -205,7 +205,7 @@ pub(crate) fn put_at_fork<K: Packed, R: Drop>(
 
 /// Puts the route at the key, beside or below one that has no others below it, or there. Answers
 /// whether the key is new.
-pub(crate) fn put_at_leaf<K: Packed, R: Drop>(
+fn put_at_leaf<K: Packed, R: Drop>(
     tree: &mut Tree<K, R>,
     prefix: K,
     alloc: Global,
