@@ -1,5 +1,5 @@
--- How many bits two numbers share, and where prefixes whose bits are their highest then lie.
-use Rattle.std.proofs.Common.{◌≡◌, ℕ, zero, suc, ◌+◌, ◌-◌, ◌*◌, ◌^◌, ◌%◌, ◌<◌, ◌≤◌, ◌==◌, Bool, true, false, List, [], ◌∷◌, ◌++◌, length, take, replicate, refl, ap, sym, ◌∙◌, arith}
+-- How many bits two numbers share, and two lists of bits.
+use Rattle.std.proofs.Common.{◌≡◌, ℕ, zero, suc, ◌+◌, ◌-◌, ◌*◌, ◌^◌, ◌%◌, ◌<◌, ◌==◌, Bool, true, false, List, [], ◌∷◌, ◌++◌, length, take, replicate, refl, ap, sym, ◌∙◌, arith}
 use Rattle.std.specs.Prelude.{bit_xor, min}
 use Rattle.std.specs.Int.{bit_at}
 use Rattle.std.specs.Int.Count.{count_leading_zeros, leading_unique}
@@ -7,8 +7,7 @@ use Rattle.std.proofs.Math.Nat.{mod-eq_of_lt}
 use Rattle.std.proofs.lemmas.Nat.{leading_length, mod-pow-add, pow_pos, xor_lt}
 use Rattle.std.proofs.lemmas.Nat.Bits.{bit_at-lt, bit_at_xor}
 use Rattle.ip_prefix.specs.Bits.{bits_of}
-use Rattle.ip_prefix.specs.declared.turn.Turn.TheVariants.{Outside, Here, Left, Right}
-use Rattle.ip_prefix.specs.Turns.{turn_of, shared}
+use Rattle.ip_prefix.specs.Turns.{shared}
 
 -- ---- numbers
 
@@ -73,48 +72,3 @@ shared-front (true ∷ xs) (true ∷ ys) = ap (λ l. true ∷ l) (shared-front x
 shared-front (true ∷ xs) (false ∷ ys) = refl
 shared-front (false ∷ xs) (true ∷ ys) = refl
 shared-front (false ∷ xs) (false ∷ ys) = ap (λ l. false ∷ l) (shared-front xs ys)
-
--- ---- turns
-
--- bits lie outside those that are longer or aren't all shared
-pub turn_outside : (xs ys : List Bool) (m n : ℕ) → min (length (shared (xs ++ replicate m false) (ys ++ replicate n false))) (length ys) < length xs → turn_of xs ys ≡ Outside
-turn_outside [] ys m n h = absurd (omega arith)
-turn_outside (x ∷ xs) [] m n h = refl
-turn_outside (true ∷ xs) (true ∷ ys) m n h = turn_outside xs ys m n (omega arith)
-turn_outside (true ∷ xs) (false ∷ ys) m n h = refl
-turn_outside (false ∷ xs) (true ∷ ys) m n h = refl
-turn_outside (false ∷ xs) (false ∷ ys) m n h = turn_outside xs ys m n (omega arith)
-
--- bits of one length that are all shared are the same
-pub turn_here : (xs ys : List Bool) (m n : ℕ) → length xs ≤ length (shared (xs ++ replicate m false) (ys ++ replicate n false)) → length ys ≡ length xs → turn_of xs ys ≡ Here
-turn_here [] [] m n h e = refl
-turn_here [] (y ∷ ys) m n h e = absurd (omega arith)
-turn_here (x ∷ xs) [] m n h e = absurd (omega arith)
-turn_here (true ∷ xs) (true ∷ ys) m n h e = turn_here xs ys m n (omega arith) (omega arith)
-turn_here (true ∷ xs) (false ∷ ys) m n h e = absurd (omega arith)
-turn_here (false ∷ xs) (true ∷ ys) m n h e = absurd (omega arith)
-turn_here (false ∷ xs) (false ∷ ys) m n h e = turn_here xs ys m n (omega arith) (omega arith)
-
--- longer bits share no zero behind the others where they go on by a 1
-pub turn_right : (xs ys : List Bool) (m n : ℕ) → length xs + m ≡ length ys + n → length (shared (xs ++ replicate m false) (ys ++ replicate n false)) ≡ length xs → length xs < length ys → turn_of xs ys ≡ Right
-turn_right [] [] m n e s h = absurd (omega arith)
-turn_right [] (true ∷ ys) m n e s h = refl
-turn_right [] (false ∷ ys) zero n e s h = absurd (omega arith)
-turn_right [] (false ∷ ys) (suc m) n e s h = absurd (omega arith)
-turn_right (x ∷ xs) [] m n e s h = absurd (omega arith)
-turn_right (true ∷ xs) (true ∷ ys) m n e s h = turn_right xs ys m n (omega arith) (omega arith) (omega arith)
-turn_right (true ∷ xs) (false ∷ ys) m n e s h = absurd (omega arith)
-turn_right (false ∷ xs) (true ∷ ys) m n e s h = absurd (omega arith)
-turn_right (false ∷ xs) (false ∷ ys) m n e s h = turn_right xs ys m n (omega arith) (omega arith) (omega arith)
-
--- and share one where they go on by a 0
-pub turn_left : (xs ys : List Bool) (m n : ℕ) → length xs + m ≡ length ys + n → length xs < length (shared (xs ++ replicate m false) (ys ++ replicate n false)) → length xs < length ys → turn_of xs ys ≡ Left
-turn_left [] [] m n e s h = absurd (omega arith)
-turn_left [] (true ∷ ys) zero n e s h = absurd (omega arith)
-turn_left [] (true ∷ ys) (suc m) n e s h = absurd (omega arith)
-turn_left [] (false ∷ ys) m n e s h = refl
-turn_left (x ∷ xs) [] m n e s h = absurd (omega arith)
-turn_left (true ∷ xs) (true ∷ ys) m n e s h = turn_left xs ys m n (omega arith) (omega arith) (omega arith)
-turn_left (true ∷ xs) (false ∷ ys) m n e s h = absurd (omega arith)
-turn_left (false ∷ xs) (true ∷ ys) m n e s h = absurd (omega arith)
-turn_left (false ∷ xs) (false ∷ ys) m n e s h = turn_left xs ys m n (omega arith) (omega arith) (omega arith)

@@ -1,40 +1,14 @@
 -- Turns between prefixes, told by their families and bits.
 use Rattle.std.proofs.Common.{◌≡◌, ◌≢◌, ◌≤◌, ◌↔◌, Some, length, arith, Bool, true, false, List, [], ◌∷◌, ◌++◌, refl, ap, sym, ◌∙◌}
 use Rattle.std.specs.Prelude.{slice_get}
-use denote.Enum.Bare.{sameb}
 use Rattle.ip_prefix.specs.Network.{Network, begin_with}
 use Rattle.ip_prefix.specs.Covering.{covers}
 use Rattle.ip_prefix.specs.declared.addr.Family.{Family}
 use Rattle.ip_prefix.specs.declared.addr.Family.TheVariants.{V4, V6}
 use Rattle.ip_prefix.specs.declared.turn.Turn.TheVariants.{Outside, Here, Left, Right}
-use Rattle.ip_prefix.specs.contracts.addr.Family.{the_type}
 use Rattle.ip_prefix.specs.Turns.{way, turn_of, side, shared, half, common}
 use Rattle.ip_prefix.proofs.Beginning.{covers_same}
 use Rattle.ip_prefix.proofs.Containing.{covers_parts}
-
--- ---- families
-
--- of one family, only the bits count
-pub turn_same : (m n : Network) → m.family ≡ n.family → turn_of (way m) (way n) ≡ turn_of m.bits n.bits
-unfolding way
-turn_same m n e = families m.family n.family e
-  where
-    families : (f g : Family) → f ≡ g → turn_of (way record { family = f; bits = m.bits }) (way record { family = g; bits = n.bits }) ≡ turn_of m.bits n.bits
-    families V4 V4 e = refl
-    families V4 V6 e = cc
-    families V6 V4 e = cc
-    families V6 V6 e = refl
-
--- a prefix of another family lies outside
-pub turn_other : (m n : Network) → sameb the_type m.family n.family ≡ false → turn_of (way m) (way n) ≡ Outside
-unfolding way
-turn_other m n e = families m.family n.family e
-  where
-    families : (f g : Family) → sameb the_type f g ≡ false → turn_of (way record { family = f; bits = m.bits }) (way record { family = g; bits = n.bits }) ≡ Outside
-    families V4 V4 e = cc
-    families V4 V6 e = refl
-    families V6 V4 e = refl
-    families V6 V6 e = cc
 
 -- ---- what is covered
 

@@ -1,11 +1,12 @@
 //! Where prefixes lie, seen from one another.
 
-ghost use Rattle.std.specs.Prelude.{◌≡◌, ◌≢◌, ℕ, ◌+◌, ◌-◌, ◌≤◌, ◌++◌, Bool, false, List, length, replicate, take};
+ghost use Rattle.std.specs.Prelude.{◌≡◌, ◌≢◌, ℕ, ◌+◌, ◌≤◌, ◌++◌, Bool, true, false, List, length, replicate, take};
 ghost use Rattle.ip_prefix.specs.declared.addr.Family.{Family};
 ghost use Rattle.ip_prefix.specs.declared.addr.TheConstants.{V4_BITS};
 ghost use Rattle.ip_prefix.specs.declared.number.TheConstants.{NUMBER_BITS};
 ghost use Rattle.ip_prefix.specs.Bits.{bits_of, bits_of_octets};
 ghost use Rattle.ip_prefix.specs.Network.{Network, network_of};
+ghost use Rattle.ip_prefix.specs.Covering.{covers};
 ghost use Rattle.ip_prefix.specs.declared.turn.Turn.TheVariants.{Outside};
 ghost use Rattle.ip_prefix.specs.Turns.{way, turn_of, shared, common};
 
@@ -31,11 +32,10 @@ impl Prefix {
     pub fn turn(&self, other: &Prefix) -> Turn
         ensures { result ≡ turn_of (way self.now) (way other.now) }
     {
-        if self.family() != other.family() {
-            return Turn::Outside;
+        if self.covers(other) {
+            return other.turn_under(self.len());
         }
-        let count = shared_bits(self.number(), other.number());
-        turn_by(count, self.len(), other.len())
+        Turn::Outside
     }
 
     /// Where the prefix lies, seen from that of an IPv4 address's first bits, as many as are named.
@@ -45,12 +45,22 @@ impl Prefix {
         ensures { result ≡ turn_of (way (network_of
             (record { family = Family.V4; bits = bits_of_octets octets }) len)) (way self.now) }
     {
+        if self.begins_with_v4(octets, len) {
+            return self.turn_under(len);
+        }
+        Turn::Outside
+    }
+
+    // Whether it is of IPv4 and begins with the first bits of an address, as many as are named.
+    #[inline]
+    fn begins_with_v4(&self, octets: [u8; V4_OCTETS], len: u8) -> bool
+        requires { len ≤ V4_BITS }
+        ensures { result ≡ covers (network_of
+            (record { family = Family.V4; bits = bits_of_octets octets }) len) self.now }
+    {
         match self.family() {
-            Family::V4 => {
-                let count = shared_v4_bits(v4_front(octets, len), self.v4_number());
-                turn_by(count, len, self.len())
-            }
-            Family::V6 => Turn::Outside,
+            Family::V4 => self.len() >= len && have_v4_front(octets, self.v4_number(), len),
+            Family::V6 => false,
         }
     }
 
@@ -81,43 +91,17 @@ impl Prefix {
     }
 }
 
-// Where bits lie, seen from others, told by their lengths and how many they share once both are filled
-// with zeros up to one length.
+// Whether the first bits of an IPv4 address, as many as are named, are those of the number.
 #[inline]
-fn turn_by(count: u8, len: u8, other_len: u8) -> Turn
-    ensures { (bits others : List Bool) (more rest : ℕ)
-        → length bits ≡ len → length others ≡ other_len → len + more ≡ other_len + rest
-        → count ≡ length (shared (bits ++ replicate more false) (others ++ replicate rest false))
-        → result ≡ turn_of bits others }
-{
-    if count.min(other_len) < len {
-        Turn::Outside
-    } else if other_len == len {
-        Turn::Here
-    } else if count == len {
-        Turn::Right
-    } else {
-        Turn::Left
-    }
-}
-
-// The first bits of an IPv4 address, as many as are named, and zeros below them.
-#[inline]
-fn v4_front(octets: [u8; V4_OCTETS], len: u8) -> u32
+fn have_v4_front(octets: [u8; V4_OCTETS], number: u32, len: u8) -> bool
     requires { len ≤ V4_BITS }
-    ensures { bits_of V4_BITS result
-        ≡ take len (bits_of_octets octets) ++ replicate (V4_BITS - len) false }
+    ensures yes { result ≡ true →
+        take len (bits_of V4_BITS number) ≡ take len (bits_of_octets octets) }
+    ensures no { result ≡ false →
+        take len (bits_of V4_BITS number) ≢ take len (bits_of_octets octets) }
 {
     let below = V4_BITS - len;
-    (u64::from(u32::from_be_bytes(octets)) >> below << below) as u32
-}
-
-// How many bits two numbers of 32 bits share, counted from the highest.
-#[inline]
-fn shared_v4_bits(one: u32, other: u32) -> u8
-    ensures { result ≡ length (shared (bits_of V4_BITS one) (bits_of V4_BITS other)) }
-{
-    (one ^ other).leading_zeros() as u8
+    u64::from(number) >> below == u64::from(u32::from_be_bytes(octets)) >> below
 }
 
 // How many bits two numbers share, counted from the highest.

@@ -150,7 +150,7 @@ impl Places {
     }
 
     /// Whether there aren't too many places for the routes.
-    fn are_fitting(&self) -> bool
+    pub(crate) fn are_fitting(&self) -> bool
         ensures { IsTrue result →
             vec_len self.now.places ≤ MOST_TIMES * self.now.taken + FIRST_PLACES }
     {
@@ -172,16 +172,11 @@ impl Places {
         Places::none(alloc)
     }
 
-    /// These places, or fewer with the same routes where they are too many, or none where memory is
-    /// refused.
+    /// Fewer places with the same routes, as many as these get, or none where memory is refused.
     pub(crate) fn narrowed(self, alloc: Global) -> Places
-        requires { vec_len self.places ≤ MOST_PLACES }
         ensures most { vec_len result.places ≤ MOST_PLACES }
         ensures fitting { vec_len result.places ≤ MOST_TIMES * result.taken + FIRST_PLACES }
     {
-        if self.are_fitting() {
-            return self;
-        }
         let Ok(mut fewer) = Places::free(alloc, places_for(self.taken)) else {
             return Places::none(alloc);
         };

@@ -180,8 +180,10 @@ impl KnownRoutes {
     pub fn begin(&mut self) {
         self.let_go();
         self.noted = 0;
-        let routes = mem::replace(&mut self.routes, Places::none(self.alloc));
-        self.routes = routes.narrowed(self.alloc);
+        if !self.routes.are_fitting() {
+            let routes = mem::replace(&mut self.routes, Places::none(self.alloc));
+            self.routes = routes.narrowed(self.alloc);
+        }
         self.stood = self.routes.taken;
     }
 }

@@ -209,7 +209,9 @@ pub(crate) fn changes_of<S: PrefixStore<Rc<Route>>>(
     Ok(changes)
 }
 
-/// The peer, shared with the entry that was made last, or with the table.
+/// The peer, shared with the entry that was made last, or with the table. The number behind that of
+/// the last entry's peer is tried first, since peers get numbers in the order of the record that
+/// names them first, and others mostly name them in that order too.
 pub(crate) fn shared_peer<S: PrefixStore<Rc<Route>>>(
     alloc: Global,
     table: &Table<S>,
@@ -218,12 +220,15 @@ pub(crate) fn shared_peer<S: PrefixStore<Rc<Route>>>(
 ) -> Result<Rc<NumberedPeer>, AllocError>
     ensures { IfOk result (λ shared. shared.value ≡ peer.now) }
 {
+    let mut number = NO_NUMBER;
     if let Some(entry) = last {
-        if same_peer(entry.peer(), peer) {
-            return entry.shared_peer().clone();
+        let before = entry.shared_peer();
+        if same_peer(before.peer(), peer) {
+            return before.clone();
         }
+        number = before.number().wrapping_add(1);
     }
-    if let Some(shared) = table.shared_peer(peer) {
+    if let Some(shared) = table.shared_peer(number, peer) {
         return shared.clone();
     }
     Ok(Rc::new(alloc, NumberedPeer::new(*peer, NO_NUMBER))?)

@@ -92,10 +92,10 @@ fn are_different(entries: &[Entry]) -> bool
     true
 }
 
-/// Whether the first and the last of several are of one peer, as those of a message are.
+/// Whether the first and the last of these are of one peer, as those of a message are.
 fn are_of_message(entries: &[Entry]) -> bool {
     match (entries.first(), entries.last()) {
-        (Some(first), Some(last)) => entries.len() > 1 && same_peer(first.peer(), last.peer()),
+        (Some(first), Some(last)) => same_peer(first.peer(), last.peer()),
         _ => false,
     }
 }

@@ -116,11 +116,12 @@ impl<S> Stores<S> {
         self.sought_number(peer)
     }
 
-    /// The peer, if it has a store.
-    pub(crate) fn shared_peer(&self, peer: &Peer) -> Option<&Rc<NumberedPeer>>
+    /// The peer, if it has a store. This number is tried first.
+    #[inline]
+    pub(crate) fn shared_peer(&self, number: usize, peer: &Peer) -> Option<&Rc<NumberedPeer>>
         ensures { IfSome result (λ shared. shared.now.value ≡ peer.now) }
     {
-        self.names.get(self.sought_number(peer)?)
+        self.names.get(self.number_of(number, peer)?)
     }
 
     /// Whether all these entries are of peers that have stores, no two of one.

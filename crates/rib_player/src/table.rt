@@ -229,11 +229,12 @@ impl<S: PrefixStore<Rc<Route>>> Table<S> {
         first_routed(&self.stores, numbers)
     }
 
-    /// The peer, where it has a key, as entries share it.
-    pub(crate) fn shared_peer(&self, peer: &Peer) -> Option<&Rc<NumberedPeer>>
+    /// The peer, where it has a key, as entries share it. This number is tried first.
+    #[inline]
+    pub(crate) fn shared_peer(&self, number: usize, peer: &Peer) -> Option<&Rc<NumberedPeer>>
         ensures { IfSome result (λ shared. shared.now.value ≡ peer.now) }
     {
-        self.stores.shared_peer(peer)
+        self.stores.shared_peer(number, peer)
     }
 
     /// The store of the peer, where it has a key. This number is tried first.
