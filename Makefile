@@ -15,7 +15,8 @@ all: bin/bgpdump
 
 # rt leaves the program where it ran it, here on an empty input.
 bin/bgpdump: $(SOURCES)
-	@echo "rt proves what it builds: some twenty minutes the first time, on four cores."
+	@echo "rt proves what it builds: some fifteen minutes the first time, on four cores."
+	packaging/libraries.py bgpdump
 	cd crates/bgpdump && rt run -- -m /dev/null
 	mkdir -p bin
 	cp crates/bgpdump/out/bgpdump $@
@@ -61,11 +62,13 @@ bench: bin/bgpdump bin/store_bench
 	bench/measure.py bin/bgpdump bin/store_bench $(FILE)
 
 bin/store_bench: $(SOURCES)
+	packaging/libraries.py store_bench
 	cd crates/store_bench && rt run
 	mkdir -p bin
 	cp crates/store_bench/out/store_bench $@
 
 bin/rows: $(SOURCES)
+	packaging/libraries.py rows
 	cd crates/rows && rt run -- data/changes.rows
 	mkdir -p bin
 	cp crates/rows/out/rows $@

@@ -6,7 +6,7 @@ use Rattle.rib_player.proofs.stores.Stores.shared_peer.Goals as goal
 pub returns : goal.returns
 returns g c =
     let s = c.args.self.now in
-    let number = c.in_ok-sought_number.field-0 in
-    let named = s.numbered.there c.args.peer.now number (sym c.sought_number.ensures ∙ c.in_ok-sought_number.was) in
+    let number = c.in_ok-number_of.field-0 in
+    let named = s.numbered.there c.args.peer.now number (sym c.number_of.ensures ∙ c.in_ok-number_of.was) in
     name-at c.deref.result.now number c.args.peer.now c.get.result c.get.ensures.lookup
     (subst (λ names. slice_get (peers_in names) number ≡ Some c.args.peer.now) (sym c.deref.ensures.value) named)
