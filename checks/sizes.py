@@ -13,9 +13,9 @@ from pathlib import Path
 
 TOP = Path(__file__).resolve().parent.parent
 NOTED = {
-    'functions whose name begins with no verb of docs/architecture.md': 577,
+    'functions whose name begins with no verb of docs/architecture.md': 576,
     'functions of more than five parameters': 9,
-    'clauses of more than 160 characters': 43,
+    'clauses of more than 160 characters': 42,
     'files of more than 320 lines': 0,
 }
 # Programs and libraries that only check or measure.
