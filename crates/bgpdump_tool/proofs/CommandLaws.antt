@@ -2,7 +2,6 @@
 use Rattle.std.proofs.Common.{◌≡◌, ℕ, ◌+◌, ◌*◌, ◌≤◌, ◌<◌, inl, inr, Option, List, [], ◌∷◌, length, refl, sym, ap, subst, ◌∙◌, arith, rules}
 use Rattle.std.proofs.lemmas.Fmt.{decimal_injective}
 use Rattle.std.specs.Prelude.{codes}
-use Rattle.ip_prefix.specs.Network.{Network}
 use Rattle.ip_prefix.specs.Spelling.{SpellsAddress, SpellsPrefix}
 use Rattle.ip_prefix.proofs.Spelled.{one_address, one_prefix}
 use Rattle.mrt_events.specs.declared.peer.Peer.{Peer}

@@ -1,12 +1,12 @@
 -- The lines of a list's items, written one after the other.
-use Rattle.std.proofs.Common.{◌≡◌, ℕ, ◌+◌, ◌<◌, ◌≤◌, true, List, [], ◌∷◌, ◌++◌, ◌-◌, length, take, drop, get_or, Bor, Option, Some, None, Result, Ok, Err, is_some, slice_get, refl, sym, ap, subst, ◌∙◌}
+use Rattle.std.proofs.Common.{◌≡◌, ℕ, true, List, [], ◌∷◌, ◌++◌, ◌-◌, length, Bor, Option, Some, None, Result, Ok, Err, is_some, slice_get, refl, sym, ap, subst, ◌∙◌}
 use Rattle.std.specs.List.{flat_map}
 use Rattle.std.specs.Option.{option_map, option_copied}
 use Rattle.std.proofs.lemmas.List.{length-map}
 use Rattle.prefix_store.proofs.AboveLaws.{seen_last, seen_none}
 use Rattle.std.specs.Io.KnownBytes.{Appends}
 use Rattle.std.proofs.KnownBytes.{Appends-nil, Appends-trans}
-use Rattle.std.proofs.lemmas.List.{append_assoc, append-nil, flat_map_more, take_all, take-append-drop}
+use Rattle.std.proofs.lemmas.List.{append_assoc, append-nil, flat_map_more}
 use Rattle.std.specs.declared.alloc.Global.{Global}
 use Rattle.std.specs.declared.rc.Rc.{Rc}
 use Rattle.ip_prefix.specs.Network.{Network}
@@ -22,7 +22,7 @@ use Rattle.bgpdump_lines.specs.Device.{AppendsFront}
 use Rattle.bgpdump_lines.specs.Lines.{rib_line}
 use Rattle.bgpdump_tool.specs.Replies.{peer_line, peer_lines}
 use Rattle.bgpdump_lines.specs.Writing.{Puts, PutsPart}
-use Rattle.bgpdump_lines.proofs.WritingLaws.{AppendsFront-none, AppendsFront-behind, AppendsFront-longer, lines_next}
+use Rattle.bgpdump_lines.proofs.WritingLaws.{AppendsFront-none, AppendsFront-behind, AppendsFront-longer}
 
 -- of all items the lines of those done were written; the others are ahead
 pub record Walked {A : Type 0} (line : A → List ℕ) (all ahead : List A) (old new : Option (List ℕ)) : Type 0 where

@@ -88,8 +88,15 @@ pub fn run_play<S: PrefixStore<Rc<Route>>, I: Input, O: Output, E: Output>(
     }
     let mut session: Session<S> = Session::new(alloc, stamp);
     match play_lines(&mut session, input, script, out, err) {
-        Ok(()) => finish_outputs(out, err, session.reported),
-        Err(outcome) => outcome,
+        Ok(()) => {
+            let outcome = finish_outputs(out, err, session.reported);
+            session.end();
+            outcome
+        }
+        Err(outcome) => {
+            session.end();
+            outcome
+        }
     }
 }
 

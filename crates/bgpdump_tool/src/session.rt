@@ -17,6 +17,7 @@ use mrt_wire::{Input, Next, Route, Source, Stamp};
 use prefix_store::PrefixStore;
 use rib_player::Player;
 use std::alloc::Global;
+use std::mem;
 use std::rc::Rc;
 
 /// A player, and the source of what it plays next.
@@ -47,6 +48,13 @@ impl<S: PrefixStore<Rc<Route>>> Session<S> {
             source: Source::new(alloc, stamp, LIMIT),
             reported: false,
             text: Text::new(alloc),
+        }
+    }
+
+    /// Ends with the run. Where its stores leave their memory to the system, so does all of it.
+    pub(crate) fn end(self) {
+        if S::is_left() {
+            mem::forget(self);
         }
     }
 

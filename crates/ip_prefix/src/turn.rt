@@ -45,7 +45,7 @@ impl Prefix {
         ensures { result ≡ turn_of (way (network_of
             (record { family = Family.V4; bits = bits_of_octets octets }) len)) (way self.now) }
     {
-        if self.begins_with_v4(octets, len) {
+        if self.is_covered_by_v4(octets, len) {
             return self.turn_under(len);
         }
         Turn::Outside
@@ -53,13 +53,13 @@ impl Prefix {
 
     // Whether it is of IPv4 and begins with the first bits of an address, as many as are named.
     #[inline]
-    fn begins_with_v4(&self, octets: [u8; V4_OCTETS], len: u8) -> bool
+    fn is_covered_by_v4(&self, octets: [u8; V4_OCTETS], len: u8) -> bool
         requires { len ≤ V4_BITS }
         ensures { result ≡ covers (network_of
             (record { family = Family.V4; bits = bits_of_octets octets }) len) self.now }
     {
         match self.family() {
-            Family::V4 => self.len() >= len && have_v4_front(octets, self.v4_number(), len),
+            Family::V4 => self.len() >= len && are_first_bits(octets, self.v4_number(), len),
             Family::V6 => false,
         }
     }
@@ -93,7 +93,7 @@ impl Prefix {
 
 // Whether the first bits of an IPv4 address, as many as are named, are those of the number.
 #[inline]
-fn have_v4_front(octets: [u8; V4_OCTETS], number: u32, len: u8) -> bool
+fn are_first_bits(octets: [u8; V4_OCTETS], number: u32, len: u8) -> bool
     requires { len ≤ V4_BITS }
     ensures yes { result ≡ true →
         take len (bits_of V4_BITS number) ≡ take len (bits_of_octets octets) }

@@ -119,6 +119,12 @@ pub trait PrefixStore<R>: Sized + Drop {
         0
     }
 
+    /// Whether it leaves its memory to the system when it is dropped. A run over such stores ends with
+    /// its program, and leaves all that it holds.
+    fn is_left() -> bool {
+        false
+    }
+
     /// How many keys there are; `u64::MAX` where more.
     fn key_count(&self) -> u64
         ensures count { result ≡ counted (set.len (keys self.now)) }

@@ -37,7 +37,7 @@ absent-cleared peer [] = tt
 absent-cleared peer (n ∷ prefixes) = (refl, absent-cleared peer prefixes)
 
 -- pairs of one peer are ordered by their prefixes
-of_one_peer : (peer : Peer) (a b : Network) → pair_cmp (pair_of peer a) (pair_of peer b) ≡ network_cmp a b
+pub of_one_peer : (peer : Peer) (a b : Network) → pair_cmp (pair_of peer a) (pair_of peer b) ≡ network_cmp a b
 of_one_peer peer a b = ap (λ o. ordering_then o (network_cmp a b)) ((Equal-is (peer_cmp peer peer)).0 ((eq_by_cmp_equiv peer_cmp_total).refl peer))
 
 below-cleared : (peer : Peer) (n : Network) (prefixes : List Network) → AllByRecursion (λ m. network_cmp n m ≡ Less) prefixes

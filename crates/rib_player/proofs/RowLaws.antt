@@ -1,11 +1,12 @@
 -- Rows of pairs whose peers differ, and lists of peers that are pointed to.
-use Rattle.std.proofs.Common.{◌≡◌, ℕ, ◌+◌, ◌<◌, Bool, true, false, List, [], ◌∷◌, ◌++◌, take, length, get_or, Option, Some, None, IfSome, slice_get, refl, sym, ap, ◌∙◌}
+use Rattle.std.proofs.Common.{◌≡◌, ◌⊎◌, inl, inr, ℕ, ◌+◌, ◌<◌, Bool, true, false, List, [], ◌∷◌, ◌++◌, take, length, get_or, Option, Some, None, IfSome, slice_get, refl, sym, ap, ◌∙◌}
 use Rattle.std.specs.Borrow.{Bor}
 use Rattle.std.specs.List.{AllByRecursion, IsDistinct}
 use Rattle.std.specs.Map.{lookup, keys_of}
 use Rattle.std.specs.Option.{option_map, option_copied, unwrap_or}
 use Rattle.std.specs.Slice.{IsItemAt}
-use Rattle.std.specs.Ordering.{eq_by_cmp}
+use Rattle.std.specs.Ordering.{eq_by_cmp, ordering_reverse}
+use Rattle.std.specs.declared.cmp.Ordering.TheVariants.{Less, Greater}
 use Rattle.std.specs.declared.alloc.Global.{Global}
 use Rattle.std.specs.declared.rc.Rc.{Rc}
 use Rattle.std.proofs.lemmas.List.{map-append, take_more}
@@ -18,7 +19,7 @@ use Rattle.rib_player.specs.History.{pair_cmp}
 use Rattle.rib_player.specs.Journal.{side_of, sides_of}
 use Rattle.rib_player.specs.Numbered.{peers_in}
 use Rattle.rib_player.specs.Marked.{is_marked}
-use Rattle.rib_player.proofs.PairLaws.{same_pair}
+use Rattle.rib_player.proofs.PairLaws.{same_pair, pair_cmp_total}
 use Rattle.rib_player.proofs.StoreLaws.{same_peer}
 use Rattle.rib_player.proofs.ListLaws.{copied-at}
 
@@ -52,6 +53,45 @@ not-tied a b differ = at (eq_by_cmp pair_cmp a b) refl
     at : (t : Bool) → eq_by_cmp pair_cmp a b ≡ t → eq_by_cmp pair_cmp a b ≡ false
     at true is = absurd (differ (same_pair a b is))
     at false is = is
+
+-- none of the pairs is below this one
+abbrev pub AreNotBelow : {R : Type 0} → Pair → List (Pair × R) → Type 0
+AreNotBelow last es = AllByRecursion (λ e. (e.0 ≡ last) ⊎ (pair_cmp last e.0 ≡ Less)) es
+
+-- one pair alone
+pub falling-one : {R : Type 0} (s : Pair × R) → IsDistinct (eq_by_cmp pair_cmp) (keys_of (s ∷ [])) × AreNotBelow s.0 (s ∷ [])
+unfolding IsDistinct
+falling-one s = ((tt, tt), (inl refl, tt))
+
+-- no pair is below itself
+less-itself : (p : Pair) → pair_cmp p p ≡ Less → ⊥
+less-itself p less = let both : Less ≡ Greater = sym less ∙ pair_cmp_total.antisymm p p ∙ ap ordering_reverse less in cc
+
+module _ {R : Type 0} (last : Pair) (s : Pair × R) (below : pair_cmp s.0 last ≡ Less) where
+  -- a pair below one is below those that aren't below that one
+  below-all : (es : List (Pair × R)) → AreNotBelow last es → AllByRecursion (λ e. pair_cmp s.0 e.0 ≡ Less) es
+  below-all [] up = tt
+  below-all (e ∷ es) up = (at up.0, below-all es up.1)
+    where
+      at : (e.0 ≡ last) ⊎ (pair_cmp last e.0 ≡ Less) → pair_cmp s.0 e.0 ≡ Less
+      at (inl same) = ap (pair_cmp s.0) same ∙ below
+      at (inr over) = pair_cmp_total.trans s.0 last e.0 below over
+
+  -- and so none of them ties with it
+  apart-below : (es : List (Pair × R)) → AllByRecursion (λ e. pair_cmp s.0 e.0 ≡ Less) es → AllByRecursion (λ e. eq_by_cmp pair_cmp e.0 s.0 ≡ false) es
+  apart-below [] up = tt
+  apart-below (e ∷ es) up = (not-tied e.0 s.0 (λ same. less-itself s.0 (ap (pair_cmp s.0) (sym same) ∙ up.0)), apart-below es up.1)
+
+  -- a pair more, below the last one
+  pub falling-more : (es : List (Pair × R)) → IsDistinct (eq_by_cmp pair_cmp) (keys_of es) × AreNotBelow last es
+      → IsDistinct (eq_by_cmp pair_cmp) (keys_of (es ++ s ∷ [])) × AreNotBelow s.0 (es ++ s ∷ [])
+  falling-more es so_far =
+      let up = below-all es so_far.1 in
+      (distinct-apart s es (apart-below es up) so_far.0, last-more es up)
+    where
+      last-more : (es : List (Pair × R)) → AllByRecursion (λ e. pair_cmp s.0 e.0 ≡ Less) es → AreNotBelow s.0 (es ++ s ∷ [])
+      last-more [] up = (inl refl, tt)
+      last-more (e ∷ es) up = (inr up.0, last-more es up.1)
 
 module _ {R : Type 0} (order : List (Peer × ℕ)) where
   -- the pair's peer has a number, which was seen

@@ -3,6 +3,7 @@
 ghost use Rattle.std.specs.Prelude.{◌≡◌, ◌↔◌, IsTrue, ◌||◌, ◌&&◌, IfOk, false, is_some};
 ghost use Rattle.std.specs.List.{AllByRecursion, filter};
 ghost use Rattle.std.specs.Ordering.{eq_by_cmp};
+ghost use Rattle.std.specs.declared.cmp.Ordering.TheVariants.{Less};
 ghost use Rattle.std.specs.FinMap as finite;
 ghost use Rattle.rib_player.specs.declared.pair.Pair.{Pair};
 ghost use Rattle.rib_player.specs.History.{pair_cmp};
@@ -92,6 +93,32 @@ fn are_different(entries: &[Entry]) -> bool
     true
 }
 
+/// Whether the entry is of the other's peer, and of a prefix below the other's.
+#[inline]
+fn is_below(entry: &Entry, other: &Entry) -> bool
+    ensures { IsTrue result → pair_cmp entry.now.pair other.now.pair ≡ Less }
+{
+    same_peer(entry.peer(), other.peer()) && entry.prefix() < other.prefix()
+}
+
+/// Whether each of these is known to be below the one before it, as those of a message are whose
+/// prefixes stand in order, since the last is noted first.
+fn are_falling(entries: &[Entry]) -> bool
+    ensures { IsTrue result → AreDistinct (sides_of entries.now) }
+{
+    let Some((first, rest)) = entries.split_first() else {
+        return true;
+    };
+    let mut last = first;
+    'entries: for entry in rest {
+        if !is_below(entry, last) {
+            return false;
+        }
+        last = entry;
+    }
+    true
+}
+
 /// Whether the first and the last of these are of one peer, as those of a message are.
 fn are_of_message(entries: &[Entry]) -> bool {
     match (entries.first(), entries.last()) {
@@ -111,10 +138,12 @@ fn each_once<S: PrefixStore<Rc<Route>>>(
     ensures found { IfOk result (λ once. (q : Pair) →
         found (sides_of once.items) q ≡ found (sides_of entries.items) q) }
 {
-    if !are_of_message(&entries) && table.are_of_different_peers(&entries, marks) {
-        return Ok(entries);
-    }
-    if entries.len() <= FEW && are_different(&entries) {
+    let is_known = if are_of_message(&entries) {
+        are_falling(&entries)
+    } else {
+        table.are_of_different_peers(&entries, marks)
+    };
+    if is_known || (entries.len() <= FEW && are_different(&entries)) {
         return Ok(entries);
     }
     in_order(entries)

@@ -77,6 +77,10 @@ impl<R, S: PrefixStore<R>> PrefixStore<R> for LeftStore<S> {
         S::reach(&inner)
     }
 
+    fn is_left() -> bool {
+        true
+    }
+
     fn key_count(&self) -> u64 {
         self.store.key_count()
     }

@@ -10,7 +10,7 @@ use Rattle.ip_prefix.specs.Bits.{bits_of, bits_of_octets, number_of}
 use Rattle.ip_prefix.specs.BitLemmas.{number_of-bits_of}
 use Rattle.ip_prefix.proofs.BitLists.{take-bits_of}
 use Rattle.ip_prefix.proofs.Highest.{bits_of_be}
-use Rattle.ip_prefix.proofs.turn.have_v4_front.Goals as goal
+use Rattle.ip_prefix.proofs.turn.are_first_bits.Goals as goal
 
 -- the first bits of a number of 32 bits are those of its front
 front_bits : (len n : ℕ) → len ≤ 32 → take len (bits_of 32 n) ≡ bits_of len (n / 2 ^ (32 - len))

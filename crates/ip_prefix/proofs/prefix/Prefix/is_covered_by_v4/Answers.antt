@@ -7,7 +7,7 @@ use Rattle.ip_prefix.specs.Network.{Network, begin_with}
 use Rattle.ip_prefix.specs.declared.addr.Family.TheVariants.{V4}
 use Rattle.ip_prefix.proofs.Octets.{length-bits_of_octets}
 use Rattle.ip_prefix.proofs.Beginning.{covers_same, begin_from, front_of, begin_longer}
-use Rattle.ip_prefix.proofs.prefix.Prefix.begins_with_v4.Goals as goal
+use Rattle.ip_prefix.proofs.prefix.Prefix.is_covered_by_v4.Goals as goal
 
 -- a test that tells both ways is what it tests
 told : (result fact : Bool) → (result ≡ true → fact ≡ true) → (result ≡ false → fact ≡ true → ⊥) → result ≡ fact
@@ -26,9 +26,9 @@ returns-then-len c =
     let family : V4 ≡ n.family = sym (sym c.family.ensures ∙ c.in-V4.is) in
     let front : take len (bits_of 32 c.v4_number.result) ≡ take (length m.bits) n.bits =
     ap (take len) c.v4_number.ensures ∙ take-append-le len n.bits _ (omega (arith, c.if-len.true, c.len.ensures.value)) ∙ ap (λ k. take k n.bits) (sym size) in
-    told c.have_v4_front.result (begin_with m.bits n.bits)
-    (λ is. begin_from m.bits n.bits (sym front ∙ c.have_v4_front.ensures.yes is))
-    (λ isnt begins. c.have_v4_front.ensures.no isnt (front ∙ front_of m.bits n.bits begins))
+    told c.are_first_bits.result (begin_with m.bits n.bits)
+    (λ is. begin_from m.bits n.bits (sym front ∙ c.are_first_bits.ensures.yes is))
+    (λ isnt begins. c.are_first_bits.ensures.no isnt (front ∙ front_of m.bits n.bits begins))
     ∙ sym (covers_same m n family)
 
 pub returns-else-len : goal.returns-else-len
