@@ -1,14 +1,17 @@
 #!/usr/bin/env python3
 """Tries edits, each of which the prover must refuse: those of inner functions, which the gate leaves out.
 
-    checks/inner_edits.py [CRATE | CRATE/EDIT ...]
+    checks/inner_edits.py [CRATE ...]
+    checks/inner_edits.py CRATE/EDIT ...
 
-An edit of crates/CRATE/inner-edits/ is tried as one of must-fail/ is, by `rt ci` of its crate in a copy
-of the checkout where it stands in the place of those. So what passed on this machine isn't tried again.
-Tried are all of the crates that are named, or of all that have such edits; an edit that is named itself,
-by its file's name without `.edit`, may also be one of must-fail/. Each edit that is let through is told,
-and then the status is 1.
+Those of whole crates, of all that have such edits where none is named, are tried by `rt must-fail` in a
+copy of the checkout where they stand in the place of those of must-fail/. An edit that is named itself,
+by its file's name without `.edit`, may also be one of must-fail/: it is made in a copy of its crate, which
+`rt check` then looks at, over what the checks before have kept, and what it says is printed; so the
+libraries below should be there (packaging/libraries.py CRATE), and the crate have been checked. Each edit
+that is let through is told, and then the status is 1.
 """
+import re
 import shutil
 import subprocess
 import sys
@@ -16,46 +19,72 @@ import tempfile
 from pathlib import Path
 
 TOP = Path(__file__).resolve().parent.parent
+sys.path.insert(0, str(TOP / 'packaging'))
+from libraries import all_below, copy_for, crates_below  # noqa: E402
+
+PAIR = re.compile(r'^old: (.*)\nnew: (.*)$', re.M)
 
 
-def inner_edits_of(crate):
-    """The inner edits of a crate that has some."""
-    known = sorted(folder.parent.name for folder in TOP.glob('crates/*/inner-edits'))
-    if crate not in known:
-        sys.exit(f'inner edits: {crate} has none; there are some of {", ".join(known)}')
-    return sorted((TOP / 'crates' / crate / 'inner-edits').iterdir())
+def crates_with_edits():
+    return sorted(folder.parent.name for folder in TOP.glob('crates/*/inner-edits'))
 
 
-def edits_named(words):
-    """The edits that are asked for, by their crates."""
-    edits = {}
-    for word in words or sorted(folder.parent.name for folder in TOP.glob('crates/*/inner-edits')):
-        crate, _, name = word.partition('/')
-        found = list((TOP / 'crates' / crate).glob(f'*/{name}.edit')) if name else inner_edits_of(crate)
-        if not found:
-            sys.exit(f'inner edits: there is no edit {word}')
-        edits.setdefault(crate, []).extend(found)
-    return edits
-
-
-def exchange(copy, edits):
-    """Leaves these edits alone, in the place of all others."""
+def exchange(copy, crates):
+    """Leaves the inner edits of these crates alone, in the place of all others."""
     for folder in copy.glob('crates/*/must-fail'):
         shutil.rmtree(folder)
-    for crate, files in edits.items():
-        folder = copy / 'crates' / crate / 'must-fail'
-        folder.mkdir()
-        for file in files:
-            shutil.copy(file, folder)
+    for crate in crates:
+        shutil.copytree(TOP / 'crates' / crate / 'inner-edits', copy / 'crates' / crate / 'must-fail')
 
 
-def main():
-    edits = edits_named(sys.argv[1:])
+def try_crates(crates):
+    """Tries all inner edits of these crates; whether each is refused."""
+    for crate in crates:
+        if crate not in crates_with_edits():
+            sys.exit(f'inner edits: {crate} has none; there are some of {", ".join(crates_with_edits())}')
     with tempfile.TemporaryDirectory() as room:
         copy = Path(room, 'copy')
         shutil.copytree(TOP, copy, ignore=shutil.ignore_patterns('.git', 'bin', 'out'), symlinks=True)
-        exchange(copy, edits)
-        sys.exit(subprocess.run(['rt', 'ci', *edits], cwd=copy, check=False).returncode)
+        exchange(copy, crates)
+        return subprocess.run(['rt', 'must-fail', *crates], cwd=copy, check=False).returncode == 0
+
+
+def make_edit(folder, edit):
+    """Makes the edit in a copy of its crate."""
+    head, _, pairs = edit.read_text().partition('\n')
+    file = folder / head.removeprefix('file: ').strip()
+    text = file.read_text()
+    for old, new in PAIR.findall(pairs):
+        if text.count(old) != 1:
+            sys.exit(f'inner edits: {edit.stem} does not apply')
+        text = text.replace(old, new)
+    file.write_text(text)
+
+
+def try_edit(word):
+    """Tries one edit; whether it is refused."""
+    crate, _, name = word.partition('/')
+    found = list((TOP / 'crates' / crate).glob(f'*/{name}.edit'))
+    if not found:
+        sys.exit(f'inner edits: there is no edit {word}')
+    with tempfile.TemporaryDirectory() as room:
+        copy_for(Path(room), crate, all_below(crates_below(), crate))
+        folder = Path(room, 'crates', crate)
+        make_edit(folder, found[0])
+        told = subprocess.run(['rt', 'check'], cwd=folder, text=True, stdout=subprocess.PIPE,
+                              stderr=subprocess.STDOUT, check=False)
+    print(*(line for line in told.stdout.splitlines() if re.match(r'note: src|\S+: error|error', line)), sep='\n')
+    print(f'{word}: {"refused" if told.returncode == 1 else "LET THROUGH, or not tried"}')
+    return told.returncode == 1
+
+
+def main():
+    words = sys.argv[1:] or crates_with_edits()
+    edits, crates = [it for it in words if '/' in it], [it for it in words if '/' not in it]
+    refused = [try_edit(it) for it in edits]
+    if crates:
+        refused.append(try_crates(crates))
+    sys.exit(not all(refused))
 
 
 main()

@@ -45,14 +45,21 @@ def linked(source, target):
         shutil.copy2(source, target)
 
 
+def lines_of(crates):
+    """Their lines of crates.txt."""
+    lines = (TOP / 'crates.txt').read_text().splitlines(keepends=True)
+    return ''.join(line for line in lines if line.partition(':')[0].strip() in crates)
+
+
 def copy_for(folder, name, others):
     """What rt needs to make the library: its files, and the sources and libraries of the others."""
-    shutil.copy2(TOP / 'crates.txt', folder)
+    (folder / 'crates.txt').write_text(lines_of({name} | others))
     shutil.copytree(TOP / 'crates' / name, folder / 'crates' / name)
     for other in others:
         source, target = TOP / 'crates' / other, folder / 'crates' / other
         shutil.copytree(source, target, ignore=shutil.ignore_patterns('out'))
-        shutil.copytree(source / 'out/rlib', target / 'out/rlib', copy_function=linked)
+        if (source / 'out/rlib').is_dir():
+            shutil.copytree(source / 'out/rlib', target / 'out/rlib', copy_function=linked)
 
 
 def make(name, others):
