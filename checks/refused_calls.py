@@ -71,7 +71,7 @@ KNOWN = {
     'a route behind 5,000 steps, of which one is kept': (2, 1),
     '600 routes over as many of 1,100 that differ': (1, 1),
     'a loss in place of two steps': (4, 0),
-    'one route more than a thousand': (2, 1),
+    'one route more than a thousand': (2, 0),
     'the loss of a thousand routes': (4, 0),
     'a thousand routes of a new peer': (1002, 0),
     'all steps': (0, 0),
