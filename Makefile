@@ -15,7 +15,7 @@ all: bin/bgpdump
 
 # rt leaves the program where it ran it, here on an empty input.
 bin/bgpdump: $(SOURCES)
-	@echo "rt proves what it builds: some fifteen minutes the first time, on four cores."
+	@echo "rt proves what it builds: some twenty minutes the first time, on four cores."
 	packaging/libraries.py bgpdump
 	cd crates/bgpdump && rt run -- -m /dev/null
 	mkdir -p bin
