@@ -62,6 +62,10 @@ impl<S: PrefixStore<Rc<Route>>, const MOST: u64> PrefixStore<Rc<Route>> for Scar
         self.inner.after(prefix)
     }
 
+    fn is_left() -> bool {
+        false
+    }
+
     fn key_count(&self) -> u64 {
         self.inner.key_count()
     }
