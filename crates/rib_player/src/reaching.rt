@@ -14,7 +14,7 @@ use prefix_store::{PLACES_AT_ONCE, Places, PrefixStore};
 use std::rc::Rc;
 
 /// How many entries are reached at once.
-pub(crate) const ENTRIES_AT_ONCE: usize = PLACES_AT_ONCE as usize;
+const ENTRIES_AT_ONCE: usize = PLACES_AT_ONCE as usize;
 
 /// How many keys a store has at least whose nodes are reached.
 const LEAST_KEYS: u64 = 4096;
@@ -74,7 +74,8 @@ fn only_store<'a, S: PrefixStore<Rc<Route>>>(
 }
 
 /// Reaches the next entries of a step from the index on, where that is a multiple of as many as are
-/// reached at once. Answers how much was passed.
+/// reached at once, and the step has as many. Answers how much was passed.
+#[inline]
 pub(crate) fn reach_entries<S: PrefixStore<Rc<Route>>>(
     table: &Table<S>,
     entries: &[Entry],
@@ -82,7 +83,7 @@ pub(crate) fn reach_entries<S: PrefixStore<Rc<Route>>>(
 ) -> u64
     requires { index ≤ length entries.now }
 {
-    if index % ENTRIES_AT_ONCE != 0 {
+    if entries.len() < ENTRIES_AT_ONCE || index % ENTRIES_AT_ONCE != 0 {
         return 0;
     }
     let Some(store) = only_store(table, entries) else {

@@ -90,6 +90,17 @@ is_routed (tree.Rooted' routed key p slot left right) = routed
 abbrev pub any_routed : {K R : Type 0} → Slot R → Tree K R → Tree K R → Bool
 any_routed slot left right = is_filled slot || (is_routed left || is_routed right)
 
+-- what holds of one of these elsewhere than where a turn leads
+abbrev pub beside_of : Turn → Bool → Bool → Bool → Bool
+beside_of Outside slot left right = left || right
+beside_of Here slot left right = left || right
+beside_of Left slot left right = slot || right
+beside_of Right slot left right = slot || left
+
+-- whether there is a route elsewhere than where a turn leads
+abbrev pub routed_beside : {K R : Type 0} → Turn → Slot R → Tree K R → Tree K R → Bool
+routed_beside turn slot left right = beside_of turn (is_filled slot) (is_routed left) (is_routed right)
+
 -- each mark is right
 abbrev pub IsMarked : {K R : Type 0} → Tree K R → Type 0
 IsMarked tree.Empty = Unit {0}

@@ -1,12 +1,12 @@
 //! A path-compressed radix tree of the prefixes of one family.
 
-ghost use Rattle.std.specs.Prelude.{◌≡◌, true, Some, None, is_some, MatchOption, [], ◌∷◌, vec_capacity};
+ghost use Rattle.std.specs.Prelude.{◌≡◌, true, false, Some, None, is_some, MatchOption, [], ◌∷◌, vec_capacity};
 ghost use Rattle.std.specs.Option.{option_copied, option_map, option_to_list};
 ghost use Rattle.prefix_store.specs.Lookups.{pointed};
 ghost use Rattle.rib_store.specs.declared.tree.Slot.TheVariants.{Branch};
 ghost use Rattle.rib_store.specs.Tree.{slot_of};
 ghost use Rattle.rib_store.specs.Walks.{routed_at, filled};
-ghost use Rattle.rib_store.specs.Shape.{is_routed, is_filled, any_routed};
+ghost use Rattle.rib_store.specs.Shape.{is_routed, is_filled, any_routed, routed_beside};
 
 mod counts;
 mod descents;
@@ -17,7 +17,7 @@ mod puts;
 mod routes;
 
 pub(crate) use descents::{Descent, Descents};
-use ip_prefix::Prefix;
+use ip_prefix::{Prefix, Turn};
 use prefix_store::V4Prefix;
 use std::mem::size_of;
 use std::rc::Rc;
@@ -110,12 +110,33 @@ impl<K, R> Fork<K, R> {
         self.left.is_routed() || self.right.is_routed()
     }
 
-    /// The same, where a route was brought there, or where it has to be seen.
-    fn is_routed_with(&self, brought: bool) -> bool
-        requires { brought ≡ true → any_routed Branch self.now.left self.now.right ≡ true }
-        ensures { result ≡ any_routed Branch self.now.left self.now.right }
+    /// Whether some key below it has a route that doesn't lie where this turn leads.
+    fn is_routed_beside(&self, turn: Turn) -> bool
+        ensures { result ≡ routed_beside turn Branch self.now.left self.now.right }
     {
-        brought || self.is_routed()
+        match turn {
+            Turn::Left => self.right.is_routed(),
+            Turn::Right => self.left.is_routed(),
+            _ => self.is_routed(),
+        }
+    }
+
+    /// Whether it is known to be routed before and after a route is put where this turn leads, or,
+    /// where none is brought, taken from there.
+    #[inline]
+    #[tactic(auto, using(crate::proofs::MarkLaws::none_beside))]
+    fn is_routed_anyway(&self, routed: bool, brought: bool, turn: Turn) -> bool
+        requires { routed ≡ any_routed Branch self.now.left self.now.right }
+        ensures routed { result ≡ true → routed ≡ true }
+        ensures beside { result ≡ true → brought ≡ false →
+            routed_beside turn Branch self.now.left self.now.right ≡ true }
+        ensures alone { result ≡ false →
+            routed_beside turn Branch self.now.left self.now.right ≡ false }
+    {
+        if brought {
+            return routed;
+        }
+        self.is_routed_beside(turn)
     }
 }
 
@@ -127,15 +148,34 @@ impl<K, R> Node<K, R> {
         self.left.is_routed() || self.right.is_routed() || self.slot.is_filled()
     }
 
-    /// The same, where a route was brought there, or where it has to be seen.
-    fn is_routed_with(&self, brought: bool) -> bool
-        requires { brought ≡ true → any_routed self.now.slot self.now.left self.now.right ≡ true }
-        ensures { result ≡ any_routed self.now.slot self.now.left self.now.right }
+    /// Whether it has a route, or some key below it has, that doesn't lie where this turn leads.
+    fn is_routed_beside(&self, turn: Turn) -> bool
+        ensures { result ≡
+            routed_beside turn self.now.slot self.now.left self.now.right }
+    {
+        match turn {
+            Turn::Left => self.slot.is_filled() || self.right.is_routed(),
+            Turn::Right => self.slot.is_filled() || self.left.is_routed(),
+            _ => self.left.is_routed() || self.right.is_routed(),
+        }
+    }
+
+    /// Whether it is known to be routed before and after a route is put where this turn leads, or,
+    /// where none is brought, taken from there.
+    #[inline]
+    #[tactic(auto, using(crate::proofs::MarkLaws::none_beside))]
+    fn is_routed_anyway(&self, routed: bool, brought: bool, turn: Turn) -> bool
+        requires { routed ≡ any_routed self.now.slot self.now.left self.now.right }
+        ensures routed { result ≡ true → routed ≡ true }
+        ensures beside { result ≡ true → brought ≡ false →
+            routed_beside turn self.now.slot self.now.left self.now.right ≡ true }
+        ensures alone { result ≡ false →
+            routed_beside turn self.now.slot self.now.left self.now.right ≡ false }
     {
         if brought {
-            return true;
+            return routed;
         }
-        self.is_routed()
+        self.is_routed_beside(turn)
     }
 }
 

@@ -18,7 +18,9 @@ use std::mem;
 
 impl<K: Packed, R: Drop> Tree<K, R> {
     /// Puts the route at the key, which is made where it was none, and takes what was there. Answers
-    /// whether the key is new.
+    /// whether the key is new. Past nodes whose marks stay it is a loop to a compiler, since the call
+    /// for what lies below is the last.
+    #[cycle(put)]
     pub(crate) fn put(
         &mut self,
         alloc: Global,
@@ -44,29 +46,76 @@ impl<K: Packed, R: Drop> Tree<K, R> {
         match self {
             Tree::Rooted(routed, prefix, node) => {
                 let node = &mut **node;
-                let brought = route.is_some();
-                let made = match prefix.turn(key) {
-                    Turn::Left => node.left.put(alloc, key, route)?,
-                    Turn::Right => node.right.put(alloc, key, route)?,
-                    _ => return put_at_root(self, alloc, key, route),
-                };
-                *routed = node.is_routed_with(brought);
-                Ok(made)
+                match prefix.turn(key) {
+                    Turn::Left => {
+                        if node.is_routed_anyway(*routed, route.is_some(), Turn::Left) {
+                            return node.left.put(alloc, key, route);
+                        }
+                        put_marking(routed, &mut node.left, alloc, key, route)
+                    }
+                    Turn::Right => {
+                        if node.is_routed_anyway(*routed, route.is_some(), Turn::Right) {
+                            return node.right.put(alloc, key, route);
+                        }
+                        put_marking(routed, &mut node.right, alloc, key, route)
+                    }
+                    _ => put_at_root(self, alloc, key, route),
+                }
             }
             Tree::Forked(routed, prefix, fork) => {
                 let fork = &mut **fork;
-                let brought = route.is_some();
-                let made = match prefix.turn(key) {
-                    Turn::Left => fork.left.put(alloc, key, route)?,
-                    Turn::Right => fork.right.put(alloc, key, route)?,
-                    _ => return put_at_root(self, alloc, key, route),
-                };
-                *routed = fork.is_routed_with(brought);
-                Ok(made)
+                match prefix.turn(key) {
+                    Turn::Left => {
+                        if fork.is_routed_anyway(*routed, route.is_some(), Turn::Left) {
+                            return fork.left.put(alloc, key, route);
+                        }
+                        put_marking(routed, &mut fork.left, alloc, key, route)
+                    }
+                    Turn::Right => {
+                        if fork.is_routed_anyway(*routed, route.is_some(), Turn::Right) {
+                            return fork.right.put(alloc, key, route);
+                        }
+                        put_marking(routed, &mut fork.right, alloc, key, route)
+                    }
+                    _ => put_at_root(self, alloc, key, route),
+                }
             }
             _ => put_at_root(self, alloc, key, route),
         }
     }
+}
+
+/// The same below a node that has no routes elsewhere, and is marked anew.
+#[cycle(put)]
+#[inline(never)]
+fn put_marking<K: Packed, R: Drop>(
+    routed: &mut bool,
+    below: &mut Tree<K, R>,
+    alloc: Global,
+    key: &Prefix,
+    route: &mut Option<R>,
+) -> Result<bool, AllocError>
+    requires shaped { IsShaped (shape_of K.network below.old) }
+    requires marked { IsMarked below.old }
+    requires family { AreOf key.now.family (shape_of K.network below.old) }
+    requires kind { key.now.family ≡ K.family }
+    ensures made { IfOk result (λ made. made ≡
+        not (is_some (at (shape_of K.network below.old) (way key.now)))) }
+    ensures placed { OnOk result (IsPlaced (way key.now) (Some route.old)
+        (shape_of K.network below.old) (shape_of K.network below.new)) }
+    ensures given { OnOk result
+        (route.new ≡ route_found (at (shape_of K.network below.old) (way key.now))) }
+    ensures marked { OnOk result (IsMarked below.new) }
+    ensures brought { OnOk result (is_some route.old ≡ true → is_routed below.new ≡ true) }
+    ensures routed { OnOk result (routed.new ≡ is_routed below.new) }
+    ensures refused { OnErr result (below.new ≡ below.old) }
+    ensures same { OnErr result (routed.new ≡ routed.old) }
+    ensures kept { OnErr result (route.new ≡ route.old) }
+    ensures known { OnErr result (at (shape_of K.network below.old) (way key.now) ≡ None) }
+{
+    let made = below.put(alloc, key, route)?;
+    *routed = below.is_routed();
+    Ok(made)
 }
 
 /// The same where the key doesn't lie below the root, or nothing does. It stands by itself, so that a
@@ -116,7 +165,7 @@ fn put_at_root<K: Packed, R: Drop>(
                 Turn::Outside => put_beside(tree, &prefix.wide(), alloc, key, route),
                 Turn::Here => {
                     let made = node.slot.put(route);
-                    *routed = node.is_routed_with(brought);
+                    *routed = node.is_routed();
                     Ok(made)
                 }
                 _ => unreachable!(),

@@ -14,7 +14,9 @@ use prefix_store::Packed;
 use std::mem;
 
 impl<K: Packed, R: Drop> Tree<K, R> {
-    /// The key's route, or its absence, and the argument change places.
+    /// The key's route, or its absence, and the argument change places. Past nodes whose marks stay it
+    /// is a loop to a compiler, since the call for what lies below is the last.
+    #[cycle(exchange)]
     pub(crate) fn exchange(&mut self, key: &Prefix, route: &mut Option<R>)
         requires shaped { IsShaped (shape_of K.network self.old) }
         requires marked { IsMarked self.old }
@@ -39,27 +41,71 @@ impl<K: Packed, R: Drop> Tree<K, R> {
             }
             Tree::Rooted(routed, prefix, node) => {
                 let node = &mut **node;
-                let brought = route.is_some();
                 match prefix.turn_covered(key) {
-                    Turn::Outside => return,
-                    Turn::Here => node.slot.exchange(route),
-                    Turn::Left => node.left.exchange(key, route),
-                    Turn::Right => node.right.exchange(key, route),
+                    Turn::Outside => {}
+                    Turn::Here => {
+                        node.slot.exchange(route);
+                        *routed = node.is_routed();
+                    }
+                    Turn::Left => {
+                        if node.is_routed_anyway(*routed, route.is_some(), Turn::Left) {
+                            return node.left.exchange(key, route);
+                        }
+                        exchange_marking(routed, &mut node.left, key, route);
+                    }
+                    Turn::Right => {
+                        if node.is_routed_anyway(*routed, route.is_some(), Turn::Right) {
+                            return node.right.exchange(key, route);
+                        }
+                        exchange_marking(routed, &mut node.right, key, route);
+                    }
                 }
-                *routed = node.is_routed_with(brought);
             }
             Tree::Forked(routed, prefix, fork) => {
                 let fork = &mut **fork;
-                let brought = route.is_some();
                 match prefix.turn_covered(key) {
-                    Turn::Left => fork.left.exchange(key, route),
-                    Turn::Right => fork.right.exchange(key, route),
-                    _ => return,
+                    Turn::Left => {
+                        if fork.is_routed_anyway(*routed, route.is_some(), Turn::Left) {
+                            return fork.left.exchange(key, route);
+                        }
+                        exchange_marking(routed, &mut fork.left, key, route);
+                    }
+                    Turn::Right => {
+                        if fork.is_routed_anyway(*routed, route.is_some(), Turn::Right) {
+                            return fork.right.exchange(key, route);
+                        }
+                        exchange_marking(routed, &mut fork.right, key, route);
+                    }
+                    _ => {}
                 }
-                *routed = fork.is_routed_with(brought);
             }
         }
     }
+}
+
+/// The same below a node that has no routes elsewhere, and is marked anew.
+#[cycle(exchange)]
+#[inline(never)]
+fn exchange_marking<K: Packed, R: Drop>(
+    routed: &mut bool,
+    below: &mut Tree<K, R>,
+    key: &Prefix,
+    route: &mut Option<R>,
+)
+    requires shaped { IsShaped (shape_of K.network below.old) }
+    requires marked { IsMarked below.old }
+    requires key { IsSome (at (shape_of K.network below.old) (way key.now)) }
+    ensures shaped { IsShaped (shape_of K.network below.new) }
+    ensures marked { IsMarked below.new }
+    ensures slots { IsPut (at (shape_of K.network below.old)) (way key.now) (Some route.old)
+        (at (shape_of K.network below.new)) }
+    ensures given { at (shape_of K.network below.old) (way key.now) ≡ Some route.new }
+    ensures brought { is_some route.old ≡ true → is_routed below.new ≡ true }
+    ensures root { root (shape_of K.network below.new) ≡ root (shape_of K.network below.old) }
+    ensures routed { routed.new ≡ is_routed below.new }
+{
+    below.exchange(key, route);
+    *routed = below.is_routed();
 }
 
 /// The route of a key without others below it, or its absence, and the argument change places.
