@@ -18,7 +18,7 @@ ghost use Rattle.rib_player.specs.Played.{AreClaimed, CanDrop};
 
 use crate::claims::{Claims, give_up_claims, put_entry};
 use crate::entry::{End, Entry};
-use crate::reaching::reach_entries;
+use crate::reaching::{reach_brought, reach_entries};
 use crate::room::{LEAST_ROOM, MOST_TIMES};
 use crate::table::Table;
 use known_routes::KnownRoutes;
@@ -145,7 +145,7 @@ pub(crate) fn put_entries<S: PrefixStore<Rc<Route>>>(
     let mut made = 0;
     let mut passed = 0u64;
     'entries: while made < entries.len() {
-        passed = passed.wrapping_add(reach_entries(table, entries, made));
+        passed = passed.wrapping_add(reach_brought(table, entries, made));
         if let Err(refused) = put_entry(table, claims, &mut entries[made]) {
             take_back(table, claims, &mut entries[..made]);
             return Err(refused);
