@@ -81,7 +81,7 @@ EndsSo-finished stamp q left left' found a b false true s ended bad writes octet
 EndsSo-finished stamp q left left' found a b false false s ended bad writes octets frames rest may split =
     subst (λ f. EndsSo outcome.Done (dump_texts f) a b) (all_held stamp q left left' found outcome.Done s ended (λ cut. cut) octets frames rest may split) (reports_none found (sym bad), writes)
 
-pub EndsSo-read : (stamp : Stamp) (left left' : Option (List ℕ)) (a b c : Outputs) (failed reported : Bool) (outcome : Outcome) → Ends (start_place stamp LIMIT) left left' a b (Ok reported)
+pub EndsSo-read : (stamp : Stamp) (left left' : Option (List ℕ)) (a b c : Outputs) (failed reported : Bool) (outcome : Outcome) → Ends (start_place stamp LIMIT) (Ok reported) left left' a b
     → outcome ≡ outcome_of failed reported → Keeps b.out c.out → Keeps b.err c.err
     → (octets : List ℕ) (frames : List Frame) (rest : List ℕ) → MayHold stamp (SawEnd outcome) left left' octets → Splits stamp None octets frames rest → EndsSo outcome (dump_texts (all_results stamp frames rest)) a c
 EndsSo-read stamp left left' a b c failed reported outcome (q, ended, g) is_outcome out err octets frames rest may split =
@@ -108,7 +108,7 @@ EndsSo-write write.Memory stamp left left' a b (inr (stop, none)) octets frames 
     WritesFronts-later (all_results stamp frames rest) stop.found later a b first stop.fronts
 
 -- a run that stopped
-pub EndsSo-stopped : (stamp : Stamp) (left left' : Option (List ℕ)) (a b : Outputs) (outcome : Outcome) → Ends (start_place stamp LIMIT) left left' a b (Err outcome)
+pub EndsSo-stopped : (stamp : Stamp) (left left' : Option (List ℕ)) (a b : Outputs) (outcome : Outcome) → Ends (start_place stamp LIMIT) (Err outcome) left left' a b
     → (octets : List ℕ) (frames : List Frame) (rest : List ℕ) → MayHold stamp (SawEnd outcome) left left' octets → Splits stamp None octets frames rest → EndsSo outcome (dump_texts (all_results stamp frames rest)) a b
 EndsSo-stopped stamp left left' a b outcome (inl (fault, is, at)) octets frames rest may split =
     let (later, first) = untold_held stamp left left' at.found (SawEnd outcome) at.faulty.untold octets frames rest may split in
@@ -119,7 +119,7 @@ EndsSo-stopped stamp left left' a b outcome (inr (fault, is, stop)) octets frame
     (EndsSo-write fault stamp left left' a b stop octets frames rest (subst (λ o. MayHold stamp (SawEnd o) left left' octets) is may) split)
 
 -- a run that the input ended has written what the frames give
-pub Writes-stopped : (stamp : Stamp) (left left' : Option (List ℕ)) (a b : Outputs) (outcome : Outcome) → Ends (start_place stamp LIMIT) left left' a b (Err outcome) → EndedByInput outcome
+pub Writes-stopped : (stamp : Stamp) (left left' : Option (List ℕ)) (a b : Outputs) (outcome : Outcome) → Ends (start_place stamp LIMIT) (Err outcome) left left' a b → EndedByInput outcome
     → (taken after : List ℕ) (frames : List Frame) (rest : List ℕ) → Took left left' taken after → Splits stamp None taken frames rest → Writes (dump_texts (all_results stamp frames [])) a b
 Writes-stopped stamp left left' a b outcome (inl (fault, is, at)) by_input taken after frames rest took split =
     subst (λ f. Writes (dump_texts f) a b) (whole_found stamp left left' at.found fault at.faulty (subst EndedByInput is by_input) taken after frames rest took split) at.written
@@ -135,7 +135,7 @@ IsTaken-write write.Memory stamp left left' a b (inr (stop, none)) =
     IsTaken-told stamp stop.place left left' outcome.Memory stop.found stop.so_far stop.within (inl (rest_so_far (start_place stamp LIMIT) stop.place left left' stop.found stop.so_far))
 
 -- what was taken by a run that stopped
-pub IsTaken-stopped : (stamp : Stamp) (left left' : Option (List ℕ)) (a b : Outputs) (outcome : Outcome) → Ends (start_place stamp LIMIT) left left' a b (Err outcome)
+pub IsTaken-stopped : (stamp : Stamp) (left left' : Option (List ℕ)) (a b : Outputs) (outcome : Outcome) → Ends (start_place stamp LIMIT) (Err outcome) left left' a b
     → (taken : List ℕ) × Consumes left left' taken × IsTaken stamp outcome taken
 IsTaken-stopped stamp left left' a b outcome (inl (fault, is, at)) =
     subst (λ o. (taken : List ℕ) × Consumes left left' taken × IsTaken stamp o taken) (sym is) (IsTaken-faulty stamp left left' at.found fault at.faulty)
@@ -143,7 +143,7 @@ IsTaken-stopped stamp left left' a b outcome (inr (fault, is, stop)) =
     subst (λ o. (taken : List ℕ) × Consumes left left' taken × IsTaken stamp o taken) (sym is) (IsTaken-write fault stamp left left' a b stop)
 
 -- what was taken by a run whose input was too long
-pub length-stopped : (stamp : Stamp) (left left' : Option (List ℕ)) (a b : Outputs) (how : Outcome) → Ends (start_place stamp LIMIT) left left' a b (Err how) → how ≡ outcome.InputTooLong
+pub length-stopped : (stamp : Stamp) (left left' : Option (List ℕ)) (a b : Outputs) (how : Outcome) → Ends (start_place stamp LIMIT) (Err how) left left' a b → how ≡ outcome.InputTooLong
     → (taken after : List ℕ) → Took left left' taken after → length taken ≡ LIMIT
 length-stopped stamp left left' a b how (inl (fault, is, at)) too_long taken after took = length-faulty stamp left left' at.found fault at.faulty (sym is ∙ too_long) taken after took
 length-stopped stamp left left' a b how (inr (fault, is, stop)) too_long taken after took = absurd (by_fault fault (sym is ∙ too_long))

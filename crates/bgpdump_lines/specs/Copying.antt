@@ -1,6 +1,6 @@
 -- Private.
 -- Where the parts of a route's line stand, of which the next line may be made.
-use Rattle.std.specs.Prelude.{◌≡◌, ℕ, ◌≤◌, Option, Some, None, List, length, drop, slice_range}
+use Rattle.std.specs.Prelude.{◌≡◌, ℕ, ◌≤◌, Option, Some, None, List, ◌++◌, length, drop, slice_range}
 use Rattle.ip_prefix.specs.Network.{Network}
 use Rattle.mrt_events.specs.declared.peer.Peer.{Peer}
 use Rattle.mrt_events.specs.declared.event.Route.{Route}
@@ -17,6 +17,11 @@ use Rattle.bgpdump_lines.specs.Heading.{headed_line, route_head, route_front}
 -- the line of what is said, under a heading
 abbrev pub said_line : Heading → Announcement → List ℕ
 said_line heading said = headed_line heading (Announced said.peer.now said.prefix.now said.route.now)
+
+-- the same by its parts
+abbrev pub said_parts : Heading → Announcement → List ℕ
+said_parts heading said =
+    route_front heading said.peer.now said.route.now ++ (prefix_field said.prefix.now ++ route_tail said.route.now)
 
 -- the places follow one another in the text
 pub record AreOrdered (places : Places) (text : List ℕ) : Type 0 where

@@ -70,8 +70,8 @@ StopsAtWriting p left left' old new Memory =
     ⊎ ((stop : StopsAtFronts p left left' old new) × (stop.so_far.rest ≡ []))
 
 -- how a run ended before its outputs were finished
-abbrev pub Ends : Place → Option (List ℕ) → Option (List ℕ) → Outputs → Outputs → Result Bool Outcome → Type 0
-Ends p left left' old new (Ok reported) = (q : Place) × (q.phase ≡ Ended) × Going p q left left' old new reported
-Ends p left left' old new (Err outcome) =
+abbrev pub Ends : Place → Result Bool Outcome → Option (List ℕ) → Option (List ℕ) → Outputs → Outputs → Type 0
+Ends p (Ok reported) left left' old new = (q : Place) × (q.phase ≡ Ended) × Going p q left left' old new reported
+Ends p (Err outcome) left left' old new =
     ((fault : SourceFault) × (outcome ≡ source_outcome fault) × StopsAtSource p left left' old new fault)
     ⊎ ((fault : WriteFault) × (outcome ≡ write_outcome fault) × StopsAtWriting p left left' old new fault)

@@ -34,6 +34,11 @@ pub record Outputs : Type 0 where
 abbrev pub outputs_of : {O E : Type 0} → (O → Option (List ℕ)) → (E → Option (List ℕ)) → O → E → Outputs
 outputs_of written written' out err = record { out = written out; err = written' err }
 
+-- this is so of what an input has left and two outputs have got, as a run begins and at its end, by what is known of each kind
+abbrev pub OverDevices : {I O E : Type 0} → (I → Option (List ℕ)) → (O → Option (List ℕ)) → (E → Option (List ℕ)) → (Option (List ℕ) → Option (List ℕ) → Outputs → Outputs → Type 0) → I × O × E → I × O × E → Type 0
+OverDevices left written written' IsSo (input, out, err) (input', out', err') =
+    IsSo (left input) (left input') (outputs_of written written' out err) (outputs_of written written' out' err')
+
 -- what is found in octets that split so
 abbrev pub all_results : Stamp → List Frame → List ℕ → List Finding
 all_results stamp frames rest = results (start_place stamp LIMIT) frames rest

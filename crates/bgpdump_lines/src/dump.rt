@@ -7,7 +7,7 @@ ghost use Rattle.mrt_wire.specs.Next.{Took};
 ghost use Rattle.mrt_wire.specs.Answered.{answer_findings};
 ghost use Rattle.mrt_wire.specs.SoFar.{is_nothing};
 ghost use Rattle.bgpdump_lines.specs.Reports.{dump_texts};
-ghost use Rattle.bgpdump_lines.specs.Run.{IsTaken, SawEnd, outputs_of, EndsOverAll, WritesWhole};
+ghost use Rattle.bgpdump_lines.specs.Run.{IsTaken, SawEnd, OverDevices, EndsOverAll, WritesWhole};
 ghost use Rattle.bgpdump_lines.specs.Ending.{is_read_fault, is_write_fault};
 ghost use Rattle.bgpdump_lines.specs.Going.{Ends};
 
@@ -40,16 +40,14 @@ pub fn run_dump<I: Input, O: Output, E: Output>(
 
     // Whatever the input may hold on the whole: its lines and reports were written, or fronts of
     // them.
-    ensures text { EndsOverAll stamp result (SawEnd result) dump_texts
-        (I.left input.old) (I.left input.new)
-        (outputs_of O.written E.written out.old err.old)
-        (outputs_of O.written E.written out.new err.new) }
+    ensures text { OverDevices I.left O.written E.written
+        (EndsOverAll stamp result (SawEnd result) dump_texts)
+        (input.old, out.old, err.old) (input.new, out.new, err.new) }
 
     // A run that the input ended has written all that the records taken whole give, and no more.
-    ensures whole_records { WritesWhole stamp result dump_texts
-        (I.left input.old) (I.left input.new)
-        (outputs_of O.written E.written out.old err.old)
-        (outputs_of O.written E.written out.new err.new) }
+    ensures whole_records { OverDevices I.left O.written E.written
+        (WritesWhole stamp result dump_texts)
+        (input.old, out.old, err.old) (input.new, out.new, err.new) }
 
     // At most 2^40 octets are taken: those of frames, and then what stands behind them, none of it
     // behind a header that states too much.
@@ -87,9 +85,9 @@ fn dump_all<I: Input, O: Output, E: Output>(
     stamp: Stamp,
 ) -> Result<bool, Outcome>
     requires sound { (O.failed out.old || E.failed err.old) ≡ false }
-    ensures ends { Ends (start_place stamp LIMIT) (I.left input.old) (I.left input.new)
-        (outputs_of O.written E.written out.old err.old)
-        (outputs_of O.written E.written out.new err.new) result }
+    ensures ends { OverDevices I.left O.written E.written
+        (Ends (start_place stamp LIMIT) result)
+        (input.old, out.old, err.old) (input.new, out.new, err.new) }
     ensures read { I.failed input.new ≡ (I.failed input.old || is_read_fault result) }
     ensures wrote { (O.failed out.new || E.failed err.new) ≡ is_write_fault result }
 {

@@ -6,7 +6,7 @@ ghost use Rattle.mrt_events.specs.Event.{Announced};
 ghost use Rattle.bgpdump_lines.specs.Fields.{peer_fields, prefix_field, route_tail};
 ghost use Rattle.bgpdump_lines.specs.Heading.{route_head, route_front, headed_line};
 ghost use Rattle.bgpdump_lines.specs.Copying.{AreOrdered, EndsIn, IsLike};
-ghost use Rattle.bgpdump_lines.specs.Copying.{head_at, front_at, prefix_at, tail_at};
+ghost use Rattle.bgpdump_lines.specs.Copying.{said_parts, head_at, front_at, prefix_at, tail_at};
 
 use crate::fields::{put_attributes, put_peer, put_prefix};
 use crate::heading::{Heading, put_route_head};
@@ -51,9 +51,7 @@ pub(crate) fn put_route_anew(
     said: Announcement<'_>,
     text: &mut Text,
 ) -> Result<Places, AllocError>
-    ensures appended { OnOk result (text.new ≡ text.old ++
-        (route_front heading.now said.entry.peer.now said.entry.route.now
-        ++ (prefix_field said.entry.prefix.now ++ route_tail said.entry.route.now))) }
+    ensures appended { OnOk result (text.new ≡ text.old ++ said_parts heading.now said.entry) }
     ensures ordered { IfOk result (λ places. AreOrdered places text.new) }
     ensures head { IfOk result (λ places. head_at places text.new
         ≡ route_head heading.now said.entry.route.now) }

@@ -429,7 +429,7 @@ IsLed-forget n from left s old u stands is =
 
 -- by the answer
 pub Travels-goto : (k : ℕ) (from : Place) (left : Option (List ℕ)) (s : Standing) (old new : Scene) (result : Result Bool Outcome) → s.cursor ≤ k → Stands from left old s → OnwardDoes k from left s old new result
-    → Travels (Goto k) from left s old new result
+    → Travels k from left s old new result
 Travels-goto k from left s old new (Ok ended) above stands does =
     let led = IsLed-goto k from left s old new ended above stands does in
     (led.0, led.1)

@@ -7,6 +7,7 @@ use Rattle.mrt_wire.specs.declared.next.Phase.TheVariants.{Ended}
 use Rattle.mrt_wire.specs.Results.{Finding}
 use Rattle.mrt_wire.specs.Place.{Place}
 use Rattle.bgpdump_tool.specs.declared.command.Command.{Command}
+use Rattle.bgpdump_tool.specs.declared.command.Command.TheVariants.{Goto}
 use Rattle.bgpdump_lines.specs.declared.fault.WriteFault.{WriteFault}
 use Rattle.bgpdump_lines.specs.declared.outcome.Outcome.{Outcome}
 use Rattle.bgpdump_lines.specs.Device.{AppendsFront}
@@ -75,7 +76,7 @@ abbrev pub CarriesOut : {A : Type 0} → Command → Scene → Scene → Option 
 CarriesOut command old new out out' result =
     (from : Place) (left : Option (List ℕ)) (s : Standing) → Stands from left old s → CarryingDoes command from left s old new out out' result
 
--- a command that moves led a run so, and its reply tells where; or a fault stopped it on the way
-abbrev pub Travels : Command → Place → Option (List ℕ) → Standing → Scene → Scene → Result Bool Outcome → Type 0
-Travels command from left s old new (Ok ended) = (led : IsLed command from left s old new) × (led.reply ≡ at_text new.player.cursor ended)
-Travels command from left s old new (Err outcome) = (out : Option (List ℕ)) → CarryingDoes {A = Unit {0}} command from left s old new out out (Err outcome)
+-- `goto` to this position led a run so, and its reply tells where; or a fault stopped it on the way
+abbrev pub Travels : ℕ → Place → Option (List ℕ) → Standing → Scene → Scene → Result Bool Outcome → Type 0
+Travels position from left s old new (Ok ended) = (led : IsLed (Goto position) from left s old new) × (led.reply ≡ at_text new.player.cursor ended)
+Travels position from left s old new (Err outcome) = (out : Option (List ℕ)) → CarryingDoes {A = Unit {0}} (Goto position) from left s old new out out (Err outcome)

@@ -89,3 +89,8 @@ AreBegun begun octets (Err outcome) = (first rest : List (List ℕ)) × (octets 
 -- a script was carried out, or a part of it
 abbrev pub PlaysScript : Place → Option (List ℕ) → List ℕ → Scene → Outputs → Outputs → Result (Unit {0}) Outcome → Type 0
 PlaysScript from left script scene old new result = (begun : List Line) × AreBegun begun (script_lines script) result × PlayDoes from left begun scene old new result
+
+-- the same by the scenes as it begins and at its end
+abbrev pub PlaysLines : List ℕ → Scene → Scene → Option (List ℕ) → Option (List ℕ) → Result (Unit {0}) Outcome → Type 0
+PlaysLines script old new out out' result =
+    PlaysScript old.place old.left script new (record { out = out; err = old.err }) (record { out = out'; err = new.err }) result

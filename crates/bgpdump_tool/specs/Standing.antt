@@ -33,6 +33,12 @@ abbrev pub scene_of : {S I E : Type 0} → (I → Option (List ℕ)) → (E → 
 scene_of left written session input err =
     record { player = session.player; place = session.source; reported = session.reported; left = left input; err = written err }
 
+-- this is so of a call on a session, an input, the output of replies and that of reports, by what is known of each kind: of the scenes as it
+-- begins and at its end, of what the output of replies has got by then, and of what it answers
+abbrev pub OverScenes : {S I O E A : Type 0} → (I → Option (List ℕ)) → (O → Option (List ℕ)) → (E → Option (List ℕ)) → (Scene → Scene → Option (List ℕ) → Option (List ℕ) → A → Type 0) → Session S × I × O × E → Session S × I × O × E → A → Type 0
+OverScenes left written written' IsSo (session, input, out, err) (session', input', out', err') answer =
+    IsSo (scene_of left written' session input err) (scene_of left written' session' input' err') (written out) (written out') answer
+
 -- where the script stands, if these are the results that no command has taken yet
 abbrev pub state_of : Standing → List Finding → State
 state_of s unread = record { history = s.history; cursor = s.cursor; floor = s.floor; unread = unread }

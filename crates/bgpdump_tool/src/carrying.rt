@@ -14,7 +14,7 @@ mod table;
 ghost use Rattle.std.specs.Prelude.{◌≡◌, ◌+◌, ◌||◌, ℕ};
 ghost use Rattle.bgpdump_tool.specs.declared.script.TheConstants.{LONGEST_SCRIPT};
 ghost use Rattle.bgpdump_lines.specs.Ending.{is_read_fault, is_write_fault, outcome_result};
-ghost use Rattle.bgpdump_tool.specs.Standing.{HasRoom, scene_of};
+ghost use Rattle.bgpdump_tool.specs.Standing.{HasRoom, OverScenes};
 ghost use Rattle.bgpdump_tool.specs.Carrying.{CarriesOut};
 
 use crate::command::Command;
@@ -33,10 +33,9 @@ pub(crate) fn carry_out<S: PrefixStore<Rc<Route>>, I: Input, O: Output, E: Outpu
     command: Command,
 ) -> Result<(), Outcome>
     requires room { HasRoom session.old.player session.old.source LONGEST_SCRIPT }
-    ensures carries_out { CarriesOut command
-        (scene_of I.left E.written session.old input.old err.old)
-        (scene_of I.left E.written session.new input.new err.new)
-        (O.written out.old) (O.written out.new) result }
+    ensures carries_out { OverScenes I.left O.written E.written (CarriesOut command)
+        (session.old, input.old, out.old, err.old)
+        (session.new, input.new, out.new, err.new) result }
     ensures room { (lost : ℕ) → HasRoom session.old.player session.old.source lost →
         HasRoom session.new.player session.new.source (lost + 1) }
     ensures read { I.failed input.new ≡ (I.failed input.old || is_read_fault result) }

@@ -7,10 +7,10 @@ ghost use Rattle.mrt_wire.specs.Next.{Took};
 ghost use Rattle.rib_player.specs.Calls.{fresh};
 ghost use Rattle.bgpdump_lines.specs.declared.dump.TheConstants.{LIMIT};
 ghost use Rattle.bgpdump_lines.specs.Ending.{is_read_fault, is_write_fault};
-ghost use Rattle.bgpdump_lines.specs.Run.{IsTaken, outputs_of};
+ghost use Rattle.bgpdump_lines.specs.Run.{IsTaken, OverDevices};
 ghost use Rattle.bgpdump_tool.specs.Whole.{PlaysOverAll, BeganLines, WritesCut, TakesOnlyWanted};
-ghost use Rattle.bgpdump_tool.specs.Standing.{HasRoom, scene_of};
-ghost use Rattle.bgpdump_tool.specs.Playing.{CarriesLine, PlaysScript};
+ghost use Rattle.bgpdump_tool.specs.Standing.{HasRoom, OverScenes};
+ghost use Rattle.bgpdump_tool.specs.Playing.{CarriesLine, PlaysLines};
 
 use crate::carrying::carry_out;
 use crate::command::read_command;
@@ -41,25 +41,22 @@ pub fn run_play<S: PrefixStore<Rc<Route>>, I: Input, O: Output, E: Output>(
 
     // Whatever the input may hold on the whole: the texts that the script has over it were written,
     // or fronts of them.
-    ensures text { PlaysOverAll stamp script.now result
-        (I.left input.old) (I.left input.new)
-        (outputs_of O.written E.written out.old err.old)
-        (outputs_of O.written E.written out.new err.new) }
+    ensures text { OverDevices I.left O.written E.written
+        (PlaysOverAll stamp script.now result)
+        (input.old, out.old, err.old) (input.new, out.new, err.new) }
 
-    // A run that memory or an output broke off had begun some of the lines: those that it carried out
-    // are written, and of the next one, if it was in one, fronts; and the end was seen where these
-    // lines saw it.
-    ensures began { BeganLines stamp script.now result
-        (I.left input.old) (I.left input.new)
-        (outputs_of O.written E.written out.old err.old)
-        (outputs_of O.written E.written out.new err.new) }
+    // A run that memory or an output broke off had begun some of the lines: those that it carried
+    // out are written, and of the next one, if it was in one, fronts; and the end was seen where
+    // these lines saw it.
+    ensures began { OverDevices I.left O.written E.written
+        (BeganLines stamp script.now result)
+        (input.old, out.old, err.old) (input.new, out.new, err.new) }
 
     // A run that the input ended has written what the records taken whole give: the replies to the
     // commands that ended, the reports of what was taken, and those of the lines before.
-    ensures whole_records { WritesCut stamp script.now result
-        (I.left input.old) (I.left input.new)
-        (outputs_of O.written E.written out.old err.old)
-        (outputs_of O.written E.written out.new err.new) }
+    ensures whole_records { OverDevices I.left O.written E.written
+        (WritesCut stamp script.now result)
+        (input.old, out.old, err.old) (input.new, out.new, err.new) }
 
     // No record is taken that no command wants: where the run came to its end, commands took all
     // that the octets give; and a fault of the input came inside a command that wanted more.
@@ -112,10 +109,9 @@ fn play_lines<S: PrefixStore<Rc<Route>>, I: Input, O: Output, E: Output>(
     requires player { session.old.player ≡ fresh }
     requires source { session.old.source ≡ start_place session.old.source.stamp LIMIT }
     requires reported { session.old.reported ≡ false }
-    ensures plays { PlaysScript session.old.source (I.left input.old) script.now
-        (scene_of I.left E.written session.new input.new err.new)
-        (outputs_of O.written E.written out.old err.old)
-        (outputs_of O.written E.written out.new err.new) result }
+    ensures plays { OverScenes I.left O.written E.written (PlaysLines script.now)
+        (session.old, input.old, out.old, err.old)
+        (session.new, input.new, out.new, err.new) result }
     ensures read { I.failed input.new ≡ (I.failed input.old || is_read_fault result) }
     ensures wrote { (O.failed out.new || E.failed err.new)
         ≡ (O.failed out.old || E.failed err.old || is_write_fault result) }
@@ -140,10 +136,9 @@ fn carry_line<S: PrefixStore<Rc<Route>>, I: Input, O: Output, E: Output>(
     err: &mut E,
 ) -> Result<(), Outcome>
     requires room { HasRoom session.old.player session.old.source LONGEST_SCRIPT }
-    ensures carries_line { CarriesLine line.now number
-        (scene_of I.left E.written session.old input.old err.old)
-        (scene_of I.left E.written session.new input.new err.new)
-        (O.written out.old) (O.written out.new) result }
+    ensures carries_line { OverScenes I.left O.written E.written (CarriesLine line.now number)
+        (session.old, input.old, out.old, err.old)
+        (session.new, input.new, out.new, err.new) result }
     ensures room { (lost : ℕ) → HasRoom session.old.player session.old.source lost →
         HasRoom session.new.player session.new.source (lost + 1) }
     ensures read { I.failed input.new ≡ (I.failed input.old || is_read_fault result) }

@@ -4,9 +4,9 @@ ghost use Rattle.std.specs.Prelude.{◌≡◌, ◌||◌, ℕ};
 ghost use Rattle.std.specs.Io.KnownBytes.{Keeps};
 ghost use Rattle.bgpdump_tool.specs.declared.script.TheConstants.{LONGEST_SCRIPT};
 ghost use Rattle.bgpdump_lines.specs.Ending.{is_read_fault, is_write_fault};
-ghost use Rattle.bgpdump_tool.specs.Standing.{HasRoom, scene_of};
+ghost use Rattle.bgpdump_tool.specs.Standing.{HasRoom, OverScenes, scene_of};
 ghost use Rattle.bgpdump_tool.specs.Moves.{Moves, ForwardDoes};
-ghost use Rattle.bgpdump_tool.specs.declared.command.Command.{Command};
+ghost use Rattle.bgpdump_tool.specs.declared.command.Command.TheVariants.{Next};
 ghost use Rattle.bgpdump_tool.specs.Carrying.{CarriesOut};
 
 use crate::replies::write_position;
@@ -52,10 +52,9 @@ pub(crate) fn next<S: PrefixStore<Rc<Route>>, I: Input, O: Output, E: Output>(
     count: u32,
 ) -> Result<(), Outcome>
     requires room { HasRoom session.old.player session.old.source LONGEST_SCRIPT }
-    ensures carries_out { CarriesOut (Command.Next count)
-        (scene_of I.left E.written session.old input.old err.old)
-        (scene_of I.left E.written session.new input.new err.new)
-        (O.written out.old) (O.written out.new) result }
+    ensures carries_out { OverScenes I.left O.written E.written (CarriesOut (Next count))
+        (session.old, input.old, out.old, err.old)
+        (session.new, input.new, out.new, err.new) result }
     ensures room { (lost : ℕ) → HasRoom session.old.player session.old.source lost →
         HasRoom session.new.player session.new.source lost }
     ensures read { I.failed input.new ≡ (I.failed input.old || is_read_fault result) }
