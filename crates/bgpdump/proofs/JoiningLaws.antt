@@ -2,7 +2,6 @@
 use Rattle.std.proofs.Common.{◌≡◌, ◌∙◌, ◌⊎◌, ap, sym, refl, subst, inl, inr, IsNone, List, [], ◌++◌, ℕ, Option, Some, None, IfSome}
 use Rattle.std.specs.Io.KnownBytes.{Appends, Consumes, Keeps}
 use Rattle.mrt_wire.specs.Next.{Took}
-use Rattle.mrt_wire.specs.Splitting.{Splits}
 use Rattle.mrt_wire.specs.Verdict.{Frame}
 use Rattle.mrt_wire.specs.declared.Stamp.{Stamp}
 use Rattle.bgpdump_tool.specs.Device.{AppendsFront}
@@ -10,7 +9,7 @@ use Rattle.bgpdump_tool.specs.Run.{EndedByInput, EndsSo, MayHold, Outputs, Texts
 use Rattle.bgpdump_tool.specs.declared.Outcome.{Outcome}
 use Rattle.bgpdump_tool.specs.declared.Outcome.TheVariants.{Done, Reported, ReadFault, WriteFault, InputTooLong, ScriptTooLong, Memory}
 use Rattle.bgpdump.specs.Endings.{lost_outcome}
-use Rattle.bgpdump.specs.Joining.{KeepsBoth, Leaves}
+use Rattle.bgpdump.specs.Joining.{KeepsBoth, OverWriters}
 
 -- ---- what stays behind a text
 
@@ -61,31 +60,28 @@ holds_known stamp Saw old new octets taken is consumed =
 
 -- ---- what the writers are left with
 
--- the outcome that is told, and the writers, behind a run that ended so
-abbrev pub IsClosed : {O E : Type 0} → (O → Option (List ℕ)) → (E → Option (List ℕ)) → Outcome → Outputs → Outcome → Option (O × E) → Type 0
-IsClosed contents contents' outcome mid told writers = IfSome writers (λ both. (told ≡ outcome) × KeepsBoth mid (outputs_of contents contents' both.0 both.1))
+-- a run that ended so is told as such, unless the writers are gone
+abbrev pub IsTold : {W : Type 0} → Outcome → Outcome → Option W → Type 0
+IsTold outcome told writers = IfSome writers (λ both. told ≡ outcome)
 
-pub leaves_ended : {O E : Type 0} (contents : O → Option (List ℕ)) (contents' : E → Option (List ℕ)) (out : O) (err : E) (old mid : Outputs) (outcome told : Outcome) (texts : Texts) (writers : Option (O × E))
-    → old ≡ outputs_of contents contents' out err → EndsSo outcome texts old mid → IsClosed contents contents' outcome mid told writers → Leaves contents contents' (EndsSo told texts) out err writers
-leaves_ended contents contents' out err old mid outcome told texts None is ends closed = tt
-leaves_ended contents contents' out err old mid outcome told texts (Some both) is ends closed =
+pub leaves_ended : {O E : Type 0} (contents : O → Option (List ℕ)) (contents' : E → Option (List ℕ)) (before old mid : Outputs) (outcome told : Outcome) (texts : Texts) (writers : Option (O × E))
+    → old ≡ before → EndsSo outcome texts old mid → IsTold outcome told writers → OverWriters contents contents' (KeepsBoth mid) writers → OverWriters contents contents' (EndsSo told texts before) writers
+leaves_ended contents contents' before old mid outcome told texts None is ends same kept = tt
+leaves_ended contents contents' before old mid outcome told texts (Some both) is ends same kept =
     let new = outputs_of contents contents' both.0 both.1 in
-    subst (λ o. EndsSo told texts o new) is (subst (λ t. EndsSo t texts old new) (sym closed.0) (EndsSo-kept outcome texts old mid new ends closed.1))
+    subst (λ o. EndsSo told texts o new) is (subst (λ t. EndsSo t texts old new) (sym same) (EndsSo-kept outcome texts old mid new ends kept))
 
-pub leaves_written : {O E : Type 0} (contents : O → Option (List ℕ)) (contents' : E → Option (List ℕ)) (out : O) (err : E) (old mid : Outputs) (outcome told : Outcome) (texts : Texts) (writers : Option (O × E))
-    → old ≡ outputs_of contents contents' out err → EndedByInput told → (EndedByInput outcome → Writes texts old mid) → IsClosed contents contents' outcome mid told writers → Leaves contents contents' (Writes texts) out err writers
-leaves_written contents contents' out err old mid outcome told texts None is by wrote closed = tt
-leaves_written contents contents' out err old mid outcome told texts (Some both) is by wrote closed =
+pub leaves_written : {O E : Type 0} (contents : O → Option (List ℕ)) (contents' : E → Option (List ℕ)) (before old mid : Outputs) (outcome told : Outcome) (texts : Texts) (writers : Option (O × E))
+    → old ≡ before → EndedByInput told → (EndedByInput outcome → Writes texts old mid) → IsTold outcome told writers → OverWriters contents contents' (KeepsBoth mid) writers → OverWriters contents contents' (Writes texts before) writers
+leaves_written contents contents' before old mid outcome told texts None is by wrote same kept = tt
+leaves_written contents contents' before old mid outcome told texts (Some both) is by wrote same kept =
     let new = outputs_of contents contents' both.0 both.1 in
-    subst (λ o. Writes texts o new) is (Writes-kept texts old mid new (wrote (subst EndedByInput closed.0 by)) closed.1)
+    subst (λ o. Writes texts o new) is (Writes-kept texts old mid new (wrote (subst EndedByInput same by)) kept)
 
 -- a run that wrote nothing
-pub leaves_untouched : {O E : Type 0} (contents : O → Option (List ℕ)) (contents' : E → Option (List ℕ)) (out : O) (err : E) (old mid : Outputs) (outcome told ended : Outcome) (writers : Option (O × E))
-    → old ≡ outputs_of contents contents' out err → mid ≡ old → outcome ≡ ended → IsClosed contents contents' outcome mid told writers → Leaves contents contents' (λ before behind. (told ≡ ended) × KeepsBoth before behind) out err writers
-leaves_untouched contents contents' out err old mid outcome told ended None is stays by closed = tt
-leaves_untouched contents contents' out err old mid outcome told ended (Some both) is stays by closed =
-    let new = outputs_of contents contents' both.0 both.1 in
-    (closed.0 ∙ by, subst (λ o. KeepsBoth o new) (stays ∙ is) closed.1)
+pub leaves_untouched : {O E : Type 0} (contents : O → Option (List ℕ)) (contents' : E → Option (List ℕ)) (before old mid : Outputs) (writers : Option (O × E))
+    → old ≡ before → mid ≡ old → OverWriters contents contents' (KeepsBoth mid) writers → OverWriters contents contents' (KeepsBoth before) writers
+leaves_untouched contents contents' before old mid writers is stays kept = subst (λ o. OverWriters contents contents' (KeepsBoth o) writers) (stays ∙ is) kept
 
 -- what holds of an input that came back
 pub of_input : {I : Type 0} (P : I → Type 0) (input : Option I) (left : I) → input ≡ Some left → P left → IfSome input P
@@ -102,16 +98,14 @@ lost_outcomes ScriptTooLong = inl refl
 lost_outcomes Memory = inr refl
 
 -- a run that the input ended is told as such
-pub told_by_input : {O E : Type 0} (contents : O → Option (List ℕ)) (contents' : E → Option (List ℕ)) (mid : Outputs) (outcome told : Outcome) (writers : Option (O × E))
-    → IsClosed contents contents' outcome mid told writers → (IsNone writers → told ≡ lost_outcome outcome) → EndedByInput told → told ≡ outcome
-told_by_input contents contents' mid outcome told (Some both) closed lost by = closed.0
-told_by_input contents contents' mid outcome told None closed lost by = elim (lost_outcomes outcome) [
+pub told_by_input : {W : Type 0} (outcome told : Outcome) (writers : Option W) → IsTold outcome told writers → (IsNone writers → told ≡ lost_outcome outcome) → EndedByInput told → told ≡ outcome
+told_by_input outcome told (Some both) same lost by = same
+told_by_input outcome told None same lost by = elim (lost_outcomes outcome) [
   | inl fault ↦ absurd (subst EndedByInput (lost refl ∙ fault) by)
   | inr memory ↦ absurd (subst EndedByInput (lost refl ∙ memory) by)
 ]
 
 -- and it is, unless the writers are gone
-pub told_unless_lost : {O E : Type 0} (contents : O → Option (List ℕ)) (contents' : E → Option (List ℕ)) (mid : Outputs) (outcome told ended : Outcome) (writers : Option (O × E))
-    → IsClosed contents contents' outcome mid told writers → outcome ≡ ended → (told ≡ ended) ⊎ IsNone writers
-told_unless_lost contents contents' mid outcome told ended (Some both) closed is = inl (closed.0 ∙ is)
-told_unless_lost contents contents' mid outcome told ended None closed is = inr refl
+pub told_unless_lost : {W : Type 0} (outcome told ended : Outcome) (writers : Option W) → IsTold outcome told writers → outcome ≡ ended → (told ≡ ended) ⊎ IsNone writers
+told_unless_lost outcome told ended (Some both) same is = inl (same ∙ is)
+told_unless_lost outcome told ended None same is = inr refl

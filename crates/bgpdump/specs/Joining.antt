@@ -3,7 +3,6 @@
 use Rattle.std.specs.Prelude.{◌≡◌, ℕ, ◌^◌, List, [], length, Option, Some, None, IfSome, IsTrue}
 use Rattle.std.specs.Io.KnownBytes.{Keeps}
 use Rattle.std.specs.Io.Buffered.{reader_remaining, writer_contents}
-use Rattle.std.specs.declared.alloc.Global.{Global}
 use Rattle.mrt_wire.specs.declared.BufferedInput.{BufferedInput}
 use Rattle.mrt_wire.specs.declared.Stamp.{Stamp}
 use Rattle.mrt_wire.specs.Next.{Took}
@@ -12,13 +11,17 @@ use Rattle.mrt_wire.specs.Splitting.{Splits}
 use Rattle.mrt_wire.specs.Verdict.{Frame}
 use Rattle.bgpdump_tool.specs.Run.{EndedByInput, EndsSo, Outputs, OverTaken, Texts, Writes, all_results, outputs_of}
 use Rattle.bgpdump_tool.specs.Script.{IsScript, Line}
-use Rattle.bgpdump_tool.specs.declared.Outcome.{Outcome}
+use Rattle.bgpdump.specs.declared.run.Devices.{Devices}
 use Rattle.bgpdump.specs.declared.run.Ended.{Ended}
 use Rattle.bgpdump.specs.declared.run.Streams.{Streams}
 
--- what the writers hold that came back relates so to what they held before; nothing is said where none came back
-abbrev pub Leaves : {O E : Type 0} → (O → Option (List ℕ)) → (E → Option (List ℕ)) → (Outputs → Outputs → Type 0) → O → E → Option (O × E) → Type 0
-Leaves contents contents' Relates out err writers = IfSome writers (λ both. Relates (outputs_of contents contents' out err) (outputs_of contents contents' both.0 both.1))
+-- this is so of what the writers hold that came back; nothing is said where none came back
+abbrev pub OverWriters : {O E : Type 0} → (O → Option (List ℕ)) → (E → Option (List ℕ)) → (Outputs → Type 0) → Option (O × E) → Type 0
+OverWriters contents contents' IsSo writers = IfSome writers (λ both. IsSo (outputs_of contents contents' both.0 both.1))
+
+-- it relates so to what they held before
+abbrev pub Leaves : {R O E : Type 0} → (O → Option (List ℕ)) → (E → Option (List ℕ)) → (Outputs → Outputs → Type 0) → Devices R O E → Ended R O E → Type 0
+Leaves contents contents' Relates devices ended = OverWriters contents contents' (Relates (outputs_of contents contents' devices.out devices.err)) ended.writers
 
 -- what the outputs of a run hold, with what is still in their buffers
 abbrev pub buffered_outputs : {R O E : Type 0} → (O → Option (List ℕ)) → (E → Option (List ℕ)) → Streams R O E → Outputs
@@ -40,20 +43,18 @@ has_failed buffered = IsTrue buffered.input.failed
 abbrev pub HasTaken : {R : Type 0} → (R → Option (List ℕ)) → (Option (List ℕ) → Option (List ℕ) → Type 0) → R → Option (BufferedInput R) → Type 0
 HasTaken remaining Relates reader input = IfSome input (λ input. Relates (remaining reader) (left_of remaining input))
 
--- the same where the run was ended by the input
-abbrev pub WasCutOff : {R O E : Type 0} → (R → Option (List ℕ)) → (Option (List ℕ) → Option (List ℕ) → Type 0) → R → Ended R O E → Type 0
-WasCutOff remaining Relates reader ended = EndedByInput ended.outcome → HasTaken remaining Relates reader ended.input
-
 -- where a reader tells its octets, the writers that came back have got the texts of what is found in them, as far as a run has that ended so
-abbrev pub LeavesSo : {O E : Type 0} → (O → Option (List ℕ)) → (E → Option (List ℕ)) → Stamp → (List Finding → Texts) → Option (List ℕ) → Outcome → O → E → Option (O × E) → Type 0
-LeavesSo contents contents' stamp texts left outcome out err writers =
-    (octets : List ℕ) (frames : List Frame) (rest : List ℕ) → left ≡ Some octets → Splits stamp None octets frames rest
-    → Leaves contents contents' (EndsSo outcome (texts (all_results stamp frames rest))) out err writers
+abbrev pub LeavesSo : {R O E : Type 0} → (R → Option (List ℕ)) → (O → Option (List ℕ)) → (E → Option (List ℕ)) → Stamp → (List Finding → Texts) → Devices R O E → Ended R O E → Type 0
+LeavesSo remaining contents contents' stamp texts devices ended =
+    (octets : List ℕ) (frames : List Frame) (rest : List ℕ) → remaining devices.reader ≡ Some octets → Splits stamp None octets frames rest
+    → Leaves contents contents' (EndsSo ended.outcome (texts (all_results stamp frames rest))) devices ended
 
--- the writers that came back have got the texts of what the records give that were taken whole
-abbrev pub LeavesWhole : {O E : Type 0} → (O → Option (List ℕ)) → (E → Option (List ℕ)) → Stamp → (List Finding → Texts) → Option (List ℕ) → Option (List ℕ) → O → E → Option (O × E) → Type 0
-LeavesWhole contents contents' stamp texts left left' out err writers =
-    OverTaken stamp left left' (λ frames rest. Leaves contents contents' (Writes (texts (all_results stamp frames []))) out err writers)
+-- where the input ended the run, the writers that came back have got the texts of what the records give that were taken whole
+abbrev pub LeavesWhole : {R O E : Type 0} → (R → Option (List ℕ)) → (O → Option (List ℕ)) → (E → Option (List ℕ)) → Stamp → (List Finding → Texts) → Devices R O E → Ended R O E → Type 0
+LeavesWhole remaining contents contents' stamp texts devices ended =
+    EndedByInput ended.outcome
+    → HasTaken remaining (λ left left'. OverTaken stamp left left' (λ frames rest. Leaves contents contents' (Writes (texts (all_results stamp frames []))) devices ended))
+    devices.reader ended.input
 
 -- this is so of the lines that the script asks for
 abbrev pub OverLines : List ℕ → (List Line → Type 0) → Type 0

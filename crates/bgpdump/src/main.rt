@@ -12,7 +12,7 @@ use ending::Ending;
 use files::{create, hold_standard_streams, open, read_outcome, read_script};
 use hints::{Form, Front, NotedReader};
 use mrt_wire::Stamp;
-use run::{dump, play};
+use run::{Devices, dump, play};
 use std::cell::Cell;
 use std::io::{Read, Write};
 use std::process::ExitCode;
@@ -133,9 +133,14 @@ fn run_task(
     input: NotedReader<Box<dyn Read + Drop>>,
     out: Box<dyn Write + Drop>,
 ) -> Outcome {
+    let devices = Devices {
+        reader: input,
+        out,
+        err: rt.stderr(),
+    };
     match task {
-        Task::Dump => dump(rt.alloc(), stamp, input, out, rt.stderr()).outcome,
-        Task::Play(script) => play(rt.alloc(), stamp, script, input, out, rt.stderr()).outcome,
+        Task::Dump => dump(rt.alloc(), stamp, devices).outcome,
+        Task::Play(script) => play(rt.alloc(), stamp, script, devices).outcome,
     }
 }
 

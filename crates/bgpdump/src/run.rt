@@ -8,8 +8,8 @@ ghost use Rattle.bgpdump_tool.specs.Course.{cut_texts, play_texts};
 ghost use Rattle.bgpdump_tool.specs.Reports.{dump_texts};
 ghost use Rattle.bgpdump_tool.specs.Run.{outputs_of};
 ghost use Rattle.bgpdump.specs.Endings.{lost_outcome};
-ghost use Rattle.bgpdump.specs.Joining.{HasTaken, KeepsBoth, Leaves, LeavesSo, LeavesWhole, OverLines};
-ghost use Rattle.bgpdump.specs.Joining.{TookMost, WasCutOff, buffered_outputs, has_failed};
+ghost use Rattle.bgpdump.specs.Joining.{HasTaken, Leaves, LeavesSo, LeavesWhole, TookMost};
+ghost use Rattle.bgpdump.specs.Joining.{KeepsBoth, OverLines, OverWriters, buffered_outputs, has_failed};
 
 use bgpdump_tool::{LONGEST_SCRIPT, Outcome, Output, WriteOutput, run_dump, run_play};
 use mrt_wire::{BufferedInput, Input, Route, Stamp};
@@ -25,6 +25,17 @@ const BUFFER_SIZE: usize = 65_536;
 /// hold then is left to the system: to take it apart would take as long again as the run. In the
 /// course of a run the player drops a store only once it has no keys, and then it has no memory.
 type Routes = LeftStore<RadixStore<Rc<Route>>>;
+
+/// What a run reads from, and what it writes to.
+#[derive(Drop)]
+pub struct Devices<R, O, E> {
+    /// What is read.
+    pub reader: R,
+    /// The writer of lines or replies.
+    pub out: O,
+    /// The writer of reports.
+    pub err: E,
+}
 
 /// How a run ended, with its input and its writers.
 #[derive(Drop)]
@@ -46,29 +57,25 @@ struct Streams<R, O: Write + Drop, E: Write + Drop> {
     err: WriteOutput<BufWriter<E>>,
 }
 
-/// The lines of a dump, which go to `out`, and its reports, which go to `err`.
+/// Writes the lines of a dump and its reports.
 pub fn dump<R: Read + Drop, O: Write + Drop, E: Write + Drop>(
     alloc: Global,
     stamp: Stamp,
-    reader: R,
-    out: O,
-    err: E,
+    devices: Devices<R, O, E>,
 ) -> Ended<R, O, E>
     // Of a reader that tells its octets: their lines and reports are what the writers have got, or
     // fronts of them.
-    ensures text { LeavesSo O.contents E.contents stamp dump_texts (R.remaining reader)
-        result.outcome out err result.writers }
+    ensures text { LeavesSo R.remaining O.contents E.contents stamp dump_texts devices result }
 
     // Where the reader failed, or has too much: just those of the records read whole.
-    ensures whole_records { WasCutOff R.remaining (λ left left'.
-        LeavesWhole O.contents E.contents stamp dump_texts left left' out err result.writers)
-        reader result }
+    ensures whole_records { LeavesWhole R.remaining O.contents E.contents
+        stamp dump_texts devices result }
 
     // What was read.
     ensures taken { HasTaken R.remaining (λ left left'. (taken : List ℕ)
-        × Consumes left left' taken) reader result.input }
+        × Consumes left left' taken) devices.reader result.input }
     ensures too_long { result.outcome ≡ Outcome.InputTooLong →
-        HasTaken R.remaining TookMost reader result.input }
+        HasTaken R.remaining TookMost devices.reader result.input }
 
     // Which runs end by a read fault, which aren't begun, and which leave no writers.
     ensures read_fault { result.outcome ≡ Outcome.ReadFault → IfSome result.input has_failed }
@@ -78,7 +85,7 @@ pub fn dump<R: Read + Drop, O: Write + Drop, E: Write + Drop>(
     ensures lost { IsNone result.writers →
         (result.outcome ≡ Outcome.WriteFault) ⊎ (result.outcome ≡ Outcome.Memory) }
 {
-    let Some(mut streams) = through_buffers(alloc, reader, out, err) else {
+    let Some(mut streams) = through_buffers(alloc, devices) else {
         return not_begun();
     };
     let outcome = run_dump(
@@ -91,37 +98,34 @@ pub fn dump<R: Read + Drop, O: Write + Drop, E: Write + Drop>(
     close(streams, outcome)
 }
 
-/// The replies to a script over a dump, which go to `out`, and its reports, which go to `err`.
+/// Writes the replies to a script over a dump and its reports.
 pub fn play<R: Read + Drop, O: Write + Drop, E: Write + Drop>(
     alloc: Global,
     stamp: Stamp,
     script: &[u8],
-    reader: R,
-    out: O,
-    err: E,
+    devices: Devices<R, O, E>,
 ) -> Ended<R, O, E>
     // Of a reader that tells its octets: the replies to the script over them, and its reports, are
     // what the writers have got, or fronts of them.
     ensures text { length script.now ≤ LONGEST_SCRIPT → OverLines script.now (λ lines.
-        LeavesSo O.contents E.contents stamp (play_texts lines) (R.remaining reader)
-        result.outcome out err result.writers) }
+        LeavesSo R.remaining O.contents E.contents stamp (play_texts lines) devices result) }
 
     // Where the reader failed, or has too much: just those of the commands that ended, and the
     // reports of the records read whole and of the lines before.
-    ensures whole_records { WasCutOff R.remaining (λ left left'. OverLines script.now (λ lines.
-        LeavesWhole O.contents E.contents stamp (cut_texts lines) left left'
-        out err result.writers)) reader result }
+    ensures whole_records { OverLines script.now (λ lines.
+        LeavesWhole R.remaining O.contents E.contents stamp (cut_texts lines) devices result) }
 
     // What was read.
     ensures taken { length script.now ≤ LONGEST_SCRIPT → HasTaken R.remaining
-        (λ left left'. (taken : List ℕ) × Consumes left left' taken) reader result.input }
+        (λ left left'. (taken : List ℕ) × Consumes left left' taken) devices.reader result.input }
     ensures too_long { result.outcome ≡ Outcome.InputTooLong →
-        HasTaken R.remaining TookMost reader result.input }
+        HasTaken R.remaining TookMost devices.reader result.input }
 
     // A script that is too long leaves the writers as they were.
-    ensures script_too_long { LONGEST_SCRIPT < length script.now → Leaves O.contents E.contents
-        (λ old new. (result.outcome ≡ Outcome.ScriptTooLong) × KeepsBoth old new)
-        out err result.writers }
+    ensures script_too_long { LONGEST_SCRIPT < length script.now →
+        IfSome result.writers (λ writers. result.outcome ≡ Outcome.ScriptTooLong) }
+    ensures untouched { LONGEST_SCRIPT < length script.now →
+        Leaves O.contents E.contents KeepsBoth devices result }
 
     // Which runs end by a read fault, which aren't begun, and which leave no writers.
     ensures read_fault { result.outcome ≡ Outcome.ReadFault → IfSome result.input has_failed }
@@ -131,7 +135,7 @@ pub fn play<R: Read + Drop, O: Write + Drop, E: Write + Drop>(
     ensures lost { IsNone result.writers →
         (result.outcome ≡ Outcome.WriteFault) ⊎ (result.outcome ≡ Outcome.Memory) }
 {
-    let Some(mut streams) = through_buffers(alloc, reader, out, err) else {
+    let Some(mut streams) = through_buffers(alloc, devices) else {
         return not_begun();
     };
     let outcome = run_play::<Routes, _, _, _>(
@@ -148,14 +152,12 @@ pub fn play<R: Read + Drop, O: Write + Drop, E: Write + Drop>(
 /// Puts a buffer before the reader and behind each writer.
 fn through_buffers<R: Read + Drop, O: Write + Drop, E: Write + Drop>(
     alloc: Global,
-    reader: R,
-    out: O,
-    err: E,
+    devices: Devices<R, O, E>,
 ) -> Option<Streams<R, O, E>>
     ensures left { IfSome result (λ streams.
-        ⟦<BufferedInput<R> as Input>⟧.left streams.input ≡ R.remaining reader) }
+        ⟦<BufferedInput<R> as Input>⟧.left streams.input ≡ R.remaining devices.reader) }
     ensures written { IfSome result (λ streams. buffered_outputs O.contents E.contents streams
-        ≡ outputs_of O.contents E.contents out err) }
+        ≡ outputs_of O.contents E.contents devices.out devices.err) }
     ensures input { IfSome result (λ streams.
         ⟦<BufferedInput<R> as Input>⟧.failed streams.input ≡ false) }
     ensures out { IfSome result (λ streams.
@@ -163,6 +165,7 @@ fn through_buffers<R: Read + Drop, O: Write + Drop, E: Write + Drop>(
     ensures err { IfSome result (λ streams.
         ⟦<WriteOutput<BufWriter<E>> as Output>⟧.failed streams.err ≡ false) }
 {
+    let Devices { reader, out, err } = devices;
     let reader = BufReader::with_capacity(alloc, BUFFER_SIZE, reader).ok()?;
     let out = BufWriter::with_capacity(alloc, BUFFER_SIZE, out).ok()?;
     let err = BufWriter::with_capacity(alloc, BUFFER_SIZE, err).ok()?;
@@ -192,9 +195,9 @@ fn close<R: Read + Drop, O: Write + Drop, E: Write + Drop>(
     outcome: Outcome,
 ) -> Ended<R, O, E>
     ensures input { result.input ≡ Some streams.input }
-    ensures kept { IfSome result.writers (λ writers. (result.outcome ≡ outcome) × KeepsBoth
-        (buffered_outputs O.contents E.contents streams)
-        (outputs_of O.contents E.contents writers.0 writers.1)) }
+    ensures told { IfSome result.writers (λ writers. result.outcome ≡ outcome) }
+    ensures kept { OverWriters O.contents E.contents
+        (KeepsBoth (buffered_outputs O.contents E.contents streams)) result.writers }
     ensures lost { IsNone result.writers → result.outcome ≡ lost_outcome outcome }
 {
     match (
