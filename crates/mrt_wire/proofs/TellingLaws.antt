@@ -8,15 +8,14 @@ use Rattle.std.proofs.Math.Seq.{take-suc}
 use Rattle.ip_prefix.specs.Network.{Network}
 use Rattle.mrt_events.specs.declared.peer.Peer.{Peer}
 use Rattle.mrt_events.specs.declared.event.Item.{Item}
-use Rattle.ip_prefix.specs.declared.addr.Family.{Family}
 use Rattle.ip_prefix.specs.Sequences.{Begins, SpellsAll}
 use Rattle.octet_forms.proofs.Sequences.{one_more}
 use Rattle.mrt_wire.specs.declared.rib.Snapshot.{Snapshot}
 use Rattle.mrt_wire.specs.declared.rib.EntryItems.{EntryItems}
 use Rattle.mrt_events.specs.Event.{Saying, saying}
 use Rattle.mrt_wire.specs.Rib.{RibEntry, SpellsEntry}
-use Rattle.mrt_wire.specs.Items.{entry_items, unknown_peer, first_unknown}
-use Rattle.mrt_wire.specs.Judging.{Adds, AreItemsOf}
+use Rattle.mrt_wire.specs.Items.{unknown_peer, first_unknown}
+use Rattle.mrt_wire.specs.Judging.{Adds, AreItemsOf, snapshot_items}
 
 -- one of three, whichever is first
 option_or-assoc : {A : Type 0} (a b c : Option A) → option_or (option_or a b) c ≡ option_or a (option_or b c)
@@ -50,23 +49,23 @@ one_more_prefix f old items new item prefixes k prefix a n s g less =
 -- ---- entries read so far
 
 -- so many entries stand before the rest, and this is what they say
-pub record ItemsSoFar (family : Family) (snapshot : Snapshot) (prefix : Network) (count : ℕ) (told : EntryItems) (rest octets : List ℕ) : Type 0 where
+pub record ItemsSoFar (snapshot : Snapshot) (prefix : Network) (count : ℕ) (told : EntryItems) (rest octets : List ℕ) : Type 0 where
   pub entries : List RibEntry
   pub size : length entries ≡ count
-  pub read : Begins (SpellsAll (SpellsEntry family)) entries rest octets
+  pub read : Begins (SpellsAll (SpellsEntry snapshot.family)) entries rest octets
   pub tells : AreItemsOf snapshot (record { prefix = prefix; entries = entries }) told
 
 -- with an entry more
-pub ItemsSoFar-push : (family : Family) (snapshot : Snapshot) (prefix : Network) (count : ℕ) (told told' : EntryItems) (rest more octets : List ℕ) (entry : RibEntry) → ItemsSoFar family snapshot prefix count told rest octets
-    → Begins (SpellsEntry family) entry more rest
-    → map saying told'.items.items ≡ map saying told.items.items ++ entry_items snapshot.peers.now snapshot.stamp snapshot.seconds prefix entry
-    → told'.unknown ≡ option_or told.unknown (unknown_peer snapshot.peers.now entry) → ItemsSoFar family snapshot prefix (count + 1) told' more octets
-ItemsSoFar-push family snapshot prefix count told told' rest more octets entry s front items unknown =
-    let says = entry_items snapshot.peers.now snapshot.stamp snapshot.seconds prefix in
+pub ItemsSoFar-push : (snapshot : Snapshot) (prefix : Network) (count : ℕ) (told told' : EntryItems) (rest more octets : List ℕ) (entry : RibEntry) → ItemsSoFar snapshot prefix count told rest octets
+    → Begins (SpellsEntry snapshot.family) entry more rest
+    → map saying told'.items.items ≡ map saying told.items.items ++ snapshot_items snapshot prefix entry
+    → told'.unknown ≡ option_or told.unknown (unknown_peer snapshot.peers.now entry) → ItemsSoFar snapshot prefix (count + 1) told' more octets
+ItemsSoFar-push snapshot prefix count told told' rest more octets entry s front items unknown =
+    let says = snapshot_items snapshot prefix in
     record {
       entries = s.entries ++ entry ∷ [];
       size = omega (arith, length-append s.entries (entry ∷ []), s.size);
-      read = one_more (SpellsEntry family) s.entries entry more rest octets s.read front;
+      read = one_more (SpellsEntry snapshot.family) s.entries entry more rest octets s.read front;
       tells = record {
         items = items ∙ ap (λ l. l ++ says entry) s.tells.items ∙ sym (flat_map-push says s.entries entry);
         unknown = unknown ∙ ap (λ o. option_or o (unknown_peer snapshot.peers.now entry)) s.tells.unknown ∙ sym (first_unknown-push snapshot.peers.now s.entries entry);

@@ -1,6 +1,7 @@
 -- Private.
 -- What a call of `next` answers.
 use Rattle.std.specs.Prelude.{◌≡◌, ◌⊎◌, ◌∷◌, [], ℕ, ◌+◌, ◌++◌, List, Option, Result, Ok, Err, take}
+use Rattle.std.specs.Io.KnownBytes.{Consumes}
 use Rattle.mrt_frames.specs.declared.fault.RecordKind.TheVariants.{CutRecord}
 use Rattle.mrt_frames.specs.declared.fault.SourceFault.{SourceFault}
 use Rattle.mrt_frames.specs.declared.fault.SourceFault.TheVariants.{Memory}
@@ -48,6 +49,10 @@ IsLeft fault octets = IsBegun octets ⊎ ((fault ≡ Memory) × ((r : Record) ×
 abbrev pub Nexts : Place → Place → Option (List ℕ) → List ℕ → Result Next SourceFault → Type 0
 Nexts p q left octets (Ok answer) = ((frame : Frame) × IsFrameAt p q answer octets frame) ⊎ IsRestAt p q left answer octets
 Nexts p q left octets (Err fault) = IsLeft fault octets × Stops fault q.offset p.limit × (q ≡ stopped_place Spent p octets)
+
+-- octets were taken from the input on the way from one place to the other, and this was answered
+abbrev pub IsStep : Place → Place → Option (List ℕ) → Option (List ℕ) → Result Next SourceFault → Type 0
+IsStep p q left left' result = (octets : List ℕ) × Consumes left left' octets × Nexts p q left' octets result
 
 -- what may follow the octets taken in a call that answered so: none where it saw the end
 abbrev pub MayFollow : Next → List ℕ → Type 0

@@ -1,7 +1,9 @@
 -- Private.
 -- What the private calls make of a record.
-use Rattle.std.specs.Prelude.{◌≡◌, ℕ, List, ◌++◌, map, Option, Result, Ok, Err}
-use Rattle.ip_prefix.specs.Address.{Address}
+use Rattle.std.specs.Prelude.{◌≡◌, ℕ, List, ◌++◌, map, Result, Ok, Err}
+use Rattle.ip_prefix.specs.declared.addr.Family.{Family}
+use Rattle.ip_prefix.specs.Network.{Network}
+use Rattle.ip_prefix.specs.Sequences.{Begins}
 use Rattle.bgp_wire.specs.Content.{SpellsRibAttrs}
 use Rattle.bgp_wire.specs.Reach.{attrs_with}
 use Rattle.bgp_wire.specs.Readers.{Refuses}
@@ -25,11 +27,14 @@ use Rattle.mrt_wire.specs.declared.rib.EntryItems.{EntryItems}
 use Rattle.mrt_wire.specs.declared.rib.ReadEntry.{ReadEntry}
 use Rattle.mrt_wire.specs.declared.route_pool.SentAttrs.{SentAttrs}
 use Rattle.mrt_wire.specs.declared.session.SessionItems.{SessionItems}
+use Rattle.mrt_wire.specs.declared.table_dump.FramedEntry.{FramedEntry}
 use Rattle.mrt_wire.specs.declared.update.Announcement.{Announcement}
+use Rattle.mrt_wire.specs.declared.update.MpAnnouncement.{MpAnnouncement}
 use Rattle.mrt_frames.specs.Record.{Record}
 use Rattle.mrt_frames.specs.Parts.{record_under}
-use Rattle.mrt_wire.specs.Rib.{RibEntry, PrefixEntries}
-use Rattle.mrt_wire.specs.Items.{announcements, entry_time, entries_items, first_unknown, mp_announcements, route_of, session_items}
+use Rattle.mrt_wire.specs.Rib.{RibEntry, PrefixEntries, SpellsEntries}
+use Rattle.mrt_wire.specs.TableDump.{ArePeerEntryFields}
+use Rattle.mrt_wire.specs.Items.{announcements, entry_items, entry_time, entries_items, first_unknown, mp_announcements, route_of, session_items}
 use Rattle.mrt_events.specs.Event.{Saying, saying}
 use Rattle.mrt_wire.specs.Session.{SessionBody}
 use Rattle.mrt_wire.specs.Content.{Content}
@@ -56,10 +61,11 @@ RefusesSent sent fault = Refuses (SpellsRibAttrs sent.family sent.width) sent.oc
 abbrev pub announced_with : Announcement → Attrs → List Saying
 announced_with announcement attrs = announcements announcement.peer.now (route_of attrs announcement.seconds) announcement.prefixes.now
 
--- the same with this next hop
-abbrev pub announced_through : Announcement → Attrs → Option Address → List Saying
-announced_through announcement attrs next_hop =
-    mp_announcements announcement.peer.now announcement.seconds (attrs_with attrs next_hop announcement.prefixes.now) announcement.prefixes.now
+-- what one says that has a next hop of its own
+abbrev pub announced_through : MpAnnouncement → Attrs → List Saying
+announced_through mp attrs =
+    mp_announcements mp.announcement.peer.now mp.announcement.seconds
+    (attrs_with attrs mp.next_hop mp.announcement.prefixes.now) mp.announcement.prefixes.now
 
 -- the record that was taken so
 abbrev pub taken_record : RawRecord → Record
@@ -95,7 +101,23 @@ entry_read entry = record { attrs = entry.route.value.attrs; time = entry.origin
 abbrev pub IsTimed : Snapshot → ReadEntry → Type 0
 IsTimed snapshot entry = entry.route.value.time ≡ entry_time snapshot.stamp snapshot.seconds entry.originated
 
+-- what an entry of a prefix announces in a table
+abbrev pub snapshot_items : Snapshot → Network → RibEntry → List Saying
+snapshot_items snapshot = entry_items snapshot.peers.now snapshot.stamp snapshot.seconds
+
 -- entries say this, and this is the first number among them that is no peer's
 pub record AreItemsOf (snapshot : Snapshot) (rib : PrefixEntries) (told : EntryItems) : Type 0 where
   pub items : map saying told.items.items ≡ entries_items snapshot.peers.now snapshot.stamp snapshot.seconds rib
   pub unknown : told.unknown ≡ first_unknown snapshot.peers.now rib.entries
+
+-- the octets are entries of the prefix behind their number, and any octets, and the entries say this
+abbrev pub EntriesTold : Snapshot → Network → EntryItems → List ℕ → Type 0
+EntriesTold snapshot prefix told octets =
+    (entries : List RibEntry) × SpellsEntries snapshot.family entries octets
+    × AreItemsOf snapshot (record { prefix = prefix; entries = entries }) told
+
+-- the octets begin with an entry with its peer, which was framed so; its numbers and status may be any
+abbrev pub IsFramed : Family → FramedEntry → List ℕ → Type 0
+IsFramed family f octets =
+    (numbers status more : List ℕ)
+    × Begins (ArePeerEntryFields family) (numbers, (f.prefix, (status, (f.time, (f.peer, f.attributes.now))))) more octets

@@ -53,6 +53,13 @@ pub(crate) struct RawRecord<'a> {
     pub(crate) body: &'a [u8],
 }
 
+/// How a table is read: the family of its prefixes, and which time its routes are given.
+#[derive(Clone, Copy)]
+struct TableReading {
+    family: Family,
+    stamp: Stamp,
+}
+
 /// The peers that an index has.
 fn peers_in(index: &Option<Peers>) -> &[Peer]
     ensures { result.now ≡ peers_in index.now }
@@ -151,21 +158,21 @@ fn judge_index(
 fn judge_rib(
     alloc: Global,
     pool: &mut Pool,
-    stamp: Stamp,
     index: &Option<Peers>,
-    family: Family,
+    reading: TableReading,
     raw: RawRecord<'_>,
 ) -> Result<Event, Refusal>
-    requires { HasForm raw.header.kind raw.header.subtype (Form.Entries family) }
-    ensures { Judges stamp index.now index.now (taken_record raw.entry) result }
+    requires { HasForm raw.header.kind raw.header.subtype (Form.Entries reading.family) }
+    ensures { Judges reading.stamp index.now index.now (taken_record raw.entry) result }
 {
     let RawRecord { header, body } = raw;
     let snapshot = Snapshot {
         peers: peers_in(index),
+        family: reading.family,
         seconds: header.seconds,
-        stamp,
+        stamp: reading.stamp,
     };
-    let told = read_rib(alloc, pool, family, snapshot, body)?;
+    let told = read_rib(alloc, pool, snapshot, body)?;
     if let Some(kind) = entries_fault(index, told.unknown) {
         return Err(Refusal::Fault(kind));
     }
@@ -209,7 +216,10 @@ pub(crate) fn judge(
     match form {
         Form::Entry(family) => judge_entry(alloc, pool, stamp, family, raw),
         Form::Peers => judge_index(alloc, index, raw),
-        Form::Entries(family) => judge_rib(alloc, pool, stamp, index, family, raw),
+        Form::Entries(family) => {
+            let reading = TableReading { family, stamp };
+            judge_rib(alloc, pool, index, reading, raw)
+        }
         Form::Session(SessionForm { kind, width, timed }) => {
             let session = SessionForm { kind, width, timed };
             judge_session(alloc, pool, session, raw)

@@ -1,14 +1,14 @@
 //! Reading the entries of a table for one prefix (RFC 6396, section 4.3.2).
 
-ghost use Rattle.std.specs.Prelude.{◌≡◌, List, slice_get, OnOk, IfSome, IfNone, IfOk, IfErr};
+ghost use Rattle.std.specs.Prelude.{◌≡◌, slice_get, OnOk, IfSome, IfNone, IfOk, IfErr};
 ghost use Rattle.std.specs.Option.{option_or};
 ghost use Rattle.ip_prefix.specs.Sequences.{Begins};
 ghost use Rattle.ip_prefix.specs.Fronts.{BeginsWithNone};
 ghost use Rattle.bgp_wire.specs.Readers.{Refuses, RefusesFront};
-ghost use Rattle.mrt_wire.specs.Rib.{RibEntry, PrefixEntries, AreEntryFields, SpellsEntry, SpellsEntries};
+ghost use Rattle.mrt_wire.specs.Rib.{PrefixEntries, AreEntryFields, SpellsEntry, SpellsEntries};
 ghost use Rattle.mrt_wire.specs.Rib.{SpellsPrefixed, SpellsRib};
-ghost use Rattle.mrt_wire.specs.Items.{entry_items, unknown_peer};
-ghost use Rattle.mrt_wire.specs.Judging.{Adds, AreItemsOf, IsTimed, entry_read};
+ghost use Rattle.mrt_wire.specs.Items.{unknown_peer};
+ghost use Rattle.mrt_wire.specs.Judging.{Adds, AreItemsOf, EntriesTold, IsTimed, entry_read, snapshot_items};
 
 use crate::fields::{skip, split_short, split_sized, split_word};
 use crate::pool::Pool;
@@ -37,11 +37,12 @@ pub(crate) struct ReadEntry {
     pub(crate) index: u16,
 }
 
-/// A table as it was written: by their numbers its peers, when it was written, and which time its
-/// routes are given.
+/// A table as it was written: by their numbers its peers, the family of its prefixes, when it was
+/// written, and which time its routes are given.
 #[derive(Clone, Copy)]
 pub(crate) struct Snapshot<'a> {
     pub(crate) peers: &'a [Peer],
+    pub(crate) family: Family,
     pub(crate) seconds: u32,
     pub(crate) stamp: Stamp,
 }
@@ -85,14 +86,13 @@ fn frame_entry(octets: &[u8]) -> Option<FramedEntry<'_>>
 fn read_entry<'a>(
     alloc: Global,
     pool: &mut Pool,
-    family: Family,
     snapshot: Snapshot<'_>,
     octets: &'a [u8],
 ) -> Result<(ReadEntry, &'a [u8]), WireFault>
     ensures found { IfOk result (λ found.
-        Begins (SpellsEntry family) (entry_read found.0) found.1.now octets.now) }
+        Begins (SpellsEntry snapshot.entry.family) (entry_read found.0) found.1.now octets.now) }
     ensures timed { IfOk result (λ found. IsTimed snapshot.entry found.0) }
-    ensures refused { IfErr result (RefusesFront (SpellsEntry family) octets.now) }
+    ensures refused { IfErr result (RefusesFront (SpellsEntry snapshot.entry.family) octets.now) }
 {
     let Some(framed) = frame_entry(octets) else {
         return Err(WireFault::Malformed);
@@ -100,7 +100,7 @@ fn read_entry<'a>(
     let time = time_of(snapshot.stamp, snapshot.seconds, framed.time);
     let sent = SentAttrs {
         octets: framed.attributes,
-        family,
+        family: snapshot.family,
         width: AsWidth::Four,
     };
     let route = pool.rib_route(alloc, usize::from(framed.index), sent, time)?;
@@ -130,8 +130,7 @@ impl EntryItems {
     ) -> Result<(), AllocError>
         requires { IsTimed snapshot entry }
         ensures items { OnOk result (Adds self.old.items.items self.new.items.items
-            (entry_items snapshot.entry.peers.now snapshot.entry.stamp
-            snapshot.entry.seconds prefix (entry_read entry))) }
+            (snapshot_items snapshot.entry prefix (entry_read entry))) }
         ensures unknown { OnOk result (self.new.unknown ≡
             option_or self.old.unknown (unknown_peer snapshot.entry.peers.now (entry_read entry))) }
     {
@@ -148,15 +147,12 @@ impl EntryItems {
 fn read_entries(
     alloc: Global,
     pool: &mut Pool,
-    family: Family,
     snapshot: Snapshot<'_>,
     prefix: Prefix,
     octets: &[u8],
 ) -> Result<EntryItems, WireFault>
-    ensures told { IfOk result (λ told. (entries : List RibEntry)
-        × SpellsEntries family entries octets.now
-        × AreItemsOf snapshot.entry record { prefix = prefix; entries = entries } told) }
-    ensures refused { IfErr result (Refuses (SpellsEntries family) octets.now) }
+    ensures told { IfOk result (λ told. EntriesTold snapshot.entry prefix told octets.now) }
+    ensures refused { IfErr result (Refuses (SpellsEntries snapshot.entry.family) octets.now) }
 {
     let Some(count) = split_short(octets) else {
         return Err(WireFault::Malformed);
@@ -168,7 +164,7 @@ fn read_entries(
     };
     let mut rest = count.rest;
     for _ in 0..count.value {
-        let (entry, more) = read_entry(alloc, pool, family, snapshot, rest)?;
+        let (entry, more) = read_entry(alloc, pool, snapshot, rest)?;
         told.add(snapshot, prefix, entry)?;
         rest = more;
     }
@@ -179,35 +175,33 @@ fn read_entries(
 fn read_prefixed(
     alloc: Global,
     pool: &mut Pool,
-    family: Family,
     snapshot: Snapshot<'_>,
     octets: &[u8],
 ) -> Result<EntryItems, WireFault>
     ensures told { IfOk result (λ told. (rib : PrefixEntries)
-        × SpellsPrefixed family rib octets.now × AreItemsOf snapshot.entry rib told) }
-    ensures refused { IfErr result (Refuses (SpellsPrefixed family) octets.now) }
+        × SpellsPrefixed snapshot.entry.family rib octets.now × AreItemsOf snapshot.entry rib told) }
+    ensures refused { IfErr result (Refuses (SpellsPrefixed snapshot.entry.family) octets.now) }
 {
-    let Some(found) = Prefix::read(family, octets) else {
+    let Some(found) = Prefix::read(snapshot.family, octets) else {
         return Err(WireFault::Malformed);
     };
     let (_, rest) = octets.split_at(found.1);
-    read_entries(alloc, pool, family, snapshot, found.0, rest)
+    read_entries(alloc, pool, snapshot, found.0, rest)
 }
 
 /// What the entries of RIB_IPV4_UNICAST or of RIB_IPV6_UNICAST say.
 pub(crate) fn read_rib(
     alloc: Global,
     pool: &mut Pool,
-    family: Family,
     snapshot: Snapshot<'_>,
     octets: &[u8],
 ) -> Result<EntryItems, WireFault>
     ensures told { IfOk result (λ told. (rib : PrefixEntries)
-        × SpellsRib family rib octets.now × AreItemsOf snapshot.entry rib told) }
-    ensures refused { IfErr result (Refuses (SpellsRib family) octets.now) }
+        × SpellsRib snapshot.entry.family rib octets.now × AreItemsOf snapshot.entry rib told) }
+    ensures refused { IfErr result (Refuses (SpellsRib snapshot.entry.family) octets.now) }
 {
     let Some(rest) = skip(SEQUENCE_SIZE, octets) else {
         return Err(WireFault::Malformed);
     };
-    read_prefixed(alloc, pool, family, snapshot, rest)
+    read_prefixed(alloc, pool, snapshot, rest)
 }

@@ -1,13 +1,12 @@
 //! A source of events.
 
-ghost use Rattle.std.specs.Prelude.{◌≡◌, ◌≤◌, ◌+◌, ◌||◌, ◌↔◌, ℕ, List, Ok, Err, IsTrue};
-ghost use Rattle.std.specs.Io.KnownBytes.{Consumes};
+ghost use Rattle.std.specs.Prelude.{◌≡◌, ◌≤◌, ◌+◌, ◌||◌, ◌↔◌, Ok, Err, IsTrue};
 ghost use Rattle.mrt_wire.specs.declared.next.Next.{Next};
 ghost use Rattle.mrt_frames.specs.Device.{is_read};
 ghost use Rattle.mrt_wire.specs.Results.{fault_findings};
 ghost use Rattle.mrt_wire.specs.Place.{start_place};
 ghost use Rattle.mrt_wire.specs.Judging.{judged_answer};
-ghost use Rattle.mrt_wire.specs.Answered.{Nexts, answer_findings, IsFirstResult};
+ghost use Rattle.mrt_wire.specs.Answered.{IsStep, answer_findings, IsFirstResult};
 ghost use Rattle.mrt_wire.specs.Progress.{spent_place};
 
 use crate::judging::{RawRecord, Refusal, judge};
@@ -100,9 +99,8 @@ impl Source {
     #[inline(always)]
     pub fn next<I: Input>(&mut self, input: &mut I) -> Result<Next, SourceFault>
         // Octets are taken: those of a record, which is judged, or the rest; or a fault came.
-        ensures next { self.old.phase ≡ Phase.Reading → (octets : List ℕ)
-            × Consumes (I.left input.old) (I.left input.new) octets
-            × Nexts self.old self.new (I.left input.new) octets result }
+        ensures next { self.old.phase ≡ Phase.Reading →
+            IsStep self.old self.new (I.left input.old) (I.left input.new) result }
 
         // So it is the first result of the octets taken and any behind them, or of none where the
         // answer saw the end.
@@ -133,8 +131,8 @@ impl Source {
     /// The same for a source that reads. A fault leaves it as if it still did.
     #[inline(always)]
     fn read<I: Input>(&mut self, input: &mut I) -> Result<Next, SourceFault>
-        ensures next { (octets : List ℕ) × Consumes (I.left input.old) (I.left input.new) octets
-            × Nexts self.old (spent_place self.new result) (I.left input.new) octets result }
+        ensures next { IsStep self.old (spent_place self.new result)
+            (I.left input.old) (I.left input.new) result }
         ensures failed { I.failed input.new ≡ (I.failed input.old || is_read result) }
     {
         let offset = self.frames.taken();

@@ -1,12 +1,11 @@
 //! Reading an entry of a table with its peer (RFC 6396, section 4.2).
 
-ghost use Rattle.std.specs.Prelude.{ℕ, List, IfSome, IfNone};
-ghost use Rattle.ip_prefix.specs.Sequences.{Begins};
+ghost use Rattle.std.specs.Prelude.{IfSome, IfNone};
 ghost use Rattle.ip_prefix.specs.Fronts.{BeginsWithNone};
 ghost use Rattle.bgp_wire.specs.Readers.{Reads};
 ghost use Rattle.mrt_wire.specs.Bodies.{FindsField};
 ghost use Rattle.mrt_wire.specs.Items.{peer_entry_items};
-ghost use Rattle.mrt_wire.specs.Judging.{Told};
+ghost use Rattle.mrt_wire.specs.Judging.{IsFramed, Told};
 ghost use Rattle.mrt_wire.specs.TableDump.{ArePeerEntryFields, SpellsNarrowPeer, SpellsPeerEntry, SpellsPrefix};
 
 use crate::fields::{Field, fill_address, skip, split_asn, split_octet, split_sized, split_word};
@@ -72,9 +71,7 @@ fn split_narrow_peer(family: Family, octets: &[u8]) -> Option<Field<'_, Peer>>
 /// The entry in front.
 #[inline(always)]
 fn frame_entry(family: Family, octets: &[u8]) -> Option<FramedEntry<'_>>
-    ensures some { IfSome result (λ f. (numbers status more : List ℕ)
-        × Begins (ArePeerEntryFields family)
-        (numbers, (f.prefix, (status, (f.time, (f.peer, f.attributes.now))))) more octets.now) }
+    ensures some { IfSome result (λ framed. IsFramed family framed octets.now) }
     ensures none { IfNone result (BeginsWithNone (ArePeerEntryFields family) octets.now) }
 {
     let after_numbers = skip(NUMBERS_SIZE, octets)?;

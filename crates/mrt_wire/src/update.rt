@@ -14,12 +14,21 @@ use mrt_events::{Item, Items, Peer, Route, SharedRanges};
 use std::alloc::{AllocError, Global};
 use std::rc::Rc;
 
-/// Prefixes that were announced together: by whom, and when.
+/// Prefixes that were announced together: by whom, when, and whether their attributes are kept
+/// for others.
 #[derive(Clone, Copy)]
 struct Announcement<'a, 'b> {
     peer: &'a Peer,
     prefixes: &'b Prefixes,
     seconds: u32,
+    is_kept: bool,
+}
+
+/// Prefixes that were announced together in MP_REACH_NLRI, and the next hop that they have there.
+#[derive(Clone, Copy)]
+struct MpAnnouncement<'a, 'b> {
+    announcement: Announcement<'a, 'b>,
+    next_hop: Option<Addr>,
 }
 
 /// Adds what withdrawals of the prefixes say.
@@ -64,16 +73,16 @@ fn add_announcements(
     items: &mut Vec<Item>,
     announcement: Announcement<'_, '_>,
     attrs: &mut Attrs,
-    is_kept: bool,
 ) -> Result<(), AllocError>
     ensures added { OnOk result (Adds items.old.items items.new.items
         (announced_with announcement.entry attrs.old)) }
-    ensures kept { is_kept ≡ true → attrs.new ≡ attrs.old }
+    ensures kept { announcement.entry.is_kept ≡ true → attrs.new ≡ attrs.old }
 {
     let Announcement {
         peer,
         prefixes,
         seconds,
+        is_kept,
     } = announcement;
     if prefixes.as_slice().is_empty() {
         return Ok(());
@@ -86,25 +95,28 @@ fn add_announcements(
     share_route(items, peer, &route, prefixes)
 }
 
-/// Adds what the announcement with these attributes and this next hop says. The attributes are
-/// given away.
+/// Adds what the announcement with these attributes and its own next hop says. The attributes are
+/// given away unless they are kept.
 #[inline(always)]
 fn add_mp_announcements(
     alloc: Global,
     routes: &mut RoutePool,
     items: &mut Vec<Item>,
-    announcement: Announcement<'_, '_>,
+    mp_announcement: MpAnnouncement<'_, '_>,
     attrs: &mut Attrs,
-    next_hop: Option<Addr>,
 ) -> Result<(), AllocError>
     ensures { OnOk result (Adds items.old.items items.new.items
-        (announced_through announcement.entry attrs.old next_hop)) }
+        (announced_through mp_announcement.entry attrs.old)) }
 {
+    let MpAnnouncement {
+        announcement,
+        next_hop,
+    } = mp_announcement;
     if announcement.prefixes.as_slice().is_empty() {
         return Ok(());
     }
     attrs.next_hop = next_hop;
-    add_announcements(alloc, routes, items, announcement, attrs, false)
+    add_announcements(alloc, routes, items, announcement, attrs)
 }
 
 /// How many prefixes an UPDATE of these parts names, or `usize::MAX` where more.
@@ -145,22 +157,25 @@ fn items_of_update(
             peer,
             prefixes: &pool.parts.announced,
             seconds,
+            is_kept,
         },
         &mut pool.parts.attrs,
-        is_kept,
     )?;
     let middle = items.len();
     add_mp_announcements(
         alloc,
         &mut pool.routes,
         &mut items,
-        Announcement {
-            peer,
-            prefixes: &pool.parts.mp_announced,
-            seconds,
+        MpAnnouncement {
+            announcement: Announcement {
+                peer,
+                prefixes: &pool.parts.mp_announced,
+                seconds,
+                is_kept: false,
+            },
+            next_hop: pool.parts.mp_hop,
         },
         &mut pool.parts.attrs,
-        pool.parts.mp_hop,
     )?;
     let end = items.len();
     Ok(Items::sharing(items, SharedRanges { start, middle, end }))

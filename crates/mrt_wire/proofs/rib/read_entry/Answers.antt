@@ -7,11 +7,11 @@ use Rattle.mrt_wire.proofs.rib.read_entry.Goals as goal
 
 pub returns-in_default-clause-refused : goal.returns-in_default-clause-refused
 returns-in_default-clause-refused c entry rest b =
-    c.in_default.ensures.none (entry.index, (entry.time, b.spelled.0)) rest (entry_fields c.args.family entry rest c.args.octets.now b)
+    c.in_default.ensures.none (entry.index, (entry.time, b.spelled.0)) rest (entry_fields c.args.snapshot.family entry rest c.args.octets.now b)
 
 pub returns-in_err-route-clause-refused : goal.returns-in_err-route-clause-refused
 returns-in_err-route-clause-refused c =
-    let family = c.args.family in
+    let family = c.args.snapshot.family in
     let octets = c.args.octets.now in
     let f = c.in-Some.framed in
     let p = err_from_is_err_and c.from_residual.result c.from_residual.ensures.1 in

@@ -14,7 +14,7 @@ returns-in_default-clause-refused c rib s = c.in_default.ensures.none rib.prefix
 
 pub returns-clause-refused : goal.returns-clause-refused
 returns-clause-refused c =
-    let family = c.args.family in
+    let family = c.args.snapshot.family in
     let octets = c.args.octets.now in
     let rest = c.split_at.result.1.now in
     let prefix = c.in-Some.found.0 in

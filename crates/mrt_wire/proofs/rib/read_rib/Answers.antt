@@ -10,7 +10,7 @@ returns-in_default-clause-refused c rib s = c.in_default.ensures.none s.0 s.1.re
 
 pub returns-clause-refused : goal.returns-clause-refused
 returns-clause-refused c =
-    let family = c.args.family in
+    let family = c.args.snapshot.family in
     let octets = c.args.octets.now in
     let rest = c.in-Some.rest.now in
     let number = c.in-Some.ensures.some in
