@@ -1,12 +1,12 @@
 //! The printed texts of paths and communities.
 
-ghost use Rattle.std.specs.Prelude.{◌≡◌, ℕ, ◌+◌, ◌<◌, ◌≤◌, List, [], ◌∷◌, ◌++◌, OnOk, OnErr, length, map, decimal};
-ghost use Rattle.std.specs.List.{flat_map, join_with_byte};
+ghost use Rattle.std.specs.Prelude.{◌≡◌, ◌+◌, ◌<◌, ◌≤◌, [], ◌∷◌, ◌++◌, OnOk, OnErr, length, map, decimal};
+ghost use Rattle.std.specs.List.{flat_map};
 ghost use Rattle.bgp_paths.specs.Text.{bracketed_numbers, segment_words, path_text};
 ghost use Rattle.bgp_paths.specs.Text.{halves_text, community_text, communities_text};
 ghost use Rattle.ip_prefix.specs.Written.{IsWritten, ended_words};
 ghost use Rattle.octet_text.specs.declared.cursor.TheConstants.{SPACE};
-ghost use Rattle.bgp_paths.specs.Printed.{StillBegins};
+ghost use Rattle.bgp_paths.specs.Printed.{StillBegins, WordsJoined};
 
 use crate::path::AsPath;
 use crate::segment::{Segment, SegmentKind};
@@ -106,9 +106,7 @@ pub fn put_communities(communities: &[u32], text: &mut Vec<u8>) -> Result<(), Al
 /// Takes away the separator behind the last word, where words were appended to a text of this
 /// length.
 fn drop_separator(before: usize, text: &mut Text)
-    ensures { (old : List ℕ) (separator : ℕ) (words : List (List ℕ)) → length old ≡ before →
-        text.old ≡ old ++ ended_words separator words →
-        text.new ≡ old ++ join_with_byte separator words }
+    ensures { WordsJoined before text.old text.new }
 {
     let end = text.len().saturating_sub(1).max(before);
     text.truncate(end);

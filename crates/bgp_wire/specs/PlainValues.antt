@@ -72,3 +72,9 @@ value_at kind octets wanted = if kind == wanted then Some octets else None
 -- the first values, with one value more
 abbrev pub with_value : ℕ → List ℕ → FirstOf → FirstOf
 with_value kind octets first wanted = value_or (first wanted) (value_at kind octets wanted)
+
+-- of a list of these types: where the old attributes are what was read of it, the new ones say plainly what it says
+abbrev pub AreCleared : Types → Attrs → Attrs → Type 0
+AreCleared types old new =
+    (width : AsWidth) (later : LaterValues) (list : List Attribute) → Tells types list
+    → ReadSoFar width old later (firsts_of list) → SaysPlainly width new (firsts_of list)

@@ -1,10 +1,9 @@
 //! Reading a list of path attributes in one walk, of each type the first.
 
-ghost use Rattle.std.specs.Prelude.{◌≡◌, ◌<◌, List, [], Some, OnOk, OnErr, IfErr};
+ghost use Rattle.std.specs.Prelude.{◌≡◌, ◌<◌, [], Some, OnOk, OnErr, IfErr};
 ghost use Rattle.bgp_wire.specs.declared.framing.TheConstants.{KINDS};
-ghost use Rattle.bgp_wire.specs.Attribute.{Attribute};
 ghost use Rattle.bgp_wire.specs.FirstValues.{HoldsWithValue};
-ghost use Rattle.bgp_wire.specs.PlainValues.{AreLater, ReadSoFar};
+ghost use Rattle.bgp_wire.specs.PlainValues.{AreCleared, AreLater, ReadSoFar};
 ghost use Rattle.bgp_wire.specs.Content.{FirstOf, firsts_of};
 ghost use Rattle.bgp_wire.specs.PlainValues.{SaysPlainly, SpellsPlainly, ReadsList};
 ghost use Rattle.bgp_paths.specs.Readers.{Refuses};
@@ -19,6 +18,13 @@ use crate::seen_types::SeenTypes;
 use crate::values::{fill_presence, put_found, read_aggregator, read_ipv4, read_origin, read_word};
 use bgp_paths::{AsWidth, WireFault};
 use std::alloc::Global;
+
+/// A list of attributes as it was sent: its octets, and the width of the AS numbers in AS_PATH.
+#[derive(Clone, Copy)]
+pub(crate) struct SentList<'a> {
+    pub(crate) octets: &'a [u8],
+    pub(crate) width: AsWidth,
+}
 
 /// The first values that others or their place have a say in, as octets.
 #[derive(Clone, Copy)]
@@ -94,9 +100,7 @@ fn keep_later<'a>(kind: u8, value: &'a [u8], later: &mut LaterValues<'a>)
 /// Takes the path and the communities away that were there before, where the list has none.
 #[inline]
 fn clear_unseen(attrs: &mut Attrs, types: &SeenTypes)
-    ensures { (width : AsWidth) (later : LaterValues) (list : List Attribute) →
-        Tells types.now list → ReadSoFar width attrs.old later (firsts_of list) →
-        SaysPlainly width attrs.new (firsts_of list) }
+    ensures { AreCleared types.now attrs.old attrs.new }
 {
     if !types.has(AS_PATH) {
         attrs.path.clear();
@@ -113,24 +117,25 @@ fn clear_unseen(attrs: &mut Attrs, types: &SeenTypes)
 pub(crate) fn read_list<'a>(
     alloc: Global,
     attrs: &mut Attrs,
-    width: AsWidth,
-    octets: &'a [u8],
+    sent: SentList<'a>,
     later: &mut LaterValues<'a>,
     types: &mut SeenTypes,
 ) -> Result<(), WireFault>
     requires no_value { AreLater later.old (firsts_of []) }
     requires no_type { Tells types.old [] }
-    ensures read { OnOk result (ReadsList width attrs.new later.new types.new octets.now) }
-    ensures refused { IfErr result (Refuses (SpellsPlainly width) octets.now) }
+    ensures read { OnOk result (ReadsList sent.entry.width attrs.new later.new types.new
+        sent.entry.octets.now) }
+    ensures refused { IfErr result (Refuses (SpellsPlainly sent.entry.width)
+        sent.entry.octets.now) }
 {
     attrs.clear_short();
-    let mut rest = octets;
+    let mut rest = sent.octets;
     while !rest.is_empty() {
         let Some(framed) = split_attribute(rest) else {
             return Err(WireFault::Malformed);
         };
         if !types.note(framed.kind) {
-            read_first(alloc, width, framed, attrs, later)?;
+            read_first(alloc, sent.width, framed, attrs, later)?;
         }
         rest = framed.rest;
     }

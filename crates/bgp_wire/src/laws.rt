@@ -1,7 +1,8 @@
 //! Laws of the definitions, which call nothing.
 
-ghost use Rattle.std.specs.Prelude.{◌≡◌, ℕ, List, [], ◌∷◌, codes};
+ghost use Rattle.std.specs.Prelude.{◌≡◌};
 ghost use Rattle.ip_prefix.specs.declared.addr.Family.{Family};
+ghost use Rattle.ip_prefix.specs.Fronts.{IsOne};
 ghost use Rattle.bgp_wire.specs.declared.as4.TheConstants.{AS_TRANS};
 ghost use Rattle.bgp_wire.specs.declared.framing.TheConstants.{KINDS, EXTENDED_LENGTH, ORIGIN, AS_PATH, NEXT_HOP, MULTI_EXIT_DISC, LOCAL_PREF, ATOMIC_AGGREGATE, AGGREGATOR, COMMUNITIES, MP_REACH_NLRI, MP_UNREACH_NLRI, AS4_PATH, AS4_AGGREGATOR};
 ghost use Rattle.bgp_wire.specs.declared.message.TheConstants.{UPDATE, HEADER_SIZE, MARKER_SIZE};
@@ -9,32 +10,24 @@ ghost use Rattle.bgp_wire.specs.declared.next_hop.TheConstants.{FAMILY_SIZE, LIN
 ghost use Rattle.bgp_wire.specs.declared.reach.TheConstants.{AFI_IPV4, AFI_IPV6, SAFI_UNICAST};
 ghost use Rattle.bgp_wire.specs.declared.values.TheConstants.{ORIGIN_IGP, ORIGIN_EGP, ORIGIN_INCOMPLETE};
 ghost use Rattle.bgp_paths.specs.declared.numbers.AsWidth.{AsWidth};
-ghost use Rattle.bgp_wire.specs.declared.attrs.Attrs.{Attrs};
-ghost use Rattle.bgp_wire.specs.declared.message.Message.{Message};
-ghost use Rattle.bgp_wire.specs.declared.parts.Update.{Update};
-ghost use Rattle.bgp_wire.specs.Attribute.{Attribute, SpellsAttributes};
+ghost use Rattle.bgp_wire.specs.Attribute.{SpellsAttributes};
 ghost use Rattle.bgp_wire.specs.Content.{SpellsRibAttrs};
 ghost use Rattle.bgp_wire.specs.Update.{SpellsMessage, SpellsUpdate};
 
 /// No octets spell two lists of attributes (RFC 4271, section 4.3).
 pub fn one_attribute_list()
-    ensures { (octets : List ℕ) (list other : List Attribute) →
-        SpellsAttributes list octets → SpellsAttributes other octets → list ≡ other }
+    ensures { IsOne SpellsAttributes }
 {}
 
 /// No octets spell two attributes of a RIB entry for a family, with AS numbers of one width.
 pub fn one_table_entry()
-    ensures { (family : Family) (width : AsWidth) (octets : List ℕ) (attrs other : Attrs) →
-        SpellsRibAttrs family width attrs octets → SpellsRibAttrs family width other octets →
-        attrs ≡ other }
+    ensures { (family : Family) (width : AsWidth) → IsOne (SpellsRibAttrs family width) }
 {}
 
 /// No octets spell two messages, nor two UPDATEs as the body of one, with AS numbers of one width.
 pub fn one_message()
-    ensures message { (width : AsWidth) (octets : List ℕ) (message other : Message) →
-        SpellsMessage width message octets → SpellsMessage width other octets → message ≡ other }
-    ensures update { (width : AsWidth) (body : List ℕ) (update other : Update) →
-        SpellsUpdate width update body → SpellsUpdate width other body → update ≡ other }
+    ensures message { (width : AsWidth) → IsOne (SpellsMessage width) }
+    ensures update { (width : AsWidth) → IsOne (SpellsUpdate width) }
 {}
 
 /// The numbers that the definitions name: of attributes (RFC 4271, section 4.3; RFC 4760;

@@ -6,7 +6,7 @@ ghost use Rattle.bgp_wire.specs.Absent.{no_attrs};
 ghost use Rattle.bgp_paths.specs.Readers.{Reads, Refuses};
 
 use crate::as4::join_passed;
-use crate::attribute_list::{LaterValues, read_list};
+use crate::attribute_list::{LaterValues, SentList, read_list};
 use crate::attrs::Attrs;
 use crate::framing::MP_REACH_NLRI;
 use crate::next_hop::fill_rib_hop;
@@ -29,7 +29,8 @@ fn fill_rib_attrs(
 {
     let mut later = LaterValues::none();
     let mut types = SeenTypes::none();
-    read_list(alloc, attrs, width, octets, &mut later, &mut types)?;
+    let sent = SentList { octets, width };
+    read_list(alloc, attrs, sent, &mut later, &mut types)?;
     if types.repeats(MP_REACH_NLRI) {
         return Err(WireFault::Malformed);
     }

@@ -6,7 +6,7 @@ ghost use Rattle.bgp_paths.specs.Readers.{Refuses};
 ghost use Rattle.bgp_wire.specs.Update.{sized_octets, IsUpdate, SpellsUpdate};
 
 use crate::as4::join_passed;
-use crate::attribute_list::{LaterValues, read_list};
+use crate::attribute_list::{LaterValues, SentList, read_list};
 use crate::framing::{MP_REACH_NLRI, MP_UNREACH_NLRI};
 use crate::lengths::{LENGTH_SIZE, read_length};
 use crate::parts::UpdateParts;
@@ -74,14 +74,8 @@ fn fill_said(
 {
     let mut later = LaterValues::none();
     let mut types = SeenTypes::none();
-    read_list(
-        alloc,
-        &mut parts.attrs,
-        width,
-        octets,
-        &mut later,
-        &mut types,
-    )?;
+    let sent = SentList { octets, width };
+    read_list(alloc, &mut parts.attrs, sent, &mut later, &mut types)?;
     if types.repeats(MP_REACH_NLRI) || types.repeats(MP_UNREACH_NLRI) {
         return Err(WireFault::Malformed);
     }

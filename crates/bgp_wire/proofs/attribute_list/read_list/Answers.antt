@@ -20,7 +20,7 @@ returns-in_default-clause-refused c attrs s =
     let rest = c.loop-rest.rest.now in
     let done = c.loop-rest.invariant in
     let some : rest ≡ [] → ⊥ = λ e. nonempty rest (sym c.is_empty.ensures ∙ c.loop-rest-test.true) e in
-    none_at_all SpellsAttribute attribute_code done.0 rest c.args.octets.now some done.1 c.in_default.ensures.none s.list s.spelled
+    none_at_all SpellsAttribute attribute_code done.0 rest c.args.sent.octets.now some done.1 c.in_default.ensures.none s.list s.spelled
 
 -- where the first value of a type is refused, so is the whole list
 refused_list : (width : AsWidth) (octets : List ℕ) (read : List Attribute) (rest : List ℕ) (kind : ℕ) (value : List ℕ) (fault : WireFault)
@@ -33,8 +33,8 @@ refused_list width octets read rest kind value Memory b e none = tt
 
 pub returns-in_err-read_first-clause-refused : goal.returns-in_err-read_first-clause-refused
 returns-in_err-read_first-clause-refused c =
-    let width = c.args.width in
-    let octets = c.args.octets.now in
+    let width = c.args.sent.width in
+    let octets = c.args.sent.octets.now in
     let done = c.loop-rest.invariant in
     let f = c.in-Some.framed in
     let front = c.in-Some.ensures.some in
@@ -50,7 +50,7 @@ returns-in_err-read_first-clause-refused c =
 
 pub loop-rest-preserved : goal.loop-rest-preserved
 loop-rest-preserved c =
-    let width = c.args.width in
+    let width = c.args.sent.width in
     let done = c.loop-rest.invariant in
     let f = c.in-Some.framed in
     let front = c.in-Some.ensures.some in
@@ -67,7 +67,7 @@ loop-rest-preserved c =
           (subst (ReadSoFar width c.loop-rest.attrs c.loop-rest.later) (sym (later_value f.kind f.value.now (firsts_of done.0) (c.note.ensures.later done.0 done.3 w.if-not-note.false))) done.2))
     ] in (
       done.0 ++ next ∷ [],
-      one_more SpellsAttribute done.0 next f.rest.now c.loop-rest.rest.now c.args.octets.now done.1 front.1,
+      one_more SpellsAttribute done.0 next f.rest.now c.loop-rest.rest.now c.args.sent.octets.now done.1 front.1,
       subst (ReadSoFar width c.if-not-note.attrs c.if-not-note.later) (sym (firsts_of-more done.0 next)) now,
       c.note.ensures.noted done.0 next refl done.3,
     )
@@ -79,8 +79,8 @@ returns-clause-read c =
     let nothing = no_elements rest (sym c.loop-rest-test.ensures) in
     record {
       list = done.0;
-      spelled = all_read SpellsAttribute done.0 rest c.args.octets.now done.1 nothing;
-      said = c.clear_unseen.ensures c.args.width c.loop-rest.later done.0 done.3 done.2;
+      spelled = all_read SpellsAttribute done.0 rest c.args.sent.octets.now done.1 nothing;
+      said = c.clear_unseen.ensures c.args.sent.width c.loop-rest.later done.0 done.3 done.2;
       values = done.2.kept;
       seen = done.3;
     }

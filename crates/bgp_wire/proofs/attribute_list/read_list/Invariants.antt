@@ -9,8 +9,8 @@ use Rattle.bgp_wire.proofs.attribute_list.read_list.Given as goal
 -- the attributes before the rest were read
 abbrev pub invariant-loop-rest : goal.invariant-loop-rest
 invariant-loop-rest l =
-    (list : List Attribute) × Begins (SpellsAll SpellsAttribute) list l.rest l.octets
-    × ReadSoFar l.width l.attrs l.later (firsts_of list) × Tells l.types list
+    (list : List Attribute) × Begins (SpellsAll SpellsAttribute) list l.rest l.sent.octets.now
+    × ReadSoFar l.sent.width l.attrs l.later (firsts_of list) × Tells l.types list
 
 abbrev pub decreases-loop-rest : goal.decreases-loop-rest
 decreases-loop-rest l = length l.rest

@@ -4,4 +4,4 @@ use Rattle.bgp_wire.proofs.OneAttribute.{attribute_code}
 use Rattle.bgp_wire.proofs.laws.one_attribute_list.Goals as goal
 
 pub returns : goal.returns
-returns c = one_list SpellsAttribute attribute_code
+returns c list other octets = one_list SpellsAttribute attribute_code octets list other
