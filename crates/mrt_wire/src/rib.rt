@@ -179,7 +179,8 @@ fn read_prefixed(
     octets: &[u8],
 ) -> Result<EntryItems, WireFault>
     ensures told { IfOk result (λ told. (rib : PrefixEntries)
-        × SpellsPrefixed snapshot.entry.family rib octets.now × AreItemsOf snapshot.entry rib told) }
+        × SpellsPrefixed snapshot.entry.family rib octets.now
+        × AreItemsOf snapshot.entry rib told) }
     ensures refused { IfErr result (Refuses (SpellsPrefixed snapshot.entry.family) octets.now) }
 {
     let Some(found) = Prefix::read(snapshot.family, octets) else {
