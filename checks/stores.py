@@ -133,6 +133,11 @@ class Plain:
             answer = 'gone'
         self.tell(f'discard {text(prefix)}', answer)
 
+    def take(self):
+        """Takes all routes, in the order of their prefixes."""
+        self.tell('take', ''.join(['taken', *(f' {route}' for _, route in self.routes())]))
+        self.slots = dict.fromkeys(self.slots)
+
     # What looks at it.
 
     def routes(self):
@@ -211,6 +216,8 @@ def drawn_prefix(drawn, plain):
 def change(drawn, plain):
     prefix, number = drawn_prefix(drawn, plain), drawn.randrange(2 ** 32)
     route = None if drawn.randrange(3) == 0 else number
+    if drawn.randrange(100) == 0:
+        plain.take()
     kind = drawn.randrange(8)
     if kind < 1:
         plain.ensure(prefix)

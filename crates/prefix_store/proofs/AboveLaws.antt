@@ -39,7 +39,7 @@ above_all low x (y ∷ es) e f =
     let parts = and_parts (is_lt (network_cmp x y.0)) (below_all network_cmp x es) f in
     ap (λ b. cond b (y ∷ above low es) (above low es)) (above_trans low x y.0 e parts.0) ∙ ap (λ s. y ∷ s) (above_all low x es e parts.1)
 
-some_same : {A : Type 0} (a b : A) → Some a ≡ Some b → a ≡ b
+pub some_same : {A : Type 0} (a b : A) → Some a ≡ Some b → a ≡ b
 some_same a b e = ap (λ o. from o a) e
   where
     from : {A : Type 0} → Option A → A → A
@@ -54,7 +54,7 @@ first_passes p (y ∷ xs) x e = at (p y) refl e (first_passes p xs x)
     at true is e later = ap p (sym (some_same y x e)) ∙ is
     at false is e later = later e
 
-above_from : {R : Type 0} (k : Network) (ys : List (Network × R)) → below_all network_cmp k ys ≡ true → above (Some k) ys ≡ ys
+pub above_from : {R : Type 0} (k : Network) (ys : List (Network × R)) → below_all network_cmp k ys ≡ true → above (Some k) ys ≡ ys
 above_from k [] f = refl
 above_from k (y ∷ ys) f =
     let parts = and_parts (is_lt (network_cmp k y.0)) (below_all network_cmp k ys) f in

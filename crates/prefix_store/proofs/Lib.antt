@@ -3,3 +3,4 @@ pub mod PutLaws
 pub mod StoredLaws
 pub mod AboveLaws
 pub mod LongestLaws
+pub mod TakenLaws

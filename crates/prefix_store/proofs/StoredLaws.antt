@@ -1,5 +1,5 @@
 -- What is put into a map of routes.
-use Rattle.std.proofs.Common.{◌≡◌, Bool, true, false, cond, map, Option, None, refl, sym, ap, ◌∙◌}
+use Rattle.std.proofs.Common.{◌≡◌, Bool, true, false, cond, Option, None, refl, sym, ap, ◌∙◌}
 use Rattle.std.specs.Prelude.{◌≢◌}
 use Rattle.std.specs.Ordering.{eq_by_cmp, is_eq}
 use Rattle.std.specs.Cmp.{Equal-is, tied_itself}

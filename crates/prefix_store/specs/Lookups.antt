@@ -1,8 +1,8 @@
 -- Private.
 -- What look-ups and walks of a store answer.
-use Rattle.std.specs.Prelude.{◌≡◌, ◌≤◌, true, Bool, List, map, Option, Some, None, length, is_some}
+use Rattle.std.specs.Prelude.{◌≡◌, ◌≤◌, true, Bool, List, map, Option, Some, None, length, slice_get, is_some}
 use Rattle.std.specs.Borrow.{Bor}
-use Rattle.std.specs.FinMap.{get}
+use Rattle.std.specs.FinMap.{get, entries}
 use Rattle.std.specs.List.{filter}
 use Rattle.std.specs.Ordering.{is_lt}
 use Rattle.ip_prefix.specs.Address.{Address}
@@ -30,6 +30,14 @@ is_above (Some low) n = is_lt (network_cmp low n)
 -- the routes above a prefix, in order
 abbrev pub above : {R : Type 0} → Option Network → List (Network × R) → List (Network × R)
 above low routes = filter (λ route. is_above low route.0) routes
+
+-- the same of the routes that a map has
+abbrev pub routes_above : {R : Type 0} → Routes R → Option Network → List (Network × R)
+routes_above routes low = above low (entries routes)
+
+-- the first of these
+abbrev pub first_above : {R : Type 0} → Routes R → Option Network → Option (Network × R)
+first_above routes low = slice_get (routes_above routes low) 0
 
 -- prefixes, each with the route that is pointed to
 abbrev pub pointed : {R : Type 0} → List (Network × Bor R) → List (Network × R)

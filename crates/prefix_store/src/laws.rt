@@ -1,6 +1,6 @@
 //! Laws of what a store holds and answers.
 
-ghost use Rattle.std.specs.Prelude.{◌≡◌, ◌≢◌, ◌+◌, ◌^◌, ◌∷◌, [], Option, Some, None, slice_get};
+ghost use Rattle.std.specs.Prelude.{◌≡◌, ◌≢◌, ◌+◌, ◌^◌, ◌∷◌, [], Option, Some, None};
 ghost use Rattle.std.specs.FinMap as finite;
 ghost use Rattle.std.specs.List.Sorted.{IsStrictlySortedBy};
 ghost use Rattle.ip_prefix.specs.Address.{Address};
@@ -8,7 +8,7 @@ ghost use Rattle.ip_prefix.specs.Network.{Network};
 ghost use Rattle.ip_prefix.specs.Order.{network_cmp};
 ghost use Rattle.prefix_store.specs.declared.store.TheConstants.{GREATEST_COUNT};
 ghost use Rattle.prefix_store.specs.Stored.{Routes, put};
-ghost use Rattle.prefix_store.specs.Lookups.{IsLongest, above};
+ghost use Rattle.prefix_store.specs.Lookups.{IsLongest, first_above, routes_above};
 
 /// The number that the definitions name: where counts stop, `u64::MAX`.
 pub fn count_numbers()
@@ -32,12 +32,12 @@ pub fn one_longest<R>()
 /// From the least on, one after the other, come all routes, in order, and then none.
 pub fn walk<R>()
     ensures all { (routes : Routes R)
-        → above None (finite.entries routes) ≡ finite.entries routes }
-    ensures next { (routes : Routes R) (low : Option Network) (next : Network × R)
-        → slice_get (above low (finite.entries routes)) 0 ≡ Some next
-        → above low (finite.entries routes) ≡ next ∷ above (Some next.0) (finite.entries routes) }
+        → routes_above routes None ≡ finite.entries routes }
+    ensures next { (routes : Routes R) (low : Option Network) (e : Network × R)
+        → first_above routes low ≡ Some e
+        → routes_above routes low ≡ e ∷ routes_above routes (Some e.0) }
     ensures end { (routes : Routes R) (low : Option Network)
-        → slice_get (above low (finite.entries routes)) 0 ≡ None
-        → above low (finite.entries routes) ≡ [] }
+        → first_above routes low ≡ None
+        → routes_above routes low ≡ [] }
     ensures order { (routes : Routes R) → IsStrictlySortedBy network_cmp (finite.keys routes) }
 {}

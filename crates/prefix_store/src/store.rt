@@ -1,6 +1,6 @@
 //! What a store of routes by prefix does.
 
-ghost use Rattle.std.specs.Prelude.{◌≡◌, true, false, not, Option, None, slice_get, take, vec_capacity};
+ghost use Rattle.std.specs.Prelude.{◌≡◌, ◌≤◌, true, false, not, Option, None, slice_get, take, vec_capacity};
 ghost use Rattle.std.specs.Prelude.{IfOk, OnOk, OnErr};
 ghost use Rattle.std.specs.Option.{option_map, option_copied};
 ghost use Rattle.std.specs.FinMap as finite;
@@ -20,7 +20,7 @@ pub const GREATEST_COUNT: u64 = u64::MAX;
 ///
 /// Memory is asked for in [`PrefixStore::ensure`] and [`PrefixStore::put`] alone: a key has its room
 /// for a route until it is discarded, so that routes come and go without a refusal.
-pub trait PrefixStore<R>: Sized + Drop {
+pub trait PrefixStore<R: Drop>: Sized + Drop {
     /// The prefixes that have room for a route.
     ghost keys: { Self → Keys };
 
@@ -109,6 +109,33 @@ pub trait PrefixStore<R>: Sized + Drop {
             };
             last = Some(next.0);
             found.push_reserved(next);
+        }
+    }
+
+    /// Takes all routes, in the order of their prefixes, into a list that has room for them; the keys
+    /// stay. What stood in the list is dropped.
+    fn take_routes(&mut self, taken: &mut Vec<R>)
+        requires { finite.len (routes self.old) ≤ vec_capacity taken.old }
+        ensures keys { keys self.new ≡ keys self.old }
+        ensures routes { routes self.new ≡ finite.empty }
+        ensures taken { taken.new.items ≡ finite.values (routes self.old) }
+    {
+        taken.clear();
+        if self.key_count() == 0 {
+            return;
+        }
+        let mut last = None;
+        'routes: loop {
+            let Some(next) = self.after(last.as_ref()) else {
+                break;
+            };
+            let prefix = next.0;
+            let mut route = None;
+            self.exchange(&prefix, &mut route);
+            if let Some(route) = route {
+                taken.push_reserved(route);
+            }
+            last = Some(prefix);
         }
     }
 

@@ -1,5 +1,5 @@
 -- The entries of a lost session alone are those of its step.
-use Rattle.std.proofs.Common.{◌≡◌, Bool, true, false, ◌&&◌, ◌||◌, List, [], ◌∷◌, map, Option, Some, None, Result, Ok, Err, IfOk, Vec, is_some, refl, sym, ap, ap₂, ◌∙◌}
+use Rattle.std.proofs.Common.{◌≡◌, Bool, true, false, cond, ◌&&◌, ◌||◌, List, [], ◌∷◌, map, length, get_or, drop, Option, Some, None, is_some, refl, sym, ap, ap₂, subst, ◌∙◌, arith}
 use Rattle.std.specs.List.{AllByRecursion, list_any}
 use Rattle.std.proofs.Math.Bool.{or-true, or-false}
 use Rattle.std.specs.List.Sorted.{IsStrictlySortedBy}
@@ -18,21 +18,31 @@ use Rattle.std.specs.declared.alloc.Global.{Global}
 use Rattle.std.proofs.lemmas.Map.Keys.{IsDistinct-from_sorted}
 use Rattle.rib_player.specs.declared.pair.Pair.{Pair}
 use Rattle.rib_player.specs.Entries.{Entry}
+use Rattle.rib_player.specs.Kept.{cleared_entries}
 use Rattle.rib_player.specs.declared.changes.Changes.{Changes}
 use Rattle.rib_player.specs.Changes.{found, is_lost, effect_of, noted_effect}
 use Rattle.rib_player.specs.History.{pair_cmp, pair_of, effect, where_true, Clear, route_after}
 use Rattle.rib_player.specs.Tables.{Routes, table_after, is_named, named_pairs}
-use Rattle.rib_player.specs.Journal.{Side, sides_of, pairs_in}
-use Rattle.rib_player.specs.Sides.{cleared_side, sides_across, AreDistinct, IsStepFor}
+use Rattle.rib_player.specs.Journal.{Side, side_of, sides_of, pairs_in, routes_across}
+use Rattle.rib_player.specs.Sides.{cleared_side, sides_across, AreCleared, AreDistinct, IsStepFor}
+use Rattle.rib_player.specs.Marks.{marks_of, marks_across, gives_up_by}
+use Rattle.rib_player.specs.Store.{peer_routes}
+use Rattle.rib_player.specs.Holding.{value_of}
+use Rattle.rib_player.specs.declared.entry.End.TheVariants.{Last}
+use Rattle.mrt_events.specs.declared.event.Route.{Route}
+use Rattle.std.specs.declared.rc.Rc.{Rc}
+use Rattle.prefix_store.proofs.AboveLaws.{routes-in_order}
+use Rattle.rib_player.proofs.JournalLaws.{get-restored_crossed}
+use Rattle.rib_player.proofs.PeerLaws.{any-of_peer, each-of_peer}
 use Rattle.rib_player.proofs.PairLaws.{pair_cmp_total}
 use Rattle.rib_player.proofs.StoreLaws.{same_pairs, same_peer}
-use Rattle.rib_player.proofs.TableLaws.{get-table_after, contains-named_pairs}
+use Rattle.rib_player.proofs.TableLaws.{same_routes, get-table_after, contains-named_pairs}
 
-pub pairs-cleared : (peer : Peer) (prefixes : List Network) → pairs_in (map (cleared_side peer) prefixes) ≡ map (pair_of peer) prefixes
+pairs-cleared : (peer : Peer) (prefixes : List Network) → pairs_in (map (cleared_side peer) prefixes) ≡ map (pair_of peer) prefixes
 pairs-cleared peer [] = refl
 pairs-cleared peer (n ∷ prefixes) = ap (λ ps. pair_of peer n ∷ ps) (pairs-cleared peer prefixes)
 
-pub absent-cleared : (peer : Peer) (prefixes : List Network) → AllByRecursion (λ (side : Side). side.1 ≡ None) (map (cleared_side peer) prefixes)
+absent-cleared : (peer : Peer) (prefixes : List Network) → AllByRecursion (λ (side : Side). side.1 ≡ None) (map (cleared_side peer) prefixes)
 absent-cleared peer [] = tt
 absent-cleared peer (n ∷ prefixes) = (refl, absent-cleared peer prefixes)
 
@@ -50,8 +60,20 @@ unfolding IsStrictlySortedBy
 ordered-cleared peer [] sorted = tt
 ordered-cleared peer (n ∷ prefixes) sorted = (below-cleared peer n prefixes sorted.0, ordered-cleared peer prefixes sorted.1)
 
-pub distinct-cleared : (peer : Peer) (prefixes : List Network) → IsStrictlySortedBy network_cmp prefixes → AreDistinct (map (cleared_side peer) prefixes)
+distinct-cleared : (peer : Peer) (prefixes : List Network) → IsStrictlySortedBy network_cmp prefixes → AreDistinct (map (cleared_side peer) prefixes)
 distinct-cleared peer prefixes sorted = IsDistinct-from_sorted pair_cmp (pairs_in (map (cleared_side peer) prefixes)) (ordered-cleared peer prefixes sorted)
+
+-- the sides of all pairs of a peer that have a route
+module _ (routes : Routes) (peer : Peer) (sides : List Side) (cleared : AreCleared routes peer sides) where
+  pub lost-named : (q : Pair) → list_any (eq_by_cmp pair_cmp q) (pairs_in sides) ≡ (same_peer q.peer peer && is_some (finite.get routes q))
+  lost-named q =
+      ap (list_any (eq_by_cmp pair_cmp q)) (ap pairs_in cleared ∙ pairs-cleared peer (finite.keys (peer_routes routes peer))) ∙ any-of_peer routes peer q
+
+  pub lost-absent : AllByRecursion (λ (side : Side). side.1 ≡ None) sides
+  lost-absent = subst (AllByRecursion (λ (side : Side). side.1 ≡ None)) (sym cleared) (absent-cleared peer (finite.keys (peer_routes routes peer)))
+
+  pub lost-distinct : AreDistinct sides
+  lost-distinct = subst AreDistinct (sym cleared) (distinct-cleared peer (finite.keys (peer_routes routes peer)) (routes-in_order (peer_routes routes peer)))
 
 -- the sides of pairs that a peer loses are those of the step of an event that does nothing else
 module _ (routes : Routes) (event : Event) (peer : Peer) (alone : (q : Pair) → effect q event ≡ where_true (same_peer q.peer peer) Clear) where
@@ -69,13 +91,12 @@ module _ (routes : Routes) (event : Event) (peer : Peer) (alone : (q : Pair) →
   across [] absent of_peer = refl
   across (side ∷ sides) absent of_peer = ap₂ (λ r ss. (side.0, r) ∷ ss) (absent.0 ∙ none_then side.0 of_peer.0) (across sides absent.1 of_peer.1)
 
-  pub IsStepFor-lost : (sides : List Side) → AllByRecursion (λ (side : Side). side.1 ≡ None) sides → AreDistinct sides
-      → ((q : Pair) → list_any (eq_by_cmp pair_cmp q) (pairs_in sides) ≡ (same_peer q.peer peer && is_some (finite.get routes q))) → IsStepFor routes event sides
-  IsStepFor-lost sides absent distinct named = record {
-    distinct = distinct;
-    after = across sides absent (of_peer (pairs_in sides) (λ q there. first (same_peer q.peer peer) (is_some (finite.get routes q)) (sym (named q) ∙ there)));
+  pub IsStepFor-lost : (sides : List Side) → AreCleared routes peer sides → IsStepFor routes event sides
+  IsStepFor-lost sides cleared = record {
+    distinct = lost-distinct routes peer sides cleared;
+    after = across sides (lost-absent routes peer sides cleared) (of_peer (pairs_in sides) (λ q there. first (same_peer q.peer peer) (is_some (finite.get routes q)) (sym (lost-named routes peer sides cleared q) ∙ there)));
     names = same_pairs (from_list (pairs_in sides)) (named_pairs routes event) (λ q.
-        contains-from_list pair_cmp_total (pairs_in sides) q ∙ named q ∙ named-then (same_peer q.peer peer) (finite.get routes q)
+        contains-from_list pair_cmp_total (pairs_in sides) q ∙ lost-named routes peer sides cleared q ∙ named-then (same_peer q.peer peer) (finite.get routes q)
         ∙ ap (is_named (finite.get routes q)) (sym (alone q)) ∙ sym (contains-named_pairs routes event q));
   }
     where
@@ -90,18 +111,71 @@ module _ (routes : Routes) (event : Event) (peer : Peer) (alone : (q : Pair) →
         of_peer pairs (λ q there. has q (ap (λ b. eq_by_cmp pair_cmp q p || b) there ∙ or-true (eq_by_cmp pair_cmp q p))),
       )
 
-  -- the same of an answer that may be a refusal
-  pub IsStepFor-lost_answered : {E : Type 0} (result : Result (Vec Entry Global) E)
-      → IfOk result (λ entries. (q : Pair) → list_any (eq_by_cmp pair_cmp q) (pairs_in (sides_of entries.items)) ≡ (same_peer q.peer peer && is_some (finite.get routes q)))
-      → IfOk result (λ entries. AllByRecursion (λ (side : Side). side.1 ≡ None) (sides_of entries.items))
-      → IfOk result (λ entries. AreDistinct (sides_of entries.items))
-      → IfOk result (λ entries. IsStepFor routes event (sides_of entries.items))
-  IsStepFor-lost_answered (Ok entries) named absent distinct = IsStepFor-lost (sides_of entries.items) absent distinct named
-  IsStepFor-lost_answered (Err refused) named absent distinct = tt
-
 -- an event of which nothing but a loss is noted does just that
 pub lost-alone : (event : Event) (changes : Changes) (peer : Peer) → ((q : Pair) → noted_effect changes q ≡ effect q event) → changes.entries.items ≡ [] → changes.lost.keys ≡ peer ∷ []
     → (q : Pair) → effect q event ≡ where_true (same_peer q.peer peer) Clear
 lost-alone event changes peer notes none one q =
     sym (notes q) ∙ ap₂ (λ (entries : List Entry) (peers : List Peer). effect_of (found (sides_of entries) q) (is_lost peers q)) none one
     ∙ ap (λ b. where_true b Clear) (or-false (same_peer q.peer peer))
+
+-- ---- the routes that they get
+
+pub nothing : {A : Type 0} (xs : List A) → length xs ≡ 0 → xs ≡ []
+nothing [] e = refl
+nothing (x ∷ xs) e = absurd (omega arith)
+
+pub cleared-nil : (entries : List Entry) → cleared_entries entries [] ≡ entries
+cleared-nil [] = refl
+cleared-nil (entry ∷ entries) = refl
+
+-- such entries cross with the routes that the peer had
+pub record AreTaken (routes : Routes) (old new : List Entry) : Type 0 where
+  pub sides : sides_of new ≡ sides_across routes (sides_of old)
+  pub marks : marks_of new ≡ marks_across routes (sides_of old)
+  pub unbrought : (q : Pair) → gives_up_by Last (marks_of new) q ≡ false
+
+first_is : {A : Type 0} (x y : A) (xs ys : List A) → x ∷ xs ≡ y ∷ ys → x ≡ y
+first_is x y xs ys e = ap (λ s. get_or s 0 x) e
+
+taken : (routes : Routes) (peer : Peer) (own : List (Network × Route)) (entries : List Entry) (given : List (Rc Route Global)) → AllByRecursion (λ e. finite.get routes (pair_of peer e.0) ≡ Some e.1) own
+    → sides_of entries ≡ map (cleared_side peer) (map (λ (e : Network × Route). e.0) own) → map value_of given ≡ map (λ (e : Network × Route). e.1) own → AreTaken routes entries (cleared_entries entries given)
+taken routes peer [] [] given found same values = record { sides = refl; marks = refl; unbrought = λ q. refl }
+taken routes peer [] (entry ∷ entries) given found same values = cc
+taken routes peer (e ∷ own) [] given found same values = cc
+taken routes peer (e ∷ own) (entry ∷ entries) [] found same values = cc
+taken routes peer (e ∷ own) (entry ∷ entries) (route ∷ given) found same values =
+    let rest = taken routes peer own entries given found.1 (ap (drop 1) same) (ap (drop 1) values) in
+    let side : side_of entry ≡ cleared_side peer e.0 = first_is _ _ _ _ same in
+    let value : route.value ≡ e.1 = first_is _ _ _ _ values in
+    let route_then : Some route.value ≡ finite.get routes entry.pair = ap Some value ∙ sym found.0 ∙ ap (λ (s : Side). finite.get routes s.0) (sym side) in
+    record {
+      sides = ap₂ (λ r ss. (entry.pair, r) ∷ ss) route_then rest.sides;
+      marks = λ i. record { pair = entry.pair; before = ap is_some route_then i; behind = ap (λ (s : Side). is_some s.1) (sym side) i } ∷ rest.marks i;
+      unbrought = rest.unbrought;
+    }
+
+pub taken-peer : (routes : Routes) (peer : Peer) (entries : List Entry) (given : List (Rc Route Global)) → AreCleared routes peer (sides_of entries) → map value_of given ≡ finite.values (peer_routes routes peer)
+    → AreTaken routes entries (cleared_entries entries given)
+taken-peer routes peer entries given cleared values = taken routes peer (finite.entries (peer_routes routes peer)) entries given (each-of_peer routes peer) cleared values
+
+-- and leave the routes of the others
+across-taken : (new : Routes) (peer : Peer) (prefixes : List Network) → ((n : Network) → finite.get new (pair_of peer n) ≡ None) → map (cleared_side peer) prefixes ≡ sides_across new (map (cleared_side peer) prefixes)
+across-taken new peer [] none = refl
+across-taken new peer (n ∷ prefixes) none = ap₂ (λ r ss. (pair_of peer n, r) ∷ ss) (sym (none n)) (across-taken new peer prefixes none)
+
+taken_or : {A : Type 0} (b : Bool) (found : Option A) → cond b None found ≡ cond (b && is_some found) (cond b None found) found
+taken_or true None = refl
+taken_or true (Some x) = refl
+taken_or false found = refl
+
+pub routes-cleared : (old new : Routes) (peer : Peer) (sides : List Side) → AreCleared old peer sides → ((q : Pair) → finite.get new q ≡ cond (same_peer q.peer peer) None (finite.get old q)) → new ≡ routes_across sides old
+routes-cleared old new peer sides cleared is = same_routes new (routes_across sides old) (λ q.
+    is q ∙ taken_or (same_peer q.peer peer) (finite.get old q)
+    ∙ ap₂ (λ b r. cond b r (finite.get old q)) (sym (lost-named old peer sides cleared q)) (sym (is q))
+    ∙ sym (ap (λ ss. finite.get (routes_across ss old) q) all ∙ get-restored_crossed new old sides q))
+  where
+    none : (n : Network) → finite.get new (pair_of peer n) ≡ None
+    none n = is (pair_of peer n) ∙ ap (λ b. cond b None (finite.get old (pair_of peer n))) ((eq_by_cmp_equiv peer_cmp_total).refl peer)
+
+    all : sides ≡ sides_across new sides
+    all = subst (λ ss. ss ≡ sides_across new ss) (sym cleared) (across-taken new peer (finite.keys (peer_routes old peer)) none)

@@ -4,10 +4,9 @@ use Rattle.std.specs.List.{list_any, filter, AllByRecursion}
 use Rattle.std.specs.List.Sorted.{IsStrictlySortedBy}
 use Rattle.std.specs.Map.{keys_of}
 use Rattle.std.specs.Option.{option_map}
-use Rattle.std.specs.Ordering.{is_eq, is_lt}
-use Rattle.std.specs.declared.cmp.Ordering.{Ordering}
-use Rattle.std.specs.declared.cmp.Ordering.TheVariants.{Less, Equal, Greater}
-use Rattle.std.specs.Cmp.{tied_itself}
+use Rattle.std.specs.Ordering.{eq_by_cmp, is_eq, is_lt}
+use Rattle.std.specs.declared.cmp.Ordering.TheVariants.{Less}
+use Rattle.std.specs.Cmp.{eq_by_cmp_equiv, tied_itself}
 use Rattle.std.specs.FinMap as finite
 use Rattle.std.specs.FinMap.{same_map, contains_key-keys, get-empty, get-entries, get-from_entries, get-from_sorted, entries-from_sorted, len-entries, len-empty}
 use Rattle.std.specs.FinMap.Entries.{find, is_sorted, below_all}
@@ -24,7 +23,7 @@ use Rattle.prefix_store.specs.Stored as stored
 use Rattle.prefix_store.specs.Stored.{counted}
 use Rattle.prefix_store.specs.Lookups.{above, is_above, pointed}
 use Rattle.prefix_store.proofs.AboveLaws.{take-nil}
-use Rattle.prefix_store.proofs.AboveLaws.{routes_sorted}
+use Rattle.prefix_store.proofs.AboveLaws.{is_less, routes_sorted}
 use Rattle.mrt_events.specs.declared.peer.Peer.{Peer}
 use Rattle.mrt_events.specs.declared.event.Route.{Route}
 use Rattle.mrt_events.specs.Peer.{peer_cmp}
@@ -35,7 +34,7 @@ use Rattle.rib_player.specs.Tables.{Routes}
 use Rattle.rib_player.specs.Store.{Stores, store_at, routes_in, peer_routes, routed_peers}
 use Rattle.rib_player.specs.Lookups.{pointed_routes, is_peer_above, peers_above, routed_stores, peer_count}
 use Rattle.rib_player.specs.Holding.{value_of}
-use Rattle.rib_player.proofs.StoreLaws.{same_peer, same_network, one_peer, peer_symm, tied_parts, get-found}
+use Rattle.rib_player.proofs.StoreLaws.{same_peer, same_network, one_peer, peer_symm, tied_parts, any-pairs, get-found, routes_in-other}
 
 -- ---- the routes of a peer
 
@@ -103,18 +102,92 @@ no_entries : {A : Type 0} (xs : List A) → length xs ≡ 0 → xs ≡ []
 no_entries [] e = refl
 no_entries (x ∷ xs) e = absurd (omega arith)
 
+values-valued : (es : List (Network × Rc Route Global)) → map (λ (e : Network × Route). e.1) (valued es) ≡ map value_of (map (λ (e : Network × Rc Route Global). e.1) es)
+values-valued [] = refl
+values-valued (e ∷ es) = ap (λ vs. e.1.value ∷ vs) (values-valued es)
+
+-- a peer has the routes that are those at its pairs
+pub entries-of_peer : (own : stored.Routes (Rc Route Global)) (all : Routes) (peer : Peer) → ((n : Network) → option_map value_of (finite.get own n) ≡ finite.get all (pair_of peer n))
+    → finite.entries (peer_routes all peer) ≡ valued (finite.entries own)
+entries-of_peer own all peer same =
+    let sorted : T (is_sorted network_cmp (valued (finite.entries own))) = subst T (sym (sorted-valued (finite.entries own) ∙ routes_sorted own)) tt in
+    ap finite.entries (same_map network_cmp_total network_cmp-IsAntisymmetric (peer_routes all peer) (finite.from_sorted (valued (finite.entries own))) (λ n.
+    get-peer_routes all peer n
+    ∙ sym (same n)
+    ∙ ap (option_map value_of) (get-entries own n)
+    ∙ sym (find-valued n (finite.entries own))
+    ∙ sym (get-from_sorted network_cmp (valued (finite.entries own)) n sorted)))
+    ∙ entries-from_sorted network_cmp (valued (finite.entries own)) sorted
+
+keys-valued : (es : List (Network × Rc Route Global)) → map (λ (e : Network × Route). e.0) (valued es) ≡ map (λ (e : Network × Rc Route Global). e.0) es
+keys-valued [] = refl
+keys-valued (e ∷ es) = ap (λ ks. e.0 ∷ ks) (keys-valued es)
+
+pub keys-of_peer : (own : stored.Routes (Rc Route Global)) (all : Routes) (peer : Peer) → ((n : Network) → option_map value_of (finite.get own n) ≡ finite.get all (pair_of peer n))
+    → finite.keys own ≡ finite.keys (peer_routes all peer)
+keys-of_peer own all peer same = sym (ap (map (λ (e : Network × Route). e.0)) (entries-of_peer own all peer same) ∙ keys-valued (finite.entries own))
+
+-- or none
+pub no_keys : (all : Routes) (peer : Peer) → ((n : Network) → finite.get all (pair_of peer n) ≡ None) → [] ≡ finite.keys (peer_routes all peer)
+no_keys all peer none =
+    let empty : peer_routes all peer ≡ finite.empty = same_map network_cmp_total network_cmp-IsAntisymmetric (peer_routes all peer) finite.empty (λ n.
+    get-peer_routes all peer n ∙ none n ∙ sym (get-empty network_cmp n)) in
+    sym (ap (map (λ (e : Network × Route). e.0)) (no_entries (finite.entries (peer_routes all peer)) (sym (len-entries (peer_routes all peer)) ∙ ap finite.len empty ∙ len-empty network_cmp Route)))
+
+-- a pair is among those of a peer where it is the peer's and has a route
+pub any-of_peer : (all : Routes) (peer : Peer) (q : Pair) → list_any (eq_by_cmp pair_cmp q) (map (pair_of peer) (finite.keys (peer_routes all peer))) ≡ (same_peer q.peer peer && is_some (finite.get all q))
+any-of_peer all peer q =
+    any-pairs q peer (finite.keys (peer_routes all peer))
+    ∙ ap (λ b. same_peer q.peer peer && b) (sym (contains_key-keys (peer_routes all peer) q.prefix) ∙ ap is_some (get-peer_routes all peer q.prefix))
+    ∙ at (same_peer q.peer peer) refl
+  where
+    at : (b : Bool) → same_peer q.peer peer ≡ b → (b && is_some (finite.get all (pair_of peer q.prefix))) ≡ (b && is_some (finite.get all q))
+    at true is = ap (λ p. is_some (finite.get all (pair_of p q.prefix))) (sym (one_peer q.peer peer is))
+    at false is = refl
+
+-- each entry in order is found
+found-behind : (x : Network × Route) (es ys : List (Network × Route)) → below_all network_cmp x.0 ys ≡ true → AllByRecursion (λ e. find network_cmp e.0 es ≡ Some e.1) ys
+    → AllByRecursion (λ e. find network_cmp e.0 (x ∷ es) ≡ Some e.1) ys
+found-behind x es [] below found = tt
+found-behind x es (y ∷ ys) below found =
+    let parts = and_parts (is_lt (network_cmp x.0 y.0)) (below_all network_cmp x.0 ys) below in (
+      ap (λ b. cond b (Some x.1) (find network_cmp y.0 es)) ((eq_by_cmp_equiv network_cmp_total).symm y.0 x.0 ∙ ap is_eq (is_less (network_cmp x.0 y.0) parts.0)) ∙ found.0,
+      found-behind x es ys parts.1 found.1,
+    )
+
+found-each : (es : List (Network × Route)) → is_sorted network_cmp es ≡ true → AllByRecursion (λ e. find network_cmp e.0 es ≡ Some e.1) es
+found-each [] sorted = tt
+found-each (e ∷ es) sorted =
+    let parts = and_parts (below_all network_cmp e.0 es) (is_sorted network_cmp es) sorted in
+    (ap (λ r. cond (is_eq r) (Some e.1) (find network_cmp e.0 es)) (tied_itself network_cmp_total e.0), found-behind e es es parts.0 (found-each es parts.1))
+
+pub each-of_peer : (all : Routes) (peer : Peer) → AllByRecursion (λ e. finite.get all (pair_of peer e.0) ≡ Some e.1) (finite.entries (peer_routes all peer))
+each-of_peer all peer = each (finite.entries (peer_routes all peer)) (found-each (finite.entries (peer_routes all peer)) (routes_sorted (peer_routes all peer)))
+  where
+    each : (es : List (Network × Route)) → AllByRecursion (λ e. find network_cmp e.0 (finite.entries (peer_routes all peer)) ≡ Some e.1) es → AllByRecursion (λ e. finite.get all (pair_of peer e.0) ≡ Some e.1) es
+    each [] found = tt
+    each (e ∷ es) found = (sym (get-peer_routes all peer e.0) ∙ get-entries (peer_routes all peer) e.0 ∙ found.0, each es found.1)
+
+-- ---- the routes once those of a peer are taken
+
+pub routes-taken : {S : Type 0} (routes : S → stored.Routes (Rc Route Global)) (old new : Stores S) (all : Routes) (peer : Peer) (w : S) → ((p : Peer) → store_at new p ≡ cond (same_peer peer p) (Some w) (store_at old p))
+    → routes w ≡ finite.empty → routes_in routes old ≡ all → (q : Pair) → finite.get (routes_in routes new) q ≡ cond (same_peer q.peer peer) None (finite.get all q)
+routes-taken routes old new all peer w same none e q =
+    routes_in-other routes old new peer (Some w) q same
+    ∙ ap₂ (λ r s. cond (same_peer q.peer peer) r (finite.get s q)) (ap (option_map value_of) (ap (λ r. finite.get r q.prefix) none ∙ get-empty network_cmp q.prefix)) e
+
+pub no_routes-taken : {S : Type 0} (routes : S → stored.Routes (Rc Route Global)) (stores : Stores S) (all : Routes) (peer : Peer) → None ≡ store_at stores peer → routes_in routes stores ≡ all
+    → (q : Pair) → finite.get (routes_in routes stores) q ≡ cond (same_peer q.peer peer) None (finite.get all q)
+no_routes-taken routes stores all peer none e q = ap (λ r. finite.get r q) e ∙ at (same_peer q.peer peer) refl
+  where
+    at : (b : Bool) → same_peer q.peer peer ≡ b → finite.get all q ≡ cond b None (finite.get all q)
+    at true is = sym (get-found routes stores all q None (none ∙ ap (store_at stores) (sym (one_peer q.peer peer is))) e)
+    at false is = refl
+
 -- a peer has the routes of its store
 module _ {S : Type 0} (routes : S → stored.Routes (Rc Route Global)) (stores : Stores S) (all : Routes) (peer : Peer) where
   pub entries-peer_routes : (store : S) → Some store ≡ store_at stores peer → routes_in routes stores ≡ all → finite.entries (peer_routes all peer) ≡ valued (finite.entries (routes store))
-  entries-peer_routes store found e =
-      let sorted : T (is_sorted network_cmp (valued (finite.entries (routes store)))) = subst T (sym (sorted-valued (finite.entries (routes store)) ∙ routes_sorted (routes store))) tt in
-      ap finite.entries (same_map network_cmp_total network_cmp-IsAntisymmetric (peer_routes all peer) (finite.from_sorted (valued (finite.entries (routes store)))) (λ n.
-      get-peer_routes all peer n
-      ∙ sym (get-found routes stores all (pair_of peer n) (Some store) found e)
-      ∙ ap (option_map value_of) (get-entries (routes store) n)
-      ∙ sym (find-valued n (finite.entries (routes store)))
-      ∙ sym (get-from_sorted network_cmp (valued (finite.entries (routes store))) n sorted)))
-      ∙ entries-from_sorted network_cmp (valued (finite.entries (routes store))) sorted
+  entries-peer_routes store found e = entries-of_peer (routes store) all peer (λ n. get-found routes stores all (pair_of peer n) (Some store) found e)
 
   -- or none
   pub entries-no_routes : None ≡ store_at stores peer → routes_in routes stores ≡ all → finite.entries (peer_routes all peer) ≡ []
@@ -159,6 +232,12 @@ module _ {S : Type 0} (routes : S → stored.Routes (Rc Route Global)) (stores :
 
   pub no_front-above : (low : Option Network) (room : ℕ) → None ≡ store_at stores peer → routes_in routes stores ≡ all → [] ≡ take room (above low (finite.entries (peer_routes all peer)))
   no_front-above low room found e = sym (ap (λ s. take room (above low s)) (entries-no_routes found e) ∙ take-nil room)
+
+  pub values-peer_routes : (store : S) → Some store ≡ store_at stores peer → routes_in routes stores ≡ all → map value_of (finite.values (routes store)) ≡ finite.values (peer_routes all peer)
+  values-peer_routes store found e = sym (ap (map (λ (f : Network × Route). f.1)) (entries-peer_routes store found e) ∙ values-valued (finite.entries (routes store)))
+
+  pub no_values : None ≡ store_at stores peer → routes_in routes stores ≡ all → [] ≡ finite.values (peer_routes all peer)
+  no_values found e = sym (ap (map (λ (f : Network × Route). f.1)) (entries-no_routes found e))
 
   pub len-peer_routes : (store : S) → Some store ≡ store_at stores peer → routes_in routes stores ≡ all → finite.len (peer_routes all peer) ≡ finite.len (routes store)
   len-peer_routes store found e =
@@ -408,11 +487,6 @@ has-routed_peers all p =
     sym (contains_key-keys (finite.from_entries {R = peer_cmp} peers) p)
     ∙ ap is_some (get-from_entries peer_cmp_total peers p ∙ find-marked (λ (entry : Pair × Route). entry.0.peer) p (finite.entries all))
     ∙ marks _ ∙ some-peer_routes all p
-
-is_less : (r : Ordering) → is_lt r ≡ true → r ≡ Less
-is_less Less e = refl
-is_less Equal e = cc
-is_less Greater e = cc
 
 below-in_order : {A : Type 0} (x : Peer) (es : List (Peer × A)) → below_all peer_cmp x es ≡ true → AllByRecursion (λ y. peer_cmp x y ≡ Less) (keys_of es)
 below-in_order x [] f = tt

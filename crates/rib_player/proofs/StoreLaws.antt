@@ -78,7 +78,7 @@ and-false true = refl
 and-false false = refl
 
 -- a pair is among those of a peer where its prefix is among the prefixes
-any-pairs : (q : Pair) (peer : Peer) (ns : List Network) → list_any (eq_by_cmp pair_cmp q) (map (pair_of peer) ns) ≡ (same_peer q.peer peer && list_any (same_network q.prefix) ns)
+pub any-pairs : (q : Pair) (peer : Peer) (ns : List Network) → list_any (eq_by_cmp pair_cmp q) (map (pair_of peer) ns) ≡ (same_peer q.peer peer && list_any (same_network q.prefix) ns)
 any-pairs q peer [] = and-false (same_peer q.peer peer)
 any-pairs q peer (n ∷ ns) =
     ap₂ (λ a b. a || b) (tied_parts q peer n) (any-pairs q peer ns)
@@ -392,23 +392,3 @@ module _ {S : Type 0} (keys : S → stored.Keys) (routes : S → stored.Routes (
   pub gone-routes : (new : Stores S) → ((p : Peer) → store_at new p ≡ cond (same_peer pair.peer p) None (store_at between p)) → empty ≡ true → routes_in routes new ≡ routes_in routes old
   gone-routes new removed e = routes_in-same routes old new pair.peer None (gone new removed)
       (λ x. sym (ap (option_map value_of) (left.among x (no_key e x))) ∙ ap (λ r. option_map value_of (finite.get r x)) left.same ∙ ap (λ s. stored_route routes s x) left.found)
-
--- the pairs of a peer are those of a store that has its routes
-pub peer-named : (routes : stored.Routes (Rc Route Global)) (all : Routes) (peer : Peer) → ((n : Network) → option_map value_of (finite.get routes n) ≡ finite.get all (pair_of peer n))
-    → (q : Pair) → list_any (eq_by_cmp pair_cmp q) (map (pair_of peer) (finite.keys routes)) ≡ (same_peer q.peer peer && is_some (finite.get all q))
-peer-named routes all peer has q =
-    any-pairs q peer (finite.keys routes)
-    ∙ ap (λ b. same_peer q.peer peer && b) (sym (contains_key-keys routes q.prefix) ∙ sym (is_some-option_map value_of (finite.get routes q.prefix)))
-    ∙ at (same_peer q.peer peer) refl
-  where
-    at : (b : Bool) → same_peer q.peer peer ≡ b → (b && is_some (option_map value_of (finite.get routes q.prefix))) ≡ (b && is_some (finite.get all q))
-    at true is = ap is_some (has q.prefix ∙ ap (λ p. finite.get all (pair_of p q.prefix)) (sym (one_peer q.peer peer is)))
-    at false is = refl
-
--- and a peer without a route has none
-pub none-named : (all : Routes) (peer : Peer) → ((n : Network) → finite.get all (pair_of peer n) ≡ None) → (q : Pair) → false ≡ (same_peer q.peer peer && is_some (finite.get all q))
-none-named all peer none q = at (same_peer q.peer peer) refl
-  where
-    at : (b : Bool) → same_peer q.peer peer ≡ b → false ≡ (b && is_some (finite.get all q))
-    at true is = sym (ap is_some (ap (λ p. finite.get all (pair_of p q.prefix)) (one_peer q.peer peer is) ∙ none q.prefix))
-    at false is = refl

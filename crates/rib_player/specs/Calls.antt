@@ -1,6 +1,7 @@
 -- Private.
 -- What calls of a player do to it, and to the history that it stands for.
-use Rattle.std.specs.Prelude.{◌≡◌, ℕ, ◌+◌, ◌-◌, ◌≤◌, List, [], ◌∷◌, ◌++◌, length, take, drop, nat_lt, if◌then◌else◌}
+use Rattle.std.specs.Prelude.{◌≡◌, ℕ, ◌+◌, ◌-◌, ◌≤◌, List, [], ◌∷◌, ◌++◌, length, take, drop, map, replicate, slice_get, Option, nat_lt, if◌then◌else◌}
+use Rattle.std.specs.Option.{option_map}
 use Rattle.std.specs.FinMap as finite
 use Rattle.mrt_events.specs.declared.event.Event.{Event}
 use Rattle.rib_player.specs.Tables.{Routes, Pairs, table, named_pairs}
@@ -45,6 +46,10 @@ abbrev pub steps_along : List Event → List Event → List Pairs
 steps_along past [] = []
 steps_along past (event ∷ events) = named_pairs (table past) event ∷ steps_along (past ++ event ∷ []) events
 
+-- the pairs that the event at a position names, where there is one
+abbrev pub names_at : List Event → ℕ → Option Pairs
+names_at history i = option_map (named_pairs (table (take i history))) (slice_get history i)
+
 -- a player stands for a history: each position has the table of the events before it, each step names what its event does
 pub record StandsFor (t : Timeline) (history : List Event) : Type 0 where
   pub floor : t.floor ≤ t.cursor
@@ -62,6 +67,13 @@ pub data Call : Type 0 where
   Forget : ℕ → Call
   -- `at`, `ahead`, `floor`, `named` or `table`
   Look : Call
+
+-- events are played, and then undone; and redone
+abbrev pub undone : List Event → List Call
+undone events = map Play events ++ replicate (length events) Undo
+
+abbrev pub redone : List Event → List Call
+redone events = map Play events ++ (replicate (length events) Undo ++ replicate (length events) Redo)
 
 -- what a call makes of a player
 abbrev pub after_call : Timeline → Call → Timeline

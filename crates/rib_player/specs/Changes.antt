@@ -1,9 +1,10 @@
 -- Private.
 -- What is noted of an event's items, pair by pair.
-use Rattle.std.specs.Prelude.{Bool, true, false, List, map, Option, Some, None, ◌≡◌}
+use Rattle.std.specs.Prelude.{Bool, true, false, ◌&&◌, is_some, List, map, Option, Some, None, ◌≡◌}
 use Rattle.std.specs.List.{list_any}
 use Rattle.std.specs.Map.{lookup}
 use Rattle.std.specs.Ordering.{eq_by_cmp}
+use Rattle.std.specs.FinMap.{get}
 use Rattle.mrt_events.specs.declared.peer.Peer.{Peer}
 use Rattle.rib_player.specs.declared.pair.Pair.{Pair}
 use Rattle.mrt_events.specs.declared.event.Route.{Route}
@@ -13,6 +14,7 @@ use Rattle.mrt_events.specs.declared.event.Item.{Item}
 use Rattle.mrt_events.specs.Event.{Saying, Announced, Withdrawn, Changed, saying}
 use Rattle.rib_player.specs.History.{pair_cmp, Effect, Clear, Set, where_true, item_effect, last_effect}
 use Rattle.rib_player.specs.Journal.{Side, sides_of}
+use Rattle.rib_player.specs.Tables.{Routes}
 
 -- the route, or its absence, that the first side of a pair has
 abbrev pub found : List Side → Pair → Option (Option Route)
@@ -28,6 +30,10 @@ effect_of (Some (Some route)) lost = Set route
 effect_of (Some None) lost = Clear
 effect_of None lost = where_true lost Clear
 
+-- what a route, or its absence, does that is noted of a pair
+abbrev pub effect_at : Pair → Option Route → Pair → Effect
+effect_at pair route q = where_true (eq_by_cmp pair_cmp q pair) (effect_of (Some route) false)
+
 -- what is noted for a pair
 abbrev pub noted_effect : Changes → Pair → Effect
 noted_effect changes pair = effect_of (found (sides_of changes.entries.items) pair) (is_lost changes.lost.keys pair)
@@ -37,6 +43,11 @@ abbrev pub or_absent : Option (Option Route) → Bool → Option (Option Route)
 or_absent (Some kept) absent = Some kept
 or_absent None true = Some None
 or_absent None false = None
+
+-- what is noted for a pair, once those of lost peers that a table has a route to are among those that lose it
+abbrev pub found_then : Changes → Routes → Pair → Option (Option Route)
+found_then changes routes q =
+    or_absent (found (sides_of changes.entries.items) q) (is_lost changes.lost.keys q && is_some (get routes q))
 
 -- what items do to a pair
 abbrev pub items_effect : Pair → List Item → Effect

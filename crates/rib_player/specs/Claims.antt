@@ -5,14 +5,16 @@ use Rattle.std.specs.BTreeMap as tree
 use Rattle.std.specs.FinMap as finite
 use Rattle.std.specs.FinSet as set
 use Rattle.ip_prefix.specs.Network.{Network}
+use Rattle.mrt_events.specs.declared.event.Event.{Event}
 use Rattle.mrt_events.specs.Peer.{peer_cmp}
 pub use Rattle.rib_player.specs.Counts.{one_if}
 use Rattle.rib_player.specs.Counts.{count_of}
 use Rattle.rib_player.specs.declared.claims.Claims.{Claims}
 use Rattle.rib_player.specs.declared.counts.Counts.{Counts}
 use Rattle.rib_player.specs.declared.pair.Pair.{Pair}
-use Rattle.rib_player.specs.Tables.{Routes, Pairs}
-use Rattle.rib_player.specs.Timeline.{Timeline}
+use Rattle.rib_player.specs.Store.{Contents}
+use Rattle.rib_player.specs.Tables.{Routes, Pairs, table_after}
+use Rattle.rib_player.specs.Timeline.{Timeline, table_at, current, end_of}
 
 -- the pair has a route
 abbrev pub is_routed : Pair → Routes → Bool
@@ -40,6 +42,17 @@ claims_along pair (first ∷ tables) = one_if (is_routed pair first) + brought_a
 abbrev pub claims : Timeline → Pair → ℕ
 claims t pair = claims_along pair t.tables
 
+-- whether the first of the kept steps clears the pair, and whether the last brings it
+abbrev pub first_clears : Timeline → Pair → Bool
+first_clears t pair = clears pair (table_at t t.floor) (table_at t (t.floor + 1))
+
+abbrev pub last_brings : Timeline → Pair → Bool
+last_brings t pair = brings pair (table_at t (end_of t - 1)) (table_at t (end_of t))
+
+-- whether an event that is played brings it
+abbrev pub event_brings : Timeline → Event → Pair → Bool
+event_brings t event pair = brings pair (current t) (table_after (current t) event)
+
 -- the last step is dropped
 abbrev pub without_last : Timeline → Timeline
 without_last t = record t {
@@ -58,6 +71,10 @@ claims_beyond claims pair = count_of_peer (tree.get peer_cmp claims.peers pair.p
 -- how many claims of a pair are held: the key, and those beyond it
 abbrev pub held_claims : Pairs → (Pair → ℕ) → Pair → ℕ
 held_claims keys beyond pair = one_if (set.contains keys pair) + beyond pair
+
+-- the same, by a table and the claims that are counted beside it
+abbrev pub claims_in : Contents → Claims → Pair → ℕ
+claims_in table claims = held_claims table.keys (claims_beyond claims)
 
 -- no claim is held beyond a key that isn't there
 abbrev pub AreHeld : Pairs → (Pair → ℕ) → Type 0

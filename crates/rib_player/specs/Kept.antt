@@ -1,6 +1,6 @@
 -- Private.
 -- How an entry is kept, and what a new one says.
-use Rattle.std.specs.Prelude.{false, [], Option, Some, None}
+use Rattle.std.specs.Prelude.{true, false, List, [], ◌∷◌, Option, Some, None}
 use Rattle.std.specs.declared.alloc.Global.{Global}
 use Rattle.std.specs.declared.rc.Rc.{Rc}
 use Rattle.ip_prefix.specs.declared.addr.Family.TheVariants.{V4}
@@ -16,6 +16,16 @@ use Rattle.rib_player.specs.Entries.{Entry}
 -- one that wasn't put yet, with the route behind the step
 abbrev pub new_entry : Pair → Option (Rc Route Global) → Entry
 new_entry pair other = record { pair = pair; other = other; before = false; behind = false }
+
+-- one of a pair that has this route before the step and none behind it
+abbrev pub cleared_entry : Entry → Rc Route Global → Entry
+cleared_entry entry route = record { pair = entry.pair; other = Some route; before = true; behind = false }
+
+-- entries of pairs that have these routes, in turn, before the step and none behind it
+abbrev pub cleared_entries : List Entry → List (Rc Route Global) → List Entry
+cleared_entries [] routes = []
+cleared_entries (entry ∷ entries) [] = entry ∷ entries
+cleared_entries (entry ∷ entries) (route ∷ routes) = cleared_entry entry route ∷ cleared_entries entries routes
 
 -- what stands for a pair where none is kept
 abbrev no_pair : Pair

@@ -16,7 +16,7 @@ use Rattle.prefix_store.specs.Stored as stored
 use Rattle.prefix_store.specs.Lookups as lookups
 use Rattle.rib_player.specs.History.{pair_of}
 use Rattle.rib_player.specs.Tables.{Routes}
-use Rattle.rib_player.specs.Store.{Stores}
+use Rattle.rib_player.specs.Store.{Stores, peer_routes, routed_peers}
 
 -- of the prefixes that the peer has a route to and that contain the address the longest, and its route
 abbrev pub IsBest : Routes → Peer → Address → Option (Network × Route) → Type 0
@@ -34,6 +34,18 @@ is_peer_above (Some low) peer = is_lt (peer_cmp low peer)
 -- the peers above a peer, in order
 abbrev pub peers_above : Option Peer → List Peer → List Peer
 peers_above low peers = filter (is_peer_above low) peers
+
+-- the peers above a peer that have a route, in order
+abbrev pub routed_above : Routes → Option Peer → List Peer
+routed_above routes low = peers_above low (routed_peers routes)
+
+-- a peer, and what a count of its routes answers
+abbrev pub counted_peer : Routes → Peer → Peer × ℕ
+counted_peer routes peer = (peer, stored.counted (finite.len (peer_routes routes peer)))
+
+-- the routes of a peer above a prefix, in order
+abbrev pub routes_above : Routes → Peer → Option Network → List (Network × Route)
+routes_above routes peer low = lookups.above low (finite.entries (peer_routes routes peer))
 
 -- the stores that have a route, each with its peer
 abbrev pub routed_stores : {S : Type 0} → (S → stored.Routes (Rc Route Global)) → Stores S → Stores S

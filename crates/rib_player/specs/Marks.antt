@@ -47,8 +47,12 @@ leaves Last before behind = not before && behind
 abbrev pub gives_up : End → Mark → Bool
 gives_up end mark = leaves end mark.before mark.behind
 
+-- the same of this pair alone
+abbrev pub gives_up_at : End → Mark → Pair → Bool
+gives_up_at end mark q = gives_up end mark && eq_by_cmp pair_cmp q mark.pair
+
 abbrev pub gives_up_by : End → List Mark → Pair → Bool
-gives_up_by end marks q = list_any (λ mark. gives_up end mark && eq_by_cmp pair_cmp q mark.pair) marks
+gives_up_by end marks q = list_any (λ mark. gives_up_at end mark q) marks
 
 -- the mark of a pair that has this route behind a step, and that of a table before it
 abbrev pub mark_across : Routes → Side → Mark

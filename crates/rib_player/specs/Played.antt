@@ -24,6 +24,11 @@ pub record AreClaimed (steps : List (List Mark)) (held : Pair → ℕ) (tables :
   pub marked : AreMarked tables steps
   pub claimed : (q : Pair) → held q ≡ claims_along q tables + new q
 
+-- with the steps behind the cursor dropped, the others and one step more make the claims that are left
+abbrev pub StayClaimed : ℕ → List Step → (Pair → ℕ) → List Step → (Pair → ℕ) → Type 0
+StayClaimed cursor steps held steps' held' =
+    (tables : List Routes) (new : Pair → ℕ) → AreClaimed (marks_by_step steps) held tables new → AreClaimed (marks_by_step steps') held' (take (cursor + 1) tables) new
+
 -- the steps behind the cursor can be dropped: a pair that then has no claim has no route
 pub record CanDrop (steps : List (List Mark)) (cursor : ℕ) (held : Pair → ℕ) (routes : Routes) : Type 0 where
   pub tables : List Routes

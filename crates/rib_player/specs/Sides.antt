@@ -3,13 +3,14 @@
 use Rattle.std.specs.Prelude.{◌≡◌, ℕ, true, None, List, [], map, slice_index_or}
 use Rattle.std.specs.List.{AllByRecursion, IsDistinct}
 use Rattle.std.specs.Ordering.{eq_by_cmp}
-use Rattle.std.specs.FinMap.{get}
+use Rattle.std.specs.FinMap.{get, keys}
 use Rattle.std.specs.FinSet.{contains, from_list}
 use Rattle.ip_prefix.specs.Network.{Network}
 use Rattle.mrt_events.specs.declared.peer.Peer.{Peer}
 use Rattle.mrt_events.specs.declared.event.Event.{Event}
 use Rattle.rib_player.specs.History.{pair_cmp, pair_of}
 use Rattle.rib_player.specs.Tables.{Routes, Pairs, table_after, named_pairs}
+use Rattle.rib_player.specs.Store.{peer_routes}
 use Rattle.rib_player.specs.Journal.{Side, pairs_in}
 
 -- the same pairs with the routes that a table has
@@ -20,14 +21,18 @@ sides_across routes sides = map (λ side. (side.0, get routes side.0)) sides
 abbrev pub cleared_side : Peer → Network → Side
 cleared_side peer prefix = (pair_of peer prefix, None)
 
+-- the sides of all pairs of a peer that have a route, none of which has one there
+abbrev pub AreCleared : Routes → Peer → List Side → Type 0
+AreCleared routes peer sides = sides ≡ map (cleared_side peer) (keys (peer_routes routes peer))
+
 -- no pair stands twice
 abbrev pub AreDistinct : List Side → Type 0
 AreDistinct sides = IsDistinct (eq_by_cmp pair_cmp) (pairs_in sides)
 
 -- no pair stands twice, and each is a key
-pub record IsKept (keys : Pairs) (sides : List Side) : Type 0 where
+pub record IsKept (all : Pairs) (sides : List Side) : Type 0 where
   pub distinct : AreDistinct sides
-  pub among_keys : AllByRecursion (λ pair. contains keys pair ≡ true) (pairs_in sides)
+  pub among_keys : AllByRecursion (λ pair. contains all pair ≡ true) (pairs_in sides)
 
 -- the entries of the step at an index
 abbrev pub sides_at : List (List Side) → ℕ → List Side

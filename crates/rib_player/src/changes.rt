@@ -1,15 +1,15 @@
 //! What an event does, pair by pair.
 
-ghost use Rattle.std.specs.Prelude.{◌≡◌, [], ◌∷◌, ◌≢◌, IfOk, IfSome, IfNone, OnOk, Some, false, map, slice_get};
+ghost use Rattle.std.specs.Prelude.{◌≡◌, [], ◌∷◌, ◌≢◌, IfOk, IfSome, IfNone, OnOk, map, slice_get};
 ghost use Rattle.std.specs.Ordering.{eq_by_cmp};
 ghost use Rattle.mrt_events.specs.Event.{saying};
 ghost use Rattle.mrt_events.specs.SharedRoute.{AreOfOneRoute};
 ghost use Rattle.rib_player.specs.declared.pair.Pair.{Pair};
 ghost use Rattle.mrt_events.specs.declared.peer.Peer.{Peer};
 ghost use Rattle.mrt_events.specs.Peer.{peer_cmp};
-ghost use Rattle.rib_player.specs.History.{pair_cmp, pair_of, Clear, where_true, item_effect, later, effect};
+ghost use Rattle.rib_player.specs.History.{pair_of, Clear, where_true, item_effect, later, effect};
 ghost use Rattle.rib_player.specs.Store.{route_in};
-ghost use Rattle.rib_player.specs.Changes.{noted_effect, effect_of, items_effect, HasRoute};
+ghost use Rattle.rib_player.specs.Changes.{noted_effect, effect_at, items_effect, HasRoute};
 
 use crate::entry::Entry;
 use crate::numbered_peer::{NO_NUMBER, NumberedPeer};
@@ -44,8 +44,8 @@ impl Changes {
         route: Option<Rc<Route>>,
     ) -> Result<(), AllocError>
         ensures { OnOk result ((q : Pair) → noted_effect self.new q
-            ≡ later (where_true (eq_by_cmp pair_cmp q (pair_of peer.now prefix.now))
-            (effect_of (Some (route_in route)) false)) (noted_effect self.old q)) }
+            ≡ later (effect_at (pair_of peer.now prefix.now) (route_in route) q)
+            (noted_effect self.old q)) }
     {
         if !self.lost.contains(peer) {
             let shared = shared_peer(self.alloc, table, self.entries.last(), peer)?;
@@ -151,6 +151,9 @@ impl Changes {
         ensures { OnOk result ((q : Pair) → noted_effect self.new q
             ≡ later (items_effect q items.now) (noted_effect self.old q)) }
     {
+        if items.is_empty() {
+            return Ok(());
+        }
         let Some((peer, route)) = first_route(items) else {
             return self.note_each(table, items, known);
         };

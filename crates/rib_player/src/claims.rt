@@ -14,8 +14,8 @@ ghost use Rattle.rib_player.specs.History.{pair_cmp};
 ghost use Rattle.rib_player.specs.Store.{route_in};
 ghost use Rattle.rib_player.specs.Journal.{sides_of};
 ghost use Rattle.rib_player.specs.Sides.{AreDistinct};
-ghost use Rattle.rib_player.specs.Marks.{mark_of, marks_of, gives_up, gives_up_by};
-ghost use Rattle.rib_player.specs.Claims.{one_if, claims_beyond, held_claims, AreHeld};
+ghost use Rattle.rib_player.specs.Marks.{mark_of, marks_of, gives_up_at, gives_up_by};
+ghost use Rattle.rib_player.specs.Claims.{one_if, claims_beyond, claims_in, AreHeld};
 
 use crate::counts::Counts;
 use crate::entry::{End, Entry};
@@ -94,9 +94,9 @@ pub(crate) fn put_entry<S: PrefixStore<Rc<Route>>>(
     ensures held { AreHeld table.new.keys (claims_beyond claims.new) }
     ensures keys { OnOk result (table.new.keys ≡ set.insert table.old.keys entry.old.pair) }
     ensures claimed { OnOk result ((q : Pair) →
-        held_claims table.new.keys (claims_beyond claims.new) q
-        ≡ held_claims table.old.keys (claims_beyond claims.old) q
-        + one_if (gives_up Last (mark_of entry.new) && eq_by_cmp pair_cmp q entry.old.pair)) }
+        claims_in table.new claims.new q
+        ≡ claims_in table.old claims.old q
+        + one_if (gives_up_at Last (mark_of entry.new) q)) }
     ensures before { OnOk result
         (entry.new.before ≡ is_some (finite.get table.old.routes entry.old.pair)) }
     ensures behind { OnOk result (entry.new.behind ≡ is_some (route_in entry.old.other)) }
@@ -106,8 +106,8 @@ pub(crate) fn put_entry<S: PrefixStore<Rc<Route>>>(
         (route_in entry.new.other ≡ finite.get table.old.routes entry.old.pair) }
     ensures pair { OnOk result (entry.new.pair ≡ entry.old.pair) }
     ensures refused { OnErr result ((q : Pair) →
-        held_claims table.new.keys (claims_beyond claims.new) q
-        ≡ held_claims table.old.keys (claims_beyond claims.old) q) }
+        claims_in table.new claims.new q
+        ≡ claims_in table.old claims.old q) }
     ensures kept { OnErr result (table.new.routes ≡ table.old.routes) }
 {
     let made = entry.put(table)?;
@@ -128,9 +128,9 @@ fn give_up<S: PrefixStore<Rc<Route>>>(table: &mut Table<S>, claims: &mut Claims,
     requires free { claims_beyond claims.old pair.now ≡ 0 →
         finite.get table.old.routes pair.now ≡ None }
     ensures held { AreHeld table.new.keys (claims_beyond claims.new) }
-    ensures claimed { (q : Pair) → held_claims table.new.keys (claims_beyond claims.new) q
+    ensures claimed { (q : Pair) → claims_in table.new claims.new q
         + one_if (eq_by_cmp pair_cmp q pair.now)
-        ≡ held_claims table.old.keys (claims_beyond claims.old) q }
+        ≡ claims_in table.old claims.old q }
     ensures routes { table.new.routes ≡ table.old.routes }
 {
     if !claims.take(pair) {
@@ -152,9 +152,9 @@ pub(crate) fn give_up_claims<S: PrefixStore<Rc<Route>>>(
     requires free { (q : Pair) → gives_up_by end (marks_of entries.now) q ≡ true →
         claims_beyond claims.old q ≡ 0 → finite.get table.old.routes q ≡ None }
     ensures held { AreHeld table.new.keys (claims_beyond claims.new) }
-    ensures claimed { (q : Pair) → held_claims table.new.keys (claims_beyond claims.new) q
+    ensures claimed { (q : Pair) → claims_in table.new claims.new q
         + one_if (gives_up_by end (marks_of entries.now) q)
-        ≡ held_claims table.old.keys (claims_beyond claims.old) q }
+        ≡ claims_in table.old claims.old q }
     ensures routes { table.new.routes ≡ table.old.routes }
 {
     'entries: for entry in entries {

@@ -9,20 +9,20 @@ ghost use Rattle.prefix_store.specs.Stored.{counted};
 ghost use Rattle.prefix_store.specs.Contents.{AreAmong};
 ghost use Rattle.rib_player.specs.declared.pair.Pair.{Pair};
 ghost use Rattle.rib_player.specs.declared.entry.End.TheVariants.{Last};
-ghost use Rattle.rib_player.specs.Tables.{Routes};
-ghost use Rattle.rib_player.specs.Claims.{one_if, claims_beyond, held_claims, AreHeld};
+ghost use Rattle.rib_player.specs.Claims.{one_if, claims_beyond, claims_in, AreHeld};
 ghost use Rattle.rib_player.specs.Journal.{Side, sides_of, steps_of, routes_across};
-ghost use Rattle.rib_player.specs.Sides.{sides_at, sides_across, IsKept, AreDistinct};
+ghost use Rattle.rib_player.specs.Sides.{sides_at, sides_across, AreCleared, IsKept, AreDistinct};
 ghost use Rattle.rib_player.specs.Marks.{marks_of, marks_by_step, marks_across, gives_up_by, entry_count};
-ghost use Rattle.rib_player.specs.Played.{AreClaimed, CanDrop};
+ghost use Rattle.rib_player.specs.Played.{CanDrop, StayClaimed};
 
 use crate::claims::{Claims, give_up_claims, put_entry};
 use crate::entry::{End, Entry};
-use crate::reaching::{reach_brought, reach_entries};
+use crate::losses::clear_peer;
+use crate::reaching::reach_entries;
 use crate::room::{LEAST_ROOM, MOST_TIMES};
 use crate::table::Table;
 use known_routes::KnownRoutes;
-use mrt_events::Route;
+use mrt_events::{Peer, Route};
 use prefix_store::PrefixStore;
 use std::alloc::{AllocError, Global};
 use std::collections::VecDeque;
@@ -104,22 +104,25 @@ fn take_back<S: PrefixStore<Rc<Route>>>(
     requires keys { (q : Pair) → gives_up_by Last (marks_of entries.old) q ≡ true →
         names.contains table.old.keys q ≡ true }
     ensures held { AreHeld table.new.keys (claims_beyond claims.new) }
-    ensures claimed { (q : Pair) → held_claims table.new.keys (claims_beyond claims.new) q
+    ensures claimed { (q : Pair) → claims_in table.new claims.new q
         + one_if (gives_up_by Last (marks_of entries.old) q)
-        ≡ held_claims table.old.keys (claims_beyond claims.old) q }
+        ≡ claims_in table.old claims.old q }
     ensures routes { table.new.routes ≡ routes_across (sides_of entries.old) table.old.routes }
 {
     cross(table, entries);
     give_up_claims(table, claims, entries, End::Last);
 }
 
-/// Goes from one side of a new step to the other, with the claims that it makes. Refused, it takes
-/// back what it did.
+/// Goes from one side of a new step to the other, with the claims that it makes, or at once where it
+/// clears the routes of a peer alone. Refused, it takes back what it did.
 pub(crate) fn put_entries<S: PrefixStore<Rc<Route>>>(
+    alloc: Global,
     table: &mut Table<S>,
     claims: &mut Claims,
+    lost: Option<&Peer>,
     entries: &mut [Entry],
 ) -> Result<(), AllocError>
+    requires cleared { IfSome lost (λ peer. AreCleared table.old.routes peer.now (sides_of entries.old)) }
     requires distinct { AreDistinct (sides_of entries.old) }
     requires held { AreHeld table.old.keys (claims_beyond claims.old) }
     requires among { AreAmong table.old.keys table.old.routes }
@@ -128,8 +131,8 @@ pub(crate) fn put_entries<S: PrefixStore<Rc<Route>>>(
         (sides_of entries.old) }
     ensures held { AreHeld table.new.keys (claims_beyond claims.new) }
     ensures claimed { OnOk result ((q : Pair) →
-        held_claims table.new.keys (claims_beyond claims.new) q
-        ≡ held_claims table.old.keys (claims_beyond claims.old) q
+        claims_in table.new claims.new q
+        ≡ claims_in table.old claims.old q
         + one_if (gives_up_by Last (marks_of entries.new) q)) }
     ensures marks { OnOk result
         (marks_of entries.new ≡ marks_across table.old.routes (sides_of entries.old)) }
@@ -138,14 +141,17 @@ pub(crate) fn put_entries<S: PrefixStore<Rc<Route>>>(
     ensures sides { OnOk result
         (sides_of entries.new ≡ sides_across table.old.routes (sides_of entries.old)) }
     ensures refused { OnErr result ((q : Pair) →
-        held_claims table.new.keys (claims_beyond claims.new) q
-        ≡ held_claims table.old.keys (claims_beyond claims.old) q) }
+        claims_in table.new claims.new q
+        ≡ claims_in table.old claims.old q) }
     ensures kept { OnErr result (table.new.routes ≡ table.old.routes) }
 {
+    if let Some(peer) = lost {
+        return clear_peer(alloc, table, peer, entries);
+    }
     let mut made = 0;
     let mut passed = 0u64;
     'entries: while made < entries.len() {
-        passed = passed.wrapping_add(reach_brought(table, entries, made));
+        passed = passed.wrapping_add(reach_entries(table, entries, made));
         if let Err(refused) = put_entry(table, claims, &mut entries[made]) {
             take_back(table, claims, &mut entries[..made]);
             return Err(refused);
@@ -204,14 +210,11 @@ impl Journal {
         requires distinct { AllByRecursion AreDistinct (steps_of self.old.steps.items) }
         requires held { AreHeld table.old.keys (claims_beyond claims.old) }
         requires claimed { CanDrop (marks_by_step self.old.steps.items) self.old.cursor
-            (held_claims table.old.keys (claims_beyond claims.old)) table.old.routes }
+            (claims_in table.old claims.old) table.old.routes }
         ensures held { AreHeld table.new.keys (claims_beyond claims.new) }
-        ensures claimed { (tables : List Routes) (new : Pair → ℕ) →
-            AreClaimed (marks_by_step self.old.steps.items)
-            (held_claims table.old.keys (claims_beyond claims.old)) tables new →
-            AreClaimed (marks_by_step self.new.steps.items)
-            (held_claims table.new.keys (claims_beyond claims.new))
-            (take (self.old.cursor + 1) tables) new }
+        ensures claimed { StayClaimed self.old.cursor
+            self.old.steps.items (claims_in table.old claims.old)
+            self.new.steps.items (claims_in table.new claims.new) }
         ensures routes { table.new.routes ≡ table.old.routes }
         ensures steps { self.new.steps.items ≡ take self.old.cursor self.old.steps.items }
         ensures capacity { deque_capacity self.new.steps ≡ deque_capacity self.old.steps }

@@ -18,10 +18,10 @@ ghost use Rattle.mrt_events.specs.declared.event.TheConstants.{ESTABLISHED};
 ghost use Rattle.rib_player.specs.History.{pair_cmp, pair_of, effect, route_after, route};
 ghost use Rattle.rib_player.specs.Tables.{Routes, table, table_after, is_named, named_pairs};
 ghost use Rattle.rib_player.specs.Store.{peer_routes, routed_peers};
-ghost use Rattle.rib_player.specs.Lookups.{peers_above};
+ghost use Rattle.rib_player.specs.Lookups.{routed_above};
 ghost use Rattle.rib_player.specs.Timeline.{Timeline, end_of, table_at, current, after_play};
-ghost use Rattle.rib_player.specs.Calls.{Call, Play, Undo, Redo, StandsFor, forgettable, after_forget, fresh, after_undo, after_redo, without_first, after_call, after_calls, history_after, history_after_calls};
-ghost use Rattle.rib_player.specs.Claims.{brings, clears, one_if, claims, without_last};
+ghost use Rattle.rib_player.specs.Calls.{Call, StandsFor, names_at, undone, redone, forgettable, after_forget, fresh, after_undo, after_redo, without_first, after_call, after_calls, history_after, history_after_calls};
+ghost use Rattle.rib_player.specs.Claims.{one_if, claims, first_clears, last_brings, event_brings, without_last};
 ghost use Rattle.rib_player.specs.Wanted.{wanted, IsWellFormed};
 
 /// The number that the definitions name: the state Established (RFC 6396, section 4.4.1).
@@ -62,14 +62,13 @@ pub fn routes_of_peers()
 /// none.
 pub fn walk_over_peers()
     ensures all { (routes : Routes) →
-        peers_above None (routed_peers routes) ≡ routed_peers routes }
-    ensures next { (routes : Routes) (low : Option Peer) (next : Peer)
-        → slice_get (peers_above low (routed_peers routes)) 0 ≡ Some next
-        → peers_above low (routed_peers routes)
-        ≡ next ∷ peers_above (Some next) (routed_peers routes) }
+        routed_above routes None ≡ routed_peers routes }
+    ensures next { (routes : Routes) (low : Option Peer) (p : Peer)
+        → slice_get (routed_above routes low) 0 ≡ Some p
+        → routed_above routes low ≡ p ∷ routed_above routes (Some p) }
     ensures end { (routes : Routes) (low : Option Peer)
-        → slice_get (peers_above low (routed_peers routes)) 0 ≡ None
-        → peers_above low (routed_peers routes) ≡ [] }
+        → slice_get (routed_above routes low) 0 ≡ None
+        → routed_above routes low ≡ [] }
 {}
 
 /// The wanted pairs of a player, which are the keys of its table, are those that have a route at
@@ -89,13 +88,13 @@ pub fn claimed_pairs()
         set.contains (wanted t) pair ≡ nat_lt 0 (claims t pair) }
     ensures forgotten { (t : Timeline) (pair : Pair) → IsWellFormed t → 0 < length t.steps →
         claims t pair ≡ claims (without_first 1 t) pair
-        + one_if (clears pair (table_at t t.floor) (table_at t (t.floor + 1))) }
+        + one_if (first_clears t pair) }
     ensures dropped { (t : Timeline) (pair : Pair) → IsWellFormed t → 0 < length t.steps →
         claims t pair ≡ claims (without_last t) pair
-        + one_if (brings pair (table_at t (end_of t - 1)) (table_at t (end_of t))) }
-    ensures played { (t : Timeline) (event : Event) (pair : Pair) → IsWellFormed t →
-        t.cursor ≡ end_of t → claims (after_play t event) pair ≡ claims t pair
-        + one_if (brings pair (current t) (table_after (current t) event)) }
+        + one_if (last_brings t pair) }
+    ensures played { (t : Timeline) (e : Event) (pair : Pair) → IsWellFormed t →
+        t.cursor ≡ end_of t →
+        claims (after_play t e) pair ≡ claims t pair + one_if (event_brings t e pair) }
 {}
 
 /// The table of a history that goes on by an event is that event applied to its table.
@@ -111,8 +110,7 @@ pub fn tables_by_position()
         (i : ℕ) → t.floor ≤ i → i ≤ length history → table_at t i ≡ table (take i history) }
     ensures steps { (t : Timeline) (history : List Event) → StandsFor t history →
         (i : ℕ) → t.floor ≤ i →
-        slice_get t.steps (i - t.floor)
-        ≡ option_map (named_pairs (table (take i history))) (slice_get history i) }
+        slice_get t.steps (i - t.floor) ≡ names_at history i }
     ensures end { (t : Timeline) (history : List Event) → StandsFor t history →
         end_of t ≡ length history }
     ensures routes { (t : Timeline) (history : List Event) → StandsFor t history →
@@ -159,9 +157,7 @@ pub fn forgotten_steps()
 /// history with these events.
 pub fn steps_back_and_forth()
     ensures back { (t : Timeline) (history events : List Event) → StandsFor t history →
-        current (after_calls t (map Play events ++ replicate (length events) Undo)) ≡ current t }
+        current (after_calls t (undone events)) ≡ current t }
     ensures forth { (t : Timeline) (history events : List Event) → StandsFor t history →
-        current (after_calls t (map Play events
-        ++ (replicate (length events) Undo ++ replicate (length events) Redo)))
-        ≡ table (take t.cursor history ++ events) }
+        current (after_calls t (redone events)) ≡ table (take t.cursor history ++ events) }
 {}

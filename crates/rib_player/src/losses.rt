@@ -1,15 +1,18 @@
 //! The entries of a lost session.
 
-ghost use Rattle.std.specs.Prelude.{◌≡◌, ◌++◌, ◌&&◌, IfOk, OnOk, None, is_some, map};
+ghost use Rattle.std.specs.Prelude.{◌≡◌, ◌≤◌, ◌++◌, ◌&&◌, IfOk, OnOk, OnErr, None, false, is_some, map, length};
 ghost use Rattle.std.specs.List.{AllByRecursion, list_any};
 ghost use Rattle.std.specs.Ordering.{eq_by_cmp};
 ghost use Rattle.std.specs.FinMap as finite;
 ghost use Rattle.rib_player.specs.declared.pair.Pair.{Pair};
+ghost use Rattle.rib_player.specs.declared.entry.End.TheVariants.{Last};
 ghost use Rattle.mrt_events.specs.Peer.{peer_cmp};
 ghost use Rattle.rib_player.specs.History.{pair_cmp};
 ghost use Rattle.rib_player.specs.Changes.{found};
-ghost use Rattle.rib_player.specs.Journal.{sides_of, pairs_in};
-ghost use Rattle.rib_player.specs.Sides.{cleared_side, AreDistinct};
+ghost use Rattle.rib_player.specs.Kept.{cleared_entries};
+ghost use Rattle.rib_player.specs.Journal.{sides_of, pairs_in, routes_across};
+ghost use Rattle.rib_player.specs.Sides.{cleared_side, sides_across, AreCleared, AreDistinct};
+ghost use Rattle.rib_player.specs.Marks.{marks_of, marks_across, gives_up_by};
 
 use crate::changes::shared_peer;
 use crate::entry::Entry;
@@ -70,12 +73,8 @@ pub(crate) fn lost_entries<S: PrefixStore<Rc<Route>>>(
     peer: &Peer,
     table: &Table<S>,
 ) -> Result<Vec<Entry>, AllocError>
-    ensures named { IfOk result (λ entries. (q : Pair) →
-        list_any (eq_by_cmp pair_cmp q) (pairs_in (sides_of entries.items))
-        ≡ (eq_by_cmp peer_cmp q.peer peer.now && is_some (finite.get table.now.routes q))) }
-    ensures absent { IfOk result (λ entries.
-        AllByRecursion (λ side. side.1 ≡ None) (sides_of entries.items)) }
-    ensures distinct { IfOk result (λ entries. AreDistinct (sides_of entries.items)) }
+    ensures { IfOk result (λ entries.
+        AreCleared table.now.routes peer.now (sides_of entries.items)) }
 {
     match table.store(peer) {
         Some(store) => {
@@ -84,4 +83,43 @@ pub(crate) fn lost_entries<S: PrefixStore<Rc<Route>>>(
         }
         None => Ok(Vec::new(alloc)),
     }
+}
+
+/// Notes the routes that the pairs of these entries have, in turn, before a step that clears them.
+fn note_routes(entries: &mut [Entry], routes: Vec<Rc<Route>>)
+    requires { length routes.items ≤ length entries.old }
+    ensures { entries.new ≡ cleared_entries entries.old routes.items }
+{
+    let mut index = 0;
+    'routes: for route in routes {
+        entries[index].note_cleared(route);
+        index += 1;
+    }
+}
+
+/// Goes from one side of a new step to the other that clears all routes of a peer, and does nothing
+/// else: the table's routes become those of the entries. So it passes by each node of the peer's store
+/// once. Refused, the table is as it was.
+pub(crate) fn clear_peer<S: PrefixStore<Rc<Route>>>(
+    alloc: Global,
+    table: &mut Table<S>,
+    peer: &Peer,
+    entries: &mut [Entry],
+) -> Result<(), AllocError>
+    requires { AreCleared table.old.routes peer.now (sides_of entries.old) }
+    ensures keys { table.new.keys ≡ table.old.keys }
+    ensures routes { OnOk result
+        (table.new.routes ≡ routes_across (sides_of entries.old) table.old.routes) }
+    ensures sides { OnOk result
+        (sides_of entries.new ≡ sides_across table.old.routes (sides_of entries.old)) }
+    ensures marks { OnOk result
+        (marks_of entries.new ≡ marks_across table.old.routes (sides_of entries.old)) }
+    ensures unbrought { OnOk result ((q : Pair) →
+        gives_up_by Last (marks_of entries.new) q ≡ false) }
+    ensures kept { OnErr result (table.new.routes ≡ table.old.routes) }
+{
+    let mut routes = Vec::with_capacity(alloc, entries.len())?;
+    table.take_routes(peer, &mut routes);
+    note_routes(entries, routes);
+    Ok(())
 }

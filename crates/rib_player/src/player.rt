@@ -201,7 +201,7 @@ impl<S: PrefixStore<Rc<Route>>> Player<S> {
         ensures dropped { IfOk result (λ dropped. dropped ≡ ahead_of self.old) }
         ensures refused { OnErr result (self.new ≡ self.old) }
     {
-        let mut entries = step_for(
+        let mut new = step_for(
             self.alloc,
             event,
             &self.table,
@@ -210,10 +210,18 @@ impl<S: PrefixStore<Rc<Route>>> Player<S> {
         )?;
         self.journal.make_room()?;
         let dropped = self.journal.steps.len() - self.journal.cursor;
-        put_entries(&mut self.table, &mut self.claims, entries.as_mut_slice())?;
+        put_entries(
+            self.alloc,
+            &mut self.table,
+            &mut self.claims,
+            new.lost.as_ref(),
+            new.entries.as_mut_slice(),
+        )?;
         self.journal
             .drop_ahead(&mut self.table, &mut self.claims, &mut self.known);
-        self.journal.steps.push_back_reserved(Step { entries });
+        self.journal.steps.push_back_reserved(Step {
+            entries: new.entries,
+        });
         self.journal.cursor += 1;
         Ok(dropped as u64)
     }

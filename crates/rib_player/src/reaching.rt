@@ -94,18 +94,3 @@ pub(crate) fn reach_entries<S: PrefixStore<Rc<Route>>>(
     let passed = add_entries(&mut places, store, &entries[index..end]);
     passed.wrapping_add(reach_places(&mut places))
 }
-
-/// The same, unless the entry there clears its pair: such pairs were looked up as their step was made.
-#[inline]
-pub(crate) fn reach_brought<S: PrefixStore<Rc<Route>>>(
-    table: &Table<S>,
-    entries: &[Entry],
-    index: usize,
-) -> u64
-    requires { index ≤ length entries.now }
-{
-    match entries.get(index) {
-        Some(entry) if entry.route().is_some() => reach_entries(table, entries, index),
-        _ => 0,
-    }
-}

@@ -1,6 +1,6 @@
 //! The entries of a step: each pair once.
 
-ghost use Rattle.std.specs.Prelude.{◌≡◌, ◌↔◌, IsTrue, ◌||◌, ◌&&◌, IfOk, false, is_some};
+ghost use Rattle.std.specs.Prelude.{◌≡◌, ◌↔◌, IsTrue, ◌||◌, ◌&&◌, IfOk, IfSome, false, is_some};
 ghost use Rattle.std.specs.List.{AllByRecursion, filter};
 ghost use Rattle.std.specs.Ordering.{eq_by_cmp};
 ghost use Rattle.std.specs.declared.cmp.Ordering.TheVariants.{Less};
@@ -8,9 +8,9 @@ ghost use Rattle.std.specs.FinMap as finite;
 ghost use Rattle.rib_player.specs.declared.pair.Pair.{Pair};
 ghost use Rattle.rib_player.specs.History.{pair_cmp};
 ghost use Rattle.rib_player.specs.Store.{route_in};
-ghost use Rattle.rib_player.specs.Changes.{found, is_lost, or_absent};
+ghost use Rattle.rib_player.specs.Changes.{found, found_then};
 ghost use Rattle.rib_player.specs.Journal.{sides_of};
-ghost use Rattle.rib_player.specs.Sides.{AreDistinct, IsStepFor};
+ghost use Rattle.rib_player.specs.Sides.{AreCleared, AreDistinct, IsStepFor};
 
 use crate::changes::{Changes, changes_of};
 use crate::entry::Entry;
@@ -18,7 +18,7 @@ use crate::losses::lost_entries;
 use crate::stores::Marks;
 use crate::table::Table;
 use known_routes::KnownRoutes;
-use mrt_events::{Event, Route, same_peer, same_prefix};
+use mrt_events::{Event, Peer, Route, same_peer, same_prefix};
 use prefix_store::PrefixStore;
 use std::alloc::{AllocError, Global};
 use std::rc::Rc;
@@ -29,15 +29,17 @@ fn entries_then<S: PrefixStore<Rc<Route>>>(
     changes: Changes,
     table: &Table<S>,
 ) -> Result<Vec<Entry>, AllocError>
-    ensures { IfOk result (λ entries. (q : Pair) → found (sides_of entries.items) q
-        ≡ or_absent (found (sides_of changes.entries.items) q)
-        (is_lost changes.lost.keys q && is_some (finite.get table.now.routes q))) }
+    ensures { IfOk result (λ entries. (q : Pair) →
+        found (sides_of entries.items) q ≡ found_then changes table.now.routes q) }
 {
     let Changes {
         alloc,
         mut entries,
         lost,
     } = changes;
+    if lost.is_empty() {
+        return Ok(entries);
+    }
     'peers: for peer in lost {
         let mut absent = lost_entries(alloc, &peer, table)?;
         entries.append(&mut absent)?;
@@ -170,21 +172,35 @@ fn routed_entries<S: PrefixStore<Rc<Route>>>(entries: Vec<Entry>, table: &Table<
     routed
 }
 
-/// The entries of the event's step over a table. Those of a lost session alone, which may be many,
-/// are walked from its store, and stand nowhere else.
+/// A step that wasn't put yet.
+#[derive(Drop)]
+pub(crate) struct NewStep {
+    pub(crate) entries: Vec<Entry>,
+    /// The peer whose routes it clears, where that is all that it does.
+    pub(crate) lost: Option<Peer>,
+}
+
+/// The event's step over a table. The entries of a lost session alone, which may be many, are walked
+/// from its store, and stand nowhere else.
 pub(crate) fn step_for<S: PrefixStore<Rc<Route>>>(
     alloc: Global,
     event: &Event,
     table: &Table<S>,
     known: &mut KnownRoutes,
     marks: &mut Marks,
-) -> Result<Vec<Entry>, AllocError>
-    ensures { IfOk result (λ entries.
-        IsStepFor table.now.routes event.now (sides_of entries.items)) }
+) -> Result<NewStep, AllocError>
+    ensures step { IfOk result (λ new.
+        IsStepFor table.now.routes event.now (sides_of new.entries.items)) }
+    ensures cleared { IfOk result (λ new. IfSome new.lost (λ peer.
+        AreCleared table.now.routes peer (sides_of new.entries.items))) }
 {
     let changes = changes_of(alloc, event, table, known)?;
     if let Some(peer) = changes.only_loss() {
-        return lost_entries(alloc, &peer, table);
+        let entries = lost_entries(alloc, &peer, table)?;
+        return Ok(NewStep {
+            entries,
+            lost: Some(peer),
+        });
     }
     let then = entries_then(changes, table)?;
     let noted = then.len();
@@ -192,5 +208,9 @@ pub(crate) fn step_for<S: PrefixStore<Rc<Route>>>(
     if once.len() < noted {
         known.note_unused();
     }
-    Ok(routed_entries(once, table))
+    let entries = routed_entries(once, table);
+    Ok(NewStep {
+        entries,
+        lost: None,
+    })
 }

@@ -1,7 +1,8 @@
 //! The routes of all peers.
 
-ghost use Rattle.std.specs.Prelude.{◌≡◌, ◌<◌, ◌&&◌, Some, true, false, not, is_some, slice_get, Option, None, if◌then◌else◌, map, IfSome, IfNone, IfOk, IsTrue, OnOk, OnErr, take, vec_capacity};
+ghost use Rattle.std.specs.Prelude.{◌≡◌, ◌<◌, ◌≤◌, ◌&&◌, cond, Some, true, false, not, is_some, slice_get, Option, None, if◌then◌else◌, map, IfSome, IfNone, IfOk, IsTrue, OnOk, OnErr, take, vec_capacity};
 ghost use Rattle.std.specs.Option.{option_map, option_copied};
+ghost use Rattle.std.specs.Ordering.{eq_by_cmp};
 ghost use Rattle.std.specs.FinMap as finite;
 ghost use Rattle.std.specs.FinSet as set;
 ghost use Rattle.ip_prefix.specs.Network.{Network};
@@ -9,14 +10,15 @@ ghost use Rattle.rib_player.specs.declared.pair.Pair.{Pair};
 ghost use Rattle.mrt_events.specs.declared.peer.Peer.{Peer};
 ghost use Rattle.mrt_events.specs.Peer.{peer_cmp};
 ghost use Rattle.rib_player.specs.History.{pair_of};
-ghost use Rattle.prefix_store.specs.Stored.{put, counted};
-ghost use Rattle.prefix_store.specs.Lookups.{above};
-ghost use Rattle.rib_player.specs.Store.{route_in, keys_in, routes_in, peer_routes, routed_peers};
-ghost use Rattle.rib_player.specs.Lookups.{IsBest, pointed_routes, peers_above, routed_stores, peer_count};
-ghost use Rattle.rib_player.specs.Holding.{value_of, IsLeft};
-ghost use Rattle.rib_player.specs.StoresByPeer.{stores_in, stores_of};
+ghost use Rattle.prefix_store.specs.Stored.{put};
+ghost use Rattle.rib_player.specs.Store.{route_in, peer_routes};
+ghost use Rattle.rib_player.specs.Lookups.{IsBest, pointed_routes, routes_above, routed_above, counted_peer, routed_stores, peer_count};
+ghost use Rattle.rib_player.specs.Holding.{value_of};
+ghost use Rattle.rib_player.specs.StoresByPeer.{stores_of};
 ghost use Rattle.rib_player.specs.Journal.{sides_of};
 ghost use Rattle.rib_player.specs.Sides.{AreDistinct};
+
+mod keys;
 
 use crate::entry::Entry;
 use crate::numbered_peer::{NO_NUMBER, NumberedPeer};
@@ -85,22 +87,6 @@ impl<S: PrefixStore<Rc<Route>>> Table<S> {
         self.stores.give_back_room();
     }
 
-    /// Makes the pair a key, so that a route can be put there without memory. Answers whether it
-    /// is new. Refused, it may drop the store that it made for the key, and that key with it.
-    fn ensure(&mut self, pair: &Pair) -> Result<bool, AllocError>
-        ensures keys { OnOk result (self.new.keys ≡ set.insert self.old.keys pair.now) }
-        ensures made { IfOk result (λ made. made ≡ not (set.contains self.old.keys pair.now)) }
-        ensures routes { self.new.routes ≡ self.old.routes }
-        ensures refused { OnErr result (self.new.keys ≡ self.old.keys) }
-    {
-        if let Some(store) = self.stores.get_mut(NO_NUMBER, &pair.peer) {
-            return store.ensure(pair.prefix);
-        }
-        let store = store_with(self.alloc, pair.prefix)?;
-        self.stores.insert(pair.peer, store)?;
-        Ok(true)
-    }
-
     /// The route at the pair, or its absence, and the argument change places. This number of its
     /// peer is tried first.
     pub(crate) fn exchange(&mut self, pair: &Pair, number: usize, route: &mut Option<Rc<Route>>)
@@ -140,15 +126,19 @@ impl<S: PrefixStore<Rc<Route>>> Table<S> {
         Ok(made)
     }
 
-    /// Drops a key that has no route, and its peer's store with the last one.
-    pub(crate) fn discard(&mut self, pair: &Pair)
-        requires key { set.contains self.old.keys pair.now ≡ true }
-        requires free { finite.get self.old.routes pair.now ≡ None }
-        ensures keys { self.new.keys ≡ set.remove self.old.keys pair.now }
-        ensures routes { self.new.routes ≡ self.old.routes }
+    /// Takes all routes of the peer, in the order of their prefixes, into a list that has room for
+    /// them; the keys stay. What stood in the list is dropped.
+    pub(crate) fn take_routes(&mut self, peer: &Peer, taken: &mut Vec<Rc<Route>>)
+        requires { finite.len (peer_routes self.old.routes peer.now) ≤ vec_capacity taken.old }
+        ensures keys { self.new.keys ≡ self.old.keys }
+        ensures routes { (q : Pair) → finite.get self.new.routes q
+            ≡ cond (eq_by_cmp peer_cmp q.peer peer.now) None (finite.get self.old.routes q) }
+        ensures taken { map value_of taken.new.items
+            ≡ finite.values (peer_routes self.old.routes peer.now) }
     {
-        if drop_key(&mut self.stores, pair) {
-            self.stores.remove(&pair.peer);
+        match self.stores.get_mut(NO_NUMBER, peer) {
+            Some(store) => store.take_routes(taken),
+            None => taken.clear(),
         }
     }
 
@@ -187,8 +177,7 @@ impl<S: PrefixStore<Rc<Route>>> Table<S> {
     /// route.
     pub fn after(&self, peer: &Peer, prefix: Option<&Prefix>) -> Option<(Prefix, &Rc<Route>)>
         ensures { option_map (λ found. (found.0, found.1.now.value)) result ≡
-            slice_get (above (option_copied prefix.entry)
-            (finite.entries (peer_routes self.now.routes peer.now))) 0 }
+            slice_get (routes_above self.now.routes peer.now (option_copied prefix.entry)) 0 }
     {
         let routes = self.stores.get(NO_NUMBER, peer)?;
         routes.after(prefix)
@@ -204,8 +193,7 @@ impl<S: PrefixStore<Rc<Route>>> Table<S> {
         found: &mut Vec<(Prefix, &'a Rc<Route>)>,
     )
         ensures found { pointed_routes found.new.items ≡ take (vec_capacity found.old)
-            (above (option_copied prefix.entry)
-            (finite.entries (peer_routes self.now.routes peer.now))) }
+            (routes_above self.now.routes peer.now (option_copied prefix.entry)) }
         ensures room { vec_capacity found.new ≡ vec_capacity found.old }
     {
         match self.stores.get(NO_NUMBER, peer) {
@@ -217,9 +205,8 @@ impl<S: PrefixStore<Rc<Route>>> Table<S> {
     /// The least peer above the given one, or of all, that has a route, and how many it has;
     /// `u64::MAX` where more. It steps over peers whose keys have no route.
     pub fn peer_after(&self, peer: Option<&Peer>) -> Option<(Peer, u64)>
-        ensures { result ≡
-            option_map (λ p. (p, counted (finite.len (peer_routes self.now.routes p))))
-            (slice_get (peers_above (option_copied peer.entry) (routed_peers self.now.routes)) 0) }
+        ensures { result ≡ option_map (counted_peer self.now.routes)
+            (slice_get (routed_above self.now.routes (option_copied peer.entry)) 0) }
     {
         let low = match peer {
             Some(peer) => Bound::Excluded(*peer),
@@ -283,28 +270,4 @@ fn first_routed<'a, S: PrefixStore<Rc<Route>>>(
         }
     }
     None
-}
-
-/// A store with this one key.
-fn store_with<S: PrefixStore<Rc<Route>>>(alloc: Global, prefix: Prefix) -> Result<S, AllocError>
-    ensures keys { IfOk result (λ store. S.keys store ≡ set.insert set.empty prefix) }
-    ensures routes { IfOk result (λ store. S.routes store ≡ finite.empty) }
-{
-    let mut store = S::new(alloc);
-    store.ensure(prefix)?;
-    Ok(store)
-}
-
-/// Drops a key that has no route, and answers whether its peer's store has none left.
-fn drop_key<S: PrefixStore<Rc<Route>>>(stores: &mut Stores<S>, pair: &Pair) -> bool
-    requires key { set.contains (keys_in S.keys (stores_in stores.old)) pair.now ≡ true }
-    requires free { finite.get (routes_in S.routes (stores_in stores.old)) pair.now ≡ None }
-    ensures left { IsLeft S.keys S.routes (stores_in stores.old) (stores_in stores.new)
-        pair.now result }
-{
-    if let Some(store) = stores.get_mut(NO_NUMBER, &pair.peer) {
-        store.discard(&pair.prefix);
-        return store.key_count() == 0;
-    }
-    false
 }

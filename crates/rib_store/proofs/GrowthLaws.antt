@@ -6,8 +6,7 @@ use Rattle.ip_prefix.specs.Network.{Network}
 use Rattle.ip_prefix.specs.Turns.{way, turn_of, shared, side}
 use Rattle.rib_store.specs.Shape.{Shape}
 use Rattle.rib_store.specs.Shape.{Empty, Rooted}
-use Rattle.rib_store.specs.Tree.{at, slot_of, chosen, root, kept, joined, IsOn, IsRooted, IsShaped, IsPut, IsPlaced, IsGrown, Stands}
-use Rattle.rib_store.specs.Slots.{route_found}
+use Rattle.rib_store.specs.Tree.{at, slot_of, chosen, root, joined, IsOn, IsRooted, IsShaped, IsPut, IsPlaced, Stands}
 use Rattle.rib_store.proofs.WayLaws.{turn_shared, shared_inside, parts}
 use Rattle.rib_store.proofs.TreeLaws.{at_left, at_right, at_rooted, rooted_shaped, shaped_rooted, root_rooted, some_is, on_side}
 use Rattle.rib_store.proofs.ChangeLaws.{put_left, put_right, put_here, put_from}
@@ -73,15 +72,8 @@ placed_right {R} {old} {new} key prefix slot v l r m was is there shaped placed 
       roots = root_rooted new prefix slot l m is ∙ sym (ap Some (shared_inside (way prefix) key (not_outside _ true there))) ∙ sym (ap (λ o. Some (joined o key)) (root_rooted old prefix slot l r was));
     }
 
-pub here_slot : {R : Type 0} (old : Shape R) (key : List Bool) (prefix : Network) (slot : Option (Option R)) (l r : Shape R) → IsRooted prefix slot l r old → turn_of (way prefix) key ≡ Here → slot ≡ at old key
-here_slot old key prefix slot l r was there = sym (at_rooted old prefix slot l r was key ∙ chosen_at (turn_of (way prefix) key) None slot (at l key) (at r key) slot Here there refl)
-
 here_inside : (t : Turn) → t ≡ Here → t ≡ Outside → ⊥
 here_inside t e h = cc
-
-stays : {R : Type 0} (slot : Option (Option R)) (l r : Shape R) → Stands (kept slot) l r
-stays None l r = tt
-stays (Some route) l r = tt
 
 -- the node itself is the key from now on, if it wasn't
 pub placed_here : {R : Type 0} {old new : Shape R} (key : List Bool) (prefix : Network) (slot v : Option (Option R)) (l r : Shape R) → IsRooted prefix slot l r old → IsRooted prefix v l r new
@@ -95,15 +87,6 @@ placed_here {R} {old} {new} key prefix slot v l r was is there shaped stands =
           (put_here (way prefix) key None slot v (at l) (at r) there) q;
       roots = root_rooted new prefix v l r is ∙ sym (ap Some (shared_inside (way prefix) key (here_inside _ there))) ∙ sym (ap (λ o. Some (joined o key)) (root_rooted old prefix slot l r was));
     }
-
-pub grown_here : {R : Type 0} {old new : Shape R} (key : List Bool) (prefix : Network) (slot : Option (Option R)) (l r : Shape R) → IsRooted prefix slot l r old → IsRooted prefix (kept slot) l r new
-    → turn_of (way prefix) key ≡ Here → IsShaped old → IsGrown key old new
-grown_here {R} {old} {new} key prefix slot l r was is there shaped =
-    subst (λ v. IsPlaced key v old new) (ap kept (here_slot old key prefix slot l r was there)) (placed_here key prefix slot (kept slot) l r was is there shaped (stays slot l r))
-
-pub kept_found : {R : Type 0} (slot : Option (Option R)) → kept slot ≡ Some (route_found slot)
-kept_found None = refl
-kept_found (Some slot) = refl
 
 -- ---- a leaf, and a node above
 

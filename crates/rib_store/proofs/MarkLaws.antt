@@ -52,10 +52,9 @@ pub marked_right : (brought slot left right : Bool) → (brought ≡ true → ri
 marked_right brought true left right there beside = refl
 marked_right brought false true right there beside = refl
 marked_right true false false right there beside = there refl
-marked_right false false false right there beside = absurd_left (beside refl)
-  where
-    absurd_left : false ≡ true → right ≡ true
-    absurd_left e = cc
+marked_right false false false right there beside =
+    let e : false ≡ true = beside refl in
+    cc
 
 -- and where nothing elsewhere is, it is what lies on its right
 pub alone_right : (slot left right : Bool) → (slot || left) ≡ false → right ≡ (slot || (left || right))

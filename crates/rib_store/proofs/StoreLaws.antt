@@ -1,5 +1,5 @@
 -- A tree for each family, as the two sides of a root above both.
-use Rattle.std.proofs.Common.{◌≡◌, Bool, true, false, cond, List, [], Option, Some, None, is_some, not, slice_get, refl, sym, ap, subst, ◌∙◌}
+use Rattle.std.proofs.Common.{◌≡◌, Bool, true, false, cond, List, [], Option, Some, None, is_some, not, slice_get, refl, sym, ap, ◌∙◌}
 use Rattle.std.specs.Prelude.{IsSome}
 use Rattle.std.specs.List.Sorted.{IsStrictlySortedBy}
 use Rattle.std.specs.FinMap as finite
@@ -18,7 +18,7 @@ use Rattle.ip_prefix.specs.Turns.{family_bit, way, turn_of, side}
 use Rattle.rib_store.specs.Shape.{Shape}
 use Rattle.prefix_store.specs.Stored.{put}
 use Rattle.rib_store.specs.Slots.{slot_at, keys_in, routes_in, route_found, routed}
-use Rattle.rib_store.specs.Tree.{at, slots_of, chosen, kept, same_way, AreOf, IsOf, IsPut, IsPlaced, IsGrown, IsShaped}
+use Rattle.rib_store.specs.Tree.{at, slots_of, chosen, same_way, AreOf, IsOf, IsPut, IsPlaced, IsShaped}
 use Rattle.rib_store.specs.Walks.{either_of, first, behind}
 use Rattle.rib_store.specs.Store.{Trees, slots_in, tree_of, with_tree, IsPlanted, ChangesAt}
 use Rattle.rib_store.proofs.WayLaws.{first_turn, left_first}
@@ -137,11 +137,6 @@ new_key family f q planted e = ap not (key_at family f q (at (tree_of family f) 
 
 pub no_key : {R : Type 0} (family : Family) (trees : Trees R) (q : Network) → IsPlanted trees → q.family ≡ family → at (tree_of family trees) (way q) ≡ None → set.contains (keys_in (slots_in trees)) q ≡ false
 no_key family f q planted e none = sym (key_at family f q (at (tree_of family f) (way q)) planted e refl) ∙ ap is_some none
-
-pub grown : {R : Type 0} (family : Family) (old : Trees R) (tree : Shape R) (key : Network) → IsPlanted old → key.family ≡ family
-    → IsGrown (way key) (tree_of family old) tree → IsReplaced old key (kept (slot_at (slots_in old) key)) (with_tree family tree old)
-grown family old tree key planted e grew =
-    subst (λ slot. IsReplaced old key (kept slot) (with_tree family tree old)) (sym (slot_at-tree_of old planted key family e)) (placed family old tree key (kept (at (tree_of family old) (way key))) planted e grew)
 
 -- ---- the first route, and the first above a prefix
 

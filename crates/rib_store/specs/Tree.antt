@@ -93,6 +93,17 @@ IsNearlyShaped (Rooted prefix slot left right) = AreSides (way prefix) left righ
 abbrev pub IsPut : {A : Type 0} → (List Bool → A) → List Bool → A → (List Bool → A) → Type 0
 IsPut before key slot after = (q : List Bool) → after q ≡ cond (same_way key q) slot (before q)
 
+-- the slot without a route
+abbrev pub vacated : {R : Type 0} → Slot R → Slot R
+vacated Branch = Branch
+vacated Vacant = Vacant
+vacated (Filled route) = Vacant
+
+-- the same keys, without routes
+abbrev pub emptied : {R : Type 0} → Shape R → Shape R
+emptied Empty = Empty
+emptied (Rooted prefix slot left right) = Rooted prefix (vacated slot) (emptied left) (emptied right)
+
 -- the slot of a key that was there, or a vacant one
 abbrev pub kept : {R : Type 0} → Option (Option R) → Option (Option R)
 kept None = Some None
@@ -128,7 +139,3 @@ IsHung {R} prefix side leaf old new =
 -- the key that lies at the prefix is there and has this slot
 abbrev pub IsPlacedAt : {R : Type 0} → Network → Option (Option R) → Shape R → Shape R → Type 0
 IsPlacedAt prefix slot old new = (key : Network) → turn_of (way prefix) (way key) ≡ Here → IsPlaced (way key) slot old new
-
--- a key is there, with what it had if it was one
-abbrev pub IsGrown : {R : Type 0} → List Bool → Shape R → Shape R → Type 0
-IsGrown key old new = IsPlaced key (kept (at old key)) old new

@@ -17,7 +17,7 @@ pub struct LeftStore<S> {
     store: ManuallyDrop<S>,
 }
 
-impl<R, S: PrefixStore<R>> PrefixStore<R> for LeftStore<S> {
+impl<R: Drop, S: PrefixStore<R>> PrefixStore<R> for LeftStore<S> {
     ghost keys = { λ s. S.keys (manually_drop_value s.store) };
 
     ghost routes = { λ s. S.routes (manually_drop_value s.store) };
@@ -62,6 +62,10 @@ impl<R, S: PrefixStore<R>> PrefixStore<R> for LeftStore<S> {
 
     fn next_routes<'a>(&'a self, prefix: Option<&Prefix>, found: &mut Vec<(Prefix, &'a R)>) {
         self.store.next_routes(prefix, found);
+    }
+
+    fn take_routes(&mut self, taken: &mut Vec<R>) {
+        self.store.take_routes(taken);
     }
 
     fn reach(places: &Places<'_, Self>) -> u64 {

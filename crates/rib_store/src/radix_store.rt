@@ -181,6 +181,13 @@ impl<R: Drop> PrefixStore<R> for RadixStore<R> {
         self.v6.add_all(found);
     }
 
+    fn take_routes(&mut self, taken: &mut Vec<R>) {
+        taken.clear();
+        self.v4.take_routes(taken);
+        self.v6.take_routes(taken);
+        self.route_count = 0;
+    }
+
     fn reach(places: &Places<'_, Self>) -> u64 {
         let mut descents = Descents {
             first: descent_to(&places.first),

@@ -6,6 +6,7 @@
 //!     key PREFIX, get PREFIX, longest ADDRESS
 //!     after [PREFIX], walk                the first route above a prefix, and all
 //!     next ROOM [PREFIX]                  the first ones, as many as there is room for
+//!     take                                takes all routes, in order
 //!     counts                              of keys and routes
 //!     few                                 whether there are at most two nodes a key
 //!     nodes, met COUNT ADDRESS            how many there are, and a look-up meets beside a count
@@ -16,7 +17,7 @@
 
 use crate::nodes::HasNodes;
 use ip_prefix::{Addr, Prefix};
-use rib_store::{LeftStore, MapStore, Places, PrefixStore, RadixStore};
+use rib_store::{GREATEST_COUNT, LeftStore, MapStore, Places, PrefixStore, RadixStore};
 use row_values::marks::Marks;
 use row_values::{
     REFUSED, Shown, UNREAD, address_word, number_word, prefix_word, put_count, split_word,
@@ -101,6 +102,7 @@ fn put_answer<S: CountsMet>(alloc: Global, store: &mut S, line: &str, text: &mut
     let (name, rest) = split_word(line);
     match name {
         "next" => put_next(alloc, store, rest, text),
+        "take" => put_taken(alloc, store, text),
         "after" => put_found(after(store, prefix_word(rest).as_ref()), text),
         "longest" | "met" => put_longest(store, rest, text),
         "reach" => put_reached(store, rest, text),
@@ -246,6 +248,22 @@ fn put_all(found: &[(Prefix, &u32)], text: &mut Shown) {
     for (prefix, route) in found {
         text.put(b", ");
         put_found(Some((*prefix, **route)), text);
+    }
+}
+
+/// Takes all routes, and appends them in order.
+fn put_taken<S: CountsMet>(alloc: Global, store: &mut S, text: &mut Shown) {
+    let count = store.route_count();
+    if count == GREATEST_COUNT {
+        return text.put(UNREAD);
+    }
+    let Ok(mut taken) = Vec::with_capacity(alloc, count as usize) else {
+        return text.put(REFUSED);
+    };
+    store.take_routes(&mut taken);
+    text.put(b"taken");
+    for route in taken {
+        put_count(b" ", u64::from(route), text);
     }
 }
 

@@ -167,6 +167,11 @@ impl<S: PrefixStore<Rc<Route>>> PrefixStore<Rc<Route>> for Watched<S> {
         self.inner.next_routes(prefix, found);
     }
 
+    fn take_routes(&mut self, taken: &mut Vec<Rc<Route>>) {
+        count(&self.calls);
+        self.inner.take_routes(taken);
+    }
+
     fn reach(places: &Places<'_, Self>) -> u64 {
         let mut inner = Places::new();
         inner.first = counted_place(&places.first);

@@ -4,6 +4,7 @@ ghost use Rattle.std.specs.Prelude.{◌≡◌, true, not, is_some, IfOk, OnOk, O
 ghost use Rattle.std.specs.FinMap as finite;
 ghost use Rattle.std.specs.FinSet as set;
 ghost use Rattle.prefix_store.specs.Stored.{put};
+ghost use Rattle.rib_player.specs.Kept.{cleared_entry};
 ghost use Rattle.rib_player.specs.Store.{route_in};
 
 use crate::entry::{Entry, Kept, Marks};
@@ -36,6 +37,19 @@ impl Entry {
 }
 
 impl Entry {
+    /// Notes the route that its pair has before the step, which leaves it none.
+    #[inline]
+    pub(crate) fn note_cleared(&mut self, route: Rc<Route>)
+        ensures { self.new ≡ cleared_entry self.old route }
+    {
+        let (absent, _) = replace(&mut self.kept, Kept::Taken).without_route();
+        self.kept = absent.with_route(Some(route));
+        self.set_marks(Marks {
+            before: true,
+            behind: false,
+        });
+    }
+
     /// Its route and the table's change places, where its pair is made a key if it was none; it
     /// notes on which sides of the step the pair has a route. Answers whether the key is new.
     /// Refused, nothing has changed.

@@ -1,11 +1,13 @@
 //! Routes come and go in the room of keys.
 
-ghost use Rattle.std.specs.Prelude.{◌≡◌, Some, None, true, is_some, not};
-ghost use Rattle.std.specs.Prelude.{IsSome};
+ghost use Rattle.std.specs.Prelude.{◌≡◌, ◌+◌, ◌<◌, ◌≤◌, ◌⊎◌, ◌++◌, Some, None, true, false, is_some, not};
+ghost use Rattle.std.specs.Prelude.{IsSome, length, map, vec_capacity};
+ghost use Rattle.std.specs.Option.{option_to_list};
 ghost use Rattle.ip_prefix.specs.Turns.{way};
 ghost use Rattle.rib_store.specs.Shape.{shape_of, leaf_slot, is_filled, is_routed, IsLeaf, IsMarked};
-ghost use Rattle.rib_store.specs.Tree.{at, root, slot_of, kept, IsShaped, IsPut};
+ghost use Rattle.rib_store.specs.Tree.{at, root, slot_of, kept, vacated, emptied, IsShaped, IsPut};
 ghost use Rattle.rib_store.specs.Slots.{route_found};
+ghost use Rattle.rib_store.specs.Walks.{all_routes};
 
 use crate::tree::nodes::leaf_with;
 use crate::tree::{Slot, Tree};
@@ -78,6 +80,52 @@ impl<K: Packed, R: Drop> Tree<K, R> {
                     }
                     _ => {}
                 }
+            }
+        }
+    }
+}
+
+impl<K: Packed, R: Drop> Tree<K, R> {
+    /// Takes all routes, in the order of their prefixes, into a list that has room for them. It passes
+    /// by nodes without a route below them.
+    pub(crate) fn take_routes(&mut self, taken: &mut Vec<R>)
+        requires marked { IsMarked self.old }
+        requires room { length taken.old.items + length (all_routes (shape_of K.network self.old))
+            ≤ vec_capacity taken.old }
+        ensures taken { taken.new.items ≡ taken.old.items
+            ++ map (λ found. found.1) (all_routes (shape_of K.network self.old)) }
+        ensures room { vec_capacity taken.new ≡ vec_capacity taken.old }
+        ensures shape { shape_of K.network self.new ≡ emptied (shape_of K.network self.old) }
+        ensures marked { IsMarked self.new }
+        ensures routed { is_routed self.new ≡ false }
+    {
+        match self {
+            Tree::Empty => {}
+            Tree::Bare(_) => {}
+            Tree::Leaf(prefix, _) => {
+                let bare = Tree::Bare(*prefix);
+                if let Tree::Leaf(_, route) = mem::replace(self, bare) {
+                    taken.push_reserved(route);
+                }
+            }
+            Tree::Rooted(routed, _, node) => {
+                if !*routed {
+                    return;
+                }
+                *routed = false;
+                let node = &mut **node;
+                node.slot.take_route(taken);
+                node.left.take_routes(taken);
+                node.right.take_routes(taken);
+            }
+            Tree::Forked(routed, _, fork) => {
+                if !*routed {
+                    return;
+                }
+                *routed = false;
+                let fork = &mut **fork;
+                fork.left.take_routes(taken);
+                fork.right.take_routes(taken);
             }
         }
     }
@@ -165,6 +213,21 @@ impl<R: Drop> Slot<R> {
             return true;
         }
         false
+    }
+
+    /// Takes the route, where there is one, into a list that has room for it.
+    fn take_route(&mut self, taken: &mut Vec<R>)
+        requires { length taken.old.items < vec_capacity taken.old ⊎ is_filled self.old ≡ false }
+        ensures taken { taken.new.items ≡ taken.old.items
+            ++ option_to_list (route_found (slot_of self.old)) }
+        ensures room { vec_capacity taken.new ≡ vec_capacity taken.old }
+        ensures slot { self.new ≡ vacated self.old }
+    {
+        if let Slot::Filled(_) = self {
+            if let Slot::Filled(route) = mem::replace(self, Slot::Vacant) {
+                taken.push_reserved(route);
+            }
+        }
     }
 
     /// No key's slot.

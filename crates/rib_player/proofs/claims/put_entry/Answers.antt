@@ -54,7 +54,7 @@ returns-then-made-clause-claimed g c = λ q.
           ap (λ b. one_if b + beyond q) (there-same keys c.put.new.table.keys p q c.in_ok-made.ensures.keys there)
           ∙ none_more (held_claims keys beyond q)
           ∙ ap (λ b. held_claims keys beyond q + one_if (b && tied q p)) (sym (sym w.gives_up.ensures ∙ w.if-not-gives_up.true))
-    ]
+    ] ∙ ap (λ pair. held_claims keys beyond q + one_if (marks && tied q pair)) (sym c.in_ok-made.ensures.pair)
   where
     none_more : (n : ℕ) → n ≡ n + 0
     none_more n = omega arith
@@ -101,12 +101,11 @@ returns-clause-held g c =
 pub returns-clause-claimed : goal.returns-clause-claimed
 returns-clause-claimed g c = λ q.
     let b = (goal.at.returns-clause-claimed g c).After-pair in
-    let p = c.args.entry.now.pair in
     let brings = sym c.gives_up.ensures ∙ c.if-not-gives_up.false in
     omega (
       arith,
       ap one_if (same g b q),
       c.in_default.ensures.counted q,
-      ap (λ p. one_if (tied q p)) (c.pair.ensures ∙ c.in_ok-made.ensures.pair),
-      ap (λ x. one_if (x && tied q p)) brings,
+      ap (λ p. one_if (tied q p)) c.pair.ensures,
+      ap (λ x. one_if (x && tied q c.put.new.self.pair)) brings,
     )

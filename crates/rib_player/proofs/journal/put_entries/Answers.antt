@@ -114,7 +114,7 @@ entries-preserved g c =
     let within : made < length entries = omega arith in
     let old : Entry = here g b in
     let new = c.put_entry.new.entry in
-    let said = c.in_default.ensures in
+    let said = c.in_default-put_entry.ensures in
     let sides : List Side = sides_of (take made first) in
     let marks : List Mark = marks_of (take made entries) in
     let sides_more : sides_of (take (made + 1) first) ≡ sides ++ side_of old ∷ [] = ap sides_of (take-through made first old (drop (made + 1) first) (rest g b)) ∙ map-append side_of (take made first) (old ∷ []) in
@@ -136,7 +136,7 @@ entries-preserved g c =
       claimed = λ q.
           let one = ap (λ ms. one_if (gives_up_by Last ms q)) marks_more ∙ ap one_if (gives_up_by-push Last marks (mark_of new) q)
           ∙ one-or (gives_up_by Last marks q) (gives_up Last (mark_of new) && tied q new.pair) (λ t. ap (gives_up_by Last marks) (same_pair q old.pair (ap (tied q) (sym said.pair) ∙ and-right (gives_up Last (mark_of new)) (tied q new.pair) t)) ∙ unnamed) in
-          omega (arith, one, said.claimed q, ap (λ p. one_if (gives_up Last (mark_of new) && tied q p)) said.pair, known.claimed q);
+          omega (arith, one, said.claimed q, known.claimed q);
       marks = marks_more ∙ ap₂ (λ (ms : List Mark) (m : Mark). ms ++ m ∷ []) known.marks mark_is
           ∙ sym (map-append (mark_across routes) sides (side_of old ∷ [])) ∙ sym (ap (marks_across routes) sides_more);
       routes = said.routes ∙ ap (λ r. put r old.pair (route_in old.other)) known.routes ∙ sym (routes_across-push sides (side_of old) routes)

@@ -5,6 +5,7 @@ use Rattle.std.proofs.lemmas.List.{map-append}
 use Rattle.mrt_events.specs.Peer.{peer_cmp}
 use Rattle.rib_player.specs.Journal.{Side, side_of, sides_of}
 use Rattle.rib_player.specs.Changes.{found, is_lost, or_absent}
+use Rattle.rib_player.proofs.LostLaws.{lost-absent, lost-named}
 use Rattle.rib_player.proofs.ChangesLaws.{found-absent, lost-more, or_absent-false}
 use Rattle.rib_player.proofs.steps.entries_then.Goals as goal
 
@@ -18,10 +19,12 @@ peers-preserved g c = λ q.
     let has = is_some (finite.get c.args.table.now.routes q) in
     let old = sides_of c.peers.entries.items in
     let lost = sides_of c.in_ok-absent.absent.items in
+    let cleared = c.in_ok-absent.ensures in
+    let routes = c.args.table.now.routes in
     let all : sides_of c.append.new.self.items ≡ old ++ lost =
     ap sides_of c.in_ok-append.ensures.items ∙ map-append side_of c.peers.entries.items c.in_ok-absent.absent.items in
     lost-more (eq_by_cmp peer_cmp q.peer c.in-Some.peer) (is_lost c.next.new.self q) has _ (found old q) (found (sides_of c.append.new.self.items) q)
-    (ap (λ (ss : List Side). found ss q) all ∙ found-absent old lost c.in_ok-absent.ensures.absent q ∙ ap (or_absent (found old q)) (c.in_ok-absent.ensures.named q))
+    (ap (λ (ss : List Side). found ss q) all ∙ found-absent old lost (lost-absent routes c.in-Some.peer lost cleared) q ∙ ap (or_absent (found old q)) (lost-named routes c.in-Some.peer lost cleared q))
     (ap (λ peers. or_absent (found old q) (is_lost peers q && has)) (sym c.in-Some.ensures.steps) ∙ c.peers.invariant q)
 
 pub returns : goal.returns

@@ -20,7 +20,7 @@ use Rattle.rib_player.proofs.player.Player.play_step.Goals.{After-as_mut_slice, 
 -- ---- before the entries are put
 
 step : (g : Over) (c : After-as_mut_slice g) → IsStepFor c.self.inside.table.routes c.args.event.now (sides_of c.as_mut_slice.result.now)
-step g c = subst (λ es. IsStepFor c.self.inside.table.routes c.args.event.now (sides_of es)) (sym c.as_mut_slice.ensures.value) c.in_ok-entries.ensures
+step g c = subst (λ es. IsStepFor c.self.inside.table.routes c.args.event.now (sides_of es)) (sym c.as_mut_slice.ensures.value) c.in_ok-new.ensures.step
 
 distinct : (g : Over) (c : After-as_mut_slice g) → AreDistinct (sides_of c.as_mut_slice.result.now)
 distinct g c = (step g c).distinct
@@ -39,7 +39,7 @@ put_entries-requires-clause-named g c =
 -- ---- once they are put
 
 stepped : (g : Over) (c : In_ok-put_entries g) → IsStepFor c.self.inside.table.routes c.args.event.now (sides_of c.as_mut_slice.result.now)
-stepped g c = subst (λ es. IsStepFor c.self.inside.table.routes c.args.event.now (sides_of es)) (sym c.as_mut_slice.ensures.value) c.in_ok-entries.ensures
+stepped g c = subst (λ es. IsStepFor c.self.inside.table.routes c.args.event.now (sides_of es)) (sym c.as_mut_slice.ensures.value) c.in_ok-new.ensures.step
 
 can : (g : Over) (c : In_ok-put_entries g) → CanDrop (marks_by_step c.self.inside.journal.steps.items) c.self.inside.journal.cursor (held_claims c.put_entries.new.table.keys (claims_beyond c.put_entries.new.claims)) c.put_entries.new.table.routes
 can g c =
@@ -57,10 +57,10 @@ drop_ahead-requires-clause-claimed g c =
 
 -- the event's step
 abbrev new : (g : Over) (c : After-push_back_reserved g) → Step
-new g c = record { entries = with_items c.in_ok-entries.entries c.put_entries.new.entries }
+new g c = record { entries = with_items c.in_ok-new.new.entries c.put_entries.new.entries }
 
 entries_then : (g : Over) (c : After-push_back_reserved g) → (new g c).entries.items ≡ c.put_entries.new.entries
-entries_then g c = with_items_is c.in_ok-entries.entries c.put_entries.new.entries (c.put_entries.auto.entries ∙ c.as_mut_slice.ensures.len)
+entries_then g c = with_items_is c.in_ok-new.new.entries c.put_entries.new.entries (c.put_entries.auto.entries ∙ c.as_mut_slice.ensures.len)
 
 -- the steps before the cursor are left
 left : (g : Over) (c : After-push_back_reserved g) → c.drop_ahead.new.self.steps.items ≡ take c.self.inside.journal.cursor c.self.inside.journal.steps.items
@@ -98,7 +98,7 @@ then : (g : Over) (c : After-push_back_reserved g)
 then g c =
     let journal = c.self.inside.journal in
     let sides = sides_of c.as_mut_slice.result.now in
-    let step : IsStepFor c.self.inside.table.routes c.args.event.now sides = subst (λ es. IsStepFor c.self.inside.table.routes c.args.event.now (sides_of es)) (sym c.as_mut_slice.ensures.value) c.in_ok-entries.ensures in
+    let step : IsStepFor c.self.inside.table.routes c.args.event.now sides = subst (λ es. IsStepFor c.self.inside.table.routes c.args.event.now (sides_of es)) (sym c.as_mut_slice.ensures.value) c.in_ok-new.ensures.step in
     subst (λ items. (timeline_of (journal.cursor + 1) (steps_of items) c.drop_ahead.new.table.routes ≡ after_play (timeline_of journal.cursor (steps_of journal.steps.items) c.self.inside.table.routes) c.args.event.now)
     × IsPlayed c.drop_ahead.new.table.keys (claims_beyond c.drop_ahead.new.claims) c.drop_ahead.new.table.routes (journal.cursor + 1) items) (sym c.push_back_reserved.ensures.items)
     (after_play-on c.self.inside.table.keys c.drop_ahead.new.table.keys (claims_beyond c.self.inside.claims) (claims_beyond c.drop_ahead.new.claims) c.self.inside.table.routes c.drop_ahead.new.table.routes

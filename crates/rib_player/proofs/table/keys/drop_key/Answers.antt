@@ -6,7 +6,7 @@ use Rattle.rib_player.specs.StoresByPeer.{stores_in}
 use Rattle.rib_player.proofs.CountLaws.{counted-zero}
 use Rattle.rib_player.specs.Store.{store_at, keys_in, routes_in}
 use Rattle.rib_player.proofs.StoreLaws.{when_some, contains-found, get-found, key-has-store, no_value}
-use Rattle.rib_player.proofs.table.drop_key.Goals as goal
+use Rattle.rib_player.proofs.table.keys.drop_key.Goals as goal
 
 pub discard-requires-clause-key : goal.discard-requires-clause-key
 discard-requires-clause-key g c =
