@@ -7,6 +7,7 @@ use crate::fault::SourceFault;
 use crate::header::LONGEST_BODY;
 use crate::input::{InFault, Input};
 use std::alloc::AllocError;
+use std::ops::Range;
 
 /// By how much an empty buffer grows at first. Later it grows by as much as was filled.
 const FIRST_GROWTH: usize = 4096;
@@ -91,25 +92,24 @@ fn grow(buffer: &mut Vec<u8>, end: usize) -> Result<(), AllocError>
     Ok(())
 }
 
-/// Reads into the part of the buffer from `filled` to `end`, and answers how many octets there are.
+/// Reads into this part of the buffer, and answers how many octets there are.
 fn fill_part<I: Input>(
     input: &mut I,
     buffer: &mut Vec<u8>,
-    filled: usize,
-    end: usize,
+    part: Range<usize>,
     taken: &mut u64,
     limit: u64,
 ) -> Result<usize, SourceFault>
-    requires ahead { filled ≤ end }
-    requires within { end ≤ vec_len buffer.old }
+    requires ahead { part.start ≤ part.end }
+    requires within { part.end ≤ vec_len buffer.old }
     requires room { taken.old ≤ limit }
-    ensures kept { take filled buffer.new.items ≡ take filled buffer.old.items }
+    ensures kept { take part.start buffer.new.items ≡ take part.start buffer.old.items }
     ensures size { vec_len buffer.new ≡ vec_len buffer.old }
     ensures octets { FillsWithin (I.left input.old) (I.left input.new) taken.old taken.new
-        (drop filled buffer.new.items) (end - filled) limit result }
+        (drop part.start buffer.new.items) (part.end - part.start) limit result }
     ensures failed { I.failed input.new ≡ (I.failed input.old || is_read result) }
 {
-    fill_within(input, &mut buffer[filled..end], taken, limit)
+    fill_within(input, &mut buffer[part], taken, limit)
 }
 
 /// The same as `fill_body`. It stands out of line, since few bodies are longer than all before.
@@ -134,7 +134,7 @@ fn fill_growing<I: Input>(
     while filled < size {
         let end = next_end(buffer.len(), filled, size);
         grow(buffer, end)?;
-        filled += fill_part(input, buffer, filled, end, taken, limit)?;
+        filled += fill_part(input, buffer, filled..end, taken, limit)?;
         if filled < end {
             break;
         }
@@ -163,7 +163,7 @@ pub(crate) fn fill_body<I: Input>(
     ensures failed { I.failed input.new ≡ (I.failed input.old || is_read result) }
 {
     if size <= buffer.len() {
-        return fill_part(input, buffer, 0, size, taken, limit);
+        return fill_part(input, buffer, 0..size, taken, limit);
     }
     fill_growing(input, buffer, size, taken, limit)
 }

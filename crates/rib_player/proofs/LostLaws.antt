@@ -24,7 +24,7 @@ use Rattle.rib_player.specs.Changes.{found, is_lost, effect_of, noted_effect}
 use Rattle.rib_player.specs.History.{pair_cmp, pair_of, effect, where_true, Clear, route_after}
 use Rattle.rib_player.specs.Tables.{Routes, table_after, is_named, named_pairs}
 use Rattle.rib_player.specs.Journal.{Side, side_of, sides_of, pairs_in, routes_across}
-use Rattle.rib_player.specs.Sides.{cleared_side, sides_across, AreCleared, AreDistinct, IsStepFor}
+use Rattle.rib_player.specs.Sides.{cleared_side, sides_across, ClearAllOf, AreDistinct, IsStepFor}
 use Rattle.rib_player.specs.Marks.{marks_of, marks_across, gives_up_by}
 use Rattle.rib_player.specs.Store.{peer_routes}
 use Rattle.rib_player.specs.Holding.{value_of}
@@ -64,7 +64,7 @@ distinct-cleared : (peer : Peer) (prefixes : List Network) → IsStrictlySortedB
 distinct-cleared peer prefixes sorted = IsDistinct-from_sorted pair_cmp (pairs_in (map (cleared_side peer) prefixes)) (ordered-cleared peer prefixes sorted)
 
 -- the sides of all pairs of a peer that have a route
-module _ (routes : Routes) (peer : Peer) (sides : List Side) (cleared : AreCleared routes peer sides) where
+module _ (routes : Routes) (peer : Peer) (sides : List Side) (cleared : ClearAllOf routes peer sides) where
   pub lost-named : (q : Pair) → list_any (eq_by_cmp pair_cmp q) (pairs_in sides) ≡ (same_peer q.peer peer && is_some (finite.get routes q))
   lost-named q =
       ap (list_any (eq_by_cmp pair_cmp q)) (ap pairs_in cleared ∙ pairs-cleared peer (finite.keys (peer_routes routes peer))) ∙ any-of_peer routes peer q
@@ -91,7 +91,7 @@ module _ (routes : Routes) (event : Event) (peer : Peer) (alone : (q : Pair) →
   across [] absent of_peer = refl
   across (side ∷ sides) absent of_peer = ap₂ (λ r ss. (side.0, r) ∷ ss) (absent.0 ∙ none_then side.0 of_peer.0) (across sides absent.1 of_peer.1)
 
-  pub IsStepFor-lost : (sides : List Side) → AreCleared routes peer sides → IsStepFor routes event sides
+  pub IsStepFor-lost : (sides : List Side) → ClearAllOf routes peer sides → IsStepFor routes event sides
   IsStepFor-lost sides cleared = record {
     distinct = lost-distinct routes peer sides cleared;
     after = across sides (lost-absent routes peer sides cleared) (of_peer (pairs_in sides) (λ q there. first (same_peer q.peer peer) (is_some (finite.get routes q)) (sym (lost-named routes peer sides cleared q) ∙ there)));
@@ -154,7 +154,7 @@ taken routes peer (e ∷ own) (entry ∷ entries) (route ∷ given) found same v
       unbrought = rest.unbrought;
     }
 
-pub taken-peer : (routes : Routes) (peer : Peer) (entries : List Entry) (given : List (Rc Route Global)) → AreCleared routes peer (sides_of entries) → map value_of given ≡ finite.values (peer_routes routes peer)
+pub taken-peer : (routes : Routes) (peer : Peer) (entries : List Entry) (given : List (Rc Route Global)) → ClearAllOf routes peer (sides_of entries) → map value_of given ≡ finite.values (peer_routes routes peer)
     → AreTaken routes entries (cleared_entries entries given)
 taken-peer routes peer entries given cleared values = taken routes peer (finite.entries (peer_routes routes peer)) entries given (each-of_peer routes peer) cleared values
 
@@ -168,7 +168,7 @@ taken_or true None = refl
 taken_or true (Some x) = refl
 taken_or false found = refl
 
-pub routes-cleared : (old new : Routes) (peer : Peer) (sides : List Side) → AreCleared old peer sides → ((q : Pair) → finite.get new q ≡ cond (same_peer q.peer peer) None (finite.get old q)) → new ≡ routes_across sides old
+pub routes-cleared : (old new : Routes) (peer : Peer) (sides : List Side) → ClearAllOf old peer sides → ((q : Pair) → finite.get new q ≡ cond (same_peer q.peer peer) None (finite.get old q)) → new ≡ routes_across sides old
 routes-cleared old new peer sides cleared is = same_routes new (routes_across sides old) (λ q.
     is q ∙ taken_or (same_peer q.peer peer) (finite.get old q)
     ∙ ap₂ (λ b r. cond b r (finite.get old q)) (sym (lost-named old peer sides cleared q)) (sym (is q))

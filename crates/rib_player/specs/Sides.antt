@@ -21,9 +21,9 @@ sides_across routes sides = map (λ side. (side.0, get routes side.0)) sides
 abbrev pub cleared_side : Peer → Network → Side
 cleared_side peer prefix = (pair_of peer prefix, None)
 
--- the sides of all pairs of a peer that have a route, none of which has one there
-abbrev pub AreCleared : Routes → Peer → List Side → Type 0
-AreCleared routes peer sides = sides ≡ map (cleared_side peer) (keys (peer_routes routes peer))
+-- the sides clear all routes of a peer: they are those of all pairs of it that have one, in order, and none has one there
+abbrev pub ClearAllOf : Routes → Peer → List Side → Type 0
+ClearAllOf routes peer sides = sides ≡ map (cleared_side peer) (keys (peer_routes routes peer))
 
 -- no pair stands twice
 abbrev pub AreDistinct : List Side → Type 0

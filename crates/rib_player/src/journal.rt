@@ -11,7 +11,7 @@ ghost use Rattle.rib_player.specs.declared.pair.Pair.{Pair};
 ghost use Rattle.rib_player.specs.declared.entry.End.TheVariants.{Last};
 ghost use Rattle.rib_player.specs.Claims.{one_if, claims_beyond, claims_in, AreHeld};
 ghost use Rattle.rib_player.specs.Journal.{Side, sides_of, steps_of, routes_across};
-ghost use Rattle.rib_player.specs.Sides.{sides_at, sides_across, AreCleared, IsKept, AreDistinct};
+ghost use Rattle.rib_player.specs.Sides.{sides_at, sides_across, ClearAllOf, IsKept, AreDistinct};
 ghost use Rattle.rib_player.specs.Marks.{marks_of, marks_by_step, marks_across, gives_up_by, entry_count};
 ghost use Rattle.rib_player.specs.Played.{CanDrop, StayClaimed};
 
@@ -122,7 +122,7 @@ pub(crate) fn put_entries<S: PrefixStore<Rc<Route>>>(
     lost: Option<&Peer>,
     entries: &mut [Entry],
 ) -> Result<(), AllocError>
-    requires cleared { IfSome lost (λ peer. AreCleared table.old.routes peer.now (sides_of entries.old)) }
+    requires cleared { IfSome lost (λ peer. ClearAllOf table.old.routes peer.now (sides_of entries.old)) }
     requires distinct { AreDistinct (sides_of entries.old) }
     requires held { AreHeld table.old.keys (claims_beyond claims.old) }
     requires among { AreAmong table.old.keys table.old.routes }

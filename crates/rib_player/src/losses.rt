@@ -11,7 +11,7 @@ ghost use Rattle.rib_player.specs.History.{pair_cmp};
 ghost use Rattle.rib_player.specs.Changes.{found};
 ghost use Rattle.rib_player.specs.Kept.{cleared_entries};
 ghost use Rattle.rib_player.specs.Journal.{sides_of, pairs_in, routes_across};
-ghost use Rattle.rib_player.specs.Sides.{cleared_side, sides_across, AreCleared, AreDistinct};
+ghost use Rattle.rib_player.specs.Sides.{cleared_side, sides_across, ClearAllOf, AreDistinct};
 ghost use Rattle.rib_player.specs.Marks.{marks_of, marks_across, gives_up_by};
 
 use crate::changes::shared_peer;
@@ -74,7 +74,7 @@ pub(crate) fn lost_entries<S: PrefixStore<Rc<Route>>>(
     table: &Table<S>,
 ) -> Result<Vec<Entry>, AllocError>
     ensures { IfOk result (λ entries.
-        AreCleared table.now.routes peer.now (sides_of entries.items)) }
+        ClearAllOf table.now.routes peer.now (sides_of entries.items)) }
 {
     match table.store(peer) {
         Some(store) => {
@@ -106,7 +106,7 @@ pub(crate) fn clear_peer<S: PrefixStore<Rc<Route>>>(
     peer: &Peer,
     entries: &mut [Entry],
 ) -> Result<(), AllocError>
-    requires { AreCleared table.old.routes peer.now (sides_of entries.old) }
+    requires { ClearAllOf table.old.routes peer.now (sides_of entries.old) }
     ensures keys { table.new.keys ≡ table.old.keys }
     ensures routes { OnOk result
         (table.new.routes ≡ routes_across (sides_of entries.old) table.old.routes) }

@@ -10,7 +10,7 @@ ghost use Rattle.rib_player.specs.History.{pair_cmp};
 ghost use Rattle.rib_player.specs.Store.{route_in};
 ghost use Rattle.rib_player.specs.Changes.{found, found_then};
 ghost use Rattle.rib_player.specs.Journal.{sides_of};
-ghost use Rattle.rib_player.specs.Sides.{AreCleared, AreDistinct, IsStepFor};
+ghost use Rattle.rib_player.specs.Sides.{ClearAllOf, AreDistinct, IsStepFor};
 
 use crate::changes::{Changes, changes_of};
 use crate::entry::Entry;
@@ -192,7 +192,7 @@ pub(crate) fn step_for<S: PrefixStore<Rc<Route>>>(
     ensures step { IfOk result (λ new.
         IsStepFor table.now.routes event.now (sides_of new.entries.items)) }
     ensures cleared { IfOk result (λ new. IfSome new.lost (λ peer.
-        AreCleared table.now.routes peer (sides_of new.entries.items))) }
+        ClearAllOf table.now.routes peer (sides_of new.entries.items))) }
 {
     let changes = changes_of(alloc, event, table, known)?;
     if let Some(peer) = changes.only_loss() {
