@@ -94,8 +94,7 @@ pub(crate) fn put_entry<S: PrefixStore<Rc<Route>>>(
     ensures held { AreHeld table.new.keys (claims_beyond claims.new) }
     ensures keys { OnOk result (table.new.keys ≡ set.insert table.old.keys entry.old.pair) }
     ensures claimed { OnOk result ((q : Pair) →
-        claims_in table.new claims.new q
-        ≡ claims_in table.old claims.old q
+        claims_in table.new claims.new q ≡ claims_in table.old claims.old q
         + one_if (gives_up_at Last (mark_of entry.new) q)) }
     ensures before { OnOk result
         (entry.new.before ≡ is_some (finite.get table.old.routes entry.old.pair)) }
@@ -106,8 +105,7 @@ pub(crate) fn put_entry<S: PrefixStore<Rc<Route>>>(
         (route_in entry.new.other ≡ finite.get table.old.routes entry.old.pair) }
     ensures pair { OnOk result (entry.new.pair ≡ entry.old.pair) }
     ensures refused { OnErr result ((q : Pair) →
-        claims_in table.new claims.new q
-        ≡ claims_in table.old claims.old q) }
+        claims_in table.new claims.new q ≡ claims_in table.old claims.old q) }
     ensures kept { OnErr result (table.new.routes ≡ table.old.routes) }
 {
     let made = entry.put(table)?;

@@ -122,7 +122,8 @@ pub(crate) fn put_entries<S: PrefixStore<Rc<Route>>>(
     lost: Option<&Peer>,
     entries: &mut [Entry],
 ) -> Result<(), AllocError>
-    requires cleared { IfSome lost (λ peer. ClearAllOf table.old.routes peer.now (sides_of entries.old)) }
+    requires cleared { IfSome lost (λ peer.
+        ClearAllOf table.old.routes peer.now (sides_of entries.old)) }
     requires distinct { AreDistinct (sides_of entries.old) }
     requires held { AreHeld table.old.keys (claims_beyond claims.old) }
     requires among { AreAmong table.old.keys table.old.routes }
@@ -131,8 +132,7 @@ pub(crate) fn put_entries<S: PrefixStore<Rc<Route>>>(
         (sides_of entries.old) }
     ensures held { AreHeld table.new.keys (claims_beyond claims.new) }
     ensures claimed { OnOk result ((q : Pair) →
-        claims_in table.new claims.new q
-        ≡ claims_in table.old claims.old q
+        claims_in table.new claims.new q ≡ claims_in table.old claims.old q
         + one_if (gives_up_by Last (marks_of entries.new) q)) }
     ensures marks { OnOk result
         (marks_of entries.new ≡ marks_across table.old.routes (sides_of entries.old)) }
@@ -141,8 +141,7 @@ pub(crate) fn put_entries<S: PrefixStore<Rc<Route>>>(
     ensures sides { OnOk result
         (sides_of entries.new ≡ sides_across table.old.routes (sides_of entries.old)) }
     ensures refused { OnErr result ((q : Pair) →
-        claims_in table.new claims.new q
-        ≡ claims_in table.old claims.old q) }
+        claims_in table.new claims.new q ≡ claims_in table.old claims.old q) }
     ensures kept { OnErr result (table.new.routes ≡ table.old.routes) }
 {
     if let Some(peer) = lost {
