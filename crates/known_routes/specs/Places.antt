@@ -1,6 +1,6 @@
 -- Private.
--- How many routes stand at places.
-use Rattle.std.specs.Prelude.{ℕ, Bool, true, false, List}
+-- How many routes stand at places, and the tags of places.
+use Rattle.std.specs.Prelude.{◌≡◌, ℕ, Bool, true, false, nat_lt, List, map}
 use Rattle.std.specs.List.{count_by}
 use Rattle.known_routes.specs.declared.place.Place.{Place}
 use Rattle.known_routes.specs.declared.place.Place.TheVariants.{Free, Taken}
@@ -13,3 +13,11 @@ is_taken (Taken hash route) = true
 -- at how many of the places one does
 abbrev pub taken_in : List Place → ℕ
 taken_in = count_by is_taken
+
+-- the tag isn't that of a free place
+abbrev pub is_tagged : ℕ → Bool
+is_tagged tag = nat_lt 0 tag
+
+-- where a route stands each place has such a tag, and elsewhere none
+abbrev pub AreTagged : List Place → List ℕ → Type 0
+AreTagged places tags = map is_taken places ≡ map is_tagged tags

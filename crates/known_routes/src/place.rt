@@ -1,7 +1,7 @@
 //! A place for a route, and where a route is looked for among places.
 
-ghost use Rattle.std.specs.Prelude.{◌≡◌, IfSome};
-ghost use Rattle.known_routes.specs.Places.{taken_in, is_taken};
+ghost use Rattle.std.specs.Prelude.{◌≡◌, true, IfSome, length};
+ghost use Rattle.known_routes.specs.Places.{taken_in, is_taken, is_tagged, AreTagged};
 
 use mrt_events::{Route, route_size, same_route};
 use std::rc::Rc;
@@ -19,6 +19,9 @@ const SECOND_ROW: u32 = 0x9e37_79b1;
 
 /// How many bits a hash has.
 const HASH_BITS: u32 = 32;
+
+/// The tag of a place where no route stands.
+pub(crate) const FREE: u8 = 0;
 
 /// Where a route may stand.
 #[derive(Drop)]
@@ -69,6 +72,45 @@ pub(crate) fn count_taken(places: &[Place]) -> usize
     taken
 }
 
+/// The tag of a place where a route of this hash stands: of its bits the lowest, which say least of the
+/// row. Tags lie together, so that a look-up mostly reads them alone.
+#[inline]
+pub(crate) fn tag_of(hash: u32) -> u8
+    ensures { is_tagged result ≡ true }
+{
+    hash.to_le_bytes()[0].max(FREE + 1)
+}
+
+/// The tag of the place.
+#[inline]
+fn tag_at(place: &Place) -> u8
+    ensures { is_tagged result ≡ is_taken place.now }
+{
+    match place {
+        Place::Free => FREE,
+        Place::Taken(hash, _) => tag_of(*hash),
+    }
+}
+
+/// Gives each place its tag.
+pub(crate) fn tag_anew(tags: &mut [u8], places: &[Place])
+    requires { length tags.old ≡ length places.now }
+    ensures { AreTagged places.now tags.new }
+{
+    'places: for index in 0..places.len() {
+        tags[index] = tag_at(&places[index]);
+    }
+}
+
+/// Whether the place has this tag.
+#[inline]
+fn has_tag(tags: &[u8], index: usize, tag: u8) -> bool {
+    match tags.get(index) {
+        Some(other) => *other == tag,
+        None => false,
+    }
+}
+
 /// Where the row of a hash begins, of so many places.
 #[inline]
 fn row_of(hash: u32, count: usize) -> usize {
@@ -89,6 +131,7 @@ fn rows_of(hash: u32, count: usize) -> [usize; 2] {
 /// A route of this hash that equals this one, in the row that begins there, and where it stands.
 #[inline]
 fn find_in_row<'a>(
+    tags: &[u8],
     places: &'a [Place],
     start: usize,
     hash: u32,
@@ -96,10 +139,13 @@ fn find_in_row<'a>(
 ) -> Option<(usize, &'a Rc<Route>)>
     ensures { IfSome result (λ found. found.1.now.value ≡ route.now) }
 {
+    let tag = tag_of(hash);
     'places: for index in start..start.saturating_add(ROW) {
-        if let Some(Place::Taken(other, known)) = places.get(index) {
-            if *other == hash && same_route(known, route) {
-                return Some((index, known));
+        if has_tag(tags, index, tag) {
+            if let Some(Place::Taken(other, known)) = places.get(index) {
+                if *other == hash && same_route(known, route) {
+                    return Some((index, known));
+                }
             }
         }
     }
@@ -110,6 +156,7 @@ fn find_in_row<'a>(
 /// the first may be full, since it is filled from the front.
 #[inline]
 pub(crate) fn find<'a>(
+    tags: &[u8],
     places: &'a [Place],
     hash: u32,
     route: &Route,
@@ -117,33 +164,33 @@ pub(crate) fn find<'a>(
     ensures { IfSome result (λ found. found.1.now.value ≡ route.now) }
 {
     let [first, second] = rows_of(hash, places.len());
-    if let Some(found) = find_in_row(places, first, hash, route) {
+    if let Some(found) = find_in_row(tags, places, first, hash, route) {
         return Some(found);
     }
-    match places.get(first.saturating_add(ROW - 1)) {
-        Some(Place::Taken(_, _)) => find_in_row(places, second, hash, route),
-        _ => None,
+    if has_tag(tags, first.saturating_add(ROW - 1), FREE) {
+        return None;
     }
+    find_in_row(tags, places, second, hash, route)
 }
 
 /// The first free place of the row that begins there.
 #[inline]
-fn free_in_row(places: &[Place], start: usize) -> Option<usize> {
+fn free_in_row(tags: &[u8], start: usize) -> Option<usize> {
     'places: for index in start..start.saturating_add(ROW) {
-        if let Some(Place::Free) = places.get(index) {
+        if has_tag(tags, index, FREE) {
             return Some(index);
         }
     }
     None
 }
 
-/// A free place for a route of this hash, or else the first of its rows.
+/// A free place for a route of this hash, by the tags of all, or else the first of its rows.
 #[inline]
-pub(crate) fn place_for(places: &[Place], hash: u32) -> usize {
-    let [first, second] = rows_of(hash, places.len());
-    match free_in_row(places, first) {
+pub(crate) fn place_for(tags: &[u8], hash: u32) -> usize {
+    let [first, second] = rows_of(hash, tags.len());
+    match free_in_row(tags, first) {
         Some(index) => index,
-        None => free_in_row(places, second).unwrap_or(first),
+        None => free_in_row(tags, second).unwrap_or(first),
     }
 }
 

@@ -1,12 +1,17 @@
 //! Places for routes, which are found there by a hash.
 
-ghost use Rattle.std.specs.Prelude.{◌≡◌, ◌≤◌, ◌+◌, ◌*◌, IfOk, IsTrue, vec_len};
-ghost use Rattle.known_routes.specs.Places.{taken_in};
+ghost use Rattle.std.specs.Prelude.{◌≡◌, ◌<◌, ◌≤◌, ◌+◌, ◌*◌, true, IfOk, IfSome, IsTrue, slice_index_or, vec_len};
+ghost use Rattle.known_routes.specs.Places.{taken_in, is_tagged, AreTagged};
+ghost use Rattle.known_routes.specs.declared.place.TheConstants.{FREE};
 ghost use Rattle.known_routes.specs.declared.places.TheConstants.{FIRST_PLACES, MOST_PLACES, MOST_TIMES};
 
-use crate::place::{Place, count_taken, index_of, is_last_owner, is_taken, octets_at, place_for};
+use crate::place::{
+    FREE, Place, count_taken, find, index_of, is_last_owner, is_taken, octets_at, place_for,
+    tag_anew, tag_of,
+};
 use mrt_events::Route;
 use std::alloc::{AllocError, Global};
+use std::mem;
 use std::rc::Rc;
 
 /// How many places there are at first.
@@ -22,10 +27,13 @@ const MOST_TIMES: usize = 3;
 #[derive(Drop)]
 pub(crate) struct Places {
     pub(crate) places: Vec<Place>,
+    /// The tag of each place.
+    pub(crate) tags: Vec<u8>,
     pub(crate) taken: usize,
     /// How many octets the routes that stand there take.
     pub(crate) held: u64,
     ghost counted: { taken ≡ taken_in places.items },
+    ghost tagged: { AreTagged places.items tags.items },
 }
 
 /// How many places so many routes get.
@@ -33,7 +41,7 @@ pub(crate) fn places_for(taken: usize) -> usize
     ensures most { result ≤ MOST_PLACES }
     ensures fitting { result ≤ MOST_TIMES * taken + FIRST_PLACES }
 {
-    (taken.saturating_mul(5) / 2).clamp(FIRST_PLACES, MOST_PLACES)
+    (taken.saturating_mul(7) / 3).clamp(FIRST_PLACES, MOST_PLACES)
 }
 
 impl Places {
@@ -43,6 +51,7 @@ impl Places {
     {
         Places {
             places: Vec::new(alloc),
+            tags: Vec::new(alloc),
             taken: 0,
             held: 0,
         }
@@ -53,29 +62,67 @@ impl Places {
         ensures { IfOk result (λ free. vec_len free.places ≡ count) }
     {
         let mut places = Vec::with_capacity(alloc, count)?;
+        let mut tags = Vec::with_capacity(alloc, count)?;
         'places: for _ in 0..count {
             places.push(Place::Free)?;
+            tags.push(FREE)?;
         }
         Ok(Places {
             places,
+            tags,
             taken: 0,
             held: 0,
         })
     }
 
-    /// Puts a route at the index, if there is such a place, over one that stands there, whose octets
-    /// go. Those of the new one aren't added.
+    /// A route of this hash that equals this one, and where it stands.
+    #[inline]
+    pub(crate) fn find(&self, hash: u32, route: &Route) -> Option<(usize, &Rc<Route>)>
+        ensures { IfSome result (λ found. found.1.now.value ≡ route.now) }
+    {
+        find(&self.tags, &self.places, hash, route)
+    }
+
+    /// Puts a route at the index, where none stands, as the tag tells: the place isn't read, since few
+    /// places are in the cache.
+    #[inline]
+    fn fill_at(&mut self, index: usize, hash: u32, route: Rc<Route>)
+        requires within { index < vec_len self.old.tags }
+        requires free { slice_index_or self.old.tags.items index FREE ≡ FREE }
+        ensures places { vec_len self.new.places ≡ vec_len self.old.places }
+        ensures taken { self.old.taken ≤ self.new.taken }
+    {
+        let place = mem::replace(&mut self.places[index], Place::Taken(hash, route));
+        mem::forget(place);
+        self.tags[index] = tag_of(hash);
+        self.taken += 1;
+    }
+
+    /// Puts a route at the index over the one that stands there, whose octets go.
+    fn put_over(&mut self, index: usize, hash: u32, route: Rc<Route>)
+        requires within { index < vec_len self.old.tags }
+        requires taken { is_tagged (slice_index_or self.old.tags.items index FREE) ≡ true }
+        ensures places { vec_len self.new.places ≡ vec_len self.old.places }
+        ensures taken { self.old.taken ≤ self.new.taken }
+    {
+        self.held = self.held.saturating_sub(octets_at(&self.places[index]));
+        self.places[index] = Place::Taken(hash, route);
+        self.tags[index] = tag_of(hash);
+    }
+
+    /// Puts a route at the index, if there is such a place. Its octets aren't added.
     #[inline]
     fn put_at(&mut self, index: usize, hash: u32, route: Rc<Route>)
         ensures places { vec_len self.new.places ≡ vec_len self.old.places }
         ensures taken { self.old.taken ≤ self.new.taken }
     {
-        if index < self.places.len() {
-            if !is_taken(&self.places[index]) {
-                self.taken += 1;
-            }
-            self.held = self.held.saturating_sub(octets_at(&self.places[index]));
-            self.places[index] = Place::Taken(hash, route);
+        if index >= self.tags.len() {
+            return;
+        }
+        if self.tags[index] == FREE {
+            self.fill_at(index, hash, route);
+        } else {
+            self.put_over(index, hash, route);
         }
     }
 
@@ -85,7 +132,7 @@ impl Places {
         ensures places { vec_len self.new.places ≡ vec_len self.old.places }
         ensures taken { self.old.taken ≤ self.new.taken }
     {
-        let index = place_for(&self.places, hash);
+        let index = place_for(&self.tags, hash);
         self.put_at(index, hash, route);
         index
     }
@@ -109,6 +156,7 @@ impl Places {
             self.taken -= 1;
             self.held = self.held.saturating_sub(octets_at(&self.places[index]));
             self.places[index] = Place::Free;
+            self.tags[index] = FREE;
         }
     }
 
@@ -147,6 +195,7 @@ impl Places {
         }
         self.held = self.held.saturating_sub(gone);
         self.taken = count_taken(&self.places);
+        tag_anew(self.tags.as_mut_slice(), &self.places);
     }
 
     /// Whether there aren't too many places for the routes.

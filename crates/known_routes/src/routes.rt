@@ -4,7 +4,7 @@ ghost use Rattle.std.specs.Prelude.{◌≡◌, ◌≤◌, ◌+◌, ◌*◌, IfOk
 ghost use Rattle.known_routes.specs.declared.routes.TheConstants.{LASTS};
 ghost use Rattle.known_routes.specs.declared.places.TheConstants.{FIRST_PLACES, MOST_PLACES, MOST_TIMES};
 
-use crate::place::{Place, find};
+use crate::place::Place;
 use crate::places::{MOST_PLACES, Places, places_for};
 use crate::route_hash::{hash_of, peer_hash};
 use mrt_events::{Peer, Route, route_size, same_route};
@@ -77,7 +77,7 @@ impl KnownRoutes {
             return known.clone();
         }
         let hash = hash_of(route);
-        if let Some((index, found)) = find(&self.routes.places, hash, route) {
+        if let Some((index, found)) = self.routes.find(hash, route) {
             let known = found.clone()?;
             self.note_last(last, index);
             return Ok(known);
@@ -134,7 +134,7 @@ impl KnownRoutes {
         self.routes.add(hash, route, octets)
     }
 
-    /// Makes two and a half times as many places as there are routes, unless memory is refused.
+    /// Makes two and a third times as many places as there are routes, unless memory is refused.
     fn widen(&mut self) {
         let count = places_for(self.routes.taken);
         if let Ok(mut wider) = Places::free(self.alloc, count) {
