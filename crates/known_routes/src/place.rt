@@ -81,24 +81,16 @@ pub(crate) fn tag_of(hash: u32) -> u8
     hash.to_le_bytes()[0].max(FREE + 1)
 }
 
-/// The tag of the place.
-#[inline]
-fn tag_at(place: &Place) -> u8
-    ensures { is_tagged result ≡ is_taken place.now }
-{
-    match place {
-        Place::Free => FREE,
-        Place::Taken(hash, _) => tag_of(*hash),
-    }
-}
-
 /// Gives each place its tag.
-pub(crate) fn tag_anew(tags: &mut [u8], places: &[Place])
+pub(crate) fn fill_tags(tags: &mut [u8], places: &[Place])
     requires { length tags.old ≡ length places.now }
     ensures { AreTagged places.now tags.new }
 {
     'places: for index in 0..places.len() {
-        tags[index] = tag_at(&places[index]);
+        tags[index] = match &places[index] {
+            Place::Free => FREE,
+            Place::Taken(hash, _) => tag_of(*hash),
+        };
     }
 }
 

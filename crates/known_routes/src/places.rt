@@ -6,8 +6,8 @@ ghost use Rattle.known_routes.specs.declared.place.TheConstants.{FREE};
 ghost use Rattle.known_routes.specs.declared.places.TheConstants.{FIRST_PLACES, MOST_PLACES, MOST_TIMES};
 
 use crate::place::{
-    FREE, Place, count_taken, find, index_of, is_last_owner, is_taken, octets_at, place_for,
-    tag_anew, tag_of,
+    FREE, Place, count_taken, fill_tags, find, index_of, is_last_owner, is_taken, octets_at,
+    place_for, tag_of,
 };
 use mrt_events::Route;
 use std::alloc::{AllocError, Global};
@@ -77,7 +77,7 @@ impl Places {
 
     /// A route of this hash that equals this one, and where it stands.
     #[inline]
-    pub(crate) fn find(&self, hash: u32, route: &Route) -> Option<(usize, &Rc<Route>)>
+    pub(crate) fn find_route(&self, hash: u32, route: &Route) -> Option<(usize, &Rc<Route>)>
         ensures { IfSome result (λ found. found.1.now.value ≡ route.now) }
     {
         find(&self.tags, &self.places, hash, route)
@@ -195,7 +195,7 @@ impl Places {
         }
         self.held = self.held.saturating_sub(gone);
         self.taken = count_taken(&self.places);
-        tag_anew(self.tags.as_mut_slice(), &self.places);
+        fill_tags(self.tags.as_mut_slice(), &self.places);
     }
 
     /// Whether there aren't too many places for the routes.

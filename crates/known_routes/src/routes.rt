@@ -77,7 +77,7 @@ impl KnownRoutes {
             return known.clone();
         }
         let hash = hash_of(route);
-        if let Some((index, found)) = self.routes.find(hash, route) {
+        if let Some((index, found)) = self.routes.find_route(hash, route) {
             let known = found.clone()?;
             self.note_last(last, index);
             return Ok(known);

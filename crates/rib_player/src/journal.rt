@@ -17,7 +17,7 @@ ghost use Rattle.rib_player.specs.Played.{CanDrop, StayClaimed};
 
 use crate::claims::{Claims, give_up_claims, put_entry};
 use crate::entry::{End, Entry};
-use crate::losses::clear_peer;
+use crate::losses::take_peer_routes;
 use crate::reaching::reach_entries;
 use crate::room::{LEAST_ROOM, MOST_TIMES};
 use crate::table::Table;
@@ -145,7 +145,7 @@ pub(crate) fn put_entries<S: PrefixStore<Rc<Route>>>(
     ensures kept { OnErr result (table.new.routes ≡ table.old.routes) }
 {
     if let Some(peer) = lost {
-        return clear_peer(alloc, table, peer, entries);
+        return take_peer_routes(alloc, table, peer, entries);
     }
     let mut made = 0;
     let mut passed = 0u64;

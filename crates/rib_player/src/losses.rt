@@ -100,7 +100,7 @@ fn note_routes(entries: &mut [Entry], routes: Vec<Rc<Route>>)
 /// Goes from one side of a new step to the other that clears all routes of a peer, and does nothing
 /// else: the table's routes become those of the entries. So it passes by each node of the peer's store
 /// once. Refused, the table is as it was.
-pub(crate) fn clear_peer<S: PrefixStore<Rc<Route>>>(
+pub(crate) fn take_peer_routes<S: PrefixStore<Rc<Route>>>(
     alloc: Global,
     table: &mut Table<S>,
     peer: &Peer,

@@ -1,6 +1,6 @@
 use Rattle.std.proofs.Common.{◌≡◌, length, take}
 use Rattle.known_routes.specs.Places.{AreTagged}
-use Rattle.known_routes.proofs.place.tag_anew.Given as goal
+use Rattle.known_routes.proofs.place.fill_tags.Given as goal
 
 -- the places so far have their tags
 abbrev pub invariant-places : goal.invariant-places

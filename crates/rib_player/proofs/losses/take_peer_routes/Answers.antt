@@ -6,9 +6,9 @@ use Rattle.rib_player.specs.Journal.{side_of}
 use Rattle.rib_player.specs.Sides.{cleared_side}
 use Rattle.rib_player.specs.Store.{peer_routes}
 use Rattle.rib_player.proofs.LostLaws.{AreTaken, taken-peer, routes-cleared}
-use Rattle.rib_player.proofs.losses.clear_peer.Given.{Over}
-use Rattle.rib_player.proofs.losses.clear_peer.Goals as goal
-use Rattle.rib_player.proofs.losses.clear_peer.Goals.{After-note_routes}
+use Rattle.rib_player.proofs.losses.take_peer_routes.Given.{Over}
+use Rattle.rib_player.proofs.losses.take_peer_routes.Goals as goal
+use Rattle.rib_player.proofs.losses.take_peer_routes.Goals.{After-note_routes}
 
 pub take_routes-requires : goal.take_routes-requires
 take_routes-requires g c =
