@@ -10,7 +10,7 @@ ghost use Rattle.bgp_paths.specs.Printed.{StillBegins, WordsJoined};
 
 use crate::path::AsPath;
 use crate::segment::{Segment, SegmentKind};
-use ip_prefix::{COLON, SPACE, Text, WORD_ROOM, Word, put_octets, write_ended_pair};
+use ip_prefix::{COLON, SPACE, Text, WORD_ROOM, Word, put_octets, write_ended_decimal};
 use std::alloc::AllocError;
 
 /// Not to be announced outside the AS, or a confederation (RFC 1997).
@@ -178,7 +178,8 @@ fn write_halves(number: u32, end: u8, text: &mut [u8], at: usize) -> usize
     ensures written { IsWritten text.old at (halves_text number ++ end ∷ []) text.new result }
     ensures short { result ≤ at + WORD_ROOM }
 {
-    write_ended_pair(number / 0x1_0000, COLON, number % 0x1_0000, end, text, at)
+    let behind = write_ended_decimal(number / 0x1_0000, COLON, text, at);
+    write_ended_decimal(number % 0x1_0000, end, text, behind)
 }
 
 /// Writes a community, which may be a well-known one, and an octet behind it.

@@ -17,8 +17,8 @@ pub use laws::{
     one_network, one_spelling, prefix_order, shortened_run, text_spells, turns_by_bits,
 };
 pub use octet_text::{
-    DECIMAL_ROOM, InPlace, PAIR_ROOM, SPACE, Text, WORD_ROOM, Word, put_decimal, put_octets,
-    write_decimal, write_ended_pair,
+    DECIMAL_ROOM, InPlace, SPACE, Text, WORD_ROOM, Word, put_decimal, put_octets, write_decimal,
+    write_ended_decimal,
 };
 pub use prefix::Prefix;
 pub use text::{ADDRESS_ROOM, COLON, PREFIX_ROOM};

@@ -12,9 +12,6 @@ pub const DECIMAL_ROOM: usize = 12;
 /// The room for such a number, and an octet behind it.
 pub(crate) const ENDED_ROOM: usize = DECIMAL_ROOM + 1;
 
-/// The room for two such numbers, and an octet behind each.
-pub const PAIR_ROOM: usize = 2 * ENDED_ROOM;
-
 /// How many digits a number of 32 bits has at most.
 const DECIMAL_DIGITS: usize = 10;
 
@@ -58,7 +55,7 @@ pub(crate) fn write_led_decimal(lead: u8, number: u32, text: &mut [u8], at: usiz
 
 /// Writes the number in decimal, and an octet behind it, and answers the place behind both.
 #[inline]
-pub(crate) fn write_ended_decimal(number: u32, end: u8, text: &mut [u8], at: usize) -> usize
+pub fn write_ended_decimal(number: u32, end: u8, text: &mut [u8], at: usize) -> usize
     requires { at + ENDED_ROOM ≤ length text.old }
     ensures written { IsWritten text.old at (decimal number ++ end ∷ []) text.new result }
     ensures short { result ≤ at + ENDED_ROOM }
@@ -66,25 +63,6 @@ pub(crate) fn write_ended_decimal(number: u32, end: u8, text: &mut [u8], at: usi
     let behind = write_decimal(number, text, at);
     text[behind] = end;
     behind + 1
-}
-
-/// Writes two numbers in decimal, and an octet behind each, and answers the place behind them.
-#[inline]
-pub fn write_ended_pair(
-    one: u32,
-    middle: u8,
-    other: u32,
-    end: u8,
-    text: &mut [u8],
-    at: usize,
-) -> usize
-    requires { at + PAIR_ROOM ≤ length text.old }
-    ensures written { IsWritten text.old at
-        ((decimal one ++ middle ∷ []) ++ (decimal other ++ end ∷ [])) text.new result }
-    ensures short { result ≤ at + PAIR_ROOM }
-{
-    let behind = write_ended_decimal(one, middle, text, at);
-    write_ended_decimal(other, end, text, behind)
 }
 
 /// Writes the numbers in decimal, an octet behind each, and answers the place behind them.

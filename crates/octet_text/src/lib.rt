@@ -11,7 +11,7 @@ mod words;
 
 pub use buffer::Text;
 pub use cursor::{
-    DECIMAL_ROOM, PAIR_ROOM, ROW, SPACE, put_octets, write_decimal, write_ended_pair, write_short,
+    DECIMAL_ROOM, ROW, SPACE, put_octets, write_decimal, write_ended_decimal, write_short,
 };
 pub use decimal::put_decimal;
 pub use hexadecimal::{HEX_PAIR, hex_pair, write_hex_pair};

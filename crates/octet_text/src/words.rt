@@ -3,10 +3,10 @@
 ghost use Rattle.std.specs.Prelude.{◌≡◌, ℕ, List, ◌+◌, ◌*◌, ◌≤◌, ◌++◌, ◌∷◌, [], length, map};
 ghost use Rattle.octet_text.specs.Written.{IsWritten, ended_words};
 
-use crate::cursor::PAIR_ROOM;
+use crate::cursor::ENDED_ROOM;
 
-/// The room for a word, and an octet behind it.
-pub const WORD_ROOM: usize = PAIR_ROOM;
+/// The room for a word, and an octet behind it: that for two decimals, and an octet behind each.
+pub const WORD_ROOM: usize = 2 * ENDED_ROOM;
 
 /// How a number is written as a word.
 pub trait Word {
