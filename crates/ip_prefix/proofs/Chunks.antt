@@ -1,7 +1,7 @@
 -- The octets and the groups of a list of bits.
-use Rattle.std.proofs.Common.{◌≡◌, ℕ, zero, suc, ◌+◌, ◌*◌, ◌^◌, ◌/◌, ◌%◌, ◌<◌, ◌≤◌, Bool, true, false, List, [], ◌∷◌, ◌++◌, length, take, drop, get_or, refl, sym, ap, ap₂, subst, ◌∙◌, arith, take-append-drop, append_assoc, length-drop, length-take-le, take_at, drop_at}
-use Rattle.std.proofs.lemmas.List.{drop-drop, drop_all}
-use Rattle.std.proofs.Math.Nat.{pow-suc, mod-eq_of_lt}
+use Rattle.std.proofs.Common.{◌≡◌, ℕ, zero, suc, ◌+◌, ◌*◌, ◌^◌, ◌/◌, ◌%◌, ◌<◌, ◌≤◌, Bool, true, false, List, [], ◌∷◌, ◌++◌, length, take, drop, get_or, refl, sym, ap, ap₂, subst, ◌∙◌, arith, take-append-drop, append_assoc, length-drop, length-take-le, take_at, drop_at, lit≤}
+use Rattle.std.proofs.lemmas.List.{drop-drop, drop_all, length-take}
+use Rattle.std.proofs.Math.Nat.{pow-suc, mod-eq_of_lt, pow-le-pow_right}
 use Rattle.std.specs.Net.Addr.{octets_of}
 use Rattle.std.proofs.NetLemmas.Arrays.{four_items, eight_items}
 use Rattle.std.proofs.NetLemmas.Texts.{AllSegments}
@@ -35,11 +35,11 @@ bits_of-number_of (false ∷ bits) =
     ap (λ k. bits_of k (0 * 2 ^ length bits + number_of bits)) one
     ∙ bits_of-append 1 (length bits) 0 (number_of bits) (number_of-lt bits) ∙ ap (λ t. false ∷ t) (bits_of-number_of bits)
 
--- the number of a part of the bits
-pub number_of-part : (n i : ℕ) (bits : List Bool) → i + n ≤ length bits → number_of (take n (drop i bits)) < 2 ^ n
-number_of-part n i bits within =
-    let long : length (take n (drop i bits)) ≡ n = length-take-le n (drop i bits) (omega (arith, length-drop i bits)) in
-    subst (λ k. number_of (take n (drop i bits)) < 2 ^ k) long (number_of-lt (take n (drop i bits)))
+-- the number of so many bits at most
+number_of-part : (n : ℕ) (bits : List Bool) → number_of (take n bits) < 2 ^ n
+number_of-part n bits =
+    let most : 2 ^ length (take n bits) ≤ 2 ^ n = pow-le-pow_right (lit≤ tt) (omega (arith, length-take n bits)) in
+    omega (arith, number_of-lt (take n bits), most)
 
 -- bits of one length that spell one number are the same
 same_bits : (a b : List Bool) → length a ≡ length b → number_of a ≡ number_of b → a ≡ b
@@ -159,11 +159,11 @@ pub eight_groups : (groups : List ℕ) → length groups ≡ 8 → length (bits_
 eight_groups groups eight = omega (arith, length-bits_of_octets (octets_of groups), length-octets_of groups)
 
 -- an octet is below 256
-pub octet_fits : (a : Address) (i : ℕ) → 8 * i + 8 ≤ length a.bits → octet_at a i < 256
+pub octet_fits : (a : Address) (i : ℕ) → octet_at a i < 256
 unfolding octet_at
-octet_fits a i within = number_of-part 8 (8 * i) a.bits within
+octet_fits a i = number_of-part 8 (drop (8 * i) a.bits)
 
 -- and a group below 65536
-pub group_fits : (a : Address) (i : ℕ) → 16 * i + 16 ≤ length a.bits → group_at a i < 65536
+pub group_fits : (a : Address) (i : ℕ) → group_at a i < 65536
 unfolding group_at
-group_fits a i within = number_of-part 16 (16 * i) a.bits within
+group_fits a i = number_of-part 16 (drop (16 * i) a.bits)

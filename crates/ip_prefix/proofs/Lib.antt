@@ -12,7 +12,6 @@ pub mod Filled
 pub mod HexText
 pub mod ZeroRuns
 pub mod RunRows
-pub mod Dotless
 pub mod Chunks
 pub mod Lengths
 pub mod Spelled

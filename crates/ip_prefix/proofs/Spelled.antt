@@ -1,6 +1,7 @@
 -- Which addresses and prefixes texts spell.
-use Rattle.std.proofs.Common.{◌≡◌, ℕ, zero, suc, true, true≢false, ◌+◌, ◌-◌, ◌^◌, ◌<◌, ◌≤◌, Bool, false, List, [], ◌∷◌, ◌++◌, length, take, drop, get_or, replicate, decimal, Option, Some, None, refl, sym, ap, ap₂, subst, ◌∙◌, arith, take_at, length-append, length-take-le, append_assoc, take-append-drop}
+use Rattle.std.proofs.Common.{◌≡◌, ℕ, zero, suc, true, true≢false, ◌+◌, ◌-◌, ◌^◌, ◌<◌, ◌≤◌, Bool, false, List, [], ◌∷◌, ◌++◌, length, take, drop, get_or, replicate, decimal, Option, Some, None, refl, sym, ap, ap₂, subst, ◌∙◌, arith, take_at, length-append, length-take-le, append_assoc, take-append-drop, map, All, ◌==◌, ne_eqb}
 use Rattle.std.proofs.lemmas.List.{length-replicate, drop_more, get_or_at}
+use Rattle.std.proofs.lemmas.List.Folds.{list_any_none}
 use Rattle.std.proofs.lemmas.Fmt.{decimal_injective}
 use Rattle.std.specs.Option.{MatchOption}
 use Rattle.std.specs.Net.Addr.{octets_of}
@@ -11,71 +12,46 @@ use Rattle.std.specs.declared.net.ipv6_addr.Ipv6Addr.{Ipv6Addr}
 use Rattle.std.proofs.NetLemmas.Theorems.{IsIpv4Text_unique, IsIpv6Text_unique}
 use Rattle.std.proofs.NetLemmas.Ipv6.{IsDotted-not_colon_hex}
 use Rattle.std.proofs.NetLemmas.Texts.{AllSegments, IsDotted-ipv4_text, IsColonHex-hex_groups_text}
-use Rattle.std.proofs.NetLemmas.Alphabet.{All-hex_groups_text}
+use Rattle.std.proofs.NetLemmas.Alphabet.{IsHexOrColon, All-hex_groups_text}
 use Rattle.ip_prefix.specs.declared.addr.Family.{Family}
 use Rattle.ip_prefix.specs.declared.addr.Family.TheVariants.{V4, V6}
 use Rattle.ip_prefix.specs.Bits.{bits_of_octets}
 use Rattle.ip_prefix.specs.Address.{Address, IsAddress, bit_count, octet_at, group_at, groups_of}
 use Rattle.ip_prefix.specs.Network.{Network, IsNetwork, network_of, least_address}
 use Rattle.ip_prefix.specs.Text.{v4_text, v6_text, address_text, network_text}
-use Rattle.ip_prefix.specs.Spelling.{octets_of_v4, IsColons, SpellsAddress, SpellsPrefix}
+use Rattle.ip_prefix.specs.Spelling.{octets_of_v4, HasNoDot, SpellsAddress, SpellsPrefix}
 use Rattle.ip_prefix.specs.Marks.{HasNoSlash, IsLastSlash}
-use Rattle.ip_prefix.proofs.Dotless.{has_dot, has_dot-hex, has_dot-colons, IsColonHex-colons, IsColons-dotless, colons_small}
 use Rattle.ip_prefix.proofs.Chunks.{octets_back, groups_back, four_octets, eight_groups, octet_fits, group_fits, bits_from_octets, bits_from_groups}
 use Rattle.ip_prefix.proofs.Lengths.{IsNoLength, split_at_slash, slash_inside, digits_behind}
-
--- ---- numbers that fit
-
--- one more number fits
-more_fit : (x : ℕ) (xs : List ℕ) → x < 2 ^ 16 → AllSegments xs → AllSegments (x ∷ xs)
-more_fit x xs h all zero = h
-more_fit x xs h all (suc k) = all k
-
--- eight numbers fit where each does
-eight_fit : (a b c d e f g h : ℕ) → a < 2 ^ 16 → b < 2 ^ 16 → c < 2 ^ 16 → d < 2 ^ 16 → e < 2 ^ 16 → f < 2 ^ 16 → g < 2 ^ 16 → h < 2 ^ 16
-    → AllSegments (a ∷ b ∷ c ∷ d ∷ e ∷ f ∷ g ∷ h ∷ [])
-eight_fit a b c d e f g h ha hb hc hd he hf hg hh =
-    more_fit a (b ∷ c ∷ d ∷ e ∷ f ∷ g ∷ h ∷ []) ha (more_fit b (c ∷ d ∷ e ∷ f ∷ g ∷ h ∷ []) hb (more_fit c (d ∷ e ∷ f ∷ g ∷ h ∷ []) hc (more_fit d (e ∷ f ∷ g ∷ h ∷ []) hd (more_fit e (f ∷ g ∷ h ∷ []) he (more_fit f (g ∷ h ∷ []) hf (more_fit g (h ∷ []) hg (more_fit h [] hh (λ k. omega arith))))))))
-
--- and four octets
-four_fit : (a b c d : ℕ) → a < 256 → b < 256 → c < 256 → d < 256 → (k : ℕ) → get_or (a ∷ b ∷ c ∷ d ∷ []) k 0 < 256
-four_fit a b c d ha hb hc hd zero = ha
-four_fit a b c d ha hb hc hd (suc zero) = hb
-four_fit a b c d ha hb hc hd (suc (suc zero)) = hc
-four_fit a b c d ha hb hc hd (suc (suc (suc zero))) = hd
-four_fit a b c d ha hb hc hd (suc (suc (suc (suc k)))) = omega arith
 
 -- ---- addresses
 
 -- a dotted text spells the address of its octets
-pub spells_octets : (text octets : List ℕ) → IsDotted text octets → SpellsAddress (record { family = V4; bits = bits_of_octets octets }) text
-spells_octets text octets h =
+pub spells_octets : (text octets : List ℕ) → ((k : ℕ) → get_or octets k 0 < 256) → IsDotted text octets → SpellsAddress (record { family = V4; bits = bits_of_octets octets }) text
+spells_octets text octets fits h =
     let four : length octets ≡ 4 = ap length h.value in
-    let fits : ((k : ℕ) → get_or octets k 0 < 256) = λ k. rw h.value (four_fit h.a h.b h.c h.d h.fit.0 h.fit.1 h.fit.2 h.fit.3 k) in
     (four_octets octets four, subst (IsDotted text) (sym (octets_back octets four fits)) h)
 
+-- numbers of two octets fit
+segments_fit : (groups : List ℕ) → ((k : ℕ) → get_or (octets_of groups) k 0 < 256) → AllSegments groups
+segments_fit [] h k = omega arith
+segments_fit (g ∷ groups) h zero = omega (arith, h 0)
+segments_fit (g ∷ groups) h (suc k) = segments_fit groups (λ j. h (suc (suc j))) k
+
 -- a text of groups without a dot spells the address of these
-pub spells_groups : (text groups : List ℕ) → length groups ≡ 8 → has_dot text ≡ false → IsColonHex text groups
+pub spells_groups : (text groups : List ℕ) → length groups ≡ 8 → ((k : ℕ) → get_or (octets_of groups) k 0 < 256) → HasNoDot text → IsColonHex text groups
     → SpellsAddress (record { family = V6; bits = bits_of_octets (octets_of groups) }) text
-spells_groups text groups eight none h =
-    let colons = IsColons-dotless text groups none h in
-    let same = groups_back groups eight (colons_small text groups colons) in
-    (eight_groups groups eight, subst (IsColons text) (sym same) colons)
+spells_groups text groups eight fits none h = (eight_groups groups eight, (subst (IsColonHex text) (sym (groups_back groups eight (segments_fit groups fits))) h, none))
 
 -- a text that has neither form spells no address
-no_form : (family : Family) (bits : List Bool) (text : List ℕ) → ((a : Ipv4Addr) → ¬ (IsIpv4Text text a)) → ((groups : List ℕ) → ¬ (IsColons text groups))
+no_form : (family : Family) (bits : List Bool) (text : List ℕ) → ((a : Ipv4Addr) → ¬ (IsIpv4Text text a)) → ((a : Ipv6Addr) → HasNoDot text → ¬ (IsIpv6Text text a))
     → ¬ (SpellsAddress (record { family = family; bits = bits }) text)
 no_form V4 bits text no_four no_six h = no_four (record { octets = octets_of_v4 (record { family = V4; bits = bits }) }) h.1
-no_form V6 bits text no_four no_six h = no_six (groups_of (record { family = V6; bits = bits })) h.1
+no_form V6 bits text no_four no_six h = no_six (record { segments = groups_of (record { family = V6; bits = bits }) }) h.1.1 h.1.0
 
--- a text with a dot that is no IPv4 address spells none
-pub dot_spells_none : (a : Address) (text : List ℕ) → ((b : Ipv4Addr) → ¬ (IsIpv4Text text b)) → has_dot text ≡ true → ¬ (SpellsAddress a text)
-dot_spells_none a text no_four dot = no_form a.family a.bits text no_four (λ groups h. true≢false (sym dot ∙ has_dot-colons text groups h))
-
--- and neither does one that is no address of any family
-pub none_spells_none : (a : Address) (text : List ℕ) → ((b : Ipv4Addr) → ¬ (IsIpv4Text text b)) → ((b : Ipv6Addr) → ¬ (IsIpv6Text text b)) → ¬ (SpellsAddress a text)
-none_spells_none a text no_four no_six =
-    no_form a.family a.bits text no_four (λ groups h. no_six (record { segments = groups }) (IsColonHex-colons text groups h))
+-- the same of an address as a whole
+pub none_spells_none : (a : Address) (text : List ℕ) → ((b : Ipv4Addr) → ¬ (IsIpv4Text text b)) → ((b : Ipv6Addr) → HasNoDot text → ¬ (IsIpv6Text text b)) → ¬ (SpellsAddress a text)
+none_spells_none a text no_four no_six = no_form a.family a.bits text no_four no_six
 
 -- one text spells one address
 same_spelled : (f g : Family) (a b : List Bool) (text : List ℕ) → SpellsAddress (record { family = f; bits = a }) text → SpellsAddress (record { family = g; bits = b }) text
@@ -88,35 +64,24 @@ same_spelled V4 V4 a b text h k =
 same_spelled V6 V6 a b text h k =
     let one : Ipv6Addr = record { segments = groups_of (record { family = V6; bits = a }) } in
     let two : Ipv6Addr = record { segments = groups_of (record { family = V6; bits = b }) } in
-    let same = bits_from_groups a b h.0 k.0 (ap (λ x. x.segments) (IsIpv6Text_unique text one two (IsColonHex-colons text _ h.1) (IsColonHex-colons text _ k.1))) in
+    let same = bits_from_groups a b h.0 k.0 (ap (λ x. x.segments) (IsIpv6Text_unique text one two h.1.0 k.1.0)) in
     λ i. record { family = V6; bits = same i }
-same_spelled V4 V6 a b text h k = absurd (IsDotted-not_colon_hex text _ _ h.1 (IsColonHex-colons text _ k.1))
-same_spelled V6 V4 a b text h k = absurd (IsDotted-not_colon_hex text _ _ k.1 (IsColonHex-colons text _ h.1))
+same_spelled V4 V6 a b text h k = absurd (IsDotted-not_colon_hex text _ _ h.1 k.1.0)
+same_spelled V6 V4 a b text h k = absurd (IsDotted-not_colon_hex text _ _ k.1 h.1.0)
 
 -- the same of addresses as wholes
 pub one_address : (a b : Address) (text : List ℕ) → SpellsAddress a text → SpellsAddress b text → a ≡ b
 one_address a b text h k = same_spelled a.family b.family a.bits b.bits text h k
 
--- the octets of an address fit
-octets_fit : (bits : List Bool) → length bits ≡ 32 → (k : ℕ) → get_or (octets_of_v4 (record { family = V4; bits = bits })) k 0 < 256
-octets_fit bits long =
-    let a : Address = record { family = V4; bits = bits } in
-    four_fit (octet_at a 0) (octet_at a 1) (octet_at a 2) (octet_at a 3)
-    (octet_fits a 0 (omega arith)) (octet_fits a 1 (omega arith)) (octet_fits a 2 (omega arith)) (octet_fits a 3 (omega arith))
+-- numbers that are answered fit where each answer does
+each_fits : (f : ℕ → ℕ) (most : ℕ) → 0 < most → ((i : ℕ) → f i < most) → (places : List ℕ) (k : ℕ) → get_or (map f places) k 0 < most
+each_fits f most some h [] k = some
+each_fits f most some h (i ∷ places) zero = h i
+each_fits f most some h (i ∷ places) (suc k) = each_fits f most some h places k
 
--- and so do its groups
-groups_fit : (bits : List Bool) → length bits ≡ 128 → AllSegments (groups_of (record { family = V6; bits = bits }))
-groups_fit bits long =
-    let a : Address = record { family = V6; bits = bits } in
-    eight_fit (group_at a 0) (group_at a 1) (group_at a 2) (group_at a 3) (group_at a 4) (group_at a 5) (group_at a 6) (group_at a 7)
-    (group_fits a 0 (omega arith))
-    (group_fits a 1 (omega arith))
-    (group_fits a 2 (omega arith))
-    (group_fits a 3 (omega arith))
-    (group_fits a 4 (omega arith))
-    (group_fits a 5 (omega arith))
-    (group_fits a 6 (omega arith))
-    (group_fits a 7 (omega arith))
+-- digits and colons are no dots
+no_dot : (text : List ℕ) → All IsHexOrColon text → HasNoDot text
+no_dot text h = list_any_none (λ octet. octet == 46) text (λ k d within. ne_eqb _ 46 (λ dot. omega (arith, h k d within)))
 
 -- the text of an address is a spelling of it
 text_spelled : (family : Family) (bits : List Bool) → length bits ≡ bit_count family → SpellsAddress (record { family = family; bits = bits }) (address_text (record { family = family; bits = bits }))
@@ -124,11 +89,13 @@ unfolding address_text v4_text v6_text
 text_spelled V4 bits long =
     let a : Address = record { family = V4; bits = bits } in
     let same : ipv4_text (octets_of_v4 a) ≡ v4_text a = simp append_assoc in
-    (long, subst (λ t. IsDotted t (octets_of_v4 a)) same (IsDotted-ipv4_text (octets_of_v4 a) refl (octets_fit bits long)))
+    let fits = each_fits (octet_at a) 256 (omega arith) (octet_fits a) (0 ∷ 1 ∷ 2 ∷ 3 ∷ []) in
+    (long, subst (λ t. IsDotted t (octets_of_v4 a)) same (IsDotted-ipv4_text (octets_of_v4 a) refl fits))
 text_spelled V6 bits long =
-    let groups = groups_of (record { family = V6; bits = bits }) in
-    let fits = groups_fit bits long in
-    (long, IsColons-dotless (hex_groups_text groups) groups (has_dot-hex (hex_groups_text groups) (All-hex_groups_text groups fits)) (IsColonHex-hex_groups_text groups refl fits))
+    let a : Address = record { family = V6; bits = bits } in
+    let groups = groups_of a in
+    let fits = each_fits (group_at a) (2 ^ 16) (omega arith) (group_fits a) (0 ∷ 1 ∷ 2 ∷ 3 ∷ 4 ∷ 5 ∷ 6 ∷ 7 ∷ []) in
+    (long, (IsColonHex-hex_groups_text groups refl fits, no_dot (hex_groups_text groups) (All-hex_groups_text groups fits)))
 
 -- the same of an address as a whole
 pub address_text_spells : (a : Address) → IsAddress a → SpellsAddress a (address_text a)

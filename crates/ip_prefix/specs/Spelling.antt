@@ -1,10 +1,10 @@
 -- The texts that a person may write for addresses and prefixes.
-use Rattle.std.specs.Prelude.{◌≡◌, ℕ, ◌+◌, ◌-◌, ◌<◌, ◌⊎◌, false, List, [], ◌∷◌, ◌++◌, length, replicate, decimal}
-use Rattle.std.specs.Net.Grammar.{IsDotted, IsGroups}
+use Rattle.std.specs.Prelude.{◌≡◌, ℕ, ◌==◌, false, List, [], ◌∷◌, ◌++◌, length, decimal}
+use Rattle.std.specs.List.{list_any}
+use Rattle.std.specs.Net.Grammar.{IsDotted, IsColonHex}
 use Rattle.ip_prefix.specs.declared.addr.Family.{Family}
 use Rattle.ip_prefix.specs.declared.addr.Family.TheVariants.{V4, V6}
-use Rattle.ip_prefix.specs.declared.addr.TheConstants.{GROUP_COUNT}
-use Rattle.ip_prefix.specs.declared.text.TheConstants.{COLON, SLASH}
+use Rattle.ip_prefix.specs.declared.text.TheConstants.{DOT, SLASH}
 use Rattle.ip_prefix.specs.Address.{Address, IsAddress, octet_at, groups_of}
 use Rattle.ip_prefix.specs.Network.{Network, IsNetwork, IsFront}
 
@@ -12,25 +12,14 @@ use Rattle.ip_prefix.specs.Network.{Network, IsNetwork, IsFront}
 abbrev pub octets_of_v4 : Address → List ℕ
 octets_of_v4 a = octet_at a 0 ∷ octet_at a 1 ∷ octet_at a 2 ∷ octet_at a 3 ∷ []
 
--- groups of one to four hexadecimal digits of either case, joined by colons, on each side of `::`, which stands for at least one group of 0
-pub record IsShortened (text groups : List ℕ) : Type 0 where
-  pub front_text : List ℕ
-  pub back_text : List ℕ
-  pub front : List ℕ
-  pub back : List ℕ
-  pub spelled : text ≡ front_text ++ COLON ∷ COLON ∷ back_text
-  pub front_groups : IsGroups false front_text front
-  pub back_groups : IsGroups false back_text back
-  pub some : length front + length back < GROUP_COUNT
-  pub whole : groups ≡ front ++ replicate (GROUP_COUNT - length front - length back) 0 ++ back
+-- no dot stands in the text
+abbrev pub HasNoDot : List ℕ → Type 0
+HasNoDot text = list_any (λ octet. octet == DOT) text ≡ false
 
--- all groups, or some of them and `::`; never a dotted end
-abbrev pub IsColons : List ℕ → List ℕ → Type 0
-IsColons text groups = (IsGroups false text groups × (length groups ≡ GROUP_COUNT)) ⊎ IsShortened text groups
-
+-- groups of one to four hexadecimal digits of either case, joined by colons: eight, or fewer and `::` for those that are 0; never a dotted end
 abbrev SpellsBy : Family → Address → List ℕ → Type 0
 SpellsBy V4 address text = IsDotted text (octets_of_v4 address)
-SpellsBy V6 address text = IsColons text (groups_of address)
+SpellsBy V6 address text = IsColonHex text (groups_of address) × HasNoDot text
 
 -- the text is a spelling of the address: of IPv4, four decimals without leading zeros, joined by dots
 abbrev pub SpellsAddress : Address → List ℕ → Type 0

@@ -2,7 +2,7 @@ use Rattle.std.proofs.Common.{◌≡◌, get_or, ap, ◌∙◌, arith}
 use Rattle.std.specs.Net.Text.{longest_zero_run}
 use Rattle.ip_prefix.specs.ZeroRun.{run_row}
 use Rattle.ip_prefix.proofs.RunRows.{masked_run}
-use Rattle.ip_prefix.proofs.ZeroRuns.{run_within}
+use Rattle.std.proofs.NetLemmas.Texts.{IsZeroRun-longest_zero_run}
 use Rattle.ip_prefix.proofs.text.longest_zero_run.Goals as goal
 
 abbrev is_run : (c : goal.After-from-2) → (c.from.result, c.from-2.result) ≡ longest_zero_run c.args.groups.now
@@ -17,4 +17,4 @@ returns-clause-value c = is_run c
 
 pub returns-clause-within : goal.returns-clause-within
 returns-clause-within c =
-    omega (arith, ap (λ r. r.0) (is_run c), ap (λ r. r.1) (is_run c), run_within c.args.groups.now)
+    omega (arith, ap (λ r. r.0) (is_run c), ap (λ r. r.1) (is_run c), (IsZeroRun-longest_zero_run c.args.groups.now).0)
