@@ -52,28 +52,19 @@ covers_other n other e = families n.family other.family n.bits other.bits e
 pub front_of : (front bits : List Bool) → begin_with front bits ≡ true → IsFront front bits
 front_of [] bits e = refl
 front_of (x ∷ front) [] e = cc
-front_of (true ∷ front) (true ∷ bits) e = ap (λ l. true ∷ l) (front_of front bits e)
-front_of (true ∷ front) (false ∷ bits) e = cc
-front_of (false ∷ front) (true ∷ bits) e = cc
-front_of (false ∷ front) (false ∷ bits) e = ap (λ l. false ∷ l) (front_of front bits e)
+front_of (x ∷ front) (y ∷ bits) e = grind (arith, front_of front bits)
 
 -- and bits that have others in front begin with them
 pub begin_from : (front bits : List Bool) → IsFront front bits → begin_with front bits ≡ true
 begin_from [] bits e = refl
 begin_from (x ∷ front) [] e = cc
-begin_from (true ∷ front) (true ∷ bits) e = begin_from front bits (cc)
-begin_from (true ∷ front) (false ∷ bits) e = cc
-begin_from (false ∷ front) (true ∷ bits) e = cc
-begin_from (false ∷ front) (false ∷ bits) e = begin_from front bits (cc)
+begin_from (x ∷ front) (y ∷ bits) e = grind (arith, begin_from front bits)
 
 -- bits begin with none that are longer
 pub begin_longer : (front bits : List Bool) → length bits < length front → begin_with front bits ≡ false
 begin_longer [] bits h = absurd (omega arith)
 begin_longer (x ∷ front) [] h = refl
-begin_longer (true ∷ front) (true ∷ bits) h = begin_longer front bits (omega arith)
-begin_longer (true ∷ front) (false ∷ bits) h = refl
-begin_longer (false ∷ front) (true ∷ bits) h = refl
-begin_longer (false ∷ front) (false ∷ bits) h = begin_longer front bits (omega arith)
+begin_longer (x ∷ front) (y ∷ bits) h = grind (arith, begin_longer front bits)
 
 -- ---- numbers
 

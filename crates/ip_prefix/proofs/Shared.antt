@@ -59,16 +59,10 @@ pub length-shared : (xs ys : List Bool) (m n : ℕ) → length xs + m ≡ length
     → length (shared xs ys) ≡ min (min (length (shared (xs ++ replicate m false) (ys ++ replicate n false))) (length xs)) (length ys)
 length-shared [] ys m n e = omega arith
 length-shared (x ∷ xs) [] m n e = omega arith
-length-shared (true ∷ xs) (true ∷ ys) m n e = omega (arith, length-shared xs ys m n (omega arith))
-length-shared (true ∷ xs) (false ∷ ys) m n e = omega arith
-length-shared (false ∷ xs) (true ∷ ys) m n e = omega arith
-length-shared (false ∷ xs) (false ∷ ys) m n e = omega (arith, length-shared xs ys m n (omega arith))
+length-shared (x ∷ xs) (y ∷ ys) m n e = let more = length-shared xs ys m n (omega arith) in grind arith
 
 -- what is shared are the first bits of the one
 pub shared-front : (xs ys : List Bool) → take (length (shared xs ys)) xs ≡ shared xs ys
 shared-front [] ys = refl
 shared-front (x ∷ xs) [] = refl
-shared-front (true ∷ xs) (true ∷ ys) = ap (λ l. true ∷ l) (shared-front xs ys)
-shared-front (true ∷ xs) (false ∷ ys) = refl
-shared-front (false ∷ xs) (true ∷ ys) = refl
-shared-front (false ∷ xs) (false ∷ ys) = ap (λ l. false ∷ l) (shared-front xs ys)
+shared-front (x ∷ xs) (y ∷ ys) = grind (arith, shared-front xs ys)

@@ -27,91 +27,54 @@ covers-way m n = families m.family n.family
 outside_from : (xs ys : List Bool) → begin_with xs ys ≡ false → turn_of xs ys ≡ Outside
 outside_from [] ys e = cc
 outside_from (x ∷ xs) [] e = refl
-outside_from (true ∷ xs) (true ∷ ys) e = outside_from xs ys e
-outside_from (true ∷ xs) (false ∷ ys) e = refl
-outside_from (false ∷ xs) (true ∷ ys) e = refl
-outside_from (false ∷ xs) (false ∷ ys) e = outside_from xs ys e
+outside_from (x ∷ xs) (y ∷ ys) e = grind (arith, outside_from xs ys)
 
 -- and only they do
 outside_only : (xs ys : List Bool) → turn_of xs ys ≡ Outside → begin_with xs ys ≡ false
 outside_only [] [] e = cc
-outside_only [] (true ∷ ys) e = cc
-outside_only [] (false ∷ ys) e = cc
+outside_only [] (y ∷ ys) e = grind arith
 outside_only (x ∷ xs) [] e = refl
-outside_only (true ∷ xs) (true ∷ ys) e = outside_only xs ys e
-outside_only (true ∷ xs) (false ∷ ys) e = refl
-outside_only (false ∷ xs) (true ∷ ys) e = refl
-outside_only (false ∷ xs) (false ∷ ys) e = outside_only xs ys e
+outside_only (x ∷ xs) (y ∷ ys) e = grind (arith, outside_only xs ys)
 
 -- the turn of bits from themselves
 pub here_from : (xs : List Bool) → turn_of xs xs ≡ Here
 here_from [] = refl
-here_from (true ∷ xs) = here_from xs
-here_from (false ∷ xs) = here_from xs
+here_from (x ∷ xs) = grind (arith, here_from xs)
 
 -- and from no others
 pub here_only : (xs ys : List Bool) → turn_of xs ys ≡ Here → xs ≡ ys
 here_only [] [] e = refl
-here_only [] (true ∷ ys) e = cc
-here_only [] (false ∷ ys) e = cc
+here_only [] (y ∷ ys) e = grind arith
 here_only (x ∷ xs) [] e = cc
-here_only (true ∷ xs) (true ∷ ys) e = ap (λ l. true ∷ l) (here_only xs ys e)
-here_only (true ∷ xs) (false ∷ ys) e = cc
-here_only (false ∷ xs) (true ∷ ys) e = cc
-here_only (false ∷ xs) (false ∷ ys) e = ap (λ l. false ∷ l) (here_only xs ys e)
+here_only (x ∷ xs) (y ∷ ys) e = grind (arith, here_only xs ys)
 
 -- the turn of bits that begin with others and a bit
 side_from : (xs ys : List Bool) (bit : Bool) → begin_with (xs ++ bit ∷ []) ys ≡ true → turn_of xs ys ≡ side bit
 side_from [] [] bit e = cc
-side_from [] (true ∷ ys) true e = refl
-side_from [] (true ∷ ys) false e = cc
-side_from [] (false ∷ ys) true e = cc
-side_from [] (false ∷ ys) false e = refl
+side_from [] (y ∷ ys) bit e = grind arith
 side_from (x ∷ xs) [] bit e = cc
-side_from (true ∷ xs) (true ∷ ys) bit e = side_from xs ys bit e
-side_from (true ∷ xs) (false ∷ ys) bit e = cc
-side_from (false ∷ xs) (true ∷ ys) bit e = cc
-side_from (false ∷ xs) (false ∷ ys) bit e = side_from xs ys bit e
+side_from (x ∷ xs) (y ∷ ys) bit e = grind (arith, side_from xs ys bit)
 
 -- and of no others
 side_only : (xs ys : List Bool) (bit : Bool) → turn_of xs ys ≡ side bit → begin_with (xs ++ bit ∷ []) ys ≡ true
-side_only [] [] true e = cc
-side_only [] [] false e = cc
-side_only [] (true ∷ ys) true e = refl
-side_only [] (true ∷ ys) false e = cc
-side_only [] (false ∷ ys) true e = cc
-side_only [] (false ∷ ys) false e = refl
-side_only (x ∷ xs) [] true e = cc
-side_only (x ∷ xs) [] false e = cc
-side_only (true ∷ xs) (true ∷ ys) bit e = side_only xs ys bit e
-side_only (true ∷ xs) (false ∷ ys) true e = cc
-side_only (true ∷ xs) (false ∷ ys) false e = cc
-side_only (false ∷ xs) (true ∷ ys) true e = cc
-side_only (false ∷ xs) (true ∷ ys) false e = cc
-side_only (false ∷ xs) (false ∷ ys) bit e = side_only xs ys bit e
+side_only [] [] bit e = grind arith
+side_only [] (y ∷ ys) bit e = grind arith
+side_only (x ∷ xs) [] bit e = grind arith
+side_only (x ∷ xs) (y ∷ ys) bit e = grind (arith, side_only xs ys bit)
 
 -- bits that are covered and aren't longer are the same
 pub under_here : (xs ys : List Bool) → turn_of xs ys ≢ Outside → length ys ≤ length xs → turn_of xs ys ≡ Here
 under_here [] [] h short = refl
 under_here [] (y ∷ ys) h short = absurd (omega arith)
 under_here (x ∷ xs) [] h short = absurd (h refl)
-under_here (true ∷ xs) (true ∷ ys) h short = under_here xs ys h (omega arith)
-under_here (true ∷ xs) (false ∷ ys) h short = absurd (h refl)
-under_here (false ∷ xs) (true ∷ ys) h short = absurd (h refl)
-under_here (false ∷ xs) (false ∷ ys) h short = under_here xs ys h (omega arith)
+under_here (x ∷ xs) (y ∷ ys) h short = grind (arith, under_here xs ys)
 
 -- and longer ones go on by the bit behind
 pub under_side : (xs ys : List Bool) (bit : Bool) → turn_of xs ys ≢ Outside → slice_get ys (length xs) ≡ Some bit → turn_of xs ys ≡ side bit
 under_side [] [] bit h e = cc
-under_side [] (true ∷ ys) true h e = refl
-under_side [] (true ∷ ys) false h e = cc
-under_side [] (false ∷ ys) true h e = cc
-under_side [] (false ∷ ys) false h e = refl
+under_side [] (y ∷ ys) bit h e = grind arith
 under_side (x ∷ xs) [] bit h e = absurd (h refl)
-under_side (true ∷ xs) (true ∷ ys) bit h e = under_side xs ys bit h e
-under_side (true ∷ xs) (false ∷ ys) bit h e = absurd (h refl)
-under_side (false ∷ xs) (true ∷ ys) bit h e = absurd (h refl)
-under_side (false ∷ xs) (false ∷ ys) bit h e = under_side xs ys bit h e
+under_side (x ∷ xs) (y ∷ ys) bit h e = grind (arith, under_side xs ys bit)
 
 -- so for prefixes
 pub turn-under_here : (m n : Network) → turn_of (way m) (way n) ≢ Outside → length n.bits ≤ length m.bits → turn_of (way m) (way n) ≡ Here
@@ -160,31 +123,20 @@ turn-right m n = turn-side m n true
 shared_first : (xs ys : List Bool) → begin_with (shared xs ys) xs ≡ true
 shared_first [] ys = refl
 shared_first (x ∷ xs) [] = refl
-shared_first (true ∷ xs) (true ∷ ys) = shared_first xs ys
-shared_first (true ∷ xs) (false ∷ ys) = refl
-shared_first (false ∷ xs) (true ∷ ys) = refl
-shared_first (false ∷ xs) (false ∷ ys) = shared_first xs ys
+shared_first (x ∷ xs) (y ∷ ys) = grind (arith, shared_first xs ys)
 
 -- and so do the others
 shared_second : (xs ys : List Bool) → begin_with (shared xs ys) ys ≡ true
 shared_second [] ys = refl
 shared_second (x ∷ xs) [] = refl
-shared_second (true ∷ xs) (true ∷ ys) = shared_second xs ys
-shared_second (true ∷ xs) (false ∷ ys) = refl
-shared_second (false ∷ xs) (true ∷ ys) = refl
-shared_second (false ∷ xs) (false ∷ ys) = shared_second xs ys
+shared_second (x ∷ xs) (y ∷ ys) = grind (arith, shared_second xs ys)
 
 -- what both begin with is in front of what they share
 shared_most : (front xs ys : List Bool) → begin_with front xs ≡ true → begin_with front ys ≡ true → begin_with front (shared xs ys) ≡ true
 shared_most [] xs ys e f = refl
 shared_most (b ∷ front) [] ys e f = cc
 shared_most (b ∷ front) (x ∷ xs) [] e f = cc
-shared_most (true ∷ front) (true ∷ xs) (true ∷ ys) e f = shared_most front xs ys e f
-shared_most (true ∷ front) (true ∷ xs) (false ∷ ys) e f = cc
-shared_most (true ∷ front) (false ∷ xs) (y ∷ ys) e f = cc
-shared_most (false ∷ front) (false ∷ xs) (false ∷ ys) e f = shared_most front xs ys e f
-shared_most (false ∷ front) (false ∷ xs) (true ∷ ys) e f = cc
-shared_most (false ∷ front) (true ∷ xs) (y ∷ ys) e f = cc
+shared_most (b ∷ front) (x ∷ xs) (y ∷ ys) e f = grind (arith, shared_most front xs ys)
 
 -- the prefix of the shared bits covers both
 pub covers-common : (m n : Network) → m.family ≡ n.family → (covers (common m n) m ≡ true) × (covers (common m n) n ≡ true)

@@ -8,7 +8,7 @@ ghost use Rattle.ip_prefix.specs.Marks.{HasNoSlash, IsLastSlash};
 
 use crate::addr::Addr;
 use crate::prefix::Prefix;
-use crate::text::{DOT, LENGTH_DIGITS, SLASH};
+use crate::text::{DOT, SLASH};
 use std::net::{Ipv4Addr, Ipv6Addr};
 
 impl Addr {
@@ -61,29 +61,16 @@ fn last_slash(text: &[u8]) -> Option<usize>
     None
 }
 
-// The length of a prefix from its decimal, which has no leading zeros.
+// The length of a prefix from its decimal, which has no sign and no leading zeros.
 fn read_length(text: &[u8]) -> Option<u8>
     ensures { MatchOption result ((n : ℕ) → n < 256 → text.now ≢ decimal n)
         (λ n. text.now ≡ decimal n) }
 {
-    if text.is_empty() {
+    if text.len() > 1 && text[0] < b'1' {
         return None;
     }
-    if text.len() > LENGTH_DIGITS {
-        return None;
+    match str::from_utf8(text) {
+        Ok(decimal) => decimal.parse().ok(),
+        Err(_) => None,
     }
-    if text.len() > 1 && text[0] == b'0' {
-        return None;
-    }
-    let mut value: u16 = 0;
-    for digit in text {
-        if !digit.is_ascii_digit() {
-            return None;
-        }
-        value = value * 10 + u16::from(*digit - b'0');
-    }
-    if value > u16::from(u8::MAX) {
-        return None;
-    }
-    Some(value as u8)
 }

@@ -24,9 +24,6 @@ pub const COLON: u8 = b':';
 /// What stands before a length.
 pub(crate) const SLASH: u8 = b'/';
 
-/// How many digits a length has at most.
-pub(crate) const LENGTH_DIGITS: usize = 3;
-
 /// How many digits a group has at most.
 const GROUP_DIGITS: usize = 4;
 
