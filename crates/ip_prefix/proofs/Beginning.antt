@@ -1,5 +1,5 @@
 -- Whether bits begin with others, told by the numbers whose highest bits they are.
-use Rattle.std.proofs.Common.{◌≡◌, ℕ, ◌+◌, ◌-◌, ◌*◌, ◌^◌, ◌/◌, ◌%◌, ◌<◌, ◌≤◌, ◌==◌, Bool, true, false, List, [], ◌∷◌, length, take, refl, ap, sym, subst, ◌∙◌, arith}
+use Rattle.std.proofs.Common.{◌≡◌, ℕ, ◌+◌, ◌-◌, ◌*◌, ◌^◌, ◌/◌, ◌%◌, ◌<◌, ◌≤◌, ◌==◌, Bool, true, false, List, [], ◌∷◌, length, take, refl, ap, sym, subst, ◌∙◌, arith, ◌&&◌}
 use Rattle.std.proofs.lemmas.Bool.{eqb-true, eq-eqb}
 use denote.Enum.Bare.{sameb}
 use Rattle.ip_prefix.specs.declared.addr.Family.{Family}
@@ -8,7 +8,7 @@ use Rattle.ip_prefix.specs.contracts.addr.Family.{the_type}
 use Rattle.ip_prefix.specs.Address.{Address}
 use Rattle.ip_prefix.specs.Bits.{bits_of, number_of}
 use Rattle.ip_prefix.specs.BitLemmas.{length-bits_of, number-highest}
-use Rattle.ip_prefix.specs.Network.{Network, IsFront, begin_with, contains}
+use Rattle.ip_prefix.specs.Network.{Network, IsFront, begin_with, contains, same_family}
 use Rattle.ip_prefix.specs.Covering.{covers}
 use Rattle.octet_forms.proofs.Booleans.{same_tests}
 use Rattle.ip_prefix.proofs.Masks.{first_bits, highest_none}
@@ -17,20 +17,16 @@ use Rattle.ip_prefix.proofs.Masks.{first_bits, highest_none}
 
 -- the test of families finds only equal ones
 pub family_same : (f g : Family) → sameb the_type f g ≡ true → f ≡ g
-family_same V4 V4 e = refl
-family_same V4 V6 e = cc
-family_same V6 V4 e = cc
-family_same V6 V6 e = refl
+family_same f g e = grind arith
 
 -- of one family, only the bits count
 pub contains_same : (n : Network) (a : Address) → n.family ≡ a.family → contains n a ≡ begin_with n.bits a.bits
-contains_same n a e = families n.family a.family n.bits a.bits e
+contains_same n a e =
+    let same : same_family n.family a.family ≡ true = rw e (families a.family) in
+    ap (λ b. b && begin_with n.bits a.bits) same
   where
-    families : (f g : Family) (xs ys : List Bool) → f ≡ g → contains record { family = f; bits = xs } record { family = g; bits = ys } ≡ begin_with xs ys
-    families V4 V4 xs ys e = refl
-    families V4 V6 xs ys e = cc
-    families V6 V4 xs ys e = cc
-    families V6 V6 xs ys e = refl
+    families : (f : Family) → same_family f f ≡ true
+    families f = grind arith
 
 -- so with two prefixes
 pub covers_same : (n other : Network) → n.family ≡ other.family → covers n other ≡ begin_with n.bits other.bits
@@ -38,13 +34,10 @@ covers_same n other e = contains_same n record { family = other.family; bits = o
 
 -- a prefix covers none of another family
 pub covers_other : (n other : Network) → sameb the_type n.family other.family ≡ false → covers n other ≡ false
-covers_other n other e = families n.family other.family n.bits other.bits e
+covers_other n other e = ap (λ b. b && begin_with n.bits other.bits) (families n.family other.family e)
   where
-    families : (f g : Family) (xs ys : List Bool) → sameb the_type f g ≡ false → covers record { family = f; bits = xs } record { family = g; bits = ys } ≡ false
-    families V4 V4 xs ys e = cc
-    families V4 V6 xs ys e = refl
-    families V6 V4 xs ys e = refl
-    families V6 V6 xs ys e = cc
+    families : (f g : Family) → sameb the_type f g ≡ false → same_family f g ≡ false
+    families f g e = grind arith
 
 -- ---- lists of bits
 

@@ -30,9 +30,7 @@ pub nat_cmp-add : (m a b : ℕ) → nat_cmp a b ≡ nat_cmp (m + a) (m + b)
 nat_cmp-add m a b = nat_cmp_is (m + a) (m + b) (nat_cmp a b) (shifted (nat_cmp a b) (ranked a b (nat_cmp a b) refl))
   where
     shifted : (r : Ordering) → MatchOrdering r (a < b) (a ≡ b) (b < a) → MatchOrdering r (m + a < m + b) (m + a ≡ m + b) (m + b < m + a)
-    shifted Less h = omega arith
-    shifted Equal h = omega arith
-    shifted Greater h = omega arith
+    shifted r h = grind arith
 
 -- the highest digits decide, and else what is below them
 nat_cmp-digits : (m c d a b : ℕ) → c < 2 → d < 2 → a < m → b < m → nat_cmp (c * m + a) (d * m + b) ≡ ordering_then (bool_cmp (c == 1) (d == 1)) (nat_cmp a b)
@@ -61,16 +59,14 @@ zeros_first : (n : ℕ) (bits : List Bool) → length bits ≡ n → (bits_cmp (
 zeros_first zero [] e = inr refl
 zeros_first zero (bit ∷ bits) e = absurd (omega arith)
 zeros_first (suc n) [] e = absurd (omega arith)
-zeros_first (suc n) (true ∷ bits) e = inl refl
-zeros_first (suc n) (false ∷ bits) e = zeros_first n bits (omega arith)
+zeros_first (suc n) (bit ∷ bits) e = grind (arith, zeros_first n bits)
 
 -- and bits never before as many zeros
 zeros_last : (n : ℕ) (bits : List Bool) → length bits ≡ n → (bits_cmp bits (replicate n false) ≡ Greater) ⊎ (bits_cmp bits (replicate n false) ≡ Equal)
 zeros_last zero [] e = inr refl
 zeros_last zero (bit ∷ bits) e = absurd (omega arith)
 zeros_last (suc n) [] e = absurd (omega arith)
-zeros_last (suc n) (true ∷ bits) e = inl refl
-zeros_last (suc n) (false ∷ bits) e = zeros_last n bits (omega arith)
+zeros_last (suc n) (bit ∷ bits) e = grind (arith, zeros_last n bits)
 
 -- zeros tie
 zeros_tie : (n : ℕ) → bits_cmp (replicate n false) (replicate n false) ≡ Equal
@@ -79,9 +75,7 @@ zeros_tie (suc n) = zeros_tie n
 
 -- a third order is asked last
 then_assoc : (r s t : Ordering) → ordering_then r (ordering_then s t) ≡ ordering_then (ordering_then r s) t
-then_assoc Less s t = refl
-then_assoc Equal s t = refl
-then_assoc Greater s t = refl
+then_assoc r s t = grind arith
 
 -- bits compare as they do when they are filled with zeros, and then as their lengths do
 pub bits_cmp-filled : (xs ys : List Bool) (m n : ℕ) → length xs + m ≡ length ys + n
@@ -138,9 +132,7 @@ bits_cmp-highest j k a b j_in k_in a_in b_in a_none b_none =
 
 -- an order that answers nothing more
 then_equal : (r : Ordering) → ordering_then r Equal ≡ r
-then_equal Less = refl
-then_equal Equal = refl
-then_equal Greater = refl
+then_equal r = grind arith
 
 -- a number ties with itself
 nat_cmp-same : (n : ℕ) → nat_cmp n n ≡ Equal

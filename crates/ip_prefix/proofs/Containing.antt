@@ -1,14 +1,14 @@
 -- What prefixes contain and cover.
 use Rattle.std.proofs.Common.{◌≡◌, ℕ, zero, suc, ◌+◌, ◌-◌, ◌<◌, ◌≤◌, Bool, true, false, List, ◌++◌, length, take, replicate, refl, ap, sym, ◌∙◌, arith, ⊎_elim, length-append, take_at}
 use Rattle.std.proofs.Math.Seq.{take-append-add}
-use Rattle.std.proofs.lemmas.Bool.{cases_lt}
+use Rattle.std.proofs.lemmas.Bool.{cases_lt, and_parts}
 use Rattle.std.proofs.lemmas.List.{append_cancel_left, length-replicate, length-take, take-append-le, take-take, take_all}
 use Rattle.ip_prefix.specs.declared.addr.Family.{Family}
 use Rattle.ip_prefix.specs.declared.addr.Family.TheVariants.{V4, V6}
 use Rattle.ip_prefix.specs.Address.{Address, IsAddress, bit_count}
-use Rattle.ip_prefix.specs.Network.{Network, IsNetwork, IsFront, contains}
+use Rattle.ip_prefix.specs.Network.{Network, IsNetwork, IsFront, contains, same_family}
 use Rattle.ip_prefix.specs.Covering.{ContainsAllOf, covers}
-use Rattle.ip_prefix.proofs.Beginning.{front_of, begin_from}
+use Rattle.ip_prefix.proofs.Beginning.{front_of, begin_from, contains_same}
 
 -- ---- the first bits
 
@@ -41,23 +41,16 @@ front_nested x y bits e f within =
 
 -- an address that is contained is of the family and begins with the bits
 pub contains_parts : (n : Network) (a : Address) → contains n a ≡ true → (n.family ≡ a.family) × IsFront n.bits a.bits
-contains_parts n a e = parts n.family a.family n.bits a.bits e
+contains_parts n a e =
+    let both = and_parts _ _ e in
+    (families n.family a.family both.0, front_of n.bits a.bits both.1)
   where
-    parts : (f g : Family) (xs ys : List Bool) → contains record { family = f; bits = xs } record { family = g; bits = ys } ≡ true → (f ≡ g) × IsFront xs ys
-    parts V4 V4 xs ys e = (refl, front_of xs ys e)
-    parts V4 V6 xs ys e = cc
-    parts V6 V4 xs ys e = cc
-    parts V6 V6 xs ys e = (refl, front_of xs ys e)
+    families : (f g : Family) → same_family f g ≡ true → f ≡ g
+    families f g e = grind arith
 
 -- and one that does is contained
 pub contains_from : (n : Network) (a : Address) → n.family ≡ a.family → IsFront n.bits a.bits → contains n a ≡ true
-contains_from n a e front = from n.family a.family n.bits a.bits e front
-  where
-    from : (f g : Family) (xs ys : List Bool) → f ≡ g → IsFront xs ys → contains record { family = f; bits = xs } record { family = g; bits = ys } ≡ true
-    from V4 V4 xs ys e front = begin_from xs ys front
-    from V4 V6 xs ys e front = cc
-    from V6 V4 xs ys e front = cc
-    from V6 V6 xs ys e front = begin_from xs ys front
+contains_from n a e front = contains_same n a e ∙ begin_from n.bits a.bits front
 
 -- so with a prefix that is covered
 pub covers_parts : (n other : Network) → covers n other ≡ true → (n.family ≡ other.family) × IsFront n.bits other.bits

@@ -22,8 +22,7 @@ plain_groups [] = []
 plain_groups (g ∷ groups) = plain g ∷ plain_groups groups
 
 plain_zero : (b : Bool) → (cond {A = ℕ} b 0 1 == 0) ≡ b
-plain_zero true = refl
-plain_zero false = refl
+plain_zero b = grind arith
 
 zero_run_plain : (groups : List ℕ) → zero_run (plain_groups groups) ≡ zero_run groups
 zero_run_plain [] = refl
@@ -39,12 +38,10 @@ longest_plain (g ∷ groups) =
 -- ---- the mask of groups
 
 first_plain : (b : Bool) (m : ℕ) → cond {A = ℕ} ((cond b 1 0 + 2 * m) % 2 == 0) 1 0 ≡ cond b 0 1
-first_plain true m = let odd : (1 + 2 * m) % 2 ≡ 1 = omega arith in ap (λ r. cond {A = ℕ} (r == 0) 1 0) odd
-first_plain false m = let even : (0 + 2 * m) % 2 ≡ 0 = omega arith in ap (λ r. cond {A = ℕ} (r == 0) 1 0) even
+first_plain b m = grind arith
 
 rest_mask : (b : Bool) (m : ℕ) → (cond b 1 0 + 2 * m) / 2 ≡ m
-rest_mask true m = omega arith
-rest_mask false m = omega arith
+rest_mask b m = grind arith
 
 masked_plain : (groups : List ℕ) → masked_groups (length groups) (zero_mask groups) ≡ plain_groups groups
 masked_plain [] = refl
@@ -62,8 +59,7 @@ abbrev zero_bit : List ℕ → ℕ → ℕ
 zero_bit groups k = bool_byte (get_or groups k 0 == 0)
 
 byte_bit : (b : Bool) → cond {A = ℕ} b 1 0 ≡ bool_byte b
-byte_bit true = refl
-byte_bit false = refl
+byte_bit b = grind arith
 
 mask_step : (groups : List ℕ) (k : ℕ) → k < length groups → zero_mask (drop k groups) ≡ zero_bit groups k + 2 * zero_mask (drop (suc k) groups)
 mask_step groups k h =

@@ -1,12 +1,12 @@
 -- Turns between prefixes, told by their families and bits.
-use Rattle.std.proofs.Common.{◌≡◌, ◌≢◌, ◌≤◌, ◌↔◌, Some, length, arith, Bool, true, false, List, [], ◌∷◌, ◌++◌, refl, ap, sym, ◌∙◌}
+use Rattle.std.proofs.Common.{◌≡◌, ◌≢◌, ◌≤◌, ◌↔◌, Some, length, arith, ◌&&◌, Bool, true, false, List, [], ◌∷◌, ◌++◌, refl, ap, sym, ◌∙◌}
 use Rattle.std.specs.Prelude.{slice_get}
-use Rattle.ip_prefix.specs.Network.{Network, begin_with}
+use Rattle.ip_prefix.specs.Network.{Network, begin_with, same_family, same_bit}
 use Rattle.ip_prefix.specs.Covering.{covers}
 use Rattle.ip_prefix.specs.declared.addr.Family.{Family}
 use Rattle.ip_prefix.specs.declared.addr.Family.TheVariants.{V4, V6}
 use Rattle.ip_prefix.specs.declared.turn.Turn.TheVariants.{Outside, Here, Left, Right}
-use Rattle.ip_prefix.specs.Turns.{way, turn_of, side, shared, half, common}
+use Rattle.ip_prefix.specs.Turns.{way, turn_of, side, shared, half, common, family_bit}
 use Rattle.ip_prefix.proofs.Beginning.{covers_same}
 use Rattle.ip_prefix.proofs.Containing.{covers_parts}
 
@@ -15,13 +15,10 @@ use Rattle.ip_prefix.proofs.Containing.{covers_parts}
 -- a prefix covers those whose ways begin with its way
 pub covers-way : (m n : Network) → covers m n ≡ begin_with (way m) (way n)
 unfolding way
-covers-way m n = families m.family n.family
+covers-way m n = ap (λ b. b && begin_with m.bits n.bits) (families m.family n.family)
   where
-    families : (f g : Family) → covers record { family = f; bits = m.bits } record { family = g; bits = n.bits } ≡ begin_with (way record { family = f; bits = m.bits }) (way record { family = g; bits = n.bits })
-    families V4 V4 = refl
-    families V4 V6 = refl
-    families V6 V4 = refl
-    families V6 V6 = refl
+    families : (f g : Family) → same_family f g ≡ same_bit (family_bit f) (family_bit g)
+    families f g = grind arith
 
 -- the bits that don't begin with others lie outside
 outside_from : (xs ys : List Bool) → begin_with xs ys ≡ false → turn_of xs ys ≡ Outside
@@ -89,14 +86,11 @@ turn-under_side m n bit h e = under_side (way m) (way n) bit h e
 one_way : (m n : Network) → way m ≡ way n → m ≡ n
 unfolding way
 one_way m n e =
-    let parts = families m.family n.family m.bits n.bits e in
-    λ i. record { family = parts.0 i; bits = parts.1 i }
+    let bits : m.bits ≡ n.bits = cc in
+    λ i. record { family = families m.family n.family (cc) i; bits = bits i }
   where
-    families : (f g : Family) (xs ys : List Bool) → way record { family = f; bits = xs } ≡ way record { family = g; bits = ys } → (f ≡ g) × (xs ≡ ys)
-    families V4 V4 xs ys e = (refl, cc)
-    families V4 V6 xs ys e = cc
-    families V6 V4 xs ys e = cc
-    families V6 V6 xs ys e = (refl, cc)
+    families : (f g : Family) → family_bit f ≡ family_bit g → f ≡ g
+    families f g e = grind arith
 
 -- a prefix lies outside exactly where it isn't covered
 pub turn-outside : (m n : Network) → (turn_of (way m) (way n) ≡ Outside) ↔ (covers m n ≡ false)
