@@ -21,12 +21,7 @@ family_same f g e = grind arith
 
 -- of one family, only the bits count
 pub contains_same : (n : Network) (a : Address) → n.family ≡ a.family → contains n a ≡ begin_with n.bits a.bits
-contains_same n a e =
-    let same : same_family n.family a.family ≡ true = rw e (families a.family) in
-    ap (λ b. b && begin_with n.bits a.bits) same
-  where
-    families : (f : Family) → same_family f f ≡ true
-    families f = grind arith
+contains_same n a e = grind arith
 
 -- so with two prefixes
 pub covers_same : (n other : Network) → n.family ≡ other.family → covers n other ≡ begin_with n.bits other.bits
@@ -34,10 +29,7 @@ covers_same n other e = contains_same n record { family = other.family; bits = o
 
 -- a prefix covers none of another family
 pub covers_other : (n other : Network) → sameb the_type n.family other.family ≡ false → covers n other ≡ false
-covers_other n other e = ap (λ b. b && begin_with n.bits other.bits) (families n.family other.family e)
-  where
-    families : (f g : Family) → sameb the_type f g ≡ false → same_family f g ≡ false
-    families f g e = grind arith
+covers_other n other e = grind arith
 
 -- ---- lists of bits
 

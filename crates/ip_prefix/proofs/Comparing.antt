@@ -2,9 +2,12 @@
 use Rattle.std.proofs.Common.{◌≡◌, ℕ, zero, suc, ◌+◌, ◌-◌, ◌*◌, ◌^◌, ◌/◌, ◌%◌, ◌<◌, ◌≤◌, ◌==◌, Bool, true, false, List, [], ◌∷◌, ◌++◌, ◌⊎◌, inl, inr, length, replicate, sym, refl, ap, ◌∙◌, arith}
 use Rattle.std.specs.declared.cmp.Ordering.{Ordering}
 use Rattle.std.specs.declared.cmp.Ordering.TheVariants.{Less, Equal, Greater}
-use Rattle.std.specs.Ordering.{bool_cmp, nat_cmp, ordering_then, MatchOrdering}
-use Rattle.std.specs.Cmp.{nat_cmp_is, ranked}
+use Rattle.std.specs.Ordering.{bool_cmp, nat_cmp, ordering_then, ordering_reverse}
+use Rattle.std.specs.Cmp.{nat_cmp_is, then_flip, bool_cmp_total}
+use Rattle.std.specs.Cmp.Lexicographic.{lists_total}
+use Rattle.std.proofs.lemmas.Cmp.{nat_cmp_total}
 use Rattle.std.specs.Int.{bit_at}
+use Rattle.std.proofs.lemmas.Bool.Decides.{nat_tests}
 use Rattle.std.proofs.lemmas.Nat.{mod-pow-add, pow_pos}
 use Rattle.std.proofs.lemmas.Nat.Bits.{bit_at-lt, bit_at-zero}
 use Rattle.std.proofs.lemmas.List.{length-append, length-replicate}
@@ -27,19 +30,11 @@ use Rattle.ip_prefix.proofs.Highest.{bit_count_le}
 
 -- adding one number to both changes nothing
 pub nat_cmp-add : (m a b : ℕ) → nat_cmp a b ≡ nat_cmp (m + a) (m + b)
-nat_cmp-add m a b = nat_cmp_is (m + a) (m + b) (nat_cmp a b) (shifted (nat_cmp a b) (ranked a b (nat_cmp a b) refl))
-  where
-    shifted : (r : Ordering) → MatchOrdering r (a < b) (a ≡ b) (b < a) → MatchOrdering r (m + a < m + b) (m + a ≡ m + b) (m + b < m + a)
-    shifted r h = grind arith
+nat_cmp-add m a b = grind (arith, nat_tests)
 
 -- the highest digits decide, and else what is below them
 nat_cmp-digits : (m c d a b : ℕ) → c < 2 → d < 2 → a < m → b < m → nat_cmp (c * m + a) (d * m + b) ≡ ordering_then (bool_cmp (c == 1) (d == 1)) (nat_cmp a b)
-nat_cmp-digits m zero zero a b c_in d_in a_in b_in = sym (nat_cmp-add (0 * m) a b)
-nat_cmp-digits m zero (suc zero) a b c_in d_in a_in b_in = let below : 0 * m + a < 1 * m + b = omega arith in sym (nat_cmp_is (0 * m + a) (1 * m + b) Less below)
-nat_cmp-digits m (suc zero) zero a b c_in d_in a_in b_in = let above : 0 * m + b < 1 * m + a = omega arith in sym (nat_cmp_is (1 * m + a) (0 * m + b) Greater above)
-nat_cmp-digits m (suc zero) (suc zero) a b c_in d_in a_in b_in = sym (nat_cmp-add (1 * m) a b)
-nat_cmp-digits m (suc (suc c)) d a b c_in d_in a_in b_in = absurd (omega arith)
-nat_cmp-digits m c (suc (suc d)) a b c_in d_in a_in b_in = absurd (omega arith)
+nat_cmp-digits m c d a b c_in d_in a_in b_in = grind (arith, nat_tests)
 
 -- as many bits compare as the numbers that they are
 pub bits_cmp-bits_of : (k a b : ℕ) → bits_cmp (bits_of k a) (bits_of k b) ≡ nat_cmp (a % 2 ^ k) (b % 2 ^ k)
@@ -61,13 +56,6 @@ zeros_first zero (bit ∷ bits) e = absurd (omega arith)
 zeros_first (suc n) [] e = absurd (omega arith)
 zeros_first (suc n) (bit ∷ bits) e = grind (arith, zeros_first n bits)
 
--- and bits never before as many zeros
-zeros_last : (n : ℕ) (bits : List Bool) → length bits ≡ n → (bits_cmp bits (replicate n false) ≡ Greater) ⊎ (bits_cmp bits (replicate n false) ≡ Equal)
-zeros_last zero [] e = inr refl
-zeros_last zero (bit ∷ bits) e = absurd (omega arith)
-zeros_last (suc n) [] e = absurd (omega arith)
-zeros_last (suc n) (bit ∷ bits) e = grind (arith, zeros_last n bits)
-
 -- zeros tie
 zeros_tie : (n : ℕ) → bits_cmp (replicate n false) (replicate n false) ≡ Equal
 zeros_tie zero = refl
@@ -77,22 +65,28 @@ zeros_tie (suc n) = zeros_tie n
 then_assoc : (r s t : Ordering) → ordering_then r (ordering_then s t) ≡ ordering_then (ordering_then r s) t
 then_assoc r s t = grind arith
 
+-- no bits stand before some, also filled with zeros
+nothing_filled : (y : Bool) (ys : List Bool) (m n : ℕ) → 0 + m ≡ suc (length ys) + n
+    → bits_cmp [] (y ∷ ys) ≡ ordering_then (bits_cmp (replicate m false) (y ∷ ys ++ replicate n false)) (nat_cmp 0 (suc (length ys)))
+nothing_filled y ys m n e =
+    let zeros = zeros_first m (y ∷ ys ++ replicate n false) (omega (arith, length-append (y ∷ ys) (replicate n false), length-replicate n false)) in
+    let less = nat_cmp_is 0 (suc (length ys)) Less (omega arith) in
+    grind arith
+
+-- bits that are exchanged compare the other way round
+turned : (xs ys : List Bool) → bits_cmp xs ys ≡ ordering_reverse (bits_cmp ys xs)
+turned = (lists_total bool_cmp_total).antisymm
+
 -- bits compare as they do when they are filled with zeros, and then as their lengths do
 pub bits_cmp-filled : (xs ys : List Bool) (m n : ℕ) → length xs + m ≡ length ys + n
     → bits_cmp xs ys ≡ ordering_then (bits_cmp (xs ++ replicate m false) (ys ++ replicate n false)) (nat_cmp (length xs) (length ys))
 bits_cmp-filled [] [] m n e = let same : m ≡ n = omega arith in ap (λ r. ordering_then r Equal) (sym (zeros_tie m)) ∙ ap (λ k. ordering_then (bits_cmp (replicate m false) (replicate k false)) Equal) same
-bits_cmp-filled [] (y ∷ ys) m n e =
-    let size : length ((y ∷ ys) ++ replicate n false) ≡ m = omega (arith, length-append (y ∷ ys) (replicate n false), length-replicate n false) in
-    elim (zeros_first m ((y ∷ ys) ++ replicate n false) size) [
-      | inl less ↦ ap (λ r. ordering_then r (nat_cmp 0 (suc (length ys)))) (sym less)
-      | inr same ↦ nat_cmp_is 0 (suc (length ys)) Less (omega arith) ∙ ap (λ r. ordering_then r (nat_cmp 0 (suc (length ys)))) (sym same)
-    ]
+bits_cmp-filled [] (y ∷ ys) m n e = nothing_filled y ys m n e
 bits_cmp-filled (x ∷ xs) [] m n e =
-    let size : length ((x ∷ xs) ++ replicate m false) ≡ n = omega (arith, length-append (x ∷ xs) (replicate m false), length-replicate m false) in
-    elim (zeros_last n ((x ∷ xs) ++ replicate m false) size) [
-      | inl greater ↦ ap (λ r. ordering_then r (nat_cmp (suc (length xs)) 0)) (sym greater)
-      | inr same ↦ nat_cmp_is (suc (length xs)) 0 Greater (omega arith) ∙ ap (λ r. ordering_then r (nat_cmp (suc (length xs)) 0)) (sym same)
-    ]
+    let long = (x ∷ xs) ++ replicate m false in
+    let zeros = replicate n false in
+    turned (x ∷ xs) [] ∙ ap ordering_reverse (nothing_filled x xs n m (sym e)) ∙ sym (then_flip (bits_cmp zeros long) (nat_cmp 0 (suc (length xs))))
+    ∙ sym (λ i. ordering_then (turned long zeros i) (nat_cmp_total.antisymm (suc (length xs)) 0 i))
 bits_cmp-filled (x ∷ xs) (y ∷ ys) m n e =
     ap (ordering_then (bool_cmp x y)) (bits_cmp-filled xs ys m n (omega arith) ∙ ap (ordering_then (bits_cmp (xs ++ replicate m false) (ys ++ replicate n false))) (nat_cmp-add 1 (length xs) (length ys) ∙ (λ i. nat_cmp (one_more (length xs) i) (one_more (length ys) i))))
     ∙ then_assoc (bool_cmp x y) (bits_cmp (xs ++ replicate m false) (ys ++ replicate n false)) (nat_cmp (suc (length xs)) (suc (length ys)))
@@ -134,10 +128,6 @@ bits_cmp-highest j k a b j_in k_in a_in b_in a_none b_none =
 then_equal : (r : Ordering) → ordering_then r Equal ≡ r
 then_equal r = grind arith
 
--- a number ties with itself
-nat_cmp-same : (n : ℕ) → nat_cmp n n ≡ Equal
-nat_cmp-same n = sym (nat_cmp_is n n Equal refl)
-
 -- the bits of kept addresses compare as the families and numbers do
 pub address_cmp-kept : (a b : Inside) → the_invariant a → the_invariant b → ordering_then (family_cmp a.family b.family) (nat_cmp a.number b.number) ≡ address_cmp (the_view a) (the_view b)
 address_cmp-kept a b p q = numbers a.family b.family a.number b.number p q
@@ -145,7 +135,8 @@ address_cmp-kept a b p q = numbers a.family b.family a.number b.number p q
     one_family : (w m n : ℕ) → w ≤ 128 → m < 2 ^ 128 → n < 2 ^ 128 → m % 2 ^ (128 - w) ≡ 0 → n % 2 ^ (128 - w) ≡ 0
         → nat_cmp m n ≡ bits_cmp (bits_of w (m / 2 ^ (128 - w))) (bits_of w (n / 2 ^ (128 - w)))
     one_family w m n w_in m_in n_in m_none n_none =
-        sym (bits_cmp-highest w w m n w_in w_in m_in n_in m_none n_none ∙ ap (ordering_then (nat_cmp m n)) (nat_cmp-same w) ∙ then_equal (nat_cmp m n))
+        let same = nat_cmp_is w w Equal refl in
+        sym (bits_cmp-highest w w m n w_in w_in m_in n_in m_none n_none ∙ ap (ordering_then (nat_cmp m n)) (sym same) ∙ then_equal (nat_cmp m n))
 
     numbers : (f g : Family) (m n : ℕ) → IsAligned f m → IsAligned g n
         → ordering_then (family_cmp f g) (nat_cmp m n)

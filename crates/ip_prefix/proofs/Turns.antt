@@ -8,17 +8,15 @@ use Rattle.ip_prefix.specs.declared.addr.Family.TheVariants.{V4, V6}
 use Rattle.ip_prefix.specs.declared.turn.Turn.TheVariants.{Outside, Here, Left, Right}
 use Rattle.ip_prefix.specs.Turns.{way, turn_of, side, shared, half, common, family_bit}
 use Rattle.ip_prefix.proofs.Beginning.{covers_same}
-use Rattle.ip_prefix.proofs.Containing.{covers_parts}
+use Rattle.ip_prefix.proofs.Containing.{covers_parts, covers_from}
+use Rattle.ip_prefix.proofs.Shared.{shared-front}
 
 -- ---- what is covered
 
 -- a prefix covers those whose ways begin with its way
 pub covers-way : (m n : Network) → covers m n ≡ begin_with (way m) (way n)
 unfolding way
-covers-way m n = ap (λ b. b && begin_with m.bits n.bits) (families m.family n.family)
-  where
-    families : (f g : Family) → same_family f g ≡ same_bit (family_bit f) (family_bit g)
-    families f g = grind arith
+covers-way m n = grind arith
 
 -- the bits that don't begin with others lie outside
 outside_from : (xs ys : List Bool) → begin_with xs ys ≡ false → turn_of xs ys ≡ Outside
@@ -73,15 +71,6 @@ under_side [] (y ∷ ys) bit h e = grind arith
 under_side (x ∷ xs) [] bit h e = absurd (h refl)
 under_side (x ∷ xs) (y ∷ ys) bit h e = grind (arith, under_side xs ys bit)
 
--- so for prefixes
-pub turn-under_here : (m n : Network) → turn_of (way m) (way n) ≢ Outside → length n.bits ≤ length m.bits → turn_of (way m) (way n) ≡ Here
-unfolding way
-turn-under_here m n h short = under_here (way m) (way n) h (omega arith)
-
-pub turn-under_side : (m n : Network) (bit : Bool) → turn_of (way m) (way n) ≢ Outside → slice_get n.bits (length m.bits) ≡ Some bit → turn_of (way m) (way n) ≡ side bit
-unfolding way
-turn-under_side m n bit h e = under_side (way m) (way n) bit h e
-
 -- prefixes of one way are the same
 one_way : (m n : Network) → way m ≡ way n → m ≡ n
 unfolding way
@@ -101,25 +90,13 @@ pub turn-here : (m n : Network) → (turn_of (way m) (way n) ≡ Here) ↔ (m �
 turn-here m n = (λ e. one_way m n (here_only (way m) (way n) e), λ e. ap (λ k. turn_of (way m) (way k)) (sym e) ∙ here_from (way m))
 
 -- it lies on a side exactly where the half of that side covers it
-turn-side : (m n : Network) (bit : Bool) → (turn_of (way m) (way n) ≡ side bit) ↔ (covers (half m bit) n ≡ true)
+pub turn-side : (m n : Network) (bit : Bool) → (turn_of (way m) (way n) ≡ side bit) ↔ (covers (half m bit) n ≡ true)
 unfolding way
 turn-side m n bit = (λ e. covers-way (half m bit) n ∙ side_only (way m) (way n) bit e, λ e. side_from (way m) (way n) bit (sym (covers-way (half m bit) n) ∙ e))
 
-pub turn-left : (m n : Network) → (turn_of (way m) (way n) ≡ Left) ↔ (covers (half m false) n ≡ true)
-turn-left m n = turn-side m n false
-
-pub turn-right : (m n : Network) → (turn_of (way m) (way n) ≡ Right) ↔ (covers (half m true) n ≡ true)
-turn-right m n = turn-side m n true
-
 -- ---- what covers both
 
--- bits begin with what they share with others
-shared_first : (xs ys : List Bool) → begin_with (shared xs ys) xs ≡ true
-shared_first [] ys = refl
-shared_first (x ∷ xs) [] = refl
-shared_first (x ∷ xs) (y ∷ ys) = grind (arith, shared_first xs ys)
-
--- and so do the others
+-- others begin with what bits share with them
 shared_second : (xs ys : List Bool) → begin_with (shared xs ys) ys ≡ true
 shared_second [] ys = refl
 shared_second (x ∷ xs) [] = refl
@@ -134,7 +111,7 @@ shared_most (b ∷ front) (x ∷ xs) (y ∷ ys) e f = grind (arith, shared_most 
 
 -- the prefix of the shared bits covers both
 pub covers-common : (m n : Network) → m.family ≡ n.family → (covers (common m n) m ≡ true) × (covers (common m n) n ≡ true)
-covers-common m n e = (covers_same (common m n) m refl ∙ shared_first m.bits n.bits, covers_same (common m n) n e ∙ shared_second m.bits n.bits)
+covers-common m n e = (covers_from (common m n) m refl (shared-front m.bits n.bits), covers_same (common m n) n e ∙ shared_second m.bits n.bits)
 
 -- and those that cover both cover it
 pub common_least : (m n other : Network) → covers other m ≡ true → covers other n ≡ true → covers other (common m n) ≡ true
