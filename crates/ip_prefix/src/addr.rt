@@ -1,11 +1,14 @@
 //! Addresses of both families.
 
-ghost use Rattle.std.specs.Prelude.{◌≡◌, ◌*◌, ◌+◌, ◌<◌, ◌≤◌, Some, slice_get};
+ghost use Rattle.std.specs.Prelude.{◌≡◌, ◌*◌, ◌+◌, ◌<◌, ◌≤◌, Some, slice_get, refl};
 ghost use Rattle.ip_prefix.specs.Address.{IsAddress, octet_at, group_at, octet_count, bit_count};
 ghost use Rattle.ip_prefix.specs.Aligned.{IsAligned};
 ghost use Rattle.ip_prefix.specs.Bits.{bits_of_octets};
 ghost use Rattle.ip_prefix.specs.Highest.{highest_bits};
-ghost use Rattle.ip_prefix.specs.Order.{family_cmp};
+ghost use Rattle.std.specs.Ordering.{eq_by_cmp, as_partial_cmp};
+ghost use Rattle.std.specs.Cmp.{partial_equiv_from_equiv, eq_by_cmp_equiv, partial_order_from_total};
+ghost use Rattle.ip_prefix.specs.Order.{family_cmp, address_cmp};
+ghost use Rattle.ip_prefix.specs.OrderLaws.{address_cmp_total};
 
 use crate::number::{NUMBER_BITS, Number};
 use std::cmp::Ordering;
@@ -175,11 +178,6 @@ impl Addr {
 }
 
 impl PartialEq for Addr {
-    ghost use Rattle.std.specs.Ordering.{eq_by_cmp};
-    ghost use Rattle.std.specs.Cmp.{partial_equiv_from_equiv, eq_by_cmp_equiv};
-    ghost use Rattle.ip_prefix.specs.Order.{address_cmp};
-    ghost use Rattle.ip_prefix.specs.OrderLaws.{address_cmp_total};
-
     ghost eq = { eq_by_cmp address_cmp };
 
     ghost laws = { partial_equiv_from_equiv (eq_by_cmp_equiv address_cmp_total) };
@@ -191,18 +189,10 @@ impl PartialEq for Addr {
 }
 
 impl Eq for Addr {
-    ghost use Rattle.std.specs.Cmp.{eq_by_cmp_equiv};
-    ghost use Rattle.ip_prefix.specs.OrderLaws.{address_cmp_total};
-
     ghost laws = { eq_by_cmp_equiv address_cmp_total };
 }
 
 impl PartialOrd for Addr {
-    ghost use Rattle.std.specs.Ordering.{as_partial_cmp};
-    ghost use Rattle.std.specs.Cmp.{partial_order_from_total};
-    ghost use Rattle.ip_prefix.specs.Order.{address_cmp};
-    ghost use Rattle.ip_prefix.specs.OrderLaws.{address_cmp_total};
-
     ghost partial_cmp = { as_partial_cmp address_cmp };
 
     ghost laws = { partial_order_from_total address_cmp_total };
@@ -214,10 +204,6 @@ impl PartialOrd for Addr {
 }
 
 impl Ord for Addr {
-    ghost use Rattle.std.specs.Prelude.{refl};
-    ghost use Rattle.ip_prefix.specs.Order.{address_cmp};
-    ghost use Rattle.ip_prefix.specs.OrderLaws.{address_cmp_total};
-
     ghost cmp = { address_cmp };
 
     ghost total = { address_cmp_total };

@@ -1,12 +1,16 @@
 //! Prefixes of both families.
 
-ghost use Rattle.std.specs.Prelude.{◌≡◌, ◌-◌, ◌<◌, ◌≤◌, ◌++◌, false, Some, MatchOption, IfSome, IfNone, length, replicate, take, slice_get};
+ghost use Rattle.std.specs.Prelude.{◌≡◌, ◌-◌, ◌<◌, ◌≤◌, ◌++◌, false, Some, MatchOption, IfSome, IfNone, length, replicate, take, slice_get, refl};
 ghost use Rattle.ip_prefix.specs.declared.addr.Family.{Family};
 ghost use Rattle.ip_prefix.specs.Address.{IsAddress, bit_count};
 ghost use Rattle.ip_prefix.specs.Bits.{bits_of};
 ghost use Rattle.ip_prefix.specs.Highest.{highest_bits};
 ghost use Rattle.ip_prefix.specs.Network.{IsNetwork, network_of, least_address, contains};
 ghost use Rattle.ip_prefix.specs.Covering.{covers};
+ghost use Rattle.std.specs.Ordering.{eq_by_cmp, as_partial_cmp};
+ghost use Rattle.std.specs.Cmp.{partial_equiv_from_equiv, eq_by_cmp_equiv, partial_order_from_total};
+ghost use Rattle.ip_prefix.specs.Order.{network_cmp};
+ghost use Rattle.ip_prefix.specs.OrderLaws.{network_cmp_total};
 ghost use Rattle.octet_forms.specs.Fronts.{BeginsWithNone};
 ghost use Rattle.ip_prefix.specs.Wire.{SpellsNetwork};
 
@@ -204,11 +208,6 @@ impl Prefix {
 }
 
 impl PartialEq for Prefix {
-    ghost use Rattle.std.specs.Ordering.{eq_by_cmp};
-    ghost use Rattle.std.specs.Cmp.{partial_equiv_from_equiv, eq_by_cmp_equiv};
-    ghost use Rattle.ip_prefix.specs.Order.{network_cmp};
-    ghost use Rattle.ip_prefix.specs.OrderLaws.{network_cmp_total};
-
     ghost eq = { eq_by_cmp network_cmp };
 
     ghost laws = { partial_equiv_from_equiv (eq_by_cmp_equiv network_cmp_total) };
@@ -220,18 +219,10 @@ impl PartialEq for Prefix {
 }
 
 impl Eq for Prefix {
-    ghost use Rattle.std.specs.Cmp.{eq_by_cmp_equiv};
-    ghost use Rattle.ip_prefix.specs.OrderLaws.{network_cmp_total};
-
     ghost laws = { eq_by_cmp_equiv network_cmp_total };
 }
 
 impl PartialOrd for Prefix {
-    ghost use Rattle.std.specs.Ordering.{as_partial_cmp};
-    ghost use Rattle.std.specs.Cmp.{partial_order_from_total};
-    ghost use Rattle.ip_prefix.specs.Order.{network_cmp};
-    ghost use Rattle.ip_prefix.specs.OrderLaws.{network_cmp_total};
-
     ghost partial_cmp = { as_partial_cmp network_cmp };
 
     ghost laws = { partial_order_from_total network_cmp_total };
@@ -243,10 +234,6 @@ impl PartialOrd for Prefix {
 }
 
 impl Ord for Prefix {
-    ghost use Rattle.std.specs.Prelude.{refl};
-    ghost use Rattle.ip_prefix.specs.Order.{network_cmp};
-    ghost use Rattle.ip_prefix.specs.OrderLaws.{network_cmp_total};
-
     ghost cmp = { network_cmp };
 
     ghost total = { network_cmp_total };
@@ -260,10 +247,7 @@ impl Ord for Prefix {
         if self.family != other.family {
             return compare_families(self.family, other.family);
         }
-        match self.number.compare(other.number) {
-            Ordering::Less => Ordering::Less,
-            Ordering::Equal => self.len.cmp(&other.len),
-            Ordering::Greater => Ordering::Greater,
-        }
+        let by_numbers = self.number.compare(other.number);
+        by_numbers.then(self.len.cmp(&other.len))
     }
 }

@@ -1,8 +1,5 @@
 use Rattle.ip_prefix.specs.OrderLaws.{address_cmp_total, address_cmp-IsAntisymmetric}
 use Rattle.ip_prefix.proofs.laws.address_order.Goals as goal
 
-pub returns-clause-total : goal.returns-clause-total
-returns-clause-total c = address_cmp_total
-
-pub returns-clause-ties : goal.returns-clause-ties
-returns-clause-ties c = address_cmp-IsAntisymmetric
+pub returns : goal.returns
+returns c = record { total = address_cmp_total; ties = address_cmp-IsAntisymmetric }

@@ -1,8 +1,5 @@
 use Rattle.ip_prefix.proofs.Containing.{covers_nested, one_of_length}
 use Rattle.ip_prefix.proofs.laws.nested_prefixes.Goals as goal
 
-pub returns-clause-covered : goal.returns-clause-covered
-returns-clause-covered c = covers_nested
-
-pub returns-clause-one : goal.returns-clause-one
-returns-clause-one c = one_of_length
+pub returns : goal.returns
+returns c = record { covered = covers_nested; one = one_of_length }

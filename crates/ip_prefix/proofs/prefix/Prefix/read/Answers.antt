@@ -16,9 +16,6 @@ pub returns-then-rest-size-clause-none : goal.returns-then-rest-size-clause-none
 returns-then-rest-size-clause-none c = λ n rest b.
     omega (arith, enough_octets c.args.family n rest c.args.octets.now c.in_ok-len.field-0-0.now c.in_ok-len.rest.now b c.in_ok-len.ensures.cases.0)
 
-pub number_in_front-requires : goal.number_in_front-requires
-number_in_front-requires c = (c.if-rest-size.false, omega (arith, bit_count_le c.args.family, c.width.ensures))
-
 pub invariant_of-result : goal.invariant_of-result
 invariant_of-result c =
     let len = c.in_ok-len.field-0-0.now in

@@ -5,12 +5,6 @@ use Rattle.ip_prefix.proofs.Highest.{bit_count_le}
 use Rattle.octet_text.proofs.Writing.{written_marked}
 use Rattle.ip_prefix.proofs.prefix.Prefix.write_text.Goals as goal
 
-pub write_short-requires : goal.write_short-requires
-write_short-requires c = (
-  omega (arith, c.from.ensures, c.len.ensures.value, c.len.ensures.fits, bit_count_le c.args.self.now.family),
-  omega (arith, c.requires, c.write_text-slash.ensures.short, c.write_text-slash.ensures.written.size, length-set c.write_text-slash.new.text c.write_text-slash.result 47),
-)
-
 pub returns-clause-written : goal.returns-clause-written
 unfolding network_text
 returns-clause-written c =
