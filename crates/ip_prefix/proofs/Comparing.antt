@@ -21,10 +21,9 @@ use Rattle.ip_prefix.specs.contracts.addr.Addr.{the_view, the_invariant}
 use Rattle.ip_prefix.specs.declared.prefix.Prefix.TheInside as prefix
 use Rattle.ip_prefix.specs.contracts.prefix.Prefix as prefixes
 use Rattle.ip_prefix.specs.Address.{bit_count}
-use Rattle.ip_prefix.specs.Aligned.{IsAligned}
+use Rattle.ip_prefix.specs.Masked.{IsAligned, bit_count_le}
 use Rattle.ip_prefix.specs.Order.{family_cmp, bits_cmp, address_cmp, network_cmp}
 use Rattle.ip_prefix.proofs.BitLists.{bits_of-append}
-use Rattle.ip_prefix.proofs.Highest.{bit_count_le}
 
 -- ---- numbers by their highest digit
 
@@ -141,10 +140,10 @@ address_cmp-kept a b p q = numbers a.family b.family a.number b.number p q
     numbers : (f g : Family) (m n : ℕ) → IsAligned f m → IsAligned g n
         → ordering_then (family_cmp f g) (nat_cmp m n)
         ≡ ordering_then (family_cmp f g) (bits_cmp (bits_of (bit_count f) (m / 2 ^ (128 - bit_count f))) (bits_of (bit_count g) (n / 2 ^ (128 - bit_count g))))
-    numbers V4 V4 m n p q = one_family 32 m n (omega arith) p.0 q.0 p.1 q.1
+    numbers V4 V4 m n p q = one_family 32 m n (omega arith) p.0 q.0 p.2 q.2
     numbers V4 V6 m n p q = refl
     numbers V6 V4 m n p q = refl
-    numbers V6 V6 m n p q = one_family 128 m n (omega arith) p.0 q.0 p.1 q.1
+    numbers V6 V6 m n p q = one_family 128 m n (omega arith) p.0 q.0 p.2 q.2
 
 -- the bits of kept prefixes compare as the families, numbers and lengths do
 pub network_cmp-kept : (a b : prefix.Inside) → prefixes.the_invariant a → prefixes.the_invariant b

@@ -11,15 +11,9 @@ use Rattle.ip_prefix.specs.Bits.{number_of, bits_of, bits_of_octets}
 use Rattle.ip_prefix.specs.BitLemmas.{number_of-bits_of}
 use Rattle.ip_prefix.proofs.BitLists.{drop-bits_of, take-bits_of, slice_get-bits_of, bits_of-append}
 
--- no family has more than 128 bits
-pub bit_count_le : (family : Family) → bit_count family ≤ 128
-bit_count_le V4 = omega arith
-bit_count_le V6 = omega arith
-
 -- the octets of an address are all of its bits
 pub octets_fill : (family : Family) → 8 * octet_count family ≡ bit_count family
-octets_fill V4 = refl
-octets_fill V6 = refl
+octets_fill family = grind arith
 
 -- a bit of the w highest ones is found by a shift
 pub bit_of_highest : (w i n : ℕ) → w ≤ 128 → i < w

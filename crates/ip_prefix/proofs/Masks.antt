@@ -4,13 +4,11 @@ use Rattle.std.proofs.Math.Nat.{mul-div_cancel}
 use Rattle.std.proofs.lemmas.Nat.{mod-pow-add, field_of, mod_low, pow_pos, shr_le, shr_split, shr-shr}
 use Rattle.ip_prefix.specs.declared.addr.Family.{Family}
 use Rattle.ip_prefix.specs.Address.{bit_count}
-use Rattle.ip_prefix.specs.Aligned.{IsAligned}
+use Rattle.ip_prefix.specs.Masked.{IsAligned, IsMasked, bit_count_le}
 use Rattle.ip_prefix.specs.Bits.{bits_of}
 use Rattle.ip_prefix.specs.BitLemmas.{length-bits_of}
-use Rattle.ip_prefix.specs.Masked.{IsMasked}
 use Rattle.ip_prefix.proofs.BitLists.{take-bits_of}
 use Rattle.ip_prefix.proofs.Comparing.{bits_of-filled}
-use Rattle.ip_prefix.proofs.Highest.{bit_count_le}
 
 -- ---- a number's w highest bits of 128, and the first of them
 
@@ -70,7 +68,7 @@ highest_none number size fits =
 
 -- the number of a prefix is one of an address
 pub IsAligned-masked : (family : Family) (number size : ℕ) → IsMasked family number size → IsAligned family number
-IsAligned-masked family number size h = (h.0, none_below (bit_count family) number size h.1 (bit_count_le family) h.2)
+IsAligned-masked family number size h = (h.0, omega arith, none_below (bit_count family) number size h.1 (bit_count_le family) h.2)
 
 -- a number with zeros below the prefix's bits is that of a prefix
 pub IsMasked-highest : (family : Family) (number size : ℕ) → number < 2 ^ 128 → size ≤ bit_count family

@@ -6,25 +6,21 @@ use Rattle.ip_prefix.specs.declared.addr.Family.{Family}
 use Rattle.ip_prefix.specs.declared.addr.Family.TheVariants.{V4, V6}
 use Rattle.ip_prefix.specs.Address.{Address}
 use Rattle.ip_prefix.specs.Network.{Network}
+use Rattle.ip_prefix.specs.Turns.{family_bit}
 
--- whether a family is IPv4
-abbrev is_v4 : Family → Bool
-is_v4 V4 = true
-is_v4 V6 = false
+-- the family of a bit
+abbrev family_of : Bool → Family
+family_of false = V4
+family_of true = V6
 
--- the family that the answer tells
-abbrev family_if_v4 : Bool → Family
-family_if_v4 true = V4
-family_if_v4 false = V6
-
--- that is the family
-abbrev family_again : (family : Family) → family_if_v4 (is_v4 family) ≡ family
+-- the bit tells the family
+abbrev family_again : (family : Family) → family_of (family_bit family) ≡ family
 family_again V4 = refl
 family_again V6 = refl
 
--- a family as whether it is IPv4
+-- a family as its bit
 abbrev pub coded_family : Coded Family
-coded_family = code_by Bool coded_bool is_v4 family_if_v4 family_again
+coded_family = code_by Bool coded_bool family_bit family_of family_again
 
 -- an address as its family and its bits
 abbrev pub coded_address : Coded Address

@@ -7,7 +7,6 @@ pub mod Network
 pub mod Covering
 pub mod Turns
 pub mod BitLemmas
-pub mod Aligned
 pub mod Masked
 pub mod OrderLaws
 pub mod Order

@@ -1,6 +1,7 @@
 -- Private.
 -- The orders of addresses and prefixes are total, and only equal ones tie.
-use Rattle.std.specs.Prelude.{◌≡◌, true, false, refl}
+use Rattle.std.specs.Prelude.{◌≡◌, Bool, List, refl}
+use Rattle.std.proofs.Common.{arith}
 use Rattle.std.specs.declared.cmp.Ordering.{Ordering}
 use Rattle.std.specs.declared.cmp.Ordering.TheVariants.{Less, Equal, Greater}
 use Rattle.std.specs.Ordering.{bool_cmp, ordering_then, ordering_reverse}
@@ -8,7 +9,6 @@ use Rattle.std.specs.Cmp.{IsTotalOrder, bool_cmp_total, on_total, then_total}
 use Rattle.std.specs.Cmp.Lexicographic.{lists_total}
 use Rattle.std.specs.FinMap.{IsAntisymmetric, slice_cmp-IsAntisymmetric}
 use Rattle.ip_prefix.specs.declared.addr.Family.{Family}
-use Rattle.ip_prefix.specs.declared.addr.Family.TheVariants.{V4, V6}
 use Rattle.ip_prefix.specs.Order.{family_cmp, bits_cmp, address_cmp, network_cmp}
 
 -- the order of families is total
@@ -16,23 +16,13 @@ family_cmp_total : IsTotalOrder family_cmp
 family_cmp_total = record { antisymm = antisymm; trans = trans; congr = congr }
   where
     antisymm : (x y : Family) → family_cmp x y ≡ ordering_reverse (family_cmp y x)
-    antisymm V4 V4 = refl
-    antisymm V4 V6 = refl
-    antisymm V6 V4 = refl
-    antisymm V6 V6 = refl
+    antisymm x y = grind arith
 
     trans : (x y z : Family) → family_cmp x y ≡ Less → family_cmp y z ≡ Less → family_cmp x z ≡ Less
-    trans V4 V4 z e f = cc
-    trans V4 V6 V4 e f = cc
-    trans V4 V6 V6 e f = cc
-    trans V6 V4 z e f = cc
-    trans V6 V6 z e f = cc
+    trans x y z e f = grind arith
 
     congr : (x y z : Family) → family_cmp x y ≡ Equal → family_cmp x z ≡ family_cmp y z
-    congr V4 V4 z e = refl
-    congr V4 V6 z e = cc
-    congr V6 V4 z e = cc
-    congr V6 V6 z e = refl
+    congr x y z e = grind arith
 
 -- the order of bits is total
 bits_cmp_total : IsTotalOrder bits_cmp
@@ -48,20 +38,14 @@ network_cmp_total = then_total (on_total (λ n. n.family) family_cmp_total) (on_
 
 -- families that tie are one
 family_cmp-IsAntisymmetric : IsAntisymmetric family_cmp
-family_cmp-IsAntisymmetric V4 V4 e = refl
-family_cmp-IsAntisymmetric V4 V6 e = cc
-family_cmp-IsAntisymmetric V6 V4 e = cc
-family_cmp-IsAntisymmetric V6 V6 e = refl
+family_cmp-IsAntisymmetric f g e = grind arith
 
 -- bits that tie are one
 bits_cmp-IsAntisymmetric : IsAntisymmetric bits_cmp
 bits_cmp-IsAntisymmetric = slice_cmp-IsAntisymmetric booleans
   where
     booleans : IsAntisymmetric bool_cmp
-    booleans true true e = refl
-    booleans true false e = cc
-    booleans false true e = cc
-    booleans false false e = refl
+    booleans x y e = grind arith
 
 -- both of two orders tie where the one after the other does
 pub both_tie : (r s : Ordering) → ordering_then r s ≡ Equal → (r ≡ Equal) × (s ≡ Equal)
@@ -69,14 +53,20 @@ both_tie Less s e = cc
 both_tie Equal s e = (refl, e)
 both_tie Greater s e = cc
 
+-- families and bits that tie are the same
+same_parts : (f g : Family) (xs ys : List Bool) → ordering_then (family_cmp f g) (bits_cmp xs ys) ≡ Equal → (f ≡ g) × (xs ≡ ys)
+same_parts f g xs ys e =
+    let ties = both_tie (family_cmp f g) (bits_cmp xs ys) e in
+    (family_cmp-IsAntisymmetric f g ties.0, bits_cmp-IsAntisymmetric xs ys ties.1)
+
 -- addresses that tie are one
 pub address_cmp-IsAntisymmetric : IsAntisymmetric address_cmp
 address_cmp-IsAntisymmetric a b e =
-    let ties = both_tie (family_cmp a.family b.family) (bits_cmp a.bits b.bits) e in
-    λ i. record { family = family_cmp-IsAntisymmetric a.family b.family ties.0 i; bits = bits_cmp-IsAntisymmetric a.bits b.bits ties.1 i }
+    let same = same_parts a.family b.family a.bits b.bits e in
+    λ i. record { family = same.0 i; bits = same.1 i }
 
 -- prefixes that tie are one
 pub network_cmp-IsAntisymmetric : IsAntisymmetric network_cmp
 network_cmp-IsAntisymmetric a b e =
-    let ties = both_tie (family_cmp a.family b.family) (bits_cmp a.bits b.bits) e in
-    λ i. record { family = family_cmp-IsAntisymmetric a.family b.family ties.0 i; bits = bits_cmp-IsAntisymmetric a.bits b.bits ties.1 i }
+    let same = same_parts a.family b.family a.bits b.bits e in
+    λ i. record { family = same.0 i; bits = same.1 i }

@@ -2,7 +2,7 @@
 
 ghost use Rattle.std.specs.Prelude.{◌≡◌, ◌*◌, ◌+◌, ◌<◌, ◌≤◌, Some, slice_get, refl};
 ghost use Rattle.ip_prefix.specs.Address.{IsAddress, octet_at, group_at, octet_count, bit_count};
-ghost use Rattle.ip_prefix.specs.Aligned.{IsAligned};
+ghost use Rattle.ip_prefix.specs.Masked.{IsAligned};
 ghost use Rattle.ip_prefix.specs.Bits.{bits_of_octets};
 ghost use Rattle.ip_prefix.specs.Highest.{highest_bits};
 ghost use Rattle.std.specs.Ordering.{eq_by_cmp, as_partial_cmp};
@@ -69,7 +69,7 @@ impl Model for Addr {
     ghost use Rattle.ip_prefix.specs.Address.{Address, bit_count};
     ghost use Rattle.ip_prefix.specs.Highest.{highest_bits};
     ghost use Rattle.ip_prefix.specs.Filled.{number_from};
-    ghost use Rattle.ip_prefix.specs.Aligned.{IsAligned, number-again};
+    ghost use Rattle.ip_prefix.specs.Masked.{IsAligned, number-again};
 
     ghost Value = { Address };
 
@@ -86,7 +86,7 @@ impl Model for Addr {
     } };
 
     ghost inverse_ok = { λ a h i. record {
-      number = number-again a.family a.number h i;
+      number = number-again a.family a.number (bit_count a.family) h i;
       family = a.family;
     } };
 }

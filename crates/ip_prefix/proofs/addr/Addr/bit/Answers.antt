@@ -1,5 +1,6 @@
 -- The bit is one of the highest of the number.
-use Rattle.ip_prefix.proofs.Highest.{bit_count_le, bit_of_highest}
+use Rattle.ip_prefix.specs.Masked.{bit_count_le}
+use Rattle.ip_prefix.proofs.Highest.{bit_of_highest}
 use Rattle.ip_prefix.proofs.addr.Addr.bit.Goals as goal
 
 pub returns : goal.returns

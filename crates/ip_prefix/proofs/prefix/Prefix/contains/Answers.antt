@@ -3,8 +3,8 @@ use Rattle.std.proofs.Common.{◌≡◌, ◌≤◌, ◌==◌, ◌∙◌, ap, sym
 use Rattle.ip_prefix.specs.Address.{bit_count}
 use Rattle.ip_prefix.specs.Network.{begin_with, contains}
 use Rattle.ip_prefix.specs.contracts.prefix.Prefix.{the_view}
+use Rattle.ip_prefix.specs.Masked.{bit_count_le}
 use Rattle.ip_prefix.proofs.Beginning.{family_same, contains_same, begin_with-highest}
-use Rattle.ip_prefix.proofs.Highest.{bit_count_le}
 use Rattle.ip_prefix.proofs.prefix.Prefix.contains.Goals as goal
 
 pub returns-then-eq : goal.returns-then-eq

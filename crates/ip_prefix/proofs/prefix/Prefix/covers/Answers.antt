@@ -2,11 +2,10 @@
 use Rattle.std.proofs.Common.{◌≡◌, ◌≤◌, ◌<◌, ◌==◌, ◌∙◌, length, ap, sym, arith}
 use Rattle.std.proofs.lemmas.Bool.{leb-true, leb-false}
 use Rattle.ip_prefix.specs.Filled.{highest_part}
-use Rattle.ip_prefix.specs.Masked.{length-masked}
+use Rattle.ip_prefix.specs.Masked.{length-masked, bit_count_le}
 use Rattle.ip_prefix.specs.Covering.{covers}
 use Rattle.ip_prefix.specs.contracts.prefix.Prefix.{the_view}
 use Rattle.ip_prefix.proofs.Beginning.{family_same, covers_same, covers_other, begin_longer, begin_with-highest}
-use Rattle.ip_prefix.proofs.Highest.{bit_count_le}
 use Rattle.ip_prefix.proofs.prefix.Prefix.covers.Goals.{then-eq, else-eq}
 use Rattle.ip_prefix.proofs.prefix.Prefix.covers.Goals as goal
 

@@ -4,9 +4,8 @@ use Rattle.ip_prefix.specs.Filled.{highest_part}
 use Rattle.ip_prefix.specs.declared.prefix.Prefix.TheInside.{Inside}
 use Rattle.ip_prefix.specs.contracts.prefix.Prefix.{the_view}
 use Rattle.ip_prefix.specs.Bits.{bits_of}
-use Rattle.ip_prefix.specs.Masked.{IsMasked, length-masked}
+use Rattle.ip_prefix.specs.Masked.{IsMasked, length-masked, bit_count_le}
 use Rattle.ip_prefix.specs.Network.{Network}
-use Rattle.ip_prefix.proofs.Highest.{bit_count_le}
 use Rattle.ip_prefix.proofs.Masks.{IsMasked-highest, first_bits}
 use Rattle.ip_prefix.proofs.prefix.Prefix.front.Goals as goal
 

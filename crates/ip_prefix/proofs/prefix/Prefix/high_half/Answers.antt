@@ -2,11 +2,10 @@
 use Rattle.std.proofs.Common.{◌≡◌, ◌+◌, ◌-◌, ◌≤◌, ◌++◌, false, length, replicate, take, ap, sym, ◌∙◌, arith}
 use Rattle.ip_prefix.specs.Bits.{bits_of}
 use Rattle.ip_prefix.specs.Highest.{highest_bits}
-use Rattle.ip_prefix.specs.Masked.{length-masked}
+use Rattle.ip_prefix.specs.Masked.{length-masked, bit_count_le}
 use Rattle.ip_prefix.specs.Network.{Network}
 use Rattle.ip_prefix.proofs.BitLists.{take-bits_of}
 use Rattle.ip_prefix.proofs.Comparing.{bits_of-filled}
-use Rattle.ip_prefix.proofs.Highest.{bit_count_le}
 use Rattle.ip_prefix.proofs.prefix.Prefix.high_half.Goals as goal
 
 pub returns : goal.returns

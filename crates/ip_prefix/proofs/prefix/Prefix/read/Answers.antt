@@ -3,9 +3,8 @@ use Rattle.std.proofs.Common.{◌≡◌, ℕ, List, ◌≤◌, ◌<◌, ◌+◌,
 use Rattle.std.proofs.lemmas.List.{length-take-le}
 use Rattle.ip_prefix.specs.Address.{bit_count}
 use Rattle.ip_prefix.specs.Bits.{bits_of}
-use Rattle.ip_prefix.specs.Masked.{IsMasked}
+use Rattle.ip_prefix.specs.Masked.{IsMasked, bit_count_le}
 use Rattle.ip_prefix.specs.Wire.{SpellsNetwork}
-use Rattle.ip_prefix.proofs.Highest.{bit_count_le}
 use Rattle.ip_prefix.proofs.Masks.{IsMasked-highest}
 use Rattle.octet_forms.proofs.Lists.{AllByRecursion-take}
 use Rattle.ip_prefix.proofs.Octets.{IsOctet, AllOctets-from}
