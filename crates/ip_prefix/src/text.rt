@@ -158,7 +158,14 @@ fn write_colons(address: &Addr, text: &mut [u8], at: usize) -> usize
     ensures written { IsWritten text.old at (v6_text address.now) text.new result }
     ensures short { result ≤ at + COLONS_ROOM }
 {
-    write_shortened(&groups_of(address), text, at)
+    let groups = groups_of(address);
+    let (first, len) = longest_zero_run(&groups);
+    if len < LEAST_RUN {
+        return write_groups(&groups, text, at);
+    }
+    let gap = write_groups(&groups[..first], text, at);
+    put_octets(&[COLON, COLON], text, gap);
+    write_groups(&groups[first + len..], text, gap + 2)
 }
 
 // The groups of an IPv6 address.
@@ -177,22 +184,6 @@ fn groups_of(address: &Addr) -> [u16; GROUP_COUNT]
         address.group(6),
         address.group(7),
     ]
-}
-
-// Writes the eight groups, shortened.
-#[inline]
-fn write_shortened(groups: &[u16; GROUP_COUNT], text: &mut [u8], at: usize) -> usize
-    requires { at + COLONS_ROOM ≤ length text.old }
-    ensures written { IsWritten text.old at (Hex.hex_groups_text groups.now) text.new result }
-    ensures short { result ≤ at + COLONS_ROOM }
-{
-    let (first, len) = longest_zero_run(groups);
-    if len < LEAST_RUN {
-        return write_groups(groups, text, at);
-    }
-    let gap = write_groups(&groups[..first], text, at);
-    put_octets(&[COLON, COLON], text, gap);
-    write_groups(&groups[first + len..], text, gap + 2)
 }
 
 // The start and the length of the longest run of groups that are 0, and of two such runs the
@@ -253,20 +244,10 @@ fn write_led_groups(groups: &[u16], text: &mut [u8], at: usize) -> usize
 {
     let mut place = at;
     for group in groups {
-        place = write_led_group(*group, text, place);
+        text[place] = COLON;
+        place = write_group(*group, text, place + 1);
     }
     place
-}
-
-// Writes a colon and a group.
-#[inline]
-fn write_led_group(group: u16, text: &mut [u8], at: usize) -> usize
-    requires { at + GROUP_ROOM ≤ length text.old }
-    ensures written { IsWritten text.old at (COLON ∷ Hex.hex group) text.new result }
-    ensures short { result ≤ at + GROUP_ROOM }
-{
-    text[at] = COLON;
-    write_group(group, text, at + 1)
 }
 
 // Writes a group in lower-case hexadecimal, without leading zeros.
