@@ -1,14 +1,13 @@
 -- Whether bits begin with others, told by the numbers whose highest bits they are.
-use Rattle.std.proofs.Common.{◌≡◌, ℕ, ◌+◌, ◌-◌, ◌*◌, ◌^◌, ◌/◌, ◌%◌, ◌<◌, ◌≤◌, ◌==◌, Bool, true, false, List, [], ◌∷◌, length, take, refl, ap, sym, subst, ◌∙◌, arith, ◌&&◌}
+use Rattle.std.proofs.Common.{◌≡◌, ℕ, ◌+◌, ◌-◌, ◌*◌, ◌^◌, ◌/◌, ◌%◌, ◌<◌, ◌≤◌, ◌==◌, Bool, true, false, List, [], ◌∷◌, length, take, refl, ap, sym, subst, ◌∙◌, arith}
 use Rattle.std.proofs.lemmas.Bool.{eqb-true, eq-eqb}
 use denote.Enum.Bare.{sameb}
 use Rattle.ip_prefix.specs.declared.addr.Family.{Family}
-use Rattle.ip_prefix.specs.declared.addr.Family.TheVariants.{V4, V6}
 use Rattle.ip_prefix.specs.contracts.addr.Family.{the_type}
 use Rattle.ip_prefix.specs.Address.{Address}
 use Rattle.ip_prefix.specs.Bits.{bits_of, number_of}
 use Rattle.ip_prefix.specs.BitLemmas.{length-bits_of, number-highest}
-use Rattle.ip_prefix.specs.Network.{Network, IsFront, begin_with, contains, same_family}
+use Rattle.ip_prefix.specs.Network.{Network, IsFront, begin_with, contains}
 use Rattle.ip_prefix.specs.Covering.{covers}
 use Rattle.octet_forms.proofs.Booleans.{same_tests}
 use Rattle.ip_prefix.proofs.Masks.{first_bits, highest_none}

@@ -1,5 +1,5 @@
 -- The octets and the groups of a list of bits.
-use Rattle.std.proofs.Common.{◌≡◌, ℕ, zero, suc, ◌+◌, ◌*◌, ◌^◌, ◌/◌, ◌%◌, ◌<◌, ◌≤◌, Bool, true, false, List, [], ◌∷◌, ◌++◌, length, take, drop, get_or, refl, sym, ap, ap₂, subst, ◌∙◌, arith, take-append-drop, append_assoc, length-drop, length-take-le, take_at, drop_at, lit≤}
+use Rattle.std.proofs.Common.{◌≡◌, ℕ, zero, suc, ◌+◌, ◌*◌, ◌^◌, ◌/◌, ◌%◌, ◌<◌, ◌≤◌, Bool, true, false, List, [], ◌∷◌, ◌++◌, length, take, drop, get_or, refl, sym, ap, ap₂, ◌∙◌, arith, take-append-drop, append_assoc, length-drop, length-take-le, take_at, drop_at, lit≤}
 use Rattle.std.proofs.lemmas.List.{drop-drop, drop_all, length-take}
 use Rattle.std.proofs.Math.Nat.{pow-suc, mod-eq_of_lt, pow-le-pow_right}
 use Rattle.std.specs.Net.Addr.{octets_of}

@@ -215,16 +215,8 @@ impl Ord for Addr {
     #[inline]
     fn cmp(&self, other: &Addr) -> Ordering {
         if self.family != other.family {
-            return compare_families(self.family, other.family);
+            return self.family.cmp(&other.family);
         }
         self.number.compare(other.number)
     }
-}
-
-// The order of families, by the definition's name.
-#[inline]
-pub(crate) fn compare_families(one: Family, other: Family) -> Ordering
-    ensures { result ≡ family_cmp one other }
-{
-    one.cmp(&other)
 }

@@ -20,23 +20,15 @@ pub(crate) fn highest(number: u128, len: u8) -> u128
     ensures { result ≡ highest_part len number }
 {
     if len <= HALF_BITS {
-        return u128::from(front_of_half((number >> HALF_BITS) as u64, len)) << HALF_BITS;
+        if len == 0 {
+            return 0;
+        }
+        let below = HALF_BITS - len;
+        let half = (number >> HALF_BITS) as u64;
+        return u128::from(half >> below << below) << HALF_BITS;
     }
     let below = NUMBER_BITS - len;
     number >> below << below
-}
-
-// A half with its highest bits, as many as are named, and zeros below them.
-#[inline]
-fn front_of_half(half: u64, len: u8) -> u64
-    requires { len ≤ HALF_BITS }
-    ensures { result ≡ half / 2 ^ (HALF_BITS - len) * 2 ^ (HALF_BITS - len) }
-{
-    if len == 0 {
-        return 0;
-    }
-    let below = HALF_BITS - len;
-    half >> below << below
 }
 
 // A number whose highest bits are those of the octets in front, as many as are named. Its other bits
@@ -52,19 +44,11 @@ pub(crate) fn number_in_front(octets: &[u8], size: usize) -> u128
     }
     if size <= SHORT {
         if let Some(front) = octets.first_chunk::<SHORT>() {
-            return number_of_short(*front);
+            let [one, two, three] = *front;
+            return u128::from_be_bytes([one, two, three, 0, 0, 0, 0, 0, 0, 0, 0, 0, 0, 0, 0, 0]);
         }
     }
     let mut buffer = [0; V6_OCTETS];
     buffer[..size].copy_from_slice(&octets[..size]);
     u128::from_be_bytes(buffer)
-}
-
-// The number that begins with three octets, and then has zeros.
-#[inline]
-fn number_of_short(octets: [u8; SHORT]) -> u128
-    ensures { result ≡ from_be_bytes w128 (octets ++ replicate (V6_OCTETS - SHORT) 0) }
-{
-    let [one, two, three] = octets;
-    u128::from_be_bytes([one, two, three, 0, 0, 0, 0, 0, 0, 0, 0, 0, 0, 0, 0, 0])
 }

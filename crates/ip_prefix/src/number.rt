@@ -62,14 +62,6 @@ impl Number {
         u128::from(self.high) << HALF_BITS | u128::from(self.low)
     }
 
-    /// The high half.
-    #[inline]
-    pub(crate) fn high(self) -> u64
-        ensures { result ≡ self / 2 ^ HALF_BITS }
-    {
-        self.high
-    }
-
     /// The bit at a place, counted from 0 at the highest. Mostly it lies in the high half.
     #[inline]
     pub(crate) fn bit(self, place: u8) -> bool

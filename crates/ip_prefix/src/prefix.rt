@@ -14,7 +14,7 @@ ghost use Rattle.ip_prefix.specs.OrderLaws.{network_cmp_total};
 ghost use Rattle.octet_forms.specs.Fronts.{BeginsWithNone};
 ghost use Rattle.ip_prefix.specs.Wire.{SpellsNetwork};
 
-use crate::addr::{Addr, Family, OCTET_BITS, V4_BITS, compare_families};
+use crate::addr::{Addr, Family, OCTET_BITS, V4_BITS};
 use crate::fronts::{highest, number_in_front};
 use crate::number::{HALF_BITS, NUMBER_BITS, Number};
 use std::cmp::Ordering;
@@ -126,7 +126,7 @@ impl Prefix {
         ensures { bits_of HALF_BITS result ≡ take HALF_BITS
             (self.now.bits ++ replicate (NUMBER_BITS - length self.now.bits) false) }
     {
-        self.number.high()
+        (self.number.get() >> HALF_BITS) as u64
     }
 
     /// The octets of an IPv4 prefix's least address, as a number.
@@ -245,7 +245,7 @@ impl Ord for Prefix {
     #[inline]
     fn cmp(&self, other: &Prefix) -> Ordering {
         if self.family != other.family {
-            return compare_families(self.family, other.family);
+            return self.family.cmp(&other.family);
         }
         let by_numbers = self.number.compare(other.number);
         by_numbers.then(self.len.cmp(&other.len))

@@ -3,10 +3,11 @@
 ghost use Rattle.std.specs.Prelude.{◌≡◌, ◌+◌, ◌*◌, ◌^◌, ◌<◌, ◌≤◌, [], ◌∷◌, ◌++◌, OnOk, OnErr, length, take, drop, replicate, decimal};
 ghost use Rattle.std.specs.Net.Text as Hex;
 ghost use Rattle.ip_prefix.specs.declared.addr.Family.TheVariants.{V4, V6};
+ghost use Rattle.ip_prefix.specs.declared.text.TheConstants.{ADDRESS_ROOM, PREFIX_ROOM};
 ghost use Rattle.ip_prefix.specs.Address.{groups_of};
 ghost use Rattle.ip_prefix.specs.Text.{address_text, network_text, v4_text, v6_text};
 ghost use Rattle.ip_prefix.specs.Marks.{led_groups};
-ghost use Rattle.ip_prefix.specs.ZeroRun.{zero_mask, run_row};
+ghost use Rattle.ip_prefix.specs.ZeroRun.{zero_mask};
 ghost use Rattle.octet_text.specs.Written.{IsWritten};
 
 use crate::addr::{Addr, Family, GROUP_COUNT, V4_OCTETS};
@@ -33,11 +34,8 @@ const LEAST_RUN: usize = 2;
 /// The room for a group and the colon before it.
 const GROUP_ROOM: usize = GROUP_DIGITS + 1;
 
-/// The room for eight groups with colons before them.
-const COLONS_ROOM: usize = GROUP_ROOM * GROUP_COUNT;
-
-/// The room for an address.
-pub const ADDRESS_ROOM: usize = COLONS_ROOM;
+/// The room for an address: for eight groups with colons before them.
+pub const ADDRESS_ROOM: usize = GROUP_ROOM * GROUP_COUNT;
 
 /// The room for a prefix.
 pub const PREFIX_ROOM: usize = ADDRESS_ROOM + 1 + ROW;
@@ -97,8 +95,6 @@ impl Prefix {
 }
 
 impl InPlace for Addr {
-    ghost use Rattle.ip_prefix.specs.declared.text.TheConstants.{ADDRESS_ROOM};
-
     ghost shown = { address_text };
 
     ghost ROOM = { ADDRESS_ROOM };
@@ -112,8 +108,6 @@ impl InPlace for Addr {
 }
 
 impl InPlace for Prefix {
-    ghost use Rattle.ip_prefix.specs.declared.text.TheConstants.{PREFIX_ROOM};
-
     ghost shown = { network_text };
 
     ghost ROOM = { PREFIX_ROOM };
@@ -154,9 +148,9 @@ fn write_octet(octet: u8, text: &mut [u8], at: usize) -> usize
 // Writes the groups of an IPv6 address, joined by colons and shortened.
 #[inline(never)]
 fn write_colons(address: &Addr, text: &mut [u8], at: usize) -> usize
-    requires { (address.now.family ≡ V6) × (at + COLONS_ROOM ≤ length text.old) }
+    requires { (address.now.family ≡ V6) × (at + ADDRESS_ROOM ≤ length text.old) }
     ensures written { IsWritten text.old at (v6_text address.now) text.new result }
-    ensures short { result ≤ at + COLONS_ROOM }
+    ensures short { result ≤ at + ADDRESS_ROOM }
 {
     let groups = groups_of(address);
     let (first, len) = longest_zero_run(&groups);
@@ -193,7 +187,7 @@ fn longest_zero_run(groups: &[u16; GROUP_COUNT]) -> (usize, usize)
     ensures value { result ≡ Hex.longest_zero_run groups.now }
     ensures within { result.0 + result.1 ≤ length groups.now }
 {
-    let row = zero_run_row(zero_mask(groups));
+    let row = ZERO_RUNS[zero_mask(groups)];
     (usize::from(row[0]), usize::from(row[1]))
 }
 
@@ -211,15 +205,6 @@ fn zero_mask(groups: &[u16; GROUP_COUNT]) -> usize
         + 32 * usize::from(groups[5] == 0)
         + 64 * usize::from(groups[6] == 0)
         + 128 * usize::from(groups[7] == 0)
-}
-
-// The longest run of the groups whose bits are set.
-#[inline(always)]
-fn zero_run_row(mask: usize) -> [u8; 2]
-    requires { mask < 2 ^ GROUP_COUNT }
-    ensures { result ≡ run_row mask }
-{
-    ZERO_RUNS[mask]
 }
 
 // Writes the groups, joined by colons.

@@ -1,5 +1,5 @@
 -- Sixteen octets are the number, and begin with those in front.
-use Rattle.std.proofs.Common.{rules, ◌≡◌, ℕ, List, ◌≤◌, ◌-◌, ◌*◌, ◌/◌, ◌^◌, ◌++◌, ◌∙◌, length, replicate, take, drop, ap, arith, length-drop}
+use Rattle.std.proofs.Common.{rules, refl, ◌≡◌, ℕ, List, ◌≤◌, ◌-◌, ◌*◌, ◌/◌, ◌^◌, ◌++◌, ◌∙◌, length, replicate, take, drop, ap, arith, length-drop, get_or, sym, ◌∷◌, []}
 use Rattle.std.specs.Int.{w128, from_be_bytes}
 use Rattle.std.proofs.lemmas.List.{length-append, length-take-le, take-append-le, take-take, take_at}
 use Rattle.ip_prefix.specs.Bits.{bits_of}
@@ -11,6 +11,10 @@ use Rattle.ip_prefix.proofs.fronts.number_in_front.Goals as goal
 -- a number of zeros are octets
 zeros : (n : ℕ) → AllOctets (replicate n 0)
 zeros n = AllByRecursion-replicate IsOctet n 0 (omega arith)
+
+three_items : (l : List ℕ) → length l ≡ 3 → l ≡ get_or l 0 0 ∷ get_or l 1 0 ∷ get_or l 2 0 ∷ []
+three_items (a ∷ b ∷ c ∷ []) e = refl
+three_items _ e = absurd (omega arith)
 
 pub returns-in-Some-clause-bits : goal.returns-in-Some-clause-bits
 returns-in-Some-clause-bits c =
@@ -33,7 +37,7 @@ returns-in-Some-first_chunk-clause-bits c =
     let all : List ℕ = take 3 octets ++ replicate 13 0 in
     let long : length all ≡ 16 = omega (arith, length-append (take 3 octets) (replicate 13 0), three) in
     let same = take-append-le size (take 3 octets) (replicate 13 0) (omega arith) ∙ take-take size 3 octets short in
-    ap (λ n. bits_of (8 * size) (n / 2 ^ (128 - 8 * size))) (c.number_of_short.ensures ∙ ap (λ l. from_be_bytes w128 (l ++ replicate 13 0)) front)
+    ap (λ n. bits_of (8 * size) (n / 2 ^ (128 - 8 * size))) (c.from_be_bytes-in-Some-first_chunk.ensures ∙ ap (λ l. from_be_bytes w128 (l ++ replicate 13 0)) (sym (three_items _ (search rules)) ∙ front))
     ∙ bits_in_front size octets all long (AllByRecursion-append IsOctet (take 3 octets) (replicate 13 0) (AllByRecursion-take IsOctet 3 octets each) (zeros 13)) c.requires.1 same
 
 pub returns-clause-bits : goal.returns-clause-bits

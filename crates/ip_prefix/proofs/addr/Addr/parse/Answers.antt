@@ -1,5 +1,5 @@
 -- std reads the text, which has a dot only where it is an IPv4 address.
-use Rattle.std.proofs.Common.{◌≡◌, ◌∙◌, length, rules, sym, subst, true≢false, ℕ, get_or, ◌<◌}
+use Rattle.std.proofs.Common.{◌∙◌, rules, sym, subst, true≢false, ℕ, get_or, ◌<◌}
 use Rattle.std.specs.Net.Addr.{ipv4_octets, ipv6_segments}
 use Rattle.ip_prefix.specs.declared.addr.Family.TheVariants.{V4, V6}
 use Rattle.ip_prefix.specs.Bits.{bits_of_octets}

@@ -1,5 +1,5 @@
 -- The number is the highest bits, filled with zeros, and its high half the first of these.
-use Rattle.std.proofs.Common.{◌≡◌, ◌+◌, ◌-◌, ◌≤◌, ◌++◌, false, length, replicate, take, ap, sym, ◌∙◌, arith}
+use Rattle.std.proofs.Common.{◌≡◌, ◌+◌, ◌-◌, ◌≤◌, ◌++◌, false, length, replicate, take, ap, sym, ◌∙◌, arith, ◌/◌, ◌^◌}
 use Rattle.ip_prefix.specs.Bits.{bits_of}
 use Rattle.ip_prefix.specs.Highest.{highest_bits}
 use Rattle.ip_prefix.specs.Masked.{length-masked, bit_count_le}
@@ -13,7 +13,7 @@ returns c =
     let p = c.self.inside in
     let len : p.len ≤ 128 = omega (arith, c.self.invariant.1, bit_count_le p.family) in
     let all : p.len + (128 - p.len) ≡ 128 = omega arith in
-    ap (bits_of 64) c.high.ensures
+    ap (λ n. bits_of 64 (n / 2 ^ 64)) c.get.ensures
     ∙ sym (take-bits_of 64 64 p.number)
     ∙ ap (λ w. take 64 (bits_of w p.number)) (sym all)
     ∙ ap (take 64) (sym (bits_of-filled p.len (128 - p.len) p.number c.self.invariant.2)

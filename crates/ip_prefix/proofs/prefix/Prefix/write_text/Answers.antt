@@ -1,8 +1,7 @@
-use Rattle.std.proofs.Common.{◌++◌, ◌∷◌, decimal, subst, ◌∙◌, refl, arith, length-set}
+use Rattle.std.proofs.Common.{◌++◌, ◌∷◌, decimal, subst, ◌∙◌, refl, arith}
 use Rattle.ip_prefix.specs.Text.{address_text, network_text}
 use Rattle.octet_text.specs.Written.{IsWritten}
 use Rattle.octet_text.proofs.Writing.{written_marked}
-use Rattle.ip_prefix.specs.Masked.{bit_count_le}
 use Rattle.ip_prefix.proofs.prefix.Prefix.write_text.Goals as goal
 
 pub returns-clause-written : goal.returns-clause-written
