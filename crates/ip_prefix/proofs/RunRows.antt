@@ -1,11 +1,20 @@
 -- The rule of the table of runs.
-use Rattle.std.proofs.Common.{◌≡◌, ℕ, suc, ◌+◌, ◌*◌, ◌/◌, ◌%◌, ◌^◌, ◌==◌, ◌<◌, Bool, cond, List, [], ◌∷◌, length, get_or, drop, drop-cons, length-drop, refl, ap, sym, ◌∙◌, arith}
-use Rattle.std.specs.Prelude.{nat_le}
+use Rattle.std.proofs.Common.{◌≡◌, ℕ, zero, suc, ◌+◌, ◌*◌, ◌/◌, ◌%◌, ◌^◌, ◌==◌, ◌<◌, Bool, cond, List, [], ◌∷◌, length, get_or, drop, drop-cons, length-drop, refl, ap, sym, ◌∙◌, arith}
+use Rattle.std.specs.Prelude.{nat_le, if◌then◌else◌}
 use mir.Val.{bool_byte}
 use Rattle.std.specs.Net.Text.{zero_run, longest_zero_run}
 use Rattle.ip_prefix.specs.declared.zero_runs.TheConstants.{ZERO_RUNS}
-use Rattle.ip_prefix.specs.ZeroRun.{zero_mask, masked_groups, run_row}
+use Rattle.ip_prefix.specs.ZeroRun.{zero_mask}
 use Rattle.octet_text.proofs.DigitRows.{row_at}
+
+-- so many groups, 0 where a mask's bit is set and 1 elsewhere
+abbrev masked_groups : ℕ → ℕ → List ℕ
+masked_groups zero mask = []
+masked_groups (suc count) mask = (if mask % 2 == 0 then 1 else 0) ∷ masked_groups count (mask / 2)
+
+-- the start and the size of the longest run of groups whose bits are set in a mask of eight
+abbrev pub run_row : ℕ → List ℕ
+run_row mask = (longest_zero_run (masked_groups 8 mask)).0 ∷ (longest_zero_run (masked_groups 8 mask)).1 ∷ []
 
 -- each mask of eight groups has its run
 pub ZERO_RUNS_at : (mask : ℕ) → mask < 2 ^ 8 → get_or ZERO_RUNS mask [] ≡ run_row mask

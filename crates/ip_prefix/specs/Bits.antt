@@ -1,7 +1,8 @@
 -- Numbers as lists of bits, the most significant bit first.
-use Rattle.std.specs.Prelude.{ℕ, zero, suc, ◌+◌, ◌*◌, ◌^◌, Bool, true, false, List, [], ◌∷◌, ◌++◌, length, ◌==◌}
+use Rattle.std.specs.Prelude.{ℕ, zero, suc, ◌+◌, ◌*◌, ◌/◌, ◌-◌, ◌^◌, Bool, true, false, List, [], ◌∷◌, ◌++◌, length, ◌==◌}
 use Rattle.std.specs.Int.{bit_at}
 use Rattle.ip_prefix.specs.declared.addr.TheConstants.{OCTET_BITS}
+use Rattle.ip_prefix.specs.declared.number.TheConstants.{NUMBER_BITS}
 
 -- what a bit is worth at the lowest place
 abbrev pub worth : Bool → ℕ
@@ -22,3 +23,7 @@ bits_of (suc k) n = (bit_at n k == 1) ∷ bits_of k n
 abbrev pub bits_of_octets : List ℕ → List Bool
 bits_of_octets [] = []
 bits_of_octets (octet ∷ octets) = bits_of OCTET_BITS octet ++ bits_of_octets octets
+
+-- so many of the highest bits of a number that an address or a prefix is kept as
+abbrev pub highest_bits : ℕ → ℕ → List Bool
+highest_bits size number = bits_of size (number / 2 ^ (NUMBER_BITS - size))

@@ -1,5 +1,4 @@
 pub mod Bits
-pub mod Highest
 pub mod Filled
 pub mod Halves
 pub mod Address

@@ -5,7 +5,7 @@ use Rattle.std.proofs.Common.{arith, subst}
 use Rattle.ip_prefix.specs.declared.addr.Family.{Family}
 use Rattle.ip_prefix.specs.declared.addr.Family.TheVariants.{V4, V6}
 use Rattle.ip_prefix.specs.declared.number.TheConstants.{NUMBER_BITS}
-use Rattle.ip_prefix.specs.Highest.{highest_bits}
+use Rattle.ip_prefix.specs.Bits.{highest_bits}
 use Rattle.ip_prefix.specs.Filled.{number_from}
 use Rattle.ip_prefix.specs.Address.{bit_count}
 use Rattle.ip_prefix.specs.BitLemmas.{number-highest, length-bits_of}

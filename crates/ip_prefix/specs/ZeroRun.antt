@@ -1,7 +1,6 @@
 -- Private.
 -- Runs of groups that are 0 (RFC 5952, section 4.2).
-use Rattle.std.specs.Prelude.{◌≡◌, ℕ, zero, suc, ◌+◌, ◌*◌, ◌/◌, ◌%◌, ◌==◌, ◌≤◌, if◌then◌else◌, List, [], ◌∷◌, take, drop, replicate}
-use Rattle.std.specs.Net.Text.{longest_zero_run}
+use Rattle.std.specs.Prelude.{◌≡◌, ℕ, ◌+◌, ◌*◌, ◌==◌, ◌≤◌, if◌then◌else◌, List, [], ◌∷◌, take, drop, replicate}
 
 -- so many groups from a place on are there, and are 0
 abbrev pub IsZeroRun : List ℕ → ℕ → ℕ → Type 0
@@ -17,12 +16,3 @@ pub record IsFirstLongestRun (groups : List ℕ) (run : ℕ × ℕ) : Type 0 whe
 abbrev pub zero_mask : List ℕ → ℕ
 zero_mask [] = 0
 zero_mask (g ∷ groups) = (if g == 0 then 1 else 0) + 2 * zero_mask groups
-
--- so many groups, 0 where a mask's bit is set and 1 elsewhere
-abbrev pub masked_groups : ℕ → ℕ → List ℕ
-masked_groups zero mask = []
-masked_groups (suc count) mask = (if mask % 2 == 0 then 1 else 0) ∷ masked_groups count (mask / 2)
-
--- the start and the size of the longest run of groups whose bits are set in a mask of eight
-abbrev pub run_row : ℕ → List ℕ
-run_row mask = (longest_zero_run (masked_groups 8 mask)).0 ∷ (longest_zero_run (masked_groups 8 mask)).1 ∷ []

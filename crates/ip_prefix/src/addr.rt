@@ -3,8 +3,7 @@
 ghost use Rattle.std.specs.Prelude.{◌≡◌, ◌*◌, ◌+◌, ◌<◌, ◌≤◌, Some, slice_get, refl};
 ghost use Rattle.ip_prefix.specs.Address.{IsAddress, octet_at, group_at, octet_count, bit_count};
 ghost use Rattle.ip_prefix.specs.Masked.{IsAligned};
-ghost use Rattle.ip_prefix.specs.Bits.{bits_of_octets};
-ghost use Rattle.ip_prefix.specs.Highest.{highest_bits};
+ghost use Rattle.ip_prefix.specs.Bits.{bits_of_octets, highest_bits};
 ghost use Rattle.std.specs.Ordering.{eq_by_cmp, as_partial_cmp};
 ghost use Rattle.std.specs.Cmp.{partial_equiv_from_equiv, eq_by_cmp_equiv, partial_order_from_total};
 ghost use Rattle.ip_prefix.specs.Order.{family_cmp, address_cmp};
@@ -67,7 +66,7 @@ pub struct Addr {
 
 impl Model for Addr {
     ghost use Rattle.ip_prefix.specs.Address.{Address, bit_count};
-    ghost use Rattle.ip_prefix.specs.Highest.{highest_bits};
+    ghost use Rattle.ip_prefix.specs.Bits.{highest_bits};
     ghost use Rattle.ip_prefix.specs.Filled.{number_from};
     ghost use Rattle.ip_prefix.specs.Masked.{IsAligned, number-again};
 

@@ -1,9 +1,7 @@
 //! The bits in front of numbers and octets.
 
-ghost use Rattle.std.specs.Prelude.{◌≡◌, ◌-◌, ◌*◌, ◌/◌, ◌^◌, ◌<◌, ◌≤◌, ◌++◌, length, replicate, take};
-ghost use Rattle.std.specs.Int.{w128, from_be_bytes};
-ghost use Rattle.ip_prefix.specs.Bits.{bits_of_octets};
-ghost use Rattle.ip_prefix.specs.Highest.{highest_bits};
+ghost use Rattle.std.specs.Prelude.{◌≡◌, ◌*◌, ◌^◌, ◌<◌, ◌≤◌, length, take};
+ghost use Rattle.ip_prefix.specs.Bits.{bits_of_octets, highest_bits};
 ghost use Rattle.ip_prefix.specs.Filled.{highest_part};
 
 use crate::addr::{OCTET_BITS, V6_OCTETS};

@@ -3,8 +3,7 @@
 ghost use Rattle.std.specs.Prelude.{◌≡◌, ◌-◌, ◌<◌, ◌≤◌, ◌++◌, false, Some, MatchOption, IfSome, IfNone, length, replicate, take, slice_get, refl};
 ghost use Rattle.ip_prefix.specs.declared.addr.Family.{Family};
 ghost use Rattle.ip_prefix.specs.Address.{IsAddress, bit_count};
-ghost use Rattle.ip_prefix.specs.Bits.{bits_of};
-ghost use Rattle.ip_prefix.specs.Highest.{highest_bits};
+ghost use Rattle.ip_prefix.specs.Bits.{bits_of, highest_bits};
 ghost use Rattle.ip_prefix.specs.Network.{IsNetwork, network_of, least_address, contains};
 ghost use Rattle.ip_prefix.specs.Covering.{covers};
 ghost use Rattle.std.specs.Ordering.{eq_by_cmp, as_partial_cmp};
@@ -32,7 +31,7 @@ pub struct Prefix {
 impl Model for Prefix {
     ghost use Rattle.std.specs.Prelude.{length};
     ghost use Rattle.ip_prefix.specs.Network.{Network};
-    ghost use Rattle.ip_prefix.specs.Highest.{highest_bits};
+    ghost use Rattle.ip_prefix.specs.Bits.{highest_bits};
     ghost use Rattle.ip_prefix.specs.Filled.{number_from};
     ghost use Rattle.ip_prefix.specs.Masked.{IsMasked, number-masked, length-masked};
 

@@ -59,7 +59,12 @@ impl Prefix {
             (record { family = Family.V4; bits = bits_of_octets octets }) len) self.now }
     {
         match self.family() {
-            Family::V4 => self.len() >= len && are_first_bits(octets, self.v4_number(), len),
+            Family::V4 => {
+                let below = V4_BITS - len;
+                self.len() >= len
+                    && u64::from(self.v4_number()) >> below
+                        == u64::from(u32::from_be_bytes(octets)) >> below
+            }
             Family::V6 => false,
         }
     }
@@ -89,19 +94,6 @@ impl Prefix {
         let shared = shared_bits(self.number(), other.number());
         self.front(shared.min(self.len()).min(other.len()))
     }
-}
-
-// Whether the first bits of an IPv4 address, as many as are named, are those of the number.
-#[inline]
-fn are_first_bits(octets: [u8; V4_OCTETS], number: u32, len: u8) -> bool
-    requires { len ≤ V4_BITS }
-    ensures yes { result ≡ true →
-        take len (bits_of V4_BITS number) ≡ take len (bits_of_octets octets) }
-    ensures no { result ≡ false →
-        take len (bits_of V4_BITS number) ≢ take len (bits_of_octets octets) }
-{
-    let below = V4_BITS - len;
-    u64::from(number) >> below == u64::from(u32::from_be_bytes(octets)) >> below
 }
 
 // How many bits two numbers share, counted from the highest.

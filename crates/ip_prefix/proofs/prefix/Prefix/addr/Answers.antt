@@ -1,5 +1,5 @@
 use Rattle.std.proofs.Common.{◌-◌, ◌/◌, ◌^◌, ◌∙◌, ap, sym, subst}
-use Rattle.ip_prefix.specs.Highest.{highest_bits}
+use Rattle.ip_prefix.specs.Bits.{highest_bits}
 use Rattle.ip_prefix.specs.Address.{IsAddress, bit_count}
 use Rattle.ip_prefix.specs.BitLemmas.{length-bits_of}
 use Rattle.ip_prefix.specs.Network.{least_address}
