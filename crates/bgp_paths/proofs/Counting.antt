@@ -2,23 +2,19 @@
 use Rattle.std.proofs.Common.{◌≡◌, ℕ, ◌+◌, ◌*◌, ◌/◌, ◌%◌, List, length, ap, ◌∙◌, arith}
 use Rattle.ip_prefix.specs.Sequences.{SpellsAll}
 use Rattle.bgp_paths.specs.declared.numbers.AsWidth.{AsWidth}
-use Rattle.bgp_paths.specs.declared.numbers.AsWidth.TheVariants.{Two, Four}
 use Rattle.bgp_paths.specs.Number.{octets_at, SpellsAsn}
 use Rattle.bgp_paths.proofs.OneFront.{length-numbers}
 
 -- with one less it is still whole
 pub less_one : (width : AsWidth) (size left : ℕ) → size % octets_at width ≡ 0 → left + octets_at width ≡ size → left % octets_at width ≡ 0
-less_one Two size left e h = omega (arith, e, h)
-less_one Four size left e h = omega (arith, e, h)
+less_one width size left e h = grind arith
 
 -- and has a number less
 pub number_less : (width : AsWidth) (size left : ℕ) → left + octets_at width ≡ size → size / octets_at width ≡ left / octets_at width + 1
-number_less Two size left h = omega (arith, h)
-number_less Four size left h = omega (arith, h)
+number_less width size left h = grind arith
 
 whole_count : (width : AsWidth) (count : ℕ) → (octets_at width * count) % octets_at width ≡ 0
-whole_count Two count = omega arith
-whole_count Four count = omega arith
+whole_count width count = grind arith
 
 -- octets that spell numbers hold a whole number of them
 pub whole_numbers : (width : AsWidth) (ns : List ℕ) (octets : List ℕ) → SpellsAll (SpellsAsn width) ns octets → length octets % octets_at width ≡ 0

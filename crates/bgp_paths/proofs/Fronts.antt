@@ -2,7 +2,7 @@
 use Rattle.std.proofs.Common.{◌≡◌, ℕ, zero, suc, ◌+◌, ◌-◌, ◌<◌, ◌≤◌, List, [], ◌∷◌, ◌++◌, length, take, refl, ap, sym, subst, ◌∙◌, arith}
 use Rattle.octet_forms.proofs.Lists.{append_parts}
 use Rattle.bgp_paths.specs.declared.segment.SegmentKind.{SegmentKind}
-use Rattle.bgp_paths.specs.declared.segment.SegmentKind.TheVariants.{AsSet, AsSequence, ConfedSequence, ConfedSet}
+use Rattle.bgp_paths.specs.declared.segment.SegmentKind.TheVariants.{AsSet, AsSequence}
 use Rattle.bgp_paths.specs.Merge.{Hop, single_number, hops_by, hop_weight, weight_of, IsLongest}
 use Rattle.bgp_paths.proofs.Weights.{weight_by, weight_of-cons, light}
 
@@ -108,12 +108,8 @@ numbers_cut place (n ∷ ns) others (suc left) h =
     ap (λ l. first ∷ l) (numbers_cut place ns others left (omega arith))
 
 set_cut : (place : ℕ) (ns : List ℕ) (others : List Hop) (left : ℕ) → left < 1 → front (hops_by AsSet place ns ++ others) left ≡ hops_by AsSequence place (take left ns)
-set_cut place ns others zero h = refl
-set_cut place ns others (suc left) h = absurd (omega arith)
+set_cut place ns others left h = grind arith
 
 -- of a segment that weighs more than is left, as much as is left
 pub front_cut : (kind : SegmentKind) (place : ℕ) (ns : List ℕ) (others : List Hop) (left : ℕ) → left < weight_by kind (length ns) → front (hops_by kind place ns ++ others) left ≡ hops_by AsSequence place (take left ns)
-front_cut AsSet place ns others left h = set_cut place ns others left h
-front_cut AsSequence place ns others left h = numbers_cut place ns others left h
-front_cut ConfedSequence place ns others left h = absurd (omega arith)
-front_cut ConfedSet place ns others left h = absurd (omega arith)
+front_cut kind place ns others left h = grind (arith, set_cut place ns others left, numbers_cut place ns others left)

@@ -67,8 +67,7 @@ hops_behind place next (s ∷ ss) h =
 -- ---- hops of one place, and others behind them
 
 cond-append : (b : Bool) (xs ys hops : List Hop) → cond b (xs ++ hops) (ys ++ hops) ≡ cond b xs ys ++ hops
-cond-append true xs ys hops = refl
-cond-append false xs ys hops = refl
+cond-append b xs ys hops = grind arith
 
 joined_hops-append : (hop : Hop) (hops others : List Hop) → AllBehind hop.place others → joined_hops hop (hops ++ others) ≡ joined_hops hop hops ++ others
 joined_hops-append hop [] [] b = refl
@@ -121,21 +120,14 @@ segments_of-hops_by ConfedSet place ns = refl
 
 -- but for a sequence of none the piece is the segment
 pub piece_is : (kind : SegmentKind) (ns : List ℕ) → (kind ≡ AsSequence → ns ≡ [] → ⊥) → piece kind ns ≡ record { numbers = ns; kind = kind } ∷ []
-piece_is AsSet ns some = refl
-piece_is AsSequence [] some = absurd (some refl refl)
-piece_is AsSequence (n ∷ ns) some = refl
-piece_is ConfedSequence ns some = refl
-piece_is ConfedSet ns some = refl
+piece_is kind ns some = grind arith
 
 total-sequence : (ns : List ℕ) → total (piece AsSequence ns) ≡ length ns
 total-sequence [] = refl
 total-sequence (n ∷ ns) = omega arith
 
 total-piece : (kind : SegmentKind) (ns : List ℕ) → total (piece kind ns) ≡ weight_by kind (length ns)
-total-piece AsSet ns = refl
-total-piece AsSequence ns = total-sequence ns
-total-piece ConfedSequence ns = refl
-total-piece ConfedSet ns = refl
+total-piece kind ns = grind (arith, total-sequence ns)
 
 -- ---- a front of segments
 

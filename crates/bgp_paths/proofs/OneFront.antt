@@ -1,5 +1,5 @@
 -- No octets begin with spellings of two numbers or segments, nor spell two paths.
-use Rattle.std.proofs.Common.{◌≡◌, ℕ, ◌*◌, ◌<◌, List, [], ◌∷◌, ◌++◌, length, refl, ap, sym, subst, ◌∙◌, arith}
+use Rattle.std.proofs.Common.{◌≡◌, ℕ, ◌*◌, ◌<◌, List, [], ◌∷◌, ◌++◌, length, ap, sym, subst, ◌∙◌, arith}
 use Rattle.std.specs.Int.{w16, w32, to_be_bytes, from_be_bytes}
 use Rattle.std.proofs.lemmas.Nat.{from_be_bytes-to_be_bytes_2, from_be_bytes-to_be_bytes_4}
 use Rattle.ip_prefix.specs.Sequences.{Begins, SpellsAll}
@@ -10,7 +10,6 @@ use Rattle.octet_forms.proofs.Sequences.{length_together}
 use Rattle.bgp_paths.specs.declared.numbers.AsWidth.{AsWidth}
 use Rattle.bgp_paths.specs.declared.numbers.AsWidth.TheVariants.{Two, Four}
 use Rattle.bgp_paths.specs.declared.segment.SegmentKind.{SegmentKind}
-use Rattle.bgp_paths.specs.declared.segment.SegmentKind.TheVariants.{AsSet, AsSequence, ConfedSequence, ConfedSet}
 use Rattle.bgp_paths.specs.declared.segment.Segment.{Segment}
 use Rattle.bgp_paths.specs.Number.{bits_at, octets_at, limit_at, SpellsAsn}
 use Rattle.bgp_paths.specs.declared.path.AsPath.{AsPath}
@@ -29,8 +28,7 @@ same_number Two m n p q e = sym (from_be_bytes-to_be_bytes_2 m p) ∙ ap (from_b
 same_number Four m n p q e = sym (from_be_bytes-to_be_bytes_4 m p) ∙ ap (from_be_bytes w32) e ∙ from_be_bytes-to_be_bytes_4 n q
 
 some_octets : (width : AsWidth) → 0 < octets_at width
-some_octets Two = omega arith
-some_octets Four = omega arith
+some_octets width = grind arith
 
 pub number_code : (width : AsWidth) → IsCode (SpellsAsn width)
 number_code width = record { some = some; same = same }
@@ -51,22 +49,7 @@ length-numbers width ns octets s = length_together (SpellsAsn width) (octets_at 
 -- ---- segments
 
 pub same_kind : (a b : SegmentKind) → kind_code a ≡ kind_code b → a ≡ b
-same_kind AsSet AsSet e = refl
-same_kind AsSet AsSequence e = absurd (omega (arith, e))
-same_kind AsSet ConfedSequence e = absurd (omega (arith, e))
-same_kind AsSet ConfedSet e = absurd (omega (arith, e))
-same_kind AsSequence AsSet e = absurd (omega (arith, e))
-same_kind AsSequence AsSequence e = refl
-same_kind AsSequence ConfedSequence e = absurd (omega (arith, e))
-same_kind AsSequence ConfedSet e = absurd (omega (arith, e))
-same_kind ConfedSequence AsSet e = absurd (omega (arith, e))
-same_kind ConfedSequence AsSequence e = absurd (omega (arith, e))
-same_kind ConfedSequence ConfedSequence e = refl
-same_kind ConfedSequence ConfedSet e = absurd (omega (arith, e))
-same_kind ConfedSet AsSet e = absurd (omega (arith, e))
-same_kind ConfedSet AsSequence e = absurd (omega (arith, e))
-same_kind ConfedSet ConfedSequence e = absurd (omega (arith, e))
-same_kind ConfedSet ConfedSet e = refl
+same_kind a b e = grind arith
 
 -- octets that begin with a segment are its kind, its count, its numbers' octets, and the rest
 pub segment_begun : (width : AsWidth) (s : Segment) (rest octets : List ℕ) (b : Begins (SpellsSegment width) s rest octets) → octets ≡ kind_code s.kind ∷ length s.numbers ∷ (b.spelled.body ++ rest)

@@ -7,7 +7,6 @@ use Rattle.octet_forms.proofs.Sequences.{none_at_all}
 use Rattle.bgp_paths.specs.declared.fault.WireFault.{WireFault}
 use Rattle.bgp_paths.specs.declared.fault.WireFault.TheVariants.{Malformed, Memory}
 use Rattle.bgp_paths.specs.declared.numbers.AsWidth.{AsWidth}
-use Rattle.bgp_paths.specs.declared.numbers.AsWidth.TheVariants.{Two, Four}
 use Rattle.bgp_paths.specs.declared.segment.SegmentKind.{SegmentKind}
 use Rattle.bgp_paths.specs.declared.segment.Segment.{Segment}
 use Rattle.bgp_paths.specs.Number.{octets_at, SpellsAsn}
@@ -62,8 +61,7 @@ refused_numbers width kind count body rest octets Malformed f none = λ segment 
 refused_numbers width kind count body rest octets Memory f none = tt
 
 same_count : (width : AsWidth) (m n : ℕ) → octets_at width * m ≡ octets_at width * n → m ≡ n
-same_count Two m n e = omega (arith, e)
-same_count Four m n e = omega (arith, e)
+same_count width m n e = grind arith
 
 -- a segment that is framed, with its numbers
 pub segment_framed : (width : AsWidth) (kind : SegmentKind) (count : ℕ) (body rest octets : List ℕ) (ns : List ℕ) → IsFramed width kind count body rest octets → SpellsAll (SpellsAsn width) ns body

@@ -1,5 +1,5 @@
 -- What hops and segments weigh.
-use Rattle.std.proofs.Common.{◌≡◌, ℕ, suc, ◌+◌, ◌<◌, ◌≤◌, List, [], ◌∷◌, ◌++◌, length, get_or, take, refl, ap, sym, ◌∙◌, arith, add-zero}
+use Rattle.std.proofs.Common.{◌≡◌, ℕ, suc, ◌+◌, ◌<◌, ◌≤◌, List, [], ◌∷◌, ◌++◌, length, get_or, take, refl, ap, ◌∙◌, arith, add-zero}
 use Rattle.std.proofs.lemmas.List.{take_more}
 use Rattle.std.proofs.lemmas.List.Sums.{sum_by-cons, sum_by-append}
 use Rattle.bgp_paths.specs.declared.segment.SegmentKind.{SegmentKind}
@@ -31,10 +31,7 @@ pub weight_of-append : (hops others : List Hop) → weight_of (hops ++ others) �
 weight_of-append hops others = sum_by-append hop_weight hops others
 
 light_kind : (kind : SegmentKind) → kind_weight kind ≤ 1
-light_kind AsSet = omega arith
-light_kind AsSequence = omega arith
-light_kind ConfedSequence = omega arith
-light_kind ConfedSet = omega arith
+light_kind kind = grind arith
 
 -- no hop weighs more than one
 pub light : (hop : Hop) → hop_weight hop ≤ 1
@@ -48,10 +45,7 @@ weight-numbers place (n ∷ ns) =
 
 -- the hops of a segment weigh what it weighs
 pub weight-hops_by : (kind : SegmentKind) (place : ℕ) (ns : List ℕ) → weight_of (hops_by kind place ns) ≡ weight_by kind (length ns)
-weight-hops_by AsSet place ns = refl
-weight-hops_by AsSequence place ns = weight-numbers place ns
-weight-hops_by ConfedSequence place ns = refl
-weight-hops_by ConfedSet place ns = refl
+weight-hops_by kind place ns = grind (arith, weight-numbers place ns)
 
 -- the hops of segments weigh what those weigh together
 pub weight-hops_from : (place : ℕ) (ss : List Segment) → weight_of (hops_from place ss) ≡ total ss
@@ -63,10 +57,7 @@ weight-hops_from place (s ∷ ss) =
 
 -- of a segment that weighs more than is left, so many numbers can be taken
 pub cut_fits : (kind : SegmentKind) (size left : ℕ) → left < weight_by kind size → left ≤ size
-cut_fits AsSet size left h = omega arith
-cut_fits AsSequence size left h = omega arith
-cut_fits ConfedSequence size left h = absurd (omega arith)
-cut_fits ConfedSet size left h = absurd (omega arith)
+cut_fits kind size left h = grind arith
 
 -- ---- segments
 
@@ -80,10 +71,7 @@ total_more ss i s h = ap total (take_more ss i s h) ∙ total-append (take i ss)
 
 -- the segments of a confederation weigh nothing
 total-if_plain : (kind : SegmentKind) (s : Segment) → s.kind ≡ kind → total (if_plain kind s) ≡ segment_weight s
-total-if_plain AsSet s e = add-zero (segment_weight s)
-total-if_plain AsSequence s e = add-zero (segment_weight s)
-total-if_plain ConfedSequence s e = sym (ap (λ kind. weight_by kind (length s.numbers)) e)
-total-if_plain ConfedSet s e = sym (ap (λ kind. weight_by kind (length s.numbers)) e)
+total-if_plain kind s e = grind arith
 
 -- so segments weigh as much without them
 pub total-plain : (ss : List Segment) → total (plain_segments ss) ≡ total ss

@@ -3,7 +3,6 @@ use Rattle.std.proofs.Math.Nat.{mul_comm}
 use Rattle.std.proofs.lemmas.List.{length-append}
 use Rattle.ip_prefix.specs.Sequences.{Begins}
 use Rattle.bgp_paths.specs.declared.numbers.AsWidth.{AsWidth}
-use Rattle.bgp_paths.specs.declared.numbers.AsWidth.TheVariants.{Two, Four}
 use Rattle.bgp_paths.specs.declared.segment.Segment.{Segment}
 use Rattle.bgp_paths.specs.Number.{octets_at}
 use Rattle.bgp_paths.specs.Path.{kind_code, SpellsSegment}
@@ -11,8 +10,7 @@ use Rattle.bgp_paths.proofs.OneFront.{segment_begun, length-numbers}
 use Rattle.bgp_paths.proofs.path_reader.frame_segment.Goals as goal
 
 few_octets : (width : AsWidth) (count : ℕ) → count < 256 → Fits w64 (count * octets_at width)
-few_octets Two count h = omega (arith, h)
-few_octets Four count h = omega (arith, h)
+few_octets width count h = grind arith
 
 -- a segment in front has the count that its octets say, and its numbers stand behind that
 held : (width : AsWidth) (segment : Segment) (rest octets : List ℕ) (code count : ℕ) (numbers : List ℕ) → Begins (SpellsSegment width) segment rest octets → octets ≡ code ∷ count ∷ numbers
