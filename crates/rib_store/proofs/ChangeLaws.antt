@@ -1,36 +1,34 @@
 -- One slot put into a tree, seen from the nodes above it, and nodes split and joined.
-use Rattle.std.proofs.Common.{◌≡◌, Bool, true, false, cond, Option, Some, None, IsSome, IfSome, List, refl, ap, sym, subst, ◌∙◌}
+use Rattle.std.proofs.Common.{◌≡◌, Bool, true, false, cond, Option, Some, None, IsSome, List, refl, ap, sym, subst, ◌∙◌}
 use Rattle.ip_prefix.specs.declared.turn.Turn.{Turn}
 use Rattle.ip_prefix.specs.declared.turn.Turn.TheVariants.{Outside, Here, Left, Right}
 use Rattle.ip_prefix.specs.Network.{Network}
-use Rattle.ip_prefix.specs.Turns.{way, turn_of, side}
+use Rattle.ip_prefix.specs.Turns.{way, turn_of}
 use Rattle.ip_prefix.proofs.Turns.{here_only}
 use Rattle.rib_store.specs.Shape.{Shape}
 use Rattle.rib_store.specs.Shape.{Empty, Rooted}
 use Rattle.rib_store.specs.declared.tree.Slot.{Slot}
 use Rattle.rib_store.specs.Tree.{at, chosen, root, same_way, slot_of, IsOn, IsRooted, IsPut, IsShaped, Stands}
 use Rattle.rib_store.proofs.WayLaws.{same_is}
-use Rattle.rib_store.proofs.TreeLaws.{at_left, at_right, at_rooted}
+use Rattle.rib_store.proofs.TreeLaws.{at_left, at_right, at_rooted, on_same}
 
--- put into the left child
+-- put into a part of a node, which is all that the node has at the key
+put_in : {A : Type 0} (key : List Bool) (v : A) (before after : List Bool → A) (around : List Bool → A → A) → ((x : A) → around key x ≡ x) → IsPut before key v after
+    → IsPut (λ q. around q (before q)) key v (λ q. around q (after q))
+put_in key v before after around there p q =
+    elim (same_way key q) as (λ s. same_way key q ≡ s → around q (after q) ≡ cond s v (around q (before q))) [
+      | true ↦ λ e. ap (λ k. around k (after q)) (sym (same_is key q e)) ∙ there (after q) ∙ p q ∙ ap (λ s. cond s v (before q)) e
+      | false ↦ λ e. ap (around q) (p q ∙ ap (λ s. cond s v (before q)) e)
+    ] refl
+
+-- as its left child, or its right one
 pub put_left : {A : Type 0} (b key : List Bool) (none slot v : A) (l m r : List Bool → A) → turn_of b key ≡ Left → IsPut l key v m
     → IsPut (λ q. chosen (turn_of b q) none slot (l q) (r q)) key v (λ q. chosen (turn_of b q) none slot (m q) (r q))
-put_left b key none slot v l m r there p q =
-    elim (same_way key q) as (λ s. same_way key q ≡ s → chosen (turn_of b q) none slot (m q) (r q) ≡ cond s v (chosen (turn_of b q) none slot (l q) (r q))) [
-      | true ↦ λ e.
-          ap (λ t. chosen t none slot (m q) (r q)) (ap (turn_of b) (sym (same_is key q e)) ∙ there) ∙ p q ∙ ap (λ s. cond s v (l q)) e
-      | false ↦ λ e. ap (λ x. chosen (turn_of b q) none slot x (r q)) (p q ∙ ap (λ s. cond s v (l q)) e)
-    ] refl
+put_left b key none slot v l m r there = put_in key v l m (λ q x. chosen (turn_of b q) none slot x (r q)) (λ x. ap (λ t. chosen t none slot x (r key)) there)
 
--- put into the right child
 pub put_right : {A : Type 0} (b key : List Bool) (none slot v : A) (l r m : List Bool → A) → turn_of b key ≡ Right → IsPut r key v m
     → IsPut (λ q. chosen (turn_of b q) none slot (l q) (r q)) key v (λ q. chosen (turn_of b q) none slot (l q) (m q))
-put_right b key none slot v l r m there p q =
-    elim (same_way key q) as (λ s. same_way key q ≡ s → chosen (turn_of b q) none slot (l q) (m q) ≡ cond s v (chosen (turn_of b q) none slot (l q) (r q))) [
-      | true ↦ λ e.
-          ap (λ t. chosen t none slot (l q) (m q)) (ap (turn_of b) (sym (same_is key q e)) ∙ there) ∙ p q ∙ ap (λ s. cond s v (r q)) e
-      | false ↦ λ e. ap (λ x. chosen (turn_of b q) none slot (l q) x) (p q ∙ ap (λ s. cond s v (r q)) e)
-    ] refl
+put_right b key none slot v l r m there = put_in key v r m (λ q x. chosen (turn_of b q) none slot (l q) x) (λ x. ap (λ t. chosen t none slot (l key) x) there)
 
 -- put at the node itself
 pub put_here : {A : Type 0} (b key : List Bool) (none slot v : A) (l r : List Bool → A) → turn_of b key ≡ Here
@@ -45,13 +43,13 @@ put_here b key none slot v l r there q =
     cases Right = refl
 
 -- nothing put where nothing is
+pub put_none : {A : Type 0} (f : List Bool → A) (none : A) (key : List Bool) → f key ≡ none → IsPut f key none f
+put_none f none key there q =
+    elim (same_way key q) as (λ s. same_way key q ≡ s → f q ≡ cond s none (f q)) [ true ↦ λ e. ap f (sym (same_is key q e)) ∙ there | false ↦ λ e. refl ] refl
+
 pub put_outside : {A : Type 0} (b key : List Bool) (none slot : A) (l r : List Bool → A) → turn_of b key ≡ Outside
     → IsPut (λ q. chosen (turn_of b q) none slot (l q) (r q)) key none (λ q. chosen (turn_of b q) none slot (l q) (r q))
-put_outside b key none slot l r there q =
-    elim (same_way key q) as (λ s. same_way key q ≡ s → chosen (turn_of b q) none slot (l q) (r q) ≡ cond s none (chosen (turn_of b q) none slot (l q) (r q))) [
-      | true ↦ λ e. ap (λ t. chosen t none slot (l q) (r q)) (ap (turn_of b) (sym (same_is key q e)) ∙ there)
-      | false ↦ λ e. refl
-    ] refl
+put_outside b key none slot l r there = put_none _ none key (ap (λ t. chosen t none slot (l key) (r key)) there)
 
 -- what was before may be said in other words
 pub put_from : {A : Type 0} (f g h : List Bool → A) (key : List Bool) (v : A) → ((q : List Bool) → f q ≡ g q) → IsPut g key v h → IsPut f key v h
@@ -88,9 +86,6 @@ fork_here {R} old new prefix slot v l r key was is there q =
 
 -- ---- a tree whose root stays where it was
 
-sides_then : {R : Type 0} (from : List Bool) (bit : Bool) (old new : Shape R) → root new ≡ root old → IsOn from bit old → IsOn from bit new
-sides_then from bit old new same on = subst (λ o. IfSome o (λ to. turn_of from to ≡ side bit)) (sym same) on
-
 stands_then : {R : Type 0} (slot : Option (Option R)) (l r l' r' : Shape R) → root l' ≡ root l → root r' ≡ root r → Stands slot l r → Stands slot l' r'
 stands_then None l r l' r' left right stands = (subst IsSome (sym left) stands.0, subst IsSome (sym right) stands.1)
 stands_then (Some slot) l r l' r' left right stands = tt
@@ -98,8 +93,8 @@ stands_then (Some slot) l r l' r' left right stands = tt
 -- a node is in shape where one of its trees changes so
 pub shaped_left : {R : Type 0} (prefix : Network) (slot : Slot R) (l r m : Shape R) → root m ≡ root l → IsShaped m → IsShaped (Rooted prefix slot l r) → IsShaped (Rooted prefix slot m r)
 shaped_left prefix slot l r m same shaped was =
-    (record { left = sides_then (way prefix) false l m same was.0.left; right = was.0.right }, stands_then (slot_of slot) l r m r same refl was.1, shaped, was.3)
+    (record { left = on_same l m (way prefix) false same was.0.left; right = was.0.right }, stands_then (slot_of slot) l r m r same refl was.1, shaped, was.3)
 
 pub shaped_right : {R : Type 0} (prefix : Network) (slot : Slot R) (l r m : Shape R) → root m ≡ root r → IsShaped m → IsShaped (Rooted prefix slot l r) → IsShaped (Rooted prefix slot l m)
 shaped_right prefix slot l r m same shaped was =
-    (record { left = was.0.left; right = sides_then (way prefix) true r m same was.0.right }, stands_then (slot_of slot) l r l m refl same was.1, was.2, shaped)
+    (record { left = was.0.left; right = on_same r m (way prefix) true same was.0.right }, stands_then (slot_of slot) l r l m refl same was.1, was.2, shaped)

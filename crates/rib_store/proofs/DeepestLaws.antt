@@ -12,11 +12,10 @@ use Rattle.rib_store.specs.Shape.{Shape}
 use Rattle.rib_store.specs.Shape.{Empty, Rooted}
 use Rattle.prefix_store.specs.Lookups.{IsLongest, IsLongestOf}
 use Rattle.rib_store.specs.Slots.{route_found, routes_in}
-use Rattle.rib_store.specs.Tree.{at, slot_of, chosen, IsShaped}
+use Rattle.rib_store.specs.Tree.{at, slot_of, chosen, IsOn, IsShaped}
 use Rattle.rib_store.specs.Walks.{either_of, routed_at, deepest}
 use Rattle.rib_store.specs.Store.{Trees, slots_in, tree_of, IsPlanted}
-use Rattle.rib_store.proofs.WayLaws.{begin_outside, begin_side, begin_in, turn_longer, length-way}
-use Rattle.rib_store.proofs.TreeLaws.{at_left, at_right}
+use Rattle.rib_store.proofs.WayLaws.{beyond, begin_outside, begin_side, begin_in, turn_longer, length-way}
 use Rattle.rib_store.proofs.SlotLaws.{get-routes_in}
 use Rattle.rib_store.proofs.StoreLaws.{slot_at-tree_of, shaped-family}
 
@@ -78,66 +77,64 @@ at_way prefix (Some None) slots key there here only = λ x route h. vacant_some 
 at_way prefix (Some (Some found)) slots key there here only =
     ((there, here), λ x route h. let e = ap length (only x route h) in omega (arith, e))
 
+-- what a tree on a side has lies there
+lies : {R : Type 0} (b x : List Bool) (s : Bool) (t : Shape R) (route : R) → IsOn b s t → at t x ≡ Some (Some route) → turn_of b x ≡ side s
+lies b x s Empty route on h = cc
+lies b x s (Rooted prefix slot l r) route on h =
+    elim (beyond b (way prefix) x s on) [
+      | inl out ↦ absurd (none_some _ route (ap (λ t. chosen t None (slot_of slot) (at l x) (at r x)) out) h)
+      | inr there ↦ there
+    ]
+
 -- what is found on the way to a key is the deepest
 pub deepest_is : {R : Type 0} (t : Shape R) (key : List Bool) → IsShaped t → IsDeepest (at t) key (deepest t key)
 deepest_is {R} Empty key shaped = λ x route h. none_some {R = R} None route refl h.1
 deepest_is {R} (Rooted prefix slot l r) key shaped =
     turns (turn_of (way prefix) key) refl (deepest_is l key shaped.2) (deepest_is r key shaped.3)
   where
-    slots : List Bool → Option (Option R)
-    slots x = chosen (turn_of (way prefix) x) None (slot_of slot) (at l x) (at r x)
+    whole : Shape R
+    whole = Rooted prefix slot l r
+
+    -- by where a way lies that the key's begins with
+    seen : (x : List Bool) (j : Turn) → turn_of (way prefix) x ≡ j → at whole x ≡ chosen j None (slot_of slot) (at l x) (at r x)
+    seen x j y = ap (λ t. chosen t None (slot_of slot) (at l x) (at r x)) y
+
+    away : (x : List Bool) (s : Bool) → turn_of (way prefix) x ≡ side s → (turn_of (way prefix) key ≡ side s → ⊥) → begin_with x key ≡ true → ⊥
+    away x s y none b = false_true (begin_with x key) (begin_side (way prefix) x key s y none) b
+
+    whence : (s : Bool) → turn_of (way prefix) key ≡ side s → (x : List Bool) (route : R) → Holds (at whole) key x route → (j : Turn) → turn_of (way prefix) x ≡ j
+        → (turn_of (way prefix) x ≡ Here) ⊎ (turn_of (way prefix) x ≡ side s)
+    whence s e x route h Outside y = absurd (none_some (at whole x) route (seen x Outside y) h.1)
+    whence s e x route h Here y = inl y
+    whence false e x route h Left y = inr y
+    whence true e x route h Left y = absurd (away x false y (λ z. cc) h.0)
+    whence false e x route h Right y = absurd (away x true y (λ z. cc) h.0)
+    whence true e x route h Right y = inr y
+
+    outside : turn_of (way prefix) key ≡ Outside → (x : List Bool) (route : R) → Holds (at whole) key x route → (j : Turn) → turn_of (way prefix) x ≡ j → ⊥
+    outside e x route h Outside y = none_some (at whole x) route (seen x Outside y) h.1
+    outside e x route h Here y = false_true (begin_with x key) (begin_outside (way prefix) x key e (λ z. cc)) h.0
+    outside e x route h Left y = away x false y (λ z. cc) h.0
+    outside e x route h Right y = away x true y (λ z. cc) h.0
+
+    only : turn_of (way prefix) key ≡ Here → (x : List Bool) (route : R) → Holds (at whole) key x route → (j : Turn) → turn_of (way prefix) x ≡ j → x ≡ way prefix
+    only e x route h Outside y = absurd (none_some (at whole x) route (seen x Outside y) h.1)
+    only e x route h Here y = sym (here_only (way prefix) x y)
+    only e x route h Left y = absurd (away x false y (λ z. cc) h.0)
+    only e x route h Right y = absurd (away x true y (λ z. cc) h.0)
 
     turns : (k : Turn) → turn_of (way prefix) key ≡ k → IsDeepest (at l) key (deepest l key) → IsDeepest (at r) key (deepest r key)
-        → IsDeepest (at (Rooted prefix slot l r)) key (chosen k None (routed_at prefix (slot_of slot)) (either_of (deepest l key) (routed_at prefix (slot_of slot))) (either_of (deepest r key) (routed_at prefix (slot_of slot))))
-    turns Outside e f g = λ x route h. away x route h (turn_of (way prefix) x) refl
-      where
-        away : (x : List Bool) (route : R) → Holds (at (Rooted prefix slot l r)) key x route → (j : Turn) → turn_of (way prefix) x ≡ j → ⊥
-        away x route h Outside y = none_some (at (Rooted prefix slot l r) x) route (ap (λ t. chosen t None (slot_of slot) (at l x) (at r x)) y) h.1
-        away x route h Here y = false_true (begin_with x key) (begin_outside (way prefix) x key e (λ z. cc)) h.0
-        away x route h Left y = false_true (begin_with x key) (begin_outside (way prefix) x key e (λ z. cc)) h.0
-        away x route h Right y = false_true (begin_with x key) (begin_outside (way prefix) x key e (λ z. cc)) h.0
+        → IsDeepest (at whole) key (chosen k None (routed_at prefix (slot_of slot)) (either_of (deepest l key) (routed_at prefix (slot_of slot))) (either_of (deepest r key) (routed_at prefix (slot_of slot))))
+    turns Outside e f g = λ x route h. outside e x route h (turn_of (way prefix) x) refl
     turns Here e f g =
-        at_way prefix (slot_of slot) (at (Rooted prefix slot l r)) key (begin_in (way prefix) key (λ z. cc))
-        (ap (λ t. chosen t None (slot_of slot) (at l (way prefix)) (at r (way prefix))) (here_from (way prefix)))
-        (λ x route h. only x route h (turn_of (way prefix) x) refl)
-      where
-        only : (x : List Bool) (route : R) → Holds (at (Rooted prefix slot l r)) key x route → (j : Turn) → turn_of (way prefix) x ≡ j → x ≡ (way prefix)
-        only x route h Outside y = absurd (none_some (at (Rooted prefix slot l r) x) route (ap (λ t. chosen t None (slot_of slot) (at l x) (at r x)) y) h.1)
-        only x route h Here y = sym (here_only (way prefix) x y)
-        only x route h Left y = absurd (false_true (begin_with x key) (begin_side (way prefix) x key false y (λ z. cc)) h.0)
-        only x route h Right y = absurd (false_true (begin_with x key) (begin_side (way prefix) x key true y (λ z. cc)) h.0)
+        at_way prefix (slot_of slot) (at whole) key (begin_in (way prefix) key (λ z. cc)) (seen (way prefix) Here (here_from (way prefix)))
+        (λ x route h. only e x route h (turn_of (way prefix) x) refl)
     turns Left e f g =
-        on_way prefix (slot_of slot) (at l) (at (Rooted prefix slot l r)) key false (deepest l key) e
-        (λ x y. ap (λ t. chosen t None (slot_of slot) (at l x) (at r x)) y) (λ x y. ap (λ t. chosen t None (slot_of slot) (at l x) (at r x)) y)
-        (λ x route h. lies x route h (turn_of (way prefix) x) refl) (λ x route h. whence x route h (turn_of (way prefix) x) refl) f
-      where
-        lies : (x : List Bool) (route : R) → at l x ≡ Some (Some route) → (j : Turn) → turn_of (way prefix) x ≡ j → turn_of (way prefix) x ≡ Left
-        lies x route h Outside y = absurd (none_some (at l x) route (at_left (way prefix) l shaped.0.left x ∙ ap (λ t. chosen t None None (at l x) None) y) h)
-        lies x route h Here y = absurd (none_some (at l x) route (at_left (way prefix) l shaped.0.left x ∙ ap (λ t. chosen t None None (at l x) None) y) h)
-        lies x route h Left y = y
-        lies x route h Right y = absurd (none_some (at l x) route (at_left (way prefix) l shaped.0.left x ∙ ap (λ t. chosen t None None (at l x) None) y) h)
-
-        whence : (x : List Bool) (route : R) → Holds (at (Rooted prefix slot l r)) key x route → (j : Turn) → turn_of (way prefix) x ≡ j → (turn_of (way prefix) x ≡ Here) ⊎ (turn_of (way prefix) x ≡ Left)
-        whence x route h Outside y = absurd (none_some (at (Rooted prefix slot l r) x) route (ap (λ t. chosen t None (slot_of slot) (at l x) (at r x)) y) h.1)
-        whence x route h Here y = inl y
-        whence x route h Left y = inr y
-        whence x route h Right y = absurd (false_true (begin_with x key) (begin_side (way prefix) x key true y (λ z. cc)) h.0)
+        on_way prefix (slot_of slot) (at l) (at whole) key false (deepest l key) e (λ x. seen x Here) (λ x. seen x Left)
+        (λ x route h. lies (way prefix) x false l route shaped.0.left h) (λ x route h. whence false e x route h (turn_of (way prefix) x) refl) f
     turns Right e f g =
-        on_way prefix (slot_of slot) (at r) (at (Rooted prefix slot l r)) key true (deepest r key) e
-        (λ x y. ap (λ t. chosen t None (slot_of slot) (at l x) (at r x)) y) (λ x y. ap (λ t. chosen t None (slot_of slot) (at l x) (at r x)) y)
-        (λ x route h. lies x route h (turn_of (way prefix) x) refl) (λ x route h. whence x route h (turn_of (way prefix) x) refl) g
-      where
-        lies : (x : List Bool) (route : R) → at r x ≡ Some (Some route) → (j : Turn) → turn_of (way prefix) x ≡ j → turn_of (way prefix) x ≡ Right
-        lies x route h Outside y = absurd (none_some (at r x) route (at_right (way prefix) r shaped.0.right x ∙ ap (λ t. chosen t None None None (at r x)) y) h)
-        lies x route h Here y = absurd (none_some (at r x) route (at_right (way prefix) r shaped.0.right x ∙ ap (λ t. chosen t None None None (at r x)) y) h)
-        lies x route h Right y = y
-        lies x route h Left y = absurd (none_some (at r x) route (at_right (way prefix) r shaped.0.right x ∙ ap (λ t. chosen t None None None (at r x)) y) h)
-
-        whence : (x : List Bool) (route : R) → Holds (at (Rooted prefix slot l r)) key x route → (j : Turn) → turn_of (way prefix) x ≡ j → (turn_of (way prefix) x ≡ Here) ⊎ (turn_of (way prefix) x ≡ Right)
-        whence x route h Outside y = absurd (none_some (at (Rooted prefix slot l r) x) route (ap (λ t. chosen t None (slot_of slot) (at l x) (at r x)) y) h.1)
-        whence x route h Here y = inl y
-        whence x route h Right y = inr y
-        whence x route h Left y = absurd (false_true (begin_with x key) (begin_side (way prefix) x key false y (λ z. cc)) h.0)
+        on_way prefix (slot_of slot) (at r) (at whole) key true (deepest r key) e (λ x. seen x Here) (λ x. seen x Right)
+        (λ x route h. lies (way prefix) x true r route shaped.0.right h) (λ x route h. whence true e x route h (turn_of (way prefix) x) refl) g
 
 -- ---- over all routes
 

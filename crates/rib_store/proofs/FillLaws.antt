@@ -1,6 +1,6 @@
 -- Lists filled as far as there is room, and the routes that walks down a tree append to them.
 use Rattle.prefix_store.proofs.AboveLaws.{take-nil}
-use Rattle.std.proofs.Common.{◌≡◌, ℕ, zero, suc, ◌-◌, Bool, true, false, cond, List, [], ◌∷◌, ◌++◌, take, length, Option, Some, None, Vec, Global, vec_capacity, Bor, refl, sym, ap, ap₂, ◌∙◌, arith, append_assoc, length-append}
+use Rattle.std.proofs.Common.{◌≡◌, ℕ, zero, suc, ◌+◌, ◌-◌, Bool, true, false, cond, List, [], ◌∷◌, ◌++◌, take, length, Option, Some, None, slice_get, Vec, Global, vec_capacity, Bor, refl, sym, ap, ap₂, ◌∙◌, arith, append_assoc, length-append}
 use Rattle.std.proofs.lemmas.List.{append-nil, length-take}
 use Rattle.std.proofs.Math.Seq.{take-append_seam}
 use Rattle.std.specs.Option.{option_to_list}
@@ -17,11 +17,11 @@ use Rattle.rib_store.specs.Shape.{Shape}
 use Rattle.rib_store.specs.Shape.{Empty, Rooted}
 use Rattle.rib_store.specs.Tree.{chosen, own, slots_of, slot_of, IsOn, IsShaped}
 use Rattle.rib_store.specs.Slots.{Slots, routed}
-use Rattle.rib_store.specs.Walks.{routed_at, all_routes, all_behind, filled}
+use Rattle.rib_store.specs.Walks.{either_of, routed_at, first, behind, all_routes, all_behind, filled}
 use Rattle.prefix_store.proofs.AboveLaws.{none-above, above-none}
 use Rattle.rib_store.proofs.MarkLaws.{unmarked_first}
 use Rattle.rib_store.proofs.WayLaws.{below, left_first, node_first, not_itself, as_node}
-use Rattle.rib_store.proofs.WalkLaws.{first-routed, routed-append, next-all, next-none, above-ways, not_out, all-on, AllKeys-own, AllKeys-append}
+use Rattle.rib_store.proofs.WalkLaws.{first-append, routed-append, above-all, above-no, above-ways, not_out, all-on, AllKeys-own, AllKeys-append}
 use Rattle.rib_store.specs.Store.{Trees, IsPlanted}
 use Rattle.rib_store.proofs.StoreLaws.{first_side, entries_in, routed-entries}
 use Rattle.ip_prefix.proofs.Turns.{here_only}
@@ -86,11 +86,48 @@ all-routed (Rooted prefix slot l r) =
     ap (λ s. option_to_list (routed_at prefix (slot_of slot)) ++ s) (ap₂ (λ x y. x ++ y) (all-routed l) (all-routed r) ∙ sym (routed-append (slots_of l) (slots_of r)))
     ∙ sym (routed-own prefix (slot_of slot) (slots_of l ++ slots_of r))
 
+-- as many as the node has, and as its children have
+pub count_rooted : {R : Type 0} (prefix : Network) (slot : Slot R) (l r : Shape R)
+    → length (all_routes (Rooted prefix slot l r)) ≡ length (option_to_list (routed_at prefix (slot_of slot))) + (length (all_routes l) + length (all_routes r))
+count_rooted prefix slot l r =
+    length-append (option_to_list (routed_at prefix (slot_of slot))) (all_routes l ++ all_routes r)
+    ∙ ap (λ n. length (option_to_list (routed_at prefix (slot_of slot))) + n) (length-append (all_routes l) (all_routes r))
+
+-- ---- the first of them
+
+first-list : {A : Type 0} (o : Option A) → o ≡ slice_get (option_to_list o) 0
+first-list None = refl
+first-list (Some x) = refl
+
+-- the first of two walks behind one another
+either-first : {A : Type 0} {x y : Option A} (xs ys : List A) → x ≡ slice_get xs 0 → y ≡ slice_get ys 0 → either_of x y ≡ slice_get (xs ++ ys) 0
+either-first xs ys e f = ap₂ either_of e f ∙ sym (first-append xs ys)
+
+first-all : {R : Type 0} (t : Shape R) → first t ≡ slice_get (all_routes t) 0
+first-all Empty = refl
+first-all (Rooted prefix slot l r) =
+    either-first (option_to_list (routed_at prefix (slot_of slot))) (all_routes l ++ all_routes r) (first-list (routed_at prefix (slot_of slot))) (either-first (all_routes l) (all_routes r) (first-all l) (first-all r))
+
+behind-all : {R : Type 0} (t : Shape R) (low : Network) → behind t low ≡ slice_get (all_behind t low) 0
+behind-all Empty low = refl
+behind-all {R} (Rooted prefix slot l r) low = turns (turn_of (way prefix) (way low)) (behind-all l low) (behind-all r low)
+  where
+    outside : (b : Bool) → cond b (first (Rooted prefix slot l r)) None ≡ slice_get (cond b (all_routes (Rooted prefix slot l r)) []) 0
+    outside true = first-all (Rooted prefix slot l r)
+    outside false = refl
+
+    turns : (k : Turn) → behind l low ≡ slice_get (all_behind l low) 0 → behind r low ≡ slice_get (all_behind r low) 0
+        → chosen k (cond (is_lt (network_cmp low prefix)) (first (Rooted prefix slot l r)) None) (either_of (first l) (first r)) (either_of (behind l low) (first r)) (behind r low)
+        ≡ slice_get (chosen k (cond (is_lt (network_cmp low prefix)) (all_routes (Rooted prefix slot l r)) []) (all_routes l ++ all_routes r) (all_behind l low ++ all_routes r) (all_behind r low)) 0
+    turns Outside left right = outside (is_lt (network_cmp low prefix))
+    turns Here left right = either-first (all_routes l) (all_routes r) (first-all l) (first-all r)
+    turns Left left right = either-first (all_behind l low) (all_routes r) left (first-all r)
+    turns Right left right = right
+
 -- a tree whose root isn't marked has none
 pub unmarked-all : {K R : Type 0} (network : K → Network) (t : Tree K R) → IsMarked t → is_routed t ≡ false → all_routes (shape_of network t) ≡ []
 unmarked-all network t marked e =
-    all-routed (shape_of network t)
-    ∙ none-above (routed (slots_of (shape_of network t))) (sym (first-routed (shape_of network t)) ∙ unmarked_first network t marked e)
+    none-above (all_routes (shape_of network t)) (sym (first-all (shape_of network t)) ∙ unmarked_first network t marked e)
 
 -- those behind a prefix, by where it lies
 pub behind-turn : {R : Type 0} (prefix : Network) (slot : Slot R) (l r : Shape R) (low : Network) (t : Turn) → turn_of (way prefix) (way low) ≡ t
@@ -112,12 +149,12 @@ above-own low prefix (Some (Some route)) below e = λ i. cond (e i) ((prefix, ro
 -- all routes of a tree on a side are above, where all that lies there is
 all-above : {R : Type 0} (low : Network) (from : List Bool) (bit : Bool) (t : Shape R) → IsShaped t → IsOn from bit t → ((n : Network) → turn_of from (way n) ≡ side bit → below (way low) (way n) ≡ true) → all_routes t ≡ above (Some low) (routed (slots_of t))
 all-above low from bit t shaped on holds =
-    all-routed t ∙ sym (next-all low (slots_of t) (all-on (λ n. is_above (Some low) n ≡ true) from bit (λ n h. above-ways low n ∙ holds n h) t shaped on))
+    all-routed t ∙ sym (above-all low (slots_of t) (all-on (λ n. is_above (Some low) n ≡ true) from bit (λ n h. above-ways low n ∙ holds n h) t shaped on))
 
 -- and none is, where none there is
 none-above-side : {R : Type 0} (low : Network) (from : List Bool) (bit : Bool) (t : Shape R) → IsShaped t → IsOn from bit t → ((n : Network) → turn_of from (way n) ≡ side bit → below (way low) (way n) ≡ false) → [] ≡ above (Some low) (routed (slots_of t))
 none-above-side low from bit t shaped on holds =
-    sym (next-none low (slots_of t) (all-on (λ n. is_above (Some low) n ≡ false) from bit (λ n h. above-ways low n ∙ holds n h) t shaped on))
+    sym (above-no low (slots_of t) (all-on (λ n. is_above (Some low) n ≡ false) from bit (λ n h. above-ways low n ∙ holds n h) t shaped on))
 
 pub behind-above : {R : Type 0} (t : Shape R) → IsShaped t → (low : Network) → all_behind t low ≡ above (Some low) (routed (slots_of t))
 unfolding routed
@@ -134,10 +171,10 @@ behind-above {R} (Rooted prefix slot l r) shaped low = turns (turn_of (way prefi
 
     outside : (b : Bool) → is_lt (network_cmp low prefix) ≡ b → turn_of (way prefix) (way low) ≡ Outside → cond b (all_routes whole) [] ≡ above (Some low) (routed (slots_of whole))
     outside true e out =
-        all-routed whole ∙ sym (next-all low (slots_of whole) (all_keys (λ n. is_above (Some low) n ≡ true) e
+        all-routed whole ∙ sym (above-all low (slots_of whole) (all_keys (λ n. is_above (Some low) n ≡ true) e
         (λ s n h. above-ways low n ∙ as_node (way prefix) (way low) (way n) out (not_out (way prefix) (way n) s h) ∙ sym (above-ways low prefix) ∙ e)))
     outside false e out =
-        sym (next-none low (slots_of whole) (all_keys (λ n. is_above (Some low) n ≡ false) e
+        sym (above-no low (slots_of whole) (all_keys (λ n. is_above (Some low) n ≡ false) e
         (λ s n h. above-ways low n ∙ as_node (way prefix) (way low) (way n) out (not_out (way prefix) (way n) s h) ∙ sym (above-ways low prefix) ∙ e)))
 
     -- where the node isn't above, by what is on its sides
@@ -179,6 +216,16 @@ above-v6 f planted low e =
     (λ i. none-above-side low [] false f.v4 planted.v4 planted.sides.left (λ n h. (left_first [] (way n) (way low) h (first_side low V6 e)).1) i ++ behind-above f.v6 planted.v6 low i)
     ∙ sym (above-append low (slots_of f.v4) (slots_of f.v6))
     ∙ ap (above (Some low)) (routed-entries f planted)
+
+-- the first of these
+pub after_none : {R : Type 0} (trees : Trees R) → IsPlanted trees → either_of (first trees.v4) (first trees.v6) ≡ slice_get (above None (entries_in trees)) 0
+after_none f planted = either-first (all_routes f.v4) (all_routes f.v6) (first-all f.v4) (first-all f.v6) ∙ ap (λ routes. slice_get routes 0) (all-trees f planted)
+
+pub after_v4 : {R : Type 0} (trees : Trees R) → IsPlanted trees → (low : Network) → low.family ≡ V4 → either_of (behind trees.v4 low) (first trees.v6) ≡ slice_get (above (Some low) (entries_in trees)) 0
+after_v4 f planted low e = either-first (all_behind f.v4 low) (all_routes f.v6) (behind-all f.v4 low) (first-all f.v6) ∙ ap (λ routes. slice_get routes 0) (above-v4 f planted low e)
+
+pub after_v6 : {R : Type 0} (trees : Trees R) → IsPlanted trees → (low : Network) → low.family ≡ V6 → behind trees.v6 low ≡ slice_get (above (Some low) (entries_in trees)) 0
+after_v6 f planted low e = behind-all f.v6 low ∙ ap (λ routes. slice_get routes 0) (above-v6 f planted low e)
 
 -- a list that was cleared and then filled
 pub filled_anew : {R : Type 0} (room : ℕ) (cleared new : Vec (Network × Bor R) Global) (xs : List (Network × R)) → vec_capacity cleared ≡ room → cleared.items ≡ []

@@ -8,8 +8,10 @@ use Rattle.rib_store.specs.Shape.{Shape}
 use Rattle.rib_store.specs.Shape.{Empty, Rooted}
 use Rattle.rib_store.specs.Tree.{at, slot_of, chosen, root, joined, IsOn, IsRooted, IsShaped, IsPut, IsPlaced, Stands}
 use Rattle.rib_store.proofs.WayLaws.{turn_shared, shared_inside, parts}
-use Rattle.rib_store.proofs.TreeLaws.{at_left, at_right, at_rooted, rooted_shaped, shaped_rooted, root_rooted, some_is, on_side}
-use Rattle.rib_store.proofs.ChangeLaws.{put_left, put_right, put_here, put_from}
+use Rattle.std.specs.Prelude.{IsSome}
+use Rattle.rib_store.specs.declared.tree.Slot.TheVariants.{Branch}
+use Rattle.rib_store.proofs.TreeLaws.{ShapedParts, at_left, at_right, at_rooted, rooted_shaped, shaped_rooted, root_rooted, some_is, on_side}
+use Rattle.rib_store.proofs.ChangeLaws.{fork_left, fork_right, fork_here, put_from}
 
 -- a child with one more key is on its side still
 pub on_placed : {R : Type 0} (key : List Bool) (v : Option (Option R)) (l m : Shape R) (b : List Bool) (bit : Bool) → IsPlaced key v l m → IsOn b bit l → turn_of b key ≡ side bit → IsOn b bit m
@@ -46,9 +48,7 @@ placed_left {R} {old} {new} key prefix slot v l r m was is there shaped placed =
         placed.shaped,
         s.3,
       );
-      slots = λ q. at_rooted new prefix slot m r is q
-          ∙ put_from (at old) _ (λ q. chosen (turn_of (way prefix) q) None slot (at m q) (at r q)) key v (at_rooted old prefix slot l r was)
-          (put_left (way prefix) key None slot v (at l) (at m) (at r) there placed.slots) q;
+      slots = fork_left old new prefix slot v l r m key was is there placed.slots;
       roots = root_rooted new prefix slot m r is ∙ sym (ap Some (shared_inside (way prefix) key (not_outside _ false there))) ∙ sym (ap (λ o. Some (joined o key)) (root_rooted old prefix slot l r was));
     }
 
@@ -66,9 +66,7 @@ placed_right {R} {old} {new} key prefix slot v l r m was is there shaped placed 
         s.2,
         placed.shaped,
       );
-      slots = λ q. at_rooted new prefix slot l m is q
-          ∙ put_from (at old) _ (λ q. chosen (turn_of (way prefix) q) None slot (at l q) (at m q)) key v (at_rooted old prefix slot l r was)
-          (put_right (way prefix) key None slot v (at l) (at r) (at m) there placed.slots) q;
+      slots = fork_right old new prefix slot v l r m key was is there placed.slots;
       roots = root_rooted new prefix slot l m is ∙ sym (ap Some (shared_inside (way prefix) key (not_outside _ true there))) ∙ sym (ap (λ o. Some (joined o key)) (root_rooted old prefix slot l r was));
     }
 
@@ -82,9 +80,7 @@ placed_here {R} {old} {new} key prefix slot v l r was is there shaped stands =
     let s = rooted_shaped old prefix slot l r was shaped in
     record {
       shaped = shaped_rooted new prefix v l r is (s.0, stands, s.2, s.3);
-      slots = λ q. at_rooted new prefix v l r is q
-          ∙ put_from (at old) _ (λ q. chosen (turn_of (way prefix) q) None v (at l q) (at r q)) key v (at_rooted old prefix slot l r was)
-          (put_here (way prefix) key None slot v (at l) (at r) there) q;
+      slots = fork_here old new prefix slot v l r key was is there;
       roots = root_rooted new prefix v l r is ∙ sym (ap Some (shared_inside (way prefix) key (here_inside _ there))) ∙ sym (ap (λ o. Some (joined o key)) (root_rooted old prefix slot l r was));
     }
 
@@ -125,62 +121,53 @@ over_side : {R : Type 0} {old new : Shape R} (key above : Network) (b : List Boo
     → at old (way key) ≡ None → root old ≡ Some b → IsShaped old → way above ≡ shared b (way key) → turn_of (way above) b ≡ side bit
     → (turn_of (way above) (way key) ≡ Here) ⊎ (turn_of (way above) (way key) ≡ side (not bit))
     → IsRooted above slot (cond bit beside old) (cond bit old beside) new → Beside key above route slot beside → IsPlaced (way key) (Some route) old new
-over_side {R} {old} {new} key above b route slot beside false none e shaped bits below parts is (is_key here slot_is empty) =
-    let is' : IsRooted above (Some route) old Empty new = subst (λ (x : Option (Option R) × Shape R). IsRooted above x.0 old x.1 new) (λ i. (slot_is i, empty i)) is in
+over_side {R} {old} {new} key above b route slot beside bit none e shaped bits below parts is other =
     record {
-      shaped = shaped_rooted new above (Some route) old Empty is' (record { left = on_side old (way above) b false e below; right = tt }, tt, shaped, tt);
-      slots = λ q. at_rooted new above (Some route) old Empty is' q
-          ∙ put_from (at old) _ (λ q. chosen (turn_of (way above) q) None (Some route) (at old q) None) (way key) (Some route) (at_left (way above) old (on_side old (way above) b false e below))
-          (put_here (way above) (way key) None None (Some route) (at old) (λ q. None) here) q;
-      roots = root_rooted new above (Some route) old Empty is' ∙ ap Some bits ∙ sym (ap (λ o. Some (joined o (way key))) e);
+      shaped = shaped_rooted new above slot (cond bit beside old) (cond bit old beside) is (stands bit below parts other);
+      slots = put bit below parts is other;
+      roots = root_rooted new above slot (cond bit beside old) (cond bit old beside) is ∙ ap Some bits ∙ sym (ap (λ o. Some (joined o (way key))) e);
     }
-over_side {R} {old} {new} key above b route slot beside true none e shaped bits below parts is (is_key here slot_is empty) =
-    let is' : IsRooted above (Some route) Empty old new = subst (λ (x : Option (Option R) × Shape R). IsRooted above x.0 x.1 old new) (λ i. (slot_is i, empty i)) is in
-    record {
-      shaped = shaped_rooted new above (Some route) Empty old is' (record { left = tt; right = on_side old (way above) b true e below }, tt, tt, shaped);
-      slots = λ q. at_rooted new above (Some route) Empty old is' q
-          ∙ put_from (at old) _ (λ q. chosen (turn_of (way above) q) None (Some route) None (at old q)) (way key) (Some route) (at_right (way above) old (on_side old (way above) b true e below))
-          (put_here (way above) (way key) None None (Some route) (λ q. None) (at old) here) q;
-      roots = root_rooted new above (Some route) Empty old is' ∙ ap Some bits ∙ sym (ap (λ o. Some (joined o (way key))) e);
-    }
-over_side {R} {old} {new} key above b route slot beside false none e shaped bits below parts is (is_branch apart slot_is leaf) =
-    let is' : IsRooted above None old beside new = subst (λ x. IsRooted above x old beside new) slot_is is in
-    let there : turn_of (way above) (way key) ≡ Right = elim parts [ inl here ↦ absurd (apart here) | inr there ↦ there ] in
-    let beside_top = root_rooted beside key (Some route) Empty Empty leaf in
-    record {
-      shaped = shaped_rooted new above None old beside is' (
-        record {
-          left = on_side old (way above) b false e below;
-          right = on_side beside (way above) (way key) true beside_top there;
-        },
-        (some_is (root old) b e, some_is (root beside) (way key) beside_top),
-        shaped,
-        leaf_shaped key route beside leaf,
-      );
-      slots = λ q. at_rooted new above None old beside is' q
-          ∙ put_from (at old) _ (λ q. chosen (turn_of (way above) q) None None (at old q) (at beside q)) (way key) (Some route) (at_left (way above) old (on_side old (way above) b false e below))
-          (put_right (way above) (way key) None None (Some route) (at old) (λ q. None) (at beside) there (leaf_slots key route beside leaf)) q;
-      roots = root_rooted new above None old beside is' ∙ ap Some bits ∙ sym (ap (λ o. Some (joined o (way key))) e);
-    }
-over_side {R} {old} {new} key above b route slot beside true none e shaped bits below parts is (is_branch apart slot_is leaf) =
-    let is' : IsRooted above None beside old new = subst (λ x. IsRooted above x beside old new) slot_is is in
-    let there : turn_of (way above) (way key) ≡ Left = elim parts [ inl here ↦ absurd (apart here) | inr there ↦ there ] in
-    let beside_top = root_rooted beside key (Some route) Empty Empty leaf in
-    record {
-      shaped = shaped_rooted new above None beside old is' (
-        record {
-          left = on_side beside (way above) (way key) false beside_top there;
-          right = on_side old (way above) b true e below;
-        },
-        (some_is (root beside) (way key) beside_top, some_is (root old) b e),
-        leaf_shaped key route beside leaf,
-        shaped,
-      );
-      slots = λ q. at_rooted new above None beside old is' q
-          ∙ put_from (at old) _ (λ q. chosen (turn_of (way above) q) None None (at beside q) (at old q)) (way key) (Some route) (at_right (way above) old (on_side old (way above) b true e below))
-          (put_left (way above) (way key) None None (Some route) (λ q. None) (at beside) (at old) there (leaf_slots key route beside leaf)) q;
-      roots = root_rooted new above None beside old is' ∙ ap Some bits ∙ sym (ap (λ o. Some (joined o (way key))) e);
-    }
+  where
+    on : (bit : Bool) → turn_of (way above) b ≡ side bit → IsOn (way above) bit old
+    on bit below = on_side old (way above) b bit e below
+
+    there : {s : Turn} → (turn_of (way above) (way key) ≡ Here) ⊎ (turn_of (way above) (way key) ≡ s) → (turn_of (way above) (way key) ≡ Here → ⊥) → turn_of (way above) (way key) ≡ s
+    there (inl here) apart = absurd (apart here)
+    there (inr on) apart = on
+
+    top : IsRooted key (Some route) Empty Empty beside → root beside ≡ Some (way key)
+    top leaf = root_rooted beside key (Some route) Empty Empty leaf
+
+    two : IsRooted key (Some route) Empty Empty beside → IsSome (root old) × IsSome (root beside)
+    two leaf = (some_is (root old) b e, some_is (root beside) (way key) (top leaf))
+
+    stands : (bit : Bool) → turn_of (way above) b ≡ side bit → (turn_of (way above) (way key) ≡ Here) ⊎ (turn_of (way above) (way key) ≡ side (not bit)) → Beside key above route slot beside
+        → ShapedParts above slot (cond bit beside old) (cond bit old beside)
+    stands false below parts (is_key here slot_is empty) =
+        subst (λ (x : Option (Option R) × Shape R). ShapedParts above x.0 old x.1) (λ i. (sym slot_is i, sym empty i)) (record { left = on false below; right = tt }, tt, shaped, tt)
+    stands true below parts (is_key here slot_is empty) =
+        subst (λ (x : Option (Option R) × Shape R). ShapedParts above x.0 x.1 old) (λ i. (sym slot_is i, sym empty i)) (record { left = tt; right = on true below }, tt, tt, shaped)
+    stands false below parts (is_branch apart slot_is leaf) =
+        subst (λ x. ShapedParts above x old beside) (sym slot_is)
+        (record { left = on false below; right = on_side beside (way above) (way key) true (top leaf) (there parts apart) }, two leaf, shaped, leaf_shaped key route beside leaf)
+    stands true below parts (is_branch apart slot_is leaf) =
+        subst (λ x. ShapedParts above x beside old) (sym slot_is)
+        (record { left = on_side beside (way above) (way key) false (top leaf) (there parts apart); right = on true below }, ((two leaf).1, (two leaf).0), leaf_shaped key route beside leaf, shaped)
+
+    put : (bit : Bool) → turn_of (way above) b ≡ side bit → (turn_of (way above) (way key) ≡ Here) ⊎ (turn_of (way above) (way key) ≡ side (not bit))
+        → IsRooted above slot (cond bit beside old) (cond bit old beside) new → Beside key above route slot beside → IsPut (at old) (way key) (Some route) (at new)
+    put false below parts is (is_key here slot_is empty) =
+        put_from _ _ (at new) (way key) _ (at_left (way above) old (on false below)) (fork_here (Rooted above Branch old Empty) new above None (Some route) old Empty (way key) (refl, refl, refl, refl)
+        (subst (λ (x : Option (Option R) × Shape R). IsRooted above x.0 old x.1 new) (λ i. (slot_is i, empty i)) is) here)
+    put true below parts is (is_key here slot_is empty) =
+        put_from _ _ (at new) (way key) _ (at_right (way above) old (on true below)) (fork_here (Rooted above Branch Empty old) new above None (Some route) Empty old (way key) (refl, refl, refl, refl)
+        (subst (λ (x : Option (Option R) × Shape R). IsRooted above x.0 x.1 old new) (λ i. (slot_is i, empty i)) is) here)
+    put false below parts is (is_branch apart slot_is leaf) =
+        put_from _ _ (at new) (way key) _ (at_left (way above) old (on false below)) (fork_right (Rooted above Branch old Empty) new above None (Some route) old Empty beside (way key) (refl, refl, refl, refl)
+        (subst (λ x. IsRooted above x old beside new) slot_is is) (there parts apart) (leaf_slots key route beside leaf))
+    put true below parts is (is_branch apart slot_is leaf) =
+        put_from _ _ (at new) (way key) _ (at_right (way above) old (on true below)) (fork_left (Rooted above Branch Empty old) new above None (Some route) Empty old beside (way key) (refl, refl, refl, refl)
+        (subst (λ x. IsRooted above x beside old new) slot_is is) (there parts apart) (leaf_slots key route beside leaf))
 
 -- the turn of a side chooses by the side's bit
 by_side : {A : Type 0} (t : Turn) (bit : Bool) (x y : A) → t ≡ side bit → (chosen t x x y x ≡ cond bit x y) × (chosen t y y x y ≡ cond bit y x)

@@ -1,6 +1,6 @@
 -- A node stands exactly where a key is, or where keys lie on both sides.
 use Rattle.std.proofs.Common.{◌≡◌, Bool, true, false, not, ◌&&◌, ◌||◌, Option, Some, None, is_some, List, ◌⊎◌, inl, inr, refl, ap, sym, subst, ◌∙◌}
-use Rattle.std.proofs.Math.Bool.{or-true}
+use Rattle.std.proofs.Math.Bool.{or-true, or-false, and-false}
 use Rattle.std.specs.Prelude.{IsSome}
 use Rattle.ip_prefix.specs.declared.turn.Turn.{Turn}
 use Rattle.ip_prefix.specs.declared.turn.Turn.TheVariants.{Outside, Here, Left, Right}
@@ -26,8 +26,7 @@ any_key test Empty = false
 any_key test (Rooted prefix slot l r) = (is_some (slot_of slot) && test (way prefix)) || (any_key test l || any_key test r)
 
 or_none : (a b c d : Bool) → b ≡ false → c ≡ false → d ≡ false → ((a && b) || (c || d)) ≡ false
-or_none true b c d e f g = (λ i. (true && e i) || (f i || g i))
-or_none false b c d e f g = (λ i. (false && e i) || (f i || g i))
+or_none a b c d e f g = (λ i. (a && e i) || (f i || g i)) ∙ ap (λ x. x || (false || false)) (and-false a)
 
 -- no key passes what none on the side does
 pub any_none : {R : Type 0} (test : List Bool → Bool) (b : List Bool) (bit : Bool) (t : Shape R) → IsOn b bit t → IsShaped t
@@ -65,14 +64,10 @@ Told t q = node_at t q ≡ (any_key (by_turn at_here q) t || (any_key (by_turn (
 
 -- a test that only keys of one child pass
 only_left : (a b c d : Bool) → b ≡ false → d ≡ false → ((a && b) || (c || d)) ≡ c
-only_left true b true d e f = (λ i. (true && e i) || (true || f i))
-only_left true b false d e f = (λ i. (true && e i) || (false || f i))
-only_left false b true d e f = (λ i. (false && e i) || (true || f i))
-only_left false b false d e f = (λ i. (false && e i) || (false || f i))
+only_left a b c d e f = (λ i. (a && e i) || (c || f i)) ∙ ap (λ x. x || (c || false)) (and-false a) ∙ or-false c
 
 only_right : (a b c d : Bool) → b ≡ false → c ≡ false → ((a && b) || (c || d)) ≡ d
-only_right true b c d e f = (λ i. (true && e i) || (f i || d))
-only_right false b c d e f = (λ i. (false && e i) || (f i || d))
+only_right a b c d e f = (λ i. (a && e i) || (f i || d)) ∙ ap (λ x. x || (false || d)) (and-false a)
 
 -- where a key parts from all others below the node
 pub told_left : {R : Type 0} (b : List Bool) (slot : Option (Option R)) (l r : Shape R) (q : List Bool) (w : Turn → Bool) → w Outside ≡ false → IsOn b true r → IsShaped r

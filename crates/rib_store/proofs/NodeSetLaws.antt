@@ -1,5 +1,5 @@
 -- The nodes of two trees as a set: those of the keys, at most two a key.
-use Rattle.std.proofs.Common.{◌≡◌, ℕ, ◌+◌, ◌*◌, ◌≤◌, Bool, true, false, not, ◌&&◌, ◌||◌, List, [], ◌∷◌, ◌++◌, inl, inr, length, map, Option, Some, None, is_some, refl, sym, ap, ◌∙◌, arith, length-append}
+use Rattle.std.proofs.Common.{◌≡◌, ℕ, ◌+◌, ◌*◌, ◌≤◌, Bool, true, false, not, ◌&&◌, ◌||◌, List, [], ◌∷◌, ◌++◌, length, map, Option, Some, None, is_some, refl, sym, ap, ◌∙◌, arith, length-append}
 use Rattle.std.proofs.Math.Bool.{or-true, or-false}
 use Rattle.std.specs.Prelude.{IsSome}
 use Rattle.std.specs.declared.cmp.Ordering.TheVariants.{Less}
@@ -32,7 +32,8 @@ use Rattle.rib_store.specs.Walks.{node_count}
 use Rattle.rib_store.specs.Store.{Trees, slots_in, IsPlanted}
 use Rattle.rib_store.specs.Nodes.{is_node, AreNodes}
 use Rattle.prefix_store.proofs.AboveLaws.{is_less}
-use Rattle.rib_store.proofs.WayLaws.{beyond, turn_through, first_turn, node_first, left_first}
+use Rattle.rib_store.proofs.TreeLaws.{chosen_same, there_alone}
+use Rattle.rib_store.proofs.WayLaws.{turn_through, first_turn, node_first, left_first}
 use Rattle.prefix_store.proofs.StoredLaws.{same_prefix}
 use Rattle.rib_store.proofs.SlotLaws.{len-from_list, len-keys_in}
 use Rattle.rib_store.proofs.WalkLaws.{cmp-ways, tied-ways, keys_of-append, sorted-append}
@@ -142,32 +143,14 @@ length-nodes_of : {R : Type 0} (t : Shape R) → length (nodes_of t) ≡ node_co
 length-nodes_of Empty = refl
 length-nodes_of (Rooted prefix slot l r) = omega (arith, length-nodes_of l, length-nodes_of r, length-append (nodes_of l) (nodes_of r))
 
-same_false : (t : Turn) → false ≡ chosen t false false false false
-same_false Outside = refl
-same_false Here = refl
-same_false Left = refl
-same_false Right = refl
-
 -- a tree on a side has nodes there alone
 pub node_left : {R : Type 0} (b : List Bool) (t : Shape R) → IsOn b false t → (q : List Bool) → node_at t q ≡ chosen (turn_of b q) false false (node_at t q) false
-node_left b Empty on q = same_false (turn_of b q)
-node_left b (Rooted prefix slot l r) on q =
-    elim (beyond b (way prefix) q false on) [
-      | inl out ↦
-          let none : node_at (Rooted prefix slot l r) q ≡ false = ap (λ t. chosen t false true (node_at l q) (node_at r q)) out in
-          none ∙ same_false (turn_of b q) ∙ ap (λ x. chosen (turn_of b q) false false x false) (sym none)
-      | inr there ↦ ap (λ t. chosen t false false (node_at (Rooted prefix slot l r) q) false) (sym there)
-    ]
+node_left b Empty on q = chosen_same (turn_of b q) false
+node_left b (Rooted prefix slot l r) on q = there_alone false b (way prefix) q false _ on (λ out. ap (λ t. chosen t false true (node_at l q) (node_at r q)) out)
 
 pub node_right : {R : Type 0} (b : List Bool) (t : Shape R) → IsOn b true t → (q : List Bool) → node_at t q ≡ chosen (turn_of b q) false false false (node_at t q)
-node_right b Empty on q = same_false (turn_of b q)
-node_right b (Rooted prefix slot l r) on q =
-    elim (beyond b (way prefix) q true on) [
-      | inl out ↦
-          let none : node_at (Rooted prefix slot l r) q ≡ false = ap (λ t. chosen t false true (node_at l q) (node_at r q)) out in
-          none ∙ same_false (turn_of b q) ∙ ap (λ x. chosen (turn_of b q) false false false x) (sym none)
-      | inr there ↦ ap (λ t. chosen t false false false (node_at (Rooted prefix slot l r) q)) (sym there)
-    ]
+node_right b Empty on q = chosen_same (turn_of b q) false
+node_right b (Rooted prefix slot l r) on q = there_alone false b (way prefix) q true _ on (λ out. ap (λ t. chosen t false true (node_at l q) (node_at r q)) out)
 
 gathered : (t : Turn) (x y : Bool) → (chosen t false true false false || (chosen t false false x false || chosen t false false false y)) ≡ chosen t false true x y
 gathered Outside x y = refl

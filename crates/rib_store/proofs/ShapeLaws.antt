@@ -1,5 +1,5 @@
 -- What a tree holds, however its nodes lie in memory.
-use Rattle.std.proofs.Common.{◌≡◌, ◌⊎◌, ◌||◌, is_some, inl, inr, Bool, true, false, cond, Option, Some, None, List, refl, ap, sym, subst, ◌∙◌}
+use Rattle.std.proofs.Common.{◌≡◌, ◌⊎◌, ◌||◌, is_some, inl, inr, Bool, false, Option, Some, None, List, refl, ap, subst, ◌∙◌}
 use Rattle.std.specs.Prelude.{IsSome}
 use Rattle.ip_prefix.specs.declared.turn.Turn.{Turn}
 use Rattle.ip_prefix.specs.declared.turn.Turn.TheVariants.{Outside, Here, Left, Right}
@@ -8,11 +8,10 @@ use Rattle.ip_prefix.specs.Turns.{way, turn_of}
 use Rattle.rib_store.specs.declared.tree.Tree.{Tree}
 use Rattle.rib_store.specs.declared.tree.Tree.TheVariants as tree
 use Rattle.rib_store.specs.Shape.{Shape, Empty, shape_of, leaf_slot, IsLeaf, IsNotBelow, IsMarked, is_routed}
-use Rattle.rib_store.specs.Tree.{at, root, chosen, same_way, IsPut, IsRooted, IsShaped, IsPlaced}
+use Rattle.rib_store.specs.Tree.{at, root, chosen, IsPut, IsRooted, IsShaped, IsPlaced}
 use Rattle.rib_store.proofs.TreeLaws.{at_rooted, shaped_rooted, root_rooted}
 use Rattle.rib_store.proofs.GrowthLaws.{placed_left, placed_right, leaf_shaped, leaf_slots}
-use Rattle.rib_store.proofs.WayLaws.{same_is}
-use Rattle.rib_store.proofs.ChangeLaws.{put_here, put_from}
+use Rattle.rib_store.proofs.ChangeLaws.{put_here, put_none, put_from}
 
 -- a key without others below it holds its own slot alone
 pub at_leaf : {K R : Type 0} (network : K → Network) (t : Tree K R) (key : K) → IsLeaf key t
@@ -59,7 +58,7 @@ marked_leaf (tree.Forked' routed other p left right) key is = absurd is
 marked_leaf (tree.Rooted' routed other p slot left right) key is = absurd is
 
 -- it has a route where its mark would say so
-pub routed_leaf : {K R : Type 0} (t : Tree K R) (key : K) → IsLeaf key t → (is_some (leaf_slot t) || (false || false)) ≡ is_routed t
+pub routed_leaf : {K R : Type 0} (t : Tree K R) (key : K) → IsLeaf key t → (is_some (leaf_slot t) || false) ≡ is_routed t
 routed_leaf tree.Empty key is = absurd is
 routed_leaf (tree.Bare other) key is = refl
 routed_leaf (tree.Leaf other route) key is = refl
@@ -101,14 +100,6 @@ not_below Right left right = right refl
 
 -- ---- keys that go
 
--- nothing put where nothing is
-none_put : {A : Type 0} (f : List Bool → A) (none : A) (key : List Bool) → f key ≡ none → IsPut f key none f
-none_put f none key there q =
-    elim (same_way key q) as (λ s. same_way key q ≡ s → f q ≡ cond s none (f q)) [
-      | true ↦ λ e. ap f (sym (same_is key q e)) ∙ there
-      | false ↦ λ e. refl
-    ] refl
-
 not_here : {A : Type 0} (t : Turn) (x : A) → (t ≡ Here → ⊥) → chosen t None (Some x) None None ≡ None
 not_here Outside x none = refl
 not_here Here x none = absurd (none refl)
@@ -119,7 +110,7 @@ not_here Right x none = refl
 pub leaf_other : {K R : Type 0} (network : K → Network) (t : Tree K R) (prefix : K) (key : List Bool) → IsLeaf prefix t → (turn_of (way (network prefix)) key ≡ Here → ⊥)
     → IsPut (at (shape_of network t)) key None (at (shape_of network t))
 leaf_other network t prefix key is apart =
-    none_put (at (shape_of network t)) None key (at_leaf network t prefix is key ∙ not_here (turn_of (way (network prefix)) key) (leaf_slot t) apart)
+    put_none (at (shape_of network t)) None key (at_leaf network t prefix is key ∙ not_here (turn_of (way (network prefix)) key) (leaf_slot t) apart)
 
 neither : {A : Type 0} (t : Turn) (x y : Option A) → (t ≡ Left → ⊥) → (t ≡ Right → ⊥) → chosen t None None x y ≡ None
 neither Outside x y left right = refl
@@ -131,7 +122,7 @@ neither Right x y left right = absurd (right refl)
 pub fork_other : {R : Type 0} (t : Shape R) (prefix : Network) (l r : Shape R) (key : List Bool) → IsRooted prefix None l r t
     → (turn_of (way prefix) key ≡ Left → ⊥) → (turn_of (way prefix) key ≡ Right → ⊥) → IsPut (at t) key None (at t)
 fork_other t prefix l r key is left right =
-    none_put (at t) None key (at_rooted t prefix None l r is key ∙ neither (turn_of (way prefix) key) (at l key) (at r key) left right)
+    put_none (at t) None key (at_rooted t prefix None l r is key ∙ neither (turn_of (way prefix) key) (at l key) (at r key) left right)
 
 nothing : {A : Type 0} (t : Turn) → ◌≡◌ {A = Option A} None (chosen t None None None None)
 nothing Outside = refl

@@ -1,5 +1,5 @@
 -- A tree for each family, as the two sides of a root above both.
-use Rattle.std.proofs.Common.{◌≡◌, Bool, true, false, cond, List, [], Option, Some, None, is_some, not, slice_get, refl, sym, ap, ◌∙◌}
+use Rattle.std.proofs.Common.{◌≡◌, Bool, true, false, cond, List, [], Option, None, is_some, not, refl, sym, ap, ◌∙◌}
 use Rattle.std.specs.Prelude.{IsSome}
 use Rattle.std.specs.List.Sorted.{IsStrictlySortedBy}
 use Rattle.std.specs.FinMap as finite
@@ -18,18 +18,16 @@ use Rattle.ip_prefix.specs.Turns.{family_bit, way, turn_of, side}
 use Rattle.rib_store.specs.Shape.{Shape}
 use Rattle.prefix_store.specs.Stored.{put}
 use Rattle.rib_store.specs.Slots.{slot_at, keys_in, routes_in, route_found, routed}
-use Rattle.rib_store.specs.Tree.{at, slots_of, chosen, same_way, AreOf, IsOf, IsPut, IsPlaced, IsShaped}
-use Rattle.rib_store.specs.Walks.{either_of, first, behind}
+use Rattle.rib_store.specs.Tree.{at, chosen, same_way, AreOf, IsOf, IsPut, IsPlaced, IsShaped}
+use Rattle.rib_store.specs.Walks.{either_of}
 use Rattle.rib_store.specs.Store.{Trees, slots_in, tree_of, with_tree, IsPlanted, ChangesAt}
-use Rattle.rib_store.proofs.WayLaws.{first_turn, left_first}
-use Rattle.prefix_store.specs.Lookups.{above}
-use Rattle.prefix_store.proofs.AboveLaws.{above-none}
+use Rattle.rib_store.proofs.WayLaws.{first_turn}
 use Rattle.rib_store.proofs.RoutedLaws.{entries-routes_in}
 use Rattle.rib_store.proofs.SlotLaws.{contains-keys_in, get-routes_in}
 use Rattle.rib_store.proofs.TreeLaws.{are_of, at_left, at_right}
 use Rattle.rib_store.proofs.ChangeLaws.{put_left, put_right}
 use Rattle.rib_store.proofs.GrowthLaws.{on_placed}
-use Rattle.rib_store.proofs.WalkLaws.{first-next, none-next, behind-next, next-append, first-routed, first-append, routed-append, either_none, slot_at-append, slot_at-slots_of, sorted-sides, sorted-slots_of, tied-ways}
+use Rattle.rib_store.proofs.WalkLaws.{either_none, slot_at-append, slot_at-slots_of, sorted-sides, sorted-slots_of, tied-ways}
 
 -- what two trees have at a way
 abbrev pub at_sides : {R : Type 0} → Shape R → Shape R → List Bool → Option (Option R)
@@ -137,27 +135,3 @@ new_key family f q planted e = ap not (key_at family f q (at (tree_of family f) 
 
 pub no_key : {R : Type 0} (family : Family) (trees : Trees R) (q : Network) → IsPlanted trees → q.family ≡ family → at (tree_of family trees) (way q) ≡ None → set.contains (keys_in (slots_in trees)) q ≡ false
 no_key family f q planted e none = sym (key_at family f q (at (tree_of family f) (way q)) planted e refl) ∙ ap is_some none
-
--- ---- the first route, and the first above a prefix
-
-pub after_none : {R : Type 0} (trees : Trees R) → IsPlanted trees → either_of (first trees.v4) (first trees.v6) ≡ slice_get (above None (entries_in trees)) 0
-after_none f planted =
-    (λ i. either_of (first-routed f.v4 i) (first-routed f.v6 i))
-    ∙ sym (ap (λ s. slice_get s 0) (routed-append (slots_of f.v4) (slots_of f.v6)) ∙ first-append (routed (slots_of f.v4)) (routed (slots_of f.v6)))
-    ∙ ap (λ routes. slice_get routes 0) (routed-entries f planted ∙ sym (above-none (entries_in f)))
-
--- above a prefix of IPv4 stand all of IPv6
-pub after_v4 : {R : Type 0} (trees : Trees R) → IsPlanted trees → (low : Network) → low.family ≡ V4 → either_of (behind trees.v4 low) (first trees.v6) ≡ slice_get (above (Some low) (entries_in trees)) 0
-after_v4 f planted low e =
-    (λ i. either_of (behind-next f.v4 planted.v4 low i) (first-next low [] true f.v6 planted.v6 planted.sides.right (λ n h. (left_first [] (way low) (way n) (first_side low V4 e) h).0) i))
-    ∙ sym (next-append low (slots_of f.v4) (slots_of f.v6))
-    ∙ ap (λ routes. slice_get (above (Some low) routes) 0) (routed-entries f planted)
-
--- and above one of IPv6 none of IPv4
-pub after_v6 : {R : Type 0} (trees : Trees R) → IsPlanted trees → (low : Network) → low.family ≡ V6 → behind trees.v6 low ≡ slice_get (above (Some low) (entries_in trees)) 0
-after_v6 f planted low e =
-    (λ i. either_of (none-next low [] false f.v4 planted.v4 planted.sides.left (λ n h. (left_first [] (way n) (way low) h (first_side low V6 e)).1) i) (behind-next f.v6 planted.v6 low i))
-    ∙ sym (next-append low (slots_of f.v4) (slots_of f.v6))
-    ∙ ap (λ routes. slice_get (above (Some low) routes) 0) (routed-entries f planted)
-
--- ---- a key made sure of

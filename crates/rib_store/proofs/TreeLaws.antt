@@ -1,5 +1,5 @@
 -- Parts of trees: what stands at their ways, and on which side.
-use Rattle.std.proofs.Common.{◌≡◌, Bool, true, false, Option, Some, None, List, [], inl, inr, refl, ap, sym, subst, ◌∙◌}
+use Rattle.std.proofs.Common.{◌≡◌, Bool, true, false, cond, Option, Some, None, List, [], inl, inr, refl, ap, sym, subst, ◌∙◌}
 use Rattle.std.specs.Prelude.{IfSome, IsSome}
 use Rattle.ip_prefix.specs.declared.turn.Turn.{Turn}
 use Rattle.ip_prefix.specs.declared.turn.Turn.TheVariants.{Outside, Here, Left, Right}
@@ -11,33 +11,38 @@ use Rattle.rib_store.specs.Shape.{Empty, Rooted}
 use Rattle.rib_store.specs.Tree.{at, slot_of, chosen, root, AreSides, AreOf, IsOf, IsOn, IsRooted, IsShaped, Stands}
 use Rattle.rib_store.proofs.WayLaws.{beyond, turn_through, family_of}
 
-chosen_same : {A : Type 0} (t : Turn) (x : A) → x ≡ chosen t x x x x
+pub chosen_same : {A : Type 0} (t : Turn) (x : A) → x ≡ chosen t x x x x
 chosen_same Outside x = refl
 chosen_same Here x = refl
 chosen_same Left x = refl
 chosen_same Right x = refl
 
--- a tree on the left of the bits holds only keys there
+-- what a tree on a side of a way has, it has there alone
+pub there_alone : {A : Type 0} (none : A) (b x q : List Bool) (bit : Bool) (found : A) → turn_of b x ≡ side bit → (turn_of x q ≡ Outside → found ≡ none)
+    → found ≡ chosen (turn_of b q) none none (cond bit none found) (cond bit found none)
+there_alone none b x q bit found on away =
+    elim (beyond b x q bit on) [
+      | inl out ↦ away out ∙ flat bit ∙ ap (λ y. chosen (turn_of b q) none none (cond bit none y) (cond bit y none)) (sym (away out))
+      | inr there ↦ lies bit ∙ ap (λ t. chosen t none none (cond bit none found) (cond bit found none)) (sym there)
+    ]
+  where
+    flat : (bit : Bool) → none ≡ chosen (turn_of b q) none none (cond bit none none) (cond bit none none)
+    flat true = chosen_same (turn_of b q) none
+    flat false = chosen_same (turn_of b q) none
+
+    lies : (bit : Bool) → found ≡ chosen (side bit) none none (cond bit none found) (cond bit found none)
+    lies true = refl
+    lies false = refl
+
+-- so its keys on the left
 pub at_left : {R : Type 0} (b : List Bool) (t : Shape R) → IsOn b false t → (q : List Bool) → at t q ≡ chosen (turn_of b q) None None (at t q) None
 at_left b Empty on q = chosen_same (turn_of b q) None
-at_left b (Rooted prefix slot l r) on q =
-    elim (beyond b (way prefix) q false on) [
-      | inl out ↦
-          let none : at (Rooted prefix slot l r) q ≡ None = ap (λ t. chosen t None (slot_of slot) (at l q) (at r q)) out in
-          none ∙ chosen_same (turn_of b q) None ∙ ap (λ x. chosen (turn_of b q) None None x None) (sym none)
-      | inr there ↦ ap (λ t. chosen t None None (at (Rooted prefix slot l r) q) None) (sym there)
-    ]
+at_left b (Rooted prefix slot l r) on q = there_alone None b (way prefix) q false _ on (λ out. ap (λ t. chosen t None (slot_of slot) (at l q) (at r q)) out)
 
--- and so on the right
+-- and on the right
 pub at_right : {R : Type 0} (b : List Bool) (t : Shape R) → IsOn b true t → (q : List Bool) → at t q ≡ chosen (turn_of b q) None None None (at t q)
 at_right b Empty on q = chosen_same (turn_of b q) None
-at_right b (Rooted prefix slot l r) on q =
-    elim (beyond b (way prefix) q true on) [
-      | inl out ↦
-          let none : at (Rooted prefix slot l r) q ≡ None = ap (λ t. chosen t None (slot_of slot) (at l q) (at r q)) out in
-          none ∙ chosen_same (turn_of b q) None ∙ ap (λ x. chosen (turn_of b q) None None None x) (sym none)
-      | inr there ↦ ap (λ t. chosen t None None None (at (Rooted prefix slot l r) q)) (sym there)
-    ]
+at_right b (Rooted prefix slot l r) on q = there_alone None b (way prefix) q true _ on (λ out. ap (λ t. chosen t None (slot_of slot) (at l q) (at r q)) out)
 
 -- what lies below a node lies where the node does
 pub on_below : {R : Type 0} (child : Shape R) (bits b : List Bool) (bit s : Bool) → turn_of bits b ≡ side bit → IsOn b s child → IsOn bits bit child

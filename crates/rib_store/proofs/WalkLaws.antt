@@ -1,5 +1,5 @@
 -- What a tree has from the left to the right: its keys in order, each found by its way, and its routes.
-use Rattle.std.proofs.Common.{◌≡◌, ℕ, ◌+◌, Bool, true, false, cond, List, [], ◌∷◌, ◌++◌, length, Option, Some, None, slice_get, refl, sym, ap, subst, ◌∙◌, arith, length-append}
+use Rattle.std.proofs.Common.{◌≡◌, Bool, true, false, cond, List, [], ◌∷◌, ◌++◌, Option, Some, None, slice_get, refl, sym, ap, subst, ◌∙◌}
 use Rattle.std.specs.Prelude.{MatchOption}
 use Rattle.std.specs.Option.{option_map}
 use Rattle.std.specs.declared.cmp.Ordering.TheVariants.{Less}
@@ -7,7 +7,6 @@ use Rattle.std.specs.List.{AllByRecursion}
 use Rattle.std.specs.List.Sorted.{IsStrictlySortedBy}
 use Rattle.std.specs.Map.{keys_of}
 use Rattle.std.specs.Ordering.{eq_by_cmp, is_eq, is_lt}
-use Rattle.std.proofs.lemmas.List.Elements.{filter-append}
 use Rattle.ip_prefix.specs.declared.addr.Family.{Family}
 use Rattle.ip_prefix.specs.declared.addr.Family.TheVariants.{V4, V6}
 use Rattle.ip_prefix.specs.declared.turn.Turn.{Turn}
@@ -16,17 +15,14 @@ use Rattle.ip_prefix.specs.Network.{Network}
 use Rattle.ip_prefix.specs.Order.{bits_cmp, network_cmp}
 use Rattle.ip_prefix.specs.Turns.{family_bit, way, turn_of, side}
 use Rattle.octet_forms.proofs.Lists.{AllByRecursion-append}
-use Rattle.ip_prefix.proofs.Turns.{here_only}
-use Rattle.rib_store.specs.declared.tree.Slot.{Slot}
-use Rattle.rib_store.specs.declared.tree.Slot.TheVariants.{Branch, Vacant, Filled}
 use Rattle.rib_store.specs.Shape.{Shape}
 use Rattle.rib_store.specs.Shape.{Empty, Rooted}
 use Rattle.prefix_store.specs.Lookups.{is_above, above}
 use Rattle.rib_store.specs.Slots.{Slots, slot_at, routed}
-use Rattle.rib_store.specs.Tree.{at, own, slots_of, slot_of, chosen, same_way, AreSides, IsOn, IsRooted, IsShaped}
-use Rattle.rib_store.specs.Walks.{either_of, routed_at, first, behind}
+use Rattle.rib_store.specs.Tree.{at, own, slots_of, slot_of, chosen, same_way, AreSides, IsOn, IsShaped}
+use Rattle.rib_store.specs.Walks.{either_of, first}
 use Rattle.prefix_store.proofs.AboveLaws.{is_less}
-use Rattle.rib_store.proofs.WayLaws.{turn_through, below, not_itself, node_first, left_first, as_node}
+use Rattle.rib_store.proofs.WayLaws.{turn_through, below, node_first, left_first}
 use Rattle.rib_store.proofs.TreeLaws.{at_left, at_right}
 
 -- ---- prefixes by their ways
@@ -91,12 +87,6 @@ slot_at-own q prefix None below = nothing (eq_by_cmp network_cmp q prefix)
     nothing false = refl
 slot_at-own q prefix (Some slot) below =
     elim (eq_by_cmp network_cmp q prefix) as (λ b. cond b (Some slot) (slot_at below q) ≡ either_of (cond b (Some slot) None) (slot_at below q)) [ true ↦ refl | false ↦ refl ]
-
-routed-own : {R : Type 0} (prefix : Network) (slot : Option (Option R)) (below : Slots R) → slice_get (routed (own prefix slot below)) 0 ≡ either_of (routed_at prefix slot) (slice_get (routed below) 0)
-unfolding routed
-routed-own prefix None below = refl
-routed-own prefix (Some None) below = refl
-routed-own prefix (Some (Some route)) below = refl
 
 -- ---- each key is found by its way
 
@@ -173,45 +163,21 @@ sorted-slots_of (Rooted prefix slot l r) shaped =
     (all-on (λ y. network_cmp prefix y ≡ Less) (way prefix) false (under false) l shaped.2 shaped.0.left)
     (all-on (λ y. network_cmp prefix y ≡ Less) (way prefix) true (under true) r shaped.3 shaped.0.right))
 
--- ---- the first route, and the first behind a prefix
-
-pub first-routed : {R : Type 0} (t : Shape R) → first t ≡ slice_get (routed (slots_of t)) 0
-unfolding routed
-first-routed Empty = refl
-first-routed (Rooted prefix slot l r) =
-    ap (either_of (routed_at prefix (slot_of slot))) ((λ i. either_of (first-routed l i) (first-routed r i)) ∙ sym (ap (λ s. slice_get s 0) (routed-append (slots_of l) (slots_of r)) ∙ first-append (routed (slots_of l)) (routed (slots_of r))))
-    ∙ sym (routed-own prefix (slot_of slot) (slots_of l ++ slots_of r))
-
--- the first route above a prefix
-abbrev pub next : {R : Type 0} → Network → Slots R → Option (Network × R)
-next low slots = slice_get (above (Some low) (routed slots)) 0
+-- ---- the routes above a prefix
 
 -- all keys are above
-pub next-all : {R : Type 0} (low : Network) (slots : Slots R) → AllByRecursion (λ n. is_above (Some low) n ≡ true) (keys_of slots) → above (Some low) (routed slots) ≡ routed slots
+pub above-all : {R : Type 0} (low : Network) (slots : Slots R) → AllByRecursion (λ n. is_above (Some low) n ≡ true) (keys_of slots) → above (Some low) (routed slots) ≡ routed slots
 unfolding routed
-next-all low [] all = refl
-next-all low ((prefix, None) ∷ slots) all = next-all low slots all.1
-next-all low ((prefix, Some route) ∷ slots) all = (λ i. cond (all.0 i) ((prefix, route) ∷ above (Some low) (routed slots)) (above (Some low) (routed slots))) ∙ ap (λ l. (prefix, route) ∷ l) (next-all low slots all.1)
+above-all low [] all = refl
+above-all low ((prefix, None) ∷ slots) all = above-all low slots all.1
+above-all low ((prefix, Some route) ∷ slots) all = (λ i. cond (all.0 i) ((prefix, route) ∷ above (Some low) (routed slots)) (above (Some low) (routed slots))) ∙ ap (λ l. (prefix, route) ∷ l) (above-all low slots all.1)
 
 -- none is
-pub next-none : {R : Type 0} (low : Network) (slots : Slots R) → AllByRecursion (λ n. is_above (Some low) n ≡ false) (keys_of slots) → above (Some low) (routed slots) ≡ []
+pub above-no : {R : Type 0} (low : Network) (slots : Slots R) → AllByRecursion (λ n. is_above (Some low) n ≡ false) (keys_of slots) → above (Some low) (routed slots) ≡ []
 unfolding routed
-next-none low [] all = refl
-next-none low ((prefix, None) ∷ slots) all = next-none low slots all.1
-next-none low ((prefix, Some route) ∷ slots) all = (λ i. cond (all.0 i) ((prefix, route) ∷ above (Some low) (routed slots)) (above (Some low) (routed slots))) ∙ next-none low slots all.1
-
-pub next-append : {R : Type 0} (low : Network) (xs ys : Slots R) → next low (xs ++ ys) ≡ either_of (next low xs) (next low ys)
-next-append low xs ys =
-    ap (λ s. slice_get (above (Some low) s) 0) (routed-append xs ys)
-    ∙ ap (λ s. slice_get s 0) (filter-append (λ route. is_above (Some low) route.0) (routed xs) (routed ys))
-    ∙ first-append (above (Some low) (routed xs)) (above (Some low) (routed ys))
-
--- the node itself isn't above
-next-own : {R : Type 0} (low prefix : Network) (slot : Option (Option R)) (below : Slots R) → is_above (Some low) prefix ≡ false → next low (own prefix slot below) ≡ next low below
-unfolding routed
-next-own low prefix None below e = refl
-next-own low prefix (Some None) below e = refl
-next-own low prefix (Some (Some route)) below e = λ i. slice_get (cond (e i) ((prefix, route) ∷ above (Some low) (routed below)) (above (Some low) (routed below))) 0
+above-no low [] all = refl
+above-no low ((prefix, None) ∷ slots) all = above-no low slots all.1
+above-no low ((prefix, Some route) ∷ slots) all = (λ i. cond (all.0 i) ((prefix, route) ∷ above (Some low) (routed slots)) (above (Some low) (routed slots))) ∙ above-no low slots all.1
 
 -- whether a prefix is above, by the ways
 pub above-ways : (low n : Network) → is_above (Some low) n ≡ below (way low) (way n)
@@ -224,85 +190,6 @@ no_turn false e = cc
 -- a way that a node has below it isn't outside
 pub not_out : (b x : List Bool) (s : Bool) → turn_of b x ≡ side s → turn_of b x ≡ Outside → ⊥
 not_out b x s e h = no_turn s (sym h ∙ e)
-
--- all keys of a tree on a side are above, where all that lies there is
-pub first-next : {R : Type 0} (low : Network) (from : List Bool) (bit : Bool) (t : Shape R) → IsShaped t → IsOn from bit t → ((n : Network) → turn_of from (way n) ≡ side bit → below (way low) (way n) ≡ true) → first t ≡ next low (slots_of t)
-first-next low from bit t shaped on holds =
-    first-routed t ∙ sym (ap (λ l. slice_get l 0) (next-all low (slots_of t) (all-on (λ n. is_above (Some low) n ≡ true) from bit (λ n h. above-ways low n ∙ holds n h) t shaped on)))
-
--- and none is, where none there is
-pub none-next : {R : Type 0} (low : Network) (from : List Bool) (bit : Bool) (t : Shape R) → IsShaped t → IsOn from bit t → ((n : Network) → turn_of from (way n) ≡ side bit → below (way low) (way n) ≡ false) → None ≡ next low (slots_of t)
-none-next low from bit t shaped on holds =
-    sym (ap (λ l. slice_get l 0) (next-none low (slots_of t) (all-on (λ n. is_above (Some low) n ≡ false) from bit (λ n h. above-ways low n ∙ holds n h) t shaped on)))
-
-pub behind-next : {R : Type 0} (t : Shape R) → IsShaped t → (low : Network) → behind t low ≡ next low (slots_of t)
-unfolding routed
-behind-next Empty shaped low = refl
-behind-next {R} (Rooted prefix slot l r) shaped low = turns (turn_of (way prefix) (way low)) refl (behind-next l shaped.2 low) (behind-next r shaped.3 low)
-  where
-    whole : Shape R
-    whole = Rooted prefix slot l r
-
-    all_keys : (P : Network → Type 0) → P prefix → ((s : Bool) (n : Network) → turn_of (way prefix) (way n) ≡ side s → P n) → AllByRecursion P (keys_of (slots_of whole))
-    all_keys P here holds =
-        AllKeys-own P prefix (slot_of slot) (slots_of l ++ slots_of r) here
-        (AllKeys-append P (slots_of l) (slots_of r) (all-on P (way prefix) false (holds false) l shaped.2 shaped.0.left) (all-on P (way prefix) true (holds true) r shaped.3 shaped.0.right))
-
-    outside : (b : Bool) → is_lt (network_cmp low prefix) ≡ b → turn_of (way prefix) (way low) ≡ Outside → cond b (first whole) None ≡ next low (slots_of whole)
-    outside true e out =
-        first-routed whole ∙ sym (ap (λ s. slice_get s 0) (next-all low (slots_of whole) (all_keys (λ n. is_above (Some low) n ≡ true) e
-        (λ s n h. above-ways low n ∙ as_node (way prefix) (way low) (way n) out (not_out (way prefix) (way n) s h) ∙ sym (above-ways low prefix) ∙ e))))
-    outside false e out =
-        sym (ap (λ s. slice_get s 0) (next-none low (slots_of whole) (all_keys (λ n. is_above (Some low) n ≡ false) e
-        (λ s n h. above-ways low n ∙ as_node (way prefix) (way low) (way n) out (not_out (way prefix) (way n) s h) ∙ sym (above-ways low prefix) ∙ e))))
-
-    -- where the node isn't above, by what is on its sides
-    sides : (x y : Option (Network × R)) → is_above (Some low) prefix ≡ false → x ≡ next low (slots_of l) → y ≡ next low (slots_of r) → either_of x y ≡ next low (slots_of whole)
-    sides x y e f g = (λ i. either_of (f i) (g i)) ∙ sym (next-append low (slots_of l) (slots_of r)) ∙ sym (next-own low prefix (slot_of slot) (slots_of l ++ slots_of r) e)
-
-    turns : (k : Turn) → turn_of (way prefix) (way low) ≡ k → behind l low ≡ next low (slots_of l) → behind r low ≡ next low (slots_of r)
-        → chosen k (cond (is_lt (network_cmp low prefix)) (first whole) None) (either_of (first l) (first r)) (either_of (behind l low) (first r)) (behind r low) ≡ next low (slots_of whole)
-    turns Outside e f g = outside (is_lt (network_cmp low prefix)) refl e
-    turns Here e f g =
-        let same : way prefix ≡ way low = here_only (way prefix) (way low) e in
-        let under = λ (s : Bool) (n : Network) (h : turn_of (way prefix) (way n) ≡ side s). ap (λ x. below x (way n)) (sym same) ∙ (node_first (way prefix) (way n) s h).0 in
-        sides (first l) (first r) (above-ways low prefix ∙ ap (below (way low)) same ∙ not_itself (way low)) (first-next low (way prefix) false l shaped.2 shaped.0.left (under false)) (first-next low (way prefix) true r shaped.3 shaped.0.right (under true))
-    turns Left e f g =
-        sides (behind l low) (first r) (above-ways low prefix ∙ (node_first (way prefix) (way low) false e).1) f (first-next low (way prefix) true r shaped.3 shaped.0.right (λ n h. (left_first (way prefix) (way low) (way n) e h).0))
-    turns Right e f g =
-        sides None (behind r low) (above-ways low prefix ∙ (node_first (way prefix) (way low) true e).1)
-        (none-next low (way prefix) false l shaped.2 shaped.0.left (λ n h. (left_first (way prefix) (way n) (way low) h e).1)) g
-
--- ---- how many routes there are
-
--- one, where the slot has a route
-abbrev pub routes_at : {R : Type 0} → Option (Option R) → ℕ
-routes_at None = 0
-routes_at (Some None) = 0
-routes_at (Some (Some route)) = 1
-
--- and none where it has none
-pub routes_at-none : {R : Type 0} (slot : Slot R) → ((route : R) → slot ≡ Filled route → ⊥) → routes_at (slot_of slot) ≡ 0
-routes_at-none Branch none = refl
-routes_at-none Vacant none = refl
-routes_at-none (Filled route) none = absurd (none route refl)
-
-pub length-routed-append : {R : Type 0} (xs ys : Slots R) → length (routed (xs ++ ys)) ≡ length (routed xs) + length (routed ys)
-length-routed-append xs ys = ap length (routed-append xs ys) ∙ length-append (routed xs) (routed ys)
-
-length-routed-own : {R : Type 0} (prefix : Network) (slot : Option (Option R)) (below : Slots R) → length (routed (own prefix slot below)) ≡ routes_at slot + length (routed below)
-unfolding routed
-length-routed-own prefix None below = omega arith
-length-routed-own prefix (Some None) below = omega arith
-length-routed-own prefix (Some (Some route)) below = omega arith
-
--- those of a tree are its root's and its children's
-pub length-routed-rooted : {R : Type 0} (t : Shape R) (prefix : Network) (slot : Option (Option R)) (l r : Shape R) → IsRooted prefix slot l r t
-    → length (routed (slots_of t)) ≡ routes_at slot + (length (routed (slots_of l)) + length (routed (slots_of r)))
-length-routed-rooted Empty prefix slot l r is = absurd is
-length-routed-rooted (Rooted prefix' slot' l' r') prefix slot l r is =
-    length-routed-own prefix' (slot_of slot') (slots_of l' ++ slots_of r')
-    ∙ (λ i. routes_at (is.3 i) + (length-routed-append (slots_of l') (slots_of r') ∙ (λ j. length (routed (slots_of (is.1 j))) + length (routed (slots_of (is.2 j))))) i)
 
 -- ---- what a walk answers
 

@@ -1,5 +1,5 @@
 -- Ways and their turns.
-use Rattle.std.proofs.Common.{◌≡◌, ◌+◌, ◌<◌, Bool, true, false, not, List, [], ◌∷◌, length, ◌⊎◌, inl, inr, refl, ap, sym, ◌∙◌, arith}
+use Rattle.std.proofs.Common.{◌≡◌, ◌+◌, ◌<◌, Bool, true, false, not, List, [], ◌∷◌, ◌++◌, length, length-append, subst, ◌⊎◌, inl, inr, refl, ap, sym, ◌∙◌, arith}
 use Rattle.std.specs.Ordering.{is_lt}
 use Rattle.ip_prefix.specs.declared.turn.Turn.{Turn}
 use Rattle.ip_prefix.specs.declared.turn.Turn.TheVariants.{Outside, Here, Left, Right}
@@ -21,27 +21,58 @@ same_is a b e = here_only a b (here (turn_of a b) e)
     here Left e = cc
     here Right e = cc
 
+-- ---- what a way begins with
+
+-- what lies on a side of a way goes on by its bit
+on_side : (b x : List Bool) (s : Bool) → turn_of b x ≡ side s → (rest : List Bool) × (x ≡ b ++ s ∷ rest)
+on_side [] [] true e = cc
+on_side [] [] false e = cc
+on_side [] (true ∷ x) true e = (x, refl)
+on_side [] (true ∷ x) false e = cc
+on_side [] (false ∷ x) true e = cc
+on_side [] (false ∷ x) false e = (x, refl)
+on_side (y ∷ b) [] true e = cc
+on_side (y ∷ b) [] false e = cc
+on_side (true ∷ b) (true ∷ x) s e = let o = on_side b x s e in (o.0, ap (λ l. true ∷ l) o.1)
+on_side (true ∷ b) (false ∷ x) true e = cc
+on_side (true ∷ b) (false ∷ x) false e = cc
+on_side (false ∷ b) (true ∷ x) true e = cc
+on_side (false ∷ b) (true ∷ x) false e = cc
+on_side (false ∷ b) (false ∷ x) s e = let o = on_side b x s e in (o.0, ap (λ l. false ∷ l) o.1)
+
+-- so what holds of all that go on so holds of it
+by_side : (P : List Bool → Type 0) (b x : List Bool) (s : Bool) → turn_of b x ≡ side s → ((rest : List Bool) → P (b ++ s ∷ rest)) → P x
+by_side P b x s e all = let o = on_side b x s e in subst P (sym o.1) (all o.0)
+
+-- what isn't outside of a way goes on from it
+inside : (b x : List Bool) → (turn_of b x ≡ Outside → ⊥) → (rest : List Bool) × (x ≡ b ++ rest)
+inside [] x h = (x, refl)
+inside (y ∷ b) [] h = absurd (h refl)
+inside (true ∷ b) (true ∷ x) h = let o = inside b x h in (o.0, ap (λ l. true ∷ l) o.1)
+inside (true ∷ b) (false ∷ x) h = absurd (h refl)
+inside (false ∷ b) (true ∷ x) h = absurd (h refl)
+inside (false ∷ b) (false ∷ x) h = let o = inside b x h in (o.0, ap (λ l. false ∷ l) o.1)
+
+by_inside : (P : List Bool → Type 0) (b x : List Bool) → (turn_of b x ≡ Outside → ⊥) → ((rest : List Bool) → P (b ++ rest)) → P x
+by_inside P b x h all = let o = inside b x h in subst P (sym o.1) (all o.0)
+
+-- ---- turns from one way and from another
+
 -- what doesn't lie on a node's side is outside what lies there
 pub beyond : (b x q : List Bool) (bit : Bool) → turn_of b x ≡ side bit → (turn_of x q ≡ Outside) ⊎ (turn_of b q ≡ side bit)
-beyond [] [] q true e = cc
-beyond [] [] q false e = cc
-beyond [] (true ∷ x) [] bit e = inl refl
-beyond [] (true ∷ x) (true ∷ q) bit e = inr e
-beyond [] (true ∷ x) (false ∷ q) bit e = inl refl
-beyond [] (false ∷ x) [] bit e = inl refl
-beyond [] (false ∷ x) (true ∷ q) bit e = inl refl
-beyond [] (false ∷ x) (false ∷ q) bit e = inr e
-beyond (y ∷ b) [] q true e = cc
-beyond (y ∷ b) [] q false e = cc
-beyond (y ∷ b) (z ∷ x) [] bit e = inl refl
-beyond (true ∷ b) (true ∷ x) (true ∷ q) bit e = beyond b x q bit e
-beyond (true ∷ b) (true ∷ x) (false ∷ q) bit e = inl refl
-beyond (true ∷ b) (false ∷ x) q true e = cc
-beyond (true ∷ b) (false ∷ x) q false e = cc
-beyond (false ∷ b) (true ∷ x) q true e = cc
-beyond (false ∷ b) (true ∷ x) q false e = cc
-beyond (false ∷ b) (false ∷ x) (true ∷ q) bit e = inl refl
-beyond (false ∷ b) (false ∷ x) (false ∷ q) bit e = beyond b x q bit e
+beyond b x q bit e = by_side (λ x. (turn_of x q ≡ Outside) ⊎ (turn_of b q ≡ side bit)) b x bit e (go b q bit)
+  where
+    go : (b q : List Bool) (bit : Bool) (rest : List Bool) → (turn_of (b ++ bit ∷ rest) q ≡ Outside) ⊎ (turn_of b q ≡ side bit)
+    go [] [] bit rest = inl refl
+    go [] (true ∷ q) true rest = inr refl
+    go [] (true ∷ q) false rest = inl refl
+    go [] (false ∷ q) true rest = inl refl
+    go [] (false ∷ q) false rest = inr refl
+    go (y ∷ b) [] bit rest = inl refl
+    go (true ∷ b) (true ∷ q) bit rest = go b q bit rest
+    go (true ∷ b) (false ∷ q) bit rest = inl refl
+    go (false ∷ b) (true ∷ q) bit rest = inl refl
+    go (false ∷ b) (false ∷ q) bit rest = go b q bit rest
 
 -- what lies below a node on a side lies there with the node
 pub turn_through : (a b c : List Bool) (s t : Bool) → turn_of a b ≡ side s → turn_of b c ≡ side t → turn_of a c ≡ side s
@@ -53,39 +84,24 @@ turn_through a b c s t e h = elim (beyond a b c s e) [ inl out ↦ absurd (no_si
 
 -- two on one side share bits there
 pub turn_shared : (a b c : List Bool) (s : Bool) → turn_of a b ≡ side s → turn_of a c ≡ side s → turn_of a (shared b c) ≡ side s
-turn_shared [] [] c true e h = cc
-turn_shared [] [] c false e h = cc
-turn_shared [] (x ∷ b) [] true e h = cc
-turn_shared [] (x ∷ b) [] false e h = cc
-turn_shared [] (true ∷ b) (true ∷ c) s e h = e
-turn_shared [] (true ∷ b) (false ∷ c) true e h = cc
-turn_shared [] (true ∷ b) (false ∷ c) false e h = cc
-turn_shared [] (false ∷ b) (true ∷ c) true e h = cc
-turn_shared [] (false ∷ b) (true ∷ c) false e h = cc
-turn_shared [] (false ∷ b) (false ∷ c) s e h = e
-turn_shared (x ∷ a) [] c true e h = cc
-turn_shared (x ∷ a) [] c false e h = cc
-turn_shared (x ∷ a) (y ∷ b) [] true e h = cc
-turn_shared (x ∷ a) (y ∷ b) [] false e h = cc
-turn_shared (true ∷ a) (true ∷ b) (true ∷ c) s e h = turn_shared a b c s e h
-turn_shared (true ∷ a) (true ∷ b) (false ∷ c) true e h = cc
-turn_shared (true ∷ a) (true ∷ b) (false ∷ c) false e h = cc
-turn_shared (true ∷ a) (false ∷ b) (z ∷ c) true e h = cc
-turn_shared (true ∷ a) (false ∷ b) (z ∷ c) false e h = cc
-turn_shared (false ∷ a) (true ∷ b) (z ∷ c) true e h = cc
-turn_shared (false ∷ a) (true ∷ b) (z ∷ c) false e h = cc
-turn_shared (false ∷ a) (false ∷ b) (true ∷ c) true e h = cc
-turn_shared (false ∷ a) (false ∷ b) (true ∷ c) false e h = cc
-turn_shared (false ∷ a) (false ∷ b) (false ∷ c) s e h = turn_shared a b c s e h
+turn_shared a b c s e h =
+    by_side (λ b. turn_of a (shared b c) ≡ side s) a b s e
+    (λ x. by_side (λ c. turn_of a (shared (a ++ s ∷ x) c) ≡ side s) a c s h (λ y. go a s x y))
+  where
+    go : (a : List Bool) (s : Bool) (x y : List Bool) → turn_of a (shared (a ++ s ∷ x) (a ++ s ∷ y)) ≡ side s
+    go [] true x y = refl
+    go [] false x y = refl
+    go (true ∷ a) s x y = go a s x y
+    go (false ∷ a) s x y = go a s x y
 
 -- a key that begins with the bits shares all of them
 pub shared_inside : (b k : List Bool) → (turn_of b k ≡ Outside → ⊥) → shared b k ≡ b
-shared_inside [] k h = refl
-shared_inside (x ∷ b) [] h = absurd (h refl)
-shared_inside (true ∷ b) (true ∷ k) h = ap (λ l. true ∷ l) (shared_inside b k h)
-shared_inside (true ∷ b) (false ∷ k) h = absurd (h refl)
-shared_inside (false ∷ b) (true ∷ k) h = absurd (h refl)
-shared_inside (false ∷ b) (false ∷ k) h = ap (λ l. false ∷ l) (shared_inside b k h)
+shared_inside b k h = by_inside (λ k. shared b k ≡ b) b k h (go b)
+  where
+    go : (b rest : List Bool) → shared b (b ++ rest) ≡ b
+    go [] rest = refl
+    go (true ∷ b) rest = ap (λ l. true ∷ l) (go b rest)
+    go (false ∷ b) rest = ap (λ l. false ∷ l) (go b rest)
 
 -- bits and a key outside of them part behind what they share
 pub record Parts (b k : List Bool) : Type 0 where
@@ -124,85 +140,63 @@ outside_above b q s e = elim (beyond b q b s e) [ inl out ↦ out | inr there �
 
 -- what parts from the bits parts from all below them
 pub outside_below : (q b k : List Bool) (s : Bool) → turn_of q b ≡ Outside → turn_of b q ≡ Outside → turn_of b k ≡ side s → turn_of q k ≡ Outside
-outside_below [] [] k s e h there = cc
-outside_below [] (true ∷ b) k s e h there = cc
-outside_below [] (false ∷ b) k s e h there = cc
-outside_below (x ∷ q) [] k s e h there = no_out x h
+outside_below q b k s e h there = by_side (λ k. turn_of q k ≡ Outside) b k s there (λ rest. go q b (s ∷ rest) e h)
   where
-    no_out : (x : Bool) → turn_of [] (x ∷ q) ≡ Outside → turn_of (x ∷ q) k ≡ Outside
-    no_out true h = cc
-    no_out false h = cc
-outside_below (x ∷ q) (y ∷ b) [] s e h there = refl
-outside_below (true ∷ q) (true ∷ b) (true ∷ k) s e h there = outside_below q b k s e h there
-outside_below (true ∷ q) (true ∷ b) (false ∷ k) s e h there = refl
-outside_below (true ∷ q) (false ∷ b) (true ∷ k) true e h there = cc
-outside_below (true ∷ q) (false ∷ b) (true ∷ k) false e h there = cc
-outside_below (true ∷ q) (false ∷ b) (false ∷ k) s e h there = refl
-outside_below (false ∷ q) (true ∷ b) (true ∷ k) s e h there = refl
-outside_below (false ∷ q) (true ∷ b) (false ∷ k) true e h there = cc
-outside_below (false ∷ q) (true ∷ b) (false ∷ k) false e h there = cc
-outside_below (false ∷ q) (false ∷ b) (true ∷ k) s e h there = refl
-outside_below (false ∷ q) (false ∷ b) (false ∷ k) s e h there = outside_below q b k s e h there
+    go : (q b rest : List Bool) → turn_of q b ≡ Outside → turn_of b q ≡ Outside → turn_of q (b ++ rest) ≡ Outside
+    go [] [] rest e h = cc
+    go [] (true ∷ b) rest e h = cc
+    go [] (false ∷ b) rest e h = cc
+    go (true ∷ q) [] rest e h = cc
+    go (false ∷ q) [] rest e h = cc
+    go (true ∷ q) (true ∷ b) rest e h = go q b rest e h
+    go (true ∷ q) (false ∷ b) rest e h = refl
+    go (false ∷ q) (true ∷ b) rest e h = refl
+    go (false ∷ q) (false ∷ b) rest e h = go q b rest e h
 
 -- ---- ways that begin with others
 
 -- what begins with the bits isn't begun by a key outside of them
 pub begin_outside : (b q key : List Bool) → turn_of b key ≡ Outside → (turn_of b q ≡ Outside → ⊥) → begin_with q key ≡ false
-begin_outside [] q [] e h = cc
-begin_outside [] q (true ∷ key) e h = cc
-begin_outside [] q (false ∷ key) e h = cc
-begin_outside (x ∷ b) [] key e h = absurd (h refl)
-begin_outside (x ∷ b) (y ∷ q) [] e h = refl
-begin_outside (true ∷ b) (true ∷ q) (true ∷ key) e h = begin_outside b q key e h
-begin_outside (true ∷ b) (true ∷ q) (false ∷ key) e h = refl
-begin_outside (true ∷ b) (false ∷ q) key e h = absurd (h refl)
-begin_outside (false ∷ b) (true ∷ q) key e h = absurd (h refl)
-begin_outside (false ∷ b) (false ∷ q) (true ∷ key) e h = refl
-begin_outside (false ∷ b) (false ∷ q) (false ∷ key) e h = begin_outside b q key e h
+begin_outside b q key e h = by_inside (λ q. begin_with q key ≡ false) b q h (go b key e)
+  where
+    go : (b key : List Bool) → turn_of b key ≡ Outside → (rest : List Bool) → begin_with (b ++ rest) key ≡ false
+    go [] [] e rest = cc
+    go [] (true ∷ key) e rest = cc
+    go [] (false ∷ key) e rest = cc
+    go (x ∷ b) [] e rest = refl
+    go (true ∷ b) (true ∷ key) e rest = go b key e rest
+    go (true ∷ b) (false ∷ key) e rest = refl
+    go (false ∷ b) (true ∷ key) e rest = refl
+    go (false ∷ b) (false ∷ key) e rest = go b key e rest
 
 -- nor is what lies on a side by a key that isn't there
 pub begin_side : (b q key : List Bool) (s : Bool) → turn_of b q ≡ side s → (turn_of b key ≡ side s → ⊥) → begin_with q key ≡ false
-begin_side [] [] key true e h = cc
-begin_side [] [] key false e h = cc
-begin_side [] (x ∷ q) [] s e h = refl
-begin_side [] (true ∷ q) (true ∷ key) s e h = absurd (h e)
-begin_side [] (true ∷ q) (false ∷ key) s e h = refl
-begin_side [] (false ∷ q) (true ∷ key) s e h = refl
-begin_side [] (false ∷ q) (false ∷ key) s e h = absurd (h e)
-begin_side (x ∷ b) [] key true e h = cc
-begin_side (x ∷ b) [] key false e h = cc
-begin_side (x ∷ b) (y ∷ q) [] s e h = refl
-begin_side (true ∷ b) (true ∷ q) (true ∷ key) s e h = begin_side b q key s e h
-begin_side (true ∷ b) (true ∷ q) (false ∷ key) s e h = refl
-begin_side (true ∷ b) (false ∷ q) (z ∷ key) true e h = cc
-begin_side (true ∷ b) (false ∷ q) (z ∷ key) false e h = cc
-begin_side (false ∷ b) (true ∷ q) (z ∷ key) true e h = cc
-begin_side (false ∷ b) (true ∷ q) (z ∷ key) false e h = cc
-begin_side (false ∷ b) (false ∷ q) (true ∷ key) s e h = refl
-begin_side (false ∷ b) (false ∷ q) (false ∷ key) s e h = begin_side b q key s e h
+begin_side b q key s e h = by_side (λ q. begin_with q key ≡ false) b q s e (go b key s h)
+  where
+    go : (b key : List Bool) (s : Bool) → (turn_of b key ≡ side s → ⊥) → (rest : List Bool) → begin_with (b ++ s ∷ rest) key ≡ false
+    go [] [] s h rest = refl
+    go [] (true ∷ key) true h rest = absurd (h refl)
+    go [] (true ∷ key) false h rest = refl
+    go [] (false ∷ key) true h rest = refl
+    go [] (false ∷ key) false h rest = absurd (h refl)
+    go (x ∷ b) [] s h rest = refl
+    go (true ∷ b) (true ∷ key) s h rest = go b key s h rest
+    go (true ∷ b) (false ∷ key) s h rest = refl
+    go (false ∷ b) (true ∷ key) s h rest = refl
+    go (false ∷ b) (false ∷ key) s h rest = go b key s h rest
 
 -- a key begins with the bits that it isn't outside of
 pub begin_in : (b key : List Bool) → (turn_of b key ≡ Outside → ⊥) → begin_with b key ≡ true
-begin_in [] key h = refl
-begin_in (x ∷ b) [] h = absurd (h refl)
-begin_in (true ∷ b) (true ∷ key) h = begin_in b key h
-begin_in (true ∷ b) (false ∷ key) h = absurd (h refl)
-begin_in (false ∷ b) (true ∷ key) h = absurd (h refl)
-begin_in (false ∷ b) (false ∷ key) h = begin_in b key h
+begin_in b key h = by_inside (λ key. begin_with b key ≡ true) b key h (go b)
+  where
+    go : (b rest : List Bool) → begin_with b (b ++ rest) ≡ true
+    go [] rest = refl
+    go (true ∷ b) rest = go b rest
+    go (false ∷ b) rest = go b rest
 
 -- what lies on a side is longer
 pub turn_longer : (b k : List Bool) (bit : Bool) → turn_of b k ≡ side bit → length b < length k
-turn_longer [] [] true e = cc
-turn_longer [] [] false e = cc
-turn_longer [] (x ∷ k) bit e = omega arith
-turn_longer (x ∷ b) [] true e = cc
-turn_longer (x ∷ b) [] false e = cc
-turn_longer (true ∷ b) (true ∷ k) bit e = omega (arith, turn_longer b k bit e)
-turn_longer (true ∷ b) (false ∷ k) true e = cc
-turn_longer (true ∷ b) (false ∷ k) false e = cc
-turn_longer (false ∷ b) (true ∷ k) true e = cc
-turn_longer (false ∷ b) (true ∷ k) false e = cc
-turn_longer (false ∷ b) (false ∷ k) bit e = omega (arith, turn_longer b k bit e)
+turn_longer b k bit e = by_side (λ k. length b < length k) b k bit e (λ rest. omega (arith, length-append b (bit ∷ rest)))
 
 -- ---- the order
 
@@ -216,47 +210,37 @@ not_itself (false ∷ x) = not_itself x
 
 -- a node is before what lies below it
 pub node_first : (b x : List Bool) (s : Bool) → turn_of b x ≡ side s → (below b x ≡ true) × (below x b ≡ false)
-node_first [] [] true e = cc
-node_first [] [] false e = cc
-node_first [] (y ∷ x) s e = (refl, refl)
-node_first (y ∷ b) [] true e = cc
-node_first (y ∷ b) [] false e = cc
-node_first (true ∷ b) (true ∷ x) s e = node_first b x s e
-node_first (true ∷ b) (false ∷ x) true e = cc
-node_first (true ∷ b) (false ∷ x) false e = cc
-node_first (false ∷ b) (true ∷ x) true e = cc
-node_first (false ∷ b) (true ∷ x) false e = cc
-node_first (false ∷ b) (false ∷ x) s e = node_first b x s e
+node_first b x s e = by_side (λ x. (below b x ≡ true) × (below x b ≡ false)) b x s e (go b)
+  where
+    go : (b rest : List Bool) → (below b (b ++ s ∷ rest) ≡ true) × (below (b ++ s ∷ rest) b ≡ false)
+    go [] rest = (refl, refl)
+    go (true ∷ b) rest = go b rest
+    go (false ∷ b) rest = go b rest
 
 -- the left side is before the right one
 pub left_first : (b x y : List Bool) → turn_of b x ≡ Left → turn_of b y ≡ Right → (below x y ≡ true) × (below y x ≡ false)
-left_first [] [] y e f = cc
-left_first [] (true ∷ x) y e f = cc
-left_first [] (false ∷ x) [] e f = cc
-left_first [] (false ∷ x) (true ∷ y) e f = (refl, refl)
-left_first [] (false ∷ x) (false ∷ y) e f = cc
-left_first (z ∷ b) [] y e f = cc
-left_first (z ∷ b) (w ∷ x) [] e f = cc
-left_first (true ∷ b) (true ∷ x) (true ∷ y) e f = left_first b x y e f
-left_first (true ∷ b) (true ∷ x) (false ∷ y) e f = cc
-left_first (true ∷ b) (false ∷ x) (w ∷ y) e f = cc
-left_first (false ∷ b) (true ∷ x) (w ∷ y) e f = cc
-left_first (false ∷ b) (false ∷ x) (true ∷ y) e f = cc
-left_first (false ∷ b) (false ∷ x) (false ∷ y) e f = left_first b x y e f
+left_first b x y e f =
+    by_side (λ x. (below x y ≡ true) × (below y x ≡ false)) b x false e
+    (λ left. by_side (λ y. (below (b ++ false ∷ left) y ≡ true) × (below y (b ++ false ∷ left) ≡ false)) b y true f (go b left))
+  where
+    go : (b left right : List Bool) → (below (b ++ false ∷ left) (b ++ true ∷ right) ≡ true) × (below (b ++ true ∷ right) (b ++ false ∷ left) ≡ false)
+    go [] left right = (refl, refl)
+    go (true ∷ b) left right = go b left right
+    go (false ∷ b) left right = go b left right
 
 -- a key outside of a node stands to all below it as to the node
 pub as_node : (b key x : List Bool) → turn_of b key ≡ Outside → (turn_of b x ≡ Outside → ⊥) → below key x ≡ below key b
-as_node [] [] x e h = cc
-as_node [] (true ∷ key) x e h = cc
-as_node [] (false ∷ key) x e h = cc
-as_node (y ∷ b) key [] e h = absurd (h refl)
-as_node (y ∷ b) [] (z ∷ x) e h = refl
-as_node (true ∷ b) (true ∷ key) (true ∷ x) e h = as_node b key x e h
-as_node (true ∷ b) (false ∷ key) (true ∷ x) e h = refl
-as_node (true ∷ b) key (false ∷ x) e h = absurd (h refl)
-as_node (false ∷ b) key (true ∷ x) e h = absurd (h refl)
-as_node (false ∷ b) (true ∷ key) (false ∷ x) e h = refl
-as_node (false ∷ b) (false ∷ key) (false ∷ x) e h = as_node b key x e h
+as_node b key x e h = by_inside (λ x. below key x ≡ below key b) b x h (go b key e)
+  where
+    go : (b key : List Bool) → turn_of b key ≡ Outside → (rest : List Bool) → below key (b ++ rest) ≡ below key b
+    go [] [] e rest = cc
+    go [] (true ∷ key) e rest = cc
+    go [] (false ∷ key) e rest = cc
+    go (y ∷ b) [] e rest = refl
+    go (true ∷ b) (true ∷ key) e rest = go b key e rest
+    go (true ∷ b) (false ∷ key) e rest = refl
+    go (false ∷ b) (true ∷ key) e rest = refl
+    go (false ∷ b) (false ∷ key) e rest = go b key e rest
 
 -- ---- the ways of prefixes
 

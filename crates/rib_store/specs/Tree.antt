@@ -104,11 +104,6 @@ abbrev pub emptied : {R : Type 0} → Shape R → Shape R
 emptied Empty = Empty
 emptied (Rooted prefix slot left right) = Rooted prefix (vacated slot) (emptied left) (emptied right)
 
--- the slot of a key that was there, or a vacant one
-abbrev pub kept : {R : Type 0} → Option (Option R) → Option (Option R)
-kept None = Some None
-kept (Some slot) = Some slot
-
 -- the way to the root once a key is there
 abbrev pub joined : Option (List Bool) → List Bool → List Bool
 joined None key = key

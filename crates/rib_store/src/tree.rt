@@ -191,7 +191,7 @@ impl<R> Slot<R> {
     }
 
     /// A key's room, and the route in it.
-    fn kept(&self) -> Option<Option<&R>>
+    pub(crate) fn kept(&self) -> Option<Option<&R>>
         ensures { option_map (λ slot. option_copied slot) result ≡ slot_of self.now }
     {
         match self {

@@ -3,9 +3,8 @@
 ghost use Rattle.std.specs.Prelude.{◌≡◌, length};
 ghost use Rattle.rib_store.specs.Shape.{shape_of};
 ghost use Rattle.prefix_store.specs.Stored.{counted};
-ghost use Rattle.rib_store.specs.Slots.{routed};
 ghost use Rattle.rib_store.specs.Tree.{slots_of};
-ghost use Rattle.rib_store.specs.Walks.{node_count};
+ghost use Rattle.rib_store.specs.Walks.{all_routes, node_count};
 
 use crate::tree::{Slot, Tree};
 use prefix_store::Packed;
@@ -55,8 +54,9 @@ impl<K: Packed, R> Tree<K, R> {
     }
 
     /// How many routes there are, as far as the number goes. It walks over all nodes.
+    #[tactic(auto, using(crate::proofs::FillLaws::count_rooted))]
     pub(crate) fn route_count(&self) -> u64
-        ensures { result ≡ counted (length (routed (slots_of (shape_of K.network self.now)))) }
+        ensures { result ≡ counted (length (all_routes (shape_of K.network self.now))) }
     {
         match self {
             Tree::Empty => 0,

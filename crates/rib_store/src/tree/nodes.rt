@@ -5,7 +5,7 @@ ghost use Rattle.std.specs.Prelude.{IfOk};
 ghost use Rattle.ip_prefix.specs.Turns.{way};
 ghost use Rattle.rib_store.specs.declared.tree.Slot.TheVariants.{Branch};
 ghost use Rattle.ip_prefix.specs.declared.turn.Turn.TheVariants.{Left, Right};
-ghost use Rattle.rib_store.specs.Shape.{shape_of, leaf_slot, is_filled, is_routed, any_routed, IsLeaf, IsMarked};
+ghost use Rattle.rib_store.specs.Shape.{Empty, shape_of, leaf_slot, is_filled, is_routed, any_routed, IsLeaf, IsMarked};
 ghost use Rattle.rib_store.specs.Tree.{slot_of, IsHung, IsRootedOver};
 
 use crate::tree::{Fork, Node, Slot, Tree};
@@ -29,11 +29,11 @@ pub(crate) fn hang<K: Packed, R: Drop>(
         (shape_of K.network tree.old) (shape_of K.network tree.new) }
     ensures marked { IsMarked tree.new }
     ensures routed { is_routed tree.new ≡
-        (is_some (leaf_slot tree.old) || (false || is_routed leaf)) }
+        (is_some (leaf_slot tree.old) || is_routed leaf) }
 {
     let mut node = node;
     node.slot = slot_in(mem::replace(tree, Tree::Empty));
-    put_root(tree, prefix, node, Tree::Empty, leaf, side);
+    put_root(tree, prefix, node, leaf, side);
 }
 
 /// A key without others below it, with the route, which is taken.
@@ -116,26 +116,24 @@ pub(crate) fn put_fork<K: Packed, R: Drop>(
     *tree = Tree::Forked(routed, prefix, fork);
 }
 
-/// Puts a node at the root, with a tree on a side of it, and another on the other side.
+/// Puts a node at the root, with a tree below it on this side alone.
 pub(crate) fn put_root<K: Packed, R: Drop>(
     tree: &mut Tree<K, R>,
     prefix: K,
     node: Box<Node<K, R>>,
-    beside: Tree<K, R>,
     below: Tree<K, R>,
     side: Turn,
 )
-    requires beside { IsMarked beside }
-    requires below { IsMarked below }
+    requires { IsMarked below }
     ensures marked { IsMarked tree.new }
-    ensures routed { is_routed tree.new ≡ any_routed node.value.slot beside below }
+    ensures routed { is_routed tree.new ≡ (is_filled node.value.slot || is_routed below) }
     ensures rooted { IsRootedOver (K.network prefix) (slot_of node.value.slot) side
-        (shape_of K.network beside) (shape_of K.network below) (shape_of K.network tree.new) }
+        Empty (shape_of K.network below) (shape_of K.network tree.new) }
 {
     let mut node = node;
     let (left, right) = match side {
-        Turn::Left => (below, beside),
-        _ => (beside, below),
+        Turn::Left => (below, Tree::Empty),
+        _ => (Tree::Empty, below),
     };
     node.left = left;
     node.right = right;

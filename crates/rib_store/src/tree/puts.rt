@@ -5,12 +5,12 @@ ghost use Rattle.std.specs.Prelude.{OnOk, OnErr, IfOk};
 ghost use Rattle.ip_prefix.specs.Turns.{way, turn_of};
 ghost use Rattle.ip_prefix.specs.declared.turn.Turn.TheVariants.{Outside, Here};
 ghost use Rattle.rib_store.specs.Shape.{shape_of, is_routed, IsLeaf, IsFork, IsAtRoot, IsMarked};
-ghost use Rattle.rib_store.specs.Tree.{at, root, kept, AreOf, IsShaped, IsPlaced, IsPlacedAt};
+ghost use Rattle.rib_store.specs.Tree.{at, root, AreOf, IsShaped, IsPlaced, IsPlacedAt};
 ghost use Rattle.rib_store.specs.Slots.{route_found};
 
-use crate::tree::Tree;
 use crate::tree::nodes::{hang, leaf_with, lone, lone_fork, put_fork, put_root, slot_in};
 use crate::tree::routes::exchange_leaf;
+use crate::tree::{Node, Tree};
 use ip_prefix::{Prefix, Turn};
 use prefix_store::Packed;
 use std::alloc::{AllocError, Global};
@@ -213,7 +213,7 @@ fn put_beside<K: Packed, R: Drop>(
         let mut node = lone(alloc)?;
         node.slot = slot_in(leaf_with(K::of(key), route));
         let below = mem::replace(tree, Tree::Empty);
-        put_root(tree, K::of(&common), node, Tree::Empty, below, side);
+        put_root(tree, K::of(&common), node, below, side);
         return Ok(true);
     }
     let fork = lone_fork(alloc)?;
@@ -243,11 +243,13 @@ fn put_at_fork<K: Packed, R: Drop>(
     ensures kept { OnErr result (route.new ≡ route.old) }
 {
     let mut node = lone(alloc)?;
-    node.slot = slot_in(leaf_with(prefix, route));
     if let Tree::Forked(_, _, fork) = tree {
         let left = mem::replace(&mut fork.left, Tree::Empty);
         let right = mem::replace(&mut fork.right, Tree::Empty);
-        put_root(tree, prefix, node, left, right, Turn::Right);
+        let slot = slot_in(leaf_with(prefix, route));
+        *node = Node { slot, left, right };
+        let routed = node.is_routed();
+        *tree = Tree::Rooted(routed, prefix, node);
     }
     Ok(true)
 }

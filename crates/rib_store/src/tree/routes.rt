@@ -5,7 +5,7 @@ ghost use Rattle.std.specs.Prelude.{IsSome, length, map, vec_capacity};
 ghost use Rattle.std.specs.Option.{option_to_list};
 ghost use Rattle.ip_prefix.specs.Turns.{way};
 ghost use Rattle.rib_store.specs.Shape.{shape_of, leaf_slot, is_filled, is_routed, IsLeaf, IsMarked};
-ghost use Rattle.rib_store.specs.Tree.{at, root, slot_of, kept, vacated, emptied, IsShaped, IsPut};
+ghost use Rattle.rib_store.specs.Tree.{at, root, slot_of, vacated, emptied, IsShaped, IsPut};
 ghost use Rattle.rib_store.specs.Slots.{route_found};
 ghost use Rattle.rib_store.specs.Walks.{all_routes};
 
@@ -197,22 +197,12 @@ impl<R: Drop> Slot<R> {
         ensures given { route.new ≡ route_found (slot_of self.old) }
         ensures made { result ≡ not (is_some (slot_of self.old)) }
     {
-        let made = self.occupy();
+        let made = self.kept().is_none();
+        if made {
+            *self = Slot::Vacant;
+        }
         self.exchange(route);
         made
-    }
-
-    /// A key's slot, without a route where it is new, and whether it is.
-    pub(crate) fn occupy(&mut self) -> bool
-        ensures slot { slot_of self.new ≡ kept (slot_of self.old) }
-        ensures filled { is_filled self.new ≡ is_filled self.old }
-        ensures made { result ≡ not (is_some (slot_of self.old)) }
-    {
-        if let Slot::Branch = self {
-            *self = Slot::Vacant;
-            return true;
-        }
-        false
     }
 
     /// Takes the route, where there is one, into a list that has room for it.

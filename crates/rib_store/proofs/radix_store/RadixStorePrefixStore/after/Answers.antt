@@ -9,7 +9,7 @@ use Rattle.prefix_store.specs.Lookups.{above}
 use Rattle.rib_store.specs.Store.{Trees, trees_of, contents_of, IsPlanted}
 use Rattle.rib_store.specs.Walks.{either_of, first, behind}
 use Rattle.rib_store.proofs.WalkLaws.{found_is}
-use Rattle.rib_store.proofs.StoreLaws.{after_none, after_v4, after_v6}
+use Rattle.rib_store.proofs.FillLaws.{after_none, after_v4, after_v6}
 use Rattle.rib_store.proofs.radix_store.RadixStorePrefixStore.after.Goals as goal
 use Rattle.rib_store.proofs.radix_store.RadixStorePrefixStore.after.Goals.{in-None, in-Some+in-V4}
 

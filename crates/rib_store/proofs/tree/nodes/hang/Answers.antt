@@ -1,4 +1,4 @@
-use Rattle.std.proofs.Common.{◌||◌, false, Some, is_some, ap, ◌∙◌}
+use Rattle.std.proofs.Common.{◌||◌, Some, is_some, ap, ◌∙◌}
 use Rattle.rib_store.specs.Shape.{shape_of, leaf_slot, is_routed}
 use Rattle.rib_store.proofs.ShapeLaws.{hung}
 use Rattle.rib_store.proofs.tree.nodes.hang.Goals as goal
@@ -11,4 +11,4 @@ returns-clause-placed g c = λ key route leaf turn.
 
 pub returns-clause-routed : goal.returns-clause-routed
 returns-clause-routed g c =
-    c.put_root.ensures.routed ∙ ap (λ filled. filled || (false || is_routed c.args.leaf)) (c.slot_in.ensures.filled ∙ ap (λ t. is_some (leaf_slot t)) c.replace.ensures.value)
+    c.put_root.ensures.routed ∙ ap (λ filled. filled || is_routed c.args.leaf) (c.slot_in.ensures.filled ∙ ap (λ t. is_some (leaf_slot t)) c.replace.ensures.value)

@@ -1,4 +1,4 @@
-use Rattle.std.proofs.Common.{◌≡◌, ◌||◌, false, Some, is_some, sym, ap, subst, ◌∙◌}
+use Rattle.std.proofs.Common.{◌≡◌, ◌||◌, Some, is_some, sym, ap, subst, ◌∙◌}
 use Rattle.ip_prefix.specs.declared.turn.Turn.TheVariants.{Here}
 use Rattle.ip_prefix.specs.Turns.{way, turn_of}
 use Rattle.rib_store.specs.Shape.{Empty, shape_of, leaf_slot}
@@ -30,5 +30,5 @@ returns-in_ok-node-in-Left-clause-placed g c =
 pub returns-in_ok-node-in-Left-clause-quiet : goal.returns-in_ok-node-in-Left-clause-quiet
 returns-in_ok-node-in-Left-clause-quiet g c = λ none turn.
     c.hang.ensures.routed
-    ∙ ap (λ r. is_some (leaf_slot c.args.tree.now) || (false || r)) (c.leaf_with-leaf.ensures.routed ∙ ap is_some none)
+    ∙ ap (λ r. is_some (leaf_slot c.args.tree.now) || r) (c.leaf_with-leaf.ensures.routed ∙ ap is_some none)
     ∙ routed_leaf c.args.tree.now c.args.prefix c.requires.leaf

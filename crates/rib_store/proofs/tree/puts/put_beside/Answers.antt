@@ -1,4 +1,4 @@
-use Rattle.std.proofs.Common.{◌≡◌, ◌||◌, false, Some, None, is_some, refl, sym, ap, ap₂, subst, ◌∙◌}
+use Rattle.std.proofs.Common.{◌≡◌, ◌||◌, Some, None, is_some, refl, sym, ap, ap₂, subst, ◌∙◌}
 use Rattle.ip_prefix.specs.declared.turn.Turn.TheVariants.{Outside, Here}
 use Rattle.ip_prefix.specs.Turns.{way, turn_of, shared}
 use Rattle.rib_store.specs.Shape.{Empty, shape_of, leaf_slot, is_routed}
@@ -30,7 +30,7 @@ returns-in-Here-clause-placed g c =
 pub returns-in-Here-clause-routed : goal.returns-in-Here-clause-routed
 returns-in-Here-clause-routed g c =
     c.put_root.ensures.routed
-    ∙ ap₂ (λ filled t. filled || (false || is_routed t)) (c.slot_in.ensures.filled ∙ ap is_some c.leaf_with.ensures.slot) c.replace-below.ensures.value
+    ∙ ap₂ (λ filled t. filled || is_routed t) (c.slot_in.ensures.filled ∙ ap is_some c.leaf_with.ensures.slot) c.replace-below.ensures.value
 
 pub returns-clause-placed : goal.returns-clause-placed
 returns-clause-placed g c =
