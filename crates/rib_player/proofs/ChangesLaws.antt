@@ -1,10 +1,14 @@
 -- What is noted of an event's items and of lost peers' pairs, step by step.
-use Rattle.std.proofs.Common.{◌≡◌, ℕ, zero, suc, ◌+◌, ◌-◌, ◌<◌, ◌≤◌, ◌++◌, Bool, true, false, cond, ◌&&◌, ◌||◌, List, [], ◌∷◌, map, take, get_or, length, drop, drop-cons, Option, Some, None, is_some, IfSome, slice_get, refl, sym, subst, ap, ap₂, ◌∙◌, arith}
+use Rattle.std.proofs.Common.{◌≡◌, ℕ, suc, ◌+◌, ◌-◌, ◌<◌, ◌≤◌, ◌++◌, Bool, true, false, cond, ◌&&◌, ◌||◌, List, [], ◌∷◌, map, take, get_or, length, drop, drop-cons, Option, Some, None, IfSome, slice_get, refl, sym, subst, ap, ap₂, ◌∙◌, arith}
 use Rattle.std.specs.List.{AllByRecursion, list_any}
 use Rattle.std.proofs.lemmas.List.{drop-drop, take-append-drop, get_or-map, length-map}
 use Rattle.std.proofs.lemmas.List.Elements.{All-get_or}
 use Rattle.std.specs.Ordering.{eq_by_cmp}
 use Rattle.std.proofs.Math.Bool.{and-or_distrib_right}
+use Rattle.std.specs.Borrow.{Bor}
+use Rattle.std.specs.declared.alloc.Global.{Global}
+use Rattle.std.specs.declared.rc.Rc.{Rc}
+use Rattle.octet_forms.proofs.Lists.{AllByRecursion-from_get_or, AllByRecursion-get_or}
 use Rattle.mrt_events.specs.declared.peer.Peer.{Peer}
 use Rattle.rib_player.specs.declared.pair.Pair.{Pair}
 use Rattle.mrt_events.specs.declared.event.Route.{Route}
@@ -21,24 +25,9 @@ abbrev either_found : Option (Option Route) → Option (Option Route) → Option
 either_found None second = second
 either_found (Some kept) second = Some kept
 
-behind-none : (first second : Option (Option Route)) → is_some first ≡ false → either_found first second ≡ second
-behind-none None second e = refl
-behind-none (Some kept) second e = cc
-
-behind-some : (first second : Option (Option Route)) → is_some first ≡ true → either_found first second ≡ first
-behind-some None second e = cc
-behind-some (Some kept) second e = refl
-
 before-none : (first : Option (Option Route)) → either_found first None ≡ first
 before-none None = refl
 before-none (Some kept) = refl
-
--- where something is kept or the peer is lost, no earlier effect counts
-decided : (first : Effect) (kept : Option (Option Route)) (lost : Bool) → (is_some kept || lost) ≡ true → later first (effect_of kept lost) ≡ effect_of kept lost
-decided first (Some (Some route)) lost e = refl
-decided first (Some None) lost e = refl
-decided first None true e = refl
-decided first None false e = cc
 
 -- an effect behind Keep stays
 later-keep : (second : Effect) → later Keep second ≡ second
@@ -46,92 +35,47 @@ later-keep Keep = refl
 later-keep Clear = refl
 later-keep (Set route) = refl
 
--- where something is noted of a pair, an earlier effect on it changes nothing
-noted_effect-decided : (sides : List Side) (peers : List Peer) (pair : Pair) (first : Effect) (q : Pair) → (is_some (found sides pair) || is_lost peers pair) ≡ true
-    → effect_of (found sides q) (is_lost peers q) ≡ later (where_true (eq_by_cmp pair_cmp q pair) first) (effect_of (found sides q) (is_lost peers q))
-noted_effect-decided sides peers pair first q there = at (eq_by_cmp pair_cmp q pair) refl
-  where
-    at : (b : Bool) → eq_by_cmp pair_cmp q pair ≡ b → effect_of (found sides q) (is_lost peers q) ≡ later (where_true b first) (effect_of (found sides q) (is_lost peers q))
-    at true e = sym (decided first (found sides q) (is_lost peers q) (ap (λ p. is_some (found sides p) || is_lost peers p) (same_pair q pair e) ∙ there))
-    at false e = sym (later-keep (effect_of (found sides q) (is_lost peers q)))
-
--- where something is kept, it doesn't matter whether the peer is lost
-effect_of-kept : (kept : Option Route) (lost : Bool) → effect_of (Some kept) lost ≡ effect_of (Some kept) false
-effect_of-kept (Some route) lost = refl
-effect_of-kept None lost = refl
-
--- where nothing is kept and the peer is not lost, the effect is Keep
-effect_of-none : (kept : Option (Option Route)) (lost : Bool) → (is_some kept || lost) ≡ false → effect_of kept lost ≡ Keep
-effect_of-none None true e = cc
-effect_of-none None false e = refl
-effect_of-none (Some kept) lost e = cc
-
 -- what is appended to sides counts where none is of its pair
-found-push : (sides : List Side) (side : Side) (q : Pair) → found (sides ++ side ∷ []) q ≡ either_found (found sides q) (cond (eq_by_cmp pair_cmp q side.0) (Some side.1) None)
-found-push [] side q = refl
-found-push (first ∷ sides) side q = at (found-push sides side q) (eq_by_cmp pair_cmp q first.0)
+found-append : (sides more : List Side) (q : Pair) → found (sides ++ more) q ≡ either_found (found sides q) (found more q)
+found-append [] more q = refl
+found-append (first ∷ sides) more q = at (found-append sides more q) (eq_by_cmp pair_cmp q first.0)
   where
-    at : found (sides ++ side ∷ []) q ≡ either_found (found sides q) (cond (eq_by_cmp pair_cmp q side.0) (Some side.1) None)
-        → (b : Bool) → cond b (Some first.1) (found (sides ++ side ∷ []) q) ≡ either_found (cond b (Some first.1) (found sides q)) (cond (eq_by_cmp pair_cmp q side.0) (Some side.1) None)
+    at : found (sides ++ more) q ≡ either_found (found sides q) (found more q)
+        → (b : Bool) → cond b (Some first.1) (found (sides ++ more) q) ≡ either_found (cond b (Some first.1) (found sides q)) (found more q)
     at rest true = refl
     at rest false = rest
-
--- where none is of the pair, it counts then
-push-free : (sides : List Side) (side : Side) → is_some (found sides side.0) ≡ false
-    → (q : Pair) → found (sides ++ side ∷ []) q ≡ cond (eq_by_cmp pair_cmp q side.0) (Some side.1) (found sides q)
-push-free sides side none q = found-push sides side q ∙ at (eq_by_cmp pair_cmp q side.0) refl
-  where
-    at : (b : Bool) → eq_by_cmp pair_cmp q side.0 ≡ b → either_found (found sides q) (cond b (Some side.1) None) ≡ cond b (Some side.1) (found sides q)
-    at true e = behind-none (found sides q) (Some side.1) (ap (λ p. is_some (found sides p)) (same_pair q side.0 e) ∙ none)
-    at false e = before-none (found sides q)
-
--- where one is, nothing changes
-push-taken : (sides : List Side) (side : Side) → is_some (found sides side.0) ≡ true → (q : Pair) → found (sides ++ side ∷ []) q ≡ found sides q
-push-taken sides side there q = found-push sides side q ∙ at (eq_by_cmp pair_cmp q side.0) refl
-  where
-    at : (b : Bool) → eq_by_cmp pair_cmp q side.0 ≡ b → either_found (found sides q) (cond b (Some side.1) None) ≡ found sides q
-    at true e = behind-some (found sides q) (Some side.1) (ap (λ p. is_some (found sides p)) (same_pair q side.0 e) ∙ there)
-    at false e = before-none (found sides q)
-
--- where nothing is noted of a pair, what is appended for it comes before all that is noted
-noted_effect-put : (sides : List Side) (peers : List Peer) (side : Side) (q : Pair) → (is_some (found sides side.0) || is_lost peers side.0) ≡ false
-    → found (sides ++ side ∷ []) q ≡ cond (eq_by_cmp pair_cmp q side.0) (Some side.1) (found sides q)
-    → effect_of (found (sides ++ side ∷ []) q) (is_lost peers q)
-    ≡ later (where_true (eq_by_cmp pair_cmp q side.0) (effect_of (Some side.1) false)) (effect_of (found sides q) (is_lost peers q))
-noted_effect-put sides peers side q none put =
-    ap (λ k. effect_of k (is_lost peers q)) put
-    ∙ at (eq_by_cmp pair_cmp q side.0) refl
-  where
-    at : (b : Bool) → eq_by_cmp pair_cmp q side.0 ≡ b
-        → effect_of (cond b (Some side.1) (found sides q)) (is_lost peers q) ≡ later (where_true b (effect_of (Some side.1) false)) (effect_of (found sides q) (is_lost peers q))
-    at true e =
-        let here : (is_some (found sides q) || is_lost peers q) ≡ false = ap (λ p. is_some (found sides p) || is_lost peers p) (same_pair q side.0 e) ∙ none in
-        effect_of-kept side.1 (is_lost peers q)
-        ∙ ap (later (effect_of (Some side.1) false)) (sym (effect_of-none (found sides q) (is_lost peers q) here))
-    at false e = sym (later-keep (effect_of (found sides q) (is_lost peers q)))
 
 -- where the peer isn't lost, what is appended for a pair comes before all that is noted
 pub noted_effect-first : (sides : List Side) (peers : List Peer) (side : Side) (q : Pair) → is_lost peers side.0 ≡ false
     → effect_of (found (sides ++ side ∷ []) q) (is_lost peers q)
     ≡ later (where_true (eq_by_cmp pair_cmp q side.0) (effect_of (Some side.1) false)) (effect_of (found sides q) (is_lost peers q))
-noted_effect-first sides peers side q held = at (is_some (found sides side.0)) refl
+noted_effect-first sides peers side q held =
+    ap (λ k. effect_of k (is_lost peers q)) (found-append sides (side ∷ []) q)
+    ∙ at (eq_by_cmp pair_cmp q side.0) (found sides q) (is_lost peers q) (λ e. ap (is_lost peers) (same_pair q side.0 e) ∙ held)
   where
-    at : (b : Bool) → is_some (found sides side.0) ≡ b
-        → effect_of (found (sides ++ side ∷ []) q) (is_lost peers q)
-        ≡ later (where_true (eq_by_cmp pair_cmp q side.0) (effect_of (Some side.1) false)) (effect_of (found sides q) (is_lost peers q))
-    at true e =
-        ap (λ k. effect_of k (is_lost peers q)) (push-taken sides side e q)
-        ∙ noted_effect-decided sides peers side.0 (effect_of (Some side.1) false) q (ap (λ b. b || is_lost peers side.0) e)
-    at false e = noted_effect-put sides peers side q (ap (λ b. b || is_lost peers side.0) e ∙ held) (push-free sides side e q)
+    alone : (route : Option Route) → effect_of (Some route) false ≡ later (effect_of (Some route) false) Keep
+    alone None = refl
+    alone (Some route) = refl
+
+    at : (b : Bool) (kept : Option (Option Route)) (lost : Bool) → (b ≡ true → lost ≡ false)
+        → effect_of (either_found kept (cond b (Some side.1) None)) lost ≡ later (where_true b (effect_of (Some side.1) false)) (effect_of kept lost)
+    at false kept lost not_lost = ap (λ k. effect_of k lost) (before-none kept) ∙ sym (later-keep (effect_of kept lost))
+    at true (Some (Some route)) lost not_lost = refl
+    at true (Some None) lost not_lost = refl
+    at true None true not_lost = let wrong : true ≡ false = not_lost refl in cc
+    at true None false not_lost = alone side.1
 
 -- where the peer is lost, an earlier effect changes nothing
 pub noted_effect-lost : (sides : List Side) (peers : List Peer) (pair : Pair) (first : Effect) (q : Pair) → is_lost peers pair ≡ true
     → effect_of (found sides q) (is_lost peers q) ≡ later (where_true (eq_by_cmp pair_cmp q pair) first) (effect_of (found sides q) (is_lost peers q))
-noted_effect-lost sides peers pair first q lost = noted_effect-decided sides peers pair first q (either (is_some (found sides pair)))
+noted_effect-lost sides peers pair first q lost = at (eq_by_cmp pair_cmp q pair) (found sides q) (is_lost peers q) (λ e. ap (is_lost peers) (same_pair q pair e) ∙ lost)
   where
-    either : (b : Bool) → (b || is_lost peers pair) ≡ true
-    either true = refl
-    either false = lost
+    at : (b : Bool) (kept : Option (Option Route)) (gone : Bool) → (b ≡ true → gone ≡ true) → effect_of kept gone ≡ later (where_true b first) (effect_of kept gone)
+    at false kept gone is = sym (later-keep (effect_of kept gone))
+    at true (Some (Some route)) gone is = refl
+    at true (Some None) gone is = refl
+    at true None true is = refl
+    at true None false is = let wrong : false ≡ true = is refl in cc
 
 -- pairs that lose their route, and then more of them
 or_absent-more : (kept : Option (Option Route)) (some more : Bool) → or_absent (or_absent kept some) more ≡ or_absent kept (some || more)
@@ -157,13 +101,11 @@ found-lost (side ∷ sides) absent q = at (found-lost sides absent.1 q) (eq_by_c
 -- behind others they lose it where nothing is kept for it
 pub found-absent : (sides lost : List Side) → AllByRecursion (λ side. side.1 ≡ None) lost → (q : Pair)
     → found (sides ++ lost) q ≡ or_absent (found sides q) (list_any (eq_by_cmp pair_cmp q) (pairs_in lost))
-found-absent [] lost absent q = found-lost lost absent q
-found-absent (side ∷ sides) lost absent q = at (found-absent sides lost absent q) (eq_by_cmp pair_cmp q side.0)
+found-absent sides lost absent q = found-append sides lost q ∙ ap (either_found (found sides q)) (found-lost lost absent q) ∙ at (found sides q)
   where
-    at : found (sides ++ lost) q ≡ or_absent (found sides q) (list_any (eq_by_cmp pair_cmp q) (pairs_in lost))
-        → (b : Bool) → cond b (Some side.1) (found (sides ++ lost) q) ≡ or_absent (cond b (Some side.1) (found sides q)) (list_any (eq_by_cmp pair_cmp q) (pairs_in lost))
-    at rest true = refl
-    at rest false = rest
+    at : (kept : Option (Option Route)) → let b = list_any (eq_by_cmp pair_cmp q) (pairs_in lost) in either_found kept (or_absent None b) ≡ or_absent kept b
+    at None = refl
+    at (Some kept) = refl
 
 -- of three effects it doesn't matter which two are taken together
 later-together : (first second third : Effect) → later first (later second third) ≡ later (later first second) third
@@ -218,20 +160,25 @@ announces-has peer route same (Withdrawn other network) e is = absurd is
 announces-has peer route same (Changed other old new) e is = absurd is
 
 -- of items that share a route each has that of the first
-pub shared-has_route : (items : List Item) (route : Route) (i : ℕ) (item : Item) → AreOfOneRoute (map saying items)
-    → IfSome (slice_get items 0) (λ first. HasRoute route (saying first)) → i < length items → item ≡ get_or items i item
-    → HasRoute route (saying item)
-shared-has_route [] route i item one has less at = absurd (omega (arith, less))
-shared-has_route (first ∷ rest) route zero item one has less at = subst (λ x. HasRoute route (saying x)) (sym at) has
-shared-has_route (first ∷ rest) route (suc i) item one has less at = by (saying first) has one
+pub all-have_route : (items : List Item) (route : Route) → AreOfOneRoute (map saying items) → IfSome (slice_get items 0) (λ first. HasRoute route (saying first)) → AllByRecursion (λ item. HasRoute route (saying item)) items
+all-have_route [] route one has = tt
+all-have_route (first ∷ rest) route one has = (has, by (saying first) has one)
   where
-    by : (s : Saying) → HasRoute route s → AreOfOneRoute (s ∷ map saying rest) → HasRoute route (saying item)
+    by : (s : Saying) → HasRoute route s → AreOfOneRoute (s ∷ map saying rest) → AllByRecursion (λ item. HasRoute route (saying item)) rest
     by (Announced peer network same) e all =
-        let within : i < length (map saying rest) = omega (arith, less, length-map rest saying) in
-        let said : get_or (map saying rest) i (saying item) ≡ saying item = get_or-map saying rest i item (saying item) (omega (arith, less)) ∙ ap saying (sym at) in
-        announces-has peer route same (saying item) e (subst (Announces peer same) said (All-get_or (Announces peer same) (map saying rest) i (saying item) within all))
+        AllByRecursion-from_get_or (λ item. HasRoute route (saying item)) rest first (λ i within.
+        announces-has peer route same (saying (get_or rest i first)) e
+        (subst (Announces peer same) (get_or-map saying rest i first (saying first) within)
+        (All-get_or (Announces peer same) (map saying rest) i (saying first) (omega (arith, within, length-map rest saying)) all)))
     by (Withdrawn peer network) e all = absurd all
     by (Changed peer old new) e all = absurd all
+
+-- so has each by itself
+pub shared-at : (shared : Option (Bor (Rc Route Global))) (items : List Item) (i : ℕ) (item : Item) → i < length items → item ≡ get_or items i item
+    → IfSome shared (λ r. AllByRecursion (λ x. HasRoute r.now.value (saying x)) items) → IfSome shared (λ r. HasRoute r.now.value (saying item))
+shared-at None items i item within at all = tt
+shared-at (Some r) items i item within at all =
+    subst (λ x. HasRoute r.now.value (saying x)) (sym at) (AllByRecursion-get_or (λ x. HasRoute r.now.value (saying x)) items i item within all)
 
 -- what items say has the effects of the items
 pub effects-sayings : (q : Pair) (items : List Item) → map (item_effect q) (map saying items) ≡ map (λ item. item_effect q (saying item)) items

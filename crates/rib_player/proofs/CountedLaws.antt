@@ -1,5 +1,5 @@
 -- Claims that are counted, key by key, prefix by prefix and pair by pair.
-use Rattle.std.proofs.Common.{◌≡◌, ℕ, ◌+◌, ◌-◌, ◌^◌, ◌<◌, ◌≤◌, ◌++◌, Bool, true, false, cond, ◌&&◌, List, length, take, replicate, Option, refl, sym, ap, ap₂, subst, ◌∙◌, arith}
+use Rattle.std.proofs.Common.{◌≡◌, ℕ, ◌-◌, ◌^◌, ◌<◌, ◌≤◌, ◌++◌, Bool, true, false, cond, ◌&&◌, List, length, take, replicate, Option, refl, sym, ap, ap₂, subst, ◌∙◌, arith}
 use Rattle.std.specs.BTreeMap as tree
 use Rattle.std.specs.Map.{lookup}
 use Rattle.std.specs.HashMap.Eq.{lookup_congr}
@@ -8,7 +8,7 @@ use Rattle.std.specs.Ordering.{eq_by_cmp, nat_cmp}
 use Rattle.std.specs.Cmp.{IsTotalOrder, eq_by_cmp_equiv, Equal-is}
 use Rattle.std.specs.FinMap.{nat_cmp-IsAntisymmetric}
 use Rattle.std.proofs.lemmas.Cmp.{nat_cmp_total}
-use Rattle.std.proofs.lemmas.List.{nil_from_length, length-append, length-take-le, length-replicate, take-take, take_at}
+use Rattle.std.proofs.lemmas.List.{length-append, length-take-le, length-replicate, take-take, take_at}
 use Rattle.ip_prefix.specs.declared.addr.Family.{Family}
 use Rattle.ip_prefix.specs.declared.addr.Family.TheVariants.{V4, V6}
 use Rattle.ip_prefix.specs.declared.addr.TheConstants.{V4_BITS, V6_BITS}
@@ -18,12 +18,12 @@ use Rattle.ip_prefix.specs.Order.{network_cmp}
 use Rattle.ip_prefix.specs.OrderLaws.{network_cmp_total, network_cmp-IsAntisymmetric}
 use Rattle.ip_prefix.proofs.Chunks.{bits_of-number_of, number_of-lt}
 use Rattle.mrt_events.specs.declared.peer.Peer.{Peer}
-use Rattle.mrt_events.specs.Peer.{peer_cmp}
 use Rattle.rib_player.specs.declared.pair.Pair.{Pair}
 use Rattle.rib_player.specs.declared.counts.Counts.{Counts}
 use Rattle.rib_player.specs.declared.counts.TheConstants.{ADDRESSES}
-use Rattle.rib_player.specs.Counts.{one_if, count_kept, count_at, count_of, v4_key, by_family}
+use Rattle.rib_player.specs.Counts.{count_kept, count_at, count_of, v4_key, by_family}
 use Rattle.rib_player.specs.Claims.{count_of_peer}
+use Rattle.rib_player.specs.Holding.{IsWritten}
 use Rattle.rib_player.proofs.MarkLaws.{tied}
 use Rattle.rib_player.proofs.StoreLaws.{same_peer, same_network, one_peer, peer_symm, tied_parts}
 
@@ -45,34 +45,14 @@ module _ {K : Type 0} {cmp : K → K → Ordering} (total : IsTotalOrder cmp) wh
   same-count : (counts : tree.BTreeMap K ℕ) (k key : K) → eq_by_cmp cmp k key ≡ true → count_at cmp counts k ≡ count_at cmp counts key
   same-count counts k key e = ap count_kept (lookup_congr (eq_by_cmp cmp) (eq_by_cmp_equiv total).congr counts.entries k key e)
 
-  -- the count of the key is one more
-  pub counted-more : (counts counts' : tree.BTreeMap K ℕ) (key : K) (v : ℕ) → v ≡ count_at cmp counts key + 1
-      → (k : K) → count_at cmp counts' k ≡ cond (eq_by_cmp cmp k key) v (count_at cmp counts k) → count_at cmp counts' k ≡ count_at cmp counts k + one_if (eq_by_cmp cmp k key)
-  counted-more counts counts' key v more k is = is ∙ at (eq_by_cmp cmp k key) refl
+  -- where another count stands for the key, what holds of it there and of the others elsewhere holds of each
+  pub counted : (counts counts' : tree.BTreeMap K ℕ) (key : K) (v : ℕ) (R : ℕ → ℕ → Bool → Type 0) → R v (count_at cmp counts key) true → ((m : ℕ) → R m m false)
+      → (k : K) → count_at cmp counts' k ≡ cond (eq_by_cmp cmp k key) v (count_at cmp counts k) → R (count_at cmp counts' k) (count_at cmp counts k) (eq_by_cmp cmp k key)
+  counted counts counts' key v R here elsewhere k is = subst (λ c. R c (count_at cmp counts k) (eq_by_cmp cmp k key)) (sym is) (at (eq_by_cmp cmp k key) refl)
     where
-      at : (b : Bool) → eq_by_cmp cmp k key ≡ b → cond b v (count_at cmp counts k) ≡ count_at cmp counts k + one_if b
-      at true e = more ∙ ap (λ n. n + 1) (sym (same-count counts k key e))
-      at false e = omega arith
-
-  -- or less by one, where there is one
-  pub counted-less : (counts counts' : tree.BTreeMap K ℕ) (key : K) (v : ℕ) (some : Bool) → v + one_if some ≡ count_at cmp counts key
-      → (k : K) → count_at cmp counts' k ≡ cond (eq_by_cmp cmp k key) v (count_at cmp counts k) → count_at cmp counts' k + one_if (some && eq_by_cmp cmp k key) ≡ count_at cmp counts k
-  counted-less counts counts' key v some less k is = ap (λ c. c + one_if (some && eq_by_cmp cmp k key)) is ∙ at (eq_by_cmp cmp k key) refl some less
-    where
-      at : (b : Bool) → eq_by_cmp cmp k key ≡ b → (s : Bool) → v + one_if s ≡ count_at cmp counts key → cond b v (count_at cmp counts k) + one_if (s && b) ≡ count_at cmp counts k
-      at true e true l = l ∙ sym (same-count counts k key e)
-      at true e false l = l ∙ sym (same-count counts k key e)
-      at false e true l = omega arith
-      at false e false l = omega arith
-
-  -- or the same
-  pub counted-same : (counts counts' : tree.BTreeMap K ℕ) (key : K) (v : ℕ) → v ≡ count_at cmp counts key
-      → (k : K) → count_at cmp counts' k ≡ cond (eq_by_cmp cmp k key) v (count_at cmp counts k) → count_at cmp counts' k ≡ count_at cmp counts k
-  counted-same counts counts' key v same k is = omega (arith, counted-less counts counts' key v false (omega (arith, same)) k is)
-
-  -- an empty map counts none
-  pub none-counted : (counts : tree.BTreeMap K ℕ) (k : K) → length counts.entries ≡ 0 → count_at cmp counts k ≡ 0
-  none-counted counts k none = ap (λ es. count_kept (lookup (tree.is_at (cmp k)) es)) (nil_from_length counts.entries none)
+      at : (b : Bool) → eq_by_cmp cmp k key ≡ b → R (cond b v (count_at cmp counts k)) (count_at cmp counts k) b
+      at true e = subst (λ c. R v c true) (sym (same-count counts k key e)) here
+      at false e = elsewhere (count_at cmp counts k)
 
 -- ---- prefix by prefix
 
@@ -146,39 +126,15 @@ v4-counted old new p R f within same keys other n = at n.family refl
 abbrev pub Peers : Type 0
 Peers = tree.BTreeMap Peer Counts
 
-abbrev beyond : Peers → Pair → ℕ
-beyond peers q = count_of_peer (tree.get peer_cmp peers q.peer) q.prefix
-
-abbrev pub IsWritten : Peers → Peers → Peer → Option Counts → Type 0
-IsWritten peers peers' peer w = (p : Peer) → tree.get peer_cmp peers' p ≡ cond (same_peer peer p) w (tree.get peer_cmp peers p)
-
--- what stands for a peer is another: a claim more
-pub beyond-more : (peers peers' : Peers) (pair : Pair) (w : Option Counts) → IsWritten peers peers' pair.peer w
-    → ((n : Network) → count_of_peer w n ≡ count_of_peer (tree.get peer_cmp peers pair.peer) n + one_if (same_network n pair.prefix)) → (q : Pair) → beyond peers' q ≡ beyond peers q + one_if (tied q pair)
-beyond-more peers peers' pair w written more q =
-    ap (λ c. count_of_peer c q.prefix) (written q.peer)
-    ∙ ap (λ b. count_of_peer (cond b w (tree.get peer_cmp peers q.peer)) q.prefix) (peer_symm pair.peer q.peer)
-    ∙ at (same_peer q.peer pair.peer) refl
-    ∙ ap (λ b. beyond peers q + one_if b) (sym (tied_parts q pair.peer pair.prefix))
+-- where other counts stand for a peer, what holds there of each prefix, and elsewhere, holds of each pair
+pub beyond-written : {peers peers' : List (Peer × Counts)} {w : Option Counts} (pair : Pair) → IsWritten peers peers' pair.peer w → (R : ℕ → ℕ → Bool → Type 0)
+    → ((n : Network) → R (count_of_peer w n) (count_of_peer (lookup (same_peer pair.peer) peers) n) (same_network n pair.prefix)) → ((m : ℕ) → R m m false)
+    → (q : Pair) → R (count_of_peer (lookup (same_peer q.peer) peers') q.prefix) (count_of_peer (lookup (same_peer q.peer) peers) q.prefix) (tied q pair)
+beyond-written {peers = peers} {w = w} pair written R here elsewhere q =
+    subst (λ c. R (count_of_peer c q.prefix) (count_of_peer (lookup (same_peer q.peer) peers) q.prefix) (tied q pair)) (sym (written.each q.peer ∙ ap (λ b. cond b w (lookup (same_peer q.peer) peers)) (peer_symm pair.peer q.peer)))
+    (subst (R (count_of_peer (cond (same_peer q.peer pair.peer) w (lookup (same_peer q.peer) peers)) q.prefix) (count_of_peer (lookup (same_peer q.peer) peers) q.prefix)) (sym (tied_parts q pair.peer pair.prefix))
+    (at (same_peer q.peer pair.peer) refl))
   where
-    at : (b : Bool) → same_peer q.peer pair.peer ≡ b → count_of_peer (cond b w (tree.get peer_cmp peers q.peer)) q.prefix ≡ beyond peers q + one_if (b && same_network q.prefix pair.prefix)
-    at true e = more q.prefix ∙ ap (λ p. count_of_peer (tree.get peer_cmp peers p) q.prefix + one_if (same_network q.prefix pair.prefix)) (sym (one_peer q.peer pair.peer e))
-    at false e = omega arith
-
--- a claim less, or none
-pub beyond-less : (peers peers' : Peers) (pair : Pair) (w : Option Counts) (some : Bool) → IsWritten peers peers' pair.peer w
-    → ((n : Network) → count_of_peer w n + one_if (some && same_network n pair.prefix) ≡ count_of_peer (tree.get peer_cmp peers pair.peer) n) → (q : Pair) → beyond peers' q + one_if (some && tied q pair) ≡ beyond peers q
-beyond-less peers peers' pair w some written less q =
-    ap₂ (λ c t. count_of_peer c q.prefix + one_if (some && t)) (written q.peer ∙ ap (λ b. cond b w (tree.get peer_cmp peers q.peer)) (peer_symm pair.peer q.peer)) (tied_parts q pair.peer pair.prefix)
-    ∙ at (same_peer q.peer pair.peer) refl some less
-  where
-    at : (b : Bool) → same_peer q.peer pair.peer ≡ b → (s : Bool) → ((n : Network) → count_of_peer w n + one_if (s && same_network n pair.prefix) ≡ count_of_peer (tree.get peer_cmp peers pair.peer) n)
-        → count_of_peer (cond b w (tree.get peer_cmp peers q.peer)) q.prefix + one_if (s && (b && same_network q.prefix pair.prefix)) ≡ beyond peers q
-    at true e s l = l q.prefix ∙ ap (λ p. count_of_peer (tree.get peer_cmp peers p) q.prefix) (sym (one_peer q.peer pair.peer e))
-    at false e true l = omega arith
-    at false e false l = omega arith
-
--- as many
-pub beyond-same : (peers peers' : Peers) (pair : Pair) (w : Option Counts) → IsWritten peers peers' pair.peer w
-    → ((n : Network) → count_of_peer w n ≡ count_of_peer (tree.get peer_cmp peers pair.peer) n) → (q : Pair) → beyond peers' q ≡ beyond peers q
-beyond-same peers peers' pair w written same q = omega (arith, beyond-less peers peers' pair w false written (λ n. omega (arith, same n)) q)
+    at : (b : Bool) → same_peer q.peer pair.peer ≡ b → R (count_of_peer (cond b w (lookup (same_peer q.peer) peers)) q.prefix) (count_of_peer (lookup (same_peer q.peer) peers) q.prefix) (b && same_network q.prefix pair.prefix)
+    at true e = subst (λ p. R (count_of_peer w q.prefix) (count_of_peer (lookup (same_peer p) peers) q.prefix) (same_network q.prefix pair.prefix)) (sym (one_peer q.peer pair.peer e)) (here q.prefix)
+    at false e = elsewhere (count_of_peer (lookup (same_peer q.peer) peers) q.prefix)

@@ -1,15 +1,15 @@
 -- A player's timeline, and what a step that is crossed, or put behind the cursor, makes of it.
-use Rattle.std.proofs.Common.{◌≡◌, ℕ, suc, ◌+◌, ◌-◌, ◌<◌, ◌≤◌, cond, List, [], ◌∷◌, ◌++◌, map, length, length-append, length-drop, take, drop, set, reverse, arith, refl, sym, ap, ◌∙◌, append_assoc}
+use Rattle.std.proofs.Common.{◌≡◌, ℕ, suc, ◌+◌, ◌-◌, ◌<◌, ◌≤◌, List, [], ◌∷◌, ◌++◌, map, length, length-append, length-drop, take, drop, set, slice_index_or, reverse, arith, refl, sym, ap, ap₂, ◌∙◌, append_assoc}
 use Rattle.std.specs.FinMap as finite
 use Rattle.std.specs.FinSet as names
 use Rattle.std.proofs.lemmas.List.{take-set, drop-set, take_more, take_more_set, drop_more, drop-set-lt, reverse-append, length-reverse, length-take-le, length_push, get_or_at, map-set, set-get_or, get_or-map, take_at, drop_all, length-map, take_all, take-map, map-append}
-use Rattle.std.proofs.lemmas.Bool.{lt-ltb}
 use Rattle.mrt_events.specs.declared.event.Event.{Event}
 use Rattle.rib_player.specs.Tables.{Routes, Pairs, table_after, named_pairs}
-use Rattle.rib_player.specs.Timeline.{Timeline, current, after_play}
+use Rattle.rib_player.specs.Timeline.{current, after_play}
 use Rattle.rib_player.specs.Calls.{after_undo, after_redo}
-use Rattle.rib_player.specs.Journal.{Side, pairs_in, routes_across, tables_before, tables_after, timeline_of}
+use Rattle.rib_player.specs.Journal.{Side, pairs_in, routes_across, tables_before, tables_after, tables_over, timeline_of}
 use Rattle.rib_player.specs.Sides.{sides_at, sides_across, IsStepFor}
+use Rattle.rib_player.proofs.BackAndForth.{after_undo-at, after_redo-at}
 use Rattle.rib_player.proofs.JournalLaws.{pairs_in-sides_across, routes_across-sides_across, routes_across-step}
 
 -- one table before each step
@@ -34,16 +34,19 @@ length-tables_after [] routes = refl
 length-tables_after (sides ∷ steps) routes = ap suc (length-tables_after steps (routes_across sides routes))
 
 -- a player has one table more than steps
-pub length-tables : (cursor : ℕ) (steps : List (List Side)) (routes : Routes) → cursor ≤ length steps → length (timeline_of cursor steps routes).tables ≡ length steps + 1
+pub length-tables : (cursor : ℕ) (steps : List (List Side)) (routes : Routes) → cursor ≤ length steps → length (tables_over cursor steps routes) ≡ length steps + 1
 length-tables cursor steps routes within =
     length-append (earlier cursor steps routes) (routes ∷ tables_after (drop cursor steps) routes)
     ∙ omega (arith, length-earlier cursor steps routes within, length-tables_after (drop cursor steps) routes, length-drop cursor steps)
 
 -- the table at the cursor
-pub current-timeline : (cursor : ℕ) (steps : List (List Side)) (routes : Routes) → cursor ≤ length steps → current (timeline_of cursor steps routes) ≡ routes
-current-timeline cursor steps routes within =
-    get_or_at (earlier cursor steps routes) routes (tables_after (drop cursor steps) routes) finite.empty (cursor - 0)
-    (length-earlier cursor steps routes within ∙ omega arith)
+pub at-cursor : (cursor : ℕ) (steps : List (List Side)) (routes : Routes) → cursor ≤ length steps → slice_index_or (tables_over cursor steps routes) cursor finite.empty ≡ routes
+at-cursor cursor steps routes within =
+    get_or_at (earlier cursor steps routes) routes (tables_after (drop cursor steps) routes) finite.empty cursor (length-earlier cursor steps routes within)
+
+pub current-timeline : (floor cursor : ℕ) (steps : List (List Side)) (routes : Routes) → cursor ≤ length steps → current (timeline_of floor cursor steps routes) ≡ routes
+current-timeline floor cursor steps routes within =
+    ap (λ n. slice_index_or (tables_over cursor steps routes) n finite.empty) {x = floor + cursor - floor} {y = cursor} (omega arith) ∙ at-cursor cursor steps routes within
 
 -- the tables before one step more
 earlier-more : (cursor : ℕ) (steps : List (List Side)) (routes : Routes) → cursor < length steps
@@ -57,9 +60,9 @@ earlier-set : (cursor : ℕ) (steps : List (List Side)) (sides : List Side) (rou
 earlier-set cursor steps sides routes = ap (λ s. tables_before (reverse s) routes) (take-set steps cursor sides)
 
 -- going back over the step before the cursor keeps all tables
-tables-back : (cursor : ℕ) (steps : List (List Side)) (routes : Routes) → cursor < length steps
+pub tables-back : (cursor : ℕ) (steps : List (List Side)) (routes : Routes) → cursor < length steps
     → let sides = sides_at steps cursor in
-    (timeline_of cursor (set steps cursor (sides_across routes sides)) (routes_across sides routes)).tables ≡ (timeline_of (cursor + 1) steps routes).tables
+    tables_over cursor (set steps cursor (sides_across routes sides)) (routes_across sides routes) ≡ tables_over (cursor + 1) steps routes
 tables-back cursor steps routes within =
     let sides : List Side = sides_at steps cursor in
     let back : Routes = routes_across sides routes in
@@ -72,9 +75,9 @@ tables-back cursor steps routes within =
     ∙ ap (λ t. t ++ routes ∷ tables_after later routes) (sym (earlier-more cursor steps routes within))
 
 -- going on over the step behind the cursor keeps all tables
-tables-on : (cursor : ℕ) (steps : List (List Side)) (routes : Routes) → cursor < length steps
+pub tables-on : (cursor : ℕ) (steps : List (List Side)) (routes : Routes) → cursor < length steps
     → let sides = sides_at steps cursor in
-    (timeline_of (cursor + 1) (set steps cursor (sides_across routes sides)) (routes_across sides routes)).tables ≡ (timeline_of cursor steps routes).tables
+    tables_over (cursor + 1) (set steps cursor (sides_across routes sides)) (routes_across sides routes) ≡ tables_over cursor steps routes
 tables-on cursor steps routes within =
     let sides : List Side = sides_at steps cursor in
     let on : Routes = routes_across sides routes in
@@ -99,38 +102,24 @@ names-sides_across index steps routes within =
     ∙ set-get_or (map names_of steps) index (names_of [])
 
 -- the cursor one step back
-pub timeline-after_undo : (cursor : ℕ) (steps : List (List Side)) (routes : Routes) → 0 < cursor → cursor ≤ length steps
+pub timeline-after_undo : (floor cursor : ℕ) (steps : List (List Side)) (routes : Routes) → 0 < cursor → cursor ≤ length steps
     → let index = cursor - 1 in
-    timeline_of index (set steps index (sides_across routes (sides_at steps index))) (routes_across (sides_at steps index) routes) ≡ after_undo (timeline_of cursor steps routes)
-timeline-after_undo cursor steps routes some within =
+    timeline_of floor index (set steps index (sides_across routes (sides_at steps index))) (routes_across (sides_at steps index) routes) ≡ after_undo (timeline_of floor cursor steps routes)
+timeline-after_undo floor cursor steps routes some within =
     let index : ℕ = cursor - 1 in
-    let last : index < length steps = omega arith in
-    let same : index + 1 ≡ cursor = omega arith in
-    let t : Timeline = timeline_of cursor steps routes in
-    (λ i. record {
-      floor = 0;
-      cursor = index;
-      tables = (tables-back index steps routes last ∙ ap (λ n. (timeline_of n steps routes).tables) same) i;
-      steps = names-sides_across index steps routes last i;
-    }) ∙ ap (λ b. cond b (record t { cursor = index }) t) (sym (lt-ltb 0 cursor some))
+    let cursors : floor + index ≡ floor + cursor - 1 = omega arith in
+    let tables = tables-back index steps routes (omega arith) ∙ ap (λ n. tables_over n steps routes) {x = index + 1} {y = cursor} (omega arith) in
+    (λ i. record { floor = floor; cursor = cursors i; tables = tables i; steps = names-sides_across index steps routes (omega arith) i })
+    ∙ sym (after_undo-at (timeline_of floor cursor steps routes) (omega arith))
 
 -- the cursor one step on
-pub timeline-after_redo : (cursor : ℕ) (steps : List (List Side)) (routes : Routes) → cursor < length steps
-    → timeline_of (cursor + 1) (set steps cursor (sides_across routes (sides_at steps cursor))) (routes_across (sides_at steps cursor) routes) ≡ after_redo (timeline_of cursor steps routes)
-timeline-after_redo cursor steps routes within =
-    let t : Timeline = timeline_of cursor steps routes in
+pub timeline-after_redo : (floor cursor : ℕ) (steps : List (List Side)) (routes : Routes) → cursor < length steps
+    → timeline_of floor (cursor + 1) (set steps cursor (sides_across routes (sides_at steps cursor))) (routes_across (sides_at steps cursor) routes) ≡ after_redo (timeline_of floor cursor steps routes)
+timeline-after_redo floor cursor steps routes within =
     let names_of : List Side → Pairs = λ sides. names.from_list (pairs_in sides) in
-    let ahead : cursor < 0 + length (map names_of steps) = omega (arith, length-map steps names_of) in
-    (λ i. record {
-      floor = 0;
-      cursor = cursor + 1;
-      tables = tables-on cursor steps routes within i;
-      steps = names-sides_across cursor steps routes within i;
-    }) ∙ ap (λ b. cond b (record t { cursor = cursor + 1 }) t) (sym (lt-ltb cursor (0 + length (map names_of steps)) ahead))
-
--- timelines of the same steps and routes are one
-pub same-timeline : (cursor : ℕ) (steps steps' : List (List Side)) (routes routes' : Routes) → steps ≡ steps' → routes ≡ routes' → timeline_of cursor steps routes ≡ timeline_of cursor steps' routes'
-same-timeline cursor steps steps' routes routes' e f = λ i. timeline_of cursor (e i) (f i)
+    let cursors : floor + (cursor + 1) ≡ floor + cursor + 1 = omega arith in
+    (λ i. record { floor = floor; cursor = cursors i; tables = tables-on cursor steps routes within i; steps = names-sides_across cursor steps routes within i })
+    ∙ sym (after_redo-at (timeline_of floor cursor steps routes) (omega (arith, length-map steps names_of)))
 
 -- a step that is put behind the cursor, in place of those ahead
 abbrev pub added : ℕ → List (List Side) → List Side → List (List Side)
@@ -140,34 +129,36 @@ pub length-added : (cursor : ℕ) (steps : List (List Side)) (sides : List Side)
 length-added cursor steps sides within = length_push (take cursor steps) sides ∙ ap (λ n. n + 1) (length-take-le cursor steps within)
 
 -- the tables up to the cursor
-pub tables-behind : (cursor : ℕ) (steps : List (List Side)) (routes : Routes) → cursor ≤ length steps → take (cursor + 1) (timeline_of cursor steps routes).tables ≡ earlier cursor steps routes ++ routes ∷ []
+pub tables-behind : (cursor : ℕ) (steps : List (List Side)) (routes : Routes) → cursor ≤ length steps → take (cursor + 1) (tables_over cursor steps routes) ≡ earlier cursor steps routes ++ routes ∷ []
 tables-behind cursor steps routes within =
     let first : List Routes = earlier cursor steps routes in
     ap (take (cursor + 1)) (sym (append_assoc first (routes ∷ []) (tables_after (drop cursor steps) routes)))
     ∙ take_at (first ++ routes ∷ []) (tables_after (drop cursor steps) routes) (cursor + 1) (length_push first routes ∙ ap (λ n. n + 1) (length-earlier cursor steps routes within))
 
--- the event's step, put behind the cursor and crossed
-pub timeline-after_play : (cursor : ℕ) (steps : List (List Side)) (sides : List Side) (routes : Routes) (event : Event) → cursor ≤ length steps → IsStepFor routes event sides
-    → timeline_of (cursor + 1) (added cursor steps (sides_across routes sides)) (routes_across sides routes) ≡ after_play (timeline_of cursor steps routes) event
-timeline-after_play cursor steps sides routes event within step =
+-- the step that is put behind it and crossed makes one more
+pub tables-added : (cursor : ℕ) (steps : List (List Side)) (sides : List Side) (routes : Routes) → cursor ≤ length steps
+    → tables_over (cursor + 1) (added cursor steps (sides_across routes sides)) (routes_across sides routes) ≡ take (cursor + 1) (tables_over cursor steps routes) ++ routes_across sides routes ∷ []
+tables-added cursor steps sides routes within =
     let next : Routes = routes_across sides routes in
     let crossing : List Side = sides_across routes sides in
-    let first : List Routes = earlier cursor steps routes in
-    let names_of : List Side → Pairs = λ s. names.from_list (pairs_in s) in
-    let t : Timeline = timeline_of cursor steps routes in
-    let here : current t ≡ routes = current-timeline cursor steps routes within in
     let long : length (added cursor steps crossing) ≤ cursor + 1 = omega (arith, length-added cursor steps crossing within) in
-    let before : first ++ routes ∷ [] ≡ take (cursor - 0 + 1) t.tables =
-    sym (tables-behind cursor steps routes within) ∙ ap (λ n. take (n + 1) t.tables) {x = cursor} {y = cursor - 0} (omega arith) in
-    let tables : (timeline_of (cursor + 1) (added cursor steps crossing) next).tables ≡ (after_play t event).tables =
     ap (λ s. tables_before (reverse s) next ++ next ∷ tables_after (drop (cursor + 1) (added cursor steps crossing)) next) (take_all (cursor + 1) (added cursor steps crossing) long)
     ∙ ap (λ s. tables_before (reverse (added cursor steps crossing)) next ++ next ∷ tables_after s next) (drop_all (cursor + 1) (added cursor steps crossing) long)
     ∙ ap (λ s. tables_before s next ++ next ∷ []) (reverse-append (take cursor steps) (crossing ∷ []))
     ∙ ap (λ r. (tables_before (reverse (take cursor steps)) r ++ r ∷ []) ++ next ∷ []) (routes_across-sides_across sides routes)
-    ∙ ap (λ b. b ++ next ∷ []) before
-    ∙ ap (λ n. take (cursor - 0 + 1) t.tables ++ n ∷ []) (routes_across-step routes event sides step ∙ ap (λ r. table_after r event) (sym here)) in
-    let steps_then : map names_of (added cursor steps crossing) ≡ (after_play t event).steps =
-    map-append names_of (take cursor steps) (crossing ∷ [])
-    ∙ ap (λ s. s ++ names_of crossing ∷ []) (sym (take-map names_of cursor steps) ∙ ap (λ n. take n (map names_of steps)) (omega arith))
-    ∙ ap (λ s. take (cursor - 0) (map names_of steps) ++ s ∷ []) (ap names.from_list (pairs_in-sides_across routes sides) ∙ step.names ∙ ap (λ r. named_pairs r event) (sym here)) in
-    λ i. record { floor = 0; cursor = cursor + 1; tables = tables i; steps = steps_then i }
+    ∙ ap (λ b. b ++ next ∷ []) (sym (tables-behind cursor steps routes within))
+
+-- so the event's step makes what its play does
+pub timeline-after_play : (floor cursor : ℕ) (steps : List (List Side)) (sides : List Side) (routes : Routes) (event : Event) → cursor ≤ length steps → IsStepFor routes event sides
+    → timeline_of floor (cursor + 1) (added cursor steps (sides_across routes sides)) (routes_across sides routes) ≡ after_play (timeline_of floor cursor steps routes) event
+timeline-after_play floor cursor steps sides routes event within step =
+    let names_of : List Side → Pairs = λ s. names.from_list (pairs_in s) in
+    let here : routes ≡ current (timeline_of floor cursor steps routes) = sym (current-timeline floor cursor steps routes within) in
+    let cursors : floor + (cursor + 1) ≡ floor + cursor + 1 = omega arith in
+    let as_many : cursor ≡ floor + cursor - floor = omega arith in
+    let tables = tables-added cursor steps sides routes within
+    ∙ ap₂ (λ n r. take (n + 1) (tables_over cursor steps routes) ++ r ∷ []) as_many (routes_across-step routes event sides step ∙ ap (λ r. table_after r event) here) in
+    let steps_then = map-append names_of (take cursor steps) (sides_across routes sides ∷ [])
+    ∙ ap₂ (λ ss s. ss ++ s ∷ []) (sym (take-map names_of cursor steps) ∙ ap (λ n. take n (map names_of steps)) as_many)
+    (ap names.from_list (pairs_in-sides_across routes sides) ∙ step.names ∙ ap (λ r. named_pairs r event) here) in
+    λ i. record { floor = floor; cursor = cursors i; tables = tables i; steps = steps_then i }

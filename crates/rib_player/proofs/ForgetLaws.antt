@@ -3,7 +3,7 @@ use Rattle.std.proofs.Common.{◌≡◌, ℕ, suc, ◌+◌, List, [], ◌∷◌,
 use Rattle.std.proofs.lemmas.List.{reverse-append}
 use Rattle.rib_player.specs.Tables.{Routes}
 use Rattle.rib_player.specs.Calls.{without_first}
-use Rattle.rib_player.specs.Journal.{Side, routes_across, tables_before, tables_after, timeline_of, behind_forgotten}
+use Rattle.rib_player.specs.Journal.{Side, routes_across, tables_before, tables_after, tables_over, timeline_of}
 
 -- the tables but for the first are those of the other steps
 tables_before-first : (first : List Side) (back : List (List Side)) (routes : Routes) (rest : List Routes) → drop 1 (tables_before (back ++ first ∷ []) routes ++ rest) ≡ tables_before back routes ++ rest
@@ -14,15 +14,15 @@ tables_before-first first (sides ∷ back) routes rest =
     ∙ tables_before-first first back before (before ∷ rest)
     ∙ sym (append_assoc (tables_before back before) (before ∷ []) rest)
 
-pub tables-forgotten : (n : ℕ) (first : List Side) (steps : List (List Side)) (routes : Routes) → drop 1 (timeline_of (suc n) (first ∷ steps) routes).tables ≡ (timeline_of n steps routes).tables
+pub tables-forgotten : (n : ℕ) (first : List Side) (steps : List (List Side)) (routes : Routes) → drop 1 (tables_over (suc n) (first ∷ steps) routes) ≡ tables_over n steps routes
 tables-forgotten n first steps routes =
     ap (λ back. drop 1 (tables_before back routes ++ routes ∷ tables_after (drop n steps) routes)) (reverse-append (first ∷ []) (take n steps))
     ∙ tables_before-first first (reverse (take n steps)) routes (routes ∷ tables_after (drop n steps) routes)
 
 -- so the player is that without its first step
 pub timeline-forgotten : (floor n : ℕ) (first : List Side) (steps : List (List Side)) (routes : Routes)
-    → behind_forgotten (floor + 1) (timeline_of n steps routes) ≡ without_first 1 (behind_forgotten floor (timeline_of (suc n) (first ∷ steps) routes))
+    → timeline_of (floor + 1) n steps routes ≡ without_first 1 (timeline_of floor (suc n) (first ∷ steps) routes)
 timeline-forgotten floor n first steps routes =
     let cursors : floor + 1 + n ≡ floor + suc n = omega arith in
     let tables = sym (tables-forgotten n first steps routes) in
-    λ i. record { floor = floor + 1; cursor = cursors i; tables = tables i; steps = (timeline_of n steps routes).steps }
+    λ i. record { floor = floor + 1; cursor = cursors i; tables = tables i; steps = (timeline_of floor n steps routes).steps }

@@ -1,7 +1,6 @@
 -- Claims that are held: the key, and those beyond it.
-use Rattle.std.proofs.Common.{◌≡◌, ℕ, zero, suc, ◌+◌, ◌<◌, Bool, true, false, cond, not, ◌||◌, ◌&&◌, List, [], ◌∷◌, Option, refl, sym, ap, ap₂, ◌∙◌, arith}
+use Rattle.std.proofs.Common.{◌≡◌, ℕ, zero, suc, ◌+◌, ◌<◌, Bool, true, false, cond, not, ◌||◌, ◌&&◌, Option, refl, sym, ap, ap₂, ◌∙◌, arith}
 use Rattle.std.specs.Prelude.{nat_lt}
-use Rattle.std.specs.List.{AllByRecursion}
 use Rattle.std.specs.FinMap as finite
 use Rattle.std.specs.FinSet as set
 use Rattle.std.specs.FinSet.{contains-insert, contains-remove}
@@ -129,13 +128,5 @@ put-among keys keys' routes routes' p new more after among q out =
 pub inserted : (keys keys' : Pairs) (p : Pair) → keys' ≡ set.insert keys p → set.contains keys' p ≡ true
 inserted keys keys' p more = ap (λ k. set.contains k p) more ∙ contains-insert pair_cmp_total keys p p ∙ ap (λ b. b || set.contains keys p) (tied_itself p)
 
-pub all-inserted : (keys keys' : Pairs) (p : Pair) (pairs : List Pair) → keys' ≡ set.insert keys p → AllByRecursion (λ q. set.contains keys q ≡ true) pairs → AllByRecursion (λ q. set.contains keys' q ≡ true) pairs
-all-inserted keys keys' p [] more all = tt
-all-inserted keys keys' p (q ∷ pairs) more all = (
-  ap (λ k. set.contains k q) more ∙ contains-insert pair_cmp_total keys p q ∙ ap (λ b. tied q p || b) all.0 ∙ or-true (tied q p),
-  all-inserted keys keys' p pairs more all.1,
-)
-
-pub all-same : (keys keys' : Pairs) (pairs : List Pair) → ((q : Pair) → set.contains keys' q ≡ set.contains keys q) → AllByRecursion (λ q. set.contains keys q ≡ true) pairs → AllByRecursion (λ q. set.contains keys' q ≡ true) pairs
-all-same keys keys' [] same all = tt
-all-same keys keys' (q ∷ pairs) same all = (same q ∙ all.0, all-same keys keys' pairs same all.1)
+pub still-inserted : (keys keys' : Pairs) (p q : Pair) → keys' ≡ set.insert keys p → set.contains keys q ≡ true → set.contains keys' q ≡ true
+still-inserted keys keys' p q more there = ap (λ k. set.contains k q) more ∙ contains-insert pair_cmp_total keys p q ∙ ap (λ b. tied q p || b) there ∙ or-true (tied q p)

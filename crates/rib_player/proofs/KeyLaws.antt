@@ -1,7 +1,6 @@
 -- The keys that a player wants.
-use Rattle.std.proofs.Common.{◌≡◌, ℕ, zero, suc, ◌+◌, ◌-◌, Bool, true, false, cond, ◌||◌, List, [], ◌∷◌, ◌++◌, map, take, Option, Some, None, is_some, refl, sym, ap, ap₂, ◌∙◌}
+use Rattle.std.proofs.Common.{◌≡◌, ℕ, zero, suc, Bool, true, false, ◌||◌, List, [], ◌∷◌, ◌++◌, map, take, Option, Some, None, is_some, refl, sym, ap, ap₂, ◌∙◌}
 use Rattle.std.specs.List.{AllByRecursion, list_any, flat_map}
-use Rattle.std.specs.Prelude.{nat_lt}
 use Rattle.std.specs.FinMap as finite
 use Rattle.std.specs.FinMap.{contains_key-keys}
 use Rattle.std.specs.FinSet as set
@@ -11,13 +10,12 @@ use Rattle.std.proofs.lemmas.List.Folds.{list_any-append}
 use Rattle.std.proofs.Math.Bool.{or-true}
 use Rattle.rib_player.specs.declared.pair.Pair.{Pair}
 use Rattle.rib_player.specs.Tables.{Pairs}
-use Rattle.rib_player.specs.Timeline.{Timeline, end_of, current}
-use Rattle.rib_player.specs.Calls.{after_undo, after_redo}
+use Rattle.rib_player.specs.Timeline.{Timeline, current}
 use Rattle.rib_player.specs.Wanted.{wanted}
 use Rattle.rib_player.specs.Journal.{Side, pairs_in}
 use Rattle.rib_player.specs.Sides.{IsKept, AreDistinct}
 use Rattle.rib_player.proofs.PairLaws.{pair_cmp_total}
-use Rattle.rib_player.proofs.MarkLaws.{tied, tied_itself}
+use Rattle.rib_player.proofs.MarkLaws.{tied, all-among}
 
 -- a step's sides name the pair
 abbrev pub side_named : Pair → List Side → Bool
@@ -51,34 +49,12 @@ any-sides : (q : Pair) (steps : List (List Side)) → list_any (λ (s : Pairs). 
 any-sides q [] = refl
 any-sides q (sides ∷ steps) = ap₂ (λ a b. a || b) (contains-from_list pair_cmp_total (pairs_in sides) q) (any-sides q steps)
 
--- and all tables
-pub after_undo-tables : (t : Timeline) → (after_undo t).tables ≡ t.tables
-after_undo-tables t = at (nat_lt t.floor t.cursor)
-  where
-    at : (b : Bool) → (cond b (record t { cursor = t.cursor - 1 }) t).tables ≡ t.tables
-    at true = refl
-    at false = refl
-
-pub after_redo-tables : (t : Timeline) → (after_redo t).tables ≡ t.tables
-after_redo-tables t = at (nat_lt t.cursor (end_of t))
-  where
-    at : (b : Bool) → (cond b (record t { cursor = t.cursor + 1 }) t).tables ≡ t.tables
-    at true = refl
-    at false = refl
-
 -- ---- keys of all pairs that steps name
-
-all-keys : (keys : Pairs) (pairs : List Pair) → ((q : Pair) → list_any (tied q) pairs ≡ true → set.contains keys q ≡ true) → AllByRecursion (λ p. set.contains keys p ≡ true) pairs
-all-keys keys [] have = tt
-all-keys keys (p ∷ pairs) have = (
-  have p (ap (λ b. b || list_any (tied p) pairs) (tied_itself p)),
-  all-keys keys pairs (λ q there. have q (ap (λ b. tied q p || b) there ∙ or-true (tied q p))),
-)
 
 all-kept : (keys : Pairs) (steps : List (List Side)) → AllByRecursion AreDistinct steps → ((q : Pair) → list_any (side_named q) steps ≡ true → set.contains keys q ≡ true) → AllByRecursion (IsKept keys) steps
 all-kept keys [] distinct have = tt
 all-kept keys (sides ∷ steps) distinct have = (
-  record { distinct = distinct.0; among_keys = all-keys keys (pairs_in sides) (λ q there. have q (ap (λ b. b || list_any (side_named q) steps) there)) },
+  record { distinct = distinct.0; among_keys = all-among (λ p. set.contains keys p ≡ true) (pairs_in sides) (λ q there. have q (ap (λ b. b || list_any (side_named q) steps) there)) },
   all-kept keys steps distinct.1 (λ q there. have q (ap (λ b. side_named q sides || b) there ∙ or-true (side_named q sides))),
 )
 

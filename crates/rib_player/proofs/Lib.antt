@@ -24,3 +24,4 @@ pub mod PlayedLaws
 pub mod OrderedLaws
 pub mod ForgetLaws
 pub mod FloorLaws
+pub mod LawRules

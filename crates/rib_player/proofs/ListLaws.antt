@@ -1,10 +1,16 @@
 -- What stands in a list of which an element was written, added or taken out.
 use Rattle.std.proofs.Common.{◌≡◌, ◌≢◌, ℕ, zero, suc, ◌+◌, ◌-◌, ◌<◌, ◌≤◌, true, List, [], ◌∷◌, ◌++◌, map, set, length, get_or, Option, Some, None, is_some, slice_get, refl, sym, ap, ◌∙◌, arith}
 use Rattle.std.specs.Borrow.{Bor}
+use Rattle.std.specs.List.{AllByRecursion}
 use Rattle.std.specs.Slice.{IsItemAt}
 use Rattle.std.specs.Option.{option_map, option_copied}
 use Rattle.std.proofs.lemmas.List.{length-map, length-set, get_or-set_same}
 use Rattle.std.proofs.lemmas.Option.{slice_get-map, slice_get-get_or, slice_get_past}
+
+-- what follows of each element from what holds of it
+pub all-then : {A : Type 0} (P Q : A → Type 0) (xs : List A) → ((x : A) → P x → Q x) → AllByRecursion P xs → AllByRecursion Q xs
+all-then P Q [] then all = tt
+all-then P Q (x ∷ xs) then all = (then x all.0, all-then P Q xs then all.1)
 
 module _ {X : Type 0} where
   pub get-within : (xs : List X) (i : ℕ) → i < length xs → is_some (slice_get xs i) ≡ true

@@ -1,7 +1,7 @@
 -- The entries of a lost session alone are those of its step.
-use Rattle.std.proofs.Common.{◌≡◌, Bool, true, false, cond, ◌&&◌, ◌||◌, List, [], ◌∷◌, map, length, get_or, drop, Option, Some, None, is_some, refl, sym, ap, ap₂, subst, ◌∙◌, arith}
+use Rattle.std.proofs.Common.{◌≡◌, Bool, true, false, cond, ◌&&◌, List, [], ◌∷◌, map, get_or, drop, Option, Some, None, is_some, refl, sym, ap, ap₂, subst, ◌∙◌}
 use Rattle.std.specs.List.{AllByRecursion, list_any}
-use Rattle.std.proofs.Math.Bool.{or-true, or-false}
+use Rattle.std.proofs.Math.Bool.{or-false}
 use Rattle.std.specs.List.Sorted.{IsStrictlySortedBy}
 use Rattle.std.specs.Ordering.{eq_by_cmp, ordering_then}
 use Rattle.std.specs.declared.cmp.Ordering.TheVariants.{Less}
@@ -35,6 +35,7 @@ use Rattle.prefix_store.proofs.AboveLaws.{routes-in_order}
 use Rattle.rib_player.proofs.JournalLaws.{get-restored_crossed}
 use Rattle.rib_player.proofs.PeerLaws.{any-of_peer, each-of_peer}
 use Rattle.rib_player.proofs.PairLaws.{pair_cmp_total}
+use Rattle.rib_player.proofs.MarkLaws.{all-among}
 use Rattle.rib_player.proofs.StoreLaws.{same_pairs, same_peer}
 use Rattle.rib_player.proofs.TableLaws.{same_routes, get-table_after, contains-named_pairs}
 
@@ -94,7 +95,7 @@ module _ (routes : Routes) (event : Event) (peer : Peer) (alone : (q : Pair) →
   pub IsStepFor-lost : (sides : List Side) → ClearAllOf routes peer sides → IsStepFor routes event sides
   IsStepFor-lost sides cleared = record {
     distinct = lost-distinct routes peer sides cleared;
-    after = across sides (lost-absent routes peer sides cleared) (of_peer (pairs_in sides) (λ q there. first (same_peer q.peer peer) (is_some (finite.get routes q)) (sym (lost-named routes peer sides cleared q) ∙ there)));
+    after = across sides (lost-absent routes peer sides cleared) (all-among (λ q. same_peer q.peer peer ≡ true) (pairs_in sides) (λ q there. first (same_peer q.peer peer) (is_some (finite.get routes q)) (sym (lost-named routes peer sides cleared q) ∙ there)));
     names = same_pairs (from_list (pairs_in sides)) (named_pairs routes event) (λ q.
         contains-from_list pair_cmp_total (pairs_in sides) q ∙ lost-named routes peer sides cleared q ∙ named-then (same_peer q.peer peer) (finite.get routes q)
         ∙ ap (is_named (finite.get routes q)) (sym (alone q)) ∙ sym (contains-named_pairs routes event q));
@@ -104,13 +105,6 @@ module _ (routes : Routes) (event : Event) (peer : Peer) (alone : (q : Pair) →
       first true b e = refl
       first false b e = e
 
-      of_peer : (pairs : List Pair) → ((q : Pair) → list_any (eq_by_cmp pair_cmp q) pairs ≡ true → same_peer q.peer peer ≡ true) → AllByRecursion (λ q. same_peer q.peer peer ≡ true) pairs
-      of_peer [] has = tt
-      of_peer (p ∷ pairs) has = (
-        has p (ap (λ b. b || list_any (eq_by_cmp pair_cmp p) pairs) ((eq_by_cmp_equiv pair_cmp_total).refl p)),
-        of_peer pairs (λ q there. has q (ap (λ b. eq_by_cmp pair_cmp q p || b) there ∙ or-true (eq_by_cmp pair_cmp q p))),
-      )
-
 -- an event of which nothing but a loss is noted does just that
 pub lost-alone : (event : Event) (changes : Changes) (peer : Peer) → ((q : Pair) → noted_effect changes q ≡ effect q event) → changes.entries.items ≡ [] → changes.lost.keys ≡ peer ∷ []
     → (q : Pair) → effect q event ≡ where_true (same_peer q.peer peer) Clear
@@ -119,10 +113,6 @@ lost-alone event changes peer notes none one q =
     ∙ ap (λ b. where_true b Clear) (or-false (same_peer q.peer peer))
 
 -- ---- the routes that they get
-
-pub nothing : {A : Type 0} (xs : List A) → length xs ≡ 0 → xs ≡ []
-nothing [] e = refl
-nothing (x ∷ xs) e = absurd (omega arith)
 
 pub cleared-nil : (entries : List Entry) → cleared_entries entries [] ≡ entries
 cleared-nil [] = refl

@@ -10,6 +10,7 @@ use Rattle.std.proofs.lemmas.List.{take_more, take_more_set, map-append}
 use Rattle.std.proofs.lemmas.Map.Keys.{IsDistinct-head, IsDistinct-tail}
 use Rattle.std.proofs.Math.Bool.{or-true, or-false, or_assoc}
 use Rattle.octet_forms.proofs.Booleans.{or-and_false}
+use Rattle.octet_forms.proofs.Lists.{AllByRecursion-take}
 use Rattle.rib_player.specs.declared.pair.Pair.{Pair}
 use Rattle.rib_player.specs.declared.journal.Step.{Step}
 use Rattle.rib_player.specs.declared.entry.End.{End}
@@ -28,6 +29,14 @@ tied = eq_by_cmp pair_cmp
 
 pub tied_itself : (q : Pair) → tied q q ≡ true
 tied_itself q = (eq_by_cmp_equiv pair_cmp_total).refl q
+
+-- what holds of each pair that is among some holds of all of them
+pub all-among : (P : Pair → Type 0) (pairs : List Pair) → ((q : Pair) → list_any (tied q) pairs ≡ true → P q) → AllByRecursion P pairs
+all-among P [] have = tt
+all-among P (p ∷ pairs) have = (
+  have p (ap (λ b. b || list_any (tied p) pairs) (tied_itself p)),
+  all-among P pairs (λ q there. have q (ap (λ b. tied q p || b) there ∙ or-true (tied q p))),
+)
 
 abbrev pub pairs_marked : List Mark → List Pair
 pairs_marked marks = map (λ (m : Mark). m.pair) marks
@@ -50,16 +59,11 @@ turn-more f entries i new x xs whole within is before =
     ∙ before
 
 -- the first of distinct keys are distinct
-pub apart-take : (q : Pair) (i : ℕ) (pairs : List Pair) → AllByRecursion (λ p. tied q p ≡ false) pairs → AllByRecursion (λ p. tied q p ≡ false) (take i pairs)
-apart-take q zero pairs all = tt
-apart-take q (suc i) [] all = tt
-apart-take q (suc i) (p ∷ pairs) all = (all.0, apart-take q i pairs all.1)
-
 pub distinct-take : (i : ℕ) (pairs : List Pair) → IsDistinct tied pairs → IsDistinct tied (take i pairs)
 unfolding IsDistinct
 distinct-take zero pairs all = tt
 distinct-take (suc i) [] all = tt
-distinct-take (suc i) (p ∷ pairs) all = (apart-take p i pairs all.0, distinct-take i pairs all.1)
+distinct-take (suc i) (p ∷ pairs) all = (AllByRecursion-take (λ q. tied p q ≡ false) i pairs all.0, distinct-take i pairs all.1)
 
 pub pairs_in-take : (i : ℕ) (entries : List Entry) → pairs_in (sides_of (take i entries)) ≡ take i (pairs_in (sides_of entries))
 pairs_in-take zero entries = refl

@@ -3,28 +3,44 @@ use Rattle.std.proofs.Common.{◌≡◌, ◌≢◌, ℕ, ◌<◌, Bool, true, fa
 use Rattle.std.specs.List.{AllByRecursion, filter, cons_option}
 use Rattle.std.specs.List.Sorted.{IsStrictlySortedBy}
 use Rattle.std.specs.Map.{lookup, keys_of}
-use Rattle.std.specs.Option.{option_map, option_copied_mut, unwrap_or}
+use Rattle.std.specs.Option.{option_map, option_copied_mut}
 use Rattle.std.specs.Cmp.{eq_by_cmp_equiv}
 use Rattle.std.specs.declared.cmp.Ordering.TheVariants.{Less}
-use Rattle.std.specs.declared.alloc.Global.{Global}
-use Rattle.std.specs.declared.rc.Rc.{Rc}
 use Rattle.std.proofs.lemmas.Bool.{cases_eq}
-use Rattle.std.proofs.lemmas.List.{length-map, length-set, length_push}
+use Rattle.std.proofs.lemmas.List.{length-set, length_push}
 use Rattle.std.proofs.lemmas.Option.{slice_get_within, slice_get-get_or}
 use Rattle.mrt_events.specs.declared.peer.Peer.{Peer}
 use Rattle.mrt_events.specs.Peer.{peer_cmp}
 use Rattle.mrt_events.proofs.PeerLaws.{peer_cmp_total}
 use Rattle.rib_player.specs.Store.{store_at}
+use Rattle.rib_player.specs.Holding.{IsWritten}
 use Rattle.rib_player.specs.StoresByPeer.{stores_of}
-use Rattle.rib_player.specs.Numbered.{peers_in, AreNumbered}
-use Rattle.rib_player.proofs.StoreLaws.{same_peer, one_peer}
+use Rattle.rib_player.specs.Numbered.{AreNumbered}
+use Rattle.rib_player.proofs.StoreLaws.{same_peer, one_peer, one_of}
 use Rattle.rib_player.proofs.ListLaws.{get-set_same, get-set_other, get-push_last, get-push_other, get-within, get-past, IsSwapped}
 
 same_itself : (peer : Peer) → same_peer peer peer ≡ true
 same_itself = (eq_by_cmp_equiv peer_cmp_total).refl
 
-one_of : {X : Type 0} (a b : X) → Some a ≡ Some b → a ≡ b
-one_of a b e = ap (λ o. unwrap_or o a) e
+module _ {A : Type 0} where
+  -- peers for which two things stand are two
+  apart : (order : List (Peer × A)) (one other : Peer) → (lookup (same_peer one) order ≡ lookup (same_peer other) order → ⊥) → same_peer one other ≡ false
+  apart order one other differ = at (same_peer one other) refl
+    where
+      at : (b : Bool) → same_peer one other ≡ b → b ≡ false
+      at true same = absurd (differ (ap (λ q. lookup (same_peer q) order) (one_peer one other same)))
+      at false same = refl
+
+  -- what stands where something was written
+  module _ {old new : List (Peer × A)} {peer : Peer} {w : Option A} (written : IsWritten old new peer w) (p : Peer) where
+    written-here : same_peer peer p ≡ true → lookup (same_peer p) new ≡ w
+    written-here same = written.each p ∙ ap (λ b. cond b w (lookup (same_peer p) old)) same
+
+    written-elsewhere : same_peer peer p ≡ false → lookup (same_peer p) new ≡ lookup (same_peer p) old
+    written-elsewhere differ = written.each p ∙ ap (λ b. cond b w (lookup (same_peer p) old)) differ
+
+moved-differs : (names' : List Peer) (number : ℕ) (other : Peer) → slice_get names' number ≡ Some other → number ≢ length names'
+moved-differs names' number other is same = let within = slice_get_within names' number other is in absurd (omega (arith, within, same))
 
 none-either : (b : Bool) (o : Option ℕ) → o ≡ None → cond b None o ≡ None
 none-either true o is = refl
@@ -36,13 +52,6 @@ pub record IsRenumbered (order order' : List (Peer × ℕ)) (peer : Peer) (last 
   pub moved : (p : Peer) → same_peer peer p ≡ false → lookup (same_peer p) order ≡ Some last → lookup (same_peer p) order' ≡ Some number
   pub kept : (p : Peer) (n : ℕ) → same_peer peer p ≡ false → n ≢ last → lookup (same_peer p) order ≡ Some n → lookup (same_peer p) order' ≡ Some n
   pub none : (p : Peer) → lookup (same_peer p) order ≡ None → lookup (same_peer p) order' ≡ None
-
--- a name stands at a number that is found
-pub names-there : {S : Type 0} (held : List S) (names : List (Rc Peer Global)) (order : List (Peer × ℕ)) → AreNumbered held (peers_in names) order
-    → (p : Peer) (number : ℕ) → lookup (same_peer p) order ≡ Some number → number < length names
-names-there held names order are p number found =
-    let within = slice_get_within (peers_in names) number p (are.there p number found) in
-    omega (arith, within, length-map names (λ (shared : Rc Peer Global). shared.value))
 
 module _ {S : Type 0} where
   -- the store at a number, where there is one
@@ -56,38 +65,37 @@ module _ {S : Type 0} where
   lent-at held n None within some value = cc
   lent-at held n (Some x) within some value = ap Some value ∙ sym (slice_get-get_or held n x.now within)
 
+  -- what stands at a number, if the peer is that one's
+  abbrev first_of : Option S → Bool → Option S → Option S
+  first_of None b rest = rest
+  first_of (Some store) b rest = cond b (Some store) rest
+
   -- a peer's store is that at its number, if one stands there
   at-number : (held : List S) (p : Peer) (order : List (Peer × ℕ)) → ((n : ℕ) → lookup (same_peer p) order ≡ Some n → is_some (slice_get held n) ≡ true)
       → store_at (stores_of held order) p ≡ stored held (lookup (same_peer p) order)
   at-number held p [] all = refl
-  at-number held p (e ∷ es) all = at (slice_get held e.1) refl (same_peer p e.0) refl (at-number held p es)
+  at-number held p (e ∷ es) all = by (slice_get held e.1) ∙ at (slice_get held e.1) refl (same_peer p e.0) all (at-number held p es)
     where
-      at : (o : Option S) → slice_get held e.1 ≡ o → (b : Bool) → same_peer p e.0 ≡ b
-          → (((n : ℕ) → lookup (same_peer p) es ≡ Some n → is_some (slice_get held n) ≡ true) → store_at (stores_of held es) p ≡ stored held (lookup (same_peer p) es))
-          → store_at (stores_of held (e ∷ es)) p ≡ stored held (cond (same_peer p e.0) (Some e.1) (lookup (same_peer p) es))
-      at None is true same rest =
-          let lost : false ≡ true = sym (ap is_some is) ∙ all e.1 (ap (λ b. cond b (Some e.1) (lookup (same_peer p) es)) same) in
-          cc
-      at None is false same rest =
-          ap (λ o. store_at (cons_option (option_map (λ store. (e.0, store)) o) (stores_of held es)) p) is
-          ∙ rest (λ n found. all n (ap (λ b. cond b (Some e.1) (lookup (same_peer p) es)) same ∙ found))
-          ∙ sym (ap (λ b. stored held (cond b (Some e.1) (lookup (same_peer p) es))) same)
-      at (Some store) is true same rest =
-          ap (λ o. store_at (cons_option (option_map (λ store. (e.0, store)) o) (stores_of held es)) p) is
-          ∙ ap (λ b. cond b (Some store) (store_at (stores_of held es) p)) same
-          ∙ sym is ∙ sym (ap (λ b. stored held (cond b (Some e.1) (lookup (same_peer p) es))) same)
-      at (Some store) is false same rest =
-          ap (λ o. store_at (cons_option (option_map (λ store. (e.0, store)) o) (stores_of held es)) p) is
-          ∙ ap (λ b. cond b (Some store) (store_at (stores_of held es) p)) same
-          ∙ rest (λ n found. all n (ap (λ b. cond b (Some e.1) (lookup (same_peer p) es)) same ∙ found))
-          ∙ sym (ap (λ b. stored held (cond b (Some e.1) (lookup (same_peer p) es))) same)
+      by : (o : Option S) → store_at (cons_option (option_map (λ store. (e.0, store)) o) (stores_of held es)) p ≡ first_of o (same_peer p e.0) (store_at (stores_of held es) p)
+      by None = refl
+      by (Some store) = refl
 
-  module _ (held : List S) (names : List Peer) (order : List (Peer × ℕ)) (are : AreNumbered held names order) where
-    -- a store stands at a number that is found
+      at : (o : Option S) → slice_get held e.1 ≡ o → (b : Bool) → ((n : ℕ) → cond b (Some e.1) (lookup (same_peer p) es) ≡ Some n → is_some (slice_get held n) ≡ true)
+          → (((n : ℕ) → lookup (same_peer p) es ≡ Some n → is_some (slice_get held n) ≡ true) → store_at (stores_of held es) p ≡ stored held (lookup (same_peer p) es))
+          → first_of o b (store_at (stores_of held es) p) ≡ stored held (cond b (Some e.1) (lookup (same_peer p) es))
+      at None is true some rest = let lost : false ≡ true = sym (ap is_some is) ∙ some e.1 refl in cc
+      at None is false some rest = rest some
+      at (Some store) is true some rest = sym is
+      at (Some store) is false some rest = rest some
+
+  module _ {held : List S} {names : List Peer} {order : List (Peer × ℕ)} (are : AreNumbered held names order) where
+    -- a name stands at a number that is found
+    pub named-there : (p : Peer) (number : ℕ) → lookup (same_peer p) order ≡ Some number → number < length names
+    named-there p number found = slice_get_within names number p (are.there p number found)
+
+    -- and a store
     pub held-there : (p : Peer) (number : ℕ) → lookup (same_peer p) order ≡ Some number → number < length held
-    held-there p number found =
-        let within = slice_get_within names number p (are.there p number found) in
-        omega (arith, within, are.even)
+    held-there p number found = omega (arith, named-there p number found, are.even)
 
     -- a peer's store is that at its number
     pub at-stores_of : (p : Peer) → store_at (stores_of held order) p ≡ stored held (lookup (same_peer p) order)
@@ -98,7 +106,7 @@ module _ {S : Type 0} where
     found-store p number is = ap (stored held) is ∙ sym (at-stores_of p)
 
     -- two peers don't have one number
-    pub one-named : (one other : Peer) (number : ℕ) → slice_get names number ≡ Some one → slice_get names number ≡ Some other → one ≡ other
+    one-named : (one other : Peer) (number : ℕ) → slice_get names number ≡ Some one → slice_get names number ≡ Some other → one ≡ other
     one-named one other number is is' = one_of one other (sym is ∙ is')
 
     numbers-differ : (one other : Peer) (number number' : ℕ) → lookup (same_peer one) order ≡ Some number → lookup (same_peer other) order ≡ Some number'
@@ -110,279 +118,194 @@ module _ {S : Type 0} where
 
     -- a peer without a store has no number
     pub no-number : (p : Peer) → store_at (stores_of held order) p ≡ None → lookup (same_peer p) order ≡ None
-    no-number p none = at (lookup (same_peer p) order) refl
+    no-number p none = at (lookup (same_peer p) order) refl (sym (at-stores_of p) ∙ none)
       where
-        at : (o : Option ℕ) → lookup (same_peer p) order ≡ o → lookup (same_peer p) order ≡ None
-        at None is = is
-        at (Some n) is =
-            let lost : true ≡ false = sym (get-within held n (held-there p n is)) ∙ ap (λ o. is_some (stored held o)) (sym is) ∙ ap is_some (sym (at-stores_of p) ∙ none) in
-            cc
+        at : (o : Option ℕ) → lookup (same_peer p) order ≡ o → stored held o ≡ None → o ≡ None
+        at None is none = refl
+        at (Some n) is none = let lost : true ≡ false = sym (get-within held n (held-there p n is)) ∙ ap is_some none in cc
 
     -- nothing goes of a peer without a store
-    pub stores-absent : (order' : List (Peer × ℕ)) (peer : Peer) → lookup (same_peer peer) order ≡ None → order' ≡ order
-        → (p : Peer) → store_at (stores_of held order') p ≡ cond (same_peer peer p) None (store_at (stores_of held order) p)
-    stores-absent order' peer none same p = ap (λ es. store_at (stores_of held es) p) same ∙ at (same_peer peer p) refl
+    pub stores-absent : {order' : List (Peer × ℕ)} {peer : Peer} → lookup (same_peer peer) order ≡ None → order' ≡ order → IsWritten (stores_of held order) (stores_of held order') peer None
+    stores-absent {peer = peer} none same = record { each = λ p. ap (λ es. store_at (stores_of held es) p) same ∙ at p (same_peer peer p) refl }
       where
-        at : (b : Bool) → same_peer peer p ≡ b → store_at (stores_of held order) p ≡ cond (same_peer peer p) None (store_at (stores_of held order) p)
-        at true is =
-            at-stores_of p ∙ ap (stored held) (ap (λ q. lookup (same_peer q) order) (sym (one_peer peer p is)) ∙ none)
-            ∙ sym (ap (λ b. cond b None (store_at (stores_of held order) p)) is)
-        at false is = sym (ap (λ b. cond b None (store_at (stores_of held order) p)) is)
+        at : (p : Peer) (b : Bool) → same_peer peer p ≡ b → store_at (stores_of held order) p ≡ cond b None (store_at (stores_of held order) p)
+        at p true is = at-stores_of p ∙ ap (stored held) (ap (λ q. lookup (same_peer q) order) (sym (one_peer peer p is)) ∙ none)
+        at p false is = refl
 
     -- a store is written
-    module _ (peer : Peer) (number : ℕ) (w : S) (found : lookup (same_peer peer) order ≡ Some number) where
-      pub numbered-write : AreNumbered (set held number w) names order
-      numbered-write = record { there = are.there; back = are.back; even = omega (arith, are.even, length-set held number w) }
+    pub numbered-write : (number : ℕ) (w : S) → AreNumbered (set held number w) names order
+    numbered-write number w = record { there = are.there; back = are.back; even = omega (arith, are.even, length-set held number w) }
 
-      pub stores-write : (p : Peer) → store_at (stores_of (set held number w) order) p ≡ cond (same_peer peer p) (Some w) (store_at (stores_of held order) p)
-      stores-write p =
-          at-number (set held number w) p order there ∙ at (same_peer peer p) refl (lookup (same_peer p) order) refl
-          ∙ ap (cond (same_peer peer p) (Some w)) (sym (at-stores_of p))
-        where
-          there : (n : ℕ) → lookup (same_peer p) order ≡ Some n → is_some (slice_get (set held number w) n) ≡ true
-          there n is =
-              let within = held-there p n is in
-              get-within (set held number w) n (omega (arith, within, length-set held number w))
+    -- where one was taken out, the peer that stands there then stood last
+    moved-last : {names' : List Peer} {number : ℕ} → IsSwapped names names' number → (other : Peer) → slice_get names' number ≡ Some other → lookup (same_peer other) order ≡ Some (length names')
+    moved-last {names' = names'} {number = number} peers other is = are.back other (length names') (sym (peers.last (slice_get_within names' number other is)) ∙ is)
 
-          at : (b : Bool) → same_peer peer p ≡ b → (o : Option ℕ) → lookup (same_peer p) order ≡ o
-              → stored (set held number w) (lookup (same_peer p) order) ≡ cond (same_peer peer p) (Some w) (stored held (lookup (same_peer p) order))
-          at true same o is =
-              ap (stored (set held number w)) (ap (λ q. lookup (same_peer q) order) (sym (one_peer peer p same)) ∙ found) ∙ get-set_same held number w (held-there peer number found)
-              ∙ sym (ap (λ b. cond b (Some w) (stored held (lookup (same_peer p) order))) same)
-          at false same None is =
-              ap (stored (set held number w)) is ∙ sym (ap (stored held) is) ∙ sym (ap (λ b. cond b (Some w) (stored held (lookup (same_peer p) order))) same)
-          at false same (Some n) is =
-              ap (stored (set held number w)) is ∙ get-set_other held number n w (numbers-differ peer p number n found is same)
-              ∙ sym (ap (stored held) is) ∙ sym (ap (λ b. cond b (Some w) (stored held (lookup (same_peer p) order))) same)
+  module _ {held : List S} {names : List Peer} {order : List (Peer × ℕ)} (are : AreNumbered held names order) {peer : Peer} {number : ℕ} (found : lookup (same_peer peer) order ≡ Some number) (w : S) where
+    pub stores-write : IsWritten (stores_of held order) (stores_of (set held number w) order) peer (Some w)
+    stores-write = record {
+      each = λ p.
+          at-stores_of (numbered-write are number w) p ∙ at p (same_peer peer p) refl (lookup (same_peer p) order) refl ∙ ap (cond (same_peer peer p) (Some w)) (sym (at-stores_of are p));
+    }
+      where
+        at : (p : Peer) (b : Bool) → same_peer peer p ≡ b → (o : Option ℕ) → lookup (same_peer p) order ≡ o → stored (set held number w) o ≡ cond b (Some w) (stored held o)
+        at p true same o is =
+            ap (stored (set held number w)) (sym is ∙ ap (λ q. lookup (same_peer q) order) (sym (one_peer peer p same)) ∙ found) ∙ get-set_same held number w (held-there are peer number found)
+        at p false same None is = refl
+        at p false same (Some n) is = get-set_other held number n w (numbers-differ are peer p number n found is same)
 
-    -- a store is added, of a peer that has none, behind all others
-    module _ (order' : List (Peer × ℕ)) (peer : Peer) (store : S) (none : lookup (same_peer peer) order ≡ None)
-        (updated : (p : Peer) → lookup (same_peer p) order' ≡ cond (same_peer peer p) (Some (length held)) (lookup (same_peer p) order)) where
-      there-insert : (p : Peer) (n : ℕ) → lookup (same_peer p) order' ≡ Some n → slice_get (names ++ peer ∷ []) n ≡ Some p
-      there-insert p n is = at (same_peer peer p) refl
-        where
-          at : (b : Bool) → same_peer peer p ≡ b → slice_get (names ++ peer ∷ []) n ≡ Some p
-          at true same =
-              let number : length names ≡ n = are.even ∙ one_of (length held) n (sym (ap (λ b. cond b (Some (length held)) (lookup (same_peer p) order)) same) ∙ sym (updated p) ∙ is) in
-              ap (slice_get (names ++ peer ∷ [])) (sym number) ∙ get-push_last names peer ∙ ap Some (one_peer peer p same)
-          at false same =
-              let was : lookup (same_peer p) order ≡ Some n = sym (ap (λ b. cond b (Some (length held)) (lookup (same_peer p) order)) same) ∙ sym (updated p) ∙ is in
-              get-push_other names peer n (slice_get_within names n p (are.there p n was)) ∙ are.there p n was
+  -- a store is added, of a peer that has none, behind all others
+  module _ {held : List S} {names : List Peer} {order order' : List (Peer × ℕ)} (are : AreNumbered held names order) {peer : Peer} (store : S) (none : lookup (same_peer peer) order ≡ None)
+      (updated : IsWritten order order' peer (Some (length held))) where
+    there-insert : (p : Peer) (n : ℕ) → lookup (same_peer p) order' ≡ Some n → slice_get (names ++ peer ∷ []) n ≡ Some p
+    there-insert p n is = at (same_peer peer p) refl (updated.each p)
+      where
+        at : (b : Bool) → same_peer peer p ≡ b → lookup (same_peer p) order' ≡ cond b (Some (length held)) (lookup (same_peer p) order) → slice_get (names ++ peer ∷ []) n ≡ Some p
+        at true same has =
+            let number : length names ≡ n = are.even ∙ one_of (length held) n (sym has ∙ is) in
+            ap (slice_get (names ++ peer ∷ [])) (sym number) ∙ get-push_last names peer ∙ ap Some (one_peer peer p same)
+        at false same has =
+            let was = are.there p n (sym has ∙ is) in
+            get-push_other names peer n (slice_get_within names n p was) ∙ was
 
-      back-insert : (p : Peer) (n : ℕ) → slice_get (names ++ peer ∷ []) n ≡ Some p → lookup (same_peer p) order' ≡ Some n
-      back-insert p n is = elim (cases_eq n (length names)) [
-        | inl last ↦
-            let this : peer ≡ p = one_of peer p (sym (get-push_last names peer) ∙ ap (slice_get (names ++ peer ∷ [])) (sym last) ∙ is) in
-            updated p ∙ ap (λ b. cond b (Some (length held)) (lookup (same_peer p) order)) (ap (same_peer peer) (sym this) ∙ same_itself peer)
-            ∙ ap Some (sym are.even ∙ sym last)
-        | inr differs ↦
-            let within = slice_get_within (names ++ peer ∷ []) n p is in
-            let was : lookup (same_peer p) order ≡ Some n = are.back p n (sym (get-push_other names peer n (omega (arith, within, differs, length_push names peer))) ∙ is) in
-            updated p ∙ other was (same_peer peer p) refl
-      ]
-        where
-          other : lookup (same_peer p) order ≡ Some n → (b : Bool) → same_peer peer p ≡ b → cond (same_peer peer p) (Some (length held)) (lookup (same_peer p) order) ≡ Some n
-          other was true same =
-              let lost : Some n ≡ None = sym was ∙ ap (λ q. lookup (same_peer q) order) (sym (one_peer peer p same)) ∙ none in
-              cc
-          other was false same = ap (λ b. cond b (Some (length held)) (lookup (same_peer p) order)) same ∙ was
+    back-insert : (p : Peer) (n : ℕ) → slice_get (names ++ peer ∷ []) n ≡ Some p → lookup (same_peer p) order' ≡ Some n
+    back-insert p n is = elim (cases_eq n (length names)) [
+      | inl last ↦
+          let this : peer ≡ p = one_of peer p (sym (get-push_last names peer) ∙ ap (slice_get (names ++ peer ∷ [])) (sym last) ∙ is) in
+          written-here updated p (ap (same_peer peer) (sym this) ∙ same_itself peer) ∙ ap Some (sym are.even ∙ sym last)
+      | inr differs ↦
+          let within = slice_get_within (names ++ peer ∷ []) n p is in
+          let was : lookup (same_peer p) order ≡ Some n = are.back p n (sym (get-push_other names peer n (omega (arith, within, differs, length_push names peer))) ∙ is) in
+          written-elsewhere updated p (apart order peer p (λ e. let lost : Some n ≡ None = sym was ∙ sym e ∙ none in cc)) ∙ was
+    ]
 
-      numbered-insert : AreNumbered (held ++ store ∷ []) (names ++ peer ∷ []) order'
-      numbered-insert = record {
-        there = there-insert;
-        back = back-insert;
-        even = omega (arith, are.even, length_push names peer, length_push held store);
-      }
+    numbered-insert : AreNumbered (held ++ store ∷ []) (names ++ peer ∷ []) order'
+    numbered-insert = record {
+      there = there-insert;
+      back = back-insert;
+      even = omega (arith, are.even, length_push names peer, length_push held store);
+    }
 
-      stores-insert : (p : Peer) → store_at (stores_of (held ++ store ∷ []) order') p ≡ cond (same_peer peer p) (Some store) (store_at (stores_of held order) p)
-      stores-insert p =
-          at-number held' p order' there ∙ ap (stored held') (updated p) ∙ at (same_peer peer p) refl (lookup (same_peer p) order) refl
-          ∙ ap (cond (same_peer peer p) (Some store)) (sym (at-stores_of p))
-        where
-          held' : List S
-          held' = held ++ store ∷ []
-
-          there : (n : ℕ) → lookup (same_peer p) order' ≡ Some n → is_some (slice_get held' n) ≡ true
-          there n is =
-              let within = slice_get_within (names ++ peer ∷ []) n p (there-insert p n is) in
-              get-within held' n (omega (arith, within, are.even, length_push names peer, length_push held store))
-
-          at : (b : Bool) → same_peer peer p ≡ b → (o : Option ℕ) → lookup (same_peer p) order ≡ o
-              → stored held' (cond (same_peer peer p) (Some (length held)) (lookup (same_peer p) order)) ≡ cond (same_peer peer p) (Some store) (stored held (lookup (same_peer p) order))
-          at true same o is =
-              ap (λ b. stored held' (cond b (Some (length held)) (lookup (same_peer p) order))) same ∙ get-push_last held store
-              ∙ sym (ap (λ b. cond b (Some store) (stored held (lookup (same_peer p) order))) same)
-          at false same None is =
-              ap (λ b. stored held' (cond b (Some (length held)) (lookup (same_peer p) order))) same ∙ ap (stored held') is ∙ sym (ap (stored held) is)
-              ∙ sym (ap (λ b. cond b (Some store) (stored held (lookup (same_peer p) order))) same)
-          at false same (Some n) is =
-              ap (λ b. stored held' (cond b (Some (length held)) (lookup (same_peer p) order))) same ∙ ap (stored held') is
-              ∙ get-push_other held store n (held-there p n is)
-              ∙ sym (ap (stored held) is) ∙ sym (ap (λ b. cond b (Some store) (stored held (lookup (same_peer p) order))) same)
+    stores-insert : IsWritten (stores_of held order) (stores_of (held ++ store ∷ []) order') peer (Some store)
+    stores-insert = record {
+      each = λ p.
+          at-stores_of numbered-insert p ∙ ap (stored (held ++ store ∷ [])) (updated.each p) ∙ at p (same_peer peer p) (lookup (same_peer p) order) refl
+          ∙ ap (cond (same_peer peer p) (Some store)) (sym (at-stores_of are p));
+    }
+      where
+        at : (p : Peer) (b : Bool) (o : Option ℕ) → lookup (same_peer p) order ≡ o → stored (held ++ store ∷ []) (cond b (Some (length held)) o) ≡ cond b (Some store) (stored held o)
+        at p true o is = get-push_last held store
+        at p false None is = refl
+        at p false (Some n) is = get-push_other held store n (held-there are p n is)
 
   -- the same, by what the lists are then
-  module _ (held held' : List S) (names names' : List Peer) (order order' : List (Peer × ℕ)) (are : AreNumbered held names order) (peer : Peer) (store : S) (number : ℕ)
-      (none : lookup (same_peer peer) order ≡ None) (last : number ≡ length held) (stores : held' ≡ held ++ store ∷ []) (peers : names' ≡ names ++ peer ∷ [])
-      (updated : (p : Peer) → lookup (same_peer p) order' ≡ cond (same_peer peer p) (Some number) (lookup (same_peer p) order)) where
-    at-last : (p : Peer) → lookup (same_peer p) order' ≡ cond (same_peer peer p) (Some (length held)) (lookup (same_peer p) order)
-    at-last p = updated p ∙ ap (λ n. cond (same_peer peer p) (Some n) (lookup (same_peer p) order)) last
+  pub numbered-added : {held held' : List S} {names names' : List Peer} {order order' : List (Peer × ℕ)} {peer : Peer} {store : S} {number : ℕ} → AreNumbered held names order
+      → lookup (same_peer peer) order ≡ None → number ≡ length held → held' ≡ held ++ store ∷ [] → names' ≡ names ++ peer ∷ [] → IsWritten order order' peer (Some number)
+      → AreNumbered held' names' order' × IsWritten (stores_of held order) (stores_of held' order') peer (Some store)
+  numbered-added {held = held} {names = names} {names' = names'} {order = order} {order' = order'} {peer = peer} {store = store} are none last stores peers updated =
+      let at-last = subst (λ n. IsWritten order order' peer (Some n)) last updated in (
+        subst (λ hs. AreNumbered hs names' order') (sym stores) (subst (λ ns. AreNumbered (held ++ store ∷ []) ns order') (sym peers) (numbered-insert are store none at-last)),
+        subst (λ hs. IsWritten (stores_of held order) (stores_of hs order') peer (Some store)) (sym stores) (stores-insert are store none at-last),
+      )
 
-    pub numbered-added : AreNumbered held' names' order'
-    numbered-added = subst (λ hs. AreNumbered hs names' order') (sym stores) (subst (λ ns. AreNumbered (held ++ store ∷ []) ns order') (sym peers) (numbered-insert held names order are order' peer store none at-last))
-
-    pub stores-added : (p : Peer) → store_at (stores_of held' order') p ≡ cond (same_peer peer p) (Some store) (store_at (stores_of held order) p)
-    stores-added p = ap (λ hs. store_at (stores_of hs order') p) stores ∙ stores-insert held names order are order' peer store none at-last p
-
-  module _ (held : List S) (names : List Peer) (order : List (Peer × ℕ)) (are : AreNumbered held names order)
-      (peer : Peer) (number : ℕ) (found : lookup (same_peer peer) order ≡ Some number) where
+  module _ {held : List S} {names : List Peer} {order : List (Peer × ℕ)} (are : AreNumbered held names order) {peer : Peer} {number : ℕ} (found : lookup (same_peer peer) order ≡ Some number) where
     -- the peer that goes stood last itself
-    renumbered-last : (order' : List (Peer × ℕ)) (last : ℕ) → number ≡ last → ((p : Peer) → lookup (same_peer p) order' ≡ cond (same_peer peer p) None (lookup (same_peer p) order))
-        → IsRenumbered order order' peer last number
-    renumbered-last order' last is removed = record {
-      gone = removed peer ∙ ap (λ b. cond b None (lookup (same_peer peer) order)) (same_itself peer);
-      moved = λ p differ here. absurd (numbers-differ held names order are peer p number last found here differ (sym is));
-      kept = λ p n differ _ here. removed p ∙ ap (λ b. cond b None (lookup (same_peer p) order)) differ ∙ here;
-      none = λ p here. removed p ∙ none-either (same_peer peer p) (lookup (same_peer p) order) here;
+    renumbered-last : {order' : List (Peer × ℕ)} (last : ℕ) → number ≡ last → IsWritten order order' peer None → IsRenumbered order order' peer last number
+    renumbered-last last is removed = record {
+      gone = written-here removed peer (same_itself peer);
+      moved = λ p differ here. absurd (numbers-differ are peer p number last found here differ (sym is));
+      kept = λ p n differ _ here. written-elsewhere removed p differ ∙ here;
+      none = λ p here. removed.each p ∙ none-either (same_peer peer p) (lookup (same_peer p) order) here;
     }
 
     -- another one stood last, and gets its number
-    renumbered-other : (order1 order' : List (Peer × ℕ)) (other : Peer) (last : ℕ) → number ≢ last → lookup (same_peer other) order ≡ Some last
-        → ((p : Peer) → lookup (same_peer p) order1 ≡ cond (same_peer peer p) None (lookup (same_peer p) order))
-        → ((p : Peer) → lookup (same_peer p) order' ≡ cond (same_peer other p) (Some number) (lookup (same_peer p) order1))
-        → IsRenumbered order order' peer last number
-    renumbered-other order1 order' other last differs at-last removed written = record {
-      gone = written peer ∙ ap (λ b. cond b (Some number) (lookup (same_peer peer) order1)) (apart peer number found differs)
-          ∙ removed peer ∙ ap (λ b. cond b None (lookup (same_peer peer) order)) (same_itself peer);
+    renumbered-other : {order1 order' : List (Peer × ℕ)} (other : Peer) (last : ℕ) → number ≢ last → lookup (same_peer other) order ≡ Some last
+        → IsWritten order order1 peer None → IsWritten order1 order' other (Some number) → IsRenumbered order order' peer last number
+    renumbered-other other last differs at-last removed written = record {
+      gone = written-elsewhere written peer (apart order other peer (λ e. differs (one_of number last (sym found ∙ sym e ∙ at-last)))) ∙ written-here removed peer (same_itself peer);
       moved = λ p differ here.
-          let same : other ≡ p = one-named held names order are other p last (are.there other last at-last) (are.there p last here) in
-          written p ∙ ap (λ b. cond b (Some number) (lookup (same_peer p) order1)) (ap (same_peer other) (sym same) ∙ same_itself other);
+          let same : other ≡ p = one-named are other p last (are.there other last at-last) (are.there p last here) in
+          written-here written p (ap (same_peer other) (sym same) ∙ same_itself other);
       kept = λ p n differ not_last here.
-          written p ∙ ap (λ b. cond b (Some number) (lookup (same_peer p) order1)) (apart p n here not_last)
-          ∙ removed p ∙ ap (λ b. cond b None (lookup (same_peer p) order)) differ ∙ here;
+          written-elsewhere written p (apart order other p (λ e. not_last (one_of n last (sym here ∙ sym e ∙ at-last)))) ∙ written-elsewhere removed p differ ∙ here;
       none = λ p here.
-          written p ∙ ap (λ b. cond b (Some number) (lookup (same_peer p) order1)) (absent p here (same_peer other p) refl)
-          ∙ removed p ∙ none-either (same_peer peer p) (lookup (same_peer p) order) here;
+          written-elsewhere written p (apart order other p (λ e. let lost : Some last ≡ None = sym at-last ∙ e ∙ here in cc))
+          ∙ removed.each p ∙ none-either (same_peer peer p) (lookup (same_peer p) order) here;
     }
-      where
-        apart : (p : Peer) (n : ℕ) → lookup (same_peer p) order ≡ Some n → n ≢ last → same_peer other p ≡ false
-        apart p n here not_last = at (same_peer other p) refl
-          where
-            at : (b : Bool) → same_peer other p ≡ b → same_peer other p ≡ false
-            at true same = absurd (not_last (one_of n last (sym here ∙ ap (λ q. lookup (same_peer q) order) (sym (one_peer other p same)) ∙ at-last)))
-            at false same = same
 
-        absent : (p : Peer) → lookup (same_peer p) order ≡ None → (b : Bool) → same_peer other p ≡ b → same_peer other p ≡ false
-        absent p here true same =
-            let lost : Some last ≡ None = sym at-last ∙ ap (λ q. lookup (same_peer q) order) (one_peer other p same) ∙ here in
-            cc
-        absent p here false same = same
+    module _ {names' : List Peer} (peers : IsSwapped names names' number) where
+      pub moved-found : {order1 : List (Peer × ℕ)} → IsWritten order order1 peer None → (other : Peer) → slice_get names' number ≡ Some other → lookup (same_peer other) order1 ≡ Some (length names')
+      moved-found removed other is =
+          written-elsewhere removed other (apart order peer other (λ e. moved-differs names' number other is (one_of number (length names') (sym found ∙ e ∙ moved-last are peers other is)))) ∙ moved-last are peers other is
 
-    -- where a peer stands at the number then, it is the one that stood last
-    module _ (names' : List Peer) (peers : IsSwapped names names' number) where
-      moved-last : (other : Peer) → slice_get names' number ≡ Some other → lookup (same_peer other) order ≡ Some (length names')
-      moved-last other is = are.back other (length names') (sym (peers.last (slice_get_within names' number other is)) ∙ is)
-
-      moved-differs : (other : Peer) → slice_get names' number ≡ Some other → number ≢ length names'
-      moved-differs other is same = let within = slice_get_within names' number other is in absurd (omega (arith, within, same))
-
-      pub moved-found : (order1 : List (Peer × ℕ)) → ((p : Peer) → lookup (same_peer p) order1 ≡ cond (same_peer peer p) None (lookup (same_peer p) order))
-          → (other : Peer) → slice_get names' number ≡ Some other → lookup (same_peer other) order1 ≡ Some (length names')
-      moved-found order1 removed other is =
-          removed other ∙ ap (λ b. cond b None (lookup (same_peer other) order)) (apart (same_peer peer other) refl) ∙ moved-last other is
-        where
-          apart : (b : Bool) → same_peer peer other ≡ b → same_peer peer other ≡ false
-          apart true same =
-              absurd (moved-differs other is (one_of number (length names') (sym found ∙ ap (λ q. lookup (same_peer q) order) (one_peer peer other same) ∙ moved-last other is)))
-          apart false same = same
-
-      pub renumbered-moved : (order1 order' : List (Peer × ℕ)) → ((p : Peer) → lookup (same_peer p) order1 ≡ cond (same_peer peer p) None (lookup (same_peer p) order))
-          → (other : Peer) → slice_get names' number ≡ Some other → ((p : Peer) → lookup (same_peer p) order' ≡ cond (same_peer other p) (Some number) (lookup (same_peer p) order1))
+      pub renumbered-moved : {order1 order' : List (Peer × ℕ)} → IsWritten order order1 peer None → (other : Peer) → slice_get names' number ≡ Some other → IsWritten order1 order' other (Some number)
           → IsRenumbered order order' peer (length names') number
-      renumbered-moved order1 order' removed other is written =
-          renumbered-other order1 order' other (length names') (moved-differs other is) (moved-last other is) removed written
+      renumbered-moved removed other is written = renumbered-other other (length names') (moved-differs names' number other is) (moved-last are peers other is) removed written
 
-      pub renumbered-gone : (order1 : List (Peer × ℕ)) → ((p : Peer) → lookup (same_peer p) order1 ≡ cond (same_peer peer p) None (lookup (same_peer p) order))
-          → slice_get names' number ≡ None → IsRenumbered order order1 peer (length names') number
-      renumbered-gone order1 removed none =
-          let within = slice_get_within names number peer (are.there peer number found) in
-          renumbered-last order1 (length names') (omega (arith, within, peers.len, get-past names' number none)) removed
+      pub renumbered-gone : {order1 : List (Peer × ℕ)} → IsWritten order order1 peer None → slice_get names' number ≡ None → IsRenumbered order order1 peer (length names') number
+      renumbered-gone removed none =
+          renumbered-last (length names') (omega (arith, named-there are peer number found, peers.len, get-past names' number none)) removed
 
     -- a store goes
-    module _ (held' : List S) (names' : List Peer) (order' : List (Peer × ℕ)) (stores : IsSwapped held held' number) (peers : IsSwapped names names' number)
+    module _ {held' : List S} {names' : List Peer} {order' : List (Peer × ℕ)} (stores : IsSwapped held held' number) (peers : IsSwapped names names' number)
         (new : IsRenumbered order order' peer (length names') number) where
       there-remove : (p : Peer) (n : ℕ) → lookup (same_peer p) order' ≡ Some n → slice_get names' n ≡ Some p
       there-remove p n is = at (same_peer peer p) refl (lookup (same_peer p) order) refl
         where
           at : (b : Bool) → same_peer peer p ≡ b → (o : Option ℕ) → lookup (same_peer p) order ≡ o → slice_get names' n ≡ Some p
-          at true same o was =
-              let lost : Some n ≡ None = sym is ∙ ap (λ q. lookup (same_peer q) order') (sym (one_peer peer p same)) ∙ new.gone in
-              cc
-          at false same None was =
-              let lost : Some n ≡ None = sym is ∙ new.none p was in
-              cc
-          at false same (Some m) was = elim (cases_eq m (length names')) [
-            | inl last ↦
-                let here : number ≡ n = one_of number n (sym (new.moved p same (was ∙ ap Some last)) ∙ is) in
-                let within = slice_get_within names number peer (are.there peer number found) in
-                let differs = numbers-differ held names order are peer p number m found was same in
-                ap (slice_get names') (sym here) ∙ peers.last (omega (arith, within, differs, last, peers.len)) ∙ ap (slice_get names) (sym last) ∙ are.there p m was
-            | inr not_last ↦
-                let here : m ≡ n = one_of m n (sym (new.kept p m same not_last was) ∙ is) in
-                let within = slice_get_within names m p (are.there p m was) in
-                let differs = numbers-differ held names order are peer p number m found was same in
-                ap (slice_get names') (sym here) ∙ peers.others m differs (omega (arith, within, not_last, peers.len)) ∙ are.there p m was
-          ]
+          at true same o was = let lost : Some n ≡ None = sym is ∙ ap (λ q. lookup (same_peer q) order') (sym (one_peer peer p same)) ∙ new.gone in cc
+          at false same None was = let lost : Some n ≡ None = sym is ∙ new.none p was in cc
+          at false same (Some m) was =
+              let differs = numbers-differ are peer p number m found was same in
+              elim (cases_eq m (length names')) [
+                | inl last ↦
+                    let here : number ≡ n = one_of number n (sym (new.moved p same (was ∙ ap Some last)) ∙ is) in
+                    ap (slice_get names') (sym here) ∙ peers.last (omega (arith, named-there are peer number found, differs, last, peers.len)) ∙ ap (slice_get names) (sym last) ∙ are.there p m was
+                | inr not_last ↦
+                    let here : m ≡ n = one_of m n (sym (new.kept p m same not_last was) ∙ is) in
+                    ap (slice_get names') (sym here) ∙ peers.others m differs (omega (arith, named-there are p m was, not_last, peers.len)) ∙ are.there p m was
+              ]
 
       back-remove : (p : Peer) (n : ℕ) → slice_get names' n ≡ Some p → lookup (same_peer p) order' ≡ Some n
-      back-remove p n is = elim (cases_eq n number) [
-        | inl here ↦
-            let within' = slice_get_within names' n p is in
-            let was : lookup (same_peer p) order ≡ Some (length names') = are.back p (length names') (sym (peers.last (omega (arith, within', here))) ∙ ap (slice_get names') (sym here) ∙ is) in
-            new.moved p (other (length names') was (omega (arith, within', here))) was ∙ ap Some (sym here)
-        | inr differs ↦
-            let within' = slice_get_within names' n p is in
-            let was : lookup (same_peer p) order ≡ Some n = are.back p n (sym (peers.others n differs within') ∙ is) in
-            new.kept p n (other n was differs) (omega (arith, within')) was
-      ]
+      back-remove p n is =
+          let within = slice_get_within names' n p is in
+          elim (cases_eq n number) [
+            | inl here ↦
+                let was : lookup (same_peer p) order ≡ Some (length names') = are.back p (length names') (sym (peers.last (omega (arith, within, here))) ∙ ap (slice_get names') (sym here) ∙ is) in
+                new.moved p (other (length names') was (omega (arith, within, here))) was ∙ ap Some (sym here)
+            | inr differs ↦
+                let was : lookup (same_peer p) order ≡ Some n = are.back p n (sym (peers.others n differs within) ∙ is) in
+                new.kept p n (other n was differs) (omega (arith, within)) was
+          ]
         where
           other : (m : ℕ) → lookup (same_peer p) order ≡ Some m → m ≢ number → same_peer peer p ≡ false
-          other m was differs = at (same_peer peer p) refl
-            where
-              at : (b : Bool) → same_peer peer p ≡ b → same_peer peer p ≡ false
-              at true same = absurd (differs (one_of m number (sym was ∙ ap (λ q. lookup (same_peer q) order) (sym (one_peer peer p same)) ∙ found)))
-              at false same = same
+          other m was differs = apart order peer p (λ e. differs (one_of m number (sym was ∙ sym e ∙ found)))
 
-      pub numbered-remove : AreNumbered held' names' order'
+      numbered-remove : AreNumbered held' names' order'
       numbered-remove = record { there = there-remove; back = back-remove; even = omega (arith, are.even, stores.len, peers.len) }
 
-      pub stores-remove : (p : Peer) → store_at (stores_of held' order') p ≡ cond (same_peer peer p) None (store_at (stores_of held order) p)
-      stores-remove p =
-          at-stores_of held' names' order' numbered-remove p ∙ at (same_peer peer p) refl (lookup (same_peer p) order) refl
-          ∙ ap (cond (same_peer peer p) None) (sym (at-stores_of held names order are p))
+      pub stores-remove : AreNumbered held' names' order' × IsWritten (stores_of held order) (stores_of held' order') peer None
+      stores-remove = (
+        numbered-remove,
+        record {
+          each = λ p.
+              at-stores_of numbered-remove p ∙ at p (same_peer peer p) refl (lookup (same_peer p) order) refl ∙ ap (cond (same_peer peer p) None) (sym (at-stores_of are p));
+        },
+      )
         where
-          at : (b : Bool) → same_peer peer p ≡ b → (o : Option ℕ) → lookup (same_peer p) order ≡ o
-              → stored held' (lookup (same_peer p) order') ≡ cond (same_peer peer p) None (stored held (lookup (same_peer p) order))
-          at true same o was =
-              ap (stored held') (ap (λ q. lookup (same_peer q) order') (sym (one_peer peer p same)) ∙ new.gone)
-              ∙ sym (ap (λ b. cond b None (stored held (lookup (same_peer p) order))) same)
-          at false same None was =
-              ap (stored held') (new.none p was) ∙ sym (ap (stored held) was)
-              ∙ sym (ap (λ b. cond b None (stored held (lookup (same_peer p) order))) same)
-          at false same (Some m) was = elim (cases_eq m (length names')) [
-            | inl last ↦
-                let within = held-there held names order are peer number found in
-                let differs = numbers-differ held names order are peer p number m found was same in
-                ap (stored held') (new.moved p same (was ∙ ap Some last))
-                ∙ stores.last (omega (arith, within, differs, last, stores.len, peers.len, are.even))
-                ∙ ap (slice_get held) (omega (arith, last, stores.len, peers.len, are.even)) ∙ sym (ap (stored held) was)
-                ∙ sym (ap (λ b. cond b None (stored held (lookup (same_peer p) order))) same)
-            | inr not_last ↦
-                let within = held-there held names order are p m was in
-                let differs = numbers-differ held names order are peer p number m found was same in
-                ap (stored held') (new.kept p m same not_last was)
-                ∙ stores.others m differs (omega (arith, within, not_last, stores.len, peers.len, are.even)) ∙ sym (ap (stored held) was)
-                ∙ sym (ap (λ b. cond b None (stored held (lookup (same_peer p) order))) same)
-          ]
+          at : (p : Peer) (b : Bool) → same_peer peer p ≡ b → (o : Option ℕ) → lookup (same_peer p) order ≡ o → stored held' (lookup (same_peer p) order') ≡ cond b None (stored held o)
+          at p true same o was = ap (stored held') (ap (λ q. lookup (same_peer q) order') (sym (one_peer peer p same)) ∙ new.gone)
+          at p false same None was = ap (stored held') (new.none p was)
+          at p false same (Some m) was =
+              let differs = numbers-differ are peer p number m found was same in
+              elim (cases_eq m (length names')) [
+                | inl last ↦
+                    ap (stored held') (new.moved p same (was ∙ ap Some last))
+                    ∙ stores.last (omega (arith, held-there are peer number found, differs, last, stores.len, peers.len, are.even))
+                    ∙ ap (slice_get held) (omega (arith, last, stores.len, peers.len, are.even))
+                | inr not_last ↦
+                    ap (stored held') (new.kept p m same not_last was)
+                    ∙ stores.others m differs (omega (arith, held-there are p m was, not_last, stores.len, peers.len, are.even))
+              ]
 
   -- the stores of some peers more
   pub stores_of-some : (held : List S) (peer : Peer) (number : ℕ) (rest : List (Peer × ℕ)) (store : S) → slice_get held number ≡ Some store → stores_of held ((peer, number) ∷ rest) ≡ (peer, store) ∷ stores_of held rest
@@ -414,29 +337,19 @@ module _ {S : Type 0} where
   pub stores_of-filter : (held : List S) (test : Peer → Bool) (order : List (Peer × ℕ))
       → stores_of held (filter (λ (e : Peer × ℕ). test e.0) order) ≡ filter (λ (e : Peer × S). test e.0) (stores_of held order)
   stores_of-filter held test [] = refl
-  stores_of-filter held test (e ∷ es) = at (slice_get held e.1) refl (test e.0) refl (stores_of-filter held test es)
+  stores_of-filter held test (e ∷ es) =
+      in_front (test e.0) ∙ ap (λ ss. cond (test e.0) (cons_option (option_map (λ store. (e.0, store)) (slice_get held e.1)) ss) ss) (stores_of-filter held test es) ∙ at (slice_get held e.1)
     where
-      at : (o : Option S) → slice_get held e.1 ≡ o → (b : Bool) → test e.0 ≡ b
-          → stores_of held (filter (λ (e : Peer × ℕ). test e.0) es) ≡ filter (λ (e : Peer × S). test e.0) (stores_of held es)
-          → stores_of held (cond (test e.0) (e ∷ filter (λ (e : Peer × ℕ). test e.0) es) (filter (λ (e : Peer × ℕ). test e.0) es)) ≡ filter (λ (e : Peer × S). test e.0) (stores_of held (e ∷ es))
-      at o is true t rest =
-          ap (λ b. stores_of held (cond b (e ∷ filter (λ (e : Peer × ℕ). test e.0) es) (filter (λ (e : Peer × ℕ). test e.0) es))) t
-          ∙ ap (λ o. cons_option (option_map (λ store. (e.0, store)) o) (stores_of held (filter (λ (e : Peer × ℕ). test e.0) es))) is
-          ∙ ap (cons_option (option_map (λ store. (e.0, store)) o)) rest
-          ∙ kept o
-          ∙ sym (ap (λ o. filter (λ (e : Peer × S). test e.0) (cons_option (option_map (λ store. (e.0, store)) o) (stores_of held es))) is)
-        where
-          kept : (o : Option S) → cons_option (option_map (λ store. (e.0, store)) o) (filter (λ (e : Peer × S). test e.0) (stores_of held es))
-              ≡ filter (λ (e : Peer × S). test e.0) (cons_option (option_map (λ store. (e.0, store)) o) (stores_of held es))
-          kept None = refl
-          kept (Some store) = sym (ap (λ b. cond b ((e.0, store) ∷ filter (λ (e : Peer × S). test e.0) (stores_of held es)) (filter (λ (e : Peer × S). test e.0) (stores_of held es))) t)
-      at o is false t rest =
-          ap (λ b. stores_of held (cond b (e ∷ filter (λ (e : Peer × ℕ). test e.0) es) (filter (λ (e : Peer × ℕ). test e.0) es))) t
-          ∙ rest
-          ∙ left o
-          ∙ sym (ap (λ o. filter (λ (e : Peer × S). test e.0) (cons_option (option_map (λ store. (e.0, store)) o) (stores_of held es))) is)
-        where
-          left : (o : Option S) → filter (λ (e : Peer × S). test e.0) (stores_of held es)
-              ≡ filter (λ (e : Peer × S). test e.0) (cons_option (option_map (λ store. (e.0, store)) o) (stores_of held es))
-          left None = refl
-          left (Some store) = sym (ap (λ b. cond b ((e.0, store) ∷ filter (λ (e : Peer × S). test e.0) (stores_of held es)) (filter (λ (e : Peer × S). test e.0) (stores_of held es))) t)
+      in_front : (b : Bool) → let rest = filter (λ (e : Peer × ℕ). test e.0) es in
+          stores_of held (cond b (e ∷ rest) rest) ≡ cond b (cons_option (option_map (λ store. (e.0, store)) (slice_get held e.1)) (stores_of held rest)) (stores_of held rest)
+      in_front true = refl
+      in_front false = refl
+
+      same : (b : Bool) (rest : List (Peer × S)) → cond b rest rest ≡ rest
+      same true rest = refl
+      same false rest = refl
+
+      at : (o : Option S) → let rest = filter (λ (e : Peer × S). test e.0) (stores_of held es) in
+          cond (test e.0) (cons_option (option_map (λ store. (e.0, store)) o) rest) rest ≡ filter (λ (e : Peer × S). test e.0) (cons_option (option_map (λ store. (e.0, store)) o) (stores_of held es))
+      at None = same (test e.0) (filter (λ (e : Peer × S). test e.0) (stores_of held es))
+      at (Some store) = refl

@@ -14,14 +14,17 @@ use Rattle.std.specs.declared.alloc.Global.{Global}
 use Rattle.std.specs.declared.rc.Rc.{Rc}
 use Rattle.std.proofs.lemmas.Map.Keys.{sorted_head, sorted_tail}
 use Rattle.std.proofs.lemmas.Bool.{and_parts, lt-ltb, le-ltb}
-use Rattle.std.proofs.lemmas.List.{length-map, take-map}
+use Rattle.std.proofs.Math.Bool.{and_comm}
+use Rattle.std.proofs.lemmas.List.{length-map, take-map, nil_from_length}
 use Rattle.std.proofs.lemmas.Option.{slice_get-map}
+use Rattle.octet_forms.proofs.Options.{is_some-option_map}
+use Rattle.ip_prefix.specs.Address.{Address}
 use Rattle.ip_prefix.specs.Network.{Network}
 use Rattle.ip_prefix.specs.Order.{network_cmp}
 use Rattle.ip_prefix.specs.OrderLaws.{network_cmp_total, network_cmp-IsAntisymmetric}
 use Rattle.prefix_store.specs.Stored as stored
 use Rattle.prefix_store.specs.Stored.{counted}
-use Rattle.prefix_store.specs.Lookups.{above, is_above, pointed}
+use Rattle.prefix_store.specs.Lookups.{above, is_above, pointed, IsLongest}
 use Rattle.prefix_store.proofs.AboveLaws.{take-nil}
 use Rattle.prefix_store.proofs.AboveLaws.{is_less, routes_sorted}
 use Rattle.mrt_events.specs.declared.peer.Peer.{Peer}
@@ -32,9 +35,10 @@ use Rattle.rib_player.specs.declared.pair.Pair.{Pair}
 use Rattle.rib_player.specs.History.{pair_cmp, pair_of}
 use Rattle.rib_player.specs.Tables.{Routes}
 use Rattle.rib_player.specs.Store.{Stores, store_at, routes_in, peer_routes, routed_peers}
-use Rattle.rib_player.specs.Lookups.{pointed_routes, is_peer_above, peers_above, routed_stores, peer_count}
-use Rattle.rib_player.specs.Holding.{value_of}
-use Rattle.rib_player.proofs.StoreLaws.{same_peer, same_network, one_peer, peer_symm, tied_parts, any-pairs, get-found, routes_in-other}
+use Rattle.rib_player.specs.Lookups.{IsBest, pointed_routes, is_peer_above, peers_above, routed_stores, peer_count}
+use Rattle.rib_player.specs.Holding.{value_of, IsWritten}
+use Rattle.rib_player.proofs.ListLaws.{all-then}
+use Rattle.rib_player.proofs.StoreLaws.{same_peer, one_of, same_network, one_peer, peer_symm, tied_parts, any-pairs, get-found, routes_in-other}
 
 -- ---- the routes of a peer
 
@@ -98,41 +102,13 @@ above-valued low (e ∷ es) = ap (λ s. cond (is_above low e.0) ((e.0, e.1.value
     at true = refl
     at false = refl
 
-no_entries : {A : Type 0} (xs : List A) → length xs ≡ 0 → xs ≡ []
-no_entries [] e = refl
-no_entries (x ∷ xs) e = absurd (omega arith)
-
 values-valued : (es : List (Network × Rc Route Global)) → map (λ (e : Network × Route). e.1) (valued es) ≡ map value_of (map (λ (e : Network × Rc Route Global). e.1) es)
 values-valued [] = refl
 values-valued (e ∷ es) = ap (λ vs. e.1.value ∷ vs) (values-valued es)
 
--- a peer has the routes that are those at its pairs
-pub entries-of_peer : (own : stored.Routes (Rc Route Global)) (all : Routes) (peer : Peer) → ((n : Network) → option_map value_of (finite.get own n) ≡ finite.get all (pair_of peer n))
-    → finite.entries (peer_routes all peer) ≡ valued (finite.entries own)
-entries-of_peer own all peer same =
-    let sorted : T (is_sorted network_cmp (valued (finite.entries own))) = subst T (sym (sorted-valued (finite.entries own) ∙ routes_sorted own)) tt in
-    ap finite.entries (same_map network_cmp_total network_cmp-IsAntisymmetric (peer_routes all peer) (finite.from_sorted (valued (finite.entries own))) (λ n.
-    get-peer_routes all peer n
-    ∙ sym (same n)
-    ∙ ap (option_map value_of) (get-entries own n)
-    ∙ sym (find-valued n (finite.entries own))
-    ∙ sym (get-from_sorted network_cmp (valued (finite.entries own)) n sorted)))
-    ∙ entries-from_sorted network_cmp (valued (finite.entries own)) sorted
-
 keys-valued : (es : List (Network × Rc Route Global)) → map (λ (e : Network × Route). e.0) (valued es) ≡ map (λ (e : Network × Rc Route Global). e.0) es
 keys-valued [] = refl
 keys-valued (e ∷ es) = ap (λ ks. e.0 ∷ ks) (keys-valued es)
-
-pub keys-of_peer : (own : stored.Routes (Rc Route Global)) (all : Routes) (peer : Peer) → ((n : Network) → option_map value_of (finite.get own n) ≡ finite.get all (pair_of peer n))
-    → finite.keys own ≡ finite.keys (peer_routes all peer)
-keys-of_peer own all peer same = sym (ap (map (λ (e : Network × Route). e.0)) (entries-of_peer own all peer same) ∙ keys-valued (finite.entries own))
-
--- or none
-pub no_keys : (all : Routes) (peer : Peer) → ((n : Network) → finite.get all (pair_of peer n) ≡ None) → [] ≡ finite.keys (peer_routes all peer)
-no_keys all peer none =
-    let empty : peer_routes all peer ≡ finite.empty = same_map network_cmp_total network_cmp-IsAntisymmetric (peer_routes all peer) finite.empty (λ n.
-    get-peer_routes all peer n ∙ none n ∙ sym (get-empty network_cmp n)) in
-    sym (ap (map (λ (e : Network × Route). e.0)) (no_entries (finite.entries (peer_routes all peer)) (sym (len-entries (peer_routes all peer)) ∙ ap finite.len empty ∙ len-empty network_cmp Route)))
 
 -- a pair is among those of a peer where it is the peer's and has a route
 pub any-of_peer : (all : Routes) (peer : Peer) (q : Pair) → list_any (eq_by_cmp pair_cmp q) (map (pair_of peer) (finite.keys (peer_routes all peer))) ≡ (same_peer q.peer peer && is_some (finite.get all q))
@@ -162,89 +138,112 @@ found-each (e ∷ es) sorted =
     (ap (λ r. cond (is_eq r) (Some e.1) (find network_cmp e.0 es)) (tied_itself network_cmp_total e.0), found-behind e es es parts.0 (found-each es parts.1))
 
 pub each-of_peer : (all : Routes) (peer : Peer) → AllByRecursion (λ e. finite.get all (pair_of peer e.0) ≡ Some e.1) (finite.entries (peer_routes all peer))
-each-of_peer all peer = each (finite.entries (peer_routes all peer)) (found-each (finite.entries (peer_routes all peer)) (routes_sorted (peer_routes all peer)))
-  where
-    each : (es : List (Network × Route)) → AllByRecursion (λ e. find network_cmp e.0 (finite.entries (peer_routes all peer)) ≡ Some e.1) es → AllByRecursion (λ e. finite.get all (pair_of peer e.0) ≡ Some e.1) es
-    each [] found = tt
-    each (e ∷ es) found = (sym (get-peer_routes all peer e.0) ∙ get-entries (peer_routes all peer) e.0 ∙ found.0, each es found.1)
+each-of_peer all peer =
+    let own = finite.entries (peer_routes all peer) in
+    all-then (λ e. find network_cmp e.0 own ≡ Some e.1) (λ e. finite.get all (pair_of peer e.0) ≡ Some e.1) own
+    (λ e found. sym (get-peer_routes all peer e.0) ∙ get-entries (peer_routes all peer) e.0 ∙ found) (found-each own (routes_sorted (peer_routes all peer)))
 
--- ---- the routes once those of a peer are taken
+-- ---- a peer that has the routes of its store
 
-pub routes-taken : {S : Type 0} (routes : S → stored.Routes (Rc Route Global)) (old new : Stores S) (all : Routes) (peer : Peer) (w : S) → ((p : Peer) → store_at new p ≡ cond (same_peer peer p) (Some w) (store_at old p))
-    → routes w ≡ finite.empty → routes_in routes old ≡ all → (q : Pair) → finite.get (routes_in routes new) q ≡ cond (same_peer q.peer peer) None (finite.get all q)
-routes-taken routes old new all peer w same none e q =
-    routes_in-other routes old new peer (Some w) q same
-    ∙ ap₂ (λ r s. cond (same_peer q.peer peer) r (finite.get s q)) (ap (option_map value_of) (ap (λ r. finite.get r q.prefix) none ∙ get-empty network_cmp q.prefix)) e
-
-pub no_routes-taken : {S : Type 0} (routes : S → stored.Routes (Rc Route Global)) (stores : Stores S) (all : Routes) (peer : Peer) → None ≡ store_at stores peer → routes_in routes stores ≡ all
-    → (q : Pair) → finite.get (routes_in routes stores) q ≡ cond (same_peer q.peer peer) None (finite.get all q)
-no_routes-taken routes stores all peer none e q = ap (λ r. finite.get r q) e ∙ at (same_peer q.peer peer) refl
-  where
-    at : (b : Bool) → same_peer q.peer peer ≡ b → finite.get all q ≡ cond b None (finite.get all q)
-    at true is = sym (get-found routes stores all q None (none ∙ ap (store_at stores) (sym (one_peer q.peer peer is))) e)
-    at false is = refl
-
--- a peer has the routes of its store
-module _ {S : Type 0} (routes : S → stored.Routes (Rc Route Global)) (stores : Stores S) (all : Routes) (peer : Peer) where
-  pub entries-peer_routes : (store : S) → Some store ≡ store_at stores peer → routes_in routes stores ≡ all → finite.entries (peer_routes all peer) ≡ valued (finite.entries (routes store))
-  entries-peer_routes store found e = entries-of_peer (routes store) all peer (λ n. get-found routes stores all (pair_of peer n) (Some store) found e)
-
-  -- or none
-  pub entries-no_routes : None ≡ store_at stores peer → routes_in routes stores ≡ all → finite.entries (peer_routes all peer) ≡ []
-  entries-no_routes found e =
-      ap finite.entries (same_map network_cmp_total network_cmp-IsAntisymmetric (peer_routes all peer) finite.empty (λ n.
+module _ (own : stored.Routes (Rc Route Global)) (all : Routes) (peer : Peer) (same : (n : Network) → option_map value_of (finite.get own n) ≡ finite.get all (pair_of peer n)) where
+  entries-of_peer : finite.entries (peer_routes all peer) ≡ valued (finite.entries own)
+  entries-of_peer =
+      let sorted : T (is_sorted network_cmp (valued (finite.entries own))) = subst T (sym (sorted-valued (finite.entries own) ∙ routes_sorted own)) tt in
+      ap finite.entries (same_map network_cmp_total network_cmp-IsAntisymmetric (peer_routes all peer) (finite.from_sorted (valued (finite.entries own))) (λ n.
       get-peer_routes all peer n
-      ∙ sym (get-found routes stores all (pair_of peer n) None found e)
-      ∙ sym (get-empty network_cmp n)))
-      ∙ no_entries _ (sym (len-entries (finite.empty {X = Route} {R = network_cmp})) ∙ len-empty network_cmp Route)
+      ∙ sym (same n)
+      ∙ ap (option_map value_of) (get-entries own n)
+      ∙ sym (find-valued n (finite.entries own))
+      ∙ sym (get-from_sorted network_cmp (valued (finite.entries own)) n sorted)))
+      ∙ entries-from_sorted network_cmp (valued (finite.entries own)) sorted
+
+  pub keys-of_peer : finite.keys own ≡ finite.keys (peer_routes all peer)
+  keys-of_peer = sym (ap (map (λ (e : Network × Route). e.0)) entries-of_peer ∙ keys-valued (finite.entries own))
+
+  pub values-of_peer : map value_of (finite.values own) ≡ finite.values (peer_routes all peer)
+  values-of_peer = sym (ap (map (λ (f : Network × Route). f.1)) entries-of_peer ∙ values-valued (finite.entries own))
+
+  pub len-of_peer : finite.len (peer_routes all peer) ≡ finite.len own
+  len-of_peer =
+      len-entries (peer_routes all peer)
+      ∙ ap length entries-of_peer
+      ∙ length-map (finite.entries own) (λ (f : Network × Rc Route Global). (f.0, f.1.value))
+      ∙ sym (len-entries own)
+
+  above-of_peer : (low : Option Network) → valued (above low (finite.entries own)) ≡ above low (finite.entries (peer_routes all peer))
+  above-of_peer low = sym (above-valued low (finite.entries own)) ∙ ap (above low) (sym entries-of_peer)
 
   -- the first route above a prefix is that of the store
-  pub first-above : (low : Option Network) (store : S) (first : Option (Network × Bor (Rc Route Global))) → Some store ≡ store_at stores peer → routes_in routes stores ≡ all
-      → option_map (λ f. (f.0, f.1.now)) first ≡ slice_get (above low (finite.entries (routes store))) 0
+  pub first-above : (low : Option Network) (first : Option (Network × Bor (Rc Route Global))) → option_map (λ f. (f.0, f.1.now)) first ≡ slice_get (above low (finite.entries own)) 0
       → option_map {U = Network × Route} (λ f. (f.0, f.1.now.value)) first ≡ slice_get (above low (finite.entries (peer_routes all peer))) 0
-  first-above low store first found e is =
+  first-above low first is =
       at first
       ∙ ap (option_map {U = Network × Route} (λ f. (f.0, f.1.value))) is
-      ∙ sym (slice_get-map (λ (f : Network × Rc Route Global). (f.0, f.1.value)) (above low (finite.entries (routes store))) 0)
-      ∙ ap (λ s. slice_get s 0) (sym (above-valued low (finite.entries (routes store))) ∙ ap (above low) (sym (entries-peer_routes store found e)))
+      ∙ sym (slice_get-map (λ (f : Network × Rc Route Global). (f.0, f.1.value)) (above low (finite.entries own)) 0)
+      ∙ ap (λ s. slice_get s 0) (above-of_peer low)
     where
       at : (first : Option (Network × Bor (Rc Route Global)))
           → option_map {U = Network × Route} (λ f. (f.0, f.1.now.value)) first ≡ option_map {U = Network × Route} (λ f. (f.0, f.1.value)) (option_map {U = Network × Rc Route Global} (λ f. (f.0, f.1.now)) first)
       at None = refl
       at (Some f) = refl
 
-  pub none-above : (low : Option Network) → None ≡ store_at stores peer → routes_in routes stores ≡ all → None ≡ slice_get (above low (finite.entries (peer_routes all peer))) 0
-  none-above low found e = sym (ap (λ s. slice_get (above low s) 0) (entries-no_routes found e))
-
-  -- the same of more
-  pub front-above : (low : Option Network) (store : S) (room : ℕ) (found : List (Network × Bor (Rc Route Global))) → Some store ≡ store_at stores peer → routes_in routes stores ≡ all
-      → pointed found ≡ take room (above low (finite.entries (routes store)))
+  -- so are more
+  pub front-above : (low : Option Network) (room : ℕ) (found : List (Network × Bor (Rc Route Global))) → pointed found ≡ take room (above low (finite.entries own))
       → pointed_routes found ≡ take room (above low (finite.entries (peer_routes all peer)))
-  front-above low store room found here e is =
+  front-above low room found is =
       at found
       ∙ ap valued is
-      ∙ sym (take-map (λ (f : Network × Rc Route Global). (f.0, f.1.value)) room (above low (finite.entries (routes store))))
-      ∙ ap (take room) (sym (above-valued low (finite.entries (routes store))) ∙ ap (above low) (sym (entries-peer_routes store here e)))
+      ∙ sym (take-map (λ (f : Network × Rc Route Global). (f.0, f.1.value)) room (above low (finite.entries own)))
+      ∙ ap (take room) (above-of_peer low)
     where
       at : (found : List (Network × Bor (Rc Route Global))) → pointed_routes found ≡ valued (pointed found)
       at [] = refl
       at (f ∷ found) = ap (λ fs. (f.0, f.1.now.value) ∷ fs) (at found)
 
-  pub no_front-above : (low : Option Network) (room : ℕ) → None ≡ store_at stores peer → routes_in routes stores ≡ all → [] ≡ take room (above low (finite.entries (peer_routes all peer)))
-  no_front-above low room found e = sym (ap (λ s. take room (above low s)) (entries-no_routes found e) ∙ take-nil room)
+  -- and the best one
+  pub best-of_peer : (address : Address) (best : Option (Network × Bor (Rc Route Global))) → IsLongest own address (option_map (λ b. (b.0, b.1.now)) best) → IsBest all peer address (option_map (λ b. (b.0, b.1.now.value)) best)
+  best-of_peer address None longest = λ n within. sym (same n) ∙ ap (option_map value_of) (longest n within)
+  best-of_peer address (Some best) longest = (
+    longest.0,
+    sym (same best.0) ∙ ap (option_map value_of) longest.1,
+    λ n within there. longest.2 n within (sym (is_some-option_map value_of (finite.get own n)) ∙ ap is_some (same n) ∙ there),
+  )
 
-  pub values-peer_routes : (store : S) → Some store ≡ store_at stores peer → routes_in routes stores ≡ all → map value_of (finite.values (routes store)) ≡ finite.values (peer_routes all peer)
-  values-peer_routes store found e = sym (ap (map (λ (f : Network × Route). f.1)) (entries-peer_routes store found e) ∙ values-valued (finite.entries (routes store)))
+-- ---- a peer that has no route
 
-  pub no_values : None ≡ store_at stores peer → routes_in routes stores ≡ all → [] ≡ finite.values (peer_routes all peer)
-  no_values found e = sym (ap (map (λ (f : Network × Route). f.1)) (entries-no_routes found e))
+module _ (all : Routes) (peer : Peer) (none : (n : Network) → finite.get all (pair_of peer n) ≡ None) where
+  no_routes : peer_routes all peer ≡ finite.empty
+  no_routes = same_map network_cmp_total network_cmp-IsAntisymmetric (peer_routes all peer) finite.empty (λ n. get-peer_routes all peer n ∙ none n ∙ sym (get-empty network_cmp n))
 
-  pub len-peer_routes : (store : S) → Some store ≡ store_at stores peer → routes_in routes stores ≡ all → finite.len (peer_routes all peer) ≡ finite.len (routes store)
-  len-peer_routes store found e =
-      len-entries (peer_routes all peer)
-      ∙ ap length (entries-peer_routes store found e)
-      ∙ length-map (finite.entries (routes store)) (λ (f : Network × Rc Route Global). (f.0, f.1.value))
-      ∙ sym (len-entries (routes store))
+  no_entries : finite.entries (peer_routes all peer) ≡ []
+  no_entries = nil_from_length _ (sym (len-entries (peer_routes all peer)) ∙ ap finite.len no_routes ∙ len-empty network_cmp Route)
+
+  pub no_keys : [] ≡ finite.keys (peer_routes all peer)
+  no_keys = sym (ap (map (λ (e : Network × Route). e.0)) no_entries)
+
+  pub no_values : [] ≡ finite.values (peer_routes all peer)
+  no_values = sym (ap (map (λ (f : Network × Route). f.1)) no_entries)
+
+  pub none-above : (low : Option Network) → None ≡ slice_get (above low (finite.entries (peer_routes all peer))) 0
+  none-above low = sym (ap (λ s. slice_get (above low s) 0) no_entries)
+
+  pub no_front-above : (low : Option Network) (room : ℕ) → [] ≡ take room (above low (finite.entries (peer_routes all peer)))
+  no_front-above low room = sym (ap (λ s. take room (above low s)) no_entries ∙ take-nil room)
+
+-- ---- the routes once those of a peer are taken
+
+pub routes-taken : {S : Type 0} (routes : S → stored.Routes (Rc Route Global)) {old new : Stores S} {peer : Peer} {w : S} → IsWritten old new peer (Some w)
+    → routes w ≡ finite.empty → (q : Pair) → finite.get (routes_in routes new) q ≡ cond (same_peer q.peer peer) None (finite.get (routes_in routes old) q)
+routes-taken routes {old = old} {peer = peer} written none q =
+    routes_in-other routes written q
+    ∙ ap (λ r. cond (same_peer q.peer peer) r (finite.get (routes_in routes old) q)) (ap (option_map value_of) (ap (λ r. finite.get r q.prefix) none ∙ get-empty network_cmp q.prefix))
+
+pub no_routes-taken : (all : Routes) (peer : Peer) → ((n : Network) → finite.get all (pair_of peer n) ≡ None) → (q : Pair) → finite.get all q ≡ cond (same_peer q.peer peer) None (finite.get all q)
+no_routes-taken all peer none q = at (same_peer q.peer peer) refl
+  where
+    at : (b : Bool) → same_peer q.peer peer ≡ b → finite.get all q ≡ cond b None (finite.get all q)
+    at true is = ap (λ p. finite.get all (pair_of p q.prefix)) (one_peer q.peer peer is) ∙ none q.prefix
+    at false is = refl
 
 -- ---- the peers that have a route
 
@@ -344,12 +343,6 @@ filter_alike : {A : Type 0} (p q : A → Bool) → ((x : A) → p x ≡ q x) →
 filter_alike p q same [] = refl
 filter_alike p q same (x ∷ xs) = ap₂ (λ b s. cond b (x ∷ s) s) (same x) (filter_alike p q same xs)
 
-and_turned : (a b : Bool) → (a && b) ≡ (b && a)
-and_turned true true = refl
-and_turned true false = refl
-and_turned false true = refl
-and_turned false false = refl
-
 keys-filter : {A : Type 0} (p : Peer → Bool) (es : List (Peer × A)) → keys_of (filter (λ e. p e.0) es) ≡ filter p (keys_of es)
 keys-filter p [] = refl
 keys-filter p (e ∷ es) = at (p e.0) ∙ ap (λ s. cond (p e.0) (e.0 ∷ s) s) (keys-filter p es)
@@ -357,13 +350,6 @@ keys-filter p (e ∷ es) = at (p e.0) ∙ ap (λ s. cond (p e.0) (e.0 ∷ s) s) 
     at : (b : Bool) → keys_of (cond b (e ∷ filter (λ e. p e.0) es) (filter (λ e. p e.0) es)) ≡ cond b (e.0 ∷ keys_of (filter (λ e. p e.0) es)) (keys_of (filter (λ e. p e.0) es))
     at true = refl
     at false = refl
-
-some_same : {A : Type 0} (a b : A) → Some a ≡ Some b → a ≡ b
-some_same a b e = ap (λ o. from o a) e
-  where
-    from : {A : Type 0} → Option A → A → A
-    from None a = a
-    from (Some b) a = b
 
 -- the store of a peer that is below all others is not among those
 not_below : {A : Type 0} (p : Peer) (es : List (Peer × A)) (a : A) → AllByRecursion (λ y. peer_cmp p y ≡ Less) (keys_of es) → store_at es p ≡ Some a → ⊥
@@ -377,9 +363,9 @@ first_found {A} p (x ∷ es) e sorted is = at (p x) is (first_found p es e (sort
   where
     at : (b : Bool) → slice_get (cond b (x ∷ filter p es) (filter p es)) 0 ≡ Some e → (slice_get (filter p es) 0 ≡ Some e → store_at es e.0 ≡ Some e.1)
         → (c : Bool) → same_peer e.0 x.0 ≡ c → cond c (Some x.1) (store_at es e.0) ≡ Some e.1
-    at true is later true f = ap (λ (y : Peer × A). Some y.1) (some_same x e is)
+    at true is later true f = ap (λ (y : Peer × A). Some y.1) (one_of x e is)
     at true is later false f =
-        let wrong : true ≡ false = sym (ap is_eq (tied_itself peer_cmp_total e.0)) ∙ ap (λ (y : Peer × A). same_peer e.0 y.0) (sym (some_same x e is)) ∙ f in
+        let wrong : true ≡ false = sym (ap is_eq (tied_itself peer_cmp_total e.0)) ∙ ap (λ (y : Peer × A). same_peer e.0 y.0) (sym (one_of x e is)) ∙ f in
         cc
     at false is later true f =
         absurd (not_below x.0 es e.1 (sorted_head peer_cmp x.0 (keys_of es) sorted) (ap (store_at es) (sym (one_peer e.0 x.0 f)) ∙ later is))
@@ -412,8 +398,8 @@ module _ {S : Type 0} (routes : S → stored.Routes (Rc Route Global)) where
       at false h false f rest = rest
 
   some-routes_in : (stores : Stores S) (all : Routes) (p : Peer) (store : Option S) → store ≡ store_at stores p → routes_in routes stores ≡ all → nat_lt 0 (finite.len (peer_routes all p)) ≡ store_has_route store
-  some-routes_in stores all p None found e = ap (λ n. nat_lt 0 n) (len-entries (peer_routes all p) ∙ ap length (entries-no_routes routes stores all p found e))
-  some-routes_in stores all p (Some store) found e = ap (λ n. nat_lt 0 n) (len-peer_routes routes stores all p store found e)
+  some-routes_in stores all p None found e = ap (λ n. nat_lt 0 n) (len-entries (peer_routes all p) ∙ ap length (no_entries all p (λ n. sym (get-found routes stores all (pair_of p n) None found e))))
+  some-routes_in stores all p (Some store) found e = ap (λ n. nat_lt 0 n) (len-of_peer (routes store) all p (λ n. get-found routes stores all (pair_of p n) (Some store) found e))
 
   -- the peers with a route are those of the stores with a route
   keys-routed_stores : (stores : Stores S) (all : Routes) → IsStrictlySortedBy peer_cmp (keys_of stores) → routes_in routes stores ≡ all → routed_peers all ≡ keys_of (routed_stores routes stores)
@@ -439,7 +425,7 @@ module _ {S : Type 0} (routes : S → stored.Routes (Rc Route Global)) where
   shown-above low test stores same =
       filter_twice has_route (λ (entry : Peer × S). test entry.0) stores
       ∙ filter_alike (λ (entry : Peer × S). test entry.0 && has_route entry) (λ (entry : Peer × S). has_route entry && is_peer_above low entry.0)
-      (λ entry. ap (λ b. b && has_route entry) (same entry.0) ∙ and_turned (is_peer_above low entry.0) (has_route entry)) stores
+      (λ entry. ap (λ b. b && has_route entry) (same entry.0) ∙ and_comm (is_peer_above low entry.0) (has_route entry)) stores
 
   keys-above : (low : Option Peer) (stores : Stores S) → keys_of (stores_above low stores) ≡ peers_above low (keys_of (routed_stores routes stores))
   keys-above low stores =
@@ -461,8 +447,8 @@ module _ {S : Type 0} (routes : S → stored.Routes (Rc Route Global)) where
           → option_map (peer_count routes) first ≡ option_map {U = Peer × ℕ} (λ p. (p, counted (finite.len (peer_routes all p)))) (option_map {U = Peer} (λ (entry : Peer × S). entry.0) first)
       at None f = refl
       at (Some entry) f =
-          ap (λ n. Some (entry.0, counted n)) (sym (len-peer_routes routes stores all entry.0 entry.1
-          (sym (first_found (λ (entry : Peer × S). has_route entry && is_peer_above low entry.0) stores entry sorted f)) e))
+          ap (λ n. Some (entry.0, counted n)) (sym (len-of_peer (routes entry.1) all entry.0 (λ n. get-found routes stores all (pair_of entry.0 n) (Some entry.1)
+          (sym (first_found (λ (entry : Peer × S). has_route entry && is_peer_above low entry.0) stores entry sorted f)) e)))
 
   -- a count of at least 1 is that of a store with a route
   pub routed-more : (peer : Peer) (store : S) (rest : Stores S) (n : ℕ) → n ≡ counted (finite.len (routes store)) → 0 < n
@@ -531,7 +517,7 @@ first_is_above low (x ∷ ps) p e = at (is_peer_above low x) refl e (first_is_ab
   where
     at : (b : Bool) → is_peer_above low x ≡ b → slice_get (cond b (x ∷ peers_above low ps) (peers_above low ps)) 0 ≡ Some p
         → (slice_get (peers_above low ps) 0 ≡ Some p → is_peer_above low p ≡ true) → is_peer_above low p ≡ true
-    at true is e later = ap (is_peer_above low) (sym (some_same x p e)) ∙ is
+    at true is e later = ap (is_peer_above low) (sym (one_of x p e)) ∙ is
     at false is e later = later e
 
 not_above : (low : Option Peer) (x p : Peer) → is_peer_above low x ≡ false → is_peer_above low p ≡ true → is_lt (peer_cmp p x) ≡ false
@@ -553,7 +539,7 @@ peers-next low (x ∷ ps) p sorted is =
         → cond b (x ∷ peers_above low ps) (peers_above low ps) ≡ p ∷ peers_above (Some p) (x ∷ ps)
     at true here is all later =
         ap (λ s. x ∷ s) (all_above low x ps here all ∙ sym (ap (λ r. cond (is_lt r) (x ∷ peers_above (Some x) ps) (peers_above (Some x) ps)) (tied_itself peer_cmp_total x) ∙ all_above_it x ps all))
-        ∙ ap (λ (y : Peer). y ∷ peers_above (Some y) (x ∷ ps)) (some_same x p is)
+        ∙ ap (λ (y : Peer). y ∷ peers_above (Some y) (x ∷ ps)) (one_of x p is)
     at false out is all later =
         later is
         ∙ ap (λ s. p ∷ s) (sym (ap (λ b. cond b (x ∷ peers_above (Some p) ps) (peers_above (Some p) ps))

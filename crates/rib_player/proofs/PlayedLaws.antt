@@ -1,5 +1,5 @@
 -- What calls make of what a player keeps.
-use Rattle.std.proofs.Common.{◌≡◌, ℕ, suc, ◌+◌, ◌-◌, ◌<◌, ◌≤◌, Bool, true, false, not, ◌||◌, ◌&&◌, length, length-append, set, take, drop, slice_index_or, [], ◌∷◌, ◌++◌, List, None, map, is_some, refl, sym, ap, ap₂, subst, ◌∙◌, arith}
+use Rattle.std.proofs.Common.{◌≡◌, ℕ, suc, ◌+◌, ◌<◌, ◌≤◌, Bool, true, false, not, ◌||◌, ◌&&◌, length, length-append, set, take, drop, slice_index_or, [], ◌∷◌, ◌++◌, List, None, map, is_some, refl, sym, ap, ap₂, subst, ◌∙◌, arith}
 use Rattle.std.specs.Prelude.{nat_lt}
 use Rattle.std.specs.List.{AllByRecursion, IsDistinct, list_any}
 use Rattle.std.specs.Ordering.{eq_by_cmp}
@@ -15,21 +15,21 @@ use Rattle.rib_player.specs.declared.journal.Step.{Step}
 use Rattle.rib_player.specs.declared.entry.End.TheVariants.{First, Last}
 use Rattle.rib_player.specs.History.{pair_cmp}
 use Rattle.rib_player.specs.Tables.{Routes, Pairs, table_after, named_pairs}
+use Rattle.rib_player.specs.Store.{Contents}
 use Rattle.rib_player.specs.Timeline.{Timeline, after_play}
-use Rattle.rib_player.specs.Calls.{after_undo, after_redo}
-use Rattle.rib_player.specs.Wanted.{wanted}
-use Rattle.rib_player.specs.Claims.{is_routed, one_if, brings, claims, claims_along, held_claims, AreHeld}
-use Rattle.rib_player.specs.Journal.{Side, pairs_in, step_sides, steps_of, timeline_of, routes_across}
+use Rattle.rib_player.specs.Wanted.{wanted, IsWellFormed}
+use Rattle.rib_player.specs.Claims.{is_routed, one_if, brings, claims_along, held_claims, AreHeld}
+use Rattle.rib_player.specs.Journal.{Side, pairs_in, step_sides, steps_of, tables_over, timeline_of, routes_across}
 use Rattle.rib_player.specs.Sides.{sides_at, sides_across, IsKept, AreDistinct, IsStepFor}
 use Rattle.rib_player.specs.Marks.{Mark, marks_by_step, step_marks, marks_across, gives_up_by, IsMarkOf, AreMarksOf, AreMarked}
-use Rattle.rib_player.specs.Played.{IsPlayed, AreClaimed, CanDrop}
+use Rattle.rib_player.specs.Played.{IsPlayed, IsCrossed, AreClaimed, CanDrop}
 use Rattle.octet_forms.proofs.Lists.{AllByRecursion-get_or, AllByRecursion-set, AllByRecursion-push, AllByRecursion-take}
 use Rattle.rib_player.proofs.PairLaws.{pair_cmp_total}
 use Rattle.rib_player.proofs.StoreLaws.{same_pairs}
 use Rattle.rib_player.proofs.JournalLaws.{pairs_in-sides_across, routes_across-step}
-use Rattle.rib_player.proofs.CursorLaws.{earlier, tables-behind, length-earlier, length-tables, current-timeline, timeline-after_undo, timeline-after_redo, timeline-after_play, same-timeline, added}
+use Rattle.rib_player.proofs.CursorLaws.{earlier, tables-behind, tables-added, tables-back, tables-on, length-earlier, length-tables, at-cursor, timeline-after_play, added}
 use Rattle.rib_player.proofs.ForgetLaws.{tables-forgotten}
-use Rattle.rib_player.proofs.KeyLaws.{any-take, none_from, after_undo-tables, after_redo-tables, wanted-kept}
+use Rattle.rib_player.proofs.KeyLaws.{any-take, none_from, wanted-kept}
 use Rattle.rib_player.proofs.MarkLaws.{tied, tied_itself, pairs_marked, gives-between, named-routed, marked-length, marked-take, marked-last, marked-push, marked-first, step-names}
 use Rattle.rib_player.proofs.HeldLaws.{held-key, some-key, one_true}
 use Rattle.rib_player.proofs.ClaimLaws.{NameFor, wanted-claimed, claimed-somewhere, first-forgotten, last-claims, last-played, unclaimed, unclaimed-none, table-names}
@@ -50,49 +50,56 @@ names-marked q (before ∷ after ∷ tables) (step ∷ steps) all = (
   names-marked q (after ∷ tables) steps all.1,
 )
 
-pub played-wanted : (keys : Pairs) (beyond : Pair → ℕ) (routes : Routes) (cursor : ℕ) (steps : List Step) → IsPlayed keys beyond routes cursor steps → keys ≡ wanted (timeline_of cursor (steps_of steps) routes)
-played-wanted keys beyond routes cursor steps played =
-    let t : Timeline = timeline_of cursor (steps_of steps) routes in
-    let within : cursor ≤ length (steps_of steps) = omega (arith, played.within, length-map steps step_sides) in
-    same_pairs keys (wanted t) (λ q.
-    held-key keys beyond q played.held ∙ ap (nat_lt 0) (played.claimed q)
-    ∙ sym (wanted-claimed t q (names-marked q t.tables steps played.marked) (omega (arith, within, length-tables cursor (steps_of steps) routes within))))
+-- a player's steps, and the claims that it holds
+module _ {table : Contents} {beyond : Pair → ℕ} {cursor : ℕ} {steps : List Step} (played : IsPlayed table beyond cursor steps) where
+  -- its tables
+  abbrev pub tables-played : List Routes
+  tables-played = tables_over cursor (steps_of steps) table.routes
 
--- so its steps can be crossed
-pub played-kept : (keys : Pairs) (beyond : Pair → ℕ) (routes : Routes) (cursor : ℕ) (steps : List Step) (index : ℕ) → index < length steps → IsPlayed keys beyond routes cursor steps
-    → IsKept keys (sides_at (steps_of steps) index)
-played-kept keys beyond routes cursor steps index within played =
-    AllByRecursion-get_or (IsKept keys) (steps_of steps) index [] (omega (arith, within, length-map steps step_sides))
-    (wanted-kept keys (timeline_of cursor (steps_of steps) routes) (steps_of steps) (played-wanted keys beyond routes cursor steps played) refl played.distinct)
+  pub within-played : cursor ≤ length (steps_of steps)
+  within-played = omega (arith, played.within, length-map steps step_sides)
 
--- what is no key has no route
-pub played-among : (keys : Pairs) (beyond : Pair → ℕ) (routes : Routes) (cursor : ℕ) (steps : List Step) → IsPlayed keys beyond routes cursor steps
-    → (q : Pair) → names.contains keys q ≡ false → finite.get routes q ≡ None
-played-among keys beyond routes cursor steps played q out =
-    let t : Timeline = timeline_of cursor (steps_of steps) routes in
-    let within : cursor ≤ length (steps_of steps) = omega (arith, played.within, length-map steps step_sides) in
-    ap (λ r. finite.get r q) (sym (current-timeline cursor (steps_of steps) routes within))
-    ∙ unclaimed q t.tables (cursor - 0) (omega (arith, within, length-tables cursor (steps_of steps) routes within))
-    (sym (played.claimed q) ∙ ap₂ (λ b n. one_if b + n) out (played.held q out))
+  as-many-played : length tables-played ≡ length (steps_of steps) + 1
+  as-many-played = length-tables cursor (steps_of steps) table.routes within-played
+
+  pub played-wanted : (floor : ℕ) → table.keys ≡ wanted (timeline_of floor cursor (steps_of steps) table.routes)
+  played-wanted floor =
+      let t : Timeline = timeline_of floor cursor (steps_of steps) table.routes in
+      same_pairs table.keys (wanted t) (λ q.
+      held-key table.keys beyond q played.held ∙ ap (nat_lt 0) (played.claimed q)
+      ∙ sym (wanted-claimed t q (names-marked q tables-played steps played.marked) (omega (arith, within-played, as-many-played))))
+
+  -- so its steps can be crossed
+  pub played-kept : (index : ℕ) → index < length steps → IsKept table.keys (sides_at (steps_of steps) index)
+  played-kept index within =
+      AllByRecursion-get_or (IsKept table.keys) (steps_of steps) index [] (omega (arith, within, length-map steps step_sides))
+      (wanted-kept table.keys (timeline_of 0 cursor (steps_of steps) table.routes) (steps_of steps) (played-wanted 0) refl played.distinct)
+
+  pub well_formed-played : (floor : ℕ) → IsWellFormed (timeline_of floor cursor (steps_of steps) table.routes)
+  well_formed-played floor =
+      let as_many : length (timeline_of floor cursor (steps_of steps) table.routes).steps ≡ length (steps_of steps) = length-map (steps_of steps) (λ (sides : List Side). names.from_list (pairs_in sides)) in
+      record { floor = omega arith; cursor = omega (arith, within-played, as_many); tables = as-many-played ∙ omega (arith, as_many) }
+
+  -- what is not claimed has no route
+  unclaimed-played : (q : Pair) → claims_along q tables-played ≡ 0 → finite.get table.routes q ≡ None
+  unclaimed-played q none =
+      ap (λ r. finite.get r q) (sym (at-cursor cursor (steps_of steps) table.routes within-played))
+      ∙ unclaimed q tables-played cursor (omega (arith, within-played, as-many-played)) none
+
+  pub played-among : (q : Pair) → names.contains table.keys q ≡ false → finite.get table.routes q ≡ None
+  played-among q out = unclaimed-played q (sym (played.claimed q) ∙ ap₂ (λ b n. one_if b + n) out (played.held q out))
 
 -- ---- a new player
 
-played_fresh : (beyond : Pair → ℕ) → ((q : Pair) → beyond q ≡ 0) → IsPlayed names.empty beyond finite.empty 0 []
-played_fresh beyond none = record {
-  within = omega arith;
-  distinct = tt;
-  marked = tt;
-  held = λ q out. none q;
-  claimed = λ q. ap₂ (λ b n. one_if b + n) (contains-empty pair_cmp q) (none q) ∙ sym (ap (λ r. one_if (is_some r) + 0) (get-empty pair_cmp q));
-}
-
-pub played-new : (keys : Pairs) (beyond : Pair → ℕ) (routes : Routes) (cursor : ℕ) (steps : List Step) → keys ≡ names.empty → ((q : Pair) → beyond q ≡ 0) → routes ≡ finite.empty → cursor ≡ 0 → steps ≡ []
-    → IsPlayed keys beyond routes cursor steps
-played-new keys beyond routes cursor steps e none f g h =
-    subst (λ k. IsPlayed k beyond routes cursor steps) (sym e)
-    (subst (λ r. IsPlayed names.empty beyond r cursor steps) (sym f)
-    (subst (λ n. IsPlayed names.empty beyond finite.empty n steps) (sym g)
-    (subst (IsPlayed names.empty beyond finite.empty 0) (sym h) (played_fresh beyond none))))
+pub played-new : (table : Contents) (beyond : Pair → ℕ) (steps : List Step) → table ≡ record { keys = names.empty; routes = finite.empty } → ((q : Pair) → beyond q ≡ 0) → steps ≡ [] → IsPlayed table beyond 0 steps
+played-new table beyond steps e none f =
+    subst (λ t. IsPlayed t beyond 0 steps) (sym e) (subst (IsPlayed (record { keys = names.empty; routes = finite.empty }) beyond 0) (sym f) (record {
+      within = omega arith;
+      distinct = tt;
+      marked = tt;
+      held = λ q out. none q;
+      claimed = λ q. ap₂ (λ b n. one_if b + n) (contains-empty pair_cmp q) (none q) ∙ sym (ap (λ r. one_if (is_some r) + 0) (get-empty pair_cmp q));
+    }))
 
 -- ---- a step that is crossed
 
@@ -101,96 +108,78 @@ distinct-crossed steps index routes within all =
     AllByRecursion-set AreDistinct steps index (sides_across routes (sides_at steps index))
     (subst (IsDistinct (eq_by_cmp pair_cmp)) (sym (pairs_in-sides_across routes (sides_at steps index))) (AllByRecursion-get_or AreDistinct steps index [] within all)) all
 
--- the player elsewhere on the same tables
-elsewhere : (keys keys' : Pairs) (beyond : Pair → ℕ) (routes routes' : Routes) (cursor cursor' : ℕ) (steps steps' : List Step) → IsPlayed keys beyond routes cursor steps → keys' ≡ keys → cursor' ≤ length steps
-    → marks_by_step steps' ≡ marks_by_step steps → AllByRecursion AreDistinct (steps_of steps') → (timeline_of cursor' (steps_of steps') routes').tables ≡ (timeline_of cursor (steps_of steps) routes).tables
-    → IsPlayed keys' beyond routes' cursor' steps'
-elsewhere keys keys' beyond routes routes' cursor cursor' steps steps' played same within marks distinct tables = record {
-  within = omega (arith, within, ap length marks, length-map steps step_marks, length-map steps' step_marks);
-  distinct = distinct;
-  marked = subst (λ ts. AreMarked ts (marks_by_step steps')) (sym tables) (subst (AreMarked (timeline_of cursor (steps_of steps) routes).tables) (sym marks) played.marked);
-  held = subst (λ k. AreHeld k beyond) (sym same) played.held;
-  claimed = λ q. ap (λ k. held_claims k beyond q) same ∙ played.claimed q ∙ ap (claims_along q) (sym tables);
-}
+module _ {table table' : Contents} {beyond : Pair → ℕ} {cursor index : ℕ} {steps steps' : List Step} (played : IsPlayed table beyond cursor steps) (crossed : IsCrossed table table' steps steps' index) where
+  -- the player elsewhere on the same tables
+  crossed-played : (cursor' : ℕ) → index < length steps → cursor' ≤ length steps
+      → tables_over cursor' (set (steps_of steps) index (sides_across table.routes (sides_at (steps_of steps) index))) (routes_across (sides_at (steps_of steps) index) table.routes) ≡ tables-played played
+      → IsPlayed table' beyond cursor' steps'
+  crossed-played cursor' there within same =
+      let tables : tables_over cursor' (steps_of steps') table'.routes ≡ tables-played played = ap₂ (tables_over cursor') crossed.sides crossed.routes ∙ same in
+      record {
+        within = omega (arith, within, ap length crossed.marks, length-map steps step_marks, length-map steps' step_marks);
+        distinct = subst (AllByRecursion AreDistinct) (sym crossed.sides) (distinct-crossed (steps_of steps) index table.routes (omega (arith, there, length-map steps step_sides)) played.distinct);
+        marked = subst (λ ts. AreMarked ts (marks_by_step steps')) (sym tables) (subst (AreMarked (tables-played played)) (sym crossed.marks) played.marked);
+        held = subst (λ k. AreHeld k beyond) (sym crossed.keys) played.held;
+        claimed = λ q. ap (λ k. held_claims k beyond q) crossed.keys ∙ played.claimed q ∙ ap (claims_along q) (sym tables);
+      }
 
--- the step before the cursor was crossed
-pub after_undo-on : (keys keys' : Pairs) (beyond : Pair → ℕ) (routes routes' : Routes) (cursor : ℕ) (steps steps' : List Step) → 0 < cursor → IsPlayed keys beyond routes cursor steps → keys' ≡ keys
-    → routes' ≡ routes_across (sides_at (steps_of steps) (cursor - 1)) routes
-    → steps_of steps' ≡ set (steps_of steps) (cursor - 1) (sides_across routes (sides_at (steps_of steps) (cursor - 1)))
-    → marks_by_step steps' ≡ marks_by_step steps
-    → (timeline_of (cursor - 1) (steps_of steps') routes' ≡ after_undo (timeline_of cursor (steps_of steps) routes)) × IsPlayed keys' beyond routes' (cursor - 1) steps'
-after_undo-on keys keys' beyond routes routes' cursor steps steps' some played same after crossing marks =
-    let t : Timeline = timeline_of cursor (steps_of steps) routes in
-    let within : cursor ≤ length (steps_of steps) = omega (arith, played.within, length-map steps step_sides) in
-    let last : cursor - 1 < length (steps_of steps) = omega (arith, some, within) in
-    let then : timeline_of (cursor - 1) (steps_of steps') routes' ≡ after_undo t =
-    same-timeline (cursor - 1) _ _ _ _ crossing after ∙ timeline-after_undo cursor (steps_of steps) routes some within in (
-      then,
-      elsewhere keys keys' beyond routes routes' cursor (cursor - 1) steps steps' played same (omega (arith, played.within)) marks
-          (subst (AllByRecursion AreDistinct) (sym crossing) (distinct-crossed (steps_of steps) (cursor - 1) routes last played.distinct))
-          (ap (λ (p : Timeline). p.tables) then ∙ after_undo-tables t),
-    )
+  -- there are as many steps
+  pub length-crossed : length steps' ≡ length steps
+  length-crossed = omega (arith, ap length crossed.marks, length-map steps step_marks, length-map steps' step_marks)
 
--- the step behind it was
-pub after_redo-on : (keys keys' : Pairs) (beyond : Pair → ℕ) (routes routes' : Routes) (cursor : ℕ) (steps steps' : List Step) → cursor < length steps → IsPlayed keys beyond routes cursor steps → keys' ≡ keys
-    → routes' ≡ routes_across (sides_at (steps_of steps) cursor) routes
-    → steps_of steps' ≡ set (steps_of steps) cursor (sides_across routes (sides_at (steps_of steps) cursor))
-    → marks_by_step steps' ≡ marks_by_step steps
-    → (timeline_of (cursor + 1) (steps_of steps') routes' ≡ after_redo (timeline_of cursor (steps_of steps) routes)) × IsPlayed keys' beyond routes' (cursor + 1) steps'
-after_redo-on keys keys' beyond routes routes' cursor steps steps' ahead played same after crossing marks =
-    let t : Timeline = timeline_of cursor (steps_of steps) routes in
-    let next : cursor < length (steps_of steps) = omega (arith, ahead, length-map steps step_sides) in
-    let then : timeline_of (cursor + 1) (steps_of steps') routes' ≡ after_redo t =
-    same-timeline (cursor + 1) _ _ _ _ crossing after ∙ timeline-after_redo cursor (steps_of steps) routes next in (
-      then,
-      elsewhere keys keys' beyond routes routes' cursor (cursor + 1) steps steps' played same (omega (arith, ahead)) marks
-          (subst (AllByRecursion AreDistinct) (sym crossing) (distinct-crossed (steps_of steps) cursor routes next played.distinct))
-          (ap (λ (p : Timeline). p.tables) then ∙ after_redo-tables t),
-    )
+  -- the step before the cursor was crossed
+  pub undone-played : index + 1 ≡ cursor → IsPlayed table' beyond index steps'
+  undone-played last =
+      let within = within-played played in
+      crossed-played index (omega (arith, last, played.within)) (omega (arith, last, played.within))
+      (tables-back index (steps_of steps) table.routes (omega (arith, last, within)) ∙ ap (λ n. tables_over n (steps_of steps) table.routes) last)
+
+  -- that behind it was
+  pub redone-played : index ≡ cursor → cursor < length steps → IsPlayed table' beyond (cursor + 1) steps'
+  redone-played here ahead =
+      crossed-played (cursor + 1) (omega (arith, here, ahead)) (omega (arith, ahead))
+      (ap (λ n. tables_over (cursor + 1) (set (steps_of steps) n (sides_across table.routes (sides_at (steps_of steps) n))) (routes_across (sides_at (steps_of steps) n) table.routes)) here
+      ∙ tables-on cursor (steps_of steps) table.routes (omega (arith, ahead, length-map steps step_sides)))
 
 -- ---- a step that is forgotten
 
--- what is claimed besides the claims that go with the first step
-forgotten : (n : ℕ) (first : Step) (steps : List Step) (keys : Pairs) (beyond : Pair → ℕ) (routes : Routes) (q : Pair) → IsPlayed keys beyond routes (suc n) (first ∷ steps)
-    → held_claims keys beyond q ≡ claims (timeline_of n (steps_of steps) routes) q + one_if (gives_up_by First (step_marks first) q)
-forgotten n first steps keys beyond routes q played =
-    let tables = (timeline_of (suc n) (steps_of (first ∷ steps)) routes).tables in
-    let rest : drop 1 tables ≡ (timeline_of n (steps_of steps) routes).tables = tables-forgotten n (step_sides first) (steps_of steps) routes in
-    let long : 1 < length tables = omega (arith, marked-length tables (marks_by_step (first ∷ steps)) played.marked) in
-    played.claimed q ∙ first-forgotten q tables long
-    ∙ ap₂ (λ ts b. claims_along q ts + one_if b) rest
-    (sym (gives-between First (slice_index_or tables 0 finite.empty) (slice_index_or tables 1 finite.empty) (step_marks first) q (marked-first tables (step_marks first) (marks_by_step steps) played.marked).0))
+module _ {n : ℕ} {first : Step} {steps : List Step} {table : Contents} {beyond : Pair → ℕ} (played : IsPlayed table beyond (suc n) (first ∷ steps)) where
+  -- the tables without that before it
+  rest : drop 1 (tables-played played) ≡ tables_over n (steps_of steps) table.routes
+  rest = tables-forgotten n (step_sides first) (steps_of steps) table.routes
 
--- the pairs that it clears are keys
-pub forgotten-keys : (n : ℕ) (first : Step) (steps : List Step) (keys : Pairs) (beyond : Pair → ℕ) (routes : Routes) → IsPlayed keys beyond routes (suc n) (first ∷ steps)
-    → (q : Pair) → gives_up_by First (step_marks first) q ≡ true → names.contains keys q ≡ true
-forgotten-keys n first steps keys beyond routes played q gives =
-    some-key keys beyond q played.held (omega (arith, forgotten n first steps keys beyond routes q played, one_true _ gives))
+  -- what is claimed besides the claims that go with it
+  forgotten : (q : Pair) → held_claims table.keys beyond q ≡ claims_along q (tables_over n (steps_of steps) table.routes) + one_if (gives_up_by First (step_marks first) q)
+  forgotten q =
+      let tables = tables-played played in
+      played.claimed q ∙ first-forgotten q tables (omega (arith, marked-length tables (marks_by_step (first ∷ steps)) played.marked))
+      ∙ ap₂ (λ ts b. claims_along q ts + one_if b) rest
+      (sym (gives-between First (slice_index_or tables 0 finite.empty) (slice_index_or tables 1 finite.empty) (step_marks first) q (marked-first tables (step_marks first) (marks_by_step steps) played.marked).0))
 
--- and have no route where nothing is claimed beyond them
-pub forgotten-free : (n : ℕ) (first : Step) (steps : List Step) (keys : Pairs) (beyond : Pair → ℕ) (routes : Routes) → IsPlayed keys beyond routes (suc n) (first ∷ steps)
-    → (q : Pair) → gives_up_by First (step_marks first) q ≡ true → beyond q ≡ 0 → finite.get routes q ≡ None
-forgotten-free n first steps keys beyond routes played q gives none =
-    let t : Timeline = timeline_of n (steps_of steps) routes in
-    let within : n ≤ length (steps_of steps) = omega (arith, played.within, length-map steps step_sides) in
-    let key = one_true _ (forgotten-keys n first steps keys beyond routes played q gives) in
-    ap (λ r. finite.get r q) (sym (current-timeline n (steps_of steps) routes within))
-    ∙ unclaimed q t.tables (n - 0) (omega (arith, within, length-tables n (steps_of steps) routes within))
-    (omega (arith, forgotten n first steps keys beyond routes q played, one_true _ gives, key, none))
+  -- the pairs that it clears are keys
+  pub forgotten-keys : (q : Pair) → gives_up_by First (step_marks first) q ≡ true → names.contains table.keys q ≡ true
+  forgotten-keys q gives = some-key table.keys beyond q played.held (omega (arith, forgotten q, one_true _ gives))
 
--- the player without it
-pub forgotten-played : (n : ℕ) (first : Step) (steps : List Step) (keys keys' : Pairs) (beyond beyond' : Pair → ℕ) (routes routes' : Routes) → IsPlayed keys beyond routes (suc n) (first ∷ steps)
-    → routes' ≡ routes → AreHeld keys' beyond' → ((q : Pair) → held_claims keys' beyond' q + one_if (gives_up_by First (step_marks first) q) ≡ held_claims keys beyond q) → IsPlayed keys' beyond' routes' n steps
-forgotten-played n first steps keys keys' beyond beyond' routes routes' played same held less =
-    let tables = (timeline_of (suc n) (steps_of (first ∷ steps)) routes).tables in
-    let rest : drop 1 tables ≡ (timeline_of n (steps_of steps) routes).tables = tables-forgotten n (step_sides first) (steps_of steps) routes in
-    subst (λ r. IsPlayed keys' beyond' r n steps) (sym same) (record {
-      within = omega (arith, played.within);
-      distinct = played.distinct.1;
-      marked = subst (λ ts. AreMarked ts (marks_by_step steps)) rest (marked-first tables (step_marks first) (marks_by_step steps) played.marked).1;
-      held = held;
-      claimed = λ q. omega (arith, less q, forgotten n first steps keys beyond routes q played);
-    })
+  -- and have no route where nothing is claimed beyond them
+  pub forgotten-free : (q : Pair) → gives_up_by First (step_marks first) q ≡ true → beyond q ≡ 0 → finite.get table.routes q ≡ None
+  forgotten-free q gives none =
+      let within : n ≤ length (steps_of steps) = omega (arith, played.within, length-map steps step_sides) in
+      let key = one_true _ (forgotten-keys q gives) in
+      ap (λ r. finite.get r q) (sym (at-cursor n (steps_of steps) table.routes within))
+      ∙ unclaimed q (tables_over n (steps_of steps) table.routes) n (omega (arith, within, length-tables n (steps_of steps) table.routes within))
+      (omega (arith, forgotten q, one_true _ gives, key, none))
+
+  -- the player without it
+  pub forgotten-played : (table' : Contents) (beyond' : Pair → ℕ) → table'.routes ≡ table.routes → AreHeld table'.keys beyond'
+      → ((q : Pair) → held_claims table'.keys beyond' q + one_if (gives_up_by First (step_marks first) q) ≡ held_claims table.keys beyond q) → IsPlayed table' beyond' n steps
+  forgotten-played table' beyond' same held less = record {
+    within = omega (arith, played.within);
+    distinct = played.distinct.1;
+    marked = subst (λ ts. AreMarked ts (marks_by_step steps)) (rest ∙ ap (tables_over n (steps_of steps)) (sym same))
+        (marked-first (tables-played played) (step_marks first) (marks_by_step steps) played.marked).1;
+    held = held;
+    claimed = λ q. omega (arith, less q, forgotten q, ap (λ r. claims_along q (tables_over n (steps_of steps) r)) same);
+  }
 
 -- ---- a step that is dropped
 
@@ -267,22 +256,14 @@ all-marks before after (side ∷ sides) some = (
   all-marks before after sides (λ q there. some q (ap (λ b. tied q side.0 || b) there ∙ or-true (tied q side.0))),
 )
 
-all-named : (before after : Routes) (sides : List Side) → ((q : Pair) → list_any (tied q) (pairs_in sides) ≡ true → (is_routed q before || is_routed q after) ≡ true)
-    → AllByRecursion (λ (side : Side). (is_some (finite.get before side.0) || is_some side.1) ≡ true) (sides_across after sides)
-all-named before after [] some = tt
-all-named before after (side ∷ sides) some = (
-  some side.0 (ap (λ b. b || list_any (tied side.0) (pairs_in sides)) (tied_itself side.0)),
-  all-named before after sides (λ q there. some q (ap (λ b. tied q side.0 || b) there ∙ or-true (tied q side.0))),
-)
+some-marked : (before after : Routes) (sides : List Side) → AllByRecursion (IsMarkOf before after) (marks_across before sides)
+    → AllByRecursion (λ (side : Side). (is_some (finite.get before side.0) || is_some side.1) ≡ true) sides
+some-marked before after [] all = tt
+some-marked before after (side ∷ sides) all = (all.0.some, some-marked before after sides all.1)
 
 -- a pair among an event's sides is one that it names
 among-named : (routes : Routes) (event : Event) (sides : List Side) (q : Pair) → IsStepFor routes event sides → names.contains (named_pairs routes event) q ≡ list_any (tied q) (pairs_in sides)
 among-named routes event sides q step = ap (λ s. names.contains s q) (sym step.names) ∙ contains-from_list pair_cmp_total (pairs_in sides) q
-
-pub step-named : (routes : Routes) (event : Event) (sides : List Side) → IsStepFor routes event sides → AllByRecursion (λ (side : Side). (is_some (finite.get routes side.0) || is_some side.1) ≡ true) sides
-step-named routes event sides step =
-    subst (AllByRecursion (λ (side : Side). (is_some (finite.get routes side.0) || is_some side.1) ≡ true)) (sym step.after)
-    (all-named routes (table_after routes event) sides (λ q there. (table-names q routes event).1 (among-named routes event sides q step ∙ there)))
 
 -- the marks of an event's step are right
 step-marked : (routes : Routes) (event : Event) (sides : List Side) → IsStepFor routes event sides → AreMarksOf routes (table_after routes event) (marks_across routes sides)
@@ -292,76 +273,80 @@ step-marked routes event sides step = record {
   unnamed = λ q out. (table-names q routes event).0 (among-named routes event sides q step ∙ ap (list_any (tied q)) (sym (pairs_marked-across routes sides)) ∙ out);
 }
 
--- the claims once the step is put, and the steps ahead are still there
-pub can-play : (keys keys' : Pairs) (beyond beyond' : Pair → ℕ) (routes routes' : Routes) (cursor : ℕ) (steps : List Step) (event : Event) (sides : List Side) (marks : List Mark)
-    → IsPlayed keys beyond routes cursor steps → IsStepFor routes event sides → routes' ≡ routes_across sides routes → marks ≡ marks_across routes sides
-    → ((q : Pair) → held_claims keys' beyond' q ≡ held_claims keys beyond q + one_if (gives_up_by Last marks q)) → CanDrop (marks_by_step steps) cursor (held_claims keys' beyond') routes'
-can-play keys keys' beyond beyond' routes routes' cursor steps event sides marks played step after is more =
-    let t : Timeline = timeline_of cursor (steps_of steps) routes in
-    let within : cursor ≤ length (steps_of steps) = omega (arith, played.within, length-map steps step_sides) in
-    let next : routes' ≡ table_after routes event = after ∙ routes_across-step routes event sides step in
-    let right : AreMarksOf routes (table_after routes event) marks = subst (AreMarksOf routes (table_after routes event)) (sym is) (step-marked routes event sides step) in
-    record {
-      tables = t.tables;
-      new = λ q. one_if (gives_up_by Last marks q);
-      are = record { marked = played.marked; claimed = λ q. more q ∙ ap (λ n. n + one_if (gives_up_by Last marks q)) (played.claimed q) };
-      free = λ q none.
-          let before : claims_along q (earlier cursor (steps_of steps) routes ++ routes ∷ []) ≡ 0 = ap (claims_along q) (sym (tables-behind cursor (steps_of steps) routes within)) ∙ omega (arith, none) in
-          let here : finite.get routes q ≡ None =
-          ap (λ r. finite.get r q) (sym (get_or_at (earlier cursor (steps_of steps) routes) routes [] finite.empty cursor (length-earlier cursor (steps_of steps) routes within)))
-          ∙ unclaimed q (earlier cursor (steps_of steps) routes ++ routes ∷ []) cursor
-          (omega (arith, length-append (earlier cursor (steps_of steps) routes) (routes ∷ []), length-earlier cursor (steps_of steps) routes within)) before in
-          ap (λ r. finite.get r q) next
-          ∙ none_from (finite.get (table_after routes event) q)
-          (sym (ap (λ r. not (is_some r) && is_routed q (table_after routes event)) here)
-          ∙ sym (gives-between Last routes (table_after routes event) marks q right)
-          ∙ no_claim (gives_up_by Last marks q) (omega (arith, none)));
-    }
-  where
-    no_claim : (b : Bool) → one_if b ≡ 0 → b ≡ false
-    no_claim true e = absurd (omega (arith, e))
-    no_claim false e = refl
+pub step-named : (routes : Routes) (event : Event) (sides : List Side) → IsStepFor routes event sides → AllByRecursion (λ (side : Side). (is_some (finite.get routes side.0) || is_some side.1) ≡ true) sides
+step-named routes event sides step = some-marked routes (table_after routes event) sides (step-marked routes event sides step).right
 
--- a step that was put behind the cursor, once those ahead are dropped
-pub after_play-on : (keys keys' : Pairs) (beyond beyond' : Pair → ℕ) (routes routes' : Routes) (cursor : ℕ) (steps steps' : List Step) (sides : List Side) (new : Step) (event : Event)
-    → IsPlayed keys beyond routes cursor steps → IsStepFor routes event sides → AreDistinct sides → steps' ≡ take cursor steps → routes' ≡ routes_across sides routes
-    → step_sides new ≡ sides_across routes sides → step_marks new ≡ marks_across routes sides → AreHeld keys' beyond'
-    → AreClaimed (marks_by_step steps') (held_claims keys' beyond') (take (cursor + 1) (timeline_of cursor (steps_of steps) routes).tables) (λ q. one_if (gives_up_by Last (step_marks new) q))
-    → (timeline_of (cursor + 1) (steps_of (steps' ++ new ∷ [])) routes' ≡ after_play (timeline_of cursor (steps_of steps) routes) event) × IsPlayed keys' beyond' routes' (cursor + 1) (steps' ++ new ∷ [])
-after_play-on keys keys' beyond beyond' routes routes' cursor steps steps' sides new event played step distinct left after crossing is held are =
-    let t : Timeline = timeline_of cursor (steps_of steps) routes in
-    let within : cursor ≤ length (steps_of steps) = omega (arith, played.within, length-map steps step_sides) in
-    let next : Routes = table_after routes event in
-    let behind : List Routes = take (cursor + 1) t.tables in
-    let behind_is : behind ≡ earlier cursor (steps_of steps) routes ++ routes ∷ [] = tables-behind cursor (steps_of steps) routes within in
-    let long : length behind ≡ suc cursor =
-    ap length behind_is ∙ omega (arith, length-append (earlier cursor (steps_of steps) routes) (routes ∷ []), length-earlier cursor (steps_of steps) routes within) in
-    let last : slice_index_or behind cursor finite.empty ≡ routes =
-    ap (λ ts. slice_index_or ts cursor finite.empty) behind_is ∙ get_or_at (earlier cursor (steps_of steps) routes) routes [] finite.empty cursor (length-earlier cursor (steps_of steps) routes within) in
-    let same : steps_of (steps' ++ new ∷ []) ≡ added cursor (steps_of steps) (sides_across routes sides) =
-    map-append step_sides steps' (new ∷ []) ∙ ap₂ (λ a b. a ++ b ∷ []) (ap steps_of left ∙ sym (take-map step_sides cursor steps)) crossing in
-    let then : timeline_of (cursor + 1) (steps_of (steps' ++ new ∷ [])) routes' ≡ after_play t event =
-    same-timeline (cursor + 1) _ _ _ _ same after ∙ timeline-after_play cursor (steps_of steps) sides routes event within step in
-    let tables : (timeline_of (cursor + 1) (steps_of (steps' ++ new ∷ [])) routes').tables ≡ behind ++ next ∷ [] =
-    ap (λ (p : Timeline). p.tables) then
-    ∙ ap₂ (λ n (r : Routes). take (n + 1) t.tables ++ table_after r event ∷ []) {x = cursor - 0} {y = cursor} (omega arith) (current-timeline cursor (steps_of steps) routes within) in
-    let marks : marks_by_step (steps' ++ new ∷ []) ≡ marks_by_step steps' ++ step_marks new ∷ [] = map-append step_marks steps' (new ∷ []) in
-    let right : AreMarksOf routes next (step_marks new) = subst (AreMarksOf routes next) (sym is) (step-marked routes event sides step) in
-    let count : length (marks_by_step steps') ≡ cursor = omega (arith, marked-length behind (marks_by_step steps') are.marked, long) in (
-      then,
-      record {
-        within = omega (arith, length-map steps' step_marks, count, length-append steps' (new ∷ []));
-        distinct = subst (AllByRecursion AreDistinct) (sym (map-append step_sides steps' (new ∷ [])))
-            (AllByRecursion-push AreDistinct (steps_of steps') (step_sides new)
-            (subst (AllByRecursion AreDistinct) (take-map step_sides cursor steps ∙ ap steps_of (sym left)) (AllByRecursion-take AreDistinct cursor (steps_of steps) played.distinct))
-            (subst (IsDistinct (eq_by_cmp pair_cmp)) (sym (ap pairs_in crossing ∙ pairs_in-sides_across routes sides)) distinct));
-        marked = subst (λ ts. AreMarked ts (marks_by_step (steps' ++ new ∷ []))) (sym tables) (subst (AreMarked (behind ++ next ∷ [])) (sym marks)
-            (marked-push behind (marks_by_step steps') next (step_marks new) are.marked
-            (subst (λ r. AreMarksOf r next (step_marks new)) (sym (ap (λ n. slice_index_or behind n finite.empty) count ∙ last)) right)));
-        held = held;
-        claimed = λ q. are.claimed q
-            ∙ ap (λ b. claims_along q behind + one_if b) (gives-between Last routes next (step_marks new) q right ∙ ap (λ r. brings q r next) (sym last))
-            ∙ sym (last-played q behind next cursor long)
-            ∙ ap (claims_along q) (sym tables);
-      },
-    )
+-- an event's step that is put
+module _ {table : Contents} {beyond : Pair → ℕ} {cursor : ℕ} {steps : List Step} {event : Event} {sides : List Side} (played : IsPlayed table beyond cursor steps) (step : IsStepFor table.routes event sides) where
+  abbrev next : Routes
+  next = table_after table.routes event
+
+  -- the tables up to the cursor
+  abbrev behind : List Routes
+  behind = take (cursor + 1) (tables-played played)
+
+  behind-is : behind ≡ earlier cursor (steps_of steps) table.routes ++ table.routes ∷ []
+  behind-is = tables-behind cursor (steps_of steps) table.routes (within-played played)
+
+  behind-long : length behind ≡ suc cursor
+  behind-long = ap length behind-is ∙ omega (arith, length-append (earlier cursor (steps_of steps) table.routes) (table.routes ∷ []), length-earlier cursor (steps_of steps) table.routes (within-played played))
+
+  behind-last : slice_index_or behind cursor finite.empty ≡ table.routes
+  behind-last = ap (λ ts. slice_index_or ts cursor finite.empty) behind-is
+      ∙ get_or_at (earlier cursor (steps_of steps) table.routes) table.routes [] finite.empty cursor (length-earlier cursor (steps_of steps) table.routes (within-played played))
+
+  right : (marks : List Mark) → marks ≡ marks_across table.routes sides → AreMarksOf table.routes next marks
+  right marks is = subst (AreMarksOf table.routes next) (sym is) (step-marked table.routes event sides step)
+
+  -- the claims once it is put, and the steps ahead are still there
+  pub can-play : (table' : Contents) (beyond' : Pair → ℕ) (marks : List Mark) → table'.routes ≡ routes_across sides table.routes → marks ≡ marks_across table.routes sides
+      → ((q : Pair) → held_claims table'.keys beyond' q ≡ held_claims table.keys beyond q + one_if (gives_up_by Last marks q)) → CanDrop (marks_by_step steps) cursor (held_claims table'.keys beyond') table'.routes
+  can-play table' beyond' marks after is more = record {
+    tables = tables-played played;
+    new = λ q. one_if (gives_up_by Last marks q);
+    are = record { marked = played.marked; claimed = λ q. more q ∙ ap (λ n. n + one_if (gives_up_by Last marks q)) (played.claimed q) };
+    free = λ q none.
+        let here : finite.get table.routes q ≡ None =
+        ap (λ r. finite.get r q) (sym behind-last) ∙ unclaimed q behind cursor (omega (arith, behind-long)) (omega (arith, none)) in
+        ap (λ r. finite.get r q) (after ∙ routes_across-step table.routes event sides step)
+        ∙ none_from (finite.get next q)
+        (sym (ap (λ r. not (is_some r) && is_routed q next) here) ∙ sym (gives-between Last table.routes next marks q (right marks is))
+        ∙ no_claim (gives_up_by Last marks q) (omega (arith, none)));
+  }
+    where
+      no_claim : (b : Bool) → one_if b ≡ 0 → b ≡ false
+      no_claim true e = absurd (omega (arith, e))
+      no_claim false e = refl
+
+  -- once the steps ahead are dropped, it stands behind the cursor
+  module _ (table' : Contents) (beyond' : Pair → ℕ) (steps' : List Step) (new : Step) (left : steps' ≡ take cursor steps) (after : table'.routes ≡ routes_across sides table.routes) (crossing : step_sides new ≡ sides_across table.routes sides) where
+    steps-play : steps_of (steps' ++ new ∷ []) ≡ added cursor (steps_of steps) (sides_across table.routes sides)
+    steps-play = map-append step_sides steps' (new ∷ []) ∙ ap₂ (λ a b. a ++ b ∷ []) (ap steps_of left ∙ sym (take-map step_sides cursor steps)) crossing
+
+    pub after_play-on : (floor : ℕ) → timeline_of floor (cursor + 1) (steps_of (steps' ++ new ∷ [])) table'.routes ≡ after_play (timeline_of floor cursor (steps_of steps) table.routes) event
+    after_play-on floor =
+        ap₂ (timeline_of floor (cursor + 1)) steps-play after ∙ timeline-after_play floor cursor (steps_of steps) sides table.routes event (within-played played) step
+
+    pub played-on : step_marks new ≡ marks_across table.routes sides → AreHeld table'.keys beyond'
+        → AreClaimed (marks_by_step steps') (held_claims table'.keys beyond') (take (cursor + 1) (tables-played played)) (λ q. one_if (gives_up_by Last (step_marks new) q)) → IsPlayed table' beyond' (cursor + 1) (steps' ++ new ∷ [])
+    played-on is held are =
+        let tables : tables_over (cursor + 1) (steps_of (steps' ++ new ∷ [])) table'.routes ≡ behind ++ next ∷ [] =
+        ap₂ (tables_over (cursor + 1)) steps-play after ∙ tables-added cursor (steps_of steps) sides table.routes (within-played played)
+        ∙ ap (λ r. behind ++ r ∷ []) (routes_across-step table.routes event sides step) in
+        let marks : marks_by_step (steps' ++ new ∷ []) ≡ marks_by_step steps' ++ step_marks new ∷ [] = map-append step_marks steps' (new ∷ []) in
+        let count : length (marks_by_step steps') ≡ cursor = omega (arith, marked-length behind (marks_by_step steps') are.marked, behind-long) in
+        record {
+          within = omega (arith, length-map steps' step_marks, count, length-append steps' (new ∷ []));
+          distinct = subst (AllByRecursion AreDistinct) (sym (map-append step_sides steps' (new ∷ [])))
+              (AllByRecursion-push AreDistinct (steps_of steps') (step_sides new)
+              (subst (AllByRecursion AreDistinct) (take-map step_sides cursor steps ∙ ap steps_of (sym left)) (AllByRecursion-take AreDistinct cursor (steps_of steps) played.distinct))
+              (subst (IsDistinct (eq_by_cmp pair_cmp)) (sym (ap pairs_in crossing ∙ pairs_in-sides_across table.routes sides)) step.distinct));
+          marked = subst (λ ts. AreMarked ts (marks_by_step (steps' ++ new ∷ []))) (sym tables) (subst (AreMarked (behind ++ next ∷ [])) (sym marks)
+              (marked-push behind (marks_by_step steps') next (step_marks new) are.marked
+              (subst (λ r. AreMarksOf r next (step_marks new)) (sym (ap (λ n. slice_index_or behind n finite.empty) count ∙ behind-last)) (right (step_marks new) is))));
+          held = held;
+          claimed = λ q. are.claimed q
+              ∙ ap (λ b. claims_along q behind + one_if b) (gives-between Last table.routes next (step_marks new) q (right (step_marks new) is) ∙ ap (λ r. brings q r next) (sym behind-last))
+              ∙ sym (last-played q behind next cursor behind-long)
+              ∙ ap (claims_along q) (sym tables);
+        }

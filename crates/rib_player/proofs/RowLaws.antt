@@ -21,7 +21,7 @@ use Rattle.rib_player.specs.Numbered.{peers_in}
 use Rattle.rib_player.specs.Marked.{is_marked}
 use Rattle.rib_player.proofs.PairLaws.{same_pair, pair_cmp_total}
 use Rattle.rib_player.proofs.StoreLaws.{same_peer}
-use Rattle.rib_player.proofs.ListLaws.{copied-at}
+use Rattle.rib_player.proofs.ListLaws.{copied-at, all-then}
 
 module _ {R : Type 0} where
   -- a pair more, which is none of those before it
@@ -69,25 +69,17 @@ less-itself p less = let both : Less ≡ Greater = sym less ∙ pair_cmp_total.a
 
 module _ {R : Type 0} (last : Pair) (s : Pair × R) (below : pair_cmp s.0 last ≡ Less) where
   -- a pair below one is below those that aren't below that one
-  below-all : (es : List (Pair × R)) → AreNotBelow last es → AllByRecursion (λ e. pair_cmp s.0 e.0 ≡ Less) es
-  below-all [] up = tt
-  below-all (e ∷ es) up = (at up.0, below-all es up.1)
-    where
-      at : (e.0 ≡ last) ⊎ (pair_cmp last e.0 ≡ Less) → pair_cmp s.0 e.0 ≡ Less
-      at (inl same) = ap (pair_cmp s.0) same ∙ below
-      at (inr over) = pair_cmp_total.trans s.0 last e.0 below over
-
-  -- and so none of them ties with it
-  apart-below : (es : List (Pair × R)) → AllByRecursion (λ e. pair_cmp s.0 e.0 ≡ Less) es → AllByRecursion (λ e. eq_by_cmp pair_cmp e.0 s.0 ≡ false) es
-  apart-below [] up = tt
-  apart-below (e ∷ es) up = (not-tied e.0 s.0 (λ same. less-itself s.0 (ap (pair_cmp s.0) (sym same) ∙ up.0)), apart-below es up.1)
+  below-each : (e : Pair × R) → (e.0 ≡ last) ⊎ (pair_cmp last e.0 ≡ Less) → pair_cmp s.0 e.0 ≡ Less
+  below-each e (inl same) = ap (pair_cmp s.0) same ∙ below
+  below-each e (inr over) = pair_cmp_total.trans s.0 last e.0 below over
 
   -- a pair more, below the last one
   pub falling-more : (es : List (Pair × R)) → IsDistinct (eq_by_cmp pair_cmp) (keys_of es) × AreNotBelow last es
       → IsDistinct (eq_by_cmp pair_cmp) (keys_of (es ++ s ∷ [])) × AreNotBelow s.0 (es ++ s ∷ [])
   falling-more es so_far =
-      let up = below-all es so_far.1 in
-      (distinct-apart s es (apart-below es up) so_far.0, last-more es up)
+      let up = all-then (λ e. (e.0 ≡ last) ⊎ (pair_cmp last e.0 ≡ Less)) (λ e. pair_cmp s.0 e.0 ≡ Less) es below-each so_far.1 in
+      let apart = all-then (λ e. pair_cmp s.0 e.0 ≡ Less) (λ e. eq_by_cmp pair_cmp e.0 s.0 ≡ false) es (λ e less. not-tied e.0 s.0 (λ same. less-itself s.0 (ap (pair_cmp s.0) (sym same) ∙ less))) up in
+      (distinct-apart s es apart so_far.0, last-more es up)
     where
       last-more : (es : List (Pair × R)) → AllByRecursion (λ e. pair_cmp s.0 e.0 ≡ Less) es → AreNotBelow s.0 (es ++ s ∷ [])
       last-more [] up = (inl refl, tt)
@@ -112,11 +104,7 @@ module _ {R : Type 0} (order : List (Peer × ℕ)) where
 
     pub distinct-more : is_marked marks number ≡ false → (es : List (Pair × R)) → AllByRecursion (IsSeen marks) es
         → IsDistinct (eq_by_cmp pair_cmp) (keys_of es) → IsDistinct (eq_by_cmp pair_cmp) (keys_of (es ++ s ∷ []))
-    distinct-more new es seen distinct = distinct-apart s es (all-seen es seen) distinct
-      where
-        all-seen : (es : List (Pair × R)) → AllByRecursion (IsSeen marks) es → AllByRecursion (λ e. eq_by_cmp pair_cmp e.0 s.0 ≡ false) es
-        all-seen [] seen = tt
-        all-seen (e ∷ es) seen = (apart new e seen.0, all-seen es seen.1)
+    distinct-more new es seen distinct = distinct-apart s es (all-then (IsSeen marks) (λ e. eq_by_cmp pair_cmp e.0 s.0 ≡ false) es (apart new) seen) distinct
 
     pub seen-more : is_marked marks' number ≡ true → ((n : ℕ) → is_marked marks n ≡ true → is_marked marks' n ≡ true)
         → (es : List (Pair × R)) → AllByRecursion (IsSeen marks) es → AllByRecursion (IsSeen marks') (es ++ s ∷ [])

@@ -1,8 +1,7 @@
 -- What the stores of all peers hold together, pair by pair.
-use Rattle.std.proofs.Common.{◌≡◌, ℕ, zero, suc, ◌+◌, ◌<◌, Bool, true, false, cond, not, ◌||◌, ◌&&◌, List, [], ◌∷◌, map, Option, Some, None, is_some, IfSome, IfNone, Result, Ok, Err, OnOk, OnErr, OnSome, Bor, refl, sym, ap, ap₂, subst, ◌∙◌, arith}
-use lib.Dec.{eqb}
+use Rattle.std.proofs.Common.{◌≡◌, ℕ, zero, suc, ◌+◌, ◌<◌, Bool, true, false, cond, not, ◌||◌, ◌&&◌, List, [], ◌∷◌, map, Option, Some, None, is_some, IfSome, IfNone, Result, Ok, Err, OnOk, OnErr, OnSome, Bor, MutBor, refl, sym, ap, ap₂, subst, ◌∙◌, arith}
 use Rattle.std.specs.List.{list_any, flat_map, filter}
-use Rattle.std.specs.Option.{option_map, option_copied}
+use Rattle.std.specs.Option.{option_map, option_copied, option_copied_mut, unwrap_or}
 use Rattle.std.specs.Ordering.{eq_by_cmp}
 use Rattle.std.specs.Cmp.{eq_by_cmp_equiv, Equal-is, both_tied}
 use Rattle.std.specs.FinMap as finite
@@ -11,16 +10,13 @@ use Rattle.std.specs.FinSet as set
 use Rattle.std.specs.FinSet.{contains-from_list, contains-insert, contains-remove, contains-items, contains-empty, same_set, len-insert}
 use Rattle.std.specs.declared.alloc.Global.{Global}
 use Rattle.std.specs.declared.rc.Rc.{Rc}
-use Rattle.std.proofs.lemmas.Bool.{eqb-true}
 use Rattle.std.proofs.lemmas.List.Folds.{list_any-append}
 use Rattle.std.proofs.lemmas.Map.Views.{any-filter_same}
-use Rattle.ip_prefix.specs.Address.{Address}
 use Rattle.ip_prefix.specs.Network.{Network}
-use Rattle.octet_forms.proofs.Options.{is_some-option_map}
 use Rattle.ip_prefix.specs.Order.{network_cmp}
 use Rattle.ip_prefix.specs.OrderLaws.{network_cmp_total}
 use Rattle.prefix_store.specs.Stored as stored
-use Rattle.prefix_store.specs.Lookups as lookups
+use Rattle.prefix_store.specs.Contents as contents
 use Rattle.prefix_store.proofs.PutLaws.{get-put}
 use Rattle.mrt_events.specs.declared.peer.Peer.{Peer}
 use Rattle.rib_player.specs.declared.pair.Pair.{Pair}
@@ -30,8 +26,7 @@ use Rattle.rib_player.specs.History.{pair_cmp, pair_of}
 use Rattle.prefix_store.specs.Stored.{put}
 use Rattle.rib_player.specs.Tables.{Routes, Pairs}
 use Rattle.rib_player.specs.Store.{Stores, store_at, has_key, stored_route, route_in, keys_in, routes_in}
-use Rattle.rib_player.specs.Lookups.{IsBest}
-use Rattle.rib_player.specs.Holding.{value_of, IsHeld, IsLeft}
+use Rattle.rib_player.specs.Holding.{value_of, IsHeld, IsWritten}
 use Rattle.octet_forms.proofs.Booleans.{cond_untested}
 use Rattle.mrt_events.proofs.PeerLaws.{peer_cmp_total, peer_cmp-IsAntisymmetric}
 use Rattle.rib_player.proofs.PairLaws.{pair_cmp_total, pair_cmp-IsAntisymmetric, same_pair}
@@ -53,6 +48,9 @@ always (Some x) p = p
 
 pub never : {A : Type 0} (P : Type 0) (o : Option A) → o ≡ None → OnSome o P
 never P o is = subst (λ o. OnSome o P) (sym is) tt
+
+pub one_of : {X : Type 0} (a b : X) → Some a ≡ Some b → a ≡ b
+one_of a b e = ap (λ o. unwrap_or o a) e
 
 -- peers that tie are one
 pub one_peer : (a b : Peer) → same_peer a b ≡ true → a ≡ b
@@ -112,63 +110,59 @@ module _ {S : Type 0} (keys : S → stored.Keys) where
       ∙ any-filter_same (eq_by_cmp pair_cmp q) test (test q) (λ p e. ap test (sym (same_pair q p e))) (key_pairs stores)
       ∙ key_among stores q
 
-  -- the keys once a peer's store is another, or goes
-  pub keys_in-other : (old new : Stores S) (peer : Peer) (w : Option S) (q : Pair) → ((p : Peer) → store_at new p ≡ cond (same_peer peer p) w (store_at old p))
-      → set.contains (keys_in keys new) q ≡ cond (same_peer q.peer peer) (has_key keys w q.prefix) (set.contains (keys_in keys old) q)
-  keys_in-other old new peer w q same =
-      contains-keys_in new q
-      ∙ ap (λ s. has_key keys s q.prefix) (same q.peer)
-      ∙ at (same_peer peer q.peer)
-      ∙ ap₂ (λ a b. cond a (has_key keys w q.prefix) b) (peer_symm peer q.peer) (sym (contains-keys_in old q))
-    where
-      at : (a : Bool) → has_key keys (cond a w (store_at old q.peer)) q.prefix ≡ cond a (has_key keys w q.prefix) (has_key keys (store_at old q.peer) q.prefix)
-      at true = refl
-      at false = refl
+  -- a peer's store is another, or goes
+  module _ {old new : Stores S} {peer : Peer} {w : Option S} (written : IsWritten old new peer w) where
+    pub keys_in-other : (q : Pair) → set.contains (keys_in keys new) q ≡ cond (same_peer q.peer peer) (has_key keys w q.prefix) (set.contains (keys_in keys old) q)
+    keys_in-other q =
+        contains-keys_in new q
+        ∙ ap (λ s. has_key keys s q.prefix) (written.each q.peer)
+        ∙ at (same_peer peer q.peer)
+        ∙ ap₂ (λ a b. cond a (has_key keys w q.prefix) b) (peer_symm peer q.peer) (sym (contains-keys_in old q))
+      where
+        at : (a : Bool) → has_key keys (cond a w (store_at old q.peer)) q.prefix ≡ cond a (has_key keys w q.prefix) (has_key keys (store_at old q.peer) q.prefix)
+        at true = refl
+        at false = refl
 
-  pub keys_in-insert : (old new : Stores S) (peer : Peer) (n : Network) (w : Option S) → ((p : Peer) → store_at new p ≡ cond (same_peer peer p) w (store_at old p))
-      → ((x : Network) → has_key keys w x ≡ (same_network x n || has_key keys (store_at old peer) x))
-      → keys_in keys new ≡ set.insert (keys_in keys old) (pair_of peer n)
-  keys_in-insert old new peer n w same is = same_pairs _ _ (λ q.
-      keys_in-other old new peer w q same
-      ∙ at q (same_peer q.peer peer) refl
-      ∙ ap (λ b. b || set.contains (keys_in keys old) q) (sym (tied_parts q peer n))
-      ∙ sym (contains-insert pair_cmp_total (keys_in keys old) (pair_of peer n) q))
-    where
-      at : (q : Pair) (a : Bool) → same_peer q.peer peer ≡ a → cond a (has_key keys w q.prefix) (set.contains (keys_in keys old) q) ≡ ((a && same_network q.prefix n) || set.contains (keys_in keys old) q)
-      at q true e = is q.prefix ∙ ap (λ b. same_network q.prefix n || b) (ap (λ p. has_key keys (store_at old p) q.prefix) (sym (one_peer q.peer peer e)) ∙ sym (contains-keys_in old q))
-      at q false e = refl
+    pub keys_in-insert : (n : Network) → ((x : Network) → has_key keys w x ≡ (same_network x n || has_key keys (store_at old peer) x))
+        → keys_in keys new ≡ set.insert (keys_in keys old) (pair_of peer n)
+    keys_in-insert n is = same_pairs _ _ (λ q.
+        keys_in-other q
+        ∙ at q (same_peer q.peer peer) refl
+        ∙ ap (λ b. b || set.contains (keys_in keys old) q) (sym (tied_parts q peer n))
+        ∙ sym (contains-insert pair_cmp_total (keys_in keys old) (pair_of peer n) q))
+      where
+        at : (q : Pair) (a : Bool) → same_peer q.peer peer ≡ a → cond a (has_key keys w q.prefix) (set.contains (keys_in keys old) q) ≡ ((a && same_network q.prefix n) || set.contains (keys_in keys old) q)
+        at q true e = is q.prefix ∙ ap (λ b. same_network q.prefix n || b) (ap (λ p. has_key keys (store_at old p) q.prefix) (sym (one_peer q.peer peer e)) ∙ sym (contains-keys_in old q))
+        at q false e = refl
 
-  pub keys_in-remove : (old new : Stores S) (peer : Peer) (n : Network) (w : Option S) → ((p : Peer) → store_at new p ≡ cond (same_peer peer p) w (store_at old p))
-      → ((x : Network) → has_key keys w x ≡ (not (same_network x n) && has_key keys (store_at old peer) x))
-      → keys_in keys new ≡ set.remove (keys_in keys old) (pair_of peer n)
-  keys_in-remove old new peer n w same is = same_pairs _ _ (λ q.
-      keys_in-other old new peer w q same
-      ∙ at q (same_peer q.peer peer) refl
-      ∙ ap (λ b. not b && set.contains (keys_in keys old) q) (sym (tied_parts q peer n))
-      ∙ sym (contains-remove pair_cmp_total (keys_in keys old) (pair_of peer n) q))
-    where
-      at : (q : Pair) (a : Bool) → same_peer q.peer peer ≡ a → cond a (has_key keys w q.prefix) (set.contains (keys_in keys old) q) ≡ (not (a && same_network q.prefix n) && set.contains (keys_in keys old) q)
-      at q true e = is q.prefix ∙ ap (λ b. not (same_network q.prefix n) && b) (ap (λ p. has_key keys (store_at old p) q.prefix) (sym (one_peer q.peer peer e)) ∙ sym (contains-keys_in old q))
-      at q false e = refl
+    pub keys_in-remove : (n : Network) → ((x : Network) → has_key keys w x ≡ (not (same_network x n) && has_key keys (store_at old peer) x))
+        → keys_in keys new ≡ set.remove (keys_in keys old) (pair_of peer n)
+    keys_in-remove n is = same_pairs _ _ (λ q.
+        keys_in-other q
+        ∙ at q (same_peer q.peer peer) refl
+        ∙ ap (λ b. not b && set.contains (keys_in keys old) q) (sym (tied_parts q peer n))
+        ∙ sym (contains-remove pair_cmp_total (keys_in keys old) (pair_of peer n) q))
+      where
+        at : (q : Pair) (a : Bool) → same_peer q.peer peer ≡ a → cond a (has_key keys w q.prefix) (set.contains (keys_in keys old) q) ≡ (not (a && same_network q.prefix n) && set.contains (keys_in keys old) q)
+        at q true e = is q.prefix ∙ ap (λ b. not (same_network q.prefix n) && b) (ap (λ p. has_key keys (store_at old p) q.prefix) (sym (one_peer q.peer peer e)) ∙ sym (contains-keys_in old q))
+        at q false e = refl
 
-  pub keys_in-same : (old new : Stores S) (peer : Peer) (w : Option S) → ((p : Peer) → store_at new p ≡ cond (same_peer peer p) w (store_at old p))
-      → ((x : Network) → has_key keys w x ≡ has_key keys (store_at old peer) x)
-      → keys_in keys new ≡ keys_in keys old
-  keys_in-same old new peer w same is = same_pairs _ _ (λ q.
-      keys_in-other old new peer w q same ∙ at q (same_peer q.peer peer) refl)
-    where
-      at : (q : Pair) (a : Bool) → same_peer q.peer peer ≡ a → cond a (has_key keys w q.prefix) (set.contains (keys_in keys old) q) ≡ set.contains (keys_in keys old) q
-      at q true e = is q.prefix ∙ ap (λ p. has_key keys (store_at old p) q.prefix) (sym (one_peer q.peer peer e)) ∙ sym (contains-keys_in old q)
-      at q false e = refl
+    pub keys_in-same : ((x : Network) → has_key keys w x ≡ has_key keys (store_at old peer) x)
+        → keys_in keys new ≡ keys_in keys old
+    keys_in-same is = same_pairs _ _ (λ q.
+        keys_in-other q ∙ at q (same_peer q.peer peer) refl)
+      where
+        at : (q : Pair) (a : Bool) → same_peer q.peer peer ≡ a → cond a (has_key keys w q.prefix) (set.contains (keys_in keys old) q) ≡ set.contains (keys_in keys old) q
+        at q true e = is q.prefix ∙ ap (λ p. has_key keys (store_at old p) q.prefix) (sym (one_peer q.peer peer e)) ∙ sym (contains-keys_in old q)
+        at q false e = refl
 
-  -- no store without a key
-  pub held-other : (old new : Stores S) (peer : Peer) (w : Option S) → ((p : Peer) → store_at new p ≡ cond (same_peer peer p) w (store_at old p))
-      → IsHeld keys old → IfSome w (λ store. 0 < set.len (keys store)) → IsHeld keys new
-  held-other old new peer w same held one p = subst (λ s. IfSome s (λ store. 0 < set.len (keys store))) (sym (same p)) (at (same_peer peer p))
-    where
-      at : (a : Bool) → IfSome (cond a w (store_at old p)) (λ store. 0 < set.len (keys store))
-      at true = one
-      at false = held p
+    -- no store without a key
+    pub held-other : IsHeld keys old → IfSome w (λ store. 0 < set.len (keys store)) → IsHeld keys new
+    held-other held one p = subst (λ s. IfSome s (λ store. 0 < set.len (keys store))) (sym (written.each p)) (at (same_peer peer p))
+      where
+        at : (a : Bool) → IfSome (cond a w (store_at old p)) (λ store. 0 < set.len (keys store))
+        at true = one
+        at false = held p
 
 module _ {S : Type 0} (routes : S → stored.Routes (Rc Route Global)) where
   abbrev route_pairs : Stores S → List Pair
@@ -198,40 +192,39 @@ module _ {S : Type 0} (routes : S → stored.Routes (Rc Route Global)) where
       get-tabulation (λ p. stored_route routes (store_at stores p.peer) p.prefix) (route_pairs stores) q
       ∙ cond_untested (list_any (eq_by_cmp pair_cmp q) (route_pairs stores)) (stored_route routes (store_at stores q.peer) q.prefix) None (no_route stores q)
 
-  pub routes_in-other : (old new : Stores S) (peer : Peer) (w : Option S) (q : Pair) → ((p : Peer) → store_at new p ≡ cond (same_peer peer p) w (store_at old p))
-      → finite.get (routes_in routes new) q ≡ cond (same_peer q.peer peer) (stored_route routes w q.prefix) (finite.get (routes_in routes old) q)
-  routes_in-other old new peer w q same =
-      get-routes_in new q
-      ∙ ap (λ s. stored_route routes s q.prefix) (same q.peer)
-      ∙ at (same_peer peer q.peer)
-      ∙ ap₂ (λ a b. cond a (stored_route routes w q.prefix) b) (peer_symm peer q.peer) (sym (get-routes_in old q))
-    where
-      at : (a : Bool) → stored_route routes (cond a w (store_at old q.peer)) q.prefix ≡ cond a (stored_route routes w q.prefix) (stored_route routes (store_at old q.peer) q.prefix)
-      at true = refl
-      at false = refl
+  -- a peer's store is another, or goes
+  module _ {old new : Stores S} {peer : Peer} {w : Option S} (written : IsWritten old new peer w) where
+    pub routes_in-other : (q : Pair) → finite.get (routes_in routes new) q ≡ cond (same_peer q.peer peer) (stored_route routes w q.prefix) (finite.get (routes_in routes old) q)
+    routes_in-other q =
+        get-routes_in new q
+        ∙ ap (λ s. stored_route routes s q.prefix) (written.each q.peer)
+        ∙ at (same_peer peer q.peer)
+        ∙ ap₂ (λ a b. cond a (stored_route routes w q.prefix) b) (peer_symm peer q.peer) (sym (get-routes_in old q))
+      where
+        at : (a : Bool) → stored_route routes (cond a w (store_at old q.peer)) q.prefix ≡ cond a (stored_route routes w q.prefix) (stored_route routes (store_at old q.peer) q.prefix)
+        at true = refl
+        at false = refl
 
-  pub routes_in-put : (old new : Stores S) (peer : Peer) (n : Network) (w : Option S) (route : Option Route) → ((p : Peer) → store_at new p ≡ cond (same_peer peer p) w (store_at old p))
-      → ((x : Network) → stored_route routes w x ≡ cond (same_network x n) route (stored_route routes (store_at old peer) x))
-      → routes_in routes new ≡ put (routes_in routes old) (pair_of peer n) route
-  routes_in-put old new peer n w route same is = same_routes _ _ (λ q.
-      routes_in-other old new peer w q same
-      ∙ at q (same_peer q.peer peer) refl
-      ∙ ap (λ b. cond b route (finite.get (routes_in routes old) q)) (sym (tied_parts q peer n))
-      ∙ sym (get-put pair_cmp_total (routes_in routes old) (pair_of peer n) route q))
-    where
-      at : (q : Pair) (a : Bool) → same_peer q.peer peer ≡ a → cond a (stored_route routes w q.prefix) (finite.get (routes_in routes old) q) ≡ cond (a && same_network q.prefix n) route (finite.get (routes_in routes old) q)
-      at q true e = is q.prefix ∙ ap (cond (same_network q.prefix n) route) (ap (λ p. stored_route routes (store_at old p) q.prefix) (sym (one_peer q.peer peer e)) ∙ sym (get-routes_in old q))
-      at q false e = refl
+    pub routes_in-put : (n : Network) (route : Option Route) → ((x : Network) → stored_route routes w x ≡ cond (same_network x n) route (stored_route routes (store_at old peer) x))
+        → routes_in routes new ≡ put (routes_in routes old) (pair_of peer n) route
+    routes_in-put n route is = same_routes _ _ (λ q.
+        routes_in-other q
+        ∙ at q (same_peer q.peer peer) refl
+        ∙ ap (λ b. cond b route (finite.get (routes_in routes old) q)) (sym (tied_parts q peer n))
+        ∙ sym (get-put pair_cmp_total (routes_in routes old) (pair_of peer n) route q))
+      where
+        at : (q : Pair) (a : Bool) → same_peer q.peer peer ≡ a → cond a (stored_route routes w q.prefix) (finite.get (routes_in routes old) q) ≡ cond (a && same_network q.prefix n) route (finite.get (routes_in routes old) q)
+        at q true e = is q.prefix ∙ ap (cond (same_network q.prefix n) route) (ap (λ p. stored_route routes (store_at old p) q.prefix) (sym (one_peer q.peer peer e)) ∙ sym (get-routes_in old q))
+        at q false e = refl
 
-  pub routes_in-same : (old new : Stores S) (peer : Peer) (w : Option S) → ((p : Peer) → store_at new p ≡ cond (same_peer peer p) w (store_at old p))
-      → ((x : Network) → stored_route routes w x ≡ stored_route routes (store_at old peer) x)
-      → routes_in routes new ≡ routes_in routes old
-  routes_in-same old new peer w same is = same_routes _ _ (λ q.
-      routes_in-other old new peer w q same ∙ at q (same_peer q.peer peer) refl)
-    where
-      at : (q : Pair) (a : Bool) → same_peer q.peer peer ≡ a → cond a (stored_route routes w q.prefix) (finite.get (routes_in routes old) q) ≡ finite.get (routes_in routes old) q
-      at q true e = is q.prefix ∙ ap (λ p. stored_route routes (store_at old p) q.prefix) (sym (one_peer q.peer peer e)) ∙ sym (get-routes_in old q)
-      at q false e = refl
+    pub routes_in-same : ((x : Network) → stored_route routes w x ≡ stored_route routes (store_at old peer) x)
+        → routes_in routes new ≡ routes_in routes old
+    routes_in-same is = same_routes _ _ (λ q.
+        routes_in-other q ∙ at q (same_peer q.peer peer) refl)
+      where
+        at : (q : Pair) (a : Bool) → same_peer q.peer peer ≡ a → cond a (stored_route routes w q.prefix) (finite.get (routes_in routes old) q) ≡ finite.get (routes_in routes old) q
+        at q true e = is q.prefix ∙ ap (λ p. stored_route routes (store_at old p) q.prefix) (sym (one_peer q.peer peer e)) ∙ sym (get-routes_in old q)
+        at q false e = refl
 
 -- no stores
 pub keys_in-none : {S : Type 0} (keys : S → stored.Keys) (stores : Stores S) → stores ≡ [] → keys_in keys stores ≡ set.empty
@@ -273,23 +266,6 @@ pub store-absent : {S : Type 0} (routes : S → stored.Routes (Rc Route Global))
     → IfNone found ((n : Network) → finite.get all (pair_of peer n) ≡ None)
 store-absent routes stores all peer None is e = λ n. sym (get-found routes stores all (pair_of peer n) None is e)
 store-absent routes stores all peer (Some store) is e = tt
-
--- a peer without a store has no best route
-pub longest-none : {S : Type 0} (routes : S → stored.Routes (Rc Route Global)) (stores : Stores S) (all : Routes) (peer : Peer) (address : Address) → None ≡ store_at stores peer → routes_in routes stores ≡ all
-    → IsBest all peer address None
-longest-none routes stores all peer address found e = λ n within. sym (get-found routes stores all (pair_of peer n) None found e)
-
--- else that of its store, behind the pointer
-pub longest-found : {S : Type 0} (routes : S → stored.Routes (Rc Route Global)) (stores : Stores S) (all : Routes) (peer : Peer) (address : Address) (store : S)
-    (best : Option (Network × Bor (Rc Route Global))) → Some store ≡ store_at stores peer → routes_in routes stores ≡ all
-    → lookups.IsLongest (routes store) address (option_map (λ b. (b.0, b.1.now)) best) → IsBest all peer address (option_map (λ b. (b.0, b.1.now.value)) best)
-longest-found routes stores all peer address store None found e longest = λ n within.
-    sym (get-found routes stores all (pair_of peer n) (Some store) found e) ∙ ap (option_map value_of) (longest n within)
-longest-found routes stores all peer address store (Some best) found e longest = (
-  longest.0,
-  sym (get-found routes stores all (pair_of peer best.0) (Some store) found e) ∙ ap (option_map value_of) longest.1,
-  λ n within there. longest.2 n within (sym (is_some-option_map value_of (finite.get (routes store) n)) ∙ ap is_some (get-found routes stores all (pair_of peer n) (Some store) found e) ∙ there),
-)
 
 pub store-some : {S : Type 0} (keys : S → stored.Keys) (stores : Stores S) (peer : Peer) (found : Option (Bor S)) → option_copied found ≡ store_at stores peer → IsHeld keys stores
     → IfSome found (λ store. 0 < set.len (keys store.now))
@@ -336,10 +312,6 @@ some-insert keys keys' n e =
         pos (suc m) some = omega arith
     at false absent more = omega (arith, more)
 
--- keys with one less may be none
-pub none-left : (keys : stored.Keys) (x : Network) → set.len keys ≡ 0 → set.contains keys x ≡ false
-none-left keys x none = ap (λ k. set.contains k x) (set.empty_of_len keys none) ∙ contains-empty network_cmp x
-
 -- what holds of an answer and of a refusal alike
 pub either : {A E P : Type 0} (r : Result A E) → OnOk r P → OnErr r P → P
 either (Ok a) p q = p
@@ -349,46 +321,73 @@ pub no_value : (found : Option (Rc Route Global)) → option_map value_of found 
 no_value None e = refl
 no_value (Some shared) e = cc
 
-some_left : (n : ℕ) → eqb n 0 ≡ false → 0 < n
-some_left zero e = cc
-some_left (suc n) e = omega arith
+-- what was written and then written again
+pub written-twice : {A : Type 0} {old between new : List (Peer × A)} {peer : Peer} {v w : Option A} → IsWritten old between peer v → IsWritten between new peer w → IsWritten old new peer w
+written-twice {old = old} {peer = peer} {v = v} {w = w} first second = record { each = λ p. second.each p ∙ ap (cond (same_peer peer p) w) (first.each p) ∙ at (same_peer peer p) (store_at old p) }
+  where
+    at : (b : Bool) (x : Option _) → cond b w (cond b v x) ≡ cond b w x
+    at true x = refl
+    at false x = refl
 
-none_len : (n : ℕ) → eqb n 0 ≡ true → n ≡ 0
-none_len n e = eqb-true n 0 e
+-- a peer's store was written
+pub record IsStored {S : Type 0} (old new : Stores S) (peer : Peer) (before after : S) : Type 0 where
+  pub found : Some before ≡ store_at old peer
+  pub written : IsWritten old new peer (Some after)
 
-module _ {S : Type 0} (keys : S → stored.Keys) (routes : S → stored.Routes (Rc Route Global)) (old between : Stores S) (pair : Pair) (empty : Bool) (left : IsLeft keys routes old between pair empty) where
-  -- a store with other keys left
-  pub left-held : empty ≡ false → IsHeld keys old → IsHeld keys between
-  left-held e held = held-other keys old between pair.peer (Some left.after) left.written held (some_left (set.len (keys left.after)) (sym left.is_empty ∙ e))
+-- the store that is lent where a peer is looked for
+pub stored-lent : {S : Type 0} {old new : Stores S} {peer : Peer} {after : S} (lent : Option (MutBor S)) (x : MutBor S) → lent ≡ Some x → option_copied_mut lent ≡ store_at old peer
+    → OnSome lent (IsWritten old new peer (Some after)) → IsStored old new peer x.now after
+stored-lent lent x is value written = record { found = sym (ap option_copied_mut is) ∙ value; written = when_some lent x is written }
 
-  pub left-keys : keys_in keys between ≡ set.remove (keys_in keys old) pair
-  left-keys = keys_in-remove keys old between pair.peer pair.prefix (Some left.after) left.written
-      (λ x. ap (λ k. set.contains k x) left.less ∙ contains-remove network_cmp_total (keys left.before) pair.prefix x
-      ∙ ap (λ s. not (same_network x pair.prefix) && has_key keys s x) left.found)
+module _ {S : Type 0} (keys : S → stored.Keys) {old new : Stores S} {peer : Peer} {before after : S} (there : IsStored old new peer before after) where
+  pub keys-kept : keys after ≡ keys before → keys_in keys new ≡ keys_in keys old
+  keys-kept e = keys_in-same keys there.written (λ x. ap (λ k. set.contains k x) e ∙ ap (λ s. has_key keys s x) there.found)
 
-  pub left-routes : routes_in routes between ≡ routes_in routes old
-  left-routes = routes_in-same routes old between pair.peer (Some left.after) left.written
-      (λ x. ap (λ r. option_map value_of (finite.get r x)) left.same ∙ ap (λ s. stored_route routes s x) left.found)
+  pub held-kept : keys after ≡ keys before → IsHeld keys old → IsHeld keys new
+  held-kept e held = held-other keys there.written held (subst (λ k. 0 < set.len k) (sym e) (subst (λ s. IfSome s (λ store. 0 < set.len (keys store))) (sym there.found) (held peer)))
 
-  -- a store that then goes
-  gone : (new : Stores S) → ((p : Peer) → store_at new p ≡ cond (same_peer pair.peer p) None (store_at between p)) → (p : Peer) → store_at new p ≡ cond (same_peer pair.peer p) None (store_at old p)
-  gone new removed p = removed p ∙ ap (cond (same_peer pair.peer p) None) (left.written p) ∙ at (same_peer pair.peer p)
-    where
-      at : (b : Bool) → cond b None (cond b (Some left.after) (store_at old p)) ≡ cond b None (store_at old p)
-      at true = refl
-      at false = refl
+  pub keys-more : (n : Network) → keys after ≡ set.insert (keys before) n → keys_in keys new ≡ set.insert (keys_in keys old) (pair_of peer n)
+  keys-more n e = keys_in-insert keys there.written n (λ x.
+      ap (λ k. set.contains k x) e ∙ contains-insert network_cmp_total (keys before) n x ∙ ap (λ s. same_network x n || has_key keys s x) there.found)
 
-  no_key : empty ≡ true → (x : Network) → set.contains (keys left.after) x ≡ false
-  no_key e x = none-left (keys left.after) x (none_len (set.len (keys left.after)) (sym left.is_empty ∙ e))
+  pub held-more : (n : Network) → keys after ≡ set.insert (keys before) n → IsHeld keys old → IsHeld keys new
+  held-more n e held = held-other keys there.written held (some-insert (keys before) (keys after) n e)
 
-  pub gone-held : (new : Stores S) → ((p : Peer) → store_at new p ≡ cond (same_peer pair.peer p) None (store_at between p)) → IsHeld keys old → IsHeld keys new
-  gone-held new removed held = held-other keys old new pair.peer None (gone new removed) held tt
+  pub keys-less : (n : Network) → keys after ≡ set.remove (keys before) n → keys_in keys new ≡ set.remove (keys_in keys old) (pair_of peer n)
+  keys-less n e = keys_in-remove keys there.written n (λ x.
+      ap (λ k. set.contains k x) e ∙ contains-remove network_cmp_total (keys before) n x ∙ ap (λ s. not (same_network x n) && has_key keys s x) there.found)
 
-  pub gone-keys : (new : Stores S) → ((p : Peer) → store_at new p ≡ cond (same_peer pair.peer p) None (store_at between p)) → empty ≡ true → keys_in keys new ≡ set.remove (keys_in keys old) pair
-  gone-keys new removed e = keys_in-remove keys old new pair.peer pair.prefix None (gone new removed)
-      (λ x. sym (no_key e x) ∙ ap (λ k. set.contains k x) left.less ∙ contains-remove network_cmp_total (keys left.before) pair.prefix x
-      ∙ ap (λ s. not (same_network x pair.prefix) && has_key keys s x) left.found)
+module _ {S : Type 0} (routes : S → stored.Routes (Rc Route Global)) {old new : Stores S} {peer : Peer} {before after : S} (there : IsStored old new peer before after) where
+  pub routes-kept : routes after ≡ routes before → routes_in routes new ≡ routes_in routes old
+  routes-kept e = routes_in-same routes there.written (λ x. ap (λ r. option_map value_of (finite.get r x)) e ∙ ap (λ s. stored_route routes s x) there.found)
 
-  pub gone-routes : (new : Stores S) → ((p : Peer) → store_at new p ≡ cond (same_peer pair.peer p) None (store_at between p)) → empty ≡ true → routes_in routes new ≡ routes_in routes old
-  gone-routes new removed e = routes_in-same routes old new pair.peer None (gone new removed)
-      (λ x. sym (ap (option_map value_of) (left.among x (no_key e x))) ∙ ap (λ r. option_map value_of (finite.get r x)) left.same ∙ ap (λ s. stored_route routes s x) left.found)
+  pub routes-put : (n : Network) (route : Option (Rc Route Global)) → routes after ≡ stored.put (routes before) n route → routes_in routes new ≡ put (routes_in routes old) (pair_of peer n) (route_in route)
+  routes-put n route e = routes_in-put routes there.written n (route_in route) (λ x.
+      stored-put (routes before) (routes after) n route e x ∙ ap (λ s. cond (same_network x n) (route_in route) (stored_route routes s x)) there.found)
+
+-- it has no key any more, and goes
+none-left : (keys : stored.Keys) (x : Network) → set.len keys ≡ 0 → set.contains keys x ≡ false
+none-left keys x none = ap (λ k. set.contains k x) (set.empty_of_len keys none) ∙ contains-empty network_cmp x
+
+module _ {S : Type 0} (keys : S → stored.Keys) (routes : S → stored.Routes (Rc Route Global)) {old between new : Stores S} {peer : Peer} {before after : S} (there : IsStored old between peer before after) (removed : IsWritten between new peer None) where
+  pub held-gone : IsHeld keys old → IsHeld keys new
+  held-gone held = held-other keys (written-twice there.written removed) held tt
+
+  pub keys-gone : (n : Network) → set.len (keys after) ≡ 0 → keys after ≡ set.remove (keys before) n → keys_in keys new ≡ set.remove (keys_in keys old) (pair_of peer n)
+  keys-gone n none e = keys_in-remove keys (written-twice there.written removed) n (λ x.
+      sym (none-left (keys after) x none) ∙ ap (λ k. set.contains k x) e ∙ contains-remove network_cmp_total (keys before) n x ∙ ap (λ s. not (same_network x n) && has_key keys s x) there.found)
+
+  pub routes-gone : set.len (keys after) ≡ 0 → contents.AreAmong (keys after) (routes after) → routes after ≡ routes before → routes_in routes new ≡ routes_in routes old
+  routes-gone none among e = routes_in-same routes (written-twice there.written removed) (λ x.
+      sym (ap (option_map value_of) (among x (none-left (keys after) x none))) ∙ ap (λ r. option_map value_of (finite.get r x)) e ∙ ap (λ s. stored_route routes s x) there.found)
+
+-- a store is added
+module _ {S : Type 0} {old new : Stores S} {peer : Peer} {store : S} (absent : None ≡ store_at old peer) (added : IsWritten old new peer (Some store)) where
+  pub keys-added : (keys : S → stored.Keys) (n : Network) → keys store ≡ set.insert set.empty n → keys_in keys new ≡ set.insert (keys_in keys old) (pair_of peer n)
+  keys-added keys n e = keys_in-insert keys added n (λ x.
+      ap (λ k. set.contains k x) e ∙ contains-insert network_cmp_total set.empty n x
+      ∙ ap (λ b. same_network x n || b) (contains-empty network_cmp x ∙ ap (λ s. has_key keys s x) absent))
+
+  pub routes-added : (routes : S → stored.Routes (Rc Route Global)) → routes store ≡ finite.empty → routes_in routes new ≡ routes_in routes old
+  routes-added routes e = routes_in-same routes added (λ x.
+      ap (λ r. option_map value_of (finite.get r x)) e ∙ ap (option_map value_of) (finite.get-empty network_cmp x) ∙ ap (λ s. stored_route routes s x) absent)

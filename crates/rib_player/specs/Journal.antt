@@ -38,12 +38,16 @@ abbrev pub tables_after : List (List Side) → Routes → List Routes
 tables_after [] routes = []
 tables_after (sides ∷ later) routes = routes_across sides routes ∷ tables_after later (routes_across sides routes)
 
--- the player with these steps and this table at the cursor
-abbrev pub timeline_of : ℕ → List (List Side) → Routes → Timeline
-timeline_of cursor steps routes = record {
-  floor = 0;
-  cursor = cursor;
-  tables = tables_before (reverse (take cursor steps)) routes ++ routes ∷ tables_after (drop cursor steps) routes;
+-- the tables at all positions, with these steps and this table at the cursor
+abbrev pub tables_over : ℕ → List (List Side) → Routes → List Routes
+tables_over cursor steps routes = tables_before (reverse (take cursor steps)) routes ++ routes ∷ tables_after (drop cursor steps) routes
+
+-- the player with these steps and this table at the cursor, behind so many steps that were forgotten
+abbrev pub timeline_of : ℕ → ℕ → List (List Side) → Routes → Timeline
+timeline_of floor cursor steps routes = record {
+  floor = floor;
+  cursor = floor + cursor;
+  tables = tables_over cursor steps routes;
   steps = map (λ sides. from_list (pairs_in sides)) steps;
 }
 
@@ -53,7 +57,3 @@ step_sides step = sides_of step.entries.items
 
 abbrev pub steps_of : List Step → List (List Side)
 steps_of steps = map step_sides steps
-
--- the player with these steps and this table at the cursor, behind so many that were forgotten
-abbrev pub behind_forgotten : ℕ → Timeline → Timeline
-behind_forgotten floor t = record { floor = floor; cursor = floor + t.cursor; tables = t.tables; steps = t.steps }

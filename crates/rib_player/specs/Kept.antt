@@ -31,29 +31,17 @@ cleared_entries (entry ∷ entries) (route ∷ routes) = cleared_entry entry rou
 abbrev no_pair : Pair
 no_pair = pair_of (record { addr = record { family = V4; bits = [] }; asn = 0 }) (record { family = V4; bits = [] })
 
--- the pair that is kept
-abbrev pub pair_kept : Kept → Pair
-pair_kept (V4Absent marks prefix peer) = pair_of peer.value (v4_network prefix)
-pair_kept (V4Present marks prefix peer route) = pair_of peer.value (v4_network prefix)
-pair_kept (V6Absent marks pair) = pair_of pair.value.peer.value pair.value.prefix
-pair_kept (V6Present marks pair route) = pair_of pair.value.peer.value pair.value.prefix
-pair_kept Taken = no_pair
+-- what is said by these
+abbrev pub entry_of : Pair → Marks → Option (Rc Route Global) → Entry
+entry_of pair marks other = record { pair = pair; other = other; before = marks.before; behind = marks.behind }
 
--- the route that is
-abbrev pub other_kept : Kept → Option (Rc Route Global)
-other_kept (V4Absent marks prefix peer) = None
-other_kept (V4Present marks prefix peer route) = Some route
-other_kept (V6Absent marks pair) = None
-other_kept (V6Present marks pair route) = Some route
-other_kept Taken = None
-
--- the marks that are
-abbrev pub marks_kept : Kept → Marks
-marks_kept (V4Absent marks prefix peer) = marks
-marks_kept (V4Present marks prefix peer route) = marks
-marks_kept (V6Absent marks pair) = marks
-marks_kept (V6Present marks pair route) = marks
-marks_kept Taken = record { before = false; behind = false }
+-- what is said by what is kept
+abbrev pub entry_kept : Kept → Entry
+entry_kept (V4Absent marks prefix peer) = entry_of (pair_of peer.value (v4_network prefix)) marks None
+entry_kept (V4Present marks prefix peer route) = entry_of (pair_of peer.value (v4_network prefix)) marks (Some route)
+entry_kept (V6Absent marks pair) = entry_of (pair_of pair.value.peer.value pair.value.prefix) marks None
+entry_kept (V6Present marks pair route) = entry_of (pair_of pair.value.peer.value pair.value.prefix) marks (Some route)
+entry_kept Taken = new_entry no_pair None
 
 -- there is one
 abbrev pub IsWhole : Kept → Type 0

@@ -1,11 +1,9 @@
 -- Private.
 -- A store that is lent to be written.
-use Rattle.std.specs.Prelude.{◌≡◌, Option, Some, if◌then◌else◌, OnSome}
+use Rattle.std.specs.Prelude.{◌≡◌, Option, Some, OnSome}
 use Rattle.std.specs.Borrow.{LendsSo, Fml, MutBor, RattleType}
-use Rattle.std.specs.Ordering.{eq_by_cmp}
 use Rattle.mrt_events.specs.declared.peer.Peer.{Peer}
-use Rattle.mrt_events.specs.Peer.{peer_cmp}
-use Rattle.rib_player.specs.Store.{store_at}
+use Rattle.rib_player.specs.Holding.{IsWritten}
 use Rattle.rib_player.specs.StoresByPeer.{stores_in}
 use Rattle.rib_player.specs.declared.stores.Stores as numbered
 use Rattle.rib_player.specs.contracts.stores.Stores.{the_row}
@@ -14,5 +12,5 @@ use Rattle.rib_player.specs.contracts.stores.Stores.{the_row}
 abbrev pub lends_store : (S : RattleType) → MutBor (numbered.Stores S.Denot) → Peer → Option (MutBor S.Denot) → Fml
 lends_store S s peer r =
     LendsSo (the_row S) S s r
-    (λ n w. OnSome r ((p : Peer) → store_at (stores_in n) p ≡ (if eq_by_cmp peer_cmp peer p then Some w else store_at (stores_in s.now) p)))
+    (λ n w. OnSome r (IsWritten (stores_in s.now) (stores_in n) peer (Some w)))
     (λ n. stores_in n ≡ stores_in s.now)

@@ -1,6 +1,6 @@
 -- Private.
 -- How the stores of peers are found by numbers.
-use Rattle.std.specs.Prelude.{◌≡◌, ℕ, List, map, Some, slice_get, length, if◌then◌else◌}
+use Rattle.std.specs.Prelude.{◌≡◌, ℕ, List, map, Some, slice_get, length}
 use Rattle.std.specs.Map.{lookup}
 use Rattle.std.specs.Ordering.{eq_by_cmp}
 use Rattle.std.specs.declared.alloc.Global.{Global}
@@ -17,8 +17,3 @@ pub record AreNumbered {S : Type 0} (held : List S) (names : List Peer) (order :
   pub there : (peer : Peer) (number : ℕ) → lookup (eq_by_cmp peer_cmp peer) order ≡ Some number → slice_get names number ≡ Some peer
   pub back : (peer : Peer) (number : ℕ) → slice_get names number ≡ Some peer → lookup (eq_by_cmp peer_cmp peer) order ≡ Some number
   pub even : length names ≡ length held
-
--- this peer has the number, and all others have what they had
-abbrev pub IsNumberedAnew : List (Peer × ℕ) → List (Peer × ℕ) → Peer → ℕ → Type 0
-IsNumberedAnew old new peer number =
-    (p : Peer) → lookup (eq_by_cmp peer_cmp p) new ≡ (if eq_by_cmp peer_cmp peer p then Some number else lookup (eq_by_cmp peer_cmp p) old)

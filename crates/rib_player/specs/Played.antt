@@ -1,23 +1,31 @@
 -- Private.
 -- Steps that can be undone and redone, and the claims that a player holds with them.
-use Rattle.std.specs.Prelude.{◌≡◌, ℕ, ◌+◌, ◌≤◌, List, take, length, None}
+use Rattle.std.specs.Prelude.{◌≡◌, ℕ, ◌+◌, ◌≤◌, List, take, set, length, None}
 use Rattle.std.specs.List.{AllByRecursion}
 use Rattle.std.specs.FinMap.{get}
 use Rattle.rib_player.specs.declared.pair.Pair.{Pair}
 use Rattle.rib_player.specs.declared.journal.Step.{Step}
-use Rattle.rib_player.specs.Tables.{Routes, Pairs}
-use Rattle.rib_player.specs.Claims.{claims, claims_along, held_claims, AreHeld}
-use Rattle.rib_player.specs.Journal.{timeline_of, steps_of}
-use Rattle.rib_player.specs.Sides.{AreDistinct}
+use Rattle.rib_player.specs.Tables.{Routes}
+use Rattle.rib_player.specs.Store.{Contents}
+use Rattle.rib_player.specs.Claims.{claims_along, held_claims, AreHeld}
+use Rattle.rib_player.specs.Journal.{tables_over, routes_across, steps_of}
+use Rattle.rib_player.specs.Sides.{sides_at, sides_across, AreDistinct}
 use Rattle.rib_player.specs.Marks.{Mark, marks_by_step, AreMarked}
 
 -- the cursor is within the steps, each names a pair once and marks it right; and of each pair as many claims are held as the player makes
-pub record IsPlayed (keys : Pairs) (beyond : Pair → ℕ) (routes : Routes) (cursor : ℕ) (steps : List Step) : Type 0 where
+pub record IsPlayed (table : Contents) (beyond : Pair → ℕ) (cursor : ℕ) (steps : List Step) : Type 0 where
   pub within : cursor ≤ length steps
   pub distinct : AllByRecursion AreDistinct (steps_of steps)
-  pub marked : AreMarked (timeline_of cursor (steps_of steps) routes).tables (marks_by_step steps)
-  pub held : AreHeld keys beyond
-  pub claimed : (q : Pair) → held_claims keys beyond q ≡ claims (timeline_of cursor (steps_of steps) routes) q
+  pub marked : AreMarked (tables_over cursor (steps_of steps) table.routes) (marks_by_step steps)
+  pub held : AreHeld table.keys beyond
+  pub claimed : (q : Pair) → held_claims table.keys beyond q ≡ claims_along q (tables_over cursor (steps_of steps) table.routes)
+
+-- the step at an index was crossed, and the others stay
+pub record IsCrossed (old new : Contents) (steps steps' : List Step) (index : ℕ) : Type 0 where
+  pub keys : new.keys ≡ old.keys
+  pub routes : new.routes ≡ routes_across (sides_at (steps_of steps) index) old.routes
+  pub sides : steps_of steps' ≡ set (steps_of steps) index (sides_across old.routes (sides_at (steps_of steps) index))
+  pub marks : marks_by_step steps' ≡ marks_by_step steps
 
 -- steps between these tables, and the claims that they make with one step more, which makes these
 pub record AreClaimed (steps : List (List Mark)) (held : Pair → ℕ) (tables : List Routes) (new : Pair → ℕ) : Type 0 where

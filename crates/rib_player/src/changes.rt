@@ -1,6 +1,7 @@
 //! What an event does, pair by pair.
 
 ghost use Rattle.std.specs.Prelude.{◌≡◌, [], ◌∷◌, ◌≢◌, IfOk, IfSome, IfNone, OnOk, map, slice_get};
+ghost use Rattle.std.specs.List.{AllByRecursion};
 ghost use Rattle.std.specs.Ordering.{eq_by_cmp};
 ghost use Rattle.mrt_events.specs.Event.{saying};
 ghost use Rattle.mrt_events.specs.SharedRoute.{AreOfOneRoute};
@@ -77,18 +78,23 @@ impl Changes {
         self.lost.first().copied()
     }
 
-    /// Notes what the item does, which stands before all that are noted.
+    /// Notes what the item does, which stands before all that are noted. A shared route is its own.
     fn note<S: PrefixStore<Rc<Route>>>(
         &mut self,
         table: &Table<S>,
         item: &Item,
         known: &mut KnownRoutes,
+        shared: Option<&Rc<Route>>,
     ) -> Result<(), AllocError>
+        requires { IfSome shared (λ route. HasRoute route.now.value (saying item.now)) }
         ensures { OnOk result ((q : Pair) → noted_effect self.new q
             ≡ later (item_effect q (saying item.now)) (noted_effect self.old q)) }
     {
         match item {
             Item::Announce(peer, prefix, route) => {
+                if let Some(route) = shared {
+                    return self.note_route(table, peer, prefix, Some(route.clone()?));
+                }
                 let known = known.known_if_short(peer, route)?;
                 self.note_route(table, peer, prefix, Some(known))
             }
@@ -102,42 +108,25 @@ impl Changes {
         }
     }
 
-    /// Notes what the items do, which stand before all that are noted.
+    /// Notes what the items do, which stand before all that are noted. A shared route is that of each.
     fn note_each<S: PrefixStore<Rc<Route>>>(
         &mut self,
         table: &Table<S>,
         items: &[Item],
         known: &mut KnownRoutes,
+        shared: Option<&Rc<Route>>,
     ) -> Result<(), AllocError>
+        requires { IfSome shared (λ route.
+            AllByRecursion (λ item. HasRoute route.now.value (saying item)) items.now) }
         ensures { OnOk result ((q : Pair) → noted_effect self.new q
             ≡ later (items_effect q items.now) (noted_effect self.old q)) }
     {
         let mut rest = items.len();
         'items: while rest > 0 {
             rest -= 1;
-            self.note(table, &items[rest], known)?;
+            self.note(table, &items[rest], known, shared)?;
         }
         Ok(())
-    }
-
-    /// Notes what an item does that announces this route, which stands before all that are noted.
-    fn note_announced<S: PrefixStore<Rc<Route>>>(
-        &mut self,
-        table: &Table<S>,
-        item: &Item,
-        route: &Rc<Route>,
-    ) -> Result<(), AllocError>
-        requires { HasRoute route.now.value (saying item.now) }
-        ensures { OnOk result ((q : Pair) → noted_effect self.new q
-            ≡ later (item_effect q (saying item.now)) (noted_effect self.old q)) }
-    {
-        match item {
-            Item::Announce(peer, prefix, _) => {
-                self.note_route(table, peer, prefix, Some(route.clone()?))
-            }
-            Item::Withdraw(_, _) => unreachable!(),
-            Item::State(_, _, _) => unreachable!(),
-        }
     }
 
     /// Notes what items do that share a route, which stand before all that are noted.
@@ -155,26 +144,10 @@ impl Changes {
             return Ok(());
         }
         let Some((peer, route)) = first_route(items) else {
-            return self.note_each(table, items, known);
+            return self.note_each(table, items, known, None);
         };
         let route = known.known(peer, route)?;
-        let mut rest = items.len();
-        'items: while rest > 0 {
-            rest -= 1;
-            self.note_announced(table, &items[rest], &route)?;
-        }
-        Ok(())
-    }
-}
-
-/// The peer of the item and the route that it announces, if it announces one.
-fn announced_route(item: &Item) -> Option<(&Peer, &Rc<Route>)>
-    ensures { IfSome result (λ told. HasRoute told.1.now.value (saying item.now)) }
-{
-    match item {
-        Item::Announce(peer, _, route) => Some((peer, route)),
-        Item::Withdraw(_, _) => None,
-        Item::State(_, _, _) => None,
+        self.note_each(table, items, known, Some(&route))
     }
 }
 
@@ -183,7 +156,11 @@ fn first_route(items: &[Item]) -> Option<(&Peer, &Rc<Route>)>
     ensures { IfSome result (λ told. IfSome (slice_get items.now 0) (λ item.
         HasRoute told.1.now.value (saying item))) }
 {
-    announced_route(items.first()?)
+    match items.first()? {
+        Item::Announce(peer, _, route) => Some((peer, route)),
+        Item::Withdraw(_, _) => None,
+        Item::State(_, _, _) => None,
+    }
 }
 
 /// What the event does.
@@ -202,10 +179,10 @@ pub(crate) fn changes_of<S: PrefixStore<Rc<Route>>>(
     };
     let items = event.items.as_slice();
     let shared = event.items.shared_ranges();
-    changes.note_each(table, &items[shared.end..], known)?;
+    changes.note_each(table, &items[shared.end..], known, None)?;
     changes.note_shared(table, &items[shared.middle..shared.end], known)?;
     changes.note_shared(table, &items[shared.start..shared.middle], known)?;
-    changes.note_each(table, &items[..shared.start], known)?;
+    changes.note_each(table, &items[..shared.start], known, None)?;
     if changes.entries.len() < items.len() {
         known.note_unused();
     }
@@ -231,7 +208,7 @@ pub(crate) fn shared_peer<S: PrefixStore<Rc<Route>>>(
         }
         number = before.number().wrapping_add(1);
     }
-    if let Some(shared) = table.shared_peer(number, peer) {
+    if let Some(shared) = table.stores.shared_peer(number, peer) {
         return shared.clone();
     }
     Ok(Rc::new(alloc, NumberedPeer::new(*peer, NO_NUMBER))?)

@@ -2,9 +2,8 @@
 
 ghost use Rattle.std.specs.Prelude.{◌≡◌, None, IfOk};
 ghost use Rattle.std.specs.Option.{option_copied};
-ghost use Rattle.prefix_store.specs.Packed.{v4_network};
 ghost use Rattle.rib_player.specs.History.{pair_of};
-ghost use Rattle.rib_player.specs.Kept.{new_entry, pair_kept, other_kept, marks_kept, IsWhole};
+ghost use Rattle.rib_player.specs.Kept.{new_entry, entry_of, entry_kept, IsWhole};
 ghost use Rattle.rib_player.specs.Marks.{mark_of, gives_up};
 
 mod crossing;
@@ -67,16 +66,11 @@ const _: () = prove!(size_of::<Entry>() <= ENTRY_OCTETS);
 
 impl Model for Entry {
     ghost use Rattle.rib_player.specs.Entries.{Entry};
-    ghost use Rattle.rib_player.specs.Kept.{pair_kept, other_kept, marks_kept, IsWhole};
+    ghost use Rattle.rib_player.specs.Kept.{entry_kept, IsWhole};
 
     ghost Value = { Entry };
 
-    ghost view = { λ e. record {
-      pair = pair_kept e.kept;
-      other = other_kept e.kept;
-      before = (marks_kept e.kept).before;
-      behind = (marks_kept e.kept).behind;
-    } };
+    ghost view = { λ e. entry_kept e.kept };
 
     ghost invariant = { λ e. IsWhole e.kept };
 }
@@ -102,17 +96,30 @@ impl Entry {
         })
     }
 
+    /// The peer of its pair, and the prefix.
+    #[inline]
+    fn parts(&self) -> (&Rc<NumberedPeer>, Prefix)
+        ensures peer { result.0.now.value ≡ self.now.pair.peer }
+        ensures prefix { result.1 ≡ self.now.pair.prefix }
+    {
+        match &self.kept {
+            Kept::V4Absent(_, prefix, peer) => (peer, prefix.wide()),
+            Kept::V4Present(_, prefix, peer, _) => (peer, prefix.wide()),
+            Kept::V6Absent(_, pair) => (&pair.peer, pair.prefix),
+            Kept::V6Present(_, pair, _) => (&pair.peer, pair.prefix),
+            Kept::Taken => unreachable!(),
+        }
+    }
+
     /// The pair.
     #[inline]
     pub(crate) fn pair(&self) -> Pair
         ensures { result ≡ self.now.pair }
     {
-        match &self.kept {
-            Kept::V4Absent(_, prefix, peer) => v4_pair(prefix, peer),
-            Kept::V4Present(_, prefix, peer, _) => v4_pair(prefix, peer),
-            Kept::V6Absent(_, pair) => v6_pair(pair),
-            Kept::V6Present(_, pair, _) => v6_pair(pair),
-            Kept::Taken => unreachable!(),
+        let (peer, prefix) = self.parts();
+        Pair {
+            peer: *peer.peer(),
+            prefix,
         }
     }
 
@@ -121,13 +128,7 @@ impl Entry {
     pub(crate) fn shared_peer(&self) -> &Rc<NumberedPeer>
         ensures { result.now.value ≡ self.now.pair.peer }
     {
-        match &self.kept {
-            Kept::V4Absent(_, _, peer) => peer,
-            Kept::V4Present(_, _, peer, _) => peer,
-            Kept::V6Absent(_, pair) => &pair.peer,
-            Kept::V6Present(_, pair, _) => &pair.peer,
-            Kept::Taken => unreachable!(),
-        }
+        self.parts().0
     }
 
     /// The peer of its pair.
@@ -143,13 +144,7 @@ impl Entry {
     pub(crate) fn prefix(&self) -> Prefix
         ensures { result ≡ self.now.pair.prefix }
     {
-        match &self.kept {
-            Kept::V4Absent(_, prefix, _) => prefix.wide(),
-            Kept::V4Present(_, prefix, _, _) => prefix.wide(),
-            Kept::V6Absent(_, pair) => pair.prefix,
-            Kept::V6Present(_, pair, _) => pair.prefix,
-            Kept::Taken => unreachable!(),
-        }
+        self.parts().1
     }
 
     /// Its route, where it has one.
@@ -197,28 +192,6 @@ impl Entry {
     }
 }
 
-/// A pair with a prefix of IPv4.
-#[inline]
-fn v4_pair(prefix: &V4Prefix, peer: &Rc<NumberedPeer>) -> Pair
-    ensures { result ≡ pair_of peer.now.value (v4_network prefix.now) }
-{
-    Pair {
-        peer: *peer.peer(),
-        prefix: prefix.wide(),
-    }
-}
-
-/// A pair with a prefix of IPv6.
-#[inline]
-fn v6_pair(pair: &V6Pair) -> Pair
-    ensures { result ≡ pair_of pair.now.peer.value pair.now.prefix }
-{
-    Pair {
-        peer: *pair.peer.peer(),
-        prefix: pair.prefix,
-    }
-}
-
 impl Kept {
     /// The pair, without a route.
     fn absent(
@@ -227,9 +200,8 @@ impl Kept {
         peer: Rc<NumberedPeer>,
         prefix: &Prefix,
     ) -> Result<Kept, AllocError>
-        ensures pair { IfOk result (λ kept. pair_kept kept ≡ pair_of peer.value prefix.now) }
-        ensures marks { IfOk result (λ kept. marks_kept kept ≡ marks) }
-        ensures other { IfOk result (λ kept. other_kept kept ≡ None) }
+        ensures kept { IfOk result (λ kept.
+            entry_kept kept ≡ entry_of (pair_of peer.value prefix.now) marks None) }
         ensures whole { IfOk result (λ kept. IsWhole kept) }
     {
         match prefix.family() {
@@ -248,7 +220,8 @@ impl Kept {
     #[inline]
     fn marks(&self) -> Marks
         requires { IsWhole self.now }
-        ensures { result ≡ marks_kept self.now }
+        ensures before { result.before ≡ (entry_kept self.now).before }
+        ensures behind { result.behind ≡ (entry_kept self.now).behind }
     {
         match self {
             Kept::V4Absent(marks, _, _) => *marks,
@@ -264,10 +237,8 @@ impl Kept {
     fn without_route(self) -> (Kept, Option<Rc<Route>>)
         requires { IsWhole self }
         ensures whole { IsWhole result.0 }
-        ensures pair { pair_kept result.0 ≡ pair_kept self }
-        ensures marks { marks_kept result.0 ≡ marks_kept self }
-        ensures absent { other_kept result.0 ≡ None }
-        ensures other { result.1 ≡ other_kept self }
+        ensures kept { entry_kept result.0 ≡ record (entry_kept self) { other = None } }
+        ensures other { result.1 ≡ (entry_kept self).other }
     {
         match self {
             Kept::V4Present(marks, prefix, peer, route) => {
@@ -282,11 +253,9 @@ impl Kept {
     #[inline]
     fn with_route(self, other: Option<Rc<Route>>) -> Kept
         requires whole { IsWhole self }
-        requires absent { other_kept self ≡ None }
+        requires absent { (entry_kept self).other ≡ None }
         ensures whole { IsWhole result }
-        ensures pair { pair_kept result ≡ pair_kept self }
-        ensures marks { marks_kept result ≡ marks_kept self }
-        ensures other { other_kept result ≡ other }
+        ensures kept { entry_kept result ≡ record (entry_kept self) { other = other } }
     {
         let Some(route) = other else {
             return self;

@@ -13,7 +13,7 @@ ghost use Rattle.rib_player.specs.Claims.{one_if, claims_beyond, claims_in, AreH
 ghost use Rattle.rib_player.specs.Journal.{Side, sides_of, steps_of, routes_across};
 ghost use Rattle.rib_player.specs.Sides.{sides_at, sides_across, ClearAllOf, IsKept, AreDistinct};
 ghost use Rattle.rib_player.specs.Marks.{marks_of, marks_by_step, marks_across, gives_up_by, entry_count};
-ghost use Rattle.rib_player.specs.Played.{CanDrop, StayClaimed};
+ghost use Rattle.rib_player.specs.Played.{IsCrossed, CanDrop, StayClaimed};
 
 use crate::claims::{Claims, give_up_claims, put_entry};
 use crate::entry::{End, Entry};
@@ -44,12 +44,12 @@ pub(crate) struct Journal {
     pub(crate) floor: u64,
 }
 
-/// How many pairs the steps from the index on name, in all.
-pub(crate) fn named_from(steps: &VecDeque<Step>, start: usize) -> u64
-    ensures { result ≡ counted (sum_by entry_count (drop start steps.now.items)) }
+/// How many pairs the steps name, in all.
+pub(crate) fn named_by(steps: &VecDeque<Step>) -> u64
+    ensures { result ≡ counted (sum_by entry_count steps.now.items) }
 {
     let mut total = 0u64;
-    'steps: for index in start..steps.len() {
+    'steps: for index in 0..steps.len() {
         total = total.saturating_add(steps[index].entries.len() as u64);
     }
     total
@@ -80,37 +80,10 @@ pub(crate) fn cross_step<S: PrefixStore<Rc<Route>>>(
 )
     requires within { index < length steps.old.items }
     requires kept { IsKept table.old.keys (sides_at (steps_of steps.old.items) index) }
-    ensures keys { table.new.keys ≡ table.old.keys }
-    ensures routes { table.new.routes ≡
-        routes_across (sides_at (steps_of steps.old.items) index) table.old.routes }
-    ensures steps { steps_of steps.new.items ≡ set (steps_of steps.old.items) index
-        (sides_across table.old.routes (sides_at (steps_of steps.old.items) index)) }
-    ensures marks { marks_by_step steps.new.items ≡ marks_by_step steps.old.items }
+    ensures { IsCrossed table.old table.new steps.old.items steps.new.items index }
 {
     let step = &mut steps[index];
     cross(table, step.entries.as_mut_slice());
-}
-
-/// Undoes what putting entries did: crosses them back, and gives up their claims.
-fn take_back<S: PrefixStore<Rc<Route>>>(
-    table: &mut Table<S>,
-    claims: &mut Claims,
-    entries: &mut [Entry],
-)
-    requires kept { IsKept table.old.keys (sides_of entries.old) }
-    requires held { AreHeld table.old.keys (claims_beyond claims.old) }
-    requires free { (q : Pair) → gives_up_by Last (marks_of entries.old) q ≡ true →
-        finite.get (routes_across (sides_of entries.old) table.old.routes) q ≡ None }
-    requires keys { (q : Pair) → gives_up_by Last (marks_of entries.old) q ≡ true →
-        names.contains table.old.keys q ≡ true }
-    ensures held { AreHeld table.new.keys (claims_beyond claims.new) }
-    ensures claimed { (q : Pair) → claims_in table.new claims.new q
-        + one_if (gives_up_by Last (marks_of entries.old) q)
-        ≡ claims_in table.old claims.old q }
-    ensures routes { table.new.routes ≡ routes_across (sides_of entries.old) table.old.routes }
-{
-    cross(table, entries);
-    give_up_claims(table, claims, entries, End::Last);
 }
 
 /// Goes from one side of a new step to the other, with the claims that it makes, or at once where it
@@ -152,7 +125,9 @@ pub(crate) fn put_entries<S: PrefixStore<Rc<Route>>>(
     'entries: while made < entries.len() {
         passed = passed.wrapping_add(reach_entries(table, entries, made));
         if let Err(refused) = put_entry(table, claims, &mut entries[made]) {
-            take_back(table, claims, &mut entries[..made]);
+            let put = &mut entries[..made];
+            cross(table, put);
+            give_up_claims(table, claims, put, End::Last);
             return Err(refused);
         }
         made += 1;
@@ -170,61 +145,42 @@ pub(crate) fn let_go_of(known: &mut KnownRoutes, step: Step) {
     }
 }
 
-impl Journal {
-    /// No steps.
-    pub(crate) fn new(alloc: Global) -> Journal
-        ensures steps { result.steps.items ≡ [] }
-        ensures cursor { result.cursor ≡ 0 }
-        ensures floor { result.floor ≡ 0 }
-    {
-        Journal {
-            steps: VecDeque::new(alloc),
-            cursor: 0,
-            floor: 0,
-        }
+/// Makes room for a step more. What is too much for the steps that are kept is given back.
+pub(crate) fn make_room(steps: &mut VecDeque<Step>) -> Result<(), AllocError>
+    ensures room { OnOk result (deque_len steps.new < deque_capacity steps.new) }
+    ensures steps { steps.new.items ≡ steps.old.items }
+{
+    let kept = steps.len().max(LEAST_ROOM);
+    if steps.capacity() / MOST_TIMES > kept {
+        steps.shrink_to(kept);
     }
+    steps.reserve(1)
+}
 
-    /// Makes room for a step more. What is too much for the steps that are kept is given back.
-    pub(crate) fn make_room(&mut self) -> Result<(), AllocError>
-        ensures room { OnOk result (deque_len self.new.steps < deque_capacity self.new.steps) }
-        ensures steps { self.new.steps.items ≡ self.old.steps.items }
-        ensures cursor { self.new.cursor ≡ self.old.cursor }
-        ensures floor { self.new.floor ≡ self.old.floor }
-    {
-        let kept = self.steps.len().max(LEAST_ROOM);
-        if self.steps.capacity() / MOST_TIMES > kept {
-            self.steps.shrink_to(kept);
-        }
-        self.steps.reserve(1)
-    }
-
-    /// Drops the steps behind the cursor, with their claims.
-    pub(crate) fn drop_ahead<S: PrefixStore<Rc<Route>>>(
-        &mut self,
-        table: &mut Table<S>,
-        claims: &mut Claims,
-        known: &mut KnownRoutes,
-    )
-        requires within { self.old.cursor ≤ length self.old.steps.items }
-        requires distinct { AllByRecursion AreDistinct (steps_of self.old.steps.items) }
-        requires held { AreHeld table.old.keys (claims_beyond claims.old) }
-        requires claimed { CanDrop (marks_by_step self.old.steps.items) self.old.cursor
-            (claims_in table.old claims.old) table.old.routes }
-        ensures held { AreHeld table.new.keys (claims_beyond claims.new) }
-        ensures claimed { StayClaimed self.old.cursor
-            self.old.steps.items (claims_in table.old claims.old)
-            self.new.steps.items (claims_in table.new claims.new) }
-        ensures routes { table.new.routes ≡ table.old.routes }
-        ensures steps { self.new.steps.items ≡ take self.old.cursor self.old.steps.items }
-        ensures capacity { deque_capacity self.new.steps ≡ deque_capacity self.old.steps }
-        ensures cursor { self.new.cursor ≡ self.old.cursor }
-        ensures floor { self.new.floor ≡ self.old.floor }
-    {
-        'steps: while self.steps.len() > self.cursor {
-            if let Some(step) = self.steps.pop_back() {
-                give_up_claims(table, claims, &step.entries, End::Last);
-                let_go_of(known, step);
-            }
+/// Drops the steps behind the cursor, with their claims.
+pub(crate) fn drop_ahead<S: PrefixStore<Rc<Route>>>(
+    steps: &mut VecDeque<Step>,
+    cursor: usize,
+    table: &mut Table<S>,
+    claims: &mut Claims,
+    known: &mut KnownRoutes,
+)
+    requires within { cursor ≤ length steps.old.items }
+    requires distinct { AllByRecursion AreDistinct (steps_of steps.old.items) }
+    requires held { AreHeld table.old.keys (claims_beyond claims.old) }
+    requires claimed { CanDrop (marks_by_step steps.old.items) cursor
+        (claims_in table.old claims.old) table.old.routes }
+    ensures held { AreHeld table.new.keys (claims_beyond claims.new) }
+    ensures claimed { StayClaimed cursor steps.old.items (claims_in table.old claims.old)
+        steps.new.items (claims_in table.new claims.new) }
+    ensures routes { table.new.routes ≡ table.old.routes }
+    ensures steps { steps.new.items ≡ take cursor steps.old.items }
+    ensures capacity { deque_capacity steps.new ≡ deque_capacity steps.old }
+{
+    'steps: while steps.len() > cursor {
+        if let Some(step) = steps.pop_back() {
+            give_up_claims(table, claims, &step.entries, End::Last);
+            let_go_of(known, step);
         }
     }
 }

@@ -1,4 +1,5 @@
 //! Laws of the player's definitions.
+#![tactic(auto, using(crate::proofs::LawRules::law_lemmas))]
 
 ghost use Rattle.std.specs.Prelude.{◌≡◌, ℕ, ◌≤◌, ◌<◌, ◌+◌, ◌-◌, ◌++◌, ◌∷◌, ◌||◌, [], List, is_some, length, take, map, replicate, slice_get, nat_lt, min, Option, Some, None};
 ghost use Rattle.std.specs.List.{list_any};

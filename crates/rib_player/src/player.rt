@@ -9,7 +9,9 @@ ghost use Rattle.rib_player.specs.Wanted.{wanted, named_count, IsWellFormed};
 
 use crate::claims::{Claims, give_up_claims};
 use crate::entry::End;
-use crate::journal::{Journal, Step, cross_step, let_go_of, named_from, put_entries};
+use crate::journal::{
+    Journal, Step, cross_step, drop_ahead, let_go_of, make_room, named_by, put_entries,
+};
 use crate::reached_steps::{Reached, reach_ahead, reach_back};
 use crate::steps::step_for;
 use crate::stores::Marks;
@@ -18,6 +20,7 @@ use known_routes::KnownRoutes;
 use mrt_events::{Event, Route};
 use prefix_store::PrefixStore;
 use std::alloc::{AllocError, Global};
+use std::collections::VecDeque;
 use std::marker::Model;
 use std::rc::Rc;
 use thiserror::Error;
@@ -64,15 +67,14 @@ impl<S: PrefixStore<Rc<Route>>> Model for Player<S> {
     ghost use Rattle.std.specs.Prelude.{◌+◌, ◌≤◌, length};
     ghost use Rattle.prefix_store.specs.declared.store.TheConstants.{GREATEST_COUNT};
     ghost use Rattle.rib_player.specs.Claims.{claims_beyond};
-    ghost use Rattle.rib_player.specs.Journal.{timeline_of, behind_forgotten, steps_of};
+    ghost use Rattle.rib_player.specs.Journal.{timeline_of, steps_of};
     ghost use Rattle.rib_player.specs.Played.{IsPlayed};
 
-    ghost view = { λ a. behind_forgotten a.journal.floor
-        (timeline_of a.journal.cursor (steps_of a.journal.steps.items) a.table.routes) };
+    ghost view = { λ a. timeline_of a.journal.floor a.journal.cursor
+        (steps_of a.journal.steps.items) a.table.routes };
 
     ghost invariant = { λ a. record {
-      played : IsPlayed a.table.keys (claims_beyond a.claims) a.table.routes
-          a.journal.cursor a.journal.steps.items;
+      played : IsPlayed a.table (claims_beyond a.claims) a.journal.cursor a.journal.steps.items;
       counted : a.journal.floor + length a.journal.steps.items ≤ GREATEST_COUNT;
     } };
 }
@@ -85,7 +87,11 @@ impl<S: PrefixStore<Rc<Route>>> Player<S> {
         Player {
             alloc,
             table: Table::new(alloc),
-            journal: Journal::new(alloc),
+            journal: Journal {
+                steps: VecDeque::new(alloc),
+                cursor: 0,
+                floor: 0,
+            },
             claims: Claims::new(alloc),
             known: KnownRoutes::new(alloc),
             marks: Marks::new(alloc),
@@ -119,7 +125,7 @@ impl<S: PrefixStore<Rc<Route>>> Player<S> {
     pub fn named(&self) -> u64
         ensures { result ≡ counted (named_count self.now) }
     {
-        named_from(&self.journal.steps, 0)
+        named_by(&self.journal.steps)
     }
 
     /// The table at the cursor.
@@ -154,11 +160,12 @@ impl<S: PrefixStore<Rc<Route>>> Player<S> {
         if self.journal.cursor == 0 {
             return Err(Nothing);
         }
+        let index = self.journal.cursor;
         reach_back(
             &mut self.table,
             &self.journal.steps,
-            self.journal.cursor,
             &mut self.reached,
+            index,
         );
         self.journal.cursor -= 1;
         cross_step(
@@ -177,11 +184,12 @@ impl<S: PrefixStore<Rc<Route>>> Player<S> {
         if self.journal.cursor == self.journal.steps.len() {
             return Err(Nothing);
         }
+        let index = self.journal.cursor;
         reach_ahead(
             &mut self.table,
             &self.journal.steps,
-            self.journal.cursor,
             &mut self.reached,
+            index,
         );
         cross_step(
             &mut self.table,
@@ -208,8 +216,9 @@ impl<S: PrefixStore<Rc<Route>>> Player<S> {
             &mut self.known,
             &mut self.marks,
         )?;
-        self.journal.make_room()?;
-        let dropped = self.journal.steps.len() - self.journal.cursor;
+        make_room(&mut self.journal.steps)?;
+        let cursor = self.journal.cursor;
+        let dropped = self.journal.steps.len() - cursor;
         put_entries(
             self.alloc,
             &mut self.table,
@@ -217,8 +226,13 @@ impl<S: PrefixStore<Rc<Route>>> Player<S> {
             new.lost.as_ref(),
             new.entries.as_mut_slice(),
         )?;
-        self.journal
-            .drop_ahead(&mut self.table, &mut self.claims, &mut self.known);
+        drop_ahead(
+            &mut self.journal.steps,
+            cursor,
+            &mut self.table,
+            &mut self.claims,
+            &mut self.known,
+        );
         self.journal.steps.push_back_reserved(Step {
             entries: new.entries,
         });
@@ -245,20 +259,11 @@ impl<S: PrefixStore<Rc<Route>>> Player<S> {
         ensures after_forget { self.new ≡ after_forget self.old keep }
         ensures forgotten { result ≡ forgettable self.old keep }
     {
-        let count = self.forget_oldest(keep);
-        self.known.let_go();
-        count
-    }
-
-    /// The same, but that it lets go of no routes that are known.
-    fn forget_oldest(&mut self, keep: u64) -> u64
-        ensures after_forget { self.new ≡ after_forget self.old keep }
-        ensures forgotten { result ≡ forgettable self.old keep }
-    {
         let count = (self.journal.cursor as u64).saturating_sub(keep);
         'steps: for _ in 0..count {
             self.forget_first();
         }
+        self.known.let_go();
         count
     }
 }

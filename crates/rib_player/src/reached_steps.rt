@@ -42,15 +42,20 @@ impl Reached {
     }
 }
 
-/// Reaches the entries of those of some steps that have few, and answers how much was passed.
+/// Reaches the entries of those of some steps that have few, where they weren't reached just now.
+/// Answers how much was passed.
 fn reach_steps<S: PrefixStore<Rc<Route>>>(
     table: &Table<S>,
     steps: &VecDeque<Step>,
+    reached: &mut Reached,
     start: usize,
     end: usize,
 ) -> u64
     requires { end ≤ length steps.now.items }
 {
+    if !reached.is_new(start) {
+        return 0;
+    }
     let mut places = Places::new();
     let mut passed = 0u64;
     'steps: for index in start..end {
@@ -60,12 +65,12 @@ fn reach_steps<S: PrefixStore<Rc<Route>>>(
 }
 
 /// Reaches the steps before the index, where that is a multiple of as many as are reached together,
-/// the first of them names a pair, and they weren't reached just now.
+/// and the first of them names a pair.
 pub(crate) fn reach_back<S: PrefixStore<Rc<Route>>>(
     table: &mut Table<S>,
     steps: &VecDeque<Step>,
-    index: usize,
     reached: &mut Reached,
+    index: usize,
 )
     requires { index ≤ length steps.now.items }
     ensures { table.new ≡ table.old }
@@ -74,20 +79,17 @@ pub(crate) fn reach_back<S: PrefixStore<Rc<Route>>>(
         return;
     }
     let start = index.saturating_sub(STEPS_TOGETHER);
-    if !reached.is_new(start) {
-        return;
-    }
-    let passed = reach_steps(table, steps, start, index);
+    let passed = reach_steps(table, steps, reached, start, index);
     table.note_passed(passed);
 }
 
 /// Reaches the steps from the index on, where that is a multiple of as many as are reached together,
-/// the first of them names a pair, and they weren't reached just now.
+/// and the first of them names a pair.
 pub(crate) fn reach_ahead<S: PrefixStore<Rc<Route>>>(
     table: &mut Table<S>,
     steps: &VecDeque<Step>,
-    index: usize,
     reached: &mut Reached,
+    index: usize,
 )
     requires { index < length steps.now.items }
     ensures { table.new ≡ table.old }
@@ -95,10 +97,7 @@ pub(crate) fn reach_ahead<S: PrefixStore<Rc<Route>>>(
     if index % STEPS_TOGETHER != 0 || steps[index].entries.is_empty() {
         return;
     }
-    if !reached.is_new(index) {
-        return;
-    }
     let end = steps.len().min(index.saturating_add(STEPS_TOGETHER));
-    let passed = reach_steps(table, steps, index, end);
+    let passed = reach_steps(table, steps, reached, index, end);
     table.note_passed(passed);
 }

@@ -66,7 +66,7 @@ fn only_store<'a, S: PrefixStore<Rc<Route>>>(
     if entries.last()?.peer() != peer.peer() {
         return None;
     }
-    let store = table.numbered_store(peer)?;
+    let store = table.stores.get(peer.number(), peer.peer())?;
     if store.key_count() < LEAST_KEYS {
         return None;
     }

@@ -143,7 +143,7 @@ fn each_once<S: PrefixStore<Rc<Route>>>(
     let is_known = if are_of_message(&entries) {
         are_falling(&entries)
     } else {
-        table.are_of_different_peers(&entries, marks)
+        table.stores.are_of_different_peers(&entries, marks)
     };
     if is_known || (entries.len() <= FEW && are_different(&entries)) {
         return Ok(entries);
@@ -157,7 +157,7 @@ fn is_routed<S: PrefixStore<Rc<Route>>>(entry: &Entry, table: &Table<S>) -> bool
     ensures { result ≡ (is_some (route_in entry.now.other)
         || is_some (finite.get table.now.routes entry.now.pair)) }
 {
-    entry.route().is_some() || table.route(&entry.pair()).is_some()
+    entry.route().is_some() || table.get(entry.peer(), &entry.prefix()).is_some()
 }
 
 /// Those of pairs that have a route before or then.

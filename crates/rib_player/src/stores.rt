@@ -1,15 +1,15 @@
 //! The stores of peers. Each peer that has one has a number, by which it is found.
 
-ghost use Rattle.std.specs.Prelude.{◌≡◌, ◌≤◌, ℕ, [], Some, None, true, false, IsTrue, IsSome, IfSome, if◌then◌else◌, slice_get, OnOk, OnErr, vec_len};
+ghost use Rattle.std.specs.Prelude.{◌≡◌, ◌≤◌, ℕ, [], Some, None, true, false, IsTrue, IsSome, IfSome, slice_get, OnOk, OnErr, vec_len};
 ghost use Rattle.std.specs.Option.{option_copied, option_copied_mut};
 ghost use Rattle.std.specs.Borrow.{sem};
 ghost use Rattle.std.specs.Map.{lookup};
 ghost use Rattle.std.specs.Ordering.{eq_by_cmp};
-ghost use Rattle.mrt_events.specs.declared.peer.Peer.{Peer};
 ghost use Rattle.mrt_events.specs.Peer.{peer_cmp};
 ghost use Rattle.rib_player.specs.declared.stores.TheConstants.{PLACES};
 ghost use Rattle.rib_player.specs.Store.{store_at};
-ghost use Rattle.rib_player.specs.Numbered.{peers_in, AreNumbered, IsNumberedAnew};
+ghost use Rattle.rib_player.specs.Holding.{IsWritten};
+ghost use Rattle.rib_player.specs.Numbered.{peers_in, AreNumbered};
 ghost use Rattle.rib_player.specs.Marked.{is_marked};
 ghost use Rattle.rib_player.specs.Journal.{sides_of};
 ghost use Rattle.rib_player.specs.Sides.{AreDistinct};
@@ -182,8 +182,8 @@ impl<S: Drop> Stores<S> {
     /// Adds the store of a peer that has none.
     pub(crate) fn insert(&mut self, peer: Peer, store: S) -> Result<(), AllocError>
         requires { store_at (stores_in self.old) peer ≡ None }
-        ensures added { OnOk result ((p : Peer) → store_at (stores_in self.new) p
-            ≡ (if eq_by_cmp peer_cmp peer p then Some store else store_at (stores_in self.old) p)) }
+        ensures added { OnOk result
+            (IsWritten (stores_in self.old) (stores_in self.new) peer (Some store)) }
         ensures refused { OnErr result (stores_in self.new ≡ stores_in self.old) }
     {
         self.held.reserve(1)?;
@@ -201,8 +201,7 @@ impl<S: Drop> Stores<S> {
     /// Drops the store of a peer, if it has one. The store that stood last gets its number. It takes
     /// no memory.
     pub(crate) fn remove(&mut self, peer: &Peer)
-        ensures { (p : Peer) → store_at (stores_in self.new) p
-            ≡ (if eq_by_cmp peer_cmp peer.now p then None else store_at (stores_in self.old) p) }
+        ensures { IsWritten (stores_in self.old) (stores_in self.new) peer.now None }
     {
         let Some(number) = self.order.remove(peer) else {
             return;
@@ -220,7 +219,7 @@ impl<S: Drop> Stores<S> {
 /// Gives the peer, which has a number, this one.
 fn renumber(order: &mut BTreeMap<Peer, usize>, peer: &Peer, number: usize)
     requires { IsSome (lookup (eq_by_cmp peer_cmp peer.now) order.old.entries) }
-    ensures { IsNumberedAnew order.old.entries order.new.entries peer.now number }
+    ensures { IsWritten order.old.entries order.new.entries peer.now (Some number) }
 {
     if let Some(held) = order.get_mut(peer) {
         *held = number;

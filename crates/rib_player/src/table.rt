@@ -38,7 +38,7 @@ use std::rc::Rc;
 #[derive(Drop)]
 pub struct Table<S: PrefixStore<Rc<Route>>> {
     alloc: Global,
-    stores: Stores<S>,
+    pub(crate) stores: Stores<S>,
     /// How many nodes were passed to reach pairs before their routes changed. Nothing reads it; without
     /// it a compiler may leave out the fetching.
     passed: u64,
@@ -95,9 +95,10 @@ impl<S: PrefixStore<Rc<Route>>> Table<S> {
         ensures routes { self.new.routes ≡ put self.old.routes pair.now (route_in route.old) }
         ensures given { route_in route.new ≡ finite.get self.old.routes pair.now }
     {
-        if let Some(store) = self.stores.get_mut(number, &pair.peer) {
-            store.exchange(&pair.prefix, route);
-        }
+        let Some(store) = self.stores.get_mut(number, &pair.peer) else {
+            unreachable!();
+        };
+        store.exchange(&pair.prefix, route);
     }
 
     /// Puts the route at the pair, which is made a key where it was none: what was there and the
@@ -121,9 +122,10 @@ impl<S: PrefixStore<Rc<Route>>> Table<S> {
         if let Some(store) = self.stores.get_mut(number, &pair.peer) {
             return store.put(&pair.prefix, route);
         }
-        let made = self.ensure(pair)?;
+        let store = store_with(self.alloc, pair.prefix)?;
+        self.stores.insert(pair.peer, store)?;
         self.exchange(pair, NO_NUMBER, route);
-        Ok(made)
+        Ok(true)
     }
 
     /// Takes all routes of the peer, in the order of their prefixes, into a list that has room for
@@ -136,18 +138,11 @@ impl<S: PrefixStore<Rc<Route>>> Table<S> {
         ensures taken { map value_of taken.new.items
             ≡ finite.values (peer_routes self.old.routes peer.now) }
     {
-        match self.stores.get_mut(NO_NUMBER, peer) {
-            Some(store) => store.take_routes(taken),
-            None => taken.clear(),
-        }
-    }
-
-    /// The route at the pair.
-    pub(crate) fn route(&self, pair: &Pair) -> Option<&Rc<Route>>
-        ensures { option_map (λ route. route.now.value) result ≡
-            finite.get self.now.routes pair.now }
-    {
-        self.stores.get(NO_NUMBER, &pair.peer)?.get(&pair.prefix)
+        let Some(store) = self.stores.get_mut(NO_NUMBER, peer) else {
+            taken.clear();
+            return;
+        };
+        store.take_routes(taken);
     }
 
     /// The route that the peer has to the prefix.
@@ -155,11 +150,7 @@ impl<S: PrefixStore<Rc<Route>>> Table<S> {
         ensures { option_map (λ route. route.now.value) result ≡
             finite.get self.now.routes (pair_of peer.now prefix.now) }
     {
-        let pair = Pair {
-            peer: *peer,
-            prefix: *prefix,
-        };
-        self.route(&pair)
+        self.store(peer)?.get(prefix)
     }
 
     /// The longest prefix that the peer has a route to and that contains the address, and its
@@ -169,8 +160,7 @@ impl<S: PrefixStore<Rc<Route>>> Table<S> {
         ensures { IsBest self.now.routes peer.now addr.now
             (option_map (λ found. (found.0, found.1.now.value)) result) }
     {
-        let store = self.stores.get(NO_NUMBER, peer)?;
-        store.longest(addr)
+        self.store(peer)?.longest(addr)
     }
 
     /// The least prefix above the given one, or of all, that the peer has a route to, and its
@@ -179,8 +169,7 @@ impl<S: PrefixStore<Rc<Route>>> Table<S> {
         ensures { option_map (λ found. (found.0, found.1.now.value)) result ≡
             slice_get (routes_above self.now.routes peer.now (option_copied prefix.entry)) 0 }
     {
-        let routes = self.stores.get(NO_NUMBER, peer)?;
-        routes.after(prefix)
+        self.store(peer)?.after(prefix)
     }
 
     /// The next prefixes above the given one, or of all, that the peer has a route to, in order, and
@@ -196,7 +185,7 @@ impl<S: PrefixStore<Rc<Route>>> Table<S> {
             (routes_above self.now.routes peer.now (option_copied prefix.entry)) }
         ensures room { vec_capacity found.new ≡ vec_capacity found.old }
     {
-        match self.stores.get(NO_NUMBER, peer) {
+        match self.store(peer) {
             Some(store) => store.next_routes(prefix, found),
             None => found.clear(),
         }
@@ -216,27 +205,8 @@ impl<S: PrefixStore<Rc<Route>>> Table<S> {
         first_routed(&self.stores, numbers)
     }
 
-    /// The peer, where it has a key, as entries share it. This number is tried first.
-    #[inline]
-    pub(crate) fn shared_peer(&self, number: usize, peer: &Peer) -> Option<&Rc<NumberedPeer>>
-        ensures { IfSome result (λ shared. shared.now.value ≡ peer.now) }
-    {
-        self.stores.shared_peer(number, peer)
-    }
-
-    /// The store of the peer, where it has a key. This number is tried first.
-    pub(crate) fn numbered_store(&self, peer: &NumberedPeer) -> Option<&S> {
-        self.stores.get(peer.number(), peer.peer())
-    }
-
-    /// Whether all these entries are known to be of different peers.
-    pub(crate) fn are_of_different_peers(&self, entries: &[Entry], marks: &mut Marks) -> bool
-        ensures { IsTrue result → AreDistinct (sides_of entries.now) }
-    {
-        self.stores.are_of_different_peers(entries, marks)
-    }
-
     /// The peer's store, where it has a key.
+    #[inline]
     pub fn store(&self, peer: &Peer) -> Option<&S>
         ensures keys { IfSome result (λ store. (n : Network) →
             set.contains (S.keys store.now) n ≡ set.contains self.now.keys (pair_of peer.now n)) }
@@ -270,4 +240,14 @@ fn first_routed<'a, S: PrefixStore<Rc<Route>>>(
         }
     }
     None
+}
+
+/// A store with this one key.
+fn store_with<S: PrefixStore<Rc<Route>>>(alloc: Global, prefix: Prefix) -> Result<S, AllocError>
+    ensures keys { IfOk result (λ store. S.keys store ≡ set.insert set.empty prefix) }
+    ensures routes { IfOk result (λ store. S.routes store ≡ finite.empty) }
+{
+    let mut store = S::new(alloc);
+    store.ensure(prefix)?;
+    Ok(store)
 }

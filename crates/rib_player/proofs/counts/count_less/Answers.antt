@@ -1,10 +1,10 @@
-use Rattle.std.proofs.Common.{◌≡◌, ℕ, zero, suc, ◌≤◌, ◌+◌, ◌-◌, Some, None, is_some, Bool, true, false, cond, refl, sym, ap, ◌∙◌, arith}
+use Rattle.std.proofs.Common.{◌≡◌, ℕ, zero, suc, ◌≤◌, ◌+◌, ◌-◌, ◌&&◌, Some, None, is_some, Bool, true, false, cond, refl, sym, ap, ◌∙◌, arith}
 use Rattle.std.specs.Prelude.{nat_lt}
 use Rattle.std.specs.BTreeMap as tree
 use Rattle.std.specs.Option.{option_copied_mut}
 use Rattle.std.specs.Ordering.{eq_by_cmp}
 use Rattle.rib_player.specs.Counts.{one_if, count_kept, count_at}
-use Rattle.rib_player.proofs.CountedLaws.{count-written, counted-less}
+use Rattle.rib_player.proofs.CountedLaws.{count-written, counted}
 use Rattle.rib_player.specs.contracts.counts.count_less.{K-type}
 use Rattle.rib_player.proofs.counts.count_less.Given.{Over}
 use Rattle.rib_player.proofs.counts.count_less.Goals as goal
@@ -23,19 +23,24 @@ pub returns-then-count-gt1-clause-counted : goal.returns-then-count-gt1-clause-c
 returns-then-count-gt1-clause-counted g c = λ k.
     let b = (goal.at.returns-then-count-gt1-clause-counted g c).In-Some in
     let v = c.in-Some.count.now - 1 in
-    counted-less g.met.K.Ord.total c.args.counts.now (c.get_mut.follows.lender v) c.args.key.now v true (omega (arith, c.if-count-gt1.true, ap count_kept (found g b))) k (written g b v k)
+    counted g.met.K.Ord.total c.args.counts.now (c.get_mut.follows.lender v) c.args.key.now v (λ new old b. new + one_if (true && b) ≡ old) (omega (arith, c.if-count-gt1.true, ap count_kept (found g b))) (λ m. omega arith) k (written g b v k)
 
 pub returns-clause-counted : goal.returns-clause-counted
 returns-clause-counted g c = λ k.
     let b = (goal.at.returns-clause-counted g c).In-Some in
-    counted-less g.met.K.Ord.total c.args.counts.now c.remove.new.self c.args.key.now 0 (nat_lt 0 c.in-Some.count.now) (at_most_one c.in-Some.count.now (omega (arith, c.if-count-gt1.false)) ∙ ap count_kept (found g b)) k
+    counted g.met.K.Ord.total c.args.counts.now c.remove.new.self c.args.key.now 0 (λ new old b. new + one_if (nat_lt 0 c.in-Some.count.now && b) ≡ old)
+    (at_most_one c.in-Some.count.now (omega (arith, c.if-count-gt1.false)) ∙ ap count_kept (found g b)) (none (nat_lt 0 c.in-Some.count.now)) k
     (count-written g.met.K.Ord.total (c.get_mut.follows.lender c.in-Some.count.now) c.remove.new.self c.args.key.now k None (c.remove.ensures.updates.0 k)
     ∙ ap (cond (eq_by_cmp g.K.Ord.cmp k c.args.key.now) 0) (written g b c.in-Some.count.now k) ∙ over (eq_by_cmp g.K.Ord.cmp k c.args.key.now) c.in-Some.count.now (count_at g.K.Ord.cmp c.args.counts.now k))
   where
-    at_most_one : (n : ℕ) → n ≤ 1 → 0 + one_if (nat_lt 0 n) ≡ n
+    at_most_one : (n : ℕ) → n ≤ 1 → 0 + one_if (nat_lt 0 n && true) ≡ n
     at_most_one zero h = refl
     at_most_one (suc zero) h = refl
     at_most_one (suc (suc n)) h = absurd (omega (arith, h))
+
+    none : (b : Bool) (m : ℕ) → m + one_if (b && false) ≡ m
+    none true m = omega arith
+    none false m = omega arith
 
     over : (b : Bool) (v x : ℕ) → cond b 0 (cond b v x) ≡ cond b 0 x
     over true v x = refl

@@ -3,8 +3,8 @@ use Rattle.std.specs.Prelude.{unwrap_or}
 use Rattle.std.specs.Map.{lookup}
 use Rattle.std.specs.BTreeMap as tree
 use Rattle.std.specs.BTreeMap.Entry.{map_with_value}
-use Rattle.rib_player.specs.Counts.{count_kept, count_at}
-use Rattle.rib_player.proofs.CountedLaws.{count-written, counted-more, counted-same}
+use Rattle.rib_player.specs.Counts.{one_if, count_kept, count_at}
+use Rattle.rib_player.proofs.CountedLaws.{count-written, counted}
 use Rattle.rib_player.proofs.counts.count_more.Given.{Over}
 use Rattle.rib_player.proofs.counts.count_more.Goals as goal
 use Rattle.rib_player.proofs.counts.count_more.Goals.{After-checked_add}
@@ -24,7 +24,7 @@ returns-in_default-clause-refused g c = λ k.
     let after = map_with_value c.in_ok-counts.field-0 v in
     grind (
       arith,
-      counted-same g.met.K.Ord.total c.args.counts.now after c.args.key v (found g b) k
+      counted g.met.K.Ord.total c.args.counts.now after c.args.key v (λ new old b. new ≡ old) (found g b) (λ m. refl) k
           (count-written g.met.K.Ord.total c.args.counts.now after c.args.key k (Some v) ((c.in_ok-counts.ensures.update.0 v).0 k)),
     )
 
@@ -43,6 +43,6 @@ returns-clause-counted g c = λ k.
     let after = map_with_value c.in_ok-counts.field-0 v in
     grind (
       arith,
-      counted-more g.met.K.Ord.total c.args.counts.now after c.args.key v (c.in-Some.ensures.1 ∙ ap (λ n. n + 1) (found g b)) k
+      counted g.met.K.Ord.total c.args.counts.now after c.args.key v (λ new old b. new ≡ old + one_if b) (c.in-Some.ensures.1 ∙ ap (λ n. n + 1) (found g b)) (λ m. omega arith) k
           (count-written g.met.K.Ord.total c.args.counts.now after c.args.key k (Some v) ((c.in_ok-counts.ensures.update.0 v).0 k)),
     )

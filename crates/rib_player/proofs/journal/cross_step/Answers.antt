@@ -1,6 +1,6 @@
 use Rattle.std.proofs.Common.{◌≡◌, [], ap, sym, subst, ◌∙◌, set}
 use Rattle.std.proofs.lemmas.List.{get_or-map, map-set, with_items_is, set-get_or}
-use Rattle.rib_player.specs.Journal.{sides_of, steps_of, step_sides}
+use Rattle.rib_player.specs.Journal.{sides_of, steps_of, step_sides, routes_across}
 use Rattle.rib_player.specs.Sides.{sides_at, sides_across, IsKept}
 use Rattle.rib_player.specs.Marks.{marks_of, step_marks, marks_by_step}
 use Rattle.rib_player.proofs.journal.cross_step.Goals as goal
@@ -17,18 +17,19 @@ at_index g c =
 pub cross-requires : goal.cross-requires
 cross-requires g c = subst (IsKept c.args.table.now.keys) (at_index g c) c.requires.kept
 
-pub returns-clause-steps : goal.returns-clause-steps
-returns-clause-steps g c =
-    map-set step_sides c.args.steps.now.items c.args.index _
-    ∙ ap (set (steps_of c.args.steps.now.items) c.args.index)
-    (ap sides_of (with_items_is c.index_mut-step.result.now.entries c.cross.new.entries (c.cross.auto.entries ∙ c.as_mut_slice.ensures.len))
-    ∙ c.cross.ensures.entries ∙ ap (sides_across c.args.table.now.routes) (sym (at_index g (goal.at.returns-clause-steps g c).After-as_mut_slice)))
-
-pub returns-clause-marks : goal.returns-clause-marks
-returns-clause-marks g c =
-    map-set step_marks c.args.steps.now.items c.args.index _
-    ∙ ap (set (marks_by_step c.args.steps.now.items) c.args.index)
-    (ap marks_of (with_items_is c.index_mut-step.result.now.entries c.cross.new.entries (c.cross.auto.entries ∙ c.as_mut_slice.ensures.len))
-    ∙ c.cross.ensures.marks ∙ ap marks_of c.as_mut_slice.ensures.value ∙ ap step_marks c.index_mut-step.ensures.value
-    ∙ sym (get_or-map step_marks c.args.steps.now.items c.args.index c.index_mut-step.result.now [] c.requires.within))
-    ∙ set-get_or (marks_by_step c.args.steps.now.items) c.args.index []
+pub returns : goal.returns
+returns g c =
+    let steps = c.args.steps.now.items in
+    let there = at_index g (goal.at.returns g c).After-as_mut_slice in
+    let items = with_items_is c.index_mut-step.result.now.entries c.cross.new.entries (c.cross.auto.entries ∙ c.as_mut_slice.ensures.len) in
+    record {
+      keys = c.cross.ensures.keys;
+      routes = c.cross.ensures.routes ∙ ap (λ sides. routes_across sides c.args.table.now.routes) (sym there);
+      sides = map-set step_sides steps c.args.index _
+          ∙ ap (set (steps_of steps) c.args.index) (ap sides_of items ∙ c.cross.ensures.entries ∙ ap (sides_across c.args.table.now.routes) (sym there));
+      marks = map-set step_marks steps c.args.index _
+          ∙ ap (set (marks_by_step steps) c.args.index)
+          (ap marks_of items ∙ c.cross.ensures.marks ∙ ap marks_of c.as_mut_slice.ensures.value ∙ ap step_marks c.index_mut-step.ensures.value
+          ∙ sym (get_or-map step_marks steps c.args.index c.index_mut-step.result.now [] c.requires.within))
+          ∙ set-get_or (marks_by_step steps) c.args.index [];
+    }

@@ -15,7 +15,8 @@ use Rattle.rib_player.specs.Marks.{Mark, mark_of, marks_of, mark_across, marks_a
 use Rattle.rib_player.proofs.PairLaws.{same_pair}
 use Rattle.rib_player.proofs.JournalLaws.{rest_of_entries, take-through, routes_across-push, sides_across-push, pairs_in-sides_across, get-restored_elsewhere, routes_across-sides_across}
 use Rattle.rib_player.proofs.MarkLaws.{tied, pairs_marked, pairs-same, pairs_in-take, distinct-take, distinct-before, marks-more, gives_up_by-push, gives_up_by-named, gives-none}
-use Rattle.rib_player.proofs.HeldLaws.{same-key, one-or, put-among, inserted, all-inserted, all-same}
+use Rattle.rib_player.proofs.HeldLaws.{same-key, one-or, put-among, inserted, still-inserted}
+use Rattle.rib_player.proofs.ListLaws.{all-then}
 use Rattle.rib_player.proofs.journal.put_entries.Given.{Over}
 use Rattle.rib_player.proofs.journal.put_entries.Goals as goal
 use Rattle.rib_player.proofs.journal.put_entries.Goals.{After-index-entries-made, In-Err}
@@ -80,26 +81,35 @@ whole g c =
     ap₂ routes_across (sides_front g c) (c.in-Err.ensures.kept ∙ c.entries.invariant.routes)
     ∙ routes_across-sides_across (front_first g c) c.args.table.now.routes
 
-pub take_back-requires-clause-kept : goal.take_back-requires-clause-kept
-take_back-requires-clause-kept g c =
-    let b = (goal.at.take_back-requires-clause-kept g c).In-Err in
+distinct_front : (g : Over) (c : In-Err g) → IsDistinct tied (pairs_in (sides_of (front g c)))
+distinct_front g c =
+    subst (IsDistinct tied) (sym (pairs_front g c ∙ pairs_in-take c.entries.made c.args.entries.now)) (distinct-take c.entries.made (pairs_in (sides_of c.args.entries.now)) c.requires.distinct)
+
+pub cross-requires : goal.cross-requires
+cross-requires g c =
+    let b = (goal.at.cross-requires g c).In-Err in
     record {
-      distinct = subst (IsDistinct tied) (sym (pairs_front g b ∙ pairs_in-take c.entries.made c.args.entries.now)) (distinct-take c.entries.made (pairs_in (sides_of c.args.entries.now)) c.requires.distinct);
+      distinct = distinct_front g b;
       among_keys = subst (AllByRecursion (λ p. names.contains c.put_entry.new.table.keys p ≡ true)) (sym (pairs_front g b))
-          (all-same c.entries.table.keys c.put_entry.new.table.keys (pairs_in (front_first g b))
-          (λ q. same-key c.entries.table.keys c.put_entry.new.table.keys (claims_beyond c.entries.claims) (claims_beyond c.put_entry.new.claims) q c.entries.invariant.held c.in-Err.ensures.held (c.in-Err.ensures.refused q))
+          (all-then (λ p. names.contains c.entries.table.keys p ≡ true) (λ p. names.contains c.put_entry.new.table.keys p ≡ true) (pairs_in (front_first g b))
+          (λ q there. same-key c.entries.table.keys c.put_entry.new.table.keys (claims_beyond c.entries.claims) (claims_beyond c.put_entry.new.claims) q c.entries.invariant.held c.in-Err.ensures.held (c.in-Err.ensures.refused q) ∙ there)
           c.entries.invariant.keys);
     }
 
-pub take_back-requires-clause-free : goal.take_back-requires-clause-free
-take_back-requires-clause-free g c = λ q gives.
-    let b = (goal.at.take_back-requires-clause-free g c).In-Err in
-    ap (λ r. finite.get r q) (whole g b)
+pub give_up_claims-requires-clause-distinct : goal.give_up_claims-requires-clause-distinct
+give_up_claims-requires-clause-distinct g c =
+    let b = (goal.at.give_up_claims-requires-clause-distinct g c).In-Err in
+    subst (IsDistinct tied) (sym (ap pairs_in c.cross.ensures.entries ∙ pairs_in-sides_across c.put_entry.new.table.routes (sides_of (front g b)))) (distinct_front g b)
+
+pub give_up_claims-requires-clause-free : goal.give_up_claims-requires-clause-free
+give_up_claims-requires-clause-free g c = λ q gives none.
+    let b = (goal.at.give_up_claims-requires-clause-free g c).In-Err in
+    ap (λ r. finite.get r q) (c.cross.ensures.routes ∙ whole g b)
     ∙ gives-none c.args.table.now.routes (front_first g b) q
-    (ap (λ ms. gives_up_by Last ms q) (sym (ap marks_of (same_front g b) ∙ c.entries.invariant.marks)) ∙ gives)
+    (ap (λ ms. gives_up_by Last ms q) (sym (c.cross.ensures.marks ∙ ap marks_of (same_front g b) ∙ c.entries.invariant.marks)) ∙ gives)
 
 pub returns-in-Err-clause-kept : goal.returns-in-Err-clause-kept
-returns-in-Err-clause-kept g c = c.take_back.ensures.routes ∙ whole g (goal.at.returns-in-Err-clause-kept g c).In-Err
+returns-in-Err-clause-kept g c = c.give_up_claims.ensures.routes ∙ c.cross.ensures.routes ∙ whole g (goal.at.returns-in-Err-clause-kept g c).In-Err
 
 -- ---- one entry more
 
@@ -129,7 +139,8 @@ entries-preserved g c =
       keys = subst (λ ss. AllByRecursion (λ p. names.contains c.put_entry.new.table.keys p ≡ true) (pairs_in ss)) (sym sides_more)
           (subst (AllByRecursion (λ p. names.contains c.put_entry.new.table.keys p ≡ true)) (sym (map-append (λ (s : Side). s.0) sides (side_of old ∷ [])))
           (AllByRecursion-push (λ p. names.contains c.put_entry.new.table.keys p ≡ true) (pairs_in sides) old.pair
-          (all-inserted c.entries.table.keys c.put_entry.new.table.keys old.pair (pairs_in sides) said.keys known.keys)
+          (all-then (λ p. names.contains c.entries.table.keys p ≡ true) (λ p. names.contains c.put_entry.new.table.keys p ≡ true) (pairs_in sides)
+          (λ q. still-inserted c.entries.table.keys c.put_entry.new.table.keys old.pair q said.keys) known.keys)
           (inserted c.entries.table.keys c.put_entry.new.table.keys old.pair said.keys)));
       among = put-among c.entries.table.keys c.put_entry.new.table.keys c.entries.table.routes c.put_entry.new.table.routes old.pair (route_in old.other) said.keys said.routes known.among;
       held = said.held;

@@ -1,8 +1,8 @@
 use Rattle.std.proofs.Common.{◌≡◌, ◌+◌, ◌<◌, ◌++◌, ◌∷◌, [], length, take, drop, get_or, arith, sym, ap, ap₂, ◌∙◌, append_assoc}
-use Rattle.std.proofs.lemmas.List.{length-set, drop-set-lt, drop_more, take_more_set, take-append-drop}
+use Rattle.std.proofs.lemmas.List.{nil_from_length, length-set, drop-set-lt, drop_more, take_more_set, take-append-drop}
 use Rattle.rib_player.specs.Entries.{Entry}
 use Rattle.rib_player.specs.Kept.{cleared_entries}
-use Rattle.rib_player.proofs.LostLaws.{cleared-nil, nothing}
+use Rattle.rib_player.proofs.LostLaws.{cleared-nil}
 use Rattle.rib_player.proofs.losses.note_routes.Goals as goal
 
 pub routes-preserved : goal.routes-preserved
@@ -26,6 +26,6 @@ pub returns : goal.returns
 returns c =
     let i = c.routes.index in
     let entries = c.routes.entries in
-    let none : c.routes.route-iterator.rest.items ≡ [] = nothing _ (omega (arith, c.in-None.ensures.steps.0, c.routes.route-iterator.rest.ok)) in
+    let none : c.routes.route-iterator.rest.items ≡ [] = nil_from_length _ (omega (arith, c.in-None.ensures.steps.0, c.routes.route-iterator.rest.ok)) in
     sym (take-append-drop i entries) ∙ ap (λ es. take i entries ++ es) (sym (cleared-nil (drop i entries)))
     ∙ ap (λ routes. take i entries ++ cleared_entries (drop i entries) routes) (sym none) ∙ c.routes.invariant.entries

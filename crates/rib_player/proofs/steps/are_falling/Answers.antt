@@ -1,5 +1,6 @@
 -- Each entry is below the last one, and so below all before it.
-use Rattle.std.proofs.Common.{◌≡◌, ◌+◌, ◌<◌, suc, [], ◌∷◌, List, length, take, get_or, refl, sym, ap, subst, ◌∙◌, arith}
+use Rattle.std.proofs.Common.{◌≡◌, ◌+◌, ◌<◌, suc, ◌∷◌, List, length, take, get_or, sym, ap, subst, ◌∙◌, arith}
+use Rattle.std.proofs.lemmas.List.{nil_from_length}
 use Rattle.rib_player.specs.Entries.{Entry}
 use Rattle.rib_player.specs.Journal.{Side, side_of, sides_of}
 use Rattle.rib_player.specs.Sides.{AreDistinct}
@@ -7,11 +8,7 @@ use Rattle.rib_player.proofs.RowLaws.{AreNotBelow, distinct-none, falling-one, f
 use Rattle.rib_player.proofs.steps.are_falling.Goals as goal
 
 pub returns-in_default : goal.returns-in_default
-returns-in_default c = λ so. subst (λ (es : List Entry). AreDistinct (sides_of es)) (sym (nothing c.args.entries.now c.in_default.ensures.cases)) distinct-none
-  where
-    nothing : (es : List Entry) → length es ≡ 0 → es ≡ []
-    nothing [] none = refl
-    nothing (e ∷ es) none = absurd (omega (arith, none))
+returns-in_default c = λ so. subst (λ (es : List Entry). AreDistinct (sides_of es)) (sym (nil_from_length c.args.entries.now c.in_default.ensures.cases)) distinct-none
 
 pub entries-init : goal.entries-init
 entries-init c =

@@ -2,8 +2,12 @@ use Rattle.std.proofs.Common.{◌≡◌, ◌-◌, ◌<◌, suc, length, drop, ar
 use Rattle.rib_player.specs.declared.pair.Pair.{Pair}
 use Rattle.rib_player.specs.History.{later}
 use Rattle.rib_player.specs.Changes.{noted_effect, items_effect}
-use Rattle.rib_player.proofs.ChangesLaws.{items_effect-more}
+use Rattle.rib_player.proofs.ChangesLaws.{items_effect-more, shared-at}
 use Rattle.rib_player.proofs.changes.Changes.note_each.Goals as goal
+
+pub note-requires : goal.note-requires
+note-requires g c =
+    shared-at c.args.shared c.args.items.now (c.items.rest - 1) c.index-items-rest.result (omega (arith, c.items.invariant.within, c.items-test.true)) c.index-items-rest.is c.requires
 
 pub items-preserved : goal.items-preserved
 items-preserved g c =

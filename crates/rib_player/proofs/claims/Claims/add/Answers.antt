@@ -1,11 +1,12 @@
-use Rattle.std.proofs.Common.{◌≡◌, ◌+◌, Some, None, is_some, cond, sym, ap, ◌∙◌}
+use Rattle.std.proofs.Common.{◌≡◌, ◌+◌, Some, None, is_some, refl, sym, ap, subst, ◌∙◌, arith}
 use Rattle.std.specs.BTreeMap as tree
 use Rattle.std.specs.Option.{option_copied_mut}
 use Rattle.std.proofs.lemmas.Result.{on_ok_weaker, on_err_weaker}
 use Rattle.mrt_events.specs.Peer.{peer_cmp}
 use Rattle.rib_player.specs.Claims.{one_if, count_of_peer}
-use Rattle.rib_player.proofs.StoreLaws.{same_peer, same_network}
-use Rattle.rib_player.proofs.CountedLaws.{Peers, IsWritten, beyond-more, beyond-same}
+use Rattle.rib_player.specs.Holding.{IsWritten}
+use Rattle.rib_player.proofs.StoreLaws.{same_network}
+use Rattle.rib_player.proofs.CountedLaws.{Peers, beyond-written}
 use Rattle.rib_player.proofs.claims.Claims.add.Goals as goal
 use Rattle.rib_player.proofs.claims.Claims.add.Goals.{After-more}
 
@@ -13,28 +14,25 @@ found : (c : After-more) → Some c.in-Some.counts.now ≡ tree.get peer_cmp c.a
 found c = sym (ap option_copied_mut c.in-Some.is) ∙ c.get_mut.ensures.value
 
 -- other counts stand for the peer
-written : (c : After-more) → IsWritten c.args.self.now.peers (c.get_mut.follows.lender c.more.new.self) c.args.pair.now.peer (Some c.more.new.self)
-written c p = ((c.get_mut.follows.holds c.more.new.self).3 (ap is_some (sym (found c)))).0 p
+written : (c : After-more) → IsWritten c.args.self.now.peers.entries (c.get_mut.follows.lender c.more.new.self).entries c.args.pair.now.peer (Some c.more.new.self)
+written c = record { each = ((c.get_mut.follows.holds c.more.new.self).3 (ap is_some (sym (found c)))).0 }
 
 pub returns-in-Some-clause-counted : goal.returns-in-Some-clause-counted
 returns-in-Some-clause-counted c =
     let b = (goal.at.returns-in-Some-clause-counted c).After-more in
     on_ok_weaker c.more.result (λ more.
-    beyond-more c.args.self.now.peers (c.get_mut.follows.lender c.more.new.self) c.args.pair.now (Some c.more.new.self) (written b)
-    (λ n. more n ∙ ap (λ w. count_of_peer w n + one_if (same_network n c.args.pair.now.prefix)) (found b))) c.more.ensures.counted
+    beyond-written c.args.pair.now (written b) (λ new old b. new ≡ old + one_if b) (λ n. more n ∙ ap (λ w. count_of_peer w n + one_if (same_network n c.args.pair.now.prefix)) (found b)) (λ m. omega arith)) c.more.ensures.counted
 
 pub returns-in-Some-clause-refused : goal.returns-in-Some-clause-refused
 returns-in-Some-clause-refused c =
     let b = (goal.at.returns-in-Some-clause-refused c).After-more in
     on_err_weaker c.more.result (λ same.
-    beyond-same c.args.self.now.peers (c.get_mut.follows.lender c.more.new.self) c.args.pair.now (Some c.more.new.self) (written b)
-    (λ n. same n ∙ ap (λ w. count_of_peer w n) (found b))) c.more.ensures.refused
+    beyond-written c.args.pair.now (written b) (λ new old b. new ≡ old) (λ n. same n ∙ ap (λ w. count_of_peer w n) (found b)) (λ m. refl)) c.more.ensures.refused
 
 pub returns-clause-counted : goal.returns-clause-counted
 returns-clause-counted c =
-    let before = c.get_mut.follows.lender-at-none in
-    let same : before ≡ c.args.self.now.peers = c.get_mut.follows.holds-at-none in
     let none : None ≡ tree.get peer_cmp c.args.self.now.peers c.args.pair.now.peer = sym (ap option_copied_mut c.in_default.is) ∙ c.get_mut.ensures.value in
-    beyond-more c.args.self.now.peers c.insert.new.self c.args.pair.now (Some c.more-2.new.self)
-    (λ p. c.in_ok-insert.ensures.updates.0 p ∙ ap (λ (m : Peers). cond (same_peer c.args.pair.now.peer p) (Some c.more-2.new.self) (tree.get peer_cmp m p)) same)
-    (λ n. c.in_ok-more.ensures.counted n ∙ ap (λ k. k + one_if (same_network n c.args.pair.now.prefix)) (c.new-counts.ensures n ∙ ap (λ w. count_of_peer w n) none))
+    beyond-written c.args.pair.now
+    (subst (λ (m : Peers). IsWritten m.entries c.insert.new.self.entries c.args.pair.now.peer (Some c.more-2.new.self)) c.get_mut.follows.holds-at-none (record { each = c.in_ok-insert.ensures.updates.0 }))
+    (λ new old b. new ≡ old + one_if b)
+    (λ n. c.in_ok-more.ensures.counted n ∙ ap (λ k. k + one_if (same_network n c.args.pair.now.prefix)) (c.new-counts.ensures n ∙ ap (λ w. count_of_peer w n) none)) (λ m. omega arith)

@@ -6,7 +6,7 @@ use Rattle.rib_player.specs.declared.pair.Pair.{Pair}
 use Rattle.rib_player.specs.declared.entry.End.TheVariants.{First}
 use Rattle.rib_player.specs.Claims.{one_if, claims_beyond, held_claims}
 use Rattle.rib_player.specs.Calls.{without_first}
-use Rattle.rib_player.specs.Journal.{step_sides, steps_of, timeline_of, behind_forgotten}
+use Rattle.rib_player.specs.Journal.{step_sides, steps_of, timeline_of}
 use Rattle.rib_player.specs.Marks.{marks_of, gives_up_by}
 use Rattle.rib_player.specs.Played.{IsPlayed}
 use Rattle.rib_player.proofs.ForgetLaws.{timeline-forgotten}
@@ -24,30 +24,26 @@ before : (g : Over) (c : After-deref g) → c.self.inside.journal.cursor ≡ suc
 before g c = omega (arith, c.requires, ap (λ t. t.floor) c.self.view_is, ap (λ t. t.cursor) c.self.view_is)
 
 played : (g : Over) (c : After-deref g)
-    → IsPlayed c.self.inside.table.keys (claims_beyond c.self.inside.claims) c.self.inside.table.routes (suc (c.self.inside.journal.cursor - 1)) (c.in-Some.step ∷ c.pop_front.new.self.items)
+    → IsPlayed c.self.inside.table (claims_beyond c.self.inside.claims) (suc (c.self.inside.journal.cursor - 1)) (c.in-Some.step ∷ c.pop_front.new.self.items)
 played g c =
-    subst (λ n. IsPlayed c.self.inside.table.keys (claims_beyond c.self.inside.claims) c.self.inside.table.routes n (c.in-Some.step ∷ c.pop_front.new.self.items)) (before g c)
-    (subst (IsPlayed c.self.inside.table.keys (claims_beyond c.self.inside.claims) c.self.inside.table.routes c.self.inside.journal.cursor) (split g c) c.self.invariant.played)
+    subst (λ n. IsPlayed c.self.inside.table (claims_beyond c.self.inside.claims) n (c.in-Some.step ∷ c.pop_front.new.self.items)) (before g c)
+    (subst (IsPlayed c.self.inside.table (claims_beyond c.self.inside.claims) c.self.inside.journal.cursor) (split g c) c.self.invariant.played)
 
 pub give_up_claims-requires-clause-keys : goal.give_up_claims-requires-clause-keys
 give_up_claims-requires-clause-keys g c =
-    let b = (goal.at.give_up_claims-requires-clause-keys g c).After-deref in
     subst (λ es. (q : Pair) → gives_up_by First (marks_of es) q ≡ true → names.contains c.self.inside.table.keys q ≡ true) (sym c.deref.ensures.value)
-    (forgotten-keys (c.self.inside.journal.cursor - 1) c.in-Some.step c.pop_front.new.self.items c.self.inside.table.keys (claims_beyond c.self.inside.claims) c.self.inside.table.routes (played g b))
+    (forgotten-keys (played g (goal.at.give_up_claims-requires-clause-keys g c).After-deref))
 
 pub give_up_claims-requires-clause-free : goal.give_up_claims-requires-clause-free
 give_up_claims-requires-clause-free g c =
-    let b = (goal.at.give_up_claims-requires-clause-free g c).After-deref in
     subst (λ es. (q : Pair) → gives_up_by First (marks_of es) q ≡ true → claims_beyond c.self.inside.claims q ≡ 0 → finite.get c.self.inside.table.routes q ≡ None) (sym c.deref.ensures.value)
-    (forgotten-free (c.self.inside.journal.cursor - 1) c.in-Some.step c.pop_front.new.self.items c.self.inside.table.keys (claims_beyond c.self.inside.claims) c.self.inside.table.routes (played g b))
+    (forgotten-free (played g (goal.at.give_up_claims-requires-clause-free g c).After-deref))
 
 pub invariant_of-self : goal.invariant_of-self
 invariant_of-self g c =
     let b = (goal.at.invariant_of-self g c).After-deref in
     record {
-      played = forgotten-played (c.self.inside.journal.cursor - 1) c.in-Some.step c.pop_front.new.self.items c.self.inside.table.keys c.give_up_claims.new.table.keys
-          (claims_beyond c.self.inside.claims) (claims_beyond c.give_up_claims.new.claims) c.self.inside.table.routes c.give_up_claims.new.table.routes (played g b)
-          c.give_up_claims.ensures.routes c.give_up_claims.ensures.held
+      played = forgotten-played (played g b) c.give_up_claims.new.table (claims_beyond c.give_up_claims.new.claims) c.give_up_claims.ensures.routes c.give_up_claims.ensures.held
           (λ q. ap (λ es. held_claims c.give_up_claims.new.table.keys (claims_beyond c.give_up_claims.new.claims) q + one_if (gives_up_by First (marks_of es) q)) (sym c.deref.ensures.value) ∙ c.give_up_claims.ensures.claimed q);
       counted = omega (arith, c.self.invariant.counted, ap length (split g b));
     }
@@ -56,7 +52,7 @@ pub returns-in-Some : goal.returns-in-Some
 returns-in-Some g c =
     let b = (goal.at.returns-in-Some g c).After-deref in
     let journal = c.self.inside.journal in
-    ap (λ r. behind_forgotten (journal.floor + 1) (timeline_of (journal.cursor - 1) (steps_of c.pop_front.new.self.items) r)) c.give_up_claims.ensures.routes
+    ap (timeline_of (journal.floor + 1) (journal.cursor - 1) (steps_of c.pop_front.new.self.items)) c.give_up_claims.ensures.routes
     ∙ timeline-forgotten journal.floor (journal.cursor - 1) (step_sides c.in-Some.step) (steps_of c.pop_front.new.self.items) c.self.inside.table.routes
-    ∙ ap₂ (λ n steps. without_first 1 (behind_forgotten journal.floor (timeline_of n (steps_of steps) c.self.inside.table.routes))) (sym (before g b)) (sym (split g b))
+    ∙ ap₂ (λ n steps. without_first 1 (timeline_of journal.floor n (steps_of steps) c.self.inside.table.routes)) (sym (before g b)) (sym (split g b))
     ∙ ap (without_first 1) c.self.view_is

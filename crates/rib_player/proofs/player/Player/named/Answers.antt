@@ -6,5 +6,5 @@ use Rattle.rib_player.proofs.player.Player.named.Goals as goal
 
 pub returns : goal.returns
 returns g c =
-    c.named_from.ensures
+    c.named_by.ensures
     ∙ ap counted (named-total c.self.inside.journal.steps.items c.self.invariant.played.distinct ∙ ap named_count c.self.view_is)

@@ -1,4 +1,4 @@
-use Rattle.std.proofs.Common.{◌≡◌, ℕ, ◌+◌, List, length, take, arith, refl, ap, ap₂, sym, subst, ◌∙◌}
+use Rattle.std.proofs.Common.{◌≡◌, ℕ, ◌+◌, List, length, take, arith, ap, sym, subst, ◌∙◌}
 use Rattle.std.specs.Vec.{with_items}
 use Rattle.std.proofs.lemmas.List.{with_items_is, length_push, length-take-le}
 use Rattle.rib_player.specs.declared.pair.Pair.{Pair}
@@ -7,12 +7,11 @@ use Rattle.rib_player.specs.declared.journal.Step.{Step}
 use Rattle.rib_player.specs.declared.entry.End.TheVariants.{Last}
 use Rattle.rib_player.specs.Timeline.{after_play}
 use Rattle.rib_player.specs.Claims.{one_if, claims_beyond, held_claims}
-use Rattle.rib_player.specs.Journal.{sides_of, steps_of, timeline_of, behind_forgotten}
+use Rattle.rib_player.specs.Journal.{sides_of, steps_of, timeline_of}
 use Rattle.rib_player.specs.Sides.{AreDistinct, IsStepFor}
 use Rattle.rib_player.specs.Marks.{marks_of, marks_by_step, step_marks, gives_up_by}
 use Rattle.rib_player.specs.Played.{IsPlayed, AreClaimed, CanDrop}
-use Rattle.rib_player.proofs.FloorLaws.{after_play-behind}
-use Rattle.rib_player.proofs.PlayedLaws.{played-among, step-named, can-play, after_play-on}
+use Rattle.rib_player.proofs.PlayedLaws.{tables-played, played-among, step-named, can-play, after_play-on, played-on}
 use Rattle.rib_player.proofs.player.Player.play_step.Given.{Over}
 use Rattle.rib_player.proofs.player.Player.play_step.Goals as goal
 use Rattle.rib_player.proofs.player.Player.play_step.Goals.{After-as_mut_slice, In_ok-put_entries, After-push_back_reserved}
@@ -29,8 +28,7 @@ pub put_entries-requires-clause-distinct : goal.put_entries-requires-clause-dist
 put_entries-requires-clause-distinct g c = distinct g (goal.at.put_entries-requires-clause-distinct g c).After-as_mut_slice
 
 pub put_entries-requires-clause-among : goal.put_entries-requires-clause-among
-put_entries-requires-clause-among g c =
-    played-among c.self.inside.table.keys (claims_beyond c.self.inside.claims) c.self.inside.table.routes c.self.inside.journal.cursor c.self.inside.journal.steps.items c.self.invariant.played
+put_entries-requires-clause-among g c = played-among c.self.invariant.played
 
 pub put_entries-requires-clause-named : goal.put_entries-requires-clause-named
 put_entries-requires-clause-named g c =
@@ -43,15 +41,14 @@ stepped g c = subst (λ es. IsStepFor c.self.inside.table.routes c.args.event.no
 
 can : (g : Over) (c : In_ok-put_entries g) → CanDrop (marks_by_step c.self.inside.journal.steps.items) c.self.inside.journal.cursor (held_claims c.put_entries.new.table.keys (claims_beyond c.put_entries.new.claims)) c.put_entries.new.table.routes
 can g c =
-    can-play c.self.inside.table.keys c.put_entries.new.table.keys (claims_beyond c.self.inside.claims) (claims_beyond c.put_entries.new.claims) c.self.inside.table.routes c.put_entries.new.table.routes
-    c.self.inside.journal.cursor c.self.inside.journal.steps.items c.args.event.now (sides_of c.as_mut_slice.result.now) (marks_of c.put_entries.new.entries)
-    c.self.invariant.played (stepped g c) c.in_ok-put_entries.ensures.routes c.in_ok-put_entries.ensures.marks c.in_ok-put_entries.ensures.claimed
+    can-play c.self.invariant.played (stepped g c) c.put_entries.new.table (claims_beyond c.put_entries.new.claims) (marks_of c.put_entries.new.entries)
+    c.in_ok-put_entries.ensures.routes c.in_ok-put_entries.ensures.marks c.in_ok-put_entries.ensures.claimed
 
 pub drop_ahead-requires-clause-claimed : goal.drop_ahead-requires-clause-claimed
 drop_ahead-requires-clause-claimed g c =
     let held = held_claims c.put_entries.new.table.keys (claims_beyond c.put_entries.new.claims) in
-    subst (λ ss. CanDrop (marks_by_step ss) c.make_room.new.self.cursor held c.put_entries.new.table.routes) (sym c.in_ok-make_room.ensures.steps)
-    (subst (λ n. CanDrop (marks_by_step c.self.inside.journal.steps.items) n held c.put_entries.new.table.routes) (sym c.in_ok-make_room.ensures.cursor) (can g (goal.at.drop_ahead-requires-clause-claimed g c).In_ok-put_entries))
+    subst (λ ss. CanDrop (marks_by_step ss) c.self.inside.journal.cursor held c.put_entries.new.table.routes) (sym c.in_ok-make_room.ensures.steps)
+    (can g (goal.at.drop_ahead-requires-clause-claimed g c).In_ok-put_entries)
 
 -- ---- once the steps ahead are dropped
 
@@ -63,72 +60,61 @@ entries_then : (g : Over) (c : After-push_back_reserved g) → (new g c).entries
 entries_then g c = with_items_is c.in_ok-new.new.entries c.put_entries.new.entries (c.put_entries.auto.entries ∙ c.as_mut_slice.ensures.len)
 
 -- the steps before the cursor are left
-left : (g : Over) (c : After-push_back_reserved g) → c.drop_ahead.new.self.steps.items ≡ take c.self.inside.journal.cursor c.self.inside.journal.steps.items
-left g c = c.drop_ahead.ensures.steps ∙ ap₂ take c.in_ok-make_room.ensures.cursor c.in_ok-make_room.ensures.steps
+left : (g : Over) (c : After-push_back_reserved g) → c.drop_ahead.new.steps.items ≡ take c.self.inside.journal.cursor c.self.inside.journal.steps.items
+left g c = c.drop_ahead.ensures.steps ∙ ap (take c.self.inside.journal.cursor) c.in_ok-make_room.ensures.steps
 
-cursor_then : (g : Over) (c : After-push_back_reserved g) → c.drop_ahead.new.self.cursor ≡ c.self.inside.journal.cursor
-cursor_then g c = c.drop_ahead.ensures.cursor ∙ c.in_ok-make_room.ensures.cursor
+step_then : (g : Over) (c : After-push_back_reserved g) → IsStepFor c.self.inside.table.routes c.args.event.now (sides_of c.as_mut_slice.result.now)
+step_then g c = subst (λ es. IsStepFor c.self.inside.table.routes c.args.event.now (sides_of es)) (sym c.as_mut_slice.ensures.value) c.in_ok-new.ensures.step
 
 -- with the claims that they and the event's step make
 claimed_then : (g : Over) (c : After-push_back_reserved g)
-    → AreClaimed (marks_by_step c.drop_ahead.new.self.steps.items) (held_claims c.drop_ahead.new.table.keys (claims_beyond c.drop_ahead.new.claims))
-    (take (c.self.inside.journal.cursor + 1) (timeline_of c.self.inside.journal.cursor (steps_of c.self.inside.journal.steps.items) c.self.inside.table.routes).tables)
+    → AreClaimed (marks_by_step c.drop_ahead.new.steps.items) (held_claims c.drop_ahead.new.table.keys (claims_beyond c.drop_ahead.new.claims))
+    (take (c.self.inside.journal.cursor + 1) (tables-played c.self.invariant.played))
     (λ q. one_if (gives_up_by Last (step_marks (new g c)) q))
 claimed_then g c =
     let journal = c.self.inside.journal in
-    let t = timeline_of journal.cursor (steps_of journal.steps.items) c.self.inside.table.routes in
+    let tables = tables-played c.self.invariant.played in
     let now = held_claims c.drop_ahead.new.table.keys (claims_beyond c.drop_ahead.new.claims) in
     let before = held_claims c.put_entries.new.table.keys (claims_beyond c.put_entries.new.claims) in
-    let marks = marks_by_step c.drop_ahead.new.self.steps.items in
+    let marks = marks_by_step c.drop_ahead.new.steps.items in
     let one : List Entry → Pair → ℕ = λ es q. one_if (gives_up_by Last (marks_of es) q) in
-    subst (λ es. AreClaimed marks now (take (journal.cursor + 1) t.tables) (one es)) (sym (entries_then g c))
-    (subst (λ n. AreClaimed marks now (take (n + 1) t.tables) (one c.put_entries.new.entries)) c.in_ok-make_room.ensures.cursor
-    (c.drop_ahead.ensures.claimed t.tables (one c.put_entries.new.entries)
-    (subst (λ ss. AreClaimed (marks_by_step ss) before t.tables (one c.put_entries.new.entries)) (sym c.in_ok-make_room.ensures.steps)
+    subst (λ es. AreClaimed marks now (take (journal.cursor + 1) tables) (one es)) (sym (entries_then g c))
+    (c.drop_ahead.ensures.claimed tables (one c.put_entries.new.entries)
+    (subst (λ ss. AreClaimed (marks_by_step ss) before tables (one c.put_entries.new.entries)) (sym c.in_ok-make_room.ensures.steps)
     (record {
       marked = c.self.invariant.played.marked;
       claimed = λ q. c.in_ok-put_entries.ensures.claimed q ∙ ap (λ n. n + one_if (gives_up_by Last (marks_of c.put_entries.new.entries) q)) (c.self.invariant.played.claimed q);
-    }))))
+    })))
 
--- the player with the event's step behind the cursor
-then : (g : Over) (c : After-push_back_reserved g)
-    → (timeline_of (c.self.inside.journal.cursor + 1) (steps_of c.push_back_reserved.new.self.items) c.drop_ahead.new.table.routes
-    ≡ after_play (timeline_of c.self.inside.journal.cursor (steps_of c.self.inside.journal.steps.items) c.self.inside.table.routes) c.args.event.now)
-    × IsPlayed c.drop_ahead.new.table.keys (claims_beyond c.drop_ahead.new.claims) c.drop_ahead.new.table.routes (c.self.inside.journal.cursor + 1) c.push_back_reserved.new.self.items
-then g c =
-    let journal = c.self.inside.journal in
-    let sides = sides_of c.as_mut_slice.result.now in
-    let step : IsStepFor c.self.inside.table.routes c.args.event.now sides = subst (λ es. IsStepFor c.self.inside.table.routes c.args.event.now (sides_of es)) (sym c.as_mut_slice.ensures.value) c.in_ok-new.ensures.step in
-    subst (λ items. (timeline_of (journal.cursor + 1) (steps_of items) c.drop_ahead.new.table.routes ≡ after_play (timeline_of journal.cursor (steps_of journal.steps.items) c.self.inside.table.routes) c.args.event.now)
-    × IsPlayed c.drop_ahead.new.table.keys (claims_beyond c.drop_ahead.new.claims) c.drop_ahead.new.table.routes (journal.cursor + 1) items) (sym c.push_back_reserved.ensures.items)
-    (after_play-on c.self.inside.table.keys c.drop_ahead.new.table.keys (claims_beyond c.self.inside.claims) (claims_beyond c.drop_ahead.new.claims) c.self.inside.table.routes c.drop_ahead.new.table.routes
-    journal.cursor journal.steps.items c.drop_ahead.new.self.steps.items sides (new g c) c.args.event.now c.self.invariant.played step
-    step.distinct (left g c) (c.drop_ahead.ensures.routes ∙ c.in_ok-put_entries.ensures.routes)
-    (ap sides_of (entries_then g c) ∙ c.in_ok-put_entries.ensures.sides) (ap marks_of (entries_then g c) ∙ c.in_ok-put_entries.ensures.marks)
-    c.drop_ahead.ensures.held (claimed_then g c))
+-- the event's step stands behind the cursor
+then : (g : Over) (c : After-push_back_reserved g) (floor : ℕ)
+    → timeline_of floor (c.self.inside.journal.cursor + 1) (steps_of c.push_back_reserved.new.self.items) c.drop_ahead.new.table.routes
+    ≡ after_play (timeline_of floor c.self.inside.journal.cursor (steps_of c.self.inside.journal.steps.items) c.self.inside.table.routes) c.args.event.now
+then g c floor =
+    ap (λ items. timeline_of floor (c.self.inside.journal.cursor + 1) (steps_of items) c.drop_ahead.new.table.routes) c.push_back_reserved.ensures.items
+    ∙ after_play-on c.self.invariant.played (step_then g c) c.drop_ahead.new.table (claims_beyond c.drop_ahead.new.claims) c.drop_ahead.new.steps.items (new g c) (left g c)
+    (c.drop_ahead.ensures.routes ∙ c.in_ok-put_entries.ensures.routes) (ap sides_of (entries_then g c) ∙ c.in_ok-put_entries.ensures.sides) floor
 
 pub invariant_of-self-2 : goal.invariant_of-self-2
 invariant_of-self-2 g c =
     let b = (goal.at.invariant_of-self-2 g c).After-push_back_reserved in
     record {
-      played = subst (λ n. IsPlayed c.drop_ahead.new.table.keys (claims_beyond c.drop_ahead.new.claims) c.drop_ahead.new.table.routes (n + 1) c.push_back_reserved.new.self.items) (sym (cursor_then g b)) (then g b).1;
+      played = subst (IsPlayed c.drop_ahead.new.table (claims_beyond c.drop_ahead.new.claims) (c.self.inside.journal.cursor + 1)) (sym c.push_back_reserved.ensures.items)
+          (played-on c.self.invariant.played (step_then g b) c.drop_ahead.new.table (claims_beyond c.drop_ahead.new.claims) c.drop_ahead.new.steps.items (new g b) (left g b)
+          (c.drop_ahead.ensures.routes ∙ c.in_ok-put_entries.ensures.routes) (ap sides_of (entries_then g b) ∙ c.in_ok-put_entries.ensures.sides)
+          (ap marks_of (entries_then g b) ∙ c.in_ok-put_entries.ensures.marks) c.drop_ahead.ensures.held (claimed_then g b));
       counted = omega (
         arith,
         c.requires,
         ap (λ t. t.cursor) c.self.view_is,
         ap length c.push_back_reserved.ensures.items,
-        length_push c.drop_ahead.new.self.steps.items (new g b),
+        length_push c.drop_ahead.new.steps.items (new g b),
         ap length (left g b),
         length-take-le c.self.inside.journal.cursor c.self.inside.journal.steps.items c.self.invariant.played.within,
-        c.drop_ahead.ensures.floor ∙ c.in_ok-make_room.ensures.floor,
       );
     }
 
 pub returns-clause-after_play : goal.returns-clause-after_play
 returns-clause-after_play g c =
     let b = (goal.at.returns-clause-after_play g c).After-push_back_reserved in
-    let journal = c.self.inside.journal in
-    let t = timeline_of journal.cursor (steps_of journal.steps.items) c.self.inside.table.routes in
-    ap₂ (λ m n. behind_forgotten m (timeline_of (n + 1) (steps_of c.push_back_reserved.new.self.items) c.drop_ahead.new.table.routes)) (c.drop_ahead.ensures.floor ∙ c.in_ok-make_room.ensures.floor) (cursor_then g b)
-    ∙ ap (behind_forgotten journal.floor) (then g b).0
-    ∙ after_play-behind journal.floor t c.args.event.now refl ∙ ap (λ t. after_play t c.args.event.now) c.self.view_is
+    then g b c.self.inside.journal.floor ∙ ap (λ t. after_play t c.args.event.now) c.self.view_is

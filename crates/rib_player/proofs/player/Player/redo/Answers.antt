@@ -1,16 +1,12 @@
-use Rattle.std.proofs.Common.{◌≡◌, ◌+◌, ◌<◌, List, length, refl, ap, set, sym, subst, ◌∙◌, arith}
-use Rattle.std.specs.FinSet.{from_list}
+use Rattle.std.proofs.Common.{◌+◌, ◌<◌, length, refl, ap, ap₂, sym, subst, ◌∙◌, arith}
 use Rattle.std.proofs.lemmas.List.{length-map}
-use Rattle.rib_player.specs.History.{pair_cmp}
 use Rattle.rib_player.specs.Calls.{after_redo}
-use Rattle.rib_player.specs.Claims.{claims_beyond}
-use Rattle.rib_player.specs.Journal.{Side, pairs_in, step_sides, steps_of, timeline_of, behind_forgotten, routes_across}
-use Rattle.rib_player.specs.Sides.{sides_at, sides_across, IsKept}
+use Rattle.rib_player.specs.Journal.{step_sides, steps_of, timeline_of}
+use Rattle.rib_player.specs.Sides.{sides_at, IsKept}
 use Rattle.rib_player.specs.Store.{Contents}
-use Rattle.rib_player.specs.Marks.{step_marks}
-use Rattle.rib_player.specs.Played.{IsPlayed}
-use Rattle.rib_player.proofs.PlayedLaws.{played-kept, after_redo-on}
-use Rattle.rib_player.proofs.FloorLaws.{after_redo-behind}
+use Rattle.rib_player.specs.Played.{IsCrossed}
+use Rattle.rib_player.proofs.PlayedLaws.{played-kept, redone-played, length-crossed}
+use Rattle.rib_player.proofs.CursorLaws.{timeline-after_redo}
 use Rattle.rib_player.proofs.player.Player.redo.Given.{Over}
 use Rattle.rib_player.proofs.player.Player.redo.Goals as goal
 use Rattle.rib_player.proofs.player.Player.redo.Goals.{After-reach_ahead, After-cross_step}
@@ -23,32 +19,26 @@ pub cross_step-requires-clause-kept : goal.cross_step-requires-clause-kept
 cross_step-requires-clause-kept g c =
     let journal = c.self.inside.journal in
     subst (λ (t : Contents). IsKept t.keys (sides_at (steps_of journal.steps.items) journal.cursor)) (sym c.reach_ahead.ensures)
-    (played-kept c.self.inside.table.keys (claims_beyond c.self.inside.claims) c.self.inside.table.routes journal.cursor journal.steps.items journal.cursor (ahead g (goal.at.cross_step-requires-clause-kept g c).After-reach_ahead) c.self.invariant.played)
+    (played-kept c.self.invariant.played journal.cursor (ahead g (goal.at.cross_step-requires-clause-kept g c).After-reach_ahead))
 
--- the player on the other side of the step
-then : (g : Over) (c : After-cross_step g)
-    → (timeline_of (c.self.inside.journal.cursor + 1) (steps_of c.cross_step.new.steps.items) c.cross_step.new.table.routes
-    ≡ after_redo (timeline_of c.self.inside.journal.cursor (steps_of c.self.inside.journal.steps.items) c.self.inside.table.routes))
-    × IsPlayed c.cross_step.new.table.keys (claims_beyond c.self.inside.claims) c.cross_step.new.table.routes (c.self.inside.journal.cursor + 1) c.cross_step.new.steps.items
-then g c =
-    let steps = c.self.inside.journal.steps.items in
-    let index = c.self.inside.journal.cursor in
-    after_redo-on c.self.inside.table.keys c.cross_step.new.table.keys (claims_beyond c.self.inside.claims) c.self.inside.table.routes c.cross_step.new.table.routes c.self.inside.journal.cursor steps c.cross_step.new.steps.items
-    (omega (arith, c.self.invariant.played.within, c.self.inside.journal.steps.ok.0)) c.self.invariant.played (c.cross_step.ensures.keys ∙ ap (λ (t : Contents). t.keys) c.reach_ahead.ensures)
-    (c.cross_step.ensures.routes ∙ ap (λ (t : Contents). routes_across (sides_at (steps_of steps) index) t.routes) c.reach_ahead.ensures)
-    (c.cross_step.ensures.steps ∙ ap (λ (t : Contents). set (steps_of steps) index (sides_across t.routes (sides_at (steps_of steps) index))) c.reach_ahead.ensures)
-    c.cross_step.ensures.marks
+-- it was crossed
+crossed : (g : Over) (c : After-cross_step g) → IsCrossed c.self.inside.table c.cross_step.new.table c.self.inside.journal.steps.items c.cross_step.new.steps.items c.self.inside.journal.cursor
+crossed g c =
+    subst (λ t. IsCrossed t c.cross_step.new.table c.self.inside.journal.steps.items c.cross_step.new.steps.items c.self.inside.journal.cursor) c.reach_ahead.ensures c.cross_step.ensures
 
 pub invariant_of-self : goal.invariant_of-self
-invariant_of-self g c = record {
-  played = (then g (goal.at.invariant_of-self g c).After-cross_step).1;
-  counted = omega (arith, c.self.invariant.counted, ap length c.cross_step.ensures.marks, length-map c.cross_step.new.steps.items step_marks, length-map c.self.inside.journal.steps.items step_marks);
-}
+invariant_of-self g c =
+    let b = goal.at.invariant_of-self g c in
+    let step = crossed g b.After-cross_step in
+    record {
+      played = redone-played c.self.invariant.played step refl (ahead g b.After-reach_ahead);
+      counted = omega (arith, c.self.invariant.counted, length-crossed c.self.invariant.played step);
+    }
 
 pub returns-clause-after_redo : goal.returns-clause-after_redo
 returns-clause-after_redo g c =
-    let t = timeline_of c.self.inside.journal.cursor (steps_of c.self.inside.journal.steps.items) c.self.inside.table.routes in
-    ap (behind_forgotten c.self.inside.journal.floor) (then g (goal.at.returns-clause-after_redo g c).After-cross_step).0
-    ∙ after_redo-behind c.self.inside.journal.floor t refl
-    (omega (arith, ahead g (goal.at.returns-clause-after_redo g c).After-reach_ahead, length-map c.self.inside.journal.steps.items step_sides, length-map (steps_of c.self.inside.journal.steps.items) (λ (sides : List Side). from_list {R = pair_cmp} (pairs_in sides))))
-    ∙ ap after_redo c.self.view_is
+    let journal = c.self.inside.journal in
+    let b = goal.at.returns-clause-after_redo g c in
+    let step = crossed g b.After-cross_step in
+    ap₂ (timeline_of journal.floor (journal.cursor + 1)) step.sides step.routes
+    ∙ timeline-after_redo journal.floor journal.cursor (steps_of journal.steps.items) c.self.inside.table.routes (omega (arith, ahead g b.After-reach_ahead, length-map journal.steps.items step_sides)) ∙ ap after_redo c.self.view_is

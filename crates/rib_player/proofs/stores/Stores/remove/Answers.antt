@@ -1,5 +1,6 @@
 use Rattle.std.proofs.Common.{◌≡◌, Some, None, is_some, slice_get, sym, ap, subst, ◌∙◌, arith}
 use Rattle.std.specs.Map.{lookup}
+use Rattle.std.proofs.lemmas.List.{length-map}
 use Rattle.std.specs.declared.alloc.Global.{Global}
 use Rattle.std.specs.declared.rc.Rc.{Rc}
 use Rattle.mrt_events.specs.declared.peer.Peer.{Peer}
@@ -7,15 +8,13 @@ use Rattle.rib_player.specs.Numbered.{peers_in}
 use Rattle.rib_player.proofs.ListLaws.{IsSwapped, swapped, swapped-map}
 use Rattle.rib_player.proofs.RowLaws.{name-there, no-name}
 use Rattle.rib_player.proofs.StoreLaws.{same_peer}
-use Rattle.rib_player.proofs.NumberLaws.{held-there, names-there, moved-found, renumbered-moved, renumbered-gone, numbered-remove, stores-remove, stores-absent}
+use Rattle.rib_player.proofs.NumberLaws.{held-there, named-there, moved-found, renumbered-moved, renumbered-gone, stores-remove, stores-absent}
 use Rattle.rib_player.proofs.stores.Stores.remove.Given.{Over}
 use Rattle.rib_player.proofs.stores.Stores.remove.Goals as goal
 use Rattle.rib_player.proofs.stores.Stores.remove.Goals.{In-Some, After-swap_remove-2, After-peer, In_default-get}
 
 pub returns-in_default : goal.returns-in_default
-returns-in_default g c =
-    let s = c.args.self.now in
-    stores-absent s.held.items (peers_in s.names.items) s.order.entries s.numbered c.remove.new.self.entries c.args.peer.now (sym c.remove.ensures.value ∙ c.in_default.is) (c.in_default.ensures.unchanged)
+returns-in_default g c = stores-absent c.args.self.now.numbered (sym c.remove.ensures.value ∙ c.in_default.is) c.in_default.ensures.unchanged
 
 -- the peer has this number
 found : (g : Over) (c : In-Some g) → lookup (same_peer c.args.peer.now) c.args.self.now.order.entries ≡ Some c.in-Some.number
@@ -24,12 +23,12 @@ found g c = sym c.remove.ensures.value ∙ c.in-Some.is
 pub swap_remove-requires : goal.swap_remove-requires
 swap_remove-requires g c =
     let s = c.args.self.now in
-    omega (arith, held-there s.held.items (peers_in s.names.items) s.order.entries s.numbered c.args.peer.now c.in-Some.number (found g (goal.at.swap_remove-requires g c).In-Some), s.held.ok)
+    omega (arith, held-there s.numbered c.args.peer.now c.in-Some.number (found g (goal.at.swap_remove-requires g c).In-Some), s.held.ok)
 
 pub swap_remove-requires-2 : goal.swap_remove-requires-2
 swap_remove-requires-2 g c =
     let s = c.args.self.now in
-    omega (arith, names-there s.held.items s.names.items s.order.entries s.numbered c.args.peer.now c.in-Some.number (found g (goal.at.swap_remove-requires-2 g c).In-Some), s.names.ok)
+    omega (arith, named-there s.numbered c.args.peer.now c.in-Some.number (found g (goal.at.swap_remove-requires-2 g c).In-Some), length-map s.names.items (λ (shared : Rc Peer Global). shared.value), s.names.ok)
 
 -- the last store and the last peer have its places
 stores : (g : Over) (c : After-swap_remove-2 g) → IsSwapped c.args.self.now.held.items c.swap_remove.new.self.items c.in-Some.number
@@ -61,43 +60,33 @@ none g c =
 
 pub renumber-requires : goal.renumber-requires
 renumber-requires g c =
-    let s = c.args.self.now in
     let a = goal.at.renumber-requires g c in
-    ap is_some (moved-found s.held.items (peers_in s.names.items) s.order.entries s.numbered c.args.peer.now c.in-Some.number (found g a.In-Some) (peers_in c.swap_remove-2.new.self.items) (peers g a.After-swap_remove-2)
-    c.remove.new.self.entries c.remove.ensures.updates.0 c.peer.result.now (moved g a.After-peer))
+    ap is_some (moved-found c.args.self.now.numbered (found g a.In-Some) (peers g a.After-swap_remove-2) (record { each = c.remove.ensures.updates.0 }) c.peer.result.now (moved g a.After-peer))
 
 pub invariant_of-self-in-Some-get-clause-numbered : goal.invariant_of-self-in-Some-get-clause-numbered
 invariant_of-self-in-Some-get-clause-numbered g c =
-    let s = c.args.self.now in
     let a = goal.at.invariant_of-self-in-Some-get-clause-numbered g c in
-    let new = renumbered-moved s.held.items (peers_in s.names.items) s.order.entries s.numbered c.args.peer.now c.in-Some.number (found g a.In-Some) (peers_in c.swap_remove-2.new.self.items) (peers g a.After-swap_remove-2)
-    c.remove.new.self.entries c.renumber.new.order.entries c.remove.ensures.updates.0 c.peer.result.now (moved g a.After-peer) c.renumber.ensures in
-    numbered-remove s.held.items (peers_in s.names.items) s.order.entries s.numbered c.args.peer.now c.in-Some.number (found g a.In-Some)
-    c.swap_remove.new.self.items (peers_in c.swap_remove-2.new.self.items) c.renumber.new.order.entries (stores g a.After-swap_remove-2) (peers g a.After-swap_remove-2) new
+    let is = found g a.In-Some in
+    let last = peers g a.After-swap_remove-2 in
+    (stores-remove c.args.self.now.numbered is (stores g a.After-swap_remove-2) last (renumbered-moved c.args.self.now.numbered is last (record { each = c.remove.ensures.updates.0 }) c.peer.result.now (moved g a.After-peer) c.renumber.ensures)).0
 
 pub invariant_of-self-in_default-get-clause-numbered : goal.invariant_of-self-in_default-get-clause-numbered
 invariant_of-self-in_default-get-clause-numbered g c =
-    let s = c.args.self.now in
     let a = goal.at.invariant_of-self-in_default-get-clause-numbered g c in
-    let new = renumbered-gone s.held.items (peers_in s.names.items) s.order.entries s.numbered c.args.peer.now c.in-Some.number (found g a.In-Some) (peers_in c.swap_remove-2.new.self.items) (peers g a.After-swap_remove-2)
-    c.remove.new.self.entries c.remove.ensures.updates.0 (none g a.In_default-get) in
-    numbered-remove s.held.items (peers_in s.names.items) s.order.entries s.numbered c.args.peer.now c.in-Some.number (found g a.In-Some)
-    c.swap_remove.new.self.items (peers_in c.swap_remove-2.new.self.items) c.remove.new.self.entries (stores g a.After-swap_remove-2) (peers g a.After-swap_remove-2) new
+    let is = found g a.In-Some in
+    let last = peers g a.After-swap_remove-2 in
+    (stores-remove c.args.self.now.numbered is (stores g a.After-swap_remove-2) last (renumbered-gone c.args.self.now.numbered is last (record { each = c.remove.ensures.updates.0 }) (none g a.In_default-get))).0
 
 pub returns-in-Some-get : goal.returns-in-Some-get
 returns-in-Some-get g c =
-    let s = c.args.self.now in
     let a = goal.at.returns-in-Some-get g c in
-    let new = renumbered-moved s.held.items (peers_in s.names.items) s.order.entries s.numbered c.args.peer.now c.in-Some.number (found g a.In-Some) (peers_in c.swap_remove-2.new.self.items) (peers g a.After-swap_remove-2)
-    c.remove.new.self.entries c.renumber.new.order.entries c.remove.ensures.updates.0 c.peer.result.now (moved g a.After-peer) c.renumber.ensures in
-    stores-remove s.held.items (peers_in s.names.items) s.order.entries s.numbered c.args.peer.now c.in-Some.number (found g a.In-Some)
-    c.swap_remove.new.self.items (peers_in c.swap_remove-2.new.self.items) c.renumber.new.order.entries (stores g a.After-swap_remove-2) (peers g a.After-swap_remove-2) new
+    let is = found g a.In-Some in
+    let last = peers g a.After-swap_remove-2 in
+    (stores-remove c.args.self.now.numbered is (stores g a.After-swap_remove-2) last (renumbered-moved c.args.self.now.numbered is last (record { each = c.remove.ensures.updates.0 }) c.peer.result.now (moved g a.After-peer) c.renumber.ensures)).1
 
 pub returns-in_default-get : goal.returns-in_default-get
 returns-in_default-get g c =
-    let s = c.args.self.now in
     let a = goal.at.returns-in_default-get g c in
-    let new = renumbered-gone s.held.items (peers_in s.names.items) s.order.entries s.numbered c.args.peer.now c.in-Some.number (found g a.In-Some) (peers_in c.swap_remove-2.new.self.items) (peers g a.After-swap_remove-2)
-    c.remove.new.self.entries c.remove.ensures.updates.0 (none g a.In_default-get) in
-    stores-remove s.held.items (peers_in s.names.items) s.order.entries s.numbered c.args.peer.now c.in-Some.number (found g a.In-Some)
-    c.swap_remove.new.self.items (peers_in c.swap_remove-2.new.self.items) c.remove.new.self.entries (stores g a.After-swap_remove-2) (peers g a.After-swap_remove-2) new
+    let is = found g a.In-Some in
+    let last = peers g a.After-swap_remove-2 in
+    (stores-remove c.args.self.now.numbered is (stores g a.After-swap_remove-2) last (renumbered-gone c.args.self.now.numbered is last (record { each = c.remove.ensures.updates.0 }) (none g a.In_default-get))).1

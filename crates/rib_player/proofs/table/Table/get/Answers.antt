@@ -1,7 +1,11 @@
--- What the prover finds, named so that it refuses a wrong body sooner.
-use Rattle.std.proofs.Common.{arith}
-use Rattle.std.proofs.lemmas.Grind.{common_steps}
+use Rattle.std.proofs.Common.{ap, sym, ◌∙◌}
+use Rattle.std.specs.Option.{option_map}
+use Rattle.rib_player.specs.Holding.{value_of}
+use Rattle.rib_player.proofs.StoreLaws.{route-copied}
 use Rattle.rib_player.proofs.table.Table.get.Goals as goal
 
+pub returns-in_err-store : goal.returns-in_err-store
+returns-in_err-store g c = ap (option_map (λ route. route.now.value)) c.from_residual.ensures ∙ sym (c.in_err-store.ensures.absent c.args.prefix.now)
+
 pub returns : goal.returns
-returns g c = grind (arith, common_steps)
+returns g c = route-copied c.get.result ∙ ap (option_map value_of) c.get.ensures ∙ c.in_ok-store.ensures.routes c.args.prefix.now

@@ -1,93 +1,86 @@
-use Rattle.std.proofs.Common.{◌≡◌, ◌<◌, Some, IfSome, not, ◌||◌, cond, sym, ap, ◌∙◌, subst}
-use Rattle.std.specs.Option.{option_map, option_copied_mut}
-use Rattle.std.specs.Ordering.{eq_by_cmp}
+use Rattle.std.proofs.Common.{◌≡◌, Some, None, not, sym, ap, subst, ◌∙◌}
+use Rattle.std.specs.Option.{option_copied_mut}
 use Rattle.std.specs.FinMap as finite
 use Rattle.std.specs.FinSet as set
-use Rattle.std.specs.FinSet.{contains-insert}
-use Rattle.ip_prefix.specs.Network.{Network}
-use Rattle.ip_prefix.specs.Order.{network_cmp}
-use Rattle.ip_prefix.specs.OrderLaws.{network_cmp_total}
-use Rattle.mrt_events.specs.declared.peer.Peer.{Peer}
-use Rattle.std.proofs.lemmas.Result.{on_ok_weaker, on_err_weaker, IfOk-weaker}
-use Rattle.prefix_store.specs.Stored.{put}
-use Rattle.rib_player.specs.Store.{store_at, has_key, stored_route, route_in, keys_in}
-use Rattle.rib_player.specs.Holding.{value_of}
 use Rattle.rib_player.specs.StoresByPeer.{stores_in}
-use Rattle.rib_player.proofs.StoreLaws.{when_some, same_peer, keys_in-insert, keys_in-same, routes_in-same, routes_in-put, held-other, contains-found, get-found, stored-put, some-insert, either}
-use Rattle.rib_player.proofs.PairLaws.{pair_cmp_total}
-use Rattle.std.specs.Cmp.{eq_by_cmp_equiv}
-use Rattle.rib_player.proofs.table.Table.put.Goals as goal
+use Rattle.rib_player.specs.Store.{route_in, keys_in, routes_in}
+use Rattle.rib_player.specs.Holding.{IsWritten}
+use Rattle.prefix_store.specs.Stored.{put}
+use Rattle.std.proofs.lemmas.Result.{on_ok_weaker, on_err_weaker, IfOk-weaker}
+use Rattle.rib_player.proofs.HeldLaws.{inserted}
+use Rattle.rib_player.proofs.StoreLaws.{IsStored, stored-lent, contains-found, get-found, held-other, held-kept, held-more, keys-kept, keys-more, routes-kept, routes-put, keys-added, routes-added, some-insert, either}
 use Rattle.rib_player.proofs.table.Table.put.Given.{Over}
-use Rattle.rib_player.proofs.table.Table.put.Goals.{After-put}
+use Rattle.rib_player.proofs.table.Table.put.Goals as goal
+use Rattle.rib_player.proofs.table.Table.put.Goals.{After-put, In_ok-insert}
 
 -- the peer's store was written
-found : (g : Over) (c : After-put g) → Some c.in-Some.store.now ≡ store_at (stores_in c.self.inside.stores) c.args.pair.now.peer
-found g c = sym (ap option_copied_mut c.in-Some.is) ∙ c.get_mut.ensures.value
-
-written : (g : Over) (c : After-put g) → (p : Peer) → store_at (stores_in (c.get_mut.follows.lender c.put.new.self)) p
-    ≡ cond (same_peer c.args.pair.now.peer p) (Some c.put.new.self) (store_at (stores_in c.self.inside.stores) p)
-written g c p =
-    when_some c.get_mut.result _ c.in-Some.is (c.get_mut.follows.holds c.put.new.self) p
-
-same_as : (g : Over) (c : After-put g) → g.S.PrefixStore.keys c.put.new.self ≡ g.S.PrefixStore.keys c.in-Some.store.now
-    → (x : Network) → has_key g.S.PrefixStore.keys (Some c.put.new.self) x ≡ has_key g.S.PrefixStore.keys (store_at (stores_in c.self.inside.stores) c.args.pair.now.peer) x
-same_as g c e x = ap (λ k. set.contains k x) e ∙ ap (λ s. has_key g.S.PrefixStore.keys s x) (found g c)
+there : (g : Over) (c : After-put g) → IsStored (stores_in c.self.inside.stores) (stores_in (c.get_mut.follows.lender c.put.new.self)) c.args.pair.now.peer c.in-Some.store.now c.put.new.self
+there g c = stored-lent c.get_mut.result c.in-Some.store c.in-Some.is c.get_mut.ensures.value (c.get_mut.follows.holds c.put.new.self)
 
 pub invariant_of-self : goal.invariant_of-self
 invariant_of-self g c =
-    let b = (goal.at.invariant_of-self g c).After-put in
-    held-other g.S.PrefixStore.keys (stores_in c.self.inside.stores) (stores_in (c.get_mut.follows.lender c.put.new.self)) c.args.pair.now.peer (Some c.put.new.self) (written g b) c.self.invariant
-    (either c.put.result
-    (on_ok_weaker c.put.result (λ e. some-insert (g.S.PrefixStore.keys c.in-Some.store.now) (g.S.PrefixStore.keys c.put.new.self) c.args.pair.now.prefix e) c.put.ensures.keys)
-    (on_err_weaker c.put.result (λ e. subst (λ k. 0 < set.len k) (sym e) (subst (λ s. IfSome s (λ store. 0 < set.len (g.S.PrefixStore.keys store))) (sym (found g b)) (c.self.invariant c.args.pair.now.peer))) c.put.ensures.refused))
+    let there = there g (goal.at.invariant_of-self g c).After-put in
+    either c.put.result
+    (on_ok_weaker c.put.result (λ e. held-more g.S.PrefixStore.keys there c.args.pair.now.prefix e c.self.invariant) c.put.ensures.keys)
+    (on_err_weaker c.put.result (λ e. held-kept g.S.PrefixStore.keys there e c.self.invariant) c.put.ensures.refused)
 
 pub returns-in-Some-clause-keys : goal.returns-in-Some-clause-keys
 returns-in-Some-clause-keys g c =
-    let b = (goal.at.returns-in-Some-clause-keys g c).After-put in
-    on_ok_weaker c.put.result (λ e.
-    keys_in-insert g.S.PrefixStore.keys (stores_in c.self.inside.stores) (stores_in (c.get_mut.follows.lender c.put.new.self)) c.args.pair.now.peer c.args.pair.now.prefix (Some c.put.new.self) (written g b)
-    (λ x. ap (λ k. set.contains k x) e ∙ contains-insert network_cmp_total (g.S.PrefixStore.keys c.in-Some.store.now) c.args.pair.now.prefix x
-    ∙ ap (λ s. eq_by_cmp network_cmp x c.args.pair.now.prefix || has_key g.S.PrefixStore.keys s x) (found g b))
-    ∙ ap (λ s. set.insert s.keys c.args.pair.now) c.self.view_is) c.put.ensures.keys
+    on_ok_weaker c.put.result (λ e. keys-more g.S.PrefixStore.keys (there g (goal.at.returns-in-Some-clause-keys g c).After-put) c.args.pair.now.prefix e ∙ ap (λ s. set.insert s.keys c.args.pair.now) c.self.view_is) c.put.ensures.keys
 
 pub returns-in-Some-clause-made : goal.returns-in-Some-clause-made
 returns-in-Some-clause-made g c =
-    let b = (goal.at.returns-in-Some-clause-made g c).After-put in
-    IfOk-weaker c.put.result _ _ (λ made e. e ∙ ap not (contains-found g.S.PrefixStore.keys (stores_in c.self.inside.stores) c.args.self.now.keys c.args.pair.now (Some c.in-Some.store.now) (found g b) (ap (λ s. s.keys) c.self.view_is))) c.put.ensures.made
+    IfOk-weaker c.put.result _ _ (λ made e.
+    e ∙ ap not (contains-found g.S.PrefixStore.keys (stores_in c.self.inside.stores) c.args.self.now.keys c.args.pair.now (Some c.in-Some.store.now) (there g (goal.at.returns-in-Some-clause-made g c).After-put).found (ap (λ s. s.keys) c.self.view_is))) c.put.ensures.made
 
 pub returns-in-Some-clause-routes : goal.returns-in-Some-clause-routes
 returns-in-Some-clause-routes g c =
-    let b = (goal.at.returns-in-Some-clause-routes g c).After-put in
     on_ok_weaker c.put.result (λ e.
-    routes_in-put g.S.PrefixStore.routes (stores_in c.self.inside.stores) (stores_in (c.get_mut.follows.lender c.put.new.self)) c.args.pair.now.peer c.args.pair.now.prefix (Some c.put.new.self) (route_in c.args.route.now) (written g b)
-    (λ x. stored-put (g.S.PrefixStore.routes c.in-Some.store.now) (g.S.PrefixStore.routes c.put.new.self) c.args.pair.now.prefix c.args.route.now e x
-    ∙ ap (λ s. cond (eq_by_cmp network_cmp x c.args.pair.now.prefix) (route_in c.args.route.now) (stored_route g.S.PrefixStore.routes s x)) (found g b))
-    ∙ ap (λ s. put s.routes c.args.pair.now (route_in c.args.route.now)) c.self.view_is) c.put.ensures.routes
+    routes-put g.S.PrefixStore.routes (there g (goal.at.returns-in-Some-clause-routes g c).After-put) c.args.pair.now.prefix c.args.route.now e ∙ ap (λ s. put s.routes c.args.pair.now (route_in c.args.route.now)) c.self.view_is) c.put.ensures.routes
 
 pub returns-in-Some-clause-given : goal.returns-in-Some-clause-given
 returns-in-Some-clause-given g c =
-    let b = (goal.at.returns-in-Some-clause-given g c).After-put in
     on_ok_weaker c.put.result (λ e.
-    ap route_in e ∙ get-found g.S.PrefixStore.routes (stores_in c.self.inside.stores) c.args.self.now.routes c.args.pair.now (Some c.in-Some.store.now) (found g b) (ap (λ s. s.routes) c.self.view_is)) c.put.ensures.given
-
-pub returns-in-Some-clause-held : goal.returns-in-Some-clause-held
-returns-in-Some-clause-held g c =
-    let b = (goal.at.returns-in-Some-clause-held g c).After-put in
-    on_err_weaker c.put.result (λ e.
-    routes_in-same g.S.PrefixStore.routes (stores_in c.self.inside.stores) (stores_in (c.get_mut.follows.lender c.put.new.self)) c.args.pair.now.peer (Some c.put.new.self) (written g b)
-    (λ x. ap (λ r. option_map value_of (finite.get r x)) e ∙ ap (λ s. stored_route g.S.PrefixStore.routes s x) (found g b))
-    ∙ ap (λ s. s.routes) c.self.view_is) c.put.ensures.held
+    ap route_in e ∙ get-found g.S.PrefixStore.routes (stores_in c.self.inside.stores) c.args.self.now.routes c.args.pair.now (Some c.in-Some.store.now) (there g (goal.at.returns-in-Some-clause-given g c).After-put).found (ap (λ s. s.routes) c.self.view_is)) c.put.ensures.given
 
 pub returns-in-Some-clause-refused : goal.returns-in-Some-clause-refused
 returns-in-Some-clause-refused g c =
-    let b = (goal.at.returns-in-Some-clause-refused g c).After-put in
-    on_err_weaker c.put.result (λ e.
-    keys_in-same g.S.PrefixStore.keys (stores_in c.self.inside.stores) (stores_in (c.get_mut.follows.lender c.put.new.self)) c.args.pair.now.peer (Some c.put.new.self) (written g b) (same_as g b e)
-    ∙ ap (λ s. s.keys) c.self.view_is) c.put.ensures.refused
+    on_err_weaker c.put.result (λ e. keys-kept g.S.PrefixStore.keys (there g (goal.at.returns-in-Some-clause-refused g c).After-put) e ∙ ap (λ s. s.keys) c.self.view_is) c.put.ensures.refused
 
--- the key that was made is there
+pub returns-in-Some-clause-held : goal.returns-in-Some-clause-held
+returns-in-Some-clause-held g c =
+    on_err_weaker c.put.result (λ e. routes-kept g.S.PrefixStore.routes (there g (goal.at.returns-in-Some-clause-held g c).After-put) e ∙ ap (λ s. s.routes) c.self.view_is) c.put.ensures.held
+
+-- the peer had no store, and has one with this key
+added : (g : Over) (c : In_ok-insert g) → IsWritten (stores_in c.self.inside.stores) (stores_in c.insert.new.self) c.args.pair.now.peer (Some c.in_ok-store.store)
+added g c = subst (λ stores. IsWritten stores (stores_in c.insert.new.self) c.args.pair.now.peer (Some c.in_ok-store.store)) c.get_mut.follows.holds-at-none c.in_ok-insert.ensures.added
+
+keys_then : (g : Over) (c : In_ok-insert g) → keys_in g.S.PrefixStore.keys (stores_in c.insert.new.self) ≡ set.insert (keys_in g.S.PrefixStore.keys (stores_in c.self.inside.stores)) c.args.pair.now
+keys_then g c = keys-added (sym (ap option_copied_mut c.in_default.is) ∙ c.get_mut.ensures.value) (added g c) g.S.PrefixStore.keys c.args.pair.now.prefix c.in_ok-store.ensures.keys
+
+routes_then : (g : Over) (c : In_ok-insert g) → routes_in g.S.PrefixStore.routes (stores_in c.insert.new.self) ≡ c.args.self.now.routes
+routes_then g c = routes-added (sym (ap option_copied_mut c.in_default.is) ∙ c.get_mut.ensures.value) (added g c) g.S.PrefixStore.routes c.in_ok-store.ensures.routes ∙ ap (λ s. s.routes) c.self.view_is
+
+pub invariant_of-self-2 : goal.invariant_of-self-2
+invariant_of-self-2 g c =
+    held-other g.S.PrefixStore.keys (added g (goal.at.invariant_of-self-2 g c).In_ok-insert) c.self.invariant (some-insert set.empty (g.S.PrefixStore.keys c.in_ok-store.store) c.args.pair.now.prefix c.in_ok-store.ensures.keys)
+
 pub exchange-requires : goal.exchange-requires
 exchange-requires g c =
-    ap (λ k. set.contains k c.args.pair.now) c.in_ok-made.ensures.keys
-    ∙ contains-insert pair_cmp_total (keys_in g.S.PrefixStore.keys (stores_in c.get_mut.follows.lender-at-none)) c.args.pair.now c.args.pair.now
-    ∙ ap (λ b. b || set.contains (keys_in g.S.PrefixStore.keys (stores_in c.get_mut.follows.lender-at-none)) c.args.pair.now) ((eq_by_cmp_equiv pair_cmp_total).refl c.args.pair.now)
+    inserted (keys_in g.S.PrefixStore.keys (stores_in c.self.inside.stores)) _ c.args.pair.now (keys_then g (goal.at.exchange-requires g c).In_ok-insert)
+
+pub returns-clause-keys : goal.returns-clause-keys
+returns-clause-keys g c =
+    c.exchange.ensures.keys ∙ keys_then g (goal.at.returns-clause-keys g c).In_ok-insert ∙ ap (λ s. set.insert s.keys c.args.pair.now) c.self.view_is
+
+pub returns-clause-made : goal.returns-clause-made
+returns-clause-made g c =
+    ap not (contains-found g.S.PrefixStore.keys (stores_in c.self.inside.stores) c.args.self.now.keys c.args.pair.now None (sym (ap option_copied_mut c.in_default.is) ∙ c.get_mut.ensures.value) (ap (λ s. s.keys) c.self.view_is))
+
+pub returns-clause-routes : goal.returns-clause-routes
+returns-clause-routes g c =
+    c.exchange.ensures.routes ∙ ap (λ r. put r c.args.pair.now (route_in c.args.route.now)) (routes_then g (goal.at.returns-clause-routes g c).In_ok-insert)
+
+pub returns-clause-given : goal.returns-clause-given
+returns-clause-given g c =
+    c.exchange.ensures.given ∙ ap (λ r. finite.get r c.args.pair.now) (routes_then g (goal.at.returns-clause-given g c).In_ok-insert)

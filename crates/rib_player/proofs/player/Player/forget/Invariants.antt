@@ -1,6 +1,6 @@
 use Rattle.std.proofs.Common.{◌≡◌}
 use Rattle.rib_player.specs.Calls.{without_first}
-use Rattle.rib_player.proofs.player.Player.forget_oldest.Given as goal
+use Rattle.rib_player.proofs.player.Player.forget.Given as goal
 
 -- as many steps as are counted so far are forgotten
 abbrev pub invariant-steps : goal.invariant-steps
