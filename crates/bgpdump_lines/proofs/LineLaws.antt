@@ -1,13 +1,15 @@
 -- What items say, in order.
 use Rattle.std.proofs.Common.{◌≡◌, ℕ, zero, suc, All, ◌+◌, ◌-◌, ◌≤◌, List, [], ◌∷◌, ◌++◌, map, length, take, drop, refl, ap, sym, subst, ◌∙◌, arith, append_assoc}
-use Rattle.std.proofs.lemmas.List.{map-append, drop-drop, take-append-drop, take_all, drop-map}
+use Rattle.std.proofs.lemmas.List.{map-append, drop-drop, take-append-drop, take_all, drop-map, take-map}
 use Rattle.std.proofs.lemmas.Grind.{flat_map-append}
 use Rattle.std.specs.List.{flat_map}
 use Rattle.mrt_events.specs.declared.event.Item.{Item}
-use Rattle.std.proofs.lemmas.List.Elements.{All-head, All-tail, All-drop}
+use Rattle.std.proofs.lemmas.List.Elements.{All-head, All-tail, All-drop, All-take}
 use Rattle.mrt_events.specs.declared.peer.Peer.{Peer}
 use Rattle.mrt_events.specs.declared.event.Route.{Route}
+use Rattle.mrt_events.specs.declared.event.Event.{Event}
 use Rattle.mrt_events.specs.Event.{Saying, Announced, Withdrawn, Changed, saying}
+use Rattle.bgpdump_lines.specs.Lines.{item_line, event_lines}
 use Rattle.mrt_events.specs.SharedRoute.{Announces, AreOfOneRoute}
 
 -- the lines of what items say are those of the items
@@ -43,22 +45,15 @@ lines-parts line items a b old first second new le p q r =
     r ∙ ap (λ t. t ++ f C) (q ∙ ap (λ t. t ++ f B) p) ∙ append_assoc (old ++ f A) (f B) (f C) ∙ append_assoc old (f A) (f B ++ f C)
     ∙ ap (λ l. old ++ (f A ++ l)) (sym (lines-append line B C)) ∙ ap (λ l. old ++ l) (sym (lines-append line A (B ++ C))) ∙ ap (λ l. old ++ f l) (parts items a b le)
 
--- the lines of what three parts of items say are those of all
-pub lines-three : (line : Saying → List ℕ) (items : List Item) (said : List Saying) (a b : ℕ) → a ≤ b → map saying items ≡ said
-    → flat_map line said ≡ flat_map line (map saying (take a items)) ++ (flat_map line (map saying (take (b - a) (drop a items))) ++ flat_map line (map saying (drop b items)))
-lines-three line items said a b le is =
+-- the lines of what three parts of an event's items say are those of the event
+pub lines-three : (event : Event) (line : Saying → List ℕ) (items : List Item) (a b : ℕ) → line ≡ item_line event.time event.tag → a ≤ b → map saying items ≡ event.items
+    → event_lines event ≡ flat_map line (map saying (take a items)) ++ (flat_map line (map saying (take (b - a) (drop a items))) ++ flat_map line (map saying (drop b items)))
+lines-three event line items a b is le said =
     let f : List Item → List ℕ = λ l. flat_map line (map saying l) in
     let A = take a items in
     let B = take (b - a) (drop a items) in
     let C = drop b items in
-    ap (flat_map line) (sym is) ∙ sym (lines-parts line items a b [] (f A) (f A ++ f B) ((f A ++ f B) ++ f C) le refl refl refl) ∙ append_assoc (f A) (f B) (f C)
-
--- the lines of items that are done, of those of a turn, and of those behind them are those of all
-pub lines-turn : (line : Saying → List ℕ) (done piece more rest items : List Item) → done ++ rest ≡ items → piece ++ more ≡ rest
-    → flat_map line (map saying items) ≡ flat_map line (map saying done) ++ (flat_map line (map saying piece) ++ flat_map line (map saying more))
-lines-turn line done piece more rest items whole part =
-    ap (λ l. flat_map line (map saying l)) (sym whole ∙ ap (λ l. done ++ l) (sym part)) ∙ lines-append line done (piece ++ more)
-    ∙ ap (λ l. flat_map line (map saying done) ++ l) (lines-append line piece more)
+    (λ i. flat_map (sym is i) (sym said i)) ∙ sym (lines-parts line items a b [] (f A) (f A ++ f B) ((f A ++ f B) ++ f C) le refl refl refl) ∙ append_assoc (f A) (f B) (f C)
 
 -- ---- fewer announcements of one route
 
@@ -79,6 +74,17 @@ one_route-drop (suc n) (Announced peer network route ∷ said) one = all_of_one 
 one_route-drop (suc n) (Withdrawn peer network ∷ said) one = absurd one
 one_route-drop (suc n) (Changed peer old new ∷ said) one = absurd one
 
--- of items that announce with one route, those behind the first
+one_route-take : (n : ℕ) (said : List Saying) → AreOfOneRoute said → AreOfOneRoute (take n said)
+one_route-take zero said one = tt
+one_route-take (suc n) [] one = tt
+one_route-take (suc n) (Announced peer network route ∷ said) one = All-take (Announces peer route) n said one
+one_route-take (suc n) (Withdrawn peer network ∷ said) one = absurd one
+one_route-take (suc n) (Changed peer old new ∷ said) one = absurd one
+
+-- of items that announce with one route, the first
+pub said_front : (items front : List Item) (n : ℕ) → front ≡ take n items → AreOfOneRoute (map saying items) → AreOfOneRoute (map saying front)
+said_front items front n is one = subst AreOfOneRoute (take-map saying n items ∙ sym (ap (map saying) is)) (one_route-take n (map saying items) one)
+
+-- and those behind them
 pub said_back : (items back : List Item) (n : ℕ) → back ≡ drop n items → AreOfOneRoute (map saying items) → AreOfOneRoute (map saying back)
 said_back items back n is one = subst AreOfOneRoute (drop-map saying n items ∙ sym (ap (map saying) is)) (one_route-drop n (map saying items) one)

@@ -142,12 +142,27 @@ Stops-fronts p q q' left left' left'' a b c reported answer g promised fronts wi
       fronts = subst (λ t. WritesFronts t a c) (dump_texts-append g.found (answer_findings answer)) (WritesFronts-behind (dump_texts g.found) (dump_texts (answer_findings answer)) a b c g.written fronts);
     }
 
+-- an answer that tells something is one of a source that reads
+told_reading : (p q q' : Place) (left left' left'' : Option (List ℕ)) (found : List Finding) (answer : Next) → SoFar p q left left' found → Promises q q' left' left'' answer → is_nothing (answer_findings answer) ≡ false → q.phase ≡ Reading
+told_reading p q q' left left' left'' found answer s promised some = by_phase q.phase refl s.rest_is
+  where
+    none : true ≡ false → ⊥
+    none e = cc
+
+    by_phase : (phase : Phase) → q.phase ≡ phase → RestSoFar phase left' s.rest → q.phase ≡ Reading
+    by_phase Reading is rest = is
+    by_phase Ended is rest = absurd (none (sym (ap is_nothing (promised.1 is).0) ∙ some))
+    by_phase Spent is rest = absurd rest
+
 -- the writing stops the run, at an answer that tells something
 pub Stops-writing : (p q q' : Place) (left left' left'' : Option (List ℕ)) (a b c : Outputs) (reported : Bool) (answer : Next) (fault : WriteFault) → Going p q left left' a b reported → Promises q q' left' left'' answer
     → is_nothing (answer_findings answer) ≡ false → PutsFound {A = Bool} (answer_findings answer) b c (Err fault) → q'.offset ≤ q'.limit → StopsAtWriting p left left'' a c fault
 Stops-writing p q q' left left' left'' a b c reported answer Write g promised some fronts within = Stops-fronts p q q' left left' left'' a b c reported answer g promised fronts within
-Stops-writing p q q' left left' left'' a b c reported answer Memory g promised some (inl same) within = subst (λ x. StopsAtWriting p left left'' a x Memory) (sym same) (by_phase q.phase refl g.so_far.rest_is)
+Stops-writing p q q' left left' left'' a b c reported answer Memory g promised some (inl same) within = subst (λ x. StopsAtWriting p left left'' a x Memory) (sym same) (by_answer reading (promised.0 reading))
   where
+    reading : q.phase ≡ Reading
+    reading = told_reading p q q' left left' left'' g.found answer g.so_far promised some
+
     by_answer : q.phase ≡ Reading → (octets : List ℕ) × Consumes left' left'' octets × Nexts q q' left'' octets (Ok answer) → StopsAtWriting p left left'' a b Memory
     by_answer is (octets, taken, inl (frame, at)) = inl (
       record { found = g.found; untold = Untold-behind p q left left' left'' g.found octets g.so_far is taken (omega (arith, within, ap length at.whole, ap (λ x. x.offset) at.place, ap (λ x. x.limit) at.place, g.so_far.limit)); written = g.written },
@@ -157,17 +172,10 @@ Stops-writing p q q' left left' left'' a b c reported answer Memory g promised s
       record { found = g.found; untold = Untold-behind p q left left' left'' g.found octets g.so_far is taken (omega (arith, within, ap (λ x. x.offset) at.place, ap (λ x. x.limit) at.place, g.so_far.limit)); written = g.written },
       inl at.ends.rest,
     )
-
-    by_phase : (phase : Phase) → q.phase ≡ phase → RestSoFar phase left' g.so_far.rest → StopsAtWriting p left left'' a b Memory
-    by_phase Reading is rest = by_answer is (promised.0 is)
-    by_phase Ended is rest = absurd (none (sym (ap is_nothing (promised.1 is).0) ∙ some))
-      where
-        none : true ≡ false → ⊥
-        none e = cc
-    by_phase Spent is rest = absurd rest
 Stops-writing p q q' left left' left'' a b c reported answer Memory g promised some (inr (event, is_event, fronts)) within =
+    let reading = told_reading p q q' left left' left'' g.found answer g.so_far promised some in
     let stop = Stops-fronts p q q' left left' left'' a b c reported answer g promised fronts within in
-    inr (stop, no_rest p q' left left'' stop.found stop.so_far (by_phase q.phase refl g.so_far.rest_is))
+    inr (stop, no_rest p q' left left'' stop.found stop.so_far (by_answer reading (promised.0 reading)))
   where
     by_findings : (found : List Finding) (number offset : ℕ) (kind : Option RecordKind) → found ≡ Found event ∷ [] → found ≡ fault_findings number offset kind → ⊥
     by_findings found number offset None e f = clash (sym e ∙ f)
@@ -182,11 +190,3 @@ Stops-writing p q q' left left' left'' a b c reported answer Memory g promised s
     by_answer : q.phase ≡ Reading → (octets : List ℕ) × Consumes left' left'' octets × Nexts q q' left'' octets (Ok answer) → q'.phase ≡ Reading
     by_answer is (octets, taken, inl (frame, at)) = ap (λ x. x.phase) at.place ∙ is
     by_answer is (octets, taken, inr at) = absurd (by_findings (answer_findings answer) _ _ _ is_event at.tells)
-
-    by_phase : (phase : Phase) → q.phase ≡ phase → RestSoFar phase left' g.so_far.rest → q'.phase ≡ Reading
-    by_phase Reading is rest = by_answer is (promised.0 is)
-    by_phase Ended is rest = absurd (none (sym (ap is_nothing (promised.1 is).0) ∙ some))
-      where
-        none : true ≡ false → ⊥
-        none e = cc
-    by_phase Spent is rest = absurd rest

@@ -101,6 +101,25 @@ pub AppendsFront-first : (old new : Option (List ℕ)) (text one more all : List
 AppendsFront-first old new text one more all is put =
     subst (AppendsFront old new) (append_assoc text one more ∙ ap (λ l. text ++ l) (sym is)) (AppendsFront-longer old new (text ++ one) more put)
 
+-- three parts, one behind the other
+pub Passes-three : (a b c d : Option (List ℕ)) (before x y after one two three all : List ℕ) → all ≡ one ++ (two ++ three) → Passes a b before x one → Passes b c x y two → Passes c d y after three → Passes a d before after all
+Passes-three a b c d before x y after one two three all is p q r =
+    subst (Passes a d before after) (sym is) (Passes-trans a b d before x after one (two ++ three) p (Passes-trans b c d x y after two three q r))
+
+-- a fault at the third
+pub Passes-two-stops : (a b c d : Option (List ℕ)) (before x y one two three all : List ℕ) → all ≡ one ++ (two ++ three) → Passes a b before x one → Passes b c x y two → AppendsFront c d (y ++ three) → AppendsFront a d (before ++ all)
+Passes-two-stops a b c d before x y one two three all is p q r =
+    subst (λ l. AppendsFront a d (before ++ l)) (sym is) (Passes-stops a b d before x one (two ++ three) p (Passes-stops b c d x y two three q r))
+
+-- a fault at the second
+pub Passes-one-stops : (a b d : Option (List ℕ)) (before x one two three all : List ℕ) → all ≡ one ++ (two ++ three) → Passes a b before x one → AppendsFront b d (x ++ two) → AppendsFront a d (before ++ all)
+Passes-one-stops a b d before x one two three all is p q =
+    subst (λ l. AppendsFront a d (before ++ l)) (sym is) (Passes-stops a b d before x one (two ++ three) p (AppendsFront-first b d x two three (two ++ three) refl q))
+
+-- the text itself behind what was passed
+pub Passes-end : (a b c : Option (List ℕ)) (text more : List ℕ) → Passes a b [] text more → Appends b c text → Appends a c more
+Passes-end a b c text more p q = subst (Appends a c) p.whole (Appends-trans a b c p.front text p.appended q)
+
 -- or a front of it
 pub Passes-end-stops : (a b c : Option (List ℕ)) (text more : List ℕ) → Passes a b [] text more → AppendsFront b c text → AppendsFront a c more
 Passes-end-stops a b c text more p q = subst (AppendsFront a c) p.whole (AppendsFront-behind a b c p.front text p.appended q)
@@ -115,23 +134,30 @@ AppendsFront-passed old new before after more p = record {
 }
 
 -- one more item's line
-pub lines_next : {A : Type 0} (line : A → List ℕ) (items : List A) (i : ℕ) (d : A) → i < length items
+lines_next : {A : Type 0} (line : A → List ℕ) (items : List A) (i : ℕ) (d : A) → i < length items
     → flat_map line (take (i + 1) items) ≡ flat_map line (take i items) ++ line (get_or items i d)
 lines_next line items i d lt =
     ap (flat_map line) (take_more items i d lt) ∙ flat_map-append line (take i items) (get_or items i d ∷ []) ∙ ap (λ l. flat_map line (take i items) ++ l) (append-nil (line (get_or items i d)))
 
--- all items' lines, those of a turn among them
-lines_turn : {A : Type 0} (line : A → List ℕ) (items : List A) (i : ℕ) (d : A) → i < length items
-    → flat_map line items ≡ flat_map line (take i items) ++ (line (get_or items i d) ++ flat_map line (drop (i + 1) items))
-lines_turn line items i d lt =
-    sym (ap (flat_map line) (take-append-drop (i + 1) items)) ∙ flat_map-append line (take (i + 1) items) (drop (i + 1) items)
-    ∙ ap (λ l. l ++ flat_map line (drop (i + 1) items)) (lines_next line items i d lt) ∙ append_assoc (flat_map line (take i items)) (line (get_or items i d)) (flat_map line (drop (i + 1) items))
+-- a fault behind what was passed leaves a front of all
+pub Passes-stopped : (a b c : Option (List ℕ)) (before mid done later all : List ℕ) → Passes a b before mid done → all ≡ done ++ later → AppendsFront b c (mid ++ []) → AppendsFront a c (before ++ all)
+Passes-stopped a b c before mid done later all p is q =
+    subst (λ l. AppendsFront a c (before ++ l)) (sym is) (Passes-stops a b c before mid done later p (AppendsFront-longer b c mid later (subst (AppendsFront b c) (append-nil mid) q)))
 
--- a fault at an item's line leaves a front of all of them
-pub Passes-items : {A : Type 0} (line : A → List ℕ) (items : List A) (i : ℕ) (d : A) (a b c : Option (List ℕ)) (before mid : List ℕ) → i < length items → Passes a b before mid (flat_map line (take i items))
-    → AppendsFront b c (mid ++ line (get_or items i d)) → AppendsFront a c (before ++ flat_map line items)
-Passes-items line items i d a b c before mid lt p q =
-    let after = flat_map line (drop (i + 1) items) in
-    let one = line (get_or items i d) in
-    subst (λ l. AppendsFront a c (before ++ l)) (sym (lines_turn line items i d lt))
-    (Passes-stops a b c before mid (flat_map line (take i items)) (one ++ after) p (subst (AppendsFront b c) (append_assoc mid one after) (AppendsFront-longer b c (mid ++ one) after q)))
+-- a fault at an item leaves a front of all items' lines
+pub Passes-items : {A : Type 0} (line : A → List ℕ) (items : List A) (i : ℕ) (a b c : Option (List ℕ)) (before mid : List ℕ) → Passes a b before mid (flat_map line (take i items)) → AppendsFront b c (mid ++ [])
+    → AppendsFront a c (before ++ flat_map line items)
+Passes-items line items i a b c before mid p q =
+    Passes-stopped a b c before mid (flat_map line (take i items)) (flat_map line (drop i items)) (flat_map line items) p (sym (ap (flat_map line) (take-append-drop i items)) ∙ flat_map-append line (take i items) (drop i items)) q
+
+-- a text behind it
+pub Passes-text : (a b c : Option (List ℕ)) (before mid after new done more : List ℕ) → Passes a b before mid done → Passes b c mid after [] → new ≡ after ++ more → Passes a c before new (done ++ more)
+Passes-text a b c before mid after new done more p q e =
+    Passes-trans a b c before mid new done more p
+    (record { front = q.front; appended = q.appended; whole = ap (λ l. q.front ++ l) e ∙ sym (append_assoc q.front after more) ∙ ap (λ l. l ++ more) (q.whole ∙ append-nil mid) })
+
+-- the line of an item more
+pub Passes-next : {A : Type 0} (line : A → List ℕ) (items : List A) (i : ℕ) (d : A) (a b c : Option (List ℕ)) (before mid after new : List ℕ) → i < length items → Passes a b before mid (flat_map line (take i items))
+    → Passes b c mid after [] → new ≡ after ++ line (get_or items i d) → Passes a c before new (flat_map line (take (i + 1) items))
+Passes-next line items i d a b c before mid after new lt p q e =
+    subst (Passes a c before new) (sym (lines_next line items i d lt)) (Passes-text a b c before mid after new (flat_map line (take i items)) (line (get_or items i d)) p q e)

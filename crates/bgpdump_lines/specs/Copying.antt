@@ -5,20 +5,15 @@ use Rattle.ip_prefix.specs.Network.{Network}
 use Rattle.mrt_events.specs.declared.peer.Peer.{Peer}
 use Rattle.mrt_events.specs.declared.event.Route.{Route}
 use Rattle.bgpdump_lines.specs.declared.heading.Heading.{Heading}
-use Rattle.mrt_events.specs.Event.{Announced}
 use Rattle.bgpdump_lines.specs.declared.route_line.Announcement.{Announcement}
 use Rattle.bgpdump_lines.specs.declared.route_line.Places.{Places}
 use Rattle.bgpdump_lines.specs.declared.route_line.LastLine.{LastLine}
 use Rattle.bgpdump_lines.specs.declared.route_line.Likeness.{Likeness}
 use Rattle.bgpdump_lines.specs.declared.route_line.Likeness.TheVariants.{SameRoute, SamePrefix, Other}
 use Rattle.bgpdump_lines.specs.Fields.{prefix_field, route_tail}
-use Rattle.bgpdump_lines.specs.Heading.{headed_line, route_head, route_front}
+use Rattle.bgpdump_lines.specs.Heading.{route_head, route_front}
 
--- the line of what is said, under a heading
-abbrev pub said_line : Heading → Announcement → List ℕ
-said_line heading said = headed_line heading (Announced said.peer.now said.prefix.now said.route.now)
-
--- the same by its parts
+-- the line of what is said, by its parts
 abbrev pub said_parts : Heading → Announcement → List ℕ
 said_parts heading said =
     route_front heading said.peer.now said.route.now ++ (prefix_field said.prefix.now ++ route_tail said.route.now)

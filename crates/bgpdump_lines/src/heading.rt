@@ -3,10 +3,12 @@
 ghost use Rattle.std.specs.Prelude.{◌≡◌, ◌∷◌, ◌++◌, OnOk, OnErr};
 ghost use Rattle.bgp_wire.specs.Printed.{StillBegins};
 ghost use Rattle.bgpdump_lines.specs.Lines.{bar, micros_text, time_text, route_time_text};
-ghost use Rattle.bgpdump_lines.specs.Lines.{route_letter};
-ghost use Rattle.bgpdump_lines.specs.Heading.{first_field, route_head};
-ghost use Rattle.bgpdump_lines.specs.declared.heading.First.TheVariants.{Record, Rib};
-ghost use Rattle.mrt_events.specs.declared.event.Tag.TheVariants.{TableDump2};
+ghost use Rattle.bgpdump_lines.specs.Lines.{route_letter, item_line, rib_line};
+ghost use Rattle.bgpdump_lines.specs.Heading.{first_field, route_head, headed_line};
+ghost use Rattle.ip_prefix.specs.Network.{Network};
+ghost use Rattle.mrt_events.specs.declared.event.Route.{Route};
+ghost use Rattle.mrt_events.specs.declared.peer.Peer.{Peer};
+ghost use Rattle.mrt_events.specs.Event.{Announced};
 
 use crate::fields::put_field;
 use ip_prefix::Text;
@@ -40,9 +42,7 @@ impl Heading {
     /// That of an event.
     #[inline(always)]
     pub(crate) fn of(event: &Event) -> Heading
-        ensures first { result.first ≡ Record }
-        ensures time { result.time ≡ event.now.time }
-        ensures tag { result.tag ≡ event.now.tag }
+        ensures { headed_line result ≡ item_line event.now.time event.now.tag }
     {
         Heading {
             first: First::Record,
@@ -55,8 +55,8 @@ impl Heading {
     /// with.
     #[inline(always)]
     pub(crate) fn of_table() -> Heading
-        ensures first { result.first ≡ Rib }
-        ensures tag { result.tag ≡ TableDump2 }
+        ensures { (peer : Peer) (prefix : Network) (route : Route) →
+            headed_line result (Announced peer prefix route) ≡ rib_line peer (prefix, route) }
     {
         Heading {
             first: First::Rib,

@@ -6,7 +6,7 @@ ghost use Rattle.mrt_events.specs.SharedRoute.{AreOfOneRoute};
 ghost use Rattle.mrt_wire.specs.Answered.{answer_findings};
 ghost use Rattle.bgpdump_lines.specs.Copying.{EndsIn};
 ghost use Rattle.bgpdump_lines.specs.declared.heading.Heading.{Heading};
-ghost use Rattle.bgpdump_lines.specs.Heading.{headed_line, headed_lines};
+ghost use Rattle.bgpdump_lines.specs.Heading.{headed_lines};
 ghost use Rattle.bgpdump_lines.specs.Lines.{event_lines};
 ghost use Rattle.bgpdump_lines.specs.Reports.{fault_report};
 ghost use Rattle.bgpdump_lines.specs.Run.{outputs_of};
@@ -46,27 +46,6 @@ pub(crate) fn write_long<'a, O: Output>(
     Ok(None)
 }
 
-/// Appends the line of an item, once the lines in front of it are written where they are long.
-/// Returned is the line, if it is of a route.
-fn write_item<'a, O: Output>(
-    out: &mut O,
-    heading: &Heading,
-    item: &'a Item,
-    last: Option<LastLine<'a>>,
-    text: &mut Text,
-) -> Result<Option<LastLine<'a>>, WriteFault>
-    requires { IfSome last (λ line. EndsIn heading.now line text.old) }
-    ensures text { PassesPart (O.written out.old) (O.written out.new) text.old text.new
-        (headed_line heading.now (saying item.now)) result }
-    ensures last { IfOk result (λ last. IfSome last (λ line.
-        EndsIn heading.now line text.new)) }
-    ensures failed { O.failed out.new ≡ (O.failed out.old || is_write result) }
-{
-    let last = write_long(out, last, text)?;
-    let line = put_item(heading, item, last, text)?;
-    Ok(line)
-}
-
 /// Appends the lines of items, each once those in front of it are written where they are long.
 fn write_items<O: Output>(
     out: &mut O,
@@ -80,30 +59,13 @@ fn write_items<O: Output>(
 {
     let mut last = None;
     'items: for item in items {
-        last = write_item(out, heading, item, last, text)?;
+        let line = write_long(out, last, text)?;
+        last = put_item(heading, item, line, text)?;
     }
     Ok(())
 }
 
-/// Appends the lines of announcements that share a peer and a route, once those in front of them
-/// are written where they are long.
-fn write_piece<O: Output>(
-    out: &mut O,
-    heading: &Heading,
-    items: &[Item],
-    text: &mut Text,
-) -> Result<(), WriteFault>
-    requires { AreOfOneRoute (map saying items.now) }
-    ensures text { PassesPart (O.written out.old) (O.written out.new) text.old text.new
-        (headed_lines heading.now (map saying items.now)) result }
-    ensures failed { O.failed out.new ≡ (O.failed out.old || is_write result) }
-{
-    write_long(out, None, text)?;
-    put_shared(heading, items, text)?;
-    Ok(())
-}
-
-/// The same of any number of such announcements, a few at a time.
+/// The same of announcements that share a peer and a route, a few at a time.
 fn write_shared<O: Output>(
     out: &mut O,
     heading: &Heading,
@@ -117,8 +79,9 @@ fn write_shared<O: Output>(
 {
     let mut rest = items;
     'pieces: while !rest.is_empty() {
+        write_long(out, None, text)?;
         let (piece, more) = rest.split_at(rest.len().min(FEW));
-        write_piece(out, heading, piece, text)?;
+        put_shared(heading, piece, text)?;
         rest = more;
     }
     Ok(())
@@ -152,18 +115,6 @@ fn write_many<O: Output>(out: &mut O, text: &mut Text, event: &Event) -> Result<
     Ok(())
 }
 
-/// Writes the lines of an event at once. The text is scratch.
-#[inline(always)]
-fn write_few<O: Output>(out: &mut O, text: &mut Text, event: &Event) -> Result<(), WriteFault>
-    ensures text { PutsPart (O.written out.old) (O.written out.new) (event_lines event.now) result }
-    ensures failed { O.failed out.new ≡ (O.failed out.old || is_write result) }
-{
-    text.clear();
-    append_lines(event, text)?;
-    put_all(out, text.as_slice())?;
-    Ok(())
-}
-
 /// Writes the lines of an event. The text is scratch.
 #[inline(always)]
 fn write_lines<O: Output>(out: &mut O, text: &mut Text, event: &Event) -> Result<(), WriteFault>
@@ -171,10 +122,12 @@ fn write_lines<O: Output>(out: &mut O, text: &mut Text, event: &Event) -> Result
     ensures failed { O.failed out.new ≡ (O.failed out.old || is_write result) }
 {
     if event.items.as_slice().len() > FEW {
-        write_many(out, text, event)
-    } else {
-        write_few(out, text, event)
+        return write_many(out, text, event);
     }
+    text.clear();
+    append_lines(event, text)?;
+    put_all(out, text.as_slice())?;
+    Ok(())
 }
 
 /// Writes the report of a fault. The text is scratch.

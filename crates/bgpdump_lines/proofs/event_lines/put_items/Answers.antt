@@ -2,8 +2,7 @@ use Rattle.std.proofs.Common.{◌++◌, ◌∙◌, ap, map, drop, length-drop, a
 use Rattle.std.proofs.lemmas.List.{take_all}
 use Rattle.mrt_events.specs.Event.{saying}
 use Rattle.std.specs.List.{flat_map}
-use Rattle.bgpdump_lines.specs.Lines.{line_behind}
-use Rattle.bgpdump_lines.specs.Heading.{headed_line, word_of}
+use Rattle.bgpdump_lines.specs.Heading.{headed_line}
 use Rattle.bgpdump_lines.proofs.LineLaws.{lines-parts}
 use Rattle.mrt_events.proofs.SharedLaws.{said_range}
 use Rattle.bgpdump_lines.proofs.event_lines.put_items.Goals as goal
@@ -18,5 +17,4 @@ returns-clause-appended c =
     lines-parts line c.as_slice-items.result.now c.shared-shared.result.start c.shared-shared.result.end _ _ _ _
     c.shared-shared.ensures.ordered c.in_ok-put_each.ensures.appended c.in_ok-put_shared.ensures.appended
     (c.in_ok-put_each-2.ensures.appended ∙ ap (λ l. c.put_shared.new.text ++ flat_map line (map saying l)) (take_all _ (drop c.shared-shared.result.end c.as_slice-items.result.now) (omega (arith, length-drop c.shared-shared.result.end c.as_slice-items.result.now))))
-    ∙ ap (λ l. c.args.text.now ++ flat_map line l) c.as_slice-items.ensures
-    ∙ (λ i. c.args.text.now ++ flat_map (line_behind (word_of (c.of-heading.ensures.first i) (c.of-heading.ensures.tag i)) (c.of-heading.ensures.time i) (c.of-heading.ensures.tag i)) c.args.event.now.items)
+    ∙ (λ i. c.args.text.now ++ flat_map (c.of-heading.ensures i) (c.as_slice-items.ensures i))

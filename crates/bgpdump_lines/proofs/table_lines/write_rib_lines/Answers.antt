@@ -1,17 +1,56 @@
-use Rattle.std.proofs.Common.{subst}
+use Rattle.std.proofs.Common.{ℕ, List, [], ◌++◌, ◌∙◌, ap, subst, rules, Bor}
+use Rattle.std.proofs.lemmas.List.{take_all}
 use Rattle.std.proofs.lemmas.Result.{err_from_is_err_and}
 use Rattle.std.specs.List.{flat_map}
-use Rattle.bgpdump_lines.specs.Lines.{rib_line}
+use Rattle.std.specs.declared.alloc.Global.{Global}
+use Rattle.std.specs.declared.rc.Rc.{Rc}
+use Rattle.ip_prefix.specs.Network.{Network}
+use Rattle.mrt_events.specs.declared.event.Route.{Route}
+use Rattle.mrt_events.specs.declared.peer.Peer.{Peer}
 use Rattle.bgpdump_lines.specs.Device.{AppendsFront}
+use Rattle.bgpdump_lines.specs.Lines.{rib_line}
+use Rattle.std.specs.Io.KnownBytes.{Appends}
 use Rattle.bgpdump_lines.specs.Writing.{Passes}
-use Rattle.bgpdump_lines.proofs.WritingLaws.{Passes-end-stops}
+use Rattle.bgpdump_lines.proofs.WritingLaws.{AppendsFront-passed, Passes-end, Passes-end-stops, Passes-items, Passes-next}
 use Rattle.bgpdump_lines.proofs.table_lines.write_rib_lines.Goals as goal
+
+-- the line of a prefix and the route that is pointed to
+abbrev pointed_line : Peer → Network × Bor (Rc Route Global) → List ℕ
+pointed_line peer entry = rib_line peer (entry.0, entry.1.now.value)
+
+pub returns-in_err-before-clause-text : goal.returns-in_err-before-clause-text
+returns-in_err-before-clause-text g c =
+    let p = err_from_is_err_and c.from_residual.result c.from_residual.ensures.1 in
+    rw p.1 (Passes-items (pointed_line c.args.peer.now) c.args.routes.now c.routes.entry-index _ _ _ [] c.routes.text c.routes.invariant.passed c.in_err-before.ensures.text)
+
+pub returns-in_err-put_route-clause-text : goal.returns-in_err-put_route-clause-text
+returns-in_err-put_route-clause-text g c =
+    let p = err_from_is_err_and c.from_residual-in_err-put_route.result c.from_residual-in_err-put_route.ensures.1 in
+    rw p.1 (Passes-items (pointed_line c.args.peer.now) c.args.routes.now c.routes.entry-index _ _ _ [] c.routes.text c.routes.invariant.passed
+    (AppendsFront-passed _ _ c.routes.text c.write_long.new.text [] c.in_ok-before.ensures.text))
+
+pub routes-preserved : goal.routes-preserved
+routes-preserved g c =
+    let peer = c.args.peer.now in
+    let item = c.entry-item.result in
+    let after = c.write_long.new.text in
+    let own = c.of_table-heading.ensures peer item.0 c.deref.result.now ∙ ap (λ route. rib_line peer (item.0, route)) c.deref.ensures ∙ ap (pointed_line peer) c.entry-item.is in
+    record {
+      passed = Passes-next (pointed_line peer) c.args.routes.now c.routes.entry-index item _ _ _ [] c.routes.text after _ c.routes-test.true
+          c.routes.invariant.passed c.in_ok-before.ensures.text (c.in_ok-put_route.ensures.appended ∙ ap (λ l. after ++ l) own);
+      last = c.in_ok-put_route.ensures.last;
+      failed = search rules;
+    }
 
 pub returns-in_err-put_all-clause-text : goal.returns-in_err-put_all-clause-text
 returns-in_err-put_all-clause-text g c =
-    let old = g.O.Output.written c.args.out.now in
-    let mid = g.O.Output.written c.write_each.new.out in
-    let new = g.O.Output.written c.put_all.new.output in
-    let lines = flat_map (λ f. rib_line c.args.peer.now (f.0, f.1.now.value)) c.args.routes.now in
     let p = err_from_is_err_and c.from_residual-in_err-put_all.result c.from_residual-in_err-put_all.ensures.1 in
-    rw p.1 (Passes-end-stops old mid new c.write_each.new.text lines (subst (λ t. Passes old mid t c.write_each.new.text lines) c.clear.ensures c.in_ok-write_each.ensures.text) (subst (AppendsFront mid new) c.as_slice.ensures c.in_err-put_all.ensures.front))
+    let line = pointed_line c.args.peer.now in
+    let passed = subst (Passes _ _ [] c.routes.text) (ap (flat_map line) (take_all c.routes.entry-index c.args.routes.now c.routes-test.false)) c.routes.invariant.passed in
+    rw p.1 (Passes-end-stops _ _ _ c.routes.text _ passed (subst (AppendsFront _ _) c.as_slice.ensures c.in_err-put_all.ensures.front))
+
+pub returns-clause-text : goal.returns-clause-text
+returns-clause-text g c =
+    let line = pointed_line c.args.peer.now in
+    let passed = subst (Passes _ _ [] c.routes.text) (ap (flat_map line) (take_all c.routes.entry-index c.args.routes.now c.routes-test.false)) c.routes.invariant.passed in
+    Passes-end _ _ _ c.routes.text _ passed (subst (Appends _ _) c.as_slice.ensures c.in_ok-put_all.ensures.all)

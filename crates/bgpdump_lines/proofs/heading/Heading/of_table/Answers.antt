@@ -2,5 +2,5 @@
 use Rattle.std.proofs.Common.{refl}
 use Rattle.bgpdump_lines.proofs.heading.Heading.of_table.Goals as goal
 
-pub returns-clause-tag : goal.returns-clause-tag
-returns-clause-tag c = refl
+pub returns : goal.returns
+returns c peer prefix route = refl
