@@ -1,12 +1,12 @@
 -- The route to the longest prefix that contains an address.
-use Rattle.std.proofs.Common.{◌≡◌, Bool, true, false, cond, nat_lt, List, [], ◌∷◌, length, Option, Some, None, is_some, refl, sym, ap, subst, ◌∙◌, arith}
+use Rattle.std.proofs.Common.{◌≡◌, true, false, inl, inr, cond, nat_lt, List, [], ◌∷◌, length, Option, Some, None, is_some, refl, sym, ap, subst, ◌∙◌, arith}
 use Rattle.std.specs.List.{filter}
 use Rattle.std.specs.Ordering.{eq_by_cmp, is_eq}
 use Rattle.std.specs.Cmp.{tied_itself}
 use Rattle.std.specs.FinMap as finite
 use Rattle.std.specs.FinMap.{get-entries}
 use Rattle.std.specs.FinMap.Entries.{find}
-use Rattle.std.proofs.lemmas.Bool.{ltb-true, ltb-false}
+use Rattle.std.proofs.lemmas.Bool.{cases_Bool, cond_both, ltb-true, ltb-false}
 use Rattle.ip_prefix.specs.Address.{Address}
 use Rattle.ip_prefix.specs.Network.{Network, contains}
 use Rattle.ip_prefix.specs.Order.{network_cmp}
@@ -37,23 +37,20 @@ module _ {R : Type 0} (address : Address) (entry : Network × R) (entries : List
 
   -- a prefix is that of the entry in front, or has its route behind it
   front_or : {A : Type 0} (n : Network) → (n ≡ entry.0 → A) → (route_at (entry ∷ entries) n ≡ route_at entries n → A) → A
-  front_or {A} n here behind = at (eq_by_cmp network_cmp n entry.0) refl
-    where
-      at : (b : Bool) → eq_by_cmp network_cmp n entry.0 ≡ b → A
-      at true e = here (same_prefix n entry.0 e)
-      at false e = behind (ap (λ b. cond b (Some entry.1) (route_at entries n)) e)
+  front_or n here behind = elim (cases_Bool (eq_by_cmp network_cmp n entry.0)) [
+    | inl same ↦ here (same_prefix n entry.0 same)
+    | inr other ↦ behind (ap (λ b. cond b (Some entry.1) (route_at entries n)) other)
+  ]
 
-  -- an entry that does not contain the address changes nothing
+  -- a prefix that contains the address is not that of an entry that does not
+  elsewhere : {A : Type 0} (n : Network) → contains entry.0 address ≡ false → contains n address ≡ true → n ≡ entry.0 → A
+  elsewhere n out inside is = let no : true ≡ false = sym inside ∙ ap (λ m. contains m address) is ∙ out in cc
+
+  -- such an entry changes nothing
   longest-outside : contains entry.0 address ≡ false → (found : Option (Network × R)) → IsLongestOf (route_at entries) address found → IsLongestOf (route_at (entry ∷ entries)) address found
-  longest-outside out found p = at found p
-    where
-      wrong : {A : Type 0} (n : Network) → contains n address ≡ true → n ≡ entry.0 → A
-      wrong n inside is = let no : true ≡ false = sym inside ∙ ap (λ m. contains m address) is ∙ out in cc
-
-      at : (found : Option (Network × R)) → IsLongestOf (route_at entries) address found → IsLongestOf (route_at (entry ∷ entries)) address found
-      at None p = λ n inside. front_or n (wrong n inside) (λ same. same ∙ p n inside)
-      at (Some other) p =
-          (p.0, front_or other.0 (wrong other.0 p.0) (λ same. same ∙ p.1), λ n inside some. front_or n (wrong n inside) (λ same. p.2 n inside (ap is_some (sym same) ∙ some)))
+  longest-outside out None p = λ n inside. front_or n (elsewhere n out inside) (λ same. same ∙ p n inside)
+  longest-outside out (Some other) p =
+      (p.0, front_or other.0 (elsewhere other.0 out p.0) (λ same. same ∙ p.1), λ n inside some. front_or n (elsewhere n out inside) (λ same. p.2 n inside (ap is_some (sym same) ∙ some)))
 
   -- one that contains it is the longest, unless there is a longer one behind it
   longest-inside : contains entry.0 address ≡ true → (found : Option (Network × R)) → IsLongestOf (route_at entries) address found → IsLongestOf (route_at (entry ∷ entries)) address (longer entry found)
@@ -64,43 +61,37 @@ module _ {R : Type 0} (address : Address) (entry : Network × R) (entries : List
         let no : false ≡ true = ap is_some (sym (same ∙ p n inside)) ∙ some in
         cc),
   )
-  longest-inside within (Some other) p = at (nat_lt (length entry.0.bits) (length other.0.bits)) refl
-    where
-      at : (b : Bool) → nat_lt (length entry.0.bits) (length other.0.bits) ≡ b → IsLongestOf (route_at (entry ∷ entries)) address (Some (cond b other entry))
-      at true less =
-          let below = ltb-true (length entry.0.bits) (length other.0.bits) less in (
-            p.0,
-            front_or other.0 (λ is. absurd (omega (arith, below, ap (λ m. length m.bits) is))) (λ same. same ∙ p.1),
-            λ n inside some. front_or n (λ is. omega (arith, below, ap (λ m. length m.bits) is)) (λ same. p.2 n inside (ap is_some (sym same) ∙ some)),
-          )
-      at false less =
-          let below = ltb-false (length entry.0.bits) (length other.0.bits) less in (
-            within,
-            found_there,
-            λ n inside some. front_or n (λ is. omega (arith, ap (λ m. length m.bits) is)) (λ same.
-                let shorter = p.2 n inside (ap is_some (sym same) ∙ some) in
-                omega (arith, below, shorter)),
-          )
+  longest-inside within (Some other) p =
+      cond_both (nat_lt (length entry.0.bits) (length other.0.bits)) other entry (λ e. IsLongestOf (route_at (entry ∷ entries)) address (Some e)) (λ less.
+      let below = ltb-true (length entry.0.bits) (length other.0.bits) less in (
+        p.0,
+        front_or other.0 (λ is. absurd (omega (arith, below, ap (λ m. length m.bits) is))) (λ same. same ∙ p.1),
+        λ n inside some. front_or n (λ is. omega (arith, below, ap (λ m. length m.bits) is)) (λ same. p.2 n inside (ap is_some (sym same) ∙ some)),
+      )) (λ less.
+      let below = ltb-false (length entry.0.bits) (length other.0.bits) less in (
+        within,
+        found_there,
+        λ n inside some. front_or n (λ is. omega (arith, ap (λ m. length m.bits) is)) (λ same.
+            let shorter = p.2 n inside (ap is_some (sym same) ∙ some) in
+            omega (arith, below, shorter)),
+      ))
 
 -- the longest of entries is that of the routes that they have
 longest-entries : {R : Type 0} (address : Address) (entries : List (Network × R)) → IsLongestOf (route_at entries) address (longest_at address entries)
 longest-entries address [] = λ n inside. refl
-longest-entries {R} address (entry ∷ entries) = at (contains entry.0 address) refl (longest-entries address entries)
-  where
-    at : (b : Bool) → contains entry.0 address ≡ b → IsLongestOf (route_at entries) address (longest_at address entries)
-        → IsLongestOf (route_at (entry ∷ entries)) address (longest (cond b (entry ∷ filter (λ (e : Network × R). contains e.0 address) entries) (filter (λ (e : Network × R). contains e.0 address) entries)))
-    at true within p = longest-inside address entry entries within (longest_at address entries) p
-    at false out p = longest-outside address entry entries out (longest_at address entries) p
+longest-entries {R} address (entry ∷ entries) =
+    let rest = filter (λ (e : Network × R). contains e.0 address) entries in
+    cond_both (contains entry.0 address) (entry ∷ rest) rest (λ kept. IsLongestOf (route_at (entry ∷ entries)) address (longest kept))
+    (λ within. longest-inside address entry entries within (longest rest) (longest-entries address entries))
+    (λ out. longest-outside address entry entries out (longest rest) (longest-entries address entries))
 
--- a best route is the one that the definition gives
-pub one_best : (routes : Routes) (peer : Peer) (address : Address) (found : Option (Network × Route)) → IsBest routes peer address found → found ≡ best routes peer address
-one_best routes peer address found p =
-    longest-one (peer_routes routes peer) address found (best routes peer address)
-    (subst (λ route. IsLongestOf route address found) (λ i n. sym (get-peer_routes routes peer n) i) p)
-    (subst (λ route. IsLongestOf route address (best routes peer address)) (λ i n. sym (get-entries (peer_routes routes peer) n) i) (longest-entries address (finite.entries (peer_routes routes peer))))
-
--- and it is such an answer
+-- what the definition gives is a best route
 pub best_is : (routes : Routes) (peer : Peer) (address : Address) → IsBest routes peer address (best routes peer address)
 best_is routes peer address =
-    subst (λ route. IsLongestOf route address (best routes peer address)) (λ i n. get-peer_routes routes peer n i)
-    (subst (λ route. IsLongestOf route address (best routes peer address)) (λ i n. sym (get-entries (peer_routes routes peer) n) i) (longest-entries address (finite.entries (peer_routes routes peer))))
+    subst (λ route. IsLongestOf route address (best routes peer address)) (λ i n. (sym (get-entries (peer_routes routes peer) n) ∙ get-peer_routes routes peer n) i) (longest-entries address (finite.entries (peer_routes routes peer)))
+
+-- and it alone is
+pub one_best : (routes : Routes) (peer : Peer) (address : Address) (found : Option (Network × Route)) → IsBest routes peer address found → found ≡ best routes peer address
+one_best routes peer address found p =
+    let stored = λ (o : Option (Network × Route)). subst (λ route. IsLongestOf route address o) (λ i n. sym (get-peer_routes routes peer n) i) in
+    longest-one (peer_routes routes peer) address found (best routes peer address) (stored found p) (stored (best routes peer address) (best_is routes peer address))

@@ -1,10 +1,9 @@
 -- Commands that are carried out.
-use Rattle.std.proofs.Common.{◌≡◌, inl, inr, ℕ, zero, suc, ◌+◌, ◌-◌, ◌<◌, ◌≤◌, ◌||◌, min, max, Bool, true, false, Result, Ok, Err, List, [], ◌∷◌, ◌++◌, length, take, drop, nat_lt, Option, refl, sym, ap, subst, ◌∙◌, arith, append-nil, length-append, length-drop, take_at, drop_at}
+use Rattle.std.proofs.Common.{codes, ◌≡◌, inl, inr, ℕ, zero, suc, ◌+◌, ◌-◌, ◌<◌, ◌≤◌, ◌||◌, min, max, Bool, true, false, Result, Ok, Err, List, [], ◌∷◌, ◌++◌, length, take, drop, nat_lt, Option, refl, sym, ap, subst, ◌∙◌, arith, append-nil, length-append, length-drop, take_at, drop_at}
 use Rattle.std.proofs.lemmas.Bool.{cases_eq}
 use Rattle.std.proofs.lemmas.Bool.Decides.{nat_tests}
 use Rattle.std.proofs.lemmas.List.{take_all, drop_all}
-use Rattle.std.specs.Prelude.{codes}
-use Rattle.std.proofs.Math.Nat.{min-eq_left, min-eq_right, min-le_right, le-max_right, max-le, max-eq_left, max-eq_right}
+use Rattle.std.proofs.Math.Bool.{or-false}
 use Rattle.std.specs.Io.KnownBytes.{Appends, Keeps}
 use Rattle.std.proofs.KnownBytes.{Appends-nil}
 use Rattle.mrt_events.specs.declared.peer.Peer.{Peer}
@@ -18,48 +17,30 @@ use Rattle.mrt_wire.specs.Place.{Place}
 use Rattle.bgpdump_tool.specs.declared.command.Command.{Command}
 use Rattle.bgpdump_tool.specs.declared.command.Command.TheVariants.{Next, Back, Goto, Position, Lose, Forget}
 use Rattle.bgpdump_lines.specs.declared.fault.WriteFault.{WriteFault}
-use Rattle.bgpdump_lines.specs.declared.fault.WriteFault.TheVariants as write
 use Rattle.bgpdump_lines.specs.declared.outcome.Outcome.{Outcome}
 use Rattle.bgpdump_lines.specs.Device.{AppendsFront}
 use Rattle.bgpdump_lines.specs.Ending.{write_outcome, outcome_result}
 use Rattle.bgpdump_lines.specs.Reports.{reports}
 use Rattle.bgpdump_tool.specs.Replies.{at_text, counted_text, forgot_text}
 use Rattle.bgpdump_tool.specs.State.{events, needed, loss}
-use Rattle.bgpdump_tool.specs.Meaning.{answer, advance, meaning, meets_end, faults_taken}
-use Rattle.bgpdump_tool.specs.Standing.{Standing, Scene, Taking, Stands, state_of, at_cursor, standing_on, IsOnward, HasRoom}
+use Rattle.bgpdump_tool.specs.Meaning.{answer, retreat, advance, meaning, meets_end, faults_taken}
+use Rattle.bgpdump_tool.specs.Standing.{Standing, Scene, Taking, Stands, state_of, at_cursor, standing_on, HasRoom}
 use Rattle.bgpdump_tool.specs.Moves.{GoesOn, Stops, ForwardDoes, OnwardDoes}
-use Rattle.bgpdump_tool.specs.Carrying.{Leads, IsLed, CarryingDoes, Travels}
-use Rattle.bgpdump_tool.specs.Losing.{loss_text, Loses}
+use Rattle.bgpdump_tool.specs.Carrying.{IsLed, CarryingDoes}
 use Rattle.bgpdump_lines.specs.Writing.{Puts, PutsPart}
+use Rattle.bgpdump_tool.proofs.WalkLaws.{PutsPart-put}
 use Rattle.bgpdump_tool.proofs.StepLaws.{kept-Appends, kept-AppendsFront}
-use Rattle.bgpdump_tool.proofs.MoveLaws.{Stands-inside, reports-append, needed_beyond}
+use Rattle.bgpdump_tool.proofs.MoveLaws.{Stands-inside, reports-append, needed_beyond, events_few}
 use Rattle.bgpdump_lines.proofs.WritingLaws.{AppendsFront-none, AppendsFront-longer}
-use Rattle.bgpdump_tool.proofs.BoolLaws.{or_false}
 
 -- ---- fronts
 
 pub AppendsFront-whole : (a b : Option (List ℕ)) (text : List ℕ) → Appends a b text → AppendsFront a b text
 AppendsFront-whole a b text appended = record { front = text; back = []; whole = sym (append-nil text); appended = appended }
 
--- a text that was put, or a front of it, is a reply
-pub PutsPart-put : (old new : Option (List ℕ)) (text : List ℕ) (result : Result (Unit {0}) WriteFault) → Puts old new text result → PutsPart old new text result
-PutsPart-put old new text (Ok done) put = put
-PutsPart-put old new text (Err write.Write) put = put
-PutsPart-put old new text (Err write.Memory) put = subst (λ n. AppendsFront old n text) (sym put) (AppendsFront-none old text)
-
 -- ---- results that are taken
 
--- so many as were found
-take_found : (found more : List Finding) (count : ℕ) → length found ≡ count → (take count (found ++ more) ≡ found) × (drop count (found ++ more) ≡ more)
-take_found found more count size = (take_at found more count size, drop_at found more count size)
-
--- or all, where there are no more
-take_whole : (found more : List Finding) (count : ℕ) → more ≡ [] → length found ≤ count → (take count (found ++ more) ≡ found) × (drop count (found ++ more) ≡ more)
-take_whole found more count none size =
-    let same : found ++ more ≡ found = ap (λ l. found ++ l) none ∙ append-nil found in
-    (ap (take count) same ∙ take_all count found size, ap (drop count) same ∙ drop_all count found size ∙ sym none)
-
--- or more
+-- more than were found
 pub take_over : (found more : List Finding) (count : ℕ) → length found ≤ count → (rest : List Finding) × (take count (found ++ more) ≡ found ++ rest)
 take_over [] more count h = (take count more, refl)
 take_over (x ∷ found) more zero h = absurd (omega (arith, h))
@@ -74,33 +55,19 @@ taken_by : (found more : List Finding) (count : ℕ) (ended : Bool) → (ended �
     → (take count (found ++ more) ≡ found) × (drop count (found ++ more) ≡ more) × (nat_lt (length (found ++ more)) count ≡ ended)
 taken_by found more count false all few =
     let size = all refl in
-    let parts = take_found found more count size in
-    let test : nat_lt (length (found ++ more)) count ≡ false = grind (arith, nat_tests, size, length-append found more) in
-    (parts.0, parts.1, test)
+    (take_at found more count size, drop_at found more count size, grind (arith, nat_tests, size, length-append found more))
 taken_by found more count true all few =
     let (below, none) = few refl in
-    let parts = take_whole found more count none (omega (arith, below)) in
-    let size : length (found ++ more) < count = omega (arith, below, length-append found more, ap length none) in
-    let test : nat_lt (length (found ++ more)) count ≡ true = grind (arith, nat_tests, size) in
-    (parts.0, parts.1, test)
-
-Leads-advance : (command : Command) (s : Standing) (over count : ℕ) (found more : List Finding) (ended : Bool) → meaning command (state_of s (found ++ more)) ≡ advance over count (state_of s (found ++ more))
-    → (ended ≡ false → length found ≡ count) → (ended ≡ true → (length found < count) × (more ≡ []))
-    → Leads command s (standing_on over found ended s) found (at_text (s.cursor + over + length (events found)) ended) more
-Leads-advance command s over count found more ended means all few =
-    let (took, left, test) = taken_by found more count ended all few in
-    record {
-      after = ap (λ m. m.after) means ∙ (λ i. record { history = s.history ++ events (took i); cursor = s.cursor + over + length (events (took i)); floor = s.floor; unread = left i });
-      replied = ap (λ m. m.reply) means ∙ (λ i. at_text (s.cursor + over + length (events (took i))) (test i));
-      took = ap (λ m. take m.wanted (found ++ more)) means ∙ took;
-      ended = ap (λ b. s.ended || b) (sym (ap (λ m. nat_lt (length (found ++ more)) m.wanted) means ∙ test));
-    }
+    let same : found ++ more ≡ found = ap (λ l. found ++ l) none ∙ append-nil found in
+    let within : length found ≤ count = omega (arith, below) in
+    let size : length (found ++ more) < count = omega (arith, below, ap length same) in
+    (ap (take count) same ∙ take_all count found within, ap (drop count) same ∙ drop_all count found within ∙ sym none, grind (arith, nat_tests, size))
 
 -- a run that went on was led by a command that takes so many results
 pub IsLed-advance : (command : Command) (from : Place) (left : Option (List ℕ)) (s : Standing) (old new : Scene) (over : ℕ) (found : List Finding) (ended : Bool) (count : List Finding → ℕ) → GoesOn from left s old new over found ended
     → ((more : List Finding) → meaning command (state_of s (found ++ more)) ≡ advance over (count more) (state_of s (found ++ more)))
     → (ended ≡ false → (more : List Finding) → length found ≡ count more) → (ended ≡ true → (more : List Finding) → length found < count more)
-    → (led : IsLed command from left s old new) × (led.reply ≡ at_text new.player.cursor ended) × (led.after.ended ≡ (s.ended || ended))
+    → (led : IsLed command from left s old new) × (led.reply ≡ at_text new.player.cursor ended)
 IsLed-advance command from left s old new over found ended count goes means all few = (
   record {
     after = standing_on over found ended s;
@@ -109,12 +76,18 @@ IsLed-advance command from left s old new over found ended count goes means all 
     found = refl;
     stands = goes.stands;
     follows = goes.follows;
-    leads = λ more none. Leads-advance command s over (count more) found more ended (means more) (λ e. all e more) (λ e. (few e more, none (goes.met e).1));
+    leads = λ more none.
+        let (took, left, test) = taken_by found more (count more) ended (λ e. all e more) (λ e. (few e more, none (goes.met e).1)) in
+        record {
+          after = ap (λ m. m.after) (means more) ∙ (λ i. record { history = s.history ++ events (took i); cursor = s.cursor + over + length (events (took i)); floor = s.floor; unread = left i });
+          replied = ap (λ m. m.reply) (means more) ∙ (λ i. at_text (s.cursor + over + length (events (took i))) (test i));
+          took = ap (λ m. take m.wanted (found ++ more)) (means more) ∙ took;
+          ended = ap (λ b. s.ended || b) (sym (ap (λ m. nat_lt (length (found ++ more)) m.wanted) (means more) ∙ test));
+        };
     reported = goes.reported;
     told = goes.told;
   },
   ap (λ n. at_text n ended) (sym goes.stands.cursor),
-  refl,
 )
 
 -- ---- the reply
@@ -161,6 +134,13 @@ CarryingDoes-kept command from left s old new out mid out' (Err outcome) kept (i
   },
 )
 
+-- a run that moved on tells where it stands
+pub Carrying-moved : (command : Command) (from : Place) (left : Option (List ℕ)) (s : Standing) (old new : Scene) (out mid out' : Option (List ℕ)) (at : ℕ) (ended : Bool) (result : Result (Unit {0}) WriteFault) → (led : IsLed command from left s old new) × (led.reply ≡ at_text new.player.cursor ended)
+    → at ≡ new.player.cursor → Keeps out mid → Puts mid out' (at_text at ended) result → CarryingDoes command from left s old new out out' (outcome_result result)
+Carrying-moved command from left s old new out mid out' at ended result (led, is) at_is kept put =
+    CarryingDoes-kept command from left s old new out mid out' (outcome_result result) kept
+    (Carrying-replied command from left s old new mid out' (at_text at ended) result led (is ∙ ap (λ n. at_text n ended) (sym at_is)) (PutsPart-put mid out' (at_text at ended) result put))
+
 -- ---- a fault on the way
 
 pub Carrying-stopped : (command : Command) (from : Place) (left : Option (List ℕ)) (s : Standing) (old new : Scene) (out : Option (List ℕ)) (outcome : Outcome) (More Enough : List Finding → Type 0)
@@ -188,79 +168,48 @@ Carrying-stopped command from left s old new out outcome More Enough wants has (
 
 -- ---- `next`
 
-over_ahead : (s : Standing) (over n : ℕ) (found : List Finding) → IsOnward over found s → over + length found ≡ n → min n (length s.history - s.cursor) ≡ over
-over_ahead s over n found onward sum = elim (cases_eq (length found) 0) [
-  | inl empty ↦ min-eq_left (omega (arith, onward.few, sum, empty)) ∙ omega (arith, sum, empty)
-  | inr some ↦
-      let all = onward.all (omega (arith, some)) in
-      min-eq_right (omega (arith, all, sum)) ∙ sym all
-]
-
-all_ahead : (s : Standing) (over n : ℕ) (found : List Finding) → over ≡ length s.history - s.cursor → over + length found < n → min n (length s.history - s.cursor) ≡ over
-all_ahead s over n found all below = min-eq_right (omega (arith, all, below)) ∙ sym all
-
 pub IsLed-next : (n : ℕ) (from : Place) (left : Option (List ℕ)) (s : Standing) (old new : Scene) (ended : Bool) → ForwardDoes n from left s old new (Ok ended)
-    → (led : IsLed (Next n) from left s old new) × (led.reply ≡ at_text new.player.cursor ended) × (led.after.ended ≡ (s.ended || ended))
+    → (led : IsLed (Next n) from left s old new) × (led.reply ≡ at_text new.player.cursor ended)
 IsLed-next n from left s old new false (over, found, sum, goes) =
-    let same = over_ahead s over n found goes.onward sum in
+    let same : min n (length s.history - s.cursor) ≡ over = elim (cases_eq (length found) 0) [
+      | inl empty ↦ omega (arith, goes.onward.few, sum, empty)
+      | inr some ↦ omega (arith, goes.onward.all (omega (arith, some)), sum)
+    ] in
     IsLed-advance (Next n) from left s old new over found false (λ more. n - over) goes
     (λ more. ap (λ o. advance o (n - o) (state_of s (found ++ more))) same)
     (λ e more. omega (arith, sum)) (λ e more. cc)
 IsLed-next n from left s old new true (over, found, below, goes) =
-    let same = all_ahead s over n found (goes.met refl).0 below in
+    let same : min n (length s.history - s.cursor) ≡ over = omega (arith, (goes.met refl).0, below) in
     IsLed-advance (Next n) from left s old new over found true (λ more. n - over) goes
     (λ more. ap (λ o. advance o (n - o) (state_of s (found ++ more))) same)
     (λ e more. cc) (λ e more. omega (arith, below))
-
--- what is left behind all steps ahead
-left_below : (n ahead count : ℕ) → ahead + count < n → count < n - min n ahead
-left_below n ahead count below =
-    let all : min n ahead ≡ ahead = min-eq_right (omega (arith, below)) in
-    omega (arith, below, all)
-
-left_within : (n ahead count : ℕ) → ahead + count ≤ n → count ≤ n - min n ahead
-left_within n ahead count within =
-    let all : min n ahead ≡ ahead = min-eq_right (omega (arith, within)) in
-    omega (arith, within, all)
 
 pub Carrying-next : (n : ℕ) (from : Place) (left : Option (List ℕ)) (s : Standing) (old new : Scene) (out : Option (List ℕ)) (outcome : Outcome) → ForwardDoes n from left s old new (Err outcome)
     → CarryingDoes {A = Unit {0}} (Next n) from left s old new out out (Err outcome)
 Carrying-next n from left s old new out outcome stops =
     Carrying-stopped (Next n) from left s old new out outcome (λ l. length s.history - s.cursor + length l < n) (λ l. length s.history - s.cursor + length l ≤ n)
-    (λ found more below. left_below n (length s.history - s.cursor) (length found) below)
-    (λ found more below. left_within n (length s.history - s.cursor) (length found) below)
+    (λ found more below. omega (arith, below))
+    (λ found more within. omega (arith, within))
     stops
 
 -- ---- `goto` that goes on
-
-forth : (k cursor : ℕ) → cursor ≤ k → nat_lt k cursor ≡ false
-forth k cursor above = grind (arith, nat_tests, above)
 
 -- on to a position it takes the results that are needed
 goto_means : (k : ℕ) (s : Standing) (over : ℕ) (found more : List Finding) → s.cursor ≤ k → min (k - s.cursor) (length s.history - s.cursor) ≡ over
     → meaning (Goto k) (state_of s (found ++ more)) ≡ advance over (needed (k - length s.history) (found ++ more)) (state_of s (found ++ more))
 goto_means k s over found more above same =
-    let test = forth k s.cursor above in
+    let test : nat_lt k s.cursor ≡ false = grind (arith, nat_tests, above) in
     rw test (ap (λ o. advance o (needed (k - length s.history) (found ++ more)) (state_of s (found ++ more))) same)
 
-no_events : (found : List Finding) → length found ≡ 0 → length (events found) ≡ 0
-no_events [] e = refl
-no_events (x ∷ found) e = absurd (omega (arith, e))
-
--- too few events were found
-few_events : (k : ℕ) (s : Standing) (over : ℕ) (found : List Finding) → s.cursor ≤ length s.history → over ≡ length s.history - s.cursor → s.cursor + over + length (events found) < k → length (events found) < k - length s.history
-few_events k s over found inside all below = omega (arith, inside, all, below)
-
 pub IsLed-goto : (k : ℕ) (from : Place) (left : Option (List ℕ)) (s : Standing) (old new : Scene) (ended : Bool) → s.cursor ≤ k → Stands from left old s → OnwardDoes k from left s old new (Ok ended)
-    → (led : IsLed (Goto k) from left s old new) × (led.reply ≡ at_text new.player.cursor ended) × (led.after.ended ≡ (s.ended || ended))
+    → (led : IsLed (Goto k) from left s old new) × (led.reply ≡ at_text new.player.cursor ended)
 IsLed-goto k from left s old new false above stands (over, found, reached, exact, goes) =
     let same : min (k - s.cursor) (length s.history - s.cursor) ≡ over = elim (cases_eq (length found) 0) [
       | inl empty ↦
-          let sum = no_events found empty in
-          min-eq_left (omega (arith, reached, goes.stands.cursor, goes.onward.few, sum)) ∙ omega (arith, reached, goes.stands.cursor, sum)
+          omega (arith, reached, goes.stands.cursor, goes.onward.few, events_few found, empty)
       | inr some ↦
           let all = goes.onward.all (omega (arith, some)) in
-          min-eq_right (omega (arith, reached, goes.stands.cursor, all)) ∙ sym all
+          omega (arith, reached, goes.stands.cursor, all)
     ] in
     IsLed-advance (Goto k) from left s old new over found false (λ more. needed (k - length s.history) (found ++ more)) goes
     (λ more. goto_means k s over found more above same)
@@ -268,8 +217,8 @@ IsLed-goto k from left s old new false above stands (over, found, reached, exact
 IsLed-goto k from left s old new true above stands (over, found, below, goes) =
     let inside = Stands-inside from left old s stands in
     let all = (goes.met refl).0 in
-    let few = few_events k s over found inside all (omega (arith, below, goes.stands.cursor)) in
-    let same : min (k - s.cursor) (length s.history - s.cursor) ≡ over = min-eq_right (omega (arith, below, goes.stands.cursor, all)) ∙ sym all in
+    let few : length (events found) < k - length s.history = omega (arith, inside, all, below, goes.stands.cursor) in
+    let same : min (k - s.cursor) (length s.history - s.cursor) ≡ over = omega (arith, below, goes.stands.cursor, all) in
     IsLed-advance (Goto k) from left s old new over found true (λ more. needed (k - length s.history) (found ++ more)) goes
     (λ more. goto_means k s over found more above same)
     (λ e more. cc) (λ e more. needed_beyond (k - length s.history) found more few)
@@ -288,200 +237,142 @@ Carrying-goto k from left s old new out outcome above stops =
 
 -- ---- commands that take nothing
 
-none_below : (n : ℕ) → nat_lt n 0 ≡ false
-none_below n = grind (arith, nat_tests)
+-- nothing is found, the player goes elsewhere, and a reply was written, or a front of it
+abbrev Carrying-still : (command : Command) (from : Place) (left : Option (List ℕ)) (s t : Standing) (old : Scene) (u : Timeline) (out out' : Option (List ℕ)) (reply text : List ℕ) (result : Result (Unit {0}) WriteFault) → t.found ≡ s.found → t.ended ≡ s.ended
+    → Stands from left (record old { player = u }) t → ((more : List Finding) → meaning command (state_of s more) ≡ answer reply (state_of t more)) → reply ≡ text → PutsPart out out' text result
+    → CarryingDoes command from left s old (record old { player = u }) out out' (outcome_result result)
+Carrying-still command from left s t old u out out' reply text result found ended stands means is replied =
+    Carrying-replied command from left s old (record old { player = u }) out out' text result (record {
+      after = t;
+      taken = [];
+      reply = reply;
+      found = found ∙ sym (append-nil s.found);
+      stands = stands;
+      follows = record { quiet = λ _. refl; stays = λ e. e };
+      leads = λ more none.
+          let within : nat_lt (length more) 0 ≡ false = grind (arith, nat_tests) in
+          record {
+            after = ap (λ m. m.after) (means more);
+            replied = ap (λ m. m.reply) (means more);
+            took = ap (λ m. take m.wanted more) (means more);
+            ended = ended ∙ sym (or-false s.ended) ∙ ap (λ b. s.ended || b) (sym within) ∙ ap (λ m. s.ended || nat_lt (length more) m.wanted) (sym (means more));
+          };
+      reported = Appends-nil old.err;
+      told = sym (or-false old.reported);
+    }) is replied
 
--- nothing is found, and the player goes elsewhere
-abbrev IsLed-still : (command : Command) (from : Place) (left : Option (List ℕ)) (s t : Standing) (old : Scene) (u : Timeline) (reply : List ℕ) → t.found ≡ s.found → t.ended ≡ s.ended → Stands from left (record old { player = u }) t
-    → ((more : List Finding) → meaning command (state_of s more) ≡ record { wanted = 0; after = state_of t more; reply = reply }) → IsLed command from left s old (record old { player = u })
-IsLed-still command from left s t old u reply found ended stands means = record {
-  after = t;
-  taken = [];
-  reply = reply;
-  found = found ∙ sym (append-nil s.found);
-  stands = stands;
-  follows = record { quiet = λ _. refl; stays = λ e. e };
-  leads = λ more none. record {
-    after = ap (λ m. m.after) (means more);
-    replied = ap (λ m. m.reply) (means more);
-    took = ap (λ m. take m.wanted more) (means more);
-    ended = ended ∙ sym (or_false s.ended) ∙ ap (λ b. s.ended || b) (sym (none_below (length more))) ∙ ap (λ m. s.ended || nat_lt (length more) m.wanted) (sym (means more));
-  };
-  reported = Appends-nil old.err;
-  told = sym (or_false old.reported);
-}
+-- the cursor goes back
+Carrying-retreat : (command : Command) (from : Place) (left : Option (List ℕ)) (s : Standing) (old : Scene) (u : Timeline) (cursor : ℕ) (out out' : Option (List ℕ)) (result : Result (Unit {0}) WriteFault) → Stands from left old s → u ≡ at_cursor cursor old.player
+    → s.floor ≤ cursor → cursor ≤ s.cursor → ((more : List Finding) → meaning command (state_of s more) ≡ retreat cursor (state_of s more)) → Puts out out' (at_text u.cursor false) result
+    → CarryingDoes command from left s old (record old { player = u }) out out' (outcome_result result)
+Carrying-retreat command from left s old u cursor out out' result stands is floor within means put =
+    let stood : Stands from left (record old { player = at_cursor cursor old.player }) (record s { cursor = cursor }) = record {
+      history = record { floor = omega (arith, floor, stands.floor); cursor = omega (arith, within, stands.cursor, stands.history.cursor); tables = stands.history.tables; steps = stands.history.steps };
+      cursor = refl;
+      floor = stands.floor;
+      taking = stands.taking;
+    } in
+    Carrying-still command from left s (record s { cursor = cursor }) old u out out' (at_text cursor false) (at_text u.cursor false) result refl refl
+    (subst (λ t. Stands from left (record old { player = t }) (record s { cursor = cursor })) (sym is) stood)
+    means (ap (λ t. at_text t.cursor false) (sym is)) (PutsPart-put out out' (at_text u.cursor false) result put)
 
--- the same history with the cursor elsewhere
-StandsFor-at_cursor : (t : Timeline) (history : List Event) (cursor : ℕ) → StandsFor t history → t.floor ≤ cursor → cursor ≤ length history → StandsFor (at_cursor cursor t) history
-StandsFor-at_cursor t history cursor stands floor within = record { floor = floor; cursor = within; tables = stands.tables; steps = stands.steps }
-
-Stands-at_cursor : (from : Place) (left : Option (List ℕ)) (s : Standing) (old : Scene) (cursor : ℕ) → Stands from left old s → s.floor ≤ cursor → cursor ≤ s.cursor
-    → Stands from left (record old { player = at_cursor cursor old.player }) (record s { cursor = cursor })
-Stands-at_cursor from left s old cursor stands floor within = record {
-  history = StandsFor-at_cursor old.player s.history cursor stands.history (omega (arith, floor, stands.floor)) (omega (arith, within, stands.cursor, stands.history.cursor));
-  cursor = refl;
-  floor = stands.floor;
-  taking = stands.taking;
-}
-
--- `goto` that goes back
-pub IsLed-retreat : (k : ℕ) (from : Place) (left : Option (List ℕ)) (s : Standing) (old : Scene) (u : Timeline) → k < s.cursor → Stands from left old s → u ≡ at_cursor (max k old.player.floor) old.player
-    → (led : IsLed (Goto k) from left s old (record old { player = u })) × (led.reply ≡ at_text u.cursor false)
-IsLed-retreat k from left s old u below stands is =
-    let cursor : ℕ = max k s.floor in
-    let same : u ≡ at_cursor cursor old.player = is ∙ ap (λ n. at_cursor (max k n) old.player) stands.floor in
-    let back : nat_lt k s.cursor ≡ true = grind (arith, nat_tests, below) in
-    let behind : s.floor ≤ s.cursor = omega (arith, stands.history.floor, stands.floor, stands.cursor) in (
-      IsLed-still (Goto k) from left s (record s { cursor = cursor }) old u (at_text cursor false) refl refl
-          (subst (λ t. Stands from left (record old { player = t }) (record s { cursor = cursor })) (sym same)
-          (Stands-at_cursor from left s old cursor stands (le-max_right k s.floor) (max-le (omega (arith, below)) behind)))
-          (λ more. rw back refl),
-      ap (λ t. at_text t.cursor false) (sym same),
-    )
+-- a run stands no further back than it can go
+floor_behind : (from : Place) (left : Option (List ℕ)) (s : Standing) (old : Scene) → Stands from left old s → s.floor ≤ s.cursor
+floor_behind from left s old stands = omega (arith, stands.history.floor, stands.floor, stands.cursor)
 
 -- `back`
-pub IsLed-back : (n : ℕ) (from : Place) (left : Option (List ℕ)) (s : Standing) (old : Scene) (u : Timeline) → Stands from left old s → u ≡ at_cursor (old.player.cursor - min n (behind old.player)) old.player
-    → (led : IsLed (Back n) from left s old (record old { player = u })) × (led.reply ≡ at_text u.cursor false)
-IsLed-back n from left s old u stands is =
-    let cursor : ℕ = s.cursor - min n (s.cursor - s.floor) in
-    let same : u ≡ at_cursor cursor old.player = is ∙ (λ i. at_cursor (stands.cursor i - min n (stands.cursor i - stands.floor i)) old.player) in
-    let behind : s.floor ≤ s.cursor = omega (arith, stands.history.floor, stands.floor, stands.cursor) in (
-      IsLed-still (Back n) from left s (record s { cursor = cursor }) old u (at_text cursor false) refl refl
-          (subst (λ t. Stands from left (record old { player = t }) (record s { cursor = cursor })) (sym same)
-          (Stands-at_cursor from left s old cursor stands (omega (arith, behind, min-le_right n (s.cursor - s.floor))) (omega arith)))
-          (λ more. refl),
-      ap (λ t. at_text t.cursor false) (sym same),
-    )
+pub Carrying-back : (n : ℕ) (from : Place) (left : Option (List ℕ)) (s : Standing) (old : Scene) (u : Timeline) (out out' : Option (List ℕ)) (result : Result (Unit {0}) WriteFault) → Stands from left old s
+    → u ≡ at_cursor (old.player.cursor - min n (behind old.player)) old.player → Puts out out' (at_text u.cursor false) result
+    → CarryingDoes (Back n) from left s old (record old { player = u }) out out' (outcome_result result)
+Carrying-back n from left s old u out out' result stands is put =
+    Carrying-retreat (Back n) from left s old u (s.cursor - min n (s.cursor - s.floor)) out out' result stands (is ∙ (λ i. at_cursor (stands.cursor i - min n (stands.cursor i - stands.floor i)) old.player))
+    (omega (arith, floor_behind from left s old stands)) (omega arith) (λ more. refl) put
+
+-- `goto` that goes back
+pub Carrying-retreats : (k count : ℕ) (from : Place) (left : Option (List ℕ)) (s : Standing) (old : Scene) (u : Timeline) (out out' : Option (List ℕ)) (result : Result (Unit {0}) WriteFault) → k < old.player.cursor → count ≡ old.player.cursor - k → Stands from left old s
+    → u ≡ at_cursor (old.player.cursor - min count (behind old.player)) old.player → Puts out out' (at_text u.cursor false) result
+    → CarryingDoes (Goto k) from left s old (record old { player = u }) out out' (outcome_result result)
+Carrying-retreats k count from left s old u out out' result below number stands is put =
+    let stood = floor_behind from left s old stands in
+    let back : nat_lt k s.cursor ≡ true = grind (arith, nat_tests, below, stands.cursor) in
+    Carrying-retreat (Goto k) from left s old u (max k s.floor) out out' result stands (is ∙ ap (λ n. at_cursor n old.player) (omega (arith, below, number, stands.floor, stands.cursor, stood)))
+    (omega arith) (omega (arith, below, stands.cursor, stood)) (λ more. rw back refl) put
 
 -- a question
-abbrev IsLed-answer : (command : Command) (from : Place) (left : Option (List ℕ)) (s : Standing) (old : Scene) (text : List ℕ) → Stands from left old s
-    → ((more : List Finding) → meaning command (state_of s more) ≡ answer text (state_of s more)) → IsLed command from left s old old
-IsLed-answer command from left s old text stands means = IsLed-still command from left s s old old.player text refl refl stands means
-
 pub Carrying-question : (command : Command) (from : Place) (left : Option (List ℕ)) (s : Standing) (old : Scene) (out out' : Option (List ℕ)) (routes : Routes) (text : Routes → List ℕ) (result : Result (Unit {0}) WriteFault) → Stands from left old s
     → ((more : List Finding) → meaning command (state_of s more) ≡ answer (text (table (take s.cursor s.history))) (state_of s more)) → routes ≡ current old.player → PutsPart out out' (text routes) result
     → CarryingDoes command from left s old old out out' (outcome_result result)
 Carrying-question command from left s old out out' routes text result stands means is replied =
     let same : routes ≡ table (take s.cursor s.history) = is ∙ StandsFor-current old.player s.history stands.history ∙ ap (λ n. table (take n s.history)) stands.cursor in
-    Carrying-replied command from left s old old out out' (text (table (take s.cursor s.history))) result (IsLed-answer command from left s old (text (table (take s.cursor s.history))) stands means) refl
-    (subst (λ r. PutsPart out out' (text r) result) same replied)
+    Carrying-still command from left s s old old.player out out' (text (table (take s.cursor s.history))) (text routes) result refl refl stands means (ap text (sym same)) replied
 
--- one whose reply is a line
-pub Carrying-line : (command : Command) (from : Place) (left : Option (List ℕ)) (s : Standing) (old : Scene) (out out' : Option (List ℕ)) (routes : Routes) (text : Routes → List ℕ) (result : Result (Unit {0}) WriteFault) → Stands from left old s
-    → ((more : List Finding) → meaning command (state_of s more) ≡ answer (text (table (take s.cursor s.history))) (state_of s more)) → routes ≡ current old.player → Puts out out' (text routes) result
-    → CarryingDoes command from left s old old out out' (outcome_result result)
-Carrying-line command from left s old out out' routes text result stands means is replied =
-    Carrying-question command from left s old out out' routes text result stands means is (PutsPart-put out out' (text routes) result replied)
+-- how many steps are ahead
+ahead_is : (from : Place) (left : Option (List ℕ)) (s : Standing) (old : Scene) → Stands from left old s → ahead_of old.player ≡ length s.history - s.cursor
+ahead_is from left s old stands = omega (arith, StandsFor-end old.player s.history stands.history, stands.cursor)
 
-pub Carrying-position : (from : Place) (left : Option (List ℕ)) (s : Standing) (old : Scene) (out out' : Option (List ℕ)) (result : Result (Unit {0}) WriteFault) → Stands from left old s
-    → Puts out out' (counted_text old.player.cursor (codes " ahead ") (ahead_of old.player)) result → CarryingDoes Position from left s old old out out' (outcome_result result)
-Carrying-position from left s old out out' result stands put =
-    let ahead : ahead_of old.player ≡ length s.history - s.cursor = omega (arith, StandsFor-end old.player s.history stands.history, stands.cursor) in
-    let text : List ℕ = counted_text s.cursor (codes " ahead ") (length s.history - s.cursor) in
-    Carrying-replied Position from left s old old out out' text result (IsLed-answer Position from left s old text stands (λ more. refl)) refl
-    (subst (λ t. PutsPart out out' t result) (λ i. counted_text (stands.cursor i) (codes " ahead ") (ahead i)) (PutsPart-put out out' (counted_text old.player.cursor (codes " ahead ") (ahead_of old.player)) result put))
+-- where the player stands
+pub Carrying-position : (from : Place) (left : Option (List ℕ)) (s : Standing) (old : Scene) (out out' : Option (List ℕ)) (at ahead : ℕ) (result : Result (Unit {0}) WriteFault) → Stands from left old s → at ≡ old.player.cursor → ahead ≡ ahead_of old.player
+    → Puts out out' (counted_text at (codes " ahead ") ahead) result → CarryingDoes Position from left s old old out out' (outcome_result result)
+Carrying-position from left s old out out' at ahead result stands at_is ahead_of_it put =
+    Carrying-still Position from left s s old old.player out out' (counted_text s.cursor (codes " ahead ") (length s.history - s.cursor)) (counted_text at (codes " ahead ") ahead) result refl refl stands (λ more. refl)
+    (sym (λ i. counted_text ((at_is ∙ stands.cursor) i) (codes " ahead ") ((ahead_of_it ∙ ahead_is from left s old stands) i))) (PutsPart-put out out' (counted_text at (codes " ahead ") ahead) result put)
 
 -- the loss of a session
-pub IsLed-lose : (peer : Peer) (from : Place) (left : Option (List ℕ)) (s : Standing) (old : Scene) (u : Timeline) → Stands from left old s → u ≡ after_play old.player (loss peer)
-    → (led : IsLed (Lose peer) from left s old (record old { player = u })) × (led.reply ≡ loss_text old.player u)
-IsLed-lose peer from left s old u stands is =
-    let t : Standing = record { history = take s.cursor s.history ++ loss peer ∷ []; cursor = s.cursor + 1; floor = s.floor; found = s.found; ended = s.ended } in
-    let ahead : ahead_of old.player ≡ length s.history - s.cursor = omega (arith, StandsFor-end old.player s.history stands.history, stands.cursor) in
-    let cursor : u.cursor ≡ s.cursor + 1 = ap (λ x. x.cursor) is ∙ ap (λ n. n + 1) stands.cursor in (
-      IsLed-still (Lose peer) from left s t old u (counted_text (s.cursor + 1) (codes " dropped ") (length s.history - s.cursor)) refl refl
-          (record {
-            history = subst (λ x. StandsFor x (take s.cursor s.history ++ loss peer ∷ [])) (sym is)
-                (subst (λ n. StandsFor (after_play old.player (loss peer)) (take n s.history ++ loss peer ∷ [])) stands.cursor (StandsFor-after_play old.player s.history (loss peer) stands.history));
-            cursor = cursor;
-            floor = ap (λ x. x.floor) is ∙ stands.floor;
-            taking = stands.taking;
-          })
-          (λ more. refl),
-      sym (λ i. counted_text (cursor i) (codes " dropped ") (ahead i)),
-    )
-
--- the floor stays, or rises to where so many steps are kept
-floor_raised : (floor cursor keep : ℕ) → floor + (cursor - floor - keep) ≡ max floor (cursor - keep)
-floor_raised floor cursor keep = elim (cases_eq (cursor - floor - keep) 0) [
-  | inl none ↦ omega (arith, none) ∙ sym (max-eq_left (omega (arith, none)))
-  | inr some ↦ omega (arith, some) ∙ sym (max-eq_right (omega (arith, some)))
-]
+pub Carrying-lose : (peer : Peer) (from : Place) (left : Option (List ℕ)) (s : Standing) (old : Scene) (u : Timeline) (out out' : Option (List ℕ)) (at dropped : ℕ) (result : Result (Unit {0}) WriteFault) → Stands from left old s → u ≡ after_play old.player (loss peer)
+    → at ≡ u.cursor → dropped ≡ ahead_of old.player → Puts out out' (counted_text at (codes " dropped ") dropped) result
+    → CarryingDoes (Lose peer) from left s old (record old { player = u }) out out' (outcome_result result)
+Carrying-lose peer from left s old u out out' at dropped result stands is at_is dropped_is put =
+    let history : List Event = take s.cursor s.history ++ loss peer ∷ [] in
+    let cursor : u.cursor ≡ s.cursor + 1 = ap (λ x. x.cursor) is ∙ ap (λ n. n + 1) stands.cursor in
+    Carrying-still (Lose peer) from left s (record s { history = history; cursor = s.cursor + 1 }) old u out out' (counted_text (s.cursor + 1) (codes " dropped ") (length s.history - s.cursor)) (counted_text at (codes " dropped ") dropped) result refl refl
+    (record {
+      history = subst (λ x. StandsFor x history) (sym is)
+          (subst (λ n. StandsFor (after_play old.player (loss peer)) (take n s.history ++ loss peer ∷ [])) stands.cursor (StandsFor-after_play old.player s.history (loss peer) stands.history));
+      cursor = cursor;
+      floor = ap (λ x. x.floor) is ∙ stands.floor;
+      taking = stands.taking;
+    })
+    (λ more. refl) (sym (λ i. counted_text ((at_is ∙ cursor) i) (codes " dropped ") ((dropped_is ∙ ahead_is from left s old stands) i))) (PutsPart-put out out' (counted_text at (codes " dropped ") dropped) result put)
 
 -- `forget`
-pub IsLed-forget : (n : ℕ) (from : Place) (left : Option (List ℕ)) (s : Standing) (old : Scene) (u : Timeline) → Stands from left old s → u ≡ after_forget old.player n
-    → (led : IsLed (Forget n) from left s old (record old { player = u })) × (led.reply ≡ forgot_text u.cursor u.floor (forgettable old.player n))
-IsLed-forget n from left s old u stands is =
-    let raised : ℕ = max s.floor (s.cursor - n) in
-    let same : old.player.floor + forgettable old.player n ≡ raised = floor_raised old.player.floor old.player.cursor n ∙ (λ i. max (stands.floor i) (stands.cursor i - n)) in
-    let number : forgettable old.player n ≡ raised - s.floor = omega (arith, same, stands.floor) in
-    let cursor : u.cursor ≡ s.cursor = ap (λ x. x.cursor) is ∙ stands.cursor in
-    let floor : u.floor ≡ raised = ap (λ x. x.floor) is ∙ same in (
-      IsLed-still (Forget n) from left s (record s { floor = raised }) old u (forgot_text s.cursor raised (raised - s.floor)) refl refl
-          (record {
-            history = subst (λ x. StandsFor x s.history) (sym is) (StandsFor-after_forget old.player s.history n stands.history);
-            cursor = cursor;
-            floor = floor;
-            taking = stands.taking;
-          })
-          (λ more. refl),
-      sym (λ i. forgot_text (cursor i) (floor i) (number i)),
-    )
-
--- by the answer
-pub Travels-goto : (k : ℕ) (from : Place) (left : Option (List ℕ)) (s : Standing) (old new : Scene) (result : Result Bool Outcome) → s.cursor ≤ k → Stands from left old s → OnwardDoes k from left s old new result
-    → Travels k from left s old new result
-Travels-goto k from left s old new (Ok ended) above stands does =
-    let led = IsLed-goto k from left s old new ended above stands does in
-    (led.0, led.1)
-Travels-goto k from left s old new (Err outcome) above stands does = λ out. Carrying-goto k from left s old new out outcome above does
-
-pub Carrying-back : (n : ℕ) (from : Place) (left : Option (List ℕ)) (s : Standing) (old : Scene) (u : Timeline) (out out' : Option (List ℕ)) (result : Result (Unit {0}) WriteFault) → Stands from left old s
-    → u ≡ at_cursor (old.player.cursor - min n (behind old.player)) old.player → Puts out out' (at_text u.cursor false) result
-    → CarryingDoes (Back n) from left s old (record old { player = u }) out out' (outcome_result result)
-Carrying-back n from left s old u out out' result stands is put =
-    let led = IsLed-back n from left s old u stands is in
-    Carrying-replied (Back n) from left s old (record old { player = u }) out out' (at_text u.cursor false) result led.0 led.1 (PutsPart-put out out' (at_text u.cursor false) result put)
-
-pub Carrying-forget : (n : ℕ) (from : Place) (left : Option (List ℕ)) (s : Standing) (old : Scene) (u : Timeline) (out out' : Option (List ℕ)) (result : Result (Unit {0}) WriteFault) → Stands from left old s
-    → u ≡ after_forget old.player n → Puts out out' (forgot_text u.cursor u.floor (forgettable old.player n)) result
+pub Carrying-forget : (n : ℕ) (from : Place) (left : Option (List ℕ)) (s : Standing) (old : Scene) (u : Timeline) (out out' : Option (List ℕ)) (at floor number : ℕ) (result : Result (Unit {0}) WriteFault) → Stands from left old s
+    → u ≡ after_forget old.player n → at ≡ u.cursor → floor ≡ u.floor → number ≡ forgettable old.player n → Puts out out' (forgot_text at floor number) result
     → CarryingDoes (Forget n) from left s old (record old { player = u }) out out' (outcome_result result)
-Carrying-forget n from left s old u out out' result stands is put =
-    let text : List ℕ = forgot_text u.cursor u.floor (forgettable old.player n) in
-    let led = IsLed-forget n from left s old u stands is in
-    Carrying-replied (Forget n) from left s old (record old { player = u }) out out' text result led.0 led.1 (PutsPart-put out out' text result put)
+Carrying-forget n from left s old u out out' at floor number result stands is at_is floor_is number_is put =
+    let raised : ℕ = max s.floor (s.cursor - n) in
+    let same : old.player.floor + forgettable old.player n ≡ raised = omega (arith, stands.floor, stands.cursor) in
+    let cursor : u.cursor ≡ s.cursor = ap (λ x. x.cursor) is ∙ stands.cursor in
+    let rises : u.floor ≡ raised = ap (λ x. x.floor) is ∙ same in
+    let count : number ≡ raised - s.floor = omega (arith, number_is, same, stands.floor) in
+    Carrying-still (Forget n) from left s (record s { floor = raised }) old u out out' (forgot_text s.cursor raised (raised - s.floor)) (forgot_text at floor number) result refl refl
+    (record {
+      history = subst (λ x. StandsFor x s.history) (sym is) (StandsFor-after_forget old.player s.history n stands.history);
+      cursor = cursor;
+      floor = rises;
+      taking = stands.taking;
+    })
+    (λ more. refl) (sym (λ i. forgot_text ((at_is ∙ cursor) i) ((floor_is ∙ rises) i) (count i))) (PutsPart-put out out' (forgot_text at floor number) result put)
 
 -- nothing was played or written, for want of memory
-Carrying-refused : (command : Command) (from : Place) (left : Option (List ℕ)) (s : Standing) (old new : Scene) (out : Option (List ℕ)) (fault : WriteFault) → Stands from left old s → new ≡ old
-    → CarryingDoes {A = Unit {0}} command from left s old new out out (Err (write_outcome fault))
-Carrying-refused command from left s old new out fault stands same = inr (
+pub Carrying-refused : (command : Command) (from : Place) (left : Option (List ℕ)) (s : Standing) (old : Scene) (u : Timeline) (out : Option (List ℕ)) (fault : WriteFault) → Stands from left old s → u ≡ old.player
+    → CarryingDoes {A = Unit {0}} command from left s old (record old { player = u }) out out (Err (write_outcome fault))
+Carrying-refused command from left s old u out fault stands same = inr (
   fault,
   refl,
   record {
     taken = [];
     ended = s.ended;
-    taking = subst (λ n. Taking from left n.place n.left (s.found ++ []) s.ended) (sym same) (subst (λ f. Taking from left old.place old.left f s.ended) (sym (append-nil s.found)) stands.taking);
-    follows = record { quiet = λ _. refl; stays = λ e. ap (λ n. n.place.phase) same ∙ e };
+    taking = subst (λ f. Taking from left old.place old.left f s.ended) (sym (append-nil s.found)) stands.taking;
+    follows = record { quiet = λ _. refl; stays = λ e. e };
     met = λ e. ap (λ b. b || meets_end command (state_of s [])) e;
-    fronts = λ more none. (
-      AppendsFront-none out (meaning command (state_of s more)).reply,
-      subst (λ n. AppendsFront old.err n.err (faults_taken command (state_of s more))) (sym same) (AppendsFront-none old.err (faults_taken command (state_of s more))),
-    );
+    fronts = λ more none. (AppendsFront-none out (meaning command (state_of s more)).reply, AppendsFront-none old.err (faults_taken command (state_of s more)));
   },
 )
 
-pub Carrying-lose : (peer : Peer) (from : Place) (left : Option (List ℕ)) (s : Standing) (old : Scene) (u : Timeline) (out out' : Option (List ℕ)) (result : Result (Unit {0}) WriteFault) → Stands from left old s → Loses peer old.player u out out' result
-    → CarryingDoes (Lose peer) from left s old (record old { player = u }) out out' (outcome_result result)
-Carrying-lose peer from left s old u out out' result stands (inl (is, replied)) =
-    let led = IsLed-lose peer from left s old u stands is in
-    Carrying-replied (Lose peer) from left s old (record old { player = u }) out out' (loss_text old.player u) result led.0 led.1 replied
-Carrying-lose peer from left s old u out out' result stands (inr (fault, refused, stays, quiet)) =
-    subst (λ r. CarryingDoes (Lose peer) from left s old (record old { player = u }) out out' (outcome_result r)) (sym refused)
-    (subst (λ o. CarryingDoes {A = Unit {0}} (Lose peer) from left s old (record old { player = u }) out o (Err (write_outcome fault))) (sym quiet)
-    (Carrying-refused (Lose peer) from left s old (record old { player = u }) out fault stands (ap (λ t. record old { player = t }) stays)))
+-- ---- room for steps
 
--- room for one step more
-pub HasRoom-more : (t : Timeline) (q : Place) (lost : ℕ) → HasRoom t q lost → HasRoom t q (lost + 1)
-HasRoom-more t q lost room = record { floor = room.floor; cursor = room.cursor; steps = omega (arith, room.steps); within = room.within; limit = room.limit }
+pub HasRoom-up : (t : Timeline) (q : Place) (lost most : ℕ) → lost ≤ most → HasRoom t q lost → HasRoom t q most
+HasRoom-up t q lost most few room = record { floor = room.floor; cursor = room.cursor; steps = omega (arith, room.steps, few); within = room.within; limit = room.limit }
 
 -- where steps were forgotten there is room too
 pub HasRoom-forget : (t u : Timeline) (keep : ℕ) (q : Place) (lost : ℕ) → u ≡ after_forget t keep → HasRoom t q lost → HasRoom u q lost

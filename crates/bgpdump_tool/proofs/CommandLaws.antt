@@ -87,17 +87,11 @@ same_command a b e same = search (arith, rules, ap mark e, same)
 
 -- ---- lines
 
-same_first : (v w : List ℕ) (vs ws : List (List ℕ)) → v ∷ vs ≡ w ∷ ws → v ≡ w
-same_first v w vs ws e = cc
-
-same_rest : (v w : List ℕ) (vs ws : List (List ℕ)) → v ∷ vs ≡ w ∷ ws → vs ≡ ws
-same_rest v w vs ws e = cc
-
 -- no words spell two commands
 pub one_of_words : (a b : Command) (ws : List (List ℕ)) → SpellsWords a ws → SpellsWords b ws → a ≡ b
 one_of_words a b ws h k =
-    let named = same_first (spelling a).0 (spelling b).0 h.0 k.0 (sym h.2 ∙ k.2) in
-    let rest = same_rest (spelling a).0 (spelling b).0 h.0 k.0 (sym h.2 ∙ k.2) in
+    let named : (spelling a).0 ≡ (spelling b).0 = cc (h.2, k.2) in
+    let rest : h.0 ≡ k.0 = cc (h.2, k.2) in
     same_command a b named (one_of_shape (spelling a).1 (spelling b).1 k.0 (same_shape a b named) (subst (SpellsArguments (spelling a).1) rest h.1) k.1)
 
 -- a line spells what its words spell
@@ -112,10 +106,12 @@ many_words ws more a b c d same some command h =
 -- nor does one empty word
 pub empty_word : (ws : List (List ℕ)) → ws ≡ [] ∷ [] → IsNoSpelling SpellsWords ws
 empty_word ws same command h =
-    omega (arith, mark_some command, ap mark (same_first [] (spelling command).0 [] h.0 (sym same ∙ h.2)))
+    let none : [] ≡ (spelling command).0 = cc (same, h.2) in
+    omega (arith, mark_some command, ap mark none)
 
 -- nor a route without a prefix
 pub route_none : (name address number sought : List ℕ) → name ≡ codes "route" → IsNoSpelling SpellsPrefix sought → IsNoSpelling SpellsWords (name ∷ address ∷ number ∷ sought ∷ [])
 route_none name address number sought named none (Route peer prefix) h = none prefix (subst (SpellsPrefix prefix) (cc (h.1.5, h.2)) h.1.4)
 route_none name address number sought named none c h =
-    absurd (omega (arith, ap mark (sym named ∙ same_first name (spelling c).0 (address ∷ number ∷ sought ∷ []) h.0 h.2)))
+    let same : codes "route" ≡ (spelling c).0 = cc (named, h.2) in
+    absurd (omega (arith, ap mark same))

@@ -35,10 +35,9 @@ own = numerals_by_value _ tells_digits
 
 -- any other is the decimal of the number that is parsed, and none where none is parsed
 pub parsed_decimal : {E : Type 0} (word : List ℕ) (r : Result ℕ E) → BeginsPlainly word → ParsesUnsigned 32 10 word r → Finds SpellsDecimal word (result_ok r)
-parsed_decimal {E = E} word (Err fault) plainly parsed = λ n (fits, e). by_result n (parse-decimal 32 n word (Err fault) fits (omega arith) e parsed)
-  where
-    by_result : (n : ℕ) → ◌≡◌ {A = Result ℕ E} (Err fault) (Ok n) → ⊥
-    by_result n same = cc
+parsed_decimal {E = E} word (Err fault) plainly parsed = λ n (fits, e).
+    let same : ◌≡◌ {A = Result ℕ E} (Err fault) (Ok n) = parse-decimal 32 n word (Err fault) fits (omega arith) e parsed in
+    cc
 parsed_decimal {E = E} word (Ok n) plainly parsed =
     elim (cases_eq (get_or word 0 0) 43) [
       | inl plus ↦ absurd (omega (arith, plainly (omega (arith, (parse_plus own {E = E} 32 word (Ok n) parsed plus).0.1, length-drop 1 word)), plus))

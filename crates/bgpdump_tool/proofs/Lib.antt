@@ -1,4 +1,3 @@
-pub mod BoolLaws
 pub mod StepLaws
 pub mod MoveLaws
 pub mod BackLaws
@@ -6,7 +5,6 @@ pub mod CarryLaws
 pub mod PlayLaws
 pub mod ScriptLaws
 pub mod PlayEndLaws
-pub mod BeganLaws
 pub mod DecimalLaws
 pub mod WordLaws
 pub mod CommandLaws

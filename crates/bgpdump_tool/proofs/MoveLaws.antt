@@ -3,10 +3,10 @@ use Rattle.std.proofs.Common.{◌≡◌, inl, inr, ℕ, zero, suc, ◌+◌, ◌-
 use Rattle.std.proofs.lemmas.Bool.{cases_eq}
 use Rattle.std.proofs.lemmas.List.{append_assoc}
 use Rattle.std.proofs.lemmas.Grind.{flat_map-append}
+use Rattle.std.proofs.Math.Bool.{or_assoc, or-false}
 use Rattle.std.specs.Io.KnownBytes.{Appends}
 use Rattle.std.proofs.KnownBytes.{Appends-nil, Appends-trans}
 use Rattle.mrt_events.specs.declared.event.Event.{Event}
-use Rattle.mrt_wire.specs.declared.SourceFault.{SourceFault}
 use Rattle.mrt_wire.specs.Results.{Finding, Found, Bad}
 use Rattle.mrt_wire.specs.Place.{Place}
 use Rattle.bgpdump_lines.specs.declared.outcome.Outcome.{Outcome}
@@ -15,11 +15,10 @@ use Rattle.bgpdump_lines.specs.Going.{IsFaulty}
 use Rattle.bgpdump_lines.specs.Reports.{finding_report, reports}
 use Rattle.bgpdump_tool.specs.State.{event_of, events, needed}
 use Rattle.bgpdump_tool.specs.Standing.{Standing, Scene, Taking, Stands, Follows, standing_on, IsOnward}
-use Rattle.bgpdump_tool.specs.Moves.{GoesOn, StopsReading, StopsWriting, Stops, StepDoes, ForwardDoes, OnwardDoes, Moves}
+use Rattle.bgpdump_tool.specs.Moves.{GoesOn, Stops, StepDoes, ForwardDoes, OnwardDoes, Moves}
 use Rattle.bgpdump_lines.specs.Writing.{is_any_bad}
 use Rattle.bgpdump_lines.proofs.RunLaws.{is_any_bad-append}
 use Rattle.bgpdump_lines.proofs.WritingLaws.{AppendsFront-behind}
-use Rattle.bgpdump_tool.proofs.BoolLaws.{or_assoc, or_false}
 
 pub events-append : (found more : List Finding) → events (found ++ more) ≡ events found ++ events more
 events-append found more = flat_map-append event_of found more
@@ -27,9 +26,10 @@ events-append found more = flat_map-append event_of found more
 pub reports-append : (found more : List Finding) → reports (found ++ more) ≡ reports found ++ reports more
 reports-append found more = flat_map-append finding_report found more
 
-no_events : (found : List Finding) → length found ≡ 0 → length (events found) ≡ 0
-no_events [] e = refl
-no_events (x ∷ found) e = absurd (omega arith)
+pub events_few : (found : List Finding) → length (events found) ≤ length found
+events_few [] = omega arith
+events_few (Found event ∷ found) = omega (arith, events_few found)
+events_few (Bad fault ∷ found) = omega (arith, events_few found)
 
 -- ---- one move behind another
 
@@ -51,16 +51,16 @@ IsOnward-twice s over more found new ended inside first second =
     let counts = length-append found new in
     let few = first.few in
     let within = second.few in
-    let none : (length found ≡ 0 → length (events found) ≡ 0) = no_events found in
+    let none = events_few found in
     let last : (1 ≤ length found → over ≡ length s.history - s.cursor) = first.all in
     let next : (1 ≤ length new → more ≡ length (s.history ++ events found) - (s.cursor + over + length (events found))) = second.all in
     record {
       few = elim (cases_eq (length found) 0) [
-        | inl empty ↦ omega (arith, few, within, inside, none empty, size)
+        | inl empty ↦ omega (arith, few, within, inside, none, empty, size)
         | inr some ↦ omega (arith, few, within, inside, last (omega (arith, some)), size)
       ];
       all = λ some. elim (cases_eq (length found) 0) [
-        | inl empty ↦ omega (arith, few, within, inside, none empty, size, next (omega (arith, some, counts)), empty)
+        | inl empty ↦ omega (arith, few, within, inside, none, empty, size, next (omega (arith, some, counts)))
         | inr full ↦ omega (arith, few, within, inside, last (omega (arith, full)), size)
       ];
     }
@@ -87,7 +87,7 @@ GoesOn-twice from left s a b c over more found new ended stands first second =
       met = λ e. (
         (let all = (second.met e).0 in
             elim (cases_eq (length found) 0) [
-              | inl empty ↦ omega (arith, all, first.onward.few, inside, no_events found empty, size)
+              | inl empty ↦ omega (arith, all, first.onward.few, inside, events_few found, empty, size)
               | inr some ↦ omega (arith, all, first.onward.all (omega (arith, some)), inside, size)
             ]),
         (second.met e).1,
@@ -99,44 +99,46 @@ GoesOn-twice from left s a b c over more found new ended stands first second =
 -- nothing moved yet
 pub GoesOn-none : (from : Place) (left : Option (List ℕ)) (s : Standing) (a : Scene) → Stands from left a s → GoesOn from left s a a 0 [] false
 GoesOn-none from left s a stands =
-    let same : s ≡ standing_on 0 [] false s = λ i. record { history = sym (append-nil s.history) i; cursor = sum i; floor = s.floor; found = sym (append-nil s.found) i; ended = sym (or_false s.ended) i } in
+    let sum : s.cursor ≡ s.cursor + 0 + length (events []) = omega arith in
+    let same : s ≡ standing_on 0 [] false s = λ i. record { history = sym (append-nil s.history) i; cursor = sum i; floor = s.floor; found = sym (append-nil s.found) i; ended = sym (or-false s.ended) i } in
     record {
       onward = record { few = omega arith; all = λ none. absurd (omega (arith, none)) };
       stands = subst (Stands from left a) same stands;
       follows = record { quiet = λ _. refl; stays = λ e. e };
       met = λ e. cc;
       reported = Appends-nil a.err;
-      told = sym (or_false a.reported);
+      told = sym (or-false a.reported);
     }
-  where
-    sum : s.cursor ≡ s.cursor + 0 + length (events [])
-    sum = omega arith
 
 -- ---- a fault behind a move
-
-StopsReading-behind : (from : Place) (left : Option (List ℕ)) (s : Standing) (a b c : Scene) (over : ℕ) (found new : List Finding) (fault : SourceFault) → GoesOn from left s a b over found false
-    → StopsReading from left (standing_on over found false s) b c new fault → StopsReading from left s a c (found ++ new) fault
-StopsReading-behind from left s a b c over found new fault first stop = record {
-  reads = λ e. stop.reads (first.follows.stays e);
-  faulty = subst (λ f. IsFaulty from left c.left f fault) (append_assoc s.found found new) stop.faulty;
-  reported = subst (Appends a.err c.err) (sym (reports-append found new)) (Appends-trans a.err b.err c.err (reports found) (reports new) first.reported stop.reported);
-}
-
-StopsWriting-behind : (from : Place) (left : Option (List ℕ)) (s : Standing) (a b c : Scene) (over : ℕ) (found new : List Finding) → GoesOn from left s a b over found false
-    → StopsWriting from left (standing_on over found false s) b c new → StopsWriting from left s a c (found ++ new)
-StopsWriting-behind from left s a b c over found new first stop = record {
-  taking = subst (λ e. Taking from left c.place c.left (s.found ++ (found ++ new)) e) (or_false s.ended) (subst (λ f. Taking from left c.place c.left f (s.ended || false)) (append_assoc s.found found new) stop.taking);
-  follows = Follows-twice a.place b.place c.place found new first.follows stop.follows;
-  fronts = subst (AppendsFront a.err c.err) (sym (reports-append found new)) (AppendsFront-behind a.err b.err c.err (reports found) (reports new) first.reported stop.fronts);
-}
 
 pub Stops-behind : (More Enough More' Enough' : List Finding → Type 0) (from : Place) (left : Option (List ℕ)) (s : Standing) (a b c : Scene) (over : ℕ) (found : List Finding) (outcome : Outcome)
     → ((new : List Finding) → More new → More' (found ++ new)) → ((new : List Finding) → Enough new → Enough' (found ++ new))
     → GoesOn from left s a b over found false → Stops More Enough from left (standing_on over found false s) b c outcome → Stops More' Enough' from left s a c outcome
 Stops-behind More Enough More' Enough' from left s a b c over found outcome more enough first (inl (fault, is, new, wants, stop)) =
-    inl (fault, is, found ++ new, more new wants, StopsReading-behind from left s a b c over found new fault first stop)
+    inl (
+      fault,
+      is,
+      found ++ new,
+      more new wants,
+      record {
+        reads = λ e. stop.reads (first.follows.stays e);
+        faulty = subst (λ f. IsFaulty from left c.left f fault) (append_assoc s.found found new) stop.faulty;
+        reported = subst (Appends a.err c.err) (sym (reports-append found new)) (Appends-trans a.err b.err c.err (reports found) (reports new) first.reported stop.reported);
+      },
+    )
 Stops-behind More Enough More' Enough' from left s a b c over found outcome more enough first (inr (fault, is, new, has, stop)) =
-    inr (fault, is, found ++ new, enough new has, StopsWriting-behind from left s a b c over found new first stop)
+    inr (
+      fault,
+      is,
+      found ++ new,
+      enough new has,
+      record {
+        taking = subst (λ e. Taking from left c.place c.left (s.found ++ (found ++ new)) e) (or-false s.ended) (subst (λ f. Taking from left c.place c.left f (s.ended || false)) (append_assoc s.found found new) stop.taking);
+        follows = Follows-twice a.place b.place c.place found new first.follows stop.follows;
+        fronts = subst (AppendsFront a.err c.err) (sym (reports-append found new)) (AppendsFront-behind a.err b.err c.err (reports found) (reports new) first.reported stop.fronts);
+      },
+    )
 
 -- ---- so many steps on
 
@@ -198,11 +200,6 @@ needed_beyond (suc count) [] (Bad fault ∷ more) few = omega arith
 needed_beyond (suc count) (Found event ∷ found) more few = omega (arith, needed_beyond count found more (omega (arith, few)))
 needed_beyond (suc count) (Bad fault ∷ found) more few = omega (arith, needed_beyond (suc count) found more few)
 
-events_few : (found : List Finding) → length (events found) ≤ length found
-events_few [] = omega arith
-events_few (Found event ∷ found) = omega (arith, events_few found)
-events_few (Bad fault ∷ found) = omega (arith, events_few found)
-
 -- the position isn't passed, and where it is reached no fewer results would do
 pub record Reaches (k : ℕ) (from : Place) (left : Option (List ℕ)) (s : Standing) (old new : Scene) : Type 0 where
   pub over : ℕ
@@ -232,7 +229,7 @@ needs_more k from left s a b c r over [] stands below one goes e more =
       | inl empty ↦ empty
       | inr some ↦ absurd (omega (arith, one, goes.onward.few, r.goes.onward.all (omega (arith, some)), size, inside))
     ] in
-    let reached : k - length s.history ≡ 0 = omega (arith, e, goes.stands.cursor, goes.onward.few, r.goes.onward.few, size, no_events r.found none, inside) in
+    let reached : k - length s.history ≡ 0 = omega (arith, e, goes.stands.cursor, goes.onward.few, r.goes.onward.few, size, events_few r.found, none, inside) in
     ap (λ n. needed n ((r.found ++ []) ++ more)) reached ∙ omega (arith, length-append r.found [], none)
 needs_more k from left s a b c r over (Bad fault ∷ []) stands below one goes e more = absurd (omega (arith, one, e, below, goes.stands.cursor, r.goes.stands.cursor))
 needs_more k from left s a b c r over (Found event ∷ []) stands below one goes e more =

@@ -1,10 +1,10 @@
--- What a run of a script leaves at its end, by how it ended.
-use Rattle.std.proofs.Common.{None, ◌≡◌, ◌≢◌, ◌⊎◌, inl, inr, ℕ, Bool, true, false, Ok, Err, List, [], ◌∷◌, ◌++◌, length, Option, refl, sym, ap, subst, ◌∙◌, append-nil}
+-- What a run of a script leaves at its end, by how it ended, and how far it came.
+use Rattle.std.proofs.Common.{None, ◌≡◌, ◌≢◌, ◌⊎◌, inl, inr, ℕ, Bool, true, false, Ok, Err, List, [], ◌∷◌, ◌++◌, length, Option, refl, sym, ap, subst, ◌∙◌, append-nil, arith}
+use Rattle.std.proofs.lemmas.Bool.{false≢true}
 use Rattle.std.specs.Io.KnownBytes.{Consumes, Keeps}
 use Rattle.mrt_events.specs.declared.stamp.Stamp.{Stamp}
 use Rattle.mrt_wire.specs.declared.SourceFault.{SourceFault}
 use Rattle.mrt_wire.specs.declared.SourceFault.TheVariants as source
-use Rattle.mrt_wire.specs.Taking.{IsRest}
 use Rattle.mrt_wire.specs.declared.RecordKind.TheVariants.{CutRecord}
 use Rattle.mrt_wire.specs.declared.next.Phase.TheVariants.{Ended}
 use Rattle.mrt_wire.specs.Verdict.{Frame}
@@ -24,15 +24,16 @@ use Rattle.bgpdump_lines.specs.declared.outcome.Outcome.{Outcome}
 use Rattle.bgpdump_lines.specs.declared.outcome.Outcome.TheVariants as outcome
 use Rattle.bgpdump_lines.specs.Ending.{outcome_of, source_outcome, write_outcome}
 use Rattle.bgpdump_lines.specs.Going.{IsFaulty}
-use Rattle.bgpdump_lines.specs.Run.{Texts, Outputs, MayHold, Writes, WritesFronts, EndsSo, EndedByInput, IsTaken, IsLast, all_results}
+use Rattle.bgpdump_lines.specs.Run.{Texts, Outputs, MayHold, Writes, EndsSo, EndedByInput, IsTaken, IsLast, OverAll, all_results}
 use Rattle.bgpdump_tool.specs.Script.{Line, AreLines, IsScript, script_lines}
 use Rattle.bgpdump_tool.specs.Course.{course, play_texts, cut_course, cut_texts, TakesWanted, IsEndSeen, PlaySawEnd}
+use Rattle.bgpdump_tool.specs.Began.{WritesPast, Began}
 use Rattle.bgpdump_tool.specs.Standing.{Scene, Taking}
 use Rattle.bgpdump_tool.specs.Playing.{is_some_text, Plays, PlaysCutOff, PlaysBrokenOff, PlaysScript}
-use Rattle.bgpdump_lines.proofs.WritingLaws.{WritesFronts-whole, Writes-kept}
+use Rattle.bgpdump_lines.proofs.WritingLaws.{AppendsFront-none, WritesFronts-whole, Writes-kept}
 use Rattle.bgpdump_lines.proofs.HeldLaws.{rest_so_far, first_held, front_held, untold_held, whole_found, IsTaken-told, IsTaken-faulty, length-faulty}
 use Rattle.bgpdump_lines.proofs.EndLaws.{cases_none, written_all, EndsSo-source}
-use Rattle.bgpdump_tool.proofs.PlayLaws.{course_of_done}
+use Rattle.bgpdump_tool.proofs.PlayLaws.{course_of_done, fronts_past}
 use Rattle.bgpdump_tool.proofs.ScriptLaws.{one_reading, first_reading}
 
 -- ---- what the input may hold
@@ -50,14 +51,32 @@ played_held stamp q left left' found ended Saw t saw octets frames rest may spli
     by_end true is none = first_held stamp q left left' found Saw t.so_far (λ cut. saw cut (inr is)) octets frames rest may split
     by_end false is none =
         let (later, first) = front_held stamp q left left' found Saw t.so_far none octets frames rest may split in
-        record { later = later; first = first; all = λ e. absurd (clash (sym is ∙ t.seen e none)) }
-      where
-        clash : false ≡ true → ⊥
-        clash e = cc
+        record { later = later; first = first; all = λ e. absurd (false≢true (sym is ∙ t.seen e none)) }
 
--- what was found are the results of the octets taken
-pub found_taken : (stamp : Stamp) (q : Place) (left left' : Option (List ℕ)) (found : List Finding) (ended : Bool) → (t : Taking (start_place stamp LIMIT) left q left' found ended) → found ≡ all_results stamp t.so_far.frames t.so_far.rest
-found_taken stamp q left left' found ended t = t.so_far.found_is
+-- lines that were carried out write what was written, whatever the input may hold
+pub plays_held : (stamp : Stamp) (left : Option (List ℕ)) (lines : List Line) (scene : Scene) (old new : Outputs) (Saw : List Frame → List ℕ → Type 0) (p : Plays (start_place stamp LIMIT) left lines scene old new)
+    → ((frames : List Frame) (rest : List ℕ) → IsEndSeen stamp lines frames rest → Saw frames rest) → (octets : List ℕ) (frames : List Frame) (rest : List ℕ) → MayHold stamp Saw left scene.left octets → Splits stamp None octets frames rest
+    → play_texts lines (all_results stamp frames rest) ≡ p.texts
+plays_held stamp left lines scene old new Saw p saw octets frames rest may split =
+    let t = p.stands.taking in
+    let found = p.standing.found in
+    let own : (more : List Finding) → (scene.place.phase ≡ Ended → more ≡ []) → course lines (found ++ more) ≡ record { texts = p.texts; ended = p.standing.ended; left = more } =
+    λ more none. course_of_done (start_place stamp LIMIT) left lines scene old new more p none in
+    let met : p.standing.ended ≡ true → (course lines (all_results stamp t.so_far.frames t.so_far.rest)).ended ≡ true =
+    λ e. ap (λ l. (course lines l).ended) (sym t.so_far.found_is ∙ sym (append-nil found)) ∙ ap (λ c. c.ended) (own [] (λ _. refl)) ∙ e in
+    let first = played_held stamp scene.place left scene.left found p.standing.ended Saw t
+    (λ cut seen. saw t.so_far.frames t.so_far.rest (cut, elim seen [ inl some ↦ inl some | inr e ↦ inr (met e) ])) octets frames rest may split in
+    ap (λ l. play_texts lines l) first.first ∙ ap (λ c. c.texts) (own first.later first.all)
+
+-- where memory or an output stopped a run, what was found is first in it
+pub broken_held : (stamp : Stamp) (left : Option (List ℕ)) (begun behind lines : List Line) (scene : Scene) (old new : Outputs) (Saw : List Frame → List ℕ → Type 0) (p : PlaysBrokenOff (start_place stamp LIMIT) left begun scene old new) → lines ≡ begun ++ behind
+    → ((frames : List Frame) (rest : List ℕ) → IsEndSeen stamp lines frames rest → Saw frames rest) → (octets : List ℕ) (frames : List Frame) (rest : List ℕ) → MayHold stamp Saw left scene.left octets → Splits stamp None octets frames rest
+    → FirstSoFar (start_place stamp LIMIT) scene.place p.found frames rest
+broken_held stamp left begun behind lines scene old new Saw p is saw octets frames rest may split =
+    let t = p.taking in
+    let met : p.ended ≡ true → (course lines (all_results stamp t.so_far.frames t.so_far.rest)).ended ≡ true = λ e. (λ i. (course (is i) (sym t.so_far.found_is i)).ended) ∙ p.met e behind in
+    played_held stamp scene.place left scene.left p.found p.ended Saw t
+    (λ cut seen. saw t.so_far.frames t.so_far.rest (cut, elim seen [ inl some ↦ inl some | inr e ↦ inr (met e) ])) octets frames rest may split
 
 -- ---- a run that carried out all lines
 
@@ -75,10 +94,15 @@ EndsSo-by true reported texts old new told writes = WritesFronts-whole texts old
 EndsSo-by false true texts old new told writes = (some_text texts.err (sym told), writes)
 EndsSo-by false false texts old new told writes = (none_text texts.err (sym told), writes)
 
-saw_all : (stamp : Stamp) (failed reported : Bool) (lines : List Line) (frames : List Frame) (rest : List ℕ) → IsEndSeen stamp lines frames rest → PlaySawEnd stamp (outcome_of failed reported) lines frames rest
-saw_all stamp true reported lines frames rest seen = seen
-saw_all stamp false true lines frames rest seen = seen
-saw_all stamp false false lines frames rest seen = seen
+-- what holds of each end that such a run has, and of each that a fault of the writing gives it
+by_end : (Holds : Outcome → Type 0) (failed reported : Bool) → Holds outcome.WriteFault → Holds outcome.Reported → Holds outcome.Done → Holds (outcome_of failed reported)
+by_end Holds true reported fault told done = fault
+by_end Holds false true fault told done = told
+by_end Holds false false fault told done = done
+
+by_fault : (Holds : Outcome → Type 0) (fault : WriteFault) → Holds outcome.WriteFault → Holds outcome.Memory → Holds (write_outcome fault)
+by_fault Holds write.Write fault memory = fault
+by_fault Holds write.Memory fault memory = memory
 
 -- the texts of a script that was carried out
 abbrev pub PlayEnds : Stamp → Option (List ℕ) → Option (List ℕ) → List ℕ → Outcome → Outputs → Outputs → Type 0
@@ -86,65 +110,36 @@ PlayEnds stamp left left' script outcome old new = (lines : List Line) → IsScr
     → (octets : List ℕ) (frames : List Frame) (rest : List ℕ) → MayHold stamp (PlaySawEnd stamp outcome lines) left left' octets → Splits stamp None octets frames rest
     → EndsSo outcome (play_texts lines (all_results stamp frames rest)) old new
 
-EndsSo-all : (stamp : Stamp) (left : Option (List ℕ)) (lines : List Line) (scene : Scene) (old mid new : Outputs) (failed : Bool) → Plays (start_place stamp LIMIT) left lines scene old mid → Keeps mid.out new.out → Keeps mid.err new.err
-    → (octets : List ℕ) (frames : List Frame) (rest : List ℕ) → MayHold stamp (PlaySawEnd stamp (outcome_of failed scene.reported) lines) left scene.left octets → Splits stamp None octets frames rest
-    → EndsSo (outcome_of failed scene.reported) (play_texts lines (all_results stamp frames rest)) old new
-EndsSo-all stamp left lines scene old mid new failed p out err octets frames rest may split =
-    let t = p.stands.taking in
-    let own : (more : List Finding) → (scene.place.phase ≡ Ended → more ≡ []) → course lines (p.standing.found ++ more) ≡ record { texts = p.texts; ended = p.standing.ended; left = more } =
-    λ more none. course_of_done (start_place stamp LIMIT) left lines scene old mid more p none in
-    let met : p.standing.ended ≡ true → (course lines (all_results stamp t.so_far.frames t.so_far.rest)).ended ≡ true =
-    λ e. ap (λ l. (course lines l).ended) (sym (found_taken stamp scene.place left scene.left p.standing.found p.standing.ended t) ∙ sym (append-nil p.standing.found)) ∙ ap (λ c. c.ended) (own [] (λ _. refl)) ∙ e in
-    let first = played_held stamp scene.place left scene.left p.standing.found p.standing.ended (PlaySawEnd stamp (outcome_of failed scene.reported) lines) t
-    (λ cut seen. saw_all stamp failed scene.reported lines t.so_far.frames t.so_far.rest (cut, elim seen [ inl some ↦ inl some | inr e ↦ inr (met e) ])) octets frames rest may split in
-    let texts : play_texts lines (all_results stamp frames rest) ≡ p.texts = ap (λ l. play_texts lines l) first.first ∙ ap (λ c. c.texts) (own first.later first.all) in
-    subst (λ x. EndsSo (outcome_of failed scene.reported) x old new) (sym texts) (EndsSo-by failed scene.reported p.texts old new p.told (Writes-kept p.texts old mid new p.written out err))
-
 pub PlayEnds-finished : (stamp : Stamp) (q : Place) (left : Option (List ℕ)) (script : List ℕ) (scene : Scene) (old mid new : Outputs) (failed : Bool) (outcome : Outcome) → q ≡ start_place stamp LIMIT → PlaysScript q left script scene old mid (Ok tt)
     → outcome ≡ outcome_of failed scene.reported → Keeps mid.out new.out → Keeps mid.err new.err → PlayEnds stamp left scene.left script outcome old new
 PlayEnds-finished stamp q left script scene old mid new failed outcome from (done, are, plays) is out err lines reading =
     let p : Plays (start_place stamp LIMIT) left lines scene old mid = subst (λ x. Plays x left lines scene old mid) from (subst (λ l. Plays q left l scene old mid) (one_reading done lines (script_lines script) are reading) plays) in
+    let how = outcome_of failed scene.reported in
     subst (λ o. (octets : List ℕ) (frames : List Frame) (rest : List ℕ) → MayHold stamp (PlaySawEnd stamp o lines) left scene.left octets → Splits stamp None octets frames rest → EndsSo o (play_texts lines (all_results stamp frames rest)) old new) (sym is)
-    (EndsSo-all stamp left lines scene old mid new failed p out err)
+    (λ octets frames rest may split.
+    let texts = plays_held stamp left lines scene old mid (PlaySawEnd stamp how lines) p (λ fs r seen. by_end (λ o. PlaySawEnd stamp o lines fs r) failed scene.reported seen seen seen) octets frames rest may split in
+    subst (λ x. EndsSo how x old new) (sym texts) (EndsSo-by failed scene.reported p.texts old new p.told (Writes-kept p.texts old mid new p.written out err)))
 
 -- ---- a run that was stopped
 
-EndsSo-write : (fault : WriteFault) (texts : Texts) (old new : Outputs) → WritesFronts texts old new → EndsSo (write_outcome fault) texts old new
-EndsSo-write write.Write texts old new fronts = fronts
-EndsSo-write write.Memory texts old new fronts = fronts
-
-saw_write : (stamp : Stamp) (fault : WriteFault) (begun : List Line) (frames : List Frame) (rest : List ℕ) → IsEndSeen stamp begun frames rest → PlaySawEnd stamp (write_outcome fault) begun frames rest
-saw_write stamp write.Write begun frames rest seen = seen
-saw_write stamp write.Memory begun frames rest seen = seen
-
-PlayEnds-source : (stamp : Stamp) (left : Option (List ℕ)) (begun lines behind : List Line) (scene : Scene) (old new : Outputs) (fault : SourceFault) → lines ≡ begun ++ behind → PlaysCutOff (start_place stamp LIMIT) left begun scene old new fault
-    → (octets : List ℕ) (frames : List Frame) (rest : List ℕ) → MayHold stamp (PlaySawEnd stamp (source_outcome fault) lines) left scene.left octets → Splits stamp None octets frames rest
-    → EndsSo (source_outcome fault) (play_texts lines (all_results stamp frames rest)) old new
-PlayEnds-source stamp left begun lines behind scene old new fault is p octets frames rest may split =
-    let (later, first) = untold_held stamp left scene.left p.found (PlaySawEnd stamp (source_outcome fault) lines) p.faulty.untold octets frames rest may split in
-    subst (λ t. EndsSo (source_outcome fault) t old new) (λ i. play_texts (sym is i) (sym first i)) (EndsSo-source fault (play_texts (begun ++ behind) (p.found ++ later)) old new (p.fronts behind later))
-
-PlayEnds-write : (stamp : Stamp) (left : Option (List ℕ)) (begun lines behind : List Line) (scene : Scene) (old new : Outputs) (fault : WriteFault) → lines ≡ begun ++ behind → PlaysBrokenOff (start_place stamp LIMIT) left begun scene old new
-    → (octets : List ℕ) (frames : List Frame) (rest : List ℕ) → MayHold stamp (PlaySawEnd stamp (write_outcome fault) lines) left scene.left octets → Splits stamp None octets frames rest
-    → EndsSo (write_outcome fault) (play_texts lines (all_results stamp frames rest)) old new
-PlayEnds-write stamp left begun lines behind scene old new fault is p octets frames rest may split =
-    let t = p.taking in
-    let met : p.ended ≡ true → (course lines (all_results stamp t.so_far.frames t.so_far.rest)).ended ≡ true =
-    λ e. (λ i. (course (is i) (sym (found_taken stamp scene.place left scene.left p.found p.ended t) i)).ended) ∙ p.met e behind in
-    let first = played_held stamp scene.place left scene.left p.found p.ended (PlaySawEnd stamp (write_outcome fault) lines) t
-    (λ cut seen. saw_write stamp fault lines t.so_far.frames t.so_far.rest (cut, elim seen [ inl some ↦ inl some | inr e ↦ inr (met e) ])) octets frames rest may split in
-    subst (λ x. EndsSo (write_outcome fault) x old new) (λ i. play_texts (sym is i) (sym first.first i)) (EndsSo-write fault (play_texts (begun ++ behind) (p.found ++ first.later)) old new (p.fronts behind first.later first.all))
-
 pub PlayEnds-stopped : (stamp : Stamp) (q : Place) (left : Option (List ℕ)) (script : List ℕ) (scene : Scene) (old new : Outputs) (outcome : Outcome) → q ≡ start_place stamp LIMIT → PlaysScript q left script scene old new (Err outcome)
     → PlayEnds stamp left scene.left script outcome old new
-PlayEnds-stopped stamp q left script scene old new outcome from (begun, (first, others, whole, are), inl (fault, is, p)) lines reading =
+PlayEnds-stopped stamp q left script scene old new outcome from (begun, (first, others, whole, are), inl (fault, is, cut)) lines reading =
     let (behind, all) = first_reading begun lines first others are (subst (AreLines lines) whole reading) in
+    let p : PlaysCutOff (start_place stamp LIMIT) left begun scene old new fault = subst (λ x. PlaysCutOff x left begun scene old new fault) from cut in
     subst (λ o. (octets : List ℕ) (frames : List Frame) (rest : List ℕ) → MayHold stamp (PlaySawEnd stamp o lines) left scene.left octets → Splits stamp None octets frames rest → EndsSo o (play_texts lines (all_results stamp frames rest)) old new) (sym is)
-    (PlayEnds-source stamp left begun lines behind scene old new fault all (subst (λ x. PlaysCutOff x left begun scene old new fault) from p))
-PlayEnds-stopped stamp q left script scene old new outcome from (begun, (first, others, whole, are), inr (fault, is, p)) lines reading =
+    (λ octets frames rest may split.
+    let (later, found) = untold_held stamp left scene.left p.found (PlaySawEnd stamp (source_outcome fault) lines) p.faulty.untold octets frames rest may split in
+    subst (λ t. EndsSo (source_outcome fault) t old new) (λ i. play_texts (sym all i) (sym found i))
+    (EndsSo-source fault (play_texts (begun ++ behind) (p.found ++ later)) old new (fronts_past p.done begun behind p.line (p.found ++ later) old new p.begun_is (p.past later))))
+PlayEnds-stopped stamp q left script scene old new outcome from (begun, (first, others, whole, are), inr (fault, is, broken)) lines reading =
     let (behind, all) = first_reading begun lines first others are (subst (AreLines lines) whole reading) in
+    let p : PlaysBrokenOff (start_place stamp LIMIT) left begun scene old new = subst (λ x. PlaysBrokenOff x left begun scene old new) from broken in
     subst (λ o. (octets : List ℕ) (frames : List Frame) (rest : List ℕ) → MayHold stamp (PlaySawEnd stamp o lines) left scene.left octets → Splits stamp None octets frames rest → EndsSo o (play_texts lines (all_results stamp frames rest)) old new) (sym is)
-    (PlayEnds-write stamp left begun lines behind scene old new fault all (subst (λ x. PlaysBrokenOff x left begun scene old new) from p))
+    (λ octets frames rest may split.
+    let found = broken_held stamp left begun behind lines scene old new (PlaySawEnd stamp (write_outcome fault) lines) p all (λ fs r seen. by_fault (λ o. PlaySawEnd stamp o lines fs r) fault seen seen) octets frames rest may split in
+    let fronts = fronts_past p.done begun behind p.line (p.found ++ found.later) old new p.begun_is (p.past found.later found.all) in
+    subst (λ t. EndsSo (write_outcome fault) t old new) (λ i. play_texts (sym all i) (sym found.first i)) (by_fault (λ o. EndsSo o (play_texts (begun ++ behind) (p.found ++ found.later)) old new) fault fronts fronts))
 
 -- a run that the input ended has written what the frames give
 pub Writes-cut : (stamp : Stamp) (q : Place) (left : Option (List ℕ)) (script : List ℕ) (scene : Scene) (old new : Outputs) (outcome : Outcome) → q ≡ start_place stamp LIMIT → PlaysScript q left script scene old new (Err outcome) → EndedByInput outcome
@@ -158,23 +153,15 @@ Writes-cut stamp q left script scene old new outcome from (begun, read, inr (fau
 
 -- ---- what was taken
 
-last_told : (failed reported : Bool) (rest : List ℕ) → IsRest rest → IsLast (outcome_of failed reported) rest
-last_told true reported rest is = is
-last_told false true rest is = is
-last_told false false rest is = is
-
 pub IsTaken-finished : (stamp : Stamp) (q : Place) (left : Option (List ℕ)) (script : List ℕ) (scene : Scene) (old new : Outputs) (failed : Bool) (outcome : Outcome) → q ≡ start_place stamp LIMIT → PlaysScript q left script scene old new (Ok tt)
     → outcome ≡ outcome_of failed scene.reported → (taken : List ℕ) × Consumes left scene.left taken × IsTaken stamp outcome taken
 IsTaken-finished stamp q left script scene old new failed outcome from (done, are, plays) is =
     let p : Plays (start_place stamp LIMIT) left done scene old new = subst (λ x. Plays x left done scene old new) from plays in
     let t = p.stands.taking in
+    let last = rest_so_far (start_place stamp LIMIT) scene.place left scene.left p.standing.found t.so_far in
     subst (λ o. (taken : List ℕ) × Consumes left scene.left taken × IsTaken stamp o taken) (sym is)
     (IsTaken-told stamp scene.place left scene.left (outcome_of failed scene.reported) p.standing.found t.so_far t.within
-    (last_told failed scene.reported t.so_far.rest (rest_so_far (start_place stamp LIMIT) scene.place left scene.left p.standing.found t.so_far)))
-
-last_write : (fault : WriteFault) (rest : List ℕ) → IsRest rest → IsLast (write_outcome fault) rest
-last_write write.Write rest is = is
-last_write write.Memory rest is = inl is
+    (by_end (λ o. IsLast o t.so_far.rest) failed scene.reported last last last))
 
 pub IsTaken-ended : (stamp : Stamp) (q : Place) (left : Option (List ℕ)) (script : List ℕ) (scene : Scene) (old new : Outputs) (outcome : Outcome) → q ≡ start_place stamp LIMIT → PlaysScript q left script scene old new (Err outcome)
     → (taken : List ℕ) × Consumes left scene.left taken × IsTaken stamp outcome taken
@@ -182,19 +169,17 @@ IsTaken-ended stamp q left script scene old new outcome from (begun, read, inl (
     subst (λ o. (taken : List ℕ) × Consumes left scene.left taken × IsTaken stamp o taken) (sym is) (IsTaken-faulty stamp left scene.left p.found fault (subst (λ x. IsFaulty x left scene.left p.found fault) from p.faulty))
 IsTaken-ended stamp q left script scene old new outcome from (begun, read, inr (fault, is, p)) =
     let t : Taking (start_place stamp LIMIT) left scene.place scene.left p.found p.ended = subst (λ x. Taking x left scene.place scene.left p.found p.ended) from p.taking in
+    let last = rest_so_far (start_place stamp LIMIT) scene.place left scene.left p.found t.so_far in
     subst (λ o. (taken : List ℕ) × Consumes left scene.left taken × IsTaken stamp o taken) (sym is)
     (IsTaken-told stamp scene.place left scene.left (write_outcome fault) p.found t.so_far t.within
-    (last_write fault t.so_far.rest (rest_so_far (start_place stamp LIMIT) scene.place left scene.left p.found t.so_far)))
+    (by_fault (λ o. IsLast o t.so_far.rest) fault last (inl last)))
 
 pub length-ended : (stamp : Stamp) (q : Place) (left : Option (List ℕ)) (script : List ℕ) (scene : Scene) (old new : Outputs) (how : Outcome) → q ≡ start_place stamp LIMIT → PlaysScript q left script scene old new (Err how) → how ≡ outcome.InputTooLong
     → (taken after : List ℕ) → Took left scene.left taken after → length taken ≡ LIMIT
 length-ended stamp q left script scene old new how from (begun, read, inl (fault, is, p)) too_long taken after took =
     length-faulty stamp left scene.left p.found fault (subst (λ x. IsFaulty x left scene.left p.found fault) from p.faulty) (sym is ∙ too_long) taken after took
-length-ended stamp q left script scene old new how from (begun, read, inr (fault, is, p)) too_long taken after took = absurd (by_fault fault (sym is ∙ too_long))
-  where
-    by_fault : (fault : WriteFault) → write_outcome fault ≡ outcome.InputTooLong → ⊥
-    by_fault write.Write e = cc
-    by_fault write.Memory e = cc
+length-ended stamp q left script scene old new how from (begun, read, inr (fault, is, p)) too_long taken after took =
+    absurd (by_fault (λ o. o ≡ outcome.InputTooLong → ⊥) fault (λ e. cc) (λ e. cc) (sym is ∙ too_long))
 
 -- ---- nothing but what commands want
 
@@ -207,11 +192,6 @@ results_taken stamp q left left' found s taken after frames rest took split =
     let all = frames_all stamp None s.frames frames s.rest rest s.are_frames split.are_frames (rest_so_far p q left left' found s).none split.none (sym same ∙ split.whole) in
     (λ i. results p (all.0 i) (all.1 i)) ∙ sym s.found_is
 
-wanted_by : (stamp : Stamp) (failed reported : Bool) (lines : List Line) (frames : List Frame) (rest : List ℕ) → (course lines (all_results stamp frames rest)).left ≡ [] → TakesWanted stamp (outcome_of failed reported) lines frames rest
-wanted_by stamp true reported lines frames rest none = tt
-wanted_by stamp false true lines frames rest none = none
-wanted_by stamp false false lines frames rest none = none
-
 pub TakesWanted-finished : (stamp : Stamp) (q : Place) (left : Option (List ℕ)) (script : List ℕ) (scene : Scene) (old new : Outputs) (failed : Bool) (outcome : Outcome) → q ≡ start_place stamp LIMIT → PlaysScript q left script scene old new (Ok tt)
     → outcome ≡ outcome_of failed scene.reported → (lines : List Line) → IsScript lines script → (taken after : List ℕ) (frames : List Frame) (rest : List ℕ) → Took left scene.left taken after → Splits stamp None taken frames rest
     → TakesWanted stamp outcome lines frames rest
@@ -220,17 +200,13 @@ TakesWanted-finished stamp q left script scene old new failed outcome from (done
     let found = p.standing.found in
     let same = results_taken stamp scene.place left scene.left found p.stands.taking.so_far taken after frames rest took split in
     let none = ap (λ l. (course lines l).left) (same ∙ sym (append-nil found)) ∙ ap (λ c. c.left) (course_of_done (start_place stamp LIMIT) left lines scene old new [] p (λ _. refl)) in
-    subst (λ o. TakesWanted stamp o lines frames rest) (sym is) (wanted_by stamp failed scene.reported lines frames rest none)
+    subst (λ o. TakesWanted stamp o lines frames rest) (sym is) (by_end (λ o. TakesWanted stamp o lines frames rest) failed scene.reported tt none none)
 
 wanted_source : (fault : SourceFault) (stamp : Stamp) (lines : List Line) (frames : List Frame) (rest : List ℕ) → (EndedByInput (source_outcome fault) → (cut_course lines (all_results stamp frames [])).ended ≡ true) → TakesWanted stamp (source_outcome fault) lines frames rest
 wanted_source source.Read stamp lines frames rest ended = ended tt
 wanted_source source.InputTooLong stamp lines frames rest ended = ended tt
 wanted_source source.Memory stamp lines frames rest ended = tt
 wanted_source source.Spent stamp lines frames rest ended = tt
-
-wanted_write : (fault : WriteFault) (stamp : Stamp) (lines : List Line) (frames : List Frame) (rest : List ℕ) → TakesWanted stamp (write_outcome fault) lines frames rest
-wanted_write write.Write stamp lines frames rest = tt
-wanted_write write.Memory stamp lines frames rest = tt
 
 pub TakesWanted-stopped : (stamp : Stamp) (q : Place) (left : Option (List ℕ)) (script : List ℕ) (scene : Scene) (old new : Outputs) (outcome : Outcome) → q ≡ start_place stamp LIMIT → PlaysScript q left script scene old new (Err outcome)
     → (lines : List Line) → IsScript lines script → (taken after : List ℕ) (frames : List Frame) (rest : List ℕ) → Took left scene.left taken after → Splits stamp None taken frames rest → TakesWanted stamp outcome lines frames rest
@@ -241,4 +217,53 @@ TakesWanted-stopped stamp q left script scene old new outcome from (begun, (firs
     let found = whole_found stamp left scene.left p.found fault faulty by_input taken after frames rest took split in
     (λ i. (cut_course (all i) (sym found i)).ended) ∙ p.wants behind))
 TakesWanted-stopped stamp q left script scene old new outcome from (begun, read, inr (fault, is, p)) lines reading taken after frames rest took split =
-    subst (λ o. TakesWanted stamp o lines frames rest) (sym is) (wanted_write fault stamp lines frames rest)
+    subst (λ o. TakesWanted stamp o lines frames rest) (sym is) (by_fault (λ o. TakesWanted stamp o lines frames rest) fault tt tt)
+
+-- ---- how far a run came that memory or an output broke off
+
+-- it carried out all lines: an output failed where it was finished
+pub Began-finished : (stamp : Stamp) (q : Place) (left : Option (List ℕ)) (script : List ℕ) (scene : Scene) (old mid new : Outputs) → q ≡ start_place stamp LIMIT → PlaysScript q left script scene old mid (Ok tt)
+    → Keeps mid.out new.out → Keeps mid.err new.err → (lines : List Line) → IsScript lines script → Began stamp lines left scene.left old new
+Began-finished stamp q left script scene old mid new from (done, are, plays) out err lines reading =
+    let p : Plays (start_place stamp LIMIT) left lines scene old mid = subst (λ x. Plays x left lines scene old mid) from (subst (λ l. Plays q left l scene old mid) (one_reading done lines (script_lines script) are reading) plays) in
+    let all = append-nil lines in
+    record {
+      done = lines;
+      last = [];
+      behind = [];
+      whole = sym (append-nil (lines ++ []) ∙ all);
+      one = omega arith;
+      texts = λ octets frames rest may split.
+          let own : Texts = play_texts lines (all_results stamp frames rest) in
+          let texts = plays_held stamp left lines scene old mid (IsEndSeen stamp (lines ++ [])) p (λ fs r seen. subst (λ l. IsEndSeen stamp l fs r) (sym all) seen) octets frames rest may split in
+          record {
+            mid = new;
+            written = subst (λ x. Writes x old new) (sym texts) (Writes-kept p.texts old mid new p.written out err);
+            more = record { out = []; err = [] };
+            whole = ap (λ l. play_texts l (all_results stamp frames rest)) all ∙ (λ i. record { out = sym (append-nil own.out) i; err = sym (append-nil own.err) i });
+            fronts = (AppendsFront-none new.out [], AppendsFront-none new.err []);
+          };
+    }
+
+-- it was in a line
+began : (stamp : Stamp) (left left' : Option (List ℕ)) (old new : Outputs) (begun lines done : List Line) (line : Line) (behind : List Line) → begun ≡ done ++ line ∷ [] → lines ≡ begun ++ behind
+    → OverAll stamp (IsEndSeen stamp (done ++ line ∷ [])) left left' (λ found. WritesPast (play_texts done found) (play_texts (done ++ line ∷ []) found) old new) → Began stamp lines left left' old new
+began stamp left left' old new begun lines done line behind begun_is is texts =
+    record { done = done; last = line ∷ []; behind = behind; whole = is ∙ ap (λ l. l ++ behind) begun_is; one = omega arith; texts = texts }
+
+-- memory ended it in the source; or memory or an output behind that
+pub Began-stopped : (stamp : Stamp) (q : Place) (left : Option (List ℕ)) (script : List ℕ) (scene : Scene) (old new : Outputs) (outcome : Outcome) → q ≡ start_place stamp LIMIT → PlaysScript q left script scene old new (Err outcome)
+    → (lines : List Line) → IsScript lines script → Began stamp lines left scene.left old new
+Began-stopped stamp q left script scene old new outcome from (begun, (first, others, whole, are), inl (fault, is, cut)) lines reading =
+    let (behind, all) = first_reading begun lines first others are (subst (AreLines lines) whole reading) in
+    let p : PlaysCutOff (start_place stamp LIMIT) left begun scene old new fault = subst (λ x. PlaysCutOff x left begun scene old new fault) from cut in
+    began stamp left scene.left old new begun lines p.done p.line behind p.begun_is all (λ octets frames rest may split.
+    let (later, found) = untold_held stamp left scene.left p.found (IsEndSeen stamp (p.done ++ p.line ∷ [])) p.faulty.untold octets frames rest may split in
+    subst (λ l. WritesPast (play_texts p.done l) (play_texts (p.done ++ p.line ∷ []) l) old new) (sym found) (p.past later))
+Began-stopped stamp q left script scene old new outcome from (begun, (first, others, whole, are), inr (fault, is, broken)) lines reading =
+    let (behind, all) = first_reading begun lines first others are (subst (AreLines lines) whole reading) in
+    let p : PlaysBrokenOff (start_place stamp LIMIT) left begun scene old new = subst (λ x. PlaysBrokenOff x left begun scene old new) from broken in
+    began stamp left scene.left old new begun lines p.done p.line behind p.begun_is all (λ octets frames rest may split.
+    let last : p.done ++ p.line ∷ [] ≡ begun ++ [] = sym p.begun_is ∙ sym (append-nil begun) in
+    let found = broken_held stamp left begun [] (p.done ++ p.line ∷ []) scene old new (IsEndSeen stamp (p.done ++ p.line ∷ [])) p last (λ fs r seen. seen) octets frames rest may split in
+    subst (λ l. WritesPast (play_texts p.done l) (play_texts (p.done ++ p.line ∷ []) l) old new) (sym found.first) (p.past found.later found.all))

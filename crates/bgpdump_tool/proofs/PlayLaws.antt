@@ -2,6 +2,7 @@
 use Rattle.std.proofs.Common.{◌≡◌, inl, inr, ℕ, ◌+◌, ◌<◌, ◌≤◌, ◌&&◌, ◌||◌, Bool, true, false, if◌then◌else◌, Result, Ok, Err, List, [], ◌∷◌, ◌++◌, length, Option, refl, sym, ap, subst, ◌∙◌, arith, append-nil, length-append}
 use Rattle.std.proofs.lemmas.Bool.Decides.{nat_tests}
 use Rattle.std.proofs.lemmas.List.{append_assoc}
+use Rattle.std.proofs.Math.Bool.{or_assoc, or-false, or-true}
 use Rattle.std.specs.Io.KnownBytes.{Appends}
 use Rattle.std.proofs.KnownBytes.{Appends-nil}
 use Rattle.mrt_events.specs.declared.stamp.Stamp.{Stamp}
@@ -10,7 +11,6 @@ use Rattle.mrt_wire.specs.declared.next.Phase.TheVariants.{Ended}
 use Rattle.mrt_wire.specs.Results.{Finding, Found, Bad}
 use Rattle.mrt_wire.specs.Place.{Place, start_place}
 use Rattle.mrt_wire.proofs.SoFarLaws.{SoFar-start}
-use Rattle.rib_player.specs.Timeline.{Timeline}
 use Rattle.rib_player.specs.Calls.{fresh, StandsFor}
 use Rattle.rib_player.proofs.TimelineLaws.{StandsFor-fresh}
 use Rattle.bgpdump_tool.specs.declared.command.Command.{Command}
@@ -31,7 +31,6 @@ use Rattle.bgpdump_tool.specs.Playing.{LineDoes, CarriesLine, is_some_text, Play
 use Rattle.bgpdump_lines.proofs.WritingLaws.{AppendsFront-none, Writes-append, WritesFronts-behind, WritesFronts-longer, AppendsFront-longer}
 use Rattle.bgpdump_tool.proofs.CarryLaws.{AppendsFront-whole, take_over}
 use Rattle.bgpdump_tool.proofs.MoveLaws.{reports-append}
-use Rattle.bgpdump_tool.proofs.BoolLaws.{or_assoc, or_false, or_true}
 
 -- ---- texts and courses
 
@@ -44,12 +43,11 @@ is_some_text-reports [] = refl
 is_some_text-reports (Found event ∷ found) = is_some_text-reports found
 is_some_text-reports (Bad fault ∷ found) = refl
 
+joined-twice : (a b c : Texts) → joined_texts a (joined_texts b c) ≡ joined_texts (joined_texts a b) c
+joined-twice a b c = λ i. record { out = sym (append_assoc a.out b.out c.out) i; err = sym (append_assoc a.err b.err c.err) i }
+
 course_behind-twice : (a b : Texts) (x y : Bool) (c : Course) → course_behind a x (course_behind b y c) ≡ course_behind (joined_texts a b) (x || y) c
-course_behind-twice a b x y c = λ i. record {
-  texts = record { out = sym (append_assoc a.out b.out c.texts.out) i; err = sym (append_assoc a.err b.err c.texts.err) i };
-  ended = sym (or_assoc x y c.ended) i;
-  left = c.left;
-}
+course_behind-twice a b x y c = λ i. record { texts = joined-twice a b c.texts i; ended = sym (or_assoc x y c.ended) i; left = c.left }
 
 -- one line more was carried out
 after_line : (cut : Bool) (done lines : List Line) (line : Line) (s : State) → course_from cut 1 ((done ++ line ∷ []) ++ lines) s ≡ course_from cut 1 (done ++ line ∷ lines) s
@@ -106,11 +104,11 @@ Plays-report from left done number a b old mid new p is same quiet appended =
       stands = subst (λ x. Stands from left x p.standing) (sym same) (record { history = p.stands.history; cursor = p.stands.cursor; floor = p.stands.floor; taking = p.stands.taking });
       texts = joined_texts p.texts texts;
       written = Writes-append p.texts texts old mid new p.written (subst (λ o. Appends mid.out o []) (sym quiet) (Appends-nil mid.out), appended);
-      told = ap (λ x. x.reported) same ∙ sym (is_some_text-append p.texts.err (line_report number) ∙ or_true (is_some_text p.texts.err));
+      told = ap (λ x. x.reported) same ∙ sym (is_some_text-append p.texts.err (line_report number) ∙ or-true (is_some_text p.texts.err));
       goes = λ cut lines more h.
           after_line cut done lines NoCommand (start (p.standing.found ++ more)) ∙ p.goes cut (NoCommand ∷ lines) more (λ e. h (ap (λ x. x.place.phase) same ∙ e))
           ∙ course_behind-twice p.texts (record { out = []; err = line_report (length done + 1) }) p.standing.ended false (course_from cut (length done + 1 + 1) lines (state_of p.standing more))
-          ∙ (λ i. course_behind (joined_texts p.texts (record { out = []; err = line_report (sym is i) })) (or_false p.standing.ended i) (next_number cut done lines NoCommand (state_of p.standing more) i));
+          ∙ (λ i. course_behind (joined_texts p.texts (record { out = []; err = line_report (sym is i) })) (or-false p.standing.ended i) (next_number cut done lines NoCommand (state_of p.standing more) i));
     }
 
 -- ---- a command
@@ -121,18 +119,13 @@ not_cut false meets h = refl
 not_cut true false h = refl
 not_cut true true h = h refl
 
--- what follows a command of the lines left
-course_on : (cut : Bool) (number : ℕ) (command : Command) (lines : List Line) (s : State) → (cut && meets_end command s) ≡ false
-    → course_from cut number (Asks command ∷ lines) s ≡ course_behind (record { out = (meaning command s).reply; err = faults_taken command s }) (meets_end command s) (course_from cut (number + 1) lines (meaning command s).after)
-course_on cut number command lines s on =
+-- what follows a command, by whether the input is cut off in it
+course_by : (cut : Bool) (number : ℕ) (command : Command) (lines : List Line) (s : State) (test : Bool) → (cut && meets_end command s) ≡ test
+    → course_from cut number (Asks command ∷ lines) s ≡ (if test then record { texts = record { out = []; err = reports s.unread }; ended = true; left = [] }
+    else course_behind (record { out = (meaning command s).reply; err = faults_taken command s }) (meets_end command s) (course_from cut (number + 1) lines (meaning command s).after))
+course_by cut number command lines s test is =
     ap (λ test. if test then record { texts = record { out = []; err = reports s.unread }; ended = true; left = [] }
-    else course_behind (record { out = (meaning command s).reply; err = faults_taken command s }) (meets_end command s) (course_from cut (number + 1) lines (meaning command s).after)) on
-
-course_cut : (number : ℕ) (command : Command) (lines : List Line) (s : State) → meets_end command s ≡ true
-    → course_from true number (Asks command ∷ lines) s ≡ record { texts = record { out = []; err = reports s.unread }; ended = true; left = [] }
-course_cut number command lines s met =
-    ap (λ test. if test then record { texts = record { out = []; err = reports s.unread }; ended = true; left = [] }
-    else course_behind (record { out = (meaning command s).reply; err = faults_taken command s }) (meets_end command s) (course_from true (number + 1) lines (meaning command s).after)) met
+    else course_behind (record { out = (meaning command s).reply; err = faults_taken command s }) (meets_end command s) (course_from cut (number + 1) lines (meaning command s).after)) is
 
 -- nothing more is found where the run had ended before, or has now
 none_more : (a b : Place) (taken more : List Finding) → Follows a b taken → (b.phase ≡ Ended → more ≡ []) → a.phase ≡ Ended → taken ++ more ≡ []
@@ -155,11 +148,11 @@ Plays-command from left done command a b old mid new mid_err new_err p (led, rep
           let none = λ (e : b.place.phase ≡ Ended). (h e).0 in
           let leads = led.leads more none in
           let st = state_of s (led.taken ++ more) in
-          let on = not_cut cut (meets_end command st) (λ met. (h (led.stands.taking.ends (leads.ended ∙ ap (λ x. s.ended || x) met ∙ or_true s.ended))).1) in
+          let on = not_cut cut (meets_end command st) (λ met. (h (led.stands.taking.ends (leads.ended ∙ ap (λ x. s.ended || x) met ∙ or-true s.ended))).1) in
           after_line cut done lines (Asks command) (start (t.found ++ more))
           ∙ ap (λ l. course_from cut 1 (done ++ Asks command ∷ lines) (start l)) (ap (λ l. l ++ more) led.found ∙ append_assoc s.found led.taken more)
           ∙ p.goes cut (Asks command ∷ lines) (led.taken ++ more) (λ e. (none_more a.place b.place led.taken more led.follows none e, (h (led.follows.stays e)).1))
-          ∙ ap (course_behind p.texts s.ended) (course_on cut (length done + 1) command lines st on)
+          ∙ ap (course_behind p.texts s.ended) (course_by cut (length done + 1) command lines st false on)
           ∙ course_behind-twice p.texts (record { out = (meaning command st).reply; err = faults_taken command st }) s.ended (meets_end command st) (course_from cut (length done + 1 + 1) lines (meaning command st).after)
           ∙ (λ i. course_behind (joined_texts p.texts (record { out = leads.replied i; err = reports (leads.took i) })) (sym leads.ended i) (course_from cut (length done + 1 + 1) lines (leads.after i)))
           ∙ ap (course_behind (joined_texts p.texts texts) t.ended) (next_number cut done lines (Asks command) (state_of t more));
@@ -172,7 +165,7 @@ pub course_of_done : (from : Place) (left : Option (List ℕ)) (lines : List Lin
     → course lines (p.standing.found ++ later) ≡ record { texts = p.texts; ended = p.standing.ended; left = later }
 course_of_done from left lines scene old new later p none =
     ap (λ l. course l (p.standing.found ++ later)) (sym (append-nil lines)) ∙ p.goes false [] later (λ e. (none e, refl))
-    ∙ (λ i. record { texts = record { out = append-nil p.texts.out i; err = append-nil p.texts.err i }; ended = or_false p.standing.ended i; left = later })
+    ∙ (λ i. record { texts = record { out = append-nil p.texts.out i; err = append-nil p.texts.err i }; ended = or-false p.standing.ended i; left = later })
 
 -- the texts of lines that were carried out were written, and fronts of what one more line adds
 past_line : (from : Place) (left : Option (List ℕ)) (done : List Line) (line : Line) (a : Scene) (old mid new : Outputs) (found taken more : List Finding) → (p : Plays from left done a old mid) → found ≡ p.standing.found ++ taken
@@ -190,20 +183,25 @@ past_line from left done line a old mid new found taken more p is none fronts =
       fronts = fronts;
     }
 
--- fronts behind what was written are fronts of all
-fronts_in : (texts part rest : Texts) (a b c : Outputs) → Writes texts a b → AppendsFront b.out c.out part.out → AppendsFront b.err c.err part.err → WritesFronts (joined_texts texts (joined_texts part rest)) a c
-fronts_in texts part rest a b c writes out err = WritesFronts-behind texts (joined_texts part rest) a b c writes (WritesFronts-longer part rest b c (out, err))
+-- lines behind others write more
+texts_behind : (a all begun : Texts) → (rest : Texts) × (all ≡ joined_texts begun rest) → (rest : Texts) × (joined_texts a all ≡ joined_texts (joined_texts a begun) rest)
+texts_behind a all begun (rest, is) = (rest, ap (joined_texts a) is ∙ joined-twice a begun rest)
 
--- the texts of all lines, if a command among them takes these results first
-texts_at : (from : Place) (left : Option (List ℕ)) (done lines : List Line) (command : Command) (a : Scene) (old mid : Outputs) (found taken more : List Finding) → (p : Plays from left done a old mid) → found ≡ p.standing.found ++ taken
-    → (a.place.phase ≡ Ended → taken ++ more ≡ [])
-    → play_texts ((done ++ Asks command ∷ []) ++ lines) (found ++ more) ≡ joined_texts p.texts (joined_texts
-    (record { out = (meaning command (state_of p.standing (taken ++ more))).reply; err = faults_taken command (state_of p.standing (taken ++ more)) })
-    (course_from false (length done + 1 + 1) lines (meaning command (state_of p.standing (taken ++ more))).after).texts)
-texts_at from left done lines command a old mid found taken more p is none =
-    ap (λ c. c.texts) (after_line false done lines (Asks command) (start (found ++ more))
-    ∙ ap (λ l. course_from false 1 (done ++ Asks command ∷ lines) (start l)) (ap (λ l. l ++ more) is ∙ append_assoc p.standing.found taken more)
-    ∙ p.goes false (Asks command ∷ lines) (taken ++ more) (λ e. (none e, refl)))
+texts_more : (number : ℕ) (begun lines : List Line) (s : State) → (rest : Texts) × ((course_from false number (begun ++ lines) s).texts ≡ joined_texts (course_from false number begun s).texts rest)
+texts_more number [] lines s = ((course_from false number lines s).texts, refl)
+texts_more number (Empty ∷ begun) lines s = texts_more (number + 1) begun lines s
+texts_more number (NoCommand ∷ begun) lines s = texts_behind (record { out = []; err = line_report number }) _ _ (texts_more (number + 1) begun lines s)
+texts_more number (Asks command ∷ begun) lines s =
+    texts_behind (record { out = (meaning command s).reply; err = faults_taken command s }) _ _ (texts_more (number + 1) begun lines (meaning command s).after)
+
+-- fronts of what a last line adds are fronts of what any lines write that begin so
+pub fronts_past : (done begun behind : List Line) (line : Line) (found : List Finding) (old new : Outputs) → begun ≡ done ++ line ∷ [] → WritesPast (play_texts done found) (play_texts (done ++ line ∷ []) found) old new
+    → WritesFronts (play_texts (begun ++ behind) found) old new
+fronts_past done begun behind line found old new is past =
+    let first = play_texts done found in
+    let more = texts_more 1 begun behind (start found) in
+    subst (λ t. WritesFronts t old new) (sym (more.1 ∙ ap (λ t. joined_texts t more.0) (ap (λ l. play_texts l found) is ∙ past.whole)))
+    (WritesFronts-longer (joined_texts first past.more) more.0 old new (WritesFronts-behind first past.more old past.mid new past.written past.fronts))
 
 -- by its source
 pub PlaysCutOff-command : (from : Place) (left : Option (List ℕ)) (done : List Line) (command : Command) (a b : Scene) (old mid new : Outputs) (fault : SourceFault) → mid.err ≡ a.err → new.err ≡ b.err → (p : Plays from left done a old mid)
@@ -217,21 +215,14 @@ PlaysCutOff-command from left done command a b old mid new fault mid_err new_err
     grind (arith, nat_tests, subst (λ l. length taken < (meaning command (state_of s l)).wanted) (append-nil taken) (stop.wants [])) in
     let course_is : (lines : List Line) → cut_course ((done ++ Asks command ∷ []) ++ lines) (s.found ++ taken) ≡ course_behind p.texts s.ended (record { texts = record { out = []; err = reports taken }; ended = true; left = [] }) =
     λ lines. after_line true done lines (Asks command) (start (s.found ++ taken)) ∙ p.goes true (Asks command ∷ lines) taken (λ e. absurd (stop.stops.reads e))
-    ∙ ap (course_behind p.texts s.ended) (course_cut (length done + 1) command lines (state_of s taken) met) in
+    ∙ ap (course_behind p.texts s.ended) (course_by true (length done + 1) command lines (state_of s taken) true met) in
     record {
       found = s.found ++ taken;
       faulty = stop.stops.faulty;
-      wants = λ lines. ap (λ c. c.ended) (course_is lines) ∙ or_true s.ended;
+      wants = λ lines. ap (λ c. c.ended) (course_is lines) ∙ or-true s.ended;
       exact = λ lines.
           subst (λ c. Writes c.texts old new) (sym (course_is lines))
           (Writes-append p.texts (record { out = []; err = reports taken }) old mid new p.written (out, err));
-      fronts = λ lines more.
-          let rest = take_over taken more (meaning command (state_of s (taken ++ more))).wanted (omega (arith, stop.wants more)) in
-          subst (λ t. WritesFronts t old new) (sym (texts_at from left done lines command a old mid (s.found ++ taken) taken more p refl (λ e. absurd (stop.stops.reads e))))
-          (fronts_in p.texts (record { out = (meaning command (state_of s (taken ++ more))).reply; err = faults_taken command (state_of s (taken ++ more)) })
-          (course_from false (length done + 1 + 1) lines (meaning command (state_of s (taken ++ more))).after).texts old mid new p.written
-          (record { front = []; back = (meaning command (state_of s (taken ++ more))).reply; whole = refl; appended = stop.quiet })
-          (subst (AppendsFront mid.err new.err) (sym (ap reports rest.1 ∙ reports-append taken rest.0)) (AppendsFront-longer mid.err new.err (reports taken) (reports rest.0) (AppendsFront-whole mid.err new.err (reports taken) err))));
       done = done;
       line = Asks command;
       begun_is = refl;
@@ -259,13 +250,6 @@ PlaysBrokenOff-command from left done command a b old mid new mid_err new_err p 
           ap (λ c. c.ended) (after_line false done lines (Asks command) (start (s.found ++ taken)) ∙ p.goes false (Asks command ∷ lines) taken (λ x. (stop.follows.quiet x, refl)))
           ∙ sym (or_assoc s.ended (meets_end command (state_of s taken)) (course_from false (length done + 1 + 1) lines (meaning command (state_of s taken)).after).ended)
           ∙ ap (λ x. x || (course_from false (length done + 1 + 1) lines (meaning command (state_of s taken)).after).ended) (stop.met e);
-      fronts = λ lines more none.
-          let fronts = stop.fronts more none in
-          subst (λ t. WritesFronts t old new) (sym (texts_at from left done lines command a old mid (s.found ++ taken) taken more p refl (none_more a.place b.place taken more stop.follows none)))
-          (fronts_in p.texts (record { out = (meaning command (state_of s (taken ++ more))).reply; err = faults_taken command (state_of s (taken ++ more)) })
-          (course_from false (length done + 1 + 1) lines (meaning command (state_of s (taken ++ more))).after).texts old mid new p.written
-          fronts.0
-          (subst (λ e. AppendsFront e new.err (faults_taken command (state_of s (taken ++ more)))) (sym mid_err) (subst (λ e. AppendsFront a.err e (faults_taken command (state_of s (taken ++ more)))) (sym new_err) fronts.1)));
       done = done;
       line = Asks command;
       begun_is = refl;
@@ -292,12 +276,6 @@ PlaysBrokenOff-report from left done number a b old mid new p is same quiet fron
           ap (λ l. (course ((done ++ NoCommand ∷ []) ++ lines) l).ended) (sym (append-nil s.found))
           ∙ ap (λ c. c.ended) (after_line false done lines NoCommand (start (s.found ++ [])) ∙ p.goes false (NoCommand ∷ lines) [] (λ x. (refl, refl)))
           ∙ ap (λ x. x || (course_from false (length done + 1 + 1) lines (state_of s [])).ended) e;
-      fronts = λ lines more none.
-          subst (λ t. WritesFronts t old new)
-          (sym (ap (λ c. c.texts) (after_line false done lines NoCommand (start (s.found ++ more)) ∙ p.goes false (NoCommand ∷ lines) more (λ x. (none (ap (λ y. y.place.phase) same ∙ x), refl)))))
-          (fronts_in p.texts (record { out = []; err = line_report (length done + 1) }) (course_from false (length done + 1 + 1) lines (state_of s more)).texts old mid new p.written
-          (subst (λ o. AppendsFront mid.out o []) (sym quiet) (AppendsFront-none mid.out []))
-          (subst (λ n. AppendsFront mid.err new.err (line_report n)) is front));
       done = done;
       line = NoCommand;
       begun_is = refl;
@@ -309,23 +287,20 @@ PlaysBrokenOff-report from left done number a b old mid new p is same quiet fron
 
 -- ---- a line, whatever it asks for
 
-pub Plays-line : (line : Line) (from : Place) (left : Option (List ℕ)) (done : List Line) (number : ℕ) (a b : Scene) (old mid new : Outputs) → mid.err ≡ a.err → new.err ≡ b.err → (p : Plays from left done a old mid) → number ≡ length done + 1
-    → LineDoes line number from left p.standing a b mid.out new.out (Ok tt) → Plays from left (done ++ line ∷ []) b old new
-Plays-line Empty from left done number a b old mid new mid_err new_err p is (ok, same, quiet) =
+pub PlayDoes-line : (line : Line) (from : Place) (left : Option (List ℕ)) (done : List Line) (number : ℕ) (a b : Scene) (old mid new : Outputs) (result : Result (Unit {0}) Outcome) → mid.err ≡ a.err → new.err ≡ b.err → (p : Plays from left done a old mid) → number ≡ length done + 1
+    → LineDoes line number from left p.standing a b mid.out new.out result → PlayDoes from left (done ++ line ∷ []) b old new result
+PlayDoes-line Empty from left done number a b old mid new (Ok done') mid_err new_err p is (ok, same, quiet) =
     let outputs : mid ≡ new = λ i. record { out = sym quiet i; err = (mid_err ∙ ap (λ x. x.err) (sym same) ∙ sym new_err) i } in
     subst (λ o. Plays from left (done ++ Empty ∷ []) b old o) outputs (subst (λ x. Plays from left (done ++ Empty ∷ []) x old mid) (sym same) (Plays-empty from left done a old mid p))
-Plays-line (Asks command) from left done number a b old mid new mid_err new_err p is does = Plays-command from left done command a b old mid new mid_err new_err p does
-Plays-line NoCommand from left done number a b old mid new mid_err new_err p is (same, quiet, reported) =
-    Plays-report from left done number a b old mid new p is same quiet (subst (λ e. Appends e new.err (line_report number)) (sym mid_err) (subst (λ e. Appends a.err e (line_report number)) (sym new_err) reported))
-
-pub PlayDoes-line : (line : Line) (from : Place) (left : Option (List ℕ)) (done : List Line) (number : ℕ) (a b : Scene) (old mid new : Outputs) (outcome : Outcome) → mid.err ≡ a.err → new.err ≡ b.err → (p : Plays from left done a old mid) → number ≡ length done + 1
-    → LineDoes line number from left p.standing a b mid.out new.out (Err outcome) → PlayDoes from left (done ++ line ∷ []) b old new (Err outcome)
-PlayDoes-line Empty from left done number a b old mid new outcome mid_err new_err p is (ok, same, quiet) = cc
-PlayDoes-line (Asks command) from left done number a b old mid new outcome mid_err new_err p is (inl (fault, e, stop)) =
+PlayDoes-line Empty from left done number a b old mid new (Err outcome) mid_err new_err p is (ok, same, quiet) = cc
+PlayDoes-line (Asks command) from left done number a b old mid new (Ok done') mid_err new_err p is does = Plays-command from left done command a b old mid new mid_err new_err p does
+PlayDoes-line (Asks command) from left done number a b old mid new (Err outcome) mid_err new_err p is (inl (fault, e, stop)) =
     inl (fault, e, PlaysCutOff-command from left done command a b old mid new fault mid_err new_err p stop)
-PlayDoes-line (Asks command) from left done number a b old mid new outcome mid_err new_err p is (inr (fault, e, stop)) =
+PlayDoes-line (Asks command) from left done number a b old mid new (Err outcome) mid_err new_err p is (inr (fault, e, stop)) =
     inr (fault, e, PlaysBrokenOff-command from left done command a b old mid new mid_err new_err p stop)
-PlayDoes-line NoCommand from left done number a b old mid new outcome mid_err new_err p is (same, quiet, (fault, e, front)) =
+PlayDoes-line NoCommand from left done number a b old mid new (Ok done') mid_err new_err p is (same, quiet, reported) =
+    Plays-report from left done number a b old mid new p is same quiet (subst (λ e. Appends e new.err (line_report number)) (sym mid_err) (subst (λ e. Appends a.err e (line_report number)) (sym new_err) reported))
+PlayDoes-line NoCommand from left done number a b old mid new (Err outcome) mid_err new_err p is (same, quiet, (fault, e, front)) =
     inr (fault, e, PlaysBrokenOff-report from left done number a b old mid new p is same quiet (subst (λ e. AppendsFront e new.err (line_report number)) (sym mid_err) (subst (λ e. AppendsFront a.err e (line_report number)) (sym new_err) front)))
 
 -- ---- the lines of a script
@@ -346,9 +321,6 @@ AreLines-more [] [] line one are is = (is, tt)
 AreLines-more [] (x ∷ octets) line one are is = absurd are
 AreLines-more (y ∷ lines) [] line one are is = absurd are
 AreLines-more (y ∷ lines) (x ∷ octets) line one are is = (are.0, AreLines-more lines octets line one are.1 is)
-
-pub HasRoom-up : (t : Timeline) (q : Place) (lost most : ℕ) → lost ≤ most → HasRoom t q lost → HasRoom t q most
-HasRoom-up t q lost most few room = record { floor = room.floor; cursor = room.cursor; steps = omega (arith, room.steps, few); within = room.within; limit = room.limit }
 
 pub LinesDone-start : (left : Option (List ℕ)) (script : List ℕ) (scene : Scene) (outputs : Outputs) → scene.player ≡ fresh → scene.place ≡ start_place scene.place.stamp LIMIT → scene.reported ≡ false → scene.left ≡ left
     → LinesDone scene.place left script script 1 scene outputs outputs
@@ -372,7 +344,7 @@ LinesDone-line from left script rest one behind number a b old mid new mid_err n
   whole = d.whole ∙ ap (λ l. d.octets ++ l) split ∙ sym (append_assoc d.octets (one ∷ []) (script_lines behind));
   are = AreLines-more d.done d.octets line one d.are is;
   count = omega (arith, d.count, length-append d.done (line ∷ []));
-  plays = Plays-line line from left d.done number a b old mid new mid_err new_err d.plays d.count (does from left d.plays.standing d.plays.stands);
+  plays = PlayDoes-line line from left d.done number a b old mid new (Ok tt) mid_err new_err d.plays d.count (does from left d.plays.standing d.plays.stands);
   room = subst (HasRoom b.player b.place) (sym (length-append d.done (line ∷ []))) (room (length d.done) d.room);
   few = omega (arith, d.few, shorter);
 }
@@ -388,7 +360,7 @@ PlaysScript-stopped from left script rest one more number a b old mid new outcom
     d.whole ∙ ap (λ l. d.octets ++ l) split ∙ sym (append_assoc d.octets (one ∷ []) more),
     AreLines-more d.done d.octets line one d.are is,
   ),
-  PlayDoes-line line from left d.done number a b old mid new outcome mid_err new_err d.plays d.count (does from left d.plays.standing d.plays.stands),
+  PlayDoes-line line from left d.done number a b old mid new (Err outcome) mid_err new_err d.plays d.count (does from left d.plays.standing d.plays.stands),
 )
 
 -- the last line
@@ -397,7 +369,7 @@ pub PlaysScript-last : (from : Place) (left : Option (List ℕ)) (script rest : 
 PlaysScript-last from left script rest number a b old mid new (Ok done) mid_err new_err d split (line, is, does) = (
   d.done ++ line ∷ [],
   subst (AreLines (d.done ++ line ∷ [])) (sym (d.whole ∙ ap (λ l. d.octets ++ l) split)) (AreLines-more d.done d.octets line rest d.are is),
-  Plays-line line from left d.done number a b old mid new mid_err new_err d.plays d.count (does from left d.plays.standing d.plays.stands),
+  PlayDoes-line line from left d.done number a b old mid new (Ok done) mid_err new_err d.plays d.count (does from left d.plays.standing d.plays.stands),
 )
 PlaysScript-last from left script rest number a b old mid new (Err outcome) mid_err new_err d split carries =
     PlaysScript-stopped from left script rest rest [] number a b old mid new outcome mid_err new_err d split carries

@@ -2,6 +2,7 @@
 use Rattle.std.proofs.Common.{◌≡◌, inl, inr, ℕ, ◌+◌, ◌<◌, ◌≤◌, ◌||◌, Bool, true, false, Result, Ok, Err, List, [], ◌∷◌, ◌++◌, length, take, nat_lt, Option, refl, sym, ap, subst, ◌∙◌, arith, append-nil}
 use Rattle.std.proofs.lemmas.Bool.Decides.{nat_tests}
 use Rattle.std.proofs.lemmas.List.{take_all}
+use Rattle.std.proofs.Math.Bool.{or-false, or-true}
 use Rattle.std.specs.Result.{is_ok, OnOk}
 use Rattle.std.specs.Io.KnownBytes.{Consumes, Appends, Keeps}
 use Rattle.std.proofs.KnownBytes.{Appends-kept, Appends-nil, Appends-trans}
@@ -15,7 +16,7 @@ use Rattle.mrt_wire.specs.Results.{Finding, Found, Bad}
 use Rattle.mrt_wire.specs.Place.{Place}
 use Rattle.mrt_wire.specs.Answered.{answer_findings, Nexts}
 use Rattle.mrt_wire.specs.SoFar.{is_nothing}
-use Rattle.mrt_wire.proofs.SoFarLaws.{Promises, SoFar-answer, SoFar-told, ends_with_none}
+use Rattle.mrt_wire.proofs.SoFarLaws.{Promises, SoFar-answer, SoFar-told, ends_with_none, told_by}
 use Rattle.rib_player.specs.Timeline.{Timeline, end_of, after_play}
 use Rattle.rib_player.specs.Calls.{StandsFor, after_redo}
 use Rattle.rib_player.proofs.TimelineLaws.{StandsFor-after_play, StandsFor-after_redo, StandsFor-end}
@@ -32,7 +33,7 @@ use Rattle.bgpdump_tool.specs.Moves.{GoesOn, StepDoes}
 use Rattle.bgpdump_lines.specs.declared.outcome.Outcome.{Outcome}
 use Rattle.bgpdump_lines.proofs.RunLaws.{IsFaulty-behind}
 use Rattle.bgpdump_lines.proofs.WritingLaws.{AppendsFront-none}
-use Rattle.bgpdump_tool.proofs.BoolLaws.{or_false, or_true}
+use Rattle.bgpdump_tool.proofs.WalkLaws.{PutsPart-put}
 
 -- ---- the player
 
@@ -59,11 +60,6 @@ cursor_at_end from left scene s stands off =
 
 -- ---- the source
 
--- nothing was asked
-Taking-stays : (from q : Place) (left left' : Option (List ℕ)) (found : List Finding) (ended : Bool) → Taking from left q left' found ended → Taking from left q left' (found ++ []) (ended || false)
-Taking-stays from q left left' found ended taking =
-    subst (λ b. Taking from left q left' (found ++ []) b) (sym (or_false ended)) (subst (λ f. Taking from left q left' f ended) (sym (append-nil found)) taking)
-
 -- an answer more that tells something
 pub Taking-told : (from q q' : Place) (left left' left'' : Option (List ℕ)) (found : List Finding) (ended : Bool) (answer : Next) → Taking from left q left' found ended → Promises q q' left' left'' answer
     → is_nothing (answer_findings answer) ≡ false → q'.offset ≤ q'.limit → Taking from left q' left'' (found ++ answer_findings answer) ended
@@ -83,10 +79,15 @@ Taking-end from q q' left left' left'' found ended taking promised within =
     let so_far = SoFar-answer from q q' left left' left'' found next.End taking.so_far promised in
     record {
       so_far = so_far;
-      seen = λ ends none. or_true ended;
+      seen = λ ends none. or-true ended;
       ends = λ _. ends_with_none from q q' left left' left'' found next.End taking.so_far promised refl;
       within = omega (arith, within, so_far.limit);
     }
+
+-- what an answer promises
+pub promised : {I : Type 0} (left : I → Option (List ℕ)) (p q : Place) (a b : I) (answer told : Next) → answer ≡ told → (p.phase ≡ Reading → (octets : List ℕ) × Consumes (left a) (left b) octets × Nexts p q (left b) octets (Ok answer))
+    → (p.phase ≡ Ended → ◌≡◌ {A = Result Next SourceFault} (Ok answer) (Ok next.End) × (q ≡ p) × (b ≡ a)) → Promises p q (left a) (left b) told
+promised left p q a b answer told is reads ended = subst (Promises p q (left a) (left b)) is (reads, λ e. (ap told_by (ended e).0, (ended e).1, ap left (ended e).2))
 
 Follows-answer : (q q' : Place) (left left' : Option (List ℕ)) (answer : Next) → Promises q q' left left' answer → Follows q q' (answer_findings answer)
 Follows-answer q q' left left' answer promised = record {
@@ -108,12 +109,12 @@ step_over from left old s t stands e on =
         history = subst (StandsFor t) (sym (append-nil s.history)) (subst (λ x. StandsFor x s.history) (sym e) (StandsFor-after_redo old.player s.history stands.history));
         cursor = ap (λ x. x.cursor) same ∙ omega (arith, stands.cursor);
         floor = ap (λ x. x.floor) same ∙ stands.floor;
-        taking = Taking-stays from old.place left old.left s.found s.ended stands.taking;
+        taking = subst (λ b. Taking from left old.place old.left (s.found ++ []) b) (sym (or-false s.ended)) (subst (λ f. Taking from left old.place old.left f s.ended) (sym (append-nil s.found)) stands.taking);
       };
       follows = record { quiet = λ _. refl; stays = λ ended. ended };
       met = λ ended. cc;
       reported = Appends-nil old.err;
-      told = sym (or_false old.reported);
+      told = sym (or-false old.reported);
     }
 
 -- over an event that is played
@@ -130,12 +131,12 @@ step_found from left old s t u q left' event stands e off plays promised within 
         history = subst (λ l. StandsFor u (l ++ event ∷ [])) all (subst (λ x. StandsFor x (take old.player.cursor s.history ++ event ∷ [])) (sym now) (StandsFor-after_play old.player s.history event stands.history));
         cursor = ap (λ x. x.cursor) now ∙ omega (arith, stands.cursor);
         floor = ap (λ x. x.floor) now ∙ stands.floor;
-        taking = subst (λ b. Taking from left q left' (s.found ++ Found event ∷ []) b) (sym (or_false s.ended)) (Taking-told from old.place q left old.left left' s.found s.ended (next.Event event) stands.taking promised refl within);
+        taking = subst (λ b. Taking from left q left' (s.found ++ Found event ∷ []) b) (sym (or-false s.ended)) (Taking-told from old.place q left old.left left' s.found s.ended (next.Event event) stands.taking promised refl within);
       };
       follows = Follows-answer old.place q old.left left' (next.Event event) promised;
       met = λ ended. cc;
       reported = Appends-nil old.err;
-      told = sym (or_false old.reported);
+      told = sym (or-false old.reported);
     }
 
 -- a player that can't go on stays
@@ -160,11 +161,11 @@ step_bad from left old s t q left' err fault stands e off promised within append
     record {
       onward = record { few = omega arith; all = λ one. omega (arith, end) };
       stands = Stands-stays from left old s t q left' err true (Bad fault ∷ []) false stands e off
-          (subst (λ b. Taking from left q left' (s.found ++ Bad fault ∷ []) b) (sym (or_false s.ended)) (Taking-told from old.place q left old.left left' s.found s.ended (next.Bad fault) stands.taking promised refl within));
+          (subst (λ b. Taking from left q left' (s.found ++ Bad fault ∷ []) b) (sym (or-false s.ended)) (Taking-told from old.place q left old.left left' s.found s.ended (next.Bad fault) stands.taking promised refl within));
       follows = Follows-answer old.place q old.left left' (next.Bad fault) promised;
       met = λ ended. cc;
       reported = subst (Appends old.err err) (sym (append-nil (fault_report fault))) appended;
-      told = sym (or_true old.reported);
+      told = sym (or-true old.reported);
     }
 
 -- to the end
@@ -179,7 +180,7 @@ step_end from left old s t q left' stands e off promised within =
       follows = Follows-answer old.place q old.left left' next.End promised;
       met = λ _. (omega (arith, end), ends_with_none from old.place q left old.left left' s.found next.End stands.taking.so_far promised refl);
       reported = Appends-nil old.err;
-      told = sym (or_false old.reported);
+      told = sym (or-false old.reported);
     }
 
 -- ---- a step that a fault stops
@@ -197,15 +198,12 @@ step_stops_reading from left old s t q left' reported fault stands off promised 
         [],
         refl,
         record {
-          reads = λ e. clash (ended e);
+          reads = λ e. let other : ◌≡◌ {A = Result Next SourceFault} (Err fault) (Ok next.End) = ended e in cc;
           faulty = subst (λ f. IsFaulty from left left' f fault) (sym (append-nil s.found)) faulty;
           reported = Appends-nil old.err;
         },
       ),
     )
-  where
-    clash : ◌≡◌ {A = Result Next SourceFault} (Err fault) (Ok next.End) → ⊥
-    clash e = cc
 
 -- behind an answer that tells something
 stops_told : (from : Place) (left : Option (List ℕ)) (old : Scene) (s : Standing) (u : Timeline) (q : Place) (left' err : Option (List ℕ)) (reported : Bool) (answer : Next) (fault : WriteFault) → Stands from left old s
@@ -236,11 +234,8 @@ pub step_stops_reporting : (from : Place) (left : Option (List ℕ)) (old : Scen
     → ¬ (old.player.cursor < end_of old.player) → Promises old.place q old.left left' (next.Bad bad) → q.offset ≤ q.limit → Puts {A = Unit {0}} old.err err (fault_report bad) (Err fault)
     → StepDoes from left s old (record { player = u; place = q; left = left'; err = err; reported = true }) (Err (write_outcome fault))
 step_stops_reporting from left old s u q left' err bad fault stands off promised within put =
-    stops_told from left old s u q left' err true (next.Bad bad) fault stands off promised refl refl within (fronts fault put)
-  where
-    fronts : (fault : WriteFault) → Puts {A = Unit {0}} old.err err (fault_report bad) (Err fault) → AppendsFront old.err err (reports (Bad bad ∷ []))
-    fronts write.Write front = subst (AppendsFront old.err err) (sym (append-nil (fault_report bad))) front
-    fronts write.Memory same = subst (λ e. AppendsFront old.err e (reports (Bad bad ∷ []))) (sym same) (AppendsFront-none old.err (reports (Bad bad ∷ [])))
+    stops_told from left old s u q left' err true (next.Bad bad) fault stands off promised refl refl within
+    (subst (AppendsFront old.err err) (sym (append-nil (fault_report bad))) (PutsPart-put {A = Unit {0}} old.err err (fault_report bad) (Err fault) put))
 
 -- ---- outputs that passed on what they held
 
@@ -251,10 +246,7 @@ kept-Appends a b c text kept more = Appends-trans a b c [] text (Appends-kept a 
 pub kept-AppendsFront : (a b c : Option (List ℕ)) (text : List ℕ) → Keeps a b → AppendsFront b c text → AppendsFront a c text
 kept-AppendsFront a b c text kept fronts = record { front = fronts.front; back = fronts.back; whole = fronts.whole; appended = kept-Appends a b c fronts.front kept fronts.appended }
 
--- a run stands as it stood
-pub Stands-kept : (from : Place) (left : Option (List ℕ)) (old : Scene) (s : Standing) (err : Option (List ℕ)) → Stands from left old s → Stands from left (record old { err = err }) s
-Stands-kept from left old s err stands = record { history = stands.history; cursor = stands.cursor; floor = stands.floor; taking = stands.taking }
-
+-- a run goes on as it did
 GoesOn-kept : (from : Place) (left : Option (List ℕ)) (s : Standing) (old new : Scene) (err : Option (List ℕ)) (over : ℕ) (found : List Finding) (ended : Bool) → Keeps old.err err
     → GoesOn from left s (record old { err = err }) new over found ended → GoesOn from left s old new over found ended
 GoesOn-kept from left s old new err over found ended kept goes = record {
@@ -267,7 +259,7 @@ GoesOn-kept from left s old new err over found ended kept goes = record {
 }
 
 -- and a step does what it did
-pub StepDoes-kept : (from : Place) (left : Option (List ℕ)) (s : Standing) (old new : Scene) (err : Option (List ℕ)) (r : Result Bool Outcome) → Keeps old.err err
+StepDoes-kept : (from : Place) (left : Option (List ℕ)) (s : Standing) (old new : Scene) (err : Option (List ℕ)) (r : Result Bool Outcome) → Keeps old.err err
     → StepDoes from left s (record old { err = err }) new r → StepDoes from left s old new r
 StepDoes-kept from left s old new err (Ok false) kept (over, found, one, goes) = (over, found, one, GoesOn-kept from left s old new err over found false kept goes)
 StepDoes-kept from left s old new err (Ok true) kept goes = GoesOn-kept from left s old new err 0 [] true kept goes
@@ -275,6 +267,12 @@ StepDoes-kept from left s old new err (Err outcome) kept (end, inl (fault, is, f
     (end, inl (fault, is, found, none, record { reads = stop.reads; faulty = stop.faulty; reported = kept-Appends old.err err new.err (reports found) kept stop.reported }))
 StepDoes-kept from left s old new err (Err outcome) kept (end, inr (fault, is, found, few, stop)) =
     (end, inr (fault, is, found, few, record { taking = stop.taking; follows = stop.follows; fronts = kept-AppendsFront old.err err new.err (reports found) kept stop.fronts }))
+
+-- where it stands as it stood
+pub step_passed : (from : Place) (left : Option (List ℕ)) (s : Standing) (old new : Scene) (err : Option (List ℕ)) (r : Result Bool Outcome) → Stands from left old s → Keeps old.err err
+    → (Stands from left (record old { err = err }) s → StepDoes from left s (record old { err = err }) new r) → StepDoes from left s old new r
+step_passed from left s old new err r stands kept does =
+    StepDoes-kept from left s old new err r kept (does (record { history = stands.history; cursor = stands.cursor; floor = stands.floor; taking = stands.taking }))
 
 -- or a fault of passing on stops it
 pub step_stops_waiting : (from : Place) (left : Option (List ℕ)) (old : Scene) (s : Standing) (t : Timeline) (err : Option (List ℕ)) → Stands from left old s → ¬ (old.player.cursor < end_of old.player) → Keeps old.err err

@@ -2,7 +2,7 @@
 use Rattle.std.specs.Prelude.{◌≡◌, ℕ, ◌≤◌, List, ◌++◌, length, Option}
 use Rattle.mrt_events.specs.declared.stamp.Stamp.{Stamp}
 use Rattle.bgpdump_lines.specs.declared.outcome.Outcome.{Outcome}
-use Rattle.bgpdump_lines.specs.declared.outcome.Outcome.TheVariants.{Done, Reported, ReadFault, WriteFault, InputTooLong, ScriptTooLong, Memory}
+use Rattle.bgpdump_lines.specs.declared.outcome.Outcome.TheVariants.{WriteFault, Memory}
 use Rattle.bgpdump_lines.specs.Run.{Texts, joined_texts, Outputs, Writes, WritesFronts, OverAll}
 use Rattle.bgpdump_tool.specs.Script.{Line}
 use Rattle.bgpdump_tool.specs.Course.{play_texts, IsEndSeen}
@@ -11,11 +11,7 @@ use Rattle.bgpdump_tool.specs.Course.{play_texts, IsEndSeen}
 abbrev pub WasBrokenOff : Outcome → Type 0
 WasBrokenOff WriteFault = Unit {0}
 WasBrokenOff Memory = Unit {0}
-WasBrokenOff Done = ⊥
-WasBrokenOff Reported = ⊥
-WasBrokenOff ReadFault = ⊥
-WasBrokenOff InputTooLong = ⊥
-WasBrokenOff ScriptTooLong = ⊥
+WasBrokenOff other = ⊥
 
 -- the first texts were written, and fronts of what stands behind them in all
 pub record WritesPast (first all : Texts) (old new : Outputs) : Type 0 where

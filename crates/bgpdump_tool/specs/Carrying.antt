@@ -7,15 +7,12 @@ use Rattle.mrt_wire.specs.declared.next.Phase.TheVariants.{Ended}
 use Rattle.mrt_wire.specs.Results.{Finding}
 use Rattle.mrt_wire.specs.Place.{Place}
 use Rattle.bgpdump_tool.specs.declared.command.Command.{Command}
-use Rattle.bgpdump_tool.specs.declared.command.Command.TheVariants.{Goto}
 use Rattle.bgpdump_lines.specs.declared.fault.WriteFault.{WriteFault}
 use Rattle.bgpdump_lines.specs.declared.outcome.Outcome.{Outcome}
 use Rattle.bgpdump_lines.specs.Device.{AppendsFront}
 use Rattle.bgpdump_lines.specs.Ending.{source_outcome, write_outcome}
 use Rattle.bgpdump_lines.specs.Reports.{reports}
 use Rattle.bgpdump_lines.specs.Writing.{is_any_bad}
-use Rattle.bgpdump_tool.specs.Replies.{at_text}
-use Rattle.bgpdump_tool.specs.State.{State}
 use Rattle.bgpdump_tool.specs.Meaning.{meaning, meets_end, faults_taken}
 use Rattle.bgpdump_tool.specs.Standing.{Standing, Scene, Taking, Stands, Follows, state_of}
 use Rattle.bgpdump_tool.specs.Moves.{StopsReading}
@@ -26,11 +23,6 @@ pub record Leads (command : Command) (s t : Standing) (taken : List Finding) (re
   pub replied : (meaning command (state_of s (taken ++ more))).reply ≡ reply
   pub took : take (meaning command (state_of s (taken ++ more))).wanted (taken ++ more) ≡ taken
   pub ended : t.ended ≡ (s.ended || meets_end command (state_of s (taken ++ more)))
-
--- from where the script stands, a front of the reply to a command was written, and a front of its reports
-abbrev pub WritesFrontsOf : Command → State → Scene → Scene → Option (List ℕ) → Option (List ℕ) → Type 0
-WritesFrontsOf command state old new out out' =
-    AppendsFront out out' (meaning command state).reply × AppendsFront old.err new.err (faults_taken command state)
 
 -- a command led a run so, and gives this reply
 pub record IsLed (command : Command) (from : Place) (left : Option (List ℕ)) (s : Standing) (old new : Scene) : Type 0 where
@@ -62,7 +54,7 @@ pub record IsBrokenOff (command : Command) (from : Place) (left : Option (List �
   pub taking : Taking from left new.place new.left (s.found ++ taken) ended
   pub follows : Follows old.place new.place taken
   pub met : ended ≡ true → (s.ended || meets_end command (state_of s taken)) ≡ true
-  pub fronts : (more : List Finding) → (new.place.phase ≡ Ended → more ≡ []) → WritesFrontsOf command (state_of s (taken ++ more)) old new out out'
+  pub fronts : (more : List Finding) → (new.place.phase ≡ Ended → more ≡ []) → AppendsFront out out' (meaning command (state_of s (taken ++ more))).reply × AppendsFront old.err new.err (faults_taken command (state_of s (taken ++ more)))
 
 -- what the carrying out of a command does that answers so, by how the run stands before it
 abbrev pub CarryingDoes : {A : Type 0} → Command → Place → Option (List ℕ) → Standing → Scene → Scene → Option (List ℕ) → Option (List ℕ) → Result A Outcome → Type 0
@@ -75,8 +67,3 @@ CarryingDoes command from left s old new out out' (Err outcome) =
 abbrev pub CarriesOut : {A : Type 0} → Command → Scene → Scene → Option (List ℕ) → Option (List ℕ) → Result A Outcome → Type 0
 CarriesOut command old new out out' result =
     (from : Place) (left : Option (List ℕ)) (s : Standing) → Stands from left old s → CarryingDoes command from left s old new out out' result
-
--- `goto` to this position led a run so, and its reply tells where; or a fault stopped it on the way
-abbrev pub Travels : ℕ → Place → Option (List ℕ) → Standing → Scene → Scene → Result Bool Outcome → Type 0
-Travels position from left s old new (Ok ended) = (led : IsLed (Goto position) from left s old new) × (led.reply ≡ at_text new.player.cursor ended)
-Travels position from left s old new (Err outcome) = (out : Option (List ℕ)) → CarryingDoes {A = Unit {0}} (Goto position) from left s old new out out (Err outcome)

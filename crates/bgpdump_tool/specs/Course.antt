@@ -6,7 +6,7 @@ use Rattle.mrt_wire.specs.Verdict.{Frame}
 use Rattle.mrt_wire.specs.Rest.{rest_kind}
 use Rattle.mrt_wire.specs.Results.{Finding}
 use Rattle.bgpdump_lines.specs.declared.outcome.Outcome.{Outcome}
-use Rattle.bgpdump_lines.specs.declared.outcome.Outcome.TheVariants.{Done, Reported, ReadFault, WriteFault, InputTooLong, ScriptTooLong, Memory}
+use Rattle.bgpdump_lines.specs.declared.outcome.Outcome.TheVariants.{Done, Reported, ReadFault, InputTooLong, ScriptTooLong}
 use Rattle.bgpdump_lines.specs.Reports.{reports}
 use Rattle.bgpdump_lines.specs.Run.{Texts, joined_texts, all_results}
 use Rattle.bgpdump_tool.specs.Script.{Line, Empty, Asks, NoCommand, line_report}
@@ -56,9 +56,7 @@ TakesWanted stamp Done lines frames rest = (course lines (all_results stamp fram
 TakesWanted stamp Reported lines frames rest = (course lines (all_results stamp frames rest)).left ≡ []
 TakesWanted stamp ReadFault lines frames rest = (cut_course lines (all_results stamp frames [])).ended ≡ true
 TakesWanted stamp InputTooLong lines frames rest = (cut_course lines (all_results stamp frames [])).ended ≡ true
-TakesWanted stamp WriteFault lines frames rest = Unit {0}
-TakesWanted stamp Memory lines frames rest = Unit {0}
-TakesWanted stamp ScriptTooLong lines frames rest = Unit {0}
+TakesWanted stamp other lines frames rest = Unit {0}
 
 -- in these frames and what was taken behind them the end was seen by these lines: a record is cut there, or one of the lines met the end
 abbrev pub IsEndSeen : Stamp → List Line → List Frame → List ℕ → Type 0
@@ -66,10 +64,7 @@ IsEndSeen stamp lines frames rest = (rest_kind rest ≡ CutRecord) × ((rest ≢
 
 -- the same for a run that ended so: a fault of the input came before it saw the end
 abbrev pub PlaySawEnd : Stamp → Outcome → List Line → List Frame → List ℕ → Type 0
-PlaySawEnd stamp Done lines frames rest = IsEndSeen stamp lines frames rest
-PlaySawEnd stamp Reported lines frames rest = IsEndSeen stamp lines frames rest
-PlaySawEnd stamp WriteFault lines frames rest = IsEndSeen stamp lines frames rest
-PlaySawEnd stamp Memory lines frames rest = IsEndSeen stamp lines frames rest
 PlaySawEnd stamp ReadFault lines frames rest = ⊥
 PlaySawEnd stamp InputTooLong lines frames rest = ⊥
 PlaySawEnd stamp ScriptTooLong lines frames rest = ⊥
+PlaySawEnd stamp other lines frames rest = IsEndSeen stamp lines frames rest

@@ -18,5 +18,4 @@ pub mod Whole
 pub mod Standing
 pub mod Moves
 pub mod Carrying
-pub mod Losing
 pub mod Playing

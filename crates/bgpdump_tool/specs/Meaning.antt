@@ -12,26 +12,18 @@ pub record Meaning : Type 0 where
   pub after : State
   pub reply : List ℕ
 
--- nothing moves
+-- no results are taken; the reply, and where the script stands then
 abbrev pub answer : List ℕ → State → Meaning
-answer reply s = record { wanted = 0; after = s; reply = reply }
+answer reply after = record { wanted = 0; after = after; reply = reply }
 
 -- the cursor goes to a position that it can go back to
 abbrev pub retreat : ℕ → State → Meaning
-retreat cursor s = record { wanted = 0; after = moved_to cursor s; reply = at_text cursor false }
+retreat cursor s = answer (at_text cursor false) (moved_to cursor s)
 
 -- the cursor goes over so many events ahead, and over those of so many results; the end is met where fewer are left
 abbrev pub advance : ℕ → ℕ → State → Meaning
 advance over count s =
     record { wanted = count; after = gone_on over count s; reply = at_text (gone_on over count s).cursor (nat_lt (length s.unread) count) }
-
--- the event is played in place of those ahead
-abbrev pub replacement : State → State → Meaning
-replacement s t = record { wanted = 0; after = t; reply = counted_text t.cursor (codes " dropped ") (steps_ahead s) }
-
--- events before the floor are forgotten
-abbrev pub forgetting : State → State → Meaning
-forgetting s t = record { wanted = 0; after = t; reply = forgot_text t.cursor t.floor (t.floor - s.floor) }
 
 abbrev pub meaning : Command → State → Meaning
 meaning (Next n) s = advance (min n (steps_ahead s)) (n - min n (steps_ahead s)) s
@@ -44,8 +36,8 @@ meaning Peers s = answer (peers_text (routes_at s)) s
 meaning (Table peer) s = answer (table_text (routes_at s) peer) s
 meaning (Route peer prefix) s = answer (route_text (routes_at s) peer prefix) s
 meaning (Lookup peer address) s = answer (best_text (routes_at s) peer address) s
-meaning (Lose peer) s = replacement s (played (loss peer) s)
-meaning (Forget n) s = forgetting s (forgotten n s)
+meaning (Lose peer) s = answer (counted_text (played (loss peer) s).cursor (codes " dropped ") (steps_ahead s)) (played (loss peer) s)
+meaning (Forget n) s = answer (forgot_text s.cursor (forgotten n s).floor ((forgotten n s).floor - s.floor)) (forgotten n s)
 
 -- the command meets the end of the results
 abbrev pub meets_end : Command → State → Bool

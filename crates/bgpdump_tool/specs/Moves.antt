@@ -56,18 +56,14 @@ ForwardDoes n from left s old new (Ok true) = (over : ℕ) × (found : List Find
 ForwardDoes n from left s old new (Err outcome) =
     Stops (λ found. length s.history - s.cursor + length found < n) (λ found. length s.history - s.cursor + length found ≤ n) from left s old new outcome
 
--- of the results behind the history, how many are needed up to this position
-abbrev pub needed_to : ℕ → Standing → List Finding → ℕ
-needed_to k s results = needed (k - length s.history) results
-
--- on to a position, or as far as the results go
+-- on to a position, taking no more results than are needed up to it, or as far as they go
 abbrev pub OnwardDoes : ℕ → Place → Option (List ℕ) → Standing → Scene → Scene → Result Bool Outcome → Type 0
 OnwardDoes k from left s old new (Ok false) =
-    (over : ℕ) × (found : List Finding) × (new.player.cursor ≡ k) × ((more : List Finding) → needed_to k s (found ++ more) ≡ length found) × GoesOn from left s old new over found false
+    (over : ℕ) × (found : List Finding) × (new.player.cursor ≡ k) × ((more : List Finding) → needed (k - length s.history) (found ++ more) ≡ length found) × GoesOn from left s old new over found false
 OnwardDoes k from left s old new (Ok true) = (over : ℕ) × (found : List Finding) × (new.player.cursor < k) × GoesOn from left s old new over found true
 OnwardDoes k from left s old new (Err outcome) =
-    Stops (λ found. (more : List Finding) → length found < needed_to k s (found ++ more))
-    (λ found. (more : List Finding) → length found ≤ needed_to k s (found ++ more)) from left s old new outcome
+    Stops (λ found. (more : List Finding) → length found < needed (k - length s.history) (found ++ more))
+    (λ found. (more : List Finding) → length found ≤ needed (k - length s.history) (found ++ more)) from left s old new outcome
 
 -- what such a call does, however the run stands before it
 abbrev pub Moves : (Place → Option (List ℕ) → Standing → Scene → Scene → Result Bool Outcome → Type 0) → Scene → Scene → Result Bool Outcome → Type 0

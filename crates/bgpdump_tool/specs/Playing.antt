@@ -11,7 +11,7 @@ use Rattle.bgpdump_lines.specs.declared.outcome.Outcome.{Outcome}
 use Rattle.bgpdump_lines.specs.Device.{AppendsFront}
 use Rattle.bgpdump_lines.specs.Ending.{source_outcome, write_outcome}
 use Rattle.bgpdump_lines.specs.Going.{IsFaulty}
-use Rattle.bgpdump_lines.specs.Run.{Texts, Outputs, Writes, WritesFronts}
+use Rattle.bgpdump_lines.specs.Run.{Texts, Outputs, Writes}
 use Rattle.bgpdump_tool.specs.Script.{Line, Empty, Asks, NoCommand, IsLine, AreLines, script_lines, line_report}
 use Rattle.bgpdump_tool.specs.State.{start}
 use Rattle.bgpdump_tool.specs.Course.{course_behind, course_from, course, play_texts, cut_course, cut_texts}
@@ -50,13 +50,12 @@ pub record Plays (from : Place) (left : Option (List ℕ)) (done : List Line) (s
   pub goes : (cut : Bool) (lines : List Line) (more : List Finding) → (scene.place.phase ≡ Ended → (more ≡ []) × (cut ≡ false))
       → course_from cut 1 (done ++ lines) (start (standing.found ++ more)) ≡ course_behind texts standing.ended (course_from cut (length done + 1) lines (state_of standing more))
 
--- the source stopped the run in the last of these lines: exactly what the results give was written, cut off there, which is a front of what any more of them give
+-- the source stopped the run in the last of these lines: exactly what the results give was written, cut off there, which of the last line is a front of what any more of them give
 pub record PlaysCutOff (from : Place) (left : Option (List ℕ)) (begun : List Line) (scene : Scene) (old new : Outputs) (fault : SourceFault) : Type 0 where
   pub found : List Finding
   pub faulty : IsFaulty from left scene.left found fault
   pub exact : (lines : List Line) → Writes (cut_texts (begun ++ lines) found) old new
   pub wants : (lines : List Line) → (cut_course (begun ++ lines) found).ended ≡ true
-  pub fronts : (lines : List Line) (more : List Finding) → WritesFronts (play_texts (begun ++ lines) (found ++ more)) old new
   pub done : List Line
   pub line : Line
   pub begun_is : begun ≡ done ++ line ∷ []
@@ -68,7 +67,6 @@ pub record PlaysBrokenOff (from : Place) (left : Option (List ℕ)) (begun : Lis
   pub ended : Bool
   pub taking : Taking from left scene.place scene.left found ended
   pub met : ended ≡ true → (lines : List Line) → (course (begun ++ lines) found).ended ≡ true
-  pub fronts : (lines : List Line) (more : List Finding) → (scene.place.phase ≡ Ended → more ≡ []) → WritesFronts (play_texts (begun ++ lines) (found ++ more)) old new
   pub done : List Line
   pub line : Line
   pub begun_is : begun ≡ done ++ line ∷ []

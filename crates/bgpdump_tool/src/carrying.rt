@@ -1,25 +1,24 @@
 //! The commands of a script, carried out.
 
 mod back;
-mod forget;
 mod goto;
 mod lookup;
 mod lose;
 mod next;
 mod peers;
-mod position;
 mod route;
 mod table;
 
 ghost use Rattle.std.specs.Prelude.{◌≡◌, ◌+◌, ◌||◌, ℕ};
 ghost use Rattle.bgpdump_tool.specs.declared.script.TheConstants.{LONGEST_SCRIPT};
-ghost use Rattle.bgpdump_lines.specs.Ending.{is_read_fault, is_write_fault, outcome_result};
+ghost use Rattle.bgpdump_lines.specs.Ending.{is_read_fault, is_write_fault};
 ghost use Rattle.bgpdump_tool.specs.Standing.{HasRoom, OverScenes};
 ghost use Rattle.bgpdump_tool.specs.Carrying.{CarriesOut};
 
 use crate::command::Command;
+use crate::replies::{replied, write_counted, write_forgotten};
 use crate::session::Session;
-use bgpdump_lines::{Outcome, Output, WriteFault};
+use bgpdump_lines::{Outcome, Output};
 use mrt_wire::{Input, Route};
 use prefix_store::PrefixStore;
 use std::rc::Rc;
@@ -43,35 +42,30 @@ pub(crate) fn carry_out<S: PrefixStore<Rc<Route>>, I: Input, O: Output, E: Outpu
         ≡ (O.failed out.old || E.failed err.old || is_write_fault result) }
 {
     let text = &mut session.text;
+    let table = session.player.table();
     match command {
         Command::Next(count) => next::next(session, input, out, err, count),
-        Command::Back(count) => replied(back::back(&mut session.player, count, out, text)),
+        Command::Back(count) => {
+            replied(back::back(&mut session.player, u64::from(count), out, text))
+        }
         Command::Goto(position) => goto::goto(session, input, out, err, position),
-        Command::Position => replied(position::position(&session.player, out, text)),
-        Command::Peers => replied(peers::peers(session.player.table(), out, text)),
-        Command::Table(peer) => {
-            let table = session.player.table();
-            replied(table::table(table, session.alloc, &peer, out, text))
+        Command::Position => {
+            let player = &session.player;
+            replied(write_counted(player.at(), b" ahead ", player.ahead(), out, text))
         }
-        Command::Route(peer, prefix) => {
-            let table = session.player.table();
-            replied(route::route(table, &peer, &prefix, out, text))
-        }
-        Command::Lookup(peer, addr) => {
-            let table = session.player.table();
-            replied(lookup::lookup(table, &peer, &addr, out, text))
-        }
+        Command::Peers => replied(peers::peers(table, out, text)),
+        Command::Table(peer) => replied(table::table(table, session.alloc, &peer, out, text)),
+        Command::Route(peer, prefix) => replied(route::route(table, &peer, &prefix, out, text)),
+        Command::Lookup(peer, addr) => replied(lookup::lookup(table, &peer, &addr, out, text)),
         Command::Lose(peer) => {
-            let alloc = session.alloc;
-            replied(lose::lose(&mut session.player, alloc, peer, out, text))
+            let player = &mut session.player;
+            let dropped = lose::play_loss(player, session.alloc, peer)?;
+            replied(write_counted(player.at(), b" dropped ", dropped, out, text))
         }
-        Command::Forget(keep) => replied(forget::forget(&mut session.player, keep, out, text)),
+        Command::Forget(keep) => {
+            let player = &mut session.player;
+            let forgotten = player.forget(u64::from(keep));
+            replied(write_forgotten(player.at(), player.floor(), forgotten, out, text))
+        }
     }
-}
-
-/// How a reply was written, as a run ends.
-fn replied(reply: Result<(), WriteFault>) -> Result<(), Outcome>
-    ensures { result ≡ outcome_result reply }
-{
-    Ok(reply?)
 }

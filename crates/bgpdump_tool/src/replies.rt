@@ -1,38 +1,12 @@
 //! The texts of replies.
 
-ghost use Rattle.std.specs.Prelude.{◌≡◌, ◌++◌, ◌||◌, OnOk};
-ghost use Rattle.bgpdump_tool.specs.Replies.{at_text, counted_text, none_text};
+ghost use Rattle.std.specs.Prelude.{◌≡◌, ◌||◌};
+ghost use Rattle.bgpdump_lines.specs.Ending.{outcome_result};
 ghost use Rattle.bgpdump_lines.specs.Writing.{Puts, is_write};
+ghost use Rattle.bgpdump_tool.specs.Replies.{at_text, counted_text, forgot_text, none_text};
 
-use bgpdump_lines::{Output, WriteFault, put_all};
+use bgpdump_lines::{Outcome, Output, WriteFault, put_all};
 use ip_prefix::Text;
-use std::alloc::AllocError;
-
-/// Appends where the player stands, and whether the end was met.
-fn put_position(position: u64, ended: bool, text: &mut Text) -> Result<(), AllocError>
-    ensures { OnOk result (text.new ≡ text.old ++ at_text position ended) }
-{
-    text.extend_from_slice(b"at ")?;
-    text.put_long_decimal(position)?;
-    if ended {
-        text.extend_from_slice(b" end")?;
-    }
-    text.push(b'\n')?;
-    Ok(())
-}
-
-/// Appends where the player stands, a word, and a number.
-fn put_counted(position: u64, word: &[u8], number: u64, text: &mut Text) -> Result<(), AllocError>
-    ensures { OnOk result
-        (text.new ≡ text.old ++ counted_text position word.now number) }
-{
-    text.extend_from_slice(b"at ")?;
-    text.put_long_decimal(position)?;
-    text.extend_from_slice(word)?;
-    text.put_long_decimal(number)?;
-    text.push(b'\n')?;
-    Ok(())
-}
 
 /// Writes where the player stands, and whether the end was met. The text is scratch.
 pub(crate) fn write_position<O: Output>(
@@ -45,7 +19,12 @@ pub(crate) fn write_position<O: Output>(
     ensures failed { O.failed out.new ≡ (O.failed out.old || is_write result) }
 {
     text.clear();
-    put_position(position, ended, text)?;
+    text.extend_from_slice(b"at ")?;
+    text.put_long_decimal(position)?;
+    if ended {
+        text.extend_from_slice(b" end")?;
+    }
+    text.push(b'\n')?;
     put_all(out, text.as_slice())?;
     Ok(())
 }
@@ -63,7 +42,36 @@ pub(crate) fn write_counted<O: Output>(
     ensures failed { O.failed out.new ≡ (O.failed out.old || is_write result) }
 {
     text.clear();
-    put_counted(position, word, number, text)?;
+    text.extend_from_slice(b"at ")?;
+    text.put_long_decimal(position)?;
+    text.extend_from_slice(word)?;
+    text.put_long_decimal(number)?;
+    text.push(b'\n')?;
+    put_all(out, text.as_slice())?;
+    Ok(())
+}
+
+/// Writes where the player stands, how far it can go back, and how many steps were forgotten. The
+/// text is scratch.
+pub(crate) fn write_forgotten<O: Output>(
+    position: u64,
+    floor: u64,
+    number: u64,
+    out: &mut O,
+    text: &mut Text,
+) -> Result<(), WriteFault>
+    ensures text { Puts (O.written out.old) (O.written out.new) (forgot_text position floor number)
+        result }
+    ensures failed { O.failed out.new ≡ (O.failed out.old || is_write result) }
+{
+    text.clear();
+    text.extend_from_slice(b"at ")?;
+    text.put_long_decimal(position)?;
+    text.extend_from_slice(b" floor ")?;
+    text.put_long_decimal(floor)?;
+    text.extend_from_slice(b" forgot ")?;
+    text.put_long_decimal(number)?;
+    text.push(b'\n')?;
     put_all(out, text.as_slice())?;
     Ok(())
 }
@@ -75,4 +83,11 @@ pub(crate) fn write_none<O: Output>(out: &mut O) -> Result<(), WriteFault>
 {
     put_all(out, b"none\n")?;
     Ok(())
+}
+
+/// How a reply was written, as a run ends.
+pub(crate) fn replied(reply: Result<(), WriteFault>) -> Result<(), Outcome>
+    ensures { result ≡ outcome_result reply }
+{
+    Ok(reply?)
 }

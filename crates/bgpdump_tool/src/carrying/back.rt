@@ -15,7 +15,7 @@ use rib_player::Player;
 use std::rc::Rc;
 
 /// So many steps back, or as many as there are.
-fn back_over<S: PrefixStore<Rc<Route>>>(player: &mut Player<S>, count: u32)
+fn back_over<S: PrefixStore<Rc<Route>>>(player: &mut Player<S>, count: u64)
     ensures { player.new ≡
         at_cursor (player.old.cursor - min count (behind player.old)) player.old }
 {
@@ -30,7 +30,7 @@ fn back_over<S: PrefixStore<Rc<Route>>>(player: &mut Player<S>, count: u32)
 /// The text is scratch.
 pub(crate) fn back<S: PrefixStore<Rc<Route>>, O: Output>(
     player: &mut Player<S>,
-    count: u32,
+    count: u64,
     out: &mut O,
     text: &mut Text,
 ) -> Result<(), WriteFault>

@@ -1,20 +1,20 @@
 //! To a position.
 
-ghost use Rattle.std.specs.Prelude.{◌≡◌, ◌≤◌, ◌||◌, ℕ, max};
+ghost use Rattle.std.specs.Prelude.{◌≡◌, ◌≤◌, ◌||◌, ℕ};
 ghost use Rattle.std.specs.Io.KnownBytes.{Keeps};
 ghost use Rattle.bgpdump_tool.specs.declared.script.TheConstants.{LONGEST_SCRIPT};
 ghost use Rattle.bgpdump_lines.specs.Ending.{is_read_fault, is_write_fault};
-ghost use Rattle.bgpdump_tool.specs.Standing.{HasRoom, OverScenes, at_cursor, scene_of};
+ghost use Rattle.bgpdump_tool.specs.Standing.{HasRoom, OverScenes, scene_of};
 ghost use Rattle.bgpdump_tool.specs.Moves.{Moves, OnwardDoes};
 ghost use Rattle.bgpdump_tool.specs.declared.command.Command.TheVariants.{Goto};
-ghost use Rattle.bgpdump_tool.specs.Carrying.{CarriesOut, Travels};
+ghost use Rattle.bgpdump_tool.specs.Carrying.{CarriesOut};
 
-use crate::replies::write_position;
+use crate::carrying::back::back;
+use crate::replies::{replied, write_position};
 use crate::session::Session;
 use bgpdump_lines::{Outcome, Output};
 use mrt_wire::{Input, Route};
 use prefix_store::PrefixStore;
-use rib_player::Player;
 use std::rc::Rc;
 
 /// On to a position, or as far as there are steps. Answers whether there were too few.
@@ -45,45 +45,6 @@ fn onward<S: PrefixStore<Rc<Route>>, I: Input, O: Output, E: Output>(
     Ok(false)
 }
 
-/// Back to a position, or as far as there are steps.
-fn retreat<S: PrefixStore<Rc<Route>>>(player: &mut Player<S>, position: u32)
-    requires behind { position ≤ player.old.cursor }
-    requires floor { player.old.floor ≤ player.old.cursor }
-    ensures { player.new ≡ at_cursor (max position player.old.floor) player.old }
-{
-    'steps: while player.at() > u64::from(position) {
-        if player.undo().is_err() {
-            return;
-        }
-    }
-}
-
-/// To a position, or as far as there are steps. Answers whether there were too few.
-fn travel<S: PrefixStore<Rc<Route>>, I: Input, O: Output, E: Output>(
-    session: &mut Session<S>,
-    input: &mut I,
-    out: &mut O,
-    err: &mut E,
-    position: u32,
-) -> Result<bool, Outcome>
-    requires room { HasRoom session.old.player session.old.source LONGEST_SCRIPT }
-    ensures moves { Moves (Travels position)
-        (scene_of I.left E.written session.old input.old err.old)
-        (scene_of I.left E.written session.new input.new err.new) result }
-    ensures room { (lost : ℕ) → HasRoom session.old.player session.old.source lost →
-        HasRoom session.new.player session.new.source lost }
-    ensures out { Keeps (O.written out.old) (O.written out.new) }
-    ensures read { I.failed input.new ≡ (I.failed input.old || is_read_fault result) }
-    ensures wrote { (O.failed out.new || E.failed err.new)
-        ≡ (O.failed out.old || E.failed err.old || is_write_fault result) }
-{
-    if u64::from(position) < session.player.at() {
-        retreat(&mut session.player, position);
-        return Ok(false);
-    }
-    onward(session, input, out, err, position)
-}
-
 /// Carries out `goto`. What is found faulty on the way is reported, and is no step.
 pub(crate) fn goto<S: PrefixStore<Rc<Route>>, I: Input, O: Output, E: Output>(
     session: &mut Session<S>,
@@ -102,7 +63,11 @@ pub(crate) fn goto<S: PrefixStore<Rc<Route>>, I: Input, O: Output, E: Output>(
     ensures wrote { (O.failed out.new || E.failed err.new)
         ≡ (O.failed out.old || E.failed err.old || is_write_fault result) }
 {
-    let ended = travel(session, input, out, err, position)?;
-    write_position(session.player.at(), ended, out, &mut session.text)?;
-    Ok(())
+    let at = session.player.at();
+    if u64::from(position) < at {
+        let count = at - u64::from(position);
+        return replied(back(&mut session.player, count, out, &mut session.text));
+    }
+    let ended = onward(session, input, out, err, position)?;
+    replied(write_position(session.player.at(), ended, out, &mut session.text))
 }

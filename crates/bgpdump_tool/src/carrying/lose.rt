@@ -1,15 +1,11 @@
 //! The loss of a session.
 
-ghost use Rattle.std.specs.Prelude.{◌≡◌, ◌<◌, ◌||◌, IfOk, OnErr, Ok, Err};
+ghost use Rattle.std.specs.Prelude.{◌≡◌, ◌<◌, IfOk, OnErr, Ok, Err};
 ghost use Rattle.prefix_store.specs.declared.store.TheConstants.{GREATEST_COUNT};
 ghost use Rattle.rib_player.specs.Timeline.{after_play, ahead_of};
 ghost use Rattle.bgpdump_tool.specs.State.{loss};
-ghost use Rattle.bgpdump_lines.specs.Writing.{is_write};
-ghost use Rattle.bgpdump_tool.specs.Losing.{Loses};
 
-use crate::replies::write_counted;
-use bgpdump_lines::{Output, WriteFault};
-use ip_prefix::Text;
+use bgpdump_lines::WriteFault;
 use mrt_wire::{ESTABLISHED, Event, Item, Items, Peer, Route, Tag, Time};
 use prefix_store::PrefixStore;
 use rib_player::Player;
@@ -35,8 +31,9 @@ fn loss_of(alloc: Global, peer: Peer) -> Result<Event, AllocError>
     })
 }
 
-/// Plays the loss of the session with the peer, and answers how many steps ahead it dropped.
-fn play_loss<S: PrefixStore<Rc<Route>>>(
+/// Plays the loss of the session with the peer in place of the steps ahead, and answers how many
+/// that dropped.
+pub(crate) fn play_loss<S: PrefixStore<Rc<Route>>>(
     player: &mut Player<S>,
     alloc: Global,
     peer: Peer,
@@ -48,22 +45,4 @@ fn play_loss<S: PrefixStore<Rc<Route>>>(
 {
     let event = loss_of(alloc, peer)?;
     player.play(&event).map_err(|_| WriteFault::Memory)
-}
-
-/// Plays the loss of the session with the peer in place of the steps ahead, and writes where the
-/// player stands then and how many steps that dropped. The text is scratch.
-pub(crate) fn lose<S: PrefixStore<Rc<Route>>, O: Output>(
-    player: &mut Player<S>,
-    alloc: Global,
-    peer: Peer,
-    out: &mut O,
-    text: &mut Text,
-) -> Result<(), WriteFault>
-    requires { player.old.cursor < GREATEST_COUNT }
-    ensures loses { Loses peer player.old player.new
-        (O.written out.old) (O.written out.new) result }
-    ensures failed { O.failed out.new ≡ (O.failed out.old || is_write result) }
-{
-    let dropped = play_loss(player, alloc, peer)?;
-    write_counted(player.at(), b" dropped ", dropped, out, text)
 }

@@ -9,7 +9,7 @@ ghost use Rattle.bgpdump_tool.specs.Moves.{Moves, ForwardDoes};
 ghost use Rattle.bgpdump_tool.specs.declared.command.Command.TheVariants.{Next};
 ghost use Rattle.bgpdump_tool.specs.Carrying.{CarriesOut};
 
-use crate::replies::write_position;
+use crate::replies::{replied, write_position};
 use crate::session::Session;
 use bgpdump_lines::{Outcome, Output};
 use mrt_wire::{Input, Route};
@@ -62,6 +62,5 @@ pub(crate) fn next<S: PrefixStore<Rc<Route>>, I: Input, O: Output, E: Output>(
         ≡ (O.failed out.old || E.failed err.old || is_write_fault result) }
 {
     let ended = forward(session, input, out, err, count)?;
-    write_position(session.player.at(), ended, out, &mut session.text)?;
-    Ok(())
+    replied(write_position(session.player.at(), ended, out, &mut session.text))
 }

@@ -1,6 +1,6 @@
 //! The peers that have routes.
 
-ghost use Rattle.std.specs.Prelude.{◌≡◌, ◌++◌, ◌||◌, OnOk};
+ghost use Rattle.std.specs.Prelude.{◌≡◌, ◌||◌};
 ghost use Rattle.std.specs.FinMap as finite;
 ghost use Rattle.bgpdump_tool.specs.Replies.{peer_line_of, peers_text};
 ghost use Rattle.bgpdump_lines.specs.Writing.{Puts, PutsPart, is_write};
@@ -11,19 +11,7 @@ use ip_prefix::Text;
 use mrt_wire::{Peer, Route};
 use prefix_store::PrefixStore;
 use rib_player::Table;
-use std::alloc::AllocError;
 use std::rc::Rc;
-
-/// Appends a peer, and how many routes it has.
-fn put_peer_line(peer: &Peer, routes: u64, text: &mut Text) -> Result<(), AllocError>
-    ensures { OnOk result (text.new ≡ text.old ++ peer_line_of peer.now routes) }
-{
-    text.extend_from_slice(b"PEER")?;
-    put_peer(peer, text)?;
-    put_number(routes, text)?;
-    text.push(b'\n')?;
-    Ok(())
-}
 
 /// Writes a peer, and how many routes it has. The text is scratch.
 fn write_peer<O: Output>(
@@ -37,7 +25,10 @@ fn write_peer<O: Output>(
     ensures failed { O.failed out.new ≡ (O.failed out.old || is_write result) }
 {
     text.clear();
-    put_peer_line(peer, routes, text)?;
+    text.extend_from_slice(b"PEER")?;
+    put_peer(peer, text)?;
+    put_number(routes, text)?;
+    text.push(b'\n')?;
     put_all(out, text.as_slice())?;
     Ok(())
 }

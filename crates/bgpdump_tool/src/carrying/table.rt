@@ -1,6 +1,6 @@
 //! The routes of a peer.
 
-ghost use Rattle.std.specs.Prelude.{◌≡◌, ◌<◌, ◌++◌, ◌||◌, OnOk, vec_capacity};
+ghost use Rattle.std.specs.Prelude.{◌≡◌, ◌<◌, ◌||◌, vec_capacity};
 ghost use Rattle.bgpdump_tool.specs.Replies.{routes_line, table_text};
 ghost use Rattle.bgpdump_lines.specs.Writing.{Puts, PutsPart, is_write};
 
@@ -9,21 +9,11 @@ use ip_prefix::{Prefix, Text};
 use mrt_wire::{Peer, Route};
 use prefix_store::PrefixStore;
 use rib_player::Table;
-use std::alloc::{AllocError, Global};
+use std::alloc::Global;
 use std::rc::Rc;
 
 /// How many routes are asked for at once, where there is memory for them.
 const MANY: usize = 64;
-
-/// Appends how many routes there are.
-fn put_routes_line(routes: u64, text: &mut Text) -> Result<(), AllocError>
-    ensures { OnOk result (text.new ≡ text.old ++ routes_line routes) }
-{
-    text.extend_from_slice(b"routes ")?;
-    text.put_long_decimal(routes)?;
-    text.push(b'\n')?;
-    Ok(())
-}
 
 /// Writes how many routes there are. The text is scratch.
 fn write_routes_line<O: Output>(routes: u64, out: &mut O, text: &mut Text) -> Result<(), WriteFault>
@@ -31,7 +21,9 @@ fn write_routes_line<O: Output>(routes: u64, out: &mut O, text: &mut Text) -> Re
     ensures failed { O.failed out.new ≡ (O.failed out.old || is_write result) }
 {
     text.clear();
-    put_routes_line(routes, text)?;
+    text.extend_from_slice(b"routes ")?;
+    text.put_long_decimal(routes)?;
+    text.push(b'\n')?;
     put_all(out, text.as_slice())?;
     Ok(())
 }

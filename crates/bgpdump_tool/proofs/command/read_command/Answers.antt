@@ -1,4 +1,3 @@
-use Rattle.std.proofs.Common.{◌∷◌, ap, ◌∙◌}
 use Rattle.bgpdump_tool.specs.Command.{words}
 use Rattle.bgpdump_tool.proofs.CommandLaws.{found_in, many_words}
 use Rattle.bgpdump_tool.proofs.WordLaws.{words_some}
@@ -9,34 +8,18 @@ returns-in_default c = found_in c.args.line.now _ c.alone.result c.in_default.en
 
 pub returns-in_default-split_word : goal.returns-in_default-split_word
 returns-in_default-split_word c =
-    found_in c.args.line.now _ c.with_one.result (c.in-Some.ensures ∙ ap (λ ws. c.in-Some.name.now ∷ ws) c.in_default-split_word.ensures) c.with_one.ensures
+    found_in c.args.line.now _ c.with_one.result (cc (c.in-Some.ensures, c.in_default-split_word.ensures)) c.with_one.ensures
 
 pub returns-in_default-split_word-2 : goal.returns-in_default-split_word-2
 returns-in_default-split_word-2 c =
-    found_in c.args.line.now _ c.with_two.result
-    (c.in-Some.ensures
-    ∙ ap (λ ws. c.in-Some.name.now ∷ ws) (c.in-Some-split_word.ensures
-    ∙ ap (λ ws. c.in-Some-split_word.first.now ∷ ws) c.in_default-split_word-2.ensures))
-    c.with_two.ensures
+    found_in c.args.line.now _ c.with_two.result (cc (c.in-Some.ensures, c.in-Some-split_word.ensures, c.in_default-split_word-2.ensures)) c.with_two.ensures
 
 pub returns-in-None : goal.returns-in-None
 returns-in-None c =
-    found_in c.args.line.now _ c.with_three.result
-    (c.in-Some.ensures
-    ∙ ap (λ ws. c.in-Some.name.now ∷ ws) (c.in-Some-split_word.ensures
-    ∙ ap (λ ws. c.in-Some-split_word.first.now ∷ ws) (c.in-Some-split_word-2.ensures
-    ∙ ap (λ ws. c.in-Some-split_word-2.second.now ∷ ws) c.in-None.ensures)))
-    c.with_three.ensures
+    found_in c.args.line.now _ c.with_three.result (cc (c.in-Some.ensures, c.in-Some-split_word.ensures, c.in-Some-split_word-2.ensures, c.in-None.ensures)) c.with_three.ensures
 
 pub returns-in-Some-split_word-3 : goal.returns-in-Some-split_word-3
 returns-in-Some-split_word-3 c =
-    let name = c.in-Some.name.now in
-    let first = c.in-Some-split_word.first.now in
-    let second = c.in-Some-split_word-2.second.now in
     let (third, rest) = c.in-Some-split_word-3.field-0 in
-    many_words (words c.args.line.now) (words rest.now) name first second third.now
-    (c.in-Some.ensures
-    ∙ ap (λ ws. name ∷ ws) (c.in-Some-split_word.ensures
-    ∙ ap (λ ws. first ∷ ws) (c.in-Some-split_word-2.ensures
-    ∙ ap (λ ws. second ∷ ws) c.in-Some-split_word-3.ensures)))
-    (words_some rest.now)
+    many_words (words c.args.line.now) (words rest.now) c.in-Some.name.now c.in-Some-split_word.first.now c.in-Some-split_word-2.second.now third.now
+    (cc (c.in-Some.ensures, c.in-Some-split_word.ensures, c.in-Some-split_word-2.ensures, c.in-Some-split_word-3.ensures)) (words_some rest.now)

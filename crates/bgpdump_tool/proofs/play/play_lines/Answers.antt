@@ -2,7 +2,8 @@ use Rattle.std.proofs.Common.{rules, arith, refl}
 use Rattle.std.proofs.lemmas.Result.{err_from_is_err_and}
 use Rattle.bgpdump_tool.specs.declared.script.TheConstants.{LONGEST_SCRIPT}
 use Rattle.bgpdump_tool.specs.Script.{script_lines}
-use Rattle.bgpdump_tool.proofs.PlayLaws.{HasRoom-up, LinesDone-start, LinesDone-line, PlaysScript-stopped, PlaysScript-last}
+use Rattle.bgpdump_tool.proofs.CarryLaws.{HasRoom-up}
+use Rattle.bgpdump_tool.proofs.PlayLaws.{LinesDone-start, LinesDone-line, PlaysScript-stopped, PlaysScript-last}
 use Rattle.bgpdump_tool.proofs.play.play_lines.Goals as goal
 
 pub lines-init : goal.lines-init

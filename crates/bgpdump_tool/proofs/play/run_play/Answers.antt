@@ -1,6 +1,5 @@
 use Rattle.std.proofs.Common.{◌||◌}
-use Rattle.bgpdump_tool.proofs.PlayEndLaws.{PlayEnds-finished, PlayEnds-stopped, Writes-cut, IsTaken-finished, IsTaken-ended, length-ended, TakesWanted-finished, TakesWanted-stopped}
-use Rattle.bgpdump_tool.proofs.BeganLaws.{Began-finished, Began-stopped}
+use Rattle.bgpdump_tool.proofs.PlayEndLaws.{PlayEnds-finished, PlayEnds-stopped, Writes-cut, IsTaken-finished, IsTaken-ended, length-ended, TakesWanted-finished, TakesWanted-stopped, Began-finished, Began-stopped}
 use Rattle.bgpdump_tool.proofs.play.run_play.Goals as goal
 
 pub returns-in-Ok-clause-text : goal.returns-in-Ok-clause-text

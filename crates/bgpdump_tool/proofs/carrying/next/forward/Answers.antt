@@ -2,7 +2,7 @@ use Rattle.std.proofs.Common.{rules, refl}
 use Rattle.std.proofs.lemmas.Result.{err_from_is_err_and}
 use Rattle.std.proofs.KnownBytes.{Keeps-refl, Keeps-trans}
 use Rattle.bgpdump_tool.specs.declared.script.TheConstants.{LONGEST_SCRIPT}
-use Rattle.bgpdump_tool.proofs.MoveLaws.{Forth-none, Forth-step, Forth-all, Forth-end, Forth-stops}
+use Rattle.bgpdump_tool.proofs.MoveLaws.{Forth-all, Forth-none, Forth-step, Forth-end, Forth-stops}
 use Rattle.bgpdump_tool.proofs.carrying.next.forward.Goals as goal
 
 pub steps-init : goal.steps-init

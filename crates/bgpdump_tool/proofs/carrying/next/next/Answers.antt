@@ -1,25 +1,16 @@
-use Rattle.std.proofs.Common.{sym, ap, ◌∙◌, Ok, Err}
+use Rattle.std.proofs.Common.{Err}
 use Rattle.std.proofs.lemmas.Result.{err_from_is_err_and}
 use Rattle.bgpdump_tool.specs.declared.command.Command.TheVariants.{Next}
-use Rattle.bgpdump_tool.specs.Replies.{at_text}
-use Rattle.bgpdump_tool.specs.Standing.{scene_of}
-use Rattle.bgpdump_tool.proofs.CarryLaws.{PutsPart-put, IsLed-next, Carrying-next, Carrying-replied, CarryingDoes-kept}
+use Rattle.bgpdump_tool.proofs.CarryLaws.{IsLed-next, Carrying-next, Carrying-moved, CarryingDoes-kept}
 use Rattle.bgpdump_tool.proofs.carrying.next.next.Goals as goal
 
 pub returns-in_err-ended-clause-carries_out : goal.returns-in_err-ended-clause-carries_out
 returns-in_err-ended-clause-carries_out g c = λ from left s stands.
     let p = err_from_is_err_and c.from_residual.result c.from_residual.ensures.1 in
-    rw (p.1, p.2) (CarryingDoes-kept (Next c.args.count) from left s (scene_of g.I.Input.left g.E.Output.written c.args.session.now c.args.input.now c.args.err.now) (scene_of g.I.Input.left g.E.Output.written c.forward.new.session c.forward.new.input c.forward.new.err) (g.O.Output.written c.args.out.now) (g.O.Output.written c.forward.new.out) (g.O.Output.written c.forward.new.out) (Err _) c.in_err-ended.ensures.out (Carrying-next c.args.count from left s _ _ (g.O.Output.written c.forward.new.out) c.in_err-ended.field-0.0 (c.in_err-ended.ensures.moves from left s stands)))
-
-pub returns-in_err-write_position-clause-carries_out :
-    goal.returns-in_err-write_position-clause-carries_out
-returns-in_err-write_position-clause-carries_out g c = λ from left s stands.
-    let p = err_from_is_err_and c.from_residual-in_err-write_position.result c.from_residual-in_err-write_position.ensures.1 in
-    let led = IsLed-next c.args.count from left s _ _ c.in_ok-ended.ended (c.in_ok-ended.ensures.moves from left s stands) in
-    rw (p.1, p.2) (CarryingDoes-kept (Next c.args.count) from left s (scene_of g.I.Input.left g.E.Output.written c.args.session.now c.args.input.now c.args.err.now) (scene_of g.I.Input.left g.E.Output.written c.forward.new.session c.forward.new.input c.forward.new.err) (g.O.Output.written c.args.out.now) (g.O.Output.written c.forward.new.out) (g.O.Output.written c.write_position.new.out) (Err _) c.in_ok-ended.ensures.out (Carrying-replied (Next c.args.count) from left s _ _ _ _ _ (Err c.in_err-write_position.field-0.0) led.0 (led.1 ∙ ap (λ n. at_text n c.in_ok-ended.ended) (sym c.at.ensures.cursor))
-    (PutsPart-put _ _ _ (Err c.in_err-write_position.field-0.0) c.in_err-write_position.ensures.text)))
+    rw (p.1, p.2) (CarryingDoes-kept (Next c.args.count) from left s _ _ _ _ _ (Err _) c.in_err-ended.ensures.out
+    (Carrying-next c.args.count from left s _ _ _ c.in_err-ended.field-0.0 (c.in_err-ended.ensures.moves from left s stands)))
 
 pub returns-clause-carries_out : goal.returns-clause-carries_out
 returns-clause-carries_out g c = λ from left s stands.
     let led = IsLed-next c.args.count from left s _ _ c.in_ok-ended.ended (c.in_ok-ended.ensures.moves from left s stands) in
-    CarryingDoes-kept (Next c.args.count) from left s (scene_of g.I.Input.left g.E.Output.written c.args.session.now c.args.input.now c.args.err.now) (scene_of g.I.Input.left g.E.Output.written c.forward.new.session c.forward.new.input c.forward.new.err) (g.O.Output.written c.args.out.now) (g.O.Output.written c.forward.new.out) (g.O.Output.written c.write_position.new.out) (Ok tt) c.in_ok-ended.ensures.out (Carrying-replied (Next c.args.count) from left s _ _ _ _ _ (Ok tt) led.0 (led.1 ∙ ap (λ n. at_text n c.in_ok-ended.ended) (sym c.at.ensures.cursor)) c.in_ok-write_position.ensures.text)
+    rw c.replied.ensures (Carrying-moved (Next c.args.count) from left s _ _ _ _ _ c.at.result c.in_ok-ended.ended c.write_position.result led c.at.ensures.cursor c.in_ok-ended.ensures.out c.write_position.ensures.text)

@@ -1,25 +1,28 @@
-use Rattle.std.proofs.Common.{◌≡◌, ◌<◌, ◌+◌, ◌-◌, ◌∷◌, ◌++◌, [], Some, List, take, slice_get, length, vec_capacity, arith, rules, refl, sym, ap, subst, ◌∙◌, length-append}
+use Rattle.std.proofs.Common.{Bor, ◌≡◌, ◌<◌, ◌+◌, ◌-◌, ◌∷◌, ◌++◌, [], Some, List, take, slice_get, length, vec_capacity, arith, rules, refl, sym, ap, subst, ◌∙◌, length-append}
 use Rattle.std.specs.List.{flat_map}
 use Rattle.std.specs.FinMap as finite
-use Rattle.std.specs.FinMap.{len-entries}
 use Rattle.std.specs.Io.KnownBytes.{Appends}
+use Rattle.std.proofs.lemmas.List.{length-map}
+use Rattle.std.specs.declared.alloc.Global.{Global}
+use Rattle.std.specs.declared.rc.Rc.{Rc}
 use Rattle.std.proofs.lemmas.Result.{err_from_is_err_and}
 use Rattle.ip_prefix.specs.Network.{Network}
 use Rattle.mrt_events.specs.declared.event.Route.{Route}
-use Rattle.prefix_store.specs.Stored.{counted}
 use Rattle.prefix_store.specs.Lookups.{above}
-use Rattle.prefix_store.proofs.AboveLaws.{above-none, above-front, none-left, routes_sorted}
+use Rattle.prefix_store.proofs.AboveLaws.{above-none, above-front, none-left, routes_sorted, seen_last, seen_none}
 use Rattle.rib_player.specs.Store.{peer_routes}
 use Rattle.rib_player.specs.Lookups.{pointed_routes}
 use Rattle.bgpdump_lines.specs.Lines.{rib_line}
-use Rattle.bgpdump_tool.specs.Replies.{routes_line}
 use Rattle.bgpdump_lines.specs.Device.{AppendsFront}
-use Rattle.bgpdump_lines.specs.Writing.{Puts}
 use Rattle.bgpdump_lines.proofs.WritingLaws.{AppendsFront-longer}
-use Rattle.bgpdump_tool.proofs.WalkLaws.{Walked-start, Walked-many, Walked-end, Walked-breaks, PutsPart-behind, some_last, last_none, length-pointed, lines-pointed, pointed_lines}
+use Rattle.bgpdump_tool.proofs.WalkLaws.{Walked-start, Walked-many, Walked-breaks, table_told, lines-pointed, pointed_lines}
 use Rattle.bgpdump_tool.proofs.carrying.table.many_at_once.Given.{Over}
 use Rattle.bgpdump_tool.proofs.carrying.table.many_at_once.Goals as goal
 use Rattle.bgpdump_tool.proofs.carrying.table.many_at_once.Goals.{In-Some, In_default}
+
+-- a route that is pointed to
+abbrev entry : Network × Bor (Rc Route Global) → Network × Route
+entry f = (f.0, f.1.now.value)
 
 pub routes-init : goal.routes-init
 routes-init g c =
@@ -34,7 +37,7 @@ routes-init g c =
 -- the routes that were found are others and then the last of them
 last : (g : Over) (c : In-Some g) → (ys : List (Network × Route)) × (pointed_routes c.next_routes.new.found.items ≡ ys ++ (c.in-Some.end.now.0, c.in-Some.end.now.1.now.value) ∷ [])
 last g c =
-    some_last c.next_routes.new.found.items c.last.result c.in-Some.end
+    seen_last entry c.next_routes.new.found.items c.last.result c.in-Some.end
     (c.last.ensures.value ∙ ap (λ items. slice_get items (length items - 1)) c.deref.ensures.value) c.in-Some.is
 
 -- they, and those above the last of them, are those that were left
@@ -82,7 +85,7 @@ routes-preserved g c =
     let put = subst (Appends mid new) (lines-pointed c.args.peer.now items)
     (subst (λ items. Appends mid new (pointed_lines c.args.peer.now items)) c.deref-in-routes.ensures.value c.in_ok-write_rib_lines.ensures.text) in
     let done = c.routes.invariant.walked.done in
-    let size : length found ≡ c.len.result = length-pointed items ∙ sym c.next_routes.new.found.ok.0 ∙ sym c.len.ensures in
+    let size : length found ≡ c.len.result = length-map items entry ∙ sym c.next_routes.new.found.ok.0 ∙ sym c.len.ensures in
     let more : length (done ++ found) ≡ length done + c.len.result = length-append done found ∙ ap (λ n. length done + n) size in
     record {
       walked = Walked-many line entries found _ _ old mid new (next g b) c.routes.invariant.walked put;
@@ -96,17 +99,11 @@ over : (g : Over) (c : In_default g) → above c.routes.last (finite.entries (pe
 over g c =
     let entries = finite.entries (peer_routes c.args.table.now.routes c.args.peer.now) in
     none-left (vec_capacity c.routes.found) (above c.routes.last entries) c.routes.invariant.room
-    (last_none c.next_routes.new.found.items c.last.result
+    (seen_none entry c.next_routes.new.found.items c.last.result
     (c.last.ensures.value ∙ ap (λ items. slice_get items (length items - 1)) c.deref.ensures.value) c.in_default.is
     ∙ c.next_routes.ensures.found ∙ ap (λ low. take (vec_capacity c.routes.found) (above low entries)) c.as_ref.ensures.value)
 
 pub returns-clause-text : goal.returns-clause-text
 returns-clause-text g c =
-    let routes = peer_routes c.args.table.now.routes c.args.peer.now in
-    let entries = finite.entries routes in
-    let mid = g.O.Output.written c.routes.out in
-    let new = g.O.Output.written c.write_routes_line.new.out in
-    let end = Walked-end (rib_line c.args.peer.now) entries _ (g.O.Output.written c.args.out.now) mid (over g (goal.at.returns-clause-text g c).In_default) c.routes.invariant.walked in
-    let count : c.routes.count ≡ counted (finite.len routes) = c.routes.invariant.count ∙ ap counted (ap length (sym end.0) ∙ sym (len-entries routes)) in
-    PutsPart-behind (g.O.Output.written c.args.out.now) mid new (flat_map (rib_line c.args.peer.now) entries) (routes_line (counted (finite.len routes))) c.write_routes_line.result end.1
-    (subst (λ n. Puts mid new (routes_line n) c.write_routes_line.result) count c.write_routes_line.ensures.text)
+    table_told c.args.table.now.routes c.args.peer.now _ (g.O.Output.written c.args.out.now) (g.O.Output.written c.routes.out) (g.O.Output.written c.write_routes_line.new.out) c.routes.count c.write_routes_line.result
+    (over g (goal.at.returns-clause-text g c).In_default) c.routes.invariant.walked c.routes.invariant.count c.write_routes_line.ensures.text

@@ -3,20 +3,17 @@ use Rattle.std.proofs.Common.{◌≡◌, ◌∷◌, [], Some, Err, slice_get, le
 use Rattle.std.specs.List.{flat_map}
 use Rattle.std.specs.Option.{option_map}
 use Rattle.std.specs.FinMap as finite
-use Rattle.std.specs.FinMap.{len-entries}
 use Rattle.std.proofs.lemmas.List.{length_push}
 use Rattle.std.proofs.lemmas.Result.{err_from_is_err_and}
 use Rattle.ip_prefix.specs.Network.{Network}
 use Rattle.mrt_events.specs.declared.event.Route.{Route}
-use Rattle.prefix_store.specs.Stored.{counted}
 use Rattle.prefix_store.specs.Lookups.{above}
 use Rattle.prefix_store.proofs.AboveLaws.{above-none, above-next, none-above, routes_sorted}
 use Rattle.rib_player.specs.Store.{peer_routes}
 use Rattle.bgpdump_lines.specs.Lines.{rib_line}
-use Rattle.bgpdump_tool.specs.Replies.{routes_line}
 use Rattle.bgpdump_lines.specs.Writing.{Puts}
 use Rattle.bgpdump_lines.proofs.WritingLaws.{AppendsFront-longer}
-use Rattle.bgpdump_tool.proofs.WalkLaws.{Walked-start, Walked-next, Walked-end, Walked-stops, PutsPart-behind}
+use Rattle.bgpdump_tool.proofs.WalkLaws.{Walked-start, Walked-next, Walked-stops, table_told}
 use Rattle.bgpdump_tool.proofs.carrying.table.one_by_one.Given.{Over}
 use Rattle.bgpdump_tool.proofs.carrying.table.one_by_one.Goals as goal
 use Rattle.bgpdump_tool.proofs.carrying.table.one_by_one.Goals.{In-Some, In_default}
@@ -73,11 +70,5 @@ over g c =
 
 pub returns-clause-text : goal.returns-clause-text
 returns-clause-text g c =
-    let routes = peer_routes c.args.table.now.routes c.args.peer.now in
-    let entries = finite.entries routes in
-    let mid = g.O.Output.written c.routes.out in
-    let new = g.O.Output.written c.write_routes_line.new.out in
-    let end = Walked-end (rib_line c.args.peer.now) entries _ (g.O.Output.written c.args.out.now) mid (over g (goal.at.returns-clause-text g c).In_default) c.routes.invariant.walked in
-    let count : c.routes.written ≡ counted (finite.len routes) = c.routes.invariant.count ∙ ap counted (ap length (sym end.0) ∙ sym (len-entries routes)) in
-    PutsPart-behind (g.O.Output.written c.args.out.now) mid new (flat_map (rib_line c.args.peer.now) entries) (routes_line (counted (finite.len routes))) c.write_routes_line.result end.1
-    (subst (λ n. Puts mid new (routes_line n) c.write_routes_line.result) count c.write_routes_line.ensures.text)
+    table_told c.args.table.now.routes c.args.peer.now _ (g.O.Output.written c.args.out.now) (g.O.Output.written c.routes.out) (g.O.Output.written c.write_routes_line.new.out) c.routes.written c.write_routes_line.result
+    (over g (goal.at.returns-clause-text g c).In_default) c.routes.invariant.walked c.routes.invariant.count c.write_routes_line.ensures.text
