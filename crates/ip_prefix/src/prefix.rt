@@ -246,7 +246,10 @@ impl Ord for Prefix {
         if self.family != other.family {
             return self.family.cmp(&other.family);
         }
-        let by_numbers = self.number.compare(other.number);
-        by_numbers.then(self.len.cmp(&other.len))
+        match self.number.compare(other.number) {
+            Ordering::Less => Ordering::Less,
+            Ordering::Equal => self.len.cmp(&other.len),
+            Ordering::Greater => Ordering::Greater,
+        }
     }
 }
