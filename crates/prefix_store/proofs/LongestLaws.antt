@@ -1,6 +1,8 @@
 -- Prefixes that contain an address, by their lengths.
-use Rattle.std.proofs.Common.{◌≡◌, ℕ, ◌+◌, ◌≤◌, Bool, true, false, length, take, Option, Some, None, is_some, nat_lt, refl, sym, ap, ◌∙◌, arith}
-use Rattle.std.proofs.lemmas.Bool.{ltb-true, ltb-false}
+use Rattle.std.proofs.Common.{◌≡◌, ℕ, ◌+◌, ◌≤◌, true, length, take, Option, Some, None, is_some, refl, sym, ap, ◌∙◌, arith, ⊎_elim}
+use Rattle.std.proofs.lemmas.Bool.{cases_lt}
+use Rattle.std.proofs.lemmas.Bool.Decides.{nat_tests}
+use Rattle.std.proofs.lemmas.Option.{none-some, same_Some}
 use Rattle.std.proofs.lemmas.List.{length-take-le}
 use Rattle.ip_prefix.specs.Address.{Address}
 use Rattle.ip_prefix.specs.Network.{Network, contains, network_of}
@@ -26,44 +28,22 @@ contains-taken a k within = contains_from (network_of a k) a refl (ap (λ m. tak
 
 -- what has a route is no longer than a length from which on nothing has
 pub at-most : {A : Type 0} (m k : ℕ) (found : Option A) → (k + 1 ≤ m → found ≡ None) → is_some found ≡ true → m ≤ k
-at-most m k found none there = at (nat_lt k m) refl
-  where
-    at : (b : Bool) → nat_lt k m ≡ b → m ≤ k
-    at true e =
-        let gone : is_some found ≡ false = ap is_some (none (omega (arith, ltb-true k m e))) in
-        let wrong : true ≡ false = sym there ∙ gone in
-        cc
-    at false e = omega (arith, ltb-false k m e)
+at-most m k found none there = grind (arith, nat_tests)
 
 -- either longer, or of this length
 pub longer-or : {A : Type 0} (m k : ℕ) → k ≤ m → (k + 1 ≤ m → A) → (m ≡ k → A) → A
-longer-or {A = A} m k from longer same = at (nat_lt k m) refl
-  where
-    at : (b : Bool) → nat_lt k m ≡ b → A
-    at true e = longer (omega (arith, ltb-true k m e))
-    at false e = same (omega (arith, ltb-false k m e))
+longer-or {A = A} m k from longer same = ⊎_elim (λ more. longer (omega arith)) (λ most. same (omega arith)) (cases_lt k m)
 
 -- ---- one longest prefix
-
-one_value : {A : Type 0} {found : Option A} (a b : A) → found ≡ Some a → found ≡ Some b → a ≡ b
-one_value {A} a b e f = ap (λ o. from o a) (sym e ∙ f)
-  where
-    from : Option A → A → A
-    from None a = a
-    from (Some b) a = b
-
--- an answer says that a prefix without a route has one
-none_some : {A : Type 0} {found : Option A} (a : A) → found ≡ None → found ≡ Some a → ⊥
-none_some a e f = let wrong : None ≡ Some a = sym e ∙ f in cc
 
 -- at most one prefix is the longest
 pub longest-one : {R : Type 0} (routes : Routes R) (address : Address) (one other : Option (Network × R)) → IsLongest routes address one → IsLongest routes address other → one ≡ other
 longest-one routes address None None p q = refl
-longest-one routes address None (Some other) p q = absurd (none_some other.1 (p other.0 q.0) q.1)
-longest-one routes address (Some one) None p q = absurd (none_some one.1 (q one.0 p.0) p.1)
+longest-one routes address None (Some other) p q = absurd (none-some other.1 (sym (p other.0 q.0) ∙ q.1))
+longest-one routes address (Some one) None p q = absurd (none-some one.1 (sym (q one.0 p.0) ∙ p.1))
 longest-one routes address (Some one) (Some other) p q =
     let below = p.2 other.0 q.0 (ap is_some q.1) in
     let beyond = q.2 one.0 p.0 (ap is_some p.1) in
     let prefix : one.0 ≡ other.0 = one_of_length one.0 other.0 address p.0 q.0 (omega (arith, below, beyond)) in
-    let route : one.1 ≡ other.1 = one_value one.1 other.1 p.1 (ap (get routes) prefix ∙ q.1) in
+    let route : one.1 ≡ other.1 = same_Some one.1 other.1 (sym p.1 ∙ ap (get routes) prefix ∙ q.1) in
     λ i. Some (prefix i, route i)

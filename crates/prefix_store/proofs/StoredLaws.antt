@@ -1,5 +1,5 @@
 -- What is put into a map of routes.
-use Rattle.std.proofs.Common.{◌≡◌, Bool, true, false, cond, Option, None, refl, sym, ap, ◌∙◌}
+use Rattle.std.proofs.Common.{◌≡◌, Bool, true, false, cond, Option, None, refl, sym, ap, ◌∙◌, arith}
 use Rattle.std.specs.Prelude.{◌≢◌}
 use Rattle.std.specs.Ordering.{eq_by_cmp, is_eq}
 use Rattle.std.specs.Cmp.{Equal-is, tied_itself}
@@ -35,24 +35,17 @@ get-put-there routes prefix new = get-put routes prefix new prefix ∙ ap (λ b.
 
 -- and nothing else goes
 pub get-put-others : {R : Type 0} (routes : Routes R) (q prefix : Network) (new : Option R) → q ≢ prefix → finite.get (put routes prefix new) q ≡ finite.get routes q
-get-put-others routes q prefix new other = get-put routes prefix new q ∙ at (tied q prefix) refl
-  where
-    at : (b : Bool) → tied q prefix ≡ b → cond b new (finite.get routes q) ≡ finite.get routes q
-    at true e = absurd (other (same_prefix q prefix e))
-    at false e = refl
+get-put-others routes q prefix new other =
+    get-put routes prefix new q
+    ∙ elim (tied q prefix) as (λ b. tied q prefix ≡ b → cond b new (finite.get routes q) ≡ finite.get routes q) [ true ↦ λ e. absurd (other (same_prefix q prefix e)) | false ↦ λ e. refl ] refl
 
 -- what is there may be put there again
 pub put-same : {R : Type 0} (routes : Routes R) (prefix : Network) → put routes prefix (finite.get routes prefix) ≡ routes
-put-same routes prefix = same_routes (put routes prefix (finite.get routes prefix)) routes (λ q. get-put routes prefix (finite.get routes prefix) q ∙ at q (tied q prefix) refl)
+put-same routes prefix = same_routes (put routes prefix (finite.get routes prefix)) routes (λ q. get-put routes prefix (finite.get routes prefix) q ∙ at q)
   where
-    at : (q : Network) (b : Bool) → tied q prefix ≡ b → cond b (finite.get routes prefix) (finite.get routes q) ≡ finite.get routes q
-    at q true e = ap (finite.get routes) (sym (same_prefix q prefix e))
-    at q false e = refl
+    at : (q : Network) → cond (tied q prefix) (finite.get routes prefix) (finite.get routes q) ≡ finite.get routes q
+    at q = let one = same_prefix q prefix in grind arith
 
 -- one key more has no route
 pub put-none : {R : Type 0} (routes : Routes R) (prefix : Network) → finite.get routes prefix ≡ None → put routes prefix None ≡ routes
-put-none routes prefix none = same_routes (put routes prefix None) routes (λ q. get-put routes prefix None q ∙ at q (tied q prefix) refl)
-  where
-    at : (q : Network) (b : Bool) → tied q prefix ≡ b → cond b None (finite.get routes q) ≡ finite.get routes q
-    at q true e = sym (ap (finite.get routes) (same_prefix q prefix e) ∙ none)
-    at q false e = refl
+put-none routes prefix none = ap (put routes prefix) (sym none) ∙ put-same routes prefix

@@ -5,6 +5,7 @@ use Rattle.std.specs.Borrow.{Bor}
 use Rattle.std.specs.FinMap.{get, entries}
 use Rattle.std.specs.List.{filter}
 use Rattle.std.specs.Ordering.{is_lt}
+use Rattle.std.specs.declared.cmp.Ordering.{Ordering}
 use Rattle.ip_prefix.specs.Address.{Address}
 use Rattle.ip_prefix.specs.Network.{Network, contains}
 use Rattle.ip_prefix.specs.Order.{network_cmp}
@@ -22,10 +23,14 @@ IsLongestOf route address (Some found) =
 abbrev pub IsLongest : {R : Type 0} → Routes R → Address → Option (Network × R) → Type 0
 IsLongest routes = IsLongestOf (get routes)
 
--- whether a prefix is above the other, where there is one
+-- whether a key is above the other, where there is one
+abbrev pub is_higher : {K : Type 0} → (K → K → Ordering) → Option K → K → Bool
+is_higher cmp None key = true
+is_higher cmp (Some low) key = is_lt (cmp low key)
+
+-- the same of prefixes
 abbrev pub is_above : Option Network → Network → Bool
-is_above None n = true
-is_above (Some low) n = is_lt (network_cmp low n)
+is_above = is_higher network_cmp
 
 -- the routes above a prefix, in order
 abbrev pub above : {R : Type 0} → Option Network → List (Network × R) → List (Network × R)

@@ -4,7 +4,6 @@ use Rattle.std.specs.List.{AllByRecursion, list_any}
 use Rattle.std.proofs.lemmas.List.{drop-drop, take-append-drop, get_or-map, length-map}
 use Rattle.std.proofs.lemmas.List.Elements.{All-get_or}
 use Rattle.std.specs.Ordering.{eq_by_cmp}
-use Rattle.std.proofs.Math.Bool.{and-or_distrib_right}
 use Rattle.std.specs.Borrow.{Bor}
 use Rattle.std.specs.declared.alloc.Global.{Global}
 use Rattle.std.specs.declared.rc.Rc.{Rc}
@@ -15,7 +14,7 @@ use Rattle.mrt_events.specs.declared.event.Route.{Route}
 use Rattle.mrt_events.specs.declared.event.Item.{Item}
 use Rattle.mrt_events.specs.Event.{Saying, Announced, Withdrawn, Changed, saying}
 use Rattle.mrt_events.specs.SharedRoute.{Announces, AreOfOneRoute}
-use Rattle.rib_player.specs.History.{pair_cmp, Effect, Keep, Clear, Set, where_true, item_effect, later}
+use Rattle.rib_player.specs.History.{pair_cmp, Effect, Keep, Clear, where_true, item_effect, later}
 use Rattle.rib_player.specs.Journal.{Side, pairs_in}
 use Rattle.rib_player.specs.Changes.{found, is_lost, effect_of, or_absent, items_effect, HasRoute}
 use Rattle.rib_player.proofs.PairLaws.{same_pair}
@@ -26,92 +25,52 @@ either_found None second = second
 either_found (Some kept) second = Some kept
 
 before-none : (first : Option (Option Route)) → either_found first None ≡ first
-before-none None = refl
-before-none (Some kept) = refl
+before-none first = grind arith
 
 -- an effect behind Keep stays
 later-keep : (second : Effect) → later Keep second ≡ second
-later-keep Keep = refl
-later-keep Clear = refl
-later-keep (Set route) = refl
+later-keep second = grind arith
 
 -- what is appended to sides counts where none is of its pair
 found-append : (sides more : List Side) (q : Pair) → found (sides ++ more) q ≡ either_found (found sides q) (found more q)
 found-append [] more q = refl
-found-append (first ∷ sides) more q = at (found-append sides more q) (eq_by_cmp pair_cmp q first.0)
-  where
-    at : found (sides ++ more) q ≡ either_found (found sides q) (found more q)
-        → (b : Bool) → cond b (Some first.1) (found (sides ++ more) q) ≡ either_found (cond b (Some first.1) (found sides q)) (found more q)
-    at rest true = refl
-    at rest false = rest
+found-append (first ∷ sides) more q = grind (arith, found-append sides more q)
 
 -- where the peer isn't lost, what is appended for a pair comes before all that is noted
 pub noted_effect-first : (sides : List Side) (peers : List Peer) (side : Side) (q : Pair) → is_lost peers side.0 ≡ false
     → effect_of (found (sides ++ side ∷ []) q) (is_lost peers q)
     ≡ later (where_true (eq_by_cmp pair_cmp q side.0) (effect_of (Some side.1) false)) (effect_of (found sides q) (is_lost peers q))
 noted_effect-first sides peers side q held =
-    ap (λ k. effect_of k (is_lost peers q)) (found-append sides (side ∷ []) q)
-    ∙ at (eq_by_cmp pair_cmp q side.0) (found sides q) (is_lost peers q) (λ e. ap (is_lost peers) (same_pair q side.0 e) ∙ held)
-  where
-    alone : (route : Option Route) → effect_of (Some route) false ≡ later (effect_of (Some route) false) Keep
-    alone None = refl
-    alone (Some route) = refl
-
-    at : (b : Bool) (kept : Option (Option Route)) (lost : Bool) → (b ≡ true → lost ≡ false)
-        → effect_of (either_found kept (cond b (Some side.1) None)) lost ≡ later (where_true b (effect_of (Some side.1) false)) (effect_of kept lost)
-    at false kept lost not_lost = ap (λ k. effect_of k lost) (before-none kept) ∙ sym (later-keep (effect_of kept lost))
-    at true (Some (Some route)) lost not_lost = refl
-    at true (Some None) lost not_lost = refl
-    at true None true not_lost = let wrong : true ≡ false = not_lost refl in cc
-    at true None false not_lost = alone side.1
+    let one = same_pair q side.0 in
+    let found_there = found-append sides (side ∷ []) q in
+    grind arith
 
 -- where the peer is lost, an earlier effect changes nothing
 pub noted_effect-lost : (sides : List Side) (peers : List Peer) (pair : Pair) (first : Effect) (q : Pair) → is_lost peers pair ≡ true
     → effect_of (found sides q) (is_lost peers q) ≡ later (where_true (eq_by_cmp pair_cmp q pair) first) (effect_of (found sides q) (is_lost peers q))
-noted_effect-lost sides peers pair first q lost = at (eq_by_cmp pair_cmp q pair) (found sides q) (is_lost peers q) (λ e. ap (is_lost peers) (same_pair q pair e) ∙ lost)
-  where
-    at : (b : Bool) (kept : Option (Option Route)) (gone : Bool) → (b ≡ true → gone ≡ true) → effect_of kept gone ≡ later (where_true b first) (effect_of kept gone)
-    at false kept gone is = sym (later-keep (effect_of kept gone))
-    at true (Some (Some route)) gone is = refl
-    at true (Some None) gone is = refl
-    at true None true is = refl
-    at true None false is = let wrong : false ≡ true = is refl in cc
+noted_effect-lost sides peers pair first q lost = let one = same_pair q pair in grind arith
 
 -- pairs that lose their route, and then more of them
 or_absent-more : (kept : Option (Option Route)) (some more : Bool) → or_absent (or_absent kept some) more ≡ or_absent kept (some || more)
-or_absent-more (Some route) some more = refl
-or_absent-more None true more = refl
-or_absent-more None false more = refl
+or_absent-more kept some more = grind arith
 
 -- what is found stays where the pair is not among those
 pub or_absent-false : (kept : Option (Option Route)) → kept ≡ or_absent kept false
-or_absent-false None = refl
-or_absent-false (Some route) = refl
+or_absent-false kept = grind arith
 
 -- of sides without a route each pair loses its own
 found-lost : (sides : List Side) → AllByRecursion (λ side. side.1 ≡ None) sides → (q : Pair) → found sides q ≡ or_absent None (list_any (eq_by_cmp pair_cmp q) (pairs_in sides))
 found-lost [] absent q = refl
-found-lost (side ∷ sides) absent q = at (found-lost sides absent.1 q) (eq_by_cmp pair_cmp q side.0)
-  where
-    at : found sides q ≡ or_absent None (list_any (eq_by_cmp pair_cmp q) (pairs_in sides))
-        → (b : Bool) → cond b (Some side.1) (found sides q) ≡ or_absent None (b || list_any (eq_by_cmp pair_cmp q) (pairs_in sides))
-    at rest true = ap Some absent.0
-    at rest false = rest
+found-lost (side ∷ sides) absent q = grind (arith, found-lost sides absent.1 q, absent.0)
 
 -- behind others they lose it where nothing is kept for it
 pub found-absent : (sides lost : List Side) → AllByRecursion (λ side. side.1 ≡ None) lost → (q : Pair)
     → found (sides ++ lost) q ≡ or_absent (found sides q) (list_any (eq_by_cmp pair_cmp q) (pairs_in lost))
-found-absent sides lost absent q = found-append sides lost q ∙ ap (either_found (found sides q)) (found-lost lost absent q) ∙ at (found sides q)
-  where
-    at : (kept : Option (Option Route)) → let b = list_any (eq_by_cmp pair_cmp q) (pairs_in lost) in either_found kept (or_absent None b) ≡ or_absent kept b
-    at None = refl
-    at (Some kept) = refl
+found-absent sides lost absent q = grind (arith, found-append sides lost q, found-lost lost absent q)
 
 -- of three effects it doesn't matter which two are taken together
 later-together : (first second third : Effect) → later first (later second third) ≡ later (later first second) third
-later-together first second Keep = refl
-later-together first second Clear = refl
-later-together first second (Set route) = refl
+later-together first second third = grind arith
 
 -- one more item, before those that are noted before what was noted at first
 pub items_effect-more : (q : Pair) (items : List Item) (i rest : ℕ) (item : Item) (before old here : Effect) → i < length items → suc i ≡ rest → item ≡ get_or items i item
@@ -187,17 +146,8 @@ effects-sayings q (item ∷ items) = ap (λ l. item_effect q (saying item) ∷ l
 
 -- one more lost peer, before all that is noted
 pub lost-noted : (kept : Option (Option Route)) (b lost : Bool) → effect_of kept (cond b true lost) ≡ later (where_true b Clear) (effect_of kept lost)
-lost-noted (Some (Some route)) b lost = refl
-lost-noted (Some None) b lost = refl
-lost-noted None true true = refl
-lost-noted None true false = refl
-lost-noted None false true = refl
-lost-noted None false false = refl
+lost-noted kept b lost = grind arith
 
 -- a lost peer more, whose pairs that have a route lose it, is one less that is left
 pub lost-more : (b left has : Bool) (kept old new : Option (Option Route)) → new ≡ or_absent old (b && has) → or_absent old ((b || left) && has) ≡ kept → or_absent new (left && has) ≡ kept
-lost-more b left has kept old new step before =
-    ap (λ k. or_absent k (left && has)) step
-    ∙ or_absent-more old (b && has) (left && has)
-    ∙ ap (or_absent old) (sym (and-or_distrib_right b left has))
-    ∙ before
+lost-more b left has kept old new step before = grind arith

@@ -1,15 +1,15 @@
 -- Claims: a pair is wanted exactly where it is claimed, and what forgotten, dropped and played steps make of claims.
+use Rattle.std.proofs.lemmas.Bool.Decides.{nat_tests}
 use Rattle.std.proofs.Common.{◌≡◌, ℕ, zero, suc, ◌+◌, ◌-◌, ◌<◌, Bool, true, false, not, ◌||◌, ◌&&◌, List, [], ◌∷◌, ◌++◌, length, length-drop, take, drop, slice_index_or, Option, None, is_some, refl, sym, ap, subst, ◌∙◌, arith}
 use Rattle.std.specs.List.{list_any}
 use Rattle.std.specs.Prelude.{nat_lt}
 use Rattle.std.specs.FinMap as finite
 use Rattle.std.specs.FinSet as set
-use Rattle.std.proofs.lemmas.Bool.{true≢false, lt-ltb, or_parts}
+use Rattle.std.proofs.lemmas.Bool.{or_parts}
 use Rattle.std.proofs.lemmas.List.{take_all}
-use Rattle.std.proofs.Math.Bool.{or-true}
 use Rattle.rib_player.specs.declared.pair.Pair.{Pair}
 use Rattle.mrt_events.specs.declared.event.Event.{Event}
-use Rattle.rib_player.specs.History.{Effect, Keep, Clear, Set, effect, route_after}
+use Rattle.rib_player.specs.History.{Effect, effect, route_after}
 use Rattle.rib_player.specs.Tables.{Routes, Pairs, table, table_after, is_named, named_pairs}
 use Rattle.rib_player.specs.Timeline.{Timeline, end_of, behind, table_at, current, after_play}
 use Rattle.rib_player.specs.Calls.{StandsFor, tables_along, steps_along, without_first}
@@ -22,32 +22,15 @@ use Rattle.rib_player.proofs.KeyLaws.{contains-wanted, none_from}
 
 -- ---- a pair is claimed exactly where it has a route at some of the positions
 
-none_more : (n : ℕ) → 0 + n ≡ n
-none_more n = omega arith
-
-one_more : (n : ℕ) → nat_lt 0 (1 + n) ≡ true
-one_more n = lt-ltb 0 (1 + n) (omega arith)
-
 -- behind a table without the pair, some step brings it exactly where it has a route at some later position
 brought-somewhere : (pair : Pair) (before : Routes) (tables : List Routes) → is_routed pair before ≡ false
     → nat_lt 0 (brought_along pair before tables) ≡ list_any (is_routed pair) tables
 brought-somewhere pair before [] none = refl
-brought-somewhere pair before (after ∷ tables) none =
-    at_first (is_routed pair before) (is_routed pair after) (brought_along pair after tables) (list_any (is_routed pair) tables) none (λ e. brought-somewhere pair after tables e)
-  where
-    at_first : (a b : Bool) (n : ℕ) (later : Bool) → a ≡ false → (b ≡ false → nat_lt 0 n ≡ later) → nat_lt 0 (one_if (not a && b) + n) ≡ (b || later)
-    at_first true b n later e same = absurd (true≢false e)
-    at_first false true n later e same = one_more n
-    at_first false false n later e same = ap (nat_lt 0) (none_more n) ∙ same refl
+brought-somewhere pair before (after ∷ tables) none = let later = brought-somewhere pair after tables in grind (arith, nat_tests)
 
 pub claimed-somewhere : (pair : Pair) (tables : List Routes) → nat_lt 0 (claims_along pair tables) ≡ list_any (is_routed pair) tables
 claimed-somewhere pair [] = refl
-claimed-somewhere pair (first ∷ tables) =
-    at_first (is_routed pair first) (brought_along pair first tables) (list_any (is_routed pair) tables) (λ e. brought-somewhere pair first tables e)
-  where
-    at_first : (b : Bool) (n : ℕ) (later : Bool) → (b ≡ false → nat_lt 0 n ≡ later) → nat_lt 0 (one_if b + n) ≡ (b || later)
-    at_first true n later same = one_more n
-    at_first false n later same = ap (nat_lt 0) (none_more n) ∙ same refl
+claimed-somewhere pair (first ∷ tables) = let later = brought-somewhere pair first tables in grind (arith, nat_tests)
 
 -- a pair that isn't claimed has a route at none of them
 none_at : (p : Routes → Bool) (tables : List Routes) (i : ℕ) → i < length tables → list_any p tables ≡ false → p (slice_index_or tables i finite.empty) ≡ false
@@ -61,11 +44,7 @@ unclaimed pair tables i h none =
 
 -- and the other way round
 pub unclaimed-none : (pair : Pair) (tables : List Routes) → list_any (is_routed pair) tables ≡ false → claims_along pair tables ≡ 0
-unclaimed-none pair tables none = at (claims_along pair tables) (claimed-somewhere pair tables ∙ none)
-  where
-    at : (n : ℕ) → nat_lt 0 n ≡ false → n ≡ 0
-    at zero e = refl
-    at (suc n) e = absurd (true≢false (sym (lt-ltb 0 (suc n) (omega arith)) ∙ e))
+unclaimed-none pair tables none = let claimed = claimed-somewhere pair tables in grind (arith, nat_tests)
 
 -- ---- it has one at some position exactly where it has one at a given position or a step names it
 
@@ -88,21 +67,10 @@ abbrev pub any_names : Pair → List Pairs → Bool
 any_names pair steps = list_any (λ step. set.contains step pair) steps
 
 at_start : (a b n x y : Bool) → (n ≡ false → a ≡ b) → (n ≡ true → (a || b) ≡ true) → (b || x) ≡ (b || y) → (a || (b || x)) ≡ (a || (n || y))
-at_start true b n x y same some e = refl
-at_start false true true x y same some e = refl
-at_start false true false x y same some e = absurd (true≢false (sym (same refl)))
-at_start false false true x y same some e = absurd (true≢false (sym (some refl)))
-at_start false false false x y same some e = e
+at_start a b n x y same some e = grind arith
 
 on_the_way : (a b n x y h : Bool) → (n ≡ false → a ≡ b) → (n ≡ true → (a || b) ≡ true) → (b || x) ≡ (b || y) → (b || x) ≡ (h || y) → (a || (b || x)) ≡ (h || (n || y))
-on_the_way a b n x y true same some e e' = ap (λ c. a || c) e' ∙ or-true a
-on_the_way a b n x true false same some e e' = ap (λ c. a || c) e' ∙ or-true a ∙ sym (or-true n)
-on_the_way a true n x false false same some e e' = absurd (true≢false e')
-on_the_way a false n true false false same some e e' = absurd (true≢false e')
-on_the_way true false true false false false same some e e' = refl
-on_the_way false false false false false false same some e e' = refl
-on_the_way true false false false false false same some e e' = absurd (true≢false (same refl))
-on_the_way false false true false false false same some e e' = absurd (true≢false (sym (some refl)))
+on_the_way a b n x y h same some e e' = grind arith
 
 pub routed-somewhere : (pair : Pair) (tables : List Routes) (steps : List Pairs) → NameFor pair tables steps → (i : ℕ) → i < length tables
     → list_any (is_routed pair) tables ≡ (is_routed pair (slice_index_or tables i finite.empty) || any_names pair steps)
@@ -130,9 +98,7 @@ wanted-claimed t pair names within =
 -- ---- along a history
 
 named-somewhere : (before : Option _) (does : Effect) → is_named before does ≡ true → (is_some before || is_some (route_after before does)) ≡ true
-named-somewhere before Keep e = absurd (true≢false (sym e))
-named-somewhere before Clear e = e
-named-somewhere before (Set new) e = e
+named-somewhere before does e = grind arith
 
 -- what an event names fits the table before it and that behind it
 pub table-names : (pair : Pair) (routes : Routes) (event : Event) → NamesFor pair routes (named_pairs routes event) (table_after routes event)
@@ -169,10 +135,7 @@ StandsFor-claimed t history pair stands =
 -- ---- what calls make of claims
 
 one_less : (a b : Bool) (n : ℕ) → one_if a + (one_if (not a && b) + n) ≡ one_if b + n + one_if (a && not b)
-one_less true true n = omega arith
-one_less true false n = omega arith
-one_less false true n = omega arith
-one_less false false n = omega arith
+one_less a b n = grind arith
 
 -- the first position is forgotten: one claim less where its step clears the pair
 pub first-forgotten : (pair : Pair) (tables : List Routes) → 1 < length tables

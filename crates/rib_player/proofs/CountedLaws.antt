@@ -29,17 +29,11 @@ use Rattle.rib_player.proofs.StoreLaws.{same_peer, same_network, one_peer, peer_
 
 -- ---- key by key
 
-kept-cond : (b : Bool) (x y : Option ℕ) → count_kept (cond b x y) ≡ cond b (count_kept x) (count_kept y)
-kept-cond true x y = refl
-kept-cond false x y = refl
-
 module _ {K : Type 0} {cmp : K → K → Ordering} (total : IsTotalOrder cmp) where
   -- what stands for a key is another
   pub count-written : (counts counts' : tree.BTreeMap K ℕ) (key k : K) (w : Option ℕ) → tree.get cmp counts' k ≡ cond (eq_by_cmp cmp key k) w (tree.get cmp counts k)
       → count_at cmp counts' k ≡ cond (eq_by_cmp cmp k key) (count_kept w) (count_at cmp counts k)
-  count-written counts counts' key k w written =
-      ap count_kept written ∙ kept-cond (eq_by_cmp cmp key k) w (tree.get cmp counts k)
-      ∙ ap (λ b. cond b (count_kept w) (count_at cmp counts k)) ((eq_by_cmp_equiv total).symm key k)
+  count-written counts counts' key k w written = let turned = (eq_by_cmp_equiv total).symm key k in grind arith
 
   -- keys that tie have one count
   same-count : (counts : tree.BTreeMap K ℕ) (k key : K) → eq_by_cmp cmp k key ≡ true → count_at cmp counts k ≡ count_at cmp counts key
@@ -48,11 +42,12 @@ module _ {K : Type 0} {cmp : K → K → Ordering} (total : IsTotalOrder cmp) wh
   -- where another count stands for the key, what holds of it there and of the others elsewhere holds of each
   pub counted : (counts counts' : tree.BTreeMap K ℕ) (key : K) (v : ℕ) (R : ℕ → ℕ → Bool → Type 0) → R v (count_at cmp counts key) true → ((m : ℕ) → R m m false)
       → (k : K) → count_at cmp counts' k ≡ cond (eq_by_cmp cmp k key) v (count_at cmp counts k) → R (count_at cmp counts' k) (count_at cmp counts k) (eq_by_cmp cmp k key)
-  counted counts counts' key v R here elsewhere k is = subst (λ c. R c (count_at cmp counts k) (eq_by_cmp cmp k key)) (sym is) (at (eq_by_cmp cmp k key) refl)
-    where
-      at : (b : Bool) → eq_by_cmp cmp k key ≡ b → R (cond b v (count_at cmp counts k)) (count_at cmp counts k) b
-      at true e = subst (λ c. R v c true) (sym (same-count counts k key e)) here
-      at false e = elsewhere (count_at cmp counts k)
+  counted counts counts' key v R here elsewhere k is =
+      subst (λ c. R c (count_at cmp counts k) (eq_by_cmp cmp k key)) (sym is)
+      (elim (eq_by_cmp cmp k key) as (λ b. eq_by_cmp cmp k key ≡ b → R (cond b v (count_at cmp counts k)) (count_at cmp counts k) b) [
+        | true ↦ λ e. subst (λ c. R v c true) (sym (same-count counts k key e)) here
+        | false ↦ λ e. elsewhere (count_at cmp counts k)
+      ] refl)
 
 -- ---- prefix by prefix
 
@@ -88,9 +83,7 @@ one_key n p e f within same =
     λ i. record { family = (e ∙ sym f) i; bits = bits i }
 
 iff : (a b : Bool) → (a ≡ true → b ≡ true) → (b ≡ true → a ≡ true) → a ≡ b
-iff true b there back = sym (there refl)
-iff false true there back = back refl
-iff false false there back = refl
+iff a b there back = grind arith
 
 -- keys tie where prefixes do
 tied_keys : (n p : Network) → n.family ≡ V4 → p.family ≡ V4 → length p.bits ≤ V4_BITS → eq_by_cmp nat_cmp (v4_key n) (v4_key p) ≡ same_network n p
@@ -101,11 +94,9 @@ tied_keys n p e f within =
 
 -- prefixes of two families don't tie
 apart : (n p : Network) (f g : Family) → n.family ≡ f → p.family ≡ g → (f ≡ g → false ≡ true) → same_network n p ≡ false
-apart n p f g e h differ = at (same_network n p) refl
-  where
-    at : (b : Bool) → same_network n p ≡ b → b ≡ false
-    at true t = sym (differ (sym e ∙ ap (λ (x : Network). x.family) (network_cmp-IsAntisymmetric n p ((Equal-is (network_cmp n p)).0 t)) ∙ h))
-    at false t = refl
+apart n p f g e h differ =
+    let one = λ (t : same_network n p ≡ true). differ (sym e ∙ ap (λ (x : Network). x.family) (network_cmp-IsAntisymmetric n p ((Equal-is (network_cmp n p)).0 t)) ∙ h) in
+    grind arith
 
 -- what is counted of keys, with this bit for the one that is meant, is counted of prefixes
 pub v4-counted : (old new : Counts) (p : Network) (R : ℕ → ℕ → Bool → Type 0) → p.family ≡ V4 → length p.bits ≤ V4_BITS → new.v6 ≡ old.v6

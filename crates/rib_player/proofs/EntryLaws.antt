@@ -1,5 +1,5 @@
 -- The entries of an event's step: those of pairs that have a route before the event or then.
-use Rattle.std.proofs.Common.{◌≡◌, Bool, true, false, cond, ◌&&◌, ◌||◌, List, [], ◌∷◌, map, Option, Some, None, is_some, refl, sym, ap, ap₂, subst, ◌∙◌}
+use Rattle.std.proofs.Common.{◌≡◌, Bool, true, false, cond, ◌&&◌, ◌||◌, List, [], ◌∷◌, map, Option, Some, None, is_some, refl, sym, ap, subst, ◌∙◌, arith}
 use Rattle.std.specs.List.{AllByRecursion, list_any, filter, IsDistinct}
 use Rattle.std.specs.Ordering.{eq_by_cmp}
 use Rattle.std.specs.Cmp.{eq_by_cmp_equiv}
@@ -21,7 +21,6 @@ use Rattle.rib_player.specs.Changes.{found, is_lost, effect_of, noted_effect, or
 use Rattle.rib_player.proofs.PairLaws.{pair_cmp_total, same_pair}
 use Rattle.rib_player.proofs.TableLaws.{get-table_after, contains-named_pairs}
 use Rattle.rib_player.proofs.StoreLaws.{same_pairs}
-use Rattle.octet_forms.proofs.Booleans.{or-and_false}
 
 -- a side has a route, here or on the other side
 abbrev pub has_route : (Pair → Option Route) → Side → Bool
@@ -35,90 +34,48 @@ shows (Some route) before = is_some route || is_some before
 apart-filter : (test : Side → Bool) (pair : Pair) (sides : List Side) → AllByRecursion (λ q. eq_by_cmp pair_cmp pair q ≡ false) (pairs_in sides)
     → AllByRecursion (λ q. eq_by_cmp pair_cmp pair q ≡ false) (pairs_in (filter test sides))
 apart-filter test pair [] apart = tt
-apart-filter test pair (side ∷ sides) apart = at (test side) (apart-filter test pair sides apart.1)
-  where
-    at : (b : Bool) → AllByRecursion (λ q. eq_by_cmp pair_cmp pair q ≡ false) (pairs_in (filter test sides)) → AllByRecursion (λ q. eq_by_cmp pair_cmp pair q ≡ false) (pairs_in (cond b (side ∷ filter test sides) (filter test sides)))
-    at true rest = (apart.0, rest)
-    at false rest = rest
+apart-filter test pair (side ∷ sides) apart =
+    let rest = apart-filter test pair sides apart.1 in
+    elim (test side) as (λ b. AllByRecursion (λ q. eq_by_cmp pair_cmp pair q ≡ false) (pairs_in (cond b (side ∷ filter test sides) (filter test sides)))) [ true ↦ (apart.0, rest) | false ↦ rest ]
 
 -- of sides of different pairs some may be left out
 distinct-filter : (test : Side → Bool) (sides : List Side) → AreDistinct sides → AreDistinct (filter test sides)
 unfolding IsDistinct
 distinct-filter test [] distinct = distinct
-distinct-filter test (side ∷ sides) distinct = at (test side) (distinct-filter test sides distinct.1)
-  where
-    at : (b : Bool) → AreDistinct (filter test sides) → AreDistinct (cond b (side ∷ filter test sides) (filter test sides))
-    at true rest = (apart-filter test side.0 sides distinct.0, rest)
-    at false rest = rest
+distinct-filter test (side ∷ sides) distinct =
+    let rest = distinct-filter test sides distinct.1 in
+    elim (test side) as (λ b. AreDistinct (cond b (side ∷ filter test sides) (filter test sides))) [ true ↦ (apart-filter test side.0 sides distinct.0, rest) | false ↦ rest ]
 
 -- the sides of the entries that stay
 pub sides-filter : (test : Side → Bool) (entries : List Entry) → sides_of (filter (λ entry. test (side_of entry)) entries) ≡ filter test (sides_of entries)
 sides-filter test [] = refl
-sides-filter test (entry ∷ entries) = at (test (side_of entry)) (sides-filter test entries)
-  where
-    at : (b : Bool) → sides_of (filter (λ entry. test (side_of entry)) entries) ≡ filter test (sides_of entries)
-        → sides_of (cond b (entry ∷ filter (λ entry. test (side_of entry)) entries) (filter (λ entry. test (side_of entry)) entries)) ≡ cond b (side_of entry ∷ filter test (sides_of entries)) (filter test (sides_of entries))
-    at true rest = ap (λ ss. side_of entry ∷ ss) rest
-    at false rest = rest
-
--- a pair is among sides, of which the first may be left out
-any-cond : (q : Pair) (b : Bool) (side : Side) (sides : List Side)
-    → list_any (eq_by_cmp pair_cmp q) (pairs_in (cond b (side ∷ sides) sides)) ≡ ((b && eq_by_cmp pair_cmp q side.0) || list_any (eq_by_cmp pair_cmp q) (pairs_in sides))
-any-cond q true side sides = refl
-any-cond q false side sides = refl
+sides-filter test (entry ∷ entries) = grind (arith, sides-filter test entries)
 
 -- a pair without a side is not among those that stay
 absent_sides : (test : Side → Bool) (q : Pair) (sides : List Side) → NonePasses (eq_by_cmp pair_cmp q) sides → list_any (eq_by_cmp pair_cmp q) (pairs_in (filter test sides)) ≡ false
 absent_sides test q [] none = refl
-absent_sides test q (side ∷ sides) none =
-    any-cond q (test side) side (filter test sides)
-    ∙ ap₂ (λ a b. (test side && a) || b) none.0 (absent_sides test q sides none.1)
-    ∙ neither (test side)
-  where
-    neither : (b : Bool) → ((b && false) || false) ≡ false
-    neither true = refl
-    neither false = refl
-
--- a pair is that of the first side, and of none behind it
-here : (route before first : Option Route) (rest : Bool) → first ≡ before → rest ≡ false → (((is_some route || is_some first) && true) || rest) ≡ (is_some route || is_some before)
-here (Some route) before first rest e f = refl
-here None (Some old) (Some first) rest e f = refl
-here None None None rest e f = f
-here None (Some old) None rest e f = cc
-here None None (Some first) rest e f = cc
+absent_sides test q (side ∷ sides) none = grind (arith, absent_sides test q sides none.1, none.0)
 
 -- a pair is among those that stay where its side shows a route, or it has one before
 any_sides : (before : Pair → Option Route) (q : Pair) (sides : List Side) → AreDistinct sides
     → list_any (eq_by_cmp pair_cmp q) (pairs_in (filter (has_route before) sides)) ≡ shows (found sides q) (before q)
 any_sides before q [] distinct = refl
 any_sides before q (side ∷ sides) distinct =
-    any-cond q (has_route before side) side (filter (has_route before) sides)
-    ∙ at (any_sides before q sides (IsDistinct-tail (eq_by_cmp pair_cmp) side.0 (pairs_in sides) distinct)) (eq_by_cmp pair_cmp q side.0) refl
-  where
-    at : list_any (eq_by_cmp pair_cmp q) (pairs_in (filter (has_route before) sides)) ≡ shows (found sides q) (before q)
-        → (b : Bool) → eq_by_cmp pair_cmp q side.0 ≡ b
-        → ((has_route before side && b) || list_any (eq_by_cmp pair_cmp q) (pairs_in (filter (has_route before) sides)))
-        ≡ shows (cond b (Some side.1) (found sides q)) (before q)
-    at rest true e = here side.1 (before q) (before side.0) _ (ap before (sym (same_pair q side.0 e)))
-        (absent_sides (has_route before) q sides (none_past_head (eq_by_cmp_equiv pair_cmp_total) q side sides distinct e))
-    at rest false e = or-and_false (has_route before side) _ ∙ rest
+    let one = same_pair q side.0 in
+    let later = any_sides before q sides (IsDistinct-tail (eq_by_cmp pair_cmp) side.0 (pairs_in sides) distinct) in
+    let absent = λ (e : eq_by_cmp pair_cmp q side.0 ≡ true). absent_sides (has_route before) q sides (none_past_head (eq_by_cmp_equiv pair_cmp_total) q side sides distinct e) in
+    grind arith
 
 -- sides that show what a function has are kept where it is read at their pairs, with a first one or not
 sides_across-cond : (now : Pair → Option Route) (b : Bool) (side : Side) (sides : List Side) → now side.0 ≡ side.1 → map (λ (s : Side). (s.0, now s.0)) sides ≡ sides
     → map (λ (s : Side). (s.0, now s.0)) (cond b (side ∷ sides) sides) ≡ cond b (side ∷ sides) sides
-sides_across-cond now true side sides first rest = ap₂ (λ r ss. (side.0, r) ∷ ss) first rest
-sides_across-cond now false side sides first rest = rest
+sides_across-cond now b side sides first rest = grind arith
 
 -- what is found behind the first side is found with it
 found-behind : (side : Side) (sides : List Side) (q : Pair) (route : Option Route) → AreDistinct (side ∷ sides) → found sides q ≡ Some route → found (side ∷ sides) q ≡ Some route
-found-behind side sides q route distinct there = at (eq_by_cmp pair_cmp q side.0) refl
-  where
-    at : (b : Bool) → eq_by_cmp pair_cmp q side.0 ≡ b → cond b (Some side.1) (found sides q) ≡ Some route
-    at true e =
-        let none : found sides q ≡ None = lookup-none (eq_by_cmp pair_cmp q) sides (none_past_head (eq_by_cmp_equiv pair_cmp_total) q side sides distinct e) in
-        let wrong : None ≡ Some route = sym none ∙ there in
-        cc
-    at false e = there
+found-behind side sides q route distinct there =
+    let none = λ (e : eq_by_cmp pair_cmp q side.0 ≡ true). lookup-none (eq_by_cmp pair_cmp q) sides (none_past_head (eq_by_cmp_equiv pair_cmp_total) q side sides distinct e) in
+    grind arith
 
 -- where a function has what is found, it has what the sides show
 sides_across-found : (now : Pair → Option Route) (test : Side → Bool) (sides : List Side) → AreDistinct sides
@@ -133,21 +90,11 @@ sides_across-found now test (side ∷ sides) distinct has =
 
 -- what is kept for a pair, or lost with its peer, names it where its side then shows a route, or it has one before
 named_pairs-shown : (kept : Option (Option Route)) (lost : Bool) (before : Option Route) → is_named before (effect_of kept lost) ≡ shows (or_absent kept (lost && is_some before)) before
-named_pairs-shown (Some (Some route)) lost None = refl
-named_pairs-shown (Some (Some route)) lost (Some old) = refl
-named_pairs-shown (Some None) lost None = refl
-named_pairs-shown (Some None) lost (Some old) = refl
-named_pairs-shown None true None = refl
-named_pairs-shown None true (Some old) = refl
-named_pairs-shown None false before = refl
+named_pairs-shown kept lost before = grind arith
 
 -- and its side then has the route that it leaves
 route_after-found : (kept : Option (Option Route)) (lost : Bool) (before route : Option Route) → or_absent kept (lost && is_some before) ≡ Some route → route_after before (effect_of kept lost) ≡ route
-route_after-found (Some (Some new)) lost before route e = cc
-route_after-found (Some None) lost before route e = cc
-route_after-found None true None route e = cc
-route_after-found None true (Some old) route e = cc
-route_after-found None false before route e = cc
+route_after-found kept lost before route e = grind arith
 
 -- those that stay of such sides are those of the event's step
 pub IsStepFor-made : (routes : Routes) (event : Event) (changes : Changes) (sides kept : List Side)

@@ -1,10 +1,11 @@
 -- Claims that are held: the key, and those beyond it.
-use Rattle.std.proofs.Common.{◌≡◌, ℕ, zero, suc, ◌+◌, ◌<◌, Bool, true, false, cond, not, ◌||◌, ◌&&◌, Option, refl, sym, ap, ap₂, ◌∙◌, arith}
+use Rattle.std.proofs.lemmas.Bool.Decides.{nat_tests}
+use Rattle.std.proofs.Common.{◌≡◌, ℕ, ◌+◌, ◌<◌, Bool, true, false, cond, ◌||◌, Option, sym, ap, ◌∙◌, arith}
 use Rattle.std.specs.Prelude.{nat_lt}
 use Rattle.std.specs.FinMap as finite
 use Rattle.std.specs.FinSet as set
 use Rattle.std.specs.FinSet.{contains-insert, contains-remove}
-use Rattle.std.proofs.lemmas.Bool.{true≢false, lt-ltb, or_parts}
+use Rattle.std.proofs.lemmas.Bool.{lt-ltb, or_parts}
 use Rattle.rib_player.specs.declared.pair.Pair.{Pair}
 use Rattle.mrt_events.specs.declared.event.Route.{Route}
 use Rattle.prefix_store.specs.Contents.{AreAmong}
@@ -24,11 +25,7 @@ one_false b e = ap one_if e
 
 -- a pair is a key exactly where a claim of it is held
 pub held-key : (keys : Pairs) (beyond : Pair → ℕ) (q : Pair) → AreHeld keys beyond → set.contains keys q ≡ nat_lt 0 (held_claims keys beyond q)
-held-key keys beyond q held = at (set.contains keys q) (beyond q) (held q)
-  where
-    at : (b : Bool) (n : ℕ) → (b ≡ false → n ≡ 0) → b ≡ nat_lt 0 (one_if b + n)
-    at true n none = sym (lt-ltb 0 (1 + n) (omega arith))
-    at false n none = sym (ap (λ m. nat_lt 0 (0 + m)) (none refl))
+held-key keys beyond q held = let none = held q in grind (arith, nat_tests)
 
 pub some-key : (keys : Pairs) (beyond : Pair → ℕ) (q : Pair) → AreHeld keys beyond → 0 < held_claims keys beyond q → set.contains keys q ≡ true
 some-key keys beyond q held some = held-key keys beyond q held ∙ lt-ltb 0 (held_claims keys beyond q) some
@@ -42,13 +39,9 @@ same-key keys keys' beyond beyond' q held held' same = held-key keys' beyond' q 
 pub made-claimed : (keys keys' : Pairs) (beyond beyond' : Pair → ℕ) (p q : Pair) → keys' ≡ set.insert keys p → beyond' q ≡ beyond q → set.contains keys p ≡ false
     → held_claims keys' beyond' q ≡ held_claims keys beyond q + one_if (tied q p)
 made-claimed keys keys' beyond beyond' p q more same out =
-    ap₂ (λ b n. one_if b + n) (ap (λ k. set.contains k q) more ∙ contains-insert pair_cmp_total keys p q) same
-    ∙ at (tied q p) (set.contains keys q) (beyond q) (λ e. ap (set.contains keys) (same_pair q p e) ∙ out)
-  where
-    at : (t b : Bool) (n : ℕ) → (t ≡ true → b ≡ false) → one_if (t || b) + n ≡ one_if b + n + one_if t
-    at true true n none = absurd (true≢false (none refl))
-    at true false n none = omega arith
-    at false b n none = omega arith
+    let here = ap (λ k. set.contains k q) more ∙ contains-insert pair_cmp_total keys p q in
+    let one = same_pair q p in
+    grind arith
 
 pub insert-held : (keys keys' : Pairs) (beyond beyond' : Pair → ℕ) (p : Pair) → keys' ≡ set.insert keys p → ((q : Pair) → beyond' q ≡ beyond q) → AreHeld keys beyond → AreHeld keys' beyond'
 insert-held keys keys' beyond beyond' p more same held q out =
@@ -57,24 +50,17 @@ insert-held keys keys' beyond beyond' p more same held q out =
 -- a key that was there is not made
 pub there-same : (keys keys' : Pairs) (p q : Pair) → keys' ≡ set.insert keys p → set.contains keys p ≡ true → set.contains keys' q ≡ set.contains keys q
 there-same keys keys' p q more there =
-    ap (λ k. set.contains k q) more ∙ contains-insert pair_cmp_total keys p q
-    ∙ at (tied q p) (set.contains keys q) (λ e. ap (set.contains keys) (same_pair q p e) ∙ there)
-  where
-    at : (t b : Bool) → (t ≡ true → b ≡ true) → (t || b) ≡ b
-    at true b is = sym (is refl)
-    at false b is = refl
+    let here = ap (λ k. set.contains k q) more ∙ contains-insert pair_cmp_total keys p q in
+    let one = same_pair q p in
+    grind arith
 
 -- claims are counted beyond a key
 pub beyond-held : (keys keys' : Pairs) (beyond beyond' : Pair → ℕ) (p : Pair) → ((q : Pair) → set.contains keys' q ≡ set.contains keys q) → set.contains keys p ≡ true
     → ((q : Pair) → beyond' q ≡ beyond q + one_if (tied q p)) → AreHeld keys beyond → AreHeld keys' beyond'
-beyond-held keys keys' beyond beyond' p same there more held q out = at (tied q p) refl
-  where
-    none : set.contains keys q ≡ false
-    none = sym (same q) ∙ out
-
-    at : (t : Bool) → tied q p ≡ t → beyond' q ≡ 0
-    at true e = absurd (true≢false (sym there ∙ ap (set.contains keys) (sym (same_pair q p e)) ∙ none))
-    at false e = more q ∙ ap₂ (λ n t. n + one_if t) (held q none) e
+beyond-held keys keys' beyond beyond' p same there more held q out =
+    let one = same_pair q p in
+    let none = held q in
+    grind (arith, same q, more q)
 
 pub same-held : (keys keys' : Pairs) (beyond beyond' : Pair → ℕ) → ((q : Pair) → set.contains keys' q ≡ set.contains keys q) → ((q : Pair) → beyond' q ≡ beyond q) → AreHeld keys beyond → AreHeld keys' beyond'
 same-held keys keys' beyond beyond' keyed counted held q out = counted q ∙ held q (sym (keyed q) ∙ out)
@@ -83,40 +69,25 @@ same-held keys keys' beyond beyond' keyed counted held q out = counted q ∙ hel
 pub removed-claimed : (keys keys' : Pairs) (beyond beyond' : Pair → ℕ) (p q : Pair) → keys' ≡ set.remove keys p → beyond' q ≡ beyond q → set.contains keys p ≡ true
     → held_claims keys' beyond' q + one_if (tied q p) ≡ held_claims keys beyond q
 removed-claimed keys keys' beyond beyond' p q less same there =
-    ap₂ (λ b n. one_if b + n + one_if (tied q p)) (ap (λ k. set.contains k q) less ∙ contains-remove pair_cmp_total keys p q) same
-    ∙ at (tied q p) (set.contains keys q) (beyond q) (λ e. ap (set.contains keys) (same_pair q p e) ∙ there)
-  where
-    at : (t b : Bool) (n : ℕ) → (t ≡ true → b ≡ true) → one_if (not t && b) + n + one_if t ≡ one_if b + n
-    at true true n is = omega arith
-    at true false n is = absurd (true≢false (sym (is refl)))
-    at false b n is = omega arith
+    let here = ap (λ k. set.contains k q) less ∙ contains-remove pair_cmp_total keys p q in
+    let one = same_pair q p in
+    grind arith
 
 -- and nothing was counted beyond it
 pub removed-held : (keys keys' : Pairs) (beyond beyond' : Pair → ℕ) (p : Pair) → keys' ≡ set.remove keys p → ((q : Pair) → beyond' q ≡ beyond q) → beyond p ≡ 0 → AreHeld keys beyond → AreHeld keys' beyond'
 removed-held keys keys' beyond beyond' p less same none held q out =
-    same q ∙ at (tied q p) refl (set.contains keys q) refl (sym (ap (λ k. set.contains k q) less ∙ contains-remove pair_cmp_total keys p q) ∙ out)
-  where
-    at : (t : Bool) → tied q p ≡ t → (b : Bool) → set.contains keys q ≡ b → (not (tied q p) && set.contains keys q) ≡ false → beyond q ≡ 0
-    at true e b f h = ap beyond (same_pair q p e) ∙ none
-    at false e true f h = absurd (true≢false (sym (ap₂ (λ t b. not t && b) e f) ∙ h))
-    at false e false f h = held q f
+    let here = ap (λ k. set.contains k q) less ∙ contains-remove pair_cmp_total keys p q in
+    let one = same_pair q p in
+    let free = held q in
+    grind (arith, same q)
 
 -- where there is none beyond it, none is
 pub none-counted_beyond : (n : ℕ) (some : Bool) → some ≡ nat_lt 0 n → some ≡ false → n ≡ 0
-none-counted_beyond n some e f = at n (sym e ∙ f)
-  where
-    at : (n : ℕ) → nat_lt 0 n ≡ false → n ≡ 0
-    at zero e = refl
-    at (suc n) e = absurd (true≢false (sym (lt-ltb 0 (suc n) (omega arith)) ∙ e))
+none-counted_beyond n some e f = grind (arith, nat_tests)
 
 -- a claim of a pair that is among others or apart from them
 pub one-or : (a b : Bool) → (b ≡ true → a ≡ false) → one_if (a || b) ≡ one_if a + one_if b
-one-or true true apart = absurd (true≢false (apart refl))
-one-or true false apart = refl
-one-or false b apart = sym (zero-more (one_if b))
-  where
-    zero-more : (n : ℕ) → 0 + n ≡ n
-    zero-more n = omega arith
+one-or a b apart = grind arith
 
 -- ---- keys and routes with one pair more
 

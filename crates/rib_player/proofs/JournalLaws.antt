@@ -107,9 +107,9 @@ pub get-restored_elsewhere : (sides : List Side) (routes : Routes) (q : Pair) �
     → finite.get (routes_across sides routes) q ≡ finite.get routes q
 get-restored_elsewhere [] routes q out = refl
 get-restored_elsewhere (side ∷ sides) routes q out =
-    let apart = or_parts (eq_by_cmp pair_cmp q side.0) (list_any (eq_by_cmp pair_cmp q) (pairs_in sides)) out in
-    get-restored_elsewhere sides (put routes side.0 side.1) q apart.1
-    ∙ get-put pair_cmp_total routes side.0 side.1 q ∙ ap (λ b. cond b side.1 (finite.get routes q)) apart.0
+    let later = get-restored_elsewhere sides (put routes side.0 side.1) q in
+    let there = get-put pair_cmp_total routes side.0 side.1 q in
+    grind arith
 
 -- a step that is crossed and crossed back gives back the table
 pub routes_across-sides_across : (sides : List Side) (routes : Routes) → routes_across (sides_across routes sides) (routes_across sides routes) ≡ routes
@@ -119,11 +119,7 @@ routes_across-sides_across sides routes = same_routes _ routes (λ q.
 
 -- an event leaves the routes of the pairs that it doesn't name
 pub unnamed-same : (before : Option Route) (does : Effect) → is_named before does ≡ false → before ≡ route_after before does
-unnamed-same before Keep e = refl
-unnamed-same None Clear e = refl
-unnamed-same (Some old) Clear e = cc
-unnamed-same None (Set new) e = cc
-unnamed-same (Some old) (Set new) e = cc
+unnamed-same before does e = grind arith
 
 -- the step of an event leads to the table that the event is applied to
 pub routes_across-step : (routes : Routes) (event : Event) (sides : List Side) → IsStepFor routes event sides → routes_across sides routes ≡ table_after routes event

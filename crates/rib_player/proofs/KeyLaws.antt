@@ -1,5 +1,6 @@
 -- The keys that a player wants.
-use Rattle.std.proofs.Common.{◌≡◌, ℕ, zero, suc, Bool, true, false, ◌||◌, List, [], ◌∷◌, ◌++◌, map, take, Option, Some, None, is_some, refl, sym, ap, ap₂, ◌∙◌}
+pub use Rattle.octet_forms.proofs.Options.{None_from_is_some as none_from}
+use Rattle.std.proofs.Common.{◌≡◌, ℕ, zero, suc, Bool, true, false, ◌||◌, List, [], ◌∷◌, ◌++◌, map, take, Option, Some, None, is_some, refl, sym, ap, ap₂, ◌∙◌, arith}
 use Rattle.std.specs.List.{AllByRecursion, list_any, flat_map}
 use Rattle.std.specs.FinMap as finite
 use Rattle.std.specs.FinMap.{contains_key-keys}
@@ -24,13 +25,7 @@ side_named q sides = list_any (tied q) (pairs_in sides)
 pub any-take : {A : Type 0} (p : A → Bool) (n : ℕ) (xs : List A) → list_any p xs ≡ false → list_any p (take n xs) ≡ false
 any-take p zero xs e = refl
 any-take p (suc n) [] e = refl
-any-take p (suc n) (x ∷ xs) e =
-    let parts = or_parts (p x) (list_any p xs) e in
-    ap₂ (λ a b. a || b) parts.0 (any-take p n xs parts.1)
-
-pub none_from : {A : Type 0} (found : Option A) → is_some found ≡ false → found ≡ None
-none_from None e = refl
-none_from (Some x) e = cc
+any-take p (suc n) (x ∷ xs) e = let later = any-take p n xs in grind arith
 
 -- the keys of a player that holds just those that it has to are the wanted ones
 any-flat : (q : Pair) (steps : List Pairs) → list_any (tied q) (flat_map set.items steps) ≡ list_any (λ (s : Pairs). set.contains s q) steps

@@ -1,5 +1,6 @@
 -- The entries of a lost session alone are those of its step.
-use Rattle.std.proofs.Common.{◌≡◌, Bool, true, false, cond, ◌&&◌, List, [], ◌∷◌, map, get_or, drop, Option, Some, None, is_some, refl, sym, ap, ap₂, subst, ◌∙◌}
+use Rattle.std.proofs.lemmas.Bool.{and_parts}
+use Rattle.std.proofs.Common.{◌≡◌, Bool, true, false, cond, ◌&&◌, List, [], ◌∷◌, map, drop, Option, Some, None, is_some, refl, sym, ap, ap₂, subst, ◌∙◌, arith}
 use Rattle.std.specs.List.{AllByRecursion, list_any}
 use Rattle.std.proofs.Math.Bool.{or-false}
 use Rattle.std.specs.List.Sorted.{IsStrictlySortedBy}
@@ -31,7 +32,7 @@ use Rattle.rib_player.specs.Holding.{value_of}
 use Rattle.rib_player.specs.declared.entry.End.TheVariants.{Last}
 use Rattle.mrt_events.specs.declared.event.Route.{Route}
 use Rattle.std.specs.declared.rc.Rc.{Rc}
-use Rattle.prefix_store.proofs.AboveLaws.{routes-in_order}
+use Rattle.prefix_store.proofs.AboveLaws.{keys-in_order}
 use Rattle.rib_player.proofs.JournalLaws.{get-restored_crossed}
 use Rattle.rib_player.proofs.PeerLaws.{any-of_peer, each-of_peer}
 use Rattle.rib_player.proofs.PairLaws.{pair_cmp_total}
@@ -74,7 +75,7 @@ module _ (routes : Routes) (peer : Peer) (sides : List Side) (cleared : ClearAll
   lost-absent = subst (AllByRecursion (λ (side : Side). side.1 ≡ None)) (sym cleared) (absent-cleared peer (finite.keys (peer_routes routes peer)))
 
   pub lost-distinct : AreDistinct sides
-  lost-distinct = subst AreDistinct (sym cleared) (distinct-cleared peer (finite.keys (peer_routes routes peer)) (routes-in_order (peer_routes routes peer)))
+  lost-distinct = subst AreDistinct (sym cleared) (distinct-cleared peer (finite.keys (peer_routes routes peer)) (keys-in_order (peer_routes routes peer)))
 
 -- the sides of pairs that a peer loses are those of the step of an event that does nothing else
 module _ (routes : Routes) (event : Event) (peer : Peer) (alone : (q : Pair) → effect q event ≡ where_true (same_peer q.peer peer) Clear) where
@@ -83,9 +84,7 @@ module _ (routes : Routes) (event : Event) (peer : Peer) (alone : (q : Pair) →
   none_then q of_peer = sym (get-table_after routes event q ∙ ap (route_after (finite.get routes q)) (alone q ∙ ap (λ b. where_true b Clear) of_peer))
 
   named-then : (b : Bool) (before : Option _) → (b && is_some before) ≡ is_named before (where_true b Clear)
-  named-then true None = refl
-  named-then true (Some route) = refl
-  named-then false before = refl
+  named-then b before = grind arith
 
   -- all of them are the peer's
   across : (sides : List Side) → AllByRecursion (λ (side : Side). side.1 ≡ None) sides → AllByRecursion (λ q. same_peer q.peer peer ≡ true) (pairs_in sides) → sides ≡ sides_across (table_after routes event) sides
@@ -95,15 +94,11 @@ module _ (routes : Routes) (event : Event) (peer : Peer) (alone : (q : Pair) →
   pub IsStepFor-lost : (sides : List Side) → ClearAllOf routes peer sides → IsStepFor routes event sides
   IsStepFor-lost sides cleared = record {
     distinct = lost-distinct routes peer sides cleared;
-    after = across sides (lost-absent routes peer sides cleared) (all-among (λ q. same_peer q.peer peer ≡ true) (pairs_in sides) (λ q there. first (same_peer q.peer peer) (is_some (finite.get routes q)) (sym (lost-named routes peer sides cleared q) ∙ there)));
+    after = across sides (lost-absent routes peer sides cleared) (all-among (λ q. same_peer q.peer peer ≡ true) (pairs_in sides) (λ q there. (and_parts (same_peer q.peer peer) (is_some (finite.get routes q)) (sym (lost-named routes peer sides cleared q) ∙ there)).0));
     names = same_pairs (from_list (pairs_in sides)) (named_pairs routes event) (λ q.
         contains-from_list pair_cmp_total (pairs_in sides) q ∙ lost-named routes peer sides cleared q ∙ named-then (same_peer q.peer peer) (finite.get routes q)
         ∙ ap (is_named (finite.get routes q)) (sym (alone q)) ∙ sym (contains-named_pairs routes event q));
   }
-    where
-      first : (a b : Bool) → (a && b) ≡ true → a ≡ true
-      first true b e = refl
-      first false b e = e
 
 -- an event of which nothing but a loss is noted does just that
 pub lost-alone : (event : Event) (changes : Changes) (peer : Peer) → ((q : Pair) → noted_effect changes q ≡ effect q event) → changes.entries.items ≡ [] → changes.lost.keys ≡ peer ∷ []
@@ -124,9 +119,6 @@ pub record AreTaken (routes : Routes) (old new : List Entry) : Type 0 where
   pub marks : marks_of new ≡ marks_across routes (sides_of old)
   pub unbrought : (q : Pair) → gives_up_by Last (marks_of new) q ≡ false
 
-first_is : {A : Type 0} (x y : A) (xs ys : List A) → x ∷ xs ≡ y ∷ ys → x ≡ y
-first_is x y xs ys e = ap (λ s. get_or s 0 x) e
-
 taken : (routes : Routes) (peer : Peer) (own : List (Network × Route)) (entries : List Entry) (given : List (Rc Route Global)) → AllByRecursion (λ e. finite.get routes (pair_of peer e.0) ≡ Some e.1) own
     → sides_of entries ≡ map (cleared_side peer) (map (λ (e : Network × Route). e.0) own) → map value_of given ≡ map (λ (e : Network × Route). e.1) own → AreTaken routes entries (cleared_entries entries given)
 taken routes peer [] [] given found same values = record { sides = refl; marks = refl; unbrought = λ q. refl }
@@ -135,8 +127,8 @@ taken routes peer (e ∷ own) [] given found same values = cc
 taken routes peer (e ∷ own) (entry ∷ entries) [] found same values = cc
 taken routes peer (e ∷ own) (entry ∷ entries) (route ∷ given) found same values =
     let rest = taken routes peer own entries given found.1 (ap (drop 1) same) (ap (drop 1) values) in
-    let side : side_of entry ≡ cleared_side peer e.0 = first_is _ _ _ _ same in
-    let value : route.value ≡ e.1 = first_is _ _ _ _ values in
+    let side : side_of entry ≡ cleared_side peer e.0 = (let first = same in cc) in
+    let value : route.value ≡ e.1 = (let first = values in cc) in
     let route_then : Some route.value ≡ finite.get routes entry.pair = ap Some value ∙ sym found.0 ∙ ap (λ (s : Side). finite.get routes s.0) (sym side) in
     record {
       sides = ap₂ (λ r ss. (entry.pair, r) ∷ ss) route_then rest.sides;
@@ -154,9 +146,7 @@ across-taken new peer [] none = refl
 across-taken new peer (n ∷ prefixes) none = ap₂ (λ r ss. (pair_of peer n, r) ∷ ss) (sym (none n)) (across-taken new peer prefixes none)
 
 taken_or : {A : Type 0} (b : Bool) (found : Option A) → cond b None found ≡ cond (b && is_some found) (cond b None found) found
-taken_or true None = refl
-taken_or true (Some x) = refl
-taken_or false found = refl
+taken_or b found = grind arith
 
 pub routes-cleared : (old new : Routes) (peer : Peer) (sides : List Side) → ClearAllOf old peer sides → ((q : Pair) → finite.get new q ≡ cond (same_peer q.peer peer) None (finite.get old q)) → new ≡ routes_across sides old
 routes-cleared old new peer sides cleared is = same_routes new (routes_across sides old) (λ q.

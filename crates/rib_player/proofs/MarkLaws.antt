@@ -1,5 +1,5 @@
 -- The marks of entries, and what they say of the tables around their steps.
-use Rattle.std.proofs.Common.{◌≡◌, ℕ, zero, suc, ◌+◌, ◌<◌, length, take, drop, get_or, set, slice_index_or, append_assoc, Bool, true, false, not, ◌||◌, ◌&&◌, is_some, Option, Some, None, List, [], ◌∷◌, ◌++◌, map, refl, sym, ap, ap₂, ◌∙◌, arith}
+use Rattle.std.proofs.Common.{◌≡◌, ℕ, zero, suc, ◌+◌, ◌<◌, length, take, drop, get_or, set, slice_index_or, append_assoc, Bool, true, false, ◌||◌, ◌&&◌, None, List, [], ◌∷◌, ◌++◌, map, refl, sym, ap, ap₂, ◌∙◌, arith}
 use Rattle.std.specs.List.{AllByRecursion, list_any, IsDistinct}
 use Rattle.std.specs.Ordering.{eq_by_cmp}
 use Rattle.std.specs.Cmp.{eq_by_cmp_equiv}
@@ -8,14 +8,12 @@ use Rattle.std.specs.FinSet as set
 use Rattle.std.specs.FinSet.{contains-from_list}
 use Rattle.std.proofs.lemmas.List.{take_more, take_more_set, map-append}
 use Rattle.std.proofs.lemmas.Map.Keys.{IsDistinct-head, IsDistinct-tail}
-use Rattle.std.proofs.Math.Bool.{or-true, or-false, or_assoc}
-use Rattle.octet_forms.proofs.Booleans.{or-and_false}
+use Rattle.std.proofs.Math.Bool.{or-true}
 use Rattle.octet_forms.proofs.Lists.{AllByRecursion-take}
 use Rattle.rib_player.specs.declared.pair.Pair.{Pair}
 use Rattle.rib_player.specs.declared.journal.Step.{Step}
 use Rattle.rib_player.specs.declared.entry.End.{End}
-use Rattle.rib_player.specs.declared.entry.End.TheVariants.{First, Last}
-use Rattle.mrt_events.specs.declared.event.Route.{Route}
+use Rattle.rib_player.specs.declared.entry.End.TheVariants.{Last}
 use Rattle.rib_player.specs.Entries.{Entry}
 use Rattle.rib_player.specs.History.{pair_cmp}
 use Rattle.rib_player.specs.Tables.{Routes}
@@ -105,65 +103,44 @@ length-pairs (e ∷ entries) = ap suc (length-pairs entries)
 
 -- a mark more
 pub gives_up_by-push : (end : End) (marks : List Mark) (m : Mark) (q : Pair) → gives_up_by end (marks ++ m ∷ []) q ≡ (gives_up_by end marks q || (gives_up end m && tied q m.pair))
-gives_up_by-push end [] m q = or-false (gives_up end m && tied q m.pair)
-gives_up_by-push end (first ∷ marks) m q = ap (λ b. (gives_up end first && tied q first.pair) || b) (gives_up_by-push end marks m q) ∙ sym (or_assoc (gives_up end first && tied q first.pair) (gives_up_by end marks q) (gives_up end m && tied q m.pair))
+gives_up_by-push end [] m q = grind arith
+gives_up_by-push end (first ∷ marks) m q = grind (arith, gives_up_by-push end marks m q)
 
 -- a step gives up claims of pairs that it names alone
 pub gives_up_by-named : (end : End) (marks : List Mark) (q : Pair) → named_by marks q ≡ false → gives_up_by end marks q ≡ false
 gives_up_by-named end [] q out = refl
-gives_up_by-named end (m ∷ marks) q out = at (tied q m.pair) (named_by marks q) (gives_up end m) refl out (λ e. gives_up_by-named end marks q e)
-  where
-    at : (t n g : Bool) → tied q m.pair ≡ t → (t || n) ≡ false → (n ≡ false → gives_up_by end marks q ≡ false) → ((g && tied q m.pair) || gives_up_by end marks q) ≡ false
-    at true n g e f rest = cc
-    at false n g e f rest = ap₂ (λ a b. (g && a) || b) e (rest f) ∙ or-and_false g false
+gives_up_by-named end (m ∷ marks) q out = let later = gives_up_by-named end marks q in grind arith
 
 -- ---- marks that are right
 
 -- of a pair on whose sides of a step there is a route on both or on none nothing is given up
 same-sides : (end : End) (a b : Bool) → a ≡ b → leaves end a b ≡ false
-same-sides First true b e = ap not (sym e)
-same-sides First false b e = refl
-same-sides Last true b e = refl
-same-sides Last false b e = sym e
+same-sides end a b e = grind arith
 
 -- what right marks give up is what the tables say of the pairs that they name
 gives-named : (end : End) (before after : Routes) (marks : List Mark) (q : Pair) → AllByRecursion (IsMarkOf before after) marks
     → gives_up_by end marks q ≡ (named_by marks q && leaves end (is_routed q before) (is_routed q after))
 gives-named end before after [] q all = refl
-gives-named end before after (m ∷ marks) q all = at (tied q m.pair) refl (named_by marks q) (gives-named end before after marks q all.1)
-  where
-    said : Bool
-    said = leaves end (is_routed q before) (is_routed q after)
-
-    here : tied q m.pair ≡ true → gives_up end m ≡ said
-    here e = ap₂ (leaves end) (all.0.mark_before ∙ ap (λ p. is_routed p before) (sym (same_pair q m.pair e))) (all.0.mark_behind ∙ ap (λ p. is_routed p after) (sym (same_pair q m.pair e)))
-
-    both : (b n : Bool) → ((b && true) || (n && b)) ≡ b
-    both true n = refl
-    both false true = refl
-    both false false = refl
-
-    at : (t : Bool) → tied q m.pair ≡ t → (n : Bool) → gives_up_by end marks q ≡ (n && said) → ((gives_up end m && tied q m.pair) || gives_up_by end marks q) ≡ ((tied q m.pair || n) && said)
-    at true e n rest = ap₂ (λ a b. (a && tied q m.pair) || b) (here e) rest ∙ ap (λ t. (said && t) || (n && said)) e ∙ both said n ∙ ap (λ t. (t || n) && said) (sym e)
-    at false e n rest = ap₂ (λ t b. (gives_up end m && t) || b) e rest ∙ or-and_false (gives_up end m) (n && said) ∙ ap (λ t. (t || n) && said) (sym e)
+gives-named end before after (m ∷ marks) q all =
+    let one = same_pair q m.pair in
+    let later = gives-named end before after marks q all.1 in
+    grind (arith, all.0.mark_before, all.0.mark_behind)
 
 -- so of all pairs: a dropped step gives up a claim of those that it brings, a forgotten one of those that it clears
 pub gives-between : (end : End) (before after : Routes) (marks : List Mark) (q : Pair) → AreMarksOf before after marks → gives_up_by end marks q ≡ leaves end (is_routed q before) (is_routed q after)
-gives-between end before after marks q are = gives-named end before after marks q are.right ∙ at (named_by marks q) refl
-  where
-    at : (n : Bool) → named_by marks q ≡ n → (n && leaves end (is_routed q before) (is_routed q after)) ≡ leaves end (is_routed q before) (is_routed q after)
-    at true e = refl
-    at false e = sym (same-sides end (is_routed q before) (is_routed q after) (are.unnamed q e))
+gives-between end before after marks q are =
+    let named = gives-named end before after marks q are.right in
+    let none = same-sides end (is_routed q before) (is_routed q after) in
+    let out = are.unnamed q in
+    grind arith
 
 -- a pair that is named has a route on one side
 pub named-routed : (before after : Routes) (marks : List Mark) (q : Pair) → AllByRecursion (IsMarkOf before after) marks → named_by marks q ≡ true → (is_routed q before || is_routed q after) ≡ true
 named-routed before after [] q all there = cc
-named-routed before after (m ∷ marks) q all there = at (tied q m.pair) refl (λ e. named-routed before after marks q all.1 e)
-  where
-    at : (t : Bool) → tied q m.pair ≡ t → (named_by marks q ≡ true → (is_routed q before || is_routed q after) ≡ true) → (is_routed q before || is_routed q after) ≡ true
-    at true e rest =
-        ap₂ (λ a b. a || b) (ap (λ p. is_routed p before) (same_pair q m.pair e) ∙ sym all.0.mark_before) (ap (λ p. is_routed p after) (same_pair q m.pair e) ∙ sym all.0.mark_behind) ∙ all.0.some
-    at false e rest = rest (ap (λ b. b || named_by marks q) (sym e) ∙ there)
+named-routed before after (m ∷ marks) q all there =
+    let one = same_pair q m.pair in
+    let later = named-routed before after marks q all.1 in
+    grind (arith, all.0.mark_before, all.0.mark_behind, all.0.some)
 
 -- ---- marks by step
 
@@ -217,9 +194,8 @@ step-names step q = contains-from_list pair_cmp_total (pairs_in (step_sides step
 pub gives-at : (end : End) (entries : List Entry) (i : ℕ) (d : Entry) → i < length entries → gives_up end (mark_of (get_or entries i d)) ≡ true
     → gives_up_by end (marks_of entries) (get_or entries i d).pair ≡ true
 gives-at end [] i d within gives = absurd (omega arith)
-gives-at end (e ∷ entries) zero d within gives = ap₂ (λ a b. (a && b) || gives_up_by end (marks_of entries) e.pair) gives (tied_itself e.pair)
-gives-at end (e ∷ entries) (suc i) d within gives =
-    ap (λ b. (gives_up end (mark_of e) && tied (get_or entries i d).pair e.pair) || b) (gives-at end entries i d (omega arith) gives) ∙ or-true _
+gives-at end (e ∷ entries) zero d within gives = let itself = tied_itself e.pair in grind arith
+gives-at end (e ∷ entries) (suc i) d within gives = let later = gives-at end entries i d (omega arith) gives in grind arith
 
 -- and not by those before it
 pub gives-before : (end : End) (entries : List Entry) (i : ℕ) (d : Entry) → i < length entries → IsDistinct tied (pairs_in (sides_of entries))
@@ -237,12 +213,7 @@ gives-more end entries i e q within is =
 -- a pair that a step brings has no route before it
 pub gives-none : (routes : Routes) (sides : List Side) (q : Pair) → gives_up_by Last (marks_across routes sides) q ≡ true → finite.get routes q ≡ None
 gives-none routes [] q e = cc
-gives-none routes (side ∷ sides) q e = at (tied q side.0) refl (finite.get routes side.0) refl (λ f. gives-none routes sides q f)
-  where
-    rest : Bool
-    rest = gives_up_by Last (marks_across routes sides) q
-
-    at : (t : Bool) → tied q side.0 ≡ t → (r : Option Route) → finite.get routes side.0 ≡ r → (rest ≡ true → finite.get routes q ≡ None) → finite.get routes q ≡ None
-    at true tie None f later = ap (finite.get routes) (same_pair q side.0 tie) ∙ f
-    at true tie (Some old) f later = later (sym (ap₂ (λ o t. ((not (is_some o) && is_some side.1) && t) || rest) f tie) ∙ e)
-    at false tie r f later = later (sym (ap (λ t. ((not (is_routed side.0 routes) && is_some side.1) && t) || rest) tie ∙ or-and_false (not (is_routed side.0 routes) && is_some side.1) rest) ∙ e)
+gives-none routes (side ∷ sides) q e =
+    let later = gives-none routes sides q in
+    let one = same_pair q side.0 in
+    grind arith

@@ -25,11 +25,7 @@ same_itself = (eq_by_cmp_equiv peer_cmp_total).refl
 module _ {A : Type 0} where
   -- peers for which two things stand are two
   apart : (order : List (Peer × A)) (one other : Peer) → (lookup (same_peer one) order ≡ lookup (same_peer other) order → ⊥) → same_peer one other ≡ false
-  apart order one other differ = at (same_peer one other) refl
-    where
-      at : (b : Bool) → same_peer one other ≡ b → b ≡ false
-      at true same = absurd (differ (ap (λ q. lookup (same_peer q) order) (one_peer one other same)))
-      at false same = refl
+  apart order one other differ = let tie = one_peer one other in grind arith
 
   -- what stands where something was written
   module _ {old new : List (Peer × A)} {peer : Peer} {w : Option A} (written : IsWritten old new peer w) (p : Peer) where
@@ -43,8 +39,7 @@ moved-differs : (names' : List Peer) (number : ℕ) (other : Peer) → slice_get
 moved-differs names' number other is same = let within = slice_get_within names' number other is in absurd (omega (arith, within, same))
 
 none-either : (b : Bool) (o : Option ℕ) → o ≡ None → cond b None o ≡ None
-none-either true o is = refl
-none-either false o is = is
+none-either b o is = grind arith
 
 -- where one peer goes, the one that stood last has its number
 pub record IsRenumbered (order order' : List (Peer × ℕ)) (peer : Peer) (last number : ℕ) : Type 0 where
@@ -74,19 +69,13 @@ module _ {S : Type 0} where
   at-number : (held : List S) (p : Peer) (order : List (Peer × ℕ)) → ((n : ℕ) → lookup (same_peer p) order ≡ Some n → is_some (slice_get held n) ≡ true)
       → store_at (stores_of held order) p ≡ stored held (lookup (same_peer p) order)
   at-number held p [] all = refl
-  at-number held p (e ∷ es) all = by (slice_get held e.1) ∙ at (slice_get held e.1) refl (same_peer p e.0) all (at-number held p es)
-    where
-      by : (o : Option S) → store_at (cons_option (option_map (λ store. (e.0, store)) o) (stores_of held es)) p ≡ first_of o (same_peer p e.0) (store_at (stores_of held es) p)
-      by None = refl
-      by (Some store) = refl
-
-      at : (o : Option S) → slice_get held e.1 ≡ o → (b : Bool) → ((n : ℕ) → cond b (Some e.1) (lookup (same_peer p) es) ≡ Some n → is_some (slice_get held n) ≡ true)
-          → (((n : ℕ) → lookup (same_peer p) es ≡ Some n → is_some (slice_get held n) ≡ true) → store_at (stores_of held es) p ≡ stored held (lookup (same_peer p) es))
-          → first_of o b (store_at (stores_of held es) p) ≡ stored held (cond b (Some e.1) (lookup (same_peer p) es))
-      at None is true some rest = let lost : false ≡ true = sym (ap is_some is) ∙ some e.1 refl in cc
-      at None is false some rest = rest some
-      at (Some store) is true some rest = sym is
-      at (Some store) is false some rest = rest some
+  at-number held p (e ∷ es) all =
+      let later = at-number held p es in
+      let here = all e.1 in
+      elim (same_peer p e.0) as (λ b. same_peer p e.0 ≡ b → store_at (stores_of held (e ∷ es)) p ≡ stored held (cond b (Some e.1) (lookup (same_peer p) es))) [
+        | true ↦ λ same. grind arith
+        | false ↦ λ differ. let rest = later (λ n found. all n (grind arith)) in grind arith
+      ] refl
 
   module _ {held : List S} {names : List Peer} {order : List (Peer × ℕ)} (are : AreNumbered held names order) where
     -- a name stands at a number that is found
@@ -118,19 +107,16 @@ module _ {S : Type 0} where
 
     -- a peer without a store has no number
     pub no-number : (p : Peer) → store_at (stores_of held order) p ≡ None → lookup (same_peer p) order ≡ None
-    no-number p none = at (lookup (same_peer p) order) refl (sym (at-stores_of p) ∙ none)
-      where
-        at : (o : Option ℕ) → lookup (same_peer p) order ≡ o → stored held o ≡ None → o ≡ None
-        at None is none = refl
-        at (Some n) is none = let lost : true ≡ false = sym (get-within held n (held-there p n is)) ∙ ap is_some none in cc
+    no-number p none =
+        let has = at-stores_of p in
+        elim (lookup (same_peer p) order) as (λ o. lookup (same_peer p) order ≡ o → o ≡ None) [
+          | None ↦ λ is. refl
+          | Some n ↦ λ is. let there = get-within held n (held-there p n is) in grind arith
+        ] refl
 
     -- nothing goes of a peer without a store
     pub stores-absent : {order' : List (Peer × ℕ)} {peer : Peer} → lookup (same_peer peer) order ≡ None → order' ≡ order → IsWritten (stores_of held order) (stores_of held order') peer None
-    stores-absent {peer = peer} none same = record { each = λ p. ap (λ es. store_at (stores_of held es) p) same ∙ at p (same_peer peer p) refl }
-      where
-        at : (p : Peer) (b : Bool) → same_peer peer p ≡ b → store_at (stores_of held order) p ≡ cond b None (store_at (stores_of held order) p)
-        at p true is = at-stores_of p ∙ ap (stored held) (ap (λ q. lookup (same_peer q) order) (sym (one_peer peer p is)) ∙ none)
-        at p false is = refl
+    stores-absent {peer = peer} none same = record { each = λ p. let one = one_peer peer p in grind (arith, at-stores_of p) }
 
     -- a store is written
     pub numbered-write : (number : ℕ) (w : S) → AreNumbered (set held number w) names order
@@ -142,30 +128,26 @@ module _ {S : Type 0} where
 
   module _ {held : List S} {names : List Peer} {order : List (Peer × ℕ)} (are : AreNumbered held names order) {peer : Peer} {number : ℕ} (found : lookup (same_peer peer) order ≡ Some number) (w : S) where
     pub stores-write : IsWritten (stores_of held order) (stores_of (set held number w) order) peer (Some w)
-    stores-write = record {
-      each = λ p.
-          at-stores_of (numbered-write are number w) p ∙ at p (same_peer peer p) refl (lookup (same_peer p) order) refl ∙ ap (cond (same_peer peer p) (Some w)) (sym (at-stores_of are p));
-    }
+    stores-write = record { each = λ p. at-stores_of (numbered-write are number w) p ∙ at p ∙ ap (cond (same_peer peer p) (Some w)) (sym (at-stores_of are p)) }
       where
-        at : (p : Peer) (b : Bool) → same_peer peer p ≡ b → (o : Option ℕ) → lookup (same_peer p) order ≡ o → stored (set held number w) o ≡ cond b (Some w) (stored held o)
-        at p true same o is =
-            ap (stored (set held number w)) (sym is ∙ ap (λ q. lookup (same_peer q) order) (sym (one_peer peer p same)) ∙ found) ∙ get-set_same held number w (held-there are peer number found)
-        at p false same None is = refl
-        at p false same (Some n) is = get-set_other held number n w (numbers-differ are peer p number n found is same)
+        at : (p : Peer) → stored (set held number w) (lookup (same_peer p) order) ≡ cond (same_peer peer p) (Some w) (stored held (lookup (same_peer p) order))
+        at p =
+            let one = one_peer peer p in
+            let here = get-set_same held number w (held-there are peer number found) in
+            let other = λ (n : ℕ) (is : lookup (same_peer p) order ≡ Some n) (same : same_peer peer p ≡ false). get-set_other held number n w (numbers-differ are peer p number n found is same) in
+            grind arith
 
   -- a store is added, of a peer that has none, behind all others
   module _ {held : List S} {names : List Peer} {order order' : List (Peer × ℕ)} (are : AreNumbered held names order) {peer : Peer} (store : S) (none : lookup (same_peer peer) order ≡ None)
       (updated : IsWritten order order' peer (Some (length held))) where
     there-insert : (p : Peer) (n : ℕ) → lookup (same_peer p) order' ≡ Some n → slice_get (names ++ peer ∷ []) n ≡ Some p
-    there-insert p n is = at (same_peer peer p) refl (updated.each p)
-      where
-        at : (b : Bool) → same_peer peer p ≡ b → lookup (same_peer p) order' ≡ cond b (Some (length held)) (lookup (same_peer p) order) → slice_get (names ++ peer ∷ []) n ≡ Some p
-        at true same has =
-            let number : length names ≡ n = are.even ∙ one_of (length held) n (sym has ∙ is) in
-            ap (slice_get (names ++ peer ∷ [])) (sym number) ∙ get-push_last names peer ∙ ap Some (one_peer peer p same)
-        at false same has =
-            let was = are.there p n (sym has ∙ is) in
-            get-push_other names peer n (slice_get_within names n p was) ∙ was
+    there-insert p n is =
+        let has = updated.each p in
+        let one = one_peer peer p in
+        elim (same_peer peer p) as (λ b. same_peer peer p ≡ b → slice_get (names ++ peer ∷ []) n ≡ Some p) [
+          | true ↦ λ same. let last = get-push_last names peer in grind (arith, are.even)
+          | false ↦ λ differ. let was = are.there p n (grind arith) in get-push_other names peer n (slice_get_within names n p was) ∙ was
+        ] refl
 
     back-insert : (p : Peer) (n : ℕ) → slice_get (names ++ peer ∷ []) n ≡ Some p → lookup (same_peer p) order' ≡ Some n
     back-insert p n is = elim (cases_eq n (length names)) [
@@ -186,16 +168,13 @@ module _ {S : Type 0} where
     }
 
     stores-insert : IsWritten (stores_of held order) (stores_of (held ++ store ∷ []) order') peer (Some store)
-    stores-insert = record {
-      each = λ p.
-          at-stores_of numbered-insert p ∙ ap (stored (held ++ store ∷ [])) (updated.each p) ∙ at p (same_peer peer p) (lookup (same_peer p) order) refl
-          ∙ ap (cond (same_peer peer p) (Some store)) (sym (at-stores_of are p));
-    }
+    stores-insert = record { each = λ p. at-stores_of numbered-insert p ∙ ap (stored (held ++ store ∷ [])) (updated.each p) ∙ at p ∙ ap (cond (same_peer peer p) (Some store)) (sym (at-stores_of are p)) }
       where
-        at : (p : Peer) (b : Bool) (o : Option ℕ) → lookup (same_peer p) order ≡ o → stored (held ++ store ∷ []) (cond b (Some (length held)) o) ≡ cond b (Some store) (stored held o)
-        at p true o is = get-push_last held store
-        at p false None is = refl
-        at p false (Some n) is = get-push_other held store n (held-there are p n is)
+        at : (p : Peer) → stored (held ++ store ∷ []) (cond (same_peer peer p) (Some (length held)) (lookup (same_peer p) order)) ≡ cond (same_peer peer p) (Some store) (stored held (lookup (same_peer p) order))
+        at p =
+            let here = get-push_last held store in
+            let other = λ (n : ℕ) (is : lookup (same_peer p) order ≡ Some n). get-push_other held store n (held-there are p n is) in
+            grind arith
 
   -- the same, by what the lists are then
   pub numbered-added : {held held' : List S} {names names' : List Peer} {order order' : List (Peer × ℕ)} {peer : Peer} {store : S} {number : ℕ} → AreNumbered held names order
@@ -317,39 +296,19 @@ module _ {S : Type 0} where
   -- the stores stand in the order of their peers
   less-stores_of : (held : List S) (p : Peer) (order : List (Peer × ℕ)) → AllByRecursion (λ q. peer_cmp p q ≡ Less) (keys_of order) → AllByRecursion (λ q. peer_cmp p q ≡ Less) (keys_of (stores_of held order))
   less-stores_of held p [] all = tt
-  less-stores_of held p (e ∷ es) all = at (slice_get held e.1) (less-stores_of held p es all.1)
-    where
-      at : (o : Option S) → AllByRecursion (λ q. peer_cmp p q ≡ Less) (keys_of (stores_of held es))
-          → AllByRecursion (λ q. peer_cmp p q ≡ Less) (keys_of (cons_option (option_map (λ store. (e.0, store)) o) (stores_of held es)))
-      at None rest = rest
-      at (Some store) rest = (all.0, rest)
+  less-stores_of held p (e ∷ es) all =
+      let rest = less-stores_of held p es all.1 in
+      elim (slice_get held e.1) as (λ o. AllByRecursion (λ q. peer_cmp p q ≡ Less) (keys_of (cons_option (option_map (λ store. (e.0, store)) o) (stores_of held es)))) [ None ↦ rest | Some store ↦ (all.0, rest) ]
 
   pub sorted-stores_of : (held : List S) (order : List (Peer × ℕ)) → IsStrictlySortedBy peer_cmp (keys_of order) → IsStrictlySortedBy peer_cmp (keys_of (stores_of held order))
   unfolding IsStrictlySortedBy
   sorted-stores_of held [] sorted = tt
-  sorted-stores_of held (e ∷ es) sorted = at (slice_get held e.1) (sorted-stores_of held es sorted.1)
-    where
-      at : (o : Option S) → IsStrictlySortedBy peer_cmp (keys_of (stores_of held es)) → IsStrictlySortedBy peer_cmp (keys_of (cons_option (option_map (λ store. (e.0, store)) o) (stores_of held es)))
-      at None rest = rest
-      at (Some store) rest = (less-stores_of held e.0 es sorted.0, rest)
+  sorted-stores_of held (e ∷ es) sorted =
+      let rest = sorted-stores_of held es sorted.1 in
+      elim (slice_get held e.1) as (λ o. IsStrictlySortedBy peer_cmp (keys_of (cons_option (option_map (λ store. (e.0, store)) o) (stores_of held es)))) [ None ↦ rest | Some store ↦ (less-stores_of held e.0 es sorted.0, rest) ]
 
   -- the stores of some peers
   pub stores_of-filter : (held : List S) (test : Peer → Bool) (order : List (Peer × ℕ))
       → stores_of held (filter (λ (e : Peer × ℕ). test e.0) order) ≡ filter (λ (e : Peer × S). test e.0) (stores_of held order)
   stores_of-filter held test [] = refl
-  stores_of-filter held test (e ∷ es) =
-      in_front (test e.0) ∙ ap (λ ss. cond (test e.0) (cons_option (option_map (λ store. (e.0, store)) (slice_get held e.1)) ss) ss) (stores_of-filter held test es) ∙ at (slice_get held e.1)
-    where
-      in_front : (b : Bool) → let rest = filter (λ (e : Peer × ℕ). test e.0) es in
-          stores_of held (cond b (e ∷ rest) rest) ≡ cond b (cons_option (option_map (λ store. (e.0, store)) (slice_get held e.1)) (stores_of held rest)) (stores_of held rest)
-      in_front true = refl
-      in_front false = refl
-
-      same : (b : Bool) (rest : List (Peer × S)) → cond b rest rest ≡ rest
-      same true rest = refl
-      same false rest = refl
-
-      at : (o : Option S) → let rest = filter (λ (e : Peer × S). test e.0) (stores_of held es) in
-          cond (test e.0) (cons_option (option_map (λ store. (e.0, store)) o) rest) rest ≡ filter (λ (e : Peer × S). test e.0) (cons_option (option_map (λ store. (e.0, store)) o) (stores_of held es))
-      at None = same (test e.0) (filter (λ (e : Peer × S). test e.0) (stores_of held es))
-      at (Some store) = refl
+  stores_of-filter held test (e ∷ es) = grind (arith, stores_of-filter held test es)

@@ -1,11 +1,11 @@
 -- Entries in the order of their pairs: of those of a pair the first counts.
-use Rattle.std.proofs.Common.{◌≡◌, Bool, true, false, not, cond, ◌&&◌, List, [], ◌∷◌, Option, Some, None, refl, sym, ap, ◌∙◌}
+use Rattle.std.proofs.Common.{◌≡◌, Bool, true, false, List, [], ◌∷◌, Option, Some, None, refl, sym, ap, ◌∙◌, arith}
 use Rattle.std.specs.List.{AllByRecursion, dedup, dedup_from, filter}
 use Rattle.std.specs.List.Sorted.{IsSortedByKey, IsStableByKey, IsStrictlySortedBy, ties}
-use Rattle.std.specs.Ordering.{eq_by_cmp, is_lt, is_eq, on, ordering_reverse}
+use Rattle.std.specs.Ordering.{eq_by_cmp, is_lt, on}
 use Rattle.std.specs.Cmp.{on_total}
 use Rattle.std.specs.declared.cmp.Ordering.{Ordering}
-use Rattle.std.specs.declared.cmp.Ordering.TheVariants.{Less, Equal, Greater}
+use Rattle.std.specs.declared.cmp.Ordering.TheVariants.{Less}
 use Rattle.std.proofs.lemmas.List.Kept.{IsStrictlySortedBy-dedup}
 use Rattle.mrt_events.specs.declared.event.Route.{Route}
 use Rattle.rib_player.specs.declared.pair.Pair.{Pair}
@@ -32,22 +32,15 @@ found_in entries q = found (sides_of entries) q
 
 -- what stands for a pair behind an entry of another doesn't change where a further entry of that pair is left out
 passed : (q : Pair) (kept left : Entry) (rest : List Entry) → of_one_pair left kept ≡ true → found_in (kept ∷ rest) q ≡ found_in (kept ∷ left ∷ rest) q
-passed q kept left rest same = at (eq_by_cmp pair_cmp q kept.pair) refl
-  where
-    at : (b : Bool) → eq_by_cmp pair_cmp q kept.pair ≡ b
-        → cond b (Some (route_in kept.other)) (found_in rest q) ≡ cond b (Some (route_in kept.other)) (cond (eq_by_cmp pair_cmp q left.pair) (Some (route_in left.other)) (found_in rest q))
-    at true e = refl
-    at false e = ap (λ b. cond b (Some (route_in left.other)) (found_in rest q)) (sym (ap (eq_by_cmp pair_cmp q) (same_pair left.pair kept.pair same) ∙ e))
+passed q kept left rest same = let one = same_pair left.pair kept.pair same in grind arith
 
 found_from : (q : Pair) (kept : Entry) (entries : List Entry) → found_in (dedup_from of_one_pair kept entries) q ≡ found_in (kept ∷ entries) q
 found_from q kept [] = refl
-found_from q kept (entry ∷ entries) = at (found_from q kept entries) (found_from q entry entries) (of_one_pair entry kept) refl
-  where
-    at : found_in (dedup_from of_one_pair kept entries) q ≡ found_in (kept ∷ entries) q → found_in (dedup_from of_one_pair entry entries) q ≡ found_in (entry ∷ entries) q
-        → (b : Bool) → of_one_pair entry kept ≡ b
-        → found_in (cond b (dedup_from of_one_pair kept entries) (kept ∷ dedup_from of_one_pair entry entries)) q ≡ found_in (kept ∷ entry ∷ entries) q
-    at left stays true e = left ∙ passed q kept entry entries e
-    at left stays false e = ap (cond (eq_by_cmp pair_cmp q kept.pair) (Some (route_in kept.other))) stays
+found_from q kept (entry ∷ entries) =
+    let left = found_from q kept entries in
+    let stays = found_from q entry entries in
+    let past = passed q kept entry entries in
+    grind arith
 
 -- of each pair the first entry stays
 pub found-dedup : (q : Pair) (entries : List Entry) → found (sides_of (dedup of_one_pair entries)) q ≡ found (sides_of entries) q
@@ -66,12 +59,7 @@ tied q = ties (λ (x y : Entry). is_lt (pair_cmp x.pair y.pair)) (entry_of q)
 
 -- entries of one pair tie, and no others
 tie : (q : Pair) (entry : Entry) → tied q entry ≡ eq_by_cmp pair_cmp q entry.pair
-tie q entry = at (pair_cmp q entry.pair) (pair_cmp entry.pair q) (pair_cmp_total.antisymm entry.pair q)
-  where
-    at : (one other : Ordering) → other ≡ ordering_reverse one → (not (is_lt one) && not (is_lt other)) ≡ is_eq one
-    at Less other e = refl
-    at Equal other e = ap (λ (o : Ordering). not (is_lt o)) e
-    at Greater other e = ap (λ (o : Ordering). not (is_lt o)) e
+tie q entry = let turned = pair_cmp_total.antisymm entry.pair q in grind arith
 
 -- what stands for a pair is the first of those that tie with it
 abbrev first_of : List Entry → Option (Option Route)
@@ -80,14 +68,7 @@ first_of (entry ∷ entries) = Some (route_in entry.other)
 
 found-tied : (q : Pair) (entries : List Entry) → found_in entries q ≡ first_of (filter (tied q) entries)
 found-tied q [] = refl
-found-tied q (entry ∷ entries) =
-    at (found-tied q entries) (eq_by_cmp pair_cmp q entry.pair)
-    ∙ ap (λ b. first_of (cond b (entry ∷ filter (tied q) entries) (filter (tied q) entries))) (sym (tie q entry))
-  where
-    at : found_in entries q ≡ first_of (filter (tied q) entries)
-        → (b : Bool) → cond b (Some (route_in entry.other)) (found_in entries q) ≡ first_of (cond b (entry ∷ filter (tied q) entries) (filter (tied q) entries))
-    at rest true = refl
-    at rest false = rest
+found-tied q (entry ∷ entries) = grind (arith, found-tied q entries, tie q entry)
 
 -- a stable sort keeps what stands for each pair
 pub found-sorted : (q : Pair) (entries sorted : List Entry) → IsStableByKey (λ (entry : Entry). entry.pair) pair_cmp entries sorted

@@ -1,5 +1,5 @@
 -- The routes of one peer, those above a prefix, and the peers that have a route.
-use Rattle.std.proofs.Common.{◌≡◌, ℕ, suc, ◌<◌, ◌≤◌, Bool, true, false, cond, T, ◌&&◌, ◌||◌, nat_lt, List, [], ◌∷◌, map, take, length, Option, Some, None, is_some, slice_get, Bor, refl, sym, ap, ap₂, subst, ◌∙◌, arith}
+use Rattle.std.proofs.Common.{◌≡◌, ℕ, ◌<◌, ◌≤◌, Bool, true, false, cond, T, ◌&&◌, ◌||◌, nat_lt, List, [], ◌∷◌, map, take, length, Option, Some, None, is_some, slice_get, Bor, refl, sym, ap, ap₂, subst, ◌∙◌, arith}
 use Rattle.std.specs.List.{list_any, filter, AllByRecursion}
 use Rattle.std.specs.List.Sorted.{IsStrictlySortedBy}
 use Rattle.std.specs.Map.{keys_of}
@@ -8,15 +8,17 @@ use Rattle.std.specs.Ordering.{eq_by_cmp, is_eq, is_lt}
 use Rattle.std.specs.declared.cmp.Ordering.TheVariants.{Less}
 use Rattle.std.specs.Cmp.{eq_by_cmp_equiv, tied_itself}
 use Rattle.std.specs.FinMap as finite
-use Rattle.std.specs.FinMap.{same_map, contains_key-keys, get-empty, get-entries, get-from_entries, get-from_sorted, entries-from_sorted, len-entries, len-empty}
-use Rattle.std.specs.FinMap.Entries.{find, is_sorted, below_all}
+use Rattle.std.specs.FinMap.{same_map, contains_key-keys, get-empty, get-entries, get-from_entries, len-entries, len-empty}
+use Rattle.std.specs.FinMap.Entries.{find, is_sorted, below_all, same_entries}
 use Rattle.std.specs.declared.alloc.Global.{Global}
 use Rattle.std.specs.declared.rc.Rc.{Rc}
 use Rattle.std.proofs.lemmas.Map.Keys.{sorted_head, sorted_tail}
 use Rattle.std.proofs.lemmas.Bool.{and_parts, lt-ltb, le-ltb}
+use Rattle.std.proofs.lemmas.Bool.Decides.{nat_tests}
+use Rattle.std.proofs.lemmas.List.Elements.{filter_agree}
 use Rattle.std.proofs.Math.Bool.{and_comm}
-use Rattle.std.proofs.lemmas.List.{length-map, take-map, nil_from_length}
-use Rattle.std.proofs.lemmas.Option.{slice_get-map}
+use Rattle.std.proofs.lemmas.List.{length-map, take-map, nil_from_length, map-id}
+use Rattle.std.proofs.lemmas.Option.{same_Some, slice_get-map}
 use Rattle.octet_forms.proofs.Options.{is_some-option_map}
 use Rattle.ip_prefix.specs.Address.{Address}
 use Rattle.ip_prefix.specs.Network.{Network}
@@ -24,9 +26,8 @@ use Rattle.ip_prefix.specs.Order.{network_cmp}
 use Rattle.ip_prefix.specs.OrderLaws.{network_cmp_total, network_cmp-IsAntisymmetric}
 use Rattle.prefix_store.specs.Stored as stored
 use Rattle.prefix_store.specs.Stored.{counted}
-use Rattle.prefix_store.specs.Lookups.{above, is_above, pointed, IsLongest}
-use Rattle.prefix_store.proofs.AboveLaws.{take-nil}
-use Rattle.prefix_store.proofs.AboveLaws.{is_less, routes_sorted}
+use Rattle.prefix_store.specs.Lookups.{above, pointed, IsLongest}
+use Rattle.prefix_store.proofs.AboveLaws.{take-nil, is_less, is_true, keys-in_order, higher-next}
 use Rattle.mrt_events.specs.declared.peer.Peer.{Peer}
 use Rattle.mrt_events.specs.declared.event.Route.{Route}
 use Rattle.mrt_events.specs.Peer.{peer_cmp}
@@ -38,7 +39,7 @@ use Rattle.rib_player.specs.Store.{Stores, store_at, routes_in, peer_routes, rou
 use Rattle.rib_player.specs.Lookups.{IsBest, pointed_routes, is_peer_above, peers_above, routed_stores, peer_count}
 use Rattle.rib_player.specs.Holding.{value_of, IsWritten}
 use Rattle.rib_player.proofs.ListLaws.{all-then}
-use Rattle.rib_player.proofs.StoreLaws.{same_peer, one_of, same_network, one_peer, peer_symm, tied_parts, any-pairs, get-found, routes_in-other}
+use Rattle.rib_player.proofs.StoreLaws.{same_peer, one_peer, peer_symm, tied_parts, any-pairs, get-found, routes_in-other}
 
 -- ---- the routes of a peer
 
@@ -54,15 +55,8 @@ of_peer peer es = prefixed (filter (λ (e : Pair × Route). same_peer e.0.peer p
 find-peer : (peer : Peer) (n : Network) (es : List (Pair × Route)) → find network_cmp n (of_peer peer es) ≡ find pair_cmp (pair_of peer n) es
 find-peer peer n [] = refl
 find-peer peer n (e ∷ es) =
-    at (same_peer e.0.peer peer) (find-peer peer n es)
-    ∙ ap (λ b. cond (b && same_network n e.0.prefix) (Some e.1) (find pair_cmp (pair_of peer n) es)) (peer_symm e.0.peer peer)
-    ∙ ap (λ b. cond b (Some e.1) (find pair_cmp (pair_of peer n) es)) (sym (tied_parts (pair_of peer n) e.0.peer e.0.prefix))
-  where
-    at : (b : Bool) → find network_cmp n (of_peer peer es) ≡ find pair_cmp (pair_of peer n) es
-        → find network_cmp n (prefixed (cond b (e ∷ filter (λ (e : Pair × Route). same_peer e.0.peer peer) es) (filter (λ (e : Pair × Route). same_peer e.0.peer peer) es)))
-        ≡ cond (b && same_network n e.0.prefix) (Some e.1) (find pair_cmp (pair_of peer n) es)
-    at true rest = ap (cond (same_network n e.0.prefix) (Some e.1)) rest
-    at false rest = rest
+    let parts = tied_parts (pair_of peer n) e.0.peer e.0.prefix in
+    grind (arith, find-peer peer n es, peer_symm e.0.peer peer)
 
 -- the routes of a peer are those at its pairs
 pub get-peer_routes : (routes : Routes) (peer : Peer) (n : Network) → finite.get (peer_routes routes peer) n ≡ finite.get routes (pair_of peer n)
@@ -80,11 +74,7 @@ valued es = map (λ (e : Network × Rc Route Global). (e.0, e.1.value)) es
 
 find-valued : (n : Network) (es : List (Network × Rc Route Global)) → find network_cmp n (valued es) ≡ option_map value_of (find network_cmp n es)
 find-valued n [] = refl
-find-valued n (e ∷ es) = ap (cond (same_network n e.0) (Some e.1.value)) (find-valued n es) ∙ at (same_network n e.0)
-  where
-    at : (b : Bool) → cond b (Some e.1.value) (option_map value_of (find network_cmp n es)) ≡ option_map value_of (cond b (Some e.1) (find network_cmp n es))
-    at true = refl
-    at false = refl
+find-valued n (e ∷ es) = grind (arith, find-valued n es)
 
 below-valued : (x : Network) (es : List (Network × Rc Route Global)) → below_all network_cmp x (valued es) ≡ below_all network_cmp x es
 below-valued x [] = refl
@@ -96,11 +86,7 @@ sorted-valued (e ∷ es) = ap₂ (λ a b. a && b) (below-valued e.0 es) (sorted-
 
 above-valued : (low : Option Network) (es : List (Network × Rc Route Global)) → above low (valued es) ≡ valued (above low es)
 above-valued low [] = refl
-above-valued low (e ∷ es) = ap (λ s. cond (is_above low e.0) ((e.0, e.1.value) ∷ s) s) (above-valued low es) ∙ at (is_above low e.0)
-  where
-    at : (b : Bool) → cond b ((e.0, e.1.value) ∷ valued (above low es)) (valued (above low es)) ≡ valued (cond b (e ∷ above low es) (above low es))
-    at true = refl
-    at false = refl
+above-valued low (e ∷ es) = grind (arith, above-valued low es)
 
 values-valued : (es : List (Network × Rc Route Global)) → map (λ (e : Network × Route). e.1) (valued es) ≡ map value_of (map (λ (e : Network × Rc Route Global). e.1) es)
 values-valued [] = refl
@@ -115,11 +101,7 @@ pub any-of_peer : (all : Routes) (peer : Peer) (q : Pair) → list_any (eq_by_cm
 any-of_peer all peer q =
     any-pairs q peer (finite.keys (peer_routes all peer))
     ∙ ap (λ b. same_peer q.peer peer && b) (sym (contains_key-keys (peer_routes all peer) q.prefix) ∙ ap is_some (get-peer_routes all peer q.prefix))
-    ∙ at (same_peer q.peer peer) refl
-  where
-    at : (b : Bool) → same_peer q.peer peer ≡ b → (b && is_some (finite.get all (pair_of peer q.prefix))) ≡ (b && is_some (finite.get all q))
-    at true is = ap (λ p. is_some (finite.get all (pair_of p q.prefix))) (sym (one_peer q.peer peer is))
-    at false is = refl
+    ∙ (let one = one_peer q.peer peer in grind arith)
 
 -- each entry in order is found
 found-behind : (x : Network × Route) (es ys : List (Network × Route)) → below_all network_cmp x.0 ys ≡ true → AllByRecursion (λ e. find network_cmp e.0 es ≡ Some e.1) ys
@@ -141,21 +123,20 @@ pub each-of_peer : (all : Routes) (peer : Peer) → AllByRecursion (λ e. finite
 each-of_peer all peer =
     let own = finite.entries (peer_routes all peer) in
     all-then (λ e. find network_cmp e.0 own ≡ Some e.1) (λ e. finite.get all (pair_of peer e.0) ≡ Some e.1) own
-    (λ e found. sym (get-peer_routes all peer e.0) ∙ get-entries (peer_routes all peer) e.0 ∙ found) (found-each own (routes_sorted (peer_routes all peer)))
+    (λ e found. sym (get-peer_routes all peer e.0) ∙ get-entries (peer_routes all peer) e.0 ∙ found) (found-each own (is_true _ (finite.entries_sorted (peer_routes all peer))))
 
 -- ---- a peer that has the routes of its store
 
 module _ (own : stored.Routes (Rc Route Global)) (all : Routes) (peer : Peer) (same : (n : Network) → option_map value_of (finite.get own n) ≡ finite.get all (pair_of peer n)) where
   entries-of_peer : finite.entries (peer_routes all peer) ≡ valued (finite.entries own)
   entries-of_peer =
-      let sorted : T (is_sorted network_cmp (valued (finite.entries own))) = subst T (sym (sorted-valued (finite.entries own) ∙ routes_sorted own)) tt in
-      ap finite.entries (same_map network_cmp_total network_cmp-IsAntisymmetric (peer_routes all peer) (finite.from_sorted (valued (finite.entries own))) (λ n.
-      get-peer_routes all peer n
+      same_entries network_cmp network_cmp_total network_cmp-IsAntisymmetric (finite.entries (peer_routes all peer)) (valued (finite.entries own))
+      (finite.entries_sorted (peer_routes all peer)) (subst T (sym (sorted-valued (finite.entries own))) (finite.entries_sorted own)) (λ n.
+      sym (get-entries (peer_routes all peer) n)
+      ∙ get-peer_routes all peer n
       ∙ sym (same n)
       ∙ ap (option_map value_of) (get-entries own n)
-      ∙ sym (find-valued n (finite.entries own))
-      ∙ sym (get-from_sorted network_cmp (valued (finite.entries own)) n sorted)))
-      ∙ entries-from_sorted network_cmp (valued (finite.entries own)) sorted
+      ∙ sym (find-valued n (finite.entries own)))
 
   pub keys-of_peer : finite.keys own ≡ finite.keys (peer_routes all peer)
   keys-of_peer = sym (ap (map (λ (e : Network × Route). e.0)) entries-of_peer ∙ keys-valued (finite.entries own))
@@ -184,8 +165,7 @@ module _ (own : stored.Routes (Rc Route Global)) (all : Routes) (peer : Peer) (s
     where
       at : (first : Option (Network × Bor (Rc Route Global)))
           → option_map {U = Network × Route} (λ f. (f.0, f.1.now.value)) first ≡ option_map {U = Network × Route} (λ f. (f.0, f.1.value)) (option_map {U = Network × Rc Route Global} (λ f. (f.0, f.1.now)) first)
-      at None = refl
-      at (Some f) = refl
+      at first = grind arith
 
   -- so are more
   pub front-above : (low : Option Network) (room : ℕ) (found : List (Network × Bor (Rc Route Global))) → pointed found ≡ take room (above low (finite.entries own))
@@ -198,7 +178,7 @@ module _ (own : stored.Routes (Rc Route Global)) (all : Routes) (peer : Peer) (s
     where
       at : (found : List (Network × Bor (Rc Route Global))) → pointed_routes found ≡ valued (pointed found)
       at [] = refl
-      at (f ∷ found) = ap (λ fs. (f.0, f.1.now.value) ∷ fs) (at found)
+      at (f ∷ found) = grind (arith, at found)
 
   -- and the best one
   pub best-of_peer : (address : Address) (best : Option (Network × Bor (Rc Route Global))) → IsLongest own address (option_map (λ b. (b.0, b.1.now)) best) → IsBest all peer address (option_map (λ b. (b.0, b.1.now.value)) best)
@@ -239,11 +219,7 @@ routes-taken routes {old = old} {peer = peer} written none q =
     ∙ ap (λ r. cond (same_peer q.peer peer) r (finite.get (routes_in routes old) q)) (ap (option_map value_of) (ap (λ r. finite.get r q.prefix) none ∙ get-empty network_cmp q.prefix))
 
 pub no_routes-taken : (all : Routes) (peer : Peer) → ((n : Network) → finite.get all (pair_of peer n) ≡ None) → (q : Pair) → finite.get all q ≡ cond (same_peer q.peer peer) None (finite.get all q)
-no_routes-taken all peer none q = at (same_peer q.peer peer) refl
-  where
-    at : (b : Bool) → same_peer q.peer peer ≡ b → finite.get all q ≡ cond b None (finite.get all q)
-    at true is = ap (λ p. finite.get all (pair_of p q.prefix)) (one_peer q.peer peer is) ∙ none q.prefix
-    at false is = refl
+no_routes-taken all peer none q = let one = one_peer q.peer peer in let no = none q.prefix in grind arith
 
 -- ---- the peers that have a route
 
@@ -261,11 +237,7 @@ mark_where b = cond b (Some tt) None
 
 find-marked : {A : Type 0} (peer_of : A → Peer) (p : Peer) (xs : List A) → find peer_cmp p (marked peer_of xs) ≡ mark_where (has_peer p (map peer_of xs))
 find-marked peer_of p [] = refl
-find-marked peer_of p (x ∷ xs) = ap (λ o. cond (same_peer p (peer_of x)) (mark_where true) o) (find-marked peer_of p xs) ∙ at (same_peer p (peer_of x)) (has_peer p (map peer_of xs))
-  where
-    at : (a b : Bool) → cond a (mark_where true) (mark_where b) ≡ mark_where (a || b)
-    at true b = refl
-    at false b = refl
+find-marked peer_of p (x ∷ xs) = grind (arith, find-marked peer_of p xs)
 
 keys-marked : {A : Type 0} (peer_of : A → Peer) (xs : List A) → map (λ (e : Peer × Unit {0}). e.0) (marked peer_of xs) ≡ map peer_of xs
 keys-marked peer_of [] = refl
@@ -291,12 +263,7 @@ len-from_entries (e ∷ es) = some-entries e es ∙ sym (lt-ltb 0 (length (e ∷
 
 some-of_peer : (p : Peer) (es : List (Pair × Route)) → has_peer p (map (λ (e : Pair × Route). e.0.peer) es) ≡ nat_lt 0 (length (of_peer p es))
 some-of_peer p [] = refl
-some-of_peer p (e ∷ es) = ap₂ (λ a b. a || b) (peer_symm p e.0.peer) (some-of_peer p es) ∙ at (same_peer e.0.peer p)
-  where
-    at : (b : Bool) → (b || nat_lt 0 (length (of_peer p es)))
-        ≡ nat_lt 0 (length (prefixed (cond b (e ∷ filter (λ (e : Pair × Route). same_peer e.0.peer p) es) (filter (λ (e : Pair × Route). same_peer e.0.peer p) es))))
-    at true = sym (lt-ltb 0 (suc (length (of_peer p es))) (omega arith))
-    at false = refl
+some-of_peer p (e ∷ es) = grind (arith, nat_tests, some-of_peer p es, peer_symm p e.0.peer)
 
 -- a peer is among those of all routes where it has some
 some-peer_routes : (all : Routes) (p : Peer) → has_peer p (map (λ (e : Pair × Route). e.0.peer) (finite.entries all)) ≡ nat_lt 0 (finite.len (peer_routes all p))
@@ -311,11 +278,9 @@ absent_peer p (e ∷ entries) all = ap (λ r. is_eq r || has_peer p (keys_of ent
 -- where some go, a peer below all is below those that are left
 below-filter : {A : Type 0} (has : Peer × A → Bool) (x : Peer) (es : List (Peer × A)) → AllByRecursion (λ y. peer_cmp x y ≡ Less) (keys_of es) → AllByRecursion (λ y. peer_cmp x y ≡ Less) (keys_of (filter has es))
 below-filter has x [] all = tt
-below-filter has x (e ∷ es) all = at (has e) (below-filter has x es all.1)
-  where
-    at : (b : Bool) → AllByRecursion (λ y. peer_cmp x y ≡ Less) (keys_of (filter has es)) → AllByRecursion (λ y. peer_cmp x y ≡ Less) (keys_of (cond b (e ∷ filter has es) (filter has es)))
-    at true rest = (all.0, rest)
-    at false rest = rest
+below-filter has x (e ∷ es) all =
+    let rest = below-filter has x es all.1 in
+    elim (has e) as (λ b. AllByRecursion (λ y. peer_cmp x y ≡ Less) (keys_of (cond b (e ∷ filter has es) (filter has es)))) [ true ↦ (all.0, rest) | false ↦ rest ]
 
 below-marked : {A : Type 0} (x : Peer) (es : List (Peer × A)) → AllByRecursion (λ y. peer_cmp x y ≡ Less) (keys_of es) → below_all peer_cmp x (marked (λ e. e.0) es) ≡ true
 below-marked x [] all = refl
@@ -323,33 +288,19 @@ below-marked x (e ∷ es) all = ap (λ r. is_lt r && below_all peer_cmp x (marke
 
 sorted-marked : {A : Type 0} (has : Peer × A → Bool) (es : List (Peer × A)) → IsStrictlySortedBy peer_cmp (keys_of es) → is_sorted peer_cmp (marked (λ e. e.0) (filter has es)) ≡ true
 sorted-marked has [] sorted = refl
-sorted-marked has (e ∷ es) sorted = at (has e) (sorted-marked has es (sorted_tail peer_cmp e.0 (keys_of es) sorted))
-  where
-    at : (b : Bool) → is_sorted peer_cmp (marked (λ e. e.0) (filter has es)) ≡ true → is_sorted peer_cmp (marked (λ e. e.0) (cond b (e ∷ filter has es) (filter has es))) ≡ true
-    at true rest = ap (λ b. b && is_sorted peer_cmp (marked (λ e. e.0) (filter has es))) (below-marked e.0 (filter has es) (below-filter has e.0 es (sorted_head peer_cmp e.0 (keys_of es) sorted))) ∙ rest
-    at false rest = rest
+sorted-marked has (e ∷ es) sorted =
+    let low = below-marked e.0 (filter has es) (below-filter has e.0 es (sorted_head peer_cmp e.0 (keys_of es) sorted)) in
+    let rest = sorted-marked has es (sorted_tail peer_cmp e.0 (keys_of es) sorted) in
+    grind arith
 
 -- two filters are one
 filter_twice : {A : Type 0} (p q : A → Bool) (xs : List A) → filter p (filter q xs) ≡ filter (λ x. q x && p x) xs
 filter_twice p q [] = refl
-filter_twice p q (x ∷ xs) = at (q x) (filter_twice p q xs)
-  where
-    at : (b : Bool) → filter p (filter q xs) ≡ filter (λ x. q x && p x) xs
-        → filter p (cond b (x ∷ filter q xs) (filter q xs)) ≡ cond (b && p x) (x ∷ filter (λ x. q x && p x) xs) (filter (λ x. q x && p x) xs)
-    at true rest = ap (λ s. cond (p x) (x ∷ s) s) rest
-    at false rest = rest
-
-filter_alike : {A : Type 0} (p q : A → Bool) → ((x : A) → p x ≡ q x) → (xs : List A) → filter p xs ≡ filter q xs
-filter_alike p q same [] = refl
-filter_alike p q same (x ∷ xs) = ap₂ (λ b s. cond b (x ∷ s) s) (same x) (filter_alike p q same xs)
+filter_twice p q (x ∷ xs) = grind (arith, filter_twice p q xs)
 
 keys-filter : {A : Type 0} (p : Peer → Bool) (es : List (Peer × A)) → keys_of (filter (λ e. p e.0) es) ≡ filter p (keys_of es)
 keys-filter p [] = refl
-keys-filter p (e ∷ es) = at (p e.0) ∙ ap (λ s. cond (p e.0) (e.0 ∷ s) s) (keys-filter p es)
-  where
-    at : (b : Bool) → keys_of (cond b (e ∷ filter (λ e. p e.0) es) (filter (λ e. p e.0) es)) ≡ cond b (e.0 ∷ keys_of (filter (λ e. p e.0) es)) (keys_of (filter (λ e. p e.0) es))
-    at true = refl
-    at false = refl
+keys-filter p (e ∷ es) = grind (arith, keys-filter p es)
 
 -- the store of a peer that is below all others is not among those
 not_below : {A : Type 0} (p : Peer) (es : List (Peer × A)) (a : A) → AllByRecursion (λ y. peer_cmp p y ≡ Less) (keys_of es) → store_at es p ≡ Some a → ⊥
@@ -359,17 +310,15 @@ not_below p (e ∷ es) a all found = not_below p es a all.1 (sym (ap (λ r. cond
 -- the first of those that pass is the store of its peer
 first_found : {A : Type 0} (p : Peer × A → Bool) (es : List (Peer × A)) (e : Peer × A) → IsStrictlySortedBy peer_cmp (keys_of es) → slice_get (filter p es) 0 ≡ Some e → store_at es e.0 ≡ Some e.1
 first_found p [] e sorted is = cc
-first_found {A} p (x ∷ es) e sorted is = at (p x) is (first_found p es e (sorted_tail peer_cmp x.0 (keys_of es) sorted)) (same_peer e.0 x.0) refl
-  where
-    at : (b : Bool) → slice_get (cond b (x ∷ filter p es) (filter p es)) 0 ≡ Some e → (slice_get (filter p es) 0 ≡ Some e → store_at es e.0 ≡ Some e.1)
-        → (c : Bool) → same_peer e.0 x.0 ≡ c → cond c (Some x.1) (store_at es e.0) ≡ Some e.1
-    at true is later true f = ap (λ (y : Peer × A). Some y.1) (one_of x e is)
-    at true is later false f =
-        let wrong : true ≡ false = sym (ap is_eq (tied_itself peer_cmp_total e.0)) ∙ ap (λ (y : Peer × A). same_peer e.0 y.0) (sym (one_of x e is)) ∙ f in
-        cc
-    at false is later true f =
-        absurd (not_below x.0 es e.1 (sorted_head peer_cmp x.0 (keys_of es) sorted) (ap (store_at es) (sym (one_peer e.0 x.0 f)) ∙ later is))
-    at false is later false f = later is
+first_found {A} p (x ∷ es) e sorted is =
+    let later = first_found p es e (sorted_tail peer_cmp x.0 (keys_of es) sorted) in
+    elim (p x) as (λ b. slice_get (cond b (x ∷ filter p es) (filter p es)) 0 ≡ Some e → store_at (x ∷ es) e.0 ≡ Some e.1) [
+      | true ↦ λ is. ap (λ (y : Peer × A). store_at (x ∷ es) y.0) (sym (same_Some x e is)) ∙ ap (λ r. cond (is_eq r) (Some x.1) (store_at es x.0)) (tied_itself peer_cmp_total x.0) ∙ ap (λ (y : Peer × A). Some y.1) (same_Some x e is)
+      | false ↦ λ is. elim (same_peer e.0 x.0) as (λ c. same_peer e.0 x.0 ≡ c → cond c (Some x.1) (store_at es e.0) ≡ Some e.1) [
+        | true ↦ λ f. absurd (not_below x.0 es e.1 (sorted_head peer_cmp x.0 (keys_of es) sorted) (ap (store_at es) (sym (one_peer e.0 x.0 f)) ∙ later is))
+        | false ↦ λ f. later is
+      ] refl
+    ] is
 
 module _ {S : Type 0} (routes : S → stored.Routes (Rc Route Global)) where
   abbrev has_route : Peer × S → Bool
@@ -383,19 +332,10 @@ module _ {S : Type 0} (routes : S → stored.Routes (Rc Route Global)) where
   has-routed_stores : (p : Peer) (stores : Stores S) → IsStrictlySortedBy peer_cmp (keys_of stores) → has_peer p (keys_of (routed_stores routes stores)) ≡ store_has_route (store_at stores p)
   has-routed_stores p [] sorted = refl
   has-routed_stores p (e ∷ stores) sorted =
-      at (nat_lt 0 (finite.len (routes e.1))) refl (same_peer p e.0) refl (has-routed_stores p stores (sorted_tail peer_cmp e.0 (keys_of stores) sorted))
-    where
-      none : same_peer p e.0 ≡ true → has_peer p (keys_of (routed_stores routes stores)) ≡ false
-      none f =
-          ap (λ q. has_peer q (keys_of (routed_stores routes stores))) (one_peer p e.0 f)
-          ∙ absent_peer e.0 (routed_stores routes stores) (below-filter has_route e.0 stores (sorted_head peer_cmp e.0 (keys_of stores) sorted))
-
-      at : (a : Bool) → nat_lt 0 (finite.len (routes e.1)) ≡ a → (b : Bool) → same_peer p e.0 ≡ b → has_peer p (keys_of (routed_stores routes stores)) ≡ store_has_route (store_at stores p)
-          → has_peer p (keys_of (cond a (e ∷ routed_stores routes stores) (routed_stores routes stores))) ≡ store_has_route (cond b (Some e.1) (store_at stores p))
-      at true h true f rest = ap (λ b. b || has_peer p (keys_of (routed_stores routes stores))) f ∙ sym h
-      at true h false f rest = ap (λ b. b || has_peer p (keys_of (routed_stores routes stores))) f ∙ rest
-      at false h true f rest = none f ∙ sym h
-      at false h false f rest = rest
+      let later = has-routed_stores p stores (sorted_tail peer_cmp e.0 (keys_of stores) sorted) in
+      let one = one_peer p e.0 in
+      let none = absent_peer e.0 (routed_stores routes stores) (below-filter has_route e.0 stores (sorted_head peer_cmp e.0 (keys_of stores) sorted)) in
+      grind arith
 
   some-routes_in : (stores : Stores S) (all : Routes) (p : Peer) (store : Option S) → store ≡ store_at stores p → routes_in routes stores ≡ all → nat_lt 0 (finite.len (peer_routes all p)) ≡ store_has_route store
   some-routes_in stores all p None found e = ap (λ n. nat_lt 0 n) (len-entries (peer_routes all p) ∙ ap length (no_entries all p (λ n. sym (get-found routes stores all (pair_of p n) None found e))))
@@ -406,14 +346,15 @@ module _ {S : Type 0} (routes : S → stored.Routes (Rc Route Global)) where
   unfolding routed_peers
   keys-routed_stores stores all sorted e =
       let marks = marked (λ (entry : Peer × S). entry.0) (routed_stores routes stores) in
-      let sorted_marks : T (is_sorted peer_cmp marks) = subst T (sym (sorted-marked has_route stores sorted)) tt in
-      ap finite.keys (same_map peer_cmp_total peer_cmp-IsAntisymmetric (finite.from_entries (marked (λ (entry : Pair × Route). entry.0.peer) (finite.entries all))) (finite.from_sorted marks) (λ p.
-      get-from_entries peer_cmp_total (marked (λ (entry : Pair × Route). entry.0.peer) (finite.entries all)) p
+      let routed = marked (λ (entry : Pair × Route). entry.0.peer) (finite.entries all) in
+      let peers = finite.from_entries {R = peer_cmp} routed in
+      ap (map (λ (entry : Peer × Unit {0}). entry.0)) (same_entries peer_cmp peer_cmp_total peer_cmp-IsAntisymmetric (finite.entries peers) marks
+      (finite.entries_sorted peers) (subst T (sym (sorted-marked has_route stores sorted)) tt) (λ p.
+      sym (get-entries peers p)
+      ∙ get-from_entries peer_cmp_total routed p
       ∙ find-marked (λ (entry : Pair × Route). entry.0.peer) p (finite.entries all)
       ∙ ap mark_where (some-peer_routes all p ∙ some-routes_in stores all p (store_at stores p) refl e ∙ sym (has-routed_stores p stores sorted))
-      ∙ sym (find-marked (λ (entry : Peer × S). entry.0) p (routed_stores routes stores))
-      ∙ sym (get-from_sorted peer_cmp marks p sorted_marks)))
-      ∙ ap (map (λ (entry : Peer × Unit {0}). entry.0)) (entries-from_sorted peer_cmp marks sorted_marks)
+      ∙ sym (find-marked (λ (entry : Peer × S). entry.0) p (routed_stores routes stores))))
       ∙ keys-marked (λ (entry : Peer × S). entry.0) (routed_stores routes stores)
 
   -- the stores above a peer that have a route
@@ -424,7 +365,7 @@ module _ {S : Type 0} (routes : S → stored.Routes (Rc Route Global)) where
       → routed_stores routes (filter (λ (entry : Peer × S). test entry.0) stores) ≡ stores_above low stores
   shown-above low test stores same =
       filter_twice has_route (λ (entry : Peer × S). test entry.0) stores
-      ∙ filter_alike (λ (entry : Peer × S). test entry.0 && has_route entry) (λ (entry : Peer × S). has_route entry && is_peer_above low entry.0)
+      ∙ filter_agree (λ (entry : Peer × S). test entry.0 && has_route entry) (λ (entry : Peer × S). has_route entry && is_peer_above low entry.0)
       (λ entry. ap (λ b. b && has_route entry) (same entry.0) ∙ and_comm (is_peer_above low entry.0) (has_route entry)) stores
 
   keys-above : (low : Option Peer) (stores : Stores S) → keys_of (stores_above low stores) ≡ peers_above low (keys_of (routed_stores routes stores))
@@ -461,10 +402,6 @@ module _ {S : Type 0} (routes : S → stored.Routes (Rc Route Global)) where
 
 -- ---- the list of peers
 
-marks : (b : Bool) → is_some (mark_where b) ≡ b
-marks true = refl
-marks false = refl
-
 -- a peer is listed where it has a route
 pub has-routed_peers : (all : Routes) (p : Peer) → has_peer p (routed_peers all) ≡ nat_lt 0 (finite.len (peer_routes all p))
 unfolding routed_peers
@@ -472,79 +409,17 @@ has-routed_peers all p =
     let peers = marked (λ (entry : Pair × Route). entry.0.peer) (finite.entries all) in
     sym (contains_key-keys (finite.from_entries {R = peer_cmp} peers) p)
     ∙ ap is_some (get-from_entries peer_cmp_total peers p ∙ find-marked (λ (entry : Pair × Route). entry.0.peer) p (finite.entries all))
-    ∙ marks _ ∙ some-peer_routes all p
-
-below-in_order : {A : Type 0} (x : Peer) (es : List (Peer × A)) → below_all peer_cmp x es ≡ true → AllByRecursion (λ y. peer_cmp x y ≡ Less) (keys_of es)
-below-in_order x [] f = tt
-below-in_order x (e ∷ es) f =
-    let parts = and_parts (is_lt (peer_cmp x e.0)) (below_all peer_cmp x es) f in
-    (is_less _ parts.0, below-in_order x es parts.1)
-
-in_order : {A : Type 0} (es : List (Peer × A)) → is_sorted peer_cmp es ≡ true → IsStrictlySortedBy peer_cmp (keys_of es)
-unfolding IsStrictlySortedBy
-in_order [] sorted = tt
-in_order (e ∷ es) sorted =
-    let parts = and_parts (below_all peer_cmp e.0 es) (is_sorted peer_cmp es) sorted in
-    (below-in_order e.0 es parts.0, in_order es parts.1)
+    ∙ (let some = some-peer_routes all p in grind arith)
 
 pub peers-in_order : (all : Routes) → IsStrictlySortedBy peer_cmp (routed_peers all)
 unfolding routed_peers
-peers-in_order all =
-    let peers = finite.from_entries {X = Unit {0}} {R = peer_cmp} (marked (λ (entry : Pair × Route). entry.0.peer) (finite.entries all)) in
-    in_order (finite.entries peers) (is_true _ (finite.entries_sorted peers))
-  where
-    is_true : (b : Bool) → T b → b ≡ true
-    is_true true p = refl
-    is_true false p = absurd p
-
--- the peers above one of them, and those above another that is above it
-above_trans : (low : Option Peer) (x y : Peer) → is_peer_above low x ≡ true → peer_cmp x y ≡ Less → is_peer_above low y ≡ true
-above_trans None x y e f = refl
-above_trans (Some l) x y e f = ap is_lt (peer_cmp_total.trans l x y (is_less _ e) f)
-
-all_above : (low : Option Peer) (x : Peer) (ps : List Peer) → is_peer_above low x ≡ true → AllByRecursion (λ y. peer_cmp x y ≡ Less) ps → peers_above low ps ≡ ps
-all_above low x [] e all = refl
-all_above low x (y ∷ ps) e all =
-    ap (λ b. cond b (y ∷ peers_above low ps) (peers_above low ps)) (above_trans low x y e all.0) ∙ ap (λ s. y ∷ s) (all_above low x ps e all.1)
-
-all_above_it : (x : Peer) (ps : List Peer) → AllByRecursion (λ y. peer_cmp x y ≡ Less) ps → peers_above (Some x) ps ≡ ps
-all_above_it x [] all = refl
-all_above_it x (y ∷ ps) all = ap (λ r. cond (is_lt r) (y ∷ peers_above (Some x) ps) (peers_above (Some x) ps)) all.0 ∙ ap (λ s. y ∷ s) (all_above_it x ps all.1)
-
-first_is_above : (low : Option Peer) (ps : List Peer) (p : Peer) → slice_get (peers_above low ps) 0 ≡ Some p → is_peer_above low p ≡ true
-first_is_above low [] p e = cc
-first_is_above low (x ∷ ps) p e = at (is_peer_above low x) refl e (first_is_above low ps p)
-  where
-    at : (b : Bool) → is_peer_above low x ≡ b → slice_get (cond b (x ∷ peers_above low ps) (peers_above low ps)) 0 ≡ Some p
-        → (slice_get (peers_above low ps) 0 ≡ Some p → is_peer_above low p ≡ true) → is_peer_above low p ≡ true
-    at true is e later = ap (is_peer_above low) (sym (one_of x p e)) ∙ is
-    at false is e later = later e
-
-not_above : (low : Option Peer) (x p : Peer) → is_peer_above low x ≡ false → is_peer_above low p ≡ true → is_lt (peer_cmp p x) ≡ false
-not_above low x p out here = at (is_lt (peer_cmp p x)) refl
-  where
-    at : (b : Bool) → is_lt (peer_cmp p x) ≡ b → b ≡ false
-    at true f = sym (above_trans low p x here (is_less _ f)) ∙ out
-    at false f = refl
+peers-in_order all = keys-in_order (finite.from_entries {X = Unit {0}} {R = peer_cmp} (marked (λ (entry : Pair × Route). entry.0.peer) (finite.entries all)))
 
 -- the first above a peer, and those above it
 pub peers-next : (low : Option Peer) (ps : List Peer) (p : Peer) → IsStrictlySortedBy peer_cmp ps → slice_get (peers_above low ps) 0 ≡ Some p
     → peers_above low ps ≡ p ∷ peers_above (Some p) ps
-peers-next low [] p sorted is = cc
-peers-next low (x ∷ ps) p sorted is =
-    at (is_peer_above low x) refl is (sorted_head peer_cmp x ps sorted) (peers-next low ps p (sorted_tail peer_cmp x ps sorted))
-  where
-    at : (b : Bool) → is_peer_above low x ≡ b → slice_get (cond b (x ∷ peers_above low ps) (peers_above low ps)) 0 ≡ Some p → AllByRecursion (λ y. peer_cmp x y ≡ Less) ps
-        → (slice_get (peers_above low ps) 0 ≡ Some p → peers_above low ps ≡ p ∷ peers_above (Some p) ps)
-        → cond b (x ∷ peers_above low ps) (peers_above low ps) ≡ p ∷ peers_above (Some p) (x ∷ ps)
-    at true here is all later =
-        ap (λ s. x ∷ s) (all_above low x ps here all ∙ sym (ap (λ r. cond (is_lt r) (x ∷ peers_above (Some x) ps) (peers_above (Some x) ps)) (tied_itself peer_cmp_total x) ∙ all_above_it x ps all))
-        ∙ ap (λ (y : Peer). y ∷ peers_above (Some y) (x ∷ ps)) (one_of x p is)
-    at false out is all later =
-        later is
-        ∙ ap (λ s. p ∷ s) (sym (ap (λ b. cond b (x ∷ peers_above (Some p) ps) (peers_above (Some p) ps))
-        (not_above low x p out (first_is_above low ps p is))))
+peers-next low ps p sorted is = higher-next peer_cmp_total (λ p. p) low ps p (subst (IsStrictlySortedBy peer_cmp) (sym (map-id ps)) sorted) is
 
 pub all-peers : (ps : List Peer) → peers_above None ps ≡ ps
 all-peers [] = refl
-all-peers (p ∷ ps) = ap (λ s. p ∷ s) (all-peers ps)
+all-peers (p ∷ ps) = grind (arith, all-peers ps)

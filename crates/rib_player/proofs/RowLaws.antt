@@ -1,5 +1,5 @@
 -- Rows of pairs whose peers differ, and lists of peers that are pointed to.
-use Rattle.std.proofs.Common.{◌≡◌, ◌⊎◌, inl, inr, ℕ, ◌+◌, ◌<◌, Bool, true, false, List, [], ◌∷◌, ◌++◌, take, length, get_or, Option, Some, None, IfSome, slice_get, refl, sym, ap, ◌∙◌}
+use Rattle.std.proofs.Common.{◌≡◌, ◌⊎◌, inl, inr, ℕ, ◌+◌, ◌<◌, true, false, List, [], ◌∷◌, ◌++◌, take, length, get_or, Option, Some, None, IfSome, slice_get, refl, sym, ap, ◌∙◌, arith}
 use Rattle.std.specs.Borrow.{Bor}
 use Rattle.std.specs.List.{AllByRecursion, IsDistinct}
 use Rattle.std.specs.Map.{lookup, keys_of}
@@ -48,11 +48,7 @@ sides-more entries i e at within =
 
 -- pairs that aren't the same don't tie
 pub not-tied : (a b : Pair) → (a ≡ b → ⊥) → eq_by_cmp pair_cmp a b ≡ false
-not-tied a b differ = at (eq_by_cmp pair_cmp a b) refl
-  where
-    at : (t : Bool) → eq_by_cmp pair_cmp a b ≡ t → eq_by_cmp pair_cmp a b ≡ false
-    at true is = absurd (differ (same_pair a b is))
-    at false is = is
+not-tied a b differ = let one = same_pair a b in grind arith
 
 -- none of the pairs is below this one
 abbrev pub AreNotBelow : {R : Type 0} → Pair → List (Pair × R) → Type 0
@@ -93,14 +89,9 @@ module _ {R : Type 0} (order : List (Peer × ℕ)) where
   module _ (marks marks' : Marks) (s : Pair × R) (number : ℕ) (is : lookup (same_peer s.0.peer) order ≡ Some number) where
     -- a pair of a number that wasn't seen is another
     apart : is_marked marks number ≡ false → (e : Pair × R) → IsSeen marks e → eq_by_cmp pair_cmp e.0 s.0 ≡ false
-    apart new e seen = at (eq_by_cmp pair_cmp e.0 s.0) refl
-      where
-        at : (b : Bool) → eq_by_cmp pair_cmp e.0 s.0 ≡ b → eq_by_cmp pair_cmp e.0 s.0 ≡ false
-        at true same =
-            let one : seen.0 ≡ number = ap (λ o. unwrap_or o 0) (sym seen.1 ∙ ap (λ (q : Pair). lookup (same_peer q.peer) order) (same_pair e.0 s.0 same) ∙ is) in
-            let lost : true ≡ false = sym seen.2 ∙ ap (is_marked marks) one ∙ new in
-            cc
-        at false same = same
+    apart new e seen =
+        let one = same_pair e.0 s.0 in
+        grind (arith, is, seen.1, seen.2)
 
     pub distinct-more : is_marked marks number ≡ false → (es : List (Pair × R)) → AllByRecursion (IsSeen marks) es
         → IsDistinct (eq_by_cmp pair_cmp) (keys_of es) → IsDistinct (eq_by_cmp pair_cmp) (keys_of (es ++ s ∷ []))

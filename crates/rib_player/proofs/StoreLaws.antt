@@ -1,5 +1,6 @@
 -- What the stores of all peers hold together, pair by pair.
-use Rattle.std.proofs.Common.{◌≡◌, ℕ, zero, suc, ◌+◌, ◌<◌, Bool, true, false, cond, not, ◌||◌, ◌&&◌, List, [], ◌∷◌, map, Option, Some, None, is_some, IfSome, IfNone, Result, Ok, Err, OnOk, OnErr, OnSome, Bor, MutBor, refl, sym, ap, ap₂, subst, ◌∙◌, arith}
+pub use Rattle.std.proofs.lemmas.Option.{same_Some as one_of}
+use Rattle.std.proofs.Common.{◌≡◌, ℕ, zero, suc, ◌+◌, ◌<◌, Bool, true, false, cond, not, ◌||◌, ◌&&◌, List, [], ◌∷◌, map, Option, Some, None, IfSome, IfNone, Result, Ok, Err, OnOk, OnErr, OnSome, Bor, MutBor, refl, sym, ap, subst, ◌∙◌, arith}
 use Rattle.std.specs.List.{list_any, flat_map, filter}
 use Rattle.std.specs.Option.{option_map, option_copied, option_copied_mut, unwrap_or}
 use Rattle.std.specs.Ordering.{eq_by_cmp}
@@ -49,9 +50,6 @@ always (Some x) p = p
 pub never : {A : Type 0} (P : Type 0) (o : Option A) → o ≡ None → OnSome o P
 never P o is = subst (λ o. OnSome o P) (sym is) tt
 
-pub one_of : {X : Type 0} (a b : X) → Some a ≡ Some b → a ≡ b
-one_of a b e = ap (λ o. unwrap_or o a) e
-
 -- peers that tie are one
 pub one_peer : (a b : Peer) → same_peer a b ≡ true → a ≡ b
 one_peer a b e = peer_cmp-IsAntisymmetric a b ((Equal-is (peer_cmp a b)).0 e)
@@ -67,20 +65,37 @@ same_pairs a b same = same_set pair_cmp_total pair_cmp-IsAntisymmetric a b same
 pub tied_parts : (q : Pair) (peer : Peer) (n : Network) → eq_by_cmp pair_cmp q (pair_of peer n) ≡ (same_peer q.peer peer && same_network q.prefix n)
 tied_parts q peer n = sym (both_tied _ _ (peer_cmp q.peer peer) (network_cmp q.prefix n) refl refl)
 
-or-and : (a b c : Bool) → ((a && b) || (a && c)) ≡ (a && (b || c))
-or-and true b c = refl
-or-and false b c = refl
-
-and-false : (a : Bool) → false ≡ (a && false)
-and-false true = refl
-and-false false = refl
-
 -- a pair is among those of a peer where its prefix is among the prefixes
 pub any-pairs : (q : Pair) (peer : Peer) (ns : List Network) → list_any (eq_by_cmp pair_cmp q) (map (pair_of peer) ns) ≡ (same_peer q.peer peer && list_any (same_network q.prefix) ns)
-any-pairs q peer [] = and-false (same_peer q.peer peer)
-any-pairs q peer (n ∷ ns) =
-    ap₂ (λ a b. a || b) (tied_parts q peer n) (any-pairs q peer ns)
-    ∙ or-and (same_peer q.peer peer) (same_network q.prefix n) (list_any (same_network q.prefix) ns)
+any-pairs q peer [] = grind arith
+any-pairs q peer (n ∷ ns) = let parts = tied_parts q peer n in grind (arith, any-pairs q peer ns)
+
+-- what is read of each pair's store, where a peer's store is another
+module _ {S V : Type 0} (read : Option S → Network → V) {old new : Stores S} {peer : Peer} {w : Option S} (written : IsWritten old new peer w) where
+  read-other : (q : Pair) → read (store_at new q.peer) q.prefix ≡ cond (same_peer q.peer peer) (read w q.prefix) (read (store_at old q.peer) q.prefix)
+  read-other q = let is = written.each q.peer in grind (arith, peer_symm peer q.peer)
+
+  read-changed : (change : Network → V → V) → ((x : Network) → read w x ≡ change x (read (store_at old peer) x)) → (q : Pair)
+      → read (store_at new q.peer) q.prefix ≡ cond (same_peer q.peer peer) (change q.prefix (read (store_at old q.peer) q.prefix)) (read (store_at old q.peer) q.prefix)
+  read-changed change is q =
+      let one = one_peer q.peer peer in
+      read-other q ∙ grind (arith, is q.prefix)
+
+either_same : {A : Type 0} (b : Bool) (x : A) → cond b x x ≡ x
+either_same b x = grind arith
+
+-- of one peer, a key that is put or goes, and a route that is put
+inserted-key : (keys : Pairs) (peer : Peer) (n : Network) (q : Pair)
+    → cond (same_peer q.peer peer) (same_network q.prefix n || set.contains keys q) (set.contains keys q) ≡ set.contains (set.insert keys (pair_of peer n)) q
+inserted-key keys peer n q = let more = contains-insert pair_cmp_total keys (pair_of peer n) q in grind (arith, tied_parts q peer n)
+
+removed-key : (keys : Pairs) (peer : Peer) (n : Network) (q : Pair)
+    → cond (same_peer q.peer peer) (not (same_network q.prefix n) && set.contains keys q) (set.contains keys q) ≡ set.contains (set.remove keys (pair_of peer n)) q
+removed-key keys peer n q = let less = contains-remove pair_cmp_total keys (pair_of peer n) q in grind (arith, tied_parts q peer n)
+
+put-route : (routes : Routes) (peer : Peer) (n : Network) (route : Option Route) (q : Pair)
+    → cond (same_peer q.peer peer) (cond (same_network q.prefix n) route (finite.get routes q)) (finite.get routes q) ≡ finite.get (put routes (pair_of peer n) route) q
+put-route routes peer n route q = let there = get-put pair_cmp_total routes (pair_of peer n) route q in grind (arith, tied_parts q peer n)
 
 module _ {S : Type 0} (keys : S → stored.Keys) where
   abbrev key_pairs : Stores S → List Pair
@@ -90,16 +105,11 @@ module _ {S : Type 0} (keys : S → stored.Keys) where
   key_among : (stores : Stores S) (q : Pair) → (has_key keys (store_at stores q.peer) q.prefix && list_any (eq_by_cmp pair_cmp q) (key_pairs stores)) ≡ has_key keys (store_at stores q.peer) q.prefix
   key_among [] q = refl
   key_among (entry ∷ stores) q =
-      ap (λ b. has_key keys (cond (same_peer q.peer entry.0) (Some entry.1) (store_at stores q.peer)) q.prefix && b)
-      (list_any-append (eq_by_cmp pair_cmp q) (map (pair_of entry.0) (set.items (keys entry.1))) (key_pairs stores)
-      ∙ ap (λ b. b || list_any (eq_by_cmp pair_cmp q) (key_pairs stores)) (any-pairs q entry.0 (set.items (keys entry.1)) ∙ ap (λ b. same_peer q.peer entry.0 && b) (sym (contains-items (keys entry.1) q.prefix))))
-      ∙ at (same_peer q.peer entry.0) (list_any (eq_by_cmp pair_cmp q) (key_pairs stores)) (set.contains (keys entry.1) q.prefix) refl (key_among stores q)
-    where
-      at : (a rest b : Bool) → set.contains (keys entry.1) q.prefix ≡ b → (has_key keys (store_at stores q.peer) q.prefix && rest) ≡ has_key keys (store_at stores q.peer) q.prefix
-          → (has_key keys (cond a (Some entry.1) (store_at stores q.peer)) q.prefix && ((a && b) || rest)) ≡ has_key keys (cond a (Some entry.1) (store_at stores q.peer)) q.prefix
-      at true rest true e f = ap (λ b. b && true) e ∙ sym e
-      at true rest false e f = ap (λ b. b && rest) e ∙ sym e
-      at false rest b e f = f
+      let both = list_any-append (eq_by_cmp pair_cmp q) (map (pair_of entry.0) (set.items (keys entry.1))) (key_pairs stores) in
+      let own = any-pairs q entry.0 (set.items (keys entry.1)) in
+      let key = contains-items (keys entry.1) q.prefix in
+      let later = key_among stores q in
+      grind arith
 
   -- a pair is a key where its prefix is a key of its peer's store
   pub contains-keys_in : (stores : Stores S) (q : Pair) → set.contains (keys_in keys stores) q ≡ has_key keys (store_at stores q.peer) q.prefix
@@ -113,56 +123,31 @@ module _ {S : Type 0} (keys : S → stored.Keys) where
   -- a peer's store is another, or goes
   module _ {old new : Stores S} {peer : Peer} {w : Option S} (written : IsWritten old new peer w) where
     pub keys_in-other : (q : Pair) → set.contains (keys_in keys new) q ≡ cond (same_peer q.peer peer) (has_key keys w q.prefix) (set.contains (keys_in keys old) q)
-    keys_in-other q =
-        contains-keys_in new q
-        ∙ ap (λ s. has_key keys s q.prefix) (written.each q.peer)
-        ∙ at (same_peer peer q.peer)
-        ∙ ap₂ (λ a b. cond a (has_key keys w q.prefix) b) (peer_symm peer q.peer) (sym (contains-keys_in old q))
-      where
-        at : (a : Bool) → has_key keys (cond a w (store_at old q.peer)) q.prefix ≡ cond a (has_key keys w q.prefix) (has_key keys (store_at old q.peer) q.prefix)
-        at true = refl
-        at false = refl
+    keys_in-other q = contains-keys_in new q ∙ read-other (has_key keys) written q ∙ ap (cond (same_peer q.peer peer) (has_key keys w q.prefix)) (sym (contains-keys_in old q))
+
+    keys_in-changed : (change : Network → Bool → Bool) → ((x : Network) → has_key keys w x ≡ change x (has_key keys (store_at old peer) x)) → (q : Pair)
+        → set.contains (keys_in keys new) q ≡ cond (same_peer q.peer peer) (change q.prefix (set.contains (keys_in keys old) q)) (set.contains (keys_in keys old) q)
+    keys_in-changed change is q =
+        contains-keys_in new q ∙ read-changed (has_key keys) written change is q
+        ∙ ap (λ b. cond (same_peer q.peer peer) (change q.prefix b) b) (sym (contains-keys_in old q))
 
     pub keys_in-insert : (n : Network) → ((x : Network) → has_key keys w x ≡ (same_network x n || has_key keys (store_at old peer) x))
         → keys_in keys new ≡ set.insert (keys_in keys old) (pair_of peer n)
-    keys_in-insert n is = same_pairs _ _ (λ q.
-        keys_in-other q
-        ∙ at q (same_peer q.peer peer) refl
-        ∙ ap (λ b. b || set.contains (keys_in keys old) q) (sym (tied_parts q peer n))
-        ∙ sym (contains-insert pair_cmp_total (keys_in keys old) (pair_of peer n) q))
-      where
-        at : (q : Pair) (a : Bool) → same_peer q.peer peer ≡ a → cond a (has_key keys w q.prefix) (set.contains (keys_in keys old) q) ≡ ((a && same_network q.prefix n) || set.contains (keys_in keys old) q)
-        at q true e = is q.prefix ∙ ap (λ b. same_network q.prefix n || b) (ap (λ p. has_key keys (store_at old p) q.prefix) (sym (one_peer q.peer peer e)) ∙ sym (contains-keys_in old q))
-        at q false e = refl
+    keys_in-insert n is = same_pairs _ _ (λ q. keys_in-changed (λ x b. same_network x n || b) is q ∙ inserted-key (keys_in keys old) peer n q)
 
     pub keys_in-remove : (n : Network) → ((x : Network) → has_key keys w x ≡ (not (same_network x n) && has_key keys (store_at old peer) x))
         → keys_in keys new ≡ set.remove (keys_in keys old) (pair_of peer n)
-    keys_in-remove n is = same_pairs _ _ (λ q.
-        keys_in-other q
-        ∙ at q (same_peer q.peer peer) refl
-        ∙ ap (λ b. not b && set.contains (keys_in keys old) q) (sym (tied_parts q peer n))
-        ∙ sym (contains-remove pair_cmp_total (keys_in keys old) (pair_of peer n) q))
-      where
-        at : (q : Pair) (a : Bool) → same_peer q.peer peer ≡ a → cond a (has_key keys w q.prefix) (set.contains (keys_in keys old) q) ≡ (not (a && same_network q.prefix n) && set.contains (keys_in keys old) q)
-        at q true e = is q.prefix ∙ ap (λ b. not (same_network q.prefix n) && b) (ap (λ p. has_key keys (store_at old p) q.prefix) (sym (one_peer q.peer peer e)) ∙ sym (contains-keys_in old q))
-        at q false e = refl
+    keys_in-remove n is = same_pairs _ _ (λ q. keys_in-changed (λ x b. not (same_network x n) && b) is q ∙ removed-key (keys_in keys old) peer n q)
 
     pub keys_in-same : ((x : Network) → has_key keys w x ≡ has_key keys (store_at old peer) x)
         → keys_in keys new ≡ keys_in keys old
-    keys_in-same is = same_pairs _ _ (λ q.
-        keys_in-other q ∙ at q (same_peer q.peer peer) refl)
-      where
-        at : (q : Pair) (a : Bool) → same_peer q.peer peer ≡ a → cond a (has_key keys w q.prefix) (set.contains (keys_in keys old) q) ≡ set.contains (keys_in keys old) q
-        at q true e = is q.prefix ∙ ap (λ p. has_key keys (store_at old p) q.prefix) (sym (one_peer q.peer peer e)) ∙ sym (contains-keys_in old q)
-        at q false e = refl
+    keys_in-same is = same_pairs _ _ (λ q. keys_in-changed (λ x b. b) is q ∙ either_same (same_peer q.peer peer) _)
 
     -- no store without a key
     pub held-other : IsHeld keys old → IfSome w (λ store. 0 < set.len (keys store)) → IsHeld keys new
-    held-other held one p = subst (λ s. IfSome s (λ store. 0 < set.len (keys store))) (sym (written.each p)) (at (same_peer peer p))
-      where
-        at : (a : Bool) → IfSome (cond a w (store_at old p)) (λ store. 0 < set.len (keys store))
-        at true = one
-        at false = held p
+    held-other held one p =
+        subst (λ s. IfSome s (λ store. 0 < set.len (keys store))) (sym (written.each p))
+        (elim (same_peer peer p) as (λ a. IfSome (cond a w (store_at old p)) (λ store. 0 < set.len (keys store))) [ true ↦ one | false ↦ held p ])
 
 module _ {S : Type 0} (routes : S → stored.Routes (Rc Route Global)) where
   abbrev route_pairs : Stores S → List Pair
@@ -172,18 +157,11 @@ module _ {S : Type 0} (routes : S → stored.Routes (Rc Route Global)) where
   no_route : (stores : Stores S) (q : Pair) → list_any (eq_by_cmp pair_cmp q) (route_pairs stores) ≡ false → stored_route routes (store_at stores q.peer) q.prefix ≡ None
   no_route [] q e = refl
   no_route (entry ∷ stores) q e =
-      at (same_peer q.peer entry.0) (finite.get (routes entry.1) q.prefix)
-      refl (list_any (eq_by_cmp pair_cmp q) (route_pairs stores))
-      (sym (list_any-append (eq_by_cmp pair_cmp q) (map (pair_of entry.0) (finite.keys (routes entry.1))) (route_pairs stores)
-      ∙ ap (λ b. b || list_any (eq_by_cmp pair_cmp q) (route_pairs stores)) (any-pairs q entry.0 (finite.keys (routes entry.1)) ∙ ap (λ b. same_peer q.peer entry.0 && b) (sym (contains_key-keys (routes entry.1) q.prefix)))) ∙ e)
-      (no_route stores q)
-    where
-      at : (a : Bool) (found : Option (Rc Route Global)) → finite.get (routes entry.1) q.prefix ≡ found → (rest : Bool) → ((a && is_some found) || rest) ≡ false
-          → (rest ≡ false → stored_route routes (store_at stores q.peer) q.prefix ≡ None)
-          → stored_route routes (cond a (Some entry.1) (store_at stores q.peer)) q.prefix ≡ None
-      at true None is rest e then = ap (option_map (λ shared. shared.value)) is
-      at true (Some r) is rest e then = cc
-      at false found is rest e then = then e
+      let both = list_any-append (eq_by_cmp pair_cmp q) (map (pair_of entry.0) (finite.keys (routes entry.1))) (route_pairs stores) in
+      let own = any-pairs q entry.0 (finite.keys (routes entry.1)) in
+      let key = contains_key-keys (routes entry.1) q.prefix in
+      let later = no_route stores q in
+      grind arith
 
   -- the route at a pair is that of its peer's store
   pub get-routes_in : (stores : Stores S) (q : Pair) → finite.get (routes_in routes stores) q ≡ stored_route routes (store_at stores q.peer) q.prefix
@@ -195,36 +173,21 @@ module _ {S : Type 0} (routes : S → stored.Routes (Rc Route Global)) where
   -- a peer's store is another, or goes
   module _ {old new : Stores S} {peer : Peer} {w : Option S} (written : IsWritten old new peer w) where
     pub routes_in-other : (q : Pair) → finite.get (routes_in routes new) q ≡ cond (same_peer q.peer peer) (stored_route routes w q.prefix) (finite.get (routes_in routes old) q)
-    routes_in-other q =
-        get-routes_in new q
-        ∙ ap (λ s. stored_route routes s q.prefix) (written.each q.peer)
-        ∙ at (same_peer peer q.peer)
-        ∙ ap₂ (λ a b. cond a (stored_route routes w q.prefix) b) (peer_symm peer q.peer) (sym (get-routes_in old q))
-      where
-        at : (a : Bool) → stored_route routes (cond a w (store_at old q.peer)) q.prefix ≡ cond a (stored_route routes w q.prefix) (stored_route routes (store_at old q.peer) q.prefix)
-        at true = refl
-        at false = refl
+    routes_in-other q = get-routes_in new q ∙ read-other (stored_route routes) written q ∙ ap (cond (same_peer q.peer peer) (stored_route routes w q.prefix)) (sym (get-routes_in old q))
+
+    routes_in-changed : (change : Network → Option Route → Option Route) → ((x : Network) → stored_route routes w x ≡ change x (stored_route routes (store_at old peer) x)) → (q : Pair)
+        → finite.get (routes_in routes new) q ≡ cond (same_peer q.peer peer) (change q.prefix (finite.get (routes_in routes old) q)) (finite.get (routes_in routes old) q)
+    routes_in-changed change is q =
+        get-routes_in new q ∙ read-changed (stored_route routes) written change is q
+        ∙ ap (λ r. cond (same_peer q.peer peer) (change q.prefix r) r) (sym (get-routes_in old q))
 
     pub routes_in-put : (n : Network) (route : Option Route) → ((x : Network) → stored_route routes w x ≡ cond (same_network x n) route (stored_route routes (store_at old peer) x))
         → routes_in routes new ≡ put (routes_in routes old) (pair_of peer n) route
-    routes_in-put n route is = same_routes _ _ (λ q.
-        routes_in-other q
-        ∙ at q (same_peer q.peer peer) refl
-        ∙ ap (λ b. cond b route (finite.get (routes_in routes old) q)) (sym (tied_parts q peer n))
-        ∙ sym (get-put pair_cmp_total (routes_in routes old) (pair_of peer n) route q))
-      where
-        at : (q : Pair) (a : Bool) → same_peer q.peer peer ≡ a → cond a (stored_route routes w q.prefix) (finite.get (routes_in routes old) q) ≡ cond (a && same_network q.prefix n) route (finite.get (routes_in routes old) q)
-        at q true e = is q.prefix ∙ ap (cond (same_network q.prefix n) route) (ap (λ p. stored_route routes (store_at old p) q.prefix) (sym (one_peer q.peer peer e)) ∙ sym (get-routes_in old q))
-        at q false e = refl
+    routes_in-put n route is = same_routes _ _ (λ q. routes_in-changed (λ x r. cond (same_network x n) route r) is q ∙ put-route (routes_in routes old) peer n route q)
 
     pub routes_in-same : ((x : Network) → stored_route routes w x ≡ stored_route routes (store_at old peer) x)
         → routes_in routes new ≡ routes_in routes old
-    routes_in-same is = same_routes _ _ (λ q.
-        routes_in-other q ∙ at q (same_peer q.peer peer) refl)
-      where
-        at : (q : Pair) (a : Bool) → same_peer q.peer peer ≡ a → cond a (stored_route routes w q.prefix) (finite.get (routes_in routes old) q) ≡ finite.get (routes_in routes old) q
-        at q true e = is q.prefix ∙ ap (λ p. stored_route routes (store_at old p) q.prefix) (sym (one_peer q.peer peer e)) ∙ sym (get-routes_in old q)
-        at q false e = refl
+    routes_in-same is = same_routes _ _ (λ q. routes_in-changed (λ x r. r) is q ∙ either_same (same_peer q.peer peer) _)
 
 -- no stores
 pub keys_in-none : {S : Type 0} (keys : S → stored.Keys) (stores : Stores S) → stores ≡ [] → keys_in keys stores ≡ set.empty
@@ -237,8 +200,7 @@ routes_in-none routes stores e = ap (routes_in routes) e
 
 -- the route behind a reference to a slot's
 pub route-copied : (shared : Option (Bor (Rc Route Global))) → option_map (λ route. route.now.value) shared ≡ option_map (λ shared. shared.value) (option_copied shared)
-route-copied None = refl
-route-copied (Some route) = refl
+route-copied shared = grind arith
 
 -- a table has the route that its peer's store has
 pub get-found : {S : Type 0} (routes : S → stored.Routes (Rc Route Global)) (stores : Stores S) (all : Routes) (q : Pair) (store : Option S) → store ≡ store_at stores q.peer → routes_in routes stores ≡ all

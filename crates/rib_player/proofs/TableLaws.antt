@@ -1,5 +1,5 @@
 -- What tables have at each pair: those of histories and of events, and the pairs that events name.
-use Rattle.std.proofs.Common.{◌≡◌, Bool, true, false, cond, ◌&&◌, ◌||◌, List, [], ◌∷◌, map, Option, Some, None, is_some, refl, sym, ap, ◌∙◌}
+use Rattle.std.proofs.Common.{◌≡◌, Bool, true, false, cond, ◌&&◌, ◌||◌, List, [], ◌∷◌, map, Option, Some, None, is_some, refl, sym, ap, ◌∙◌, arith}
 use Rattle.std.specs.List.{flat_map, filter, list_any}
 use Rattle.std.specs.Ordering.{eq_by_cmp}
 use Rattle.std.specs.FinMap.{get, keys, get-empty, same_map, contains_key-keys}
@@ -36,25 +36,13 @@ get-tabulation f (pair ∷ pairs) q =
 
 -- an effect and then a later one are the later of the two
 pub route_after-later : (before : Option Route) (first second : Effect) → route_after before (later first second) ≡ route_after (route_after before first) second
-route_after-later before first Keep = refl
-route_after-later before first Clear = refl
-route_after-later before first (Set new) = refl
-
--- a Clear, where a test holds, leaves no route where there was none
-cleared : (b : Bool) → route_after None (where_true b Clear) ≡ None
-cleared true = refl
-cleared false = refl
-
--- a Set, where a test fails, leaves no route where there was none
-not_set : (b : Bool) (new : Route) → b ≡ false → route_after None (where_true b (Set new)) ≡ None
-not_set true new e = cc
-not_set false new e = refl
+route_after-later before first second = grind arith
 
 -- an item leaves no route where it announces none and there was none
 unset_by_item : (q : Pair) (item : Saying) → among q (pairs_announced_by item) ≡ false → route_after None (item_effect q item) ≡ None
-unset_by_item q (Announced peer network new) e = not_set _ new (or_parts _ false e).0
-unset_by_item q (Withdrawn peer network) e = cleared (eq_by_cmp pair_cmp q (pair_of peer network))
-unset_by_item q (Changed peer old new) e = cleared (eq_by_cmp peer_cmp q.peer peer && is_loss old new)
+unset_by_item q (Announced peer network new) e = grind arith
+unset_by_item q (Withdrawn peer network) e = grind arith
+unset_by_item q (Changed peer old new) e = grind arith
 
 -- so do several, where each of them does
 unset_by_all : {A : Type 0} (q : Pair) (listed : A → List Pair) (does : A → Effect) → ((a : A) → among q (listed a) ≡ false → route_after None (does a) ≡ None)
@@ -89,8 +77,7 @@ among-concerned_pairs routes event q =
 
 -- a pair that is not concerned has no route before the event and none after it
 unconcerned : (before : Option Route) (does : Effect) (b : Bool) → (b ≡ false → route_after None does ≡ None) → (is_some before || b) ≡ false → route_after before does ≡ None
-unconcerned None does b is e = is e
-unconcerned (Some old) does b is e = cc
+unconcerned before does b is e = grind arith
 
 -- a table after an event has, at each pair, what the event's effect leaves
 pub get-table_after : (routes : Routes) (event : Event) (pair : Pair) → get (table_after routes event) pair ≡ route_after (get routes pair) (effect pair event)
@@ -100,17 +87,9 @@ get-table_after routes event pair =
     ∙ cond_untested (among pair (concerned_pairs routes event)) (route_after (get routes pair) (effect pair event)) None
     (λ e. unconcerned (get routes pair) (effect pair event) (among pair (announced_pairs event)) (unset_by_event pair event) (sym (among-concerned_pairs routes event pair) ∙ e))
 
--- an event does not name a pair without a route before it and after it
-unnamed : (does : Effect) → route_after None does ≡ None → is_named None does ≡ false
-unnamed Keep e = refl
-unnamed Clear e = refl
-unnamed (Set new) e = cc
-
 -- a pair that an event names is concerned
 named_concerned : (before : Option Route) (does : Effect) (b : Bool) → (b ≡ false → route_after None does ≡ None) → (is_named before does && (is_some before || b)) ≡ is_named before does
-named_concerned None does true is = and-true (is_named None does)
-named_concerned None does false is = ap (λ n. n && false) (unnamed does (is refl)) ∙ sym (unnamed does (is refl))
-named_concerned (Some old) does b is = and-true (is_named (Some old) does)
+named_concerned before does b is = grind arith
 
 -- an event names the pairs that it sets or clears and that have a route before it or after it
 pub contains-named_pairs : (routes : Routes) (event : Event) (pair : Pair) → contains (named_pairs routes event) pair ≡ is_named (get routes pair) (effect pair event)

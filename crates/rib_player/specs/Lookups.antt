@@ -1,9 +1,8 @@
 -- Private.
 -- What is asked of a table: the best route, and the peers that have one.
-use Rattle.std.specs.Prelude.{ℕ, nat_lt, Bool, true, List, map, Option, Some, None}
+use Rattle.std.specs.Prelude.{ℕ, nat_lt, Bool, List, map, Option}
 use Rattle.std.specs.Borrow.{Bor}
 use Rattle.std.specs.List.{filter}
-use Rattle.std.specs.Ordering.{is_lt}
 use Rattle.std.specs.declared.rc.Rc.{Rc}
 use Rattle.std.specs.FinMap as finite
 use Rattle.std.specs.declared.alloc.Global.{Global}
@@ -28,8 +27,7 @@ pointed_routes found = map (λ f. (f.0, f.1.now.value)) found
 
 -- whether a peer is above the other, where there is one
 abbrev pub is_peer_above : Option Peer → Peer → Bool
-is_peer_above None peer = true
-is_peer_above (Some low) peer = is_lt (peer_cmp low peer)
+is_peer_above = lookups.is_higher peer_cmp
 
 -- the peers above a peer, in order
 abbrev pub peers_above : Option Peer → List Peer → List Peer

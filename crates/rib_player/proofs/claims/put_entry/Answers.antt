@@ -21,17 +21,14 @@ returns-then-made-clause-held g c =
 
 -- a pair that was no key has no route before the step, and so one behind it
 brought : (before behind : Bool) → (before || behind) ≡ true → before ≡ false → (not before && behind) ≡ true
-brought true behind some none = cc
-brought false behind some none = some
+brought before behind some none = grind arith
 
 -- it was a key where it is not made
 known : (made key : Bool) → made ≡ not key → made ≡ false → key ≡ true
-known made true e f = refl
-known made false e f = cc
+known made key e f = grind arith
 
 unknown : (made key : Bool) → made ≡ not key → made ≡ true → key ≡ false
-unknown made true e f = cc
-unknown made false e f = refl
+unknown made key e f = grind arith
 
 pub returns-then-made-clause-claimed : goal.returns-then-made-clause-claimed
 returns-then-made-clause-claimed g c = λ q.

@@ -1,4 +1,5 @@
-use Rattle.std.proofs.Common.{◌≡◌, ℕ, zero, suc, ◌≤◌, ◌+◌, ◌-◌, ◌&&◌, Some, None, is_some, Bool, true, false, cond, refl, sym, ap, ◌∙◌, arith}
+use Rattle.std.proofs.lemmas.Bool.Decides.{nat_tests}
+use Rattle.std.proofs.Common.{◌≡◌, ℕ, ◌≤◌, ◌+◌, ◌-◌, ◌&&◌, Some, None, is_some, Bool, true, false, cond, sym, ap, ◌∙◌, arith}
 use Rattle.std.specs.Prelude.{nat_lt}
 use Rattle.std.specs.BTreeMap as tree
 use Rattle.std.specs.Option.{option_copied_mut}
@@ -34,14 +35,10 @@ returns-clause-counted g c = λ k.
     ∙ ap (cond (eq_by_cmp g.K.Ord.cmp k c.args.key.now) 0) (written g b c.in-Some.count.now k) ∙ over (eq_by_cmp g.K.Ord.cmp k c.args.key.now) c.in-Some.count.now (count_at g.K.Ord.cmp c.args.counts.now k))
   where
     at_most_one : (n : ℕ) → n ≤ 1 → 0 + one_if (nat_lt 0 n && true) ≡ n
-    at_most_one zero h = refl
-    at_most_one (suc zero) h = refl
-    at_most_one (suc (suc n)) h = absurd (omega (arith, h))
+    at_most_one n h = grind (arith, nat_tests)
 
     none : (b : Bool) (m : ℕ) → m + one_if (b && false) ≡ m
-    none true m = omega arith
-    none false m = omega arith
+    none b m = grind arith
 
     over : (b : Bool) (v x : ℕ) → cond b 0 (cond b v x) ≡ cond b 0 x
-    over true v x = refl
-    over false v x = refl
+    over b v x = grind arith

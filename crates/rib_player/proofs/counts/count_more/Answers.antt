@@ -1,4 +1,4 @@
-use Rattle.std.proofs.Common.{◌≡◌, ◌+◌, ℕ, Option, Some, None, Result, Ok, Err, OnErr, refl, ap, subst, arith, ◌∙◌}
+use Rattle.std.proofs.Common.{◌≡◌, ◌+◌, ℕ, Option, Some, Result, Ok, Err, OnErr, refl, ap, subst, arith, ◌∙◌}
 use Rattle.std.specs.Prelude.{unwrap_or}
 use Rattle.std.specs.Map.{lookup}
 use Rattle.std.specs.BTreeMap as tree
@@ -14,8 +14,7 @@ found : (g : Over) (c : After-checked_add g) → c.or_insert-count.result.now �
 found g c = c.or_insert-count.ensures.value ∙ ap (λ o. unwrap_or o 0) c.in_ok-counts.ensures.value ∙ kept (tree.get g.K.Ord.cmp c.args.counts.now c.args.key)
   where
     kept : (o : Option ℕ) → unwrap_or o 0 ≡ count_kept o
-    kept None = refl
-    kept (Some n) = refl
+    kept o = grind arith
 
 pub returns-in_default-clause-refused : goal.returns-in_default-clause-refused
 returns-in_default-clause-refused g c = λ k.

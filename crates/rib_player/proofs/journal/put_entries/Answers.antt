@@ -1,4 +1,5 @@
-use Rattle.std.proofs.Common.{◌≡◌, ◌+◌, ◌<◌, ◌||◌, ◌&&◌, Bool, true, false, is_some, List, [], ◌∷◌, ◌++◌, length, take, drop, set, get_or, arith, sym, ap, ap₂, subst, ◌∙◌}
+use Rattle.std.proofs.lemmas.Bool.{and_parts}
+use Rattle.std.proofs.Common.{◌≡◌, ◌+◌, ◌<◌, ◌||◌, ◌&&◌, true, false, is_some, List, [], ◌∷◌, ◌++◌, length, take, drop, set, get_or, arith, sym, ap, ap₂, subst, ◌∙◌}
 use Rattle.std.specs.List.{AllByRecursion, IsDistinct, list_any}
 use Rattle.std.specs.FinMap as finite
 use Rattle.std.specs.FinSet as names
@@ -146,7 +147,7 @@ entries-preserved g c =
       held = said.held;
       claimed = λ q.
           let one = ap (λ ms. one_if (gives_up_by Last ms q)) marks_more ∙ ap one_if (gives_up_by-push Last marks (mark_of new) q)
-          ∙ one-or (gives_up_by Last marks q) (gives_up Last (mark_of new) && tied q new.pair) (λ t. ap (gives_up_by Last marks) (same_pair q old.pair (ap (tied q) (sym said.pair) ∙ and-right (gives_up Last (mark_of new)) (tied q new.pair) t)) ∙ unnamed) in
+          ∙ one-or (gives_up_by Last marks q) (gives_up Last (mark_of new) && tied q new.pair) (λ t. ap (gives_up_by Last marks) (same_pair q old.pair (ap (tied q) (sym said.pair) ∙ (and_parts (gives_up Last (mark_of new)) (tied q new.pair) t).1)) ∙ unnamed) in
           omega (arith, one, said.claimed q, known.claimed q);
       marks = marks_more ∙ ap₂ (λ (ms : List Mark) (m : Mark). ms ++ m ∷ []) known.marks mark_is
           ∙ sym (map-append (mark_across routes) sides (side_of old ∷ [])) ∙ sym (ap (marks_across routes) sides_more);
@@ -156,7 +157,3 @@ entries-preserved g c =
           ∙ ap₂ (λ (s : List Side) (t : Side). s ++ t ∷ []) known.crossed (λ k. (said.pair k, (said.given ∙ same_route g b) k))
           ∙ sym (sides_across-push sides (side_of old) routes) ∙ sym (ap (sides_across routes) sides_more);
     }
-  where
-    and-right : (a b : Bool) → (a && b) ≡ true → b ≡ true
-    and-right true b e = e
-    and-right false b e = cc

@@ -8,7 +8,7 @@ use Rattle.ip_prefix.specs.Network.{Network}
 use Rattle.mrt_events.specs.declared.event.Route.{Route}
 use Rattle.mrt_events.specs.declared.peer.Peer.{Peer}
 use Rattle.prefix_store.specs.Lookups.{above, pointed}
-use Rattle.prefix_store.proofs.AboveLaws.{above-none, above-front, none-left, routes_sorted, seen_last, seen_none}
+use Rattle.prefix_store.proofs.AboveLaws.{above-none, above-front, none-left, keys-in_order, seen_last, seen_none}
 use Rattle.rib_player.specs.Journal.{Side, sides_of}
 use Rattle.rib_player.specs.Sides.{cleared_side}
 use Rattle.rib_player.specs.Entries.{Entry}
@@ -49,7 +49,7 @@ next : (g : Over) (c : In-Some g) → let entries = finite.entries (g.S.PrefixSt
     above c.routes.last entries ≡ pointed c.next_routes.new.found.items ++ above (Some c.in-Some.end.now.0) entries
 next g c =
     let routes = g.S.PrefixStore.routes c.args.store.now in
-    above-front c.routes.last (finite.entries routes) (routes_sorted routes) (vec_capacity c.routes.found) (pointed c.next_routes.new.found.items) (c.in-Some.end.now.0, c.in-Some.end.now.1.now)
+    above-front c.routes.last (finite.entries routes) (keys-in_order routes) (vec_capacity c.routes.found) (pointed c.next_routes.new.found.items) (c.in-Some.end.now.0, c.in-Some.end.now.1.now)
     (c.next_routes.ensures.found ∙ ap (λ low. take (vec_capacity c.routes.found) (above low (finite.entries routes))) c.as_ref.ensures.value) (last g c)
 
 pub routes-smaller : goal.routes-smaller

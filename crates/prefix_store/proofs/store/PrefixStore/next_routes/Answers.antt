@@ -2,7 +2,7 @@ use Rattle.std.proofs.Common.{◌≡◌, ◌≤◌, vec_capacity, ◌++◌, [], 
 use Rattle.std.specs.Option.{option_map}
 use Rattle.std.specs.FinMap as finite
 use Rattle.prefix_store.specs.Lookups.{above, pointed}
-use Rattle.prefix_store.proofs.AboveLaws.{above-next, none-above, routes_sorted}
+use Rattle.prefix_store.proofs.AboveLaws.{above-next, none-above, keys-in_order}
 use Rattle.prefix_store.proofs.AboveLaws.{take-whole, pointed-more, length-pointed}
 use Rattle.prefix_store.proofs.store.PrefixStore.next_routes.Goals as goal
 
@@ -11,7 +11,7 @@ routes-preserved g c =
     let routes = g.Self.PrefixStore.routes c.args.self.now in
     let entries = finite.entries routes in
     let one = c.in-Some.next in
-    let next = above-next c.routes.last entries (one.0, one.1.now) (routes_sorted routes)
+    let next = above-next c.routes.last entries (one.0, one.1.now) (keys-in_order routes)
     (ap (λ low. slice_get (above low entries) 0) (sym c.as_ref.ensures.value) ∙ sym c.after.ensures ∙ ap (option_map (λ p. (p.0, p.1.now))) c.in-Some.is) in
     record {
       found = ap (λ items. pointed items ++ above (Some one.0) entries) c.push_reserved.ensures.items

@@ -4,7 +4,8 @@ use Rattle.std.specs.FinMap as finite
 use Rattle.std.specs.FinMap.{len-entries}
 use Rattle.std.proofs.lemmas.List.{length-map, append-nil}
 use Rattle.prefix_store.specs.Lookups.{above}
-use Rattle.prefix_store.proofs.AboveLaws.{above-none, none-above, some_same}
+use Rattle.prefix_store.proofs.AboveLaws.{above-none, none-above}
+use Rattle.std.proofs.lemmas.Option.{same_Some}
 use Rattle.prefix_store.proofs.TakenLaws.{IsTaken, taken, no_routes, values-empty, key-there, keyless, among-less}
 use Rattle.prefix_store.proofs.store.PrefixStore.take_routes.Given.{Over}
 use Rattle.prefix_store.proofs.store.PrefixStore.take_routes.Goals as goal
@@ -84,7 +85,7 @@ routes-preserved g c =
     let first = one g b in
     let given = c.exchange.ensures.given ∙ first.there in
     let later : (r : _) → Some r ≡ Some c.in-Some.next.1.now → r ∷ finite.values (g.Self.PrefixStore.routes c.exchange.new.self) ≡ finite.values left =
-    λ r e. ap₂ (λ x s. x ∷ finite.values s) (some_same r _ e) c.exchange.ensures.routes ∙ sym (ap (map (λ e. e.1)) first.all) in
+    λ r e. ap₂ (λ x s. x ∷ finite.values s) (same_Some r _ e) c.exchange.ensures.routes ∙ sym (ap (map (λ e. e.1)) first.all) in
     let among = among-less (g.Self.PrefixStore.keys c.routes.self) _ left _ c.in-Some.next.0 c.exchange.ensures.keys c.exchange.ensures.routes c.routes.invariant.among in
     elim c.match-route.branch [
       | in-Some-route w ↦ record {

@@ -1,4 +1,4 @@
-use Rattle.std.proofs.Common.{◌≡◌, ◌+◌, ◌&&◌, Bool, true, false, ℕ, sym, refl, subst, ◌∙◌, arith}
+use Rattle.std.proofs.Common.{◌≡◌, ◌+◌, ◌&&◌, Bool, false, ℕ, sym, refl, subst, ◌∙◌, arith}
 use Rattle.std.specs.Ordering.{eq_by_cmp, nat_cmp}
 use Rattle.rib_player.specs.Counts.{one_if, count_at}
 use Rattle.rib_player.proofs.CountedLaws.{v4-counted}
@@ -11,5 +11,4 @@ returns-in-V4-clause-counted c =
     (none c.count_less.result)
   where
     none : (b : Bool) (m : ℕ) → m + one_if (b && false) ≡ m
-    none true m = omega arith
-    none false m = omega arith
+    none b m = grind arith
