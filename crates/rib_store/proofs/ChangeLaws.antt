@@ -1,6 +1,5 @@
 -- One slot put into a tree, seen from the nodes above it, and nodes split and joined.
-use Rattle.std.proofs.Common.{◌≡◌, Bool, true, false, cond, Option, Some, None, IsSome, List, refl, ap, sym, subst, ◌∙◌}
-use Rattle.ip_prefix.specs.declared.turn.Turn.{Turn}
+use Rattle.std.proofs.Common.{◌≡◌, Bool, true, false, cond, Option, Some, None, IsSome, List, refl, ap, sym, subst, ◌∙◌, arith}
 use Rattle.ip_prefix.specs.declared.turn.Turn.TheVariants.{Outside, Here, Left, Right}
 use Rattle.ip_prefix.specs.Network.{Network}
 use Rattle.ip_prefix.specs.Turns.{way, turn_of}
@@ -33,14 +32,7 @@ put_right b key none slot v l r m there = put_in key v r m (λ q x. chosen (turn
 -- put at the node itself
 pub put_here : {A : Type 0} (b key : List Bool) (none slot v : A) (l r : List Bool → A) → turn_of b key ≡ Here
     → IsPut (λ q. chosen (turn_of b q) none slot (l q) (r q)) key v (λ q. chosen (turn_of b q) none v (l q) (r q))
-put_here b key none slot v l r there q =
-    cases (turn_of b q) ∙ ap (λ (k : List Bool). cond (same_way k q) v (chosen (turn_of b q) none slot (l q) (r q))) (here_only b key there)
-  where
-    cases : (t : Turn) → chosen t none v (l q) (r q) ≡ cond (chosen t false true false false) v (chosen t none slot (l q) (r q))
-    cases Outside = refl
-    cases Here = refl
-    cases Left = refl
-    cases Right = refl
+put_here b key none slot v l r there q = let one = here_only b key there in grind arith
 
 -- nothing put where nothing is
 pub put_none : {A : Type 0} (f : List Bool → A) (none : A) (key : List Bool) → f key ≡ none → IsPut f key none f

@@ -1,6 +1,6 @@
 -- How many routes there are.
 use mir.Val.{bool_byte}
-use Rattle.std.proofs.Common.{◌≡◌, ℕ, zero, suc, ◌+◌, ◌-◌, ◌≤◌, ◌<◌, ◌^◌, Bool, true, false, not, cond, [], ◌∷◌, length, Option, is_some, refl, sym, ap, ◌∙◌, arith}
+use Rattle.std.proofs.Common.{◌≡◌, ℕ, zero, suc, ◌+◌, ◌-◌, ◌≤◌, ◌<◌, ◌^◌, true, not, cond, [], ◌∷◌, length, Option, is_some, refl, ap, ◌∙◌, arith}
 use Rattle.std.specs.FinSet as set
 use Rattle.std.specs.FinMap.{get, len, len-empty}
 use Rattle.ip_prefix.specs.Network.{Network}
@@ -17,22 +17,14 @@ len-exchanged old new prefix brought given is found = rw (is, found) (len-put ne
 
 -- a set with a key isn't empty
 len-some : (keys : Keys) (prefix : Network) → set.contains keys prefix ≡ true → 1 ≤ set.len keys
-len-some keys prefix key = at (set.len keys) refl
-  where
-    at : (size : ℕ) → set.len keys ≡ size → 1 ≤ size
-    at zero e =
-        let none : set.contains keys prefix ≡ false = ap (λ s. set.contains s prefix) (set.empty_of_len keys e) ∙ set.contains-empty network_cmp prefix in
-        let wrong : true ≡ false = sym key ∙ none in
-        cc
-    at (suc size) e = omega arith
+len-some keys prefix key = elim (set.len keys) as (λ size. set.len keys ≡ size → 1 ≤ size) [
+  | zero ↦ λ e. let none = ap (λ s. set.contains s prefix) (set.empty_of_len keys e) ∙ set.contains-empty network_cmp prefix in grind arith
+  | suc size ↦ λ e. omega arith
+] refl
 
 -- how many keys there are once one is there, and once one is gone
 pub len-ensured : (old new : Keys) (prefix : Network) → new ≡ set.insert old prefix → set.len new ≡ set.len old + bool_byte (not (set.contains old prefix))
-len-ensured old new prefix is = ap set.len is ∙ set.len-insert network_cmp_total old prefix ∙ known (set.contains old prefix)
-  where
-    known : (b : Bool) → cond b (set.len old) (set.len old + 1) ≡ set.len old + bool_byte (not b)
-    known true = omega arith
-    known false = refl
+len-ensured old new prefix is = ap set.len is ∙ set.len-insert network_cmp_total old prefix ∙ grind arith
 
 pub len-removed : (old new : Keys) (prefix : Network) → set.contains old prefix ≡ true → new ≡ set.remove old prefix → set.len new + 1 ≡ set.len old
 len-removed old new prefix key is =
@@ -44,12 +36,10 @@ len-removed old new prefix key is =
 pub few_routes : {R : Type 0} (slots : Slots R) → len (routes_in slots) ≤ length slots
 unfolding routes_in
 few_routes {R} [] = omega (arith, len-empty network_cmp R)
-few_routes (slot ∷ slots) = at (is_some slot.1) (len-put network_cmp_total (routes_in slots) slot.0 slot.1) (few_routes slots)
-  where
-    at : (b : Bool) → len (put (routes_in slots) slot.0 slot.1) + bool_byte (is_some (get (routes_in slots) slot.0)) ≡ len (routes_in slots) + bool_byte b
-        → len (routes_in slots) ≤ length slots → len (put (routes_in slots) slot.0 slot.1) ≤ suc (length slots)
-    at true size few = omega (arith, size, few)
-    at false size few = omega (arith, size, few)
+few_routes (slot ∷ slots) =
+    let size = len-put network_cmp_total (routes_in slots) slot.0 slot.1 in
+    let few = few_routes slots in
+    grind arith
 
 -- what a count answers that fits
 pub counted-small : (size : ℕ) → size < 2 ^ 64 → counted size ≡ size

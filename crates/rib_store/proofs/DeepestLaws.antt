@@ -54,16 +54,12 @@ on_way prefix None low slots key s None there here below lies whence is =
 on_way prefix (Some None) low slots key s None there here below lies whence is =
     λ x route h. elim (whence x route h) [ inl at_node ↦ absurd (vacant_some (slots x) route (here x at_node) h.1) | inr on ↦ is x route (h.0, sym (below x on) ∙ h.1) ]
 on_way prefix (Some (Some found)) low slots key s None there here below lies whence is = (
-  (begin_in (way prefix) key (no s there), here (way prefix) (here_from (way prefix))),
+  (begin_in (way prefix) key (λ e. grind arith), here (way prefix) (here_from (way prefix))),
   λ x route h. elim (whence x route h) [
     | inl at_node ↦ let same = ap length (here_only (way prefix) x at_node) in omega (arith, same)
     | inr on ↦ absurd (is x route (h.0, sym (below x on) ∙ h.1))
   ],
 )
-  where
-    no : (s : Bool) → turn_of (way prefix) key ≡ side s → turn_of (way prefix) key ≡ Outside → ⊥
-    no true e f = cc
-    no false e f = cc
 
 false_true : (b : Bool) → b ≡ false → b ≡ true → ⊥
 false_true b e f = cc
@@ -111,24 +107,21 @@ deepest_is {R} (Rooted prefix slot l r) key shaped =
     whence false e x route h Right y = absurd (away x true y (λ z. cc) h.0)
     whence true e x route h Right y = inr y
 
-    outside : turn_of (way prefix) key ≡ Outside → (x : List Bool) (route : R) → Holds (at whole) key x route → (j : Turn) → turn_of (way prefix) x ≡ j → ⊥
-    outside e x route h Outside y = none_some (at whole x) route (seen x Outside y) h.1
-    outside e x route h Here y = false_true (begin_with x key) (begin_outside (way prefix) x key e (λ z. cc)) h.0
-    outside e x route h Left y = away x false y (λ z. cc) h.0
-    outside e x route h Right y = away x true y (λ z. cc) h.0
+    outside : turn_of (way prefix) key ≡ Outside → (x : List Bool) (route : R) → Holds (at whole) key x route → ⊥
+    outside e x route h = let apart = begin_outside (way prefix) x key e in grind (arith, h.0, h.1)
 
-    only : turn_of (way prefix) key ≡ Here → (x : List Bool) (route : R) → Holds (at whole) key x route → (j : Turn) → turn_of (way prefix) x ≡ j → x ≡ way prefix
-    only e x route h Outside y = absurd (none_some (at whole x) route (seen x Outside y) h.1)
-    only e x route h Here y = sym (here_only (way prefix) x y)
-    only e x route h Left y = absurd (away x false y (λ z. cc) h.0)
-    only e x route h Right y = absurd (away x true y (λ z. cc) h.0)
+    only : turn_of (way prefix) key ≡ Here → (x : List Bool) (route : R) → Holds (at whole) key x route → x ≡ way prefix
+    only e x route h =
+        let one = here_only (way prefix) x in
+        let left = begin_side (way prefix) x key false in
+        let right = begin_side (way prefix) x key true in
+        grind (arith, h.0, h.1)
 
     turns : (k : Turn) → turn_of (way prefix) key ≡ k → IsDeepest (at l) key (deepest l key) → IsDeepest (at r) key (deepest r key)
         → IsDeepest (at whole) key (chosen k None (routed_at prefix (slot_of slot)) (either_of (deepest l key) (routed_at prefix (slot_of slot))) (either_of (deepest r key) (routed_at prefix (slot_of slot))))
-    turns Outside e f g = λ x route h. outside e x route h (turn_of (way prefix) x) refl
+    turns Outside e f g = outside e
     turns Here e f g =
-        at_way prefix (slot_of slot) (at whole) key (begin_in (way prefix) key (λ z. cc)) (seen (way prefix) Here (here_from (way prefix)))
-        (λ x route h. only e x route h (turn_of (way prefix) x) refl)
+        at_way prefix (slot_of slot) (at whole) key (begin_in (way prefix) key (λ z. cc)) (seen (way prefix) Here (here_from (way prefix))) (only e)
     turns Left e f g =
         on_way prefix (slot_of slot) (at l) (at whole) key false (deepest l key) e (λ x. seen x Here) (λ x. seen x Left)
         (λ x route h. lies (way prefix) x false l route shaped.0.left h) (λ x route h. whence false e x route h (turn_of (way prefix) x) refl) f

@@ -75,9 +75,7 @@ take-front n xs ys all e same = sym (take-append_seam xs ys) ∙ ap₂ (λ k s. 
 
 routed-own : {R : Type 0} (prefix : Network) (slot : Option (Option R)) (below : Slots R) → routed (own prefix slot below) ≡ option_to_list (routed_at prefix slot) ++ routed below
 unfolding routed
-routed-own prefix None below = refl
-routed-own prefix (Some None) below = refl
-routed-own prefix (Some (Some route)) below = refl
+routed-own prefix slot below = grind arith
 
 pub all-routed : {R : Type 0} (t : Shape R) → all_routes t ≡ routed (slots_of t)
 unfolding routed
@@ -110,19 +108,12 @@ first-all (Rooted prefix slot l r) =
 
 behind-all : {R : Type 0} (t : Shape R) (low : Network) → behind t low ≡ slice_get (all_behind t low) 0
 behind-all Empty low = refl
-behind-all {R} (Rooted prefix slot l r) low = turns (turn_of (way prefix) (way low)) (behind-all l low) (behind-all r low)
-  where
-    outside : (b : Bool) → cond b (first (Rooted prefix slot l r)) None ≡ slice_get (cond b (all_routes (Rooted prefix slot l r)) []) 0
-    outside true = first-all (Rooted prefix slot l r)
-    outside false = refl
-
-    turns : (k : Turn) → behind l low ≡ slice_get (all_behind l low) 0 → behind r low ≡ slice_get (all_behind r low) 0
-        → chosen k (cond (is_lt (network_cmp low prefix)) (first (Rooted prefix slot l r)) None) (either_of (first l) (first r)) (either_of (behind l low) (first r)) (behind r low)
-        ≡ slice_get (chosen k (cond (is_lt (network_cmp low prefix)) (all_routes (Rooted prefix slot l r)) []) (all_routes l ++ all_routes r) (all_behind l low ++ all_routes r) (all_behind r low)) 0
-    turns Outside left right = outside (is_lt (network_cmp low prefix))
-    turns Here left right = either-first (all_routes l) (all_routes r) (first-all l) (first-all r)
-    turns Left left right = either-first (all_behind l low) (all_routes r) left (first-all r)
-    turns Right left right = right
+behind-all (Rooted prefix slot l r) low =
+    let whole = first-all (Rooted prefix slot l r) in
+    let here = either-first (all_routes l) (all_routes r) (first-all l) (first-all r) in
+    let left = either-first (all_behind l low) (all_routes r) (behind-all l low) (first-all r) in
+    let right = behind-all r low in
+    grind arith
 
 -- a tree whose root isn't marked has none
 pub unmarked-all : {K R : Type 0} (network : K → Network) (t : Tree K R) → IsMarked t → is_routed t ≡ false → all_routes (shape_of network t) ≡ []
@@ -142,9 +133,7 @@ above-append low xs ys =
 -- the node itself isn't above
 above-own : {R : Type 0} (low prefix : Network) (slot : Option (Option R)) (below : Slots R) → is_above (Some low) prefix ≡ false → above (Some low) (routed (own prefix slot below)) ≡ above (Some low) (routed below)
 unfolding routed
-above-own low prefix None below e = refl
-above-own low prefix (Some None) below e = refl
-above-own low prefix (Some (Some route)) below e = λ i. cond (e i) ((prefix, route) ∷ above (Some low) (routed below)) (above (Some low) (routed below))
+above-own low prefix slot below e = grind arith
 
 -- all routes of a tree on a side are above, where all that lies there is
 all-above : {R : Type 0} (low : Network) (from : List Bool) (bit : Bool) (t : Shape R) → IsShaped t → IsOn from bit t → ((n : Network) → turn_of from (way n) ≡ side bit → below (way low) (way n) ≡ true) → all_routes t ≡ above (Some low) (routed (slots_of t))

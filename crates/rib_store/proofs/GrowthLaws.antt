@@ -1,5 +1,5 @@
 -- A tree with one more key.
-use Rattle.std.proofs.Common.{◌≡◌, Bool, true, false, cond, not, Option, Some, None, List, ◌⊎◌, inl, inr, refl, ap, sym, subst, ◌∙◌}
+use Rattle.std.proofs.Common.{◌≡◌, Bool, true, false, cond, not, Option, Some, None, List, ◌⊎◌, inl, inr, refl, ap, sym, subst, ◌∙◌, arith}
 use Rattle.ip_prefix.specs.declared.turn.Turn.{Turn}
 use Rattle.ip_prefix.specs.declared.turn.Turn.TheVariants.{Outside, Here, Left, Right}
 use Rattle.ip_prefix.specs.Network.{Network}
@@ -28,8 +28,7 @@ stands_right None l r m x e h = (h.0, some_is (root m) x e)
 stands_right (Some route) l r m x e h = tt
 
 not_outside : (t : Turn) (bit : Bool) → t ≡ side bit → t ≡ Outside → ⊥
-not_outside t true e h = cc
-not_outside t false e h = cc
+not_outside t bit e h = grind arith
 
 chosen_at : {A : Type 0} (t : Turn) (none here left right x : A) (u : Turn) → t ≡ u → chosen u none here left right ≡ x → chosen t none here left right ≡ x
 chosen_at t none here left right x u e h = ap (λ w. chosen w none here left right) e ∙ h
@@ -87,10 +86,7 @@ placed_here {R} {old} {new} key prefix slot v l r was is there shaped stands =
 -- ---- a leaf, and a node above
 
 put_leaf : {A : Type 0} (t : Turn) (none v : A) → chosen t none v none none ≡ cond (chosen t false true false false) v none
-put_leaf Outside none v = refl
-put_leaf Here none v = refl
-put_leaf Left none v = refl
-put_leaf Right none v = refl
+put_leaf t none v = grind arith
 
 pub leaf_slots : {R : Type 0} (key : Network) (route : Option R) (t : Shape R) → IsRooted key (Some route) Empty Empty t → IsPut (λ q. None) (way key) (Some route) (at t)
 leaf_slots key route t is q = at_rooted t key (Some route) Empty Empty is q ∙ put_leaf (turn_of (way key) q) None (Some route)
@@ -171,14 +167,7 @@ over_side {R} {old} {new} key above b route slot beside bit none e shaped bits b
 
 -- the turn of a side chooses by the side's bit
 by_side : {A : Type 0} (t : Turn) (bit : Bool) (x y : A) → t ≡ side bit → (chosen t x x y x ≡ cond bit x y) × (chosen t y y x y ≡ cond bit y x)
-by_side Left false x y e = (refl, refl)
-by_side Left true x y e = cc
-by_side Right false x y e = cc
-by_side Right true x y e = (refl, refl)
-by_side Outside false x y e = cc
-by_side Outside true x y e = cc
-by_side Here false x y e = cc
-by_side Here true x y e = cc
+by_side t bit x y e = (grind arith, grind arith)
 
 pub placed_over : {R : Type 0} {old new : Shape R} (key above : Network) (b : List Bool) (route : Option R) (slot : Option (Option R)) (beside : Shape R) (t : Turn)
     → turn_of b (way key) ≡ Outside → root old ≡ Some b → IsShaped old → way above ≡ shared b (way key) → t ≡ turn_of (way above) b

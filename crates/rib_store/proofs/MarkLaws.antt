@@ -1,23 +1,18 @@
 -- What the marks of a tree say: where there is none, no route is found.
-use Rattle.std.proofs.Common.{◌≡◌, Bool, true, false, ◌||◌, Option, None, refl, sym, ◌∙◌}
+use Rattle.std.proofs.Common.{◌≡◌, Bool, true, false, ◌||◌, Option, None, refl, sym, ◌∙◌, arith}
 use Rattle.ip_prefix.specs.declared.turn.Turn.{Turn}
-use Rattle.ip_prefix.specs.declared.turn.Turn.TheVariants.{Outside, Here, Left, Right}
 use Rattle.ip_prefix.specs.Network.{Network}
 use Rattle.rib_store.specs.declared.tree.Slot.{Slot}
-use Rattle.rib_store.specs.declared.tree.Slot.TheVariants.{Branch, Vacant, Filled}
+use Rattle.rib_store.specs.declared.tree.Slot.TheVariants.{Branch}
 use Rattle.rib_store.specs.declared.tree.Tree.{Tree}
 use Rattle.rib_store.specs.declared.tree.Tree.TheVariants as tree
-use Rattle.rib_store.specs.Shape.{shape_of, is_filled, is_routed, any_routed, beside_of, routed_beside, IsMarked}
+use Rattle.rib_store.specs.Shape.{shape_of, is_filled, is_routed, any_routed, routed_beside, IsMarked}
 use Rattle.rib_store.specs.Tree.{slot_of}
 use Rattle.rib_store.specs.Walks.{routed_at, either_of, first}
 
 none_of : {R : Type 0} (prefix : Network) (slot : Slot R) (l r : Bool) (x y : Option (Network × R)) → (is_filled slot || (l || r)) ≡ false
     → (l ≡ false → x ≡ None) → (r ≡ false → y ≡ None) → either_of (routed_at prefix (slot_of slot)) (either_of x y) ≡ None
-none_of prefix (Filled route) l r x y e left right = cc
-none_of prefix Branch true r x y e left right = cc
-none_of prefix Branch false r x y e left right = λ i. either_of (left refl i) (right e i)
-none_of prefix Vacant true r x y e left right = cc
-none_of prefix Vacant false r x y e left right = λ i. either_of (left refl i) (right e i)
+none_of prefix slot l r x y e left right = grind arith
 
 -- a tree whose root isn't marked has no route
 pub unmarked_first : {K R : Type 0} (network : K → Network) (t : Tree K R) → IsMarked t → is_routed t ≡ false → first (shape_of network t) ≡ None
@@ -32,32 +27,13 @@ unmarked_first network (tree.Rooted' routed key p slot left right) marked e =
     (unmarked_first network left marked.1) (unmarked_first network right marked.2)
 
 -- what has no routes has none elsewhere than where a turn leads
-elsewhere : (t : Turn) (slot left right : Bool) → (slot || (left || right)) ≡ false → beside_of t slot left right ≡ false
-elsewhere Outside true left right e = cc
-elsewhere Outside false left right e = e
-elsewhere Here true left right e = cc
-elsewhere Here false left right e = e
-elsewhere Left true left right e = cc
-elsewhere Left false true right e = cc
-elsewhere Left false false right e = e
-elsewhere Right true left right e = cc
-elsewhere Right false true right e = cc
-elsewhere Right false false right e = refl
-
 pub none_beside : {K R : Type 0} (t : Turn) (slot : Slot R) (left right : Tree K R) → any_routed slot left right ≡ false → routed_beside t slot left right ≡ false
-none_beside t slot left right e = elsewhere t (is_filled slot) (is_routed left) (is_routed right) e
+none_beside t slot left right e = grind arith
 
 -- a node is routed where what lies on its right is, or something elsewhere
 pub marked_right : (brought slot left right : Bool) → (brought ≡ true → right ≡ true) → (brought ≡ false → (slot || left) ≡ true) → (slot || (left || right)) ≡ true
-marked_right brought true left right there beside = refl
-marked_right brought false true right there beside = refl
-marked_right true false false right there beside = there refl
-marked_right false false false right there beside =
-    let e : false ≡ true = beside refl in
-    cc
+marked_right brought slot left right there beside = grind arith
 
 -- and where nothing elsewhere is, it is what lies on its right
 pub alone_right : (slot left right : Bool) → (slot || left) ≡ false → right ≡ (slot || (left || right))
-alone_right true left right e = cc
-alone_right false true right e = cc
-alone_right false false right e = refl
+alone_right slot left right e = grind arith

@@ -1,6 +1,6 @@
 -- The nodes of two trees as a set: those of the keys, at most two a key.
-use Rattle.std.proofs.Common.{◌≡◌, ℕ, ◌+◌, ◌*◌, ◌≤◌, Bool, true, false, not, ◌&&◌, ◌||◌, List, [], ◌∷◌, ◌++◌, length, map, Option, Some, None, is_some, refl, sym, ap, ◌∙◌, arith, length-append}
-use Rattle.std.proofs.Math.Bool.{or-true, or-false}
+use Rattle.std.proofs.Common.{◌≡◌, ℕ, ◌+◌, ◌*◌, ◌≤◌, Bool, true, false, not, ◌&&◌, ◌||◌, List, [], ◌∷◌, ◌++◌, length, map, Option, None, is_some, refl, sym, ap, ◌∙◌, arith, length-append}
+use Rattle.std.proofs.Math.Bool.{or-false}
 use Rattle.std.specs.Prelude.{IsSome}
 use Rattle.std.specs.declared.cmp.Ordering.TheVariants.{Less}
 use Rattle.std.specs.List.{list_any, AllByRecursion}
@@ -13,7 +13,7 @@ use Rattle.std.specs.FinSet.{contains-from_list, contains-items}
 use Rattle.std.proofs.lemmas.List.Folds.{list_any-append}
 use Rattle.std.proofs.lemmas.Map.Keys.{IsDistinct-from_sorted}
 use Rattle.ip_prefix.specs.declared.turn.Turn.{Turn}
-use Rattle.ip_prefix.specs.declared.turn.Turn.TheVariants.{Outside, Here, Left, Right}
+use Rattle.ip_prefix.specs.declared.turn.Turn.TheVariants.{Outside}
 use Rattle.ip_prefix.specs.Network.{Network, begin_with}
 use Rattle.ip_prefix.specs.Covering.{covers}
 use Rattle.ip_prefix.specs.Order.{network_cmp}
@@ -48,27 +48,15 @@ is_in ns q = list_any (eq_by_cmp network_cmp q) ns
 
 same_turn : (q k : List Bool) → same_way k q ≡ at_here (turn_of q k)
 same_turn [] [] = refl
-same_turn [] (true ∷ k) = refl
-same_turn [] (false ∷ k) = refl
-same_turn (true ∷ q) [] = refl
-same_turn (false ∷ q) [] = refl
-same_turn (true ∷ q) (true ∷ k) = same_turn q k
-same_turn (true ∷ q) (false ∷ k) = refl
-same_turn (false ∷ q) (true ∷ k) = refl
-same_turn (false ∷ q) (false ∷ k) = same_turn q k
+same_turn [] (y ∷ k) = grind arith
+same_turn (x ∷ q) [] = grind arith
+same_turn (x ∷ q) (y ∷ k) = grind (arith, same_turn q k)
 
 begin_turn : (q k : List Bool) (bit : Bool) → begin_with (q ++ bit ∷ []) k ≡ at_side bit (turn_of q k)
-begin_turn [] [] true = refl
-begin_turn [] [] false = refl
-begin_turn [] (true ∷ k) true = refl
-begin_turn [] (true ∷ k) false = refl
-begin_turn [] (false ∷ k) true = refl
-begin_turn [] (false ∷ k) false = refl
+begin_turn [] [] bit = grind arith
+begin_turn [] (y ∷ k) bit = grind arith
 begin_turn (x ∷ q) [] bit = refl
-begin_turn (true ∷ q) (true ∷ k) bit = begin_turn q k bit
-begin_turn (true ∷ q) (false ∷ k) bit = refl
-begin_turn (false ∷ q) (true ∷ k) bit = refl
-begin_turn (false ∷ q) (false ∷ k) bit = begin_turn q k bit
+begin_turn (x ∷ q) (y ∷ k) bit = grind (arith, begin_turn q k bit)
 
 -- the test for a key, and that for one with a bit behind the prefix's
 tied-turn : (q n : Network) → eq_by_cmp network_cmp q n ≡ by_turn at_here (way q) (way n)
@@ -88,19 +76,15 @@ itself n = ap is_eq (tied_itself network_cmp_total n)
 
 any_at : (p : Network → Bool) (x : Network) (ns : List Network) → p x ≡ true → is_in ns x ≡ true → list_any p ns ≡ true
 any_at p x [] e h = cc
-any_at p x (n ∷ ns) e h =
-    elim (eq_by_cmp network_cmp x n) as (λ b. eq_by_cmp network_cmp x n ≡ b → (b || is_in ns x) ≡ true → (p n || list_any p ns) ≡ true) [
-      | true ↦ λ t _. ap (λ b. b || list_any p ns) (ap p (sym (same_prefix x n t)) ∙ e)
-      | false ↦ λ _ h. ap (λ b. p n || b) (any_at p x ns e h) ∙ or-true (p n)
-    ] refl h
+any_at p x (n ∷ ns) e h = let one = same_prefix x n in let later = any_at p x ns e in grind arith
 
 any_within : (p : Network → Bool) (ns ms : List Network) → ((q : Network) → is_in ns q ≡ true → is_in ms q ≡ true) → list_any p ns ≡ true → list_any p ms ≡ true
 any_within p [] ms h e = cc
 any_within p (n ∷ ns) ms h e =
-    elim (p n) as (λ b. p n ≡ b → (b || list_any p ns) ≡ true → list_any p ms ≡ true) [
-      | true ↦ λ t _. any_at p n ms t (h n (ap (λ b. b || is_in ns n) (itself n)))
-      | false ↦ λ _ e. any_within p ns ms (λ q g. h q (ap (λ b. eq_by_cmp network_cmp q n || b) g ∙ or-true (eq_by_cmp network_cmp q n))) e
-    ] refl e
+    elim (p n) as (λ b. p n ≡ b → list_any p ms ≡ true) [
+      | true ↦ λ t. any_at p n ms t (h n (ap (λ b. b || is_in ns n) (itself n)))
+      | false ↦ λ t. any_within p ns ms (λ q g. h q (grind arith)) (grind arith)
+    ] refl
 
 -- lists with the same members pass the same tests
 any_same : (p : Network → Bool) (ns ms : List Network) → ((q : Network) → is_in ns q ≡ is_in ms q) → list_any p ns ≡ list_any p ms
@@ -121,8 +105,7 @@ items-keys_of p slots = any_same p (set.items (keys_in slots)) (keys_of slots) (
 -- ---- the keys of a tree
 
 any-own : {R : Type 0} (p : Network → Bool) (prefix : Network) (slot : Option (Option R)) (below : Slots R) → list_any p (keys_of (own prefix slot below)) ≡ ((is_some slot && p prefix) || list_any p (keys_of below))
-any-own p prefix None below = refl
-any-own p prefix (Some slot) below = refl
+any-own p prefix slot below = grind arith
 
 any-append : {R : Type 0} (p : Network → Bool) (xs ys : Slots R) → list_any p (keys_of (xs ++ ys)) ≡ (list_any p (keys_of xs) || list_any p (keys_of ys))
 any-append p xs ys = ap (list_any p) (keys_of-append xs ys) ∙ list_any-append p (keys_of xs) (keys_of ys)
@@ -153,11 +136,7 @@ node_right b Empty on q = chosen_same (turn_of b q) false
 node_right b (Rooted prefix slot l r) on q = there_alone false b (way prefix) q true _ on (λ out. ap (λ t. chosen t false true (node_at l q) (node_at r q)) out)
 
 gathered : (t : Turn) (x y : Bool) → (chosen t false true false false || (chosen t false false x false || chosen t false false false y)) ≡ chosen t false true x y
-gathered Outside x y = refl
-gathered Here x y = refl
-gathered Left true y = refl
-gathered Left false y = refl
-gathered Right x y = refl
+gathered t x y = grind arith
 
 pub is_in-nodes_of : {R : Type 0} (t : Shape R) (q : Network) → IsShaped t → is_in (nodes_of t) q ≡ node_at t (way q)
 is_in-nodes_of Empty q shaped = refl
@@ -262,8 +241,7 @@ filled Empty = 0
 filled (Rooted prefix slot l r) = 1
 
 filled-some : {R : Type 0} (t : Shape R) → IsSome (root t) → filled t ≡ 1
-filled-some Empty e = cc
-filled-some (Rooted prefix slot l r) e = refl
+filled-some t e = grind arith
 
 twice : {R : Type 0} (t : Shape R) → IsShaped t → node_count t + filled t ≤ 2 * length (slots_of t)
 twice Empty shaped = omega arith

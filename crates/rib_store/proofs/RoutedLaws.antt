@@ -1,9 +1,10 @@
 -- Slots in order, and the routes in them.
-use Rattle.std.proofs.Common.{◌≡◌, Bool, true, false, cond, List, [], ◌∷◌, length, Option, Some, None, slice_get, refl, sym, ap, ap₂, ◌∙◌, arith}
+use Rattle.std.proofs.lemmas.List.{nil_from_length}
+use Rattle.std.proofs.Common.{◌≡◌, Bool, cond, [], ◌∷◌, Option, Some, None, slice_get, refl, sym, ap, ◌∙◌, arith}
 use Rattle.std.specs.List.{filter, AllByRecursion}
 use Rattle.std.specs.List.Sorted.{IsStrictlySortedBy}
 use Rattle.std.specs.Map.{keys_of}
-use Rattle.std.specs.Ordering.{eq_by_cmp, is_eq}
+use Rattle.std.specs.Ordering.{is_eq}
 use Rattle.std.specs.declared.cmp.Ordering.TheVariants.{Less}
 use Rattle.std.specs.FinMap as finite
 use Rattle.std.specs.FinMap.{entries-insert, len-entries, len-empty}
@@ -15,15 +16,10 @@ use Rattle.std.proofs.lemmas.Map.Keys.{sorted_head, sorted_tail}
 use Rattle.ip_prefix.specs.Network.{Network}
 use Rattle.ip_prefix.specs.Order.{network_cmp}
 use Rattle.ip_prefix.specs.OrderLaws.{network_cmp_total}
-use Rattle.prefix_store.specs.Stored.{put}
 use Rattle.prefix_store.specs.Lookups.{is_above, above}
 use Rattle.rib_store.specs.Slots.{Slots, slot_at, routes_in, routed, route_found}
-use Rattle.prefix_store.proofs.StoredLaws.{same_prefix, same_routes, get-put}
+use Rattle.prefix_store.proofs.StoredLaws.{put-none}
 use Rattle.rib_store.proofs.SlotLaws.{get-routes_in}
-
-empty_list : {A : Type 0} (xs : List A) → length xs ≡ 0 → xs ≡ []
-empty_list [] e = refl
-empty_list (x ∷ xs) e = absurd (omega arith)
 
 -- a route before all others of a list
 put-front : {R : Type 0} (k : Network) (r : R) (slots : Slots R) → AllByRecursion (λ y. network_cmp k y ≡ Less) (keys_of slots) → entries.put network_cmp k r (routed slots) ≡ (k, r) ∷ routed slots
@@ -39,16 +35,10 @@ absent_front k (slot ∷ slots) all = ap (λ o. cond (is_eq o) (Some slot.1) (sl
 -- the routes of slots in order, in order
 pub entries-routes_in : {R : Type 0} (slots : Slots R) → IsStrictlySortedBy network_cmp (keys_of slots) → finite.entries (routes_in slots) ≡ routed slots
 unfolding routes_in routed
-entries-routes_in {R} [] sorted = empty_list _ (sym (len-entries (finite.empty {X = R} {R = network_cmp})) ∙ len-empty network_cmp R)
+entries-routes_in {R} [] sorted = nil_from_length _ (sym (len-entries (finite.empty {X = R} {R = network_cmp})) ∙ len-empty network_cmp R)
 entries-routes_in ((prefix, None) ∷ slots) sorted =
-    ap finite.entries (same_routes (put (routes_in slots) prefix None) (routes_in slots) (λ q.
-    get-put (routes_in slots) prefix None q
-    ∙ at q (eq_by_cmp network_cmp q prefix) refl))
-    ∙ entries-routes_in slots (sorted_tail network_cmp prefix (keys_of slots) sorted)
-  where
-    at : (q : Network) (b : Bool) → eq_by_cmp network_cmp q prefix ≡ b → cond b None (finite.get (routes_in slots) q) ≡ finite.get (routes_in slots) q
-    at q true e = sym (get-routes_in slots q ∙ ap (λ p. route_found (slot_at slots p)) (same_prefix q prefix e) ∙ ap route_found (absent_front prefix slots (sorted_head network_cmp prefix (keys_of slots) sorted)))
-    at q false e = refl
+    let none = get-routes_in slots prefix ∙ ap route_found (absent_front prefix slots (sorted_head network_cmp prefix (keys_of slots) sorted)) in
+    ap finite.entries (put-none (routes_in slots) prefix none) ∙ entries-routes_in slots (sorted_tail network_cmp prefix (keys_of slots) sorted)
 entries-routes_in ((prefix, Some route) ∷ slots) sorted =
     entries-insert network_cmp_total (routes_in slots) prefix route
     ∙ ap (entries.put network_cmp prefix route) (entries-routes_in slots (sorted_tail network_cmp prefix (keys_of slots) sorted))
@@ -58,18 +48,8 @@ entries-routes_in ((prefix, Some route) ∷ slots) sorted =
 pub routed-filter : {R : Type 0} (low : Option Network) (p : Network → Bool) → ((n : Network) → p n ≡ is_above low n) → (slots : Slots R) → routed (filter (λ slot. p slot.0) slots) ≡ above low (routed slots)
 unfolding routed
 routed-filter low p same [] = refl
-routed-filter low p same ((prefix, None) ∷ slots) = at (p prefix) ∙ routed-filter low p same slots
-  where
-    at : (b : Bool) → routed (cond b ((prefix, None) ∷ filter (λ slot. p slot.0) slots) (filter (λ slot. p slot.0) slots)) ≡ routed (filter (λ slot. p slot.0) slots)
-    at true = refl
-    at false = refl
-routed-filter low p same ((prefix, Some route) ∷ slots) =
-    at (p prefix) ∙ ap₂ (λ b s. cond b ((prefix, route) ∷ s) s) (same prefix) (routed-filter low p same slots)
-  where
-    at : (b : Bool) → routed (cond b ((prefix, Some route) ∷ filter (λ slot. p slot.0) slots) (filter (λ slot. p slot.0) slots))
-        ≡ cond b ((prefix, route) ∷ routed (filter (λ slot. p slot.0) slots)) (routed (filter (λ slot. p slot.0) slots))
-    at true = refl
-    at false = refl
+routed-filter low p same ((prefix, None) ∷ slots) = grind (arith, routed-filter low p same slots)
+routed-filter low p same ((prefix, Some route) ∷ slots) = grind (arith, routed-filter low p same slots, same prefix)
 
 pub routed-nil : {R : Type 0} → routed {R = R} [] ≡ []
 unfolding routed

@@ -1,5 +1,5 @@
 -- What a tree holds, however its nodes lie in memory.
-use Rattle.std.proofs.Common.{◌≡◌, ◌⊎◌, ◌||◌, is_some, inl, inr, Bool, false, Option, Some, None, List, refl, ap, subst, ◌∙◌}
+use Rattle.std.proofs.Common.{◌≡◌, ◌⊎◌, ◌||◌, is_some, inl, inr, Bool, false, Option, Some, None, List, refl, ap, subst, ◌∙◌, arith}
 use Rattle.std.specs.Prelude.{IsSome}
 use Rattle.ip_prefix.specs.declared.turn.Turn.{Turn}
 use Rattle.ip_prefix.specs.declared.turn.Turn.TheVariants.{Outside, Here, Left, Right}
@@ -23,10 +23,7 @@ at_leaf network (tree.Forked' routed other p left right) key is q = absurd is
 at_leaf network (tree.Rooted' routed other p slot left right) key is q = absurd is
 
 here : {A : Type 0} (t : Turn) (x : A) → IsSome (chosen t None (Some x) None None) → t ≡ Here
-here Outside x is = cc
-here Here x is = refl
-here Left x is = cc
-here Right x is = cc
+here t x is = grind arith
 
 -- another slot put there
 pub put_leaf : {K R : Type 0} (network : K → Network) (old new : Tree K R) (prefix : K) (key : List Bool) (slot : Option R) → IsLeaf prefix old → IsLeaf prefix new
@@ -101,10 +98,7 @@ not_below Right left right = right refl
 -- ---- keys that go
 
 not_here : {A : Type 0} (t : Turn) (x : A) → (t ≡ Here → ⊥) → chosen t None (Some x) None None ≡ None
-not_here Outside x none = refl
-not_here Here x none = absurd (none refl)
-not_here Left x none = refl
-not_here Right x none = refl
+not_here t x none = grind arith
 
 -- another key goes
 pub leaf_other : {K R : Type 0} (network : K → Network) (t : Tree K R) (prefix : K) (key : List Bool) → IsLeaf prefix t → (turn_of (way (network prefix)) key ≡ Here → ⊥)
@@ -113,10 +107,7 @@ leaf_other network t prefix key is apart =
     put_none (at (shape_of network t)) None key (at_leaf network t prefix is key ∙ not_here (turn_of (way (network prefix)) key) (leaf_slot t) apart)
 
 neither : {A : Type 0} (t : Turn) (x y : Option A) → (t ≡ Left → ⊥) → (t ≡ Right → ⊥) → chosen t None None x y ≡ None
-neither Outside x y left right = refl
-neither Here x y left right = refl
-neither Left x y left right = absurd (left refl)
-neither Right x y left right = absurd (right refl)
+neither t x y left right = grind arith
 
 -- nor is it one that isn't below a branch
 pub fork_other : {R : Type 0} (t : Shape R) (prefix : Network) (l r : Shape R) (key : List Bool) → IsRooted prefix None l r t
@@ -125,10 +116,7 @@ fork_other t prefix l r key is left right =
     put_none (at t) None key (at_rooted t prefix None l r is key ∙ neither (turn_of (way prefix) key) (at l key) (at r key) left right)
 
 nothing : {A : Type 0} (t : Turn) → ◌≡◌ {A = Option A} None (chosen t None None None None)
-nothing Outside = refl
-nothing Here = refl
-nothing Left = refl
-nothing Right = refl
+nothing t = grind arith
 
 -- it goes
 pub leaf_gone : {K R : Type 0} (network : K → Network) (t : Tree K R) (prefix : K) (key : List Bool) → IsLeaf prefix t → turn_of (way (network prefix)) key ≡ Here

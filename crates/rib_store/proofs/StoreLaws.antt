@@ -1,5 +1,5 @@
 -- A tree for each family, as the two sides of a root above both.
-use Rattle.std.proofs.Common.{◌≡◌, Bool, true, false, cond, List, [], Option, None, is_some, not, refl, sym, ap, ◌∙◌}
+use Rattle.std.proofs.Common.{◌≡◌, Bool, true, false, cond, List, [], Option, None, is_some, not, refl, sym, ap, ◌∙◌, arith}
 use Rattle.std.specs.Prelude.{IsSome}
 use Rattle.std.specs.List.Sorted.{IsStrictlySortedBy}
 use Rattle.std.specs.FinMap as finite
@@ -10,7 +10,6 @@ use Rattle.std.specs.Cmp.{eq_by_cmp_equiv}
 use Rattle.ip_prefix.specs.declared.addr.Family.{Family}
 use Rattle.ip_prefix.specs.declared.addr.Family.TheVariants.{V4, V6}
 use Rattle.ip_prefix.specs.declared.turn.Turn.{Turn}
-use Rattle.ip_prefix.specs.declared.turn.Turn.TheVariants.{Outside, Here, Left, Right}
 use Rattle.ip_prefix.specs.Network.{Network}
 use Rattle.ip_prefix.specs.Order.{network_cmp}
 use Rattle.ip_prefix.specs.OrderLaws.{network_cmp_total}
@@ -27,17 +26,14 @@ use Rattle.rib_store.proofs.SlotLaws.{contains-keys_in, get-routes_in}
 use Rattle.rib_store.proofs.TreeLaws.{are_of, at_left, at_right}
 use Rattle.rib_store.proofs.ChangeLaws.{put_left, put_right}
 use Rattle.rib_store.proofs.GrowthLaws.{on_placed}
-use Rattle.rib_store.proofs.WalkLaws.{either_none, slot_at-append, slot_at-slots_of, sorted-sides, sorted-slots_of, tied-ways}
+use Rattle.rib_store.proofs.WalkLaws.{slot_at-append, slot_at-slots_of, sorted-sides, sorted-slots_of, tied-ways}
 
 -- what two trees have at a way
 abbrev pub at_sides : {R : Type 0} → Shape R → Shape R → List Bool → Option (Option R)
 at_sides l r q = chosen (turn_of [] q) None None (at l q) (at r q)
 
 by_side : {A : Type 0} (t : Turn) (x y : Option A) → either_of (chosen t None None x None) (chosen t None None None y) ≡ chosen t None None x y
-by_side Outside x y = refl
-by_side Here x y = refl
-by_side Left x y = either_none x
-by_side Right x y = refl
+by_side t x y = grind arith
 
 pub slot_at-slots_in : {R : Type 0} (trees : Trees R) → IsPlanted trees → (q : Network) → slot_at (slots_in trees) q ≡ at_sides trees.v4 trees.v6 (way q)
 slot_at-slots_in f planted q =
@@ -47,11 +43,7 @@ slot_at-slots_in f planted q =
 
 -- a key is found in the tree of its family
 pub at_sides-family : {R : Type 0} (trees : Trees R) (q : Network) (family : Family) → q.family ≡ family → at_sides trees.v4 trees.v6 (way q) ≡ at (tree_of family trees) (way q)
-at_sides-family f q family e = ap (λ t. chosen t None None (at f.v4 (way q)) (at f.v6 (way q))) (first_turn q ∙ ap (λ g. side (family_bit g)) e) ∙ families family
-  where
-    families : (g : Family) → chosen (side (family_bit g)) None None (at f.v4 (way q)) (at f.v6 (way q)) ≡ at (tree_of g f) (way q)
-    families V4 = refl
-    families V6 = refl
+at_sides-family f q family e = ap (λ t. chosen t None None (at f.v4 (way q)) (at f.v6 (way q))) (first_turn q ∙ ap (λ g. side (family_bit g)) e) ∙ grind arith
 
 pub slot_at-tree_of : {R : Type 0} (trees : Trees R) → IsPlanted trees → (q : Network) (family : Family) → q.family ≡ family → slot_at (slots_in trees) q ≡ at (tree_of family trees) (way q)
 slot_at-tree_of f planted q family e = slot_at-slots_in f planted q ∙ at_sides-family f q family e

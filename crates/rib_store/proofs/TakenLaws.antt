@@ -1,8 +1,7 @@
 -- Trees whose routes are all taken.
-use Rattle.std.proofs.Common.{◌≡◌, Bool, true, false, cond, ◌||◌, ◌+◌, List, [], ◌∷◌, ◌++◌, map, length, Option, Some, None, IsSome, refl, sym, ap, ap₂, subst, ◌∙◌, length-append}
+use Rattle.std.proofs.Common.{◌≡◌, Bool, true, false, ◌||◌, ◌+◌, List, [], ◌∷◌, ◌++◌, map, length, Option, None, IsSome, refl, sym, ap, ap₂, subst, ◌∙◌, length-append, arith}
 use Rattle.std.proofs.lemmas.List.{map-append}
 use Rattle.std.proofs.lemmas.Bool.{or_parts}
-use Rattle.std.specs.Ordering.{eq_by_cmp}
 use Rattle.std.specs.FinSet as set
 use Rattle.std.specs.FinMap as finite
 use Rattle.std.specs.FinMap.{get-empty, len-entries}
@@ -28,9 +27,7 @@ use Rattle.prefix_store.proofs.StoredLaws.{same_routes}
 -- ---- a tree whose root isn't marked has none
 
 vacant : {R : Type 0} (slot : Slot R) → is_filled slot ≡ false → slot ≡ vacated slot
-vacant Branch e = refl
-vacant Vacant e = refl
-vacant (Filled route) e = cc
+vacant slot e = grind arith
 
 pub unmarked-emptied : {K R : Type 0} (network : K → Network) (t : Tree K R) → IsMarked t → is_routed t ≡ false → shape_of network t ≡ emptied (shape_of network t)
 unmarked-emptied network tree.Empty marked e = refl
@@ -47,8 +44,7 @@ unmarked-emptied network (tree.Rooted' routed key p slot left right) marked e =
 -- ---- its shape
 
 root-emptied : {R : Type 0} (t : Shape R) → root (emptied t) ≡ root t
-root-emptied Empty = refl
-root-emptied (Rooted prefix slot l r) = refl
+root-emptied t = grind arith
 
 on-emptied : {R : Type 0} (from : List Bool) (bit : Bool) (t : Shape R) → IsOn from bit t → IsOn from bit (emptied t)
 on-emptied from bit Empty on = on
@@ -78,9 +74,7 @@ abbrev unrouted : {R : Type 0} → Slots R → Slots R
 unrouted slots = map vacant_slot slots
 
 own-emptied : {R : Type 0} (prefix : Network) (slot : Slot R) (below : Slots R) → own prefix (slot_of (vacated slot)) (unrouted below) ≡ unrouted (own prefix (slot_of slot) below)
-own-emptied prefix Branch below = refl
-own-emptied prefix Vacant below = refl
-own-emptied prefix (Filled route) below = refl
+own-emptied prefix slot below = grind arith
 
 slots-emptied : {R : Type 0} (t : Shape R) → slots_of (emptied t) ≡ unrouted (slots_of t)
 slots-emptied Empty = refl
@@ -99,11 +93,7 @@ keys_in-unrouted slots = ap (λ ks. set.from_list ks) (keys-unrouted slots)
 
 no_route-unrouted : {R : Type 0} (slots : Slots R) (q : Network) → route_found (slot_at (unrouted slots) q) ≡ None
 no_route-unrouted [] q = refl
-no_route-unrouted (slot ∷ slots) q = at (eq_by_cmp network_cmp q slot.0) (no_route-unrouted slots q)
-  where
-    at : (b : Bool) → route_found (slot_at (unrouted slots) q) ≡ None → route_found (cond b (Some None) (slot_at (unrouted slots) q)) ≡ None
-    at true none = refl
-    at false none = none
+no_route-unrouted (slot ∷ slots) q = grind (arith, no_route-unrouted slots q)
 
 routes_in-unrouted : {R : Type 0} (slots : Slots R) → routes_in (unrouted slots) ≡ finite.empty
 routes_in-unrouted slots = same_routes _ _ (λ q. get-routes_in (unrouted slots) q ∙ no_route-unrouted slots q ∙ sym (get-empty network_cmp q))

@@ -1,8 +1,8 @@
 -- Parts of trees: what stands at their ways, and on which side.
-use Rattle.std.proofs.Common.{◌≡◌, Bool, true, false, cond, Option, Some, None, List, [], inl, inr, refl, ap, sym, subst, ◌∙◌}
+use Rattle.std.proofs.Common.{◌≡◌, Bool, true, false, cond, Option, Some, None, List, [], inl, inr, refl, ap, sym, subst, ◌∙◌, arith}
 use Rattle.std.specs.Prelude.{IfSome, IsSome}
 use Rattle.ip_prefix.specs.declared.turn.Turn.{Turn}
-use Rattle.ip_prefix.specs.declared.turn.Turn.TheVariants.{Outside, Here, Left, Right}
+use Rattle.ip_prefix.specs.declared.turn.Turn.TheVariants.{Outside}
 use Rattle.ip_prefix.specs.declared.addr.Family.{Family}
 use Rattle.ip_prefix.specs.Network.{Network}
 use Rattle.ip_prefix.specs.Turns.{way, turn_of, family_bit, side}
@@ -12,27 +12,16 @@ use Rattle.rib_store.specs.Tree.{at, slot_of, chosen, root, AreSides, AreOf, IsO
 use Rattle.rib_store.proofs.WayLaws.{beyond, turn_through, family_of}
 
 pub chosen_same : {A : Type 0} (t : Turn) (x : A) → x ≡ chosen t x x x x
-chosen_same Outside x = refl
-chosen_same Here x = refl
-chosen_same Left x = refl
-chosen_same Right x = refl
+chosen_same t x = grind arith
 
 -- what a tree on a side of a way has, it has there alone
 pub there_alone : {A : Type 0} (none : A) (b x q : List Bool) (bit : Bool) (found : A) → turn_of b x ≡ side bit → (turn_of x q ≡ Outside → found ≡ none)
     → found ≡ chosen (turn_of b q) none none (cond bit none found) (cond bit found none)
 there_alone none b x q bit found on away =
     elim (beyond b x q bit on) [
-      | inl out ↦ away out ∙ flat bit ∙ ap (λ y. chosen (turn_of b q) none none (cond bit none y) (cond bit y none)) (sym (away out))
-      | inr there ↦ lies bit ∙ ap (λ t. chosen t none none (cond bit none found) (cond bit found none)) (sym there)
+      | inl out ↦ let none_there = away out in grind arith
+      | inr there ↦ grind arith
     ]
-  where
-    flat : (bit : Bool) → none ≡ chosen (turn_of b q) none none (cond bit none none) (cond bit none none)
-    flat true = chosen_same (turn_of b q) none
-    flat false = chosen_same (turn_of b q) none
-
-    lies : (bit : Bool) → found ≡ chosen (side bit) none none (cond bit none found) (cond bit found none)
-    lies true = refl
-    lies false = refl
 
 -- so its keys on the left
 pub at_left : {R : Type 0} (b : List Bool) (t : Shape R) → IsOn b false t → (q : List Bool) → at t q ≡ chosen (turn_of b q) None None (at t q) None

@@ -49,18 +49,13 @@ on_longer (Rooted prefix slot l r) b bit on = omega (arith, turn_longer b (way p
 visits_le : {R : Type 0} (t : Shape R) (n : ℕ) (key : List Bool) → IsShaped t → AtLeast n t → n ≤ length key → visits t key + n ≤ length key + 1
 visits_le Empty n key shaped above within = omega arith
 visits_le {R} (Rooted prefix slot l r) n key shaped above within =
-    turns (turn_of (way prefix) key) refl
-    (λ h. visits_le l (length (way prefix) + 1) key shaped.2 (on_longer l (way prefix) false shaped.0.left) h)
-    (λ h. visits_le r (length (way prefix) + 1) key shaped.3 (on_longer r (way prefix) true shaped.0.right) h)
-  where
-    turns : (t : Turn) → turn_of (way prefix) key ≡ t
-        → (length (way prefix) + 1 ≤ length key → visits l key + (length (way prefix) + 1) ≤ length key + 1)
-        → (length (way prefix) + 1 ≤ length key → visits r key + (length (way prefix) + 1) ≤ length key + 1)
-        → 1 + chosen t 0 0 (visits l key) (visits r key) + n ≤ length key + 1
-    turns Outside e f g = omega arith
-    turns Here e f g = omega arith
-    turns Left e f g = let longer = turn_longer (way prefix) key false e in let below = f (omega arith) in omega (arith, longer, below, above)
-    turns Right e f g = let longer = turn_longer (way prefix) key true e in let below = g (omega arith) in omega (arith, longer, below, above)
+    let longer = turn_longer (way prefix) key in
+    elim (turn_of (way prefix) key) as (λ t. turn_of (way prefix) key ≡ t → 1 + chosen t 0 0 (visits l key) (visits r key) + n ≤ length key + 1) [
+      | Outside ↦ λ e. omega arith
+      | Here ↦ λ e. omega arith
+      | Left ↦ λ e. let below = visits_le l (length (way prefix) + 1) key shaped.2 (on_longer l (way prefix) false shaped.0.left) (omega (arith, longer false e)) in omega (arith, above)
+      | Right ↦ λ e. let below = visits_le r (length (way prefix) + 1) key shaped.3 (on_longer r (way prefix) true shaped.0.right) (omega (arith, longer true e)) in omega (arith, above)
+    ] refl
 
 -- a tree of one family is left after as many nodes as the key has bits, and one
 pub visits-most : {R : Type 0} (t : Shape R) (bit : Bool) (key : List Bool) → IsShaped t → IsOn [] bit t → 1 ≤ length key → visits t key ≤ length key
@@ -89,8 +84,7 @@ visits_path {R} (Rooted prefix slot l r) key = turns (turn_of (way prefix) key) 
     turns Right e (inr f) = inr (omega arith)
 
 and_none : (a b : Bool) → b ≡ false → false ≡ (a && b)
-and_none true b e = sym e
-and_none false b e = refl
+and_none a b e = grind arith
 
 -- the nodes on the way, at the way of a query
 abbrev on_path : {R : Type 0} → Shape R → List Bool → List Bool → Bool
@@ -137,32 +131,27 @@ met {R} (Rooted prefix slot l r) key q shaped =
 path-on : {R : Type 0} (P : Network → Type 0) (from : List Bool) (bit : Bool) → ((n : Network) → turn_of from (way n) ≡ side bit → P n)
     → (t : Shape R) (key : List Bool) → IsShaped t → IsOn from bit t → AllByRecursion P (path_in t key)
 path-on P from bit holds Empty key shaped on = tt
-path-on {R} P from bit holds (Rooted prefix slot l r) key shaped on =
-    turns (turn_of (way prefix) key) (path-on P (way prefix) false (deeper false) l key shaped.2 shaped.0.left) (path-on P (way prefix) true (deeper true) r key shaped.3 shaped.0.right)
-  where
-    deeper : (s : Bool) (n : Network) → turn_of (way prefix) (way n) ≡ side s → P n
-    deeper s n h = holds n (turn_through from (way prefix) (way n) bit s on h)
-
-    turns : (k : Turn) → AllByRecursion P (path_in l key) → AllByRecursion P (path_in r key) → AllByRecursion P (chosen k [] (prefix ∷ []) (prefix ∷ path_in l key) (prefix ∷ path_in r key))
-    turns Outside f g = tt
-    turns Here f g = (holds prefix on, tt)
-    turns Left f g = (holds prefix on, f)
-    turns Right f g = (holds prefix on, g)
+path-on P from bit holds (Rooted prefix slot l r) key shaped on =
+    let deeper = λ (s : Bool) (n : Network) (h : turn_of (way prefix) (way n) ≡ side s). holds n (turn_through from (way prefix) (way n) bit s on h) in
+    elim (turn_of (way prefix) key) as (λ k. AllByRecursion P (chosen k [] (prefix ∷ []) (prefix ∷ path_in l key) (prefix ∷ path_in r key))) [
+      | Outside ↦ tt
+      | Here ↦ (holds prefix on, tt)
+      | Left ↦ (holds prefix on, path-on P (way prefix) false (deeper false) l key shaped.2 shaped.0.left)
+      | Right ↦ (holds prefix on, path-on P (way prefix) true (deeper true) r key shaped.3 shaped.0.right)
+    ]
 
 sorted-path : {R : Type 0} (t : Shape R) (key : List Bool) → IsShaped t → IsStrictlySortedBy network_cmp (path_in t key)
 unfolding IsStrictlySortedBy
 sorted-path Empty key shaped = tt
-sorted-path {R} (Rooted prefix slot l r) key shaped = turns (turn_of (way prefix) key) (sorted-path l key shaped.2) (sorted-path r key shaped.3)
-  where
-    under : (s : Bool) (n : Network) → turn_of (way prefix) (way n) ≡ side s → network_cmp prefix n ≡ Less
-    under s n h = is_less (network_cmp prefix n) (ap is_lt (cmp-ways prefix n) ∙ (node_first (way prefix) (way n) s h).0)
-
-    turns : (k : Turn) → IsStrictlySortedBy network_cmp (path_in l key) → IsStrictlySortedBy network_cmp (path_in r key)
-        → IsStrictlySortedBy network_cmp (chosen k [] (prefix ∷ []) (prefix ∷ path_in l key) (prefix ∷ path_in r key))
-    turns Outside f g = tt
-    turns Here f g = (tt, tt)
-    turns Left f g = (path-on (λ y. network_cmp prefix y ≡ Less) (way prefix) false (under false) l key shaped.2 shaped.0.left, f)
-    turns Right f g = (path-on (λ y. network_cmp prefix y ≡ Less) (way prefix) true (under true) r key shaped.3 shaped.0.right, g)
+sorted-path (Rooted prefix slot l r) key shaped =
+    let under = λ (s : Bool) (n : Network) (h : turn_of (way prefix) (way n) ≡ side s). is_less (network_cmp prefix n) (ap is_lt (cmp-ways prefix n) ∙ (node_first (way prefix) (way n) s h).0) in
+    let IsLower = λ (y : Network). network_cmp prefix y ≡ Less in
+    elim (turn_of (way prefix) key) as (λ k. IsStrictlySortedBy network_cmp (chosen k [] (prefix ∷ []) (prefix ∷ path_in l key) (prefix ∷ path_in r key))) [
+      | Outside ↦ tt
+      | Here ↦ (tt, tt)
+      | Left ↦ (path-on IsLower (way prefix) false (under false) l key shaped.2 shaped.0.left, sorted-path l key shaped.2)
+      | Right ↦ (path-on IsLower (way prefix) true (under true) r key shaped.3 shaped.0.right, sorted-path r key shaped.3)
+    ]
 
 -- ---- in the tree of the address's family
 
@@ -184,11 +173,7 @@ in_family f planted q V6 e =
     ap (λ b. b || node_at f.v6 (way q)) (node_left [] f.v4 planted.sides.left (way q) ∙ ap (λ t. chosen t false false (node_at f.v4 (way q)) false) (first_side q V6 e))
 
 and_same : (a b c : Bool) → (c ≡ true → a ≡ b) → (a && c) ≡ (b && c)
-and_same a b true same = ap (λ x. x && true) (same refl)
-and_same true true false same = refl
-and_same true false false same = refl
-and_same false true false same = refl
-and_same false false false same = refl
+and_same a b c same = grind arith
 
 pub are_nodes_to : {R : Type 0} (f : Trees R) → IsPlanted f → (address : Address) → AreNodesTo (keys_in (slots_in f)) address (met_nodes f address)
 are_nodes_to f planted address n =

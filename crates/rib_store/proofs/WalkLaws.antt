@@ -1,5 +1,5 @@
 -- What a tree has from the left to the right: its keys in order, each found by its way, and its routes.
-use Rattle.std.proofs.Common.{◌≡◌, Bool, true, false, cond, List, [], ◌∷◌, ◌++◌, Option, Some, None, slice_get, refl, sym, ap, subst, ◌∙◌}
+use Rattle.std.proofs.Common.{◌≡◌, Bool, true, false, cond, List, [], ◌∷◌, ◌++◌, Option, Some, None, slice_get, refl, sym, ap, subst, ◌∙◌, arith}
 use Rattle.std.specs.Prelude.{MatchOption}
 use Rattle.std.specs.Option.{option_map}
 use Rattle.std.specs.declared.cmp.Ordering.TheVariants.{Less}
@@ -7,13 +7,11 @@ use Rattle.std.specs.List.{AllByRecursion}
 use Rattle.std.specs.List.Sorted.{IsStrictlySortedBy}
 use Rattle.std.specs.Map.{keys_of}
 use Rattle.std.specs.Ordering.{eq_by_cmp, is_eq, is_lt}
-use Rattle.ip_prefix.specs.declared.addr.Family.{Family}
-use Rattle.ip_prefix.specs.declared.addr.Family.TheVariants.{V4, V6}
 use Rattle.ip_prefix.specs.declared.turn.Turn.{Turn}
-use Rattle.ip_prefix.specs.declared.turn.Turn.TheVariants.{Outside, Here, Left, Right}
+use Rattle.ip_prefix.specs.declared.turn.Turn.TheVariants.{Outside}
 use Rattle.ip_prefix.specs.Network.{Network}
 use Rattle.ip_prefix.specs.Order.{bits_cmp, network_cmp}
-use Rattle.ip_prefix.specs.Turns.{family_bit, way, turn_of, side}
+use Rattle.ip_prefix.specs.Turns.{way, turn_of, side}
 use Rattle.octet_forms.proofs.Lists.{AllByRecursion-append}
 use Rattle.rib_store.specs.Shape.{Shape}
 use Rattle.rib_store.specs.Shape.{Empty, Rooted}
@@ -29,25 +27,14 @@ use Rattle.rib_store.proofs.TreeLaws.{at_left, at_right}
 
 same_bits_tie : (q k : List Bool) → is_eq (bits_cmp q k) ≡ same_way k q
 same_bits_tie [] [] = refl
-same_bits_tie [] (true ∷ k) = refl
-same_bits_tie [] (false ∷ k) = refl
-same_bits_tie (true ∷ q) [] = refl
-same_bits_tie (false ∷ q) [] = refl
-same_bits_tie (true ∷ q) (true ∷ k) = same_bits_tie q k
-same_bits_tie (true ∷ q) (false ∷ k) = refl
-same_bits_tie (false ∷ q) (true ∷ k) = refl
-same_bits_tie (false ∷ q) (false ∷ k) = same_bits_tie q k
+same_bits_tie [] (bit ∷ k) = grind arith
+same_bits_tie (bit ∷ q) [] = grind arith
+same_bits_tie (bit ∷ q) (other ∷ k) = grind (arith, same_bits_tie q k)
 
 -- the order of prefixes is that of their ways
 pub cmp-ways : (m n : Network) → network_cmp m n ≡ bits_cmp (way m) (way n)
 unfolding way
-cmp-ways m n = families m.family n.family
-  where
-    families : (f g : Family) → network_cmp record { family = f; bits = m.bits } record { family = g; bits = n.bits } ≡ bits_cmp (family_bit f ∷ m.bits) (family_bit g ∷ n.bits)
-    families V4 V4 = refl
-    families V4 V6 = refl
-    families V6 V4 = refl
-    families V6 V6 = refl
+cmp-ways m n = grind arith
 
 -- prefixes tie where their ways are one
 pub tied-ways : (q n : Network) → eq_by_cmp network_cmp q n ≡ same_way (way n) (way q)
@@ -61,11 +48,7 @@ keys_of-append (x ∷ xs) ys = ap (λ l. x.0 ∷ l) (keys_of-append xs ys)
 
 pub slot_at-append : {R : Type 0} (q : Network) (xs ys : Slots R) → slot_at (xs ++ ys) q ≡ either_of (slot_at xs q) (slot_at ys q)
 slot_at-append q [] ys = refl
-slot_at-append q (x ∷ xs) ys =
-    elim (eq_by_cmp network_cmp q x.0) as (λ b. cond b (Some x.1) (slot_at (xs ++ ys) q) ≡ either_of (cond b (Some x.1) (slot_at xs q)) (slot_at ys q)) [
-      | true ↦ refl
-      | false ↦ slot_at-append q xs ys
-    ]
+slot_at-append q (x ∷ xs) ys = grind (arith, slot_at-append q xs ys)
 
 pub routed-append : {R : Type 0} (xs ys : Slots R) → routed (xs ++ ys) ≡ routed xs ++ routed ys
 unfolding routed
@@ -80,13 +63,7 @@ first-append (x ∷ xs) ys = refl
 
 -- the node's own slot, and those below it
 slot_at-own : {R : Type 0} (q prefix : Network) (slot : Option (Option R)) (below : Slots R) → slot_at (own prefix slot below) q ≡ either_of (cond (eq_by_cmp network_cmp q prefix) slot None) (slot_at below q)
-slot_at-own q prefix None below = nothing (eq_by_cmp network_cmp q prefix)
-  where
-    nothing : {A : Type 0} {x : Option A} (b : Bool) → x ≡ either_of (cond b None None) x
-    nothing true = refl
-    nothing false = refl
-slot_at-own q prefix (Some slot) below =
-    elim (eq_by_cmp network_cmp q prefix) as (λ b. cond b (Some slot) (slot_at below q) ≡ either_of (cond b (Some slot) None) (slot_at below q)) [ true ↦ refl | false ↦ refl ]
+slot_at-own q prefix slot below = grind arith
 
 -- ---- each key is found by its way
 
@@ -95,10 +72,7 @@ either_none None = refl
 either_none (Some x) = refl
 
 by_turn : {A : Type 0} (t : Turn) (slot x y : Option A) → either_of (cond (chosen t false true false false) slot None) (either_of (chosen t None None x None) (chosen t None None None y)) ≡ chosen t None slot x y
-by_turn Outside slot x y = refl
-by_turn Here slot x y = either_none slot
-by_turn Left slot x y = either_none x
-by_turn Right slot x y = refl
+by_turn t slot x y = grind arith
 
 pub slot_at-slots_of : {R : Type 0} (t : Shape R) → IsShaped t → (q : Network) → slot_at (slots_of t) q ≡ at t (way q)
 slot_at-slots_of Empty shaped q = refl
@@ -183,13 +157,9 @@ above-no low ((prefix, Some route) ∷ slots) all = (λ i. cond (all.0 i) ((pref
 pub above-ways : (low n : Network) → is_above (Some low) n ≡ below (way low) (way n)
 above-ways low n = ap is_lt (cmp-ways low n)
 
-no_turn : (s : Bool) → Outside ≡ side s → ⊥
-no_turn true e = cc
-no_turn false e = cc
-
 -- a way that a node has below it isn't outside
 pub not_out : (b x : List Bool) (s : Bool) → turn_of b x ≡ side s → turn_of b x ≡ Outside → ⊥
-not_out b x s e h = no_turn s (sym h ∙ e)
+not_out b x s e h = grind arith
 
 -- ---- what a walk answers
 

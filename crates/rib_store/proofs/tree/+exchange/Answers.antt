@@ -1,6 +1,5 @@
-use Rattle.std.proofs.Common.{◌≡◌, Some, None, false, is_some, refl, sym, subst, ◌∙◌}
-use Rattle.ip_prefix.specs.declared.turn.Turn.TheVariants.{Here, Left, Right}
-use Rattle.ip_prefix.specs.Turns.{way, turn_of}
+use Rattle.std.proofs.Common.{Some, None, false, is_some, refl, sym, subst, ◌∙◌}
+use Rattle.ip_prefix.specs.Turns.{way}
 use Rattle.rib_store.specs.Shape.{Rooted, shape_of, is_filled, is_routed, IsLeaf, IsMarked}
 use Rattle.rib_store.specs.Tree.{at, slot_of, IsShaped}
 use Rattle.rib_store.proofs.ChangeLaws.{put_left, put_right, put_here, shaped_left, shaped_right}
@@ -22,19 +21,13 @@ pub Tree::exchange-returns-in-Here-clause-slots : goal.Tree::exchange-returns-in
 Tree::exchange-returns-in-Here-clause-slots g t c =
     let net = g.K.Packed.network in
     let n = c.deref_mut-node.result.now in
-    let prefix = net c.in-Rooted.prefix in
-    let key = way c.args.key.now in
-    let turn : turn_of (way prefix) key ≡ Here = cc in
-    rw (c.in-Rooted.is, sym c.deref_mut-node.ensures.value, c.exchange.ensures.slot) (put_here (way prefix) key None (slot_of n.slot) (Some c.args.route.now) (at (shape_of net n.left)) (at (shape_of net n.right)) turn)
+    rw (c.in-Rooted.is, sym c.deref_mut-node.ensures.value, c.exchange.ensures.slot) (put_here (way (net c.in-Rooted.prefix)) (way c.args.key.now) None (slot_of n.slot) (Some c.args.route.now) (at (shape_of net n.left)) (at (shape_of net n.right)) cc)
 
 pub Tree::exchange-returns-then-is_routed_anyway-clause-slots : goal.Tree::exchange-returns-then-is_routed_anyway-clause-slots
 Tree::exchange-returns-then-is_routed_anyway-clause-slots g t c =
     let net = g.K.Packed.network in
     let n = c.deref_mut-node.result.now in
-    let prefix = net c.in-Rooted.prefix in
-    let key = way c.args.key.now in
-    let turn : turn_of (way prefix) key ≡ Left = cc in
-    rw (c.in-Rooted.is, sym c.deref_mut-node.ensures.value) (put_left (way prefix) key None (slot_of n.slot) (Some c.args.route.now) (at (shape_of net n.left)) (at (shape_of net c.exchange-then-is_routed_anyway.new.self)) (at (shape_of net n.right)) turn c.exchange-then-is_routed_anyway.ensures.slots)
+    rw (c.in-Rooted.is, sym c.deref_mut-node.ensures.value) (put_left (way (net c.in-Rooted.prefix)) (way c.args.key.now) None (slot_of n.slot) (Some c.args.route.now) (at (shape_of net n.left)) (at (shape_of net c.exchange-then-is_routed_anyway.new.self)) (at (shape_of net n.right)) (cc) c.exchange-then-is_routed_anyway.ensures.slots)
 
 pub Tree::exchange-returns-then-is_routed_anyway-clause-shaped : goal.Tree::exchange-returns-then-is_routed_anyway-clause-shaped
 Tree::exchange-returns-then-is_routed_anyway-clause-shaped g t c =
@@ -48,10 +41,7 @@ pub Tree::exchange-returns-then-is_routed_anyway-2-clause-slots : goal.Tree::exc
 Tree::exchange-returns-then-is_routed_anyway-2-clause-slots g t c =
     let net = g.K.Packed.network in
     let n = c.deref_mut-node.result.now in
-    let prefix = net c.in-Rooted.prefix in
-    let key = way c.args.key.now in
-    let turn : turn_of (way prefix) key ≡ Right = cc in
-    rw (c.in-Rooted.is, sym c.deref_mut-node.ensures.value) (put_right (way prefix) key None (slot_of n.slot) (Some c.args.route.now) (at (shape_of net n.left)) (at (shape_of net n.right)) (at (shape_of net c.exchange-then-is_routed_anyway-2.new.self)) turn c.exchange-then-is_routed_anyway-2.ensures.slots)
+    rw (c.in-Rooted.is, sym c.deref_mut-node.ensures.value) (put_right (way (net c.in-Rooted.prefix)) (way c.args.key.now) None (slot_of n.slot) (Some c.args.route.now) (at (shape_of net n.left)) (at (shape_of net n.right)) (at (shape_of net c.exchange-then-is_routed_anyway-2.new.self)) (cc) c.exchange-then-is_routed_anyway-2.ensures.slots)
 
 pub Tree::exchange-returns-then-is_routed_anyway-2-clause-shaped : goal.Tree::exchange-returns-then-is_routed_anyway-2-clause-shaped
 Tree::exchange-returns-then-is_routed_anyway-2-clause-shaped g t c =
@@ -65,10 +55,7 @@ pub Tree::exchange-returns-else-is_routed_anyway-clause-slots : goal.Tree::excha
 Tree::exchange-returns-else-is_routed_anyway-clause-slots g t c =
     let net = g.K.Packed.network in
     let n = c.deref_mut-node.result.now in
-    let prefix = net c.in-Rooted.prefix in
-    let key = way c.args.key.now in
-    let turn : turn_of (way prefix) key ≡ Left = cc in
-    rw (c.in-Rooted.is, sym c.deref_mut-node.ensures.value) (put_left (way prefix) key None (slot_of n.slot) (Some c.args.route.now) (at (shape_of net n.left)) (at (shape_of net c.exchange_marking.new.below)) (at (shape_of net n.right)) turn c.exchange_marking.ensures.slots)
+    rw (c.in-Rooted.is, sym c.deref_mut-node.ensures.value) (put_left (way (net c.in-Rooted.prefix)) (way c.args.key.now) None (slot_of n.slot) (Some c.args.route.now) (at (shape_of net n.left)) (at (shape_of net c.exchange_marking.new.below)) (at (shape_of net n.right)) (cc) c.exchange_marking.ensures.slots)
 
 pub Tree::exchange-returns-else-is_routed_anyway-clause-shaped : goal.Tree::exchange-returns-else-is_routed_anyway-clause-shaped
 Tree::exchange-returns-else-is_routed_anyway-clause-shaped g t c =
@@ -82,10 +69,7 @@ pub Tree::exchange-returns-else-is_routed_anyway-2-clause-slots : goal.Tree::exc
 Tree::exchange-returns-else-is_routed_anyway-2-clause-slots g t c =
     let net = g.K.Packed.network in
     let n = c.deref_mut-node.result.now in
-    let prefix = net c.in-Rooted.prefix in
-    let key = way c.args.key.now in
-    let turn : turn_of (way prefix) key ≡ Right = cc in
-    rw (c.in-Rooted.is, sym c.deref_mut-node.ensures.value) (put_right (way prefix) key None (slot_of n.slot) (Some c.args.route.now) (at (shape_of net n.left)) (at (shape_of net n.right)) (at (shape_of net c.exchange_marking-in-Right.new.below)) turn c.exchange_marking-in-Right.ensures.slots)
+    rw (c.in-Rooted.is, sym c.deref_mut-node.ensures.value) (put_right (way (net c.in-Rooted.prefix)) (way c.args.key.now) None (slot_of n.slot) (Some c.args.route.now) (at (shape_of net n.left)) (at (shape_of net n.right)) (at (shape_of net c.exchange_marking-in-Right.new.below)) (cc) c.exchange_marking-in-Right.ensures.slots)
 
 pub Tree::exchange-returns-else-is_routed_anyway-2-clause-shaped : goal.Tree::exchange-returns-else-is_routed_anyway-2-clause-shaped
 Tree::exchange-returns-else-is_routed_anyway-2-clause-shaped g t c =
@@ -99,37 +83,25 @@ pub Tree::exchange-returns-then-is_routed_anyway-3-clause-slots : goal.Tree::exc
 Tree::exchange-returns-then-is_routed_anyway-3-clause-slots g t c =
     let net = g.K.Packed.network in
     let n = c.deref_mut-fork.result.now in
-    let prefix = net c.in-Forked.prefix in
-    let key = way c.args.key.now in
-    let turn : turn_of (way prefix) key ≡ Left = cc in
-    rw (c.in-Forked.is, sym c.deref_mut-fork.ensures.value) (put_left (way prefix) key None None (Some c.args.route.now) (at (shape_of net n.left)) (at (shape_of net c.exchange-then-is_routed_anyway-3.new.self)) (at (shape_of net n.right)) turn c.exchange-then-is_routed_anyway-3.ensures.slots)
+    rw (c.in-Forked.is, sym c.deref_mut-fork.ensures.value) (put_left (way (net c.in-Forked.prefix)) (way c.args.key.now) None None (Some c.args.route.now) (at (shape_of net n.left)) (at (shape_of net c.exchange-then-is_routed_anyway-3.new.self)) (at (shape_of net n.right)) (cc) c.exchange-then-is_routed_anyway-3.ensures.slots)
 
 pub Tree::exchange-returns-then-is_routed_anyway-4-clause-slots : goal.Tree::exchange-returns-then-is_routed_anyway-4-clause-slots
 Tree::exchange-returns-then-is_routed_anyway-4-clause-slots g t c =
     let net = g.K.Packed.network in
     let n = c.deref_mut-fork.result.now in
-    let prefix = net c.in-Forked.prefix in
-    let key = way c.args.key.now in
-    let turn : turn_of (way prefix) key ≡ Right = cc in
-    rw (c.in-Forked.is, sym c.deref_mut-fork.ensures.value) (put_right (way prefix) key None None (Some c.args.route.now) (at (shape_of net n.left)) (at (shape_of net n.right)) (at (shape_of net c.exchange-then-is_routed_anyway-4.new.self)) turn c.exchange-then-is_routed_anyway-4.ensures.slots)
+    rw (c.in-Forked.is, sym c.deref_mut-fork.ensures.value) (put_right (way (net c.in-Forked.prefix)) (way c.args.key.now) None None (Some c.args.route.now) (at (shape_of net n.left)) (at (shape_of net n.right)) (at (shape_of net c.exchange-then-is_routed_anyway-4.new.self)) (cc) c.exchange-then-is_routed_anyway-4.ensures.slots)
 
 pub Tree::exchange-returns-else-is_routed_anyway-3-clause-slots : goal.Tree::exchange-returns-else-is_routed_anyway-3-clause-slots
 Tree::exchange-returns-else-is_routed_anyway-3-clause-slots g t c =
     let net = g.K.Packed.network in
     let n = c.deref_mut-fork.result.now in
-    let prefix = net c.in-Forked.prefix in
-    let key = way c.args.key.now in
-    let turn : turn_of (way prefix) key ≡ Left = cc in
-    rw (c.in-Forked.is, sym c.deref_mut-fork.ensures.value) (put_left (way prefix) key None None (Some c.args.route.now) (at (shape_of net n.left)) (at (shape_of net c.exchange_marking-in-Left-turn_covered.new.below)) (at (shape_of net n.right)) turn c.exchange_marking-in-Left-turn_covered.ensures.slots)
+    rw (c.in-Forked.is, sym c.deref_mut-fork.ensures.value) (put_left (way (net c.in-Forked.prefix)) (way c.args.key.now) None None (Some c.args.route.now) (at (shape_of net n.left)) (at (shape_of net c.exchange_marking-in-Left-turn_covered.new.below)) (at (shape_of net n.right)) (cc) c.exchange_marking-in-Left-turn_covered.ensures.slots)
 
 pub Tree::exchange-returns-else-is_routed_anyway-4-clause-slots : goal.Tree::exchange-returns-else-is_routed_anyway-4-clause-slots
 Tree::exchange-returns-else-is_routed_anyway-4-clause-slots g t c =
     let net = g.K.Packed.network in
     let n = c.deref_mut-fork.result.now in
-    let prefix = net c.in-Forked.prefix in
-    let key = way c.args.key.now in
-    let turn : turn_of (way prefix) key ≡ Right = cc in
-    rw (c.in-Forked.is, sym c.deref_mut-fork.ensures.value) (put_right (way prefix) key None None (Some c.args.route.now) (at (shape_of net n.left)) (at (shape_of net n.right)) (at (shape_of net c.exchange_marking-in-Right-turn_covered.new.below)) turn c.exchange_marking-in-Right-turn_covered.ensures.slots)
+    rw (c.in-Forked.is, sym c.deref_mut-fork.ensures.value) (put_right (way (net c.in-Forked.prefix)) (way c.args.key.now) None None (Some c.args.route.now) (at (shape_of net n.left)) (at (shape_of net n.right)) (at (shape_of net c.exchange_marking-in-Right-turn_covered.new.below)) (cc) c.exchange_marking-in-Right-turn_covered.ensures.slots)
 
 pub Tree::exchange-returns-then-is_routed_anyway-2-clause-marked : goal.Tree::exchange-returns-then-is_routed_anyway-2-clause-marked
 Tree::exchange-returns-then-is_routed_anyway-2-clause-marked g t c =

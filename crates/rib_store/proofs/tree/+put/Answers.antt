@@ -1,125 +1,105 @@
-use Rattle.std.proofs.Common.{◌≡◌, Some, None, false, is_some, Result, Ok, Err, OnOk, refl, sym, subst, ◌∙◌}
+use Rattle.std.proofs.Common.{◌≡◌, Bool, List, Option, Some, None, false, is_some, Result, Ok, Err, OnOk, refl, sym, subst, ◌∙◌}
 use Rattle.std.proofs.lemmas.Result.{on_ok_weaker}
 use Rattle.ip_prefix.specs.declared.turn.Turn.TheVariants.{Left, Right}
 use Rattle.ip_prefix.specs.Turns.{way, turn_of}
 use Rattle.rib_store.specs.declared.tree.Slot.TheVariants.{Branch}
-use Rattle.rib_store.specs.Shape.{Rooted, shape_of, is_filled, is_routed, IsMarked}
-use Rattle.rib_store.specs.Tree.{slot_of, IsRooted}
+use Rattle.rib_store.specs.Shape.{Shape, Rooted, shape_of, is_filled, is_routed, IsMarked}
+use Rattle.ip_prefix.specs.Network.{Network}
+use Rattle.rib_store.specs.declared.tree.Slot.{Slot}
+use Rattle.rib_store.specs.Tree.{slot_of, IsRooted, IsShaped, IsPlaced}
 use Rattle.rib_store.proofs.GrowthLaws.{placed_left, placed_right}
 use Rattle.rib_store.proofs.MarkLaws.{marked_right, alone_right}
 use Rattle.rib_store.proofs.tree.+put.Goals as goal
+
+-- a node with a key more on its left
+placed_left_in : {R : Type 0} {old : Shape R} (key : List Bool) (prefix : Network) (slot : Slot R) (v : Option (Option R)) (l r m : Shape R) → IsRooted prefix (slot_of slot) l r old
+    → turn_of (way prefix) key ≡ Left → IsShaped old → IsPlaced key v l m → IsPlaced key v old (Rooted prefix slot m r)
+placed_left_in key prefix slot v l r m was = placed_left key prefix (slot_of slot) v l r m was (refl, refl, refl, refl)
+
+-- and on its right
+placed_right_in : {R : Type 0} {old : Shape R} (key : List Bool) (prefix : Network) (slot : Slot R) (v : Option (Option R)) (l r m : Shape R) → IsRooted prefix (slot_of slot) l r old
+    → turn_of (way prefix) key ≡ Right → IsShaped old → IsPlaced key v r m → IsPlaced key v old (Rooted prefix slot l m)
+placed_right_in key prefix slot v l r m was = placed_right key prefix (slot_of slot) v l r m was (refl, refl, refl, refl)
 
 pub Tree::put-returns-then-is_routed_anyway-clause-placed : goal.Tree::put-returns-then-is_routed_anyway-clause-placed
 Tree::put-returns-then-is_routed_anyway-clause-placed g t c =
     let net = g.K.Packed.network in
     let n = c.deref_mut-node.result.now in
     let prefix = net c.in-Rooted.prefix in
-    let key = way c.args.key.now in
     let left = shape_of net n.left in
-    let below = shape_of net c.put.new.self in
     let right = shape_of net n.right in
     let was : IsRooted prefix (slot_of n.slot) left right (shape_of net c.args.self.now) = rw c.in-Rooted.is (cc, cc, cc, cc) in
-    let is : IsRooted prefix (slot_of n.slot) below right (Rooted prefix n.slot below right) = (refl, refl, refl, refl) in
-    let turn : turn_of (way prefix) key ≡ Left = cc in
-    on_ok_weaker c.put.result (placed_left key prefix (slot_of n.slot) (Some c.args.route.now) left right below was is turn c.requires.shaped) c.put.ensures.placed
+    on_ok_weaker c.put.result (placed_left_in (way c.args.key.now) prefix n.slot (Some c.args.route.now) left right (shape_of net c.put.new.self) was (cc) c.requires.shaped) c.put.ensures.placed
 
 pub Tree::put-returns-then-is_routed_anyway-2-clause-placed : goal.Tree::put-returns-then-is_routed_anyway-2-clause-placed
 Tree::put-returns-then-is_routed_anyway-2-clause-placed g t c =
     let net = g.K.Packed.network in
     let n = c.deref_mut-node.result.now in
     let prefix = net c.in-Rooted.prefix in
-    let key = way c.args.key.now in
     let left = shape_of net n.left in
-    let below = shape_of net c.put-then-is_routed_anyway-2.new.self in
     let right = shape_of net n.right in
     let was : IsRooted prefix (slot_of n.slot) left right (shape_of net c.args.self.now) = rw c.in-Rooted.is (cc, cc, cc, cc) in
-    let is : IsRooted prefix (slot_of n.slot) left below (Rooted prefix n.slot left below) = (refl, refl, refl, refl) in
-    let turn : turn_of (way prefix) key ≡ Right = cc in
-    on_ok_weaker c.put-then-is_routed_anyway-2.result (placed_right key prefix (slot_of n.slot) (Some c.args.route.now) left right below was is turn c.requires.shaped) c.put-then-is_routed_anyway-2.ensures.placed
+    on_ok_weaker c.put-then-is_routed_anyway-2.result (placed_right_in (way c.args.key.now) prefix n.slot (Some c.args.route.now) left right (shape_of net c.put-then-is_routed_anyway-2.new.self) was (cc) c.requires.shaped) c.put-then-is_routed_anyway-2.ensures.placed
 
 pub Tree::put-returns-then-is_routed_anyway-3-clause-placed : goal.Tree::put-returns-then-is_routed_anyway-3-clause-placed
 Tree::put-returns-then-is_routed_anyway-3-clause-placed g t c =
     let net = g.K.Packed.network in
     let n = c.deref_mut-fork.result.now in
     let prefix = net c.in-Forked.prefix in
-    let key = way c.args.key.now in
     let left = shape_of net n.left in
-    let below = shape_of net c.put-then-is_routed_anyway-3.new.self in
     let right = shape_of net n.right in
     let was : IsRooted prefix None left right (shape_of net c.args.self.now) = rw c.in-Forked.is (cc, cc, cc, refl) in
-    let is : IsRooted prefix None below right (Rooted prefix Branch below right) = (refl, refl, refl, refl) in
-    let turn : turn_of (way prefix) key ≡ Left = cc in
-    on_ok_weaker c.put-then-is_routed_anyway-3.result (placed_left key prefix None (Some c.args.route.now) left right below was is turn c.requires.shaped) c.put-then-is_routed_anyway-3.ensures.placed
+    on_ok_weaker c.put-then-is_routed_anyway-3.result (placed_left_in (way c.args.key.now) prefix Branch (Some c.args.route.now) left right (shape_of net c.put-then-is_routed_anyway-3.new.self) was (cc) c.requires.shaped) c.put-then-is_routed_anyway-3.ensures.placed
 
 pub Tree::put-returns-then-is_routed_anyway-4-clause-placed : goal.Tree::put-returns-then-is_routed_anyway-4-clause-placed
 Tree::put-returns-then-is_routed_anyway-4-clause-placed g t c =
     let net = g.K.Packed.network in
     let n = c.deref_mut-fork.result.now in
     let prefix = net c.in-Forked.prefix in
-    let key = way c.args.key.now in
     let left = shape_of net n.left in
-    let below = shape_of net c.put-then-is_routed_anyway-4.new.self in
     let right = shape_of net n.right in
     let was : IsRooted prefix None left right (shape_of net c.args.self.now) = rw c.in-Forked.is (cc, cc, cc, refl) in
-    let is : IsRooted prefix None left below (Rooted prefix Branch left below) = (refl, refl, refl, refl) in
-    let turn : turn_of (way prefix) key ≡ Right = cc in
-    on_ok_weaker c.put-then-is_routed_anyway-4.result (placed_right key prefix None (Some c.args.route.now) left right below was is turn c.requires.shaped) c.put-then-is_routed_anyway-4.ensures.placed
+    on_ok_weaker c.put-then-is_routed_anyway-4.result (placed_right_in (way c.args.key.now) prefix Branch (Some c.args.route.now) left right (shape_of net c.put-then-is_routed_anyway-4.new.self) was (cc) c.requires.shaped) c.put-then-is_routed_anyway-4.ensures.placed
 
 pub Tree::put-returns-else-is_routed_anyway-clause-placed : goal.Tree::put-returns-else-is_routed_anyway-clause-placed
 Tree::put-returns-else-is_routed_anyway-clause-placed g t c =
     let net = g.K.Packed.network in
     let n = c.deref_mut-node.result.now in
     let prefix = net c.in-Rooted.prefix in
-    let key = way c.args.key.now in
     let left = shape_of net n.left in
-    let below = shape_of net c.put_marking.new.below in
     let right = shape_of net n.right in
     let was : IsRooted prefix (slot_of n.slot) left right (shape_of net c.args.self.now) = rw c.in-Rooted.is (cc, cc, cc, cc) in
-    let is : IsRooted prefix (slot_of n.slot) below right (Rooted prefix n.slot below right) = (refl, refl, refl, refl) in
-    let turn : turn_of (way prefix) key ≡ Left = cc in
-    on_ok_weaker c.put_marking.result (placed_left key prefix (slot_of n.slot) (Some c.args.route.now) left right below was is turn c.requires.shaped) c.put_marking.ensures.placed
+    on_ok_weaker c.put_marking.result (placed_left_in (way c.args.key.now) prefix n.slot (Some c.args.route.now) left right (shape_of net c.put_marking.new.below) was (cc) c.requires.shaped) c.put_marking.ensures.placed
 
 pub Tree::put-returns-else-is_routed_anyway-2-clause-placed : goal.Tree::put-returns-else-is_routed_anyway-2-clause-placed
 Tree::put-returns-else-is_routed_anyway-2-clause-placed g t c =
     let net = g.K.Packed.network in
     let n = c.deref_mut-node.result.now in
     let prefix = net c.in-Rooted.prefix in
-    let key = way c.args.key.now in
     let left = shape_of net n.left in
-    let below = shape_of net c.put_marking-in-Right.new.below in
     let right = shape_of net n.right in
     let was : IsRooted prefix (slot_of n.slot) left right (shape_of net c.args.self.now) = rw c.in-Rooted.is (cc, cc, cc, cc) in
-    let is : IsRooted prefix (slot_of n.slot) left below (Rooted prefix n.slot left below) = (refl, refl, refl, refl) in
-    let turn : turn_of (way prefix) key ≡ Right = cc in
-    on_ok_weaker c.put_marking-in-Right.result (placed_right key prefix (slot_of n.slot) (Some c.args.route.now) left right below was is turn c.requires.shaped) c.put_marking-in-Right.ensures.placed
+    on_ok_weaker c.put_marking-in-Right.result (placed_right_in (way c.args.key.now) prefix n.slot (Some c.args.route.now) left right (shape_of net c.put_marking-in-Right.new.below) was (cc) c.requires.shaped) c.put_marking-in-Right.ensures.placed
 
 pub Tree::put-returns-else-is_routed_anyway-3-clause-placed : goal.Tree::put-returns-else-is_routed_anyway-3-clause-placed
 Tree::put-returns-else-is_routed_anyway-3-clause-placed g t c =
     let net = g.K.Packed.network in
     let n = c.deref_mut-fork.result.now in
     let prefix = net c.in-Forked.prefix in
-    let key = way c.args.key.now in
     let left = shape_of net n.left in
-    let below = shape_of net c.put_marking-in-Left-turn.new.below in
     let right = shape_of net n.right in
     let was : IsRooted prefix None left right (shape_of net c.args.self.now) = rw c.in-Forked.is (cc, cc, cc, refl) in
-    let is : IsRooted prefix None below right (Rooted prefix Branch below right) = (refl, refl, refl, refl) in
-    let turn : turn_of (way prefix) key ≡ Left = cc in
-    on_ok_weaker c.put_marking-in-Left-turn.result (placed_left key prefix None (Some c.args.route.now) left right below was is turn c.requires.shaped) c.put_marking-in-Left-turn.ensures.placed
+    on_ok_weaker c.put_marking-in-Left-turn.result (placed_left_in (way c.args.key.now) prefix Branch (Some c.args.route.now) left right (shape_of net c.put_marking-in-Left-turn.new.below) was (cc) c.requires.shaped) c.put_marking-in-Left-turn.ensures.placed
 
 pub Tree::put-returns-else-is_routed_anyway-4-clause-placed : goal.Tree::put-returns-else-is_routed_anyway-4-clause-placed
 Tree::put-returns-else-is_routed_anyway-4-clause-placed g t c =
     let net = g.K.Packed.network in
     let n = c.deref_mut-fork.result.now in
     let prefix = net c.in-Forked.prefix in
-    let key = way c.args.key.now in
     let left = shape_of net n.left in
-    let below = shape_of net c.put_marking-in-Right-turn.new.below in
     let right = shape_of net n.right in
     let was : IsRooted prefix None left right (shape_of net c.args.self.now) = rw c.in-Forked.is (cc, cc, cc, refl) in
-    let is : IsRooted prefix None left below (Rooted prefix Branch left below) = (refl, refl, refl, refl) in
-    let turn : turn_of (way prefix) key ≡ Right = cc in
-    on_ok_weaker c.put_marking-in-Right-turn.result (placed_right key prefix None (Some c.args.route.now) left right below was is turn c.requires.shaped) c.put_marking-in-Right-turn.ensures.placed
+    on_ok_weaker c.put_marking-in-Right-turn.result (placed_right_in (way c.args.key.now) prefix Branch (Some c.args.route.now) left right (shape_of net c.put_marking-in-Right-turn.new.below) was (cc) c.requires.shaped) c.put_marking-in-Right-turn.ensures.placed
 
 both : {T E P Q S : Type 0} (r : Result T E) → (P → Q → S) → OnOk r P → OnOk r Q → OnOk r S
 both (Ok x) f p q = f p q
