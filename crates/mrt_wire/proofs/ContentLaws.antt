@@ -1,32 +1,18 @@
 -- Laws of contents.
-use Rattle.std.proofs.Common.{◌≡◌, ◌∙◌, ◌⊎◌, inl, inr, ℕ, List, Option, Some, None, refl, sym, ap, subst}
+use Rattle.std.proofs.Common.{◌≡◌, ◌∙◌, ℕ, List, Some, sym, ap, subst}
 use Rattle.ip_prefix.specs.Fronts.{IsOne}
 use Rattle.mrt_wire.specs.declared.profile.Form.{Form}
 use Rattle.mrt_wire.specs.declared.profile.Form.TheVariants as form
-use Rattle.mrt_wire.specs.Profile.{HasForm, form_of}
+use Rattle.mrt_wire.specs.Profile.{HasForm}
 use Rattle.mrt_wire.specs.Content.{Content, Entry, Peers, Entries, Session, SpellsContent, IsBody}
 use Rattle.mrt_wire.proofs.PeerIndexLaws.{one_peer_index}
 use Rattle.mrt_wire.proofs.RibLaws.{one_rib}
 use Rattle.mrt_wire.proofs.SessionLaws.{one_session_body}
 use Rattle.mrt_wire.proofs.TableDumpLaws.{one_peer_entry}
 
--- a type and subtype have a form, or none
-pub cases_form : (kind subtype : ℕ) → ((form : Form) × HasForm kind subtype form) ⊎ ((form : Form) → HasForm kind subtype form → ⊥)
-cases_form kind subtype = by_form (form_of kind subtype) refl
-  where
-    by_form : (found : Option Form) → form_of kind subtype ≡ found → ((form : Form) × HasForm kind subtype form) ⊎ ((form : Form) → HasForm kind subtype form → ⊥)
-    by_form None none = inr (λ form has. clash form (sym none ∙ has))
-      where
-        clash : (form : Form) → ◌≡◌ {A = Option Form} None (Some form) → ⊥
-        clash form e = cc
-    by_form (Some form) some = inl (form, some)
-
 -- bodies of a type and subtype have one form
 pub same_form : (kind subtype : ℕ) (a b : Form) → HasForm kind subtype a → HasForm kind subtype b → a ≡ b
-same_form kind subtype a b p q = same_some (sym p ∙ q)
-  where
-    same_some : Some a ≡ Some b → a ≡ b
-    same_some e = cc
+same_form kind subtype a b p q = let e : Some a ≡ Some b = sym p ∙ q in cc
 
 -- no octets are of two contents of one form
 pub one_content_of : (form : Form) → IsOne (SpellsContent form)

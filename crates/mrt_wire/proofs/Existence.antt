@@ -10,11 +10,11 @@ use Rattle.mrt_frames.specs.declared.header.TheConstants.{LONGEST_BODY}
 use Rattle.mrt_frames.specs.Record.{Record, IsHeader, header_octets, spelling, IsRecord, BeginsWithNoRecord}
 use Rattle.mrt_frames.specs.Parts.{record_of, IsOctets}
 use Rattle.mrt_frames.specs.declared.fault.RecordKind.{RecordKind}
+use Rattle.mrt_wire.specs.declared.profile.Form.{Form}
+use Rattle.mrt_wire.specs.Profile.{form_of}
 use Rattle.mrt_wire.specs.Content.{Content, IsBody}
 use Rattle.mrt_wire.specs.Verdict.{Verdict, Accepted, Refused, Frame, Index, index_after, content_fault, event_of, ReadsAs}
 use Rattle.mrt_wire.specs.Splitting.{Splits, spellings}
-use Rattle.mrt_wire.proofs.ContentLaws.{cases_form}
-use Rattle.mrt_wire.proofs.JudgingLaws.{fault_of_content}
 use Rattle.mrt_frames.proofs.RecordLaws.{BeginsWithNoRecord-short, BeginsWithNoRecord-cut, BeginsWithNoRecord-too_long}
 use Rattle.octet_forms.proofs.Lists.{drop_in_parts}
 
@@ -151,18 +151,19 @@ cases_record octets small = elim (cases_lt (length octets) 12) [
 
 -- no record is without a verdict
 some_verdict : (stamp : Stamp) (index : Index) (r : Record) → ((verdict : Verdict) → ReadsAs stamp index r verdict → ⊥) → ⊥
-some_verdict stamp index r none = elim (cases_form r.kind r.subtype) [
-  | inr unread ↦ none (Refused (Unsupported r.kind r.subtype)) (λ supported. unread supported.0 supported.1, refl, refl)
-  | inl supported ↦ none (Refused Malformed) (supported, λ content is_body. by_fault content is_body (content_fault index content) refl)
-]
+some_verdict stamp index r none = by_form (form_of r.kind r.subtype) refl
   where
     by_fault : (content : Content) → IsBody r.kind r.subtype content r.body → (fault : Option RecordKind) → content_fault index content ≡ fault → ⊥
     by_fault content is_body None sound = none (Accepted content (event_of stamp index r content)) record { is_body = is_body; sound = sound; made = refl }
-    by_fault content is_body (Some kind) is = none (Refused kind) (fault_of_content index r content kind is_body is)
+    by_fault content is_body (Some kind) is = none (Refused kind) (inr (inr (content, is_body, is)))
+
+    by_form : (found : Option Form) → form_of r.kind r.subtype ≡ found → ⊥
+    by_form None unread = none (Refused (Unsupported r.kind r.subtype)) (inl ((λ supported. let e : None ≡ Some supported.0 = sym unread ∙ supported.1 in cc), refl))
+    by_form (Some form) read = none (Refused Malformed) (inr (inl ((form, read), (λ content is_body. by_fault content is_body (content_fault index content) refl), refl)))
 
 -- octets that begin with no record are a rest
 Splits-rest : (stamp : Stamp) (index : Index) (octets : List ℕ) → BeginsWithNoRecord octets → Splits stamp index octets [] octets
-Splits-rest stamp index octets none = record { whole = refl; are_frames = record { records = tt; readings = tt }; none = none }
+Splits-rest stamp index octets none = record { whole = refl; are_frames = tt; none = none }
 
 -- a record is put in front
 Splits-record : (stamp : Stamp) (index : Index) (frame : Frame) (octets more : List ℕ) (frames : List Frame) (rest : List ℕ) → IsRecord frame.mrt
@@ -170,7 +171,7 @@ Splits-record : (stamp : Stamp) (index : Index) (frame : Frame) (octets more : L
     → Splits stamp index octets (frame ∷ frames) rest
 Splits-record stamp index frame octets more frames rest is_record reads whole split = record {
   whole = whole ∙ ap (λ l. spelling frame.mrt ++ l) split.whole ∙ sym (append_assoc (spelling frame.mrt) (spellings frames) rest);
-  are_frames = record { records = (is_record, split.are_frames.records); readings = (reads, split.are_frames.readings) };
+  are_frames = (is_record, reads, split.are_frames);
   none = split.none;
 }
 

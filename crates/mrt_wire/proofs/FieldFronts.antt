@@ -6,13 +6,14 @@ use Rattle.ip_prefix.specs.Address.{octet_count}
 use Rattle.ip_prefix.specs.Bits.{bits_of_octets}
 use Rattle.ip_prefix.specs.Sequences.{Begins}
 use Rattle.ip_prefix.specs.Fronts.{BeginsWithNone, OneFront}
+use Rattle.octet_forms.proofs.Fields.{then_front}
 use Rattle.octet_forms.proofs.Lists.{append_parts}
 use Rattle.bgp_wire.specs.declared.AsWidth.{AsWidth}
 use Rattle.bgp_wire.specs.declared.AsWidth.TheVariants.{Two, Four}
 use Rattle.bgp_wire.specs.Number.{SpellsAsn, SpellsWord}
 use Rattle.bgp_paths.proofs.OneFront.{number_code}
 use Rattle.bgp_wire.proofs.Reaching.{same_sized}
-use Rattle.mrt_wire.specs.Fields.{SpellsOctet, SpellsShort, AreOctets, AreSized, SpellsAddressOf}
+use Rattle.mrt_wire.specs.Fields.{SpellsOctet, SpellsShort, AreOctets, AreSized, SpellsAddressOf, SpellsPeerOf}
 
 pub octet_front : OneFront SpellsOctet
 octet_front a b x y octets p q =
@@ -47,6 +48,12 @@ short_front = asn_front Two
 
 pub word_front : OneFront SpellsWord
 word_front = asn_front Four
+
+pub peer_of_front : (family : Family) (width : AsWidth) → OneFront (SpellsPeerOf family width)
+peer_of_front family width a b x y octets p q =
+    let one = then_front (SpellsAddressOf family) (λ address. SpellsAsn width) (address_front family) (λ address. asn_front width) (a.addr, a.asn) (b.addr, b.asn) x y octets
+    record { front = p.front; spelled = p.spelled; whole = p.whole } record { front = q.front; spelled = q.spelled; whole = q.whole } in
+    ((λ i. record { addr = (one.0 i).0; asn = (one.0 i).1 }), one.1)
 
 -- no octet begins nothing
 pub nothing_octet : (n : ℕ) (rest octets : List ℕ) → Begins SpellsOctet n rest octets → octets ≡ [] → ⊥

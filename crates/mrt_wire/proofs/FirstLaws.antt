@@ -112,7 +112,7 @@ first_of_frame : (p q : Place) (octets : List ℕ) (answer : Next) (frame : Fram
     → (more : List ℕ) (frames : List Frame) (rest : List ℕ) → Splits p.stamp p.index (octets ++ more) frames rest → take 1 (results p frames rest) ≡ answer_findings answer
 first_of_frame p q octets answer frame at more frames rest split =
     let joined : spellings (frame ∷ []) ++ more ≡ spellings frames ++ rest = ap (λ l. l ++ more) (append-nil (spelling frame.mrt) ∙ sym at.whole) ∙ split.whole in
-    let behind = frames_first p.stamp p.index (frame ∷ []) frames more rest (record { records = (at.is_record, tt); readings = (at.reads, tt) }) split.are_frames split.none joined in
+    let behind = frames_first p.stamp p.index (frame ∷ []) frames more rest (at.is_record, at.reads, tt) split.are_frames split.none joined in
     ap (λ f. take 1 (results p f rest)) behind.frames_are ∙ sym at.tells
 
 -- the first result of octets that are a rest
@@ -120,7 +120,7 @@ first_of_rest : (p q : Place) (left : Option (List ℕ)) (octets : List ℕ) (an
     → (more : List ℕ) (frames : List Frame) (rest : List ℕ) → MayFollow answer more → Splits p.stamp p.index (octets ++ more) frames rest → take 1 (results p frames rest) ≡ answer_findings answer
 first_of_rest p q left octets answer at more frames rest follows split =
     let stays = RestStays-rest octets more at.ends.rest (λ cut. nothing_follows answer (p.number + 1) p.offset octets more at.tells cut follows) in
-    let all = frames_all p.stamp p.index [] frames (octets ++ more) rest (record { records = tt; readings = tt }) split.are_frames stays.none split.none split.whole in
+    let all = frames_all p.stamp p.index [] frames (octets ++ more) rest tt split.are_frames stays.none split.none split.whole in
     (λ i. take 1 (results p (all.0 i) (all.1 i)))
     ∙ ap (λ f. take 1 (fault_findings (p.number + 1) p.offset f)) stays.fault
     ∙ take-fault_findings (p.number + 1) p.offset (rest_fault octets) ∙ sym at.tells

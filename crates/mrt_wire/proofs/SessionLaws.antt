@@ -1,5 +1,5 @@
 -- What happened in a session, and what didn't.
-use Rattle.std.proofs.Common.{arith, ◌≡◌, ℕ, not, Bool, true, false, Option, Some, None, refl, List, ◌∷◌, ◌++◌, ap, sym, ◌∙◌}
+use Rattle.std.proofs.Common.{arith, ◌≡◌, ℕ, Bool, true, false, Some, List, ◌∷◌, ◌++◌, ap, sym, ◌∙◌}
 use Rattle.ip_prefix.specs.declared.addr.Family.{Family}
 use Rattle.ip_prefix.specs.Address.{Address, octet_count}
 use Rattle.ip_prefix.specs.Sequences.{Begins}
@@ -9,21 +9,14 @@ use Rattle.octet_forms.proofs.Fields.{both_front, then_front, then_one, more_one
 use Rattle.bgp_wire.specs.declared.AsWidth.{AsWidth}
 use Rattle.bgp_wire.specs.Number.{octets_at}
 use Rattle.bgp_wire.specs.Reach.{family_code}
-use Rattle.bgp_wire.specs.declared.WireFault.{WireFault}
-use Rattle.bgp_wire.specs.Readers.{Refuses}
 use Rattle.bgp_wire.proofs.OneContent.{one_message_of}
-use Rattle.bgp_paths.proofs.Refusing.{refused_part}
 use Rattle.bgp_wire.proofs.Reaching.{same_family}
 use Rattle.mrt_events.specs.declared.peer.Peer.{Peer}
 use Rattle.mrt_wire.specs.declared.profile.SessionKind.{SessionKind}
 use Rattle.mrt_wire.specs.declared.profile.SessionKind.TheVariants.{StateChange, Message}
 use Rattle.mrt_wire.specs.declared.profile.SessionForm.{SessionForm}
 use Rattle.mrt_wire.specs.declared.session.TheConstants.{INTERFACE_SIZE}
-use Rattle.mrt_events.specs.Event.{Saying}
-use Rattle.mrt_wire.specs.Items.{session_items}
-use Rattle.mrt_wire.specs.Judging.{Told, session_told}
-use Rattle.mrt_wire.proofs.ReadingLaws.{refused_behind}
-use Rattle.mrt_wire.specs.Session.{SessionBody, SessionContent, Change, Receipt, SpellsFamily, AreSystems, AreAddresses, SpellsSessionPeer, SpellsStateChange, SpellsPeerMessage, SpellsHappening, SpellsMicros, SpellsTimed, SpellsSessionBody}
+use Rattle.mrt_wire.specs.Session.{Change, Receipt, SpellsFamily, AreSystems, AreAddresses, SpellsSessionPeer, SpellsStateChange, SpellsPeerMessage, SpellsHappening, SpellsMicros, SpellsSessionBody}
 use Rattle.mrt_wire.proofs.FieldFronts.{octets_front, address_front, asn_front, short_front, word_front}
 
 pub family_front : OneFront SpellsFamily
@@ -81,69 +74,15 @@ one_happening : (kind : SessionKind) (width : AsWidth) → IsOne (SpellsHappenin
 one_happening StateChange width a b octets s t = s.1 ∙ ap Change (one_state_change width s.0 t.0 octets s.2 t.2) ∙ sym t.1
 one_happening Message width a b octets s t = s.1 ∙ ap Receipt (one_peer_message width s.0 t.0 octets s.2 t.2) ∙ sym t.1
 
-micros_front : OneFront SpellsMicros
-micros_front a b x y octets p q =
-    word_front a b x y octets record { front = p.front; spelled = p.spelled.spelled; whole = p.whole } record { front = q.front; spelled = q.spelled.spelled; whole = q.whole }
-
-one_timed : (timed : Bool) (kind : SessionKind) (width : AsWidth) (m n : Option ℕ) (a b : SessionContent) (octets : List ℕ)
-    → SpellsTimed timed kind width m a octets → SpellsTimed timed kind width n b octets → (m ≡ n) × (a ≡ b)
-one_timed false kind width m n a b octets s t = (s.0 ∙ sym t.0, one_happening kind width a b octets s.1 t.1)
-one_timed true kind width m n a b octets s t =
-    let one = then_one _ _ micros_front (λ micros. one_happening kind width) (s.0, a) (t.0, b) octets s.2 t.2 in
-    (s.1 ∙ (λ i. Some (one i).0) ∙ sym t.1, λ i. (one i).1)
+pub micros_front : (timed : Bool) → OneFront (SpellsMicros timed)
+micros_front false a b x y octets p q =
+    (p.spelled.0 ∙ sym q.spelled.0, sym (p.whole ∙ ap (λ l. l ++ x) p.spelled.1) ∙ (q.whole ∙ ap (λ l. l ++ y) q.spelled.1))
+micros_front true a b x y octets p q =
+    let one = word_front p.spelled.0 q.spelled.0 x y octets record { front = p.front; spelled = p.spelled.3; whole = p.whole } record { front = q.front; spelled = q.spelled.3; whole = q.whole } in
+    (p.spelled.1 ∙ ap Some one.0 ∙ sym q.spelled.1, one.1)
 
 -- no octets are of two bodies of one form
 pub one_session_body : (form : SessionForm) → IsOne (SpellsSessionBody form)
 one_session_body form a b octets s t =
-    let one = one_timed form.timed form.kind form.width a.micros b.micros a.content b.content octets s t in
-    λ i. record { content = one.1 i; micros = one.0 i }
-
--- where no microseconds stand in front no body with microseconds does
-pub not_timed : (timed : Bool) (kind : SessionKind) (width : AsWidth) (micros : Option ℕ) (content : SessionContent) (octets : List ℕ) → not timed ≡ false → BeginsWithNone SpellsMicros octets
-    → SpellsTimed timed kind width micros content octets → ⊥
-not_timed true kind width micros content octets e none s = none s.0 s.2.rest s.2.first
-not_timed false kind width micros content octets e none s = cc
-
--- what is told of a body without microseconds is what is told of what happened
-pub told_untimed : (form : SessionForm) (seconds : ℕ) (items : List Saying) (octets : List ℕ) → not form.timed ≡ true → Told (SpellsHappening form.kind form.width) (session_items seconds) items octets
-    → Told (SpellsSessionBody form) (session_told seconds) record { items = items; micros = None } octets
-told_untimed form seconds items octets = told form.timed
-  where
-    told : (timed : Bool) → not timed ≡ true → Told (SpellsHappening form.kind form.width) (session_items seconds) items octets
-        → (body : SessionBody) × SpellsTimed timed form.kind form.width body.micros body.content octets × (record { items = items; micros = None } ≡ session_told seconds body)
-    told false e s = (record { content = s.0; micros = None }, (refl, s.1), λ i. record { items = s.2 i; micros = None })
-    told true e s = cc
-
--- and where it is refused, so is the body
-pub refused_untimed : (form : SessionForm) (seconds : ℕ) (octets : List ℕ) (fault : WireFault) → not form.timed ≡ true → Refuses (Told (SpellsHappening form.kind form.width) (session_items seconds)) octets fault
-    → Refuses (Told (SpellsSessionBody form) (session_told seconds)) octets fault
-refused_untimed form seconds octets fault e none =
-    refused_part (Told (SpellsSessionBody form) (session_told seconds)) (Told (SpellsHappening form.kind form.width) (session_items seconds)) octets octets fault
-    (λ told s. (session_items seconds s.0.content, (s.0.content, happened form.timed s.0.micros s.0.content e s.1, refl))) none
-  where
-    happened : (timed : Bool) (micros : Option ℕ) (content : SessionContent) → not timed ≡ true → SpellsTimed timed form.kind form.width micros content octets → SpellsHappening form.kind form.width content octets
-    happened false micros content e s = s.1
-    happened true micros content e s = cc
-
--- the same behind microseconds
-pub told_timed : (form : SessionForm) (seconds n : ℕ) (items : List Saying) (rest octets : List ℕ) → not form.timed ≡ false → Begins SpellsMicros n rest octets
-    → Told (SpellsHappening form.kind form.width) (session_items seconds) items rest → Told (SpellsSessionBody form) (session_told seconds) record { items = items; micros = Some n } octets
-told_timed form seconds n items rest octets = told form.timed
-  where
-    told : (timed : Bool) → not timed ≡ false → Begins SpellsMicros n rest octets → Told (SpellsHappening form.kind form.width) (session_items seconds) items rest
-        → (body : SessionBody) × SpellsTimed timed form.kind form.width body.micros body.content octets × (record { items = items; micros = Some n } ≡ session_told seconds body)
-    told true e front s = (record { content = s.0; micros = Some n }, (n, refl, record { rest = rest; first = front; second = s.1 }), λ i. record { items = s.2 i; micros = Some n })
-    told false e front s = cc
-
-pub refused_timed : (form : SessionForm) (seconds n : ℕ) (rest octets : List ℕ) (fault : WireFault) → not form.timed ≡ false → Begins SpellsMicros n rest octets
-    → Refuses (Told (SpellsHappening form.kind form.width) (session_items seconds)) rest fault → Refuses (Told (SpellsSessionBody form) (session_told seconds)) octets fault
-refused_timed form seconds n rest octets fault e front none =
-    refused_part (Told (SpellsSessionBody form) (session_told seconds)) (Then SpellsMicros (λ micros. SpellsHappening form.kind form.width)) octets octets fault
-    (λ told s. behind form.timed s.0.micros s.0.content e s.1)
-    (refused_behind SpellsMicros (λ micros. SpellsHappening form.kind form.width) micros_front n rest octets fault front
-    (refused_part (SpellsHappening form.kind form.width) (Told (SpellsHappening form.kind form.width) (session_items seconds)) rest rest fault (λ content s. (session_items seconds content, (content, s, refl))) none))
-  where
-    behind : (timed : Bool) (micros : Option ℕ) (content : SessionContent) → not timed ≡ false → SpellsTimed timed form.kind form.width micros content octets
-        → (both : ℕ × SessionContent) × Then SpellsMicros (λ micros. SpellsHappening form.kind form.width) both octets
-    behind true micros content e s = ((s.0, content), s.2)
-    behind false micros content e s = cc
+    let one = then_one _ _ (micros_front form.timed) (λ micros. one_happening form.kind form.width) (a.micros, a.content) (b.micros, b.content) octets s t in
+    λ i. record { content = (one i).1; micros = (one i).0 }

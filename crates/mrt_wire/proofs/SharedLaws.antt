@@ -1,8 +1,11 @@
 -- Which items of a message share a route.
-use Rattle.std.proofs.Common.{◌≡◌, ℕ, ◌+◌, ◌-◌, map, take, List, [], ◌∷◌, ◌++◌, length, length-append, All, Option, Some, None, refl, ap, sym, subst, ◌∙◌, arith, append_assoc, append-nil}
+use Rattle.std.proofs.Common.{◌≡◌, ℕ, ◌+◌, ◌-◌, map, take, List, [], ◌∷◌, ◌++◌, length, length-append, All, false, nat_eq, Option, refl, ap, sym, subst, ◌∙◌, arith, append_assoc, append-nil}
 use Rattle.std.proofs.lemmas.List.{take_at, drop_at, length-map}
+use Rattle.std.proofs.Math.Dec.{eqb-suc-zero}
 use Rattle.std.proofs.lemmas.List.Elements.{All-map}
+use Rattle.ip_prefix.specs.Address.{Address}
 use Rattle.ip_prefix.specs.Network.{Network}
+use Rattle.bgp_wire.specs.Reach.{attrs_with}
 use Rattle.bgp_wire.specs.declared.attrs.Attrs.{Attrs}
 use Rattle.mrt_events.specs.declared.peer.Peer.{Peer}
 use Rattle.mrt_events.specs.declared.event.Route.{Route}
@@ -20,10 +23,11 @@ pub one_route : (peer : Peer) (route : Route) (prefixes : List Network) → AreO
 one_route peer route [] = tt
 one_route peer route (prefix ∷ prefixes) = all_announce peer route prefixes
 
--- those of MP_REACH_NLRI too
-pub one_mp_route : (peer : Peer) (seconds : ℕ) (attrs : Option Attrs) (prefixes : List Network) → AreOfOneRoute (mp_announcements peer seconds attrs prefixes)
-one_mp_route peer seconds None prefixes = tt
-one_mp_route peer seconds (Some attrs) prefixes = one_route peer (route_of attrs seconds) prefixes
+-- announcements of MP_REACH_NLRI, with attributes that were kept for them where there are any
+pub mp_alike : (peer : Peer) (seconds : ℕ) (attrs kept : Attrs) (hop : Option Address) (prefixes : List Network) → (nat_eq (length prefixes) 0 ≡ false → kept ≡ attrs)
+    → announcements peer (route_of (record kept { next_hop = hop }) seconds) prefixes ≡ mp_announcements peer seconds (attrs_with attrs hop prefixes) prefixes
+mp_alike peer seconds attrs kept hop [] same = refl
+mp_alike peer seconds attrs kept hop (prefix ∷ prefixes) same = ap (λ a. announcements peer (route_of (record a { next_hop = hop }) seconds) (prefix ∷ prefixes)) (same (eqb-suc-zero (length prefixes)))
 
 -- a part of what is said, of one route, between others
 part_shared : (before part behind : List Saying) (a b : ℕ) → a ≡ length before → b ≡ length before + length part → AreOfOneRoute part → IsSharedIn (record { start = a; end = b }) (before ++ (part ++ behind))

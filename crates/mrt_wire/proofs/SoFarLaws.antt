@@ -1,5 +1,5 @@
 -- What a source has answered so far goes on by an answer, and is first in whatever the input may hold.
-use Rattle.std.proofs.Common.{◌≡◌, inl, inr, ℕ, ◌+◌, ◌<◌, true, false, Result, List, [], ◌∷◌, ◌++◌, Option, Ok, Err, length, sym, ap, ◌∙◌, refl, subst, arith, length-append, append-nil}
+use Rattle.std.proofs.Common.{◌≡◌, ◌⊎◌, inl, inr, ℕ, ◌+◌, ◌<◌, true, false, Result, List, [], ◌∷◌, ◌++◌, Option, Ok, Err, length, sym, ap, ◌∙◌, refl, subst, arith, length-append, append-nil}
 use Rattle.std.proofs.lemmas.List.{append_assoc}
 use Rattle.std.proofs.lemmas.Grind.{flat_map-append}
 use Rattle.std.specs.Io.KnownBytes.{Consumes, IsAtEnd}
@@ -16,9 +16,8 @@ use Rattle.mrt_wire.specs.Splitting.{AreFrames, Splits, spellings}
 use Rattle.mrt_frames.specs.Rest.{rest_kind, rest_fault}
 use Rattle.mrt_wire.specs.Results.{Finding, finding, fault_findings}
 use Rattle.mrt_wire.specs.Place.{Place, place_behind, results}
-use Rattle.mrt_wire.specs.Progress.{place_behind_all}
 use Rattle.mrt_wire.specs.Answered.{Nexts, answer_findings, IsFrameAt, IsRestAt}
-use Rattle.mrt_wire.specs.SoFar.{SoFar, RestSoFar, is_nothing}
+use Rattle.mrt_wire.specs.SoFar.{SoFar, RestSoFar, is_nothing, place_behind_all}
 use Rattle.mrt_wire.proofs.SplitLaws.{frames_first, frames_all}
 use Rattle.mrt_wire.proofs.FirstLaws.{RestStays-rest}
 
@@ -40,10 +39,8 @@ place_behind_all-push p (f ∷ frames) frame = place_behind_all-push (place_behi
 -- one frame more
 AreFrames-push : (p : Place) (frames : List Frame) (frame : Frame) → AreFrames p.stamp p.index frames → IsRecord frame.mrt
     → ReadsAs p.stamp (place_behind_all p frames).index frame.mrt frame.verdict → AreFrames p.stamp p.index (frames ++ frame ∷ [])
-AreFrames-push p [] frame are is_record reads = record { records = (is_record, tt); readings = (reads, tt) }
-AreFrames-push p (f ∷ frames) frame are is_record reads =
-    let later = AreFrames-push (place_behind p f) frames frame (record { records = are.records.1; readings = are.readings.1 }) is_record reads in
-    record { records = (are.records.0, later.records); readings = (are.readings.0, later.readings) }
+AreFrames-push p [] frame are is_record reads = (is_record, reads, tt)
+AreFrames-push p (f ∷ frames) frame are is_record reads = (are.0, are.1, AreFrames-push (place_behind p f) frames frame are.2 is_record reads)
 
 -- what is found in more frames, or in a rest
 pub results-append : (p : Place) (frames later : List Frame) (rest : List ℕ) → results p (frames ++ later) rest ≡ results p frames [] ++ results (place_behind_all p frames) later rest
@@ -59,7 +56,7 @@ pub SoFar-start : (p : Place) (left : Option (List ℕ)) → p.phase ≡ Reading
 SoFar-start p left reading = record {
   frames = [];
   rest = [];
-  are_frames = record { records = tt; readings = tt };
+  are_frames = tt;
   consumed = Consumes-nil left;
   found_is = refl;
   index = refl;
@@ -125,28 +122,18 @@ SoFar-rest p q q' left left' left'' found answer octets s reading taken at =
       rest_is = subst (λ t. RestSoFar t left'' octets) (sym (ap (λ x. x.phase) at.place)) at.ends;
     }
 
--- an answer more, of a source that read
-pub SoFar-next : (p q q' : Place) (left left' left'' : Option (List ℕ)) (found : List Finding) (answer : Next) → SoFar p q left left' found → q.phase ≡ Reading
-    → (octets : List ℕ) × Consumes left' left'' octets × Nexts q q' left'' octets (Ok answer) → SoFar p q' left left'' (found ++ answer_findings answer)
-SoFar-next p q q' left left' left'' found answer s reading (octets, taken, inl (frame, at)) = SoFar-frame p q q' left left' left'' found answer octets frame s reading taken at
-SoFar-next p q q' left left' left'' found answer s reading (octets, taken, inr at) = SoFar-rest p q q' left left' left'' found answer octets s reading taken at
-
 -- what is found so far is first in whatever the input may hold, and all of it where the source has ended
 pub record FirstSoFar (p q : Place) (found : List Finding) (frames : List Frame) (rest : List ℕ) : Type 0 where
   pub later : List Finding
   pub first : results p frames rest ≡ found ++ later
   pub all : q.phase ≡ Ended → later ≡ []
 
--- whatever follows frames
-first_of_frames : (p q : Place) (done frames : List Frame) (more rest : List ℕ) → q.phase ≡ Reading → AreFrames p.stamp p.index done → AreFrames p.stamp p.index frames → BeginsWithNoRecord rest
-    → spellings done ++ more ≡ spellings frames ++ rest → FirstSoFar p q (results p done []) frames rest
-first_of_frames p q done frames more rest reading are are' none joined =
+-- what frames tell is first, whatever follows them
+first_of_frames : (p : Place) (done frames : List Frame) (more rest : List ℕ) → AreFrames p.stamp p.index done → AreFrames p.stamp p.index frames → BeginsWithNoRecord rest
+    → spellings done ++ more ≡ spellings frames ++ rest → (later : List Finding) × (results p frames rest ≡ results p done [] ++ later)
+first_of_frames p done frames more rest are are' none joined =
     let behind = frames_first p.stamp p.index done frames more rest are are' none joined in
-    record {
-      later = results (place_behind_all p done) behind.later rest;
-      first = ap (λ f. results p f rest) behind.frames_are ∙ results-append p done behind.later rest;
-      all = λ ended. cc;
-    }
+    (results (place_behind_all p done) behind.later rest, ap (λ f. results p f rest) behind.frames_are ∙ results-append p done behind.later rest)
 
 -- whatever follows frames and a rest
 all_of_frames : (p q : Place) (left : Option (List ℕ)) (done frames : List Frame) (last more rest : List ℕ) → EndsAt left last → (rest_kind last ≡ CutRecord → more ≡ []) → AreFrames p.stamp p.index done
@@ -171,8 +158,9 @@ first_so_far p q left left' found s more follows frames rest split = subst (λ f
     joined = sym (append_assoc (spellings s.frames) s.rest more) ∙ split.whole
 
     by_phase : (phase : Phase) → q.phase ≡ phase → RestSoFar phase left' s.rest → FirstSoFar p q (results p s.frames s.rest) frames rest
-    by_phase Reading is none = subst (λ l. FirstSoFar p q (results p s.frames l) frames rest) (sym none)
-        (first_of_frames p q s.frames frames (s.rest ++ more) rest is s.are_frames split.are_frames split.none joined)
+    by_phase Reading is none =
+        let first = first_of_frames p s.frames frames (s.rest ++ more) rest s.are_frames split.are_frames split.none joined in
+        subst (λ l. FirstSoFar p q (results p s.frames l) frames rest) (sym none) (record { later = first.0; first = first.1; all = λ ended. cc })
     by_phase Ended is ends = all_of_frames p q left' s.frames frames s.rest more rest ends (λ cut. follows is cut (ends.seen cut)) s.are_frames split.are_frames split.none joined
     by_phase Spent is none = absurd none
 
@@ -182,12 +170,8 @@ pub front_so_far : (p q : Place) (left left' : Option (List ℕ)) (found : List 
     → (later : List Finding) × (results p frames rest ≡ found ++ later)
 front_so_far p q left left' found s none more frames rest split =
     let joined : spellings s.frames ++ (s.rest ++ more) ≡ spellings frames ++ rest = sym (append_assoc (spellings s.frames) s.rest more) ∙ split.whole in
-    let behind = frames_first p.stamp p.index s.frames frames (s.rest ++ more) rest s.are_frames split.are_frames split.none joined in
-    let found_is : found ≡ results p s.frames [] = s.found_is ∙ ap (results p s.frames) none in (
-      results (place_behind_all p s.frames) behind.later rest,
-      ap (λ f. results p f rest) behind.frames_are ∙ results-append p s.frames behind.later rest
-          ∙ ap (λ f. f ++ results (place_behind_all p s.frames) behind.later rest) (sym found_is),
-    )
+    let first = first_of_frames p s.frames frames (s.rest ++ more) rest s.are_frames split.are_frames split.none joined in
+    (first.0, first.1 ∙ ap (λ f. f ++ first.0) (sym (s.found_is ∙ ap (results p s.frames) none)))
 
 -- what `next` promises of a source that reads, and of one that has ended
 abbrev pub Promises : Place → Place → Option (List ℕ) → Option (List ℕ) → Next → Type 0
@@ -200,98 +184,73 @@ abbrev pub told_by : Result Next SourceFault → List Finding
 told_by (Ok answer) = answer_findings answer
 told_by (Err fault) = []
 
+-- what an answer took and told of a source that read, or of one that had ended
+abbrev IsAnswer : Place → Place → Option (List ℕ) → Option (List ℕ) → Next → Type 0
+IsAnswer q q' left' left'' answer =
+    ((q.phase ≡ Reading) × ((octets : List ℕ) × Consumes left' left'' octets × Nexts q q' left'' octets (Ok answer)))
+    ⊎ ((q.phase ≡ Ended) × (answer_findings answer ≡ []) × (q' ≡ q) × (left'' ≡ left'))
+
+cases_answer : (p q q' : Place) (left left' left'' : Option (List ℕ)) (found : List Finding) (answer : Next) → SoFar p q left left' found → Promises q q' left' left'' answer
+    → IsAnswer q q' left' left'' answer
+cases_answer p q q' left left' left'' found answer s promised = by_phase q.phase refl s.rest_is
+  where
+    by_phase : (phase : Phase) → q.phase ≡ phase → RestSoFar phase left' s.rest → IsAnswer q q' left' left'' answer
+    by_phase Reading is rest = inl (is, promised.0 is)
+    by_phase Ended is rest =
+        let (tells, same, unasked) = promised.1 is in
+        inr (is, tells, same, unasked)
+    by_phase Spent is rest = absurd rest
+
 -- an answer more
 pub SoFar-answer : (p q q' : Place) (left left' left'' : Option (List ℕ)) (found : List Finding) (answer : Next) → SoFar p q left left' found → Promises q q' left' left'' answer
     → SoFar p q' left left'' (found ++ answer_findings answer)
-SoFar-answer p q q' left left' left'' found answer s promised = by_phase q.phase refl s.rest_is
+SoFar-answer p q q' left left' left'' found answer s promised = by_cases (cases_answer p q q' left left' left'' found answer s promised)
   where
-    by_phase : (phase : Phase) → q.phase ≡ phase → RestSoFar phase left' s.rest → SoFar p q' left left'' (found ++ answer_findings answer)
-    by_phase Reading is rest = SoFar-next p q q' left left' left'' found answer s is (promised.0 is)
-    by_phase Ended is rest =
-        let (tells, same, unasked) = promised.1 is in
+    by_cases : IsAnswer q q' left' left'' answer → SoFar p q' left left'' (found ++ answer_findings answer)
+    by_cases (inl (is, (octets, taken, inl (frame, at)))) = SoFar-frame p q q' left left' left'' found answer octets frame s is taken at
+    by_cases (inl (is, (octets, taken, inr at))) = SoFar-rest p q q' left left' left'' found answer octets s is taken at
+    by_cases (inr (is, tells, same, unasked)) =
         subst (λ f. SoFar p q' left left'' f) (sym (append-nil found) ∙ ap (λ l. found ++ l) (sym tells))
         (subst (λ x. SoFar p x left left'' found) (sym same) (subst (λ l. SoFar p q left l found) (sym unasked) s))
-    by_phase Spent is rest = absurd rest
 
 -- an answer that tells nothing is the end
 pub ends_with_none : (p q q' : Place) (left left' left'' : Option (List ℕ)) (found : List Finding) (answer : Next) → SoFar p q left left' found → Promises q q' left' left'' answer
     → is_nothing (answer_findings answer) ≡ true → q'.phase ≡ Ended
-ends_with_none p q q' left left' left'' found answer s promised none = by_phase q.phase refl s.rest_is
+ends_with_none p q q' left left' left'' found answer s promised none = by_cases (cases_answer p q q' left left' left'' found answer s promised)
   where
-    by_answer : (octets : List ℕ) → Nexts q q' left'' octets (Ok answer) → q'.phase ≡ Ended
-    by_answer octets (inl (frame, at)) = absurd (some (sym (ap is_nothing at.tells) ∙ none))
-      where
-        some : false ≡ true → ⊥
-        some e = cc
-    by_answer octets (inr at) = ap (λ x. x.phase) at.place
-
-    by_phase : (phase : Phase) → q.phase ≡ phase → RestSoFar phase left' s.rest → q'.phase ≡ Ended
-    by_phase Reading is rest =
-        let (octets, taken, at) = promised.0 is in
-        by_answer octets at
-    by_phase Ended is rest =
-        let (tells, same, unasked) = promised.1 is in
-        ap (λ x. x.phase) same ∙ is
-    by_phase Spent is rest = absurd rest
+    by_cases : IsAnswer q q' left' left'' answer → q'.phase ≡ Ended
+    by_cases (inl (is, (octets, taken, inl (frame, at)))) = let e : false ≡ true = sym (ap is_nothing at.tells) ∙ none in cc
+    by_cases (inl (is, (octets, taken, inr at))) = ap (λ x. x.phase) at.place
+    by_cases (inr (is, tells, same, unasked)) = ap (λ x. x.phase) same ∙ is
 
 -- an answer that tells something takes octets
 pub goes_on_with_some : (p q q' : Place) (left left' left'' : Option (List ℕ)) (found : List Finding) (answer : Next) → SoFar p q left left' found → Promises q q' left' left'' answer
     → is_nothing (answer_findings answer) ≡ false → q.offset < q'.offset
-goes_on_with_some p q q' left left' left'' found answer s promised some = by_phase q.phase refl s.rest_is
+goes_on_with_some p q q' left left' left'' found answer s promised some = by_cases (cases_answer p q q' left left' left'' found answer s promised)
   where
     nonempty : (octets : List ℕ) → IsRestAt q q' left'' answer octets → 0 < length octets
-    nonempty [] at = absurd (none (sym (ap is_nothing at.tells) ∙ some))
-      where
-        none : true ≡ false → ⊥
-        none e = cc
+    nonempty [] at = let e : true ≡ false = sym (ap is_nothing at.tells) ∙ some in cc
     nonempty (octet ∷ octets) at = omega arith
 
-    by_answer : (octets : List ℕ) → Nexts q q' left'' octets (Ok answer) → q.offset < q'.offset
-    by_answer octets (inl (frame, at)) =
+    by_cases : IsAnswer q q' left' left'' answer → q.offset < q'.offset
+    by_cases (inl (is, (octets, taken, inl (frame, at)))) =
         let r = frame.mrt in
         omega (arith, ap (λ x. x.offset) at.place, length-append (header_octets r.seconds r.kind r.subtype (length r.body)) r.body)
-    by_answer octets (inr at) = omega (arith, ap (λ x. x.offset) at.place, nonempty octets at)
-
-    by_phase : (phase : Phase) → q.phase ≡ phase → RestSoFar phase left' s.rest → q.offset < q'.offset
-    by_phase Reading is rest =
-        let (octets, taken, at) = promised.0 is in
-        by_answer octets at
-    by_phase Ended is rest =
-        let (tells, same, unasked) = promised.1 is in
-        absurd (none (sym (ap is_nothing tells) ∙ some))
-      where
-        none : true ≡ false → ⊥
-        none e = cc
-    by_phase Spent is rest = absurd rest
+    by_cases (inl (is, (octets, taken, inr at))) = omega (arith, ap (λ x. x.offset) at.place, nonempty octets at)
+    by_cases (inr (is, tells, same, unasked)) = let e : true ≡ false = sym (ap is_nothing tells) ∙ some in cc
 
 -- an answer more that tells something: where it ends the reading, something was taken behind the frames
 pub SoFar-told : (p q q' : Place) (left left' left'' : Option (List ℕ)) (found : List Finding) (answer : Next) → SoFar p q left left' found → Promises q q' left' left'' answer
     → is_nothing (answer_findings answer) ≡ false → (s' : SoFar p q' left left'' (found ++ answer_findings answer)) × (q'.phase ≡ Ended → s'.rest ≡ [] → ⊥)
-SoFar-told p q q' left left' left'' found answer s promised some = by_phase q.phase refl s.rest_is
+SoFar-told p q q' left left' left'' found answer s promised some = by_cases (cases_answer p q q' left left' left'' found answer s promised)
   where
-    nothing : is_nothing (answer_findings answer) ≡ true → ⊥
-    nothing none = clash (sym none ∙ some)
-      where
-        clash : true ≡ false → ⊥
-        clash e = cc
-
-    by_answer : q.phase ≡ Reading → (octets : List ℕ) → Consumes left' left'' octets → Nexts q q' left'' octets (Ok answer)
-        → (s' : SoFar p q' left left'' (found ++ answer_findings answer)) × (q'.phase ≡ Ended → s'.rest ≡ [] → ⊥)
-    by_answer is octets taken (inl (frame, at)) = (
+    by_cases : IsAnswer q q' left' left'' answer → (s' : SoFar p q' left left'' (found ++ answer_findings answer)) × (q'.phase ≡ Ended → s'.rest ≡ [] → ⊥)
+    by_cases (inl (is, (octets, taken, inl (frame, at)))) = (
       SoFar-frame p q q' left left' left'' found answer octets frame s is taken at,
-      λ ended none. reading (sym ended ∙ ap (λ x. x.phase) at.place ∙ is),
+      (λ ended none. let e : Ended ≡ Reading = sym ended ∙ ap (λ x. x.phase) at.place ∙ is in cc),
     )
-      where
-        reading : Ended ≡ Reading → ⊥
-        reading e = cc
-    by_answer is octets taken (inr at) = (
+    by_cases (inl (is, (octets, taken, inr at))) = (
       SoFar-rest p q q' left left' left'' found answer octets s is taken at,
-      λ ended none. nothing (ap is_nothing (at.tells ∙ ap (λ o. fault_findings (q.number + 1) q.offset (rest_fault o)) none)),
+      (λ ended none. let e : true ≡ false = sym (ap is_nothing (at.tells ∙ ap (λ o. fault_findings (q.number + 1) q.offset (rest_fault o)) none)) ∙ some in cc),
     )
-
-    by_phase : (phase : Phase) → q.phase ≡ phase → RestSoFar phase left' s.rest → (s' : SoFar p q' left left'' (found ++ answer_findings answer)) × (q'.phase ≡ Ended → s'.rest ≡ [] → ⊥)
-    by_phase Reading is rest =
-        let (octets, taken, at) = promised.0 is in
-        by_answer is octets taken at
-    by_phase Ended is rest = absurd (nothing (ap is_nothing (promised.1 is).0))
-    by_phase Spent is rest = absurd rest
+    by_cases (inr (is, tells, same, unasked)) = let e : true ≡ false = sym (ap is_nothing tells) ∙ some in cc

@@ -11,14 +11,13 @@ use Rattle.bgp_wire.specs.declared.WireFault.{WireFault}
 use Rattle.bgp_wire.specs.declared.WireFault.TheVariants.{Malformed, Memory}
 use Rattle.bgp_wire.specs.declared.AsWidth.TheVariants.{Two}
 use Rattle.bgp_wire.specs.Content.{SpellsRibAttrs}
-use Rattle.bgp_wire.specs.Number.{SpellsAsn}
 use Rattle.bgp_wire.specs.Readers.{Refuses}
 use Rattle.bgp_wire.proofs.OneContent.{one_rib_attrs}
 use Rattle.mrt_events.specs.declared.peer.Peer.{Peer}
 use Rattle.mrt_wire.specs.declared.table_dump.TheConstants.{NUMBERS_SIZE, STATUS_SIZE}
 use Rattle.mrt_wire.specs.Fields.{SpellsOctet, SpellsAddressOf}
-use Rattle.mrt_wire.specs.TableDump.{SpellsPrefix, SpellsNarrowPeer, ArePeerEntryFields, SpellsPeerEntry}
-use Rattle.mrt_wire.proofs.FieldFronts.{octet_front, octets_front, word_front, asn_front, address_front, sized_front}
+use Rattle.mrt_wire.specs.TableDump.{SpellsPrefix, ArePeerEntryFields, SpellsPeerEntry}
+use Rattle.mrt_wire.proofs.FieldFronts.{octet_front, octets_front, word_front, address_front, peer_of_front, sized_front}
 
 -- ---- the prefix
 
@@ -59,30 +58,13 @@ a_prefix family address len prefix after rest octets p q fits is =
       whole = b.whole;
     }
 
--- ---- the peer
-
-pub narrow_peer_front : (family : Family) → OneFront (SpellsNarrowPeer family)
-narrow_peer_front family a b x y octets p q =
-    let one = then_front (SpellsAddressOf family) (λ address. SpellsAsn Two) (address_front family) (λ address. asn_front Two) (a.addr, a.asn) (b.addr, b.asn) x y octets
-    record { front = p.front; spelled = p.spelled; whole = p.whole } record { front = q.front; spelled = q.spelled; whole = q.whole } in
-    ((λ i. record { addr = (one.0 i).0; asn = (one.0 i).1 }), one.1)
-
-pub no_narrow_peer : (family : Family) (octets : List ℕ) → BeginsWithNone (Then (SpellsAddressOf family) (λ address. SpellsAsn Two)) octets → BeginsWithNone (SpellsNarrowPeer family) octets
-no_narrow_peer family octets none peer rest b = none (peer.addr, peer.asn) rest record { front = b.front; spelled = b.spelled; whole = b.whole }
-
-pub a_narrow_peer : (family : Family) (addr : Address) (asn : ℕ) (after rest octets : List ℕ) → Begins (SpellsAddressOf family) addr after octets → Begins (SpellsAsn Two) asn rest after
-    → Begins (SpellsNarrowPeer family) record { addr = addr; asn = asn } rest octets
-a_narrow_peer family addr asn after rest octets p q =
-    let b = both_front (SpellsAddressOf family) (λ address. SpellsAsn Two) addr asn after rest octets p q in
-    record { front = b.front; spelled = b.spelled; whole = b.whole }
-
 -- ---- the entry
 
 entry_fields_front : (family : Family) → OneFront (ArePeerEntryFields family)
 entry_fields_front family =
     then_front _ _ (octets_front NUMBERS_SIZE) (λ numbers. then_front _ _ (prefix_front family) (λ prefix.
     then_front _ _ (octets_front STATUS_SIZE) (λ status. then_front _ _ word_front (λ time.
-    then_front _ _ (narrow_peer_front family) (λ peer. sized_front)))))
+    then_front _ _ (peer_of_front family Two) (λ peer. sized_front)))))
 
 -- no octets are of two entries
 pub one_peer_entry : (family : Family) → IsOne (SpellsPeerEntry family)

@@ -1,9 +1,9 @@
 -- What entries and prefixes say, one by one.
-use Rattle.std.proofs.Common.{◌≡◌, ℕ, suc, ◌+◌, ◌<◌, map, take, get_or, List, [], ◌∷◌, ◌++◌, length, length-append, Option, Some, None, refl, ap, sym, ◌∙◌, arith, append_assoc, append-nil}
-use Rattle.std.specs.Option.{option_or}
-use Rattle.std.specs.List.{flat_map}
-use Rattle.std.proofs.lemmas.List.{map-append}
-use Rattle.std.proofs.lemmas.Grind.{flat_map-append}
+use Rattle.std.proofs.Common.{◌≡◌, ℕ, suc, ◌+◌, ◌<◌, map, take, get_or, slice_get, List, [], ◌∷◌, ◌++◌, length, length-append, ap, sym, ◌∙◌, arith, append_assoc}
+use Rattle.std.specs.Option.{is_none, option_or}
+use Rattle.std.specs.List.{find}
+use Rattle.std.proofs.lemmas.List.{map-append, flat_map_more}
+use Rattle.std.proofs.lemmas.List.Folds.{find-append}
 use Rattle.std.proofs.Math.Seq.{take-suc}
 use Rattle.ip_prefix.specs.Network.{Network}
 use Rattle.mrt_events.specs.declared.peer.Peer.{Peer}
@@ -14,28 +14,13 @@ use Rattle.mrt_wire.specs.declared.rib.Snapshot.{Snapshot}
 use Rattle.mrt_wire.specs.declared.rib.EntryItems.{EntryItems}
 use Rattle.mrt_events.specs.Event.{Saying, saying}
 use Rattle.mrt_wire.specs.Rib.{RibEntry, SpellsEntry}
-use Rattle.mrt_wire.specs.Items.{unknown_peer, first_unknown}
+use Rattle.mrt_wire.specs.Items.{first_unknown}
 use Rattle.mrt_wire.specs.Judging.{Adds, AreItemsOf, snapshot_items}
 
--- one of three, whichever is first
-option_or-assoc : {A : Type 0} (a b c : Option A) → option_or (option_or a b) c ≡ option_or a (option_or b c)
-option_or-assoc None b c = refl
-option_or-assoc (Some x) b c = refl
-
-option_or-none : {A : Type 0} (a : Option A) → option_or a None ≡ a
-option_or-none None = refl
-option_or-none (Some x) = refl
-
 -- the first number that is no peer's, with an entry more
-first_unknown-push : (peers : List Peer) (entries : List RibEntry) (entry : RibEntry) → first_unknown peers (entries ++ entry ∷ []) ≡ option_or (first_unknown peers entries) (unknown_peer peers entry)
-first_unknown-push peers [] entry = option_or-none (unknown_peer peers entry)
-first_unknown-push peers (first ∷ entries) entry =
-    ap (option_or (unknown_peer peers first)) (first_unknown-push peers entries entry)
-    ∙ sym (option_or-assoc (unknown_peer peers first) (first_unknown peers entries) (unknown_peer peers entry))
-
--- what entries say, with one more
-flat_map-push : {A B : Type 0} (f : A → List B) (values : List A) (value : A) → flat_map f (values ++ value ∷ []) ≡ flat_map f values ++ f value
-flat_map-push f values value = flat_map-append f values (value ∷ []) ∙ ap (λ l. flat_map f values ++ l) (append-nil (f value))
+first_unknown-push : (peers : List Peer) (entries : List RibEntry) (entry : RibEntry) → first_unknown peers (entries ++ entry ∷ []) ≡ option_or (first_unknown peers entries) (first_unknown peers (entry ∷ []))
+first_unknown-push peers entries entry =
+    ap (find (λ number. is_none (slice_get peers number))) (map-append (λ entry. entry.index) entries (entry ∷ [])) ∙ find-append _ (map (λ entry. entry.index) entries) (entry.index ∷ [])
 
 -- an item more says of the next prefix what the others say of theirs
 pub one_more_prefix : (f : Network → Saying) (old items new : List Item) (item : Item) (prefixes : List Network) (k : ℕ) (prefix : Network) → Adds old items (map f (take k prefixes)) → new ≡ items ++ item ∷ []
@@ -59,7 +44,7 @@ pub record ItemsSoFar (snapshot : Snapshot) (prefix : Network) (count : ℕ) (to
 pub ItemsSoFar-push : (snapshot : Snapshot) (prefix : Network) (count : ℕ) (told told' : EntryItems) (rest more octets : List ℕ) (entry : RibEntry) → ItemsSoFar snapshot prefix count told rest octets
     → Begins (SpellsEntry snapshot.family) entry more rest
     → map saying told'.items.items ≡ map saying told.items.items ++ snapshot_items snapshot prefix entry
-    → told'.unknown ≡ option_or told.unknown (unknown_peer snapshot.peers.now entry) → ItemsSoFar snapshot prefix (count + 1) told' more octets
+    → told'.unknown ≡ option_or told.unknown (first_unknown snapshot.peers.now (entry ∷ [])) → ItemsSoFar snapshot prefix (count + 1) told' more octets
 ItemsSoFar-push snapshot prefix count told told' rest more octets entry s front items unknown =
     let says = snapshot_items snapshot prefix in
     record {
@@ -67,7 +52,7 @@ ItemsSoFar-push snapshot prefix count told told' rest more octets entry s front 
       size = omega (arith, length-append s.entries (entry ∷ []), s.size);
       read = one_more (SpellsEntry snapshot.family) s.entries entry more rest octets s.read front;
       tells = record {
-        items = items ∙ ap (λ l. l ++ says entry) s.tells.items ∙ sym (flat_map-push says s.entries entry);
-        unknown = unknown ∙ ap (λ o. option_or o (unknown_peer snapshot.peers.now entry)) s.tells.unknown ∙ sym (first_unknown-push snapshot.peers.now s.entries entry);
+        items = items ∙ ap (λ l. l ++ says entry) s.tells.items ∙ flat_map_more says [] s.entries entry;
+        unknown = unknown ∙ ap (λ o. option_or o (first_unknown snapshot.peers.now (entry ∷ []))) s.tells.unknown ∙ sym (first_unknown-push snapshot.peers.now s.entries entry);
       };
     }

@@ -1,6 +1,6 @@
 -- Private.
 -- What a call of `next` answers.
-use Rattle.std.specs.Prelude.{◌≡◌, ◌⊎◌, ◌∷◌, [], ℕ, ◌+◌, ◌++◌, List, Option, Result, Ok, Err, take}
+use Rattle.std.specs.Prelude.{◌≡◌, ◌⊎◌, ◌∷◌, [], ℕ, ◌+◌, ◌++◌, List, Option, Result, Ok, Err, length, take}
 use Rattle.std.specs.Io.KnownBytes.{Consumes}
 use Rattle.mrt_frames.specs.declared.fault.RecordKind.TheVariants.{CutRecord}
 use Rattle.mrt_frames.specs.declared.fault.SourceFault.{SourceFault}
@@ -10,6 +10,7 @@ use Rattle.mrt_frames.specs.Record.{Record, spelling, IsRecord}
 use Rattle.mrt_frames.specs.Rest.{rest_fault}
 use Rattle.mrt_frames.specs.Taking.{IsBegun}
 use Rattle.mrt_frames.specs.Taken.{EndsAt}
+use Rattle.mrt_wire.specs.declared.next.Phase.{Phase}
 use Rattle.mrt_wire.specs.declared.next.Phase.TheVariants.{Ended, Spent}
 use Rattle.mrt_wire.specs.declared.next.Next.{Next}
 use Rattle.mrt_wire.specs.declared.next.Next.TheVariants as next
@@ -17,7 +18,6 @@ use Rattle.mrt_events.specs.declared.stamp.Stamp.{Stamp}
 use Rattle.mrt_wire.specs.Verdict.{Frame, ReadsAs, Index}
 use Rattle.mrt_wire.specs.Results.{Finding, Found, Bad, finding, fault_findings}
 use Rattle.mrt_wire.specs.Place.{Place, place_behind, results}
-use Rattle.mrt_wire.specs.Progress.{stopped_place}
 use Rattle.mrt_wire.specs.Next.{Took}
 use Rattle.mrt_wire.specs.Splitting.{Splits}
 
@@ -26,6 +26,16 @@ abbrev pub answer_findings : Next → List Finding
 answer_findings (next.Event event) = Found event ∷ []
 answer_findings (next.Bad fault) = Bad fault ∷ []
 answer_findings next.End = []
+
+-- the place behind octets that ended the reading so
+abbrev pub stopped_place : Phase → Place → List ℕ → Place
+stopped_place phase p octets =
+    record { index = p.index; number = p.number; offset = p.offset + length octets; limit = p.limit; stamp = p.stamp; phase = phase }
+
+-- a place where the source is spent, if it answered a fault
+abbrev pub spent_place : Place → Result Next SourceFault → Place
+spent_place q (Ok answer) = q
+spent_place q (Err fault) = record { index = q.index; number = q.number; offset = q.offset; limit = q.limit; stamp = q.stamp; phase = Spent }
 
 -- the octets are those of one frame, whose event or fault is answered
 pub record IsFrameAt (p q : Place) (answer : Next) (octets : List ℕ) (frame : Frame) : Type 0 where

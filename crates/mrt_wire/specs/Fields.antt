@@ -3,9 +3,12 @@ use Rattle.std.specs.Prelude.{◌≡◌, ℕ, ◌<◌, ◌^◌, List, [], ◌∷
 use Rattle.std.specs.Int.{w16}
 use Rattle.ip_prefix.specs.declared.addr.Family.{Family}
 use Rattle.ip_prefix.specs.Address.{Address}
-use Rattle.bgp_wire.specs.Number.{SpellsNumber}
+use Rattle.ip_prefix.specs.Fields.{Then}
+use Rattle.bgp_wire.specs.declared.AsWidth.{AsWidth}
+use Rattle.bgp_wire.specs.Number.{SpellsAsn, SpellsNumber}
 use Rattle.bgp_wire.specs.Update.{sized_octets}
 use Rattle.bgp_wire.specs.Value.{SpellsAddressOctets}
+use Rattle.mrt_events.specs.declared.peer.Peer.{Peer}
 
 -- one octet
 pub record SpellsOctet (n : ℕ) (octets : List ℕ) : Type 0 where
@@ -30,3 +33,8 @@ pub record AreSized (value : List ℕ) (octets : List ℕ) : Type 0 where
 pub record SpellsAddressOf (family : Family) (address : Address) (octets : List ℕ) : Type 0 where
   pub of_family : address.family ≡ family
   pub spelled : SpellsAddressOctets address octets
+
+-- a peer: its address, of this family, and its AS number, of this width
+abbrev pub SpellsPeerOf : Family → AsWidth → Peer → List ℕ → Type 0
+SpellsPeerOf family width peer octets =
+    Then (SpellsAddressOf family) (λ address. SpellsAsn width) (peer.addr, peer.asn) octets

@@ -1,7 +1,7 @@
 -- What the contents of records say of routes and sessions.
 use Rattle.std.specs.Prelude.{ℕ, List, [], ◌∷◌, ◌++◌, map, slice_get, Option, Some, None}
-use Rattle.std.specs.Option.{option_or}
-use Rattle.std.specs.List.{flat_map}
+use Rattle.std.specs.Option.{is_none, option_to_list}
+use Rattle.std.specs.List.{find, flat_map}
 use Rattle.ip_prefix.specs.Network.{Network}
 use Rattle.bgp_wire.specs.declared.attrs.Attrs.{Attrs}
 use Rattle.bgp_wire.specs.declared.message.Message.{Message}
@@ -14,7 +14,7 @@ use Rattle.mrt_events.specs.declared.stamp.Stamp.TheVariants.{Dump, Change}
 use Rattle.mrt_events.specs.Event.{Saying, Announced, Withdrawn, Changed}
 use Rattle.mrt_wire.specs.Rib.{RibEntry, PrefixEntries}
 use Rattle.mrt_wire.specs.TableDump.{PeerEntry}
-use Rattle.mrt_wire.specs.Session.{PeerMessage, SessionContent, Change, Receipt}
+use Rattle.mrt_wire.specs.Session.{SessionContent, Change, Receipt}
 
 -- ---- tables
 
@@ -27,29 +27,15 @@ entry_time Change seconds originated = originated
 abbrev pub route_of : Attrs → ℕ → Route
 route_of attrs time = record { attrs = attrs; time = time }
 
--- a number, where there is no peer of it
-abbrev pub unknown_by : Option Peer → ℕ → Option ℕ
-unknown_by None number = Some number
-unknown_by (Some peer) number = None
-
--- the number of an entry's peer, where there is no such peer
-abbrev pub unknown_peer : List Peer → RibEntry → Option ℕ
-unknown_peer peers entry = unknown_by (slice_get peers entry.index) entry.index
-
--- the first such number
+-- the first number of an entry's peer that is no peer's
 abbrev pub first_unknown : List Peer → List RibEntry → Option ℕ
-first_unknown peers [] = None
-first_unknown peers (entry ∷ entries) = option_or (unknown_peer peers entry) (first_unknown peers entries)
+first_unknown peers entries = find (λ number. is_none (slice_get peers number)) (map (λ entry. entry.index) entries)
 
 -- what an entry announces: nothing where there is no such peer
-abbrev pub announced_by : Option Peer → Network → Route → List Saying
-announced_by None prefix route = []
-announced_by (Some peer) prefix route = Announced peer prefix route ∷ []
-
 abbrev pub entry_items : List Peer → Stamp → ℕ → Network → RibEntry → List Saying
 entry_items peers stamp seconds prefix entry =
-    announced_by (slice_get peers entry.index) prefix
-    (route_of entry.attrs (entry_time stamp seconds entry.time))
+    map (λ peer. Announced peer prefix (route_of entry.attrs (entry_time stamp seconds entry.time)))
+    (option_to_list (slice_get peers entry.index))
 
 -- what the entries announce, one after the other
 abbrev pub entries_items : List Peer → Stamp → ℕ → PrefixEntries → List Saying
@@ -83,11 +69,7 @@ abbrev pub message_items : Peer → ℕ → Message → List Saying
 message_items peer seconds (message.Update update) = update_items peer seconds update
 message_items peer seconds (message.Other kind) = []
 
--- what a message says that a peer has sent
-abbrev pub receipt_items : ℕ → PeerMessage → List Saying
-receipt_items seconds m = message_items m.peer seconds m.message
-
 -- what is said of a session
 abbrev pub session_items : ℕ → SessionContent → List Saying
 session_items seconds (Change change) = Changed change.peer change.old change.new ∷ []
-session_items seconds (Receipt m) = receipt_items seconds m
+session_items seconds (Receipt m) = message_items m.peer seconds m.message

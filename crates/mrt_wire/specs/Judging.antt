@@ -1,13 +1,12 @@
 -- Private.
 -- What the private calls make of a record.
-use Rattle.std.specs.Prelude.{◌≡◌, ℕ, List, ◌++◌, map, Result, Ok, Err}
+use Rattle.std.specs.Prelude.{◌≡◌, ℕ, List, ◌++◌, map, Option, Some, None, Result, Ok, Err}
 use Rattle.ip_prefix.specs.declared.addr.Family.{Family}
 use Rattle.ip_prefix.specs.Network.{Network}
 use Rattle.ip_prefix.specs.Sequences.{Begins}
+use Rattle.ip_prefix.specs.Fronts.{BeginsWithNone}
 use Rattle.bgp_wire.specs.Content.{SpellsRibAttrs}
-use Rattle.bgp_wire.specs.Reach.{attrs_with}
 use Rattle.bgp_wire.specs.Readers.{Refuses}
-use Rattle.bgp_wire.specs.declared.attrs.Attrs.{Attrs}
 use Rattle.bgp_wire.specs.declared.WireFault.{WireFault}
 use Rattle.bgp_wire.specs.declared.WireFault.TheVariants as wire
 use Rattle.mrt_events.specs.declared.stamp.Stamp.{Stamp}
@@ -17,7 +16,7 @@ use Rattle.mrt_events.specs.declared.event.Route.{Route}
 use Rattle.mrt_frames.specs.declared.fault.RecordKind.TheVariants.{Malformed}
 use Rattle.mrt_frames.specs.declared.fault.SourceFault.{SourceFault}
 use Rattle.mrt_frames.specs.declared.fault.SourceFault.TheVariants as source
-use Rattle.mrt_wire.specs.declared.judging.RawRecord.{RawRecord}
+use Rattle.mrt_wire.specs.declared.fields.Field.{Field}
 use Rattle.mrt_wire.specs.declared.judging.Refusal.{Refusal}
 use Rattle.mrt_wire.specs.declared.judging.Refusal.TheVariants as refusal
 use Rattle.mrt_wire.specs.declared.next.Next.{Next}
@@ -27,18 +26,22 @@ use Rattle.mrt_wire.specs.declared.rib.EntryItems.{EntryItems}
 use Rattle.mrt_wire.specs.declared.rib.ReadEntry.{ReadEntry}
 use Rattle.mrt_wire.specs.declared.route_pool.SentAttrs.{SentAttrs}
 use Rattle.mrt_wire.specs.declared.session.SessionItems.{SessionItems}
-use Rattle.mrt_wire.specs.declared.table_dump.FramedEntry.{FramedEntry}
 use Rattle.mrt_wire.specs.declared.update.Announcement.{Announcement}
-use Rattle.mrt_wire.specs.declared.update.MpAnnouncement.{MpAnnouncement}
+use Rattle.bgp_wire.specs.declared.attrs.Attrs.{Attrs}
+use Rattle.mrt_wire.specs.declared.table_dump.FramedEntry.{FramedEntry}
 use Rattle.mrt_frames.specs.Record.{Record}
-use Rattle.mrt_frames.specs.Parts.{record_under}
 use Rattle.mrt_wire.specs.Rib.{RibEntry, PrefixEntries, SpellsEntries}
 use Rattle.mrt_wire.specs.TableDump.{ArePeerEntryFields}
-use Rattle.mrt_wire.specs.Items.{announcements, entry_items, entry_time, entries_items, first_unknown, mp_announcements, route_of, session_items}
+use Rattle.mrt_wire.specs.Items.{announcements, route_of, entry_items, entry_time, entries_items, first_unknown, session_items}
 use Rattle.mrt_events.specs.Event.{Saying, saying}
 use Rattle.mrt_wire.specs.Session.{SessionBody}
 use Rattle.mrt_wire.specs.Content.{Content}
 use Rattle.mrt_wire.specs.Verdict.{Index, Accepted, Refused, ReadsAs, index_after}
+
+-- the answer is a value that the octets begin with and what follows it, or that they begin with none
+abbrev pub FindsField : {A : Type 0} → (A → List ℕ → Type 0) → List ℕ → Option (Field A) → Type 0
+FindsField Spells octets (Some found) = Begins Spells found.value found.rest.now octets
+FindsField Spells octets None = BeginsWithNone Spells octets
 
 -- why a record makes no event, where its body was refused so
 abbrev pub body_refusal : WireFault → Refusal
@@ -60,16 +63,6 @@ RefusesSent sent fault = Refuses (SpellsRibAttrs sent.family sent.width) sent.oc
 -- what an announcement says, with these attributes
 abbrev pub announced_with : Announcement → Attrs → List Saying
 announced_with announcement attrs = announcements announcement.peer.now (route_of attrs announcement.seconds) announcement.prefixes.now
-
--- what one says that has a next hop of its own
-abbrev pub announced_through : MpAnnouncement → Attrs → List Saying
-announced_through mp attrs =
-    mp_announcements mp.announcement.peer.now mp.announcement.seconds
-    (attrs_with attrs mp.next_hop mp.announcement.prefixes.now) mp.announcement.prefixes.now
-
--- the record that was taken so
-abbrev pub taken_record : RawRecord → Record
-taken_record raw = record_under raw.header raw.body.now
 
 -- this becomes of the record, with one peer index before it and the other behind it
 abbrev pub Judges : Stamp → Index → Index → Record → Result Event Refusal → Type 0

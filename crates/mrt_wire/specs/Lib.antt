@@ -9,12 +9,10 @@ pub mod Session
 pub mod Content
 pub mod Items
 pub mod Verdict
-pub mod Progress
 pub use Rattle.mrt_events.specs.Event
 pub use Rattle.mrt_events.specs.SharedRoute
 pub use Rattle.mrt_events.specs.Peer
 pub mod Profile
-pub mod Bodies
 pub mod Splitting
 pub mod Results
 pub mod Place

@@ -1,48 +1,32 @@
 -- What is read: the types and subtypes of records, and the forms of their bodies (RFC 6396, section 4).
 use Rattle.std.specs.Prelude.{◌≡◌, ℕ, ◌==◌, if◌then◌else◌, Bool, true, false, Option, Some, None}
 use Rattle.ip_prefix.specs.declared.addr.Family.TheVariants.{V4, V6}
-use Rattle.bgp_wire.specs.declared.AsWidth.{AsWidth}
 use Rattle.bgp_wire.specs.declared.AsWidth.TheVariants.{Two, Four}
 use Rattle.mrt_wire.specs.declared.profile.Form.{Form}
 use Rattle.mrt_wire.specs.declared.profile.Form.TheVariants.{Entry, Peers, Entries, Session}
-use Rattle.mrt_wire.specs.declared.profile.SessionKind.{SessionKind}
 use Rattle.mrt_wire.specs.declared.profile.SessionKind.TheVariants.{StateChange, Message}
 use Rattle.mrt_wire.specs.declared.profile.TheConstants.{TABLE_DUMP, AFI_IPV4, AFI_IPV6, TABLE_DUMP_V2, BGP4MP, BGP4MP_ET, PEER_INDEX_TABLE, RIB_IPV4_UNICAST, RIB_IPV6_UNICAST, BGP4MP_STATE_CHANGE, BGP4MP_MESSAGE, BGP4MP_MESSAGE_AS4, BGP4MP_STATE_CHANGE_AS4}
 use Rattle.mrt_frames.specs.Record.{Record}
 
--- the forms of entries of tables in records of their own, by subtype (section 4.2)
-abbrev pub entry_form : ℕ → Option Form
-entry_form subtype =
-    if subtype == AFI_IPV4 then Some (Entry V4)
-    else if subtype == AFI_IPV6 then Some (Entry V6)
-    else None
-
--- the forms of parts of tables, by subtype (section 4.3)
-abbrev pub table_form : ℕ → Option Form
-table_form subtype =
-    if subtype == PEER_INDEX_TABLE then Some Peers
-    else if subtype == RIB_IPV4_UNICAST then Some (Entries V4)
-    else if subtype == RIB_IPV6_UNICAST then Some (Entries V6)
-    else None
-
--- the form of what happened in a session
-abbrev pub happening_form : Bool → SessionKind → AsWidth → Option Form
-happening_form timed kind width = Some (Session record { kind = kind; width = width; timed = timed })
-
--- those forms, by subtype (section 4.4)
+-- the forms of what happened in sessions, with microseconds or not, by subtype (section 4.4)
 abbrev pub session_form : Bool → ℕ → Option Form
 session_form timed subtype =
-    if subtype == BGP4MP_STATE_CHANGE then happening_form timed StateChange Two
-    else if subtype == BGP4MP_MESSAGE then happening_form timed Message Two
-    else if subtype == BGP4MP_MESSAGE_AS4 then happening_form timed Message Four
-    else if subtype == BGP4MP_STATE_CHANGE_AS4 then happening_form timed StateChange Four
+    if subtype == BGP4MP_STATE_CHANGE then Some (Session record { kind = StateChange; width = Two; timed = timed })
+    else if subtype == BGP4MP_MESSAGE then Some (Session record { kind = Message; width = Two; timed = timed })
+    else if subtype == BGP4MP_MESSAGE_AS4 then Some (Session record { kind = Message; width = Four; timed = timed })
+    else if subtype == BGP4MP_STATE_CHANGE_AS4 then Some (Session record { kind = StateChange; width = Four; timed = timed })
     else None
 
--- the table of what is read: the form of the bodies of a type and subtype
+-- the table of what is read: the form of the bodies of a type and subtype (sections 4.2, 4.3 and 4.4)
 abbrev pub form_of : ℕ → ℕ → Option Form
 form_of kind subtype =
-    if kind == TABLE_DUMP then entry_form subtype
-    else if kind == TABLE_DUMP_V2 then table_form subtype
+    if kind == TABLE_DUMP then
+    (if subtype == AFI_IPV4 then Some (Entry V4) else if subtype == AFI_IPV6 then Some (Entry V6) else None)
+    else if kind == TABLE_DUMP_V2 then
+    (if subtype == PEER_INDEX_TABLE then Some Peers
+    else if subtype == RIB_IPV4_UNICAST then Some (Entries V4)
+    else if subtype == RIB_IPV6_UNICAST then Some (Entries V6)
+    else None)
     else if kind == BGP4MP then session_form false subtype
     else if kind == BGP4MP_ET then session_form true subtype
     else None

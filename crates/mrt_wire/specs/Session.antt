@@ -52,15 +52,10 @@ SpellsSessionPeer width peer octets =
     × Then (AreSystems width) (λ systems. AreAddresses)
     ((peer.asn, (local_asn, interface)), (family, (peer.addr, local_address))) octets
 
--- the session, Old State and New State, and any octets
-abbrev pub SpellsStates : AsWidth → Peer × (ℕ × ℕ) → List ℕ → Type 0
-SpellsStates width =
-    Then (SpellsSessionPeer width) (λ peer. Then SpellsShort (λ old. WithMore SpellsShort))
-
--- the octets of STATE_CHANGE or STATE_CHANGE_AS4
+-- the octets of STATE_CHANGE or STATE_CHANGE_AS4: the session, Old State and New State, and any octets
 abbrev pub SpellsStateChange : AsWidth → StateChange → List ℕ → Type 0
 SpellsStateChange width change octets =
-    SpellsStates width (change.peer, (change.old, change.new)) octets
+    Then (SpellsSessionPeer width) (λ peer. Then SpellsShort (λ old. WithMore SpellsShort)) (change.peer, (change.old, change.new)) octets
 
 -- the octets of MESSAGE or MESSAGE_AS4: the session, and a message to the end
 abbrev pub SpellsPeerMessage : AsWidth → PeerMessage → List ℕ → Type 0
@@ -74,16 +69,12 @@ SpellsHappening kind.StateChange width said octets =
 SpellsHappening kind.Message width said octets =
     (message : PeerMessage) × (said ≡ Receipt message) × SpellsPeerMessage width message octets
 
--- the octets of microseconds, which don't make a second
-pub record SpellsMicros (n : ℕ) (octets : List ℕ) : Type 0 where
-  pub below : n < MICROS_PER_SECOND
-  pub spelled : SpellsWord n octets
+-- the octets of microseconds, which don't make a second, where a body has them
+abbrev pub SpellsMicros : Bool → Option ℕ → List ℕ → Type 0
+SpellsMicros false micros octets = (micros ≡ None) × (octets ≡ [])
+SpellsMicros true micros octets = (n : ℕ) × (micros ≡ Some n) × (n < MICROS_PER_SECOND) × SpellsWord n octets
 
 -- the octets of a body, with microseconds in front or not
-abbrev pub SpellsTimed : Bool → SessionKind → AsWidth → Option ℕ → SessionContent → List ℕ → Type 0
-SpellsTimed false kind width micros content octets = (micros ≡ None) × SpellsHappening kind width content octets
-SpellsTimed true kind width micros content octets =
-    (n : ℕ) × (micros ≡ Some n) × Then SpellsMicros (λ micros. SpellsHappening kind width) (n, content) octets
-
 abbrev pub SpellsSessionBody : SessionForm → SessionBody → List ℕ → Type 0
-SpellsSessionBody form body octets = SpellsTimed form.timed form.kind form.width body.micros body.content octets
+SpellsSessionBody form body octets =
+    Then (SpellsMicros form.timed) (λ micros. SpellsHappening form.kind form.width) (body.micros, body.content) octets

@@ -8,8 +8,12 @@ use Rattle.mrt_wire.specs.Verdict.{Frame}
 use Rattle.mrt_wire.specs.Splitting.{AreFrames, spellings}
 use Rattle.mrt_wire.specs.Results.{Finding}
 use Rattle.mrt_frames.specs.Taken.{EndsAt}
-use Rattle.mrt_wire.specs.Place.{Place, results}
-use Rattle.mrt_wire.specs.Progress.{place_behind_all}
+use Rattle.mrt_wire.specs.Place.{Place, place_behind, results}
+
+-- the place behind frames
+abbrev pub place_behind_all : Place → List Frame → Place
+place_behind_all p [] = p
+place_behind_all p (frame ∷ frames) = place_behind_all (place_behind p frame) frames
 
 -- what was taken behind the frames: nothing while the source reads, and the rest where it has ended
 abbrev pub RestSoFar : Phase → Option (List ℕ) → List ℕ → Type 0

@@ -6,12 +6,12 @@ use Rattle.ip_prefix.specs.Network.{Network, network_of}
 use Rattle.ip_prefix.specs.Sequences.{Begins}
 use Rattle.ip_prefix.specs.Fields.{Then}
 use Rattle.bgp_wire.specs.declared.AsWidth.TheVariants.{Two}
-use Rattle.bgp_wire.specs.Number.{SpellsAsn, SpellsWord}
+use Rattle.bgp_wire.specs.Number.{SpellsWord}
 use Rattle.bgp_wire.specs.Content.{SpellsRibAttrs}
 use Rattle.bgp_wire.specs.declared.attrs.Attrs.{Attrs}
 use Rattle.mrt_events.specs.declared.peer.Peer.{Peer}
 use Rattle.mrt_wire.specs.declared.table_dump.TheConstants.{NUMBERS_SIZE, STATUS_SIZE}
-use Rattle.mrt_wire.specs.Fields.{SpellsOctet, AreOctets, AreSized, SpellsAddressOf}
+use Rattle.mrt_wire.specs.Fields.{SpellsOctet, AreOctets, AreSized, SpellsAddressOf, SpellsPeerOf}
 
 -- the route of a peer to a prefix: its attributes, and when it was originated
 pub record PeerEntry : Type 0 where
@@ -28,17 +28,12 @@ pub record SpellsPrefix (family : Family) (prefix : Network) (octets : List ℕ)
   pub fits : len ≤ bit_count family
   pub first_bits : prefix ≡ network_of address len
 
--- Peer IP Address, and Peer AS in two octets
-abbrev pub SpellsNarrowPeer : Family → Peer → List ℕ → Type 0
-SpellsNarrowPeer family peer octets =
-    Then (SpellsAddressOf family) (λ address. SpellsAsn Two) (peer.addr, peer.asn) octets
-
--- View Number and Sequence Number, the prefix, Status, Originated Time, the peer, and BGP Attributes behind their length
+-- View Number and Sequence Number, the prefix, Status, Originated Time, Peer IP Address and Peer AS in two octets, and BGP Attributes behind their length
 abbrev pub ArePeerEntryFields : Family → List ℕ × (Network × (List ℕ × (ℕ × (Peer × List ℕ)))) → List ℕ → Type 0
 ArePeerEntryFields family =
     Then (AreOctets NUMBERS_SIZE) (λ numbers. Then (SpellsPrefix family) (λ prefix.
     Then (AreOctets STATUS_SIZE) (λ status. Then SpellsWord (λ time.
-    Then (SpellsNarrowPeer family) (λ peer. AreSized)))))
+    Then (SpellsPeerOf family Two) (λ peer. AreSized)))))
 
 -- the octets of an entry with its peer, whose attributes have AS numbers of two octets, and any octets; its numbers and status may be any
 abbrev pub SpellsPeerEntry : Family → PeerEntry → List ℕ → Type 0

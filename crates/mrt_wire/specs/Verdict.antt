@@ -1,7 +1,7 @@
 -- What becomes of a record: an event, or the first fault that it has.
-use Rattle.std.specs.Prelude.{◌≡◌, ℕ, List, [], ◌∷◌, Option, Some, None}
+use Rattle.std.specs.Prelude.{◌≡◌, ◌⊎◌, ℕ, List, [], Option, Some, None}
 use Rattle.mrt_frames.specs.declared.fault.RecordKind.{RecordKind}
-use Rattle.mrt_frames.specs.declared.fault.RecordKind.TheVariants.{CutRecord, TooLong, Unsupported, Malformed, NoIndex, PeerIndex}
+use Rattle.mrt_frames.specs.declared.fault.RecordKind.TheVariants.{Unsupported, Malformed, NoIndex, PeerIndex}
 use Rattle.mrt_events.specs.declared.stamp.Stamp.{Stamp}
 use Rattle.mrt_events.specs.declared.event.Tag.{Tag}
 use Rattle.mrt_events.specs.declared.event.Tag.TheVariants.{TableDump, TableDump2, Bgp4mp, Bgp4mpEt}
@@ -54,52 +54,28 @@ content_fault index (Peers peers) = None
 content_fault index (Entries rib) = entries_fault index (first_unknown (peers_in index) rib.entries)
 content_fault index (Session body) = None
 
--- the event of a part of a table, with the tag of its type
-abbrev pub table_event : Tag → ℕ → List Saying → Event
-table_event tag seconds items = record {
-  time = record { seconds = seconds; micros = None };
-  tag = tag;
-  items = items;
-}
-
 -- the tag of what happened in a session, by the microseconds
 abbrev pub session_tag : Option ℕ → Tag
 session_tag None = Bgp4mp
 session_tag (Some micros) = Bgp4mpEt
 
--- the event of what happened in a session
-abbrev pub session_event : ℕ → Option ℕ → List Saying → Event
-session_event seconds micros items = record {
-  time = record { seconds = seconds; micros = micros };
-  tag = session_tag micros;
-  items = items;
-}
+-- an event at this time, in seconds and maybe microseconds
+abbrev pub event_at : ℕ → Option ℕ → Tag → List Saying → Event
+event_at seconds micros tag items = record { time = record { seconds = seconds; micros = micros }; tag = tag; items = items }
 
 -- the event of an accepted record, with this peer index before it
 abbrev pub event_of : Stamp → Index → Record → Content → Event
-event_of stamp index r (Entry entry) = table_event TableDump r.seconds (peer_entry_items stamp r.seconds entry)
-event_of stamp index r (Peers peers) = table_event TableDump2 r.seconds []
-event_of stamp index r (Entries rib) = table_event TableDump2 r.seconds (entries_items (peers_in index) stamp r.seconds rib)
-event_of stamp index r (Session body) = session_event r.seconds body.micros (session_items r.seconds body.content)
+event_of stamp index r (Entry entry) = event_at r.seconds None TableDump (peer_entry_items stamp r.seconds entry)
+event_of stamp index r (Peers peers) = event_at r.seconds None TableDump2 []
+event_of stamp index r (Entries rib) = event_at r.seconds None TableDump2 (entries_items (peers_in index) stamp r.seconds rib)
+event_of stamp index r (Session body) = event_at r.seconds body.micros (session_tag body.micros) (session_items r.seconds body.content)
 
--- no content has the record's body for a spelling
-abbrev pub HasNoContent : Record → Type 0
-HasNoContent r = (content : Content) → IsBody r.kind r.subtype content r.body → ⊥
-
--- the record has a content, which has a fault with this peer index before it
-abbrev pub HasContentFault : Index → Record → RecordKind → Type 0
-HasContentFault index r kind =
-    (content : Content) × IsBody r.kind r.subtype content r.body × (content_fault index content ≡ Some kind)
-
--- the first fault that a whole record has, with this peer index before it
+-- the first fault that a whole record has, with this peer index before it: its type and subtype aren't read, or its body has no content, or a content with a fault
 abbrev pub HasFault : Index → Record → RecordKind → Type 0
-HasFault index r (Unsupported kind subtype) = (IsSupported r → ⊥) × (kind ≡ r.kind) × (subtype ≡ r.subtype)
-HasFault index r Malformed = IsSupported r × HasNoContent r
-HasFault index r NoIndex = HasContentFault index r NoIndex
-HasFault index r (PeerIndex number) = HasContentFault index r (PeerIndex number)
--- it is neither cut nor too long
-HasFault index r CutRecord = ⊥
-HasFault index r (TooLong size) = ⊥
+HasFault index r kind =
+    ((IsSupported r → ⊥) × (kind ≡ Unsupported r.kind r.subtype))
+    ⊎ ((IsSupported r × ((content : Content) → IsBody r.kind r.subtype content r.body → ⊥) × (kind ≡ Malformed))
+    ⊎ ((content : Content) × IsBody r.kind r.subtype content r.body × (content_fault index content ≡ Some kind)))
 
 -- the content makes this event, with this peer index before it
 pub record MakesEvent (stamp : Stamp) (index : Index) (r : Record) (content : Content) (event : Event) : Type 0 where
@@ -111,9 +87,3 @@ pub record MakesEvent (stamp : Stamp) (index : Index) (r : Record) (content : Co
 abbrev pub ReadsAs : Stamp → Index → Record → Verdict → Type 0
 ReadsAs stamp index r (Accepted content event) = MakesEvent stamp index r content event
 ReadsAs stamp index r (Refused kind) = HasFault index r kind
-
--- what becomes of records one behind the other, with this peer index before the first
-abbrev pub Readings : Stamp → Index → List Frame → Type 0
-Readings stamp index [] = Unit {0}
-Readings stamp index (frame ∷ frames) =
-    ReadsAs stamp index frame.mrt frame.verdict × Readings stamp (index_after index frame.verdict) frames

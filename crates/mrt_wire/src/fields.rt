@@ -4,12 +4,14 @@ ghost use Rattle.std.specs.Prelude.{◌≡◌, ℕ, List, length, IfSome, IfNone
 ghost use Rattle.ip_prefix.specs.Sequences.{Begins};
 ghost use Rattle.ip_prefix.specs.Fronts.{BeginsWithNone};
 ghost use Rattle.bgp_wire.specs.Number.{SpellsAsn, SpellsWord};
-ghost use Rattle.mrt_wire.specs.Fields.{AreOctets, AreSized, SpellsAddressOf, SpellsOctet, SpellsShort};
-ghost use Rattle.mrt_wire.specs.Bodies.{FindsField};
+ghost use Rattle.mrt_wire.specs.Judging.{FindsField};
+ghost use Rattle.mrt_wire.specs.Fields.{AreOctets, AreSized, SpellsAddressOf, SpellsOctet, SpellsPeerOf, SpellsShort};
 
+use crate::peers::blank_peer;
 use bgp_wire::AsWidth;
 use byteorder::{BigEndian, ByteOrder};
 use ip_prefix::{Addr, Family};
+use mrt_events::Peer;
 
 /// A field in front of octets, and what follows it.
 #[derive(Clone, Copy)]
@@ -105,28 +107,6 @@ pub(crate) fn split_sized(octets: &[u8]) -> Option<(&[u8], &[u8])>
     Some(number.rest.split_at(size))
 }
 
-/// The address of four octets.
-#[inline]
-fn ipv4(octets: &[u8]) -> Addr
-    requires { length octets.now ≡ 4 }
-    ensures { SpellsAddressOf Family.V4 result octets.now }
-{
-    let mut buffer = [0; 4];
-    buffer.copy_from_slice(octets);
-    Addr::v4(buffer)
-}
-
-/// The address of sixteen octets.
-#[inline]
-fn ipv6(octets: &[u8]) -> Addr
-    requires { length octets.now ≡ 16 }
-    ensures { SpellsAddressOf Family.V6 result octets.now }
-{
-    let mut buffer = [0; 16];
-    buffer.copy_from_slice(octets);
-    Addr::v6(buffer)
-}
-
 /// Makes the address that of this family in front, and answers what follows it. Where none stands
 /// there, it stays.
 #[inline]
@@ -145,7 +125,9 @@ pub(crate) fn fill_address<'a>(
                 return None;
             }
             let (front, rest) = octets.split_at(4);
-            *addr = ipv4(front);
+            let mut buffer = [0; 4];
+            buffer.copy_from_slice(front);
+            *addr = Addr::v4(buffer);
             Some(rest)
         }
         Family::V6 => {
@@ -153,8 +135,32 @@ pub(crate) fn fill_address<'a>(
                 return None;
             }
             let (front, rest) = octets.split_at(16);
-            *addr = ipv6(front);
+            let mut buffer = [0; 16];
+            buffer.copy_from_slice(front);
+            *addr = Addr::v6(buffer);
             Some(rest)
         }
     }
+}
+
+/// The peer in front, whose address is of this family and AS number of this width, and what follows
+/// it.
+#[inline(always)]
+pub(crate) fn split_peer_of(
+    family: Family,
+    width: AsWidth,
+    octets: &[u8],
+) -> Option<Field<'_, Peer>>
+    ensures { FindsField (SpellsPeerOf family width) octets.now result }
+{
+    let mut peer = blank_peer();
+    let Some(after_addr) = fill_address(&mut peer.addr, family, octets) else {
+        return None;
+    };
+    let asn = split_asn(width, after_addr)?;
+    peer.asn = asn.value;
+    Some(Field {
+        value: peer,
+        rest: asn.rest,
+    })
 }

@@ -6,11 +6,11 @@ ghost use Rattle.ip_prefix.specs.Fronts.{BeginsWithNone};
 ghost use Rattle.ip_prefix.specs.Fields.{WithMore};
 ghost use Rattle.ip_prefix.specs.Counted.{SpellsCounted};
 ghost use Rattle.bgp_wire.specs.Readers.{Reads};
-ghost use Rattle.mrt_wire.specs.Bodies.{FindsField};
+ghost use Rattle.mrt_wire.specs.Judging.{FindsField};
 ghost use Rattle.mrt_wire.specs.PeerIndex.{peer_family, peer_width, SpellsPeer, SpellsView, SpellsPeerIndex};
 
-use crate::fields::{Field, fill_address, skip, split_asn, split_octet, split_short, split_sized};
-use crate::peers::{Peers, blank_peer};
+use crate::fields::{Field, skip, split_octet, split_peer_of, split_short, split_sized};
+use crate::peers::Peers;
 use bgp_wire::{AsWidth, WireFault};
 use ip_prefix::Family;
 use mrt_events::Peer;
@@ -56,16 +56,11 @@ fn split_peer(octets: &[u8]) -> Option<Field<'_, Peer>>
 {
     let kind = split_octet(octets)?;
     let after_id = skip(ID_SIZE, kind.rest)?;
-    let mut peer = blank_peer();
-    let Some(after_addr) = fill_address(&mut peer.addr, peer_family(kind.value), after_id) else {
+    let (family, width) = (peer_family(kind.value), peer_width(kind.value));
+    let Some(peer) = split_peer_of(family, width, after_id) else {
         return None;
     };
-    let asn = split_asn(peer_width(kind.value), after_addr)?;
-    peer.asn = asn.value;
-    Some(Field {
-        value: peer,
-        rest: asn.rest,
-    })
+    Some(peer)
 }
 
 /// The peers that the octets begin with, behind their number.
@@ -88,23 +83,15 @@ fn read_peers(alloc: Global, octets: &[u8]) -> Result<Peers, WireFault>
     Ok(Peers::from_vec(peers))
 }
 
-/// What follows the collector and the name of the view.
-fn skip_view(octets: &[u8]) -> Option<&[u8]>
-    ensures some { IfSome result (λ rest. (view : List ℕ × List ℕ)
-        × Begins SpellsView view rest.now octets.now) }
-    ensures none { IfNone result (BeginsWithNone SpellsView octets.now) }
-{
-    let after_id = skip(ID_SIZE, octets)?;
-    let (_, rest) = split_sized(after_id)?;
-    Some(rest)
-}
-
 /// The peers of a PEER_INDEX_TABLE.
 pub(crate) fn read_peer_index(alloc: Global, octets: &[u8]) -> Result<Peers, WireFault>
     ensures { Reads SpellsPeerIndex octets.now result }
 {
-    let Some(rest) = skip_view(octets) else {
+    let Some(after_id) = skip(ID_SIZE, octets) else {
         return Err(WireFault::Malformed);
     };
-    read_peers(alloc, rest)
+    let Some(view) = split_sized(after_id) else {
+        return Err(WireFault::Malformed);
+    };
+    read_peers(alloc, view.1)
 }

@@ -1,15 +1,12 @@
 //! Memory that records are read into again.
 
-ghost use Rattle.std.specs.Prelude.{◌≡◌, ◌∷◌, [], IfOk, IfErr};
+ghost use Rattle.std.specs.Prelude.{◌≡◌, ◌∷◌, [], IfOk};
 ghost use Rattle.mrt_events.specs.Event.{Announced};
-ghost use Rattle.mrt_wire.specs.Judging.{IsSentAs, RefusesSent};
 
 use crate::peers::PEER_PLACES;
 use crate::read_routes::{LARGEST_PLACE, ReadRoutes};
-use crate::route_pool::{
-    FIRST_ROUTES, LARGEST_ROUTE, MOST_ROOM, MOST_ROUTES, RoutePool, SentAttrs,
-};
-use bgp_wire::{UpdateParts, WireFault};
+use crate::route_pool::{FIRST_ROUTES, LARGEST_ROUTE, MOST_ROOM, MOST_ROUTES, RoutePool};
+use bgp_wire::UpdateParts;
 use ip_prefix::Prefix;
 use mrt_events::{Item, Items, Peer, Route, SharedRanges};
 use std::alloc::{AllocError, Global};
@@ -36,7 +33,7 @@ pub(crate) struct Pool {
     /// Routes of messages.
     pub(crate) routes: RoutePool,
     /// Routes of tables.
-    read: ReadRoutes,
+    pub(crate) read: ReadRoutes,
     /// Where messages are read.
     pub(crate) parts: UpdateParts,
     /// Room for items.
@@ -61,67 +58,19 @@ impl Pool {
         self.items = Vec::new(alloc);
     }
 
-    /// The route of a table's entry, with this time. Entries of one number have a place in common:
-    /// where the attributes are those that were read there last, they aren't read again.
+    /// An empty vector of items, with the room that is kept. A record asks for it once, so the
+    /// routes that were given out for the one before may be filled again.
     #[inline(always)]
-    pub(crate) fn rib_route(
-        &mut self,
-        alloc: Global,
-        number: usize,
-        sent: SentAttrs<'_>,
-        time: u32,
-    ) -> Result<Rc<Route>, WireFault>
-        ensures read { IfOk result (λ route. IsSentAs sent.entry time route.value) }
-        ensures refused { IfErr result (RefusesSent sent.entry) }
-    {
-        self.read.route_of(alloc, number, sent, time)
-    }
-
-    /// The vector that is kept, without items.
-    #[inline(always)]
-    fn kept_items(&mut self, alloc: Global) -> Vec<Item>
+    pub(crate) fn take_items(&mut self, alloc: Global) -> Vec<Item>
         ensures items { result.items ≡ [] }
         ensures parts { self.new.parts ≡ self.old.parts }
-        ensures routes { self.new.routes ≡ self.old.routes }
-        ensures read { self.new.read ≡ self.old.read }
+        ensures given { (self.new.routes.given ≡ 0) × (self.new.read.routes.given ≡ 0) }
     {
+        self.routes.restart();
+        self.read.routes.restart();
         let mut items = mem::replace(&mut self.items, Vec::new(alloc));
         items.clear();
         items
-    }
-
-    /// An empty vector with room for so many items of a message. A message asks for it once, so the
-    /// routes that were given out for the one before may be filled again.
-    #[inline(always)]
-    pub(crate) fn take_message_items(
-        &mut self,
-        alloc: Global,
-        count: usize,
-    ) -> Result<Vec<Item>, AllocError>
-        ensures items { IfOk result (λ items. items.items ≡ []) }
-        ensures parts { self.new.parts ≡ self.old.parts }
-        ensures given { self.new.routes.given ≡ 0 }
-    {
-        self.routes.restart();
-        let mut items = self.kept_items(alloc);
-        items.reserve(count)?;
-        Ok(items)
-    }
-
-    /// An empty vector with room for so many items of a table's record, which asks for it once.
-    #[inline(always)]
-    pub(crate) fn take_table_items(
-        &mut self,
-        alloc: Global,
-        count: usize,
-    ) -> Result<Vec<Item>, AllocError>
-        ensures items { IfOk result (λ items. items.items ≡ []) }
-        ensures given { self.new.read.routes.given ≡ 0 }
-    {
-        self.read.restart();
-        let mut items = self.kept_items(alloc);
-        items.reserve(count)?;
-        Ok(items)
     }
 
     /// An announcement alone, of a table's record, which shares its route with no other.
@@ -133,11 +82,9 @@ impl Pool {
         prefix: Prefix,
         route: Rc<Route>,
     ) -> Result<Items, AllocError>
-        ensures items { IfOk result (λ items. items ≡ Announced peer prefix route.value ∷ []) }
-        ensures given { self.new.read.routes.given ≡ 0 }
+        ensures { IfOk result (λ items. items ≡ Announced peer prefix route.value ∷ []) }
     {
-        self.read.restart();
-        let mut items = self.kept_items(alloc);
+        let mut items = self.take_items(alloc);
         items.push(Item::Announce(peer, prefix, route))?;
         let alone = SharedRanges {
             start: 0,

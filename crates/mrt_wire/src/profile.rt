@@ -1,9 +1,8 @@
 //! The types and subtypes of records that are read, and the forms of their bodies (RFC 6396,
 //! section 4).
 
-ghost use Rattle.std.specs.Prelude.{◌≡◌};
-ghost use Rattle.mrt_wire.specs.Profile.{form_of, entry_form, table_form, session_form, happening_form};
-ghost use Rattle.mrt_wire.specs.Bodies.{is_read};
+ghost use Rattle.std.specs.Prelude.{◌≡◌, is_some};
+ghost use Rattle.mrt_wire.specs.Profile.{form_of, session_form};
 
 use bgp_wire::AsWidth;
 use ip_prefix::Family;
@@ -76,11 +75,14 @@ pub(crate) enum Form {
 pub(crate) fn form_of(kind: u16, subtype: u16) -> Option<Form>
     ensures { result ≡ form_of kind subtype }
 {
-    match kind {
-        TABLE_DUMP => entry_form(subtype),
-        TABLE_DUMP_V2 => table_form(subtype),
-        BGP4MP => session_form(false, subtype),
-        BGP4MP_ET => session_form(true, subtype),
+    match (kind, subtype) {
+        (TABLE_DUMP, AFI_IPV4) => Some(Form::Entry(Family::V4)),
+        (TABLE_DUMP, AFI_IPV6) => Some(Form::Entry(Family::V6)),
+        (TABLE_DUMP_V2, PEER_INDEX_TABLE) => Some(Form::Peers),
+        (TABLE_DUMP_V2, RIB_IPV4_UNICAST) => Some(Form::Entries(Family::V4)),
+        (TABLE_DUMP_V2, RIB_IPV6_UNICAST) => Some(Form::Entries(Family::V6)),
+        (BGP4MP, _) => session_form(false, subtype),
+        (BGP4MP_ET, _) => session_form(true, subtype),
         _ => None,
     }
 }
@@ -89,7 +91,7 @@ pub(crate) fn form_of(kind: u16, subtype: u16) -> Option<Form>
 pub(crate) struct Forms;
 
 impl Profile for Forms {
-    ghost supports = { λ _ kind subtype. is_read kind subtype };
+    ghost supports = { λ _ kind subtype. is_some (form_of kind subtype) };
 
     #[inline(always)]
     fn supports(&self, kind: u16, subtype: u16) -> bool {
@@ -97,45 +99,16 @@ impl Profile for Forms {
     }
 }
 
-/// The form of an entry of a table in a record of its own.
-fn entry_form(subtype: u16) -> Option<Form>
-    ensures { result ≡ entry_form subtype }
-{
-    match subtype {
-        AFI_IPV4 => Some(Form::Entry(Family::V4)),
-        AFI_IPV6 => Some(Form::Entry(Family::V6)),
-        _ => None,
-    }
-}
-
-/// The form of a part of a table.
-fn table_form(subtype: u16) -> Option<Form>
-    ensures { result ≡ table_form subtype }
-{
-    match subtype {
-        PEER_INDEX_TABLE => Some(Form::Peers),
-        RIB_IPV4_UNICAST => Some(Form::Entries(Family::V4)),
-        RIB_IPV6_UNICAST => Some(Form::Entries(Family::V6)),
-        _ => None,
-    }
-}
-
 /// The form of what happens in a session.
 fn session_form(timed: bool, subtype: u16) -> Option<Form>
     ensures { result ≡ session_form timed subtype }
 {
-    match subtype {
-        BGP4MP_STATE_CHANGE => happening_form(timed, SessionKind::StateChange, AsWidth::Two),
-        BGP4MP_MESSAGE => happening_form(timed, SessionKind::Message, AsWidth::Two),
-        BGP4MP_MESSAGE_AS4 => happening_form(timed, SessionKind::Message, AsWidth::Four),
-        BGP4MP_STATE_CHANGE_AS4 => happening_form(timed, SessionKind::StateChange, AsWidth::Four),
-        _ => None,
-    }
-}
-
-/// The form of such a happening.
-fn happening_form(timed: bool, kind: SessionKind, width: AsWidth) -> Option<Form>
-    ensures { result ≡ happening_form timed kind width }
-{
+    let (kind, width) = match subtype {
+        BGP4MP_STATE_CHANGE => (SessionKind::StateChange, AsWidth::Two),
+        BGP4MP_MESSAGE => (SessionKind::Message, AsWidth::Two),
+        BGP4MP_MESSAGE_AS4 => (SessionKind::Message, AsWidth::Four),
+        BGP4MP_STATE_CHANGE_AS4 => (SessionKind::StateChange, AsWidth::Four),
+        _ => return None,
+    };
     Some(Form::Session(SessionForm { kind, width, timed }))
 }

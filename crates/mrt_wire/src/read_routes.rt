@@ -95,21 +95,6 @@ impl ReadRoute {
         }
     }
 
-    /// Notes what it was read from.
-    #[inline(always)]
-    fn note(&mut self, sent: SentAttrs<'_>) -> Result<(), AllocError>
-        requires { SpellsRibAttrs sent.family sent.width self.old.attrs sent.octets.now }
-        ensures { self.new ≡ self.old }
-    {
-        self.known = false;
-        self.octets.clear();
-        self.octets.extend_from_slice(sent.octets)?;
-        self.family = sent.family;
-        self.width = sent.width;
-        self.known = true;
-        Ok(())
-    }
-
     /// Reads it anew, with this time, where somebody holds it as another route.
     #[inline(always)]
     fn read(
@@ -127,7 +112,11 @@ impl ReadRoute {
             routes.exchange(alloc, &mut self.route)?;
         }
         fill_rib_route(&mut self.route, alloc, sent, time)?;
-        self.note(sent)?;
+        self.octets.clear();
+        self.octets.extend_from_slice(sent.octets)?;
+        self.family = sent.family;
+        self.width = sent.width;
+        self.known = true;
         Ok(self.route.clone()?)
     }
 }
@@ -166,25 +155,13 @@ fn begin_plainly_behind_reach(octets: &[u8], width: AsWidth) -> bool {
     }
 }
 
-/// Whether a place may take a route of attributes that begin so.
-#[inline(always)]
-fn is_plain(sent: SentAttrs<'_>) -> bool {
-    begin_plainly(sent.octets, sent.width) || begin_plainly_behind_reach(sent.octets, sent.width)
-}
-
-/// Whether the path has so few segments that its route may have a place.
-#[inline(always)]
-fn is_small(route: &Route) -> bool {
-    route.attrs.path.segments.as_slice().len() <= MOST_SEGMENTS
-}
-
 /// Places for routes of tables. A peer has one, which others may have too: which routes stand here
 /// changes time and memory alone.
 #[derive(Drop)]
 pub(crate) struct ReadRoutes {
     places: Vec<Option<ReadRoute>>,
     /// Other routes, for entries without a place, and for places whose routes somebody holds.
-    routes: RoutePool,
+    pub(crate) routes: RoutePool,
     ghost bounded: { vec_len places ≤ PEER_PLACES },
 }
 
@@ -195,14 +172,6 @@ impl ReadRoutes {
             places: Vec::new(alloc),
             routes: RoutePool::none(alloc),
         }
-    }
-
-    /// Another record is read.
-    #[inline(always)]
-    pub(crate) fn restart(&mut self)
-        ensures { self.new.routes.given ≡ 0 }
-    {
-        self.routes.restart();
     }
 
     /// Makes room up to this place.
@@ -222,27 +191,6 @@ impl ReadRoutes {
         requires { place < vec_len self.old.places }
     {
         self.places[place] = None;
-    }
-
-    /// The route of this place, with this time, where it was sent so.
-    #[inline(always)]
-    fn again(
-        &mut self,
-        place: usize,
-        sent: SentAttrs<'_>,
-        time: u32,
-    ) -> Result<Option<Rc<Route>>, AllocError>
-        requires { place < vec_len self.old.places }
-        ensures read { IfOk result (λ found.
-            IfSome found (λ route. IsSentAs sent.entry time route.value)) }
-        ensures places { vec_len self.new.places ≡ vec_len self.old.places }
-    {
-        if let Some(read) = &mut self.places[place] {
-            if read.is_of(sent) && read.date(time) {
-                return Ok(Some(read.route.clone()?));
-            }
-        }
-        Ok(None)
     }
 
     /// The route that was sent so, with this time, read at this place.
@@ -268,8 +216,9 @@ impl ReadRoutes {
         Ok(route)
     }
 
-    /// The route that was sent so, with this time. It is read at the place of this number, or where it
-    /// may take more than a place has, into one of the others.
+    /// The route that was sent so, with this time. Entries of one number have a place in common:
+    /// where the attributes are those that were read there last, they aren't read again. Where the
+    /// route may take more than a place has, it is read into one of the others.
     #[inline(always)]
     pub(crate) fn route_of(
         &mut self,
@@ -286,14 +235,18 @@ impl ReadRoutes {
         }
         let place = number % PEER_PLACES;
         self.make_place(place)?;
-        if let Some(route) = self.again(place, sent, time)? {
-            return Ok(route);
+        if let Some(read) = &mut self.places[place] {
+            if read.is_of(sent) && read.date(time) {
+                return Ok(read.route.clone()?);
+            }
         }
-        if !is_plain(sent) {
+        if !begin_plainly(sent.octets, sent.width)
+            && !begin_plainly_behind_reach(sent.octets, sent.width)
+        {
             return self.routes.rib_route(alloc, sent, time);
         }
         let route = self.read(alloc, place, sent, time)?;
-        if !is_small(&route) {
+        if route.attrs.path.segments.as_slice().len() > MOST_SEGMENTS {
             self.clear(place);
         }
         Ok(route)

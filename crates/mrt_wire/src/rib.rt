@@ -1,13 +1,13 @@
 //! Reading the entries of a table for one prefix (RFC 6396, section 4.3.2).
 
-ghost use Rattle.std.specs.Prelude.{◌≡◌, slice_get, OnOk, IfSome, IfNone, IfOk, IfErr};
+ghost use Rattle.std.specs.Prelude.{◌≡◌, ◌∷◌, [], slice_get, OnOk, IfSome, IfNone, IfOk, IfErr};
 ghost use Rattle.std.specs.Option.{option_or};
 ghost use Rattle.ip_prefix.specs.Sequences.{Begins};
 ghost use Rattle.ip_prefix.specs.Fronts.{BeginsWithNone};
 ghost use Rattle.bgp_wire.specs.Readers.{Refuses, RefusesFront};
 ghost use Rattle.mrt_wire.specs.Rib.{PrefixEntries, AreEntryFields, SpellsEntry, SpellsEntries};
-ghost use Rattle.mrt_wire.specs.Rib.{SpellsPrefixed, SpellsRib};
-ghost use Rattle.mrt_wire.specs.Items.{unknown_peer};
+ghost use Rattle.mrt_wire.specs.Rib.{SpellsRib};
+ghost use Rattle.mrt_wire.specs.Items.{first_unknown};
 ghost use Rattle.mrt_wire.specs.Judging.{Adds, AreItemsOf, EntriesTold, IsTimed, entry_read, snapshot_items};
 
 use crate::fields::{skip, split_short, split_sized, split_word};
@@ -103,7 +103,9 @@ fn read_entry<'a>(
         family: snapshot.family,
         width: AsWidth::Four,
     };
-    let route = pool.rib_route(alloc, usize::from(framed.index), sent, time)?;
+    let route = pool
+        .read
+        .route_of(alloc, usize::from(framed.index), sent, time)?;
     let entry = ReadEntry {
         route,
         originated: framed.time,
@@ -132,7 +134,8 @@ impl EntryItems {
         ensures items { OnOk result (Adds self.old.items.items self.new.items.items
             (snapshot_items snapshot.entry prefix (entry_read entry))) }
         ensures unknown { OnOk result (self.new.unknown ≡
-            option_or self.old.unknown (unknown_peer snapshot.entry.peers.now (entry_read entry))) }
+            option_or self.old.unknown
+            (first_unknown snapshot.entry.peers.now (entry_read entry ∷ []))) }
     {
         let Some(peer) = peer_at(snapshot.peers, entry.index) else {
             self.unknown = self.unknown.or(Some(entry.index));
@@ -158,8 +161,10 @@ fn read_entries(
         return Err(WireFault::Malformed);
     };
     let most = count.rest.len() / SMALLEST_ENTRY;
+    let mut items = pool.take_items(alloc);
+    items.reserve(most.min(usize::from(count.value)))?;
     let mut told = EntryItems {
-        items: pool.take_table_items(alloc, most.min(usize::from(count.value)))?,
+        items,
         unknown: None,
     };
     let mut rest = count.rest;
@@ -169,25 +174,6 @@ fn read_entries(
         rest = more;
     }
     Ok(told)
-}
-
-/// What the entries of the prefix say that the octets begin with.
-fn read_prefixed(
-    alloc: Global,
-    pool: &mut Pool,
-    snapshot: Snapshot<'_>,
-    octets: &[u8],
-) -> Result<EntryItems, WireFault>
-    ensures told { IfOk result (λ told. (rib : PrefixEntries)
-        × SpellsPrefixed snapshot.entry.family rib octets.now
-        × AreItemsOf snapshot.entry rib told) }
-    ensures refused { IfErr result (Refuses (SpellsPrefixed snapshot.entry.family) octets.now) }
-{
-    let Some(found) = Prefix::read(snapshot.family, octets) else {
-        return Err(WireFault::Malformed);
-    };
-    let (_, rest) = octets.split_at(found.1);
-    read_entries(alloc, pool, snapshot, found.0, rest)
 }
 
 /// What the entries of RIB_IPV4_UNICAST or of RIB_IPV6_UNICAST say.
@@ -204,5 +190,9 @@ pub(crate) fn read_rib(
     let Some(rest) = skip(SEQUENCE_SIZE, octets) else {
         return Err(WireFault::Malformed);
     };
-    read_prefixed(alloc, pool, snapshot, rest)
+    let Some(prefix) = Prefix::read(snapshot.family, rest) else {
+        return Err(WireFault::Malformed);
+    };
+    let (_, entries) = rest.split_at(prefix.1);
+    read_entries(alloc, pool, snapshot, prefix.0, entries)
 }

@@ -1,6 +1,6 @@
 //! Routes that were given out, to be filled again where nobody else holds them any more.
 
-ghost use Rattle.std.specs.Prelude.{◌≡◌, ◌≤◌, ◌<◌, ◌+◌, ◌-◌, min, IfOk, IfErr, OnOk, vec_len};
+ghost use Rattle.std.specs.Prelude.{◌≡◌, ◌≤◌, ◌<◌, ◌+◌, ◌-◌, min, true, IfOk, IfErr, OnOk, vec_len};
 ghost use Rattle.mrt_wire.specs.declared.route_pool.TheConstants.{MOST_ROUTES, MOST_ROOM};
 ghost use Rattle.mrt_wire.specs.Items.{route_of};
 ghost use Rattle.mrt_wire.specs.Judging.{IsSentAs, RefusesSent};
@@ -82,14 +82,6 @@ pub(crate) struct RoutePool {
     ghost fits: { room ≤ MOST_ROOM },
 }
 
-/// How many routes were given out once the one of this number is.
-fn number_behind(place: usize) -> usize
-    requires { place < MOST_ROUTES }
-    ensures { result ≡ min (place + 1) (MOST_ROUTES - 1) }
-{
-    (place + 1).min(MOST_ROUTES - 1)
-}
-
 /// Lets go of the route at the place where somebody else holds it, for one that nobody else does.
 #[inline(always)]
 fn let_go(routes: &mut Vec<Rc<Route>>, alloc: Global, place: usize) -> Result<(), AllocError>
@@ -129,6 +121,7 @@ impl RoutePool {
     }
 
     /// Another record is read.
+    #[inline(always)]
     pub(crate) fn restart(&mut self)
         ensures given { self.new.given ≡ 0 }
         ensures routes { self.new.routes ≡ self.old.routes }
@@ -144,7 +137,7 @@ impl RoutePool {
         ensures within { IfOk result (λ place. place < vec_len self.new.routes) }
     {
         let place = self.given;
-        let given = number_behind(place);
+        let given = (place + 1).min(MOST_ROUTES - 1);
         if place < self.routes.len() {
             let_go(&mut self.routes, alloc, place)?;
             self.given = given;
@@ -244,40 +237,29 @@ impl RoutePool {
         Ok(())
     }
 
-    /// A route of these attributes and this time. Others that aren't needed are given for them.
+    /// A route of these attributes and this time. Others that aren't needed are given for them,
+    /// unless they are kept.
     #[inline(always)]
     pub(crate) fn route(
         &mut self,
         alloc: Global,
         attrs: &mut Attrs,
         time: u32,
+        is_kept: bool,
     ) -> Result<Rc<Route>, AllocError>
-        ensures { IfOk result (λ route. route.value ≡ route_of attrs.old time) }
+        ensures made { IfOk result (λ route. route.value ≡ route_of attrs.old time) }
+        ensures kept { is_kept ≡ true → attrs.new ≡ attrs.old }
     {
         let place = self.next_place(alloc)?;
         let Some(route) = Rc::get_mut(&mut self.routes[place]) else {
             return Err(AllocError);
         };
-        exchange_attrs(&mut route.attrs, attrs);
         route.time = time;
-        self.routes[place].clone()
-    }
-
-    /// A route of these attributes and this time, which are copied.
-    pub(crate) fn route_like(
-        &mut self,
-        alloc: Global,
-        attrs: &Attrs,
-        time: u32,
-    ) -> Result<Rc<Route>, AllocError>
-        ensures { IfOk result (λ route. route.value ≡ route_of attrs.now time) }
-    {
-        let place = self.next_place(alloc)?;
-        let Some(route) = Rc::get_mut(&mut self.routes[place]) else {
-            return Err(AllocError);
-        };
-        replace_attrs(alloc, &mut route.attrs, attrs)?;
-        route.time = time;
+        if is_kept {
+            replace_attrs(alloc, &mut route.attrs, attrs)?;
+        } else {
+            exchange_attrs(&mut route.attrs, attrs);
+        }
         self.routes[place].clone()
     }
 }

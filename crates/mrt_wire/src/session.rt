@@ -7,9 +7,8 @@ ghost use Rattle.ip_prefix.specs.Fronts.{BeginsWithNone};
 ghost use Rattle.bgp_wire.specs.Number.{octets_at};
 ghost use Rattle.bgp_wire.specs.Readers.{Finds, Reads};
 ghost use Rattle.mrt_events.specs.Event.{Changed};
-ghost use Rattle.mrt_wire.specs.Bodies.{FindsField};
-ghost use Rattle.mrt_wire.specs.Items.{receipt_items, session_items};
-ghost use Rattle.mrt_wire.specs.Judging.{Told, session_told};
+ghost use Rattle.mrt_wire.specs.Items.{session_items};
+ghost use Rattle.mrt_wire.specs.Judging.{FindsField, Told, session_told};
 ghost use Rattle.mrt_wire.specs.Session.{SpellsFamily, AreSystems, AreAddresses, SpellsSessionPeer, SpellsStateChange, SpellsPeerMessage, SpellsMicros, SpellsHappening, SpellsSessionBody};
 
 use crate::fields::{Field, fill_address, skip, split_asn, split_short, split_word};
@@ -46,16 +45,6 @@ pub(crate) struct SessionItems {
     pub(crate) micros: Option<u32>,
 }
 
-/// How many octets an AS number takes.
-fn number_octets(width: AsWidth) -> usize
-    ensures { result ≡ octets_at width }
-{
-    match width {
-        AsWidth::Two => 2,
-        AsWidth::Four => 4,
-    }
-}
-
 /// How many octets an address takes.
 fn address_octets(family: Family) -> usize
     ensures { result ≡ octet_count family }
@@ -63,17 +52,6 @@ fn address_octets(family: Family) -> usize
     match family {
         Family::V4 => 4,
         Family::V6 => 16,
-    }
-}
-
-/// The family that two octets stand for.
-fn family_of(octets: &[u8]) -> Option<Family>
-    ensures { Finds SpellsFamily octets.now result }
-{
-    match octets {
-        [0, 1] => Some(Family::V4),
-        [0, 2] => Some(Family::V6),
-        _ => None,
     }
 }
 
@@ -85,7 +63,11 @@ fn split_family(octets: &[u8]) -> Option<Field<'_, Family>>
         return None;
     }
     let (front, rest) = octets.split_at(2);
-    let family = family_of(front)?;
+    let family = match front {
+        [0, 1] => Family::V4,
+        [0, 2] => Family::V6,
+        _ => return None,
+    };
     Some(Field {
         value: family,
         rest,
@@ -99,7 +81,7 @@ fn split_systems(width: AsWidth, octets: &[u8]) -> Option<Field<'_, u32>>
     ensures none { IfNone result (BeginsWithNone (AreSystems width) octets.now) }
 {
     let asn = split_asn(width, octets)?;
-    let after_local = skip(number_octets(width), asn.rest)?;
+    let after_local = skip(width.octets(), asn.rest)?;
     let rest = skip(INTERFACE_SIZE, after_local)?;
     Some(Field {
         value: asn.value,
@@ -163,7 +145,8 @@ fn read_peer_message(
     width: AsWidth,
     octets: &[u8],
 ) -> Result<Items, WireFault>
-    ensures { Reads (Told (SpellsPeerMessage width) (receipt_items seconds)) octets.now result }
+    ensures { Reads (Told (SpellsHappening SessionKind.Message width) (session_items seconds))
+        octets.now result }
 {
     let mut peer = blank_peer();
     let Some(rest) = fill_session_peer(&mut peer, width, octets) else {
@@ -174,42 +157,24 @@ fn read_peer_message(
     Ok(items)
 }
 
-/// The same. What a long message was read into isn't kept.
-#[inline(always)]
-fn read_long_or_short(
-    alloc: Global,
-    pool: &mut Pool,
-    seconds: u32,
-    width: AsWidth,
-    octets: &[u8],
-) -> Result<Items, WireFault>
-    ensures { Reads (Told (SpellsPeerMessage width) (receipt_items seconds)) octets.now result }
+/// The microseconds in front, where a body has them, and what follows them.
+fn split_micros(timed: bool, octets: &[u8]) -> Option<Field<'_, Option<u32>>>
+    ensures { FindsField (SpellsMicros timed) octets.now result }
 {
-    let result = read_peer_message(alloc, pool, seconds, width, octets);
-    if octets.len() > LONGEST_KEPT {
-        pool.let_go(alloc);
+    if !timed {
+        return Some(Field {
+            value: None,
+            rest: octets,
+        });
     }
-    result
-}
-
-/// The microseconds in front, and what follows them.
-fn split_micros(octets: &[u8]) -> Option<Field<'_, u32>>
-    ensures { FindsField SpellsMicros octets.now result }
-{
     let micros = split_word(octets)?;
     if micros.value >= MICROS_PER_SECOND {
         return None;
     }
-    Some(micros)
-}
-
-/// What a state change says.
-fn items_of_change(alloc: Global, change: &StateChange) -> Result<Items, AllocError>
-    ensures { IfOk result (λ items.
-        items ≡ Changed change.now.peer change.now.old change.now.new ∷ []) }
-{
-    let items = vec![in alloc; Item::State(change.peer, change.old, change.new)]?;
-    Ok(Items::from_vec(items))
+    Some(Field {
+        value: Some(micros.value),
+        rest: micros.rest,
+    })
 }
 
 /// What the state change says that the octets are.
@@ -220,8 +185,8 @@ fn read_change(alloc: Global, width: AsWidth, octets: &[u8]) -> Result<Items, Wi
     let Some(change) = read_state_change(width, octets) else {
         return Err(WireFault::Malformed);
     };
-    let items = items_of_change(alloc, &change)?;
-    Ok(items)
+    let items = vec![in alloc; Item::State(change.peer, change.old, change.new)]?;
+    Ok(Items::from_vec(items))
 }
 
 /// What is said of a session, by the octets of what happened there.
@@ -238,7 +203,13 @@ fn read_happening(
 {
     match form.kind {
         SessionKind::StateChange => read_change(alloc, form.width, octets),
-        SessionKind::Message => read_long_or_short(alloc, pool, seconds, form.width, octets),
+        SessionKind::Message => {
+            let result = read_peer_message(alloc, pool, seconds, form.width, octets);
+            if octets.len() > LONGEST_KEPT {
+                pool.let_go(alloc);
+            }
+            result
+        }
     }
 }
 
@@ -253,19 +224,12 @@ pub(crate) fn read_session(
 ) -> Result<SessionItems, WireFault>
     ensures { Reads (Told (SpellsSessionBody form) (session_told seconds)) octets.now result }
 {
-    if !form.timed {
-        let items = read_happening(alloc, pool, seconds, form, octets)?;
-        return Ok(SessionItems {
-            items,
-            micros: None,
-        });
-    }
-    let Some(micros) = split_micros(octets) else {
+    let Some(micros) = split_micros(form.timed, octets) else {
         return Err(WireFault::Malformed);
     };
     let items = read_happening(alloc, pool, seconds, form, micros.rest)?;
     Ok(SessionItems {
         items,
-        micros: Some(micros.value),
+        micros: micros.value,
     })
 }

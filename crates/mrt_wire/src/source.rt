@@ -3,11 +3,9 @@
 ghost use Rattle.std.specs.Prelude.{◌≡◌, ◌≤◌, ◌+◌, ◌||◌, ◌↔◌, Ok, Err, IsTrue};
 ghost use Rattle.mrt_wire.specs.declared.next.Next.{Next};
 ghost use Rattle.mrt_frames.specs.Device.{is_read};
-ghost use Rattle.mrt_wire.specs.Results.{fault_findings};
 ghost use Rattle.mrt_wire.specs.Place.{start_place};
 ghost use Rattle.mrt_wire.specs.Judging.{judged_answer};
-ghost use Rattle.mrt_wire.specs.Answered.{IsStep, answer_findings, IsFirstResult};
-ghost use Rattle.mrt_wire.specs.Progress.{spent_place};
+ghost use Rattle.mrt_wire.specs.Answered.{IsStep, IsFirstResult, spent_place};
 
 use crate::judging::{RawRecord, Refusal, judge};
 use crate::next::{Next, Phase};
@@ -162,7 +160,15 @@ impl Source {
             }
             Front::Rest(kind) => {
                 self.phase = Phase::Ended;
-                Ok(rest_answer(self.number + 1, offset, kind))
+                let Some(kind) = kind else {
+                    return Ok(Next::End);
+                };
+                let number = self.number + 1;
+                Ok(Next::Bad(RecordFault {
+                    number,
+                    offset,
+                    kind,
+                }))
             }
         }
     }
@@ -184,19 +190,5 @@ fn record_answer(
             kind,
         })),
         Err(Refusal::Memory) => Err(SourceFault::Memory),
-    }
-}
-
-/// The answer for a rest that has this fault, or none.
-fn rest_answer(number: u64, offset: u64, kind: Option<RecordKind>) -> Next
-    ensures { answer_findings result ≡ fault_findings number offset kind }
-{
-    match kind {
-        Some(kind) => Next::Bad(RecordFault {
-            number,
-            offset,
-            kind,
-        }),
-        None => Next::End,
     }
 }

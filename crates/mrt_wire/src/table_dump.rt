@@ -3,13 +3,14 @@
 ghost use Rattle.std.specs.Prelude.{IfSome, IfNone};
 ghost use Rattle.ip_prefix.specs.Fronts.{BeginsWithNone};
 ghost use Rattle.bgp_wire.specs.Readers.{Reads};
-ghost use Rattle.mrt_wire.specs.Bodies.{FindsField};
 ghost use Rattle.mrt_wire.specs.Items.{peer_entry_items};
-ghost use Rattle.mrt_wire.specs.Judging.{IsFramed, Told};
-ghost use Rattle.mrt_wire.specs.TableDump.{ArePeerEntryFields, SpellsNarrowPeer, SpellsPeerEntry, SpellsPrefix};
+ghost use Rattle.mrt_wire.specs.Judging.{FindsField, IsFramed, Told};
+ghost use Rattle.mrt_wire.specs.TableDump.{ArePeerEntryFields, SpellsPeerEntry, SpellsPrefix};
 
-use crate::fields::{Field, fill_address, skip, split_asn, split_octet, split_sized, split_word};
-use crate::peers::{blank_peer, place_of};
+use crate::fields::{
+    Field, fill_address, skip, split_octet, split_peer_of, split_sized, split_word,
+};
+use crate::peers::place_of;
 use crate::pool::Pool;
 use crate::route_pool::SentAttrs;
 use crate::stamp::time_of;
@@ -51,23 +52,6 @@ fn split_prefix(family: Family, octets: &[u8]) -> Option<Field<'_, Prefix>>
     })
 }
 
-/// The peer in front, and what follows it.
-#[inline(always)]
-fn split_narrow_peer(family: Family, octets: &[u8]) -> Option<Field<'_, Peer>>
-    ensures { FindsField (SpellsNarrowPeer family) octets.now result }
-{
-    let mut peer = blank_peer();
-    let Some(after_addr) = fill_address(&mut peer.addr, family, octets) else {
-        return None;
-    };
-    let asn = split_asn(AsWidth::Two, after_addr)?;
-    peer.asn = asn.value;
-    Some(Field {
-        value: peer,
-        rest: asn.rest,
-    })
-}
-
 /// The entry in front.
 #[inline(always)]
 fn frame_entry(family: Family, octets: &[u8]) -> Option<FramedEntry<'_>>
@@ -80,7 +64,7 @@ fn frame_entry(family: Family, octets: &[u8]) -> Option<FramedEntry<'_>>
     };
     let after_status = skip(STATUS_SIZE, prefix.rest)?;
     let time = split_word(after_status)?;
-    let Some(peer) = split_narrow_peer(family, time.rest) else {
+    let Some(peer) = split_peer_of(family, AsWidth::Two, time.rest) else {
         return None;
     };
     let (attributes, _) = split_sized(peer.rest)?;
@@ -120,7 +104,9 @@ fn read_entry_of(
         family,
         width: AsWidth::Two,
     };
-    let route = pool.rib_route(alloc, place_of(&entry.peer), sent, time)?;
+    let route = pool
+        .read
+        .route_of(alloc, place_of(&entry.peer), sent, time)?;
     let items = pool.announcement_alone(alloc, entry.peer, entry.prefix, route)?;
     Ok(items)
 }

@@ -3,8 +3,8 @@
 ghost use Rattle.std.specs.Prelude.{◌≡◌, ◌++◌, ◌∷◌, [], true, map, OnOk, IfOk};
 ghost use Rattle.bgp_wire.specs.Parts.{message_in, update_in};
 ghost use Rattle.mrt_events.specs.Event.{Withdrawn, saying};
-ghost use Rattle.mrt_wire.specs.Items.{announcements, message_items, update_items};
-ghost use Rattle.mrt_wire.specs.Judging.{Adds, announced_through, announced_with};
+ghost use Rattle.mrt_wire.specs.Items.{message_items, update_items};
+ghost use Rattle.mrt_wire.specs.Judging.{Adds, announced_with};
 
 use crate::pool::Pool;
 use crate::route_pool::RoutePool;
@@ -24,13 +24,6 @@ struct Announcement<'a, 'b> {
     is_kept: bool,
 }
 
-/// Prefixes that were announced together in MP_REACH_NLRI, and the next hop that they have there.
-#[derive(Clone, Copy)]
-struct MpAnnouncement<'a, 'b> {
-    announcement: Announcement<'a, 'b>,
-    next_hop: Option<Addr>,
-}
-
 /// Adds what withdrawals of the prefixes say.
 fn add_withdrawals(
     items: &mut Vec<Item>,
@@ -42,24 +35,6 @@ fn add_withdrawals(
 {
     for prefix in prefixes.as_slice() {
         items.push(Item::Withdraw(*peer, *prefix))?;
-    }
-    Ok(())
-}
-
-/// Adds what announcements of the prefixes with one route say, which they share.
-#[inline(always)]
-fn share_route(
-    items: &mut Vec<Item>,
-    peer: &Peer,
-    route: &Rc<Route>,
-    prefixes: &Prefixes,
-) -> Result<(), AllocError>
-    ensures { OnOk result (Adds items.old.items items.new.items
-        (announcements peer.now route.now.value prefixes.now)) }
-{
-    for prefix in prefixes.as_slice() {
-        let shared = route.clone()?;
-        items.push(Item::Announce(*peer, *prefix, shared))?;
     }
     Ok(())
 }
@@ -87,36 +62,12 @@ fn add_announcements(
     if prefixes.as_slice().is_empty() {
         return Ok(());
     }
-    let route = if is_kept {
-        routes.route_like(alloc, attrs, seconds)?
-    } else {
-        routes.route(alloc, attrs, seconds)?
-    };
-    share_route(items, peer, &route, prefixes)
-}
-
-/// Adds what the announcement with these attributes and its own next hop says. The attributes are
-/// given away unless they are kept.
-#[inline(always)]
-fn add_mp_announcements(
-    alloc: Global,
-    routes: &mut RoutePool,
-    items: &mut Vec<Item>,
-    mp_announcement: MpAnnouncement<'_, '_>,
-    attrs: &mut Attrs,
-) -> Result<(), AllocError>
-    ensures { OnOk result (Adds items.old.items items.new.items
-        (announced_through mp_announcement.entry attrs.old)) }
-{
-    let MpAnnouncement {
-        announcement,
-        next_hop,
-    } = mp_announcement;
-    if announcement.prefixes.as_slice().is_empty() {
-        return Ok(());
+    let route = routes.route(alloc, attrs, seconds, is_kept)?;
+    for prefix in prefixes.as_slice() {
+        let shared = route.clone()?;
+        items.push(Item::Announce(*peer, *prefix, shared))?;
     }
-    attrs.next_hop = next_hop;
-    add_announcements(alloc, routes, items, announcement, attrs)
+    Ok(())
 }
 
 /// How many prefixes an UPDATE of these parts names, or `usize::MAX` where more.
@@ -144,7 +95,8 @@ fn items_of_update(
         items ≡ update_items peer.now seconds (update_in pool.old.parts)) }
 {
     let count = prefix_count(&pool.parts);
-    let mut items = pool.take_message_items(alloc, count)?;
+    let mut items = pool.take_items(alloc);
+    items.reserve(count)?;
     add_withdrawals(&mut items, peer, &pool.parts.withdrawn)?;
     add_withdrawals(&mut items, peer, &pool.parts.mp_withdrawn)?;
     let start = items.len();
@@ -162,18 +114,16 @@ fn items_of_update(
         &mut pool.parts.attrs,
     )?;
     let middle = items.len();
-    add_mp_announcements(
+    pool.parts.attrs.next_hop = pool.parts.mp_hop;
+    add_announcements(
         alloc,
         &mut pool.routes,
         &mut items,
-        MpAnnouncement {
-            announcement: Announcement {
-                peer,
-                prefixes: &pool.parts.mp_announced,
-                seconds,
-                is_kept: false,
-            },
-            next_hop: pool.parts.mp_hop,
+        Announcement {
+            peer,
+            prefixes: &pool.parts.mp_announced,
+            seconds,
+            is_kept: false,
         },
         &mut pool.parts.attrs,
     )?;

@@ -1,6 +1,6 @@
 use Rattle.std.proofs.Common.{None, sym, subst}
 use Rattle.bgp_wire.specs.Number.{SpellsAsn}
-use Rattle.mrt_wire.specs.Bodies.{FindsField}
+use Rattle.mrt_wire.specs.Judging.{FindsField}
 use Rattle.mrt_wire.proofs.fields.split_asn.Goals as goal
 
 pub returns-in_err-number-in-Two : goal.returns-in_err-number-in-Two

@@ -1,43 +1,35 @@
-use Rattle.std.proofs.Common.{subst}
-use Rattle.mrt_wire.specs.Fields.{SpellsAddressOf}
-use Rattle.bgp_wire.specs.Number.{SpellsAsn}
-use Rattle.ip_prefix.specs.Fronts.{BeginsWithNone}
 use Rattle.ip_prefix.specs.Sequences.{Begins}
-use Rattle.mrt_wire.proofs.PeerIndexLaws.{no_kind, no_id, no_address, no_asn, a_peer}
+use Rattle.octet_forms.proofs.Fields.{both_front, none_first, none_second}
+use Rattle.mrt_wire.specs.declared.peer_index.TheConstants.{ID_SIZE}
+use Rattle.mrt_wire.specs.PeerIndex.{SpellsPeerFields}
+use Rattle.mrt_wire.proofs.FieldFronts.{octet_front, octets_front}
+use Rattle.mrt_wire.proofs.PeerIndexLaws.{no_peer}
 use Rattle.mrt_wire.proofs.peer_index.split_peer.Goals as goal
 
 pub returns-in_err-kind : goal.returns-in_err-kind
-returns-in_err-kind c = rw c.from_residual.ensures (no_kind c.args.octets.now c.in_err-kind.ensures)
+returns-in_err-kind c = rw c.from_residual.ensures (no_peer c.args.octets.now (none_first _ _ c.args.octets.now c.in_err-kind.ensures))
 
 pub returns-in_err-after_id : goal.returns-in_err-after_id
 returns-in_err-after_id c =
-    rw c.from_residual-in_err-after_id.ensures (no_id c.in_ok-kind.kind.value c.in_ok-kind.kind.rest.now c.args.octets.now c.in_ok-kind.ensures c.in_err-after_id.ensures.none)
+    let kind = c.in_ok-kind.kind in
+    rw c.from_residual-in_err-after_id.ensures
+    (no_peer c.args.octets.now (none_second _ _ octet_front kind.value kind.rest.now c.args.octets.now c.in_ok-kind.ensures (none_first _ _ kind.rest.now c.in_err-after_id.ensures.none)))
 
 pub returns-in_default : goal.returns-in_default
 returns-in_default c =
-    let behind = c.in_ok-after_id.after_id.now in
+    let kind = c.in_ok-kind.kind in
     let id = c.in_ok-after_id.ensures.some in
-    no_address c.in_ok-kind.kind.value id.0 c.in_ok-kind.kind.rest.now behind c.args.octets.now c.in_ok-kind.ensures id.1
-    (subst (λ f. BeginsWithNone (SpellsAddressOf f) behind) c.peer_family.ensures c.in_default.ensures.none)
-
-pub returns-in_err-asn : goal.returns-in_err-asn
-returns-in_err-asn c =
-    let behind = c.in_ok-after_id.after_id.now in
-    let addr = c.fill_address.new.addr in
-    let after = c.in-Some.after_addr.now in
-    let id = c.in_ok-after_id.ensures.some in
-    rw c.from_residual-in_err-asn.ensures
-    (no_asn c.in_ok-kind.kind.value id.0 addr c.in_ok-kind.kind.rest.now behind after c.args.octets.now c.in_ok-kind.ensures id.1
-    (subst (λ f. Begins (SpellsAddressOf f) addr after behind) c.peer_family.ensures c.in-Some.ensures.some)
-    (subst (λ w. BeginsWithNone (SpellsAsn w) after) c.peer_width.ensures c.in_err-asn.ensures))
+    let none = rw (c.peer_family-family.ensures, c.peer_width-width.ensures) at c.in_default.ensures in
+    no_peer c.args.octets.now (none_second _ _ octet_front kind.value kind.rest.now c.args.octets.now c.in_ok-kind.ensures
+    (none_second _ _ (octets_front ID_SIZE) id.0 c.in_ok-after_id.after_id.now kind.rest.now id.1 none))
 
 pub returns : goal.returns
 returns c =
-    let behind = c.in_ok-after_id.after_id.now in
-    let addr = c.fill_address.new.addr in
-    let after = c.in-Some.after_addr.now in
-    let asn = c.in_ok-asn.asn in
+    let kind = c.in_ok-kind.kind in
+    let peer = c.in-Some.peer in
     let id = c.in_ok-after_id.ensures.some in
-    a_peer c.in_ok-kind.kind.value id.0 addr asn.value c.in_ok-kind.kind.rest.now behind after asn.rest.now c.args.octets.now c.in_ok-kind.ensures id.1
-    (subst (λ f. Begins (SpellsAddressOf f) addr after behind) c.peer_family.ensures c.in-Some.ensures.some)
-    (subst (λ w. Begins (SpellsAsn w) asn.value asn.rest.now after) c.peer_width.ensures c.in_ok-asn.ensures)
+    let found = rw (c.peer_family-family.ensures, c.peer_width-width.ensures) at c.in-Some.ensures in
+    let b : Begins SpellsPeerFields (kind.value, (id.0, peer.value)) peer.rest.now c.args.octets.now
+    = both_front _ _ kind.value (id.0, peer.value) kind.rest.now peer.rest.now c.args.octets.now c.in_ok-kind.ensures
+    (both_front _ _ id.0 peer.value c.in_ok-after_id.after_id.now peer.rest.now kind.rest.now id.1 found) in
+    record { front = b.front; spelled = (kind.value, id.0, b.spelled); whole = b.whole }

@@ -15,7 +15,7 @@ returns-in_err-after_local-clause-none c =
     let asn = c.in_ok-asn.asn in
     rw c.from_residual-in_err-after_local.ensures
     (none_second _ _ (asn_front c.args.width) asn.value asn.rest.now c.args.octets.now c.in_ok-asn.ensures
-    (none_first _ _ asn.rest.now (subst (λ n. BeginsWithNone (AreOctets n) asn.rest.now) c.number_octets.ensures c.in_err-after_local.ensures.none)))
+    (none_first _ _ asn.rest.now (subst (λ n. BeginsWithNone (AreOctets n) asn.rest.now) c.octets.ensures c.in_err-after_local.ensures.none)))
 
 pub returns-in_err-rest-clause-none : goal.returns-in_err-rest-clause-none
 returns-in_err-rest-clause-none c =
@@ -25,7 +25,7 @@ returns-in_err-rest-clause-none c =
     rw c.from_residual-in_err-rest.ensures
     (none_second _ _ (asn_front c.args.width) asn.value asn.rest.now c.args.octets.now c.in_ok-asn.ensures
     (none_second _ _ (octets_front (octets_at c.args.width)) local.0 after asn.rest.now
-    (subst (λ n. Begins (AreOctets n) local.0 after asn.rest.now) c.number_octets.ensures local.1) c.in_err-rest.ensures.none))
+    (subst (λ n. Begins (AreOctets n) local.0 after asn.rest.now) c.octets.ensures local.1) c.in_err-rest.ensures.none))
 
 pub returns-clause-some : goal.returns-clause-some
 returns-clause-some c =
@@ -37,5 +37,5 @@ returns-clause-some c =
       local.0,
       interface.0,
       both_front _ _ asn.value (local.0, interface.0) asn.rest.now rest c.args.octets.now c.in_ok-asn.ensures
-          (both_front _ _ local.0 interface.0 after rest asn.rest.now (subst (λ n. Begins (AreOctets n) local.0 after asn.rest.now) c.number_octets.ensures local.1) interface.1),
+          (both_front _ _ local.0 interface.0 after rest asn.rest.now (subst (λ n. Begins (AreOctets n) local.0 after asn.rest.now) c.octets.ensures local.1) interface.1),
     )

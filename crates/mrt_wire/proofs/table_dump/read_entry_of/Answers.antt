@@ -34,5 +34,5 @@ returns c =
     let route = c.in_ok-route.route in (
       record { prefix = entry.prefix; peer = entry.peer; attrs = route.value.attrs; time = entry.time },
       (framed.0, framed.1, entry.attributes.now, framed.2, framed.3, c.in_ok-route.ensures.read.0),
-      c.in_ok-items.ensures.items ∙ ap (λ time. Announced entry.peer entry.prefix (route_of route.value.attrs time) ∷ []) (c.in_ok-route.ensures.read.1 ∙ c.time_of-time.ensures),
+      c.in_ok-items.ensures ∙ ap (λ time. Announced entry.peer entry.prefix (route_of route.value.attrs time) ∷ []) (c.in_ok-route.ensures.read.1 ∙ c.time_of-time.ensures),
     )

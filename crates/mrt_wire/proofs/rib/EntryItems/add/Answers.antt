@@ -1,8 +1,9 @@
 use Rattle.std.proofs.Common.{◌++◌, ◌∷◌, [], map, ap, sym, ◌∙◌}
 use Rattle.std.proofs.lemmas.List.{map-append}
+use Rattle.std.specs.Option.{option_to_list}
 use Rattle.mrt_events.specs.declared.event.Item.TheVariants.{Announce}
 use Rattle.mrt_events.specs.Event.{Announced, saying}
-use Rattle.mrt_wire.specs.Items.{announced_by, entry_time, route_of}
+use Rattle.mrt_wire.specs.Items.{entry_time, route_of}
 use Rattle.mrt_wire.proofs.rib.EntryItems.add.Goals as goal
 
 pub returns-clause-items : goal.returns-clause-items
@@ -16,4 +17,4 @@ returns-clause-items c =
     ap (map saying) c.in_ok-push.ensures.items
     ∙ map-append saying old (Announce peer prefix route ∷ [])
     ∙ ap (λ time. map saying old ++ Announced peer prefix (route_of attrs time) ∷ []) c.requires
-    ∙ ap (λ found. map saying old ++ announced_by found prefix (route_of attrs time)) (sym (sym c.peer_at.ensures ∙ c.in-Some.is))
+    ∙ ap (λ found. map saying old ++ map (λ peer. Announced peer prefix (route_of attrs time)) (option_to_list found)) (sym (sym c.peer_at.ensures ∙ c.in-Some.is))

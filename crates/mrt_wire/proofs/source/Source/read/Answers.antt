@@ -1,8 +1,8 @@
-use Rattle.std.proofs.Common.{◌+◌, Err, sym, ◌∙◌, ap}
+use Rattle.std.proofs.Common.{◌+◌, Err, is_some, sym, ◌∙◌, ap}
 use Rattle.mrt_frames.specs.declared.fault.RecordKind.TheVariants.{Unsupported}
 use Rattle.mrt_wire.specs.declared.judging.Refusal.TheVariants.{Fault}
 use Rattle.mrt_wire.specs.Judging.{judged_answer}
-use Rattle.mrt_wire.specs.Bodies.{is_read}
+use Rattle.mrt_wire.specs.Profile.{form_of}
 use Rattle.mrt_wire.proofs.NextLaws.{Nexts-record, Nexts-passed}
 use Rattle.mrt_wire.proofs.source.Source.read.Goals as goal
 
@@ -11,7 +11,7 @@ returns-in_ok-answer-in-Record-clause-next g c =
     let taken = rw c.in-Record.is at c.in_ok-header.ensures.octets in
     let s = c.self.inside in
     let answered = sym c.in_ok-answer-in-Record.was ∙ c.record_answer.ensures ∙ ap (λ o. judged_answer (s.number + 1) o c.judge-judged.result) c.taken-offset.ensures.taken in
-    rw (← c.self.view_is) (Nexts-record is_read (record { index = s.index; number = s.number; offset = s.frames.taken; limit = s.frames.limit; stamp = s.stamp; phase = s.phase })
+    rw (← c.self.view_is) (Nexts-record (λ kind subtype. is_some (form_of kind subtype)) (record { index = s.index; number = s.number; offset = s.frames.taken; limit = s.frames.limit; stamp = s.stamp; phase = s.phase })
     _ _ c.take_record.new.self.taken c.take_record.new.self.limit c.take_record.new.self.body.items c.body-body.result.now c.in-Record.header c.judge-judged.new.index c.judge-judged.result c.in_ok-answer-in-Record.answer
     taken c.body-body.ensures c.judge-judged.ensures c.take_record.ensures.limit answered)
 

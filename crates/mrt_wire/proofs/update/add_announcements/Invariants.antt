@@ -1,7 +1,7 @@
 use Rattle.std.proofs.Common.{map, take}
 use Rattle.mrt_events.specs.Event.{Announced}
 use Rattle.mrt_wire.specs.Judging.{Adds}
-use Rattle.mrt_wire.proofs.update.share_route.Given as goal
+use Rattle.mrt_wire.proofs.update.add_announcements.Given as goal
 
 -- the prefixes so far were added
 abbrev pub invariant-loop-prefix : goal.invariant-loop-prefix
