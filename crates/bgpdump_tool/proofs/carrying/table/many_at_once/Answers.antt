@@ -9,7 +9,7 @@ use Rattle.std.proofs.lemmas.Result.{err_from_is_err_and}
 use Rattle.ip_prefix.specs.Network.{Network}
 use Rattle.mrt_events.specs.declared.event.Route.{Route}
 use Rattle.prefix_store.specs.Lookups.{above}
-use Rattle.prefix_store.proofs.AboveLaws.{above-none, above-front, none-left, keys-in-order, seen_last, seen_none}
+use Rattle.prefix_store.proofs.AboveLaws.{above-none, above-front, none-left, keys-in_order, seen_last, seen_none}
 use Rattle.rib_player.specs.Store.{peer_routes}
 use Rattle.rib_player.specs.Lookups.{pointed_routes}
 use Rattle.bgpdump_lines.specs.Lines.{rib_line}
@@ -45,7 +45,7 @@ next : (g : Over) (c : In-Some g) → let entries = finite.entries (peer_routes 
     above c.routes.last entries ≡ pointed_routes c.next_routes.new.found.items ++ above (Some c.in-Some.end.now.0) entries
 next g c =
     let routes = peer_routes c.args.table.now.routes c.args.peer.now in
-    above-front c.routes.last (finite.entries routes) (keys-in-order routes) (vec_capacity c.routes.found) (pointed_routes c.next_routes.new.found.items) (c.in-Some.end.now.0, c.in-Some.end.now.1.now.value)
+    above-front c.routes.last (finite.entries routes) (keys-in_order routes) (vec_capacity c.routes.found) (pointed_routes c.next_routes.new.found.items) (c.in-Some.end.now.0, c.in-Some.end.now.1.now.value)
     (c.next_routes.ensures.found ∙ ap (λ low. take (vec_capacity c.routes.found) (above low (finite.entries routes))) c.as_ref.ensures.value) (last g c)
 
 pub returns-in_err-write_rib_lines-clause-text : goal.returns-in_err-write_rib_lines-clause-text

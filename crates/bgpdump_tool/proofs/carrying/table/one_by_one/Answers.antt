@@ -8,7 +8,7 @@ use Rattle.std.proofs.lemmas.Result.{err_from_is_err_and}
 use Rattle.ip_prefix.specs.Network.{Network}
 use Rattle.mrt_events.specs.declared.event.Route.{Route}
 use Rattle.prefix_store.specs.Lookups.{above}
-use Rattle.prefix_store.proofs.AboveLaws.{above-none, above-next, none-above, keys-in-order}
+use Rattle.prefix_store.proofs.AboveLaws.{above-none, above-next, none-above, keys-in_order}
 use Rattle.rib_player.specs.Store.{peer_routes}
 use Rattle.bgpdump_lines.specs.Lines.{rib_line}
 use Rattle.bgpdump_lines.specs.Writing.{Puts}
@@ -31,7 +31,7 @@ next : (g : Over) (c : In-Some g) → let entries = finite.entries (peer_routes 
     above c.routes.low entries ≡ (c.in-Some.found.0, c.in-Some.found.1.now.value) ∷ above (Some c.in-Some.found.0) entries
 next g c =
     let routes = peer_routes c.args.table.now.routes c.args.peer.now in
-    above-next c.routes.low (finite.entries routes) (c.in-Some.found.0, c.in-Some.found.1.now.value) (keys-in-order routes)
+    above-next c.routes.low (finite.entries routes) (c.in-Some.found.0, c.in-Some.found.1.now.value) (keys-in_order routes)
     (ap (λ low. slice_get (above low (finite.entries routes)) 0) (sym c.as_ref.ensures.value) ∙ sym c.after.ensures ∙ ap (option_map {U = Network × Route} (λ f. (f.0, f.1.now.value))) c.in-Some.is)
 
 pub returns-in_err-write_rib_line-clause-text : goal.returns-in_err-write_rib_line-clause-text
