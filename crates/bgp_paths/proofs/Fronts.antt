@@ -1,10 +1,11 @@
 -- The longest front of hops that has a weight.
 use Rattle.std.proofs.Common.{◌≡◌, ℕ, zero, suc, ◌+◌, ◌-◌, ◌<◌, ◌≤◌, List, [], ◌∷◌, ◌++◌, length, take, refl, ap, sym, subst, ◌∙◌, arith}
+use Rattle.std.proofs.lemmas.List.Sums.{sum_by-cons}
 use Rattle.octet_forms.proofs.Lists.{append_parts}
 use Rattle.bgp_paths.specs.declared.segment.SegmentKind.{SegmentKind}
 use Rattle.bgp_paths.specs.declared.segment.SegmentKind.TheVariants.{AsSet, AsSequence}
-use Rattle.bgp_paths.specs.Merge.{Hop, single_number, hops_by, hop_weight, weight_of, IsLongest}
-use Rattle.bgp_paths.proofs.Weights.{weight_by, weight_of-cons, light}
+use Rattle.bgp_paths.specs.Merge.{Hop, hops_by, hop_weight, weight_of, weight_by, IsLongest}
+use Rattle.bgp_paths.proofs.Weights.{light}
 
 -- a hop that weighs so much, before what is kept of others with what it leaves; nothing where too little is left for it
 abbrev pub hops_before : ℕ → ℕ → Hop → (ℕ → List Hop) → List Hop
@@ -24,7 +25,7 @@ with_first : (n : ℕ) (hop : Hop) (hops kept : List Hop) → IsLongest n hops k
 with_first n hop hops kept b = record {
   rest = b.rest;
   whole = ap (λ l. hop ∷ l) b.whole;
-  weighs = weight_of-cons hop kept ∙ ap (λ m. hop_weight hop + m) b.weighs;
+  weighs = sum_by-cons hop_weight hop kept ∙ ap (λ m. hop_weight hop + m) b.weighs;
   longest = longest;
 }
   where
@@ -34,7 +35,7 @@ with_first n hop hops kept b = record {
         let first : o ≡ hop = cc in
         let more : hops ≡ os ++ left = cc in
         let same = ap hop_weight first in
-        let weighs : weight_of os ≡ n = omega (arith, weight_of-cons o os, w, same) in
+        let weighs : weight_of os ≡ n = omega (arith, sum_by-cons hop_weight o os, w, same) in
         omega (arith, b.longest os left more weighs)
 
 -- where nothing is left, and the first hop weighs something, none are kept
@@ -45,7 +46,7 @@ none_kept w hop hops e = record { rest = hop ∷ hops; whole = refl; weighs = re
     longest [] left same none = omega arith
     longest (o ∷ os) left same none =
         let first : o ≡ hop = cc in
-        absurd (omega (arith, weight_of-cons o os, none, ap hop_weight first, e))
+        absurd (omega (arith, sum_by-cons hop_weight o os, none, ap hop_weight first, e))
 
 no_hops : (left : ℕ) → left ≤ 0 → IsLongest left [] []
 no_hops left h = record { rest = []; whole = refl; weighs = omega arith; longest = longest }
@@ -57,13 +58,13 @@ no_hops left h = record { rest = []; whole = refl; weighs = omega arith; longest
 longest_before : (w left : ℕ) (hop : Hop) (hops : List Hop) → hop_weight hop ≡ w → ((n : ℕ) → n ≤ weight_of hops → IsLongest n hops (front hops n)) → left ≤ weight_of (hop ∷ hops)
     → IsLongest left (hop ∷ hops) (hops_before w left hop (front hops))
 longest_before zero left hop hops e more h =
-    let fits : left ≤ weight_of hops = omega (arith, weight_of-cons hop hops, e, h) in
+    let fits : left ≤ weight_of hops = omega (arith, sum_by-cons hop_weight hop hops, e, h) in
     let sum : hop_weight hop + left ≡ left = omega (arith, e) in
     subst (λ n. IsLongest n (hop ∷ hops) (hop ∷ front hops left)) sum (with_first left hop hops (front hops left) (more left fits))
 longest_before (suc w) zero hop hops e more h = none_kept w hop hops e
 longest_before (suc w) (suc left) hop hops e more h =
     let one : hop_weight hop ≡ 1 = omega (arith, light hop, e) in
-    let fits : left ≤ weight_of hops = omega (arith, weight_of-cons hop hops, one, h) in
+    let fits : left ≤ weight_of hops = omega (arith, sum_by-cons hop_weight hop hops, one, h) in
     let sum : hop_weight hop + left ≡ suc left = omega (arith, one) in
     subst (λ n. IsLongest n (hop ∷ hops) (hop ∷ front hops left)) sum (with_first left hop hops (front hops left) (more left fits))
 
@@ -91,7 +92,7 @@ kept_on (suc w) (suc left) hop more one h = let e : left ≡ suc left - suc w = 
 pub front-append : (hops others : List Hop) (left : ℕ) → weight_of hops ≤ left → front (hops ++ others) left ≡ hops ++ front others (left - weight_of hops)
 front-append [] others left h = let e : left ≡ left - 0 = omega arith in ap (front others) e
 front-append (hop ∷ hops) others left h =
-    let both = weight_of-cons hop hops in
+    let both = sum_by-cons hop_weight hop hops in
     let first : hop_weight hop ≤ left = omega arith in
     let fits : weight_of hops ≤ left - hop_weight hop = omega arith in
     let same : left - hop_weight hop - weight_of hops ≡ left - weight_of (hop ∷ hops) = omega arith in
@@ -104,7 +105,7 @@ numbers_cut : (place : ℕ) (ns : List ℕ) (others : List Hop) (left : ℕ) →
 numbers_cut place [] others left h = absurd (omega arith)
 numbers_cut place (n ∷ ns) others zero h = refl
 numbers_cut place (n ∷ ns) others (suc left) h =
-    let first : Hop = record { place = place; part = single_number n } in
+    let first : Hop = record { place = place; part = record { numbers = n ∷ []; kind = AsSequence } } in
     ap (λ l. first ∷ l) (numbers_cut place ns others left (omega arith))
 
 set_cut : (place : ℕ) (ns : List ℕ) (others : List Hop) (left : ℕ) → left < 1 → front (hops_by AsSet place ns ++ others) left ≡ hops_by AsSequence place (take left ns)

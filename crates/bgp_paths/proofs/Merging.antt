@@ -2,13 +2,15 @@
 use Rattle.std.proofs.Common.{◌≡◌, ℕ, ◌+◌, ◌-◌, ◌<◌, ◌≤◌, List, ◌∷◌, ◌++◌, length, get_or, take, drop, refl, ap, sym, subst, ◌∙◌, arith, add-one, append-nil, append_assoc, ⊎_elim}
 use Rattle.std.proofs.lemmas.Bool.{cases_lt}
 use Rattle.std.proofs.lemmas.List.{drop_more, drop_all}
+use Rattle.std.proofs.lemmas.List.Sums.{sum_by-append}
 use Rattle.bgp_paths.specs.declared.segment.SegmentKind.TheVariants.{AsSequence}
 use Rattle.bgp_paths.specs.declared.segment.Segment.{Segment}
 use Rattle.bgp_paths.specs.declared.path.AsPath.{AsPath}
-use Rattle.bgp_paths.specs.Merge.{Hop, hops_of, path_weight, plain_path, plain_segments, segments_of, IsLongest, IsMerge}
-use Rattle.bgp_paths.proofs.Weights.{segment_weight, total, weight-hops_from, total-append, total-plain}
+use Rattle.bgp_paths.specs.Merge.{Hop, hops_from, segment_weight, path_weight, plain_path, plain_segments, segments_of, IsLongest, IsMerge}
+use Rattle.bgp_paths.specs.Segments.{piece}
+use Rattle.bgp_paths.proofs.Weights.{total, weight-hops_from, total-plain}
 use Rattle.bgp_paths.proofs.Fronts.{front, front_longest, one_front}
-use Rattle.bgp_paths.proofs.Gathering.{piece, kept_segments, kept_whole, kept_cut, total-kept_segments}
+use Rattle.bgp_paths.proofs.Gathering.{kept_segments, kept_whole, kept_cut, total-kept_segments}
 
 -- ---- a walk over the segments
 
@@ -35,22 +37,22 @@ pushed_cut segments i left s pushed h e short =
 pub pushed_all : (segments : List Segment) (i left : ℕ) (pushed : List Segment) → length segments ≤ i → pushed ≡ pushed ++ kept_segments i (drop i segments) left
 pushed_all segments i left pushed h = sym (ap (λ l. pushed ++ kept_segments i l left) (drop_all i segments h) ∙ append-nil pushed)
 
--- ---- the two paths
+-- what is kept has the longest front's hops
+pub longest_kept : (ss : List Segment) (left : ℕ) → left ≤ total ss → IsLongest left (hops_from 0 ss) (front (hops_from 0 ss) left)
+longest_kept ss left h = front_longest (hops_from 0 ss) left (omega (arith, h, weight-hops_from 0 ss))
 
--- the segments of a confederation weigh nothing
-plain_weight : (path : AsPath) → path_weight (plain_path path) ≡ path_weight path
-plain_weight path = weight-hops_from 0 (plain_segments path.segments) ∙ total-plain path.segments ∙ sym (weight-hops_from 0 path.segments)
+-- ---- the two paths
 
 -- the first alone, where it is the shorter
 pub first_alone : (first second : AsPath) → path_weight first < path_weight second → IsMerge first second first
-first_alone first second h = record { shorter = λ less. refl; joined = λ more. absurd (omega (arith, plain_weight second)) }
+first_alone first second h = record { shorter = λ less. refl; joined = λ more. absurd (omega (arith, total-plain second.segments)) }
 
 -- the first's front and the second
-pub front_joined : (first second : AsPath) (front : List Hop) → path_weight second ≤ path_weight first → IsLongest (path_weight first - path_weight second) (hops_of first) front
+pub front_joined : (first second : AsPath) (front : List Hop) → path_weight second ≤ path_weight first → IsLongest (path_weight first - path_weight second) (hops_from 0 first.segments) front
     → IsMerge first second (record { segments = segments_of front ++ plain_segments second.segments })
 front_joined first second front h longest = record {
-  shorter = λ less. absurd (omega (arith, plain_weight second));
-  joined = λ more. (front, subst (λ n. IsLongest (path_weight first - n) (hops_of first) front) (sym (plain_weight second)) longest, refl);
+  shorter = λ less. absurd (omega (arith, total-plain second.segments));
+  joined = λ more. (front, subst (λ n. IsLongest (path_weight first - n) (hops_from 0 first.segments) front) (sym (total-plain second.segments)) longest, refl);
 }
 
 -- ---- laws
@@ -61,8 +63,8 @@ some_merged first second =
     let lacking = path_weight first - path_weight second in
     ⊎_elim (λ less. (first, first_alone first second less))
     (λ more. (
-      record { segments = segments_of (front (hops_of first) lacking) ++ plain_segments second.segments },
-      front_joined first second (front (hops_of first) lacking) more (front_longest (hops_of first) lacking (omega arith)),
+      record { segments = segments_of (front (hops_from 0 first.segments) lacking) ++ plain_segments second.segments },
+      front_joined first second (front (hops_from 0 first.segments) lacking) more (longest_kept first.segments lacking (omega arith)),
     ))
     (cases_lt (path_weight first) (path_weight second))
 
@@ -74,21 +76,18 @@ one_merged first second path other a b =
     let p = a.joined more in
     let q = b.joined more in
     let lacking = path_weight first - path_weight (plain_path second) in
-    p.2 ∙ ap (λ hops. record { segments = segments_of hops ++ plain_segments second.segments }) (one_front lacking (hops_of first) p.0 q.0 p.1 q.1) ∙ sym q.2)
+    p.2 ∙ ap (λ hops. record { segments = segments_of hops ++ plain_segments second.segments }) (one_front lacking (hops_from 0 first.segments) p.0 q.0 p.1 q.1) ∙ sym q.2)
     (cases_lt (path_weight first) (path_weight (plain_path second)))
 
-joined_weight : (first second : AsPath) (hops : List Hop) → path_weight (plain_path second) ≤ path_weight first → IsLongest (path_weight first - path_weight (plain_path second)) (hops_of first) hops
+joined_weight : (first second : AsPath) (hops : List Hop) → path_weight (plain_path second) ≤ path_weight first → IsLongest (path_weight first - path_weight (plain_path second)) (hops_from 0 first.segments) hops
     → path_weight (record { segments = segments_of hops ++ plain_segments second.segments }) ≡ path_weight first
 joined_weight first second hops h longest =
     let lacking = path_weight first - path_weight (plain_path second) in
-    let sum = weight-hops_from 0 first.segments in
-    let fits : lacking ≤ total first.segments = omega (arith, sum) in
-    let walked = front (hops_of first) lacking in
-    let same = one_front lacking (hops_of first) hops walked longest (front_longest (hops_of first) lacking (omega arith)) in
+    let fits : lacking ≤ total first.segments = omega arith in
+    let walked = front (hops_from 0 first.segments) lacking in
+    let same = one_front lacking (hops_from 0 first.segments) hops walked longest (longest_kept first.segments lacking fits) in
     let kept_weight : total (segments_of hops) ≡ lacking = ap (λ l. total (segments_of l)) same ∙ total-kept_segments 0 lacking first.segments fits in
-    weight-hops_from 0 (segments_of hops ++ plain_segments second.segments)
-    ∙ total-append (segments_of hops) (plain_segments second.segments)
-    ∙ omega (arith, kept_weight, weight-hops_from 0 (plain_segments second.segments), h)
+    sum_by-append segment_weight (segments_of hops) (plain_segments second.segments) ∙ omega (arith, kept_weight, h)
 
 -- a joined path weighs what the first does
 pub same_weight : (first second path : AsPath) → IsMerge first second path → path_weight path ≡ path_weight first

@@ -1,12 +1,11 @@
 -- No octets begin with spellings of two numbers or segments, nor spell two paths.
 use Rattle.std.proofs.Common.{◌≡◌, ℕ, ◌*◌, ◌<◌, List, [], ◌∷◌, ◌++◌, length, ap, sym, subst, ◌∙◌, arith}
-use Rattle.std.specs.Int.{w16, w32, to_be_bytes, from_be_bytes}
-use Rattle.std.proofs.lemmas.Nat.{from_be_bytes-to_be_bytes_2, from_be_bytes-to_be_bytes_4}
+use Rattle.std.specs.Int.{to_be_bytes}
 use Rattle.ip_prefix.specs.Sequences.{Begins, SpellsAll}
 use Rattle.ip_prefix.specs.Fronts.{IsCode}
 use Rattle.octet_forms.proofs.Lists.{append_parts}
-use Rattle.octet_forms.proofs.Sequences.{one_list}
-use Rattle.octet_forms.proofs.Sequences.{length_together}
+use Rattle.octet_forms.proofs.Numbers.{same_w16, same_w32}
+use Rattle.octet_forms.proofs.Sequences.{one_list, length_together}
 use Rattle.bgp_paths.specs.declared.numbers.AsWidth.{AsWidth}
 use Rattle.bgp_paths.specs.declared.numbers.AsWidth.TheVariants.{Two, Four}
 use Rattle.bgp_paths.specs.declared.segment.SegmentKind.{SegmentKind}
@@ -24,17 +23,14 @@ length-number Four n octets s = ap length s.whole
 
 -- numbers of one width with the same octets are one
 same_number : (width : AsWidth) (m n : ℕ) → m < limit_at width → n < limit_at width → to_be_bytes (bits_at width) m ≡ to_be_bytes (bits_at width) n → m ≡ n
-same_number Two m n p q e = sym (from_be_bytes-to_be_bytes_2 m p) ∙ ap (from_be_bytes w16) e ∙ from_be_bytes-to_be_bytes_2 n q
-same_number Four m n p q e = sym (from_be_bytes-to_be_bytes_4 m p) ∙ ap (from_be_bytes w32) e ∙ from_be_bytes-to_be_bytes_4 n q
-
-some_octets : (width : AsWidth) → 0 < octets_at width
-some_octets width = grind arith
+same_number Two m n p q e = same_w16 m n p q e
+same_number Four m n p q e = same_w32 m n p q e
 
 pub number_code : (width : AsWidth) → IsCode (SpellsAsn width)
 number_code width = record { some = some; same = same }
   where
     some : (n : ℕ) → SpellsAsn width n [] → ⊥
-    some n s = omega (arith, length-number width n [] s, some_octets width)
+    some n s = let e = length-number width n [] s in grind arith
 
     same : (a b : ℕ) (x y octets : List ℕ) → Begins (SpellsAsn width) a x octets → Begins (SpellsAsn width) b y octets → (a ≡ b) × (x ≡ y)
     same a b x y octets p q =

@@ -1,5 +1,5 @@
 -- What is refused when a part of it is.
-use Rattle.std.proofs.Common.{◌≡◌, ℕ, ◌*◌, IfErr, OnErr, Option, Some, None, Result, Ok, Err, List, [], ◌∷◌, ◌++◌, length, get_or, drop, ap, sym, subst, ◌∙◌, arith}
+use Rattle.std.proofs.Common.{◌≡◌, ℕ, ◌*◌, IfErr, OnErr, IsErrAnd, Option, Some, None, Result, Ok, Err, List, [], ◌∷◌, ◌++◌, length, get_or, drop, ap, sym, subst, ◌∙◌, arith}
 use Rattle.ip_prefix.specs.Sequences.{Begins, SpellsAll}
 use Rattle.ip_prefix.specs.Fronts.{IsCode}
 use Rattle.octet_forms.proofs.Lists.{append_parts}
@@ -26,6 +26,12 @@ pub refused_part : {A B C D : Type 0} (Whole : A → C → Type 0) (Part : B →
     → ((value : A) → Whole value octets → (b : B) × Part b part) → Refuses Part part fault → Refuses Whole octets fault
 refused_part Whole Part octets part Malformed has none = λ value s. none (has value s).0 (has value s).1
 refused_part Whole Part octets part Memory has none = tt
+
+-- and the fault is handed on
+pub refused_on : {A B C D R : Type 0} (Whole : A → C → Type 0) (Part : B → D → Type 0) (octets : C) (part : D) (fault : WireFault) (answer : Result R WireFault) → IsErrAnd answer (λ y. y ≡ fault)
+    → ((value : A) → Whole value octets → (b : B) × Part b part) → Refuses Part part fault → IfErr answer (Refuses Whole octets)
+refused_on Whole Part octets part fault (Ok r) e has none = tt
+refused_on Whole Part octets part fault (Err y) e has none = refused_part Whole Part octets part y has (subst (Refuses Part part) (sym e) none)
 
 -- where no value is spelled, every fault may be answered
 pub refused_always : {A C : Type 0} (Spells : A → C → Type 0) (octets : C) (fault : WireFault) → ((value : A) → Spells value octets → ⊥) → Refuses Spells octets fault

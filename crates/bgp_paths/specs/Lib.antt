@@ -7,4 +7,3 @@ pub mod Text
 pub mod Printed
 pub mod Merge
 pub mod Codes
-pub mod Appending

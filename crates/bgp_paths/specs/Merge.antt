@@ -1,8 +1,8 @@
 -- A path with two-octet AS numbers joined with the four-octet one that was sent beside it (RFC 6793, section 4.2.3).
 use Rattle.std.specs.Prelude.{◌≡◌, ℕ, suc, ◌-◌, ◌<◌, ◌≤◌, ◌==◌, if◌then◌else◌, List, [], ◌∷◌, ◌++◌, length, map}
-use Rattle.std.specs.List.{flat_map, sum_by}
+use Rattle.std.specs.List.{filter, sum_by}
 use Rattle.bgp_paths.specs.declared.segment.SegmentKind.{SegmentKind}
-use Rattle.bgp_paths.specs.declared.segment.SegmentKind.TheVariants.{AsSet, AsSequence, ConfedSequence, ConfedSet}
+use Rattle.bgp_paths.specs.declared.segment.SegmentKind.TheVariants.{AsSet, AsSequence}
 use Rattle.bgp_paths.specs.declared.segment.Segment.{Segment}
 use Rattle.bgp_paths.specs.declared.path.AsPath.{AsPath}
 
@@ -11,31 +11,21 @@ pub record Hop : Type 0 where
   pub place : ℕ
   pub part : Segment
 
--- one number of a sequence, as a segment
-abbrev pub single_number : ℕ → Segment
-single_number n = record { numbers = n ∷ []; kind = AsSequence }
-
--- the hops of a segment
+-- the hops of a segment: of a sequence each number, as a segment
 abbrev pub hops_by : SegmentKind → ℕ → List ℕ → List Hop
-hops_by AsSequence place ns = map (λ n. record { place = place; part = single_number n }) ns
-hops_by AsSet place ns = record { place = place; part = record { numbers = ns; kind = AsSet } } ∷ []
-hops_by ConfedSequence place ns = record { place = place; part = record { numbers = ns; kind = ConfedSequence } } ∷ []
-hops_by ConfedSet place ns = record { place = place; part = record { numbers = ns; kind = ConfedSet } } ∷ []
+hops_by AsSequence place ns = map (λ n. record { place = place; part = record { numbers = n ∷ []; kind = AsSequence } }) ns
+hops_by kind place ns = record { place = place; part = record { numbers = ns; kind = kind } } ∷ []
 
 -- the hops of segments, the first of which has this place
 abbrev pub hops_from : ℕ → List Segment → List Hop
 hops_from place [] = []
 hops_from place (segment ∷ segments) = hops_by segment.kind place segment.numbers ++ hops_from (suc place) segments
 
-abbrev pub hops_of : AsPath → List Hop
-hops_of path = hops_from 0 path.segments
-
 -- what a hop weighs (RFC 6793, section 4.2.3; RFC 5065, section 5.3): a set counts as one, the segments of a confederation don't count
 abbrev pub kind_weight : SegmentKind → ℕ
 kind_weight AsSequence = 1
 kind_weight AsSet = 1
-kind_weight ConfedSequence = 0
-kind_weight ConfedSet = 0
+kind_weight kind = 0
 
 abbrev pub hop_weight : Hop → ℕ
 hop_weight hop = kind_weight hop.part.kind
@@ -43,15 +33,23 @@ hop_weight hop = kind_weight hop.part.kind
 abbrev pub weight_of : List Hop → ℕ
 weight_of hops = sum_by hop_weight hops
 
+-- what a segment weighs, as its hops do
+abbrev pub weight_by : SegmentKind → ℕ → ℕ
+weight_by AsSequence size = size
+weight_by kind size = kind_weight kind
+
+abbrev pub segment_weight : Segment → ℕ
+segment_weight segment = weight_by segment.kind (length segment.numbers)
+
 abbrev pub path_weight : AsPath → ℕ
-path_weight path = weight_of (hops_of path)
+path_weight path = sum_by segment_weight path.segments
 
 -- a hop before others: with the first of them in one segment, where both are of one
 abbrev pub joined_hops : Hop → List Hop → List Hop
 joined_hops hop [] = hop ∷ []
 joined_hops hop (next ∷ hops) =
     if hop.place == next.place
-    then record { place = next.place; part = record { numbers = hop.part.numbers ++ next.part.numbers; kind = next.part.kind } } ∷ hops
+    then record { place = hop.place; part = record { numbers = hop.part.numbers ++ next.part.numbers; kind = hop.part.kind } } ∷ hops
     else hop ∷ next ∷ hops
 
 abbrev pub gathered_hops : List Hop → List Hop
@@ -63,14 +61,8 @@ abbrev pub segments_of : List Hop → List Segment
 segments_of hops = map (λ hop. hop.part) (gathered_hops hops)
 
 -- the segments but those of a confederation
-abbrev pub if_plain : SegmentKind → Segment → List Segment
-if_plain AsSequence segment = segment ∷ []
-if_plain AsSet segment = segment ∷ []
-if_plain ConfedSequence segment = []
-if_plain ConfedSet segment = []
-
 abbrev pub plain_segments : List Segment → List Segment
-plain_segments segments = flat_map (λ segment. if_plain segment.kind segment) segments
+plain_segments segments = filter (λ segment. kind_weight segment.kind == 1) segments
 
 abbrev pub plain_path : AsPath → AsPath
 plain_path path = record { segments = plain_segments path.segments }
@@ -87,5 +79,5 @@ pub record IsLongest (weighing : ℕ) (hops front : List Hop) : Type 0 where
 pub record IsMerge (first second path : AsPath) : Type 0 where
   pub shorter : path_weight first < path_weight (plain_path second) → path ≡ first
   pub joined : path_weight (plain_path second) ≤ path_weight first
-      → (front : List Hop) × IsLongest (path_weight first - path_weight (plain_path second)) (hops_of first) front
+      → (front : List Hop) × IsLongest (path_weight first - path_weight (plain_path second)) (hops_from 0 first.segments) front
       × (path ≡ record { segments = segments_of front ++ plain_segments second.segments })

@@ -1,5 +1,5 @@
 -- How numbers are sent: the most significant octet first.
-use Rattle.std.specs.Prelude.{◌≡◌, ℕ, ◌<◌, ◌^◌, List}
+use Rattle.std.specs.Prelude.{◌≡◌, ℕ, ◌<◌, ◌*◌, ◌^◌, List}
 use Rattle.std.specs.Int.{Width, w16, w32, to_be_bytes}
 use Rattle.bgp_paths.specs.declared.numbers.AsWidth.{AsWidth}
 use Rattle.bgp_paths.specs.declared.numbers.AsWidth.TheVariants.{Two, Four}
@@ -27,8 +27,7 @@ octets_at Four = 4
 
 -- AS numbers of a width are below this
 abbrev pub limit_at : AsWidth → ℕ
-limit_at Two = 2 ^ 16
-limit_at Four = 2 ^ 32
+limit_at width = 2 ^ (8 * octets_at width)
 
 -- the octets of an AS number
 abbrev pub SpellsAsn : AsWidth → ℕ → List ℕ → Type 0

@@ -2,8 +2,10 @@
 //! 4.2.3).
 
 ghost use Rattle.std.specs.Prelude.{◌≡◌, ℕ, ◌≤◌, List, ◌++◌, IfOk, OnOk};
-ghost use Rattle.bgp_paths.specs.Merge.{IsMerge, IsLongest, path_weight, weight_of};
-ghost use Rattle.bgp_paths.specs.Merge.{Hop, hops_by, hops_from, segments_of, plain_segments};
+ghost use Rattle.std.specs.List.{sum_by};
+ghost use Rattle.bgp_paths.specs.Merge.{IsMerge, IsLongest, path_weight, segment_weight};
+ghost use Rattle.bgp_paths.specs.Merge.{Hop, hops_from, segments_of, plain_segments};
+ghost use Rattle.bgp_paths.specs.Segments.{piece};
 ghost use Rattle.bgp_paths.specs.declared.path.AsPath.{AsPath};
 
 use crate::path::{AsPath, Segments};
@@ -46,7 +48,7 @@ fn weigh(path: &AsPath) -> u128
 /// How many systems a segment counts: a set is one, and a segment of a confederation none (RFC
 /// 5065, section 5.3).
 fn weigh_segment(segment: &Segment) -> usize
-    ensures { result ≡ weight_of (hops_by segment.now.kind 0 segment.now.numbers) }
+    ensures { result ≡ segment_weight segment.now }
 {
     match segment.kind {
         SegmentKind::AsSequence => segment.numbers.as_slice().len(),
@@ -62,7 +64,7 @@ fn push_front(
     weight: u128,
     path: &mut Vec<Segment>,
 ) -> Result<(), AllocError>
-    requires { weight ≤ weight_of (hops_from 0 segments.now) }
+    requires { weight ≤ sum_by segment_weight segments.now }
     ensures { OnOk result ((front : List Hop) × IsLongest weight (hops_from 0 segments.now) front
         × (path.new.items ≡ path.old.items ++ segments_of front)) }
 {
@@ -92,8 +94,7 @@ fn push_segment(
     numbers: &[u32],
     path: &mut Vec<Segment>,
 ) -> Result<(), AllocError>
-    ensures { OnOk result
-        (path.new.items ≡ path.old.items ++ segments_of (hops_by kind 0 numbers.now)) }
+    ensures { OnOk result (path.new.items ≡ path.old.items ++ piece kind numbers.now) }
 {
     if kind == SegmentKind::AsSequence && numbers.is_empty() {
         return Ok(());

@@ -62,31 +62,10 @@ impl Segments {
     {
         self.segments.as_slice()
     }
-
-    /// Takes all segments away.
-    #[inline]
-    fn clear(&mut self)
-        ensures { self.new ≡ [] }
-    {
-        self.segments.clear();
-        fit(&mut self.segments);
-    }
-
-    /// Makes them those that the octets spell. Refused, nothing is said of them.
-    #[inline]
-    fn fill(&mut self, alloc: Global, width: AsWidth, octets: &[u8]) -> Result<(), WireFault>
-        ensures filled { OnOk result (SpellsAll (SpellsSegment width) self.new octets.now) }
-        ensures refused { IfErr result (Refuses (SpellsAll (SpellsSegment width)) octets.now) }
-    {
-        match width {
-            AsWidth::Two => fill_segments(alloc, &mut self.segments, AsWidth::Two, octets),
-            AsWidth::Four => fill_segments(alloc, &mut self.segments, AsWidth::Four, octets),
-        }
-    }
 }
 
 /// An AS path: the systems that a route has passed.
-#[derive(Debug, Drop)]
+#[derive(Clone, Debug, Drop)]
 pub struct AsPath {
     /// Its segments, the latest first.
     pub segments: Segments,
@@ -108,7 +87,9 @@ impl AsPath {
     pub fn clear(&mut self)
         ensures { self.new ≡ no_path }
     {
-        self.segments.clear();
+        let segments = &mut self.segments.segments;
+        segments.clear();
+        fit(segments);
     }
 
     /// Makes it the path that the octets spell, in the memory that it has. Refused, nothing is said
@@ -118,15 +99,10 @@ impl AsPath {
         ensures filled { OnOk result (SpellsPath width self.new octets.now) }
         ensures refused { IfErr result (Refuses (SpellsPath width) octets.now) }
     {
-        self.segments.fill(alloc, width, octets)
-    }
-}
-
-impl Clone for AsPath {
-    ghost is_clone = { λ path copy. copy ≡ path };
-
-    fn clone(&self) -> Result<AsPath, AllocError> {
-        let segments = self.segments.clone()?;
-        Ok(AsPath { segments })
+        let segments = &mut self.segments.segments;
+        match width {
+            AsWidth::Two => fill_segments(alloc, segments, AsWidth::Two, octets),
+            AsWidth::Four => fill_segments(alloc, segments, AsWidth::Four, octets),
+        }
     }
 }

@@ -1,18 +1,17 @@
 //! Reading AS paths.
 
-ghost use Rattle.std.specs.Prelude.{◌≡◌, ◌≤◌, ◌+◌, ℕ, OnOk, IfErr, IfSome, IfNone, length, take, vec_len};
+ghost use Rattle.std.specs.Prelude.{◌≡◌, ℕ, [], ◌∷◌, ◌++◌, OnOk, IfErr, IfSome, IfNone};
 ghost use Rattle.ip_prefix.specs.Sequences.{SpellsAll};
 ghost use Rattle.ip_prefix.specs.Fronts.{BeginsWithNone};
 ghost use Rattle.bgp_paths.specs.Number.{SpellsAsn};
 ghost use Rattle.bgp_paths.specs.Path.{kind_code, SpellsSegment};
 ghost use Rattle.bgp_paths.specs.Segments.{IsFramed};
 ghost use Rattle.bgp_paths.specs.Readers.{Finds, Refuses};
-ghost use Rattle.bgp_paths.specs.Appending.{AppendsSegment};
 
 use crate::fault::WireFault;
-use crate::numbers::AsWidth;
-use crate::segment::{AsNumbers, Segment, SegmentKind};
-use std::alloc::Global;
+use crate::numbers::{AsWidth, fill_numbers};
+use crate::segment::{self, AsNumbers, Segment, SegmentKind};
+use std::alloc::{AllocError, Global};
 
 /// The type of a set (RFC 4271, section 4.3).
 const AS_SET: u8 = 1;
@@ -87,49 +86,19 @@ pub(crate) fn fit(segments: &mut Vec<Segment>)
     }
 }
 
-/// Puts a segment of these numbers at a place, in the memory of the one there, or behind all.
-/// Nothing is said of those behind it.
-#[inline(always)]
-fn fill_segment(
-    alloc: Global,
-    segments: &mut Vec<Segment>,
-    place: usize,
-    width: AsWidth,
-    framed: FramedSegment<'_>,
-) -> Result<(), WireFault>
-    requires { place ≤ vec_len segments.old }
-    ensures filled { OnOk result (AppendsSegment width framed.entry.kind framed.entry.body.now
-        (take place segments.old.items) (take (place + 1) segments.new.items)) }
-    ensures within { OnOk result (place + 1 ≤ length segments.new.items) }
-    ensures refused { IfErr result (Refuses (SpellsAll (SpellsAsn width)) framed.entry.body.now) }
-{
-    if place < segments.len() {
-        let segment = &mut segments[place];
-        segment.kind = framed.kind;
-        return segment.numbers.fill(width, framed.body);
-    }
-    push_segment(alloc, segments, width, framed.kind, framed.body)
-}
-
-/// Puts a segment of these numbers behind all. Most paths have one, so there is room for one first.
+/// Puts a segment without numbers behind all. Most paths have one, so there is room for one first.
 #[inline(never)]
-fn push_segment(
-    alloc: Global,
-    segments: &mut Vec<Segment>,
-    width: AsWidth,
-    kind: SegmentKind,
-    body: &[u8],
-) -> Result<(), WireFault>
-    ensures pushed { OnOk result (AppendsSegment width kind body.now
-        segments.old.items segments.new.items) }
-    ensures refused { IfErr result (Refuses (SpellsAll (SpellsAsn width)) body.now) }
+pub(crate) fn push_empty(alloc: Global, segments: &mut Vec<Segment>) -> Result<(), AllocError>
+    ensures { OnOk result (segments.new.items ≡ segments.old.items
+        ++ record { numbers = []; kind = SegmentKind.AsSequence } ∷ []) }
 {
-    let mut numbers = AsNumbers::from_vec(Vec::new(alloc));
-    numbers.fill(width, body)?;
     if segments.capacity() == 0 {
         segments.reserve_exact(1)?;
     }
-    segments.push(Segment { numbers, kind })?;
+    segments.push(Segment {
+        numbers: AsNumbers::from_vec(Vec::new(alloc)),
+        kind: SegmentKind::AsSequence,
+    })?;
     Ok(())
 }
 
@@ -151,7 +120,17 @@ pub(crate) fn fill_segments(
         let Some(framed) = frame_segment(width, rest) else {
             return Err(WireFault::Malformed);
         };
-        fill_segment(alloc, segments, count, width, framed)?;
+        if count == segments.len() {
+            push_empty(alloc, segments)?;
+        }
+        let segment = &mut segments[count];
+        segment.kind = framed.kind;
+        fill_numbers(
+            &mut segment.numbers.numbers,
+            width,
+            framed.body,
+            segment::MOST_SPARE,
+        )?;
         count += 1;
         rest = framed.rest;
     }

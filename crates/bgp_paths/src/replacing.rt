@@ -1,48 +1,13 @@
 //! Paths in the memory of others.
 
-ghost use Rattle.std.specs.Prelude.{◌≡◌, ◌≤◌, ◌+◌, ◌++◌, ◌∷◌, [], OnOk, IfOk, length, take, vec_len};
+ghost use Rattle.std.specs.Prelude.{◌≡◌, IfOk};
 
 use crate::numbers::make_room;
 use crate::path::{AsPath, Segments};
-use crate::path_reader::fit;
-use crate::segment::{AsNumbers, MOST_SPARE, Segment};
+use crate::path_reader::{fit, push_empty};
+use crate::segment::MOST_SPARE;
 use std::alloc::{AllocError, Global};
 use std::mem;
-
-/// The numbers of the segment at a place, which leaves none there, or none where there is no such
-/// segment.
-#[inline(always)]
-fn take_numbers(alloc: Global, segments: &mut Vec<Segment>, place: usize) -> Vec<u32>
-    ensures kept { take place segments.new.items ≡ take place segments.old.items }
-    ensures size { vec_len segments.new ≡ vec_len segments.old }
-{
-    let none = Vec::new(alloc);
-    if place < segments.len() {
-        let numbers = &mut segments[place].numbers;
-        return mem::replace(numbers, AsNumbers::from_vec(none)).into_vec();
-    }
-    none
-}
-
-/// Puts a segment at a place, or behind all, and says nothing of those behind it.
-#[inline(always)]
-fn put_segment(
-    segments: &mut Vec<Segment>,
-    place: usize,
-    segment: Segment,
-) -> Result<(), AllocError>
-    requires { place ≤ vec_len segments.old }
-    ensures put { OnOk result (take (place + 1) segments.new.items
-        ≡ take place segments.old.items ++ segment ∷ []) }
-    ensures within { OnOk result (place + 1 ≤ length segments.new.items) }
-{
-    if place < segments.len() {
-        segments[place] = segment;
-        return Ok(());
-    }
-    segments.push(segment)?;
-    Ok(())
-}
 
 /// The numbers, in the memory of others, with room for up to `spare` more.
 pub fn copy_numbers(old: Vec<u32>, numbers: &[u32], spare: u8) -> Result<Vec<u32>, AllocError>
@@ -64,11 +29,13 @@ pub fn copy_path(alloc: Global, old: AsPath, path: &AsPath) -> Result<AsPath, Al
     }
     let mut count = 0;
     for segment in path.segments.as_slice() {
-        let old = take_numbers(alloc, &mut segments, count);
-        let numbers = copy_numbers(old, segment.numbers.as_slice(), MOST_SPARE)?;
-        let numbers = AsNumbers::from_vec(numbers);
-        let kind = segment.kind;
-        put_segment(&mut segments, count, Segment { numbers, kind })?;
+        if count == segments.len() {
+            push_empty(alloc, &mut segments)?;
+        }
+        let copy = &mut segments[count];
+        let old = mem::replace(&mut copy.numbers.numbers, Vec::new(alloc));
+        copy.numbers.numbers = copy_numbers(old, segment.numbers.as_slice(), MOST_SPARE)?;
+        copy.kind = segment.kind;
         count += 1;
     }
     segments.truncate(count);

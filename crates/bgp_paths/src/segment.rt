@@ -1,12 +1,7 @@
 //! Segments of AS paths.
 
-ghost use Rattle.std.specs.Prelude.{◌≡◌, OnOk, IfErr};
-ghost use Rattle.ip_prefix.specs.Sequences.{SpellsAll};
-ghost use Rattle.bgp_paths.specs.Number.{SpellsAsn};
-ghost use Rattle.bgp_paths.specs.Readers.{Refuses};
+ghost use Rattle.std.specs.Prelude.{◌≡◌};
 
-use crate::fault::WireFault;
-use crate::numbers::{AsWidth, fill_numbers};
 use std::alloc::AllocError;
 use std::marker::Model;
 
@@ -29,7 +24,7 @@ pub enum SegmentKind {
 /// The AS numbers of a segment.
 #[derive(Debug, Drop)]
 pub struct AsNumbers {
-    numbers: Vec<u32>,
+    pub(crate) numbers: Vec<u32>,
 }
 
 impl Model for AsNumbers {
@@ -74,34 +69,13 @@ impl AsNumbers {
     {
         self.numbers.as_slice()
     }
-
-    /// Makes them those that the octets are. Refused, nothing is said of them.
-    #[inline(always)]
-    pub(crate) fn fill(&mut self, width: AsWidth, octets: &[u8]) -> Result<(), WireFault>
-        ensures filled { OnOk result (SpellsAll (SpellsAsn width) self.new octets.now) }
-        ensures refused { IfErr result (Refuses (SpellsAll (SpellsAsn width)) octets.now) }
-    {
-        fill_numbers(&mut self.numbers, width, octets, MOST_SPARE)
-    }
 }
 
 /// A segment of a path.
-#[derive(Debug, Drop)]
+#[derive(Clone, Debug, Drop)]
 pub struct Segment {
     /// Its numbers.
     pub numbers: AsNumbers,
     /// Its kind.
     pub kind: SegmentKind,
-}
-
-impl Clone for Segment {
-    ghost is_clone = { λ segment copy. copy ≡ segment };
-
-    fn clone(&self) -> Result<Segment, AllocError> {
-        let numbers = self.numbers.clone()?;
-        Ok(Segment {
-            numbers,
-            kind: self.kind,
-        })
-    }
 }

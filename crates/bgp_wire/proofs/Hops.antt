@@ -1,8 +1,8 @@
 -- Octets of next hops.
-use Rattle.std.proofs.Common.{◌≡◌, ◌⊎◌, inl, inr, ℕ, ◌<◌, ◌≤◌, List, [], ◌∷◌, ◌++◌, length, take, drop, get_or, ap, sym, subst, ◌∙◌, refl, arith, length-drop}
+use Rattle.std.proofs.Common.{◌≡◌, ◌⊎◌, inl, inr, ℕ, ◌<◌, ◌≤◌, List, ◌∷◌, ◌++◌, length, take, drop, get_or, ap, sym, subst, ◌∙◌, refl, arith, length-drop}
 use Rattle.std.proofs.lemmas.List.{length-append, length-take-le, take-append-drop, nil_from_length}
 use Rattle.ip_prefix.specs.declared.addr.Family.{Family}
-use Rattle.ip_prefix.specs.declared.addr.Family.TheVariants.{V4, V6}
+use Rattle.ip_prefix.specs.declared.addr.Family.TheVariants.{V6}
 use Rattle.ip_prefix.specs.Address.{Address, octet_count}
 use Rattle.ip_prefix.specs.Bits.{bits_of_octets}
 use Rattle.octet_forms.proofs.Lists.{append_parts}
@@ -29,8 +29,7 @@ global_hop hop octets size e = subst (λ hop. SpellsNextHop hop octets) (sym e) 
     enough (inr e) = omega (arith, e)
 
 some_octets : (family : Family) → 0 < octet_count family
-some_octets V4 = omega arith
-some_octets V6 = omega arith
+some_octets family = grind arith
 
 -- a next hop has octets
 pub length-hop : (hop : Address) (octets : List ℕ) → SpellsNextHop hop octets → 0 < length octets
@@ -77,7 +76,5 @@ full_form hop first rest octets e zero size s = inr record {
 }
   where
     three : (l : List ℕ) → 3 ≤ length l → l ≡ get_or l 0 0 ∷ get_or l 1 0 ∷ get_or l 2 0 ∷ drop 3 l
-    three [] h = absurd (omega (arith, h))
-    three (x ∷ []) h = absurd (omega (arith, h))
-    three (x ∷ y ∷ []) h = absurd (omega (arith, h))
     three (x ∷ y ∷ z ∷ l) h = refl
+    three l h = absurd (omega (arith, h))

@@ -1,10 +1,9 @@
 -- Noting one attribute more.
-use Rattle.std.proofs.Common.{◌≡◌, inl, inr, ℕ, ◌<◌, Bool, true, false, if◌then◌else◌, ◌||◌, ◌&&◌, List, [], ◌∷◌, ◌++◌, length, Option, Some, None, get_or, set, refl, ap, sym, ◌∙◌, eq-eqb}
+use Rattle.std.proofs.Common.{◌≡◌, inl, inr, ℕ, ◌<◌, Bool, true, false, if◌then◌else◌, ◌||◌, ◌&&◌, List, [], ◌∷◌, ◌++◌, length, Option, Some, None, get_or, set, refl, ap, sym, ◌∙◌, eq-eqb, arith}
+use Rattle.std.proofs.lemmas.Grind.{common_steps}
 use Rattle.std.specs.Bool.{◌==◌}
 use Rattle.std.specs.Option.{is_some}
 use Rattle.std.proofs.lemmas.Bool.Decides.{eqb_tells}
-use Rattle.std.proofs.lemmas.List.{get_or-set_same, get_or-set_other}
-use Rattle.std.proofs.Math.Bool.{or-false, and-false, or-true}
 use Rattle.bgp_wire.specs.declared.framing.TheConstants.{KINDS}
 use Rattle.bgp_wire.specs.Attribute.{Attribute, first_value, repeats}
 use Rattle.bgp_wire.specs.PlainValues.{value_or, value_at, with_value}
@@ -14,16 +13,13 @@ use Rattle.bgp_wire.specs.SeenTypes.{Types, Tells}
 -- ---- the first value of a type, with one attribute more
 
 value_or-None : (new : Option (List ℕ)) → value_or None new ≡ new
-value_or-None None = refl
-value_or-None (Some octets) = refl
+value_or-None new = grind arith
 
 value_or-Some : (first : List ℕ) (new : Option (List ℕ)) → value_or (Some first) new ≡ Some first
-value_or-Some first None = refl
-value_or-Some first (Some octets) = refl
+value_or-Some first new = grind arith
 
 chosen_first : (test : Bool) (value : List ℕ) (old new : Option (List ℕ)) → (if test then Some value else value_or old new) ≡ value_or (if test then Some value else old) new
-chosen_first true value old new = sym (value_or-Some value new)
-chosen_first false value old new = refl
+chosen_first test value old new = grind arith
 
 first_value-more : (wanted : ℕ) (list : List Attribute) (a : Attribute) → first_value wanted (list ++ a ∷ []) ≡ with_value a.kind a.value (firsts_of list) wanted
 first_value-more wanted [] a = sym (value_or-None (value_at a.kind a.value wanted))
@@ -40,8 +36,7 @@ pub later_value : (kind : ℕ) (octets : List ℕ) (first : FirstOf) → is_some
 later_value kind octets first some = λ i wanted. kept wanted i
   where
     held : (old new : Option (List ℕ)) → is_some old ≡ true → value_or old new ≡ old
-    held None new e = cc
-    held (Some value) new e = value_or-Some value new
+    held old new e = grind arith
 
     kept : (wanted : ℕ) → with_value kind octets first wanted ≡ first wanted
     kept wanted =
@@ -64,33 +59,23 @@ first_value-front wanted (a ∷ front) more octets e = held (a.kind == wanted) (
   where
     held : (test : Bool) → (first_value wanted front ≡ Some octets → first_value wanted (front ++ more) ≡ Some octets)
         → (if test then Some a.value else first_value wanted front) ≡ Some octets → (if test then Some a.value else first_value wanted (front ++ more)) ≡ Some octets
-    held true behind h = h
-    held false behind h = behind h
+    held test behind h = grind arith
 
 -- ---- whether a type was seen, and whether it repeats
 
 is_some-value_or : (old : Option (List ℕ)) (test : Bool) (octets : List ℕ) → is_some (value_or old (if test then Some octets else None)) ≡ (is_some old || test)
-is_some-value_or None true octets = refl
-is_some-value_or None false octets = refl
-is_some-value_or (Some first) true octets = refl
-is_some-value_or (Some first) false octets = refl
+is_some-value_or old test octets = grind arith
 
 seen-more : (wanted : ℕ) (list : List Attribute) (a : Attribute) → is_some (first_value wanted (list ++ a ∷ [])) ≡ (is_some (first_value wanted list) || (a.kind == wanted))
 seen-more wanted list a = ap is_some (first_value-more wanted list a) ∙ is_some-value_or (first_value wanted list) (a.kind == wanted) a.value
 
 no_first : (test : Bool) → (if test then false else false) ≡ (false || (test && false))
-no_first true = refl
-no_first false = refl
+no_first test = grind arith
 
 chosen_test : (test own : Bool) (first_before again_before : Bool) (first_after again_after : Bool) (value : List ℕ) (old : Option (List ℕ)) → first_before ≡ is_some old
     → first_after ≡ (first_before || own) → again_after ≡ (again_before || (own && first_before))
     → (if test then first_after else again_after) ≡ ((if test then first_before else again_before) || (own && is_some (if test then Some value else old)))
-chosen_test true own fb ab fa aa value old e f g = f ∙ ap (λ b. fb || b) (sym (and_true own))
-  where
-    and_true : (b : Bool) → (b && true) ≡ b
-    and_true true = refl
-    and_true false = refl
-chosen_test false own fb ab fa aa value old e f g = g ∙ ap (λ b. ab || (own && b)) e
+chosen_test test own fb ab fa aa value old e f g = grind arith
 
 repeats-more : (wanted : ℕ) (list : List Attribute) (a : Attribute) → repeats wanted (list ++ a ∷ []) ≡ (repeats wanted list || ((a.kind == wanted) && is_some (first_value wanted list)))
 repeats-more wanted [] a = no_first (a.kind == wanted)
@@ -111,41 +96,20 @@ noted old new list a each again h = record {
 
 -- another type is told as before
 pub other_seen : (kind wanted : ℕ) (seen : Bool) → (kind ≡ wanted → ⊥) → seen ≡ (seen || (kind == wanted))
-other_seen kind wanted seen other =
-    elim (eqb_tells kind wanted) as (λ _. seen ≡ (seen || (kind == wanted))) [
-      | inl h ↦ absurd (other h.1)
-      | inr h ↦ sym (ap (λ test. seen || test) h.0 ∙ or-false seen)
-    ]
+other_seen kind wanted seen other = grind arith
 
 pub other_again : (kind wanted : ℕ) (again seen : Bool) → (kind ≡ wanted → ⊥) → again ≡ (again || ((kind == wanted) && seen))
-other_again kind wanted again seen other =
-    elim (eqb_tells kind wanted) as (λ _. again ≡ (again || ((kind == wanted) && seen))) [
-      | inl h ↦ absurd (other h.1)
-      | inr h ↦ sym (ap (λ test. again || (test && seen)) h.0 ∙ or-false again)
-    ]
+other_again kind wanted again seen other = grind arith
 
 -- a mark at a place is that of its type
 pub marked : (marks : List Bool) (kind wanted : ℕ) (seen : Bool) → kind < length marks → (kind ≡ wanted → seen ≡ true)
     → get_or (set marks kind true) wanted false ≡ (get_or marks wanted false || ((kind == wanted) && seen))
-marked marks kind wanted seen within holds =
-    elim (eqb_tells kind wanted) as (λ _. get_or (set marks kind true) wanted false ≡ (get_or marks wanted false || ((kind == wanted) && seen))) [
-      | inl h ↦ ap (λ k. get_or (set marks kind true) k false) (sym h.1) ∙ get_or-set_same marks kind true false within
-          ∙ sym (or-true (get_or marks wanted false)) ∙ sym (λ i. get_or marks wanted false || (h.0 i && holds h.1 i))
-      | inr h ↦ get_or-set_other marks kind wanted true false (λ e. h.1 (sym e)) ∙ other_again kind wanted (get_or marks wanted false) seen h.1
-    ]
+marked marks kind wanted seen within holds = grind (arith, common_steps)
 
 -- one that was marked already stays so
 pub marked_before : (marks : List Bool) (kind wanted : ℕ) → get_or marks kind false ≡ true → get_or marks wanted false ≡ (get_or marks wanted false || (kind == wanted))
-marked_before marks kind wanted was =
-    elim (eqb_tells kind wanted) as (λ _. get_or marks wanted false ≡ (get_or marks wanted false || (kind == wanted))) [
-      | inl h ↦ ap (λ k. get_or marks k false) (sym h.1) ∙ was ∙ sym (or-true (get_or marks wanted false)) ∙ sym (ap (λ test. get_or marks wanted false || test) h.0)
-      | inr h ↦ other_seen kind wanted (get_or marks wanted false) h.1
-    ]
+marked_before marks kind wanted was = grind arith
 
 -- and the first of a type isn't one again
 pub not_again : (marks : List Bool) (kind wanted : ℕ) (again : Bool) → get_or marks kind false ≡ false → again ≡ (again || ((kind == wanted) && get_or marks wanted false))
-not_again marks kind wanted again none =
-    elim (eqb_tells kind wanted) as (λ _. again ≡ (again || ((kind == wanted) && get_or marks wanted false))) [
-      | inl h ↦ sym (ap (λ b. again || ((kind == wanted) && b)) (ap (λ k. get_or marks k false) (sym h.1) ∙ none) ∙ ap (λ b. again || b) (and-false (kind == wanted)) ∙ or-false again)
-      | inr h ↦ other_again kind wanted again (get_or marks wanted false) h.1
-    ]
+not_again marks kind wanted again none = grind arith

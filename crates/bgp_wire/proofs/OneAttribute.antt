@@ -1,9 +1,8 @@
 -- No octets begin with spellings of two attributes.
-use Rattle.std.proofs.Common.{◌≡◌, ℕ, ◌<◌, Bool, true, false, List, [], ◌∷◌, ◌++◌, length, refl, ap, sym, subst, ◌∙◌, append_assoc}
-use Rattle.std.specs.Int.{w16, to_be_bytes, from_be_bytes}
-use Rattle.std.proofs.lemmas.Nat.{from_be_bytes-to_be_bytes_2}
+use Rattle.std.proofs.Common.{◌≡◌, ℕ, ◌<◌, Bool, true, false, List, [], ◌∷◌, ◌++◌, length, ap, sym, subst, ◌∙◌, append_assoc}
 use Rattle.ip_prefix.specs.Sequences.{Begins}
 use Rattle.ip_prefix.specs.Fronts.{IsCode}
+use Rattle.octet_forms.proofs.Numbers.{one_w16}
 use Rattle.octet_forms.proofs.Lists.{append_parts}
 use Rattle.bgp_wire.specs.Attribute.{Attribute, is_extended, length_octets, length_limit, SpellsAttribute}
 
@@ -21,9 +20,7 @@ same_length false m n x y p q e =
     let first : m ≡ n = cc in
     let rest : x ≡ y = cc in
     (first, rest)
-same_length true m n x y p q e =
-    let parts = append_parts (to_be_bytes w16 m) (to_be_bytes w16 n) x y refl e in
-    (sym (from_be_bytes-to_be_bytes_2 m p) ∙ ap (from_be_bytes w16) parts.0 ∙ from_be_bytes-to_be_bytes_2 n q, parts.1)
+same_length true m n x y p q e = one_w16 m n x y p q e
 
 pub attribute_code : IsCode SpellsAttribute
 attribute_code = record { some = some; same = same }

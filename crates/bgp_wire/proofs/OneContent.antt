@@ -17,7 +17,7 @@ use Rattle.bgp_wire.specs.declared.message.TheConstants.{UPDATE}
 use Rattle.bgp_wire.specs.declared.parts.Update.{Update}
 use Rattle.bgp_wire.specs.declared.message.Message.{Message}
 use Rattle.bgp_wire.specs.declared.message.Message.TheVariants as messages
-use Rattle.bgp_wire.specs.Attribute.{Attribute, SpellsAttribute, SpellsAttributes, first_value}
+use Rattle.bgp_wire.specs.Attribute.{Attribute, SpellsAttribute, first_value}
 use Rattle.bgp_wire.specs.Value.{octets_or_none, SpellsOrigin, SpellsIPv4, SpellsAggregatorAt, SpellsAggregator}
 use Rattle.bgp_paths.specs.Number.{SpellsWord}
 use Rattle.bgp_wire.specs.NextHop.{SpellsRibHop, rib_hop}
@@ -30,7 +30,7 @@ use Rattle.bgp_wire.proofs.OneAttribute.{attribute_code}
 use Rattle.bgp_paths.proofs.Merging.{one_merged}
 use Rattle.bgp_paths.proofs.OneFront.{one_path_of}
 use Rattle.bgp_wire.proofs.Reaching.{same_update, same_message}
-use Rattle.bgp_wire.proofs.OneValue.{one_optional, one_where_formed, one_presence, one_origin, one_word, one_words, one_ipv4, one_aggregator, one_aggregator_of, one_rib_hop, one_reach, one_unreach}
+use Rattle.bgp_wire.proofs.OneValue.{one_optional, one_where_formed, one_presence, one_origin, one_word, one_words, one_ipv4, one_aggregator, one_aggregator_at, one_rib_hop, one_reach, one_unreach}
 
 -- paths are joined in one way
 one_joined : (ignored : Bool) (own : AsPath) (value : Option (List ℕ)) (path other : AsPath) → IsJoined ignored own value path → IsJoined ignored own value other → path ≡ other
@@ -47,7 +47,7 @@ one_passed : (width : AsWidth) (path other : AsPath) (aggregator another : Optio
 one_passed Two path other aggregator another list s t =
     let paths = one_path_of Two (octets_or_none (first_value AS_PATH list)) s.own_path t.own_path s.path_spelled t.path_spelled in
     let own = one_optional SpellsAggregator one_aggregator s.own t.own (first_value AGGREGATOR list) s.own_spelled t.own_spelled in
-    let as4 = one_where_formed (SpellsAggregatorAt Four) (one_aggregator_of Four) s.as4 t.as4 (first_value AS4_AGGREGATOR list) s.as4_spelled t.as4_spelled in
+    let as4 = one_where_formed (SpellsAggregatorAt Four) (one_aggregator_at Four) s.as4 t.as4 (first_value AS4_AGGREGATOR list) s.as4_spelled t.as4_spelled in
     let first = subst (λ p. IsJoined (ignores_as4 t.own t.as4) p (first_value AS4_PATH list) path) paths
     (subst (λ ignored. IsJoined ignored s.own_path (first_value AS4_PATH list) path) (λ i. ignores_as4 (own i) (as4 i)) s.path_joined) in (
       one_joined (ignores_as4 t.own t.as4) t.own_path (first_value AS4_PATH list) path other first t.path_joined,
@@ -93,7 +93,7 @@ one_update width body update other s t =
     let parts = same_update s.withdrawn s.attributes s.announced t.withdrawn t.attributes t.announced body s.whole t.whole in
     let withdrawn = one_list (SpellsNetwork V4) (network_code V4) t.withdrawn update.withdrawn other.withdrawn (subst (SpellsAll (SpellsNetwork V4) update.withdrawn) parts.0 s.withdrawn_spelled) t.withdrawn_spelled in
     let announced = one_list (SpellsNetwork V4) (network_code V4) t.announced update.announced other.announced (subst (SpellsAll (SpellsNetwork V4) update.announced) parts.2 s.announced_spelled) t.announced_spelled in
-    let lists = one_list SpellsAttribute attribute_code t.attributes s.list t.list (subst (SpellsAttributes s.list) parts.1 s.spelled) t.spelled in
+    let lists = one_list SpellsAttribute attribute_code t.attributes s.list t.list (subst (SpellsAll SpellsAttribute s.list) parts.1 s.spelled) t.spelled in
     let said = subst (SaysInUpdate width update) lists s.said in
     let a = said.together in
     let b = t.said.together in

@@ -1,8 +1,8 @@
 -- No octets are spellings of two values of an attribute.
-use Rattle.std.proofs.Common.{◌≡◌, ◌⊎◌, inl, inr, ℕ, ◌+◌, true, false, List, ◌++◌, length, drop, get_or, Some, None, refl, ap, sym, subst, ◌∙◌, arith}
+use Rattle.std.proofs.Common.{◌≡◌, ◌⊎◌, inl, inr, ℕ, ◌+◌, List, ◌++◌, length, drop, get_or, Some, None, refl, ap, sym, subst, ◌∙◌, arith}
 use Rattle.std.proofs.lemmas.List.{length-append}
 use Rattle.ip_prefix.specs.declared.addr.Family.{Family}
-use Rattle.ip_prefix.specs.declared.addr.Family.TheVariants.{V4, V6}
+use Rattle.ip_prefix.specs.declared.addr.Family.TheVariants.{V6}
 use Rattle.ip_prefix.specs.Address.{octet_count}
 use Rattle.ip_prefix.specs.Sequences.{SpellsAll}
 use Rattle.ip_prefix.specs.Wire.{SpellsNetwork}
@@ -12,14 +12,13 @@ use Rattle.ip_prefix.proofs.Wires.{network_code}
 use Rattle.bgp_paths.specs.declared.numbers.AsWidth.{AsWidth}
 use Rattle.bgp_paths.specs.declared.numbers.AsWidth.TheVariants.{Two, Four}
 use Rattle.bgp_wire.specs.declared.attrs.Origin.{Origin}
-use Rattle.bgp_wire.specs.declared.attrs.Origin.TheVariants.{Igp, Egp, Incomplete}
 use Rattle.bgp_wire.specs.declared.attrs.Aggregator.{Aggregator}
 use Rattle.bgp_wire.specs.declared.values.TheConstants.{IPV4_SIZE}
 use Rattle.bgp_paths.specs.Number.{octets_at, SpellsAsn, SpellsWord}
 use Rattle.bgp_wire.specs.Value.{SpellsOptional, SpellsPresence, origin_code, SpellsOrigin, SpellsAddressOctets, SpellsIPv4, SpellsAggregatorAt, SpellsAggregator}
 use Rattle.bgp_wire.specs.NextHop.{IsLinkLocal, SpellsNextHop, SpellsHopAlone, SpellsRibHop}
 use Rattle.bgp_wire.specs.As4.{SpellsWhereFormed}
-use Rattle.bgp_wire.specs.Reach.{HopStands, SpellsUnicast, SpellsReach, SaysReach, SaysUnreach}
+use Rattle.bgp_wire.specs.Reach.{HopStands, IsUnicast, SpellsUnicast, SaysReach, SaysUnreach}
 use Rattle.bgp_paths.proofs.OneFront.{number_code, length-number}
 use Rattle.bgp_wire.proofs.Hops.{length-hop}
 use Rattle.bgp_wire.proofs.Reaching.{same_family, same_unicast, same_stand, not_another}
@@ -27,41 +26,16 @@ use Rattle.ip_prefix.specs.Fronts.{IsOne}
 use Rattle.octet_forms.proofs.Fields.{one_of_code}
 
 pub one_optional : {A : Type 0} (Spells : A → List ℕ → Type 0) → IsOne Spells → IsOne (SpellsOptional Spells)
-one_optional Spells one None None octets s t = refl
-one_optional Spells one None (Some b) None s t = absurd t
-one_optional Spells one None (Some b) (Some octets) s t = absurd s
-one_optional Spells one (Some a) None None s t = absurd s
-one_optional Spells one (Some a) None (Some octets) s t = absurd t
-one_optional Spells one (Some a) (Some b) None s t = absurd s
-one_optional Spells one (Some a) (Some b) (Some octets) s t = ap Some (one a b octets s t)
+one_optional Spells one a b value s t = grind (arith, one)
 
 pub one_where_formed : {A : Type 0} (Spells : A → List ℕ → Type 0) → IsOne Spells → IsOne (SpellsWhereFormed Spells)
-one_where_formed Spells one None None octets s t = refl
-one_where_formed Spells one None (Some b) None s t = absurd t
-one_where_formed Spells one None (Some b) (Some octets) s t = absurd (s b t)
-one_where_formed Spells one (Some a) None None s t = absurd s
-one_where_formed Spells one (Some a) None (Some octets) s t = absurd (t a s)
-one_where_formed Spells one (Some a) (Some b) None s t = absurd s
-one_where_formed Spells one (Some a) (Some b) (Some octets) s t = ap Some (one a b octets s t)
+one_where_formed Spells one a b value s t = grind (arith, one)
 
 pub one_presence : IsOne SpellsPresence
-one_presence true true value s t = refl
-one_presence false false value s t = refl
-one_presence true false None s t = absurd s
-one_presence true false (Some octets) s t = absurd t
-one_presence false true None s t = absurd t
-one_presence false true (Some octets) s t = absurd s
+one_presence a b value s t = grind arith
 
 same_origin : (a b : Origin) → origin_code a ≡ origin_code b → a ≡ b
-same_origin Igp Igp e = refl
-same_origin Igp Egp e = absurd (omega (arith, e))
-same_origin Igp Incomplete e = absurd (omega (arith, e))
-same_origin Egp Igp e = absurd (omega (arith, e))
-same_origin Egp Egp e = refl
-same_origin Egp Incomplete e = absurd (omega (arith, e))
-same_origin Incomplete Igp e = absurd (omega (arith, e))
-same_origin Incomplete Egp e = absurd (omega (arith, e))
-same_origin Incomplete Incomplete e = refl
+same_origin a b e = grind arith
 
 pub one_origin : IsOne SpellsOrigin
 one_origin a b octets s t = same_origin a b (ap (λ l. get_or l 0 0) (sym s ∙ t))
@@ -83,16 +57,13 @@ one_address a b octets s t =
 pub one_ipv4 : IsOne SpellsIPv4
 one_ipv4 a b octets s t = one_address a b octets s.spelled t.spelled
 
-one_aggregator_at : (width : AsWidth) (a b : Aggregator) (octets : List ℕ) → SpellsAggregatorAt width a octets → SpellsAggregatorAt width b octets → a ≡ b
+pub one_aggregator_at : (width : AsWidth) → IsOne (SpellsAggregatorAt width)
 one_aggregator_at width a b octets s t =
     let sizes = length-number width a.asn s.number s.spelled ∙ sym (length-number width b.asn t.number t.spelled) in
     let parts = append_parts s.number t.number s.address t.address sizes (sym s.whole ∙ t.whole) in
     let numbers = one_of_code (SpellsAsn width) (number_code width) a.asn b.asn t.number (subst (SpellsAsn width a.asn) parts.0 s.spelled) t.spelled in
     let addresses = one_ipv4 a.addr b.addr t.address (subst (SpellsIPv4 a.addr) parts.1 s.addressed) t.addressed in
     λ i. record { addr = addresses i; asn = numbers i }
-
-pub one_aggregator_of : (width : AsWidth) → IsOne (SpellsAggregatorAt width)
-one_aggregator_of width = one_aggregator_at width
 
 length-aggregator : (width : AsWidth) (a : Aggregator) (octets : List ℕ) → SpellsAggregatorAt width a octets → length octets ≡ octets_at width + IPV4_SIZE
 length-aggregator width a octets s =
@@ -110,19 +81,10 @@ one_aggregator a b octets (Four, s) (Four, t) = one_aggregator_at Four a b octet
 -- a next hop has 4 octets, 16 or 32
 hop_size : (family : Family) (address link octets : List ℕ) → length address ≡ octet_count family → IsLinkLocal family link → octets ≡ address ++ link
     → (length octets ≡ octet_count family) ⊎ ((family ≡ V6) × (length octets ≡ 32))
-hop_size V4 address link octets size linked e = inl (omega (arith, size, ap length e, length-append address link, ap length linked))
-hop_size V6 address link octets size (inl linked) e = inl (omega (arith, size, ap length e, length-append address link, ap length linked))
-hop_size V6 address link octets size (inr linked) e = inr (refl, omega (arith, size, ap length e, length-append address link, linked))
+hop_size family address link octets size linked e = grind (arith, length-append address link)
 
 one_family : (family other : Family) (size : ℕ) → ((size ≡ octet_count family) ⊎ ((family ≡ V6) × (size ≡ 32))) → ((size ≡ octet_count other) ⊎ ((other ≡ V6) × (size ≡ 32))) → family ≡ other
-one_family V4 V4 size s t = refl
-one_family V6 V6 size s t = refl
-one_family V4 V6 size (inl s) (inl t) = absurd (omega (arith, s, t))
-one_family V4 V6 size (inl s) (inr t) = absurd (omega (arith, s, t.1))
-one_family V4 V6 size (inr s) t = absurd (let e = s.0 in cc)
-one_family V6 V4 size (inl s) (inl t) = absurd (omega (arith, s, t))
-one_family V6 V4 size (inr s) (inl t) = absurd (omega (arith, s.1, t))
-one_family V6 V4 size s (inr t) = absurd (let e = t.0 in cc)
+one_family family other size s t = grind arith
 
 pub one_next_hop : IsOne SpellsNextHop
 one_next_hop a b octets s t =
@@ -145,7 +107,7 @@ one_rib_hop a b octets (inr s) (inr t) = one_hop_alone a b t.rest (subst (Spells
 
 -- ---- what is announced and withdrawn
 
-one_reached : IsOne SpellsReach
+one_reached : IsOne (IsUnicast SpellsUnicast)
 one_reached a b octets s t =
     let same = same_unicast s.family t.family s.rest t.rest octets s.whole t.whole in
     let u = subst (λ f. SpellsUnicast f a s.rest) same.0 s.spelled in

@@ -1,12 +1,12 @@
 -- Octets of MP_REACH_NLRI, of MP_UNREACH_NLRI, and of messages.
 use Rattle.std.proofs.Common.{◌≡◌, ℕ, ◌<◌, ◌≤◌, ◌^◌, List, ◌∷◌, ◌++◌, length, take, drop, get_or, Option, Some, None, refl, ap, sym, subst, ◌∙◌, arith}
-use Rattle.std.specs.Int.{w16, to_be_bytes, from_be_bytes}
-use Rattle.std.proofs.lemmas.Nat.{from_be_bytes-to_be_bytes_2}
+use Rattle.std.specs.Int.{w16, to_be_bytes}
 use Rattle.std.proofs.Math.Seq.{get_or-append_seam}
 use Rattle.std.proofs.lemmas.List.{length-append, length-take-le, take-append-drop}
 use Rattle.ip_prefix.specs.declared.addr.Family.{Family}
 use Rattle.ip_prefix.specs.declared.addr.Family.TheVariants.{V4, V6}
 use Rattle.ip_prefix.specs.Address.{Address}
+use Rattle.octet_forms.proofs.Numbers.{same_w16}
 use Rattle.octet_forms.proofs.Lists.{append_parts}
 use Rattle.bgp_wire.specs.declared.message.TheConstants.{MARKER_SIZE}
 use Rattle.bgp_wire.specs.declared.lengths.TheConstants.{LENGTH_SIZE}
@@ -33,10 +33,7 @@ same_stand hop other rest more octets s t =
 
 -- where two families have different numbers, those of one number are one
 pub same_family : (number : Family → ℕ) → (number V4 ≡ number V6 → ⊥) → (family other : Family) → number family ≡ number other → family ≡ other
-same_family number differ V4 V4 e = refl
-same_family number differ V4 V6 e = absurd (differ e)
-same_family number differ V6 V4 e = absurd (differ (sym e))
-same_family number differ V6 V6 e = refl
+same_family number differ family other e = grind arith
 
 -- octets begin with unicast of one family at most
 pub same_unicast : (family other : Family) (rest more octets : List ℕ) → octets ≡ unicast_octets family ++ rest → octets ≡ unicast_octets other ++ more → (family ≡ other) × (rest ≡ more)
@@ -60,9 +57,7 @@ pub same_sized : (front other rest more : List ℕ) → length front < 2 ^ 16 �
 same_sized front other rest more p q e =
     let one : to_be_bytes w16 (length front) ++ (front ++ rest) ≡ to_be_bytes w16 (length other) ++ (other ++ more) = e in
     let parts = append_parts (to_be_bytes w16 (length front)) (to_be_bytes w16 (length other)) (front ++ rest) (other ++ more) refl one in
-    let lengths : length front ≡ length other
-    = sym (from_be_bytes-to_be_bytes_2 (length front) p) ∙ ap (from_be_bytes w16) parts.0 ∙ from_be_bytes-to_be_bytes_2 (length other) q in
-    append_parts front other rest more lengths parts.1
+    append_parts front other rest more (same_w16 (length front) (length other) p q parts.0) parts.1
 
 -- ---- messages
 

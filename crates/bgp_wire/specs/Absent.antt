@@ -1,8 +1,7 @@
 -- Private.
 -- Attributes that aren't there.
-use Rattle.std.specs.Prelude.{ℕ, false, List, [], None}
+use Rattle.std.specs.Prelude.{false, [], None}
 use Rattle.bgp_wire.specs.declared.attrs.Attrs.{Attrs}
-use Rattle.bgp_paths.specs.declared.path.AsPath.{AsPath}
 use Rattle.bgp_paths.specs.Segments.{no_path}
 
 -- attributes of which none is there
@@ -17,10 +16,6 @@ no_attrs = record {
   origin = None;
   atomic = false;
 }
-
--- attributes of which only this path and these communities are there
-abbrev pub with_lists : AsPath → List ℕ → Attrs
-with_lists path communities = record no_attrs { path = path; communities = communities }
 
 -- the same attributes without path and communities
 abbrev pub without_lists : Attrs → Attrs

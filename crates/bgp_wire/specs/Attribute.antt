@@ -2,7 +2,6 @@
 use Rattle.std.specs.Prelude.{◌≡◌, ◌==◌, ℕ, ◌<◌, ◌^◌, Bool, true, false, not, if◌then◌else◌, List, [], ◌∷◌, ◌++◌, length, Option, Some, None, bit_and}
 use Rattle.std.specs.Option.{is_some}
 use Rattle.std.specs.Int.{to_be_bytes, w16}
-use Rattle.ip_prefix.specs.Sequences.{SpellsAll}
 use Rattle.bgp_wire.specs.declared.framing.TheConstants.{EXTENDED_LENGTH}
 
 -- an attribute: its flags, the number of its type, and the octets of its value
@@ -31,10 +30,6 @@ pub record SpellsAttribute (a : Attribute) (octets : List ℕ) : Type 0 where
   pub kind_fits : a.kind < 256
   pub length_fits : length a.value < length_limit (is_extended a.flags)
   pub whole : octets ≡ a.flags ∷ a.kind ∷ (length_octets (is_extended a.flags) (length a.value) ++ a.value)
-
--- the octets of a list of attributes
-abbrev pub SpellsAttributes : List Attribute → List ℕ → Type 0
-SpellsAttributes list octets = SpellsAll SpellsAttribute list octets
 
 -- the value of the first attribute of a type, if there is one
 abbrev pub first_value : ℕ → List Attribute → Option (List ℕ)

@@ -1,6 +1,6 @@
 -- Private.
 -- Paths and attributes as plain data, which the values of types that hold them are made of.
-use Rattle.std.specs.Prelude.{◌≡◌, ℕ, Bool, true, false, List, Option, refl}
+use Rattle.std.specs.Prelude.{◌≡◌, ℕ, ◌==◌, if◌then◌else◌, Bool, List, Option, refl}
 use Rattle.std.specs.Coded.{Coded, code_by, coded×, coded_ℕ, coded_bool, coded_list, coded_option}
 use Rattle.ip_prefix.specs.Address.{Address}
 use Rattle.ip_prefix.specs.Codes.{coded_address}
@@ -10,44 +10,26 @@ use Rattle.bgp_wire.specs.declared.attrs.Origin.{Origin}
 use Rattle.bgp_wire.specs.declared.attrs.Origin.TheVariants.{Igp, Egp, Incomplete}
 use Rattle.bgp_wire.specs.declared.attrs.Aggregator.{Aggregator}
 use Rattle.bgp_wire.specs.declared.attrs.Attrs.{Attrs}
+use Rattle.bgp_wire.specs.declared.values.TheConstants.{ORIGIN_IGP, ORIGIN_EGP}
+use Rattle.bgp_wire.specs.Value.{origin_code}
 
--- whether an origin is IGP, and whether it is EGP
-abbrev origin_tests : Origin → Bool × Bool
-origin_tests Igp = (true, false)
-origin_tests Egp = (false, true)
-origin_tests Incomplete = (false, false)
+abbrev origin_of : ℕ → Origin
+origin_of n = if n == ORIGIN_IGP then Igp else if n == ORIGIN_EGP then Egp else Incomplete
 
-abbrev origin_by_tests : Bool → Bool → Origin
-origin_by_tests true egp = Igp
-origin_by_tests false true = Egp
-origin_by_tests false false = Incomplete
-
-abbrev same_origin : (origin : Origin) → origin_by_tests (origin_tests origin).0 (origin_tests origin).1 ≡ origin
+abbrev same_origin : (origin : Origin) → origin_of (origin_code origin) ≡ origin
 same_origin Igp = refl
 same_origin Egp = refl
 same_origin Incomplete = refl
 
 abbrev pub coded_origin : Coded Origin
-coded_origin = code_by (Bool × Bool) (coded× coded_bool coded_bool) origin_tests (λ p. origin_by_tests p.0 p.1) same_origin
+coded_origin = code_by ℕ coded_ℕ origin_code origin_of same_origin
 
 abbrev pub coded_aggregator : Coded Aggregator
 coded_aggregator = code_by (Address × ℕ) (coded× coded_address coded_ℕ) (λ a. (a.addr, a.asn)) (λ p. record { addr = p.0; asn = p.1 }) (λ _. refl)
 
--- who has passed a route on, who has aggregated it, and its next hop
-abbrev Travelled : Type 0
-Travelled = AsPath × (Option Aggregator × Option Address)
-
--- its communities, and whether ATOMIC_AGGREGATE is there
-abbrev Marked : Type 0
-Marked = List ℕ × Bool
-
--- its metric, its preference and its origin
-abbrev Ranked : Type 0
-Ranked = Option ℕ × (Option ℕ × Option Origin)
-
 abbrev pub coded_attrs : Coded Attrs
 coded_attrs =
-    code_by (Travelled × (Marked × Ranked))
+    code_by ((AsPath × (Option Aggregator × Option Address)) × ((List ℕ × Bool) × (Option ℕ × (Option ℕ × Option Origin))))
     (coded× (coded× coded_as_path (coded× (coded_option coded_aggregator) (coded_option coded_address)))
     (coded× (coded× (coded_list coded_ℕ) coded_bool) (coded× (coded_option coded_ℕ) (coded× (coded_option coded_ℕ) (coded_option coded_origin)))))
     (λ a. ((a.path, (a.aggregator, a.next_hop)), ((a.communities, a.atomic), (a.med, (a.local_pref, a.origin)))))

@@ -7,7 +7,7 @@ use Rattle.bgp_wire.specs.declared.framing.TheConstants.{ORIGIN, NEXT_HOP, MULTI
 use Rattle.bgp_paths.specs.declared.numbers.AsWidth.{AsWidth}
 use Rattle.bgp_wire.specs.declared.attrs.Attrs.{Attrs}
 use Rattle.bgp_paths.specs.Number.{SpellsWord}
-use Rattle.bgp_wire.specs.Attribute.{Attribute, SpellsAttributes, first_value, repeats}
+use Rattle.bgp_wire.specs.Attribute.{Attribute, SpellsAttribute, first_value, repeats}
 use Rattle.bgp_wire.specs.Value.{SpellsOptional, octets_or_none, SpellsPresence, SpellsOrigin, SpellsIPv4}
 use Rattle.bgp_wire.specs.As4.{SaysPassed}
 use Rattle.bgp_wire.specs.NextHop.{SpellsRibHop, rib_hop}
@@ -47,6 +47,6 @@ pub record SaysRibHop (family : Family) (hop : Option Address) (list : List Attr
 -- the octets of the attributes of a RIB entry for a prefix of this family
 pub record SpellsRibAttrs (family : Family) (width : AsWidth) (attrs : Attrs) (octets : List ℕ) : Type 0 where
   pub list : List Attribute
-  pub spelled : SpellsAttributes list octets
+  pub spelled : SpellsAll SpellsAttribute list octets
   pub said : Says width attrs list
   pub hop_said : SaysRibHop family attrs.next_hop list

@@ -2,7 +2,6 @@ pub mod Absent
 pub use Rattle.bgp_paths.specs.Number
 pub use Rattle.bgp_paths.specs.Path
 pub mod Attribute
-pub mod Lent
 pub mod SeenTypes
 pub mod PlainValues
 pub mod Value
@@ -19,4 +18,3 @@ pub mod Multiprotocol
 pub mod Update
 pub mod Codes
 pub mod Parts
-pub mod FirstValues

@@ -9,7 +9,8 @@ use Rattle.bgp_wire.specs.declared.parts.UpdateParts.{UpdateParts}
 use Rattle.bgp_wire.specs.declared.parts.MessageKind.{MessageKind}
 use Rattle.bgp_wire.specs.declared.parts.MessageKind.TheVariants as kinds
 use Rattle.bgp_wire.specs.Absent.{no_attrs}
-use Rattle.bgp_wire.specs.Attribute.{Attribute, SpellsAttributes}
+use Rattle.ip_prefix.specs.Sequences.{SpellsAll}
+use Rattle.bgp_wire.specs.Attribute.{Attribute, SpellsAttribute}
 use Rattle.bgp_wire.specs.Reach.{Reach, reach_hop, reach_prefixes, attrs_with}
 use Rattle.bgp_wire.specs.Update.{SaysTogether}
 
@@ -50,5 +51,5 @@ pub record SaysParts (width : AsWidth) (parts : UpdateParts) (list : List Attrib
 -- the octets of attributes that say this
 pub record SpellsParts (width : AsWidth) (parts : UpdateParts) (octets : List ℕ) : Type 0 where
   pub list : List Attribute
-  pub spelled : SpellsAttributes list octets
+  pub spelled : SpellsAll SpellsAttribute list octets
   pub said : SaysParts width parts list

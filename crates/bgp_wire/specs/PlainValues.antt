@@ -1,18 +1,23 @@
 -- Private.
 -- The values of attributes, each read by itself.
-use Rattle.std.specs.Prelude.{◌≡◌, ℕ, if◌then◌else◌, ◌==◌, List, Option, Some, None}
+use Rattle.std.specs.Prelude.{◌≡◌, ℕ, ◌<◌, if◌then◌else◌, ◌==◌, List, Option, Some, None}
+use Rattle.std.specs.Borrow.{Bor}
 use Rattle.ip_prefix.specs.Sequences.{SpellsAll}
-use Rattle.bgp_wire.specs.declared.framing.TheConstants.{AS_PATH, NEXT_HOP, AGGREGATOR, COMMUNITIES, MP_REACH_NLRI, MP_UNREACH_NLRI, AS4_PATH, AS4_AGGREGATOR}
+use Rattle.bgp_wire.specs.declared.framing.TheConstants.{KINDS, AS_PATH, NEXT_HOP, AGGREGATOR, COMMUNITIES, MP_REACH_NLRI, MP_UNREACH_NLRI, AS4_PATH, AS4_AGGREGATOR}
 use Rattle.bgp_paths.specs.declared.numbers.AsWidth.{AsWidth}
 use Rattle.bgp_wire.specs.declared.attrs.Attrs.{Attrs}
 use Rattle.bgp_wire.specs.declared.attribute_list.LaterValues.{LaterValues}
-use Rattle.bgp_wire.specs.Attribute.{Attribute, SpellsAttributes}
+use Rattle.bgp_wire.specs.Attribute.{Attribute, SpellsAttribute}
 use Rattle.bgp_wire.specs.Content.{FirstOf, firsts_of, SaysShort}
-use Rattle.bgp_wire.specs.Lent.{octets_of}
 use Rattle.bgp_paths.specs.Number.{SpellsWord}
 use Rattle.bgp_paths.specs.Path.{SpellsPath}
 use Rattle.bgp_wire.specs.SeenTypes.{Types, Tells}
 use Rattle.bgp_wire.specs.Value.{SpellsOptional, octets_or_none, SpellsIPv4, SpellsAggregator}
+
+-- the octets that are lent, where there are any
+abbrev pub octets_of : Option (Bor (List ℕ)) → Option (List ℕ)
+octets_of None = None
+octets_of (Some octets) = Some octets.now
 
 -- what these values say, each by itself: the path with numbers of this width, the aggregator of AGGREGATOR and the next hop of NEXT_HOP
 pub record SaysPlainly (width : AsWidth) (attrs : Attrs) (first : FirstOf) : Type 0 where
@@ -25,7 +30,7 @@ pub record SaysPlainly (width : AsWidth) (attrs : Attrs) (first : FirstOf) : Typ
 -- the octets of attributes that say this plainly
 pub record SpellsPlainly (width : AsWidth) (attrs : Attrs) (octets : List ℕ) : Type 0 where
   pub list : List Attribute
-  pub spelled : SpellsAttributes list octets
+  pub spelled : SpellsAll SpellsAttribute list octets
   pub said : SaysPlainly width attrs (firsts_of list)
 
 -- these are the values that can't be read alone
@@ -38,7 +43,7 @@ pub record AreLater (later : LaterValues) (first : FirstOf) : Type 0 where
 -- the octets are the attributes of a list; these attributes say what its values say plainly, and these values and types were kept of it
 pub record ReadsList (width : AsWidth) (attrs : Attrs) (later : LaterValues) (types : Types) (octets : List ℕ) : Type 0 where
   pub list : List Attribute
-  pub spelled : SpellsAttributes list octets
+  pub spelled : SpellsAll SpellsAttribute list octets
   pub said : SaysPlainly width attrs (firsts_of list)
   pub values : AreLater later (firsts_of list)
   pub seen : Tells types list
@@ -72,6 +77,10 @@ value_at kind octets wanted = if kind == wanted then Some octets else None
 -- the first values, with one value more
 abbrev pub with_value : ℕ → List ℕ → FirstOf → FirstOf
 with_value kind octets first wanted = value_or (first wanted) (value_at kind octets wanted)
+
+-- where the one held of first values, among them none of this type, the other holds of them and this one
+abbrev pub HoldsWithValue : ℕ → List ℕ → (FirstOf → Type 0) → (FirstOf → Type 0) → Type 0
+HoldsWithValue kind octets Old New = (first : FirstOf) → (kind < KINDS → first kind ≡ None) → Old first → New (with_value kind octets first)
 
 -- of a list of these types: where the old attributes are what was read of it, the new ones say plainly what it says
 abbrev pub AreCleared : Types → Attrs → Attrs → Type 0

@@ -46,31 +46,24 @@ pub record SpellsUnicast (family : Family) (reach : Reach) (octets : List ℕ) :
   pub stands : HopStands reach.hop body octets
   pub spelled : SpellsAll (SpellsNetwork family) reach.prefixes body
 
--- the octets of prefixes of a family that are announced with a next hop
-pub record SpellsReach (reach : Reach) (octets : List ℕ) : Type 0 where
+-- the octets of unicast of a family, and of a value behind it
+pub record IsUnicast {A : Type 0} (Spells : Family → A → List ℕ → Type 0) (value : A) (octets : List ℕ) : Type 0 where
   pub family : Family
   pub rest : List ℕ
   pub whole : octets ≡ unicast_octets family ++ rest
-  pub spelled : SpellsUnicast family reach rest
-
--- the octets of prefixes of a family that are withdrawn
-pub record SpellsUnreach (prefixes : List Network) (octets : List ℕ) : Type 0 where
-  pub family : Family
-  pub rest : List ℕ
-  pub whole : octets ≡ unicast_octets family ++ rest
-  pub spelled : SpellsAll (SpellsNetwork family) prefixes rest
+  pub spelled : Spells family value rest
 
 -- what the value of MP_REACH_NLRI announces: nothing where it is absent, or of another family
 abbrev pub SaysReach : Option Reach → Option (List ℕ) → Type 0
 SaysReach None None = Unit {0}
 SaysReach None (Some octets) = IsOfAnother octets
-SaysReach (Some reach) (Some octets) = SpellsReach reach octets
+SaysReach (Some reach) (Some octets) = IsUnicast SpellsUnicast reach octets
 SaysReach (Some reach) None = ⊥
 
 -- what the value of MP_UNREACH_NLRI withdraws
 abbrev pub SaysUnreach : List Network → Option (List ℕ) → Type 0
 SaysUnreach prefixes None = prefixes ≡ []
-SaysUnreach prefixes (Some octets) = (IsOfAnother octets × (prefixes ≡ [])) ⊎ SpellsUnreach prefixes octets
+SaysUnreach prefixes (Some octets) = (IsOfAnother octets × (prefixes ≡ [])) ⊎ IsUnicast (λ family. SpellsAll (SpellsNetwork family)) prefixes octets
 
 -- the prefixes that are announced
 abbrev pub reach_prefixes : Option Reach → List Network

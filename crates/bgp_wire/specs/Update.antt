@@ -12,7 +12,7 @@ use Rattle.bgp_wire.specs.declared.message.TheConstants.{MARKER_SIZE, UPDATE}
 use Rattle.bgp_wire.specs.declared.parts.Update.{Update}
 use Rattle.bgp_wire.specs.declared.message.Message.{Message}
 use Rattle.bgp_wire.specs.declared.message.Message.TheVariants as messages
-use Rattle.bgp_wire.specs.Attribute.{Attribute, SpellsAttributes, first_value, repeats}
+use Rattle.bgp_wire.specs.Attribute.{Attribute, SpellsAttribute, first_value, repeats}
 use Rattle.bgp_wire.specs.Value.{SpellsOptional, SpellsIPv4}
 use Rattle.bgp_wire.specs.Content.{Says}
 use Rattle.bgp_wire.specs.Reach.{Reach, SaysReach, SaysUnreach, reach_prefixes, reach_attrs}
@@ -60,7 +60,7 @@ pub record SpellsUpdate (width : AsWidth) (update : Update) (body : List ℕ) : 
   pub withdrawn_spelled : SpellsAll (SpellsNetwork V4) update.withdrawn withdrawn
   pub announced_spelled : SpellsAll (SpellsNetwork V4) update.announced announced
   pub list : List Attribute
-  pub spelled : SpellsAttributes list attributes
+  pub spelled : SpellsAll SpellsAttribute list attributes
   pub said : SaysInUpdate width update list
 
 -- the octets of a message; the body of one that isn't an UPDATE may be any octets

@@ -5,7 +5,7 @@ ghost use Rattle.bgp_paths.specs.declared.numbers.AsWidth.TheVariants.{Two};
 ghost use Rattle.bgp_wire.specs.As4.{ignores_as4, joined_aggregator, IsJoined};
 ghost use Rattle.bgp_wire.specs.Attribute.{Attribute};
 ghost use Rattle.bgp_wire.specs.Content.{firsts_of, Says};
-ghost use Rattle.bgp_wire.specs.Lent.{octets_of};
+ghost use Rattle.bgp_wire.specs.PlainValues.{octets_of};
 ghost use Rattle.bgp_wire.specs.PlainValues.{SaysPlainly, AreLater};
 
 use crate::attribute_list::LaterValues;
@@ -33,24 +33,11 @@ pub(crate) fn join_passed(
     ensures kept { attrs.new.next_hop ≡ attrs.old.next_hop }
 {
     match width {
-        AsWidth::Two => join_there(alloc, attrs, later),
         AsWidth::Four => Ok(()),
+        // Most often neither is there, and all stays.
+        AsWidth::Two if later.as4_path.is_none() && later.as4_aggregator.is_none() => Ok(()),
+        AsWidth::Two => join_as4(alloc, attrs, later),
     }
-}
-
-/// The same beside numbers of two octets. Most often neither AS4_PATH nor AS4_AGGREGATOR is there,
-/// and all stays.
-#[inline(always)]
-fn join_there(alloc: Global, attrs: &mut Attrs, later: &LaterValues) -> Result<(), AllocError>
-    ensures said { OnOk result ((list : List Attribute) →
-        SaysPlainly Two attrs.old (firsts_of list) → AreLater later.now (firsts_of list) →
-        Says Two attrs.new list) }
-    ensures kept { attrs.new.next_hop ≡ attrs.old.next_hop }
-{
-    if later.as4_path.is_none() && later.as4_aggregator.is_none() {
-        return Ok(());
-    }
-    join_as4(alloc, attrs, later)
 }
 
 /// Where AS4_PATH or AS4_AGGREGATOR stands beside numbers of two octets.
@@ -62,33 +49,17 @@ fn join_as4(alloc: Global, attrs: &mut Attrs, later: &LaterValues) -> Result<(),
     ensures kept { attrs.new.next_hop ≡ attrs.old.next_hop }
 {
     let as4 = read_as4_aggregator(later.as4_aggregator);
-    let ignored = is_ignored(&attrs.aggregator, &as4);
-    attrs.aggregator = join_aggregator(attrs.aggregator, as4);
+    // Both are ignored where the number of AGGREGATOR stands for no other.
+    let ignored = match (&attrs.aggregator, &as4) {
+        (Some(own), Some(_)) => own.asn != AS_TRANS,
+        _ => false,
+    };
+    if attrs.aggregator.is_some() && as4.is_some() && !ignored {
+        attrs.aggregator = as4;
+    }
     let own = mem::replace(&mut attrs.path, AsPath::none(alloc));
     attrs.path = join_path(alloc, own, ignored, later.as4_path)?;
     Ok(())
-}
-
-/// Whether AS4_AGGREGATOR and AS4_PATH are ignored: where both aggregators are there and the number
-/// of AGGREGATOR stands for no other.
-fn is_ignored(own: &Option<Aggregator>, as4: &Option<Aggregator>) -> bool
-    ensures { result ≡ ignores_as4 own.now as4.now }
-{
-    match (own, as4) {
-        (Some(own), Some(_)) => own.asn != AS_TRANS,
-        _ => false,
-    }
-}
-
-/// The aggregator of two: AS4_AGGREGATOR replaces AGGREGATOR, where both are there and it isn't
-/// ignored.
-fn join_aggregator(own: Option<Aggregator>, as4: Option<Aggregator>) -> Option<Aggregator>
-    ensures { result ≡ joined_aggregator own as4 }
-{
-    match (own, as4) {
-        (Some(own), Some(as4)) => Some(if own.asn == AS_TRANS { as4 } else { own }),
-        _ => own,
-    }
 }
 
 /// AS_PATH joined with the value of AS4_PATH, if that isn't to be ignored. It is discarded where it

@@ -2,7 +2,7 @@
 
 ghost use Rattle.std.specs.Prelude.{◌≡◌, ◌<◌, [], Some, OnOk, OnErr, IfErr};
 ghost use Rattle.bgp_wire.specs.declared.framing.TheConstants.{KINDS};
-ghost use Rattle.bgp_wire.specs.FirstValues.{HoldsWithValue};
+ghost use Rattle.bgp_wire.specs.PlainValues.{HoldsWithValue};
 ghost use Rattle.bgp_wire.specs.PlainValues.{AreCleared, AreLater, ReadSoFar};
 ghost use Rattle.bgp_wire.specs.Content.{FirstOf, firsts_of};
 ghost use Rattle.bgp_wire.specs.PlainValues.{SaysPlainly, SpellsPlainly, ReadsList};
@@ -27,27 +27,12 @@ pub(crate) struct SentList<'a> {
 }
 
 /// The first values that others or their place have a say in, as octets.
-#[derive(Clone, Copy)]
+#[derive(Clone, Copy, Default)]
 pub(crate) struct LaterValues<'a> {
     pub(crate) reach: Option<&'a [u8]>,
     pub(crate) unreach: Option<&'a [u8]>,
     pub(crate) as4_path: Option<&'a [u8]>,
     pub(crate) as4_aggregator: Option<&'a [u8]>,
-}
-
-impl<'a> LaterValues<'a> {
-    /// Those of no attributes.
-    #[inline]
-    pub(crate) fn none() -> LaterValues<'a>
-        ensures { AreLater result (firsts_of []) }
-    {
-        LaterValues {
-            reach: None,
-            unreach: None,
-            as4_path: None,
-            as4_aggregator: None,
-        }
-    }
 }
 
 /// Reads the value of the first attribute of its type. Refused, nothing is said of the attributes.

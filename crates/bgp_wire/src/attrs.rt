@@ -1,8 +1,8 @@
 //! The path attributes of a route.
 
-ghost use Rattle.std.specs.Prelude.{◌≡◌, [], IfOk, IfErr, OnOk, OnErr};
+ghost use Rattle.std.specs.Prelude.{◌≡◌, [], IfErr, OnOk, OnErr};
 ghost use Rattle.ip_prefix.specs.Sequences.{SpellsAll};
-ghost use Rattle.bgp_wire.specs.Absent.{no_attrs, with_lists, without_lists};
+ghost use Rattle.bgp_wire.specs.Absent.{no_attrs, without_lists};
 ghost use Rattle.bgp_paths.specs.Segments.{no_path};
 ghost use Rattle.bgp_paths.specs.Number.{SpellsWord};
 ghost use Rattle.bgp_paths.specs.Readers.{Refuses};
@@ -114,27 +114,6 @@ impl Clone for Communities {
     }
 }
 
-/// A path and communities that aren't needed any more. Others are read into their memory.
-#[derive(Drop)]
-pub(crate) struct Spare {
-    pub(crate) path: AsPath,
-    pub(crate) communities: Communities,
-}
-
-impl Spare {
-    /// Without any memory.
-    #[inline]
-    pub(crate) fn none(alloc: Global) -> Spare
-        ensures path { result.path ≡ no_path }
-        ensures communities { result.communities ≡ [] }
-    {
-        Spare {
-            path: AsPath::none(alloc),
-            communities: Communities::from_vec(Vec::new(alloc)),
-        }
-    }
-}
-
 /// The path attributes of a route. Those that are absent are `None`, false or empty.
 #[derive(Debug, Drop)]
 pub struct Attrs {
@@ -173,24 +152,11 @@ impl Attrs {
         }
     }
 
-    /// The same attributes, in memory that is spare.
-    pub(crate) fn copied(&self, alloc: Global, spare: Spare) -> Result<Attrs, AllocError>
-        ensures { IfOk result (λ copy. copy ≡ self.now) }
-    {
-        let path = copy_path(alloc, spare.path, &self.path)?;
-        let old = spare.communities.into_vec();
-        let communities = copy_numbers(old, self.communities.as_slice(), MOST_SPARE)?;
-        Ok(Attrs {
-            path,
-            communities: Communities::from_vec(communities),
-            ..*self
-        })
-    }
-
     /// Takes all away but the path and the communities.
     #[inline]
     pub(crate) fn clear_short(&mut self)
-        ensures { self.new ≡ with_lists self.old.path self.old.communities }
+        ensures { self.new ≡
+            record no_attrs { path = self.old.path; communities = self.old.communities } }
     {
         self.next_hop = None;
         self.aggregator = None;
@@ -198,18 +164,6 @@ impl Attrs {
         self.local_pref = None;
         self.origin = None;
         self.atomic = false;
-    }
-
-    /// The path and the communities, which leaves neither there.
-    #[inline]
-    pub(crate) fn take_spare(&mut self, alloc: Global) -> Spare
-        ensures { self.new ≡ without_lists self.old }
-    {
-        let none = Spare::none(alloc);
-        Spare {
-            path: mem::replace(&mut self.path, none.path),
-            communities: mem::replace(&mut self.communities, none.communities),
-        }
     }
 }
 
@@ -219,8 +173,16 @@ pub fn replace_attrs(alloc: Global, attrs: &mut Attrs, other: &Attrs) -> Result<
     ensures replaced { OnOk result (attrs.new ≡ other.now) }
     ensures left { OnErr result (attrs.new ≡ without_lists attrs.old) }
 {
-    let spare = attrs.take_spare(alloc);
-    *attrs = other.copied(alloc, spare)?;
+    let none = Communities::from_vec(Vec::new(alloc));
+    let path = mem::replace(&mut attrs.path, AsPath::none(alloc));
+    let communities = mem::replace(&mut attrs.communities, none).into_vec();
+    let path = copy_path(alloc, path, &other.path)?;
+    let communities = copy_numbers(communities, other.communities.as_slice(), MOST_SPARE)?;
+    *attrs = Attrs {
+        path,
+        communities: Communities::from_vec(communities),
+        ..*other
+    };
     Ok(())
 }
 
@@ -228,7 +190,10 @@ impl Clone for Attrs {
     ghost is_clone = { λ attrs copy. copy ≡ attrs };
 
     fn clone(&self) -> Result<Attrs, AllocError> {
-        let alloc = *self.communities.communities.allocator();
-        self.copied(alloc, Spare::none(alloc))
+        Ok(Attrs {
+            path: self.path.clone()?,
+            communities: self.communities.clone()?,
+            ..*self
+        })
     }
 }

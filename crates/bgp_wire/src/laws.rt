@@ -2,6 +2,7 @@
 
 ghost use Rattle.std.specs.Prelude.{◌≡◌};
 ghost use Rattle.ip_prefix.specs.declared.addr.Family.{Family};
+ghost use Rattle.ip_prefix.specs.Sequences.{SpellsAll};
 ghost use Rattle.ip_prefix.specs.Fronts.{IsOne};
 ghost use Rattle.bgp_wire.specs.declared.as4.TheConstants.{AS_TRANS};
 ghost use Rattle.bgp_wire.specs.declared.framing.TheConstants.{KINDS, EXTENDED_LENGTH, ORIGIN, AS_PATH, NEXT_HOP, MULTI_EXIT_DISC, LOCAL_PREF, ATOMIC_AGGREGATE, AGGREGATOR, COMMUNITIES, MP_REACH_NLRI, MP_UNREACH_NLRI, AS4_PATH, AS4_AGGREGATOR};
@@ -10,13 +11,13 @@ ghost use Rattle.bgp_wire.specs.declared.next_hop.TheConstants.{FAMILY_SIZE, LIN
 ghost use Rattle.bgp_wire.specs.declared.reach.TheConstants.{AFI_IPV4, AFI_IPV6, SAFI_UNICAST};
 ghost use Rattle.bgp_wire.specs.declared.values.TheConstants.{ORIGIN_IGP, ORIGIN_EGP, ORIGIN_INCOMPLETE};
 ghost use Rattle.bgp_paths.specs.declared.numbers.AsWidth.{AsWidth};
-ghost use Rattle.bgp_wire.specs.Attribute.{SpellsAttributes};
+ghost use Rattle.bgp_wire.specs.Attribute.{SpellsAttribute};
 ghost use Rattle.bgp_wire.specs.Content.{SpellsRibAttrs};
 ghost use Rattle.bgp_wire.specs.Update.{SpellsMessage, SpellsUpdate};
 
 /// No octets spell two lists of attributes (RFC 4271, section 4.3).
 pub fn one_attribute_list()
-    ensures { IsOne SpellsAttributes }
+    ensures { IsOne (SpellsAll SpellsAttribute) }
 {}
 
 /// No octets spell two attributes of a RIB entry for a family, with AS numbers of one width.

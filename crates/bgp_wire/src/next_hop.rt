@@ -2,8 +2,7 @@
 
 ghost use Rattle.std.specs.Prelude.{◌≡◌, if◌then◌else◌, Option, Some, length, OnOk, OnErr, IfErr};
 ghost use Rattle.ip_prefix.specs.Address.{Address};
-ghost use Rattle.ip_prefix.specs.Bits.{bits_of_octets};
-ghost use Rattle.bgp_wire.specs.Lent.{octets_of};
+ghost use Rattle.bgp_wire.specs.PlainValues.{octets_of};
 ghost use Rattle.bgp_wire.specs.Value.{SpellsOptional};
 ghost use Rattle.bgp_wire.specs.NextHop.{SpellsNextHop, SpellsHopAlone, SpellsRibHop, rib_hop};
 ghost use Rattle.bgp_paths.specs.Readers.{Finds, Refuses};
@@ -31,19 +30,13 @@ pub(crate) fn read_next_hop(octets: &[u8]) -> Option<Addr>
 {
     match octets.len() {
         IPV4_SIZE => Some(ipv4(octets)),
-        IPV6_SIZE | BOTH_SIZE => Some(ipv6(&octets[..IPV6_SIZE])),
+        IPV6_SIZE | BOTH_SIZE => {
+            let mut address = [0; IPV6_SIZE];
+            address.copy_from_slice(&octets[..IPV6_SIZE]);
+            Some(Addr::v6(address))
+        }
         _ => None,
     }
-}
-
-/// The IPv6 address of sixteen octets.
-fn ipv6(octets: &[u8]) -> Addr
-    requires { length octets.now ≡ IPV6_SIZE }
-    ensures { result ≡ record { family = Family.V6; bits = bits_of_octets octets.now } }
-{
-    let mut address = [0; IPV6_SIZE];
-    address.copy_from_slice(octets);
-    Addr::v6(address)
 }
 
 /// The next hop whose length the octets begin with.
@@ -75,18 +68,6 @@ fn read_rib_value(octets: &[u8]) -> Option<Addr>
     read_hop_alone(rest)
 }
 
-/// Whether the next hop of MP_REACH_NLRI is that of a RIB entry, beside one of NEXT_HOP or none.
-#[inline]
-fn is_reached(family: Family, own: &Option<Addr>) -> bool
-    ensures { (reached : Address) →
-        (if result then Some reached else own.now) ≡ rib_hop family own.now (Some reached) }
-{
-    match family {
-        Family::V4 => own.is_none(),
-        Family::V6 => true,
-    }
-}
-
 /// Makes the next hop of NEXT_HOP that of a RIB entry, which may be that of MP_REACH_NLRI with this
 /// value. Most often it stays. Refused, it does too.
 #[inline(always)]
@@ -108,7 +89,7 @@ pub(crate) fn fill_rib_hop(
     let Some(reached) = read_rib_value(octets) else {
         return Err(WireFault::Malformed);
     };
-    if is_reached(family, hop) {
+    if family == Family::V6 || hop.is_none() {
         *hop = Some(reached);
     }
     Ok(())

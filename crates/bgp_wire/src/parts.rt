@@ -81,7 +81,12 @@ impl UpdateParts {
             mp_hop,
             mp_announced,
         } = self;
-        let mp_attrs = attrs_with(&attrs, mp_hop, &mp_announced)?;
+        let mut mp_attrs = None;
+        if !mp_announced.as_slice().is_empty() {
+            let mut copy = attrs.clone()?;
+            copy.next_hop = mp_hop;
+            mp_attrs = Some(copy);
+        }
         Ok(Update {
             withdrawn,
             mp_withdrawn,
@@ -91,20 +96,4 @@ impl UpdateParts {
             mp_announced,
         })
     }
-}
-
-/// The attributes with another next hop, where there are prefixes.
-fn attrs_with(
-    attrs: &Attrs,
-    next_hop: Option<Addr>,
-    prefixes: &Prefixes,
-) -> Result<Option<Attrs>, AllocError>
-    ensures { IfOk result (λ found. found ≡ attrs_with attrs.now next_hop prefixes.now) }
-{
-    if prefixes.as_slice().is_empty() {
-        return Ok(None);
-    }
-    let mut copy = attrs.clone()?;
-    copy.next_hop = next_hop;
-    Ok(Some(copy))
 }

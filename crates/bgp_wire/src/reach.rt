@@ -1,9 +1,9 @@
 //! Reading what MP_REACH_NLRI and MP_UNREACH_NLRI of an UPDATE say (RFC 4760, sections 3 and 4).
 
-ghost use Rattle.std.specs.Prelude.{◌≡◌, ℕ, List, Option, IfSome, IfNone, IfOk, IfErr, OnOk};
+ghost use Rattle.std.specs.Prelude.{◌≡◌, ℕ, List, Option, IfSome, IfNone, IfErr, OnOk};
 ghost use Rattle.ip_prefix.specs.Address.{Address};
-ghost use Rattle.bgp_wire.specs.Lent.{octets_of};
-ghost use Rattle.bgp_wire.specs.Reach.{unicast_octets, HopStands, SpellsUnicast};
+ghost use Rattle.bgp_wire.specs.PlainValues.{octets_of};
+ghost use Rattle.bgp_wire.specs.Reach.{unicast_octets, HopStands};
 ghost use Rattle.bgp_wire.specs.Multiprotocol.{BeginsIn};
 ghost use Rattle.bgp_wire.specs.Reach.{Reach, SaysReach, SaysUnreach, reach_hop, reach_prefixes};
 ghost use Rattle.bgp_paths.specs.Readers.{Finds, Refuses};
@@ -97,24 +97,14 @@ pub(crate) fn fill_reach(
     match read_scope(octets).ok_or(WireFault::Malformed)? {
         Scope::Another => Ok(()),
         Scope::Unicast(family, rest) => {
-            let hop = fill_unicast(prefixes, family, rest)?;
-            *next_hop = Some(hop);
+            let Some(framed) = split_next_hop(rest) else {
+                return Err(WireFault::Malformed);
+            };
+            fill_prefixes(prefixes, family, framed.rest)?;
+            *next_hop = Some(framed.hop);
             Ok(())
         }
     }
-}
-
-/// Makes the prefixes those of a family that are announced, and answers their next hop.
-fn fill_unicast(prefixes: &mut Prefixes, family: Family, octets: &[u8]) -> Result<Addr, WireFault>
-    ensures filled { IfOk result (λ hop.
-        SpellsUnicast family record { hop = hop; prefixes = prefixes.new } octets.now) }
-    ensures refused { IfErr result (Refuses (SpellsUnicast family) octets.now) }
-{
-    let Some(framed) = split_next_hop(octets) else {
-        return Err(WireFault::Malformed);
-    };
-    fill_prefixes(prefixes, family, framed.rest)?;
-    Ok(framed.hop)
 }
 
 /// Makes the prefixes those that MP_UNREACH_NLRI withdraws. There are none where it is absent or

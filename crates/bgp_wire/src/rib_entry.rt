@@ -27,7 +27,7 @@ fn fill_rib_attrs(
     ensures filled { OnOk result (SpellsRibAttrs family width attrs.new octets.now) }
     ensures refused { IfErr result (Refuses (SpellsRibAttrs family width) octets.now) }
 {
-    let mut later = LaterValues::none();
+    let mut later = LaterValues::default();
     let mut types = SeenTypes::none();
     let sent = SentList { octets, width };
     read_list(alloc, attrs, sent, &mut later, &mut types)?;

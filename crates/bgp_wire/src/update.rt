@@ -3,7 +3,7 @@
 ghost use Rattle.std.specs.Prelude.{◌≡◌, ℕ, ◌<◌, ◌^◌, ◌++◌, List, length, IfSome, IfNone, IfErr, OnOk};
 ghost use Rattle.bgp_wire.specs.Parts.{update_in, SpellsParts};
 ghost use Rattle.bgp_paths.specs.Readers.{Refuses};
-ghost use Rattle.bgp_wire.specs.Update.{sized_octets, IsUpdate, SpellsUpdate};
+ghost use Rattle.bgp_wire.specs.Update.{sized_octets, SpellsUpdate};
 
 use crate::as4::join_passed;
 use crate::attribute_list::{LaterValues, SentList, read_list};
@@ -16,15 +16,6 @@ use crate::seen_types::SeenTypes;
 use bgp_paths::{AsWidth, WireFault};
 use ip_prefix::Family;
 use std::alloc::Global;
-
-/// The body of an UPDATE as it is framed: the octets of its withdrawn prefixes, of its attributes
-/// and of its announced prefixes.
-#[derive(Clone, Copy)]
-struct FramedUpdate<'a> {
-    withdrawn: &'a [u8],
-    attributes: &'a [u8],
-    announced: &'a [u8],
-}
 
 /// The octets behind their length, and what follows them.
 fn split_sized(octets: &[u8]) -> Option<(&[u8], &[u8])>
@@ -44,23 +35,6 @@ fn split_sized(octets: &[u8]) -> Option<(&[u8], &[u8])>
     Some(rest.split_at(size))
 }
 
-/// The parts of an UPDATE's body.
-#[inline]
-fn frame_update(body: &[u8]) -> Option<FramedUpdate<'_>>
-    ensures some { IfSome result
-        (λ f. IsUpdate f.withdrawn.now f.attributes.now f.announced.now body.now) }
-    ensures none { IfNone result ((withdrawn attributes announced : List ℕ) →
-        IsUpdate withdrawn attributes announced body.now → ⊥) }
-{
-    let (withdrawn, rest) = split_sized(body)?;
-    let (attributes, announced) = split_sized(rest)?;
-    Some(FramedUpdate {
-        withdrawn,
-        attributes,
-        announced,
-    })
-}
-
 /// Makes the parts those that the octets of attributes say. Refused, nothing is said of them.
 #[inline]
 fn fill_said(
@@ -72,7 +46,7 @@ fn fill_said(
     ensures filled { OnOk result (SpellsParts width parts.new octets.now) }
     ensures refused { IfErr result (Refuses (SpellsParts width) octets.now) }
 {
-    let mut later = LaterValues::none();
+    let mut later = LaterValues::default();
     let mut types = SeenTypes::none();
     let sent = SentList { octets, width };
     read_list(alloc, &mut parts.attrs, sent, &mut later, &mut types)?;
@@ -97,11 +71,14 @@ pub(crate) fn fill_update(
     ensures filled { OnOk result (SpellsUpdate width (update_in parts.new) body.now) }
     ensures refused { IfErr result (Refuses (SpellsUpdate width) body.now) }
 {
-    let Some(framed) = frame_update(body) else {
+    let Some((withdrawn, rest)) = split_sized(body) else {
         return Err(WireFault::Malformed);
     };
-    fill_said(alloc, parts, width, framed.attributes)?;
-    fill_prefixes(&mut parts.withdrawn, Family::V4, framed.withdrawn)?;
-    fill_prefixes(&mut parts.announced, Family::V4, framed.announced)?;
+    let Some((attributes, announced)) = split_sized(rest) else {
+        return Err(WireFault::Malformed);
+    };
+    fill_said(alloc, parts, width, attributes)?;
+    fill_prefixes(&mut parts.withdrawn, Family::V4, withdrawn)?;
+    fill_prefixes(&mut parts.announced, Family::V4, announced)?;
     Ok(())
 }

@@ -2,7 +2,7 @@
 
 ghost use Rattle.std.specs.Prelude.{◌≡◌, ◌+◌, length, Some, None, IsSome, IfErr, OnOk, OnErr, IsOkUnless};
 ghost use Rattle.bgp_paths.specs.declared.fault.WireFault.TheVariants.{Malformed};
-ghost use Rattle.bgp_wire.specs.Lent.{octets_of};
+ghost use Rattle.bgp_wire.specs.PlainValues.{octets_of};
 ghost use Rattle.bgp_wire.specs.As4.{SpellsWhereFormed};
 ghost use Rattle.bgp_paths.specs.Number.{SpellsWord, octets_at};
 ghost use Rattle.bgp_wire.specs.Value.{SpellsPresence, SpellsOrigin, SpellsIPv4};

@@ -10,7 +10,7 @@ returns-then-total-replaced c =
     let second = c.args.second.now in
     let shorter : path_weight first < path_weight second = omega arith in
     let alone = first_alone first second shorter in
-    MatchResult-weaker c.clone.result c.clone.ensures.cases (λ copy same. subst (IsMerge first second) (sym same) alone) (λ error none. tt)
+    MatchResult-weaker c.clone.result c.clone.ensures.cases (λ copy same. subst (IsMerge first second) (λ i. record { segments = sym same i }) alone) (λ error none. tt)
 
 pub returns : goal.returns
 returns c =

@@ -1,4 +1,5 @@
-use Rattle.std.proofs.Common.{◌≡◌, ℕ, [], Err, IfErr, take, ap, sym, subst, ◌∙◌}
+use Rattle.std.proofs.Common.{◌≡◌, ℕ, ◌+◌, [], ◌∷◌, ◌++◌, Err, IfErr, take, slice_set, ap, sym, subst, ◌∙◌, arith}
+use Rattle.std.proofs.lemmas.Grind.{common_steps}
 use Rattle.std.proofs.lemmas.Result.{err_from_is_err_and}
 use Rattle.ip_prefix.specs.Sequences.{Begins, SpellsAll}
 use Rattle.octet_forms.proofs.Lists.{nonempty}
@@ -18,17 +19,17 @@ returns-in_default-clause-refused c =
     let some : rest ≡ [] → ⊥ = λ e. nonempty rest (sym c.is_empty.ensures ∙ c.loop-rest-test.true) e in
     none_at_all (SpellsSegment width) (segment_code width) (take c.loop-rest.count c.loop-rest.segments.items) rest c.args.octets.now some c.loop-rest.invariant.read c.in_default.ensures.none
 
-pub returns-in_err-fill_segment-clause-refused : goal.returns-in_err-fill_segment-clause-refused
-returns-in_err-fill_segment-clause-refused c =
+pub returns-in_err-fill_numbers-clause-refused : goal.returns-in_err-fill_numbers-clause-refused
+returns-in_err-fill_numbers-clause-refused c =
     let width = c.args.width in
     let octets = c.args.octets.now in
     let rest = c.loop-rest.rest.now in
     let f = c.in-Some.framed in
     let framed : (count : ℕ) × IsFramed width f.kind count f.body.now f.rest.now rest = c.in-Some.ensures.some in
     let some : rest ≡ [] → ⊥ = λ e. nonempty rest (sym c.is_empty.ensures ∙ c.loop-rest-test.true) e in
-    let fault = c.in_err-fill_segment.field-0.0 in
-    let none = refused_numbers width f.kind framed.0 f.body.now f.rest.now rest fault framed.1 c.in_err-fill_segment.ensures.refused in
-    let p = err_from_is_err_and c.from_residual.result c.from_residual.ensures.1 in
+    let fault = c.in_err-fill_numbers.field-0.0 in
+    let none = refused_numbers width f.kind framed.0 f.body.now f.rest.now rest fault framed.1 c.in_err-fill_numbers.ensures.refused in
+    let p = err_from_is_err_and c.from_residual-in_err-fill_numbers.result c.from_residual-in_err-fill_numbers.ensures.1 in
     subst (λ answer. IfErr answer (Refuses (SpellsAll (SpellsSegment width)) octets)) (sym (p.1 ∙ ap Err p.2))
     (refused_rest (SpellsSegment width) (segment_code width) (take c.loop-rest.count c.loop-rest.segments.items) rest octets fault some c.loop-rest.invariant.read none)
 
@@ -39,11 +40,11 @@ loop-rest-preserved c =
     let f = c.in-Some.framed in
     let count = c.loop-rest.count in
     let framed : (count : ℕ) × IsFramed width f.kind count f.body.now f.rest.now c.loop-rest.rest.now = c.in-Some.ensures.some in
-    let filled = c.in_ok-fill_segment.ensures.filled in
-    let segment : Segment = record { numbers = filled.0; kind = f.kind } in
+    let segment : Segment = record { numbers = c.fill_numbers.new.numbers.items; kind = f.kind } in
+    let put : take (count + 1) (slice_set c.if-count-len.segments.items count segment) ≡ take count c.loop-rest.segments.items ++ segment ∷ [] = grind (arith, common_steps) in
     record {
-      within = c.in_ok-fill_segment.ensures.within;
-      read = subst (λ segments. Begins (SpellsAll (SpellsSegment width)) segments f.rest.now octets) (sym filled.2)
+      within = grind (arith, common_steps);
+      read = subst (λ segments. Begins (SpellsAll (SpellsSegment width)) segments f.rest.now octets) (sym put)
           (one_more (SpellsSegment width) (take count c.loop-rest.segments.items) segment f.rest.now c.loop-rest.rest.now octets c.loop-rest.invariant.read
-          (segment_framed width f.kind framed.0 f.body.now f.rest.now c.loop-rest.rest.now filled.0 framed.1 filled.1));
+          (segment_framed width f.kind framed.0 f.body.now f.rest.now c.loop-rest.rest.now segment.numbers framed.1 c.in_ok-fill_numbers.ensures.filled));
     }

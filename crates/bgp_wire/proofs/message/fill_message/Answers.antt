@@ -1,13 +1,11 @@
-use Rattle.std.proofs.Common.{◌≡◌, ℕ, List, Err, IfErr, ap, sym, subst, ◌∙◌}
-use Rattle.std.proofs.lemmas.Result.{err_from_is_err_and}
+use Rattle.std.proofs.Common.{◌≡◌, ℕ, List, subst, ◌∙◌}
 use Rattle.bgp_paths.specs.declared.numbers.AsWidth.{AsWidth}
 use Rattle.bgp_wire.specs.declared.message.Message.{Message}
 use Rattle.bgp_wire.specs.declared.message.Message.TheVariants as messages
 use Rattle.bgp_wire.specs.declared.message.TheConstants.{UPDATE}
 use Rattle.bgp_wire.specs.declared.parts.Update.{Update}
-use Rattle.bgp_paths.specs.Readers.{Refuses}
 use Rattle.bgp_wire.specs.Update.{IsMessage, SpellsUpdate, SpellsMessage}
-use Rattle.bgp_paths.proofs.Refusing.{refused_part}
+use Rattle.bgp_paths.proofs.Refusing.{refused_on}
 use Rattle.bgp_wire.proofs.Reaching.{same_message}
 use Rattle.bgp_wire.proofs.message.fill_message.Goals as goal
 
@@ -29,8 +27,6 @@ returns-in_err-fill_update-clause-refused c =
     let octets = c.args.octets.now in
     let width = c.args.width in
     let f = c.in-Some.framed in
-    let p = err_from_is_err_and c.from_residual.result c.from_residual.ensures.1 in
-    subst (λ answer. IfErr answer (Refuses (SpellsMessage width) octets)) (sym (p.1 ∙ ap Err p.2))
-    (refused_part (SpellsMessage width) (SpellsUpdate width) octets f.body.now c.in_err-fill_update.field-0.0
+    refused_on (SpellsMessage width) (SpellsUpdate width) octets f.body.now c.in_err-fill_update.field-0.0 c.from_residual.result c.from_residual.ensures.1
     (λ value s. update_part width f.kind f.body.now octets c.if-framed-ne-UPDATE.false c.in-Some.ensures.some value s)
-    c.in_err-fill_update.ensures.refused)
+    c.in_err-fill_update.ensures.refused

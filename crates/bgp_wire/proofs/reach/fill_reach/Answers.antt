@@ -1,35 +1,41 @@
-use Rattle.std.proofs.Common.{◌≡◌, ◌++◌, Some, Err, IfErr, refl, ap, sym, subst, ◌∙◌}
-use Rattle.std.proofs.lemmas.Result.{err_from_is_err_and}
-use Rattle.bgp_wire.specs.Lent.{octets_of}
-use Rattle.bgp_wire.specs.Reach.{Reach, unicast_octets, SpellsUnicast, SpellsReach, SaysReach}
+use Rattle.std.proofs.Common.{Some, IfErr, refl, ap, sym, subst, ◌∙◌}
+use Rattle.ip_prefix.specs.Sequences.{SpellsAll}
+use Rattle.ip_prefix.specs.Wire.{SpellsNetwork}
+use Rattle.bgp_wire.specs.PlainValues.{octets_of}
+use Rattle.bgp_wire.specs.Reach.{Reach, IsUnicast, SpellsUnicast, SaysReach}
 use Rattle.bgp_wire.specs.Multiprotocol.{BeginsIn}
 use Rattle.bgp_paths.specs.Readers.{Refuses}
-use Rattle.bgp_paths.proofs.Refusing.{refused_part}
-use Rattle.bgp_wire.proofs.Reaching.{reach_part}
+use Rattle.bgp_paths.proofs.Refusing.{refused_on}
+use Rattle.bgp_wire.proofs.Reaching.{reach_part, same_stand}
 use Rattle.bgp_wire.proofs.reach.fill_reach.Goals as goal
 
-pub returns-in_err-hop-in-Unicast-clause-refused : goal.returns-in_err-hop-in-Unicast-clause-refused
-returns-in_err-hop-in-Unicast-clause-refused c =
-    let octets = c.in-Some.octets.now in
-    let family = c.in-Unicast.family in
-    let rest = c.in-Unicast.rest.now in
-    let fault = c.in_err-hop-in-Unicast.field-0.0 in
-    let begun : octets ≡ unicast_octets family ++ rest = subst (BeginsIn octets) (c.in_ok-ok_or.ensures.ok_part ∙ ap Some c.in-Unicast.is) c.read_scope.ensures in
-    let p = err_from_is_err_and c.from_residual-in_err-hop-in-Unicast.result c.from_residual-in_err-hop-in-Unicast.ensures.1 in
-    subst (λ value. IfErr c.from_residual-in_err-hop-in-Unicast.result (Refuses SaysReach (octets_of value))) (sym c.in-Some.is)
-    (subst (λ answer. IfErr answer (Refuses SaysReach (Some octets))) (sym (p.1 ∙ ap Err p.2))
-    (refused_part SaysReach (SpellsUnicast family) (Some octets) rest fault (λ value s. reach_part family rest octets begun value s) c.in_err-hop-in-Unicast.ensures.refused))
+pub returns-in_default-split_next_hop-clause-refused : goal.returns-in_default-split_next_hop-clause-refused
+returns-in_default-split_next_hop-clause-refused c value s =
+    let begun = subst (BeginsIn c.in-Some.octets.now) (c.in_ok-ok_or.ensures.ok_part ∙ ap Some c.in-Unicast.is) c.read_scope.ensures in
+    let part = reach_part c.in-Unicast.family c.in-Unicast.rest.now c.in-Some.octets.now begun value (subst (λ v. SaysReach value (octets_of v)) c.in-Some.is s) in
+    c.in_default-split_next_hop.ensures.none part.0.hop part.1.body part.1.stands
 
-pub returns-in_ok-hop-in-Unicast-clause-filled : goal.returns-in_ok-hop-in-Unicast-clause-filled
-returns-in_ok-hop-in-Unicast-clause-filled c =
+pub returns-in_err-fill_prefixes-in-Unicast-clause-refused : goal.returns-in_err-fill_prefixes-in-Unicast-clause-refused
+returns-in_err-fill_prefixes-in-Unicast-clause-refused c =
     let octets = c.in-Some.octets.now in
-    let family = c.in-Unicast.family in
+    let Spells = SpellsAll (SpellsNetwork c.in-Unicast.family) in
     let rest = c.in-Unicast.rest.now in
-    let begun : octets ≡ unicast_octets family ++ rest = subst (BeginsIn octets) (c.in_ok-ok_or.ensures.ok_part ∙ ap Some c.in-Unicast.is) c.read_scope.ensures in
-    let reach : Reach = record { hop = c.in_ok-hop-in-Unicast.hop; prefixes = c.fill_unicast.new.prefixes } in
-    let reached : SpellsReach reach octets = record { family = family; rest = rest; whole = begun; spelled = c.in_ok-hop-in-Unicast.ensures.filled } in (
-      Some reach,
-      subst (λ value. SaysReach (Some reach) (octets_of value)) (sym c.in-Some.is) reached,
-      refl,
-      refl,
-    )
+    let f = c.in-Some-split_next_hop.framed in
+    let begun = subst (BeginsIn octets) (c.in_ok-ok_or.ensures.ok_part ∙ ap Some c.in-Unicast.is) c.read_scope.ensures in
+    let passed = c.from_residual-in_err-fill_prefixes-in-Unicast in
+    subst (λ value. IfErr passed.result (Refuses SaysReach (octets_of value))) (sym c.in-Some.is)
+    (refused_on SaysReach Spells (Some octets) f.rest.now c.in_err-fill_prefixes-in-Unicast.field-0.0 passed.result passed.ensures.1
+    (λ value s.
+    let part = reach_part c.in-Unicast.family rest octets begun value s in
+    (part.0.prefixes, subst (Spells part.0.prefixes) (same_stand part.0.hop f.hop part.1.body f.rest.now rest part.1.stands c.in-Some-split_next_hop.ensures.some).1 part.1.spelled))
+    c.in_err-fill_prefixes-in-Unicast.ensures.refused)
+
+pub returns-in_ok-fill_prefixes-in-Unicast-clause-filled : goal.returns-in_ok-fill_prefixes-in-Unicast-clause-filled
+returns-in_ok-fill_prefixes-in-Unicast-clause-filled c =
+    let octets = c.in-Some.octets.now in
+    let f = c.in-Some-split_next_hop.framed in
+    let begun = subst (BeginsIn octets) (c.in_ok-ok_or.ensures.ok_part ∙ ap Some c.in-Unicast.is) c.read_scope.ensures in
+    let reach : Reach = record { hop = f.hop; prefixes = c.fill_prefixes.new.prefixes } in
+    let reached : IsUnicast SpellsUnicast reach octets =
+    record { family = c.in-Unicast.family; rest = c.in-Unicast.rest.now; whole = begun; spelled = record { body = f.rest.now; stands = c.in-Some-split_next_hop.ensures.some; spelled = c.in_ok-fill_prefixes-in-Unicast.ensures.filled } } in
+    (Some reach, subst (λ value. SaysReach (Some reach) (octets_of value)) (sym c.in-Some.is) reached, refl, refl)

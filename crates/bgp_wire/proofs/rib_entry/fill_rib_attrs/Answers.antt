@@ -1,17 +1,15 @@
-use Rattle.std.proofs.Common.{◌≡◌, true, false, Err, IfErr, ap, sym, subst, ◌∙◌}
-use Rattle.std.proofs.lemmas.Result.{err_from_is_err_and}
+use Rattle.std.proofs.Common.{◌≡◌, true, false, ap, sym, subst, ◌∙◌}
 use Rattle.octet_forms.proofs.Sequences.{one_list}
 use Rattle.bgp_wire.specs.declared.framing.TheConstants.{MP_REACH_NLRI}
 use Rattle.bgp_wire.specs.Attribute.{SpellsAttribute, first_value, repeats}
 use Rattle.bgp_wire.specs.Content.{SpellsRibAttrs}
-use Rattle.bgp_wire.specs.Lent.{octets_of}
+use Rattle.bgp_wire.specs.PlainValues.{octets_of}
 use Rattle.bgp_wire.specs.NextHop.{SpellsRibHop}
 use Rattle.bgp_wire.specs.PlainValues.{SpellsPlainly}
-use Rattle.bgp_paths.specs.Readers.{Refuses}
 use Rattle.bgp_wire.specs.Value.{SpellsOptional}
 use Rattle.bgp_wire.proofs.OneAttribute.{attribute_code}
 use Rattle.bgp_wire.proofs.Plainly.{rib_plainly}
-use Rattle.bgp_paths.proofs.Refusing.{refused_part}
+use Rattle.bgp_paths.proofs.Refusing.{refused_on}
 use Rattle.bgp_wire.proofs.rib_entry.fill_rib_attrs.Goals as goal
 
 pub returns-in_err-read_list-clause-refused : goal.returns-in_err-read_list-clause-refused
@@ -19,9 +17,7 @@ returns-in_err-read_list-clause-refused c =
     let octets = c.args.octets.now in
     let width = c.args.width in
     let Whole = SpellsRibAttrs c.args.family width in
-    let p = err_from_is_err_and c.from_residual.result c.from_residual.ensures.1 in
-    subst (λ answer. IfErr answer (Refuses Whole octets)) (sym (p.1 ∙ ap Err p.2))
-    (refused_part Whole (SpellsPlainly width) octets octets c.in_err-read_list.field-0.0 (λ attrs s. rib_plainly c.args.family width attrs octets s) c.in_err-read_list.ensures.refused)
+    refused_on Whole (SpellsPlainly width) octets octets c.in_err-read_list.field-0.0 c.from_residual.result c.from_residual.ensures.1 (λ attrs s. rib_plainly c.args.family width attrs octets s) c.in_err-read_list.ensures.refused
 
 pub returns-then-repeats-clause-refused : goal.returns-then-repeats-clause-refused
 returns-then-repeats-clause-refused c attrs s =
@@ -37,12 +33,10 @@ returns-in_err-fill_rib_hop-clause-refused c =
     let Whole = SpellsRibAttrs c.args.family c.args.width in
     let read = c.in_ok-read_list.ensures.read in
     let value = octets_of c.read_list.new.later.reach in
-    let p = err_from_is_err_and c.from_residual-in_err-fill_rib_hop.result c.from_residual-in_err-fill_rib_hop.ensures.1 in
-    subst (λ answer. IfErr answer (Refuses Whole octets)) (sym (p.1 ∙ ap Err p.2))
-    (refused_part Whole (SpellsOptional SpellsRibHop) octets value c.in_err-fill_rib_hop.field-0.0
+    refused_on Whole (SpellsOptional SpellsRibHop) octets value c.in_err-fill_rib_hop.field-0.0 c.from_residual-in_err-fill_rib_hop.result c.from_residual-in_err-fill_rib_hop.ensures.1
     (λ attrs s. (
       s.hop_said.reached,
       subst (SpellsOptional SpellsRibHop s.hop_said.reached)
           (ap (first_value MP_REACH_NLRI) (one_list SpellsAttribute attribute_code octets s.list read.list s.spelled read.spelled) ∙ sym read.values.reach) s.hop_said.reached_spelled,
     ))
-    c.in_err-fill_rib_hop.ensures.refused)
+    c.in_err-fill_rib_hop.ensures.refused

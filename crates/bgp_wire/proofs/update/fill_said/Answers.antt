@@ -1,16 +1,14 @@
-use Rattle.std.proofs.Common.{◌≡◌, ℕ, true, false, List, Err, IfErr, ap, sym, subst, ◌∙◌}
-use Rattle.std.proofs.lemmas.Result.{err_from_is_err_and}
+use Rattle.std.proofs.Common.{◌≡◌, ℕ, true, false, List, ap, sym, subst, ◌∙◌}
 use Rattle.octet_forms.proofs.Sequences.{one_list}
 use Rattle.bgp_wire.specs.declared.framing.TheConstants.{MP_REACH_NLRI, MP_UNREACH_NLRI}
 use Rattle.bgp_wire.specs.Attribute.{Attribute, SpellsAttribute, first_value, repeats}
-use Rattle.bgp_wire.specs.Lent.{octets_of}
+use Rattle.bgp_wire.specs.PlainValues.{octets_of}
 use Rattle.bgp_wire.specs.Parts.{SpellsParts}
 use Rattle.bgp_wire.specs.PlainValues.{SpellsPlainly}
 use Rattle.bgp_wire.specs.Reach.{SaysReach, SaysUnreach}
-use Rattle.bgp_paths.specs.Readers.{Refuses}
 use Rattle.bgp_wire.proofs.OneAttribute.{attribute_code}
 use Rattle.bgp_wire.proofs.Plainly.{parts_plainly}
-use Rattle.bgp_paths.proofs.Refusing.{refused_part}
+use Rattle.bgp_paths.proofs.Refusing.{refused_on}
 use Rattle.bgp_wire.proofs.update.fill_said.Goals as goal
 use Rattle.bgp_wire.proofs.update.fill_said.Goals.{then-repeats-via-then-repeats, then-repeats-via-else-repeats+then-repeats-2}
 
@@ -18,9 +16,7 @@ pub returns-in_err-read_list-clause-refused : goal.returns-in_err-read_list-clau
 returns-in_err-read_list-clause-refused c =
     let octets = c.args.octets.now in
     let width = c.args.width in
-    let p = err_from_is_err_and c.from_residual.result c.from_residual.ensures.1 in
-    subst (λ answer. IfErr answer (Refuses (SpellsParts width) octets)) (sym (p.1 ∙ ap Err p.2))
-    (refused_part (SpellsParts width) (SpellsPlainly width) octets octets c.in_err-read_list.field-0.0 (λ parts s. parts_plainly width parts octets s) c.in_err-read_list.ensures.refused)
+    refused_on (SpellsParts width) (SpellsPlainly width) octets octets c.in_err-read_list.field-0.0 c.from_residual.result c.from_residual.ensures.1 (λ parts s. parts_plainly width parts octets s) c.in_err-read_list.ensures.refused
 
 -- a type that stands once in a list doesn't repeat there
 never_twice : (kind : ℕ) (list other : List Attribute) → list ≡ other → repeats kind list ≡ false → repeats kind other ≡ true → ⊥
@@ -42,27 +38,23 @@ returns-in_err-fill_reach-clause-refused c =
     let octets = c.args.octets.now in
     let Whole = SpellsParts c.args.width in
     let read = c.in_ok-read_list.ensures.read in
-    let p = err_from_is_err_and c.from_residual-in_err-fill_reach.result c.from_residual-in_err-fill_reach.ensures.1 in
-    subst (λ answer. IfErr answer (Refuses Whole octets)) (sym (p.1 ∙ ap Err p.2))
-    (refused_part Whole SaysReach octets (octets_of c.read_list.new.later.reach) c.in_err-fill_reach.field-0.0
+    refused_on Whole SaysReach octets (octets_of c.read_list.new.later.reach) c.in_err-fill_reach.field-0.0 c.from_residual-in_err-fill_reach.result c.from_residual-in_err-fill_reach.ensures.1
     (λ parts s. (
       s.said.reach,
       subst (SaysReach s.said.reach)
           (ap (first_value MP_REACH_NLRI) (one_list SpellsAttribute attribute_code octets s.list read.list s.spelled read.spelled) ∙ sym read.values.reach) s.said.together.reached,
     ))
-    c.in_err-fill_reach.ensures.refused)
+    c.in_err-fill_reach.ensures.refused
 
 pub returns-in_err-fill_unreach-clause-refused : goal.returns-in_err-fill_unreach-clause-refused
 returns-in_err-fill_unreach-clause-refused c =
     let octets = c.args.octets.now in
     let Whole = SpellsParts c.args.width in
     let read = c.in_ok-read_list.ensures.read in
-    let p = err_from_is_err_and c.from_residual-in_err-fill_unreach.result c.from_residual-in_err-fill_unreach.ensures.1 in
-    subst (λ answer. IfErr answer (Refuses Whole octets)) (sym (p.1 ∙ ap Err p.2))
-    (refused_part Whole SaysUnreach octets (octets_of c.read_list.new.later.unreach) c.in_err-fill_unreach.field-0.0
+    refused_on Whole SaysUnreach octets (octets_of c.read_list.new.later.unreach) c.in_err-fill_unreach.field-0.0 c.from_residual-in_err-fill_unreach.result c.from_residual-in_err-fill_unreach.ensures.1
     (λ parts s. (
       parts.mp_withdrawn,
       subst (SaysUnreach parts.mp_withdrawn)
           (ap (first_value MP_UNREACH_NLRI) (one_list SpellsAttribute attribute_code octets s.list read.list s.spelled read.spelled) ∙ sym read.values.unreach) s.said.together.unreached,
     ))
-    c.in_err-fill_unreach.ensures.refused)
+    c.in_err-fill_unreach.ensures.refused

@@ -1,25 +1,33 @@
-use Rattle.std.proofs.Common.{Err, IfErr, refl, ap, sym, subst, ◌∙◌}
-use Rattle.std.proofs.lemmas.Result.{err_from_is_err_and}
+use Rattle.std.proofs.Common.{◌≡◌, ℕ, ◌<◌, ◌^◌, ◌++◌, List, length, refl, ap, sym, subst, ◌∙◌}
 use Rattle.ip_prefix.specs.declared.addr.Family.TheVariants.{V4}
 use Rattle.ip_prefix.specs.Sequences.{SpellsAll}
 use Rattle.ip_prefix.specs.Wire.{SpellsNetwork}
-use Rattle.bgp_wire.specs.Attribute.{SpellsAttributes}
+use Rattle.bgp_wire.specs.Attribute.{SpellsAttribute}
 use Rattle.bgp_wire.specs.Parts.{SpellsParts}
 use Rattle.bgp_wire.specs.Reach.{reach_hop, reach_prefixes}
-use Rattle.bgp_paths.specs.Readers.{Refuses}
-use Rattle.bgp_wire.specs.Update.{SpellsUpdate}
-use Rattle.bgp_paths.proofs.Refusing.{refused_part}
-use Rattle.bgp_wire.proofs.Reaching.{same_update}
+use Rattle.bgp_wire.specs.Update.{sized_octets, IsUpdate, SpellsUpdate}
+use Rattle.bgp_paths.proofs.Refusing.{refused_on}
+use Rattle.bgp_wire.proofs.Reaching.{same_sized, same_update}
 use Rattle.bgp_wire.proofs.update.fill_update.Goals as goal
+
+pub returns-in_default-split_sized-clause-refused : goal.returns-in_default-split_sized-clause-refused
+returns-in_default-split_sized-clause-refused c update s =
+    let first = c.in-Some.ensures.some in
+    c.in_default-split_sized.ensures.none s.attributes s.announced s.whole.attributes_fit
+    (same_sized c.in-Some.withdrawn.now s.withdrawn c.in-Some.rest.now (sized_octets s.attributes ++ s.announced) first.0 s.whole.withdrawn_fits (sym first.1 ∙ s.whole.whole)).1
+
+-- the parts that were found are those of any UPDATE of the body
+found : (withdrawn rest attributes announced body : List ℕ) → (length withdrawn < 2 ^ 16) × (body ≡ sized_octets withdrawn ++ rest) → (length attributes < 2 ^ 16) × (rest ≡ sized_octets attributes ++ announced)
+    → (others : List ℕ × (List ℕ × List ℕ)) → IsUpdate others.0 others.1.0 others.1.1 body → (others.0 ≡ withdrawn) × (others.1.0 ≡ attributes) × (others.1.1 ≡ announced)
+found withdrawn rest attributes announced body first second others s =
+    same_update others.0 others.1.0 others.1.1 withdrawn attributes announced body s
+    record { withdrawn_fits = first.0; attributes_fit = second.0; whole = first.1 ∙ ap (λ l. sized_octets withdrawn ++ l) second.1 }
 
 pub returns-in_err-fill_said-clause-refused : goal.returns-in_err-fill_said-clause-refused
 returns-in_err-fill_said-clause-refused c =
-    let body = c.args.body.now in
-    let Whole = SpellsUpdate c.args.width in
-    let f = c.in-Some.framed in
-    let p = err_from_is_err_and c.from_residual.result c.from_residual.ensures.1 in
-    subst (λ answer. IfErr answer (Refuses Whole body)) (sym (p.1 ∙ ap Err p.2))
-    (refused_part Whole (SpellsParts c.args.width) body f.attributes.now c.in_err-fill_said.field-0.0
+    let f = c.in-Some-split_sized in
+    let same = found c.in-Some.withdrawn.now c.in-Some.rest.now f.attributes.now f.announced.now c.args.body.now c.in-Some.ensures.some f.ensures.some in
+    refused_on (SpellsUpdate c.args.width) (SpellsParts c.args.width) c.args.body.now f.attributes.now c.in_err-fill_said.field-0.0 c.from_residual.result c.from_residual.ensures.1
     (λ update s. (
       record {
         withdrawn = update.withdrawn;
@@ -31,38 +39,28 @@ returns-in_err-fill_said-clause-refused c =
       },
       record {
         list = s.list;
-        spelled = subst (SpellsAttributes s.list) (same_update s.withdrawn s.attributes s.announced f.withdrawn.now f.attributes.now f.announced.now body s.whole c.in-Some.ensures.some).1 s.spelled;
+        spelled = subst (SpellsAll SpellsAttribute s.list) (same (s.withdrawn, (s.attributes, s.announced)) s.whole).1 s.spelled;
         said = record { reach = s.said.reach; together = s.said.together; hop = refl; announced = refl };
       },
     ))
-    c.in_err-fill_said.ensures.refused)
+    c.in_err-fill_said.ensures.refused
 
 pub returns-in_err-fill_prefixes-clause-refused : goal.returns-in_err-fill_prefixes-clause-refused
 returns-in_err-fill_prefixes-clause-refused c =
-    let body = c.args.body.now in
-    let Whole = SpellsUpdate c.args.width in
-    let f = c.in-Some.framed in
-    let p = err_from_is_err_and c.from_residual-in_err-fill_prefixes.result c.from_residual-in_err-fill_prefixes.ensures.1 in
-    subst (λ answer. IfErr answer (Refuses Whole body)) (sym (p.1 ∙ ap Err p.2))
-    (refused_part Whole (SpellsAll (SpellsNetwork V4)) body f.withdrawn.now c.in_err-fill_prefixes.field-0.0
-    (λ update s. (
-      update.withdrawn,
-      subst (SpellsAll (SpellsNetwork V4) update.withdrawn)
-          (same_update s.withdrawn s.attributes s.announced f.withdrawn.now f.attributes.now f.announced.now body s.whole c.in-Some.ensures.some).0 s.withdrawn_spelled,
-    ))
-    c.in_err-fill_prefixes.ensures.refused)
+    let f = c.in-Some-split_sized in
+    let passed = c.from_residual-in_err-fill_prefixes in
+    let same = found c.in-Some.withdrawn.now c.in-Some.rest.now f.attributes.now f.announced.now c.args.body.now c.in-Some.ensures.some f.ensures.some in
+    let Spells = SpellsAll (SpellsNetwork V4) in
+    refused_on (SpellsUpdate c.args.width) Spells c.args.body.now c.in-Some.withdrawn.now c.in_err-fill_prefixes.field-0.0 passed.result passed.ensures.1
+    (λ update s. (update.withdrawn, subst (Spells update.withdrawn) (same (s.withdrawn, (s.attributes, s.announced)) s.whole).0 s.withdrawn_spelled))
+    c.in_err-fill_prefixes.ensures.refused
 
 pub returns-in_err-fill_prefixes-2-clause-refused : goal.returns-in_err-fill_prefixes-2-clause-refused
 returns-in_err-fill_prefixes-2-clause-refused c =
-    let body = c.args.body.now in
-    let Whole = SpellsUpdate c.args.width in
-    let f = c.in-Some.framed in
-    let p = err_from_is_err_and c.from_residual-in_err-fill_prefixes-2.result c.from_residual-in_err-fill_prefixes-2.ensures.1 in
-    subst (λ answer. IfErr answer (Refuses Whole body)) (sym (p.1 ∙ ap Err p.2))
-    (refused_part Whole (SpellsAll (SpellsNetwork V4)) body f.announced.now c.in_err-fill_prefixes-2.field-0.0
-    (λ update s. (
-      update.announced,
-      subst (SpellsAll (SpellsNetwork V4) update.announced)
-          (same_update s.withdrawn s.attributes s.announced f.withdrawn.now f.attributes.now f.announced.now body s.whole c.in-Some.ensures.some).2 s.announced_spelled,
-    ))
-    c.in_err-fill_prefixes-2.ensures.refused)
+    let f = c.in-Some-split_sized in
+    let passed = c.from_residual-in_err-fill_prefixes-2 in
+    let same = found c.in-Some.withdrawn.now c.in-Some.rest.now f.attributes.now f.announced.now c.args.body.now c.in-Some.ensures.some f.ensures.some in
+    let Spells = SpellsAll (SpellsNetwork V4) in
+    refused_on (SpellsUpdate c.args.width) Spells c.args.body.now f.announced.now c.in_err-fill_prefixes-2.field-0.0 passed.result passed.ensures.1
+    (λ update s. (update.announced, subst (Spells update.announced) (same (s.withdrawn, (s.attributes, s.announced)) s.whole).2 s.announced_spelled))
+    c.in_err-fill_prefixes-2.ensures.refused
