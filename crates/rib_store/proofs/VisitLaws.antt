@@ -5,7 +5,7 @@ use Rattle.std.specs.Prelude.{IfSome}
 use Rattle.std.specs.declared.cmp.Ordering.TheVariants.{Less}
 use Rattle.std.specs.List.{AllByRecursion}
 use Rattle.std.specs.List.Sorted.{IsStrictlySortedBy}
-use Rattle.std.specs.Ordering.{eq_by_cmp, is_lt}
+use Rattle.std.specs.Ordering.{is_lt}
 use Rattle.std.specs.FinSet as set
 use Rattle.std.specs.FinSet.{contains-from_list}
 use Rattle.std.proofs.lemmas.Map.Keys.{IsDistinct-from_sorted}
@@ -93,38 +93,23 @@ on_path t key q = node_at t q && begin_with q key
 -- by where the key lies and where the query lies
 pub met : {R : Type 0} (t : Shape R) (key : List Bool) (q : Network) → IsShaped t → is_in (path_in t key) q ≡ on_path t key (way q)
 met Empty key q shaped = refl
-met {R} (Rooted prefix slot l r) key q shaped =
-    turns (turn_of (way prefix) key) (turn_of (way prefix) (way q)) refl refl (met l key q shaped.2) (met r key q shaped.3)
-  where
-    head : (j : Turn) → turn_of (way prefix) (way q) ≡ j → eq_by_cmp network_cmp q prefix ≡ chosen j false true false false
-    head j y = tied-ways q prefix ∙ ap (λ t. chosen t false true false false) y
-
-    begins : (k : Turn) → turn_of (way prefix) key ≡ k → turn_of (way prefix) (way q) ≡ Here → (k ≡ Outside → ⊥) → begin_with (way q) key ≡ true
-    begins k x y h = begin_in (way q) key (λ z. h (sym x ∙ ap (λ w. turn_of w key) (here_only (way prefix) (way q) y) ∙ z))
-
-    turns : (k j : Turn) → turn_of (way prefix) key ≡ k → turn_of (way prefix) (way q) ≡ j
-        → is_in (path_in l key) q ≡ on_path l key (way q) → is_in (path_in r key) q ≡ on_path r key (way q)
-        → is_in (chosen k [] (prefix ∷ []) (prefix ∷ path_in l key) (prefix ∷ path_in r key)) q ≡ (chosen j false true (node_at l (way q)) (node_at r (way q)) && begin_with (way q) key)
-    turns Outside Outside x y f g = refl
-    turns Outside Here x y f g = and_none true _ (begin_outside (way prefix) (way q) key x (λ z. cc))
-    turns Outside Left x y f g = and_none (node_at l (way q)) _ (begin_outside (way prefix) (way q) key x (λ z. cc))
-    turns Outside Right x y f g = and_none (node_at r (way q)) _ (begin_outside (way prefix) (way q) key x (λ z. cc))
-    turns Here Outside x y f g = ap (λ h. h || false) (head Outside y)
-    turns Here Here x y f g = ap (λ h. h || false) (head Here y) ∙ sym (begins Here x y (λ z. cc))
-    turns Here Left x y f g = ap (λ h. h || false) (head Left y) ∙ and_none (node_at l (way q)) _ (begin_side (way prefix) (way q) key false y (λ z. cc))
-    turns Here Right x y f g = ap (λ h. h || false) (head Right y) ∙ and_none (node_at r (way q)) _ (begin_side (way prefix) (way q) key true y (λ z. cc))
-    turns Left Outside x y f g = (λ i. head Outside y i || (f ∙ ap (λ h. h && begin_with (way q) key) (node_left (way prefix) l shaped.0.left (way q) ∙ ap (λ t. chosen t false false (node_at l (way q)) false) y)) i)
-    turns Left Here x y f g = ap (λ h. h || is_in (path_in l key) q) (head Here y) ∙ sym (begins Left x y (λ z. cc))
-    turns Left Left x y f g = (λ i. head Left y i || f i)
-    turns Left Right x y f g =
-        (λ i. head Right y i || (f ∙ ap (λ h. h && begin_with (way q) key) (node_left (way prefix) l shaped.0.left (way q) ∙ ap (λ t. chosen t false false (node_at l (way q)) false) y)) i)
-        ∙ and_none (node_at r (way q)) _ (begin_side (way prefix) (way q) key true y (λ z. cc))
-    turns Right Outside x y f g = (λ i. head Outside y i || (g ∙ ap (λ h. h && begin_with (way q) key) (node_right (way prefix) r shaped.0.right (way q) ∙ ap (λ t. chosen t false false false (node_at r (way q))) y)) i)
-    turns Right Here x y f g = ap (λ h. h || is_in (path_in r key) q) (head Here y) ∙ sym (begins Right x y (λ z. cc))
-    turns Right Right x y f g = (λ i. head Right y i || g i)
-    turns Right Left x y f g =
-        (λ i. head Left y i || (g ∙ ap (λ h. h && begin_with (way q) key) (node_right (way prefix) r shaped.0.right (way q) ∙ ap (λ t. chosen t false false false (node_at r (way q))) y)) i)
-        ∙ and_none (node_at l (way q)) _ (begin_side (way prefix) (way q) key false y (λ z. cc))
+met (Rooted prefix slot l r) key q shaped =
+    let head = tied-ways q prefix in
+    let left = met l key q shaped.2 in
+    let right = met r key q shaped.3 in
+    let left_alone = node_left (way prefix) l shaped.0.left (way q) in
+    let right_alone = node_right (way prefix) r shaped.0.right (way q) in
+    let outside = begin_outside (way prefix) (way q) key in
+    let on_left = begin_side (way prefix) (way q) key false in
+    let on_right = begin_side (way prefix) (way q) key true in
+    let here = here_only (way prefix) (way q) in
+    let begun = begin_in (way q) key in
+    elim (turn_of (way prefix) key) as (λ k. turn_of (way prefix) key ≡ k → is_in (chosen k [] (prefix ∷ []) (prefix ∷ path_in l key) (prefix ∷ path_in r key)) q ≡ on_path (Rooted prefix slot l r) key (way q)) [
+      | Outside ↦ λ e. grind arith
+      | Here ↦ λ e. grind arith
+      | Left ↦ λ e. grind arith
+      | Right ↦ λ e. grind arith
+    ] refl
 
 -- ---- each is met once
 

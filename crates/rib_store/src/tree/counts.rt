@@ -16,8 +16,7 @@ impl<K: Packed, R> Tree<K, R> {
     {
         match self {
             Tree::Empty => 0,
-            Tree::Bare(_) => 1,
-            Tree::Leaf(_, _) => 1,
+            Tree::Bare(_) | Tree::Leaf(_, _) => 1,
             Tree::Rooted(_, _, node) => node
                 .left
                 .node_count()
@@ -37,8 +36,7 @@ impl<K: Packed, R> Tree<K, R> {
     {
         match self {
             Tree::Empty => 0,
-            Tree::Bare(_) => 1,
-            Tree::Leaf(_, _) => 1,
+            Tree::Bare(_) | Tree::Leaf(_, _) => 1,
             Tree::Rooted(_, _, node) => {
                 let below = node.left.key_count().saturating_add(node.right.key_count());
                 match node.slot {
@@ -59,8 +57,7 @@ impl<K: Packed, R> Tree<K, R> {
         ensures { result ≡ counted (length (all_routes (shape_of K.network self.now))) }
     {
         match self {
-            Tree::Empty => 0,
-            Tree::Bare(_) => 0,
+            Tree::Empty | Tree::Bare(_) => 0,
             Tree::Leaf(_, _) => 1,
             Tree::Rooted(_, _, node) => {
                 let below = node

@@ -94,8 +94,7 @@ impl<K: Packed, R> Tree<K, R> {
             (λ found. first (shape_of K.network self.now) ≡ Some (found.0, found.1.now)) }
     {
         match self {
-            Tree::Empty => None,
-            Tree::Bare(_) => None,
+            Tree::Empty | Tree::Bare(_) => None,
             Tree::Leaf(prefix, route) => Some((prefix.wide(), route)),
             Tree::Rooted(routed, prefix, node) => {
                 if !*routed {
@@ -128,39 +127,27 @@ impl<K: Packed, R> Tree<K, R> {
             (λ found. behind (shape_of K.network self.now) low.now ≡ Some (found.0, found.1.now)) }
     {
         match self {
-            Tree::Empty => None,
-            Tree::Bare(_) => None,
+            Tree::Empty | Tree::Bare(_) => None,
             Tree::Leaf(prefix, route) => {
+                let wide = prefix.wide();
                 match prefix.turn(low) {
-                    Turn::Outside => {
-                        let wide = prefix.wide();
-                        if *low < wide {
-                            return Some((wide, route));
-                        }
-                        None
-                    }
+                    Turn::Outside if *low < wide => Some((wide, route)),
                     _ => None,
                 }
             }
-            Tree::Rooted(_, prefix, node) => {
-                match prefix.turn(low) {
-                    Turn::Outside => {
-                        if *low < prefix.wide() {
-                            return self.first();
-                        }
-                        None
-                    }
-                    Turn::Here => match node.left.first() {
-                        Some(found) => Some(found),
-                        None => node.right.first(),
-                    },
-                    Turn::Left => match node.left.after(low) {
-                        Some(found) => Some(found),
-                        None => node.right.first(),
-                    },
-                    Turn::Right => node.right.after(low),
-                }
-            }
+            Tree::Rooted(_, prefix, node) => match prefix.turn(low) {
+                Turn::Outside if *low < prefix.wide() => self.first(),
+                Turn::Outside => None,
+                Turn::Here => match node.left.first() {
+                    Some(found) => Some(found),
+                    None => node.right.first(),
+                },
+                Turn::Left => match node.left.after(low) {
+                    Some(found) => Some(found),
+                    None => node.right.first(),
+                },
+                Turn::Right => node.right.after(low),
+            },
             Tree::Forked(_, prefix, fork) => match prefix.turn(low) {
                 Turn::Outside if *low < prefix.wide() => self.first(),
                 Turn::Outside => None,
@@ -187,8 +174,7 @@ impl<K: Packed, R> Tree<K, R> {
         ensures room { vec_capacity found.new ≡ vec_capacity found.old }
     {
         match self {
-            Tree::Empty => {}
-            Tree::Bare(_) => {}
+            Tree::Empty | Tree::Bare(_) => {}
             Tree::Leaf(prefix, route) => add_route(prefix.wide(), route, found),
             Tree::Rooted(any, prefix, node) => {
                 if !*any {
@@ -224,35 +210,24 @@ impl<K: Packed, R> Tree<K, R> {
         ensures room { vec_capacity found.new ≡ vec_capacity found.old }
     {
         match self {
-            Tree::Empty => {}
-            Tree::Bare(_) => {}
+            Tree::Empty | Tree::Bare(_) => {}
             Tree::Leaf(prefix, route) => match prefix.turn(low) {
-                Turn::Outside => {
-                    let wide = prefix.wide();
-                    if *low < wide {
-                        add_route(wide, route, found);
-                    }
-                }
+                Turn::Outside if *low < prefix.wide() => add_route(prefix.wide(), route, found),
                 _ => {}
             },
-            Tree::Rooted(_, prefix, node) => {
-                match prefix.turn(low) {
-                    Turn::Outside => {
-                        if *low < prefix.wide() {
-                            self.add_all(found);
-                        }
-                    }
-                    Turn::Here => {
-                        node.left.add_all(found);
-                        node.right.add_all(found);
-                    }
-                    Turn::Left => {
-                        node.left.add_above(low, found);
-                        node.right.add_all(found);
-                    }
-                    Turn::Right => node.right.add_above(low, found),
+            Tree::Rooted(_, prefix, node) => match prefix.turn(low) {
+                Turn::Outside if *low < prefix.wide() => self.add_all(found),
+                Turn::Outside => {}
+                Turn::Here => {
+                    node.left.add_all(found);
+                    node.right.add_all(found);
                 }
-            }
+                Turn::Left => {
+                    node.left.add_above(low, found);
+                    node.right.add_all(found);
+                }
+                Turn::Right => node.right.add_above(low, found),
+            },
             Tree::Forked(_, prefix, fork) => match prefix.turn(low) {
                 Turn::Outside if *low < prefix.wide() => self.add_all(found),
                 Turn::Outside => {}

@@ -100,8 +100,7 @@ impl<K: Packed, R: Drop> Tree<K, R> {
         ensures routed { is_routed self.new ≡ false }
     {
         match self {
-            Tree::Empty => {}
-            Tree::Bare(_) => {}
+            Tree::Empty | Tree::Bare(_) => {}
             Tree::Leaf(prefix, _) => {
                 let bare = Tree::Bare(*prefix);
                 if let Tree::Leaf(_, route) = mem::replace(self, bare) {
