@@ -19,8 +19,8 @@ use Rattle.ip_prefix.specs.OrderLaws.{network_cmp_total, network_cmp-IsAntisymme
 use Rattle.ip_prefix.proofs.Chunks.{bits_of-number_of, number_of-lt}
 use Rattle.mrt_events.specs.declared.peer.Peer.{Peer}
 use Rattle.rib_player.specs.declared.pair.Pair.{Pair}
-use Rattle.rib_player.specs.declared.counts.Counts.{Counts}
-use Rattle.rib_player.specs.declared.counts.TheConstants.{ADDRESSES}
+use Rattle.rib_player.specs.declared.claims.Counts.{Counts}
+use Rattle.rib_player.specs.declared.claims.TheConstants.{ADDRESSES}
 use Rattle.rib_player.specs.Counts.{count_kept, count_at, count_of, v4_key, by_family}
 use Rattle.rib_player.specs.Claims.{count_of_peer}
 use Rattle.rib_player.specs.Holding.{IsWritten}

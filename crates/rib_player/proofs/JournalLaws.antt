@@ -1,12 +1,11 @@
 -- What a step's entries do to a table, and what crossing a step makes of a player.
-use Rattle.std.proofs.Common.{◌≡◌, ℕ, zero, suc, ◌+◌, ◌<◌, false, cond, List, [], ◌∷◌, ◌++◌, length, get_or, take, drop, set, Option, Some, None, refl, sym, ap, ◌∙◌, append_assoc, arith}
+use Rattle.std.proofs.Common.{◌≡◌, ℕ, zero, suc, ◌+◌, ◌<◌, false, cond, List, [], ◌∷◌, ◌++◌, length, get_or, take, drop, set, Option, refl, sym, ap, ◌∙◌, append_assoc, arith}
 use Rattle.std.specs.List.{AllByRecursion, list_any}
 use Rattle.std.specs.Ordering.{eq_by_cmp}
 use Rattle.std.specs.Cmp.{eq_by_cmp_equiv}
 use Rattle.std.specs.FinMap as finite
 use Rattle.std.specs.FinSet as names
 use Rattle.std.specs.FinSet.{contains-from_list}
-use Rattle.std.proofs.lemmas.Bool.{or_parts}
 use Rattle.std.proofs.lemmas.List.{drop-drop, drop_more, take_more_set, map-append}
 use Rattle.std.proofs.lemmas.Map.Keys.{IsDistinct-head, IsDistinct-tail}
 use Rattle.prefix_store.proofs.PutLaws.{get-put}
@@ -14,7 +13,7 @@ use Rattle.rib_player.specs.declared.pair.Pair.{Pair}
 use Rattle.mrt_events.specs.declared.event.Route.{Route}
 use Rattle.mrt_events.specs.declared.event.Event.{Event}
 use Rattle.rib_player.specs.Entries.{Entry}
-use Rattle.rib_player.specs.History.{pair_cmp, Effect, Keep, Clear, Set, effect, route_after}
+use Rattle.rib_player.specs.History.{pair_cmp, Effect, effect, route_after}
 use Rattle.prefix_store.specs.Stored.{put}
 use Rattle.rib_player.specs.Tables.{Routes, Pairs, table_after, is_named}
 use Rattle.rib_player.specs.Store.{route_in}

@@ -11,7 +11,7 @@ use Rattle.std.proofs.lemmas.Map.Keys.{IsDistinct-head, IsDistinct-tail}
 use Rattle.std.proofs.Math.Bool.{or-true}
 use Rattle.octet_forms.proofs.Lists.{AllByRecursion-take}
 use Rattle.rib_player.specs.declared.pair.Pair.{Pair}
-use Rattle.rib_player.specs.declared.journal.Step.{Step}
+use Rattle.rib_player.specs.declared.entry.Step.{Step}
 use Rattle.rib_player.specs.declared.entry.End.{End}
 use Rattle.rib_player.specs.declared.entry.End.TheVariants.{Last}
 use Rattle.rib_player.specs.Entries.{Entry}

@@ -26,7 +26,7 @@ use Rattle.ip_prefix.specs.Order.{network_cmp}
 use Rattle.ip_prefix.specs.OrderLaws.{network_cmp_total, network_cmp-IsAntisymmetric}
 use Rattle.prefix_store.specs.Stored as stored
 use Rattle.prefix_store.specs.Stored.{counted}
-use Rattle.prefix_store.specs.Lookups.{above, pointed, IsLongest}
+use Rattle.prefix_store.specs.Lookups.{above, pointed, IsLongest, is_higher}
 use Rattle.prefix_store.proofs.AboveLaws.{take-nil, is_less, is_true, keys-in_order, higher-next}
 use Rattle.mrt_events.specs.declared.peer.Peer.{Peer}
 use Rattle.mrt_events.specs.declared.event.Route.{Route}
@@ -36,7 +36,7 @@ use Rattle.rib_player.specs.declared.pair.Pair.{Pair}
 use Rattle.rib_player.specs.History.{pair_cmp, pair_of}
 use Rattle.rib_player.specs.Tables.{Routes}
 use Rattle.rib_player.specs.Store.{Stores, store_at, routes_in, peer_routes, routed_peers}
-use Rattle.rib_player.specs.Lookups.{IsBest, pointed_routes, is_peer_above, peers_above, routed_stores, peer_count}
+use Rattle.rib_player.specs.Lookups.{IsBest, pointed_routes, peers_above, routed_stores, peer_count}
 use Rattle.rib_player.specs.Holding.{value_of, IsWritten}
 use Rattle.rib_player.proofs.ListLaws.{all-then}
 use Rattle.rib_player.proofs.StoreLaws.{same_peer, one_peer, peer_symm, tied_parts, any-pairs, get-found, routes_in-other}
@@ -359,22 +359,22 @@ module _ {S : Type 0} (routes : S → stored.Routes (Rc Route Global)) where
 
   -- the stores above a peer that have a route
   abbrev stores_above : Option Peer → Stores S → Stores S
-  stores_above low stores = filter (λ (entry : Peer × S). has_route entry && is_peer_above low entry.0) stores
+  stores_above low stores = filter (λ (entry : Peer × S). has_route entry && is_higher peer_cmp low entry.0) stores
 
-  shown-above : (low : Option Peer) (test : Peer → Bool) (stores : Stores S) → ((p : Peer) → test p ≡ is_peer_above low p)
+  shown-above : (low : Option Peer) (test : Peer → Bool) (stores : Stores S) → ((p : Peer) → test p ≡ is_higher peer_cmp low p)
       → routed_stores routes (filter (λ (entry : Peer × S). test entry.0) stores) ≡ stores_above low stores
   shown-above low test stores same =
       filter_twice has_route (λ (entry : Peer × S). test entry.0) stores
-      ∙ filter_agree (λ (entry : Peer × S). test entry.0 && has_route entry) (λ (entry : Peer × S). has_route entry && is_peer_above low entry.0)
-      (λ entry. ap (λ b. b && has_route entry) (same entry.0) ∙ and_comm (is_peer_above low entry.0) (has_route entry)) stores
+      ∙ filter_agree (λ (entry : Peer × S). test entry.0 && has_route entry) (λ (entry : Peer × S). has_route entry && is_higher peer_cmp low entry.0)
+      (λ entry. ap (λ b. b && has_route entry) (same entry.0) ∙ and_comm (is_higher peer_cmp low entry.0) (has_route entry)) stores
 
   keys-above : (low : Option Peer) (stores : Stores S) → keys_of (stores_above low stores) ≡ peers_above low (keys_of (routed_stores routes stores))
   keys-above low stores =
-      ap keys_of (sym (filter_twice (λ (entry : Peer × S). is_peer_above low entry.0) has_route stores))
-      ∙ keys-filter (is_peer_above low) (routed_stores routes stores)
+      ap keys_of (sym (filter_twice (λ (entry : Peer × S). is_higher peer_cmp low entry.0) has_route stores))
+      ∙ keys-filter (is_higher peer_cmp low) (routed_stores routes stores)
 
   -- the first of these, and its count
-  pub first_counted : (low : Option Peer) (test : Peer → Bool) (stores shown : Stores S) (all : Routes) → ((p : Peer) → test p ≡ is_peer_above low p)
+  pub first_counted : (low : Option Peer) (test : Peer → Bool) (stores shown : Stores S) (all : Routes) → ((p : Peer) → test p ≡ is_higher peer_cmp low p)
       → IsStrictlySortedBy peer_cmp (keys_of stores) → shown ≡ filter (λ (entry : Peer × S). test entry.0) stores → routes_in routes stores ≡ all
       → option_map (peer_count routes) (slice_get (routed_stores routes shown) 0)
       ≡ option_map {U = Peer × ℕ} (λ p. (p, counted (finite.len (peer_routes all p)))) (slice_get (peers_above low (routed_peers all)) 0)
@@ -389,7 +389,7 @@ module _ {S : Type 0} (routes : S → stored.Routes (Rc Route Global)) where
       at None f = refl
       at (Some entry) f =
           ap (λ n. Some (entry.0, counted n)) (sym (len-of_peer (routes entry.1) all entry.0 (λ n. get-found routes stores all (pair_of entry.0 n) (Some entry.1)
-          (sym (first_found (λ (entry : Peer × S). has_route entry && is_peer_above low entry.0) stores entry sorted f)) e)))
+          (sym (first_found (λ (entry : Peer × S). has_route entry && is_higher peer_cmp low entry.0) stores entry sorted f)) e)))
 
   -- a count of at least 1 is that of a store with a route
   pub routed-more : (peer : Peer) (store : S) (rest : Stores S) (n : ℕ) → n ≡ counted (finite.len (routes store)) → 0 < n

@@ -11,7 +11,7 @@ use Rattle.std.proofs.lemmas.List.{length-map, map-append, take-map, take-take, 
 use Rattle.std.proofs.Math.Bool.{or-true}
 use Rattle.mrt_events.specs.declared.event.Event.{Event}
 use Rattle.rib_player.specs.declared.pair.Pair.{Pair}
-use Rattle.rib_player.specs.declared.journal.Step.{Step}
+use Rattle.rib_player.specs.declared.entry.Step.{Step}
 use Rattle.rib_player.specs.declared.entry.End.TheVariants.{First, Last}
 use Rattle.rib_player.specs.History.{pair_cmp}
 use Rattle.rib_player.specs.Tables.{Routes, Pairs, table_after, named_pairs}

@@ -17,8 +17,7 @@ use Rattle.rib_player.specs.declared.stores.Marks.{Marks}
 use Rattle.rib_player.specs.Entries.{Entry}
 use Rattle.rib_player.specs.History.{pair_cmp}
 use Rattle.rib_player.specs.Journal.{side_of, sides_of}
-use Rattle.rib_player.specs.Numbered.{peers_in}
-use Rattle.rib_player.specs.Marked.{is_marked}
+use Rattle.rib_player.specs.Numbered.{peers_in, is_marked}
 use Rattle.rib_player.proofs.PairLaws.{same_pair, pair_cmp_total}
 use Rattle.rib_player.proofs.StoreLaws.{same_peer}
 use Rattle.rib_player.proofs.ListLaws.{copied-at, all-then}

@@ -1,10 +1,9 @@
 -- What tables have at each pair: those of histories and of events, and the pairs that events name.
-use Rattle.std.proofs.Common.{◌≡◌, Bool, true, false, cond, ◌&&◌, ◌||◌, List, [], ◌∷◌, map, Option, Some, None, is_some, refl, sym, ap, ◌∙◌, arith}
+use Rattle.std.proofs.Common.{◌≡◌, Bool, false, cond, ◌&&◌, ◌||◌, List, [], ◌∷◌, map, Option, None, is_some, refl, sym, ap, ◌∙◌, arith}
 use Rattle.std.specs.List.{flat_map, filter, list_any}
 use Rattle.std.specs.Ordering.{eq_by_cmp}
 use Rattle.std.specs.FinMap.{get, keys, get-empty, same_map, contains_key-keys}
 use Rattle.std.specs.FinSet.{contains, contains-from_list}
-use Rattle.std.proofs.Math.Bool.{and-true}
 use Rattle.std.proofs.lemmas.Bool.{or_parts}
 use Rattle.std.proofs.lemmas.List.Folds.{list_any-append}
 use Rattle.std.proofs.lemmas.Map.Views.{any-filter_same}
@@ -13,8 +12,7 @@ use Rattle.rib_player.specs.declared.pair.Pair.{Pair}
 use Rattle.mrt_events.specs.declared.event.Route.{Route}
 use Rattle.mrt_events.specs.Event.{Saying, Announced, Withdrawn, Changed}
 use Rattle.mrt_events.specs.declared.event.Event.{Event}
-use Rattle.mrt_events.specs.Peer.{peer_cmp}
-use Rattle.rib_player.specs.History.{pair_cmp, pair_of, Effect, Keep, Clear, Set, where_true, is_loss, item_effect, later, last_effect, effect, route_after, route}
+use Rattle.rib_player.specs.History.{pair_cmp, Effect, item_effect, later, last_effect, effect, route_after, route}
 use Rattle.rib_player.specs.Tables.{Routes, tabulation, pairs_announced_by, announced_pairs, table, concerned_pairs, table_after, is_named, named_pairs}
 use Rattle.rib_player.proofs.PairLaws.{pair_cmp_total, pair_cmp-IsAntisymmetric, same_pair}
 use Rattle.octet_forms.proofs.Booleans.{cond_or, cond_untested}

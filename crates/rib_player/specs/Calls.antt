@@ -78,20 +78,15 @@ redone events = map Play events ++ (replicate (length events) Undo ++ replicate 
 -- what a call makes of a player
 abbrev pub after_call : Timeline → Call → Timeline
 after_call t (Play event) = after_play t event
-after_call t (PlayRefused event) = t
 after_call t Undo = after_undo t
 after_call t Redo = after_redo t
 after_call t (Forget keep) = after_forget t keep
-after_call t Look = t
+after_call t other = t
 
 -- the history after a call, from that before it and the cursor
 abbrev pub history_after : ℕ → List Event → Call → List Event
 history_after cursor history (Play event) = take cursor history ++ event ∷ []
-history_after cursor history (PlayRefused event) = history
-history_after cursor history Undo = history
-history_after cursor history Redo = history
-history_after cursor history (Forget keep) = history
-history_after cursor history Look = history
+history_after cursor history other = history
 
 -- what calls make of a player, one after another
 abbrev pub after_calls : Timeline → List Call → Timeline

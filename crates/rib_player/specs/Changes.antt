@@ -11,7 +11,7 @@ use Rattle.mrt_events.specs.declared.event.Route.{Route}
 use Rattle.rib_player.specs.declared.changes.Changes.{Changes}
 use Rattle.mrt_events.specs.Peer.{peer_cmp}
 use Rattle.mrt_events.specs.declared.event.Item.{Item}
-use Rattle.mrt_events.specs.Event.{Saying, Announced, Withdrawn, Changed, saying}
+use Rattle.mrt_events.specs.Event.{Saying, Announced, saying}
 use Rattle.rib_player.specs.History.{pair_cmp, Effect, Clear, Set, where_true, item_effect, last_effect}
 use Rattle.rib_player.specs.Journal.{Side, sides_of}
 use Rattle.rib_player.specs.Tables.{Routes}
@@ -56,5 +56,4 @@ items_effect pair items = last_effect (map (λ item. item_effect pair (saying it
 -- it announces this route
 abbrev pub HasRoute : Route → Saying → Type 0
 HasRoute route (Announced peer network same) = same ≡ route
-HasRoute route (Withdrawn peer network) = ⊥
-HasRoute route (Changed peer old new) = ⊥
+HasRoute route other = ⊥

@@ -10,7 +10,7 @@ use Rattle.mrt_events.specs.Peer.{peer_cmp}
 pub use Rattle.rib_player.specs.Counts.{one_if}
 use Rattle.rib_player.specs.Counts.{count_of}
 use Rattle.rib_player.specs.declared.claims.Claims.{Claims}
-use Rattle.rib_player.specs.declared.counts.Counts.{Counts}
+use Rattle.rib_player.specs.declared.claims.Counts.{Counts}
 use Rattle.rib_player.specs.declared.pair.Pair.{Pair}
 use Rattle.rib_player.specs.Store.{Contents}
 use Rattle.rib_player.specs.Tables.{Routes, Pairs, table_after}

@@ -10,8 +10,8 @@ use Rattle.ip_prefix.specs.declared.addr.TheConstants.{V4_BITS, V6_BITS}
 use Rattle.ip_prefix.specs.Bits.{number_of}
 use Rattle.ip_prefix.specs.Network.{Network}
 use Rattle.ip_prefix.specs.Order.{network_cmp}
-use Rattle.rib_player.specs.declared.counts.Counts.{Counts}
-use Rattle.rib_player.specs.declared.counts.TheConstants.{ADDRESSES}
+use Rattle.rib_player.specs.declared.claims.Counts.{Counts}
+use Rattle.rib_player.specs.declared.claims.TheConstants.{ADDRESSES}
 
 abbrev pub one_if : Bool → ℕ
 one_if true = 1

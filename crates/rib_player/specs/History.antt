@@ -43,8 +43,7 @@ item_effect pair (Changed peer old new) = where_true (eq_by_cmp peer_cmp pair.pe
 -- the later of two effects, where it isn't Keep
 abbrev pub later : Effect → Effect → Effect
 later first Keep = first
-later first Clear = Clear
-later first (Set route) = Set route
+later first other = other
 
 -- the last effect that isn't Keep
 abbrev pub last_effect : List Effect → Effect

@@ -1,5 +1,5 @@
 -- Private.
--- How the stores of peers are kept.
+-- How the stores of peers are kept, and tables and pairs as plain data.
 use Rattle.std.specs.Prelude.{◌≡◌, ◌<◌, List, Option, IfSome, if◌then◌else◌, refl}
 use Rattle.std.specs.Map.{lookup}
 use Rattle.std.specs.Ordering.{eq_by_cmp}
@@ -10,12 +10,17 @@ use Rattle.std.specs.FinSet as set
 use Rattle.std.specs.declared.alloc.Global.{Global}
 use Rattle.mrt_events.specs.declared.peer.Peer.{Peer}
 use Rattle.mrt_events.specs.declared.event.Route.{Route}
-use Rattle.mrt_events.specs.Codes.{coded_route}
+use Rattle.mrt_events.specs.Codes.{coded_peer, coded_route}
 use Rattle.mrt_events.specs.Peer.{peer_cmp}
 use Rattle.prefix_store.specs.Stored as stored
-use Rattle.rib_player.specs.Codes.{coded_pair}
+use Rattle.ip_prefix.specs.Codes.{coded_network}
+use Rattle.ip_prefix.specs.Network.{Network}
+use Rattle.rib_player.specs.declared.pair.Pair.{Pair}
 use Rattle.rib_player.specs.Tables.{Routes, Pairs}
 use Rattle.rib_player.specs.Store.{Contents, Stores, store_at}
+
+abbrev pub coded_pair : Coded Pair
+coded_pair = code_by (Peer × Network) (coded× coded_peer coded_network) (λ p. (p.peer, p.prefix)) (λ p. record { peer = p.0; prefix = p.1 }) (λ _. refl)
 
 abbrev pub coded_contents : Coded Contents
 coded_contents =

@@ -4,7 +4,7 @@ use Rattle.std.specs.FinSet.{from_list}
 use Rattle.rib_player.specs.declared.pair.Pair.{Pair}
 use Rattle.mrt_events.specs.declared.event.Route.{Route}
 use Rattle.rib_player.specs.Entries.{Entry}
-use Rattle.rib_player.specs.declared.journal.Step.{Step}
+use Rattle.rib_player.specs.declared.entry.Step.{Step}
 use Rattle.prefix_store.specs.Stored.{put}
 use Rattle.rib_player.specs.Tables.{Routes}
 use Rattle.rib_player.specs.Store.{route_in}

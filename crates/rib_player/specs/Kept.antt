@@ -23,13 +23,8 @@ cleared_entry entry route = record { pair = entry.pair; other = Some route; befo
 
 -- entries of pairs that have these routes, in turn, before the step and none behind it
 abbrev pub cleared_entries : List Entry → List (Rc Route Global) → List Entry
-cleared_entries [] routes = []
-cleared_entries (entry ∷ entries) [] = entry ∷ entries
 cleared_entries (entry ∷ entries) (route ∷ routes) = cleared_entry entry route ∷ cleared_entries entries routes
-
--- what stands for a pair where none is kept
-abbrev no_pair : Pair
-no_pair = pair_of (record { addr = record { family = V4; bits = [] }; asn = 0 }) (record { family = V4; bits = [] })
+cleared_entries entries routes = entries
 
 -- what is said by these
 abbrev pub entry_of : Pair → Marks → Option (Rc Route Global) → Entry
@@ -41,12 +36,9 @@ entry_kept (V4Absent marks prefix peer) = entry_of (pair_of peer.value (v4_netwo
 entry_kept (V4Present marks prefix peer route) = entry_of (pair_of peer.value (v4_network prefix)) marks (Some route)
 entry_kept (V6Absent marks pair) = entry_of (pair_of pair.value.peer.value pair.value.prefix) marks None
 entry_kept (V6Present marks pair route) = entry_of (pair_of pair.value.peer.value pair.value.prefix) marks (Some route)
-entry_kept Taken = new_entry no_pair None
+entry_kept Taken = new_entry (pair_of (record { addr = record { family = V4; bits = [] }; asn = 0 }) (record { family = V4; bits = [] })) None
 
 -- there is one
 abbrev pub IsWhole : Kept → Type 0
-IsWhole (V4Absent marks prefix peer) = Unit {0}
-IsWhole (V4Present marks prefix peer route) = Unit {0}
-IsWhole (V6Absent marks pair) = Unit {0}
-IsWhole (V6Present marks pair route) = Unit {0}
 IsWhole Taken = ⊥
+IsWhole other = Unit {0}

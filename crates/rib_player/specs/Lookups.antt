@@ -1,6 +1,6 @@
 -- Private.
 -- What is asked of a table: the best route, and the peers that have one.
-use Rattle.std.specs.Prelude.{ℕ, nat_lt, Bool, List, map, Option}
+use Rattle.std.specs.Prelude.{ℕ, nat_lt, List, map, Option}
 use Rattle.std.specs.Borrow.{Bor}
 use Rattle.std.specs.List.{filter}
 use Rattle.std.specs.declared.rc.Rc.{Rc}
@@ -25,21 +25,13 @@ IsBest routes peer = lookups.IsLongestOf (λ n. finite.get routes (pair_of peer 
 abbrev pub pointed_routes : List (Network × Bor (Rc Route Global)) → List (Network × Route)
 pointed_routes found = map (λ f. (f.0, f.1.now.value)) found
 
--- whether a peer is above the other, where there is one
-abbrev pub is_peer_above : Option Peer → Peer → Bool
-is_peer_above = lookups.is_higher peer_cmp
-
 -- the peers above a peer, in order
 abbrev pub peers_above : Option Peer → List Peer → List Peer
-peers_above low peers = filter (is_peer_above low) peers
+peers_above low peers = filter (lookups.is_higher peer_cmp low) peers
 
 -- the peers above a peer that have a route, in order
 abbrev pub routed_above : Routes → Option Peer → List Peer
 routed_above routes low = peers_above low (routed_peers routes)
-
--- a peer, and what a count of its routes answers
-abbrev pub counted_peer : Routes → Peer → Peer × ℕ
-counted_peer routes peer = (peer, stored.counted (finite.len (peer_routes routes peer)))
 
 -- the routes of a peer above a prefix, in order
 abbrev pub routes_above : Routes → Peer → Option Network → List (Network × Route)

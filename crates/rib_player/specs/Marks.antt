@@ -4,7 +4,7 @@ use Rattle.std.specs.Prelude.{◌≡◌, ℕ, Bool, true, false, ◌&&◌, ◌||
 use Rattle.std.specs.List.{AllByRecursion, list_any}
 use Rattle.std.specs.Ordering.{eq_by_cmp}
 use Rattle.rib_player.specs.declared.pair.Pair.{Pair}
-use Rattle.rib_player.specs.declared.journal.Step.{Step}
+use Rattle.rib_player.specs.declared.entry.Step.{Step}
 use Rattle.rib_player.specs.declared.entry.End.{End}
 use Rattle.rib_player.specs.declared.entry.End.TheVariants.{First, Last}
 use Rattle.rib_player.specs.Entries.{Entry}
@@ -55,11 +55,8 @@ abbrev pub gives_up_by : End → List Mark → Pair → Bool
 gives_up_by end marks q = list_any (λ mark. gives_up_at end mark q) marks
 
 -- the mark of a pair that has this route behind a step, and that of a table before it
-abbrev pub mark_across : Routes → Side → Mark
-mark_across routes side = record { pair = side.0; before = is_routed side.0 routes; behind = is_some side.1 }
-
 abbrev pub marks_across : Routes → List Side → List Mark
-marks_across routes sides = map (mark_across routes) sides
+marks_across routes sides = map (λ side. record { pair = side.0; before = is_routed side.0 routes; behind = is_some side.1 }) sides
 
 -- a mark is right between two tables, and its pair has a route in one of them
 pub record IsMarkOf (before after : Routes) (mark : Mark) : Type 0 where
@@ -74,8 +71,6 @@ pub record AreMarksOf (before after : Routes) (marks : List Mark) : Type 0 where
 
 -- so it is with each step, between the tables before it and behind it
 abbrev pub AreMarked : List Routes → List (List Mark) → Type 0
-AreMarked [] steps = ⊥
 AreMarked (last ∷ []) [] = Unit {0}
-AreMarked (last ∷ []) (marks ∷ steps) = ⊥
-AreMarked (before ∷ after ∷ tables) [] = ⊥
 AreMarked (before ∷ after ∷ tables) (marks ∷ steps) = AreMarksOf before after marks × AreMarked (after ∷ tables) steps
+AreMarked tables steps = ⊥

@@ -1,12 +1,14 @@
 -- Private.
--- How the stores of peers are found by numbers.
-use Rattle.std.specs.Prelude.{◌≡◌, ℕ, List, map, Some, slice_get, length}
+-- How the stores of peers are found by numbers, and which numbers were seen.
+use Rattle.std.specs.Prelude.{◌≡◌, ℕ, Bool, ◌==◌, false, List, map, Some, slice_get, length}
+use Rattle.std.specs.Option.{option_map_or}
 use Rattle.std.specs.Map.{lookup}
 use Rattle.std.specs.Ordering.{eq_by_cmp}
 use Rattle.std.specs.declared.alloc.Global.{Global}
 use Rattle.std.specs.declared.rc.Rc.{Rc}
 use Rattle.mrt_events.specs.declared.peer.Peer.{Peer}
 use Rattle.mrt_events.specs.Peer.{peer_cmp}
+use Rattle.rib_player.specs.declared.stores.Marks.{Marks}
 
 -- the peers that are pointed to
 abbrev pub peers_in : List (Rc Peer Global) → List Peer
@@ -17,3 +19,7 @@ pub record AreNumbered {S : Type 0} (held : List S) (names : List Peer) (order :
   pub there : (peer : Peer) (number : ℕ) → lookup (eq_by_cmp peer_cmp peer) order ≡ Some number → slice_get names number ≡ Some peer
   pub back : (peer : Peer) (number : ℕ) → slice_get names number ≡ Some peer → lookup (eq_by_cmp peer_cmp peer) order ≡ Some number
   pub even : length names ≡ length held
+
+-- the number was seen in the row
+abbrev pub is_marked : Marks → ℕ → Bool
+is_marked marks number = option_map_or (λ seen. seen == marks.row) (slice_get marks.rows.items number) false

@@ -6,9 +6,9 @@ use Rattle.std.specs.FinSet.{FinSet, from_list}
 use Rattle.prefix_store.specs.Stored.{put}
 use Rattle.rib_player.specs.declared.pair.Pair.{Pair}
 use Rattle.mrt_events.specs.declared.event.Route.{Route}
-use Rattle.mrt_events.specs.Event.{Saying, Announced, Withdrawn, Changed}
+use Rattle.mrt_events.specs.Event.{Saying, Announced}
 use Rattle.mrt_events.specs.declared.event.Event.{Event}
-use Rattle.rib_player.specs.History.{pair_cmp, pair_of, Effect, Keep, Clear, Set, effect, route_after, route}
+use Rattle.rib_player.specs.History.{pair_cmp, pair_of, Effect, Keep, effect, route_after, route}
 
 -- at most one route at each pair
 abbrev pub Routes : Type 0
@@ -25,8 +25,7 @@ tabulation f (pair ∷ pairs) = put (tabulation f pairs) pair (f pair)
 -- the pairs to which an item announces a route
 abbrev pub pairs_announced_by : Saying → List Pair
 pairs_announced_by (Announced peer network new) = pair_of peer network ∷ []
-pairs_announced_by (Withdrawn peer network) = []
-pairs_announced_by (Changed peer old new) = []
+pairs_announced_by other = []
 
 -- the pairs to which an event announces a route
 abbrev pub announced_pairs : Event → List Pair
@@ -46,8 +45,7 @@ table_after routes event = tabulation (λ pair. route_after (get routes pair) (e
 
 abbrev pub is_keep : Effect → Bool
 is_keep Keep = true
-is_keep Clear = false
-is_keep (Set new) = false
+is_keep other = false
 
 -- an event names a pair that it sets or clears and that has a route before it or after it
 abbrev pub is_named : Option Route → Effect → Bool

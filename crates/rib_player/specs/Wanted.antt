@@ -1,12 +1,12 @@
 -- Private.
 -- The pairs that a player wants, and what else is told of it.
 use Rattle.std.specs.Prelude.{◌≡◌, ℕ, ◌+◌, ◌≤◌, List, ◌++◌, length, refl}
-use Rattle.std.specs.List.{flat_map, sum_by}
+use Rattle.std.specs.List.{flat_map}
 use Rattle.std.specs.Coded.{Coded, code_by, coded×, coded_ℕ, coded_list}
 use Rattle.std.specs.FinMap as finite
 use Rattle.std.specs.FinSet as set
 use Rattle.mrt_events.specs.Codes.{coded_route}
-use Rattle.rib_player.specs.Codes.{coded_pair}
+use Rattle.rib_player.specs.Holding.{coded_pair}
 use Rattle.rib_player.specs.Tables.{Routes, Pairs}
 use Rattle.rib_player.specs.Timeline.{Timeline, end_of, current}
 
@@ -19,10 +19,6 @@ coded_timeline =
 -- the pairs that have a route at the cursor or are named by a kept step, before it or after it
 unfoldable pub wanted : Timeline → Pairs
 wanted t = set.from_list (finite.keys (current t) ++ flat_map set.items t.steps)
-
--- how many pairs the kept steps name, in all
-abbrev pub named_count : Timeline → ℕ
-named_count t = sum_by set.len t.steps
 
 -- the cursor stands between the floor and the end, and a table at each position from the floor to the end
 pub record IsWellFormed (t : Timeline) : Type 0 where

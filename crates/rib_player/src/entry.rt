@@ -3,7 +3,7 @@
 ghost use Rattle.std.specs.Prelude.{◌≡◌, None, IfOk};
 ghost use Rattle.std.specs.Option.{option_copied};
 ghost use Rattle.rib_player.specs.History.{pair_of};
-ghost use Rattle.rib_player.specs.Kept.{new_entry, entry_of, entry_kept, IsWhole};
+ghost use Rattle.rib_player.specs.Kept.{new_entry, entry_kept, IsWhole};
 ghost use Rattle.rib_player.specs.Marks.{mark_of, gives_up};
 
 mod crossing;
@@ -30,6 +30,12 @@ pub(crate) struct Entry {
 struct Marks {
     before: bool,
     behind: bool,
+}
+
+/// A step: one entry for each pair that it names.
+#[derive(Drop)]
+pub(crate) struct Step {
+    pub(crate) entries: Vec<Entry>,
 }
 
 /// An end of the kept steps, at which one of them goes: the first is forgotten, the last is dropped.
@@ -90,7 +96,16 @@ impl Entry {
             before: false,
             behind: false,
         };
-        let absent = Kept::absent(alloc, marks, peer, prefix)?;
+        let absent = match prefix.family() {
+            Family::V4 => Kept::V4Absent(marks, V4Prefix::of(prefix), peer),
+            Family::V6 => {
+                let pair = V6Pair {
+                    prefix: *prefix,
+                    peer,
+                };
+                Kept::V6Absent(marks, Box::new(alloc, pair)?)
+            }
+        };
         Ok(Entry {
             kept: absent.with_route(other),
         })
@@ -165,7 +180,13 @@ impl Entry {
     pub(crate) fn gives_up(&self, end: End) -> bool
         ensures { result ≡ gives_up end (mark_of self.now) }
     {
-        let marks = self.kept.marks();
+        let marks = match &self.kept {
+            Kept::V4Absent(marks, _, _) => marks,
+            Kept::V4Present(marks, _, _, _) => marks,
+            Kept::V6Absent(marks, _) => marks,
+            Kept::V6Present(marks, _, _) => marks,
+            Kept::Taken => unreachable!(),
+        };
         match end {
             End::First => marks.before && !marks.behind,
             End::Last => !marks.before && marks.behind,
@@ -193,45 +214,6 @@ impl Entry {
 }
 
 impl Kept {
-    /// The pair, without a route.
-    fn absent(
-        alloc: Global,
-        marks: Marks,
-        peer: Rc<NumberedPeer>,
-        prefix: &Prefix,
-    ) -> Result<Kept, AllocError>
-        ensures kept { IfOk result (λ kept.
-            entry_kept kept ≡ entry_of (pair_of peer.value prefix.now) marks None) }
-        ensures whole { IfOk result (λ kept. IsWhole kept) }
-    {
-        match prefix.family() {
-            Family::V4 => Ok(Kept::V4Absent(marks, V4Prefix::of(prefix), peer)),
-            Family::V6 => {
-                let pair = V6Pair {
-                    prefix: *prefix,
-                    peer,
-                };
-                Ok(Kept::V6Absent(marks, Box::new(alloc, pair)?))
-            }
-        }
-    }
-
-    /// The marks.
-    #[inline]
-    fn marks(&self) -> Marks
-        requires { IsWhole self.now }
-        ensures before { result.before ≡ (entry_kept self.now).before }
-        ensures behind { result.behind ≡ (entry_kept self.now).behind }
-    {
-        match self {
-            Kept::V4Absent(marks, _, _) => *marks,
-            Kept::V4Present(marks, _, _, _) => *marks,
-            Kept::V6Absent(marks, _) => *marks,
-            Kept::V6Present(marks, _, _) => *marks,
-            Kept::Taken => unreachable!(),
-        }
-    }
-
     /// The same without its route, and the route.
     #[inline]
     fn without_route(self) -> (Kept, Option<Rc<Route>>)

@@ -1,24 +1,23 @@
 //! The steps that are kept, so that they can be undone and redone.
 
-ghost use Rattle.std.specs.Prelude.{◌≡◌, ℕ, List, ◌+◌, ◌<◌, ◌≤◌, ◌||◌, ◌++◌, ◌∷◌, [], true, is_some, length, take, drop, set, None, IfSome, IfNone, OnOk, OnErr};
+ghost use Rattle.std.specs.Prelude.{◌≡◌, ◌+◌, ◌<◌, ◌≤◌, ◌||◌, true, is_some, length, take, IfSome, OnOk, OnErr};
 ghost use Rattle.std.specs.List.{AllByRecursion, sum_by};
 ghost use Rattle.std.specs.VecDeque.{deque_len, deque_capacity};
 ghost use Rattle.std.specs.FinMap as finite;
-ghost use Rattle.std.specs.FinSet as names;
 ghost use Rattle.prefix_store.specs.Stored.{counted};
 ghost use Rattle.prefix_store.specs.Contents.{AreAmong};
 ghost use Rattle.rib_player.specs.declared.pair.Pair.{Pair};
 ghost use Rattle.rib_player.specs.declared.entry.End.TheVariants.{Last};
 ghost use Rattle.rib_player.specs.Claims.{one_if, claims_beyond, claims_in, AreHeld};
-ghost use Rattle.rib_player.specs.Journal.{Side, sides_of, steps_of, routes_across};
+ghost use Rattle.rib_player.specs.Journal.{sides_of, steps_of, routes_across};
 ghost use Rattle.rib_player.specs.Sides.{sides_at, sides_across, ClearAllOf, IsKept, AreDistinct};
 ghost use Rattle.rib_player.specs.Marks.{marks_of, marks_by_step, marks_across, gives_up_by, entry_count};
 ghost use Rattle.rib_player.specs.Played.{IsCrossed, CanDrop, StayClaimed};
 
 use crate::claims::{Claims, give_up_claims, put_entry};
-use crate::entry::{End, Entry};
+use crate::entry::{End, Entry, Step};
 use crate::losses::take_peer_routes;
-use crate::reaching::reach_entries;
+use crate::reaching::{Reached, reach_entries, reach_steps};
 use crate::room::{LEAST_ROOM, MOST_TIMES};
 use crate::table::Table;
 use known_routes::KnownRoutes;
@@ -27,12 +26,6 @@ use prefix_store::PrefixStore;
 use std::alloc::{AllocError, Global};
 use std::collections::VecDeque;
 use std::rc::Rc;
-
-/// A step: one entry for each pair that it names.
-#[derive(Drop)]
-pub(crate) struct Step {
-    pub(crate) entries: Vec<Entry>,
-}
 
 /// The steps that are kept, and a cursor between them.
 #[derive(Drop)]
@@ -72,16 +65,21 @@ pub(crate) fn cross<S: PrefixStore<Rc<Route>>>(table: &mut Table<S>, entries: &m
     table.note_passed(passed);
 }
 
-/// Goes from one side of a step to the other: that which stands at the index.
+/// Goes from one side of a step to the other: that which stands at the index. Of those that are reached
+/// together it is crossed first if it stands at this place among them.
 pub(crate) fn cross_step<S: PrefixStore<Rc<Route>>>(
     table: &mut Table<S>,
     steps: &mut VecDeque<Step>,
+    reached: &mut Reached,
     index: usize,
+    first: usize,
 )
     requires within { index < length steps.old.items }
     requires kept { IsKept table.old.keys (sides_at (steps_of steps.old.items) index) }
     ensures { IsCrossed table.old table.new steps.old.items steps.new.items index }
 {
+    let passed = reach_steps(table, steps, reached, index, first);
+    table.note_passed(passed);
     let step = &mut steps[index];
     cross(table, step.entries.as_mut_slice());
 }

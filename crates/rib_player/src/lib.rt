@@ -3,7 +3,6 @@
 
 mod changes;
 mod claims;
-mod counts;
 mod entry;
 mod journal;
 mod laws;
@@ -11,7 +10,6 @@ mod losses;
 mod numbered_peer;
 mod pair;
 mod player;
-mod reached_steps;
 mod reaching;
 mod room;
 mod steps;

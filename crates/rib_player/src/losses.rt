@@ -1,17 +1,13 @@
 //! The entries of a lost session.
 
-ghost use Rattle.std.specs.Prelude.{◌≡◌, ◌≤◌, ◌++◌, ◌&&◌, IfOk, OnOk, OnErr, None, false, is_some, map, length};
-ghost use Rattle.std.specs.List.{AllByRecursion, list_any};
-ghost use Rattle.std.specs.Ordering.{eq_by_cmp};
+ghost use Rattle.std.specs.Prelude.{◌≡◌, ◌≤◌, ◌++◌, IfOk, OnOk, OnErr, None, false, map, length};
 ghost use Rattle.std.specs.FinMap as finite;
 ghost use Rattle.rib_player.specs.declared.pair.Pair.{Pair};
 ghost use Rattle.rib_player.specs.declared.entry.End.TheVariants.{Last};
-ghost use Rattle.mrt_events.specs.Peer.{peer_cmp};
-ghost use Rattle.rib_player.specs.History.{pair_cmp};
 ghost use Rattle.rib_player.specs.Changes.{found};
 ghost use Rattle.rib_player.specs.Kept.{cleared_entries};
-ghost use Rattle.rib_player.specs.Journal.{sides_of, pairs_in, routes_across};
-ghost use Rattle.rib_player.specs.Sides.{cleared_side, sides_across, ClearAllOf, AreDistinct};
+ghost use Rattle.rib_player.specs.Journal.{sides_of, routes_across};
+ghost use Rattle.rib_player.specs.Sides.{cleared_side, sides_across, ClearAllOf};
 ghost use Rattle.rib_player.specs.Marks.{marks_of, marks_across, gives_up_by};
 
 use crate::changes::shared_peer;

@@ -1,18 +1,20 @@
 //! A routing table per peer that is played forwards and backwards, event by event.
 
 ghost use Rattle.std.specs.Prelude.{◌≡◌, ◌<◌, ◌↔◌, IfOk, OnOk, OnErr, IsOk};
+ghost use Rattle.std.specs.FinSet as set;
+ghost use Rattle.std.specs.List.{sum_by};
 ghost use Rattle.prefix_store.specs.Stored.{counted};
 ghost use Rattle.prefix_store.specs.declared.store.TheConstants.{GREATEST_COUNT};
-ghost use Rattle.rib_player.specs.Timeline.{ahead_of, end_of, current, after_play, behind};
+ghost use Rattle.rib_player.specs.Timeline.{ahead_of, end_of, current, after_play};
 ghost use Rattle.rib_player.specs.Calls.{fresh, after_undo, after_redo, without_first, forgettable, after_forget};
-ghost use Rattle.rib_player.specs.Wanted.{wanted, named_count, IsWellFormed};
+ghost use Rattle.rib_player.specs.Wanted.{wanted, IsWellFormed};
 
 use crate::claims::{Claims, give_up_claims};
-use crate::entry::End;
+use crate::entry::{End, Step};
 use crate::journal::{
-    Journal, Step, cross_step, drop_ahead, let_go_of, make_room, named_by, put_entries,
+    Journal, cross_step, drop_ahead, let_go_of, make_room, named_by, put_entries,
 };
-use crate::reached_steps::{Reached, reach_ahead, reach_back};
+use crate::reaching::{Reached, STEPS_TOGETHER};
 use crate::steps::step_for;
 use crate::stores::Marks;
 use crate::table::Table;
@@ -123,7 +125,7 @@ impl<S: PrefixStore<Rc<Route>>> Player<S> {
 
     /// How many pairs of a peer and a prefix the kept steps name, in all; `u64::MAX` where more.
     pub fn named(&self) -> u64
-        ensures { result ≡ counted (named_count self.now) }
+        ensures { result ≡ counted (sum_by set.len self.now.steps) }
     {
         named_by(&self.journal.steps)
     }
@@ -160,18 +162,13 @@ impl<S: PrefixStore<Rc<Route>>> Player<S> {
         if self.journal.cursor == 0 {
             return Err(Nothing);
         }
-        let index = self.journal.cursor;
-        reach_back(
-            &mut self.table,
-            &self.journal.steps,
-            &mut self.reached,
-            index,
-        );
         self.journal.cursor -= 1;
         cross_step(
             &mut self.table,
             &mut self.journal.steps,
+            &mut self.reached,
             self.journal.cursor,
+            STEPS_TOGETHER - 1,
         );
         Ok(())
     }
@@ -184,17 +181,12 @@ impl<S: PrefixStore<Rc<Route>>> Player<S> {
         if self.journal.cursor == self.journal.steps.len() {
             return Err(Nothing);
         }
-        let index = self.journal.cursor;
-        reach_ahead(
-            &mut self.table,
-            &self.journal.steps,
-            &mut self.reached,
-            index,
-        );
         cross_step(
             &mut self.table,
             &mut self.journal.steps,
+            &mut self.reached,
             self.journal.cursor,
+            0,
         );
         self.journal.cursor += 1;
         Ok(())

@@ -5,22 +5,26 @@
 //! has many keys. A record of a table names one prefix of many peers, and needs nodes that the record
 //! before mostly needed too; the nodes of few keys are in the cache anyway.
 
-ghost use Rattle.std.specs.Prelude.{◌≤◌, length};
+ghost use Rattle.std.specs.Prelude.{◌<◌, ◌≤◌, length};
 
-use crate::entry::Entry;
+use crate::entry::{Entry, Step};
 use crate::table::Table;
 use mrt_events::Route;
 use prefix_store::{PLACES_AT_ONCE, Places, PrefixStore};
+use std::collections::VecDeque;
 use std::rc::Rc;
 
 /// How many entries are reached at once.
 const ENTRIES_AT_ONCE: usize = PLACES_AT_ONCE as usize;
 
+/// How many steps of fewer entries are reached together.
+pub(crate) const STEPS_TOGETHER: usize = 8;
+
 /// How many keys a store has at least whose nodes are reached.
 const LEAST_KEYS: u64 = 4096;
 
 /// Reaches the places that were added since. Answers how much was passed.
-pub(crate) fn reach_places<S: PrefixStore<Rc<Route>>>(places: &mut Places<'_, S>) -> u64 {
+fn reach_places<S: PrefixStore<Rc<Route>>>(places: &mut Places<'_, S>) -> u64 {
     let added = places.take_all();
     S::reach(&added)
 }
@@ -38,22 +42,6 @@ fn add_entries<'a, S: PrefixStore<Rc<Route>>>(
         }
     }
     passed
-}
-
-/// Adds the prefixes of a step that has few entries, and reaches each eight. Answers how much was
-/// passed.
-pub(crate) fn add_step<'a, S: PrefixStore<Rc<Route>>>(
-    places: &mut Places<'a, S>,
-    table: &'a Table<S>,
-    entries: &[Entry],
-) -> u64 {
-    if entries.len() >= ENTRIES_AT_ONCE {
-        return 0;
-    }
-    match only_store(table, entries) {
-        Some(store) => add_entries(places, store, entries),
-        None => 0,
-    }
 }
 
 /// The store of the entries' peer, where it has many keys. They are of one, as those of a message, where
@@ -92,5 +80,58 @@ pub(crate) fn reach_entries<S: PrefixStore<Rc<Route>>>(
     let mut places = Places::new();
     let end = entries.len().min(index.saturating_add(ENTRIES_AT_ONCE));
     let passed = add_entries(&mut places, store, &entries[index..end]);
+    passed.wrapping_add(reach_places(&mut places))
+}
+
+/// From which steps on some were reached together last, and the time before. Who goes back and forth
+/// over a place doesn't reach them each time.
+#[derive(Clone, Copy)]
+pub(crate) struct Reached {
+    last: usize,
+    before: usize,
+}
+
+impl Reached {
+    /// Nowhere yet.
+    pub(crate) fn nowhere() -> Self {
+        Reached {
+            last: usize::MAX,
+            before: usize::MAX,
+        }
+    }
+}
+
+/// Reaches the steps that are reached together with the next one, where that is crossed first of them,
+/// as the one that stands at this place, names a pair, and they weren't reached just now. Those of many
+/// entries are reached as they are crossed. Answers how much was passed.
+pub(crate) fn reach_steps<S: PrefixStore<Rc<Route>>>(
+    table: &Table<S>,
+    steps: &VecDeque<Step>,
+    reached: &mut Reached,
+    next: usize,
+    first: usize,
+) -> u64
+    requires { next < length steps.now.items }
+{
+    if next % STEPS_TOGETHER != first || steps[next].entries.is_empty() {
+        return 0;
+    }
+    let start = next - first;
+    if start == reached.last || start == reached.before {
+        return 0;
+    }
+    reached.before = reached.last;
+    reached.last = start;
+    let end = steps.len().min(start.saturating_add(STEPS_TOGETHER));
+    let mut places = Places::new();
+    let mut passed = 0u64;
+    'steps: for index in start..end {
+        let entries = &steps[index].entries;
+        if entries.len() < ENTRIES_AT_ONCE {
+            if let Some(store) = only_store(table, entries) {
+                passed = passed.wrapping_add(add_entries(&mut places, store, entries));
+            }
+        }
+    }
     passed.wrapping_add(reach_places(&mut places))
 }

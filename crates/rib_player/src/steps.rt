@@ -1,13 +1,11 @@
 //! The entries of a step: each pair once.
 
 ghost use Rattle.std.specs.Prelude.{◌≡◌, ◌↔◌, IsTrue, ◌||◌, ◌&&◌, IfOk, IfSome, false, is_some};
-ghost use Rattle.std.specs.List.{AllByRecursion, filter};
+ghost use Rattle.std.specs.List.{AllByRecursion};
 ghost use Rattle.std.specs.Ordering.{eq_by_cmp};
 ghost use Rattle.std.specs.declared.cmp.Ordering.TheVariants.{Less};
-ghost use Rattle.std.specs.FinMap as finite;
 ghost use Rattle.rib_player.specs.declared.pair.Pair.{Pair};
 ghost use Rattle.rib_player.specs.History.{pair_cmp};
-ghost use Rattle.rib_player.specs.Store.{route_in};
 ghost use Rattle.rib_player.specs.Changes.{found, found_then};
 ghost use Rattle.rib_player.specs.Journal.{sides_of};
 ghost use Rattle.rib_player.specs.Sides.{ClearAllOf, AreDistinct, IsStepFor};
@@ -45,18 +43,6 @@ fn entries_then<S: PrefixStore<Rc<Route>>>(
         entries.append(&mut absent)?;
     }
     Ok(entries)
-}
-
-/// The same in the order of their pairs, one for each.
-fn in_order(entries: Vec<Entry>) -> Result<Vec<Entry>, AllocError>
-    ensures distinct { IfOk result (λ ordered. AreDistinct (sides_of ordered.items)) }
-    ensures found { IfOk result (λ ordered. (q : Pair) →
-        found (sides_of ordered.items) q ≡ found (sides_of entries.items) q) }
-{
-    let mut ordered = entries;
-    ordered.sort_by_key(|entry| entry.pair())?;
-    ordered.dedup_by_key(|entry| entry.pair());
-    Ok(ordered)
 }
 
 /// How many entries are compared with each other at most.
@@ -121,16 +107,9 @@ fn are_falling(entries: &[Entry]) -> bool
     true
 }
 
-/// Whether the first and the last of these are of one peer, as those of a message are.
-fn are_of_message(entries: &[Entry]) -> bool {
-    match (entries.first(), entries.last()) {
-        (Some(first), Some(last)) => same_peer(first.peer(), last.peer()),
-        _ => false,
-    }
-}
-
 /// The same, one for each pair. As the entries of a table's record have it, mostly no peer stands
-/// there twice, and as a message has it, no prefix.
+/// there twice, and as those of a message have it, where the first and the last are of one peer, no
+/// prefix.
 fn each_once<S: PrefixStore<Rc<Route>>>(
     entries: Vec<Entry>,
     table: &Table<S>,
@@ -140,36 +119,17 @@ fn each_once<S: PrefixStore<Rc<Route>>>(
     ensures found { IfOk result (λ once. (q : Pair) →
         found (sides_of once.items) q ≡ found (sides_of entries.items) q) }
 {
-    let is_known = if are_of_message(&entries) {
-        are_falling(&entries)
-    } else {
-        table.stores.are_of_different_peers(&entries, marks)
+    let is_known = match (entries.first(), entries.last()) {
+        (Some(first), Some(last)) if same_peer(first.peer(), last.peer()) => are_falling(&entries),
+        _ => table.stores.are_of_different_peers(&entries, marks),
     };
     if is_known || (entries.len() <= FEW && are_different(&entries)) {
         return Ok(entries);
     }
-    in_order(entries)
-}
-
-/// Whether the entry's pair has a route before or then.
-#[inline]
-fn is_routed<S: PrefixStore<Rc<Route>>>(entry: &Entry, table: &Table<S>) -> bool
-    ensures { result ≡ (is_some (route_in entry.now.other)
-        || is_some (finite.get table.now.routes entry.now.pair)) }
-{
-    entry.route().is_some() || table.get(entry.peer(), &entry.prefix()).is_some()
-}
-
-/// Those of pairs that have a route before or then.
-fn routed_entries<S: PrefixStore<Rc<Route>>>(entries: Vec<Entry>, table: &Table<S>) -> Vec<Entry>
-    ensures { sides_of result.items
-        ≡ filter (λ side. is_some side.1 || is_some (finite.get table.now.routes side.0))
-        (sides_of entries.items) }
-{
-    let mut routed = entries;
-    routed.retain(|entry| is_routed(entry, table));
-    routed.shrink_to_fit();
-    routed
+    let mut ordered = entries;
+    ordered.sort_by_key(|entry| entry.pair())?;
+    ordered.dedup_by_key(|entry| entry.pair());
+    Ok(ordered)
 }
 
 /// A step that wasn't put yet.
@@ -180,7 +140,7 @@ pub(crate) struct NewStep {
     pub(crate) lost: Option<Peer>,
 }
 
-/// The event's step over a table. The entries of a lost session alone, which may be many, are walked
+/// The event's step over a table, which names pairs that have a route before or then. The entries of a lost session alone, which may be many, are walked
 /// from its store, and stand nowhere else.
 pub(crate) fn step_for<S: PrefixStore<Rc<Route>>>(
     alloc: Global,
@@ -204,13 +164,16 @@ pub(crate) fn step_for<S: PrefixStore<Rc<Route>>>(
     }
     let then = entries_then(changes, table)?;
     let noted = then.len();
-    let once = each_once(then, table, marks)?;
-    if once.len() < noted {
+    let mut routed = each_once(then, table, marks)?;
+    if routed.len() < noted {
         known.note_unused();
     }
-    let entries = routed_entries(once, table);
+    routed.retain(|entry| {
+        entry.route().is_some() || table.get(entry.peer(), &entry.prefix()).is_some()
+    });
+    routed.shrink_to_fit();
     Ok(NewStep {
-        entries,
+        entries: routed,
         lost: None,
     })
 }

@@ -9,14 +9,13 @@ ghost use Rattle.mrt_events.specs.Peer.{peer_cmp};
 ghost use Rattle.rib_player.specs.declared.stores.TheConstants.{PLACES};
 ghost use Rattle.rib_player.specs.Store.{store_at};
 ghost use Rattle.rib_player.specs.Holding.{IsWritten};
-ghost use Rattle.rib_player.specs.Numbered.{peers_in, AreNumbered};
-ghost use Rattle.rib_player.specs.Marked.{is_marked};
+ghost use Rattle.rib_player.specs.Numbered.{peers_in, AreNumbered, is_marked};
 ghost use Rattle.rib_player.specs.Journal.{sides_of};
 ghost use Rattle.rib_player.specs.Sides.{AreDistinct};
 ghost use Rattle.std.proofs.Props.{props};
 
 use crate::entry::Entry;
-use crate::numbered_peer::{NO_NUMBER, NumberedPeer};
+use crate::numbered_peer::NumberedPeer;
 use crate::room::give_back_room;
 use known_routes::peer_hash;
 use mrt_events::{Peer, same_peer};
@@ -193,7 +192,10 @@ impl<S: Drop> Stores<S> {
         self.order.insert(peer, number)?;
         self.held.push_reserved(store);
         self.names.push_reserved(name);
-        add_places(&mut self.places);
+        if self.places.is_empty() {
+            // There are none where memory is refused.
+            let _ = self.places.resize(PLACES, 0);
+        }
         note_place(&mut self.places, &peer, number);
         Ok(())
     }
@@ -223,16 +225,6 @@ fn renumber(order: &mut BTreeMap<Peer, usize>, peer: &Peer, number: usize)
 {
     if let Some(held) = order.get_mut(peer) {
         *held = number;
-    }
-}
-
-/// Adds the places, if there are none, unless memory is refused.
-fn add_places(places: &mut Vec<u32>)
-    requires { vec_len places.old ≤ PLACES }
-    ensures { vec_len places.new ≤ PLACES }
-{
-    if places.is_empty() {
-        let _ = places.resize(PLACES, 0);
     }
 }
 

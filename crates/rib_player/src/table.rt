@@ -1,6 +1,6 @@
 //! The routes of all peers.
 
-ghost use Rattle.std.specs.Prelude.{◌≡◌, ◌<◌, ◌≤◌, ◌&&◌, cond, Some, true, false, not, is_some, slice_get, Option, None, if◌then◌else◌, map, IfSome, IfNone, IfOk, IsTrue, OnOk, OnErr, take, vec_capacity};
+ghost use Rattle.std.specs.Prelude.{◌≡◌, ◌<◌, ◌≤◌, cond, Some, true, false, not, slice_get, Option, None, if◌then◌else◌, map, IfSome, IfNone, IfOk, OnOk, OnErr, take, vec_capacity};
 ghost use Rattle.std.specs.Option.{option_map, option_copied};
 ghost use Rattle.std.specs.Ordering.{eq_by_cmp};
 ghost use Rattle.std.specs.FinMap as finite;
@@ -10,20 +10,15 @@ ghost use Rattle.rib_player.specs.declared.pair.Pair.{Pair};
 ghost use Rattle.mrt_events.specs.declared.peer.Peer.{Peer};
 ghost use Rattle.mrt_events.specs.Peer.{peer_cmp};
 ghost use Rattle.rib_player.specs.History.{pair_of};
-ghost use Rattle.prefix_store.specs.Stored.{put};
+ghost use Rattle.prefix_store.specs.Stored.{put, counted};
 ghost use Rattle.rib_player.specs.Store.{route_in, peer_routes};
-ghost use Rattle.rib_player.specs.Lookups.{IsBest, pointed_routes, routes_above, routed_above, counted_peer, routed_stores, peer_count};
-ghost use Rattle.rib_player.specs.Holding.{value_of};
 ghost use Rattle.rib_player.specs.StoresByPeer.{stores_of};
-ghost use Rattle.rib_player.specs.Journal.{sides_of};
-ghost use Rattle.rib_player.specs.Sides.{AreDistinct};
+ghost use Rattle.rib_player.specs.Lookups.{IsBest, pointed_routes, routes_above, routed_above, routed_stores, peer_count};
+ghost use Rattle.rib_player.specs.Holding.{value_of};
 
-mod keys;
-
-use crate::entry::Entry;
-use crate::numbered_peer::{NO_NUMBER, NumberedPeer};
+use crate::numbered_peer::NO_NUMBER;
 use crate::pair::Pair;
-use crate::stores::{Marks, Stores};
+use crate::stores::Stores;
 use ip_prefix::{Addr, Prefix};
 use mrt_events::{Peer, Route};
 use prefix_store::PrefixStore;
@@ -46,8 +41,8 @@ pub struct Table<S: PrefixStore<Rc<Route>>> {
 
 impl<S: PrefixStore<Rc<Route>>> Model for Table<S> {
     ghost use Rattle.rib_player.specs.Store.{Contents, keys_in, routes_in};
-    ghost use Rattle.rib_player.specs.Holding.{coded_contents, IsHeld};
     ghost use Rattle.rib_player.specs.StoresByPeer.{stores_in};
+    ghost use Rattle.rib_player.specs.Holding.{coded_contents, IsHeld};
 
     ghost Value = { Contents };
 
@@ -128,6 +123,22 @@ impl<S: PrefixStore<Rc<Route>>> Table<S> {
         Ok(true)
     }
 
+    /// Drops a key that has no route, and its peer's store with the last one.
+    pub(crate) fn discard(&mut self, pair: &Pair)
+        requires key { set.contains self.old.keys pair.now ≡ true }
+        requires free { finite.get self.old.routes pair.now ≡ None }
+        ensures keys { self.new.keys ≡ set.remove self.old.keys pair.now }
+        ensures routes { self.new.routes ≡ self.old.routes }
+    {
+        let Some(store) = self.stores.get_mut(NO_NUMBER, &pair.peer) else {
+            unreachable!();
+        };
+        store.discard(&pair.prefix);
+        if store.key_count() == 0 {
+            self.stores.remove(&pair.peer);
+        }
+    }
+
     /// Takes all routes of the peer, in the order of their prefixes, into a list that has room for
     /// them; the keys stay. What stood in the list is dropped.
     pub(crate) fn take_routes(&mut self, peer: &Peer, taken: &mut Vec<Rc<Route>>)
@@ -194,7 +205,8 @@ impl<S: PrefixStore<Rc<Route>>> Table<S> {
     /// The least peer above the given one, or of all, that has a route, and how many it has;
     /// `u64::MAX` where more. It steps over peers whose keys have no route.
     pub fn peer_after(&self, peer: Option<&Peer>) -> Option<(Peer, u64)>
-        ensures { result ≡ option_map (counted_peer self.now.routes)
+        ensures { result ≡
+            option_map (λ p. (p, counted (finite.len (peer_routes self.now.routes p))))
             (slice_get (routed_above self.now.routes (option_copied peer.entry)) 0) }
     {
         let low = match peer {

@@ -34,9 +34,7 @@ impl Entry {
         table.exchange(&pair, number, &mut other);
         self.kept = absent.with_route(other);
     }
-}
 
-impl Entry {
     /// Notes the route that its pair has before the step, which leaves it none.
     #[inline]
     pub(crate) fn note_cleared(&mut self, route: Rc<Route>)

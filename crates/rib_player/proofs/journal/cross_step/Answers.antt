@@ -1,7 +1,8 @@
-use Rattle.std.proofs.Common.{◌≡◌, [], ap, sym, subst, ◌∙◌, set}
+use Rattle.std.proofs.Common.{◌≡◌, [], ap, ap₂, sym, subst, ◌∙◌, set}
 use Rattle.std.proofs.lemmas.List.{get_or-map, map-set, with_items_is, set-get_or}
 use Rattle.rib_player.specs.Journal.{sides_of, steps_of, step_sides, routes_across}
 use Rattle.rib_player.specs.Sides.{sides_at, sides_across, IsKept}
+use Rattle.rib_player.specs.Store.{Contents}
 use Rattle.rib_player.specs.Marks.{marks_of, step_marks, marks_by_step}
 use Rattle.rib_player.proofs.journal.cross_step.Goals as goal
 use Rattle.rib_player.proofs.journal.cross_step.Given.{Over}
@@ -15,18 +16,21 @@ at_index g c =
     ∙ ap sides_of (sym c.as_mut_slice.ensures.value)
 
 pub cross-requires : goal.cross-requires
-cross-requires g c = subst (IsKept c.args.table.now.keys) (at_index g c) c.requires.kept
+cross-requires g c =
+    subst (λ (t : Contents). IsKept t.keys (sides_of c.as_mut_slice.result.now)) (sym c.note_passed.ensures)
+    (subst (IsKept c.args.table.now.keys) (at_index g (goal.at.cross-requires g c).After-as_mut_slice) c.requires.kept)
 
 pub returns : goal.returns
 returns g c =
     let steps = c.args.steps.now.items in
+    let routes = ap (λ (t : Contents). t.routes) c.note_passed.ensures in
     let there = at_index g (goal.at.returns g c).After-as_mut_slice in
     let items = with_items_is c.index_mut-step.result.now.entries c.cross.new.entries (c.cross.auto.entries ∙ c.as_mut_slice.ensures.len) in
     record {
-      keys = c.cross.ensures.keys;
-      routes = c.cross.ensures.routes ∙ ap (λ sides. routes_across sides c.args.table.now.routes) (sym there);
+      keys = c.cross.ensures.keys ∙ ap (λ (t : Contents). t.keys) c.note_passed.ensures;
+      routes = c.cross.ensures.routes ∙ ap₂ routes_across (sym there) routes;
       sides = map-set step_sides steps c.args.index _
-          ∙ ap (set (steps_of steps) c.args.index) (ap sides_of items ∙ c.cross.ensures.entries ∙ ap (sides_across c.args.table.now.routes) (sym there));
+          ∙ ap (set (steps_of steps) c.args.index) (ap sides_of items ∙ c.cross.ensures.entries ∙ ap₂ sides_across routes (sym there));
       marks = map-set step_marks steps c.args.index _
           ∙ ap (set (marks_by_step steps) c.args.index)
           (ap marks_of items ∙ c.cross.ensures.marks ∙ ap marks_of c.as_mut_slice.ensures.value ∙ ap step_marks c.index_mut-step.ensures.value

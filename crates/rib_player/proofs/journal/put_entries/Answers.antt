@@ -12,7 +12,7 @@ use Rattle.rib_player.specs.Entries.{Entry}
 use Rattle.rib_player.specs.Store.{route_in}
 use Rattle.rib_player.specs.Journal.{Side, side_of, sides_of, pairs_in, routes_across}
 use Rattle.rib_player.specs.Sides.{sides_across}
-use Rattle.rib_player.specs.Marks.{Mark, mark_of, marks_of, mark_across, marks_across, gives_up, gives_up_by}
+use Rattle.rib_player.specs.Marks.{Mark, mark_of, marks_of, marks_across, gives_up, gives_up_by}
 use Rattle.rib_player.proofs.PairLaws.{same_pair}
 use Rattle.rib_player.proofs.JournalLaws.{rest_of_entries, take-through, routes_across-push, sides_across-push, pairs_in-sides_across, get-restored_elsewhere, routes_across-sides_across}
 use Rattle.rib_player.proofs.MarkLaws.{tied, pairs_marked, pairs-same, pairs_in-take, distinct-take, distinct-before, marks-more, gives_up_by-push, gives_up_by-named, gives-none}
@@ -132,7 +132,8 @@ entries-preserved g c =
     let marks_more : marks_of (take (made + 1) (set entries made new)) ≡ marks ++ mark_of new ∷ [] = marks-more entries made new within in
     let pairs_before : pairs_marked marks ≡ pairs_in sides = pairs-same (take made entries) ∙ ap pairs_in known.crossed ∙ pairs_in-sides_across routes sides in
     let unnamed = gives_up_by-named Last marks old.pair (ap (list_any (tied old.pair)) pairs_before ∙ apart g b) in
-    let mark_is : mark_of new ≡ mark_across routes (side_of old) =
+    let mark : Side → Mark = λ side. record { pair = side.0; before = is_some (finite.get routes side.0); behind = is_some side.1 } in
+    let mark_is : mark_of new ≡ mark (side_of old) =
     λ k. record { pair = said.pair k; before = (said.before ∙ ap is_some (same_route g b)) k; behind = said.behind k } in
     record {
       within = omega (arith, length-set entries made new);
@@ -150,7 +151,7 @@ entries-preserved g c =
           ∙ one-or (gives_up_by Last marks q) (gives_up Last (mark_of new) && tied q new.pair) (λ t. ap (gives_up_by Last marks) (same_pair q old.pair (ap (tied q) (sym said.pair) ∙ (and_parts (gives_up Last (mark_of new)) (tied q new.pair) t).1)) ∙ unnamed) in
           omega (arith, one, said.claimed q, known.claimed q);
       marks = marks_more ∙ ap₂ (λ (ms : List Mark) (m : Mark). ms ++ m ∷ []) known.marks mark_is
-          ∙ sym (map-append (mark_across routes) sides (side_of old ∷ [])) ∙ sym (ap (marks_across routes) sides_more);
+          ∙ sym (map-append mark sides (side_of old ∷ [])) ∙ sym (ap (marks_across routes) sides_more);
       routes = said.routes ∙ ap (λ r. put r old.pair (route_in old.other)) known.routes ∙ sym (routes_across-push sides (side_of old) routes)
           ∙ sym (ap (λ s. routes_across s routes) sides_more);
       crossed = ap sides_of (take_more_set entries made new within) ∙ map-append side_of (take made entries) (new ∷ [])

@@ -1,13 +1,18 @@
-use Rattle.std.proofs.Common.{◌∙◌}
-use Rattle.rib_player.specs.Journal.{sides_of}
-use Rattle.rib_player.proofs.EntryLaws.{IsStepFor-made}
+use Rattle.std.proofs.Common.{rules, ap, ◌∙◌}
+use Rattle.std.specs.FinMap.{get}
+use Rattle.std.proofs.lemmas.Fn.{filter_same}
+use Rattle.rib_player.specs.Journal.{side_of, sides_of}
+use Rattle.rib_player.proofs.EntryLaws.{IsStepFor-made, has_route, sides-filter}
 use Rattle.rib_player.proofs.LostLaws.{IsStepFor-lost, lost-alone}
 use Rattle.rib_player.proofs.steps.step_for.Goals as goal
 
 pub returns-clause-step : goal.returns-clause-step
 returns-clause-step g c =
-    IsStepFor-made c.args.table.now.routes c.args.event.now c.in_ok-changes.changes (sides_of c.in_ok-once.once.items) (sides_of c.routed_entries-entries.result.items)
-    c.in_ok-changes.ensures (λ q. c.in_ok-once.ensures.found q ∙ c.in_ok-then.ensures q) c.in_ok-once.ensures.distinct c.routed_entries-entries.ensures
+    let test = has_route (get c.args.table.now.routes) in
+    IsStepFor-made c.args.table.now.routes c.args.event.now c.in_ok-changes.changes (sides_of c.in_ok-routed.routed.items) (sides_of c.shrink_to_fit.new.self.items)
+    c.in_ok-changes.ensures (λ q. c.in_ok-routed.ensures.found q ∙ c.in_ok-then.ensures q) c.in_ok-routed.ensures.distinct
+    (ap sides_of (c.shrink_to_fit.ensures.items ∙ filter_same _ (λ entry. test (side_of entry)) _ (λ x b f' k. search rules) _ _ c.retain.ensures.filtered)
+    ∙ sides-filter test c.in_ok-routed.routed.items)
 
 -- what the changes do is the loss alone
 pub returns-in-Some-clause-step : goal.returns-in-Some-clause-step

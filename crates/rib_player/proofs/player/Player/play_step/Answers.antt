@@ -3,7 +3,7 @@ use Rattle.std.specs.Vec.{with_items}
 use Rattle.std.proofs.lemmas.List.{with_items_is, length_push, length-take-le}
 use Rattle.rib_player.specs.declared.pair.Pair.{Pair}
 use Rattle.rib_player.specs.Entries.{Entry}
-use Rattle.rib_player.specs.declared.journal.Step.{Step}
+use Rattle.rib_player.specs.declared.entry.Step.{Step}
 use Rattle.rib_player.specs.declared.entry.End.TheVariants.{Last}
 use Rattle.rib_player.specs.Timeline.{after_play}
 use Rattle.rib_player.specs.Claims.{one_if, claims_beyond, held_claims}

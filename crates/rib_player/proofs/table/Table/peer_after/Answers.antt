@@ -8,8 +8,8 @@ use Rattle.std.specs.BTreeMap.Range.{range_contains, entries_between}
 use Rattle.mrt_events.specs.Peer.{peer_cmp}
 use Rattle.prefix_store.specs.Stored.{counted}
 use Rattle.rib_player.specs.Store.{peer_routes, routed_peers}
-use Rattle.rib_player.specs.Lookups.{peers_above}
 use Rattle.rib_player.specs.StoresByPeer.{stores_in, stores_of}
+use Rattle.rib_player.specs.Lookups.{peers_above}
 use Rattle.rib_player.proofs.PeerLaws.{first_counted}
 use Rattle.rib_player.proofs.NumberLaws.{sorted-stores_of, stores_of-filter}
 use Rattle.rib_player.proofs.table.Table.peer_after.Goals as goal

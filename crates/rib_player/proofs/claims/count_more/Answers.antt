@@ -5,9 +5,9 @@ use Rattle.std.specs.BTreeMap as tree
 use Rattle.std.specs.BTreeMap.Entry.{map_with_value}
 use Rattle.rib_player.specs.Counts.{one_if, count_kept, count_at}
 use Rattle.rib_player.proofs.CountedLaws.{count-written, counted}
-use Rattle.rib_player.proofs.counts.count_more.Given.{Over}
-use Rattle.rib_player.proofs.counts.count_more.Goals as goal
-use Rattle.rib_player.proofs.counts.count_more.Goals.{After-checked_add}
+use Rattle.rib_player.proofs.claims.count_more.Given.{Over}
+use Rattle.rib_player.proofs.claims.count_more.Goals as goal
+use Rattle.rib_player.proofs.claims.count_more.Goals.{After-checked_add}
 
 -- the count that is found, or none
 found : (g : Over) (c : After-checked_add g) → c.or_insert-count.result.now ≡ count_at g.K.Ord.cmp c.args.counts.now c.args.key

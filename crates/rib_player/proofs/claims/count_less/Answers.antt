@@ -6,10 +6,10 @@ use Rattle.std.specs.Option.{option_copied_mut}
 use Rattle.std.specs.Ordering.{eq_by_cmp}
 use Rattle.rib_player.specs.Counts.{one_if, count_kept, count_at}
 use Rattle.rib_player.proofs.CountedLaws.{count-written, counted}
-use Rattle.rib_player.specs.contracts.counts.count_less.{K-type}
-use Rattle.rib_player.proofs.counts.count_less.Given.{Over}
-use Rattle.rib_player.proofs.counts.count_less.Goals as goal
-use Rattle.rib_player.proofs.counts.count_less.Goals.{In-Some}
+use Rattle.rib_player.specs.contracts.claims.count_less.{K-type}
+use Rattle.rib_player.proofs.claims.count_less.Given.{Over}
+use Rattle.rib_player.proofs.claims.count_less.Goals as goal
+use Rattle.rib_player.proofs.claims.count_less.Goals.{In-Some}
 
 found : (g : Over) (c : In-Some g) → Some c.in-Some.count.now ≡ tree.get g.K.Ord.cmp c.args.counts.now c.args.key.now
 found g c = sym (ap option_copied_mut c.in-Some.is) ∙ c.get_mut.ensures.value

@@ -9,20 +9,21 @@ use Rattle.rib_player.specs.History.{pair_cmp}
 use Rattle.rib_player.specs.Journal.{sides_of, pairs_in}
 use Rattle.rib_player.specs.Changes.{found}
 use Rattle.rib_player.proofs.OrderedLaws.{of_one_pair, found-dedup, found-sorted, ordered-dedup}
-use Rattle.rib_player.proofs.steps.in_order.Goals as goal
-use Rattle.rib_player.proofs.steps.in_order.Goals.{After-dedup_by_key}
+use Rattle.rib_player.proofs.steps.each_once.Given.{Over}
+use Rattle.rib_player.proofs.steps.each_once.Goals as goal
+use Rattle.rib_player.proofs.steps.each_once.Goals.{After-dedup_by_key}
 
 -- of the sorted entries each pair's is kept once
-kept : (c : After-dedup_by_key) → c.dedup_by_key.new.self.items ≡ dedup of_one_pair c.sort_by_key.new.self.items
-kept c = dedup_same _ of_one_pair _ (λ x y b f x' y' told. search rules) _ _ c.dedup_by_key.ensures.filtered
+kept : (g : Over) (c : After-dedup_by_key g) → c.dedup_by_key.new.self.items ≡ dedup of_one_pair c.sort_by_key.new.self.items
+kept g c = dedup_same _ of_one_pair _ (λ x y b f x' y' told. search rules) _ _ c.dedup_by_key.ensures.filtered
 
 pub returns-clause-distinct : goal.returns-clause-distinct
-returns-clause-distinct c =
-    IsDistinct-from_sorted pair_cmp (pairs_in (sides_of c.dedup_by_key.new.self.items)) (subst (λ (entries : List Entry). IsStrictlySortedBy pair_cmp (pairs_in (sides_of entries))) (sym (kept c))
+returns-clause-distinct g c =
+    IsDistinct-from_sorted pair_cmp (pairs_in (sides_of c.dedup_by_key.new.self.items)) (subst (λ (entries : List Entry). IsStrictlySortedBy pair_cmp (pairs_in (sides_of entries))) (sym (kept g c))
     (ordered-dedup c.sort_by_key.new.self.items (c.in_ok-sort_by_key.ensures.sorted (λ entry. entry.pair) (answers_always _ _ _ (λ f a r g called. search rules)))))
 
 pub returns-clause-found : goal.returns-clause-found
-returns-clause-found c = λ q.
-    ap (λ (entries : List Entry). found (sides_of entries) q) (kept c)
+returns-clause-found g c = λ q.
+    ap (λ (entries : List Entry). found (sides_of entries) q) (kept g c)
     ∙ found-dedup q c.sort_by_key.new.self.items
     ∙ found-sorted q c.args.entries.items c.sort_by_key.new.self.items (c.in_ok-sort_by_key.ensures.stable (λ entry. entry.pair) (answers_always _ _ _ (λ f a r g called. search rules)))

@@ -3,7 +3,7 @@ use Rattle.std.proofs.lemmas.List.{take-take}
 use Rattle.ip_prefix.specs.Bits.{number_of}
 use Rattle.ip_prefix.specs.BitLemmas.{number_of-bits_of}
 use Rattle.ip_prefix.proofs.BitLists.{take-bits_of}
-use Rattle.rib_player.proofs.counts.v4_key.Goals as goal
+use Rattle.rib_player.proofs.claims.v4_key.Goals as goal
 
 pub returns-clause-key : goal.returns-clause-key
 returns-clause-key c =

@@ -2,7 +2,7 @@ use Rattle.std.proofs.Common.{◌≡◌, ◌+◌, ◌&&◌, Bool, false, ℕ, sy
 use Rattle.std.specs.Ordering.{eq_by_cmp, nat_cmp}
 use Rattle.rib_player.specs.Counts.{one_if, count_at}
 use Rattle.rib_player.proofs.CountedLaws.{v4-counted}
-use Rattle.rib_player.proofs.counts.Counts.less.Goals as goal
+use Rattle.rib_player.proofs.claims.Counts.less.Goals as goal
 
 pub returns-in-V4-clause-counted : goal.returns-in-V4-clause-counted
 returns-in-V4-clause-counted c =
