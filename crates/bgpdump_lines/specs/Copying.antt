@@ -1,22 +1,16 @@
 -- Private.
 -- Where the parts of a route's line stand, of which the next line may be made.
-use Rattle.std.specs.Prelude.{◌≡◌, ℕ, ◌≤◌, Option, Some, None, List, ◌++◌, length, drop, slice_range}
+use Rattle.std.specs.Prelude.{◌≡◌, ℕ, ◌≤◌, Option, Some, None, List, length, drop, slice_range}
 use Rattle.ip_prefix.specs.Network.{Network}
 use Rattle.mrt_events.specs.declared.peer.Peer.{Peer}
 use Rattle.mrt_events.specs.declared.event.Route.{Route}
 use Rattle.bgpdump_lines.specs.declared.heading.Heading.{Heading}
-use Rattle.bgpdump_lines.specs.declared.route_line.Announcement.{Announcement}
 use Rattle.bgpdump_lines.specs.declared.route_line.Places.{Places}
 use Rattle.bgpdump_lines.specs.declared.route_line.LastLine.{LastLine}
 use Rattle.bgpdump_lines.specs.declared.route_line.Likeness.{Likeness}
 use Rattle.bgpdump_lines.specs.declared.route_line.Likeness.TheVariants.{SameRoute, SamePrefix, Other}
 use Rattle.bgpdump_lines.specs.Fields.{prefix_field, route_tail}
 use Rattle.bgpdump_lines.specs.Heading.{route_head, route_front}
-
--- the line of what is said, by its parts
-abbrev pub said_parts : Heading → Announcement → List ℕ
-said_parts heading said =
-    route_front heading said.peer.now said.route.now ++ (prefix_field said.prefix.now ++ route_tail said.route.now)
 
 -- the places follow one another in the text
 pub record AreOrdered (places : Places) (text : List ℕ) : Type 0 where
@@ -41,13 +35,25 @@ prefix_at places text = slice_range text places.front places.tail
 abbrev pub tail_at : Places → List ℕ → List ℕ
 tail_at places text = drop places.tail text
 
+-- these four stand there
+pub record HasParts (text head_text front_text prefix_text tail_text : List ℕ) (places : Places) : Type 0 where
+  pub ordered : AreOrdered places text
+  pub head : head_at places text ≡ head_text
+  pub front : front_at places text ≡ front_text
+  pub prefix : prefix_at places text ≡ prefix_text
+  pub tail : tail_at places text ≡ tail_text
+
 -- the text ends in a line under this heading, of a route of this peer to this prefix, with its parts at its places
-pub record EndsIn (heading : Heading) (line : LastLine) (text : List ℕ) : Type 0 where
-  pub ordered : AreOrdered line.places text
-  pub head : head_at line.places text ≡ route_head heading line.said.route.now
-  pub front : front_at line.places text ≡ route_front heading line.said.peer.now line.said.route.now
-  pub prefix : prefix_at line.places text ≡ prefix_field line.said.prefix.now
-  pub tail : tail_at line.places text ≡ route_tail line.said.route.now
+abbrev pub EndsIn : Heading → LastLine → List ℕ → Type 0
+EndsIn heading line text =
+    HasParts text (route_head heading line.said.route.now) (route_front heading line.said.peer.now line.said.route.now)
+    (prefix_field line.said.prefix.now) (route_tail line.said.route.now) line.places
+
+-- the same, to whichever prefix
+pub record EndsInRoute (heading : Heading) (peer : Peer) (route : Route) (places : Places) (text : List ℕ) : Type 0 where
+  pub ordered : AreOrdered places text
+  pub front : front_at places text ≡ route_front heading peer route
+  pub tail : tail_at places text ≡ route_tail route
 
 -- what a line is alike in that is said of a line with the route of this peer to this prefix
 abbrev pub IsLike : Option LastLine → Peer → Network → Route → Likeness → Type 0

@@ -33,22 +33,10 @@ outcome_of false false = outcome.Done
 
 -- the run ended by a read fault
 abbrev pub is_read_fault : {A : Type 0} → Result A Outcome → Bool
-is_read_fault (Ok done) = false
 is_read_fault (Err outcome.ReadFault) = true
-is_read_fault (Err outcome.WriteFault) = false
-is_read_fault (Err outcome.InputTooLong) = false
-is_read_fault (Err outcome.Memory) = false
-is_read_fault (Err outcome.Done) = false
-is_read_fault (Err outcome.Reported) = false
-is_read_fault (Err outcome.ScriptTooLong) = false
+is_read_fault other = false
 
 -- the run ended by a write fault
 abbrev pub is_write_fault : {A : Type 0} → Result A Outcome → Bool
-is_write_fault (Ok done) = false
-is_write_fault (Err outcome.ReadFault) = false
 is_write_fault (Err outcome.WriteFault) = true
-is_write_fault (Err outcome.InputTooLong) = false
-is_write_fault (Err outcome.Memory) = false
-is_write_fault (Err outcome.Done) = false
-is_write_fault (Err outcome.Reported) = false
-is_write_fault (Err outcome.ScriptTooLong) = false
+is_write_fault other = false

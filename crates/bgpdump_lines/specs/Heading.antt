@@ -1,6 +1,6 @@
 -- Private.
 -- What is printed under a heading, which has what the lines of an event, or of a table, have in common.
-use Rattle.std.specs.Prelude.{ℕ, List, ◌∷◌, ◌++◌}
+use Rattle.std.specs.Prelude.{ℕ, List, ◌∷◌, ◌++◌, codes}
 use Rattle.std.specs.List.{flat_map}
 use Rattle.mrt_events.specs.declared.peer.Peer.{Peer}
 use Rattle.mrt_events.specs.declared.event.Route.{Route}
@@ -9,13 +9,13 @@ use Rattle.mrt_events.specs.declared.event.Tag.{Tag}
 use Rattle.bgpdump_lines.specs.declared.heading.First.{First}
 use Rattle.bgpdump_lines.specs.declared.heading.First.TheVariants.{Record, Rib}
 use Rattle.bgpdump_lines.specs.declared.heading.Heading.{Heading}
-use Rattle.bgpdump_lines.specs.Lines.{bar, word, rib_word, route_time_text, route_letter, line_behind}
+use Rattle.bgpdump_lines.specs.Lines.{bar, word, route_time_text, route_letter, line_behind}
 use Rattle.bgpdump_lines.specs.Fields.{peer_fields}
 
 -- the first field of a line
 abbrev pub word_of : First → Tag → List ℕ
 word_of Record tag = word tag
-word_of Rib tag = rib_word
+word_of Rib tag = codes "RIB"
 
 abbrev pub first_field : Heading → List ℕ
 first_field heading = word_of heading.first heading.tag

@@ -1,4 +1,5 @@
 pub mod Device
+pub mod Printed
 pub mod Lines
 pub mod Fields
 pub mod Heading

@@ -125,12 +125,8 @@ item_line time tag = line_behind (word tag) time tag
 abbrev pub event_lines : Event → List ℕ
 event_lines event = flat_map (item_line event.time event.tag) event.items
 
--- the first field of the lines of a peer's table
-abbrev pub rib_word : List ℕ
-rib_word = codes "RIB"
-
 -- the line of a route in the table of a peer
 abbrev pub rib_line : Peer → Network × Route → List ℕ
 rib_line peer entry =
-    line_of (rib_word ∷ decimal entry.1.time ∷ codes "B"
+    line_of (codes "RIB" ∷ decimal entry.1.time ∷ codes "B"
     ∷ address_text peer.addr ∷ decimal peer.asn ∷ network_text entry.0 ∷ attribute_fields entry.1.attrs)

@@ -32,13 +32,10 @@ abbrev pub finding_report : Finding → List ℕ
 finding_report (Found event) = []
 finding_report (Bad fault) = fault_report fault
 
--- the lines of all events, and the reports of all faults
-abbrev pub dump : List Finding → List ℕ
-dump found = flat_map finding_lines found
-
+-- the reports of all faults
 abbrev pub reports : List Finding → List ℕ
 reports found = flat_map finding_report found
 
--- both: what a run of `-m` writes
+-- the lines of all events, and these: what a run of `-m` writes
 abbrev pub dump_texts : List Finding → Texts
-dump_texts found = record { out = dump found; err = reports found }
+dump_texts found = record { out = flat_map finding_lines found; err = reports found }

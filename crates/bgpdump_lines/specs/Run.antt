@@ -55,31 +55,21 @@ WritesFronts texts old new = AppendsFront old.out new.out texts.out × AppendsFr
 abbrev pub EndsSo : Outcome → Texts → Outputs → Outputs → Type 0
 EndsSo Done texts old new = (texts.err ≡ []) × Writes texts old new
 EndsSo Reported texts old new = (texts.err ≢ []) × Writes texts old new
-EndsSo ReadFault texts old new = WritesFronts texts old new
-EndsSo WriteFault texts old new = WritesFronts texts old new
-EndsSo InputTooLong texts old new = WritesFronts texts old new
-EndsSo Memory texts old new = WritesFronts texts old new
 EndsSo ScriptTooLong texts old new = ⊥
+EndsSo fault texts old new = WritesFronts texts old new
 
 -- the run ended by the input: it failed, or it was too long
 abbrev pub EndedByInput : Outcome → Type 0
 EndedByInput ReadFault = Unit {0}
 EndedByInput InputTooLong = Unit {0}
-EndedByInput Done = ⊥
-EndedByInput Reported = ⊥
-EndedByInput WriteFault = ⊥
-EndedByInput ScriptTooLong = ⊥
-EndedByInput Memory = ⊥
+EndedByInput other = ⊥
 
 -- the end was seen by a run that ended so and took frames and this behind them: where it read all, unless a header states too much; where an output failed, if a record is cut
 abbrev pub SawEnd : Outcome → List Frame → List ℕ → Type 0
 SawEnd Done frames rest = rest_kind rest ≡ CutRecord
 SawEnd Reported frames rest = rest_kind rest ≡ CutRecord
 SawEnd WriteFault frames rest = (rest_kind rest ≡ CutRecord) × (rest ≢ [])
-SawEnd ReadFault frames rest = ⊥
-SawEnd InputTooLong frames rest = ⊥
-SawEnd Memory frames rest = ⊥
-SawEnd ScriptTooLong frames rest = ⊥
+SawEnd other frames rest = ⊥
 
 -- octets that the input may hold on the whole: those taken, and any others behind them, but none where by what was taken the end was seen
 pub record MayHold (stamp : Stamp) (Saw : List Frame → List ℕ → Type 0) (old new : Option (List ℕ)) (octets : List ℕ) : Type 0 where
@@ -113,13 +103,11 @@ WritesWhole stamp outcome texts left left' old new =
 
 -- octets taken behind the frames: a record has begun in them, where the input ended the run; or they are the rest; or for want of memory a whole record of which nothing is written
 abbrev pub IsLast : Outcome → List ℕ → Type 0
-IsLast Done rest = IsRest rest
-IsLast Reported rest = IsRest rest
-IsLast WriteFault rest = IsRest rest
 IsLast ReadFault rest = IsBegun rest
 IsLast InputTooLong rest = IsBegun rest
 IsLast Memory rest = IsRest rest ⊎ ((r : Record) × IsRecord r × (rest ≡ spelling r))
 IsLast ScriptTooLong rest = ⊥
+IsLast other rest = IsRest rest
 
 -- the octets that a run took: those of frames, and then the last
 pub record IsTaken (stamp : Stamp) (outcome : Outcome) (taken : List ℕ) : Type 0 where

@@ -40,9 +40,8 @@ PutsFound found old new (Err Memory) = (new ≡ old) ⊎ ((event : Event) × (fo
 
 -- the writing ended by a fault of the output
 abbrev pub is_write : {A : Type 0} → Result A WriteFault → Bool
-is_write (Ok done) = false
 is_write (Err Write) = true
-is_write (Err Memory) = false
+is_write other = false
 
 -- whether a fault is among what was found
 abbrev pub is_any_bad : List Finding → Bool

@@ -1,64 +1,21 @@
 //! The lines of events, one for each item.
 
 ghost use Rattle.std.specs.Prelude.{◌≡◌, ◌++◌, map, All, OnOk, OnErr, IfOk, IfSome};
-ghost use Rattle.bgp_wire.specs.Printed.{StillBegins};
-ghost use Rattle.mrt_events.specs.Event.{Withdrawn, Changed, saying};
+ghost use Rattle.mrt_events.specs.Event.{saying};
 ghost use Rattle.mrt_events.specs.SharedRoute.{Announces, AreOfOneRoute};
 ghost use Rattle.bgpdump_lines.specs.Lines.{event_lines};
-ghost use Rattle.bgpdump_lines.specs.Fields.{route_tail};
-ghost use Rattle.bgpdump_lines.specs.Heading.{route_front, headed_line, headed_lines};
-ghost use Rattle.bgpdump_lines.specs.Copying.{AreOrdered, EndsIn, front_at, tail_at};
+ghost use Rattle.bgpdump_lines.specs.Heading.{headed_line, headed_lines};
+ghost use Rattle.bgpdump_lines.specs.Printed.{Prints};
+ghost use Rattle.bgpdump_lines.specs.Copying.{EndsIn, EndsInRoute};
 
 use crate::fields::{put_field, put_peer, put_prefix};
 use crate::heading::{Heading, put_head};
 use crate::route_line::{
     Announcement, LastLine, Places, put_route, put_route_again, put_route_anew,
 };
-use ip_prefix::{Prefix, Text};
-use mrt_wire::{Event, Item, Peer};
+use ip_prefix::Text;
+use mrt_wire::{Event, Item};
 use std::alloc::AllocError;
-
-/// Appends the line of a withdrawal.
-#[inline(always)]
-fn put_withdrawal(
-    heading: &Heading,
-    peer: &Peer,
-    prefix: &Prefix,
-    text: &mut Text,
-) -> Result<(), AllocError>
-    ensures appended { OnOk result (text.new ≡ text.old ++
-        headed_line heading.now (Withdrawn peer.now prefix.now)) }
-    ensures kept { OnErr result (StillBegins text.old text.new) }
-{
-    put_head(heading, text)?;
-    text.extend_from_slice(b"|W")?;
-    put_peer(peer, text)?;
-    put_prefix(prefix, text)?;
-    text.push(b'\n')?;
-    Ok(())
-}
-
-/// Appends the line of a state change.
-#[inline(always)]
-fn put_change(
-    heading: &Heading,
-    peer: &Peer,
-    old: u16,
-    new: u16,
-    text: &mut Text,
-) -> Result<(), AllocError>
-    ensures appended { OnOk result (text.new ≡ text.old ++
-        headed_line heading.now (Changed peer.now old new)) }
-    ensures kept { OnErr result (StillBegins text.old text.new) }
-{
-    put_head(heading, text)?;
-    text.extend_from_slice(b"|STATE")?;
-    put_peer(peer, text)?;
-    put_field(u32::from(old), text)?;
-    put_field(u32::from(new), text)?;
-    text.push(b'\n')?;
-    Ok(())
-}
 
 /// Appends the line of an item. Returned is the line, if it is of a route.
 #[inline(always)]
@@ -69,11 +26,8 @@ pub(crate) fn put_item<'a>(
     text: &mut Text,
 ) -> Result<Option<LastLine<'a>>, AllocError>
     requires { IfSome last (λ line. EndsIn heading.now line text.old) }
-    ensures appended { OnOk result (text.new ≡
-        text.old ++ headed_line heading.now (saying item.now)) }
-    ensures last { IfOk result (λ last. IfSome last (λ line.
-        EndsIn heading.now line text.new)) }
-    ensures kept { OnErr result (StillBegins text.old text.new) }
+    ensures printed { Prints text.old text.new (headed_line heading.now (saying item.now)) result }
+    ensures last { IfOk result (λ last. IfSome last (λ line. EndsIn heading.now line text.new)) }
 {
     match item {
         Item::Announce(peer, prefix, route) => {
@@ -85,11 +39,20 @@ pub(crate) fn put_item<'a>(
             Ok(Some(put_route(heading, said, last, text)?))
         }
         Item::Withdraw(peer, prefix) => {
-            put_withdrawal(heading, peer, prefix, text)?;
+            put_head(heading, text)?;
+            text.extend_from_slice(b"|W")?;
+            put_peer(peer, text)?;
+            put_prefix(prefix, text)?;
+            text.push(b'\n')?;
             Ok(None)
         }
         Item::State(peer, old, new) => {
-            put_change(heading, peer, *old, *new, text)?;
+            put_head(heading, text)?;
+            text.extend_from_slice(b"|STATE")?;
+            put_peer(peer, text)?;
+            put_field(u32::from(*old), text)?;
+            put_field(u32::from(*new), text)?;
+            text.push(b'\n')?;
             Ok(None)
         }
     }
@@ -98,9 +61,7 @@ pub(crate) fn put_item<'a>(
 /// Appends the lines of items, each of which takes what it can from the one before.
 #[inline(always)]
 fn put_each(heading: &Heading, items: &[Item], text: &mut Text) -> Result<(), AllocError>
-    ensures appended { OnOk result (text.new ≡ text.old ++
-        headed_lines heading.now (map saying items.now)) }
-    ensures kept { OnErr result (StillBegins text.old text.new) }
+    ensures { Prints text.old text.new (headed_lines heading.now (map saying items.now)) result }
 {
     if items.is_empty() {
         return Ok(());
@@ -111,9 +72,7 @@ fn put_each(heading: &Heading, items: &[Item], text: &mut Text) -> Result<(), Al
 /// The same, out of line: of most events all items share a route, or none do.
 #[inline(never)]
 fn put_some(heading: &Heading, items: &[Item], text: &mut Text) -> Result<(), AllocError>
-    ensures appended { OnOk result (text.new ≡ text.old ++
-        headed_lines heading.now (map saying items.now)) }
-    ensures kept { OnErr result (StillBegins text.old text.new) }
+    ensures { Prints text.old text.new (headed_lines heading.now (map saying items.now)) result }
 {
     let mut last = None;
     'items: for item in items {
@@ -132,19 +91,11 @@ fn put_other(
     item: &Item,
     text: &mut Text,
 ) -> Result<Places, AllocError>
-    requires ordered { AreOrdered last text.old }
-    requires front { front_at last text.old
-        ≡ route_front heading.now first.peer.now first.route.now }
-    requires tail { tail_at last text.old ≡ route_tail first.route.now }
+    requires last { EndsInRoute heading.now first.peer.now first.route.now last text.old }
     requires alike { Announces first.peer.now first.route.now (saying item.now) }
-    ensures appended { OnOk result (text.new ≡
-        text.old ++ headed_line heading.now (saying item.now)) }
-    ensures ordered { IfOk result (λ places. AreOrdered places text.new) }
-    ensures front { IfOk result (λ places. front_at places text.new
-        ≡ route_front heading.now first.entry.peer.now first.entry.route.now) }
-    ensures tail { IfOk result (λ places. tail_at places text.new
-        ≡ route_tail first.entry.route.now) }
-    ensures kept { OnErr result (StillBegins text.old text.new) }
+    ensures printed { Prints text.old text.new (headed_line heading.now (saying item.now)) result }
+    ensures last { IfOk result (λ places.
+        EndsInRoute heading.now first.entry.peer.now first.entry.route.now places text.new) }
 {
     match item {
         Item::Announce(_, prefix, _) => put_route_again(last, prefix, text),
@@ -162,14 +113,9 @@ fn put_others(
     items: &[Item],
     text: &mut Text,
 ) -> Result<(), AllocError>
-    requires ordered { AreOrdered places text.old }
-    requires front { front_at places text.old
-        ≡ route_front heading.now first.peer.now first.route.now }
-    requires tail { tail_at places text.old ≡ route_tail first.route.now }
+    requires last { EndsInRoute heading.now first.peer.now first.route.now places text.old }
     requires alike { All (Announces first.peer.now first.route.now) (map saying items.now) }
-    ensures appended { OnOk result (text.new ≡ text.old ++
-        headed_lines heading.now (map saying items.now)) }
-    ensures kept { OnErr result (StillBegins text.old text.new) }
+    ensures { Prints text.old text.new (headed_lines heading.now (map saying items.now)) result }
 {
     let mut places = places;
     'items: for item in items {
@@ -186,9 +132,7 @@ pub(crate) fn put_shared(
     text: &mut Text,
 ) -> Result<(), AllocError>
     requires { AreOfOneRoute (map saying items.now) }
-    ensures appended { OnOk result (text.new ≡ text.old ++
-        headed_lines heading.now (map saying items.now)) }
-    ensures kept { OnErr result (StillBegins text.old text.new) }
+    ensures { Prints text.old text.new (headed_lines heading.now (map saying items.now)) result }
 {
     let [Item::Announce(peer, prefix, route), rest @ ..] = items else {
         return Ok(());
@@ -205,8 +149,7 @@ pub(crate) fn put_shared(
 /// Appends the lines of an event's items.
 #[inline(always)]
 fn put_items(event: &Event, text: &mut Text) -> Result<(), AllocError>
-    ensures appended { OnOk result (text.new ≡ text.old ++ event_lines event.now) }
-    ensures kept { OnErr result (StillBegins text.old text.new) }
+    ensures { Prints text.old text.new (event_lines event.now) result }
 {
     let heading = Heading::of(event);
     let items = event.items.as_slice();

@@ -1,14 +1,14 @@
 //! The fields of lines behind the first ones, each with a bar in front of it.
 
-ghost use Rattle.std.specs.Prelude.{◌≡◌, ◌∷◌, ◌++◌, OnOk, OnErr, decimal};
+ghost use Rattle.std.specs.Prelude.{◌∷◌, ◌++◌, decimal};
 ghost use Rattle.ip_prefix.specs.Text.{address_text, network_text};
-ghost use Rattle.bgp_wire.specs.Text.{path_text, communities_text};
-ghost use Rattle.bgp_wire.specs.Printed.{StillBegins};
+ghost use Rattle.bgp_wire.specs.Text.{communities_text};
+ghost use Rattle.bgpdump_lines.specs.Printed.{Prints};
 ghost use Rattle.bgpdump_lines.specs.Lines.{bar, line_of, origin_text, next_hop_text};
 ghost use Rattle.bgpdump_lines.specs.Lines.{number_or_zero, aggregate_word, aggregator_text};
 ghost use Rattle.bgpdump_lines.specs.Lines.{attribute_fields};
 
-use bgp_wire::{Aggregator, AsPath, Attrs, Communities, Origin, append_communities};
+use bgp_wire::{Aggregator, Attrs, Communities, Origin, append_communities};
 use ip_prefix::{Addr, Prefix, SPACE, Text};
 use mrt_wire::Peer;
 use std::alloc::AllocError;
@@ -18,8 +18,7 @@ pub(crate) const BAR: u8 = b'|';
 
 /// Appends a bar and a number.
 pub fn put_number(number: u64, text: &mut Text) -> Result<(), AllocError>
-    ensures appended { OnOk result (text.new ≡ text.old ++ (bar ∷ decimal number)) }
-    ensures kept { OnErr result (StillBegins text.old text.new) }
+    ensures { Prints text.old text.new (bar ∷ decimal number) result }
 {
     text.push(BAR)?;
     text.put_long_decimal(number)
@@ -28,8 +27,7 @@ pub fn put_number(number: u64, text: &mut Text) -> Result<(), AllocError>
 /// The same, for a number of 32 bits.
 #[inline(always)]
 pub(crate) fn put_field(number: u32, text: &mut Text) -> Result<(), AllocError>
-    ensures appended { OnOk result (text.new ≡ text.old ++ (bar ∷ decimal number)) }
-    ensures kept { OnErr result (StillBegins text.old text.new) }
+    ensures { Prints text.old text.new (bar ∷ decimal number) result }
 {
     text.put_led_decimal(BAR, number)
 }
@@ -37,9 +35,8 @@ pub(crate) fn put_field(number: u32, text: &mut Text) -> Result<(), AllocError>
 /// Appends a bar, the peer's address, a bar, and its AS number.
 #[inline(always)]
 pub fn put_peer(peer: &Peer, text: &mut Text) -> Result<(), AllocError>
-    ensures appended { OnOk result (text.new ≡
-        text.old ++ (bar ∷ address_text peer.now.addr ++ bar ∷ decimal peer.now.asn)) }
-    ensures kept { OnErr result (StillBegins text.old text.new) }
+    ensures { Prints text.old text.new
+        (bar ∷ address_text peer.now.addr ++ bar ∷ decimal peer.now.asn) result }
 {
     text.put_led(BAR, &peer.addr)?;
     put_field(peer.asn, text)
@@ -48,28 +45,15 @@ pub fn put_peer(peer: &Peer, text: &mut Text) -> Result<(), AllocError>
 /// Appends a bar and a prefix.
 #[inline(always)]
 pub(crate) fn put_prefix(prefix: &Prefix, text: &mut Text) -> Result<(), AllocError>
-    ensures appended { OnOk result
-        (text.new ≡ text.old ++ (bar ∷ network_text prefix.now)) }
-    ensures kept { OnErr result (StillBegins text.old text.new) }
+    ensures { Prints text.old text.new (bar ∷ network_text prefix.now) result }
 {
     text.put_led(BAR, prefix)
-}
-
-/// Appends a bar and a path.
-#[inline(always)]
-fn put_path(path: &AsPath, text: &mut Text) -> Result<(), AllocError>
-    ensures appended { OnOk result (text.new ≡ text.old ++ (bar ∷ path_text path.now)) }
-    ensures kept { OnErr result (StillBegins text.old text.new) }
-{
-    text.push(BAR)?;
-    path.append_to(text)
 }
 
 /// Appends a bar and how a route came into BGP.
 #[inline(always)]
 fn put_origin(origin: Option<Origin>, text: &mut Text) -> Result<(), AllocError>
-    ensures appended { OnOk result (text.new ≡ text.old ++ (bar ∷ origin_text origin)) }
-    ensures kept { OnErr result (StillBegins text.old text.new) }
+    ensures { Prints text.old text.new (bar ∷ origin_text origin) result }
 {
     match origin {
         Some(Origin::Igp) => text.extend_from_slice(b"|IGP"),
@@ -82,9 +66,7 @@ fn put_origin(origin: Option<Origin>, text: &mut Text) -> Result<(), AllocError>
 /// Appends a bar and the address of the next hop.
 #[inline(always)]
 fn put_next_hop(next_hop: Option<Addr>, text: &mut Text) -> Result<(), AllocError>
-    ensures appended { OnOk result
-        (text.new ≡ text.old ++ (bar ∷ next_hop_text next_hop)) }
-    ensures kept { OnErr result (StillBegins text.old text.new) }
+    ensures { Prints text.old text.new (bar ∷ next_hop_text next_hop) result }
 {
     match next_hop {
         Some(addr) => text.put_led(BAR, &addr),
@@ -95,9 +77,7 @@ fn put_next_hop(next_hop: Option<Addr>, text: &mut Text) -> Result<(), AllocErro
 /// Appends a bar and a preference or a metric, an absent one as 0.
 #[inline(always)]
 fn put_number_or_zero(number: Option<u32>, text: &mut Text) -> Result<(), AllocError>
-    ensures appended { OnOk result
-        (text.new ≡ text.old ++ (bar ∷ number_or_zero number)) }
-    ensures kept { OnErr result (StillBegins text.old text.new) }
+    ensures { Prints text.old text.new (bar ∷ number_or_zero number) result }
 {
     match number {
         Some(number) => put_field(number, text),
@@ -107,9 +87,7 @@ fn put_number_or_zero(number: Option<u32>, text: &mut Text) -> Result<(), AllocE
 
 /// Appends a bar and communities.
 fn put_community_field(communities: &Communities, text: &mut Text) -> Result<(), AllocError>
-    ensures appended { OnOk result
-        (text.new ≡ text.old ++ (bar ∷ communities_text communities.now)) }
-    ensures kept { OnErr result (StillBegins text.old text.new) }
+    ensures { Prints text.old text.new (bar ∷ communities_text communities.now) result }
 {
     text.push(BAR)?;
     append_communities(communities.as_slice(), text)
@@ -118,9 +96,7 @@ fn put_community_field(communities: &Communities, text: &mut Text) -> Result<(),
 /// Appends a bar and whether ATOMIC_AGGREGATE is there.
 #[inline(always)]
 fn put_aggregate(atomic: bool, text: &mut Text) -> Result<(), AllocError>
-    ensures appended { OnOk result
-        (text.new ≡ text.old ++ (bar ∷ aggregate_word atomic)) }
-    ensures kept { OnErr result (StillBegins text.old text.new) }
+    ensures { Prints text.old text.new (bar ∷ aggregate_word atomic) result }
 {
     if atomic {
         text.extend_from_slice(b"|AG")
@@ -132,9 +108,7 @@ fn put_aggregate(atomic: bool, text: &mut Text) -> Result<(), AllocError>
 /// Appends a bar and who has formed an aggregate.
 #[inline(always)]
 fn put_aggregator(aggregator: Option<Aggregator>, text: &mut Text) -> Result<(), AllocError>
-    ensures appended { OnOk result
-        (text.new ≡ text.old ++ (bar ∷ aggregator_text aggregator)) }
-    ensures kept { OnErr result (StillBegins text.old text.new) }
+    ensures { Prints text.old text.new (bar ∷ aggregator_text aggregator) result }
 {
     match aggregator {
         Some(found) => {
@@ -147,11 +121,10 @@ fn put_aggregator(aggregator: Option<Aggregator>, text: &mut Text) -> Result<(),
 
 /// Appends what stands behind the prefix in the line of a route with these attributes.
 pub(crate) fn put_attributes(attrs: &Attrs, text: &mut Text) -> Result<(), AllocError>
-    ensures appended { OnOk result
-        (text.new ≡ text.old ++ (bar ∷ line_of (attribute_fields attrs.now))) }
-    ensures kept { OnErr result (StillBegins text.old text.new) }
+    ensures { Prints text.old text.new (bar ∷ line_of (attribute_fields attrs.now)) result }
 {
-    put_path(&attrs.path, text)?;
+    text.push(BAR)?;
+    attrs.path.append_to(text)?;
     put_origin(attrs.origin, text)?;
     put_next_hop(attrs.next_hop, text)?;
     put_number_or_zero(attrs.local_pref, text)?;

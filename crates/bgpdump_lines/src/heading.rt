@@ -1,9 +1,8 @@
 //! What the lines of an event, or of a table, begin with.
 
-ghost use Rattle.std.specs.Prelude.{◌≡◌, ◌∷◌, ◌++◌, OnOk, OnErr};
-ghost use Rattle.bgp_wire.specs.Printed.{StillBegins};
-ghost use Rattle.bgpdump_lines.specs.Lines.{bar, micros_text, time_text, route_time_text};
-ghost use Rattle.bgpdump_lines.specs.Lines.{route_letter, item_line, rib_line};
+ghost use Rattle.std.specs.Prelude.{◌≡◌, ◌∷◌, ◌++◌};
+ghost use Rattle.bgpdump_lines.specs.Printed.{Prints};
+ghost use Rattle.bgpdump_lines.specs.Lines.{bar, micros_text, time_text, item_line, rib_line};
 ghost use Rattle.bgpdump_lines.specs.Heading.{first_field, route_head, headed_line};
 ghost use Rattle.ip_prefix.specs.Network.{Network};
 ghost use Rattle.mrt_events.specs.declared.event.Route.{Route};
@@ -72,8 +71,7 @@ impl Heading {
 /// Appends the first field of a line.
 #[inline(always)]
 fn put_word(heading: &Heading, text: &mut Text) -> Result<(), AllocError>
-    ensures appended { OnOk result (text.new ≡ text.old ++ first_field heading.now) }
-    ensures kept { OnErr result (StillBegins text.old text.new) }
+    ensures { Prints text.old text.new (first_field heading.now) result }
 {
     match (heading.first, heading.tag) {
         (First::Rib, _) => text.extend_from_slice(b"RIB"),
@@ -87,8 +85,7 @@ fn put_word(heading: &Heading, text: &mut Text) -> Result<(), AllocError>
 /// Appends microseconds, behind zeros where they have fewer digits than are printed. They are
 /// printed once more, to see how many digits they have.
 fn put_micros(micros: u32, text: &mut Text) -> Result<(), AllocError>
-    ensures appended { OnOk result (text.new ≡ text.old ++ micros_text micros) }
-    ensures kept { OnErr result (StillBegins text.old text.new) }
+    ensures { Prints text.old text.new (micros_text micros) result }
 {
     let front = text.len();
     text.put_decimal(micros)?;
@@ -102,9 +99,7 @@ fn put_micros(micros: u32, text: &mut Text) -> Result<(), AllocError>
 /// Appends a bar and the time of a line.
 #[inline(always)]
 fn put_time(heading: &Heading, text: &mut Text) -> Result<(), AllocError>
-    ensures appended { OnOk result (text.new ≡
-        text.old ++ (bar ∷ time_text heading.now.tag heading.now.time)) }
-    ensures kept { OnErr result (StillBegins text.old text.new) }
+    ensures { Prints text.old text.new (bar ∷ time_text heading.now.tag heading.now.time) result }
 {
     put_field(heading.time.seconds, text)?;
     if let Tag::Bgp4mpEt = heading.tag {
@@ -117,51 +112,32 @@ fn put_time(heading: &Heading, text: &mut Text) -> Result<(), AllocError>
 /// Appends the first two fields of a line: what kind of record it is from, and its time.
 #[inline(always)]
 pub(crate) fn put_head(heading: &Heading, text: &mut Text) -> Result<(), AllocError>
-    ensures appended { OnOk result (text.new ≡
-        text.old ++ (first_field heading.now ++ bar ∷ time_text heading.now.tag heading.now.time)) }
-    ensures kept { OnErr result (StillBegins text.old text.new) }
+    ensures { Prints text.old text.new
+        (first_field heading.now ++ bar ∷ time_text heading.now.tag heading.now.time) result }
 {
     put_word(heading, text)?;
     put_time(heading, text)
 }
 
-/// Appends a bar and the time of a route's line, which for a table's entry is the route's own.
-#[inline(always)]
-fn put_route_time(heading: &Heading, route: &Route, text: &mut Text) -> Result<(), AllocError>
-    ensures appended { OnOk result (text.new ≡
-        text.old ++ (bar ∷ route_time_text heading.now.time heading.now.tag route.now)) }
-    ensures kept { OnErr result (StillBegins text.old text.new) }
-{
-    match heading.tag {
-        Tag::TableDump | Tag::TableDump2 => put_field(route.time, text),
-        Tag::Bgp4mp | Tag::Bgp4mpEt => put_time(heading, text),
-    }
-}
-
-/// Appends a bar and what a route's line is: an entry of a table, or an announcement.
-#[inline]
-fn put_letter(tag: Tag, text: &mut Text) -> Result<(), AllocError>
-    ensures appended { OnOk result (text.new ≡ text.old ++ (bar ∷ route_letter tag)) }
-    ensures kept { OnErr result (StillBegins text.old text.new) }
-{
-    match tag {
-        Tag::TableDump | Tag::TableDump2 => text.extend_from_slice(b"|B"),
-        Tag::Bgp4mp | Tag::Bgp4mpEt => text.extend_from_slice(b"|A"),
-    }
-}
-
-/// Appends the first three fields of a route's line.
+/// Appends the first three fields of a route's line: an entry of a table, which has the time of the
+/// route, or an announcement.
 #[inline(always)]
 pub(crate) fn put_route_head(
     heading: &Heading,
     route: &Route,
     text: &mut Text,
 ) -> Result<(), AllocError>
-    ensures appended { OnOk result (text.new ≡
-        text.old ++ route_head heading.now route.now) }
-    ensures kept { OnErr result (StillBegins text.old text.new) }
+    ensures { Prints text.old text.new (route_head heading.now route.now) result }
 {
     put_word(heading, text)?;
-    put_route_time(heading, route, text)?;
-    put_letter(heading.tag, text)
+    match heading.tag {
+        Tag::TableDump | Tag::TableDump2 => {
+            put_field(route.time, text)?;
+            text.extend_from_slice(b"|B")
+        }
+        Tag::Bgp4mp | Tag::Bgp4mpEt => {
+            put_time(heading, text)?;
+            text.extend_from_slice(b"|A")
+        }
+    }
 }

@@ -16,16 +16,6 @@ fn put_labelled(word: &[u8], number: u64, text: &mut Text) -> Result<(), AllocEr
     Ok(())
 }
 
-/// Appends which type and subtype aren't read.
-fn put_unsupported(kind: u16, subtype: u16, text: &mut Text) -> Result<(), AllocError>
-    ensures { OnOk result (text.new ≡
-        text.old ++ kind_text (RecordKind.Unsupported kind subtype)) }
-{
-    put_labelled(b"unsupported type ", u64::from(kind), text)?;
-    put_labelled(b" subtype ", u64::from(subtype), text)?;
-    Ok(())
-}
-
 /// Appends what is wrong with a record. Refused, it may have appended a part.
 fn put_kind(kind: RecordKind, text: &mut Text) -> Result<(), AllocError>
     ensures { OnOk result (text.new ≡ text.old ++ kind_text kind) }
@@ -36,7 +26,10 @@ fn put_kind(kind: RecordKind, text: &mut Text) -> Result<(), AllocError>
             put_labelled(b"length ", u64::from(size), text)?;
             text.extend_from_slice(b" too long")?;
         }
-        RecordKind::Unsupported(kind, subtype) => put_unsupported(kind, subtype, text)?,
+        RecordKind::Unsupported(kind, subtype) => {
+            put_labelled(b"unsupported type ", u64::from(kind), text)?;
+            put_labelled(b" subtype ", u64::from(subtype), text)?;
+        }
         RecordKind::Malformed => text.extend_from_slice(b"malformed")?,
         RecordKind::NoIndex => text.extend_from_slice(b"no peer index")?,
         RecordKind::PeerIndex(number) => put_labelled(b"peer index ", u64::from(number), text)?,

@@ -1,12 +1,12 @@
 //! The lines of routes, parts of which are copied from the line before.
 
-ghost use Rattle.std.specs.Prelude.{◌≡◌, ◌++◌, OnOk, OnErr, IfOk, IfSome};
-ghost use Rattle.bgp_wire.specs.Printed.{StillBegins};
+ghost use Rattle.std.specs.Prelude.{◌++◌, IfOk, IfSome};
 ghost use Rattle.mrt_events.specs.Event.{Announced};
 ghost use Rattle.bgpdump_lines.specs.Fields.{peer_fields, prefix_field, route_tail};
-ghost use Rattle.bgpdump_lines.specs.Heading.{route_head, route_front, headed_line};
-ghost use Rattle.bgpdump_lines.specs.Copying.{AreOrdered, EndsIn, IsLike};
-ghost use Rattle.bgpdump_lines.specs.Copying.{said_parts, head_at, front_at, prefix_at, tail_at};
+ghost use Rattle.bgpdump_lines.specs.Heading.{headed_line};
+ghost use Rattle.bgpdump_lines.specs.Printed.{Prints};
+ghost use Rattle.bgpdump_lines.specs.Copying.{AreOrdered, HasParts, EndsIn, IsLike};
+ghost use Rattle.bgpdump_lines.specs.Copying.{head_at, front_at, prefix_at, tail_at};
 
 use crate::fields::{put_attributes, put_peer, put_prefix};
 use crate::heading::{Heading, put_route_head};
@@ -51,17 +51,10 @@ pub(crate) fn put_route_anew(
     said: Announcement<'_>,
     text: &mut Text,
 ) -> Result<Places, AllocError>
-    ensures appended { OnOk result (text.new ≡ text.old ++ said_parts heading.now said.entry) }
-    ensures ordered { IfOk result (λ places. AreOrdered places text.new) }
-    ensures head { IfOk result (λ places. head_at places text.new
-        ≡ route_head heading.now said.entry.route.now) }
-    ensures front { IfOk result (λ places. front_at places text.new
-        ≡ route_front heading.now said.entry.peer.now said.entry.route.now) }
-    ensures prefix { IfOk result (λ places. prefix_at places text.new
-        ≡ prefix_field said.entry.prefix.now) }
-    ensures tail { IfOk result (λ places. tail_at places text.new
-        ≡ route_tail said.entry.route.now) }
-    ensures kept { OnErr result (StillBegins text.old text.new) }
+    ensures printed { Prints text.old text.new (headed_line heading.now
+        (Announced said.entry.peer.now said.entry.prefix.now said.entry.route.now)) result }
+    ensures last { IfOk result (λ places.
+        EndsIn heading.now (record { said = said.entry; places = places }) text.new) }
 {
     let start = text.len();
     put_route_head(heading, said.route, text)?;
@@ -88,14 +81,11 @@ pub(crate) fn put_route_again(
     text: &mut Text,
 ) -> Result<Places, AllocError>
     requires { AreOrdered last text.old }
-    ensures appended { OnOk result (text.new ≡ text.old ++
-        (front_at last text.old ++ (prefix_field prefix.now ++ tail_at last text.old))) }
-    ensures ordered { IfOk result (λ places. AreOrdered places text.new) }
-    ensures head { IfOk result (λ places. head_at places text.new ≡ head_at last text.old) }
-    ensures front { IfOk result (λ places. front_at places text.new ≡ front_at last text.old) }
-    ensures prefix { IfOk result (λ places. prefix_at places text.new ≡ prefix_field prefix.now) }
-    ensures tail { IfOk result (λ places. tail_at places text.new ≡ tail_at last text.old) }
-    ensures kept { OnErr result (StillBegins text.old text.new) }
+    ensures printed { Prints text.old text.new
+        (front_at last text.old ++ (prefix_field prefix.now ++ tail_at last text.old)) result }
+    ensures parts { IfOk result (HasParts text.new
+        (head_at last text.old) (front_at last text.old)
+        (prefix_field prefix.now) (tail_at last text.old)) }
 {
     let start = text.len();
     text.extend_from_within(last.start, last.front)?;
@@ -122,16 +112,11 @@ fn put_route_beside(
     text: &mut Text,
 ) -> Result<Places, AllocError>
     requires { AreOrdered last text.old }
-    ensures appended { OnOk result (text.new ≡ text.old ++
-        ((head_at last text.old ++ peer_fields peer.now)
-        ++ (prefix_at last text.old ++ route_tail route.now))) }
-    ensures ordered { IfOk result (λ places. AreOrdered places text.new) }
-    ensures head { IfOk result (λ places. head_at places text.new ≡ head_at last text.old) }
-    ensures front { IfOk result (λ places. front_at places text.new
-        ≡ head_at last text.old ++ peer_fields peer.now) }
-    ensures prefix { IfOk result (λ places. prefix_at places text.new ≡ prefix_at last text.old) }
-    ensures tail { IfOk result (λ places. tail_at places text.new ≡ route_tail route.now) }
-    ensures kept { OnErr result (StillBegins text.old text.new) }
+    ensures printed { Prints text.old text.new ((head_at last text.old ++ peer_fields peer.now)
+        ++ (prefix_at last text.old ++ route_tail route.now)) result }
+    ensures parts { IfOk result (HasParts text.new
+        (head_at last text.old) (head_at last text.old ++ peer_fields peer.now)
+        (prefix_at last text.old) (route_tail route.now)) }
 {
     let start = text.len();
     text.extend_from_within(last.start, last.head)?;
@@ -193,11 +178,9 @@ pub(crate) fn put_route<'a>(
     text: &mut Text,
 ) -> Result<LastLine<'a>, AllocError>
     requires { IfSome last (λ line. EndsIn heading.now line text.old) }
-    ensures appended { OnOk result (text.new ≡ text.old ++
-        headed_line heading.now
-        (Announced said.entry.peer.now said.entry.prefix.now said.entry.route.now)) }
+    ensures printed { Prints text.old text.new (headed_line heading.now
+        (Announced said.entry.peer.now said.entry.prefix.now said.entry.route.now)) result }
     ensures last { IfOk result (λ line. EndsIn heading.now line text.new) }
-    ensures kept { OnErr result (StillBegins text.old text.new) }
 {
     let places = match likeness_to_last(last, said) {
         Likeness::SameRoute(places) => put_route_again(places, said.prefix, text)?,

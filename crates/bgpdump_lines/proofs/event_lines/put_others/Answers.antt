@@ -18,6 +18,6 @@ put_other-requires-clause-alike c =
     let said = get_or-map saying items i item (saying item) within ∙ ap saying (sym c.item-item.is) in
     subst (Announces peer route) said (All-get_or (Announces peer route) (map saying items) i (saying item) (omega (arith, within, length-map items saying)) c.requires.alike)
 
-pub returns-clause-appended : goal.returns-clause-appended
-returns-clause-appended c =
-    lines_of_all (headed_line c.args.heading.now) c.args.items.now c.items.item-index c.args.text.now c.items.text c.items.invariant.0 c.items-test.false
+pub returns : goal.returns
+returns c =
+    (lines_of_all (headed_line c.args.heading.now) c.args.items.now c.items.item-index c.args.text.now c.items.text c.items.invariant.0 c.items-test.false, tt)

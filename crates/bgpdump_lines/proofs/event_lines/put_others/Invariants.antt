@@ -2,14 +2,11 @@
 use Rattle.std.proofs.Common.{◌≡◌, ◌++◌, take}
 use Rattle.std.specs.List.{flat_map}
 use Rattle.mrt_events.specs.Event.{saying}
-use Rattle.bgpdump_lines.specs.Copying.{AreOrdered, front_at, tail_at}
-use Rattle.bgpdump_lines.specs.Fields.{route_tail}
-use Rattle.bgpdump_lines.specs.Heading.{route_front, headed_line}
+use Rattle.bgpdump_lines.specs.Copying.{EndsInRoute}
+use Rattle.bgpdump_lines.specs.Heading.{headed_line}
 use Rattle.bgpdump_lines.proofs.event_lines.put_others.Given as goal
 
 abbrev pub invariant-items : goal.invariant-items
 invariant-items l =
     (l.text ≡ l.initial.text ++ flat_map (λ item. headed_line l.heading (saying item)) (take l.item-index l.items))
-    × AreOrdered l.places l.text
-    × (front_at l.places l.text ≡ route_front l.heading l.first.peer.now l.first.route.now)
-    × (tail_at l.places l.text ≡ route_tail l.first.route.now)
+    × EndsInRoute l.heading l.first.peer.now l.first.route.now l.places l.text

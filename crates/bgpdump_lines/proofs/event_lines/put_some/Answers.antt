@@ -6,19 +6,17 @@ use Rattle.bgpdump_lines.specs.Heading.{headed_line}
 use Rattle.bgpdump_lines.proofs.LineLaws.{lines_of_all}
 use Rattle.bgpdump_lines.proofs.event_lines.put_some.Goals as goal
 
-pub returns-clause-appended : goal.returns-clause-appended
-returns-clause-appended c =
-    lines_of_all (headed_line c.args.heading.now) c.args.items.now c.items.item-index c.args.text.now c.items.text c.items.invariant.0 c.items-test.false
+pub returns : goal.returns
+returns c =
+    (lines_of_all (headed_line c.args.heading.now) c.args.items.now c.items.item-index c.args.text.now c.items.text c.items.invariant.0 c.items-test.false, tt)
 
-pub returns-in_err-last-clause-kept : goal.returns-in_err-last-clause-kept
-returns-in_err-last-clause-kept c =
+pub returns-in_err-last : goal.returns-in_err-last
+returns-in_err-last c =
     let line = headed_line c.args.heading.now in
     let so_far = flat_map (λ item. line (saying item)) (take c.items.item-index c.args.items.now) in
-    let more = c.in_err-last.ensures.kept.0 in
+    let more = c.in_err-last.ensures.printed.1.0 in
     let p = err_from_is_err_and c.from_residual.result c.from_residual.ensures.1 in
     rw p.1 (
-      so_far ++ more,
-      c.in_err-last.ensures.kept.1
-          ∙ ap (λ l. l ++ more) c.items.invariant.0
-          ∙ append_assoc c.args.text.now so_far more,
+      tt,
+      (so_far ++ more, c.in_err-last.ensures.printed.1.1 ∙ ap (λ l. l ++ more) c.items.invariant.0 ∙ append_assoc c.args.text.now so_far more),
     )

@@ -2,24 +2,28 @@ use Rattle.std.proofs.Common.{append_assoc}
 use Rattle.bgpdump_lines.proofs.fields.put_attributes.Goals as goal
 
 -- from the last field to the first, each before what stands behind it
-pub returns-clause-appended : goal.returns-clause-appended
-returns-clause-appended c =
-    rw (
-      c.in_ok-extend_from_slice.ensures.appended,
-      c.in_ok-put_aggregator.ensures.appended,
-      append_assoc,
-      c.in_ok-put_aggregate.ensures.appended,
-      append_assoc,
-      c.in_ok-put_community_field.ensures.appended,
-      append_assoc,
-      c.in_ok-put_number_or_zero-2.ensures.appended,
-      append_assoc,
-      c.in_ok-put_number_or_zero.ensures.appended,
-      append_assoc,
-      c.in_ok-put_next_hop.ensures.appended,
-      append_assoc,
-      c.in_ok-put_origin.ensures.appended,
-      append_assoc,
-      c.in_ok-put_path.ensures.appended,
-      append_assoc,
-    )
+pub returns : goal.returns
+returns c = (
+  rw (
+    c.in_ok-extend_from_slice.ensures.appended,
+    c.in_ok-put_aggregator.ensures.0,
+    append_assoc,
+    c.in_ok-put_aggregate.ensures.0,
+    append_assoc,
+    c.in_ok-put_community_field.ensures.0,
+    append_assoc,
+    c.in_ok-put_number_or_zero-2.ensures.0,
+    append_assoc,
+    c.in_ok-put_number_or_zero.ensures.0,
+    append_assoc,
+    c.in_ok-put_next_hop.ensures.0,
+    append_assoc,
+    c.in_ok-put_origin.ensures.0,
+    append_assoc,
+    c.in_ok-append_to.ensures.appended,
+    append_assoc,
+    c.in_ok-push.ensures.appended,
+    append_assoc,
+  ),
+  tt,
+)

@@ -37,7 +37,7 @@ routes-preserved g c =
     let own = c.of_table-heading.ensures peer item.0 c.deref.result.now ∙ ap (λ route. rib_line peer (item.0, route)) c.deref.ensures ∙ ap (pointed_line peer) c.entry-item.is in
     record {
       passed = Passes-next (pointed_line peer) c.args.routes.now c.routes.entry-index item _ _ _ [] c.routes.text after _ c.routes-test.true
-          c.routes.invariant.passed c.in_ok-before.ensures.text (c.in_ok-put_route.ensures.appended ∙ ap (λ l. after ++ l) own);
+          c.routes.invariant.passed c.in_ok-before.ensures.text (c.in_ok-put_route.ensures.printed.0 ∙ ap (λ l. after ++ l) own);
       last = c.in_ok-put_route.ensures.last;
       failed = search rules;
     }

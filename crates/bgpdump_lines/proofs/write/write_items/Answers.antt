@@ -35,7 +35,7 @@ items-preserved g c =
     let after = c.write_long.new.text in
     record {
       passed = Passes-next (λ i. line (saying i)) c.args.items.now c.items.item-index c.item-item.result _ _ _ c.args.text.now c.items.text after _ c.items-test.true
-          c.items.invariant.passed c.in_ok-line.ensures.text (c.in_ok-last.ensures.appended ∙ ap (λ i. after ++ line (saying i)) c.item-item.is);
+          c.items.invariant.passed c.in_ok-line.ensures.text (c.in_ok-last.ensures.printed.0 ∙ ap (λ i. after ++ line (saying i)) c.item-item.is);
       last = c.in_ok-last.ensures.last;
       failed = search rules;
     }

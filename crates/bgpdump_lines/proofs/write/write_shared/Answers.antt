@@ -43,6 +43,6 @@ pieces-preserved g c =
       whole = append_assoc done piece more ∙ ap (λ l. done ++ l) part ∙ c.pieces.invariant.whole;
       alike = said_back c.pieces.rest.now more c.min.result c.split_at.ensures.back c.pieces.invariant.alike;
       passed = subst (Passes _ _ c.args.text.now c.put_shared.new.text) (sym (lines-append line done piece))
-          (Passes-text _ _ _ c.args.text.now c.pieces.text c.write_long.new.text _ _ _ c.pieces.invariant.passed c.in_ok-write_long.ensures.text c.in_ok-put_shared.ensures.appended);
+          (Passes-text _ _ _ c.args.text.now c.pieces.text c.write_long.new.text _ _ _ c.pieces.invariant.passed c.in_ok-write_long.ensures.text c.in_ok-put_shared.ensures.0);
       failed = search rules;
     }
