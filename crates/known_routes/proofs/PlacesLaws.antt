@@ -1,13 +1,9 @@
 -- How many of the places are taken, and their tags.
-use Rattle.std.proofs.Common.{◌≡◌, ℕ, ◌+◌, ◌<◌, ◌≤◌, Bool, true, false, cond, List, set, get_or, length, take, sym, ap, ap₂, ◌∙◌, arith}
-use Rattle.std.proofs.lemmas.List.{length-take-le, length-map, map-set, get_or-map}
-use Rattle.std.proofs.lemmas.List.Sums.{count_by-le-length, sum_by-set}
+use Rattle.std.proofs.Common.{count_by, ◌≡◌, ℕ, ◌+◌, ◌<◌, Bool, true, false, cond, List, set, get_or, length, sym, ap, ap₂, ◌∙◌, arith}
+use Rattle.std.proofs.lemmas.List.{length-map, map-set, get_or-map}
+use Rattle.std.proofs.lemmas.List.Sums.{sum_by-set}
 use Rattle.known_routes.specs.declared.place.Place.{Place}
-use Rattle.known_routes.specs.Places.{is_taken, taken_in, is_tagged, AreTagged}
-
--- of so many at most so many
-pub taken-take : (places : List Place) (i : ℕ) → i ≤ length places → taken_in (take i places) ≤ i
-taken-take places i le = omega (arith, count_by-le-length is_taken (take i places), length-take-le i places le)
+use Rattle.known_routes.specs.Places.{is_taken, is_tagged, AreTagged}
 
 -- there are as many tags
 pub tags-many : (places : List Place) (tags : List ℕ) → AreTagged places tags → length tags ≡ length places
@@ -29,8 +25,8 @@ one b = cond b 1 0
 
 -- a place that was free is taken, one that was taken still is
 pub taken-put : (places : List Place) (tags : List ℕ) (i : ℕ) (place : Place) (tag : ℕ) → i < length tags → AreTagged places tags → is_taken place ≡ true
-    → taken_in (set places i place) + one (is_tagged (get_or tags i tag)) ≡ taken_in places + 1
+    → count_by is_taken (set places i place) + one (is_tagged (get_or tags i tag)) ≡ count_by is_taken places + 1
 taken-put places tags i place tag within tagged takes =
-    ap (λ b. taken_in (set places i place) + one b) (sym (taken_at places tags i place tag within tagged))
+    ap (λ b. count_by is_taken (set places i place) + one b) (sym (taken_at places tags i place tag within tagged))
     ∙ sum_by-set (λ x. one (is_taken x)) places i place place (omega (arith, within, tags-many places tags tagged))
-    ∙ ap (λ b. taken_in places + one b) takes
+    ∙ ap (λ b. count_by is_taken places + one b) takes

@@ -1,7 +1,6 @@
 -- Private.
--- How many routes stand at places, and the tags of places.
+-- Where routes stand, and the tags of places.
 use Rattle.std.specs.Prelude.{◌≡◌, ℕ, Bool, true, false, nat_lt, List, map}
-use Rattle.std.specs.List.{count_by}
 use Rattle.known_routes.specs.declared.place.Place.{Place}
 use Rattle.known_routes.specs.declared.place.Place.TheVariants.{Free, Taken}
 
@@ -9,10 +8,6 @@ use Rattle.known_routes.specs.declared.place.Place.TheVariants.{Free, Taken}
 abbrev pub is_taken : Place → Bool
 is_taken Free = false
 is_taken (Taken hash route) = true
-
--- at how many of the places one does
-abbrev pub taken_in : List Place → ℕ
-taken_in = count_by is_taken
 
 -- the tag isn't that of a free place
 abbrev pub is_tagged : ℕ → Bool

@@ -1,7 +1,7 @@
 //! A place for a route, and where a route is looked for among places.
 
-ghost use Rattle.std.specs.Prelude.{◌≡◌, true, IfSome, length};
-ghost use Rattle.known_routes.specs.Places.{taken_in, is_taken, is_tagged, AreTagged};
+ghost use Rattle.std.specs.Prelude.{◌≡◌, true, IfSome};
+ghost use Rattle.known_routes.specs.Places.{is_taken, is_tagged};
 
 use mrt_events::{Route, route_size, same_route};
 use std::rc::Rc;
@@ -37,18 +37,12 @@ pub(crate) enum Place {
 pub(crate) fn is_taken(place: &Place) -> bool
     ensures { result ≡ is_taken place.now }
 {
-    match place {
-        Place::Free => false,
-        Place::Taken(_, _) => true,
-    }
+    matches!(place, Place::Taken(_, _))
 }
 
 /// Whether a route stands there that has no other owner.
 pub(crate) fn is_last_owner(place: &Place) -> bool {
-    match place {
-        Place::Free => false,
-        Place::Taken(_, route) => Rc::strong_count(route) == 1,
-    }
+    matches!(place, Place::Taken(_, route) if Rc::strong_count(route) == 1)
 }
 
 /// How many octets the route takes that stands there.
@@ -57,19 +51,6 @@ pub(crate) fn octets_at(place: &Place) -> u64 {
         Place::Free => 0,
         Place::Taken(_, route) => route_size(route),
     }
-}
-
-/// At how many of the places a route stands.
-pub(crate) fn count_taken(places: &[Place]) -> usize
-    ensures { result ≡ taken_in places.now }
-{
-    let mut taken = 0;
-    'places: for place in places {
-        if is_taken(place) {
-            taken += 1;
-        }
-    }
-    taken
 }
 
 /// The tag of a place where a route of this hash stands: of its bits the lowest, which say least of the
@@ -81,26 +62,10 @@ pub(crate) fn tag_of(hash: u32) -> u8
     hash.to_le_bytes()[0].max(FREE + 1)
 }
 
-/// Gives each place its tag.
-pub(crate) fn fill_tags(tags: &mut [u8], places: &[Place])
-    requires { length tags.old ≡ length places.now }
-    ensures { AreTagged places.now tags.new }
-{
-    'places: for index in 0..places.len() {
-        tags[index] = match &places[index] {
-            Place::Free => FREE,
-            Place::Taken(hash, _) => tag_of(*hash),
-        };
-    }
-}
-
 /// Whether the place has this tag.
 #[inline]
 fn has_tag(tags: &[u8], index: usize, tag: u8) -> bool {
-    match tags.get(index) {
-        Some(other) => *other == tag,
-        None => false,
-    }
+    tags.get(index).is_some_and(|other| *other == tag)
 }
 
 /// Where the row of a hash begins, of so many places.
@@ -168,42 +133,28 @@ pub(crate) fn find<'a>(
 /// The first free place of the row that begins there.
 #[inline]
 fn free_in_row(tags: &[u8], start: usize) -> Option<usize> {
-    'places: for index in start..start.saturating_add(ROW) {
-        if has_tag(tags, index, FREE) {
-            return Some(index);
-        }
-    }
-    None
+    (start..start.saturating_add(ROW)).find(|index| has_tag(tags, *index, FREE))
 }
 
 /// A free place for a route of this hash, by the tags of all, or else the first of its rows.
 #[inline]
 pub(crate) fn place_for(tags: &[u8], hash: u32) -> usize {
     let [first, second] = rows_of(hash, tags.len());
-    match free_in_row(tags, first) {
-        Some(index) => index,
-        None => free_in_row(tags, second).unwrap_or(first),
-    }
+    free_in_row(tags, first)
+        .or_else(|| free_in_row(tags, second))
+        .unwrap_or(first)
 }
 
 /// Where this very route stands in the row that begins there.
 #[inline]
 fn index_in_row(places: &[Place], start: usize, route: &Rc<Route>) -> Option<usize> {
-    'places: for index in start..start.saturating_add(ROW) {
-        if let Some(Place::Taken(_, known)) = places.get(index) {
-            if Rc::ptr_eq(known, route) {
-                return Some(index);
-            }
-        }
-    }
-    None
+    (start..start.saturating_add(ROW)).find(|index| {
+        matches!(places.get(*index), Some(Place::Taken(_, known)) if Rc::ptr_eq(known, route))
+    })
 }
 
 /// Where this very route stands in the rows of its hash.
 pub(crate) fn index_of(places: &[Place], hash: u32, route: &Rc<Route>) -> Option<usize> {
     let [first, second] = rows_of(hash, places.len());
-    match index_in_row(places, first, route) {
-        Some(index) => Some(index),
-        None => index_in_row(places, second, route),
-    }
+    index_in_row(places, first, route).or_else(|| index_in_row(places, second, route))
 }

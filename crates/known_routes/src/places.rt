@@ -1,14 +1,11 @@
 //! Places for routes, which are found there by a hash.
 
-ghost use Rattle.std.specs.Prelude.{◌≡◌, ◌<◌, ◌≤◌, ◌+◌, ◌*◌, true, IfOk, IfSome, IsTrue, slice_index_or, vec_len};
-ghost use Rattle.known_routes.specs.Places.{taken_in, is_tagged, AreTagged};
+ghost use Rattle.std.specs.Prelude.{◌≡◌, ◌<◌, ◌≤◌, ◌+◌, ◌*◌, true, IfOk, OnOk, OnErr, IsTrue, slice_index_or, vec_len, count_by};
+ghost use Rattle.known_routes.specs.Places.{is_taken, is_tagged, AreTagged};
 ghost use Rattle.known_routes.specs.declared.place.TheConstants.{FREE};
 ghost use Rattle.known_routes.specs.declared.places.TheConstants.{FIRST_PLACES, MOST_PLACES, MOST_TIMES};
 
-use crate::place::{
-    FREE, Place, count_taken, fill_tags, find, index_of, is_last_owner, is_taken, octets_at,
-    place_for, tag_of,
-};
+use crate::place::{FREE, Place, is_last_owner, is_taken, octets_at, place_for, tag_of};
 use mrt_events::Route;
 use std::alloc::{AllocError, Global};
 use std::mem;
@@ -32,16 +29,8 @@ pub(crate) struct Places {
     pub(crate) taken: usize,
     /// How many octets the routes that stand there take.
     pub(crate) held: u64,
-    ghost counted: { taken ≡ taken_in places.items },
+    ghost counted: { taken ≡ count_by is_taken places.items },
     ghost tagged: { AreTagged places.items tags.items },
-}
-
-/// How many places so many routes get.
-pub(crate) fn places_for(taken: usize) -> usize
-    ensures most { result ≤ MOST_PLACES }
-    ensures fitting { result ≤ MOST_TIMES * taken + FIRST_PLACES }
-{
-    (taken.saturating_mul(7) / 3).clamp(FIRST_PLACES, MOST_PLACES)
 }
 
 impl Places {
@@ -75,14 +64,6 @@ impl Places {
         })
     }
 
-    /// A route of this hash that equals this one, and where it stands.
-    #[inline]
-    pub(crate) fn find_route(&self, hash: u32, route: &Route) -> Option<(usize, &Rc<Route>)>
-        ensures { IfSome result (λ found. found.1.now.value ≡ route.now) }
-    {
-        find(&self.tags, &self.places, hash, route)
-    }
-
     /// Puts a route at the index, where none stands, as the tag tells: the place isn't read, since few
     /// places are in the cache.
     #[inline]
@@ -110,46 +91,26 @@ impl Places {
         self.tags[index] = tag_of(hash);
     }
 
-    /// Puts a route at the index, if there is such a place. Its octets aren't added.
-    #[inline]
-    fn put_at(&mut self, index: usize, hash: u32, route: Rc<Route>)
+    /// Puts a route at a free place of its rows, or else over the first route of the first, if there
+    /// is such a place, and answers which. Its octets aren't added.
+    pub(crate) fn put(&mut self, hash: u32, route: Rc<Route>) -> usize
         ensures places { vec_len self.new.places ≡ vec_len self.old.places }
         ensures taken { self.old.taken ≤ self.new.taken }
     {
+        let index = place_for(&self.tags, hash);
         if index >= self.tags.len() {
-            return;
+            return index;
         }
         if self.tags[index] == FREE {
             self.fill_at(index, hash, route);
         } else {
             self.put_over(index, hash, route);
         }
-    }
-
-    /// Puts a route at a free place of its rows, or else over the first route of the first. Its octets
-    /// aren't added.
-    fn put(&mut self, hash: u32, route: Rc<Route>) -> usize
-        ensures places { vec_len self.new.places ≡ vec_len self.old.places }
-        ensures taken { self.old.taken ≤ self.new.taken }
-    {
-        let index = place_for(&self.tags, hash);
-        self.put_at(index, hash, route);
         index
     }
 
-    /// Puts a route that stands at no place, as `put` does, if there are any places.
-    pub(crate) fn add(&mut self, hash: u32, route: Rc<Route>, octets: u64) -> usize
-        ensures places { vec_len self.new.places ≡ vec_len self.old.places }
-    {
-        if self.places.is_empty() {
-            return 0;
-        }
-        self.held = self.held.saturating_add(octets);
-        self.put(hash, route)
-    }
-
     /// Frees the place at the index, if a route stands there.
-    fn free_at(&mut self, index: usize)
+    pub(crate) fn free_at(&mut self, index: usize)
         ensures { vec_len self.new.places ≡ vec_len self.old.places }
     {
         if index < self.places.len() && is_taken(&self.places[index]) {
@@ -157,15 +118,6 @@ impl Places {
             self.held = self.held.saturating_sub(octets_at(&self.places[index]));
             self.places[index] = Place::Free;
             self.tags[index] = FREE;
-        }
-    }
-
-    /// Lets go of this very route, if it stands in the rows of its hash.
-    pub(crate) fn take_out(&mut self, hash: u32, route: &Rc<Route>)
-        ensures { vec_len self.new.places ≡ vec_len self.old.places }
-    {
-        if let Some(index) = index_of(&self.places, hash, route) {
-            self.free_at(index);
         }
     }
 
@@ -186,16 +138,11 @@ impl Places {
     pub(crate) fn let_go(&mut self)
         ensures { vec_len self.new.places ≡ vec_len self.old.places }
     {
-        let mut gone = 0u64;
-        'places: for place in self.places.iter_mut() {
-            if is_last_owner(place) {
-                gone = gone.saturating_add(octets_at(place));
-                *place = Place::Free;
+        'places: for index in 0..self.places.len() {
+            if is_last_owner(&self.places[index]) {
+                self.free_at(index);
             }
         }
-        self.held = self.held.saturating_sub(gone);
-        self.taken = count_taken(&self.places);
-        fill_tags(self.tags.as_mut_slice(), &self.places);
     }
 
     /// Whether there aren't too many places for the routes.
@@ -210,26 +157,20 @@ impl Places {
         self.places.len() <= most
     }
 
-    /// These places, or none where they are too many for the routes.
-    pub(crate) fn if_fitting(self, alloc: Global) -> Places
-        ensures places { vec_len result.places ≤ vec_len self.places }
-        ensures fitting { vec_len result.places ≤ MOST_TIMES * result.taken + FIRST_PLACES }
+    /// As many places as the routes get, with the same routes, or none where these are too many for
+    /// them. Where memory is refused the places stay.
+    pub(crate) fn resize(&mut self, alloc: Global) -> Result<(), AllocError>
+        ensures most { OnOk result (vec_len self.new.places ≤ MOST_PLACES) }
+        ensures fitting { OnOk result
+            (vec_len self.new.places ≤ MOST_TIMES * self.new.taken + FIRST_PLACES) }
+        ensures refused { OnErr result (vec_len self.new.places ≡ vec_len self.old.places) }
     {
-        if self.are_fitting() {
-            return self;
+        let count = (self.taken.saturating_mul(7) / 3).clamp(FIRST_PLACES, MOST_PLACES);
+        let mut others = Places::free(alloc, count)?;
+        others.take_over(mem::replace(self, Places::none(alloc)));
+        if others.are_fitting() {
+            *self = others;
         }
-        Places::none(alloc)
-    }
-
-    /// Fewer places with the same routes, as many as these get, or none where memory is refused.
-    pub(crate) fn narrowed(self, alloc: Global) -> Places
-        ensures most { vec_len result.places ≤ MOST_PLACES }
-        ensures fitting { vec_len result.places ≤ MOST_TIMES * result.taken + FIRST_PLACES }
-    {
-        let Ok(mut fewer) = Places::free(alloc, places_for(self.taken)) else {
-            return Places::none(alloc);
-        };
-        fewer.take_over(self);
-        fewer.if_fitting(alloc)
+        Ok(())
     }
 }

@@ -3,7 +3,6 @@
 ghost use Rattle.std.specs.Prelude.{◌+◌, ◌≤◌};
 ghost use Rattle.ip_prefix.specs.Address.{octet_count};
 
-use bgp_wire::{Aggregator, Origin, Segment};
 use ip_prefix::{Addr, Family};
 use mrt_events::{Peer, Route};
 
@@ -17,6 +16,9 @@ const TURN: u32 = 5;
 /// What is mixed in for a number of 32 bits that is absent.
 const ABSENT: u64 = 1 << 32;
 
+/// What stands for an absent origin: others go by their codes.
+const NO_ORIGIN: u64 = 3;
+
 /// How many bits of a hash are left out: the lowest, which hang on the least.
 const LOWEST_BITS: u32 = 32;
 
@@ -29,10 +31,7 @@ fn mixed(hash: u64, number: u64) -> u64 {
 /// The hash with a number, or its absence, in it.
 #[inline]
 fn with_number(hash: u64, number: Option<u32>) -> u64 {
-    match number {
-        Some(number) => mixed(hash, u64::from(number)),
-        None => mixed(hash, ABSENT),
-    }
+    mixed(hash, number.map_or(ABSENT, u64::from))
 }
 
 /// Four octets of an address from a place on, as a number.
@@ -62,38 +61,6 @@ fn with_address(hash: u64, addr: &Addr) -> u64 {
     }
 }
 
-/// The hash with a next hop, or its absence, in it.
-#[inline]
-fn with_next_hop(hash: u64, next_hop: Option<Addr>) -> u64 {
-    match next_hop {
-        Some(addr) => with_address(hash, &addr),
-        None => mixed(hash, ABSENT),
-    }
-}
-
-/// The hash with an aggregator, or its absence, in it.
-#[inline]
-fn with_aggregator(hash: u64, aggregator: Option<Aggregator>) -> u64 {
-    match aggregator {
-        Some(aggregator) => mixed(
-            with_address(hash, &aggregator.addr),
-            u64::from(aggregator.asn),
-        ),
-        None => mixed(hash, ABSENT),
-    }
-}
-
-/// A number for each origin, and for its absence.
-#[inline]
-fn origin_number(origin: Option<Origin>) -> u64 {
-    match origin {
-        Some(Origin::Igp) => 0,
-        Some(Origin::Egp) => 1,
-        Some(Origin::Incomplete) => 2,
-        None => 3,
-    }
-}
-
 /// The hash with numbers in it, and how many they are.
 #[inline]
 fn with_numbers(hash: u64, numbers: &[u32]) -> u64 {
@@ -104,26 +71,30 @@ fn with_numbers(hash: u64, numbers: &[u32]) -> u64 {
     hash
 }
 
-/// The hash with all segments of a path in it.
-#[inline]
-fn with_segments(hash: u64, segments: &[Segment]) -> u64 {
-    let mut hash = mixed(hash, segments.len() as u64);
-    'segments: for segment in segments {
-        hash = with_numbers(mixed(hash, segment.kind as u64), segment.numbers.as_slice());
-    }
-    hash
-}
-
 /// The hash of a route, by all that it is.
 pub(crate) fn hash_of(route: &Route) -> u32 {
     let attrs = &route.attrs;
-    let mut hash = mixed(origin_number(attrs.origin), u64::from(route.time));
-    hash = with_next_hop(hash, attrs.next_hop);
+    let origin = attrs.origin.map_or(NO_ORIGIN, |origin| origin as u64);
+    let mut hash = mixed(origin, u64::from(route.time));
+    hash = match attrs.next_hop {
+        Some(addr) => with_address(hash, &addr),
+        None => mixed(hash, ABSENT),
+    };
     hash = with_number(hash, attrs.local_pref);
     hash = with_number(hash, attrs.med);
-    hash = with_aggregator(hash, attrs.aggregator);
+    hash = match attrs.aggregator {
+        Some(aggregator) => mixed(
+            with_address(hash, &aggregator.addr),
+            u64::from(aggregator.asn),
+        ),
+        None => mixed(hash, ABSENT),
+    };
     hash = mixed(hash, u64::from(attrs.atomic));
-    hash = with_segments(hash, attrs.path.segments.as_slice());
+    let segments = attrs.path.segments.as_slice();
+    hash = mixed(hash, segments.len() as u64);
+    'segments: for segment in segments {
+        hash = with_numbers(mixed(hash, segment.kind as u64), segment.numbers.as_slice());
+    }
     hash = with_numbers(hash, attrs.communities.as_slice());
     (hash >> LOWEST_BITS) as u32
 }

@@ -4,12 +4,11 @@ ghost use Rattle.std.specs.Prelude.{◌≡◌, ◌≤◌, ◌+◌, ◌*◌, IfOk
 ghost use Rattle.known_routes.specs.declared.routes.TheConstants.{LASTS};
 ghost use Rattle.known_routes.specs.declared.places.TheConstants.{FIRST_PLACES, MOST_PLACES, MOST_TIMES};
 
-use crate::place::Place;
-use crate::places::{MOST_PLACES, Places, places_for};
+use crate::place::{Place, find, index_of};
+use crate::places::{MOST_PLACES, Places};
 use crate::route_hash::{hash_of, peer_hash};
 use mrt_events::{Peer, Route, route_size, same_route};
 use std::alloc::{AllocError, Global};
-use std::mem;
 use std::rc::Rc;
 
 /// How many numbers a path and communities have at most that are asked for once an item.
@@ -77,7 +76,8 @@ impl KnownRoutes {
             return known.clone();
         }
         let hash = hash_of(route);
-        if let Some((index, found)) = self.routes.find_route(hash, route) {
+        let Places { places, tags, .. } = &self.routes;
+        if let Some((index, found)) = find(tags, places, hash, route) {
             let known = found.clone()?;
             self.note_last(last, index);
             return Ok(known);
@@ -126,23 +126,17 @@ impl KnownRoutes {
     /// Notes a route that isn't here, and answers where it stands then, if it does.
     fn note(&mut self, hash: u32, route: Rc<Route>) -> usize {
         let count = self.routes.places.len();
-        if count < MOST_PLACES && self.routes.taken >= count / 4 * 3 {
-            self.widen();
+        let are_few = count < MOST_PLACES && self.routes.taken >= count / 4 * 3;
+        if are_few && self.routes.resize(self.alloc).is_ok() {
+            self.stood = self.routes.taken;
         }
         let octets = route_size(&route);
         self.noted = self.noted.saturating_add(octets);
-        self.routes.add(hash, route, octets)
-    }
-
-    /// Makes two and a third times as many places as there are routes, unless memory is refused.
-    fn widen(&mut self) {
-        let count = places_for(self.routes.taken);
-        if let Ok(mut wider) = Places::free(self.alloc, count) {
-            let routes = mem::replace(&mut self.routes, Places::none(self.alloc));
-            wider.take_over(routes);
-            self.routes = wider.if_fitting(self.alloc);
-            self.stood = self.routes.taken;
+        if self.routes.places.is_empty() {
+            return 0;
         }
+        self.routes.held = self.routes.held.saturating_add(octets);
+        self.routes.put(hash, route)
     }
 
     /// An owner of the route is about to go. Where there is one other, which may be this table, it is
@@ -151,7 +145,9 @@ impl KnownRoutes {
     pub fn note_gone(&mut self, route: &Rc<Route>) {
         let owners = Rc::strong_count(route);
         if owners == 2 {
-            self.routes.take_out(hash_of(route), route);
+            if let Some(index) = index_of(&self.routes.places, hash_of(route), route) {
+                self.routes.free_at(index);
+            }
         } else if owners <= FEW_OWNERS {
             self.released = self.released.saturating_add(route_size(route));
         }
@@ -180,9 +176,8 @@ impl KnownRoutes {
     pub fn begin(&mut self) {
         self.let_go();
         self.noted = 0;
-        if !self.routes.are_fitting() {
-            let routes = mem::replace(&mut self.routes, Places::none(self.alloc));
-            self.routes = routes.narrowed(self.alloc);
+        if !self.routes.are_fitting() && self.routes.resize(self.alloc).is_err() {
+            self.routes = Places::none(self.alloc);
         }
         self.stood = self.routes.taken;
     }

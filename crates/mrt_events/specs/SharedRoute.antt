@@ -5,20 +5,18 @@ use Rattle.mrt_events.specs.declared.peer.Peer.{Peer}
 use Rattle.mrt_events.specs.declared.event.Route.{Route}
 use Rattle.mrt_events.specs.declared.event.Shared.{Shared}
 use Rattle.mrt_events.specs.declared.event.SharedRanges.{SharedRanges}
-use Rattle.mrt_events.specs.Event.{Saying, Announced, Withdrawn, Changed}
+use Rattle.mrt_events.specs.Event.{Saying, Announced}
 
 -- what is said announces a prefix of this peer with this route
 abbrev pub Announces : Peer → Route → Saying → Type 0
 Announces peer route (Announced other network same) = (other ≡ peer) × (same ≡ route)
-Announces peer route (Withdrawn other network) = ⊥
-Announces peer route (Changed other old new) = ⊥
+Announces peer route other = ⊥
 
 -- all announce prefixes of one peer with one route
 abbrev pub AreOfOneRoute : List Saying → Type 0
 AreOfOneRoute [] = Unit {0}
 AreOfOneRoute (Announced peer network route ∷ rest) = All (Announces peer route) rest
-AreOfOneRoute (Withdrawn peer network ∷ rest) = ⊥
-AreOfOneRoute (Changed peer old new ∷ rest) = ⊥
+AreOfOneRoute other = ⊥
 
 -- those in this range announce prefixes of one peer with one route
 pub record IsSharedIn (shared : Shared) (sayings : List Saying) : Type 0 where

@@ -45,9 +45,8 @@ impl Clone for Route {
     ghost is_clone = { λ route copy. copy ≡ route };
 
     fn clone(&self) -> Result<Route, AllocError> {
-        let attrs = self.attrs.clone()?;
         Ok(Route {
-            attrs,
+            attrs: self.attrs.clone()?,
             time: self.time,
         })
     }

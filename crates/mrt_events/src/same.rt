@@ -4,8 +4,8 @@ ghost use Rattle.std.specs.Prelude.{◌≡◌, ◌↔◌, IsTrue};
 
 use crate::event::Route;
 use crate::peer::Peer;
-use bgp_wire::{Aggregator, AsPath, Attrs, Communities, Origin, Segment};
-use ip_prefix::{Addr, Prefix};
+use bgp_wire::{Aggregator, Attrs, Segment};
+use ip_prefix::Prefix;
 
 /// Whether two lists of numbers are the same.
 fn same_numbers(one: &[u32], other: &[u32]) -> bool
@@ -36,76 +36,23 @@ fn same_segments(ones: &[Segment], others: &[Segment]) -> bool
     true
 }
 
-/// Whether two paths are the same.
-fn same_path(one: &AsPath, other: &AsPath) -> bool
-    ensures { IsTrue result ↔ (one.now ≡ other.now) }
-{
-    same_segments(one.segments.as_slice(), other.segments.as_slice())
-}
-
-/// Whether two lists of communities are the same.
-fn same_communities(one: &Communities, other: &Communities) -> bool
-    ensures { IsTrue result ↔ (one.now ≡ other.now) }
-{
-    same_numbers(one.as_slice(), other.as_slice())
-}
-
-/// Whether two addresses are the same.
-fn same_address(one: Addr, other: Addr) -> bool
+/// Whether two values, or their absence, are the same, where `==` tells that of values.
+fn same_option<T: Copy + PartialEq>(one: Option<T>, other: Option<T>) -> bool
+    requires { (a b : T) → IsTrue (T.eq a b) ↔ (a ≡ b) }
     ensures { IsTrue result ↔ (one ≡ other) }
 {
     one == other
 }
 
-/// Whether two next hops, or their absence, are the same.
-fn same_next_hop(one: Option<Addr>, other: Option<Addr>) -> bool
-    ensures { IsTrue result ↔ (one ≡ other) }
-{
-    match one {
-        Some(one) => match other {
-            Some(other) => same_address(one, other),
-            None => false,
-        },
-        None => other.is_none(),
-    }
-}
-
-/// Whether two numbers, or their absence, are the same.
-fn same_number(one: Option<u32>, other: Option<u32>) -> bool
-    ensures { IsTrue result ↔ (one ≡ other) }
-{
-    match one {
-        Some(one) => match other {
-            Some(other) => one == other,
-            None => false,
-        },
-        None => other.is_none(),
-    }
-}
-
 /// Whether two aggregators, or their absence, are the same.
+#[tactic(auto, using(crate::proofs::PeerLaws::tied_addresses))]
 fn same_aggregator(one: Option<Aggregator>, other: Option<Aggregator>) -> bool
     ensures { IsTrue result ↔ (one ≡ other) }
 {
-    match one {
-        Some(one) => match other {
-            Some(other) => one.asn == other.asn && same_address(one.addr, other.addr),
-            None => false,
-        },
-        None => other.is_none(),
-    }
-}
-
-/// Whether two origins, or their absence, are the same.
-fn same_origin(one: Option<Origin>, other: Option<Origin>) -> bool
-    ensures { IsTrue result ↔ (one ≡ other) }
-{
-    match one {
-        Some(one) => match other {
-            Some(other) => one == other,
-            None => false,
-        },
-        None => other.is_none(),
+    match (one, other) {
+        (Some(one), Some(other)) => one.asn == other.asn && one.addr == other.addr,
+        (None, None) => true,
+        _ => false,
     }
 }
 
@@ -113,14 +60,14 @@ fn same_origin(one: Option<Origin>, other: Option<Origin>) -> bool
 fn same_attributes(one: &Attrs, other: &Attrs) -> bool
     ensures { IsTrue result ↔ (one.now ≡ other.now) }
 {
-    same_next_hop(one.next_hop, other.next_hop)
-        && same_origin(one.origin, other.origin)
-        && same_number(one.local_pref, other.local_pref)
-        && same_number(one.med, other.med)
+    same_option(one.next_hop, other.next_hop)
+        && same_option(one.origin, other.origin)
+        && same_option(one.local_pref, other.local_pref)
+        && same_option(one.med, other.med)
         && one.atomic == other.atomic
         && same_aggregator(one.aggregator, other.aggregator)
-        && same_path(&one.path, &other.path)
-        && same_communities(&one.communities, &other.communities)
+        && same_segments(one.path.segments.as_slice(), other.path.segments.as_slice())
+        && same_numbers(one.communities.as_slice(), other.communities.as_slice())
 }
 
 /// Whether two routes are the same.
@@ -133,10 +80,11 @@ pub fn same_route(one: &Route, other: &Route) -> bool
 
 /// Whether two peers are the same.
 #[inline]
+#[tactic(auto, using(crate::proofs::PeerLaws::tied_addresses))]
 pub fn same_peer(one: &Peer, other: &Peer) -> bool
     ensures { IsTrue result ↔ (one.now ≡ other.now) }
 {
-    one.asn == other.asn && same_address(one.addr, other.addr)
+    one.asn == other.asn && one.addr == other.addr
 }
 
 /// Whether two prefixes are the same.

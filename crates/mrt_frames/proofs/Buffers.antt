@@ -1,21 +1,19 @@
 -- What is filled of a buffer, in several reads.
-use Rattle.std.proofs.Common.{◌≡◌, ℕ, ◌+◌, ◌-◌, ◌≤◌, List, ◌++◌, Option, Err, length, take, drop, sym, ap, ◌∙◌, subst, arith, drop_at, take_at, length-take-le}
-use Rattle.std.proofs.lemmas.List.{length-append}
+use Rattle.std.proofs.Common.{◌≡◌, ℕ, ◌+◌, ◌-◌, ◌≤◌, List, ◌++◌, Option, Err, length, take, drop, sym, ap, ◌∙◌, subst, arith, length-take-le, length-append, length-take, take-take}
 use Rattle.std.specs.Io.KnownBytes.{Consumes}
 use Rattle.std.proofs.KnownBytes.{Consumes-trans}
+use Rattle.std.proofs.Math.Seq.{take-append-add}
 use borrow.Rule.Slice.PartMut.{put_mid, post_of}
 use lib.Seq.{take-add, take-append-le}
 use Rattle.mrt_frames.specs.declared.fault.SourceFault.{SourceFault}
-use Rattle.mrt_frames.specs.Device.{Takes, FillsWithin, PassesWithin}
+use Rattle.mrt_frames.specs.Device.{Takes, FillsWithin}
 
 -- the front that was filled, and then the front of what was written behind it
 pub take-put_mid : (at room n : ℕ) (buffer part : List ℕ) → at ≤ length buffer → n ≤ length part → take (at + n) (put_mid at room buffer part) ≡ take at buffer ++ take n part
 take-put_mid at room n buffer part within fits =
     let after : List ℕ = post_of at room buffer in
-    let front = length-take-le at buffer within in
-    take-add at n (put_mid at room buffer part)
-    ∙ ap (λ l. l ++ take n (drop at (put_mid at room buffer part))) (take_at (take at buffer) (part ++ after) at front)
-    ∙ ap (λ l. take at buffer ++ take n l) (drop_at (take at buffer) (part ++ after) at front)
+    ap (λ k. take (k + n) (take at buffer ++ (part ++ after))) (sym (length-take-le at buffer within))
+    ∙ take-append-add (take at buffer) (part ++ after) n
     ∙ ap (λ l. take at buffer ++ l) (take-append-le n part after fits)
 
 -- octets taken one behind the other
@@ -45,11 +43,11 @@ abbrev pub Passed : Option (List ℕ) → Option (List ℕ) → ℕ → ℕ → 
 Passed old new before after n = (octets : List ℕ) × (length octets ≡ n) × Takes old new before after octets
 
 -- what was passed over before and now
-pub Passed-more : (a b c : Option (List ℕ)) (k l m n count : ℕ) (buffer : List ℕ) → Passed a b k l n → count ≤ length buffer → Takes b c l m (take count buffer) → Passed a c k m (n + count)
-Passed-more a b c k l m n count buffer (done, len, before) fits now =
-    (done ++ take count buffer, omega (arith, len, length-append done (take count buffer), length-take-le count buffer fits), Takes-trans a b c k l m done (take count buffer) before now)
+pub Passed-more : (a b c : Option (List ℕ)) (k l m n count all : ℕ) (buffer : List ℕ) → Passed a b k l n → count ≤ length buffer → Takes b c l m (take count buffer) → n + count ≡ all → Passed a c k m all
+Passed-more a b c k l m n count all buffer (done, len, before) fits now sum =
+    (done ++ take count buffer, omega (arith, len, sum, length-append done (take count buffer), length-take-le count buffer fits), Takes-trans a b c k l m done (take count buffer) before now)
 
--- a fault behind what was passed over before
-pub PassesWithin-stopped : (a b c : Option (List ℕ)) (k l m n part size limit : ℕ) (buffer : List ℕ) (fault : SourceFault) → Passed a b k l n → n + part ≤ size → FillsWithin b c l m buffer part limit (Err fault) → PassesWithin a c k m size limit (Err fault)
-PassesWithin-stopped a b c k l m n part size limit buffer fault (done, len, before) within (front, short, stops, now) =
-    (done ++ front, omega (arith, len, within, short, length-append done front), stops, Takes-trans a b c k l m done front before now)
+-- a buffer keeps its front as it is resized
+pub take-resized : (at end : ℕ) (old more grown : List ℕ) → at ≤ end → at ≤ length old → grown ≡ take end old ++ more → take at grown ≡ take at old
+take-resized at end old more grown ahead within e =
+    ap (take at) e ∙ take-append-le at (take end old) more (omega (arith, length-take end old)) ∙ take-take at end old ahead

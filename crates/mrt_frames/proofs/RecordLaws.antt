@@ -46,12 +46,9 @@ BeginsWithNoRecord-too_long s k t n octets p long r more q e =
     let same = SameHeader-record s k t n octets p r more q e in
     absurd (omega (arith, same.size, q.size))
 
-same_record : (a b : Record) → a.seconds ≡ b.seconds → a.kind ≡ b.kind → a.subtype ≡ b.subtype → a.body ≡ b.body → a ≡ b
-same_record a b p q r s = λ i. record { seconds = p i; kind = q i; subtype = r i; body = s i }
-
 -- no record begins another
 pub same_front : (a b : Record) (x y : List ℕ) → IsRecord a → IsRecord b → spelling a ++ x ≡ spelling b ++ y → (a ≡ b) × (x ≡ y)
 same_front a b x y p q e =
     let same = same_header a.seconds a.kind a.subtype (length a.body) b.seconds b.kind b.subtype (length b.body) (a.body ++ x) (b.body ++ y) p.header q.header e in
     let parts = append_parts a.body b.body x y same.size same.rest in
-    (same_record a b same.seconds same.kind same.subtype parts.0, parts.1)
+    (λ i. record { seconds = same.seconds i; kind = same.kind i; subtype = same.subtype i; body = parts.0 i }, parts.1)

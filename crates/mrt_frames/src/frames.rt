@@ -2,9 +2,9 @@
 
 ghost use Rattle.std.specs.Prelude.{◌≡◌, ◌+◌, ◌≤◌, ◌||◌, ℕ, Bool, IfOk, IsTrue, take, length, vec_len};
 ghost use Rattle.mrt_frames.specs.Device.{is_read};
-ghost use Rattle.mrt_frames.specs.Taken.{TakesOctets, TakesHeader, TakesBody, PassesBody, TakesRecord};
+ghost use Rattle.mrt_frames.specs.Taken.{TakesOctets, TakesHeader, TakesBody, TakesRecord};
 
-use crate::buffer::{fill_body, fill_within, pass_over};
+use crate::buffer::{fill_body, fill_part, fill_within};
 use crate::fault::{RecordKind, SourceFault};
 use crate::header::{HEADER_SIZE, Header, LONGEST_BODY, read_header};
 use crate::input::Input;
@@ -12,6 +12,10 @@ use std::alloc::Global;
 
 /// For how many octets of a body room is kept at most behind a shorter one.
 const MOST_KEPT: usize = 1 << 18;
+
+/// How many octets are passed over at once. They are few, since each record that is passed over makes
+/// room for them.
+const PIECE: usize = 512;
 
 /// Which records are supported, by their types.
 pub trait Profile {
@@ -86,24 +90,10 @@ impl FrameReader {
         if count == HEADER_SIZE {
             return Ok(Front::Record(read_header(&octets)));
         }
-        Ok(Front::Rest(if count == 0 {
-            None
-        } else {
-            Some(RecordKind::CutRecord)
-        }))
+        Ok(Front::Rest((count > 0).then_some(RecordKind::CutRecord)))
     }
 
-    /// Lets go of the room of a long body.
-    fn let_go(&mut self)
-        ensures limit { self.new.limit ≡ self.old.limit }
-        ensures taken { self.new.taken ≡ self.old.taken }
-    {
-        if self.body.len() > MOST_KEPT {
-            self.body = Vec::new(*self.body.allocator());
-        }
-    }
-
-    /// Takes a body, and answers whether it is whole.
+    /// Takes a body, and answers whether it is whole. Room for a long one is let go before a short one.
     #[inline(always)]
     fn take_body<I: Input>(&mut self, input: &mut I, size: u32) -> Result<bool, SourceFault>
         requires { size ≤ LONGEST_BODY }
@@ -113,29 +103,38 @@ impl FrameReader {
         ensures failed { I.failed input.new ≡ (I.failed input.old || is_read result) }
         ensures limit { self.new.limit ≡ self.old.limit }
     {
-        if size as usize <= MOST_KEPT {
-            self.let_go();
+        let size = size as usize;
+        if size <= MOST_KEPT && self.body.len() > MOST_KEPT {
+            self.body = Vec::new(*self.body.allocator());
         }
-        let count = fill_body(
-            input,
-            &mut self.body,
-            size as usize,
-            &mut self.taken,
-            self.limit,
-        )?;
-        Ok(count == size as usize)
+        if size <= self.body.len() {
+            let count = fill_part(input, &mut self.body, 0..size, &mut self.taken, self.limit)?;
+            return Ok(count == size);
+        }
+        let count = fill_body(input, &mut self.body, size, &mut self.taken, self.limit)?;
+        Ok(count == size)
     }
 
-    /// Passes over a body, and answers whether it is whole.
+    /// Passes over a body, and answers whether it is whole. It asks for no memory.
     #[inline(never)]
     fn pass_body<I: Input>(&mut self, input: &mut I, size: u32) -> Result<bool, SourceFault>
-        ensures octets { TakesOctets (PassesBody self.new.limit size result)
+        ensures octets { TakesOctets
+            (λ left taken body. TakesBody self.new.limit body size result left taken body)
             (I.left input.old) (I.left input.new) self.old.taken self.new.taken }
         ensures failed { I.failed input.new ≡ (I.failed input.old || is_read result) }
         ensures limit { self.new.limit ≡ self.old.limit }
     {
-        let count = pass_over(input, size as usize, &mut self.taken, self.limit)?;
-        Ok(count as u32 == size)
+        let mut piece = [0; PIECE];
+        let mut ahead = size as usize;
+        while ahead > 0 {
+            let wanted = ahead.min(PIECE);
+            let count = fill_within(input, &mut piece[..wanted], &mut self.taken, self.limit)?;
+            if count < wanted {
+                return Ok(false);
+            }
+            ahead -= wanted;
+        }
+        Ok(true)
     }
 
     /// Takes the next record. The bodies of those that the profile doesn't support aren't held.

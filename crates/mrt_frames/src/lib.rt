@@ -6,7 +6,6 @@ mod fault;
 mod frames;
 mod header;
 mod input;
-mod octets;
 
 pub use fault::{RecordFault, RecordKind, SourceFault};
 pub use frames::{FrameReader, Front, Profile};

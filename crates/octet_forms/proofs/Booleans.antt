@@ -1,5 +1,5 @@
 -- Tests, and choices by them.
-use Rattle.std.proofs.Common.{◌≡◌, Bool, true, false, cond, ◌&&◌, ◌||◌, refl, sym}
+use Rattle.std.proofs.Common.{◌≡◌, Bool, true, false, cond, ◌||◌, refl, sym}
 
 -- ---- tests
 
@@ -8,11 +8,6 @@ pub same_tests : (s t : Bool) → (s ≡ true → t ≡ true) → (t ≡ true �
 same_tests true t there back = sym (there refl)
 same_tests false true there back = back refl
 same_tests false false there back = refl
-
--- a test that can't pass, before another
-pub or-and_false : (b rest : Bool) → ((b && false) || rest) ≡ rest
-or-and_false true rest = refl
-or-and_false false rest = refl
 
 -- ---- choices
 

@@ -1,8 +1,7 @@
 -- Lists: their parts, what is written into them, and what holds of each element.
-use Rattle.std.proofs.Common.{◌≡◌, ℕ, zero, suc, ◌+◌, ◌-◌, ◌<◌, ◌≤◌, true, false, List, [], ◌∷◌, ◌++◌, length, take, drop, get_or, set, replicate, refl, ap, ap₂, sym, ◌∙◌, arith, append_assoc, length-take-le, take-append-drop, eqb-true}
+use Rattle.std.proofs.Common.{◌≡◌, ℕ, zero, suc, ◌+◌, ◌-◌, ◌<◌, ◌≤◌, true, false, List, [], ◌∷◌, ◌++◌, length, take, drop, get_or, set, replicate, refl, ap, ap₂, sym, ◌∙◌, arith, append_assoc, length-take-le, take-append-drop, eqb-true, add-sub_of_le}
 use Rattle.std.specs.Prelude.{slice_get, nat_eq}
 use Rattle.std.specs.List.{AllByRecursion}
-use Rattle.std.proofs.Math.Nat.{add-sub_of_le}
 use Rattle.std.proofs.lemmas.List.{drop-append-le, drop-drop, drop-take, length_push, take-append-le, take_all, take_rest, take-take}
 
 -- ---- parts
@@ -31,10 +30,6 @@ nonempty xs e h = let f : nat_eq 0 0 ≡ false = sym (ap (λ l. nat_eq (length l
 pub no_elements : {A : Type 0} (xs : List A) → nat_eq (length xs) 0 ≡ true → xs ≡ []
 no_elements [] e = refl
 no_elements (x ∷ xs) e = let none : length (x ∷ xs) ≡ 0 = eqb-true (length (x ∷ xs)) 0 e in absurd (omega arith)
-
--- the first elements of a front are those of the whole
-pub take_kept : {A : Type 0} (at k : ℕ) (old grown new : List A) → at ≤ k → take k grown ≡ old → take at new ≡ take at grown → take at new ≡ take at old
-take_kept at k old grown new within grew kept = kept ∙ sym (take-take at k grown within) ∙ ap (take at) grew
 
 -- the first elements in two parts
 pub take_in_parts : {A : Type 0} (low high : ℕ) (xs : List A) → low ≤ high → take low xs ++ take (high - low) (drop low xs) ≡ take high xs

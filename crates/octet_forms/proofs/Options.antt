@@ -1,16 +1,10 @@
 -- Whether a value is there, and what follows from it.
-use Rattle.std.proofs.Common.{◌≡◌, Bool, true, false, cond, ◌||◌, Option, Some, None, refl}
-use Rattle.std.specs.Option.{is_some, option_map}
+use Rattle.std.proofs.Common.{◌≡◌, false, Option, Some, None, refl, is_some, option_map}
 
 -- a function of a value that was found keeps whether one was
 pub is_some-option_map : {A B : Type 0} (f : A → B) (found : Option A) → is_some (option_map f found) ≡ is_some found
 is_some-option_map f None = refl
 is_some-option_map f (Some x) = refl
-
--- a value is there where the test chose one, or where one was there before
-pub is_some-cond : {A : Type 0} (b : Bool) (x : A) (rest : Option A) → is_some (cond b (Some x) rest) ≡ (b || is_some rest)
-is_some-cond true x rest = refl
-is_some-cond false x rest = refl
 
 -- where none is there the option is `None`
 pub None_from_is_some : {A : Type 0} (found : Option A) → is_some found ≡ false → found ≡ None

@@ -1,6 +1,5 @@
 -- Values spelled one behind the other.
-use Rattle.std.proofs.Common.{◌≡◌, ℕ, ◌*◌, List, [], ◌∷◌, ◌++◌, length, refl, ap, sym, subst, ◌∙◌, arith, append_assoc, append-nil}
-use Rattle.std.proofs.lemmas.List.{length-append}
+use Rattle.std.proofs.Common.{◌≡◌, ℕ, ◌*◌, List, [], ◌∷◌, ◌++◌, length, refl, ap, sym, subst, ◌∙◌, arith, append_assoc, append-nil, length-append}
 use Rattle.octet_forms.specs.Sequences.{Begins, SpellsAll}
 use Rattle.octet_forms.specs.Fronts.{BeginsWithNone, IsCode}
 use Rattle.octet_forms.proofs.Lists.{nothing_before}

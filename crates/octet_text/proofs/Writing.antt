@@ -1,7 +1,7 @@
 -- How texts in a slice follow one another.
 use Rattle.std.proofs.Common.{◌≡◌, ℕ, ◌+◌, ◌-◌, ◌<◌, ◌≤◌, List, [], ◌∷◌, ◌++◌, length, take, drop, set, refl, ap, sym, ◌∙◌, arith, append_assoc, slice_range, get_or, subst, length-append, length-take-le}
 use Rattle.std.proofs.Math.Seq.{take-append-add}
-use Rattle.std.proofs.lemmas.List.{take-append-le, length-drop, length-set, take_more_set, take-take, take_all, drop-take}
+use Rattle.std.proofs.lemmas.List.{take-append-le, length-set, take_more_set, take-take, drop-take}
 use Rattle.std.proofs.lemmas.Grind.{common_steps}
 use Rattle.octet_text.specs.Written.{IsWritten, filled}
 
@@ -11,48 +11,37 @@ pub written_row : (old row new : List ℕ) (at n : ℕ) → at + length row ≤ 
 written_row old row new at n room fits put =
     let before : length (take at old) ≡ at = length-take-le at old (omega (arith, room)) in
     let behind = drop (at + length row) old in
-    let parted : new ≡ take at old ++ (row ++ behind) = put ∙ append_assoc (take at old) row behind in
     record {
-      front = ap (take (at + n)) parted
+      front = ap (take (at + n)) (put ∙ append_assoc (take at old) row behind)
           ∙ ap (λ k. take (k + n) (take at old ++ (row ++ behind))) (sym before)
           ∙ take-append-add (take at old) (row ++ behind) n
           ∙ ap (λ l. take at old ++ l) (take-append-le n row behind fits);
       behind = omega (arith, length-take-le n row fits);
-      size = ap length parted ∙ omega (arith, length-append (take at old) (row ++ behind), length-append row behind, length-drop (at + length row) old, before, room);
+      size = grind (arith, common_steps);
     }
 
 -- ---- a decimal in its row
 
-pub length-filled : (digits : List ℕ) → length digits ≤ 3 → length (filled digits) ≡ 4
-length-filled [] h = refl
-length-filled (a ∷ []) h = refl
-length-filled (a ∷ b ∷ []) h = refl
-length-filled (a ∷ b ∷ c ∷ []) h = refl
-length-filled (a ∷ b ∷ c ∷ d ∷ more) h = absurd (omega (arith, h))
+-- the row of up to three digits: its last octet tells how many they are, as a digit, and they are its first octets
+pub record IsRow (digits row : List ℕ) : Type 0 where
+  pub size : length row ≡ 4
+  pub last : get_or row 3 0 ≡ 48 + length digits
+  pub front : take (length digits) row ≡ digits
 
--- the last octet tells how many digits there are, as a digit
-pub filled_last : (digits : List ℕ) → length digits ≤ 3 → get_or (filled digits) 3 0 ≡ 48 + length digits
-filled_last [] h = refl
-filled_last (a ∷ []) h = refl
-filled_last (a ∷ b ∷ []) h = refl
-filled_last (a ∷ b ∷ c ∷ []) h = refl
-filled_last (a ∷ b ∷ c ∷ d ∷ more) h = absurd (omega (arith, h))
-
--- the digits are its first octets
-pub filled_front : (digits : List ℕ) → length digits ≤ 3 → take (length digits) (filled digits) ≡ digits
-filled_front [] h = refl
-filled_front (a ∷ []) h = refl
-filled_front (a ∷ b ∷ []) h = refl
-filled_front (a ∷ b ∷ c ∷ []) h = refl
-filled_front (a ∷ b ∷ c ∷ d ∷ more) h = absurd (omega (arith, h))
+pub filled_row : (digits : List ℕ) → length digits ≤ 3 → IsRow digits (filled digits)
+filled_row [] h = record { size = refl; last = refl; front = refl }
+filled_row (a ∷ []) h = record { size = refl; last = refl; front = refl }
+filled_row (a ∷ b ∷ []) h = record { size = refl; last = refl; front = refl }
+filled_row (a ∷ b ∷ c ∷ []) h = record { size = refl; last = refl; front = refl }
+filled_row (a ∷ b ∷ c ∷ d ∷ more) h = absurd (omega (arith, h))
 
 -- the digits are written where the row was put
 pub written_digits : (digits old new : List ℕ) (at : ℕ) → length digits ≤ 3 → at + 4 ≤ length old
     → new ≡ take at old ++ filled digits ++ drop (at + length (filled digits)) old → IsWritten old at digits new (at + length digits)
 written_digits digits old new at short room put =
-    let four = length-filled digits short in
-    subst (λ t. IsWritten old at t new (at + length digits)) (filled_front digits short)
-    (written_row old (filled digits) new at (length digits) (omega (arith, four, room)) (omega (arith, four, short)) put)
+    let row = filled_row digits short in
+    subst (λ t. IsWritten old at t new (at + length digits)) row.front
+    (written_row old (filled digits) new at (length digits) (omega (arith, row.size, room)) (omega (arith, row.size, short)) put)
 
 -- ---- one behind another
 
@@ -63,7 +52,7 @@ written_octet old at x room = record { front = take_more_set old at x room; behi
 -- a text behind another
 pub written_then : (old mid new t u : List ℕ) (at k end : ℕ) → IsWritten old at t mid k → IsWritten mid k u new end → IsWritten old at (t ++ u) new end
 written_then old mid new t u at k end first second = record {
-  front = second.front ∙ ap (λ l. l ++ u) first.front ∙ append_assoc (take at old) t u;
+  front = grind (arith, common_steps);
   behind = omega (arith, first.behind, second.behind, length-append t u);
   size = second.size ∙ first.size;
 }
@@ -82,18 +71,6 @@ four_marked a b c d x = grind (arith, common_steps)
 -- ---- parts once more
 
 -- a part of the front is one of the whole
-range_in_front : (xs : List ℕ) (start end at : ℕ) → start ≤ end → end ≤ at → slice_range xs start end ≡ slice_range (take at xs) start end
+pub range_in_front : (xs : List ℕ) (start end at : ℕ) → start ≤ end → end ≤ at → slice_range xs start end ≡ slice_range (take at xs) start end
 range_in_front xs start end at order within =
-    let split : start + (at - start) ≡ at = omega (arith, order, within) in
-    sym (ap (λ n. take (end - start) (drop start (take n xs))) (sym split) ∙ ap (take (end - start)) (drop-take start (at - start) xs)
-    ∙ take-take (end - start) (at - start) (drop start xs) (omega (arith, within)))
-
--- what is copied behind a text
-pub written_again : (old new text : List ℕ) (start end at : ℕ) → start ≤ end → end ≤ at → at + (end - start) ≤ length old → take at old ≡ text
-    → new ≡ take at old ++ slice_range old start end ++ drop (at + (end - start)) old → take (at + (end - start)) new ≡ text ++ slice_range text start end
-written_again old new text start end at order within room front put =
-    let row = slice_range old start end in
-    let size : length row ≡ end - start = length-take-le (end - start) (drop start old) (omega (arith, length-drop start old, room, within, order)) in
-    let written = written_row old row new at (end - start) (omega (arith, size, room)) (omega (arith, size)) (put ∙ ap (λ n. take at old ++ row ++ drop (at + n) old) (sym size)) in
-    written.front ∙ ap (λ l. take at old ++ l) (take_all (end - start) row (omega (arith, size)) ∙ range_in_front old start end at order within)
-    ∙ ap (λ l. l ++ slice_range l start end) front
+    grind (arith, common_steps, drop-take start (at - start) xs, take-take (end - start) (at - start) (drop start xs))

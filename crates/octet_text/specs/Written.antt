@@ -1,7 +1,6 @@
 -- Private.
 -- Texts in a slice.
-use Rattle.std.specs.Prelude.{◌≡◌, ℕ, ◌+◌, ◌/◌, ◌%◌, List, [], ◌∷◌, ◌++◌, length, take}
-use Rattle.std.specs.List.{flat_map}
+use Rattle.std.specs.Prelude.{◌≡◌, ℕ, ◌+◌, ◌/◌, ◌%◌, List, [], ◌∷◌, ◌++◌, length, take, flat_map}
 use Rattle.std.specs.Char.{digit_char}
 use Rattle.octet_text.specs.declared.cursor.TheConstants.{SPACE}
 

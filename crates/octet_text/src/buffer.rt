@@ -5,10 +5,8 @@ ghost use Rattle.octet_text.specs.Written.{ended_words};
 
 use crate::cursor::{
     DECIMAL_ROOM, ENDED_ROOM, put_octets, write_decimal, write_ended_decimal, write_ended_decimals,
-    write_led_decimal,
 };
-use crate::in_place::InPlace;
-use crate::words::{WORD_ROOM, Word, write_ended_words};
+use crate::in_place::{InPlace, WORD_ROOM, Word, write_ended_words};
 use itoa::Buffer;
 use std::alloc::{AllocError, Global};
 use std::marker::Model;
@@ -160,7 +158,8 @@ impl Text {
         ensures unchanged { OnErr result (self.new ≡ self.old) }
     {
         make_room(&mut self.buffer, self.len, ENDED_ROOM)?;
-        self.len = write_led_decimal(lead, number, self.buffer.as_mut_slice(), self.len);
+        self.buffer[self.len] = lead;
+        self.len = write_decimal(number, self.buffer.as_mut_slice(), self.len + 1);
         Ok(())
     }
 
@@ -239,6 +238,15 @@ impl Text {
         self.len += size;
         Ok(())
     }
+}
+
+/// Appends the number in decimal, without leading zeros. Refused for want of memory, it leaves
+/// the text as it was.
+pub fn put_decimal(number: u64, text: &mut Vec<u8>) -> Result<(), AllocError>
+    ensures appended { OnOk result (text.new.items ≡ text.old.items ++ decimal number) }
+    ensures unchanged { OnErr result (text.new.items ≡ text.old.items) }
+{
+    text.extend_from_slice(Buffer::new().format(number).as_bytes())
 }
 
 // Makes the buffer at least so much longer than a text at its front.

@@ -2,9 +2,9 @@
 //! asks for, may be anything then.
 
 ghost use Rattle.std.specs.Prelude.{◌≡◌, ◌+◌, ◌*◌, ◌<◌, ◌≤◌, ◌++◌, ◌∷◌, [], length, map, take, drop, decimal};
-ghost use Rattle.octet_text.specs.Written.{IsWritten, ended_words, three_digits, filled};
+ghost use Rattle.octet_text.specs.Written.{IsWritten, ended_words, three_digits, filled, two_hex_digits};
 
-use crate::digits::{SHORTS, THREES};
+use crate::digits::{HEX_PAIRS, SHORTS, THREES};
 
 /// The room for a number of 32 bits in decimal.
 pub const DECIMAL_ROOM: usize = 12;
@@ -17,6 +17,9 @@ const DECIMAL_DIGITS: usize = 10;
 
 /// How many octets are written at once.
 pub const ROW: usize = 4;
+
+/// How many hexadecimal digits are written at once.
+pub const HEX_PAIR: usize = 2;
 
 /// What stands between words, and in a row behind the digits.
 pub const SPACE: u8 = b' ';
@@ -41,16 +44,6 @@ pub fn write_decimal(number: u32, text: &mut [u8], at: usize) -> usize
         return write_six(number, text, at);
     }
     write_long(number, text, at)
-}
-
-/// Writes an octet, and the number in decimal behind it, and answers the place behind both.
-#[inline(always)]
-pub(crate) fn write_led_decimal(lead: u8, number: u32, text: &mut [u8], at: usize) -> usize
-    requires { at + ENDED_ROOM ≤ length text.old }
-    ensures { IsWritten text.old at (lead ∷ decimal number) text.new result }
-{
-    text[at] = lead;
-    write_decimal(number, text, at + 1)
 }
 
 /// Writes the number in decimal, and an octet behind it, and answers the place behind both.
@@ -142,6 +135,26 @@ fn three_row(number: u32) -> [u8; ROW]
     ensures { result ≡ three_digits number ++ SPACE ∷ [] }
 {
     THREES[number as usize]
+}
+
+/// Writes a number below 256 in two hexadecimal digits, and answers the place behind them.
+#[inline]
+pub fn write_hex_pair(number: u16, text: &mut [u8], at: usize) -> usize
+    requires { (number < 0x100) × (at + HEX_PAIR ≤ length text.old) }
+    ensures written { IsWritten text.old at (two_hex_digits number) text.new result }
+    ensures short { result ≡ at + HEX_PAIR }
+{
+    put_octets(&hex_pair(number), text, at);
+    at + HEX_PAIR
+}
+
+/// A number below 256 in two hexadecimal digits.
+#[inline(always)]
+pub fn hex_pair(number: u16) -> [u8; HEX_PAIR]
+    requires { number < 0x100 }
+    ensures { result ≡ two_hex_digits number }
+{
+    HEX_PAIRS[number as usize]
 }
 
 /// Puts octets there.

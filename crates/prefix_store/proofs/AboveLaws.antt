@@ -1,21 +1,16 @@
 -- Routes in order, and those above a prefix.
-use Rattle.std.proofs.Common.{◌≡◌, ℕ, zero, suc, ◌<◌, ◌≤◌, ◌-◌, take, drop, append_assoc, Bool, true, false, cond, T, List, [], ◌∷◌, ◌++◌, map, length, Option, Some, None, slice_get, refl, sym, ap, ◌∙◌, arith}
-use Rattle.std.specs.Borrow.{Bor}
-use Rattle.std.specs.Option.{option_map, option_copied}
-use Rattle.std.proofs.lemmas.List.{length-map, append-nil, take_all}
-use Rattle.std.proofs.lemmas.Option.{same_Some, slice_get-map, slice_get-get_or}
+use Rattle.std.proofs.Common.{◌≡◌, ℕ, zero, suc, ◌<◌, ◌-◌, take, drop, Bool, true, T, List, [], ◌∷◌, ◌++◌, map, length, Option, Some, None, slice_get, refl, sym, ap, ◌∙◌, arith, Bor, option_copied, is_lt, Ordering, Less}
+use Rattle.std.proofs.lemmas.List.{length-map, take-append-drop}
+use Rattle.std.proofs.lemmas.Grind.{common_steps}
+use Rattle.std.proofs.lemmas.Option.{slice_get-map, slice_get-get_or}
 use Rattle.std.specs.List.{filter, AllByRecursion}
 use Rattle.std.specs.List.Sorted.{IsStrictlySortedBy}
-use Rattle.std.specs.Ordering.{is_lt}
-use Rattle.std.specs.declared.cmp.Ordering.{Ordering}
-use Rattle.std.specs.declared.cmp.Ordering.TheVariants.{Less}
 use Rattle.std.specs.Cmp.{IsTotalOrder, tied_itself}
 use Rattle.std.proofs.lemmas.Map.Keys.{sorted_head, sorted_tail}
 use Rattle.std.specs.FinMap as finite
 use Rattle.std.specs.FinMap.{FinMap}
 use Rattle.std.specs.FinMap.Entries.{is_sorted, below_all}
 use Rattle.std.proofs.lemmas.Bool.{and_parts}
-use Rattle.std.proofs.lemmas.List.{take-append-drop}
 use Rattle.ip_prefix.specs.Network.{Network}
 use Rattle.ip_prefix.specs.Order.{network_cmp}
 use Rattle.ip_prefix.specs.OrderLaws.{network_cmp_total}
@@ -35,41 +30,34 @@ module _ {K A : Type 0} {R : K → K → Ordering} (o : IsTotalOrder R) (key : A
   abbrev higher : Option K → List A → List A
   higher low xs = filter (λ x. is_higher R low (key x)) xs
 
-  higher_trans : (low : Option K) (x y : K) → is_higher R low x ≡ true → R x y ≡ Less → is_higher R low y ≡ true
+  higher_trans : (low : Option K) (x y : K) → is_higher R low x ≡ true → is_lt (R x y) ≡ true → is_higher R low y ≡ true
   higher_trans None x y e f = refl
-  higher_trans (Some l) x y e f = ap is_lt (o.trans l x y (is_less _ e) f)
+  higher_trans (Some l) x y e f = ap is_lt (o.trans l x y (is_less _ e) (is_less _ f))
 
   -- all that follow one that is above are above
-  all_higher : (low : Option K) (x : K) (xs : List A) → ((y : K) → R x y ≡ Less → is_higher R low y ≡ true) → AllByRecursion (λ y. R x y ≡ Less) (map key xs) → higher low xs ≡ xs
+  all_higher : (low : Option K) (x : K) (xs : List A) → is_higher R low x ≡ true → AllByRecursion (λ y. R x y ≡ Less) (map key xs) → higher low xs ≡ xs
   all_higher low x [] above below = refl
-  all_higher low x (y ∷ xs) above below = ap (λ b. cond b (y ∷ higher low xs) (higher low xs)) (above (key y) below.0) ∙ ap (λ s. y ∷ s) (all_higher low x xs above below.1)
+  all_higher low x (y ∷ xs) above below =
+      let rest = all_higher low x xs above below.1 in
+      let first = higher_trans low x (key y) above (ap is_lt below.0) in
+      grind arith
 
   pub higher_from : (x : K) (xs : List A) → AllByRecursion (λ y. R x y ≡ Less) (map key xs) → higher (Some x) xs ≡ xs
-  higher_from x xs = all_higher (Some x) x xs (λ y f. ap is_lt f)
+  higher_from x [] below = refl
+  higher_from x (y ∷ xs) below = let rest = higher_from x xs below.1 in let first = ap is_lt below.0 in grind arith
 
   -- the first that is above a key, and those above it
   pub higher-next : (low : Option K) (xs : List A) (x : A) → IsStrictlySortedBy R (map key xs) → slice_get (higher low xs) 0 ≡ Some x → higher low xs ≡ x ∷ higher (Some (key x)) xs
   higher-next low [] x sorted is = cc
   higher-next low (y ∷ xs) x sorted is =
       let below = sorted_head R (key y) (map key xs) sorted in
-      let own : higher (Some (key y)) (y ∷ xs) ≡ xs =
-      ap (λ r. cond (is_lt r) (y ∷ higher (Some (key y)) xs) (higher (Some (key y)) xs)) (tied_itself o (key y))
-      ∙ higher_from (key y) xs below in
-      elim (is_higher R low (key y)) as (λ b. is_higher R low (key y) ≡ b → slice_get (cond b (y ∷ higher low xs) (higher low xs)) 0 ≡ Some x → cond b (y ∷ higher low xs) (higher low xs) ≡ x ∷ higher (Some (key x)) (y ∷ xs)) [
-        | true ↦ λ here is.
-            ap (λ s. y ∷ s) (all_higher low (key y) xs (λ k. higher_trans low (key y) k here) below ∙ sym own)
-            ∙ ap (λ z. z ∷ higher (Some (key z)) (y ∷ xs)) (same_Some y x is)
-        | false ↦ λ out is.
-            higher-next low xs x (sorted_tail R (key y) (map key xs) sorted) is
-            ∙ ap (λ b. x ∷ cond b (y ∷ higher (Some (key x)) xs) (higher (Some (key x)) xs))
-            (sym (lower low (key y) (key x) out (first_passes (λ z. is_higher R low (key z)) xs x is)))
-      ] refl is
-    where
-      lower : (low : Option K) (x y : K) → is_higher R low x ≡ false → is_higher R low y ≡ true → is_lt (R y x) ≡ false
-      lower low x y out here = elim (is_lt (R y x)) as (λ b. is_lt (R y x) ≡ b → b ≡ false) [
-        | true ↦ λ f. sym (higher_trans low y x here (is_less _ f)) ∙ out
-        | false ↦ λ f. refl
-      ] refl
+      let own = higher_from (key y) xs below in
+      let all = λ (here : is_higher R low (key y) ≡ true). all_higher low (key y) xs here below in
+      let rest = higher-next low xs x (sorted_tail R (key y) (map key xs) sorted) in
+      let found = first_passes (λ z. is_higher R low (key z)) xs x in
+      let lower = higher_trans low (key x) (key y) in
+      let tied = ap is_lt (tied_itself o (key y)) in
+      grind arith
 
 -- ---- the keys of a map are in order
 
@@ -129,9 +117,9 @@ pub above-front : {R : Type 0} (low : Option Network) (es : List (Network × R))
     → xs ≡ take room (above low es) → ((ys : List (Network × R)) × (xs ≡ ys ++ e ∷ [])) → above low es ≡ xs ++ above (Some e.0) es
 above-front low es sorted room xs e front split =
     let behind = drop room (above low es) in
-    let whole : above low es ≡ xs ++ behind = sym (take-append-drop room (above low es)) ∙ ap (λ s. s ++ behind) (sym front) in
-    let rest : behind ≡ above (Some e.0) es = above-rest low es sorted split.0 e behind (whole ∙ ap (λ s. s ++ behind) split.1 ∙ append_assoc split.0 (e ∷ []) behind) in
-    whole ∙ ap (λ s. xs ++ s) rest
+    let parts = take-append-drop room (above low es) in
+    let rest = above-rest low es sorted split.0 e behind in
+    grind (arith, common_steps)
 
 -- where there is room, and none is found, none is left
 pub none-left : {A : Type 0} (room : ℕ) (xs : List A) → 0 < room → [] ≡ take room xs → xs ≡ []
@@ -142,9 +130,8 @@ none-left (suc n) xs some none = grind arith
 pub seen_last : {A B : Type 0} (view : A → B) (found : List A) (last : Option (Bor A)) (end : Bor A) → option_copied last ≡ slice_get found (length found - 1) → last ≡ Some end
     → (ys : List B) × (map view found ≡ ys ++ view end.now ∷ [])
 seen_last view found last end is some =
-    let at : length found - 1 ≡ length (map view found) - 1 = ap (λ n. n - 1) (sym (length-map found view)) in
-    split_last (map view found) (view end.now) (length found - 1) at
-    (slice_get-map view found (length found - 1) ∙ ap (option_map view) (sym is ∙ ap option_copied some))
+    let seen = slice_get-map view found (length found - 1) in
+    split_last (map view found) (view end.now) (length found - 1) (omega (arith, length-map found view)) (grind arith)
 
 -- and where there is no last, none is seen
 pub seen_none : {A B : Type 0} (view : A → B) (found : List A) (last : Option (Bor A)) → option_copied last ≡ slice_get found (length found - 1) → last ≡ None → [] ≡ map view found
@@ -156,15 +143,5 @@ seen_none view (f ∷ found) last is none = let there = slice_get-get_or (f ∷ 
 pub take-nil : {A : Type 0} (n : ℕ) → take {A = A} n [] ≡ []
 take-nil n = grind arith
 
--- one more found
-pub pointed-more : {R : Type 0} (found : List (Network × Bor R)) (one : Network × Bor R) (rest : List (Network × R)) → pointed (found ++ one ∷ []) ++ rest ≡ pointed found ++ (one.0, one.1.now) ∷ rest
-pointed-more [] one rest = refl
-pointed-more (x ∷ found) one rest = grind (arith, pointed-more found one rest)
-
 pub length-pointed : {R : Type 0} (found : List (Network × Bor R)) → length (pointed found) ≡ length found
 length-pointed found = length-map found (λ p. (p.0, p.1.now))
-
--- and a whole list, where it isn't longer
-pub take-whole : {A : Type 0} (n : ℕ) (xs ys all : List A) → xs ++ ys ≡ all → ys ≡ [] → length xs ≤ n → xs ≡ take n all
-take-whole n xs ys all e none short =
-    sym (take_all n xs short) ∙ ap (take n) (sym (append-nil xs) ∙ ap (λ s. xs ++ s) (sym none) ∙ e)

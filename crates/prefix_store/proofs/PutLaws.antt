@@ -1,7 +1,6 @@
 -- What a map holds once a value is put, or taken out, at a key.
 use mir.Val.{bool_byte}
-use Rattle.std.proofs.Common.{◌≡◌, zero, suc, ◌+◌, ◌≤◌, true, cond, Option, Some, None, is_some, refl, ap, ◌∙◌, arith}
-use Rattle.std.specs.declared.cmp.Ordering.{Ordering}
+use Rattle.std.proofs.Common.{◌≡◌, zero, suc, ◌+◌, ◌≤◌, true, cond, Option, Some, None, is_some, refl, ap, ◌∙◌, arith, Ordering}
 use Rattle.std.specs.Ordering.{eq_by_cmp}
 use Rattle.std.specs.Cmp.{IsTotalOrder}
 use Rattle.std.specs.FinMap.{FinMap, get, len, get-empty, get-insert, get-remove, empty_of_len, len-insert, len-remove}

@@ -1,6 +1,5 @@
 -- What is put into a map of routes.
-use Rattle.std.proofs.Common.{◌≡◌, Bool, true, false, cond, Option, None, refl, sym, ap, ◌∙◌, arith}
-use Rattle.std.specs.Prelude.{◌≢◌}
+use Rattle.std.proofs.Common.{◌≡◌, Bool, true, cond, Option, None, sym, ap, ◌∙◌, arith, ◌≢◌}
 use Rattle.std.specs.Ordering.{eq_by_cmp, is_eq}
 use Rattle.std.specs.Cmp.{Equal-is, tied_itself}
 use Rattle.std.specs.FinMap as finite
@@ -35,16 +34,12 @@ get-put-there routes prefix new = get-put routes prefix new prefix ∙ ap (λ b.
 
 -- and nothing else goes
 pub get-put-others : {R : Type 0} (routes : Routes R) (q prefix : Network) (new : Option R) → q ≢ prefix → finite.get (put routes prefix new) q ≡ finite.get routes q
-get-put-others routes q prefix new other =
-    get-put routes prefix new q
-    ∙ elim (tied q prefix) as (λ b. tied q prefix ≡ b → cond b new (finite.get routes q) ≡ finite.get routes q) [ true ↦ λ e. absurd (other (same_prefix q prefix e)) | false ↦ λ e. refl ] refl
+get-put-others routes q prefix new other = let put = get-put routes prefix new q in let same = same_prefix q prefix in grind arith
 
 -- what is there may be put there again
 pub put-same : {R : Type 0} (routes : Routes R) (prefix : Network) → put routes prefix (finite.get routes prefix) ≡ routes
-put-same routes prefix = same_routes (put routes prefix (finite.get routes prefix)) routes (λ q. get-put routes prefix (finite.get routes prefix) q ∙ at q)
-  where
-    at : (q : Network) → cond (tied q prefix) (finite.get routes prefix) (finite.get routes q) ≡ finite.get routes q
-    at q = let one = same_prefix q prefix in grind arith
+put-same routes prefix =
+    same_routes _ _ (λ q. let put = get-put routes prefix (finite.get routes prefix) q in let one = same_prefix q prefix in grind arith)
 
 -- one key more has no route
 pub put-none : {R : Type 0} (routes : Routes R) (prefix : Network) → finite.get routes prefix ≡ None → put routes prefix None ≡ routes

@@ -1,12 +1,11 @@
 -- Routes that are taken one by one, the first of those that are left.
-use Rattle.std.proofs.Common.{◌≡◌, true, false, cond, List, [], ◌∷◌, map, length, Option, Some, None, slice_get, refl, sym, ap, subst, ◌∙◌, arith}
+use Rattle.std.proofs.Common.{◌≡◌, true, cond, List, [], ◌∷◌, map, length, Option, Some, None, slice_get, sym, ap, subst, ◌∙◌, arith, Equal}
 use Rattle.std.specs.Ordering.{eq_by_cmp, is_eq, is_lt}
 use Rattle.std.specs.Cmp.{Equal-is, tied_itself}
 use Rattle.std.specs.FinMap as finite
 use Rattle.std.specs.FinMap.{same_map, empty_of_len, get-empty, get-entries, get-remove, entries_sorted, len-entries, len-empty}
 use Rattle.std.specs.Map.{keys_of}
 use Rattle.std.specs.List.Sorted.{IsStrictlySortedBy}
-use Rattle.std.specs.declared.cmp.Ordering.TheVariants.{Equal}
 use Rattle.std.proofs.lemmas.Map.Keys.{sorted_head}
 use Rattle.std.proofs.lemmas.List.{nil_from_length}
 use Rattle.std.specs.FinMap.Entries.{find, same_entries, is_sorted-where_key, find-where_key}
@@ -54,15 +53,14 @@ taken {R} routes low e whole first = record {
         find-where_key network_cmp (is_above (Some e.0)) e.0 (λ x tie. ap (is_above (Some e.0)) (sym (alike e.0 x tie))) (finite.entries routes)
         ∙ ap (λ r. cond (is_lt r) (find network_cmp e.0 (finite.entries routes)) None) (tied_itself network_cmp_total e.0)
 
+    at : (q : Network) → cond (eq_by_cmp network_cmp q e.0) None (cond (eq_by_cmp network_cmp q e.0) (Some e.1) (find network_cmp q rest)) ≡ find network_cmp q rest
+    at q = let one = λ (tied : eq_by_cmp network_cmp q e.0 ≡ true). ap (λ n. find network_cmp n rest) (alike q e.0 ((Equal-is (network_cmp q e.0)).0 tied)) ∙ itself in grind arith
+
     left : finite.entries (put routes e.0 None) ≡ rest
     left =
         same_entries network_cmp network_cmp_total alike (finite.entries (put routes e.0 None)) rest
-        (entries_sorted (put routes e.0 None)) (is_sorted-where_key network_cmp (is_above (Some e.0)) (finite.entries routes) (entries_sorted routes)) (λ q.
-        sym (get-entries (put routes e.0 None) q) ∙ get-remove network_cmp_total routes e.0 q ∙ ap (cond (eq_by_cmp network_cmp q e.0) None) (found q)
-        ∙ elim (eq_by_cmp network_cmp q e.0) as (λ b. eq_by_cmp network_cmp q e.0 ≡ b → cond b None (cond b (Some e.1) (find network_cmp q rest)) ≡ find network_cmp q rest) [
-          | true ↦ λ tied. sym (ap (λ n. find network_cmp n rest) (alike q e.0 ((Equal-is (network_cmp q e.0)).0 tied)) ∙ itself)
-          | false ↦ λ tied. refl
-        ] refl)
+        (entries_sorted (put routes e.0 None)) (is_sorted-where_key network_cmp (is_above (Some e.0)) (finite.entries routes) (entries_sorted routes))
+        (λ q. sym (get-entries (put routes e.0 None) q) ∙ get-remove network_cmp_total routes e.0 q ∙ ap (cond (eq_by_cmp network_cmp q e.0) None) (found q) ∙ at q)
 
 -- without entries a map is empty
 pub no_routes : {R : Type 0} (routes : Routes R) → finite.entries routes ≡ [] → routes ≡ finite.empty

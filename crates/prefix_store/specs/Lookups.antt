@@ -1,9 +1,8 @@
 -- Private.
 -- What look-ups and walks of a store answer.
-use Rattle.std.specs.Prelude.{◌≡◌, ◌≤◌, true, Bool, List, map, Option, Some, None, length, slice_get, is_some}
+use Rattle.std.specs.Prelude.{◌≡◌, ◌≤◌, true, Bool, List, map, Option, Some, None, length, slice_get, is_some, filter}
 use Rattle.std.specs.Borrow.{Bor}
 use Rattle.std.specs.FinMap.{get, entries}
-use Rattle.std.specs.List.{filter}
 use Rattle.std.specs.Ordering.{is_lt}
 use Rattle.std.specs.declared.cmp.Ordering.{Ordering}
 use Rattle.ip_prefix.specs.Address.{Address}

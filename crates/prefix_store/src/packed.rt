@@ -65,10 +65,7 @@ impl Packed for V4Prefix {
     #[inline]
     fn wide(&self) -> Prefix {
         let addr = Addr::v4(self.octets);
-        match Prefix::new(addr, self.len) {
-            Some(prefix) => prefix,
-            None => Prefix::host(addr),
-        }
+        Prefix::new(addr, self.len).unwrap_or_else(|| Prefix::host(addr))
     }
 
     #[inline]

@@ -1,8 +1,6 @@
 //! What a store of routes by prefix does.
 
-ghost use Rattle.std.specs.Prelude.{◌≡◌, ◌≤◌, true, false, not, Option, None, slice_get, take, vec_capacity};
-ghost use Rattle.std.specs.Prelude.{IfOk, OnOk, OnErr};
-ghost use Rattle.std.specs.Option.{option_map, option_copied};
+ghost use Rattle.std.specs.Prelude.{◌≡◌, ◌≤◌, true, false, not, Option, None, slice_get, take, vec_capacity, IfOk, OnOk, OnErr, option_map, option_copied};
 ghost use Rattle.std.specs.FinMap as finite;
 ghost use Rattle.std.specs.FinSet as set;
 ghost use Rattle.prefix_store.specs.Stored.{Keys, Routes, put, counted};
@@ -125,10 +123,7 @@ pub trait PrefixStore<R: Drop>: Sized + Drop {
             return;
         }
         let mut last = None;
-        'routes: loop {
-            let Some(next) = self.after(last.as_ref()) else {
-                break;
-            };
+        'routes: while let Some(next) = self.after(last.as_ref()) {
             let prefix = next.0;
             let mut route = None;
             self.exchange(&prefix, &mut route);

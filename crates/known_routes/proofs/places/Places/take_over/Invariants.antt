@@ -1,5 +1,4 @@
-use Rattle.std.proofs.Common.{◌≡◌}
-use Rattle.std.specs.Vec.{vec_len}
+use Rattle.std.proofs.Common.{◌≡◌, vec_len}
 use Rattle.known_routes.proofs.places.Places.take_over.Given as goal
 
 -- the places stay as many

@@ -1,11 +1,10 @@
-use Rattle.std.proofs.Common.{◌≡◌, ◌++◌, ◌∷◌, [], map, Some, None, List, slice_get, length, vec_capacity, refl, sym, ap, ap₂, subst, ◌∙◌, append_assoc, length-append, arith}
-use Rattle.std.specs.Option.{option_map}
+use Rattle.std.proofs.Common.{◌≡◌, ◌++◌, ◌∷◌, [], map, Some, None, List, slice_get, length, vec_capacity, refl, sym, ap, ◌∙◌, arith, option_map}
 use Rattle.std.specs.FinMap as finite
 use Rattle.std.specs.FinMap.{len-entries}
-use Rattle.std.proofs.lemmas.List.{length-map, append-nil}
 use Rattle.prefix_store.specs.Lookups.{above}
 use Rattle.prefix_store.proofs.AboveLaws.{above-none, none-above}
 use Rattle.std.proofs.lemmas.Option.{same_Some}
+use Rattle.std.proofs.lemmas.Grind.{common_steps}
 use Rattle.prefix_store.proofs.TakenLaws.{IsTaken, taken, no_routes, values-empty, key-there, keyless, among-less}
 use Rattle.prefix_store.proofs.store.PrefixStore.take_routes.Given.{Over}
 use Rattle.prefix_store.proofs.store.PrefixStore.take_routes.Goals as goal
@@ -34,20 +33,10 @@ exchange-requires g c =
 pub push_reserved-requires : goal.push_reserved-requires
 push_reserved-requires g c =
     let all = g.Self.PrefixStore.routes c.args.self.now in
-    let left = g.Self.PrefixStore.routes c.routes.self in
     let first = one g (goal.at.push_reserved-requires g c).In-Some in
-    omega (
-      arith,
-      c.requires,
-      len-entries all,
-      length-map (finite.entries all) (λ e. e.1),
-      ap length c.routes.invariant.taken,
-      length-append c.routes.taken.items (finite.values left),
-      length-map (finite.entries left) (λ e. e.1),
-      ap length first.all,
-      c.routes.taken.ok,
-      c.routes.invariant.room,
-    )
+    let whole = ap length c.routes.invariant.taken in
+    let more = ap length first.all in
+    grind (arith, common_steps, len-entries all)
 
 pub routes-smaller : goal.routes-smaller
 routes-smaller g c =
@@ -66,8 +55,7 @@ returns-clause-routes g c = no_routes _ (none g (goal.at.returns-clause-routes g
 
 pub returns-clause-taken : goal.returns-clause-taken
 returns-clause-taken g c =
-    let left = none g (goal.at.returns-clause-taken g c).In_default in
-    sym (append-nil c.routes.taken.items) ∙ ap (λ es. c.routes.taken.items ++ map (λ e. e.1) es) (sym left) ∙ c.routes.invariant.taken
+    let left = none g (goal.at.returns-clause-taken g c).In_default in grind (arith, common_steps)
 
 -- without keys there are no routes
 pub returns-then-key_count-eq0-clause-routes : goal.returns-then-key_count-eq0-clause-routes
@@ -80,20 +68,16 @@ returns-then-key_count-eq0-clause-taken g c =
 -- it goes behind those that were taken
 pub routes-preserved : goal.routes-preserved
 routes-preserved g c =
-    let b = (goal.at.routes-preserved g c).In-Some in
     let left = g.Self.PrefixStore.routes c.routes.self in
-    let first = one g b in
+    let first = one g (goal.at.routes-preserved g c).In-Some in
     let given = c.exchange.ensures.given ∙ first.there in
-    let later : (r : _) → Some r ≡ Some c.in-Some.next.1.now → r ∷ finite.values (g.Self.PrefixStore.routes c.exchange.new.self) ≡ finite.values left =
-    λ r e. ap₂ (λ x s. x ∷ finite.values s) (same_Some r _ e) c.exchange.ensures.routes ∙ sym (ap (map (λ e. e.1)) first.all) in
     let among = among-less (g.Self.PrefixStore.keys c.routes.self) _ left _ c.in-Some.next.0 c.exchange.ensures.keys c.exchange.ensures.routes c.routes.invariant.among in
+    let all = ap (map (λ e. e.1)) first.all ∙ ap (λ r. c.in-Some.next.1.now ∷ finite.values r) (sym c.exchange.ensures.routes) in
     elim c.match-route.branch [
       | in-Some-route w ↦ record {
         keys = c.exchange.ensures.keys ∙ c.routes.invariant.keys;
-        taken = ap (λ (xs : List _). xs ++ finite.values (g.Self.PrefixStore.routes c.exchange.new.self)) (ap (λ v. v.items) w.taken-is ∙ w.push_reserved.ensures.items)
-            ∙ append_assoc c.routes.taken.items (w.in-Some-route.route ∷ []) (finite.values (g.Self.PrefixStore.routes c.exchange.new.self))
-            ∙ ap (λ es. c.routes.taken.items ++ es) (later w.in-Some-route.route (sym w.in-Some-route.is ∙ given)) ∙ c.routes.invariant.taken;
-        above = subst (λ r. above (Some c.in-Some.next.0) (finite.entries r) ≡ finite.entries r) (sym c.exchange.ensures.routes) first.rest;
+        taken = let same = same_Some w.in-Some-route.route c.in-Some.next.1.now (sym w.in-Some-route.is ∙ given) in grind (arith, common_steps);
+        above = rw c.exchange.ensures.routes first.rest;
         among = among;
         room = ap vec_capacity w.taken-is ∙ w.push_reserved.ensures.capacity ∙ c.routes.invariant.room;
       }

@@ -1,0 +1,14 @@
+-- What is filled was taken from the input, and each turn fills more.
+use Rattle.std.proofs.Common.{take, ◌-◌, ◌≡◌, ◌≤◌}
+use Rattle.mrt_frames.specs.Device.{Takes}
+use Rattle.mrt_frames.proofs.buffer.fill_within.Given as goal
+
+abbrev pub invariant-loop-filled : goal.invariant-loop-filled
+invariant-loop-filled g l = record {
+  within : l.filled ≤ l.end;
+  octets : Takes (g.I.Input.left l.initial.input) (g.I.Input.left l.input) l.initial.taken l.taken (take l.filled l.buffer);
+  failed : g.I.Input.failed l.input ≡ g.I.Input.failed l.initial.input;
+}
+
+abbrev pub decreases-loop-filled : goal.decreases-loop-filled
+decreases-loop-filled g l = l.end - l.filled
