@@ -1,7 +1,6 @@
 -- Players that play, undo and redo: where they stand, and what their table is.
-use Rattle.std.proofs.Common.{◌≡◌, ℕ, zero, suc, ◌+◌, ◌-◌, ◌<◌, ◌≤◌, List, [], ◌∷◌, ◌++◌, map, replicate, length, take, nat_lt, refl, sym, ap, ◌∙◌, append_assoc, append-nil, take-take, length-take-le, arith, lt-ltb}
+use Rattle.std.proofs.Common.{◌≡◌, ℕ, zero, suc, ◌+◌, ◌-◌, ◌<◌, ◌≤◌, List, [], ◌∷◌, ◌++◌, map, replicate, length, take, nat_lt, refl, sym, ap, ◌∙◌, append_assoc, append-nil, take-take, length-take-le, arith, lt-ltb, take_at}
 use Rattle.std.proofs.lemmas.Bool.{cond-true}
-use Rattle.std.proofs.lemmas.List.{take_at}
 use Rattle.mrt_events.specs.declared.event.Event.{Event}
 use Rattle.rib_player.specs.Tables.{table}
 use Rattle.rib_player.specs.Timeline.{Timeline, end_of, table_at, current, after_play}

@@ -1,11 +1,9 @@
 -- What is noted of an event's items and of lost peers' pairs, step by step.
-use Rattle.std.proofs.Common.{◌≡◌, ℕ, suc, ◌+◌, ◌-◌, ◌<◌, ◌≤◌, ◌++◌, Bool, true, false, cond, ◌&&◌, ◌||◌, List, [], ◌∷◌, map, take, get_or, length, drop, drop-cons, Option, Some, None, IfSome, slice_get, refl, sym, subst, ap, ap₂, ◌∙◌, arith}
+use Rattle.std.proofs.Common.{◌≡◌, ℕ, suc, ◌+◌, ◌-◌, ◌<◌, ◌≤◌, ◌++◌, Bool, true, false, cond, ◌&&◌, ◌||◌, List, [], ◌∷◌, map, take, get_or, length, drop, drop-cons, Option, Some, None, IfSome, slice_get, refl, sym, subst, ap, ap₂, ◌∙◌, arith, Bor, Global}
 use Rattle.std.specs.List.{AllByRecursion, list_any}
 use Rattle.std.proofs.lemmas.List.{drop-drop, take-append-drop, get_or-map, length-map}
 use Rattle.std.proofs.lemmas.List.Elements.{All-get_or}
 use Rattle.std.specs.Ordering.{eq_by_cmp}
-use Rattle.std.specs.Borrow.{Bor}
-use Rattle.std.specs.declared.alloc.Global.{Global}
 use Rattle.std.specs.declared.rc.Rc.{Rc}
 use Rattle.octet_forms.proofs.Lists.{AllByRecursion-from_get_or, AllByRecursion-get_or}
 use Rattle.mrt_events.specs.declared.peer.Peer.{Peer}

@@ -1,9 +1,9 @@
 -- Claims that are counted, key by key, prefix by prefix and pair by pair.
-use Rattle.std.proofs.Common.{◌≡◌, ℕ, ◌-◌, ◌^◌, ◌<◌, ◌≤◌, ◌++◌, Bool, true, false, cond, ◌&&◌, List, length, take, replicate, Option, refl, sym, ap, ap₂, subst, ◌∙◌, arith}
+use Rattle.std.proofs.Common.{◌≡◌, ℕ, ◌-◌, ◌^◌, ◌<◌, ◌≤◌, ◌++◌, Bool, true, false, cond, ◌&&◌, List, length, take, replicate, Option, refl, sym, ap, ap₂, subst, ◌∙◌, arith, Ordering}
+use Rattle.std.specs.Prelude.{unwrap_or}
 use Rattle.std.specs.BTreeMap as tree
 use Rattle.std.specs.Map.{lookup}
 use Rattle.std.specs.HashMap.Eq.{lookup_congr}
-use Rattle.std.specs.declared.cmp.Ordering.{Ordering}
 use Rattle.std.specs.Ordering.{eq_by_cmp, nat_cmp}
 use Rattle.std.specs.Cmp.{IsTotalOrder, eq_by_cmp_equiv, Equal-is}
 use Rattle.std.specs.FinMap.{nat_cmp-IsAntisymmetric}
@@ -21,8 +21,7 @@ use Rattle.mrt_events.specs.declared.peer.Peer.{Peer}
 use Rattle.rib_player.specs.declared.pair.Pair.{Pair}
 use Rattle.rib_player.specs.declared.claims.Counts.{Counts}
 use Rattle.rib_player.specs.declared.claims.TheConstants.{ADDRESSES}
-use Rattle.rib_player.specs.Counts.{count_kept, count_at, count_of, v4_key, by_family}
-use Rattle.rib_player.specs.Claims.{count_of_peer}
+use Rattle.rib_player.specs.Claims.{count_at, count_of, v4_key, by_family, count_of_peer}
 use Rattle.rib_player.specs.Holding.{IsWritten}
 use Rattle.rib_player.proofs.MarkLaws.{tied}
 use Rattle.rib_player.proofs.StoreLaws.{same_peer, same_network, one_peer, peer_symm, tied_parts}
@@ -32,12 +31,12 @@ use Rattle.rib_player.proofs.StoreLaws.{same_peer, same_network, one_peer, peer_
 module _ {K : Type 0} {cmp : K → K → Ordering} (total : IsTotalOrder cmp) where
   -- what stands for a key is another
   pub count-written : (counts counts' : tree.BTreeMap K ℕ) (key k : K) (w : Option ℕ) → tree.get cmp counts' k ≡ cond (eq_by_cmp cmp key k) w (tree.get cmp counts k)
-      → count_at cmp counts' k ≡ cond (eq_by_cmp cmp k key) (count_kept w) (count_at cmp counts k)
+      → count_at cmp counts' k ≡ cond (eq_by_cmp cmp k key) (unwrap_or w 0) (count_at cmp counts k)
   count-written counts counts' key k w written = let turned = (eq_by_cmp_equiv total).symm key k in grind arith
 
   -- keys that tie have one count
   same-count : (counts : tree.BTreeMap K ℕ) (k key : K) → eq_by_cmp cmp k key ≡ true → count_at cmp counts k ≡ count_at cmp counts key
-  same-count counts k key e = ap count_kept (lookup_congr (eq_by_cmp cmp) (eq_by_cmp_equiv total).congr counts.entries k key e)
+  same-count counts k key e = ap (λ o. unwrap_or o 0) (lookup_congr (eq_by_cmp cmp) (eq_by_cmp_equiv total).congr counts.entries k key e)
 
   -- where another count stands for the key, what holds of it there and of the others elsewhere holds of each
   pub counted : (counts counts' : tree.BTreeMap K ℕ) (key : K) (v : ℕ) (R : ℕ → ℕ → Bool → Type 0) → R v (count_at cmp counts key) true → ((m : ℕ) → R m m false)

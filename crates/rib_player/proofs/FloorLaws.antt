@@ -1,6 +1,5 @@
 -- What forgetting steps makes of a player's timeline.
-use Rattle.std.proofs.Common.{◌≡◌, ℕ, ◌+◌, ◌-◌, ◌≤◌, min, slice_index_or, ap, ◌∙◌, arith}
-use Rattle.std.proofs.lemmas.List.{get_or-drop, drop-drop}
+use Rattle.std.proofs.Common.{◌≡◌, ℕ, ◌+◌, ◌-◌, ◌≤◌, min, slice_index_or, ap, ◌∙◌, arith, get_or-drop, drop-drop}
 use Rattle.std.specs.FinMap as finite
 use Rattle.rib_player.specs.Timeline.{Timeline, table_at, current}
 use Rattle.rib_player.specs.Calls.{without_first, forgettable, after_forget}

@@ -1,9 +1,7 @@
 -- What stands in a list of which an element was written, added or taken out.
-use Rattle.std.proofs.Common.{◌≡◌, ◌≢◌, ℕ, zero, suc, ◌+◌, ◌-◌, ◌<◌, ◌≤◌, true, List, [], ◌∷◌, ◌++◌, map, set, length, get_or, Option, Some, None, is_some, slice_get, refl, sym, ap, ◌∙◌, arith}
-use Rattle.std.specs.Borrow.{Bor}
+use Rattle.std.proofs.Common.{◌≡◌, ◌≢◌, ℕ, zero, suc, ◌+◌, ◌-◌, ◌<◌, ◌≤◌, true, List, [], ◌∷◌, ◌++◌, map, set, length, get_or, Option, Some, None, is_some, slice_get, refl, sym, ap, ◌∙◌, arith, Bor, option_map, option_copied}
 use Rattle.std.specs.List.{AllByRecursion}
 use Rattle.std.specs.Slice.{IsItemAt}
-use Rattle.std.specs.Option.{option_map, option_copied}
 use Rattle.std.proofs.lemmas.List.{length-map, length-set, get_or-set_same}
 use Rattle.std.proofs.lemmas.Option.{slice_get-map, slice_get-get_or, slice_get_past}
 

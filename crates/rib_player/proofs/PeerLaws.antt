@@ -1,16 +1,13 @@
 -- The routes of one peer, those above a prefix, and the peers that have a route.
-use Rattle.std.proofs.Common.{◌≡◌, ℕ, ◌<◌, ◌≤◌, Bool, true, false, cond, T, ◌&&◌, ◌||◌, nat_lt, List, [], ◌∷◌, map, take, length, Option, Some, None, is_some, slice_get, Bor, refl, sym, ap, ap₂, subst, ◌∙◌, arith}
+use Rattle.std.proofs.Common.{◌≡◌, ℕ, ◌<◌, ◌≤◌, Bool, true, false, cond, T, ◌&&◌, ◌||◌, nat_lt, List, [], ◌∷◌, map, take, length, Option, Some, None, is_some, slice_get, Bor, refl, sym, ap, ap₂, subst, ◌∙◌, arith, option_map, Less, Global}
 use Rattle.std.specs.List.{list_any, filter, AllByRecursion}
 use Rattle.std.specs.List.Sorted.{IsStrictlySortedBy}
 use Rattle.std.specs.Map.{keys_of}
-use Rattle.std.specs.Option.{option_map}
 use Rattle.std.specs.Ordering.{eq_by_cmp, is_eq, is_lt}
-use Rattle.std.specs.declared.cmp.Ordering.TheVariants.{Less}
 use Rattle.std.specs.Cmp.{eq_by_cmp_equiv, tied_itself}
 use Rattle.std.specs.FinMap as finite
 use Rattle.std.specs.FinMap.{same_map, contains_key-keys, get-empty, get-entries, get-from_entries, len-entries, len-empty}
 use Rattle.std.specs.FinMap.Entries.{find, is_sorted, below_all, same_entries}
-use Rattle.std.specs.declared.alloc.Global.{Global}
 use Rattle.std.specs.declared.rc.Rc.{Rc}
 use Rattle.std.proofs.lemmas.Map.Keys.{sorted_head, sorted_tail}
 use Rattle.std.proofs.lemmas.Bool.{and_parts, lt-ltb, le-ltb}

@@ -1,6 +1,6 @@
 -- What the stores of all peers hold together, pair by pair.
 pub use Rattle.std.proofs.lemmas.Option.{same_Some as one_of}
-use Rattle.std.proofs.Common.{◌≡◌, ℕ, zero, suc, ◌+◌, ◌<◌, Bool, true, false, cond, not, ◌||◌, ◌&&◌, List, [], ◌∷◌, map, Option, Some, None, IfSome, IfNone, Result, Ok, Err, OnOk, OnErr, OnSome, Bor, MutBor, refl, sym, ap, subst, ◌∙◌, arith}
+use Rattle.std.proofs.Common.{◌≡◌, ℕ, zero, suc, ◌+◌, ◌<◌, Bool, true, false, cond, not, ◌||◌, ◌&&◌, List, [], ◌∷◌, map, Option, Some, None, IfSome, IfNone, Result, Ok, Err, OnOk, OnErr, OnSome, Bor, MutBor, refl, sym, ap, subst, ◌∙◌, arith, Global}
 use Rattle.std.specs.List.{list_any, flat_map, filter}
 use Rattle.std.specs.Option.{option_map, option_copied, option_copied_mut}
 use Rattle.std.specs.Ordering.{eq_by_cmp}
@@ -9,7 +9,6 @@ use Rattle.std.specs.FinMap as finite
 use Rattle.std.specs.FinMap.{contains_key-keys}
 use Rattle.std.specs.FinSet as set
 use Rattle.std.specs.FinSet.{contains-from_list, contains-insert, contains-remove, contains-items, contains-empty, same_set, len-insert}
-use Rattle.std.specs.declared.alloc.Global.{Global}
 use Rattle.std.specs.declared.rc.Rc.{Rc}
 use Rattle.std.proofs.lemmas.List.Folds.{list_any-append}
 use Rattle.std.proofs.lemmas.Map.Views.{any-filter_same}

@@ -1,8 +1,7 @@
 -- Players that stand for histories: what they have at each position, and which history they stand for after calls.
-use Rattle.std.proofs.Common.{◌≡◌, ℕ, ◌+◌, ◌-◌, ◌≤◌, List, [], ◌∷◌, ◌++◌, option_map, length, take, drop, slice_get, slice_index_or, nat_lt, refl, sym, ap, ap₂, ◌∙◌, append_assoc, length-drop, length-take-le, add-one, add-sub_of_le, arith}
+use Rattle.std.proofs.Common.{◌≡◌, ℕ, ◌+◌, ◌-◌, ◌≤◌, List, [], ◌∷◌, ◌++◌, option_map, length, take, drop, slice_get, slice_index_or, nat_lt, refl, sym, ap, ap₂, ◌∙◌, append_assoc, length-drop, length-take-le, add-one, add-sub_of_le, arith, take-add}
 use Rattle.std.proofs.lemmas.Bool.{cond_both, ltb-true}
 use Rattle.std.proofs.lemmas.List.{length_push, drop-drop}
-use Rattle.std.proofs.Math.Seq.{take-add}
 use Rattle.std.specs.FinMap as finite
 use Rattle.rib_player.specs.declared.pair.Pair.{Pair}
 use Rattle.mrt_events.specs.declared.event.Event.{Event}

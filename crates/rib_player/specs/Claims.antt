@@ -1,20 +1,31 @@
 -- Private.
 -- How often a player's timeline claims a pair: the pair is wanted exactly where it is claimed.
-use Rattle.std.specs.Prelude.{◌≡◌, ℕ, ◌+◌, ◌-◌, Bool, false, ◌&&◌, not, List, [], ◌∷◌, Option, Some, None, is_some, length, take}
+use Rattle.std.specs.Prelude.{◌≡◌, ℕ, ◌+◌, ◌-◌, ◌*◌, Bool, true, false, ◌&&◌, not, List, [], ◌∷◌, ◌++◌, Option, is_some, unwrap_or, length, take, replicate}
 use Rattle.std.specs.BTreeMap as tree
+use Rattle.std.specs.Option.{option_map_or}
+use Rattle.std.specs.declared.cmp.Ordering.{Ordering}
+use Rattle.std.specs.Ordering.{nat_cmp}
 use Rattle.std.specs.FinMap as finite
 use Rattle.std.specs.FinSet as set
+use Rattle.ip_prefix.specs.declared.addr.Family.{Family}
+use Rattle.ip_prefix.specs.declared.addr.Family.TheVariants.{V4, V6}
+use Rattle.ip_prefix.specs.declared.addr.TheConstants.{V4_BITS, V6_BITS}
+use Rattle.ip_prefix.specs.Bits.{number_of}
 use Rattle.ip_prefix.specs.Network.{Network}
+use Rattle.ip_prefix.specs.Order.{network_cmp}
 use Rattle.mrt_events.specs.declared.event.Event.{Event}
 use Rattle.mrt_events.specs.Peer.{peer_cmp}
-pub use Rattle.rib_player.specs.Counts.{one_if}
-use Rattle.rib_player.specs.Counts.{count_of}
 use Rattle.rib_player.specs.declared.claims.Claims.{Claims}
 use Rattle.rib_player.specs.declared.claims.Counts.{Counts}
+use Rattle.rib_player.specs.declared.claims.TheConstants.{ADDRESSES}
 use Rattle.rib_player.specs.declared.pair.Pair.{Pair}
 use Rattle.rib_player.specs.Store.{Contents}
 use Rattle.rib_player.specs.Tables.{Routes, Pairs, table_after}
 use Rattle.rib_player.specs.Timeline.{Timeline, table_at, current, end_of}
+
+abbrev pub one_if : Bool → ℕ
+one_if true = 1
+one_if false = 0
 
 -- the pair has a route
 abbrev pub is_routed : Pair → Routes → Bool
@@ -60,9 +71,24 @@ without_last t = record t {
   steps = take (length t.steps - 1) t.steps;
 }
 
+-- the count that is kept for a key, or none
+abbrev pub count_at : {K : Type 0} → (K → K → Ordering) → tree.BTreeMap K ℕ → K → ℕ
+count_at cmp counts key = unwrap_or (tree.get cmp counts key) 0
+
+-- a prefix of IPv4 as a number: its bits, filled with zeros, and above them how many they are
+abbrev pub v4_key : Network → ℕ
+v4_key n = length n.bits * ADDRESSES + number_of (take V4_BITS (n.bits ++ replicate (V6_BITS - length n.bits) false))
+
+abbrev pub by_family : {A : Type 0} → Family → A → A → A
+by_family V4 a b = a
+by_family V6 a b = b
+
+-- how often a prefix is counted
+abbrev pub count_of : Counts → Network → ℕ
+count_of counts n = by_family n.family (count_at nat_cmp counts.v4 (v4_key n)) (count_at network_cmp counts.v6 n)
+
 abbrev pub count_of_peer : Option Counts → Network → ℕ
-count_of_peer None prefix = 0
-count_of_peer (Some counts) prefix = count_of counts prefix
+count_of_peer counts prefix = option_map_or (λ counts. count_of counts prefix) counts 0
 
 -- how many claims of a pair are kept besides its key
 abbrev pub claims_beyond : Claims → Pair → ℕ

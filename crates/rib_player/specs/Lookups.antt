@@ -1,8 +1,7 @@
 -- Private.
 -- What is asked of a table: the best route, and the peers that have one.
-use Rattle.std.specs.Prelude.{ℕ, nat_lt, List, map, Option}
+use Rattle.std.specs.Prelude.{ℕ, nat_lt, List, map, Option, filter}
 use Rattle.std.specs.Borrow.{Bor}
-use Rattle.std.specs.List.{filter}
 use Rattle.std.specs.declared.rc.Rc.{Rc}
 use Rattle.std.specs.FinMap as finite
 use Rattle.std.specs.declared.alloc.Global.{Global}

@@ -1,7 +1,5 @@
 -- What a table holds: its keys, and the routes that some of them have; and how it holds them, in one store for each peer.
-use Rattle.std.specs.Prelude.{Bool, false, List, map, Option, Some, None}
-use Rattle.std.specs.List.{flat_map, filter}
-use Rattle.std.specs.Option.{option_map}
+use Rattle.std.specs.Prelude.{Bool, false, List, map, Option, Some, None, flat_map, filter, option_map}
 use Rattle.std.specs.Map.{lookup}
 use Rattle.std.specs.Ordering.{eq_by_cmp}
 use Rattle.std.specs.declared.rc.Rc.{Rc}

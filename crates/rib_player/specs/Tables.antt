@@ -1,6 +1,5 @@
 -- Tables of routes: the table of a history, an event applied to a table, and the pairs that it names.
-use Rattle.std.specs.Prelude.{Bool, true, false, ◌&&◌, ◌||◌, not, List, [], ◌∷◌, ◌++◌, Option, is_some}
-use Rattle.std.specs.List.{flat_map, filter}
+use Rattle.std.specs.Prelude.{Bool, true, false, ◌&&◌, ◌||◌, not, List, [], ◌∷◌, ◌++◌, Option, is_some, flat_map, filter}
 use Rattle.std.specs.FinMap.{FinMap, empty, get, keys}
 use Rattle.std.specs.FinSet.{FinSet, from_list}
 use Rattle.prefix_store.specs.Stored.{put}

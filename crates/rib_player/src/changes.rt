@@ -56,15 +56,6 @@ impl Changes {
         Ok(())
     }
 
-    /// Notes that the peer has no routes any more.
-    fn note_loss(&mut self, peer: Peer) -> Result<(), AllocError>
-        ensures { OnOk result ((q : Pair) → noted_effect self.new q
-            ≡ later (where_true (eq_by_cmp peer_cmp q.peer peer) Clear) (noted_effect self.old q)) }
-    {
-        self.lost.insert(peer)?;
-        Ok(())
-    }
-
     /// The peer whose lost session is all that is noted, where it is that.
     pub(crate) fn only_loss(&self) -> Option<Peer>
         ensures some { IfSome result (λ peer.
@@ -101,7 +92,7 @@ impl Changes {
             Item::Withdraw(peer, prefix) => self.note_route(table, peer, prefix, None),
             Item::State(peer, old, new) => {
                 if *old == ESTABLISHED && *new != ESTABLISHED {
-                    self.note_loss(*peer)?;
+                    self.lost.insert(*peer)?;
                 }
                 Ok(())
             }

@@ -19,8 +19,7 @@ ghost use Rattle.rib_player.specs.Store.{route_in};
 ghost use Rattle.rib_player.specs.Journal.{sides_of};
 ghost use Rattle.rib_player.specs.Sides.{AreDistinct};
 ghost use Rattle.rib_player.specs.Marks.{mark_of, marks_of, gives_up_at, gives_up_by};
-ghost use Rattle.rib_player.specs.Counts.{one_if, count_at, count_of, v4_key};
-ghost use Rattle.rib_player.specs.Claims.{claims_beyond, claims_in, AreHeld};
+ghost use Rattle.rib_player.specs.Claims.{one_if, count_at, count_of, v4_key, claims_beyond, claims_in, AreHeld};
 
 use crate::entry::{End, Entry};
 use crate::pair::Pair;
@@ -124,24 +123,8 @@ pub(crate) fn put_entry<S: PrefixStore<Rc<Route>>>(
     Ok(())
 }
 
-/// Gives up a claim of the pair: one beyond the key, where there is one, or else the key.
-fn give_up<S: PrefixStore<Rc<Route>>>(table: &mut Table<S>, claims: &mut Claims, pair: &Pair)
-    requires held { AreHeld table.old.keys (claims_beyond claims.old) }
-    requires key { set.contains table.old.keys pair.now ≡ true }
-    requires free { claims_beyond claims.old pair.now ≡ 0 →
-        finite.get table.old.routes pair.now ≡ None }
-    ensures held { AreHeld table.new.keys (claims_beyond claims.new) }
-    ensures claimed { (q : Pair) → claims_in table.new claims.new q
-        + one_if (eq_by_cmp pair_cmp q pair.now)
-        ≡ claims_in table.old claims.old q }
-    ensures routes { table.new.routes ≡ table.old.routes }
-{
-    if !claims.take(pair) {
-        table.discard(pair);
-    }
-}
-
-/// Gives up the claims that go with a step at this end. It takes no memory.
+/// Gives up the claims that go with a step at this end: of each pair one beyond the key, where there
+/// is one, or else the key. It takes no memory.
 pub(crate) fn give_up_claims<S: PrefixStore<Rc<Route>>>(
     table: &mut Table<S>,
     claims: &mut Claims,
@@ -162,7 +145,10 @@ pub(crate) fn give_up_claims<S: PrefixStore<Rc<Route>>>(
 {
     'entries: for entry in entries {
         if entry.gives_up(end) {
-            give_up(table, claims, &entry.pair());
+            let pair = entry.pair();
+            if !claims.take(&pair) {
+                table.discard(&pair);
+            }
         }
     }
 }

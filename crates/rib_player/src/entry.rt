@@ -1,7 +1,6 @@
 //! The entries of steps, in little memory.
 
-ghost use Rattle.std.specs.Prelude.{◌≡◌, None, IfOk};
-ghost use Rattle.std.specs.Option.{option_copied};
+ghost use Rattle.std.specs.Prelude.{◌≡◌, None, IfOk, option_copied};
 ghost use Rattle.rib_player.specs.History.{pair_of};
 ghost use Rattle.rib_player.specs.Kept.{new_entry, entry_kept, IsWhole};
 ghost use Rattle.rib_player.specs.Marks.{mark_of, gives_up};

@@ -1,6 +1,6 @@
 //! The steps that are kept, so that they can be undone and redone.
 
-ghost use Rattle.std.specs.Prelude.{◌≡◌, ◌+◌, ◌<◌, ◌≤◌, ◌||◌, true, is_some, length, take, IfSome, OnOk, OnErr};
+ghost use Rattle.std.specs.Prelude.{◌≡◌, ◌+◌, ◌<◌, ◌≤◌, ◌||◌, true, false, is_some, length, take, IfSome, OnOk, OnErr};
 ghost use Rattle.std.specs.List.{AllByRecursion, sum_by};
 ghost use Rattle.std.specs.VecDeque.{deque_len, deque_capacity};
 ghost use Rattle.std.specs.FinMap as finite;
@@ -16,7 +16,6 @@ ghost use Rattle.rib_player.specs.Played.{IsCrossed, CanDrop, StayClaimed};
 
 use crate::claims::{Claims, give_up_claims, put_entry};
 use crate::entry::{End, Entry, Step};
-use crate::losses::take_peer_routes;
 use crate::reaching::{Reached, reach_entries, reach_steps};
 use crate::room::{LEAST_ROOM, MOST_TIMES};
 use crate::table::Table;
@@ -35,17 +34,6 @@ pub(crate) struct Journal {
     pub(crate) cursor: usize,
     /// How many were forgotten.
     pub(crate) floor: u64,
-}
-
-/// How many pairs the steps name, in all.
-pub(crate) fn named_by(steps: &VecDeque<Step>) -> u64
-    ensures { result ≡ counted (sum_by entry_count steps.now.items) }
-{
-    let mut total = 0u64;
-    'steps: for index in 0..steps.len() {
-        total = total.saturating_add(steps[index].entries.len() as u64);
-    }
-    total
 }
 
 /// Goes from one side of a step to the other. The routes of the table and of the entries change
@@ -82,6 +70,37 @@ pub(crate) fn cross_step<S: PrefixStore<Rc<Route>>>(
     table.note_passed(passed);
     let step = &mut steps[index];
     cross(table, step.entries.as_mut_slice());
+}
+
+/// Goes from one side of a new step to the other that clears all routes of a peer, and does nothing
+/// else: the table's routes become those of the entries. So it passes by each node of the peer's store
+/// once. Refused, the table is as it was.
+pub(crate) fn take_peer_routes<S: PrefixStore<Rc<Route>>>(
+    alloc: Global,
+    table: &mut Table<S>,
+    peer: &Peer,
+    entries: &mut [Entry],
+) -> Result<(), AllocError>
+    requires { ClearAllOf table.old.routes peer.now (sides_of entries.old) }
+    ensures keys { table.new.keys ≡ table.old.keys }
+    ensures routes { OnOk result
+        (table.new.routes ≡ routes_across (sides_of entries.old) table.old.routes) }
+    ensures sides { OnOk result
+        (sides_of entries.new ≡ sides_across table.old.routes (sides_of entries.old)) }
+    ensures marks { OnOk result
+        (marks_of entries.new ≡ marks_across table.old.routes (sides_of entries.old)) }
+    ensures unbrought { OnOk result ((q : Pair) →
+        gives_up_by Last (marks_of entries.new) q ≡ false) }
+    ensures kept { OnErr result (table.new.routes ≡ table.old.routes) }
+{
+    let mut routes = Vec::with_capacity(alloc, entries.len())?;
+    table.take_routes(peer, &mut routes);
+    let mut index = 0;
+    'routes: for route in routes {
+        entries[index].note_cleared(route);
+        index += 1;
+    }
+    Ok(())
 }
 
 /// Goes from one side of a new step to the other, with the claims that it makes, or at once where it

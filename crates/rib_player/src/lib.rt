@@ -6,7 +6,6 @@ mod claims;
 mod entry;
 mod journal;
 mod laws;
-mod losses;
 mod numbered_peer;
 mod pair;
 mod player;

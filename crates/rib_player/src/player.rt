@@ -1,8 +1,7 @@
 //! A routing table per peer that is played forwards and backwards, event by event.
 
-ghost use Rattle.std.specs.Prelude.{◌≡◌, ◌<◌, ◌↔◌, IfOk, OnOk, OnErr, IsOk};
+ghost use Rattle.std.specs.Prelude.{◌≡◌, ◌<◌, ◌↔◌, IfOk, OnOk, OnErr, IsOk, sum_by};
 ghost use Rattle.std.specs.FinSet as set;
-ghost use Rattle.std.specs.List.{sum_by};
 ghost use Rattle.prefix_store.specs.Stored.{counted};
 ghost use Rattle.prefix_store.specs.declared.store.TheConstants.{GREATEST_COUNT};
 ghost use Rattle.rib_player.specs.Timeline.{ahead_of, end_of, current, after_play};
@@ -11,9 +10,7 @@ ghost use Rattle.rib_player.specs.Wanted.{wanted, IsWellFormed};
 
 use crate::claims::{Claims, give_up_claims};
 use crate::entry::{End, Step};
-use crate::journal::{
-    Journal, cross_step, drop_ahead, let_go_of, make_room, named_by, put_entries,
-};
+use crate::journal::{Journal, cross_step, drop_ahead, let_go_of, make_room, put_entries};
 use crate::reaching::{Reached, STEPS_TOGETHER};
 use crate::steps::step_for;
 use crate::stores::Marks;
@@ -127,7 +124,12 @@ impl<S: PrefixStore<Rc<Route>>> Player<S> {
     pub fn named(&self) -> u64
         ensures { result ≡ counted (sum_by set.len self.now.steps) }
     {
-        named_by(&self.journal.steps)
+        let steps = &self.journal.steps;
+        let mut total = 0u64;
+        'steps: for index in 0..steps.len() {
+            total = total.saturating_add(steps[index].entries.len() as u64);
+        }
+        total
     }
 
     /// The table at the cursor.

@@ -1,25 +1,71 @@
-//! The entries of a step: each pair once.
+//! The entries of a step: each pair once, and those of a lost session from its store.
 
-ghost use Rattle.std.specs.Prelude.{◌≡◌, ◌↔◌, IsTrue, ◌||◌, ◌&&◌, IfOk, IfSome, false, is_some};
+ghost use Rattle.std.specs.Prelude.{◌≡◌, ◌++◌, IsTrue, IfOk, OnOk, IfSome, None, false, map};
 ghost use Rattle.std.specs.List.{AllByRecursion};
 ghost use Rattle.std.specs.Ordering.{eq_by_cmp};
-ghost use Rattle.std.specs.declared.cmp.Ordering.TheVariants.{Less};
 ghost use Rattle.rib_player.specs.declared.pair.Pair.{Pair};
 ghost use Rattle.rib_player.specs.History.{pair_cmp};
 ghost use Rattle.rib_player.specs.Changes.{found, found_then};
 ghost use Rattle.rib_player.specs.Journal.{sides_of};
-ghost use Rattle.rib_player.specs.Sides.{ClearAllOf, AreDistinct, IsStepFor};
+ghost use Rattle.rib_player.specs.Sides.{cleared_side, ClearAllOf, AreDistinct, IsStepFor};
 
-use crate::changes::{Changes, changes_of};
+use crate::changes::{Changes, changes_of, shared_peer};
 use crate::entry::Entry;
-use crate::losses::lost_entries;
+use crate::numbered_peer::NumberedPeer;
 use crate::stores::Marks;
 use crate::table::Table;
+use ip_prefix::Prefix;
 use known_routes::KnownRoutes;
 use mrt_events::{Event, Peer, Route, same_peer, same_prefix};
 use prefix_store::PrefixStore;
 use std::alloc::{AllocError, Global};
 use std::rc::Rc;
+
+/// How many routes of a lost session are asked for at once.
+const MANY: usize = 64;
+
+/// Appends the entries of the pairs of a peer that have these routes, and none then.
+fn add_cleared(
+    alloc: Global,
+    peer: &Rc<NumberedPeer>,
+    found: &[(Prefix, &Rc<Route>)],
+    entries: &mut Vec<Entry>,
+) -> Result<(), AllocError>
+    ensures { OnOk result (sides_of entries.new.items ≡ sides_of entries.old.items
+        ++ map (λ f. cleared_side peer.now.value f.0) found.now) }
+{
+    'routes: for entry in found {
+        entries.push(Entry::new(alloc, peer.clone()?, &entry.0, None)?)?;
+    }
+    Ok(())
+}
+
+/// The entries of all pairs of a peer that have a route, and none then: many at a time.
+pub(crate) fn lost_entries<S: PrefixStore<Rc<Route>>>(
+    alloc: Global,
+    peer: &Peer,
+    table: &Table<S>,
+) -> Result<Vec<Entry>, AllocError>
+    ensures { IfOk result (λ entries.
+        ClearAllOf table.now.routes peer.now (sides_of entries.items)) }
+{
+    let Some(store) = table.store(peer) else {
+        return Ok(Vec::new(alloc));
+    };
+    let shared = shared_peer(alloc, table, None, peer)?;
+    let count = store.route_count() as usize;
+    let mut entries = Vec::with_capacity(alloc, count)?;
+    let mut found = Vec::with_capacity(alloc, count.min(MANY).max(1))?;
+    let mut last = None;
+    'routes: loop {
+        store.next_routes(last.as_ref(), &mut found);
+        let Some(end) = found.last() else {
+            return Ok(entries);
+        };
+        last = Some(end.0);
+        add_cleared(alloc, &shared, &found, &mut entries)?;
+    }
+}
 
 /// The entries of the pairs that the event may name, with the route that they have then. Of those
 /// of a pair the first counts.
@@ -48,21 +94,13 @@ fn entries_then<S: PrefixStore<Rc<Route>>>(
 /// How many entries are compared with each other at most.
 const FEW: usize = 8;
 
-/// Whether two entries are of one pair.
-#[inline]
-fn are_of_one_pair(one: &Entry, other: &Entry) -> bool
-    ensures { IsTrue result ↔ (one.now.pair ≡ other.now.pair) }
-{
-    same_prefix(&one.prefix(), &other.prefix()) && same_peer(one.peer(), other.peer())
-}
-
 /// Whether one of these is of the entry's pair.
 fn has_pair(entries: &[Entry], entry: &Entry) -> bool
     ensures { result ≡ false → AllByRecursion
         (λ side. eq_by_cmp pair_cmp side.0 entry.now.pair ≡ false) (sides_of entries.now) }
 {
     'entries: for other in entries {
-        if are_of_one_pair(other, entry) {
+        if same_prefix(&other.prefix(), &entry.prefix()) && same_peer(other.peer(), entry.peer()) {
             return true;
         }
     }
@@ -81,16 +119,8 @@ fn are_different(entries: &[Entry]) -> bool
     true
 }
 
-/// Whether the entry is of the other's peer, and of a prefix below the other's.
-#[inline]
-fn is_below(entry: &Entry, other: &Entry) -> bool
-    ensures { IsTrue result → pair_cmp entry.now.pair other.now.pair ≡ Less }
-{
-    same_peer(entry.peer(), other.peer()) && entry.prefix() < other.prefix()
-}
-
-/// Whether each of these is known to be below the one before it, as those of a message are whose
-/// prefixes stand in order, since the last is noted first.
+/// Whether each of these is of the peer of the one before it, and of a prefix below that one's, as
+/// those of a message are whose prefixes stand in order, since the last is noted first.
 fn are_falling(entries: &[Entry]) -> bool
     ensures { IsTrue result → AreDistinct (sides_of entries.now) }
 {
@@ -99,7 +129,7 @@ fn are_falling(entries: &[Entry]) -> bool
     };
     let mut last = first;
     'entries: for entry in rest {
-        if !is_below(entry, last) {
+        if !same_peer(entry.peer(), last.peer()) || entry.prefix() >= last.prefix() {
             return false;
         }
         last = entry;
@@ -140,8 +170,8 @@ pub(crate) struct NewStep {
     pub(crate) lost: Option<Peer>,
 }
 
-/// The event's step over a table, which names pairs that have a route before or then. The entries of a lost session alone, which may be many, are walked
-/// from its store, and stand nowhere else.
+/// The event's step over a table, which names pairs that have a route before or then. The entries of
+/// a lost session alone, which may be many, are walked from its store, and stand nowhere else.
 pub(crate) fn step_for<S: PrefixStore<Rc<Route>>>(
     alloc: Global,
     event: &Event,

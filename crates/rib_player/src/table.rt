@@ -1,7 +1,6 @@
 //! The routes of all peers.
 
-ghost use Rattle.std.specs.Prelude.{◌≡◌, ◌<◌, ◌≤◌, cond, Some, true, false, not, slice_get, Option, None, if◌then◌else◌, map, IfSome, IfNone, IfOk, OnOk, OnErr, take, vec_capacity};
-ghost use Rattle.std.specs.Option.{option_map, option_copied};
+ghost use Rattle.std.specs.Prelude.{◌≡◌, ◌<◌, ◌≤◌, cond, Some, true, false, not, slice_get, Option, None, if◌then◌else◌, map, IfSome, IfNone, IfOk, OnOk, OnErr, take, vec_capacity, option_map, option_copied};
 ghost use Rattle.std.specs.Ordering.{eq_by_cmp};
 ghost use Rattle.std.specs.FinMap as finite;
 ghost use Rattle.std.specs.FinSet as set;
@@ -23,7 +22,6 @@ use ip_prefix::{Addr, Prefix};
 use mrt_events::{Peer, Route};
 use prefix_store::PrefixStore;
 use std::alloc::{AllocError, Global};
-use std::collections::btree_map::Range;
 use std::marker::Model;
 use std::ops::Bound;
 use std::rc::Rc;
@@ -117,7 +115,8 @@ impl<S: PrefixStore<Rc<Route>>> Table<S> {
         if let Some(store) = self.stores.get_mut(number, &pair.peer) {
             return store.put(&pair.prefix, route);
         }
-        let store = store_with(self.alloc, pair.prefix)?;
+        let mut store = S::new(self.alloc);
+        store.ensure(pair.prefix)?;
         self.stores.insert(pair.peer, store)?;
         self.exchange(pair, NO_NUMBER, route);
         Ok(true)
@@ -214,7 +213,15 @@ impl<S: PrefixStore<Rc<Route>>> Table<S> {
             None => Bound::Unbounded,
         };
         let numbers = self.stores.order.range((low, Bound::Unbounded));
-        first_routed(&self.stores, numbers)
+        'numbers: for (peer, number) in numbers {
+            if let Some(store) = self.stores.at(*number) {
+                let count = store.route_count();
+                if count > 0 {
+                    return Some((*peer, count));
+                }
+            }
+        }
+        None
     }
 
     /// The peer's store, where it has a key.
@@ -233,33 +240,4 @@ impl<S: PrefixStore<Rc<Route>>> Table<S> {
     {
         self.stores.get(NO_NUMBER, peer)
     }
-}
-
-/// The first of these stores that has a route: its peer, and how many routes it has.
-fn first_routed<'a, S: PrefixStore<Rc<Route>>>(
-    stores: &Stores<S>,
-    numbers: Range<'a, Peer, usize>,
-) -> Option<(Peer, u64)>
-    ensures { result ≡ option_map (peer_count S.routes)
-        (slice_get (routed_stores S.routes (stores_of stores.now.held.items numbers.entry)) 0) }
-{
-    'numbers: for (peer, number) in numbers {
-        if let Some(store) = stores.at(*number) {
-            let count = store.route_count();
-            if count > 0 {
-                return Some((*peer, count));
-            }
-        }
-    }
-    None
-}
-
-/// A store with this one key.
-fn store_with<S: PrefixStore<Rc<Route>>>(alloc: Global, prefix: Prefix) -> Result<S, AllocError>
-    ensures keys { IfOk result (λ store. S.keys store ≡ set.insert set.empty prefix) }
-    ensures routes { IfOk result (λ store. S.routes store ≡ finite.empty) }
-{
-    let mut store = S::new(alloc);
-    store.ensure(prefix)?;
-    Ok(store)
 }

@@ -1,15 +1,12 @@
 -- Lists filled as far as there is room, and the routes that walks down a tree append to them.
 use Rattle.prefix_store.proofs.AboveLaws.{take-nil}
-use Rattle.std.proofs.Common.{◌≡◌, ℕ, zero, suc, ◌+◌, ◌-◌, Bool, true, false, cond, List, [], ◌∷◌, ◌++◌, take, length, Option, Some, None, slice_get, Vec, Global, vec_capacity, Bor, refl, sym, ap, ap₂, ◌∙◌, arith, append_assoc, length-append}
-use Rattle.std.proofs.lemmas.List.{append-nil, length-take}
+use Rattle.std.proofs.Common.{◌≡◌, ℕ, zero, suc, ◌+◌, ◌-◌, Bool, true, false, cond, List, [], ◌∷◌, ◌++◌, take, length, Option, Some, None, slice_get, Vec, Global, vec_capacity, Bor, refl, sym, ap, ap₂, ◌∙◌, arith, append_assoc, length-append, append-nil, length-take, option_to_list, is_lt}
 use Rattle.std.proofs.Math.Seq.{take-append_seam}
-use Rattle.std.specs.Option.{option_to_list}
 use Rattle.ip_prefix.specs.Network.{Network}
 use Rattle.prefix_store.specs.Lookups.{is_above, above, pointed}
 use Rattle.ip_prefix.specs.declared.turn.Turn.{Turn}
 use Rattle.ip_prefix.specs.Order.{network_cmp}
 use Rattle.ip_prefix.specs.Turns.{way, turn_of}
-use Rattle.std.specs.Ordering.{is_lt}
 use Rattle.rib_store.specs.declared.tree.Slot.{Slot}
 use Rattle.rib_store.specs.declared.tree.Tree.{Tree}
 use Rattle.rib_store.specs.Shape.{shape_of, is_routed, IsMarked}

@@ -1,7 +1,6 @@
 -- Private.
 -- What walks down a tree find, and how many nodes they meet.
-use Rattle.std.specs.Prelude.{ℕ, ◌+◌, ◌-◌, Option, Some, None, cond, List, [], ◌++◌, take, length, Bool}
-use Rattle.std.specs.Option.{option_to_list}
+use Rattle.std.specs.Prelude.{ℕ, ◌+◌, ◌-◌, Option, Some, None, cond, List, [], ◌++◌, take, length, Bool, option_to_list}
 use Rattle.std.specs.Ordering.{is_lt}
 use Rattle.ip_prefix.specs.Network.{Network}
 use Rattle.ip_prefix.specs.Order.{network_cmp}

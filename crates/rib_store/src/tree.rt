@@ -1,7 +1,6 @@
 //! A path-compressed radix tree of the prefixes of one family.
 
-ghost use Rattle.std.specs.Prelude.{◌≡◌, true, false, Some, None, is_some, MatchOption, [], ◌∷◌, vec_capacity};
-ghost use Rattle.std.specs.Option.{option_copied, option_map, option_to_list};
+ghost use Rattle.std.specs.Prelude.{◌≡◌, true, false, Some, None, is_some, MatchOption, [], ◌∷◌, vec_capacity, option_copied, option_map, option_to_list};
 ghost use Rattle.prefix_store.specs.Lookups.{pointed};
 ghost use Rattle.rib_store.specs.declared.tree.Slot.TheVariants.{Branch};
 ghost use Rattle.rib_store.specs.Tree.{slot_of};
@@ -184,10 +183,7 @@ impl<R> Slot<R> {
     fn is_filled(&self) -> bool
         ensures { result ≡ is_filled self.now }
     {
-        match self {
-            Slot::Filled(_) => true,
-            _ => false,
-        }
+        matches!(self, Slot::Filled(_))
     }
 
     /// A key's room, and the route in it.

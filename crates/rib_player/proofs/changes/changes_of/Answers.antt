@@ -1,5 +1,4 @@
-use Rattle.std.proofs.Common.{List, map, drop, sym, ap, ap₂, ◌∙◌, length-drop, arith}
-use Rattle.std.proofs.lemmas.List.{take_all}
+use Rattle.std.proofs.Common.{List, map, drop, sym, ap, ap₂, ◌∙◌, length-drop, arith, take_all}
 use Rattle.mrt_events.proofs.SharedLaws.{said_range}
 use Rattle.rib_player.specs.declared.pair.Pair.{Pair}
 use Rattle.rib_player.specs.History.{item_effect, later, last_effect}

@@ -1,10 +1,11 @@
 use Rattle.std.proofs.lemmas.Bool.Decides.{nat_tests}
 use Rattle.std.proofs.Common.{◌≡◌, ℕ, ◌≤◌, ◌+◌, ◌-◌, ◌&&◌, Some, None, is_some, Bool, true, false, cond, sym, ap, ◌∙◌, arith}
+use Rattle.std.specs.Prelude.{unwrap_or}
 use Rattle.std.specs.Prelude.{nat_lt}
 use Rattle.std.specs.BTreeMap as tree
 use Rattle.std.specs.Option.{option_copied_mut}
 use Rattle.std.specs.Ordering.{eq_by_cmp}
-use Rattle.rib_player.specs.Counts.{one_if, count_kept, count_at}
+use Rattle.rib_player.specs.Claims.{one_if, count_at}
 use Rattle.rib_player.proofs.CountedLaws.{count-written, counted}
 use Rattle.rib_player.specs.contracts.claims.count_less.{K-type}
 use Rattle.rib_player.proofs.claims.count_less.Given.{Over}
@@ -24,13 +25,13 @@ pub returns-then-count-gt1-clause-counted : goal.returns-then-count-gt1-clause-c
 returns-then-count-gt1-clause-counted g c = λ k.
     let b = (goal.at.returns-then-count-gt1-clause-counted g c).In-Some in
     let v = c.in-Some.count.now - 1 in
-    counted g.met.K.Ord.total c.args.counts.now (c.get_mut.follows.lender v) c.args.key.now v (λ new old b. new + one_if (true && b) ≡ old) (omega (arith, c.if-count-gt1.true, ap count_kept (found g b))) (λ m. omega arith) k (written g b v k)
+    counted g.met.K.Ord.total c.args.counts.now (c.get_mut.follows.lender v) c.args.key.now v (λ new old b. new + one_if (true && b) ≡ old) (omega (arith, c.if-count-gt1.true, ap (λ o. unwrap_or o 0) (found g b))) (λ m. omega arith) k (written g b v k)
 
 pub returns-clause-counted : goal.returns-clause-counted
 returns-clause-counted g c = λ k.
     let b = (goal.at.returns-clause-counted g c).In-Some in
     counted g.met.K.Ord.total c.args.counts.now c.remove.new.self c.args.key.now 0 (λ new old b. new + one_if (nat_lt 0 c.in-Some.count.now && b) ≡ old)
-    (at_most_one c.in-Some.count.now (omega (arith, c.if-count-gt1.false)) ∙ ap count_kept (found g b)) (none (nat_lt 0 c.in-Some.count.now)) k
+    (at_most_one c.in-Some.count.now (omega (arith, c.if-count-gt1.false)) ∙ ap (λ o. unwrap_or o 0) (found g b)) (none (nat_lt 0 c.in-Some.count.now)) k
     (count-written g.met.K.Ord.total (c.get_mut.follows.lender c.in-Some.count.now) c.remove.new.self c.args.key.now k None (c.remove.ensures.updates.0 k)
     ∙ ap (cond (eq_by_cmp g.K.Ord.cmp k c.args.key.now) 0) (written g b c.in-Some.count.now k) ∙ over (eq_by_cmp g.K.Ord.cmp k c.args.key.now) c.in-Some.count.now (count_at g.K.Ord.cmp c.args.counts.now k))
   where

@@ -1,9 +1,9 @@
-use Rattle.std.proofs.Common.{◌≡◌, ◌+◌, ℕ, Option, Some, Result, Ok, Err, OnErr, refl, ap, subst, arith, ◌∙◌}
+use Rattle.std.proofs.Common.{◌≡◌, ◌+◌, Some, Result, Ok, Err, OnErr, refl, ap, subst, arith, ◌∙◌}
 use Rattle.std.specs.Prelude.{unwrap_or}
 use Rattle.std.specs.Map.{lookup}
 use Rattle.std.specs.BTreeMap as tree
 use Rattle.std.specs.BTreeMap.Entry.{map_with_value}
-use Rattle.rib_player.specs.Counts.{one_if, count_kept, count_at}
+use Rattle.rib_player.specs.Claims.{one_if, count_at}
 use Rattle.rib_player.proofs.CountedLaws.{count-written, counted}
 use Rattle.rib_player.proofs.claims.count_more.Given.{Over}
 use Rattle.rib_player.proofs.claims.count_more.Goals as goal
@@ -11,10 +11,7 @@ use Rattle.rib_player.proofs.claims.count_more.Goals.{After-checked_add}
 
 -- the count that is found, or none
 found : (g : Over) (c : After-checked_add g) → c.or_insert-count.result.now ≡ count_at g.K.Ord.cmp c.args.counts.now c.args.key
-found g c = c.or_insert-count.ensures.value ∙ ap (λ o. unwrap_or o 0) c.in_ok-counts.ensures.value ∙ kept (tree.get g.K.Ord.cmp c.args.counts.now c.args.key)
-  where
-    kept : (o : Option ℕ) → unwrap_or o 0 ≡ count_kept o
-    kept o = grind arith
+found g c = c.or_insert-count.ensures.value ∙ ap (λ o. unwrap_or o 0) c.in_ok-counts.ensures.value
 
 pub returns-in_default-clause-refused : goal.returns-in_default-clause-refused
 returns-in_default-clause-refused g c = λ k.
@@ -29,7 +26,7 @@ returns-in_default-clause-refused g c = λ k.
 
 pub returns-in_err-counts-clause-refused : goal.returns-in_err-counts-clause-refused
 returns-in_err-counts-clause-refused g c =
-    on_err (λ k. ap (λ es. count_kept (lookup (tree.is_at (g.K.Ord.cmp k)) es)) (subst (λ r. OnErr r (c.entry.follows.lender-at-none.entries ≡ c.args.counts.now.entries)) c.in_err-counts.was c.entry.follows.holds-at-none)) c.from_residual.result
+    on_err (λ k. ap (λ es. unwrap_or (lookup (tree.is_at (g.K.Ord.cmp k)) es) 0) (subst (λ r. OnErr r (c.entry.follows.lender-at-none.entries ≡ c.args.counts.now.entries)) c.in_err-counts.was c.entry.follows.holds-at-none)) c.from_residual.result
   where
     on_err : {A E P : Type 0} → P → (r : Result A E) → OnErr r P
     on_err p (Ok a) = tt

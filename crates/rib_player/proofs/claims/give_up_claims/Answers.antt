@@ -1,4 +1,4 @@
-use Rattle.std.proofs.Common.{◌≡◌, ◌+◌, take, true, false, ◌||◌, ◌&&◌, sym, ap, ap₂, subst, ◌∙◌, arith}
+use Rattle.std.proofs.Common.{◌≡◌, ℕ, ◌+◌, take, true, false, ◌||◌, ◌&&◌, sym, ap, ap₂, subst, ◌∙◌, arith}
 use Rattle.std.specs.FinMap as finite
 use Rattle.std.specs.FinSet as set
 use Rattle.rib_player.specs.declared.pair.Pair.{Pair}
@@ -9,10 +9,10 @@ use Rattle.std.proofs.Math.Bool.{or-false}
 use Rattle.rib_player.specs.Marks.{mark_of, marks_of, gives_up, gives_up_by}
 use Rattle.rib_player.proofs.PairLaws.{same_pair}
 use Rattle.rib_player.proofs.MarkLaws.{tied, gives-at, gives-before, gives-more}
-use Rattle.rib_player.proofs.HeldLaws.{some-key, one_true, one_false, one-or}
+use Rattle.rib_player.proofs.HeldLaws.{some-key, one_true, one_false, one-or, none-counted_beyond, removed-held, removed-claimed}
 use Rattle.rib_player.proofs.claims.give_up_claims.Goals as goal
 use Rattle.rib_player.proofs.claims.give_up_claims.Given.{Over}
-use Rattle.rib_player.proofs.claims.give_up_claims.Goals.{After-entry-item, then-gives_up, else-gives_up}
+use Rattle.rib_player.proofs.claims.give_up_claims.Goals.{After-entry-item, Then-not-take, Joined-gives_up, then-gives_up+then-not-take, then-gives_up+else-not-take, else-gives_up}
 
 -- the entry gives up a claim
 gives : (g : Over) (c : After-entry-item g) → gives_up c.args.end (mark_of c.entry-item.result) ≡ true → gives_up_by c.args.end (marks_of c.args.entries.now) c.entry-item.result.pair ≡ true
@@ -35,19 +35,38 @@ key g c e =
     some-key c.entries.table.keys (claims_beyond c.entries.claims) c.entry-item.result.pair c.entries.invariant.held
     (omega (arith, same g c, one_true _ (c.requires.keys c.entry-item.result.pair (gives g c e))))
 
-pub give_up-requires-clause-key : goal.give_up-requires-clause-key
-give_up-requires-clause-key g c =
-    let b = (goal.at.give_up-requires-clause-key g c).After-entry-item in
-    ap (set.contains c.entries.table.keys) c.pair.ensures ∙ key g b (sym c.gives_up.ensures ∙ c.if-gives_up.true)
+pub discard-requires-clause-key : goal.discard-requires-clause-key
+discard-requires-clause-key g c =
+    let b = (goal.at.discard-requires-clause-key g c).After-entry-item in
+    ap (set.contains c.entries.table.keys) c.pair-pair.ensures ∙ key g b (sym c.gives_up.ensures ∙ c.if-gives_up.true)
 
-pub give_up-requires-clause-free : goal.give_up-requires-clause-free
-give_up-requires-clause-free g c = λ none.
-    let b = (goal.at.give_up-requires-clause-free g c).After-entry-item in
+-- nothing is counted beyond the key
+none : (g : Over) (c : Then-not-take g) → claims_beyond c.entries.claims c.pair-pair.result ≡ 0
+none g c = none-counted_beyond (claims_beyond c.entries.claims c.pair-pair.result) c.take.result c.take.ensures.some c.if-not-take.true
+
+pub discard-requires-clause-free : goal.discard-requires-clause-free
+discard-requires-clause-free g c =
+    let b = (goal.at.discard-requires-clause-free g c).After-entry-item in
     let e = sym c.gives_up.ensures ∙ c.if-gives_up.true in
     let p = c.entry-item.result.pair in
-    ap (finite.get c.entries.table.routes) c.pair.ensures ∙ ap (λ r. finite.get r p) c.entries.invariant.routes
+    let none = none g (goal.at.discard-requires-clause-free g c).Then-not-take in
+    ap (finite.get c.entries.table.routes) c.pair-pair.ensures ∙ ap (λ r. finite.get r p) c.entries.invariant.routes
     ∙ c.requires.free p (gives g b e)
-    (omega (arith, same g b, ap (claims_beyond c.entries.claims) (sym c.pair.ensures) ∙ none, one_true _ (key g b e), one_true _ (c.requires.keys p (gives g b e))))
+    (omega (arith, same g b, ap (claims_beyond c.entries.claims) (sym c.pair-pair.ensures) ∙ none, one_true _ (key g b e), one_true _ (c.requires.keys p (gives g b e))))
+
+-- where the entry gives a claim up, all that were to be are given up with it
+claimed-more : (g : Over) (c : After-entry-item g) → gives_up c.args.end (mark_of c.entry-item.result) ≡ true → (now : Pair → ℕ)
+    → ((q : Pair) → now q + one_if (tied q c.entry-item.result.pair) ≡ held_claims c.entries.table.keys (claims_beyond c.entries.claims) q)
+    → (q : Pair) → now q + one_if (gives_up_by c.args.end (marks_of (take (c.entries.entry-index + 1) c.args.entries.now)) q)
+    ≡ held_claims c.args.table.now.keys (claims_beyond c.args.claims.now) q
+claimed-more g c gives now less q =
+    let p = c.entry-item.result.pair in
+    let end = c.args.end in
+    let marks = marks_of (take c.entries.entry-index c.args.entries.now) in
+    let more = gives-more end c.args.entries.now c.entries.entry-index c.entry-item.result q (omega arith) c.entry-item.is in
+    let one = ap one_if more ∙ ap (λ x. one_if (gives_up_by end marks q || (x && tied q p))) gives
+    ∙ one-or (gives_up_by end marks q) (tied q p) (λ t. ap (gives_up_by end marks) (same_pair q p t) ∙ before g c) in
+    omega (arith, one, less q, c.entries.invariant.claimed q)
 
 pub entries-preserved : goal.entries-preserved
 entries-preserved g c =
@@ -55,25 +74,45 @@ entries-preserved g c =
     let p = c.entry-item.result.pair in
     let end = c.args.end in
     let marks = marks_of (take c.entries.entry-index c.args.entries.now) in
-    let more = λ (q : Pair). gives-more end c.args.entries.now c.entries.entry-index c.entry-item.result q (omega arith) c.entry-item.is in
+    let keys = c.entries.table.keys in
+    let beyond = claims_beyond c.entries.claims in
+    let claimed : (t : Contents) (k : Claims) → c.if-gives_up.table ≡ t → c.if-gives_up.claims ≡ k → (q : Pair)
+    → held_claims c.if-gives_up.table.keys (claims_beyond c.if-gives_up.claims) q + one_if (gives_up_by end (marks_of (take (c.entries.entry-index + 1) c.args.entries.now)) q)
+    ≡ held_claims t.keys (claims_beyond k) q + one_if (gives_up_by end (marks_of (take (c.entries.entry-index + 1) c.args.entries.now)) q) =
+    λ t k is is' q. ap₂ (λ (t : Contents) (k : Claims). held_claims t.keys (claims_beyond k) q + one_if (gives_up_by end (marks_of (take (c.entries.entry-index + 1) c.args.entries.now)) q)) is is' in
+    let held : (t : Contents) (k : Claims) → c.if-gives_up.table ≡ t → c.if-gives_up.claims ≡ k → AreHeld t.keys (claims_beyond k) → AreHeld c.if-gives_up.table.keys (claims_beyond c.if-gives_up.claims) =
+    λ t k is is' h. subst (λ t. AreHeld t.keys (claims_beyond c.if-gives_up.claims)) (sym is) (subst (λ k. AreHeld t.keys (claims_beyond k)) (sym is') h) in
     elim c.if-gives_up.branch [
-      | then-gives_up w ↦ record {
-        held = subst (λ t. AreHeld t.keys (claims_beyond c.if-gives_up.claims)) (sym w.table-is) (subst (λ k. AreHeld w.give_up.new.table.keys (claims_beyond k)) (sym w.claims-is) w.give_up.ensures.held);
-        claimed = λ q.
-            let gives : gives_up end (mark_of c.entry-item.result) ≡ true = sym c.gives_up.ensures ∙ w.if-gives_up.true in
-            let one = ap one_if (more q) ∙ ap (λ x. one_if (gives_up_by end marks q || (x && tied q p))) gives
-            ∙ one-or (gives_up_by end marks q) (tied q p) (λ t. ap (gives_up_by end marks) (same_pair q p t) ∙ before g b) in
-            ap₂ (λ (t : Contents) (k : Claims). held_claims t.keys (claims_beyond k) q + one_if (gives_up_by end (marks_of (take (c.entries.entry-index + 1) c.args.entries.now)) q)) w.table-is w.claims-is
-            ∙ omega (arith, one, w.give_up.ensures.claimed q, ap (λ x. one_if (tied q x)) w.pair.ensures, c.entries.invariant.claimed q);
-        routes = ap (λ t. t.routes) w.table-is ∙ w.give_up.ensures.routes ∙ c.entries.invariant.routes;
-      }
-      | else-gives_up w ↦ record {
-        held = subst (λ t. AreHeld t.keys (claims_beyond c.if-gives_up.claims)) (sym w.table-is) (subst (λ k. AreHeld c.entries.table.keys (claims_beyond k)) (sym w.claims-is) c.entries.invariant.held);
-        claimed = λ q.
-            let gives : gives_up end (mark_of c.entry-item.result) ≡ false = sym c.gives_up.ensures ∙ w.if-gives_up.false in
-            ap₂ (λ (t : Contents) (k : Claims). held_claims t.keys (claims_beyond k) q + one_if (gives_up_by end (marks_of (take (c.entries.entry-index + 1) c.args.entries.now)) q)) w.table-is w.claims-is
-            ∙ ap (λ x. held_claims c.entries.table.keys (claims_beyond c.entries.claims) q + one_if x) (more q ∙ ap (λ x. gives_up_by end marks q || (x && tied q p)) gives ∙ or-false (gives_up_by end marks q))
-            ∙ c.entries.invariant.claimed q;
-        routes = ap (λ t. t.routes) w.table-is ∙ c.entries.invariant.routes;
-      }
+      | then-gives_up+then-not-take w ↦
+          let gives = sym c.gives_up.ensures ∙ w.if-gives_up.true in
+          let own = w.pair-pair.result in
+          let none : beyond own ≡ 0 = none-counted_beyond (beyond own) w.take.result w.take.ensures.some w.if-not-take.true in
+          let same : (q : Pair) → claims_beyond w.take.new.self q ≡ beyond q = λ q. omega (arith, w.take.ensures.counted q, ap (λ b. one_if (b && tied q own)) w.if-not-take.true) in
+          let there = ap (set.contains keys) w.pair-pair.ensures ∙ key g b gives in
+          record {
+            held = held _ _ w.table-is w.claims-is (removed-held keys w.discard.new.self.keys beyond (claims_beyond w.take.new.self) own w.discard.ensures.keys same none c.entries.invariant.held);
+            claimed = λ q. claimed _ _ w.table-is w.claims-is q
+                ∙ claimed-more g b gives (held_claims w.discard.new.self.keys (claims_beyond w.take.new.self))
+                (λ q. omega (arith, removed-claimed keys w.discard.new.self.keys beyond (claims_beyond w.take.new.self) own q w.discard.ensures.keys (same q) there, ap (λ x. one_if (tied q x)) w.pair-pair.ensures)) q;
+            routes = ap (λ t. t.routes) w.table-is ∙ w.discard.ensures.routes ∙ c.entries.invariant.routes;
+          }
+      | then-gives_up+else-not-take w ↦
+          let gives = sym c.gives_up.ensures ∙ w.if-gives_up.true in
+          let less : (q : Pair) → claims_beyond w.take.new.self q + one_if (tied q p) ≡ beyond q =
+          λ q. omega (arith, w.take.ensures.counted q, ap (λ b. one_if (b && tied q w.pair-pair.result)) w.if-not-take.false, ap (λ x. one_if (tied q x)) w.pair-pair.ensures) in
+          record {
+            held = held _ _ w.table-is w.claims-is (λ q absent. omega (arith, less q, c.entries.invariant.held q absent));
+            claimed = λ q. claimed _ _ w.table-is w.claims-is q ∙ claimed-more g b gives (held_claims keys (claims_beyond w.take.new.self)) (λ q. omega (arith, less q)) q;
+            routes = ap (λ t. t.routes) w.table-is ∙ c.entries.invariant.routes;
+          }
+      | else-gives_up w ↦
+          let gives : gives_up end (mark_of c.entry-item.result) ≡ false = sym c.gives_up.ensures ∙ w.if-gives_up.false in
+          record {
+            held = held _ _ w.table-is w.claims-is c.entries.invariant.held;
+            claimed = λ q. claimed _ _ w.table-is w.claims-is q
+                ∙ ap (λ x. held_claims keys beyond q + one_if x) (gives-more end c.args.entries.now c.entries.entry-index c.entry-item.result q (omega arith) c.entry-item.is
+                ∙ ap (λ x. gives_up_by end marks q || (x && tied q p)) gives ∙ or-false (gives_up_by end marks q))
+                ∙ c.entries.invariant.claimed q;
+            routes = ap (λ t. t.routes) w.table-is ∙ c.entries.invariant.routes;
+          }
     ]

@@ -1,5 +1,4 @@
-use Rattle.std.proofs.Common.{◌≡◌, ◌-◌, ◌/◌, ◌^◌, ◌++◌, false, length, take, replicate, sym, ap, ◌∙◌, arith}
-use Rattle.std.proofs.lemmas.List.{take-take}
+use Rattle.std.proofs.Common.{◌≡◌, ◌-◌, ◌/◌, ◌^◌, ◌++◌, false, length, take, replicate, sym, ap, ◌∙◌, arith, take-take}
 use Rattle.ip_prefix.specs.Bits.{number_of}
 use Rattle.ip_prefix.specs.BitLemmas.{number_of-bits_of}
 use Rattle.ip_prefix.proofs.BitLists.{take-bits_of}

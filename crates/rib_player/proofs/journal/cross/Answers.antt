@@ -1,5 +1,4 @@
-use Rattle.std.proofs.Common.{◌++◌, drop, take, ◌+◌, ◌<◌, length, get_or, arith, ap, sym, subst, ◌∙◌}
-use Rattle.std.proofs.lemmas.List.{drop-drop, drop-set-lt}
+use Rattle.std.proofs.Common.{◌++◌, drop, take, ◌+◌, ◌<◌, length, get_or, arith, ap, sym, subst, ◌∙◌, drop-drop, drop-set-lt}
 use Rattle.rib_player.specs.Journal.{sides_of, routes_across}
 use Rattle.rib_player.specs.Sides.{sides_across, IsKept}
 use Rattle.rib_player.specs.Marks.{marks_of, mark_of}

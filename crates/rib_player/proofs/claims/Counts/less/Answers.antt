@@ -1,6 +1,6 @@
 use Rattle.std.proofs.Common.{◌≡◌, ◌+◌, ◌&&◌, Bool, false, ℕ, sym, refl, subst, ◌∙◌, arith}
 use Rattle.std.specs.Ordering.{eq_by_cmp, nat_cmp}
-use Rattle.rib_player.specs.Counts.{one_if, count_at}
+use Rattle.rib_player.specs.Claims.{one_if, count_at}
 use Rattle.rib_player.proofs.CountedLaws.{v4-counted}
 use Rattle.rib_player.proofs.claims.Counts.less.Goals as goal
 

@@ -1,7 +1,7 @@
 use Rattle.std.proofs.Common.{◌≡◌, ◌+◌, ℕ, sym, refl, subst, ◌∙◌, arith}
 use Rattle.std.proofs.lemmas.Result.{on_ok_weaker, on_err_weaker}
 use Rattle.std.specs.Ordering.{eq_by_cmp, nat_cmp}
-use Rattle.rib_player.specs.Counts.{one_if, count_at}
+use Rattle.rib_player.specs.Claims.{one_if, count_at}
 use Rattle.rib_player.proofs.CountedLaws.{v4-counted}
 use Rattle.rib_player.proofs.claims.Counts.more.Goals as goal
 

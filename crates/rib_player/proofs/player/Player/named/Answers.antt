@@ -1,11 +1,25 @@
-use Rattle.std.proofs.Common.{ap, ◌∙◌}
-use Rattle.prefix_store.specs.Stored.{counted}
-use Rattle.std.specs.List.{sum_by}
+use Rattle.std.proofs.Common.{ap, ◌∙◌, arith, sum_by, take_all}
 use Rattle.std.specs.FinSet as set
+use Rattle.std.proofs.lemmas.List.Sums.{sum_by_more}
+use Rattle.prefix_store.specs.Stored.{counted}
+use Rattle.rib_player.specs.Marks.{entry_count}
 use Rattle.rib_player.proofs.CountLaws.{named-total}
 use Rattle.rib_player.proofs.player.Player.named.Goals as goal
 
+pub steps-preserved : goal.steps-preserved
+steps-preserved g c =
+    let steps = c.self.inside.journal.steps.items in
+    omega (
+      arith,
+      c.saturating_add-total.ensures,
+      c.steps.invariant,
+      c.len.ensures,
+      sum_by_more entry_count steps c.steps.index c.index.result.now (omega (arith, c.steps-test.true, c.len-index-end.ensures)),
+      ap entry_count c.index.ensures,
+    )
+
 pub returns : goal.returns
 returns g c =
-    c.named_by.ensures
-    ∙ ap counted (named-total c.self.inside.journal.steps.items c.self.invariant.played.distinct ∙ ap (λ t. sum_by set.len t.steps) c.self.view_is)
+    let steps = c.self.inside.journal.steps.items in
+    c.steps.invariant ∙ ap (λ ss. counted (sum_by entry_count ss)) (take_all c.steps.index steps (omega (arith, c.steps-test.false, c.len-index-end.ensures)))
+    ∙ ap counted (named-total steps c.self.invariant.played.distinct ∙ ap (λ t. sum_by set.len t.steps) c.self.view_is)

@@ -1,7 +1,6 @@
-use Rattle.std.proofs.Common.{◌≡◌, Some, take, sym, ap, subst, ◌∙◌}
+use Rattle.std.proofs.Common.{◌≡◌, Some, take, sym, ap, subst, ◌∙◌, take_all}
 use Rattle.std.specs.List.{AllByRecursion}
 use Rattle.std.specs.Map.{lookup}
-use Rattle.std.proofs.lemmas.List.{take_all}
 use Rattle.rib_player.specs.Journal.{side_of, sides_of}
 use Rattle.rib_player.specs.Sides.{AreDistinct}
 use Rattle.rib_player.proofs.StoreLaws.{same_peer}

@@ -1,5 +1,4 @@
-use Rattle.std.proofs.Common.{Some, None, sym, ap, ◌∙◌}
-use Rattle.std.specs.Option.{option_copied}
+use Rattle.std.proofs.Common.{Some, None, sym, ap, ◌∙◌, option_copied}
 use Rattle.rib_player.proofs.NumberLaws.{found-store}
 use Rattle.rib_player.proofs.stores.Stores.get.Goals as goal
 

@@ -1,7 +1,6 @@
-use Rattle.std.proofs.Common.{◌≡◌, Some, None, is_some, slice_get, sym, ap, subst, ◌∙◌, arith}
+use Rattle.std.proofs.Common.{◌≡◌, Some, None, is_some, slice_get, sym, ap, subst, ◌∙◌, arith, Global}
 use Rattle.std.specs.Map.{lookup}
 use Rattle.std.proofs.lemmas.List.{length-map}
-use Rattle.std.specs.declared.alloc.Global.{Global}
 use Rattle.std.specs.declared.rc.Rc.{Rc}
 use Rattle.mrt_events.specs.declared.peer.Peer.{Peer}
 use Rattle.rib_player.specs.Numbered.{peers_in}

@@ -1,5 +1,4 @@
-use Rattle.std.proofs.Common.{ap, ◌∙◌}
-use Rattle.std.specs.Option.{option_map, option_copied}
+use Rattle.std.proofs.Common.{ap, ◌∙◌, option_map, option_copied}
 use Rattle.rib_player.proofs.PeerLaws.{first-above, none-above}
 use Rattle.rib_player.proofs.table.Table.after.Goals as goal
 

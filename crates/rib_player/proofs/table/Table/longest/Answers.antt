@@ -1,5 +1,4 @@
-use Rattle.std.proofs.Common.{sym, subst}
-use Rattle.std.specs.Option.{option_map}
+use Rattle.std.proofs.Common.{sym, subst, option_map}
 use Rattle.rib_player.specs.Lookups.{IsBest}
 use Rattle.rib_player.proofs.PeerLaws.{best-of_peer}
 use Rattle.rib_player.proofs.table.Table.longest.Goals as goal

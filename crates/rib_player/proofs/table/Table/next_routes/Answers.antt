@@ -1,5 +1,4 @@
-use Rattle.std.proofs.Common.{vec_capacity, ap, ◌∙◌}
-use Rattle.std.specs.Option.{option_copied}
+use Rattle.std.proofs.Common.{vec_capacity, ap, ◌∙◌, option_copied}
 use Rattle.rib_player.specs.Lookups.{pointed_routes}
 use Rattle.rib_player.proofs.PeerLaws.{front-above, no_front-above}
 use Rattle.rib_player.proofs.table.Table.next_routes.Goals as goal

@@ -52,18 +52,21 @@ returns-in-Some-clause-held g c =
     on_err_weaker c.put.result (λ e. routes-kept g.S.PrefixStore.routes (there g (goal.at.returns-in-Some-clause-held g c).After-put) e ∙ ap (λ s. s.routes) c.self.view_is) c.put.ensures.held
 
 -- the peer had no store, and has one with this key
-added : (g : Over) (c : In_ok-insert g) → IsWritten (stores_in c.self.inside.stores) (stores_in c.insert.new.self) c.args.pair.now.peer (Some c.in_ok-store.store)
-added g c = subst (λ stores. IsWritten stores (stores_in c.insert.new.self) c.args.pair.now.peer (Some c.in_ok-store.store)) c.get_mut.follows.holds-at-none c.in_ok-insert.ensures.added
+added : (g : Over) (c : In_ok-insert g) → IsWritten (stores_in c.self.inside.stores) (stores_in c.insert.new.self) c.args.pair.now.peer (Some c.ensure.new.self)
+added g c = subst (λ stores. IsWritten stores (stores_in c.insert.new.self) c.args.pair.now.peer (Some c.ensure.new.self)) c.get_mut.follows.holds-at-none c.in_ok-insert.ensures.added
+
+one_key : (g : Over) (c : In_ok-insert g) → g.S.PrefixStore.keys c.ensure.new.self ≡ set.insert set.empty c.args.pair.now.prefix
+one_key g c = c.in_ok-ensure.ensures.keys ∙ ap (λ keys. set.insert keys c.args.pair.now.prefix) c.new-store.ensures.keys
 
 keys_then : (g : Over) (c : In_ok-insert g) → keys_in g.S.PrefixStore.keys (stores_in c.insert.new.self) ≡ set.insert (keys_in g.S.PrefixStore.keys (stores_in c.self.inside.stores)) c.args.pair.now
-keys_then g c = keys-added (sym (ap option_copied_mut c.in_default.is) ∙ c.get_mut.ensures.value) (added g c) g.S.PrefixStore.keys c.args.pair.now.prefix c.in_ok-store.ensures.keys
+keys_then g c = keys-added (sym (ap option_copied_mut c.in_default.is) ∙ c.get_mut.ensures.value) (added g c) g.S.PrefixStore.keys c.args.pair.now.prefix (one_key g c)
 
 routes_then : (g : Over) (c : In_ok-insert g) → routes_in g.S.PrefixStore.routes (stores_in c.insert.new.self) ≡ c.args.self.now.routes
-routes_then g c = routes-added (sym (ap option_copied_mut c.in_default.is) ∙ c.get_mut.ensures.value) (added g c) g.S.PrefixStore.routes c.in_ok-store.ensures.routes ∙ ap (λ s. s.routes) c.self.view_is
+routes_then g c = routes-added (sym (ap option_copied_mut c.in_default.is) ∙ c.get_mut.ensures.value) (added g c) g.S.PrefixStore.routes (c.ensure.ensures.routes ∙ c.new-store.ensures.routes) ∙ ap (λ s. s.routes) c.self.view_is
 
 pub invariant_of-self-2 : goal.invariant_of-self-2
 invariant_of-self-2 g c =
-    held-other g.S.PrefixStore.keys (added g (goal.at.invariant_of-self-2 g c).In_ok-insert) c.self.invariant (some-insert set.empty (g.S.PrefixStore.keys c.in_ok-store.store) c.args.pair.now.prefix c.in_ok-store.ensures.keys)
+    held-other g.S.PrefixStore.keys (added g (goal.at.invariant_of-self-2 g c).In_ok-insert) c.self.invariant (some-insert set.empty (g.S.PrefixStore.keys c.ensure.new.self) c.args.pair.now.prefix (one_key g (goal.at.invariant_of-self-2 g c).In_ok-insert))
 
 pub exchange-requires : goal.exchange-requires
 exchange-requires g c =

@@ -1,7 +1,6 @@
-use Rattle.std.proofs.Common.{◌≡◌, Some, None, Option, Bor, slice_get, sym, ap, ap₂, ◌∙◌}
+use Rattle.std.proofs.Common.{◌≡◌, Some, None, Option, Bor, slice_get, sym, ap, ap₂, ◌∙◌, option_map, option_copied}
 use Rattle.std.specs.Prelude.{MatchOption}
 use Rattle.std.specs.FinMap as finite
-use Rattle.std.specs.Option.{option_map, option_copied}
 use Rattle.ip_prefix.specs.declared.addr.Family.TheVariants.{V4}
 use Rattle.ip_prefix.specs.Network.{Network}
 use Rattle.prefix_store.specs.Contents.{Contents}

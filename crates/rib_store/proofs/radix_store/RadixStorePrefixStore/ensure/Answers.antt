@@ -1,7 +1,6 @@
-use Rattle.std.proofs.Common.{◌≡◌, Option, Result, Ok, Err, Some, None, is_some, false, sym, ap, ◌∙◌, refl}
+use Rattle.std.proofs.Common.{◌≡◌, Option, Result, Ok, Err, Some, None, is_some, false, sym, ap, ◌∙◌, refl, option_map, option_copied}
 use Rattle.std.specs.Prelude.{OnOk, OnErr}
 use Rattle.std.specs.FinMap as finite
-use Rattle.std.specs.Option.{option_map, option_copied}
 use Rattle.ip_prefix.specs.Network.{Network}
 use Rattle.prefix_store.specs.Stored.{Routes, put}
 use Rattle.prefix_store.proofs.StoredLaws.{put-same}

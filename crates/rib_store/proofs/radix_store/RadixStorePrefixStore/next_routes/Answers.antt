@@ -1,6 +1,5 @@
-use Rattle.std.proofs.Common.{take, vec_capacity, sym, ap, ap₂, ◌∙◌}
+use Rattle.std.proofs.Common.{take, vec_capacity, sym, ap, ap₂, ◌∙◌, option_copied}
 use Rattle.std.specs.FinMap as finite
-use Rattle.std.specs.Option.{option_copied}
 use Rattle.prefix_store.specs.Lookups.{above, pointed}
 use Rattle.rib_store.specs.Store.{trees_of}
 use Rattle.rib_store.proofs.FillLaws.{all-trees, above-v4, above-v6, filled_anew, filled_twice}

@@ -1,5 +1,4 @@
-use Rattle.std.proofs.Common.{◌≡◌, false, length, vec_capacity, sym, ap, ◌∙◌, arith, ◌++◌}
-use Rattle.std.specs.Option.{option_to_list}
+use Rattle.std.proofs.Common.{◌≡◌, false, length, vec_capacity, sym, ap, ◌∙◌, arith, ◌++◌, option_to_list}
 use Rattle.rib_store.specs.Tree.{slot_of}
 use Rattle.rib_store.specs.Shape.{shape_of, is_routed}
 use Rattle.prefix_store.specs.Lookups.{pointed}

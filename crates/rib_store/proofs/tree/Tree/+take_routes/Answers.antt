@@ -1,5 +1,4 @@
-use Rattle.std.proofs.Common.{◌≡◌, ◌++◌, false, map, sym, ap, ◌∙◌}
-use Rattle.std.proofs.lemmas.List.{append-nil}
+use Rattle.std.proofs.Common.{◌≡◌, ◌++◌, false, map, sym, ap, ◌∙◌, append-nil}
 use Rattle.rib_store.specs.Shape.{shape_of, is_routed}
 use Rattle.rib_store.proofs.FillLaws.{unmarked-all}
 use Rattle.rib_store.proofs.TakenLaws.{unmarked-emptied}

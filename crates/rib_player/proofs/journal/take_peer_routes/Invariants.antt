@@ -1,10 +1,10 @@
 use Rattle.std.proofs.Common.{◌≡◌, ◌≤◌, ◌+◌, ◌++◌, take, drop, length}
 use Rattle.rib_player.specs.Kept.{cleared_entries}
-use Rattle.rib_player.proofs.losses.note_routes.Given as goal
+use Rattle.rib_player.proofs.journal.take_peer_routes.Given as goal
 
 -- the entries so far have their routes; with the routes that are left the others are what they will be
 abbrev pub invariant-routes : goal.invariant-routes
-invariant-routes l = record {
+invariant-routes g l = record {
   within : l.index + length l.route-iterator.rest.items ≤ length l.entries;
-  entries : take l.index l.entries ++ cleared_entries (drop l.index l.entries) l.route-iterator.rest.items ≡ cleared_entries l.fn.entries l.fn.routes.items;
+  entries : take l.index l.entries ++ cleared_entries (drop l.index l.entries) l.route-iterator.rest.items ≡ cleared_entries l.fn.entries l.initial.route-iterator.rest.items;
 }

@@ -1,9 +1,0 @@
-use Rattle.std.proofs.Common.{◌≡◌, take}
-use Rattle.std.specs.List.{sum_by}
-use Rattle.prefix_store.specs.Stored.{counted}
-use Rattle.rib_player.specs.Marks.{entry_count}
-use Rattle.rib_player.proofs.journal.named_by.Given as goal
-
--- the pairs of the steps so far are counted
-abbrev pub invariant-steps : goal.invariant-steps
-invariant-steps l = l.total ≡ counted (sum_by entry_count (take l.index l.steps.items))
