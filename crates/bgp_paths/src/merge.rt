@@ -1,8 +1,7 @@
 //! Joining a path of two-octet AS numbers with the four-octet one beside it (RFC 6793, section
 //! 4.2.3).
 
-ghost use Rattle.std.specs.Prelude.{◌≡◌, ℕ, ◌≤◌, List, ◌++◌, IfOk, OnOk};
-ghost use Rattle.std.specs.List.{sum_by};
+ghost use Rattle.std.specs.Prelude.{◌≡◌, ℕ, ◌≤◌, List, ◌++◌, IfOk, OnOk, sum_by};
 ghost use Rattle.bgp_paths.specs.Merge.{IsMerge, IsLongest, path_weight, segment_weight};
 ghost use Rattle.bgp_paths.specs.Merge.{Hop, hops_from, segments_of, plain_segments};
 ghost use Rattle.bgp_paths.specs.Segments.{piece};

@@ -60,10 +60,7 @@ fn frame_segment(width: AsWidth, octets: &[u8]) -> Option<FramedSegment<'_>>
         return None;
     }
     let size = usize::from(count) * width.octets();
-    if numbers.len() < size {
-        return None;
-    }
-    let (body, rest) = numbers.split_at(size);
+    let (body, rest) = numbers.split_at_checked(size)?;
     Some(FramedSegment { body, rest, kind })
 }
 

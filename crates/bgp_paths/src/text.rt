@@ -1,7 +1,6 @@
 //! The printed texts of paths and communities.
 
-ghost use Rattle.std.specs.Prelude.{◌≡◌, ◌+◌, ◌<◌, ◌≤◌, [], ◌∷◌, ◌++◌, OnOk, OnErr, length, map, decimal};
-ghost use Rattle.std.specs.List.{flat_map};
+ghost use Rattle.std.specs.Prelude.{◌≡◌, ◌+◌, ◌<◌, ◌≤◌, [], ◌∷◌, ◌++◌, OnOk, OnErr, length, map, decimal, flat_map};
 ghost use Rattle.bgp_paths.specs.Text.{bracketed_numbers, segment_words, path_text};
 ghost use Rattle.bgp_paths.specs.Text.{halves_text, community_text, communities_text};
 ghost use Rattle.ip_prefix.specs.Written.{IsWritten, ended_words};

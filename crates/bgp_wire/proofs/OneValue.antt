@@ -1,6 +1,5 @@
 -- No octets are spellings of two values of an attribute.
-use Rattle.std.proofs.Common.{◌≡◌, ◌⊎◌, inl, inr, ℕ, ◌+◌, List, ◌++◌, length, drop, get_or, Some, None, refl, ap, sym, subst, ◌∙◌, arith}
-use Rattle.std.proofs.lemmas.List.{length-append}
+use Rattle.std.proofs.Common.{◌≡◌, ◌⊎◌, inl, inr, ℕ, ◌+◌, List, ◌++◌, length, drop, get_or, Some, None, refl, ap, sym, subst, ◌∙◌, arith, length-append}
 use Rattle.ip_prefix.specs.declared.addr.Family.{Family}
 use Rattle.ip_prefix.specs.declared.addr.Family.TheVariants.{V6}
 use Rattle.ip_prefix.specs.Address.{octet_count}

@@ -1,6 +1,5 @@
 -- How path attributes are sent, one behind the other (RFC 4271, section 4.3).
-use Rattle.std.specs.Prelude.{◌≡◌, ◌==◌, ℕ, ◌<◌, ◌^◌, Bool, true, false, not, if◌then◌else◌, List, [], ◌∷◌, ◌++◌, length, Option, Some, None, bit_and}
-use Rattle.std.specs.Option.{is_some}
+use Rattle.std.specs.Prelude.{◌≡◌, ◌==◌, ℕ, ◌<◌, ◌^◌, Bool, true, false, not, if◌then◌else◌, List, [], ◌∷◌, ◌++◌, length, Option, Some, None, bit_and, is_some}
 use Rattle.std.specs.Int.{to_be_bytes, w16}
 use Rattle.bgp_wire.specs.declared.framing.TheConstants.{EXTENDED_LENGTH}
 

@@ -1,7 +1,6 @@
 -- Private.
 -- Which types of attributes a list has, as it is kept.
-use Rattle.std.specs.Prelude.{◌≡◌, ℕ, ◌<◌, Bool, false, List, slice_index_or}
-use Rattle.std.specs.Option.{is_some}
+use Rattle.std.specs.Prelude.{◌≡◌, ℕ, ◌<◌, Bool, false, List, slice_index_or, is_some}
 use Rattle.bgp_wire.specs.declared.framing.TheConstants.{KINDS}
 use Rattle.bgp_wire.specs.Attribute.{Attribute, first_value, repeats}
 

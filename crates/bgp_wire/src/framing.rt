@@ -75,9 +75,6 @@ pub(crate) fn split_attribute(octets: &[u8]) -> Option<FramedAttribute<'_>>
     let (&flags, after_flags) = octets.split_first()?;
     let (&kind, after_kind) = after_flags.split_first()?;
     let (len, body) = split_length(flags, after_kind)?;
-    if body.len() < len {
-        return None;
-    }
-    let (value, rest) = body.split_at(len);
+    let (value, rest) = body.split_at_checked(len)?;
     Some(FramedAttribute { value, rest, kind })
 }

@@ -44,11 +44,7 @@ fn read_hop_alone(octets: &[u8]) -> Option<Addr>
     ensures { Finds SpellsHopAlone octets.now result }
 {
     let (&len, rest) = octets.split_first()?;
-    let size = usize::from(len);
-    if rest.len() < size {
-        return None;
-    }
-    let (hop, _) = rest.split_at(size);
+    let (hop, _) = rest.split_at_checked(usize::from(len))?;
     read_next_hop(hop)
 }
 
@@ -61,10 +57,7 @@ fn read_rib_value(octets: &[u8]) -> Option<Addr>
     if first != 0 {
         return read_hop_alone(octets);
     }
-    if octets.len() < FAMILY_SIZE {
-        return None;
-    }
-    let (_, rest) = octets.split_at(FAMILY_SIZE);
+    let (_, rest) = octets.split_at_checked(FAMILY_SIZE)?;
     read_hop_alone(rest)
 }
 

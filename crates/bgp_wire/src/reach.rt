@@ -44,10 +44,7 @@ fn unicast_family(octets: &[u8]) -> Option<Family>
 fn read_scope(octets: &[u8]) -> Option<Scope<'_>>
     ensures { BeginsIn octets.now result }
 {
-    if octets.len() < FAMILY_SIZE {
-        return None;
-    }
-    let (front, rest) = octets.split_at(FAMILY_SIZE);
+    let (front, rest) = octets.split_at_checked(FAMILY_SIZE)?;
     match unicast_family(front) {
         Some(family) => Some(Scope::Unicast(family, rest)),
         None => Some(Scope::Another),

@@ -1,7 +1,6 @@
 //! Which types of attributes a list has.
 
-ghost use Rattle.std.specs.Prelude.{◌≡◌, ◌<◌, List, [], ◌∷◌, ◌++◌, true, false, None};
-ghost use Rattle.std.specs.Option.{is_some};
+ghost use Rattle.std.specs.Prelude.{◌≡◌, ◌<◌, List, [], ◌∷◌, ◌++◌, true, false, None, is_some};
 ghost use Rattle.bgp_wire.specs.Attribute.{Attribute, first_value, repeats};
 ghost use Rattle.bgp_wire.specs.SeenTypes.{Tells};
 

@@ -28,11 +28,7 @@ fn split_sized(octets: &[u8]) -> Option<(&[u8], &[u8])>
         return None;
     }
     let (len, rest) = octets.split_at(LENGTH_SIZE);
-    let size = read_length(len);
-    if rest.len() < size {
-        return None;
-    }
-    Some(rest.split_at(size))
+    rest.split_at_checked(read_length(len))
 }
 
 /// Makes the parts those that the octets of attributes say. Refused, nothing is said of them.

@@ -1,7 +1,5 @@
 -- Lists of bits compare as the numbers do whose highest bits they are.
-use Rattle.std.proofs.Common.{◌≡◌, ℕ, zero, suc, ◌+◌, ◌-◌, ◌*◌, ◌^◌, ◌/◌, ◌%◌, ◌<◌, ◌≤◌, ◌==◌, Bool, false, List, [], ◌∷◌, ◌++◌, ◌⊎◌, inr, length, replicate, sym, refl, ap, ◌∙◌, arith}
-use Rattle.std.specs.declared.cmp.Ordering.{Ordering}
-use Rattle.std.specs.declared.cmp.Ordering.TheVariants.{Less, Equal}
+use Rattle.std.proofs.Common.{◌≡◌, ℕ, zero, suc, ◌+◌, ◌-◌, ◌*◌, ◌^◌, ◌/◌, ◌%◌, ◌<◌, ◌≤◌, ◌==◌, Bool, false, List, [], ◌∷◌, ◌++◌, ◌⊎◌, inr, length, replicate, sym, refl, ap, ◌∙◌, arith, Ordering, Less, Equal, mod-eq_of_lt}
 use Rattle.std.specs.Ordering.{bool_cmp, nat_cmp, ordering_then, ordering_reverse}
 use Rattle.std.specs.Cmp.{nat_cmp_is, then_flip, bool_cmp_total}
 use Rattle.std.specs.Cmp.Lexicographic.{lists_total}
@@ -11,7 +9,6 @@ use Rattle.std.proofs.lemmas.Bool.Decides.{nat_tests}
 use Rattle.std.proofs.lemmas.Nat.{mod-pow-add, pow_pos}
 use Rattle.std.proofs.lemmas.Nat.Bits.{bit_at-lt, bit_at-zero}
 use Rattle.std.proofs.lemmas.List.{length-append, length-replicate}
-use Rattle.std.proofs.Math.Nat.{mod-eq_of_lt}
 use Rattle.ip_prefix.specs.Bits.{bits_of}
 use Rattle.ip_prefix.specs.BitLemmas.{length-bits_of}
 use Rattle.ip_prefix.specs.declared.addr.Addr.TheInside.{Inside}

@@ -1,12 +1,11 @@
 -- The decimals of numbers below 256, and what stands before them.
-use Rattle.std.proofs.Common.{◌≡◌, ◌≢◌, ℕ, ◌+◌, ◌-◌, ◌<◌, ◌≤◌, List, [], ◌∷◌, ◌++◌, length, take, drop, get_or, decimal, refl, sym, ap, ◌∙◌, arith, inl, inr, length-append, append_assoc, take_at, drop_at, IsUtf8, Err, Result, Ok, length-drop}
+use Rattle.std.proofs.Common.{◌≡◌, ◌≢◌, ℕ, ◌+◌, ◌-◌, ◌<◌, ◌≤◌, List, [], ◌∷◌, ◌++◌, length, take, drop, get_or, decimal, refl, sym, ap, ◌∙◌, arith, inl, inr, length-append, append_assoc, take_at, drop_at, IsUtf8, Err, Result, Ok, length-drop, MatchOption}
 use Rattle.std.proofs.lemmas.Bool.{cases_eq}
 use Rattle.std.proofs.lemmas.List.{get_or_at, get_or-append_right}
 use Rattle.std.proofs.lemmas.Fmt.{decimal_is_IsNumeral, decimal_digit, first_decimal, decimal-digits_value, parse-decimal, IsAscii-decimal}
 use Rattle.std.proofs.lemmas.Str.Parse.{digit_at, numerals_by_value, tells_digits, parse_plus, parse_plain}
 use Rattle.std.proofs.lemmas.Str.{IsUtf8-from_ascii}
 use Rattle.std.specs.Result.{result_ok}
-use Rattle.std.specs.Option.{MatchOption}
 use Rattle.std.specs.Str.Parse.{ParsesUnsigned}
 
 -- a text that is no decimal of a number below 256

@@ -1,6 +1,5 @@
 -- The bits of kept prefixes.
-use Rattle.std.proofs.Common.{◌≡◌, ℕ, ◌+◌, ◌-◌, ◌*◌, ◌^◌, ◌/◌, ◌%◌, ◌<◌, ◌≤◌, false, ◌++◌, length, replicate, take, sym, ap, ◌∙◌, arith}
-use Rattle.std.proofs.Math.Nat.{mul-div_cancel}
+use Rattle.std.proofs.Common.{◌≡◌, ℕ, ◌+◌, ◌-◌, ◌*◌, ◌^◌, ◌/◌, ◌%◌, ◌<◌, ◌≤◌, false, ◌++◌, length, replicate, take, sym, ap, ◌∙◌, arith, mul-div_cancel}
 use Rattle.std.proofs.lemmas.Nat.{mod-pow-add, field_of, mod_low, pow_pos, shr_le, shr_split, shr-shr}
 use Rattle.ip_prefix.specs.declared.addr.Family.{Family}
 use Rattle.ip_prefix.specs.Address.{bit_count}

@@ -1,9 +1,8 @@
 -- Which addresses and prefixes texts spell.
-use Rattle.std.proofs.Common.{◌≡◌, ℕ, zero, suc, ◌+◌, ◌-◌, ◌^◌, ◌<◌, ◌≤◌, Bool, false, List, [], ◌∷◌, ◌++◌, length, take, drop, get_or, replicate, decimal, Option, Some, None, refl, sym, ap, ap₂, subst, ◌∙◌, arith, take_at, length-append, length-take-le, append_assoc, take-append-drop, map, All, ◌==◌, ne_eqb}
+use Rattle.std.proofs.Common.{◌≡◌, ℕ, zero, suc, ◌+◌, ◌-◌, ◌^◌, ◌<◌, ◌≤◌, Bool, false, List, [], ◌∷◌, ◌++◌, length, take, drop, get_or, replicate, decimal, Option, Some, None, refl, sym, ap, ap₂, subst, ◌∙◌, arith, take_at, length-append, length-take-le, append_assoc, take-append-drop, map, All, ◌==◌, ne_eqb, MatchOption}
 use Rattle.std.proofs.lemmas.List.{length-replicate, drop_more, get_or_at}
 use Rattle.std.proofs.lemmas.List.Folds.{list_any_none}
 use Rattle.std.proofs.lemmas.Fmt.{decimal_injective}
-use Rattle.std.specs.Option.{MatchOption}
 use Rattle.std.specs.Net.Addr.{octets_of}
 use Rattle.std.specs.Net.Text.{hex_groups_text, ipv4_text}
 use Rattle.std.specs.Net.Grammar.{IsDotted, IsColonHex, IsIpv4Text, IsIpv6Text}

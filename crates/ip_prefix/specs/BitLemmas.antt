@@ -1,8 +1,7 @@
 -- Private.
 -- The number that bits spell is the number that they are the bits of.
 use Rattle.std.specs.Prelude.{◌≡◌, ℕ, zero, suc, ◌+◌, ◌*◌, ◌^◌, ◌/◌, ◌%◌, ◌<◌, length, ◌==◌, refl}
-use Rattle.std.proofs.Common.{◌∙◌, sym, ap, subst, arith, pow-add}
-use Rattle.std.proofs.Math.Nat.{div-lt_iff_lt-mul, mod-eq_of_lt}
+use Rattle.std.proofs.Common.{◌∙◌, sym, ap, subst, arith, pow-add, div-lt_iff_lt-mul, mod-eq_of_lt}
 use Rattle.std.proofs.lemmas.Nat.{mod-pow-add, pow_pos, shr_split}
 use Rattle.std.proofs.lemmas.Nat.Bits.{bit_at-lt}
 use Rattle.ip_prefix.specs.Bits.{worth, number_of, bits_of}

@@ -1,7 +1,6 @@
 -- Private.
 -- Where marks stand in texts: the last slash of a prefix, and colons in front of groups.
-use Rattle.std.specs.Prelude.{◌≡◌, ◌≢◌, ℕ, ◌<◌, List, ◌∷◌, length, slice_index}
-use Rattle.std.specs.List.{flat_map}
+use Rattle.std.specs.Prelude.{◌≡◌, ◌≢◌, ℕ, ◌<◌, List, ◌∷◌, length, slice_index, flat_map}
 use Rattle.std.specs.Net.Text.{hex}
 use Rattle.ip_prefix.specs.declared.text.TheConstants.{SLASH, COLON}
 

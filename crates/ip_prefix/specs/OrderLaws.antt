@@ -1,9 +1,7 @@
 -- Private.
 -- The orders of addresses and prefixes are total, and only equal ones tie.
 use Rattle.std.specs.Prelude.{◌≡◌, Bool, List, refl}
-use Rattle.std.proofs.Common.{arith}
-use Rattle.std.specs.declared.cmp.Ordering.{Ordering}
-use Rattle.std.specs.declared.cmp.Ordering.TheVariants.{Less, Equal, Greater}
+use Rattle.std.proofs.Common.{arith, Ordering, Less, Equal, Greater}
 use Rattle.std.specs.Ordering.{bool_cmp, ordering_then, ordering_reverse}
 use Rattle.std.specs.Cmp.{IsTotalOrder, bool_cmp_total, on_total, then_total}
 use Rattle.std.specs.Cmp.Lexicographic.{lists_total}

@@ -1,5 +1,5 @@
 -- No octets begin with two fields of a kind.
-use Rattle.std.proofs.Common.{◌≡◌, ℕ, List, [], ◌∷◌, ◌++◌, length, refl, ap, sym, ◌∙◌, append_assoc}
+use Rattle.std.proofs.Common.{◌≡◌, ℕ, List, [], ◌∷◌, ◌++◌, length, take, drop, refl, ap, ap₂, sym, ◌∙◌, append_assoc, take-append-drop}
 use Rattle.std.specs.Int.{to_be_bytes, w16}
 use Rattle.ip_prefix.specs.declared.addr.Family.{Family}
 use Rattle.ip_prefix.specs.Address.{octet_count}
@@ -14,6 +14,10 @@ use Rattle.bgp_wire.specs.Number.{SpellsAsn, SpellsWord}
 use Rattle.bgp_paths.proofs.OneFront.{number_code}
 use Rattle.bgp_wire.proofs.Reaching.{same_sized}
 use Rattle.mrt_wire.specs.Fields.{SpellsOctet, SpellsShort, AreOctets, AreSized, SpellsAddressOf, SpellsPeerOf}
+
+-- octets that are cut in two are both parts
+pub cut_whole : {octets front rest : List ℕ} (size : ℕ) → front ≡ take size octets → rest ≡ drop size octets → octets ≡ front ++ rest
+cut_whole {octets = octets} size first then = sym (ap₂ (λ front rest. front ++ rest) first then ∙ take-append-drop size octets)
 
 pub octet_front : OneFront SpellsOctet
 octet_front a b x y octets p q =

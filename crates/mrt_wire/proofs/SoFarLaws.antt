@@ -1,6 +1,5 @@
 -- What a source has answered so far goes on by an answer, and is first in whatever the input may hold.
-use Rattle.std.proofs.Common.{◌≡◌, ◌⊎◌, inl, inr, ℕ, ◌+◌, ◌<◌, true, false, Result, List, [], ◌∷◌, ◌++◌, Option, Ok, Err, length, sym, ap, ◌∙◌, refl, subst, arith, length-append, append-nil}
-use Rattle.std.proofs.lemmas.List.{append_assoc}
+use Rattle.std.proofs.Common.{◌≡◌, ◌⊎◌, inl, inr, ℕ, ◌+◌, ◌<◌, true, false, Result, List, [], ◌∷◌, ◌++◌, Option, Ok, Err, length, sym, ap, ◌∙◌, refl, subst, arith, length-append, append-nil, append_assoc}
 use Rattle.std.proofs.lemmas.Grind.{flat_map-append}
 use Rattle.std.specs.Io.KnownBytes.{Consumes, IsAtEnd}
 use Rattle.std.proofs.KnownBytes.{Consumes-nil, Consumes-trans}
@@ -12,10 +11,8 @@ use Rattle.mrt_wire.specs.declared.next.Phase.TheVariants.{Reading, Ended, Spent
 use Rattle.mrt_frames.specs.Record.{header_octets, spelling, IsRecord, BeginsWithNoRecord}
 use Rattle.mrt_frames.specs.Taken.{EndsAt}
 use Rattle.mrt_wire.specs.Verdict.{Frame, ReadsAs, index_after}
-use Rattle.mrt_wire.specs.Splitting.{AreFrames, Splits, spellings}
+use Rattle.mrt_wire.specs.Results.{AreFrames, Splits, spellings, Finding, finding, fault_findings, Place, place_behind, results}
 use Rattle.mrt_frames.specs.Rest.{rest_kind, rest_fault}
-use Rattle.mrt_wire.specs.Results.{Finding, finding, fault_findings}
-use Rattle.mrt_wire.specs.Place.{Place, place_behind, results}
 use Rattle.mrt_wire.specs.Answered.{Nexts, answer_findings, IsFrameAt, IsRestAt}
 use Rattle.mrt_wire.specs.SoFar.{SoFar, RestSoFar, is_nothing, place_behind_all}
 use Rattle.mrt_wire.proofs.SplitLaws.{frames_first, frames_all}

@@ -1,13 +1,12 @@
 -- Octets split into frames in one way, and frames found in front are the first of any splitting.
-use Rattle.std.proofs.Common.{◌≡◌, inl, inr, ℕ, List, [], ◌∷◌, ◌++◌, Option, Some, None, sym, ap, ◌∙◌, refl, subst}
-use Rattle.std.proofs.lemmas.List.{append_assoc, append-nil}
+use Rattle.std.proofs.Common.{◌≡◌, inl, inr, ℕ, List, [], ◌∷◌, ◌++◌, Option, Some, None, sym, ap, ◌∙◌, refl, subst, append_assoc, append-nil}
 use Rattle.mrt_frames.specs.declared.fault.RecordKind.{RecordKind}
 use Rattle.mrt_events.specs.declared.event.Event.{Event}
 use Rattle.mrt_events.specs.declared.stamp.Stamp.{Stamp}
 use Rattle.mrt_frames.specs.Record.{Record, spelling, BeginsWithNoRecord}
 use Rattle.mrt_wire.specs.Content.{Content, IsBody}
 use Rattle.mrt_wire.specs.Verdict.{content_fault, HasFault, MakesEvent, Verdict, Accepted, Refused, Frame, Index, ReadsAs, index_after, event_of}
-use Rattle.mrt_wire.specs.Splitting.{AreFrames, Splits, spellings}
+use Rattle.mrt_wire.specs.Results.{AreFrames, Splits, spellings}
 use Rattle.mrt_wire.proofs.ContentLaws.{same_content}
 use Rattle.mrt_frames.proofs.RecordLaws.{same_front}
 

@@ -16,10 +16,7 @@ use Rattle.mrt_wire.specs.declared.next.Next.{Next}
 use Rattle.mrt_wire.specs.declared.next.Next.TheVariants as next
 use Rattle.mrt_events.specs.declared.stamp.Stamp.{Stamp}
 use Rattle.mrt_wire.specs.Verdict.{Frame, ReadsAs, Index}
-use Rattle.mrt_wire.specs.Results.{Finding, Found, Bad, finding, fault_findings}
-use Rattle.mrt_wire.specs.Place.{Place, place_behind, results}
-use Rattle.mrt_wire.specs.Next.{Took}
-use Rattle.mrt_wire.specs.Splitting.{Splits}
+use Rattle.mrt_wire.specs.Results.{Finding, Found, Bad, finding, fault_findings, Place, place_behind, results, Took, Splits}
 
 -- what an answer tells
 abbrev pub answer_findings : Next → List Finding

@@ -1,7 +1,5 @@
 -- What the contents of records say of routes and sessions.
-use Rattle.std.specs.Prelude.{ℕ, List, [], ◌∷◌, ◌++◌, map, slice_get, Option, Some, None}
-use Rattle.std.specs.Option.{is_none, option_to_list}
-use Rattle.std.specs.List.{find, flat_map}
+use Rattle.std.specs.Prelude.{ℕ, List, [], ◌∷◌, ◌++◌, map, slice_get, Option, Some, None, is_none, option_to_list, find, flat_map}
 use Rattle.ip_prefix.specs.Network.{Network}
 use Rattle.bgp_wire.specs.declared.attrs.Attrs.{Attrs}
 use Rattle.bgp_wire.specs.declared.message.Message.{Message}

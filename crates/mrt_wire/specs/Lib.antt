@@ -13,11 +13,8 @@ pub use Rattle.mrt_events.specs.Event
 pub use Rattle.mrt_events.specs.SharedRoute
 pub use Rattle.mrt_events.specs.Peer
 pub mod Profile
-pub mod Splitting
 pub mod Results
-pub mod Place
 pub mod Judging
 pub use Rattle.mrt_frames.specs.Taking
-pub mod Next
 pub mod Answered
 pub mod SoFar

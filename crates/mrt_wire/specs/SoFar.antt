@@ -5,10 +5,8 @@ use Rattle.std.specs.Io.KnownBytes.{Consumes}
 use Rattle.mrt_wire.specs.declared.next.Phase.{Phase}
 use Rattle.mrt_wire.specs.declared.next.Phase.TheVariants.{Reading, Ended, Spent}
 use Rattle.mrt_wire.specs.Verdict.{Frame}
-use Rattle.mrt_wire.specs.Splitting.{AreFrames, spellings}
-use Rattle.mrt_wire.specs.Results.{Finding}
+use Rattle.mrt_wire.specs.Results.{AreFrames, spellings, Finding, Place, place_behind, results}
 use Rattle.mrt_frames.specs.Taken.{EndsAt}
-use Rattle.mrt_wire.specs.Place.{Place, place_behind, results}
 
 -- the place behind frames
 abbrev pub place_behind_all : Place → List Frame → Place

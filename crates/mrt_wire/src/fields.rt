@@ -39,10 +39,7 @@ pub(crate) fn skip(size: usize, octets: &[u8]) -> Option<&[u8]>
         × Begins (AreOctets size) value rest.now octets.now) }
     ensures none { IfNone result (BeginsWithNone (AreOctets size) octets.now) }
 {
-    if octets.len() < size {
-        return None;
-    }
-    let (_, rest) = octets.split_at(size);
+    let (_, rest) = octets.split_at_checked(size)?;
     Some(rest)
 }
 
@@ -100,11 +97,7 @@ pub(crate) fn split_sized(octets: &[u8]) -> Option<(&[u8], &[u8])>
     ensures none { IfNone result (BeginsWithNone AreSized octets.now) }
 {
     let number = split_short(octets)?;
-    let size = usize::from(number.value);
-    if number.rest.len() < size {
-        return None;
-    }
-    Some(number.rest.split_at(size))
+    number.rest.split_at_checked(usize::from(number.value))
 }
 
 /// Makes the address that of this family in front, and answers what follows it. Where none stands
@@ -121,23 +114,13 @@ pub(crate) fn fill_address<'a>(
 {
     match family {
         Family::V4 => {
-            if octets.len() < 4 {
-                return None;
-            }
-            let (front, rest) = octets.split_at(4);
-            let mut buffer = [0; 4];
-            buffer.copy_from_slice(front);
-            *addr = Addr::v4(buffer);
+            let (front, rest) = octets.split_first_chunk()?;
+            *addr = Addr::v4(*front);
             Some(rest)
         }
         Family::V6 => {
-            if octets.len() < 16 {
-                return None;
-            }
-            let (front, rest) = octets.split_at(16);
-            let mut buffer = [0; 16];
-            buffer.copy_from_slice(front);
-            *addr = Addr::v6(buffer);
+            let (front, rest) = octets.split_first_chunk()?;
+            *addr = Addr::v6(*front);
             Some(rest)
         }
     }
@@ -154,9 +137,7 @@ pub(crate) fn split_peer_of(
     ensures { FindsField (SpellsPeerOf family width) octets.now result }
 {
     let mut peer = blank_peer();
-    let Some(after_addr) = fill_address(&mut peer.addr, family, octets) else {
-        return None;
-    };
+    let after_addr = fill_address(&mut peer.addr, family, octets)?;
     let asn = split_asn(width, after_addr)?;
     peer.asn = asn.value;
     Some(Field {

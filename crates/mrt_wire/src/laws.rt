@@ -11,7 +11,7 @@ ghost use Rattle.mrt_wire.specs.declared.table_dump.TheConstants.{NUMBERS_SIZE, 
 ghost use Rattle.mrt_wire.specs.Content.{Content, IsBody};
 ghost use Rattle.mrt_wire.specs.Verdict.{Frame, Index};
 ghost use Rattle.mrt_frames.specs.Parts.{IsOctets};
-ghost use Rattle.mrt_wire.specs.Splitting.{Splits};
+ghost use Rattle.mrt_wire.specs.Results.{Splits};
 ghost use Rattle.mrt_wire.specs.Answered.{SplitsOneWay};
 
 /// No body of one type and subtype holds two contents.

@@ -14,7 +14,6 @@ mod rib;
 mod route_pool;
 mod session;
 mod source;
-mod stamp;
 mod table_dump;
 mod update;
 

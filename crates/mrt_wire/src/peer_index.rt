@@ -57,10 +57,7 @@ fn split_peer(octets: &[u8]) -> Option<Field<'_, Peer>>
     let kind = split_octet(octets)?;
     let after_id = skip(ID_SIZE, kind.rest)?;
     let (family, width) = (peer_family(kind.value), peer_width(kind.value));
-    let Some(peer) = split_peer_of(family, width, after_id) else {
-        return None;
-    };
-    Some(peer)
+    split_peer_of(family, width, after_id)
 }
 
 /// The peers that the octets begin with, behind their number.

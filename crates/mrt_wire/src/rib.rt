@@ -7,13 +7,12 @@ ghost use Rattle.ip_prefix.specs.Fronts.{BeginsWithNone};
 ghost use Rattle.bgp_wire.specs.Readers.{Refuses, RefusesFront};
 ghost use Rattle.mrt_wire.specs.Rib.{PrefixEntries, AreEntryFields, SpellsEntry, SpellsEntries};
 ghost use Rattle.mrt_wire.specs.Rib.{SpellsRib};
-ghost use Rattle.mrt_wire.specs.Items.{first_unknown};
+ghost use Rattle.mrt_wire.specs.Items.{entry_time, first_unknown};
 ghost use Rattle.mrt_wire.specs.Judging.{Adds, AreItemsOf, EntriesTold, IsTimed, entry_read, snapshot_items};
 
 use crate::fields::{skip, split_short, split_sized, split_word};
 use crate::pool::Pool;
 use crate::route_pool::SentAttrs;
-use crate::stamp::time_of;
 use bgp_wire::{AsWidth, WireFault};
 use ip_prefix::{Family, Prefix};
 use mrt_events::{Item, Peer, Route, Stamp};
@@ -52,6 +51,18 @@ pub(crate) struct Snapshot<'a> {
 pub(crate) struct EntryItems {
     pub(crate) items: Vec<Item>,
     pub(crate) unknown: Option<u16>,
+}
+
+/// The time of the route of a table's entry, of which the first is that of its record, and the
+/// second that at which it was originated.
+#[inline]
+pub(crate) fn time_of(stamp: Stamp, seconds: u32, originated: u32) -> u32
+    ensures { result ≡ entry_time stamp seconds originated }
+{
+    match stamp {
+        Stamp::Dump => seconds,
+        Stamp::Change => originated,
+    }
 }
 
 /// An entry as it is framed, and what follows it.

@@ -59,10 +59,7 @@ fn address_octets(family: Family) -> usize
 fn split_family(octets: &[u8]) -> Option<Field<'_, Family>>
     ensures { FindsField SpellsFamily octets.now result }
 {
-    if octets.len() < 2 {
-        return None;
-    }
-    let (front, rest) = octets.split_at(2);
+    let (front, rest) = octets.split_at_checked(2)?;
     let family = match front {
         [0, 1] => Family::V4,
         [0, 2] => Family::V6,
@@ -74,36 +71,6 @@ fn split_family(octets: &[u8]) -> Option<Field<'_, Family>>
     })
 }
 
-/// The peer's AS number in front, and what follows the interface.
-fn split_systems(width: AsWidth, octets: &[u8]) -> Option<Field<'_, u32>>
-    ensures some { IfSome result (λ f. (local interface : List ℕ)
-        × Begins (AreSystems width) (f.value, (local, interface)) f.rest.now octets.now) }
-    ensures none { IfNone result (BeginsWithNone (AreSystems width) octets.now) }
-{
-    let asn = split_asn(width, octets)?;
-    let after_local = skip(width.octets(), asn.rest)?;
-    let rest = skip(INTERFACE_SIZE, after_local)?;
-    Some(Field {
-        value: asn.value,
-        rest,
-    })
-}
-
-/// Makes the address the peer's behind the address family in front, and answers what follows the
-/// local address. Where none stands there, nothing is said of it.
-fn fill_peer_address<'a>(addr: &mut Addr, octets: &'a [u8]) -> Option<&'a [u8]>
-    ensures some { IfSome result (λ rest. (family : Family) × (local : List ℕ)
-        × Begins AreAddresses (family, (addr.new, local)) rest.now octets.now) }
-    ensures none { IfNone result (BeginsWithNone AreAddresses octets.now) }
-{
-    let family = split_family(octets)?;
-    let Some(after_peer) = fill_address(addr, family.value, family.rest) else {
-        return None;
-    };
-    let rest = skip(address_octets(family.value), after_peer)?;
-    Some(rest)
-}
-
 /// Makes the peer that of the session in front, and answers what follows it. Where none stands
 /// there, nothing is said of it.
 fn fill_session_peer<'a>(peer: &mut Peer, width: AsWidth, octets: &'a [u8]) -> Option<&'a [u8]>
@@ -111,10 +78,12 @@ fn fill_session_peer<'a>(peer: &mut Peer, width: AsWidth, octets: &'a [u8]) -> O
         Begins (SpellsSessionPeer width) peer.new rest.now octets.now) }
     ensures none { IfNone result (BeginsWithNone (SpellsSessionPeer width) octets.now) }
 {
-    let asn = split_systems(width, octets)?;
-    let Some(rest) = fill_peer_address(&mut peer.addr, asn.rest) else {
-        return None;
-    };
+    let asn = split_asn(width, octets)?;
+    let after_local = skip(width.octets(), asn.rest)?;
+    let after_systems = skip(INTERFACE_SIZE, after_local)?;
+    let family = split_family(after_systems)?;
+    let after_peer = fill_address(&mut peer.addr, family.value, family.rest)?;
+    let rest = skip(address_octets(family.value), after_peer)?;
     peer.asn = asn.value;
     Some(rest)
 }
@@ -124,9 +93,7 @@ fn read_state_change(width: AsWidth, octets: &[u8]) -> Option<StateChange>
     ensures { Finds (SpellsStateChange width) octets.now result }
 {
     let mut peer = blank_peer();
-    let Some(rest) = fill_session_peer(&mut peer, width, octets) else {
-        return None;
-    };
+    let rest = fill_session_peer(&mut peer, width, octets)?;
     let old = split_short(rest)?;
     let new = split_short(old.rest)?;
     Some(StateChange {

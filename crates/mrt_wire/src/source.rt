@@ -3,7 +3,7 @@
 ghost use Rattle.std.specs.Prelude.{◌≡◌, ◌≤◌, ◌+◌, ◌||◌, ◌↔◌, Ok, Err, IsTrue};
 ghost use Rattle.mrt_wire.specs.declared.next.Next.{Next};
 ghost use Rattle.mrt_frames.specs.Device.{is_read};
-ghost use Rattle.mrt_wire.specs.Place.{start_place};
+ghost use Rattle.mrt_wire.specs.Results.{start_place};
 ghost use Rattle.mrt_wire.specs.Judging.{judged_answer};
 ghost use Rattle.mrt_wire.specs.Answered.{IsStep, IsFirstResult, spent_place};
 
@@ -34,7 +34,7 @@ pub struct Source {
 impl Model for Source {
     ghost use Rattle.std.specs.Prelude.{◌*◌, ◌≤◌};
     ghost use Rattle.mrt_frames.specs.declared.header.TheConstants.{HEADER_SIZE};
-    ghost use Rattle.mrt_wire.specs.Place.{Place};
+    ghost use Rattle.mrt_wire.specs.Results.{Place};
 
     ghost Value = { Place };
 

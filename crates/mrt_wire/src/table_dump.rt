@@ -12,8 +12,8 @@ use crate::fields::{
 };
 use crate::peers::place_of;
 use crate::pool::Pool;
+use crate::rib::time_of;
 use crate::route_pool::SentAttrs;
-use crate::stamp::time_of;
 use bgp_wire::{AsWidth, WireFault};
 use ip_prefix::{Addr, Family, Prefix, V4_OCTETS};
 use mrt_events::{Items, Peer, Stamp};
@@ -41,9 +41,7 @@ fn split_prefix(family: Family, octets: &[u8]) -> Option<Field<'_, Prefix>>
     ensures { FindsField (SpellsPrefix family) octets.now result }
 {
     let mut addr = Addr::v4([0; V4_OCTETS]);
-    let Some(after_addr) = fill_address(&mut addr, family, octets) else {
-        return None;
-    };
+    let after_addr = fill_address(&mut addr, family, octets)?;
     let len = split_octet(after_addr)?;
     let prefix = Prefix::new(addr, len.value)?;
     Some(Field {

@@ -1,6 +1,4 @@
-use Rattle.std.proofs.Common.{◌≡◌, ℕ, ◌*◌, ◌<◌, ◌≤◌, List, ◌∷◌, ◌++◌, length, get_or, drop, Fits, w64, ap, sym, subst, ◌∙◌, arith}
-use Rattle.std.proofs.Math.Nat.{mul_comm}
-use Rattle.std.proofs.lemmas.List.{length-append}
+use Rattle.std.proofs.Common.{◌≡◌, ℕ, ◌*◌, ◌<◌, ◌≤◌, List, ◌∷◌, ◌++◌, length, get_or, drop, Fits, w64, ap, ap₂, sym, subst, ◌∙◌, arith, mul_comm, length-append, take-append-drop}
 use Rattle.ip_prefix.specs.Sequences.{Begins}
 use Rattle.bgp_paths.specs.declared.numbers.AsWidth.{AsWidth}
 use Rattle.bgp_paths.specs.declared.segment.Segment.{Segment}
@@ -34,23 +32,26 @@ returns-then-count-eq0-clause-none c segment rest b =
     let h = held c.args.width segment rest c.args.octets.now c.in_ok-code.field-0-0.now c.in_ok-count.field-0-0.now c.in_ok-count.numbers.now b front in
     omega (arith, h.0, c.if-count-eq0.true)
 
-pub returns-then-numbers-size-clause-none : goal.returns-then-numbers-size-clause-none
-returns-then-numbers-size-clause-none c segment rest b =
+pub returns-in_err-body-clause-none : goal.returns-in_err-body-clause-none
+returns-in_err-body-clause-none c = rw c.from_residual-in_err-body.ensures λ segment rest b.
     let front = c.in_ok-code.ensures.cases.0 ∙ ap (λ l. c.in_ok-code.field-0-0.now ∷ l) c.in_ok-count.ensures.cases.0 in
     let h = held c.args.width segment rest c.args.octets.now c.in_ok-code.field-0-0.now c.in_ok-count.field-0-0.now c.in_ok-count.numbers.now b front in
     let size : c.from.result * c.octets.result ≡ c.in_ok-count.field-0-0.now * octets_at c.args.width = λ i. c.from.ensures i * c.octets.ensures i in
-    omega (arith, h.1, c.if-numbers-size.true, size)
+    omega (arith, h.1, c.in_err-body.ensures.cases, size)
 
 pub returns-clause-some : goal.returns-clause-some
 returns-clause-some c =
     let count = c.in_ok-count.field-0-0.now in
+    let numbers = c.in_ok-count.numbers.now in
+    let cut = c.in_ok-body.ensures.cases in
+    let parts : numbers ≡ c.in_ok-body.body.now ++ c.in_ok-body.rest.now = sym (ap₂ (λ front back. front ++ back) cut.1 cut.2 ∙ take-append-drop (c.from.result * c.octets.result) numbers) in
     let front : c.args.octets.now ≡ c.in_ok-code.field-0-0.now ∷ count ∷ c.in_ok-count.numbers.now
     = c.in_ok-code.ensures.cases.0 ∙ ap (λ l. c.in_ok-code.field-0-0.now ∷ l) c.in_ok-count.ensures.cases.0 in (
       count,
       record {
         some = omega (arith, c.if-count-eq0.false);
         fits = omega (arith, c.type_inv.octets 1, ap (λ l. get_or l 1 0) front);
-        size = c.split_at.ensures.front_len ∙ (λ i. c.from.ensures i * c.octets.ensures i) ∙ mul_comm count (octets_at c.args.width);
-        whole = front ∙ (λ i. c.in_ok-kind.ensures i ∷ count ∷ c.split_at.ensures.by_index.0 i);
+        size = cut.3 ∙ (λ i. c.from.ensures i * c.octets.ensures i) ∙ mul_comm count (octets_at c.args.width);
+        whole = front ∙ (λ i. c.in_ok-kind.ensures i ∷ count ∷ parts i);
       },
     )

@@ -1,5 +1,4 @@
-use Rattle.std.proofs.Common.{◌≡◌, ◌++◌, take}
-use Rattle.std.specs.List.{flat_map}
+use Rattle.std.proofs.Common.{◌≡◌, ◌++◌, take, flat_map}
 use Rattle.octet_text.specs.declared.cursor.TheConstants.{SPACE}
 use Rattle.ip_prefix.specs.Written.{ended_words}
 use Rattle.bgp_paths.specs.Text.{segment_words}

@@ -1,5 +1,4 @@
-use Rattle.std.proofs.Common.{◌≡◌, ◌<◌, false, not, ◌∷◌, ◌++◌, get_or, ap, sym, subst, ◌∙◌, arith}
-use Rattle.std.specs.Bool.{◌==◌}
+use Rattle.std.proofs.Common.{◌≡◌, ◌<◌, false, not, ◌∷◌, ◌++◌, get_or, ap, sym, subst, ◌∙◌, arith, ◌==◌}
 use Rattle.bgp_wire.specs.Attribute.{is_extended, length_octets, length_limit}
 use Rattle.bgp_wire.proofs.framing.split_length.Goals as goal
 

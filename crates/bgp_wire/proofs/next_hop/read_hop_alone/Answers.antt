@@ -10,8 +10,8 @@ returns c =
     let rest = c.in_ok-len.rest.now in
     let len = c.in_ok-len.field-0-0.now in
     let begun = c.in_ok-len.ensures.cases.0 in
-    let front : c.split_at.result.0.now ≡ take len rest = c.split_at.ensures.front ∙ ap (λ n. take n rest) c.from-size.ensures in
-    finds_whole SpellsNextHop SpellsHopAlone c.split_at.result.0.now octets c.read_next_hop.result
-    (λ hop s. hop_alone hop len rest octets begun (omega (arith, c.if-rest-size.false, c.from-size.ensures)) (subst (SpellsNextHop hop) front s))
+    let front : c.in_ok-hop.hop.now ≡ take len rest = c.in_ok-hop.ensures.cases.1 ∙ ap (λ n. take n rest) c.from.ensures in
+    finds_whole SpellsNextHop SpellsHopAlone c.in_ok-hop.hop.now octets c.read_next_hop.result
+    (λ hop s. hop_alone hop len rest octets begun (omega (arith, c.in_ok-hop.ensures.cases.0, c.from.ensures)) (subst (SpellsNextHop hop) front s))
     (λ hop s. subst (SpellsNextHop hop) (sym front) (hop_in_front hop len rest octets begun s).1)
     c.read_next_hop.ensures

@@ -20,7 +20,7 @@ returns c =
     let first = c.in_ok-first.field-0-0.now in
     let rest = c.in_ok-first.field-0-1.now in
     let begun = c.in_ok-first.ensures.cases.0 in
-    finds_whole SpellsHopAlone SpellsRibHop c.split_at.result.1.now octets c.read_hop_alone-2.result
-    (λ hop s. full_form hop first rest octets begun c.if-first-ne0.false (omega arith) (subst (SpellsHopAlone hop) c.split_at.ensures.back s))
-    (λ hop s. subst (SpellsHopAlone hop) (sym c.split_at.ensures.back) (in_full hop first rest octets begun c.if-first-ne0.false s).1)
+    finds_whole SpellsHopAlone SpellsRibHop c.in_ok-rest.rest.now octets c.read_hop_alone-2.result
+    (λ hop s. full_form hop first rest octets begun c.if-first-ne0.false (omega (arith, c.in_ok-rest.ensures.cases.0)) (subst (SpellsHopAlone hop) c.in_ok-rest.ensures.cases.2 s))
+    (λ hop s. subst (SpellsHopAlone hop) (sym c.in_ok-rest.ensures.cases.2) (in_full hop first rest octets begun c.if-first-ne0.false s).1)
     c.read_hop_alone-2.ensures

@@ -1,6 +1,5 @@
 -- What stands in the high half is shifted once more.
-use Rattle.std.proofs.Common.{◌≡◌, ℕ, ◌+◌, ◌-◌, ◌*◌, ◌/◌, ◌%◌, ◌^◌, sym, ap, ◌∙◌, arith, ◌<◌}
-use Rattle.std.proofs.Math.Nat.{mul_assoc, mod-eq_of_lt}
+use Rattle.std.proofs.Common.{◌≡◌, ℕ, ◌+◌, ◌-◌, ◌*◌, ◌/◌, ◌%◌, ◌^◌, sym, ap, ◌∙◌, arith, ◌<◌, mul_assoc, mod-eq_of_lt}
 use Rattle.std.proofs.lemmas.Nat.{pow-add, shr_split, shr-shr}
 use Rattle.ip_prefix.proofs.fronts.highest.Goals as goal
 

@@ -1,5 +1,4 @@
-use Rattle.std.proofs.Common.{◌∷◌, [], ap, sym, subst, length, arith}
-use Rattle.std.proofs.lemmas.List.{length-append}
+use Rattle.std.proofs.Common.{◌∷◌, [], ap, sym, subst, length, arith, length-append}
 use Rattle.ip_prefix.specs.Sequences.{Begins, SpellsAll}
 use Rattle.octet_forms.proofs.Sequences.{one_more}
 use Rattle.mrt_wire.specs.PeerIndex.{SpellsPeer}

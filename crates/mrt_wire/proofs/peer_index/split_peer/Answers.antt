@@ -1,7 +1,12 @@
+use Rattle.std.proofs.Common.{ℕ, List, Option, Some, None}
 use Rattle.ip_prefix.specs.Sequences.{Begins}
 use Rattle.octet_forms.proofs.Fields.{both_front, none_first, none_second}
 use Rattle.mrt_wire.specs.declared.peer_index.TheConstants.{ID_SIZE}
-use Rattle.mrt_wire.specs.PeerIndex.{SpellsPeerFields}
+use Rattle.mrt_events.specs.declared.peer.Peer.{Peer}
+use Rattle.mrt_wire.specs.declared.fields.Field.{Field}
+use Rattle.mrt_wire.specs.Fields.{SpellsOctet, AreOctets, SpellsPeerOf}
+use Rattle.mrt_wire.specs.Judging.{FindsField}
+use Rattle.mrt_wire.specs.PeerIndex.{peer_family, peer_width, SpellsPeer, SpellsPeerFields}
 use Rattle.mrt_wire.proofs.FieldFronts.{octet_front, octets_front}
 use Rattle.mrt_wire.proofs.PeerIndexLaws.{no_peer}
 use Rattle.mrt_wire.proofs.peer_index.split_peer.Goals as goal
@@ -15,21 +20,19 @@ returns-in_err-after_id c =
     rw c.from_residual-in_err-after_id.ensures
     (no_peer c.args.octets.now (none_second _ _ octet_front kind.value kind.rest.now c.args.octets.now c.in_ok-kind.ensures (none_first _ _ kind.rest.now c.in_err-after_id.ensures.none)))
 
-pub returns-in_default : goal.returns-in_default
-returns-in_default c =
-    let kind = c.in_ok-kind.kind in
-    let id = c.in_ok-after_id.ensures.some in
-    let none = rw (c.peer_family-family.ensures, c.peer_width-width.ensures) at c.in_default.ensures in
-    no_peer c.args.octets.now (none_second _ _ octet_front kind.value kind.rest.now c.args.octets.now c.in_ok-kind.ensures
-    (none_second _ _ (octets_front ID_SIZE) id.0 c.in_ok-after_id.after_id.now kind.rest.now id.1 none))
+-- behind the type and the ID stands a peer of that type, or none
+behind : (kind : ℕ) (id after_kind after octets : List ℕ) (found : Option (Field Peer)) → Begins SpellsOctet kind after_kind octets → Begins (AreOctets ID_SIZE) id after after_kind
+    → FindsField (SpellsPeerOf (peer_family kind) (peer_width kind)) after found → FindsField SpellsPeer octets found
+behind kind id after_kind after octets None first second none =
+    no_peer octets (none_second _ _ octet_front kind after_kind octets first (none_second _ _ (octets_front ID_SIZE) id after after_kind second none))
+behind kind id after_kind after octets (Some peer) first second found =
+    let b : Begins SpellsPeerFields (kind, (id, peer.value)) peer.rest.now octets
+    = both_front _ _ kind (id, peer.value) after_kind peer.rest.now octets first (both_front _ _ id peer.value after peer.rest.now after_kind second found) in
+    record { front = b.front; spelled = (kind, id, b.spelled); whole = b.whole }
 
 pub returns : goal.returns
 returns c =
     let kind = c.in_ok-kind.kind in
-    let peer = c.in-Some.peer in
     let id = c.in_ok-after_id.ensures.some in
-    let found = rw (c.peer_family-family.ensures, c.peer_width-width.ensures) at c.in-Some.ensures in
-    let b : Begins SpellsPeerFields (kind.value, (id.0, peer.value)) peer.rest.now c.args.octets.now
-    = both_front _ _ kind.value (id.0, peer.value) kind.rest.now peer.rest.now c.args.octets.now c.in_ok-kind.ensures
-    (both_front _ _ id.0 peer.value c.in_ok-after_id.after_id.now peer.rest.now kind.rest.now id.1 found) in
-    record { front = b.front; spelled = (kind.value, id.0, b.spelled); whole = b.whole }
+    behind kind.value id.0 kind.rest.now c.in_ok-after_id.after_id.now c.args.octets.now c.split_peer_of.result c.in_ok-kind.ensures id.1
+    (rw (c.peer_family-family.ensures, c.peer_width-width.ensures) at c.split_peer_of.ensures)

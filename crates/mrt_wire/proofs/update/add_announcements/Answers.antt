@@ -1,5 +1,4 @@
-use Rattle.std.proofs.Common.{ap, subst, ◌∙◌}
-use Rattle.std.proofs.lemmas.List.{take_all}
+use Rattle.std.proofs.Common.{ap, subst, ◌∙◌, take_all}
 use Rattle.mrt_events.specs.Event.{Announced}
 use Rattle.mrt_wire.specs.Items.{announcements}
 use Rattle.mrt_wire.specs.Judging.{Adds}

@@ -1,5 +1,4 @@
-use Rattle.std.proofs.Common.{◌≡◌, ℕ, ◌<◌, Bool, true, false, List, [], ◌∷◌, ◌++◌, ◌||◌, length, get_or, set, ap, sym, subst, ◌∙◌, refl, arith}
-use Rattle.std.specs.Bool.{◌==◌}
+use Rattle.std.proofs.Common.{◌≡◌, ℕ, ◌<◌, Bool, true, false, List, [], ◌∷◌, ◌++◌, ◌||◌, length, get_or, set, ap, sym, subst, ◌∙◌, refl, arith, ◌==◌}
 use Rattle.bgp_wire.specs.Attribute.{Attribute}
 use Rattle.bgp_wire.specs.SeenTypes.{Types, Tells}
 use Rattle.bgp_wire.proofs.Noting.{noted, other_seen, other_again, marked, marked_before, not_again}

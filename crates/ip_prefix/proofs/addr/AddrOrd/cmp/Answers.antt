@@ -1,5 +1,4 @@
-use Rattle.std.proofs.Common.{◌≡◌, Equal, rules, nat_cmp, ap, ◌∙◌}
-use Rattle.std.specs.declared.cmp.Ordering.{Ordering}
+use Rattle.std.proofs.Common.{◌≡◌, Equal, rules, nat_cmp, ap, ◌∙◌, Ordering}
 use Rattle.std.specs.Ordering.{ordering_then}
 use Rattle.ip_prefix.specs.Order.{family_cmp, address_cmp}
 use Rattle.ip_prefix.proofs.Comparing.{address_cmp-kept}

@@ -1,6 +1,5 @@
 -- The bit of the high half is one of the number.
-use Rattle.std.proofs.Common.{◌≡◌, ℕ, ◌+◌, ◌-◌, ◌/◌, ◌^◌, ◌==◌, bit_and, sym, ap, ◌∙◌, arith}
-use Rattle.std.proofs.lemmas.Nat.{shr-shr}
+use Rattle.std.proofs.Common.{◌≡◌, ℕ, ◌+◌, ◌-◌, ◌/◌, ◌^◌, ◌==◌, bit_and, sym, ap, ◌∙◌, arith, shr-shr}
 use Rattle.ip_prefix.specs.Halves.{whole, high-again}
 use Rattle.ip_prefix.proofs.number.Number.bit.Goals as goal
 

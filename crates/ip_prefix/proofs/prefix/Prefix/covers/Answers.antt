@@ -1,6 +1,5 @@
 -- The other prefix has the bits of this one where it is as long and its number, cleared below them, is this one's.
-use Rattle.std.proofs.Common.{◌≡◌, ◌≤◌, ◌<◌, ◌==◌, ◌∙◌, length, ap, sym, arith}
-use Rattle.std.proofs.lemmas.Bool.{leb-true, leb-false}
+use Rattle.std.proofs.Common.{◌≡◌, ◌≤◌, ◌<◌, ◌==◌, ◌∙◌, length, ap, sym, arith, leb-true, leb-false}
 use Rattle.ip_prefix.specs.Filled.{highest_part}
 use Rattle.ip_prefix.specs.Masked.{length-masked, bit_count_le}
 use Rattle.ip_prefix.specs.Covering.{covers}

@@ -1,9 +1,7 @@
 -- The bits in front are those of the address where the numbers that they spell are the same.
-use Rattle.std.proofs.Common.{◌≡◌, ℕ, ◌+◌, ◌-◌, ◌/◌, ◌^◌, ◌<◌, ◌≤◌, ◌==◌, Bool, List, length, take, sym, ap, subst, ◌∙◌, arith, rules, length-take-le, pow-add}
-use Rattle.std.proofs.Math.Nat.{div-lt_iff_lt-mul, mod-eq_of_lt}
+use Rattle.std.proofs.Common.{◌≡◌, ℕ, ◌+◌, ◌-◌, ◌/◌, ◌^◌, ◌<◌, ◌≤◌, ◌==◌, Bool, List, length, take, sym, ap, subst, ◌∙◌, arith, rules, length-take-le, pow-add, div-lt_iff_lt-mul, mod-eq_of_lt, pow_pos}
 use Rattle.std.proofs.lemmas.Bool.{lt-leb, eqb-true, eq-eqb}
 use Rattle.std.proofs.lemmas.List.{take-append-le}
-use Rattle.std.proofs.lemmas.Nat.{pow_pos}
 use Rattle.ip_prefix.specs.Bits.{bits_of, bits_of_octets, number_of}
 use Rattle.ip_prefix.specs.BitLemmas.{number_of-bits_of}
 use Rattle.ip_prefix.specs.Network.{Network, begin_with}

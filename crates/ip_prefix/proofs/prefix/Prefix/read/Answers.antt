@@ -1,6 +1,5 @@
 -- The highest bits of the number are those of the octets behind the length.
-use Rattle.std.proofs.Common.{◌≡◌, ℕ, List, ◌≤◌, ◌<◌, ◌+◌, ◌-◌, ◌*◌, ◌/◌, ◌^◌, ◌∷◌, ◌∙◌, length, take, get_or, ap, sym, subst, add-one, arith}
-use Rattle.std.proofs.lemmas.List.{length-take-le}
+use Rattle.std.proofs.Common.{◌≡◌, ℕ, List, ◌≤◌, ◌<◌, ◌+◌, ◌-◌, ◌*◌, ◌/◌, ◌^◌, ◌∷◌, ◌∙◌, length, take, get_or, ap, sym, subst, add-one, arith, length-take-le}
 use Rattle.ip_prefix.specs.Address.{bit_count}
 use Rattle.ip_prefix.specs.Bits.{bits_of}
 use Rattle.ip_prefix.specs.Masked.{IsMasked, bit_count_le}

@@ -1,6 +1,5 @@
-use Rattle.std.proofs.Common.{◌++◌, ◌∷◌, [], map, ap, sym, ◌∙◌}
+use Rattle.std.proofs.Common.{◌++◌, ◌∷◌, [], map, ap, sym, ◌∙◌, option_to_list}
 use Rattle.std.proofs.lemmas.List.{map-append}
-use Rattle.std.specs.Option.{option_to_list}
 use Rattle.mrt_events.specs.declared.event.Item.TheVariants.{Announce}
 use Rattle.mrt_events.specs.Event.{Announced, saying}
 use Rattle.mrt_wire.specs.Items.{entry_time, route_of}
