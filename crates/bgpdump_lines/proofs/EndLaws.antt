@@ -7,11 +7,8 @@ use Rattle.mrt_wire.specs.declared.RecordKind.TheVariants.{CutRecord}
 use Rattle.mrt_events.specs.declared.stamp.Stamp.{Stamp}
 use Rattle.mrt_wire.specs.declared.next.Phase.TheVariants.{Ended}
 use Rattle.mrt_wire.specs.Verdict.{Frame}
-use Rattle.mrt_wire.specs.Splitting.{Splits}
+use Rattle.mrt_wire.specs.Results.{Splits, Finding, Found, Bad, Place, start_place, Took}
 use Rattle.mrt_wire.specs.Rest.{rest_kind}
-use Rattle.mrt_wire.specs.Results.{Finding, Found, Bad}
-use Rattle.mrt_wire.specs.Place.{Place, start_place}
-use Rattle.mrt_wire.specs.Next.{Took}
 use Rattle.mrt_wire.specs.SoFar.{SoFar}
 use Rattle.bgpdump_lines.specs.declared.fault.WriteFault.{WriteFault}
 use Rattle.bgpdump_lines.specs.declared.fault.WriteFault.TheVariants as write

@@ -1,6 +1,5 @@
 -- What was found so far, and what the input may hold on the whole.
-use Rattle.std.proofs.Common.{None, ◌≡◌, inl, inr, ℕ, ◌+◌, ◌≤◌, List, [], ◌++◌, Option, length, sym, ap, ◌∙◌, refl, subst, arith, append-nil, length-append}
-use Rattle.std.proofs.lemmas.List.{append_assoc}
+use Rattle.std.proofs.Common.{None, ◌≡◌, inl, inr, ℕ, ◌+◌, ◌≤◌, List, [], ◌++◌, Option, length, sym, ap, ◌∙◌, refl, subst, arith, append-nil, length-append, append_assoc}
 use Rattle.std.specs.Io.KnownBytes.{Consumes, IsAtEnd}
 use Rattle.std.proofs.KnownBytes.{Consumes-trans}
 use Rattle.mrt_wire.specs.declared.SourceFault.{SourceFault}
@@ -10,12 +9,9 @@ use Rattle.mrt_events.specs.declared.stamp.Stamp.{Stamp}
 use Rattle.mrt_wire.specs.declared.next.Phase.{Phase}
 use Rattle.mrt_wire.specs.declared.next.Phase.TheVariants.{Reading, Ended, Spent}
 use Rattle.mrt_wire.specs.Verdict.{Frame}
-use Rattle.mrt_wire.specs.Splitting.{Splits, spellings}
+use Rattle.mrt_wire.specs.Results.{Splits, spellings, Finding, Place, start_place, results, Took}
 use Rattle.mrt_wire.specs.Rest.{rest_kind}
-use Rattle.mrt_wire.specs.Results.{Finding}
 use Rattle.mrt_wire.specs.Taking.{IsRest, IsBegun}
-use Rattle.mrt_wire.specs.Place.{Place, start_place, results}
-use Rattle.mrt_wire.specs.Next.{Took}
 use Rattle.mrt_wire.specs.Answered.{IsLeft}
 use Rattle.mrt_wire.specs.Device.{Stops}
 use Rattle.mrt_wire.specs.SoFar.{SoFar, RestSoFar}

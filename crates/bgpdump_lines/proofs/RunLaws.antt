@@ -10,8 +10,7 @@ use Rattle.mrt_wire.specs.declared.next.Phase.TheVariants.{Reading, Ended, Spent
 use Rattle.mrt_wire.specs.Device.{Stops}
 use Rattle.mrt_wire.specs.declared.RecordKind.{RecordKind}
 use Rattle.mrt_wire.specs.declared.RecordFault.{RecordFault}
-use Rattle.mrt_wire.specs.Results.{Finding, Found, Bad, fault_findings}
-use Rattle.mrt_wire.specs.Place.{Place}
+use Rattle.mrt_wire.specs.Results.{Finding, Found, Bad, fault_findings, Place}
 use Rattle.mrt_wire.specs.Answered.{answer_findings, Nexts}
 use Rattle.mrt_wire.specs.SoFar.{SoFar, RestSoFar, is_nothing}
 use Rattle.mrt_wire.proofs.SoFarLaws.{no_rest, SoFar-start, SoFar-answer, ends_with_none, Promises}

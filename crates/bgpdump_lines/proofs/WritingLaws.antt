@@ -1,6 +1,5 @@
 -- What lines and reports do to two outputs.
-use Rattle.std.proofs.Common.{◌≡◌, inl, inr, ℕ, Bool, ◌+◌, ◌<◌, List, [], ◌∷◌, ◌++◌, length, take, drop, get_or, Option, Err, sym, ap, ◌∙◌, refl, subst, append-nil}
-use Rattle.std.specs.List.{flat_map}
+use Rattle.std.proofs.Common.{◌≡◌, inl, inr, ℕ, Bool, ◌+◌, ◌<◌, List, [], ◌∷◌, ◌++◌, length, take, drop, get_or, Option, Err, sym, ap, ◌∙◌, refl, subst, append-nil, flat_map}
 use Rattle.std.proofs.lemmas.List.{append_assoc, take_more, take-append-drop}
 use Rattle.std.proofs.lemmas.Grind.{flat_map-append}
 use Rattle.std.specs.Io.KnownBytes.{Appends, Keeps}
@@ -10,10 +9,9 @@ use Rattle.mrt_wire.specs.declared.RecordFault.{RecordFault}
 use Rattle.mrt_wire.specs.Results.{Finding, Found, Bad}
 use Rattle.bgpdump_lines.specs.declared.fault.WriteFault.{WriteFault}
 use Rattle.bgpdump_lines.specs.declared.fault.WriteFault.TheVariants.{Write, Memory}
-use Rattle.bgpdump_lines.specs.Device.{AppendsFront}
+use Rattle.bgpdump_lines.specs.Run.{AppendsFront, Texts, joined_texts, Outputs, Writes, WritesFronts}
 use Rattle.bgpdump_lines.specs.Lines.{event_lines}
 use Rattle.bgpdump_lines.specs.Reports.{fault_report, finding_lines, finding_report, dump_texts}
-use Rattle.bgpdump_lines.specs.Run.{Texts, joined_texts, Outputs, Writes, WritesFronts}
 use Rattle.bgpdump_lines.specs.Writing.{Puts, PutsFound, PutsPart, Passes}
 
 -- an output that was left alone has a front of any text

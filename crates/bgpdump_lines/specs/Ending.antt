@@ -1,12 +1,20 @@
 -- Private.
--- How a run ends at a fault.
-use Rattle.std.specs.Prelude.{Bool, true, false, Result, Ok, Err}
+-- How a run ends at a fault, and its exit status.
+use Rattle.std.specs.Prelude.{ℕ, Bool, true, false, Result, Ok, Err}
+use Rattle.bgpdump_lines.specs.declared.outcome.Outcome.{Outcome}
+use Rattle.bgpdump_lines.specs.declared.outcome.Outcome.TheVariants.{Done, Reported, Memory}
 use Rattle.mrt_wire.specs.declared.SourceFault.{SourceFault}
 use Rattle.mrt_wire.specs.declared.SourceFault.TheVariants as source
 use Rattle.bgpdump_lines.specs.declared.fault.WriteFault.{WriteFault}
 use Rattle.bgpdump_lines.specs.declared.fault.WriteFault.TheVariants as write
-use Rattle.bgpdump_lines.specs.declared.outcome.Outcome.{Outcome}
 use Rattle.bgpdump_lines.specs.declared.outcome.Outcome.TheVariants as outcome
+
+-- 0 where all went well, 1 where something was reported, 3 where a device or a limit stopped the run, 4 for want of memory
+abbrev pub status_of : Outcome → ℕ
+status_of Done = 0
+status_of Reported = 1
+status_of Memory = 4
+status_of other = 3
 
 -- by a fault of the source
 abbrev pub source_outcome : SourceFault → Outcome

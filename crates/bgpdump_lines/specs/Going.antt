@@ -5,8 +5,7 @@ use Rattle.std.specs.Io.KnownBytes.{Consumes}
 use Rattle.mrt_wire.specs.declared.SourceFault.{SourceFault}
 use Rattle.mrt_wire.specs.declared.next.Phase.TheVariants.{Reading, Ended}
 use Rattle.mrt_wire.specs.Device.{Stops}
-use Rattle.mrt_wire.specs.Results.{Finding}
-use Rattle.mrt_wire.specs.Place.{Place}
+use Rattle.mrt_wire.specs.Results.{Finding, Place}
 use Rattle.mrt_wire.specs.Answered.{IsLeft}
 use Rattle.mrt_wire.specs.SoFar.{SoFar}
 use Rattle.bgpdump_lines.specs.declared.fault.WriteFault.{WriteFault}

@@ -1,5 +1,3 @@
-pub mod Device
-pub mod Printed
 pub mod Lines
 pub mod Fields
 pub mod Heading
@@ -9,4 +7,3 @@ pub mod Run
 pub mod Ending
 pub mod Writing
 pub mod Going
-pub mod Status

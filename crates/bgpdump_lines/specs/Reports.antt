@@ -1,6 +1,5 @@
 -- The reports of faulty records, and the texts of all that is found.
-use Rattle.std.specs.Prelude.{ℕ, List, [], ◌∷◌, ◌++◌, decimal, codes}
-use Rattle.std.specs.List.{flat_map}
+use Rattle.std.specs.Prelude.{ℕ, List, [], ◌∷◌, ◌++◌, decimal, codes, flat_map}
 use Rattle.mrt_wire.specs.declared.RecordKind.{RecordKind}
 use Rattle.mrt_wire.specs.declared.RecordKind.TheVariants.{CutRecord, TooLong, Unsupported, Malformed, NoIndex, PeerIndex}
 use Rattle.mrt_wire.specs.declared.RecordFault.{RecordFault}

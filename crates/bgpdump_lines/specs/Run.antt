@@ -1,20 +1,23 @@
 -- What a whole run takes from its input and writes to its outputs, where these tell their octets.
-use Rattle.std.specs.Prelude.{◌≡◌, ◌≢◌, ◌⊎◌, ℕ, List, [], ◌++◌, Option, None, ◌≤◌, length}
+use Rattle.std.specs.Prelude.{◌≡◌, ℕ, List, ◌++◌, Option, ◌≢◌, ◌⊎◌, [], None, ◌≤◌, length}
 use Rattle.std.specs.Io.KnownBytes.{Appends}
 use Rattle.mrt_events.specs.declared.stamp.Stamp.{Stamp}
 use Rattle.mrt_wire.specs.Record.{Record, spelling, IsRecord}
 use Rattle.mrt_wire.specs.Verdict.{Frame}
-use Rattle.mrt_wire.specs.Splitting.{AreFrames, Splits, spellings}
+use Rattle.mrt_wire.specs.Results.{AreFrames, Splits, spellings, Finding, start_place, results, Took}
 use Rattle.mrt_wire.specs.declared.RecordKind.TheVariants.{CutRecord}
 use Rattle.mrt_wire.specs.Rest.{rest_kind}
-use Rattle.mrt_wire.specs.Results.{Finding}
 use Rattle.mrt_wire.specs.Taking.{IsRest, IsBegun}
-use Rattle.mrt_wire.specs.Place.{start_place, results}
-use Rattle.mrt_wire.specs.Next.{Took}
 use Rattle.bgpdump_lines.specs.declared.dump.TheConstants.{LIMIT}
 use Rattle.bgpdump_lines.specs.declared.outcome.Outcome.{Outcome}
 use Rattle.bgpdump_lines.specs.declared.outcome.Outcome.TheVariants.{Done, Reported, ReadFault, WriteFault, InputTooLong, ScriptTooLong, Memory}
-use Rattle.bgpdump_lines.specs.Device.{AppendsFront}
+
+-- the known octets grow by a front of the text
+pub record AppendsFront (old new : Option (List ℕ)) (text : List ℕ) : Type 0 where
+  pub front : List ℕ
+  pub back : List ℕ
+  pub whole : text ≡ front ++ back
+  pub appended : Appends old new front
 
 -- what a run writes on the whole: lines or replies, and reports
 pub record Texts : Type 0 where

@@ -1,14 +1,18 @@
 -- Private.
--- What was written of a text, or of what was found, and whether a fault is among it.
-use Rattle.std.specs.Prelude.{◌≡◌, ◌⊎◌, ℕ, Bool, true, false, List, [], ◌∷◌, ◌++◌, Option, Result, Ok, Err}
+-- What printing does to a text, what was written of it or of what was found, and whether a fault is among it.
+use Rattle.std.specs.Prelude.{◌≡◌, ℕ, List, ◌++◌, Result, OnOk, OnErr, ◌⊎◌, Bool, true, false, [], ◌∷◌, Option, Ok, Err}
+use Rattle.bgp_wire.specs.Printed.{StillBegins}
 use Rattle.std.specs.Io.KnownBytes.{Appends}
 use Rattle.mrt_events.specs.declared.event.Event.{Event}
 use Rattle.mrt_wire.specs.Results.{Finding, Found, Bad}
 use Rattle.bgpdump_lines.specs.declared.fault.WriteFault.{WriteFault}
 use Rattle.bgpdump_lines.specs.declared.fault.WriteFault.TheVariants.{Write, Memory}
-use Rattle.bgpdump_lines.specs.Device.{AppendsFront}
+use Rattle.bgpdump_lines.specs.Run.{AppendsFront, Outputs, Writes, WritesFronts}
 use Rattle.bgpdump_lines.specs.Reports.{dump_texts}
-use Rattle.bgpdump_lines.specs.Run.{Outputs, Writes, WritesFronts}
+
+-- this came behind it; refused, it still stands in front
+abbrev pub Prints : {A E : Type 0} → List ℕ → List ℕ → List ℕ → Result A E → Type 0
+Prints old new text result = OnOk result (new ≡ old ++ text) × OnErr result (StillBegins old new)
 
 -- a text was written; or a front of it, where the output failed; or none of it, for want of memory
 abbrev pub Puts : {A : Type 0} → Option (List ℕ) → Option (List ℕ) → List ℕ → Result A WriteFault → Type 0

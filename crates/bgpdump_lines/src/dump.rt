@@ -2,8 +2,7 @@
 
 ghost use Rattle.std.specs.Prelude.{◌≡◌, ◌≢◌, ◌↔◌, ◌||◌, ℕ, List, false, IsTrue, length};
 ghost use Rattle.std.specs.Io.KnownBytes.{Consumes};
-ghost use Rattle.mrt_wire.specs.Place.{start_place};
-ghost use Rattle.mrt_wire.specs.Next.{Took};
+ghost use Rattle.mrt_wire.specs.Results.{start_place, Took};
 ghost use Rattle.mrt_wire.specs.Answered.{answer_findings};
 ghost use Rattle.mrt_wire.specs.SoFar.{is_nothing};
 ghost use Rattle.bgpdump_lines.specs.Reports.{dump_texts};
@@ -11,10 +10,8 @@ ghost use Rattle.bgpdump_lines.specs.Run.{IsTaken, SawEnd, OverDevices, EndsOver
 ghost use Rattle.bgpdump_lines.specs.Ending.{is_read_fault, is_write_fault};
 ghost use Rattle.bgpdump_lines.specs.Going.{Ends};
 
-use crate::finish::finish_outputs;
 use crate::outcome::Outcome;
-use crate::output::Output;
-use crate::waiting::pass_on_before_waiting;
+use crate::output::{Output, finish_outputs, pass_on_before_waiting};
 use crate::write::write_next;
 use ip_prefix::Text;
 use mrt_wire::{Input, Next, Source, Stamp};
@@ -68,13 +65,6 @@ pub fn run_dump<I: Input, O: Output, E: Output>(
     }
 }
 
-/// Whether nothing is left to read.
-fn is_end(next: &Next) -> bool
-    ensures { result ≡ is_nothing (answer_findings next.now) }
-{
-    matches!(next, Next::End)
-}
-
 /// Reads and writes up to the end of the input or a fault, and answers whether something was
 /// reported.
 fn dump_all<I: Input, O: Output, E: Output>(
@@ -97,7 +87,7 @@ fn dump_all<I: Input, O: Output, E: Output>(
     'steps: loop {
         pass_on_before_waiting(input, out, err)?;
         let next = source.next(input)?;
-        if is_end(&next) {
+        if let Next::End = next {
             return Ok(reported);
         }
         reported |= write_next(out, err, &mut text, &next)?;

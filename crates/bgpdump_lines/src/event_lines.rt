@@ -5,7 +5,7 @@ ghost use Rattle.mrt_events.specs.Event.{saying};
 ghost use Rattle.mrt_events.specs.SharedRoute.{Announces, AreOfOneRoute};
 ghost use Rattle.bgpdump_lines.specs.Lines.{event_lines};
 ghost use Rattle.bgpdump_lines.specs.Heading.{headed_line, headed_lines};
-ghost use Rattle.bgpdump_lines.specs.Printed.{Prints};
+ghost use Rattle.bgpdump_lines.specs.Writing.{Prints};
 ghost use Rattle.bgpdump_lines.specs.Copying.{EndsIn, EndsInRoute};
 
 use crate::fields::{put_field, put_peer, put_prefix};

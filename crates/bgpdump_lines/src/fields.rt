@@ -3,7 +3,7 @@
 ghost use Rattle.std.specs.Prelude.{◌∷◌, ◌++◌, decimal};
 ghost use Rattle.ip_prefix.specs.Text.{address_text, network_text};
 ghost use Rattle.bgp_wire.specs.Text.{communities_text};
-ghost use Rattle.bgpdump_lines.specs.Printed.{Prints};
+ghost use Rattle.bgpdump_lines.specs.Writing.{Prints};
 ghost use Rattle.bgpdump_lines.specs.Lines.{bar, line_of, origin_text, next_hop_text};
 ghost use Rattle.bgpdump_lines.specs.Lines.{number_or_zero, aggregate_word, aggregator_text};
 ghost use Rattle.bgpdump_lines.specs.Lines.{attribute_fields};

@@ -2,8 +2,11 @@
 
 ghost use Rattle.std.specs.Prelude.{◌≡◌, ◌≤◌, ◌<◌, ◌||◌, ℕ, List, Bool, false, Option, length, IfOk, OnOk, is_err};
 ghost use Rattle.std.specs.Io.KnownBytes.{WriteAppends, Appends, Keeps};
-ghost use Rattle.bgpdump_lines.specs.Device.{AppendsFront};
+ghost use Rattle.bgpdump_lines.specs.Run.{AppendsFront};
+ghost use Rattle.bgpdump_lines.specs.Ending.{outcome_of};
 
+use crate::outcome::Outcome;
+use mrt_wire::Input;
 use std::io::Write;
 
 /// A write failed. It appended nothing.
@@ -110,4 +113,38 @@ pub fn put_all<W: Output>(output: &mut W, octets: &[u8]) -> Result<(), OutFault>
         rest = &rest[count..];
     }
     Ok(())
+}
+
+/// Passes on what two outputs hold, unless the input has its next record at hand.
+pub fn pass_on_before_waiting<I: Input, O: Output, E: Output>(
+    input: &I,
+    out: &mut O,
+    err: &mut E,
+) -> Result<(), OutFault>
+    ensures out { Keeps (O.written out.old) (O.written out.new) }
+    ensures err { Keeps (E.written err.old) (E.written err.new) }
+    ensures failed { (O.failed out.new || E.failed err.new)
+        ≡ (O.failed out.old || E.failed err.old || is_err result) }
+{
+    if input.has_record() {
+        return Ok(());
+    }
+    out.pass_on()?;
+    err.pass_on()
+}
+
+/// Finishes both outputs, and tells how the run ended.
+pub fn finish_outputs<O: Output, E: Output>(out: &mut O, err: &mut E, reported: bool) -> Outcome
+    requires sound { (O.failed out.old || E.failed err.old) ≡ false }
+    ensures outcome { result ≡ outcome_of (O.failed out.new || E.failed err.new) reported }
+    ensures out { Keeps (O.written out.old) (O.written out.new) }
+    ensures err { Keeps (E.written err.old) (E.written err.new) }
+{
+    if out.finish().is_err() || err.finish().is_err() {
+        Outcome::WriteFault
+    } else if reported {
+        Outcome::Reported
+    } else {
+        Outcome::Done
+    }
 }

@@ -4,7 +4,7 @@ ghost use Rattle.std.specs.Prelude.{◌++◌, IfOk, IfSome};
 ghost use Rattle.mrt_events.specs.Event.{Announced};
 ghost use Rattle.bgpdump_lines.specs.Fields.{peer_fields, prefix_field, route_tail};
 ghost use Rattle.bgpdump_lines.specs.Heading.{headed_line};
-ghost use Rattle.bgpdump_lines.specs.Printed.{Prints};
+ghost use Rattle.bgpdump_lines.specs.Writing.{Prints};
 ghost use Rattle.bgpdump_lines.specs.Copying.{AreOrdered, HasParts, EndsIn, IsLike};
 ghost use Rattle.bgpdump_lines.specs.Copying.{head_at, front_at, prefix_at, tail_at};
 

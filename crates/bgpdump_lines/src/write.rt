@@ -1,13 +1,13 @@
-//! Writing what was found.
+//! Writing what was found, and the routes of tables.
 
-ghost use Rattle.std.specs.Prelude.{◌≡◌, ◌||◌, [], map, IfOk, IfSome};
+ghost use Rattle.std.specs.Prelude.{◌≡◌, ◌||◌, [], map, IfOk, IfSome, flat_map};
 ghost use Rattle.mrt_events.specs.Event.{saying};
 ghost use Rattle.mrt_events.specs.SharedRoute.{AreOfOneRoute};
 ghost use Rattle.mrt_wire.specs.Answered.{answer_findings};
 ghost use Rattle.bgpdump_lines.specs.Copying.{EndsIn};
 ghost use Rattle.bgpdump_lines.specs.declared.heading.Heading.{Heading};
 ghost use Rattle.bgpdump_lines.specs.Heading.{headed_lines};
-ghost use Rattle.bgpdump_lines.specs.Lines.{event_lines};
+ghost use Rattle.bgpdump_lines.specs.Lines.{event_lines, rib_line};
 ghost use Rattle.bgpdump_lines.specs.Reports.{fault_report};
 ghost use Rattle.bgpdump_lines.specs.Run.{outputs_of};
 ghost use Rattle.bgpdump_lines.specs.Writing.{PassesPart, Puts, PutsFound, PutsPart, is_write, is_any_bad};
@@ -17,9 +17,10 @@ use crate::fault::WriteFault;
 use crate::heading::Heading;
 use crate::output::{Output, put_all};
 use crate::reports::put_report;
-use crate::route_line::LastLine;
-use ip_prefix::Text;
-use mrt_wire::{Event, Item, Next, RecordFault};
+use crate::route_line::{Announcement, LastLine, put_route};
+use ip_prefix::{Prefix, Text};
+use mrt_wire::{Event, Item, Next, Peer, RecordFault, Route};
+use std::rc::Rc;
 
 /// Of how many items an event has at most whose lines are written at once.
 const FEW: usize = 64;
@@ -28,7 +29,7 @@ const FEW: usize = 64;
 const ENOUGH: usize = 1 << 16;
 
 /// Writes the text and clears it, where it is long. Returned is the line that it ends in then.
-pub(crate) fn write_long<'a, O: Output>(
+fn write_long<'a, O: Output>(
     out: &mut O,
     last: Option<LastLine<'a>>,
     text: &mut Text,
@@ -87,30 +88,20 @@ fn write_shared<O: Output>(
     Ok(())
 }
 
-/// Appends the lines of an event's items, each once those in front of it are written where they are
-/// long.
-fn write_parts<O: Output>(out: &mut O, event: &Event, text: &mut Text) -> Result<(), WriteFault>
-    ensures text { PassesPart (O.written out.old) (O.written out.new) text.old text.new
-        (event_lines event.now) result }
-    ensures failed { O.failed out.new ≡ (O.failed out.old || is_write result) }
-{
-    let heading = Heading::of(event);
-    let items = event.items.as_slice();
-    let shared = event.items.shared();
-    write_items(out, &heading, &items[..shared.start], text)?;
-    write_shared(out, &heading, &items[shared.start..shared.end], text)?;
-    write_items(out, &heading, &items[shared.end..], text)?;
-    Ok(())
-}
-
-/// Writes the lines of an event as they are made. The text is scratch.
+/// Writes the lines of an event as they are made: each item's once those in front of it are written
+/// where they are long. The text is scratch.
 #[inline(never)]
 fn write_many<O: Output>(out: &mut O, text: &mut Text, event: &Event) -> Result<(), WriteFault>
     ensures text { PutsPart (O.written out.old) (O.written out.new) (event_lines event.now) result }
     ensures failed { O.failed out.new ≡ (O.failed out.old || is_write result) }
 {
     text.clear();
-    write_parts(out, event, text)?;
+    let heading = Heading::of(event);
+    let items = event.items.as_slice();
+    let shared = event.items.shared();
+    write_items(out, &heading, &items[..shared.start], text)?;
+    write_shared(out, &heading, &items[shared.start..shared.end], text)?;
+    write_items(out, &heading, &items[shared.end..], text)?;
     put_all(out, text.as_slice())?;
     Ok(())
 }
@@ -126,6 +117,57 @@ fn write_lines<O: Output>(out: &mut O, text: &mut Text, event: &Event) -> Result
     }
     text.clear();
     append_lines(event, text)?;
+    put_all(out, text.as_slice())?;
+    Ok(())
+}
+
+/// Writes the lines of routes in the table of a peer, each of which takes what it can from the one
+/// before. The text is scratch.
+pub fn write_rib_lines<O: Output>(
+    out: &mut O,
+    peer: &Peer,
+    routes: &[(Prefix, &Rc<Route>)],
+    text: &mut Text,
+) -> Result<(), WriteFault>
+    ensures text { PutsPart (O.written out.old) (O.written out.new)
+        (flat_map (λ f. rib_line peer.now (f.0, f.1.now.value)) routes.now) result }
+    ensures failed { O.failed out.new ≡ (O.failed out.old || is_write result) }
+{
+    let heading = Heading::of_table();
+    let mut last = None;
+    text.clear();
+    'routes: for entry in routes {
+        let said = Announcement {
+            peer,
+            prefix: &entry.0,
+            route: entry.1,
+        };
+        let before = write_long(out, last, text)?;
+        last = Some(put_route(&heading, said, before, text)?);
+    }
+    put_all(out, text.as_slice())?;
+    Ok(())
+}
+
+/// Writes the line of a route in the table of a peer. The text is scratch.
+pub fn write_rib_line<O: Output>(
+    out: &mut O,
+    peer: &Peer,
+    prefix: &Prefix,
+    route: &Route,
+    text: &mut Text,
+) -> Result<(), WriteFault>
+    ensures text { Puts (O.written out.old) (O.written out.new)
+        (rib_line peer.now (prefix.now, route.now)) result }
+    ensures failed { O.failed out.new ≡ (O.failed out.old || is_write result) }
+{
+    let said = Announcement {
+        peer,
+        prefix,
+        route,
+    };
+    text.clear();
+    put_route(&Heading::of_table(), said, None, text)?;
     put_all(out, text.as_slice())?;
     Ok(())
 }

@@ -1,6 +1,10 @@
-use Rattle.std.proofs.Common.{rules, arith, ap, refl, inl, inr}
+use Rattle.std.proofs.Common.{rules, arith, ◌≡◌, false, ap, refl, inl, inr}
 use Rattle.std.proofs.lemmas.Result.{err_from_is_err_and}
-use Rattle.mrt_wire.specs.Place.{start_place}
+use Rattle.mrt_wire.specs.declared.next.Next.{Next}
+use Rattle.mrt_wire.specs.declared.next.Next.TheVariants.{Event, Bad, End}
+use Rattle.mrt_wire.specs.Answered.{answer_findings}
+use Rattle.mrt_wire.specs.Results.{start_place}
+use Rattle.mrt_wire.specs.SoFar.{is_nothing}
 use Rattle.mrt_wire.proofs.SoFarLaws.{Promises, told_by, SoFar-answer, goes_on_with_some}
 use Rattle.bgpdump_lines.specs.declared.dump.TheConstants.{LIMIT}
 use Rattle.bgpdump_lines.specs.declared.fault.WriteFault.TheVariants.{Write}
@@ -9,6 +13,12 @@ use Rattle.bgpdump_lines.proofs.RunLaws.{Going-start, Going-answer, Going-end, G
 use Rattle.bgpdump_lines.proofs.dump.dump_all.Given.{Over}
 use Rattle.bgpdump_lines.proofs.dump.dump_all.Goals as goal
 use Rattle.bgpdump_lines.proofs.dump.dump_all.Goals.{After-pass_on_before_waiting}
+
+-- an answer that isn't the end tells something
+not_end : (next : Next) → (next ≡ End → ⊥) → is_nothing (answer_findings next) ≡ false
+not_end (Event event) other = refl
+not_end (Bad fault) other = refl
+not_end End other = absurd (other refl)
 
 -- all that was found so far is written still
 going : (g : Over) (c : After-pass_on_before_waiting g) → Going (start_place c.args.stamp LIMIT) c.steps.source (g.I.Input.left c.args.input.now) (g.I.Input.left c.steps.input)
@@ -43,12 +53,12 @@ returns-in_err-next-clause-ends g c =
           (going g b) c.in_err-next.ensures.next (λ e. (c.in_err-next.ensures.ended e).0) c.next.ensures.within,
     ))
 
-pub returns-then-is_end-clause-ends : goal.returns-then-is_end-clause-ends
-returns-then-is_end-clause-ends g c =
-    let b = (goal.at.returns-then-is_end-clause-ends g c).After-pass_on_before_waiting in
+pub returns-in-End-clause-ends : goal.returns-in-End-clause-ends
+returns-in-End-clause-ends g c =
+    let b = (goal.at.returns-in-End-clause-ends g c).After-pass_on_before_waiting in
     let promised : Promises c.steps.source c.next.new.self (g.I.Input.left c.steps.input) (g.I.Input.left c.next.new.input) c.in_ok-next.next =
     (c.in_ok-next.ensures.next, λ e. (ap told_by (c.in_ok-next.ensures.ended e).0, (c.in_ok-next.ensures.ended e).1, ap g.I.Input.left (c.in_ok-next.ensures.ended e).2)) in
-    Going-end (start_place c.args.stamp LIMIT) c.steps.source c.next.new.self _ (g.I.Input.left c.steps.input) _ _ _ c.steps.reported c.in_ok-next.next (going g b) promised (search rules) c.next.ensures.within
+    Going-end (start_place c.args.stamp LIMIT) c.steps.source c.next.new.self _ (g.I.Input.left c.steps.input) _ _ _ c.steps.reported c.in_ok-next.next (going g b) promised (ap (λ n. is_nothing (answer_findings n)) c.in-End.is) c.next.ensures.within
 
 pub returns-in_err-reported-clause-ends : goal.returns-in_err-reported-clause-ends
 returns-in_err-reported-clause-ends g c =
@@ -61,7 +71,7 @@ returns-in_err-reported-clause-ends g c =
       refl,
       Stops-writing (start_place c.args.stamp LIMIT) c.steps.source c.next.new.self _ (g.I.Input.left c.steps.input) _
           (record { out = g.O.Output.written c.args.out.now; err = g.E.Output.written c.args.err.now }) (record { out = g.O.Output.written c.pass_on_before_waiting.new.out; err = g.E.Output.written c.pass_on_before_waiting.new.err }) (record { out = g.O.Output.written c.write_next.new.out; err = g.E.Output.written c.write_next.new.err })
-          c.steps.reported c.in_ok-next.next c.in_err-reported.field-0.0 (going g b) promised (search rules) c.in_err-reported.ensures.found c.next.ensures.within,
+          c.steps.reported c.in_ok-next.next c.in_err-reported.field-0.0 (going g b) promised (not_end c.in_ok-next.next c.in_default.not-End) c.in_err-reported.ensures.found c.next.ensures.within,
     ))
 
 pub steps-preserved : goal.steps-preserved
@@ -83,6 +93,6 @@ steps-smaller g c =
     let promised : Promises c.steps.source c.next.new.self (g.I.Input.left c.steps.input) (g.I.Input.left c.next.new.input) c.in_ok-next.next =
     (c.in_ok-next.ensures.next, λ e. (ap told_by (c.in_ok-next.ensures.ended e).0, (c.in_ok-next.ensures.ended e).1, ap g.I.Input.left (c.in_ok-next.ensures.ended e).2)) in
     let going = going g b in
-    let some = goes_on_with_some (start_place c.args.stamp LIMIT) c.steps.source c.next.new.self _ _ _ going.found c.in_ok-next.next going.so_far promised (search rules) in
+    let some = goes_on_with_some (start_place c.args.stamp LIMIT) c.steps.source c.next.new.self _ _ _ going.found c.in_ok-next.next going.so_far promised (not_end c.in_ok-next.next c.in_default.not-End) in
     let so_far = SoFar-answer (start_place c.args.stamp LIMIT) c.steps.source c.next.new.self _ _ _ going.found c.in_ok-next.next going.so_far promised in
     omega (arith, some, so_far.limit, c.next.ensures.within, ap (λ source. source.offset) c.take_back.ensures)

@@ -1,6 +1,6 @@
 -- So far all that was found was written; each answer takes octets below the limit.
 use Rattle.std.proofs.Common.{◌≡◌, ◌||◌, ◌-◌, false}
-use Rattle.mrt_wire.specs.Place.{start_place}
+use Rattle.mrt_wire.specs.Results.{start_place}
 use Rattle.bgpdump_lines.specs.declared.dump.TheConstants.{LIMIT}
 use Rattle.bgpdump_lines.specs.Going.{Going}
 use Rattle.bgpdump_lines.proofs.dump.dump_all.Given as goal

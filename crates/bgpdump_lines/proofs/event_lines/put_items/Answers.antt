@@ -1,7 +1,5 @@
-use Rattle.std.proofs.Common.{◌++◌, ◌∙◌, ap, map, drop, length-drop, arith}
-use Rattle.std.proofs.lemmas.List.{take_all}
+use Rattle.std.proofs.Common.{◌++◌, ◌∙◌, ap, map, drop, length-drop, arith, take_all, flat_map}
 use Rattle.mrt_events.specs.Event.{saying}
-use Rattle.std.specs.List.{flat_map}
 use Rattle.bgpdump_lines.specs.Heading.{headed_line}
 use Rattle.bgpdump_lines.proofs.LineLaws.{lines-parts}
 use Rattle.mrt_events.proofs.SharedLaws.{said_range}

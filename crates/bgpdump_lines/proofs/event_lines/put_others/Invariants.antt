@@ -1,6 +1,5 @@
 -- The lines of the items so far, the last of which the text ends in.
-use Rattle.std.proofs.Common.{◌≡◌, ◌++◌, take}
-use Rattle.std.specs.List.{flat_map}
+use Rattle.std.proofs.Common.{◌≡◌, ◌++◌, take, flat_map}
 use Rattle.mrt_events.specs.Event.{saying}
 use Rattle.bgpdump_lines.specs.Copying.{EndsInRoute}
 use Rattle.bgpdump_lines.specs.Heading.{headed_line}

@@ -1,7 +1,5 @@
 -- The lines of the items so far, the last of which the text ends in where it is remembered.
-use Rattle.std.proofs.Common.{◌≡◌, ◌++◌, take}
-use Rattle.std.specs.List.{flat_map}
-use Rattle.std.specs.Option.{IfSome}
+use Rattle.std.proofs.Common.{◌≡◌, ◌++◌, take, flat_map, IfSome}
 use Rattle.mrt_events.specs.Event.{saying}
 use Rattle.bgpdump_lines.specs.Copying.{EndsIn}
 use Rattle.bgpdump_lines.specs.Heading.{headed_line}

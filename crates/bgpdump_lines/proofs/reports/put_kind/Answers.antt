@@ -1,5 +1,4 @@
-use Rattle.std.proofs.Common.{◌++◌, decimal, ap, ap₂, sym, ◌∙◌, codes}
-use Rattle.std.proofs.lemmas.List.{append_assoc}
+use Rattle.std.proofs.Common.{◌++◌, decimal, ap, ap₂, sym, ◌∙◌, codes, append_assoc}
 use Rattle.mrt_wire.specs.declared.RecordKind.TheVariants.{Unsupported}
 use Rattle.bgpdump_lines.specs.Reports.{kind_text}
 use Rattle.bgpdump_lines.proofs.reports.put_kind.Goals as goal

@@ -1,7 +1,5 @@
 -- Behind what was written stands the text; both hold the lines of the items so far.
-use Rattle.std.proofs.Common.{◌≡◌, take}
-use Rattle.std.specs.List.{flat_map}
-use Rattle.std.specs.Option.{IfSome}
+use Rattle.std.proofs.Common.{◌≡◌, take, flat_map, IfSome}
 use Rattle.mrt_events.specs.Event.{saying}
 use Rattle.bgpdump_lines.specs.Copying.{EndsIn}
 use Rattle.bgpdump_lines.specs.Heading.{headed_line}

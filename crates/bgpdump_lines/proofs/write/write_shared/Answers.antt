@@ -1,7 +1,5 @@
-use Rattle.std.proofs.Common.{[], ◌++◌, ◌∙◌, append_assoc, ap, ap₂, map, subst, sym, rules}
-use Rattle.std.proofs.lemmas.List.{take-append-drop}
+use Rattle.std.proofs.Common.{[], ◌++◌, ◌∙◌, append_assoc, ap, ap₂, map, subst, sym, rules, take-append-drop, flat_map}
 use Rattle.std.proofs.lemmas.Result.{err_from_is_err_and}
-use Rattle.std.specs.List.{flat_map}
 use Rattle.mrt_events.specs.Event.{saying}
 use Rattle.bgpdump_lines.specs.Heading.{headed_line}
 use Rattle.bgpdump_lines.specs.Writing.{Passes}

@@ -1,18 +1,15 @@
-use Rattle.std.proofs.Common.{ℕ, List, [], ◌++◌, ◌∙◌, ap, subst, rules, Bor}
-use Rattle.std.proofs.lemmas.List.{take_all}
+use Rattle.std.proofs.Common.{ℕ, List, [], ◌++◌, ◌∙◌, ap, subst, rules, Bor, take_all, flat_map, Global}
 use Rattle.std.proofs.lemmas.Result.{err_from_is_err_and}
-use Rattle.std.specs.List.{flat_map}
-use Rattle.std.specs.declared.alloc.Global.{Global}
 use Rattle.std.specs.declared.rc.Rc.{Rc}
 use Rattle.ip_prefix.specs.Network.{Network}
 use Rattle.mrt_events.specs.declared.event.Route.{Route}
 use Rattle.mrt_events.specs.declared.peer.Peer.{Peer}
-use Rattle.bgpdump_lines.specs.Device.{AppendsFront}
+use Rattle.bgpdump_lines.specs.Run.{AppendsFront}
 use Rattle.bgpdump_lines.specs.Lines.{rib_line}
 use Rattle.std.specs.Io.KnownBytes.{Appends}
 use Rattle.bgpdump_lines.specs.Writing.{Passes}
 use Rattle.bgpdump_lines.proofs.WritingLaws.{AppendsFront-passed, Passes-end, Passes-end-stops, Passes-items, Passes-next}
-use Rattle.bgpdump_lines.proofs.table_lines.write_rib_lines.Goals as goal
+use Rattle.bgpdump_lines.proofs.write.write_rib_lines.Goals as goal
 
 -- the line of a prefix and the route that is pointed to
 abbrev pointed_line : Peer → Network × Bor (Rc Route Global) → List ℕ

@@ -1,11 +1,9 @@
 -- Behind what was written stands the text; both hold the lines of the routes so far.
-use Rattle.std.proofs.Common.{◌≡◌, [], take}
-use Rattle.std.specs.List.{flat_map}
-use Rattle.std.specs.Option.{IfSome}
+use Rattle.std.proofs.Common.{◌≡◌, [], take, flat_map, IfSome}
 use Rattle.bgpdump_lines.specs.Copying.{EndsIn}
 use Rattle.bgpdump_lines.specs.Lines.{rib_line}
 use Rattle.bgpdump_lines.specs.Writing.{Passes}
-use Rattle.bgpdump_lines.proofs.table_lines.write_rib_lines.Given as goal
+use Rattle.bgpdump_lines.proofs.write.write_rib_lines.Given as goal
 
 abbrev pub invariant-routes : goal.invariant-routes
 invariant-routes g l = record {
