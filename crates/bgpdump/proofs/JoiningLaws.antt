@@ -1,23 +1,17 @@
 -- What a run writes goes through the buffers to the writers.
-use Rattle.std.proofs.Common.{◌≡◌, ◌∙◌, ◌⊎◌, ap, sym, refl, subst, inl, inr, IsNone, List, [], ◌++◌, ℕ, Option, Some, None, IfSome}
+use Rattle.std.proofs.Common.{◌≡◌, ◌∙◌, ◌⊎◌, ap, sym, refl, subst, inl, inr, IsNone, List, ◌++◌, ℕ, Option, Some, None, IfSome}
 use Rattle.std.specs.Io.KnownBytes.{Appends, Consumes, Keeps}
-use Rattle.mrt_wire.specs.Next.{Took}
+use Rattle.std.proofs.KnownBytes.{Appends-kept}
+use Rattle.mrt_wire.specs.Results.{Took}
 use Rattle.mrt_wire.specs.Verdict.{Frame}
 use Rattle.mrt_wire.specs.declared.Stamp.{Stamp}
-use Rattle.bgpdump_tool.specs.Device.{AppendsFront}
-use Rattle.bgpdump_tool.specs.Run.{EndedByInput, EndsSo, MayHold, Outputs, Texts, Writes, WritesFronts, outputs_of}
+use Rattle.bgpdump_tool.specs.Run.{AppendsFront, EndedByInput, EndsSo, MayHold, Outputs, Texts, Writes, WritesFronts, outputs_of}
 use Rattle.bgpdump_tool.specs.declared.Outcome.{Outcome}
 use Rattle.bgpdump_tool.specs.declared.Outcome.TheVariants.{Done, Reported, ReadFault, WriteFault, InputTooLong, ScriptTooLong, Memory}
 use Rattle.bgpdump.specs.Endings.{lost_outcome}
 use Rattle.bgpdump.specs.Joining.{KeepsBoth, OverWriters}
 
 -- ---- what stays behind a text
-
-Appends-kept : (a b c : Option (List ℕ)) (text : List ℕ) → Appends a b text → Keeps b c → Appends a c text
-Appends-kept None b c text appended kept = tt
-Appends-kept (Some xs) None c text appended kept = absurd appended
-Appends-kept (Some xs) (Some ys) None text appended kept = absurd kept
-Appends-kept (Some xs) (Some ys) (Some zs) text appended kept = kept ∙ appended
 
 AppendsFront-kept : (a b c : Option (List ℕ)) (text : List ℕ) → AppendsFront a b text → Keeps b c → AppendsFront a c text
 AppendsFront-kept a b c text appended kept = record { front = appended.front; back = appended.back; whole = appended.whole; appended = Appends-kept a b c appended.front appended.appended kept }
@@ -40,17 +34,9 @@ EndsSo-kept ScriptTooLong texts old mid new ends kept = absurd ends
 -- ---- what was taken of known octets
 
 known_taken : (old new : Option (List ℕ)) (octets taken : List ℕ) → old ≡ Some octets → Consumes old new taken → (after : List ℕ) × Took old new taken after × (octets ≡ taken ++ after)
-known_taken None new octets taken is consumed =
-    let bad : None ≡ Some octets = is in
-    cc
+known_taken None new octets taken is consumed = cc
 known_taken (Some xs) None octets taken is consumed = absurd consumed
-known_taken (Some xs) (Some ys) octets taken is consumed =
-    let same : octets ≡ taken ++ ys = ap (λ o. from o) (sym is) ∙ consumed in
-    (ys, record { before = ap (λ o. Some o) consumed; now = refl }, same)
-  where
-    from : Option (List ℕ) → List ℕ
-    from None = []
-    from (Some zs) = zs
+known_taken (Some xs) (Some ys) octets taken is consumed = (ys, record { before = ap (λ o. Some o) consumed; now = refl }, cc)
 
 -- known octets are what the input holds on the whole
 pub holds_known : (stamp : Stamp) (Saw : List Frame → List ℕ → Type 0) (old new : Option (List ℕ)) (octets taken : List ℕ) → old ≡ Some octets → Consumes old new taken → MayHold stamp Saw old new octets

@@ -5,9 +5,7 @@ use Rattle.std.specs.Io.KnownBytes.{Keeps}
 use Rattle.std.specs.Io.Buffered.{reader_remaining, writer_contents}
 use Rattle.mrt_wire.specs.declared.BufferedInput.{BufferedInput}
 use Rattle.mrt_wire.specs.declared.Stamp.{Stamp}
-use Rattle.mrt_wire.specs.Next.{Took}
-use Rattle.mrt_wire.specs.Results.{Finding}
-use Rattle.mrt_wire.specs.Splitting.{Splits}
+use Rattle.mrt_wire.specs.Results.{Took, Finding, Splits}
 use Rattle.mrt_wire.specs.Verdict.{Frame}
 use Rattle.bgpdump_tool.specs.Run.{EndedByInput, EndsSo, Outputs, OverTaken, Texts, Writes, all_results, outputs_of}
 use Rattle.bgpdump_tool.specs.Script.{IsScript, Line}

@@ -3,7 +3,7 @@
 ghost use Rattle.std.specs.Prelude.{◌≡◌, option_map};
 ghost use Rattle.bgpdump.specs.declared.ending.Ending.TheVariants.{Ran};
 ghost use Rattle.bgpdump_tool.specs.declared.Outcome.TheVariants.{Memory};
-ghost use Rattle.bgpdump.specs.Endings.{ending_message, ending_status, outcome_message};
+ghost use Rattle.bgpdump.specs.Endings.{ending_message, ending_status};
 
 use crate::hints::option_elsewhere;
 use bgpdump_tool::{Outcome, UsageFault};
@@ -80,23 +80,14 @@ impl Ending<'_> {
         match self {
             Ending::Usage(UsageFault::Mode) => Some("choose one of -m and --play"),
             Ending::Usage(UsageFault::TwoInputs) => Some("standard input named twice"),
-            Ending::Usage(UsageFault::Memory) => last_words(Outcome::Memory),
-            Ending::Usage(_) | Ending::NotOpened(_) => None,
-            Ending::Ran(outcome) => last_words(*outcome),
+            Ending::Ran(Outcome::ReadFault) => Some("read fault"),
+            Ending::Ran(Outcome::WriteFault) => Some("write fault"),
+            Ending::Ran(Outcome::InputTooLong) => Some("input too long"),
+            Ending::Ran(Outcome::ScriptTooLong) => Some("script too long"),
+            Ending::Usage(UsageFault::Memory) | Ending::Ran(Outcome::Memory) => {
+                Some("out of memory")
+            }
+            Ending::Usage(_) | Ending::NotOpened(_) | Ending::Ran(_) => None,
         }
-    }
-}
-
-/// What a run that ended so says last.
-fn last_words(outcome: Outcome) -> Option<&'static str>
-    ensures { option_map (λ text. text.now) result ≡ outcome_message outcome }
-{
-    match outcome {
-        Outcome::Done | Outcome::Reported => None,
-        Outcome::ReadFault => Some("read fault"),
-        Outcome::WriteFault => Some("write fault"),
-        Outcome::InputTooLong => Some("input too long"),
-        Outcome::ScriptTooLong => Some("script too long"),
-        Outcome::Memory => Some("out of memory"),
     }
 }

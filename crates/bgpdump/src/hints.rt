@@ -20,34 +20,12 @@ pub struct Form {
     pub printer: &'static str,
 }
 
-/// The form whose files begin with these octets. Records of MRT begin with their time; that of no
-/// router is 1986 or 1991, as the marks of gzip and zstd would be, or 2104.
-fn form_of(front: &[u8]) -> Option<Form> {
-    let form = |name, printer| Some(Form { name, printer });
-    if front.starts_with(b"\x1F\x8B\x08") {
-        return form("gzip", "zcat");
-    }
-    if front.starts_with(b"BZh") && front.ends_with(b"1AY&SY") {
-        return form("bzip2", "bzcat");
-    }
-    if front.starts_with(b"\xFD7zXZ\0") {
-        return form("xz", "xzcat");
-    }
-    if front.starts_with(b"\x28\xB5\x2F\xFD") {
-        return form("zstd", "zstdcat");
-    }
-    None
-}
-
 /// The option that words have which only the C program knows, by what `clap` says of them.
 pub fn option_elsewhere(fault: &str) -> Option<&'static str> {
     let (_, behind) = fault.split_once(BEFORE_OPTION)?;
-    for option in OPTIONS_ELSEWHERE {
-        if behind.starts_with(option) {
-            return Some(option);
-        }
-    }
-    None
+    OPTIONS_ELSEWHERE
+        .into_iter()
+        .find(|option| behind.starts_with(*option))
 }
 
 /// The first octets of an input.
@@ -77,9 +55,22 @@ impl Front {
         }
     }
 
-    /// The form that the input is compressed in, as it seems.
+    /// The form that the input is compressed in, as it seems. Records of MRT begin with their time;
+    /// that of no router is 1986 or 1991, as the marks of gzip and zstd would be, or 2104.
     pub fn form(&self) -> Option<Form> {
-        form_of(&self.octets[..self.len.min(FRONT_SIZE)])
+        let front = &self.octets[..self.len.min(FRONT_SIZE)];
+        let form = |name, printer| Some(Form { name, printer });
+        if front.starts_with(b"\x1F\x8B\x08") {
+            form("gzip", "zcat")
+        } else if front.starts_with(b"BZh") && front.ends_with(b"1AY&SY") {
+            form("bzip2", "bzcat")
+        } else if front.starts_with(b"\xFD7zXZ\0") {
+            form("xz", "xzcat")
+        } else if front.starts_with(b"\x28\xB5\x2F\xFD") {
+            form("zstd", "zstdcat")
+        } else {
+            None
+        }
     }
 }
 

@@ -1,7 +1,6 @@
 -- The command of the command line, made of its five arguments.
-use Rattle.std.proofs.Common.{◌≡◌, ◌∙◌, ◌<◌, zero, suc, ap, sym, refl, arith, inl, inr, ℕ, true, false, List, [], ◌∷◌, Option, Some, None, codes}
-use Rattle.std.specs.List.{All, position, slice_index_or}
-use Rattle.std.specs.Str.{bytes_eq}
+use Rattle.std.proofs.Common.{◌≡◌, ◌∙◌, ◌<◌, zero, suc, ap, sym, refl, arith, inl, inr, ℕ, true, false, List, [], ◌∷◌, Some, codes, All, position, slice_index_or, bytes_eq}
+use Rattle.std.proofs.lemmas.List.Elements.{All-cons}
 use Rattle.std.proofs.lemmas.Slice.Eq.{bytes_eq-Decides}
 use Rattle.clap.specs.Words.{AddsArg, AddsInTurn, App, Text, app_of, new_app, rule_of, with_rule}
 use Rattle.clap.specs.Built.{FitsChain, HasDistinctIds, TakesValue}
@@ -55,39 +54,20 @@ command_made start first second third fourth last lines script times output inpu
 abbrev the_ids : List Text
 the_ids = codes "lines" ∷ codes "script" ∷ codes "times" ∷ codes "output" ∷ codes "input" ∷ []
 
--- the ids of five arguments
-record HaveIds (a b c d e : Arg) : Type 0 where
-  pub first : a.id.now ≡ codes "lines"
-  pub second : b.id.now ≡ codes "script"
-  pub third : c.id.now ≡ codes "times"
-  pub fourth : d.id.now ≡ codes "output"
-  pub fifth : e.id.now ≡ codes "input"
-
 -- an id tells its place
-place_by_id : (a b c d e : Arg) → HaveIds a b c d e → (k : ℕ) (x : Arg) → k < 5 → position (bytes_eq (slice_index_or (a ∷ b ∷ c ∷ d ∷ e ∷ []) k x).id.now) the_ids ≡ Some k
-place_by_id a b c d e ids zero x low = ap (λ id. position (bytes_eq id) the_ids) ids.first
-place_by_id a b c d e ids (suc zero) x low = ap (λ id. position (bytes_eq id) the_ids) ids.second
-place_by_id a b c d e ids (suc (suc zero)) x low = ap (λ id. position (bytes_eq id) the_ids) ids.third
-place_by_id a b c d e ids (suc (suc (suc zero))) x low = ap (λ id. position (bytes_eq id) the_ids) ids.fourth
-place_by_id a b c d e ids (suc (suc (suc (suc zero)))) x low = ap (λ id. position (bytes_eq id) the_ids) ids.fifth
-place_by_id a b c d e ids (suc (suc (suc (suc (suc k))))) x low = absurd (omega arith)
+place_by_id : (a b c d e : Arg) → AreArguments a b c d e → (k : ℕ) (x : Arg) → k < 5 → position (bytes_eq (slice_index_or (a ∷ b ∷ c ∷ d ∷ e ∷ []) k x).id.now) the_ids ≡ Some k
+place_by_id a b c d e of zero x low = ap (λ r. position (bytes_eq r.id) the_ids) of.lines_is
+place_by_id a b c d e of (suc zero) x low = ap (λ r. position (bytes_eq r.id) the_ids) of.script_is
+place_by_id a b c d e of (suc (suc zero)) x low = ap (λ r. position (bytes_eq r.id) the_ids) of.times_is.2
+place_by_id a b c d e of (suc (suc (suc zero))) x low = ap (λ r. position (bytes_eq r.id) the_ids) of.output_is
+place_by_id a b c d e of (suc (suc (suc (suc zero)))) x low = ap (λ r. position (bytes_eq r.id) the_ids) of.input_is
+place_by_id a b c d e of (suc (suc (suc (suc (suc k))))) x low = absurd (omega arith)
 
-abbrev place_in : Option ℕ → ℕ
-place_in None = 0
-place_in (Some k) = k
-
-distinct_ids : (a b c d e : Arg) → HaveIds a b c d e → HasDistinctIds (a ∷ b ∷ c ∷ d ∷ e ∷ [])
-distinct_ids a b c d e ids j k y x low high same =
+distinct_ids : (a b c d e : Arg) → AreArguments a b c d e → HasDistinctIds (a ∷ b ∷ c ∷ d ∷ e ∷ [])
+distinct_ids a b c d e of j k y x low high same =
     let one = (bytes_eq-Decides (slice_index_or (a ∷ b ∷ c ∷ d ∷ e ∷ []) j x).id.now (slice_index_or (a ∷ b ∷ c ∷ d ∷ e ∷ []) k y).id.now).0 same in
-    ap place_in (sym (place_by_id a b c d e ids j x low) ∙ ap (λ id. position (bytes_eq id) the_ids) one ∙ place_by_id a b c d e ids k y high)
-
-all_five : (P : Arg → Type 0) (a b c d e : Arg) → P a → P b → P c → P d → P e → All P (a ∷ b ∷ c ∷ d ∷ e ∷ [])
-all_five P a b c d e p q r s t zero x low = p
-all_five P a b c d e p q r s t (suc zero) x low = q
-all_five P a b c d e p q r s t (suc (suc zero)) x low = r
-all_five P a b c d e p q r s t (suc (suc (suc zero))) x low = s
-all_five P a b c d e p q r s t (suc (suc (suc (suc zero)))) x low = t
-all_five P a b c d e p q r s t (suc (suc (suc (suc (suc k))))) x low = absurd (omega arith)
+    let places : Some j ≡ Some k = sym (place_by_id a b c d e of j x low) ∙ ap (λ id. position (bytes_eq id) the_ids) one ∙ place_by_id a b c d e of k y high in
+    cc
 
 unequal : (a b : Text) → bytes_eq a b ≡ false → a ≡ b → ⊥
 unequal a b differs same =
@@ -104,15 +84,6 @@ fits argument id alone is named helps tells = (
   λ auto. elim auto [ inl help ↦ unequal id (codes "help") helps (sym is ∙ help) | inr version ↦ unequal id (codes "version") tells (sym is ∙ version) ],
 )
 
-ids_of : (lines script times output input : Arg) → AreArguments lines script times output input → HaveIds lines script times output input
-ids_of lines script times output input of = record {
-  first = ap (λ r. r.id) of.lines_is;
-  second = ap (λ r. r.id) of.script_is;
-  third = ap (λ r. r.id) of.times_is.2;
-  fourth = ap (λ r. r.id) of.output_is;
-  fifth = ap (λ r. r.id) of.input_is;
-}
-
 -- what a chain of them asks for
 pub record FitTogether (lines script times output input : Arg) : Type 0 where
   pub fit : All FitsChain (lines ∷ script ∷ times ∷ output ∷ input ∷ [])
@@ -121,16 +92,15 @@ pub record FitTogether (lines script times output input : Arg) : Type 0 where
 
 pub fit_together : (lines script times output input : Arg) → AreArguments lines script times output input → FitTogether lines script times output input
 fit_together lines script times output input of =
-    let ids = ids_of lines script times output input of in
     record {
-      fit = all_five FitsChain lines script times output input
-          (fits lines (codes "lines") of.lines_alone ids.first refl refl refl)
-          (fits script (codes "script") of.script_alone ids.second refl refl refl)
-          (fits times (codes "times") of.times_alone ids.third refl refl refl)
-          (fits output (codes "output") of.output_alone ids.fourth refl refl refl)
-          (fits input (codes "input") of.input_alone ids.fifth refl refl refl);
-      distinct = distinct_ids lines script times output input ids;
-      named = ids.fifth;
+      fit =
+          All-cons FitsChain lines (script ∷ times ∷ output ∷ input ∷ []) (fits lines (codes "lines") of.lines_alone (ap (λ r. r.id) of.lines_is) refl refl refl)
+          (All-cons FitsChain script (times ∷ output ∷ input ∷ []) (fits script (codes "script") of.script_alone (ap (λ r. r.id) of.script_is) refl refl refl)
+          (All-cons FitsChain times (output ∷ input ∷ []) (fits times (codes "times") of.times_alone (ap (λ r. r.id) of.times_is.2) refl refl refl)
+          (All-cons FitsChain output (input ∷ []) (fits output (codes "output") of.output_alone (ap (λ r. r.id) of.output_is) refl refl refl)
+          (All-cons FitsChain input [] (fits input (codes "input") of.input_alone (ap (λ r. r.id) of.input_is) refl refl refl) (λ k x low. absurd (omega arith))))));
+      distinct = distinct_ids lines script times output input of;
+      named = ap (λ r. r.id) of.input_is;
     }
 
 pub chain_of : (start first second third fourth last : Command) (lines script times output input : Arg) → AreAdded start first second third fourth last lines script times output input

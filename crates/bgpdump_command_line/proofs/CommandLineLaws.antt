@@ -1,6 +1,5 @@
 -- What the matches of a command line hold.
-use Rattle.std.proofs.Common.{◌≡◌, ◌∙◌, ap, sym, refl, subst, inl, inr, Bool, true, false, List, [], Option, Some, None, Result, Ok, Err, codes, is_some, unwrap_or}
-use Rattle.std.specs.Str.{bytes_eq}
+use Rattle.std.proofs.Common.{◌≡◌, ◌∙◌, ap, sym, refl, subst, inl, inr, Bool, true, false, List, [], Option, Some, None, Result, Ok, Err, codes, is_some, unwrap_or, bytes_eq}
 use Rattle.std.specs.Str.Parse.{ParsesBool}
 use Rattle.std.proofs.lemmas.Slice.Eq.{bytes_eq-Decides}
 use Rattle.clap.proofs.WalkLemmas.{first_value-rows}
@@ -9,7 +8,7 @@ use Rattle.clap.specs.declared.ArgMatches.{ArgMatches}
 use Rattle.clap.specs.declared.Error.{Error}
 use Rattle.clap.specs.declared.error.ErrorKind.TheVariants.{DisplayHelp, OutOfMemory}
 use Rattle.clap.specs.declared.builder.value_parser.ValueParser.{ValueParser}
-use Rattle.bgpdump_command_line.specs.CommandLine.{Answers, Gives, TakesTimes, command_line, faults, input_of, is_text}
+use Rattle.bgpdump_command_line.specs.CommandLine.{Answers, Gives, TakesTimes, command_line, input_of, is_text}
 use Rattle.bgpdump_command_line.specs.Arguments.{IsCommandLine, IsFaultOf}
 use Rattle.bgpdump_command_line.specs.declared.usage.Settings.{Settings}
 use Rattle.bgpdump_command_line.specs.declared.usage.UsageFault.{UsageFault}
@@ -37,7 +36,7 @@ is_one_level : (times : ValueParser) → is_simple (command_line times) ≡ true
 is_one_level times = refl
 
 -- what the matches give is the answer, where the parse had no fault
-answers_matches : (times : ValueParser) (words : List Text) (rows : List Row) (result : Result Settings UsageFault) → TakesTimes times → faults times words ≡ [] → rows ≡ matches_of (command_line times) words
+answers_matches : (times : ValueParser) (words : List Text) (rows : List Row) (result : Result Settings UsageFault) → TakesTimes times → fault_of (command_line times) words ≡ [] → rows ≡ matches_of (command_line times) words
     → Gives rows result → Answers words result
 answers_matches times words rows (Ok settings) takes none is gives = (times, takes, (none, subst (λ r. Gives r (Ok settings)) is gives))
 answers_matches times words rows (Err usage.Mode) takes none is gives = (times, takes, (none, subst (λ r. Gives r (Err usage.Mode)) is gives))

@@ -1,8 +1,7 @@
 -- What the words of a command line ask for.
-use Rattle.std.specs.Prelude.{◌≡◌, ◌≢◌, ◌&&◌, ⊤, Bool, true, false, not, List, [], ◌∷◌, map, Option, Some, is_some, option_map, if◌then◌else◌, Result, Ok, Err, codes, string_bytes}
+use Rattle.std.specs.Prelude.{◌≡◌, ◌≢◌, ◌&&◌, ⊤, Bool, true, false, not, List, [], ◌∷◌, map, Option, Some, is_some, option_map, if◌then◌else◌, Result, Ok, Err, codes, string_bytes, bytes_eq}
 use Rattle.std.specs.Option.{option_map_or}
-use Rattle.std.specs.Str.{bytes_eq}
-use Rattle.clap.specs.Words.{App, IsAmong, Kinds, Row, Rule, Text, fault_of, first_of, matches_of, new_app, new_rule, one_of, with_rule}
+use Rattle.clap.specs.Words.{App, IsAmong, Row, Rule, Text, fault_of, first_of, matches_of, new_app, new_rule, one_of, with_rule}
 use Rattle.clap.specs.declared.builder.ArgAction.TheVariants.{Set, SetTrue}
 use Rattle.clap.specs.declared.builder.value_parser.ValueParser.{ValueParser}
 use Rattle.clap.specs.declared.builder.value_parser.ValueParser.TheVariants as parser
@@ -43,14 +42,10 @@ abbrev pub command_line : ValueParser → App
 command_line times =
     with_rule (with_rule (with_rule (with_rule (with_rule (new_app (codes "bgpdump")) lines_rule) script_rule) (times_rule times)) output_rule) input_rule
 
--- the value has to be one of these names
-abbrev pub TakesNames : List Text → ValueParser → Type 0
-TakesNames names (parser.Names taken) = map (λ name. name.now) taken.now ≡ names
-TakesNames names other = ⊥
-
 -- -t takes `dump` and `change`
 abbrev pub TakesTimes : ValueParser → Type 0
-TakesTimes = TakesNames (codes "dump" ∷ codes "change" ∷ [])
+TakesTimes (parser.Names taken) = map (λ name. name.now) taken.now ≡ codes "dump" ∷ codes "change" ∷ []
+TakesTimes other = ⊥
 
 -- ---- what the matches of a command line ask for
 
@@ -99,16 +94,12 @@ Gives rows (Err fault) = ⊥
 
 -- ---- what the words give
 
--- the kinds of fault that the parse of the words may have: none where it succeeds
-abbrev pub faults : ValueParser → List Text → Kinds
-faults times words = fault_of (command_line times) words
-
--- what words give but for want of memory: what their matches give, where the parse has no fault;
+-- what words give but for want of memory: what their matches give, where their parse has no kind of fault;
 -- help or a usage fault only by a fault of its kind
 abbrev pub AnswersBy : ValueParser → List Text → Result Settings UsageFault → Type 0
-AnswersBy times words (Err (usage.Help text)) = IsAmong DisplayHelp (faults times words)
-AnswersBy times words (Err (usage.Words text)) = (kind : ErrorKind) × IsAmong kind (faults times words) × (kind ≢ DisplayHelp)
-AnswersBy times words result = (faults times words ≡ []) × Gives (matches_of (command_line times) words) result
+AnswersBy times words (Err (usage.Help text)) = IsAmong DisplayHelp (fault_of (command_line times) words)
+AnswersBy times words (Err (usage.Words text)) = (kind : ErrorKind) × IsAmong kind (fault_of (command_line times) words) × (kind ≢ DisplayHelp)
+AnswersBy times words result = (fault_of (command_line times) words ≡ []) × Gives (matches_of (command_line times) words) result
 
 -- and want of memory in place of any of it
 abbrev pub Answers : List Text → Result Settings UsageFault → Type 0

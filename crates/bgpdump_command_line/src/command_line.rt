@@ -11,7 +11,7 @@ use crate::usage::{Mode, STANDARD_INPUT, Settings, UsageFault};
 use clap::ArgMatches;
 use clap::error::ErrorKind;
 use mrt_events::Stamp;
-use std::alloc::{AllocError, Global};
+use std::alloc::Global;
 
 /// What the words ask for. The first of them is the program's own name.
 pub fn settings(alloc: Global, words: Vec<String>) -> Result<Settings, UsageFault>
@@ -52,7 +52,9 @@ fn settings_of(alloc: Global, matches: &ArgMatches<'_>) -> Result<Settings, Usag
     Ok(Settings {
         mode,
         stamp: stamp_of(matches),
-        output: owned(alloc, value_of(matches, OUTPUT))?,
+        output: value_of(matches, OUTPUT)
+            .map(|name| String::from_str(alloc, name))
+            .transpose()?,
         input: String::from_str(alloc, input)?,
     })
 }
@@ -97,10 +99,7 @@ fn stamp_of(matches: &ArgMatches<'_>) -> Stamp
 fn is_value(matches: &ArgMatches<'_>, argument: &str, value: &str) -> bool
     ensures { result ≡ is_text value.now (first_of argument.now (rows_of (found_of matches.now))) }
 {
-    match value_of(matches, argument) {
-        Some(text) => text == value,
-        None => false,
-    }
+    value_of(matches, argument) == Some(value)
 }
 
 /// The value of the argument, if it has one.
@@ -109,15 +108,4 @@ fn value_of<'a>(matches: &ArgMatches<'a>, argument: &str) -> Option<&'a str>
         ≡ first_of argument.now (rows_of (found_of matches.now)) }
 {
     matches.get_str(argument)
-}
-
-/// The text, if there is one, as its own.
-fn owned(alloc: Global, text: Option<&str>) -> Result<Option<String>, AllocError>
-    ensures { IfOk result (λ own.
-        option_map string_bytes own ≡ option_map (λ text. text.now) text.entry) }
-{
-    match text {
-        Some(text) => Ok(Some(String::from_str(alloc, text)?)),
-        None => Ok(None),
-    }
 }

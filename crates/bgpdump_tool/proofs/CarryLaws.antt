@@ -1,37 +1,34 @@
 -- Commands that are carried out.
 use Rattle.std.proofs.Common.{codes, ◌≡◌, inl, inr, ℕ, zero, suc, ◌+◌, ◌-◌, ◌<◌, ◌≤◌, ◌||◌, min, max, Bool, true, false, Result, Ok, Err, List, [], ◌∷◌, ◌++◌, length, take, drop, nat_lt, Option, refl, sym, ap, subst, ◌∙◌, arith, append-nil, length-append, length-drop, take_at, drop_at}
-use Rattle.std.proofs.lemmas.Bool.{cases_eq}
 use Rattle.std.proofs.lemmas.Bool.Decides.{nat_tests}
-use Rattle.std.proofs.lemmas.List.{take_all, drop_all}
+use Rattle.std.proofs.lemmas.List.{append_assoc, take_all, drop_all}
 use Rattle.std.proofs.Math.Bool.{or-false}
 use Rattle.std.specs.Io.KnownBytes.{Appends, Keeps}
-use Rattle.std.proofs.KnownBytes.{Appends-nil}
+use Rattle.std.proofs.KnownBytes.{Appends-kept, Appends-nil}
 use Rattle.mrt_events.specs.declared.peer.Peer.{Peer}
 use Rattle.mrt_events.specs.declared.event.Event.{Event}
 use Rattle.rib_player.specs.Tables.{Routes, table}
 use Rattle.rib_player.specs.Timeline.{Timeline, behind, ahead_of, end_of, current, after_play}
 use Rattle.rib_player.specs.Calls.{StandsFor, forgettable, after_forget}
 use Rattle.rib_player.proofs.TimelineLaws.{StandsFor-current, StandsFor-end, StandsFor-after_play, StandsFor-after_forget}
-use Rattle.mrt_wire.specs.Results.{Finding}
-use Rattle.mrt_wire.specs.Place.{Place}
+use Rattle.mrt_wire.specs.Results.{Finding, Place}
 use Rattle.bgpdump_tool.specs.declared.command.Command.{Command}
 use Rattle.bgpdump_tool.specs.declared.command.Command.TheVariants.{Next, Back, Goto, Position, Lose, Forget}
 use Rattle.bgpdump_lines.specs.declared.fault.WriteFault.{WriteFault}
 use Rattle.bgpdump_lines.specs.declared.outcome.Outcome.{Outcome}
-use Rattle.bgpdump_lines.specs.Device.{AppendsFront}
+use Rattle.bgpdump_lines.specs.Run.{AppendsFront}
 use Rattle.bgpdump_lines.specs.Ending.{write_outcome, outcome_result}
 use Rattle.bgpdump_lines.specs.Reports.{reports}
-use Rattle.bgpdump_tool.specs.Replies.{at_text, counted_text, forgot_text}
-use Rattle.bgpdump_tool.specs.State.{events, needed, loss}
+use Rattle.bgpdump_tool.specs.Replies.{at_text, counts_line}
+use Rattle.bgpdump_tool.specs.Meaning.{events, needed, loss}
 use Rattle.bgpdump_tool.specs.Meaning.{answer, retreat, advance, meaning, meets_end, faults_taken}
-use Rattle.bgpdump_tool.specs.Standing.{Standing, Scene, Taking, Stands, state_of, at_cursor, standing_on, HasRoom}
-use Rattle.bgpdump_tool.specs.Moves.{GoesOn, Stops, ForwardDoes, OnwardDoes}
+use Rattle.bgpdump_tool.specs.Carrying.{Standing, Scene, Taking, Stands, state_of, at_cursor, standing_on, HasRoom, GoesOn, StepDoes, Steps}
 use Rattle.bgpdump_tool.specs.Carrying.{IsLed, CarryingDoes}
 use Rattle.bgpdump_lines.specs.Writing.{Puts, PutsPart}
-use Rattle.bgpdump_tool.proofs.WalkLaws.{PutsPart-put}
+use Rattle.bgpdump_tool.proofs.WalkLaws.{PutsPart-put, PutsPart-behind}
 use Rattle.bgpdump_tool.proofs.StepLaws.{kept-Appends, kept-AppendsFront}
-use Rattle.bgpdump_tool.proofs.MoveLaws.{Stands-inside, reports-append, needed_beyond, events_few}
-use Rattle.bgpdump_lines.proofs.WritingLaws.{AppendsFront-none, AppendsFront-longer}
+use Rattle.bgpdump_tool.proofs.MoveLaws.{Stands-inside, Follows-twice, GoesOn-twice, Forth, Reaches, all_over, reports-append, needed_beyond, events_few}
+use Rattle.bgpdump_lines.proofs.WritingLaws.{AppendsFront-none, AppendsFront-behind, AppendsFront-longer}
 
 -- ---- fronts
 
@@ -113,84 +110,76 @@ Carrying-replied command from left s old new out out' text (Err fault) led is re
   },
 )
 
--- outputs that passed on what they held first
-pub CarryingDoes-kept : (command : Command) (from : Place) (left : Option (List ℕ)) (s : Standing) (old new : Scene) (out mid out' : Option (List ℕ)) (r : Result (Unit {0}) Outcome) → Keeps out mid
-    → CarryingDoes command from left s old new mid out' r → CarryingDoes command from left s old new out out' r
-CarryingDoes-kept command from left s old new out mid out' (Ok done) kept (led, replied) = (led, kept-Appends out mid out' led.reply kept replied)
-CarryingDoes-kept command from left s old new out mid out' (Err outcome) kept (inl (fault, is, cut)) =
-    inl (fault, is, record { taken = cut.taken; wants = cut.wants; stops = cut.stops; quiet = kept-Appends out mid out' [] kept cut.quiet })
-CarryingDoes-kept command from left s old new out mid out' (Err outcome) kept (inr (fault, is, broken)) = inr (
-  fault,
-  is,
-  record {
-    taken = broken.taken;
-    ended = broken.ended;
-    taking = broken.taking;
-    follows = broken.follows;
-    met = broken.met;
-    fronts = λ more none.
-        let fronts = broken.fronts more none in
-        (kept-AppendsFront out mid out' _ kept fronts.0, fronts.1);
-  },
-)
-
 -- a run that moved on tells where it stands
 pub Carrying-moved : (command : Command) (from : Place) (left : Option (List ℕ)) (s : Standing) (old new : Scene) (out mid out' : Option (List ℕ)) (at : ℕ) (ended : Bool) (result : Result (Unit {0}) WriteFault) → (led : IsLed command from left s old new) × (led.reply ≡ at_text new.player.cursor ended)
     → at ≡ new.player.cursor → Keeps out mid → Puts mid out' (at_text at ended) result → CarryingDoes command from left s old new out out' (outcome_result result)
 Carrying-moved command from left s old new out mid out' at ended result (led, is) at_is kept put =
-    CarryingDoes-kept command from left s old new out mid out' (outcome_result result) kept
-    (Carrying-replied command from left s old new mid out' (at_text at ended) result led (is ∙ ap (λ n. at_text n ended) (sym at_is)) (PutsPart-put mid out' (at_text at ended) result put))
+    Carrying-replied command from left s old new out out' (at_text at ended) result led (is ∙ ap (λ n. at_text n ended) (sym at_is))
+    (PutsPart-behind out mid out' [] (at_text at ended) result (kept-Appends out mid mid [] kept (Appends-nil mid)) put)
 
 -- ---- a fault on the way
 
-pub Carrying-stopped : (command : Command) (from : Place) (left : Option (List ℕ)) (s : Standing) (old new : Scene) (out : Option (List ℕ)) (outcome : Outcome) (More Enough : List Finding → Type 0)
-    → ((found more : List Finding) → More found → length found < (meaning command (state_of s (found ++ more))).wanted)
-    → ((found more : List Finding) → Enough found → length found ≤ (meaning command (state_of s (found ++ more))).wanted)
-    → Stops More Enough from left s old new outcome → CarryingDoes {A = Unit {0}} command from left s old new out out (Err outcome)
-Carrying-stopped command from left s old new out outcome More Enough wants has (inl (fault, is, found, more, stop)) =
-    inl (fault, is, record { taken = found; wants = λ later. wants found later more; stops = stop; quiet = Appends-nil out })
-Carrying-stopped command from left s old new out outcome More Enough wants has (inr (fault, is, found, enough, stop)) = inr (
+-- a step that is stopped where the command wants more than was found stops the command
+Carrying-stopped : (command : Command) (from : Place) (left : Option (List ℕ)) (s : Standing) (a b c : Scene) (out out' : Option (List ℕ)) (over : ℕ) (found : List Finding) (outcome : Outcome) → Keeps out out'
+    → ((more : List Finding) → length found < (meaning command (state_of s (found ++ more))).wanted) → GoesOn from left s a b over found false
+    → StepDoes from left (standing_on over found false s) b c (Err outcome) → CarryingDoes {A = Unit {0}} command from left s a c out out' (Err outcome)
+Carrying-stopped command from left s a b c out out' over found outcome kept few first (end, inl (fault, is, stop)) = inl (
   fault,
   is,
   record {
     taken = found;
+    wants = few;
+    reads = λ e. stop.reads (first.follows.stays e);
+    faulty = stop.faulty;
+    reported = Appends-kept a.err b.err c.err (reports found) first.reported stop.kept;
+    quiet = kept-Appends out out' out' [] kept (Appends-nil out');
+  },
+)
+Carrying-stopped command from left s a b c out out' over found outcome kept few first (end, inr (fault, is, new, one, stop)) = inr (
+  fault,
+  is,
+  record {
+    taken = found ++ new;
     ended = s.ended;
-    taking = stop.taking;
-    follows = stop.follows;
-    met = λ e. ap (λ b. b || meets_end command (state_of s found)) e;
+    taking = subst (λ e. Taking from left c.place c.left (s.found ++ (found ++ new)) e) (or-false s.ended) (subst (λ f. Taking from left c.place c.left f (s.ended || false)) (append_assoc s.found found new) stop.taking);
+    follows = Follows-twice a.place b.place c.place found new first.follows stop.follows;
+    met = λ e. ap (λ b. b || meets_end command (state_of s (found ++ new))) e;
     fronts = λ more none.
-        let rest = take_over found more (meaning command (state_of s (found ++ more))).wanted (has found more enough) in (
-          AppendsFront-none out (meaning command (state_of s (found ++ more))).reply,
-          subst (AppendsFront old.err new.err) (sym (ap reports rest.1 ∙ reports-append found rest.0)) (AppendsFront-longer old.err new.err (reports found) (reports rest.0) stop.fronts),
+        let wanted = (meaning command (state_of s ((found ++ new) ++ more))).wanted in
+        let has : length (found ++ new) ≤ wanted = omega (arith, one, length-append found new, few (new ++ more), ap (λ l. (meaning command (state_of s l)).wanted) (append_assoc found new more)) in
+        let rest = take_over (found ++ new) more wanted has in (
+          kept-AppendsFront out out' out' _ kept (AppendsFront-none out' _),
+          subst (AppendsFront a.err c.err) (sym (ap reports rest.1 ∙ reports-append (found ++ new) rest.0 ∙ ap (λ l. l ++ reports rest.0) (reports-append found new)))
+              (AppendsFront-longer a.err c.err (reports found ++ reports new) (reports rest.0) (AppendsFront-behind a.err b.err c.err (reports found) (reports new) first.reported stop.fronts)),
         );
   },
 )
 
 -- ---- `next`
 
-pub IsLed-next : (n : ℕ) (from : Place) (left : Option (List ℕ)) (s : Standing) (old new : Scene) (ended : Bool) → ForwardDoes n from left s old new (Ok ended)
-    → (led : IsLed (Next n) from left s old new) × (led.reply ≡ at_text new.player.cursor ended)
-IsLed-next n from left s old new false (over, found, sum, goes) =
-    let same : min n (length s.history - s.cursor) ≡ over = elim (cases_eq (length found) 0) [
-      | inl empty ↦ omega (arith, goes.onward.few, sum, empty)
-      | inr some ↦ omega (arith, goes.onward.all (omega (arith, some)), sum)
-    ] in
-    IsLed-advance (Next n) from left s old new over found false (λ more. n - over) goes
-    (λ more. ap (λ o. advance o (n - o) (state_of s (found ++ more))) same)
-    (λ e more. omega (arith, sum)) (λ e more. cc)
-IsLed-next n from left s old new true (over, found, below, goes) =
-    let same : min n (length s.history - s.cursor) ≡ over = omega (arith, (goes.met refl).0, below) in
-    IsLed-advance (Next n) from left s old new over found true (λ more. n - over) goes
-    (λ more. ap (λ o. advance o (n - o) (state_of s (found ++ more))) same)
-    (λ e more. cc) (λ e more. omega (arith, below))
+pub Next-all : (count n : ℕ) (from : Place) (left : Option (List ℕ)) (s : Standing) (a b : Scene) → n ≡ count → Forth n from left s a b → (led : IsLed (Next count) from left s a b) × (led.reply ≡ at_text b.player.cursor false)
+Next-all count n from left s a b e (over, found, sum, goes) =
+    let same : min count (length s.history - s.cursor) ≡ over = grind (arith, goes.few, goes.all, sum, e) in
+    IsLed-advance (Next count) from left s a b over found false (λ more. count - over) goes
+    (λ more. ap (λ o. advance o (count - o) (state_of s (found ++ more))) same)
+    (λ _ more. omega (arith, sum, e)) (λ x more. cc)
 
-pub Carrying-next : (n : ℕ) (from : Place) (left : Option (List ℕ)) (s : Standing) (old new : Scene) (out : Option (List ℕ)) (outcome : Outcome) → ForwardDoes n from left s old new (Err outcome)
-    → CarryingDoes {A = Unit {0}} (Next n) from left s old new out out (Err outcome)
-Carrying-next n from left s old new out outcome stops =
-    Carrying-stopped (Next n) from left s old new out outcome (λ l. length s.history - s.cursor + length l < n) (λ l. length s.history - s.cursor + length l ≤ n)
-    (λ found more below. omega (arith, below))
-    (λ found more within. omega (arith, within))
-    stops
+pub Next-end : (count n : ℕ) (from : Place) (left : Option (List ℕ)) (s : Standing) (a b c : Scene) (ended : Bool) → Stands from left a s → n < count → Forth n from left s a b → ended ≡ true → Steps b c (Ok ended)
+    → (led : IsLed (Next count) from left s a c) × (led.reply ≡ at_text c.player.cursor ended)
+Next-end count n from left s a b c false stands below forth e step = cc
+Next-end count n from left s a b c true stands below (over, found, sum, first) e step =
+    let goes = GoesOn-twice from left s a b c over 0 found [] true stands first (step from left (standing_on over found false s) first.stands) in
+    let same : min count (length s.history - s.cursor) ≡ over + 0 = omega (arith, (goes.met refl).0, sum, below) in
+    IsLed-advance (Next count) from left s a c (over + 0) (found ++ []) true (λ more. count - (over + 0)) goes
+    (λ more. ap (λ o. advance o (count - o) (state_of s ((found ++ []) ++ more))) same)
+    (λ x more. cc) (λ _ more. omega (arith, sum, below, length-append found []))
+
+pub Next-stops : (count n : ℕ) (from : Place) (left : Option (List ℕ)) (s : Standing) (a b c : Scene) (out out' : Option (List ℕ)) (outcome : Outcome) → Stands from left a s → n < count → Forth n from left s a b → Steps b c (Err outcome)
+    → Keeps out out' → CarryingDoes {A = Unit {0}} (Next count) from left s a c out out' (Err outcome)
+Next-stops count n from left s a b c out out' outcome stands below (over, found, sum, first) step kept =
+    let stop = step from left (standing_on over found false s) first.stands in
+    let all = all_over from left s a b over found stands first stop.0 in
+    Carrying-stopped (Next count) from left s a b c out out' over found outcome kept (λ more. omega (arith, sum, below, all)) first stop
 
 -- ---- `goto` that goes on
 
@@ -201,39 +190,36 @@ goto_means k s over found more above same =
     let test : nat_lt k s.cursor ≡ false = grind (arith, nat_tests, above) in
     rw test (ap (λ o. advance o (needed (k - length s.history) (found ++ more)) (state_of s (found ++ more))) same)
 
-pub IsLed-goto : (k : ℕ) (from : Place) (left : Option (List ℕ)) (s : Standing) (old new : Scene) (ended : Bool) → s.cursor ≤ k → Stands from left old s → OnwardDoes k from left s old new (Ok ended)
-    → (led : IsLed (Goto k) from left s old new) × (led.reply ≡ at_text new.player.cursor ended)
-IsLed-goto k from left s old new false above stands (over, found, reached, exact, goes) =
-    let same : min (k - s.cursor) (length s.history - s.cursor) ≡ over = elim (cases_eq (length found) 0) [
-      | inl empty ↦
-          omega (arith, reached, goes.stands.cursor, goes.onward.few, events_few found, empty)
-      | inr some ↦
-          let all = goes.onward.all (omega (arith, some)) in
-          omega (arith, reached, goes.stands.cursor, all)
-    ] in
-    IsLed-advance (Goto k) from left s old new over found false (λ more. needed (k - length s.history) (found ++ more)) goes
-    (λ more. goto_means k s over found more above same)
-    (λ e more. sym (exact more)) (λ e more. cc)
-IsLed-goto k from left s old new true above stands (over, found, below, goes) =
-    let inside = Stands-inside from left old s stands in
+pub Goto-all : (k : ℕ) (from : Place) (left : Option (List ℕ)) (s : Standing) (a b : Scene) → s.cursor ≤ k → Reaches k from left s a b → ¬ (b.player.cursor < k) → (led : IsLed (Goto k) from left s a b) × (led.reply ≡ at_text b.player.cursor false)
+Goto-all k from left s a b above r done =
+    let e : b.player.cursor ≡ k = omega (arith, r.within) in
+    let same : min (k - s.cursor) (length s.history - s.cursor) ≡ r.over = grind (arith, e, r.goes.stands.cursor, r.goes.few, r.goes.all, events_few r.found) in
+    IsLed-advance (Goto k) from left s a b r.over r.found false (λ more. needed (k - length s.history) (r.found ++ more)) r.goes
+    (λ more. goto_means k s r.over r.found more above same)
+    (λ _ more. sym (r.needs e more)) (λ x more. cc)
+
+pub Goto-end : (k : ℕ) (from : Place) (left : Option (List ℕ)) (s : Standing) (a b c : Scene) (ended : Bool) → s.cursor ≤ k → Stands from left a s → b.player.cursor < k → Reaches k from left s a b → ended ≡ true → Steps b c (Ok ended)
+    → (led : IsLed (Goto k) from left s a c) × (led.reply ≡ at_text c.player.cursor true)
+Goto-end k from left s a b c false above stands below r e step = cc
+Goto-end k from left s a b c true above stands below r e step =
+    let last = step from left (standing_on r.over r.found false s) r.goes.stands in
+    let goes = GoesOn-twice from left s a b c r.over 0 r.found [] true stands r.goes last in
     let all = (goes.met refl).0 in
-    let few : length (events found) < k - length s.history = omega (arith, inside, all, below, goes.stands.cursor) in
-    let same : min (k - s.cursor) (length s.history - s.cursor) ≡ over = omega (arith, below, goes.stands.cursor, all) in
-    IsLed-advance (Goto k) from left s old new over found true (λ more. needed (k - length s.history) (found ++ more)) goes
-    (λ more. goto_means k s over found more above same)
-    (λ e more. cc) (λ e more. needed_beyond (k - length s.history) found more few)
+    let few : length (events (r.found ++ [])) < k - length s.history = omega (arith, Stands-inside from left a s stands, all, below, last.stands.cursor, r.goes.stands.cursor, goes.stands.cursor) in
+    let same : min (k - s.cursor) (length s.history - s.cursor) ≡ r.over + 0 = omega (arith, few, all) in
+    IsLed-advance (Goto k) from left s a c (r.over + 0) (r.found ++ []) true (λ more. needed (k - length s.history) ((r.found ++ []) ++ more)) goes
+    (λ more. goto_means k s (r.over + 0) (r.found ++ []) more above same)
+    (λ x more. cc) (λ _ more. needed_beyond (k - length s.history) (r.found ++ []) more few)
 
-goto_taken : (k : ℕ) (s : Standing) (found more : List Finding) → s.cursor ≤ k → (meaning (Goto k) (state_of s (found ++ more))).wanted ≡ needed (k - length s.history) (found ++ more)
-goto_taken k s found more above = ap (λ m. m.wanted) (goto_means k s (min (k - s.cursor) (length s.history - s.cursor)) found more above refl)
-
-pub Carrying-goto : (k : ℕ) (from : Place) (left : Option (List ℕ)) (s : Standing) (old new : Scene) (out : Option (List ℕ)) (outcome : Outcome) → s.cursor ≤ k → OnwardDoes k from left s old new (Err outcome)
-    → CarryingDoes {A = Unit {0}} (Goto k) from left s old new out out (Err outcome)
-Carrying-goto k from left s old new out outcome above stops =
-    Carrying-stopped (Goto k) from left s old new out outcome
-    (λ found. (more : List Finding) → length found < needed (k - length s.history) (found ++ more)) (λ found. (more : List Finding) → length found ≤ needed (k - length s.history) (found ++ more))
-    (λ found more wants. omega (arith, wants more, goto_taken k s found more above))
-    (λ found more has. omega (arith, has more, goto_taken k s found more above))
-    stops
+pub Goto-stops : (k : ℕ) (from : Place) (left : Option (List ℕ)) (s : Standing) (a b c : Scene) (out out' : Option (List ℕ)) (outcome : Outcome) → s.cursor ≤ k → Stands from left a s → b.player.cursor < k → Reaches k from left s a b → Steps b c (Err outcome)
+    → Keeps out out' → CarryingDoes {A = Unit {0}} (Goto k) from left s a c out out' (Err outcome)
+Goto-stops k from left s a b c out out' outcome above stands below r step kept =
+    let stop = step from left (standing_on r.over r.found false s) r.goes.stands in
+    let all = all_over from left s a b r.over r.found stands r.goes stop.0 in
+    let few : length (events r.found) < k - length s.history = omega (arith, below, all, r.goes.stands.cursor, Stands-inside from left a s stands) in
+    Carrying-stopped (Goto k) from left s a b c out out' r.over r.found outcome kept
+    (λ more. omega (arith, needed_beyond (k - length s.history) r.found more few, ap (λ m. m.wanted) (goto_means k s (min (k - s.cursor) (length s.history - s.cursor)) r.found more above refl)))
+    r.goes stop
 
 -- ---- commands that take nothing
 
@@ -312,19 +298,19 @@ ahead_is from left s old stands = omega (arith, StandsFor-end old.player s.histo
 
 -- where the player stands
 pub Carrying-position : (from : Place) (left : Option (List ℕ)) (s : Standing) (old : Scene) (out out' : Option (List ℕ)) (at ahead : ℕ) (result : Result (Unit {0}) WriteFault) → Stands from left old s → at ≡ old.player.cursor → ahead ≡ ahead_of old.player
-    → Puts out out' (counted_text at (codes " ahead ") ahead) result → CarryingDoes Position from left s old old out out' (outcome_result result)
+    → Puts out out' (counts_line ((codes "at ", at) ∷ (codes " ahead ", ahead) ∷ [])) result → CarryingDoes Position from left s old old out out' (outcome_result result)
 Carrying-position from left s old out out' at ahead result stands at_is ahead_of_it put =
-    Carrying-still Position from left s s old old.player out out' (counted_text s.cursor (codes " ahead ") (length s.history - s.cursor)) (counted_text at (codes " ahead ") ahead) result refl refl stands (λ more. refl)
-    (sym (λ i. counted_text ((at_is ∙ stands.cursor) i) (codes " ahead ") ((ahead_of_it ∙ ahead_is from left s old stands) i))) (PutsPart-put out out' (counted_text at (codes " ahead ") ahead) result put)
+    Carrying-still Position from left s s old old.player out out' (counts_line ((codes "at ", s.cursor) ∷ (codes " ahead ", length s.history - s.cursor) ∷ [])) (counts_line ((codes "at ", at) ∷ (codes " ahead ", ahead) ∷ [])) result refl refl stands (λ more. refl)
+    (sym (λ i. counts_line ((codes "at ", (at_is ∙ stands.cursor) i) ∷ (codes " ahead ", (ahead_of_it ∙ ahead_is from left s old stands) i) ∷ []))) (PutsPart-put out out' (counts_line ((codes "at ", at) ∷ (codes " ahead ", ahead) ∷ [])) result put)
 
 -- the loss of a session
 pub Carrying-lose : (peer : Peer) (from : Place) (left : Option (List ℕ)) (s : Standing) (old : Scene) (u : Timeline) (out out' : Option (List ℕ)) (at dropped : ℕ) (result : Result (Unit {0}) WriteFault) → Stands from left old s → u ≡ after_play old.player (loss peer)
-    → at ≡ u.cursor → dropped ≡ ahead_of old.player → Puts out out' (counted_text at (codes " dropped ") dropped) result
+    → at ≡ u.cursor → dropped ≡ ahead_of old.player → Puts out out' (counts_line ((codes "at ", at) ∷ (codes " dropped ", dropped) ∷ [])) result
     → CarryingDoes (Lose peer) from left s old (record old { player = u }) out out' (outcome_result result)
 Carrying-lose peer from left s old u out out' at dropped result stands is at_is dropped_is put =
     let history : List Event = take s.cursor s.history ++ loss peer ∷ [] in
     let cursor : u.cursor ≡ s.cursor + 1 = ap (λ x. x.cursor) is ∙ ap (λ n. n + 1) stands.cursor in
-    Carrying-still (Lose peer) from left s (record s { history = history; cursor = s.cursor + 1 }) old u out out' (counted_text (s.cursor + 1) (codes " dropped ") (length s.history - s.cursor)) (counted_text at (codes " dropped ") dropped) result refl refl
+    Carrying-still (Lose peer) from left s (record s { history = history; cursor = s.cursor + 1 }) old u out out' (counts_line ((codes "at ", s.cursor + 1) ∷ (codes " dropped ", length s.history - s.cursor) ∷ [])) (counts_line ((codes "at ", at) ∷ (codes " dropped ", dropped) ∷ [])) result refl refl
     (record {
       history = subst (λ x. StandsFor x history) (sym is)
           (subst (λ n. StandsFor (after_play old.player (loss peer)) (take n s.history ++ loss peer ∷ [])) stands.cursor (StandsFor-after_play old.player s.history (loss peer) stands.history));
@@ -332,11 +318,11 @@ Carrying-lose peer from left s old u out out' at dropped result stands is at_is 
       floor = ap (λ x. x.floor) is ∙ stands.floor;
       taking = stands.taking;
     })
-    (λ more. refl) (sym (λ i. counted_text ((at_is ∙ cursor) i) (codes " dropped ") ((dropped_is ∙ ahead_is from left s old stands) i))) (PutsPart-put out out' (counted_text at (codes " dropped ") dropped) result put)
+    (λ more. refl) (sym (λ i. counts_line ((codes "at ", (at_is ∙ cursor) i) ∷ (codes " dropped ", (dropped_is ∙ ahead_is from left s old stands) i) ∷ []))) (PutsPart-put out out' (counts_line ((codes "at ", at) ∷ (codes " dropped ", dropped) ∷ [])) result put)
 
 -- `forget`
 pub Carrying-forget : (n : ℕ) (from : Place) (left : Option (List ℕ)) (s : Standing) (old : Scene) (u : Timeline) (out out' : Option (List ℕ)) (at floor number : ℕ) (result : Result (Unit {0}) WriteFault) → Stands from left old s
-    → u ≡ after_forget old.player n → at ≡ u.cursor → floor ≡ u.floor → number ≡ forgettable old.player n → Puts out out' (forgot_text at floor number) result
+    → u ≡ after_forget old.player n → at ≡ u.cursor → floor ≡ u.floor → number ≡ forgettable old.player n → Puts out out' (counts_line ((codes "at ", at) ∷ (codes " floor ", floor) ∷ (codes " forgot ", number) ∷ [])) result
     → CarryingDoes (Forget n) from left s old (record old { player = u }) out out' (outcome_result result)
 Carrying-forget n from left s old u out out' at floor number result stands is at_is floor_is number_is put =
     let raised : ℕ = max s.floor (s.cursor - n) in
@@ -344,14 +330,14 @@ Carrying-forget n from left s old u out out' at floor number result stands is at
     let cursor : u.cursor ≡ s.cursor = ap (λ x. x.cursor) is ∙ stands.cursor in
     let rises : u.floor ≡ raised = ap (λ x. x.floor) is ∙ same in
     let count : number ≡ raised - s.floor = omega (arith, number_is, same, stands.floor) in
-    Carrying-still (Forget n) from left s (record s { floor = raised }) old u out out' (forgot_text s.cursor raised (raised - s.floor)) (forgot_text at floor number) result refl refl
+    Carrying-still (Forget n) from left s (record s { floor = raised }) old u out out' (counts_line ((codes "at ", s.cursor) ∷ (codes " floor ", raised) ∷ (codes " forgot ", raised - s.floor) ∷ [])) (counts_line ((codes "at ", at) ∷ (codes " floor ", floor) ∷ (codes " forgot ", number) ∷ [])) result refl refl
     (record {
       history = subst (λ x. StandsFor x s.history) (sym is) (StandsFor-after_forget old.player s.history n stands.history);
       cursor = cursor;
       floor = rises;
       taking = stands.taking;
     })
-    (λ more. refl) (sym (λ i. forgot_text ((at_is ∙ cursor) i) ((floor_is ∙ rises) i) (count i))) (PutsPart-put out out' (forgot_text at floor number) result put)
+    (λ more. refl) (sym (λ i. counts_line ((codes "at ", (at_is ∙ cursor) i) ∷ (codes " floor ", (floor_is ∙ rises) i) ∷ (codes " forgot ", count i) ∷ []))) (PutsPart-put out out' (counts_line ((codes "at ", at) ∷ (codes " floor ", floor) ∷ (codes " forgot ", number) ∷ [])) result put)
 
 -- nothing was played or written, for want of memory
 pub Carrying-refused : (command : Command) (from : Place) (left : Option (List ℕ)) (s : Standing) (old : Scene) (u : Timeline) (out : Option (List ℕ)) (fault : WriteFault) → Stands from left old s → u ≡ old.player

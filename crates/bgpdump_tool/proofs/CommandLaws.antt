@@ -1,5 +1,5 @@
--- No words spell two commands, and which spell none.
-use Rattle.std.proofs.Common.{◌≡◌, ℕ, ◌+◌, ◌*◌, ◌≤◌, ◌<◌, inl, inr, Option, List, [], ◌∷◌, length, refl, sym, ap, subst, ◌∙◌, arith, rules}
+-- No words spell two commands, which spell none, and what the lines of a script ask for is one thing.
+use Rattle.std.proofs.Common.{◌≡◌, ℕ, ◌+◌, ◌*◌, ◌≤◌, ◌<◌, inl, inr, Option, List, [], ◌∷◌, length, refl, sym, ap, subst, ◌∙◌, arith, rules, ◌++◌, ap₂}
 use Rattle.std.proofs.lemmas.Fmt.{decimal_injective}
 use Rattle.std.specs.Prelude.{codes}
 use Rattle.ip_prefix.specs.Spelling.{SpellsAddress, SpellsPrefix}
@@ -7,9 +7,11 @@ use Rattle.ip_prefix.proofs.Spelled.{one_address, one_prefix}
 use Rattle.mrt_events.specs.declared.peer.Peer.{Peer}
 use Rattle.bgp_wire.specs.Reading.{IsNoSpelling}
 use Rattle.bgp_wire.specs.Readers.{Finds}
+use Rattle.bgpdump_lines.specs.Lines.{space}
 use Rattle.bgpdump_tool.specs.declared.command.Command.{Command}
 use Rattle.bgpdump_tool.specs.declared.command.Command.TheVariants.{Next, Route}
-use Rattle.bgpdump_tool.specs.Command.{Arguments, Alone, Times, Number, OfPeer, SoughtPrefix, SoughtAddress, spelling, words, SpellsArguments, SpellsCommand, SpellsDecimal, SpellsPeer, SpellsSought, SpellsWords}
+use Rattle.bgpdump_tool.specs.Command.{Arguments, Alone, Times, Number, OfPeer, SoughtPrefix, SoughtAddress, spelling, pieces, SpellsArguments, SpellsCommand, SpellsDecimal, SpellsPeer, SpellsSought, SpellsWords}
+use Rattle.bgpdump_tool.specs.Script.{Line, Empty, Asks, NoCommand, IsLine, AreLines}
 
 -- ---- what stands behind a name
 
@@ -95,7 +97,7 @@ one_of_words a b ws h k =
     same_command a b named (one_of_shape (spelling a).1 (spelling b).1 k.0 (same_shape a b named) (subst (SpellsArguments (spelling a).1) rest h.1) k.1)
 
 -- a line spells what its words spell
-pub found_in : (line : List ℕ) (ws : List (List ℕ)) (result : Option Command) → words line ≡ ws → Finds SpellsWords ws result → Finds SpellsCommand line result
+pub found_in : (line : List ℕ) (ws : List (List ℕ)) (result : Option Command) → pieces space line ≡ ws → Finds SpellsWords ws result → Finds SpellsCommand line result
 found_in line ws result same found = subst (λ w. Finds SpellsWords w result) (sym same) found
 
 -- more than four words spell none
@@ -115,3 +117,50 @@ route_none name address number sought named none (Route peer prefix) h = none pr
 route_none name address number sought named none c h =
     let same : codes "route" ≡ (spelling c).0 = cc (named, h.2) in
     absurd (omega (arith, ap mark same))
+
+-- ---- what lines ask for
+
+-- an empty line spells no command
+empty_line : (command : Command) (octets : List ℕ) → octets ≡ [] → SpellsCommand command octets → ⊥
+empty_line command octets none spelled = empty_word (pieces space octets) (ap (pieces space) none) command spelled
+
+pub one_line : (a b : Line) (octets : List ℕ) → IsLine a octets → IsLine b octets → a ≡ b
+one_line Empty Empty octets h k = refl
+one_line Empty (Asks command) octets h k = absurd (empty_line command octets h k)
+one_line Empty NoCommand octets h k = absurd (k.0 h)
+one_line (Asks command) Empty octets h k = absurd (empty_line command octets k h)
+one_line (Asks command) (Asks other) octets h k = ap Asks (one_of_words command other (pieces space octets) h k)
+one_line (Asks command) NoCommand octets h k = absurd (k.1 command h)
+one_line NoCommand Empty octets h k = absurd (h.0 k)
+one_line NoCommand (Asks command) octets h k = absurd (h.1 command k)
+one_line NoCommand NoCommand octets h k = refl
+
+pub one_reading : (a b : List Line) (octets : List (List ℕ)) → AreLines a octets → AreLines b octets → a ≡ b
+one_reading [] [] octets h k = refl
+one_reading [] (y ∷ b) [] h k = absurd k
+one_reading [] (y ∷ b) (o ∷ octets) h k = absurd h
+one_reading (x ∷ a) [] [] h k = absurd h
+one_reading (x ∷ a) [] (o ∷ octets) h k = absurd k
+one_reading (x ∷ a) (y ∷ b) [] h k = absurd h
+one_reading (x ∷ a) (y ∷ b) (o ∷ octets) h k = ap₂ (λ l ls. l ∷ ls) (one_line x y o h.0 k.0) (one_reading a b octets h.1 k.1)
+
+-- and of lines and others behind them
+pub first_reading : (begun lines : List Line) (first rest : List (List ℕ)) → AreLines begun first → AreLines lines (first ++ rest) → (left : List Line) × (lines ≡ begun ++ left)
+first_reading [] lines [] rest h k = (lines, refl)
+first_reading [] lines (o ∷ first) rest h k = absurd h
+first_reading (x ∷ begun) lines [] rest h k = absurd h
+first_reading (x ∷ begun) [] (o ∷ first) rest h k = absurd k
+first_reading (x ∷ begun) (y ∷ lines) (o ∷ first) rest h k =
+    let more = first_reading begun lines first rest h.1 k.1 in
+    (more.0, ap₂ (λ l ls. l ∷ ls) (sym (one_line x y o h.0 k.0)) more.1)
+
+-- ---- lines without a reading
+
+-- no octets of a line ask for nothing that is told
+line_read : (octets : List ℕ) → ((line : Line) → IsLine line octets → ⊥) → ⊥
+line_read [] none = none Empty refl
+line_read (octet ∷ octets) none = none NoCommand ((λ e. cc), λ command spelled. none (Asks command) spelled)
+
+pub lines_read : (octets : List (List ℕ)) → ((lines : List Line) → AreLines lines octets → ⊥) → ⊥
+lines_read [] none = none [] tt
+lines_read (o ∷ octets) none = lines_read octets (λ lines are. line_read o (λ line is. none (line ∷ lines) (is, are)))

@@ -1,11 +1,8 @@
 pub mod StepLaws
 pub mod MoveLaws
-pub mod BackLaws
 pub mod CarryLaws
 pub mod PlayLaws
-pub mod ScriptLaws
 pub mod PlayEndLaws
-pub mod DecimalLaws
 pub mod WordLaws
 pub mod CommandLaws
 pub mod BestLaws

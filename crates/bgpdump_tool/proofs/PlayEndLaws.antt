@@ -1,5 +1,5 @@
 -- What a run of a script leaves at its end, by how it ended, and how far it came.
-use Rattle.std.proofs.Common.{None, ◌≡◌, ◌≢◌, ◌⊎◌, inl, inr, ℕ, Bool, true, false, Ok, Err, List, [], ◌∷◌, ◌++◌, length, Option, refl, sym, ap, subst, ◌∙◌, append-nil, arith}
+use Rattle.std.proofs.Common.{None, ◌≡◌, ◌≢◌, ◌⊎◌, inl, inr, ℕ, Bool, true, false, is_some, slice_get, Ok, Err, List, [], ◌∷◌, ◌++◌, length, Option, refl, sym, ap, subst, ◌∙◌, append-nil, arith}
 use Rattle.std.proofs.lemmas.Bool.{false≢true}
 use Rattle.std.specs.Io.KnownBytes.{Consumes, Keeps}
 use Rattle.mrt_events.specs.declared.stamp.Stamp.{Stamp}
@@ -8,14 +8,11 @@ use Rattle.mrt_wire.specs.declared.SourceFault.TheVariants as source
 use Rattle.mrt_wire.specs.declared.RecordKind.TheVariants.{CutRecord}
 use Rattle.mrt_wire.specs.declared.next.Phase.TheVariants.{Ended}
 use Rattle.mrt_wire.specs.Verdict.{Frame}
-use Rattle.mrt_wire.specs.Splitting.{Splits, spellings}
+use Rattle.mrt_wire.specs.Results.{Splits, spellings, Finding, Place, start_place, results, Took}
 use Rattle.mrt_wire.specs.SoFar.{SoFar}
 use Rattle.mrt_wire.proofs.FirstLaws.{same_taken}
 use Rattle.mrt_wire.proofs.SplitLaws.{frames_all}
 use Rattle.mrt_wire.specs.Rest.{rest_kind}
-use Rattle.mrt_wire.specs.Results.{Finding}
-use Rattle.mrt_wire.specs.Place.{Place, start_place, results}
-use Rattle.mrt_wire.specs.Next.{Took}
 use Rattle.mrt_wire.proofs.SoFarLaws.{FirstSoFar}
 use Rattle.bgpdump_lines.specs.declared.dump.TheConstants.{LIMIT}
 use Rattle.bgpdump_lines.specs.declared.fault.WriteFault.{WriteFault}
@@ -23,18 +20,16 @@ use Rattle.bgpdump_lines.specs.declared.fault.WriteFault.TheVariants as write
 use Rattle.bgpdump_lines.specs.declared.outcome.Outcome.{Outcome}
 use Rattle.bgpdump_lines.specs.declared.outcome.Outcome.TheVariants as outcome
 use Rattle.bgpdump_lines.specs.Ending.{outcome_of, source_outcome, write_outcome}
-use Rattle.bgpdump_lines.specs.Going.{IsFaulty}
 use Rattle.bgpdump_lines.specs.Run.{Texts, Outputs, MayHold, Writes, EndsSo, EndedByInput, IsTaken, IsLast, OverAll, all_results}
 use Rattle.bgpdump_tool.specs.Script.{Line, AreLines, IsScript, script_lines}
-use Rattle.bgpdump_tool.specs.Course.{course, play_texts, cut_course, cut_texts, TakesWanted, IsEndSeen, PlaySawEnd}
-use Rattle.bgpdump_tool.specs.Began.{WritesPast, Began}
-use Rattle.bgpdump_tool.specs.Standing.{Scene, Taking}
-use Rattle.bgpdump_tool.specs.Playing.{is_some_text, Plays, PlaysCutOff, PlaysBrokenOff, PlaysScript}
+use Rattle.bgpdump_tool.specs.Course.{course, play_texts, cut_texts, TakesWanted, IsEndSeen, PlaySawEnd, WritesPast, Began}
+use Rattle.bgpdump_tool.specs.Carrying.{Scene, Taking}
+use Rattle.bgpdump_tool.specs.Playing.{Plays, PlaysBrokenOff, PlaysScript}
 use Rattle.bgpdump_lines.proofs.WritingLaws.{AppendsFront-none, WritesFronts-whole, Writes-kept}
 use Rattle.bgpdump_lines.proofs.HeldLaws.{rest_so_far, first_held, front_held, untold_held, whole_found, IsTaken-told, IsTaken-faulty, length-faulty}
 use Rattle.bgpdump_lines.proofs.EndLaws.{cases_none, written_all, EndsSo-source}
 use Rattle.bgpdump_tool.proofs.PlayLaws.{course_of_done, fronts_past}
-use Rattle.bgpdump_tool.proofs.ScriptLaws.{one_reading, first_reading}
+use Rattle.bgpdump_tool.proofs.CommandLaws.{one_reading, first_reading}
 
 -- ---- what the input may hold
 
@@ -60,36 +55,36 @@ pub plays_held : (stamp : Stamp) (left : Option (List ℕ)) (lines : List Line) 
 plays_held stamp left lines scene old new Saw p saw octets frames rest may split =
     let t = p.stands.taking in
     let found = p.standing.found in
-    let own : (more : List Finding) → (scene.place.phase ≡ Ended → more ≡ []) → course lines (found ++ more) ≡ record { texts = p.texts; ended = p.standing.ended; left = more } =
+    let own : (more : List Finding) → (scene.place.phase ≡ Ended → more ≡ []) → course false lines (found ++ more) ≡ record { texts = p.texts; ended = p.standing.ended; left = more } =
     λ more none. course_of_done (start_place stamp LIMIT) left lines scene old new more p none in
-    let met : p.standing.ended ≡ true → (course lines (all_results stamp t.so_far.frames t.so_far.rest)).ended ≡ true =
-    λ e. ap (λ l. (course lines l).ended) (sym t.so_far.found_is ∙ sym (append-nil found)) ∙ ap (λ c. c.ended) (own [] (λ _. refl)) ∙ e in
+    let met : p.standing.ended ≡ true → (course false lines (all_results stamp t.so_far.frames t.so_far.rest)).ended ≡ true =
+    λ e. ap (λ l. (course false lines l).ended) (sym t.so_far.found_is ∙ sym (append-nil found)) ∙ ap (λ c. c.ended) (own [] (λ _. refl)) ∙ e in
     let first = played_held stamp scene.place left scene.left found p.standing.ended Saw t
     (λ cut seen. saw t.so_far.frames t.so_far.rest (cut, elim seen [ inl some ↦ inl some | inr e ↦ inr (met e) ])) octets frames rest may split in
     ap (λ l. play_texts lines l) first.first ∙ ap (λ c. c.texts) (own first.later first.all)
 
 -- where memory or an output stopped a run, what was found is first in it
-pub broken_held : (stamp : Stamp) (left : Option (List ℕ)) (begun behind lines : List Line) (scene : Scene) (old new : Outputs) (Saw : List Frame → List ℕ → Type 0) (p : PlaysBrokenOff (start_place stamp LIMIT) left begun scene old new) → lines ≡ begun ++ behind
+pub broken_held : (stamp : Stamp) (left : Option (List ℕ)) (done behind lines : List Line) (line : Line) (scene : Scene) (old new : Outputs) (Saw : List Frame → List ℕ → Type 0) (p : PlaysBrokenOff (start_place stamp LIMIT) left done line scene old new) → lines ≡ (done ++ line ∷ []) ++ behind
     → ((frames : List Frame) (rest : List ℕ) → IsEndSeen stamp lines frames rest → Saw frames rest) → (octets : List ℕ) (frames : List Frame) (rest : List ℕ) → MayHold stamp Saw left scene.left octets → Splits stamp None octets frames rest
     → FirstSoFar (start_place stamp LIMIT) scene.place p.found frames rest
-broken_held stamp left begun behind lines scene old new Saw p is saw octets frames rest may split =
+broken_held stamp left done behind lines line scene old new Saw p is saw octets frames rest may split =
     let t = p.taking in
-    let met : p.ended ≡ true → (course lines (all_results stamp t.so_far.frames t.so_far.rest)).ended ≡ true = λ e. (λ i. (course (is i) (sym t.so_far.found_is i)).ended) ∙ p.met e behind in
+    let met : p.ended ≡ true → (course false lines (all_results stamp t.so_far.frames t.so_far.rest)).ended ≡ true = λ e. (λ i. (course false (is i) (sym t.so_far.found_is i)).ended) ∙ p.met e behind in
     played_held stamp scene.place left scene.left p.found p.ended Saw t
     (λ cut seen. saw t.so_far.frames t.so_far.rest (cut, elim seen [ inl some ↦ inl some | inr e ↦ inr (met e) ])) octets frames rest may split
 
 -- ---- a run that carried out all lines
 
-none_text : (text : List ℕ) → is_some_text text ≡ false → text ≡ []
+none_text : (text : List ℕ) → is_some (slice_get text 0) ≡ false → text ≡ []
 none_text [] e = refl
 none_text (octet ∷ text) e = cc
 
-some_text : (text : List ℕ) → is_some_text text ≡ true → text ≢ []
+some_text : (text : List ℕ) → is_some (slice_get text 0) ≡ true → text ≢ []
 some_text [] e none = cc
 some_text (octet ∷ text) e none = cc
 
 -- by whether an output failed at last and whether something was reported
-EndsSo-by : (failed reported : Bool) (texts : Texts) (old new : Outputs) → reported ≡ is_some_text texts.err → Writes texts old new → EndsSo (outcome_of failed reported) texts old new
+EndsSo-by : (failed reported : Bool) (texts : Texts) (old new : Outputs) → reported ≡ is_some (slice_get texts.err 0) → Writes texts old new → EndsSo (outcome_of failed reported) texts old new
 EndsSo-by true reported texts old new told writes = WritesFronts-whole texts old new writes
 EndsSo-by false true texts old new told writes = (some_text texts.err (sym told), writes)
 EndsSo-by false false texts old new told writes = (none_text texts.err (sym told), writes)
@@ -110,10 +105,10 @@ PlayEnds stamp left left' script outcome old new = (lines : List Line) → IsScr
     → (octets : List ℕ) (frames : List Frame) (rest : List ℕ) → MayHold stamp (PlaySawEnd stamp outcome lines) left left' octets → Splits stamp None octets frames rest
     → EndsSo outcome (play_texts lines (all_results stamp frames rest)) old new
 
-pub PlayEnds-finished : (stamp : Stamp) (q : Place) (left : Option (List ℕ)) (script : List ℕ) (scene : Scene) (old mid new : Outputs) (failed : Bool) (outcome : Outcome) → q ≡ start_place stamp LIMIT → PlaysScript q left script scene old mid (Ok tt)
+pub PlayEnds-finished : (stamp : Stamp) (left : Option (List ℕ)) (script : List ℕ) (scene : Scene) (old mid new : Outputs) (failed : Bool) (outcome : Outcome) → PlaysScript (start_place stamp LIMIT) left script scene old mid (Ok tt)
     → outcome ≡ outcome_of failed scene.reported → Keeps mid.out new.out → Keeps mid.err new.err → PlayEnds stamp left scene.left script outcome old new
-PlayEnds-finished stamp q left script scene old mid new failed outcome from (done, are, plays) is out err lines reading =
-    let p : Plays (start_place stamp LIMIT) left lines scene old mid = subst (λ x. Plays x left lines scene old mid) from (subst (λ l. Plays q left l scene old mid) (one_reading done lines (script_lines script) are reading) plays) in
+PlayEnds-finished stamp left script scene old mid new failed outcome (done, are, plays) is out err lines reading =
+    let p : Plays (start_place stamp LIMIT) left lines scene old mid = subst (λ l. Plays (start_place stamp LIMIT) left l scene old mid) (one_reading done lines (script_lines script) are reading) plays in
     let how = outcome_of failed scene.reported in
     subst (λ o. (octets : List ℕ) (frames : List Frame) (rest : List ℕ) → MayHold stamp (PlaySawEnd stamp o lines) left scene.left octets → Splits stamp None octets frames rest → EndsSo o (play_texts lines (all_results stamp frames rest)) old new) (sym is)
     (λ octets frames rest may split.
@@ -122,63 +117,59 @@ PlayEnds-finished stamp q left script scene old mid new failed outcome from (don
 
 -- ---- a run that was stopped
 
-pub PlayEnds-stopped : (stamp : Stamp) (q : Place) (left : Option (List ℕ)) (script : List ℕ) (scene : Scene) (old new : Outputs) (outcome : Outcome) → q ≡ start_place stamp LIMIT → PlaysScript q left script scene old new (Err outcome)
+pub PlayEnds-stopped : (stamp : Stamp) (left : Option (List ℕ)) (script : List ℕ) (scene : Scene) (old new : Outputs) (outcome : Outcome) → PlaysScript (start_place stamp LIMIT) left script scene old new (Err outcome)
     → PlayEnds stamp left scene.left script outcome old new
-PlayEnds-stopped stamp q left script scene old new outcome from (begun, (first, others, whole, are), inl (fault, is, cut)) lines reading =
-    let (behind, all) = first_reading begun lines first others are (subst (AreLines lines) whole reading) in
-    let p : PlaysCutOff (start_place stamp LIMIT) left begun scene old new fault = subst (λ x. PlaysCutOff x left begun scene old new fault) from cut in
+PlayEnds-stopped stamp left script scene old new outcome (done, line, first, others, whole, are, inl (fault, is, p)) lines reading =
+    let (behind, all) = first_reading (done ++ line ∷ []) lines first others are (subst (AreLines lines) whole reading) in
     subst (λ o. (octets : List ℕ) (frames : List Frame) (rest : List ℕ) → MayHold stamp (PlaySawEnd stamp o lines) left scene.left octets → Splits stamp None octets frames rest → EndsSo o (play_texts lines (all_results stamp frames rest)) old new) (sym is)
     (λ octets frames rest may split.
     let (later, found) = untold_held stamp left scene.left p.found (PlaySawEnd stamp (source_outcome fault) lines) p.faulty.untold octets frames rest may split in
     subst (λ t. EndsSo (source_outcome fault) t old new) (λ i. play_texts (sym all i) (sym found i))
-    (EndsSo-source fault (play_texts (begun ++ behind) (p.found ++ later)) old new (fronts_past p.done begun behind p.line (p.found ++ later) old new p.begun_is (p.past later))))
-PlayEnds-stopped stamp q left script scene old new outcome from (begun, (first, others, whole, are), inr (fault, is, broken)) lines reading =
-    let (behind, all) = first_reading begun lines first others are (subst (AreLines lines) whole reading) in
-    let p : PlaysBrokenOff (start_place stamp LIMIT) left begun scene old new = subst (λ x. PlaysBrokenOff x left begun scene old new) from broken in
+    (EndsSo-source fault (play_texts ((done ++ line ∷ []) ++ behind) (p.found ++ later)) old new (fronts_past done behind line (p.found ++ later) old new (p.past later))))
+PlayEnds-stopped stamp left script scene old new outcome (done, line, first, others, whole, are, inr (fault, is, p)) lines reading =
+    let (behind, all) = first_reading (done ++ line ∷ []) lines first others are (subst (AreLines lines) whole reading) in
     subst (λ o. (octets : List ℕ) (frames : List Frame) (rest : List ℕ) → MayHold stamp (PlaySawEnd stamp o lines) left scene.left octets → Splits stamp None octets frames rest → EndsSo o (play_texts lines (all_results stamp frames rest)) old new) (sym is)
     (λ octets frames rest may split.
-    let found = broken_held stamp left begun behind lines scene old new (PlaySawEnd stamp (write_outcome fault) lines) p all (λ fs r seen. by_fault (λ o. PlaySawEnd stamp o lines fs r) fault seen seen) octets frames rest may split in
-    let fronts = fronts_past p.done begun behind p.line (p.found ++ found.later) old new p.begun_is (p.past found.later found.all) in
-    subst (λ t. EndsSo (write_outcome fault) t old new) (λ i. play_texts (sym all i) (sym found.first i)) (by_fault (λ o. EndsSo o (play_texts (begun ++ behind) (p.found ++ found.later)) old new) fault fronts fronts))
+    let found = broken_held stamp left done behind lines line scene old new (PlaySawEnd stamp (write_outcome fault) lines) p all (λ fs r seen. by_fault (λ o. PlaySawEnd stamp o lines fs r) fault seen seen) octets frames rest may split in
+    let fronts = fronts_past done behind line (p.found ++ found.later) old new (p.past found.later found.all) in
+    subst (λ t. EndsSo (write_outcome fault) t old new) (λ i. play_texts (sym all i) (sym found.first i)) (by_fault (λ o. EndsSo o (play_texts ((done ++ line ∷ []) ++ behind) (p.found ++ found.later)) old new) fault fronts fronts))
 
 -- a run that the input ended has written what the frames give
-pub Writes-cut : (stamp : Stamp) (q : Place) (left : Option (List ℕ)) (script : List ℕ) (scene : Scene) (old new : Outputs) (outcome : Outcome) → q ≡ start_place stamp LIMIT → PlaysScript q left script scene old new (Err outcome) → EndedByInput outcome
+pub Writes-cut : (stamp : Stamp) (left : Option (List ℕ)) (script : List ℕ) (scene : Scene) (old new : Outputs) (outcome : Outcome) → PlaysScript (start_place stamp LIMIT) left script scene old new (Err outcome) → EndedByInput outcome
     → (lines : List Line) → IsScript lines script → (taken after : List ℕ) (frames : List Frame) (rest : List ℕ) → Took left scene.left taken after → Splits stamp None taken frames rest → Writes (cut_texts lines (all_results stamp frames [])) old new
-Writes-cut stamp q left script scene old new outcome from (begun, (first, others, whole, are), inl (fault, is, p)) by_input lines reading taken after frames rest took split =
-    let (behind, all) = first_reading begun lines first others are (subst (AreLines lines) whole reading) in
-    let faulty = subst (λ x. IsFaulty x left scene.left p.found fault) from p.faulty in
-    let found = whole_found stamp left scene.left p.found fault faulty (subst EndedByInput is by_input) taken after frames rest took split in
+Writes-cut stamp left script scene old new outcome (done, line, first, others, whole, are, inl (fault, is, p)) by_input lines reading taken after frames rest took split =
+    let (behind, all) = first_reading (done ++ line ∷ []) lines first others are (subst (AreLines lines) whole reading) in
+    let found = whole_found stamp left scene.left p.found fault p.faulty (subst EndedByInput is by_input) taken after frames rest took split in
     subst (λ t. Writes t old new) (λ i. cut_texts (sym all i) (found i)) (p.exact behind)
-Writes-cut stamp q left script scene old new outcome from (begun, read, inr (fault, is, p)) by_input lines reading taken after frames rest took split = absurd (written_all fault (subst EndedByInput is by_input))
+Writes-cut stamp left script scene old new outcome (done, line, first, others, whole, are, inr (fault, is, p)) by_input lines reading taken after frames rest took split = absurd (written_all fault (subst EndedByInput is by_input))
 
 -- ---- what was taken
 
-pub IsTaken-finished : (stamp : Stamp) (q : Place) (left : Option (List ℕ)) (script : List ℕ) (scene : Scene) (old new : Outputs) (failed : Bool) (outcome : Outcome) → q ≡ start_place stamp LIMIT → PlaysScript q left script scene old new (Ok tt)
+pub IsTaken-finished : (stamp : Stamp) (left : Option (List ℕ)) (script : List ℕ) (scene : Scene) (old new : Outputs) (failed : Bool) (outcome : Outcome) → PlaysScript (start_place stamp LIMIT) left script scene old new (Ok tt)
     → outcome ≡ outcome_of failed scene.reported → (taken : List ℕ) × Consumes left scene.left taken × IsTaken stamp outcome taken
-IsTaken-finished stamp q left script scene old new failed outcome from (done, are, plays) is =
-    let p : Plays (start_place stamp LIMIT) left done scene old new = subst (λ x. Plays x left done scene old new) from plays in
+IsTaken-finished stamp left script scene old new failed outcome (done, are, p) is =
     let t = p.stands.taking in
     let last = rest_so_far (start_place stamp LIMIT) scene.place left scene.left p.standing.found t.so_far in
     subst (λ o. (taken : List ℕ) × Consumes left scene.left taken × IsTaken stamp o taken) (sym is)
     (IsTaken-told stamp scene.place left scene.left (outcome_of failed scene.reported) p.standing.found t.so_far t.within
     (by_end (λ o. IsLast o t.so_far.rest) failed scene.reported last last last))
 
-pub IsTaken-ended : (stamp : Stamp) (q : Place) (left : Option (List ℕ)) (script : List ℕ) (scene : Scene) (old new : Outputs) (outcome : Outcome) → q ≡ start_place stamp LIMIT → PlaysScript q left script scene old new (Err outcome)
+pub IsTaken-ended : (stamp : Stamp) (left : Option (List ℕ)) (script : List ℕ) (scene : Scene) (old new : Outputs) (outcome : Outcome) → PlaysScript (start_place stamp LIMIT) left script scene old new (Err outcome)
     → (taken : List ℕ) × Consumes left scene.left taken × IsTaken stamp outcome taken
-IsTaken-ended stamp q left script scene old new outcome from (begun, read, inl (fault, is, p)) =
-    subst (λ o. (taken : List ℕ) × Consumes left scene.left taken × IsTaken stamp o taken) (sym is) (IsTaken-faulty stamp left scene.left p.found fault (subst (λ x. IsFaulty x left scene.left p.found fault) from p.faulty))
-IsTaken-ended stamp q left script scene old new outcome from (begun, read, inr (fault, is, p)) =
-    let t : Taking (start_place stamp LIMIT) left scene.place scene.left p.found p.ended = subst (λ x. Taking x left scene.place scene.left p.found p.ended) from p.taking in
+IsTaken-ended stamp left script scene old new outcome (done, line, first, others, whole, are, inl (fault, is, p)) =
+    subst (λ o. (taken : List ℕ) × Consumes left scene.left taken × IsTaken stamp o taken) (sym is) (IsTaken-faulty stamp left scene.left p.found fault p.faulty)
+IsTaken-ended stamp left script scene old new outcome (done, line, first, others, whole, are, inr (fault, is, p)) =
+    let t = p.taking in
     let last = rest_so_far (start_place stamp LIMIT) scene.place left scene.left p.found t.so_far in
     subst (λ o. (taken : List ℕ) × Consumes left scene.left taken × IsTaken stamp o taken) (sym is)
     (IsTaken-told stamp scene.place left scene.left (write_outcome fault) p.found t.so_far t.within
     (by_fault (λ o. IsLast o t.so_far.rest) fault last (inl last)))
 
-pub length-ended : (stamp : Stamp) (q : Place) (left : Option (List ℕ)) (script : List ℕ) (scene : Scene) (old new : Outputs) (how : Outcome) → q ≡ start_place stamp LIMIT → PlaysScript q left script scene old new (Err how) → how ≡ outcome.InputTooLong
+pub length-ended : (stamp : Stamp) (left : Option (List ℕ)) (script : List ℕ) (scene : Scene) (old new : Outputs) (how : Outcome) → PlaysScript (start_place stamp LIMIT) left script scene old new (Err how) → how ≡ outcome.InputTooLong
     → (taken after : List ℕ) → Took left scene.left taken after → length taken ≡ LIMIT
-length-ended stamp q left script scene old new how from (begun, read, inl (fault, is, p)) too_long taken after took =
-    length-faulty stamp left scene.left p.found fault (subst (λ x. IsFaulty x left scene.left p.found fault) from p.faulty) (sym is ∙ too_long) taken after took
-length-ended stamp q left script scene old new how from (begun, read, inr (fault, is, p)) too_long taken after took =
+length-ended stamp left script scene old new how (done, line, first, others, whole, are, inl (fault, is, p)) too_long taken after took =
+    length-faulty stamp left scene.left p.found fault p.faulty (sym is ∙ too_long) taken after took
+length-ended stamp left script scene old new how (done, line, first, others, whole, are, inr (fault, is, p)) too_long taken after took =
     absurd (by_fault (λ o. o ≡ outcome.InputTooLong → ⊥) fault (λ e. cc) (λ e. cc) (sym is ∙ too_long))
 
 -- ---- nothing but what commands want
@@ -192,40 +183,39 @@ results_taken stamp q left left' found s taken after frames rest took split =
     let all = frames_all stamp None s.frames frames s.rest rest s.are_frames split.are_frames (rest_so_far p q left left' found s).none split.none (sym same ∙ split.whole) in
     (λ i. results p (all.0 i) (all.1 i)) ∙ sym s.found_is
 
-pub TakesWanted-finished : (stamp : Stamp) (q : Place) (left : Option (List ℕ)) (script : List ℕ) (scene : Scene) (old new : Outputs) (failed : Bool) (outcome : Outcome) → q ≡ start_place stamp LIMIT → PlaysScript q left script scene old new (Ok tt)
+pub TakesWanted-finished : (stamp : Stamp) (left : Option (List ℕ)) (script : List ℕ) (scene : Scene) (old new : Outputs) (failed : Bool) (outcome : Outcome) → PlaysScript (start_place stamp LIMIT) left script scene old new (Ok tt)
     → outcome ≡ outcome_of failed scene.reported → (lines : List Line) → IsScript lines script → (taken after : List ℕ) (frames : List Frame) (rest : List ℕ) → Took left scene.left taken after → Splits stamp None taken frames rest
     → TakesWanted stamp outcome lines frames rest
-TakesWanted-finished stamp q left script scene old new failed outcome from (done, are, plays) is lines reading taken after frames rest took split =
-    let p : Plays (start_place stamp LIMIT) left lines scene old new = subst (λ x. Plays x left lines scene old new) from (subst (λ l. Plays q left l scene old new) (one_reading done lines (script_lines script) are reading) plays) in
+TakesWanted-finished stamp left script scene old new failed outcome (done, are, plays) is lines reading taken after frames rest took split =
+    let p : Plays (start_place stamp LIMIT) left lines scene old new = subst (λ l. Plays (start_place stamp LIMIT) left l scene old new) (one_reading done lines (script_lines script) are reading) plays in
     let found = p.standing.found in
     let same = results_taken stamp scene.place left scene.left found p.stands.taking.so_far taken after frames rest took split in
-    let none = ap (λ l. (course lines l).left) (same ∙ sym (append-nil found)) ∙ ap (λ c. c.left) (course_of_done (start_place stamp LIMIT) left lines scene old new [] p (λ _. refl)) in
+    let none = ap (λ l. (course false lines l).left) (same ∙ sym (append-nil found)) ∙ ap (λ c. c.left) (course_of_done (start_place stamp LIMIT) left lines scene old new [] p (λ _. refl)) in
     subst (λ o. TakesWanted stamp o lines frames rest) (sym is) (by_end (λ o. TakesWanted stamp o lines frames rest) failed scene.reported tt none none)
 
-wanted_source : (fault : SourceFault) (stamp : Stamp) (lines : List Line) (frames : List Frame) (rest : List ℕ) → (EndedByInput (source_outcome fault) → (cut_course lines (all_results stamp frames [])).ended ≡ true) → TakesWanted stamp (source_outcome fault) lines frames rest
+wanted_source : (fault : SourceFault) (stamp : Stamp) (lines : List Line) (frames : List Frame) (rest : List ℕ) → (EndedByInput (source_outcome fault) → (course true lines (all_results stamp frames [])).ended ≡ true) → TakesWanted stamp (source_outcome fault) lines frames rest
 wanted_source source.Read stamp lines frames rest ended = ended tt
 wanted_source source.InputTooLong stamp lines frames rest ended = ended tt
 wanted_source source.Memory stamp lines frames rest ended = tt
 wanted_source source.Spent stamp lines frames rest ended = tt
 
-pub TakesWanted-stopped : (stamp : Stamp) (q : Place) (left : Option (List ℕ)) (script : List ℕ) (scene : Scene) (old new : Outputs) (outcome : Outcome) → q ≡ start_place stamp LIMIT → PlaysScript q left script scene old new (Err outcome)
+pub TakesWanted-stopped : (stamp : Stamp) (left : Option (List ℕ)) (script : List ℕ) (scene : Scene) (old new : Outputs) (outcome : Outcome) → PlaysScript (start_place stamp LIMIT) left script scene old new (Err outcome)
     → (lines : List Line) → IsScript lines script → (taken after : List ℕ) (frames : List Frame) (rest : List ℕ) → Took left scene.left taken after → Splits stamp None taken frames rest → TakesWanted stamp outcome lines frames rest
-TakesWanted-stopped stamp q left script scene old new outcome from (begun, (first, others, whole, are), inl (fault, is, p)) lines reading taken after frames rest took split =
-    let (behind, all) = first_reading begun lines first others are (subst (AreLines lines) whole reading) in
-    let faulty = subst (λ x. IsFaulty x left scene.left p.found fault) from p.faulty in
+TakesWanted-stopped stamp left script scene old new outcome (done, line, first, others, whole, are, inl (fault, is, p)) lines reading taken after frames rest took split =
+    let (behind, all) = first_reading (done ++ line ∷ []) lines first others are (subst (AreLines lines) whole reading) in
     subst (λ o. TakesWanted stamp o lines frames rest) (sym is) (wanted_source fault stamp lines frames rest (λ by_input.
-    let found = whole_found stamp left scene.left p.found fault faulty by_input taken after frames rest took split in
-    (λ i. (cut_course (all i) (sym found i)).ended) ∙ p.wants behind))
-TakesWanted-stopped stamp q left script scene old new outcome from (begun, read, inr (fault, is, p)) lines reading taken after frames rest took split =
+    let found = whole_found stamp left scene.left p.found fault p.faulty by_input taken after frames rest took split in
+    (λ i. (course true (all i) (sym found i)).ended) ∙ p.wants behind))
+TakesWanted-stopped stamp left script scene old new outcome (done, line, first, others, whole, are, inr (fault, is, p)) lines reading taken after frames rest took split =
     subst (λ o. TakesWanted stamp o lines frames rest) (sym is) (by_fault (λ o. TakesWanted stamp o lines frames rest) fault tt tt)
 
 -- ---- how far a run came that memory or an output broke off
 
 -- it carried out all lines: an output failed where it was finished
-pub Began-finished : (stamp : Stamp) (q : Place) (left : Option (List ℕ)) (script : List ℕ) (scene : Scene) (old mid new : Outputs) → q ≡ start_place stamp LIMIT → PlaysScript q left script scene old mid (Ok tt)
+pub Began-finished : (stamp : Stamp) (left : Option (List ℕ)) (script : List ℕ) (scene : Scene) (old mid new : Outputs) → PlaysScript (start_place stamp LIMIT) left script scene old mid (Ok tt)
     → Keeps mid.out new.out → Keeps mid.err new.err → (lines : List Line) → IsScript lines script → Began stamp lines left scene.left old new
-Began-finished stamp q left script scene old mid new from (done, are, plays) out err lines reading =
-    let p : Plays (start_place stamp LIMIT) left lines scene old mid = subst (λ x. Plays x left lines scene old mid) from (subst (λ l. Plays q left l scene old mid) (one_reading done lines (script_lines script) are reading) plays) in
+Began-finished stamp left script scene old mid new (done, are, plays) out err lines reading =
+    let p : Plays (start_place stamp LIMIT) left lines scene old mid = subst (λ l. Plays (start_place stamp LIMIT) left l scene old mid) (one_reading done lines (script_lines script) are reading) plays in
     let all = append-nil lines in
     record {
       done = lines;
@@ -246,24 +236,21 @@ Began-finished stamp q left script scene old mid new from (done, are, plays) out
     }
 
 -- it was in a line
-began : (stamp : Stamp) (left left' : Option (List ℕ)) (old new : Outputs) (begun lines done : List Line) (line : Line) (behind : List Line) → begun ≡ done ++ line ∷ [] → lines ≡ begun ++ behind
+began : (stamp : Stamp) (left left' : Option (List ℕ)) (old new : Outputs) (lines done : List Line) (line : Line) (behind : List Line) → lines ≡ (done ++ line ∷ []) ++ behind
     → OverAll stamp (IsEndSeen stamp (done ++ line ∷ [])) left left' (λ found. WritesPast (play_texts done found) (play_texts (done ++ line ∷ []) found) old new) → Began stamp lines left left' old new
-began stamp left left' old new begun lines done line behind begun_is is texts =
-    record { done = done; last = line ∷ []; behind = behind; whole = is ∙ ap (λ l. l ++ behind) begun_is; one = omega arith; texts = texts }
+began stamp left left' old new lines done line behind is texts =
+    record { done = done; last = line ∷ []; behind = behind; whole = is; one = omega arith; texts = texts }
 
 -- memory ended it in the source; or memory or an output behind that
-pub Began-stopped : (stamp : Stamp) (q : Place) (left : Option (List ℕ)) (script : List ℕ) (scene : Scene) (old new : Outputs) (outcome : Outcome) → q ≡ start_place stamp LIMIT → PlaysScript q left script scene old new (Err outcome)
+pub Began-stopped : (stamp : Stamp) (left : Option (List ℕ)) (script : List ℕ) (scene : Scene) (old new : Outputs) (outcome : Outcome) → PlaysScript (start_place stamp LIMIT) left script scene old new (Err outcome)
     → (lines : List Line) → IsScript lines script → Began stamp lines left scene.left old new
-Began-stopped stamp q left script scene old new outcome from (begun, (first, others, whole, are), inl (fault, is, cut)) lines reading =
-    let (behind, all) = first_reading begun lines first others are (subst (AreLines lines) whole reading) in
-    let p : PlaysCutOff (start_place stamp LIMIT) left begun scene old new fault = subst (λ x. PlaysCutOff x left begun scene old new fault) from cut in
-    began stamp left scene.left old new begun lines p.done p.line behind p.begun_is all (λ octets frames rest may split.
-    let (later, found) = untold_held stamp left scene.left p.found (IsEndSeen stamp (p.done ++ p.line ∷ [])) p.faulty.untold octets frames rest may split in
-    subst (λ l. WritesPast (play_texts p.done l) (play_texts (p.done ++ p.line ∷ []) l) old new) (sym found) (p.past later))
-Began-stopped stamp q left script scene old new outcome from (begun, (first, others, whole, are), inr (fault, is, broken)) lines reading =
-    let (behind, all) = first_reading begun lines first others are (subst (AreLines lines) whole reading) in
-    let p : PlaysBrokenOff (start_place stamp LIMIT) left begun scene old new = subst (λ x. PlaysBrokenOff x left begun scene old new) from broken in
-    began stamp left scene.left old new begun lines p.done p.line behind p.begun_is all (λ octets frames rest may split.
-    let last : p.done ++ p.line ∷ [] ≡ begun ++ [] = sym p.begun_is ∙ sym (append-nil begun) in
-    let found = broken_held stamp left begun [] (p.done ++ p.line ∷ []) scene old new (IsEndSeen stamp (p.done ++ p.line ∷ [])) p last (λ fs r seen. seen) octets frames rest may split in
-    subst (λ l. WritesPast (play_texts p.done l) (play_texts (p.done ++ p.line ∷ []) l) old new) (sym found.first) (p.past found.later found.all))
+Began-stopped stamp left script scene old new outcome (done, line, first, others, whole, are, inl (fault, is, p)) lines reading =
+    let (behind, all) = first_reading (done ++ line ∷ []) lines first others are (subst (AreLines lines) whole reading) in
+    began stamp left scene.left old new lines done line behind all (λ octets frames rest may split.
+    let (later, found) = untold_held stamp left scene.left p.found (IsEndSeen stamp (done ++ line ∷ [])) p.faulty.untold octets frames rest may split in
+    subst (λ l. WritesPast (play_texts done l) (play_texts (done ++ line ∷ []) l) old new) (sym found) (p.past later))
+Began-stopped stamp left script scene old new outcome (done, line, first, others, whole, are, inr (fault, is, p)) lines reading =
+    let (behind, all) = first_reading (done ++ line ∷ []) lines first others are (subst (AreLines lines) whole reading) in
+    began stamp left scene.left old new lines done line behind all (λ octets frames rest may split.
+    let found = broken_held stamp left done [] (done ++ line ∷ []) line scene old new (IsEndSeen stamp (done ++ line ∷ [])) p (sym (append-nil (done ++ line ∷ []))) (λ fs r seen. seen) octets frames rest may split in
+    subst (λ l. WritesPast (play_texts done l) (play_texts (done ++ line ∷ []) l) old new) (sym found.first) (p.past found.later found.all))

@@ -1,47 +1,42 @@
 -- A run of a script, line by line.
-use Rattle.std.proofs.Common.{◌≡◌, inl, inr, ℕ, ◌+◌, ◌<◌, ◌≤◌, ◌&&◌, ◌||◌, Bool, true, false, if◌then◌else◌, Result, Ok, Err, List, [], ◌∷◌, ◌++◌, length, Option, refl, sym, ap, subst, ◌∙◌, arith, append-nil, length-append}
+use Rattle.std.proofs.Common.{◌≡◌, inl, inr, ℕ, ◌+◌, ◌<◌, ◌≤◌, ◌&&◌, ◌||◌, Bool, true, false, is_some, slice_get, if◌then◌else◌, Result, Ok, Err, List, [], ◌∷◌, ◌++◌, length, Option, refl, sym, ap, subst, ◌∙◌, arith, append-nil, length-append, append_assoc}
 use Rattle.std.proofs.lemmas.Bool.Decides.{nat_tests}
-use Rattle.std.proofs.lemmas.List.{append_assoc}
 use Rattle.std.proofs.Math.Bool.{or_assoc, or-false, or-true}
 use Rattle.std.specs.Io.KnownBytes.{Appends}
 use Rattle.std.proofs.KnownBytes.{Appends-nil}
 use Rattle.mrt_events.specs.declared.stamp.Stamp.{Stamp}
 use Rattle.mrt_wire.specs.declared.SourceFault.{SourceFault}
 use Rattle.mrt_wire.specs.declared.next.Phase.TheVariants.{Ended}
-use Rattle.mrt_wire.specs.Results.{Finding, Found, Bad}
-use Rattle.mrt_wire.specs.Place.{Place, start_place}
+use Rattle.mrt_wire.specs.Results.{Finding, Found, Bad, Place, start_place}
 use Rattle.mrt_wire.proofs.SoFarLaws.{SoFar-start}
 use Rattle.rib_player.specs.Calls.{fresh, StandsFor}
 use Rattle.rib_player.proofs.TimelineLaws.{StandsFor-fresh}
 use Rattle.bgpdump_tool.specs.declared.command.Command.{Command}
 use Rattle.bgpdump_lines.specs.declared.dump.TheConstants.{LIMIT}
 use Rattle.bgpdump_lines.specs.declared.outcome.Outcome.{Outcome}
-use Rattle.bgpdump_lines.specs.Device.{AppendsFront}
+use Rattle.bgpdump_lines.specs.Run.{AppendsFront, Texts, joined_texts, Outputs, Writes, WritesFronts}
 use Rattle.bgpdump_lines.specs.Reports.{reports}
-use Rattle.bgpdump_lines.specs.Run.{Texts, joined_texts, Outputs, Writes, WritesFronts}
 use Rattle.bgpdump_lines.specs.Writing.{is_any_bad}
 use Rattle.bgpdump_tool.specs.Script.{Line, Empty, Asks, NoCommand, IsLine, AreLines, script_lines, line_report}
-use Rattle.bgpdump_tool.specs.State.{State, start}
+use Rattle.bgpdump_tool.specs.Meaning.{State, start}
 use Rattle.bgpdump_tool.specs.Meaning.{meaning, meets_end, faults_taken}
-use Rattle.bgpdump_tool.specs.Course.{Course, course_behind, course_from, course, cut_course, play_texts}
-use Rattle.bgpdump_tool.specs.Began.{WritesPast}
-use Rattle.bgpdump_tool.specs.Standing.{Scene, Taking, Stands, Follows, HasRoom, state_of}
-use Rattle.bgpdump_tool.specs.Carrying.{IsCarriedOut, IsCutOff, IsBrokenOff}
-use Rattle.bgpdump_tool.specs.Playing.{LineDoes, CarriesLine, is_some_text, Plays, PlaysCutOff, PlaysBrokenOff, PlayDoes, PlaysScript}
+use Rattle.bgpdump_tool.specs.Course.{Course, course_behind, course_from, course, play_texts, WritesPast}
+use Rattle.bgpdump_tool.specs.Carrying.{Scene, Taking, Stands, Follows, HasRoom, state_of, IsLed, IsCutOff, IsBrokenOff}
+use Rattle.bgpdump_tool.specs.Playing.{LineDoes, CarriesLine, Plays, PlaysCutOff, PlaysBrokenOff, PlayDoes, PlaysScript}
 use Rattle.bgpdump_lines.proofs.WritingLaws.{AppendsFront-none, Writes-append, WritesFronts-behind, WritesFronts-longer, AppendsFront-longer}
 use Rattle.bgpdump_tool.proofs.CarryLaws.{AppendsFront-whole, take_over}
 use Rattle.bgpdump_tool.proofs.MoveLaws.{reports-append}
 
 -- ---- texts and courses
 
-is_some_text-append : (xs ys : List ℕ) → is_some_text (xs ++ ys) ≡ (is_some_text xs || is_some_text ys)
-is_some_text-append [] ys = refl
-is_some_text-append (x ∷ xs) ys = refl
+is_some-append : (xs ys : List ℕ) → is_some (slice_get (xs ++ ys) 0) ≡ (is_some (slice_get xs 0) || is_some (slice_get ys 0))
+is_some-append [] ys = refl
+is_some-append (x ∷ xs) ys = refl
 
-is_some_text-reports : (found : List Finding) → is_some_text (reports found) ≡ is_any_bad found
-is_some_text-reports [] = refl
-is_some_text-reports (Found event ∷ found) = is_some_text-reports found
-is_some_text-reports (Bad fault ∷ found) = refl
+is_some-reports : (found : List Finding) → is_some (slice_get (reports found) 0) ≡ is_any_bad found
+is_some-reports [] = refl
+is_some-reports (Found event ∷ found) = is_some-reports found
+is_some-reports (Bad fault ∷ found) = refl
 
 joined-twice : (a b c : Texts) → joined_texts a (joined_texts b c) ≡ joined_texts (joined_texts a b) c
 joined-twice a b c = λ i. record { out = sym (append_assoc a.out b.out c.out) i; err = sym (append_assoc a.err b.err c.err) i }
@@ -79,6 +74,10 @@ Plays-start stamp left scene outputs player place reported same = record {
   goes = λ cut lines more h. refl;
 }
 
+-- what was written, by what is known of the reports
+abbrev with_reports : Option (List ℕ) → Scene → Outputs
+with_reports out scene = record { out = out; err = scene.err }
+
 -- ---- a line that asks for nothing
 
 pub Plays-empty : (from : Place) (left : Option (List ℕ)) (done : List Line) (scene : Scene) (old new : Outputs) → Plays from left done scene old new → Plays from left (done ++ Empty ∷ []) scene old new
@@ -95,16 +94,16 @@ Plays-empty from left done scene old new p = record {
 
 -- ---- a line that is no command
 
-pub Plays-report : (from : Place) (left : Option (List ℕ)) (done : List Line) (number : ℕ) (a b : Scene) (old mid new : Outputs) → Plays from left done a old mid → number ≡ length done + 1
-    → b ≡ record a { reported = true; err = b.err } → new.out ≡ mid.out → Appends mid.err new.err (line_report number) → Plays from left (done ++ NoCommand ∷ []) b old new
+pub Plays-report : (from : Place) (left : Option (List ℕ)) (done : List Line) (number : ℕ) (a b : Scene) (old : Outputs) (mid new : Option (List ℕ)) → Plays from left done a old (with_reports mid a) → number ≡ length done + 1
+    → b ≡ record a { reported = true; err = b.err } → new ≡ mid → Appends a.err b.err (line_report number) → Plays from left (done ++ NoCommand ∷ []) b old (with_reports new b)
 Plays-report from left done number a b old mid new p is same quiet appended =
     let texts : Texts = record { out = []; err = line_report number } in
     record {
       standing = p.standing;
       stands = subst (λ x. Stands from left x p.standing) (sym same) (record { history = p.stands.history; cursor = p.stands.cursor; floor = p.stands.floor; taking = p.stands.taking });
       texts = joined_texts p.texts texts;
-      written = Writes-append p.texts texts old mid new p.written (subst (λ o. Appends mid.out o []) (sym quiet) (Appends-nil mid.out), appended);
-      told = ap (λ x. x.reported) same ∙ sym (is_some_text-append p.texts.err (line_report number) ∙ or-true (is_some_text p.texts.err));
+      written = Writes-append p.texts texts old (with_reports mid a) (with_reports new b) p.written (subst (λ o. Appends mid o []) (sym quiet) (Appends-nil mid), appended);
+      told = ap (λ x. x.reported) same ∙ sym (is_some-append p.texts.err (line_report number) ∙ or-true (is_some (slice_get p.texts.err 0)));
       goes = λ cut lines more h.
           after_line cut done lines NoCommand (start (p.standing.found ++ more)) ∙ p.goes cut (NoCommand ∷ lines) more (λ e. h (ap (λ x. x.place.phase) same ∙ e))
           ∙ course_behind-twice p.texts (record { out = []; err = line_report (length done + 1) }) p.standing.ended false (course_from cut (length done + 1 + 1) lines (state_of p.standing more))
@@ -115,9 +114,7 @@ Plays-report from left done number a b old mid new p is same quiet appended =
 
 -- the run goes on behind a command only where the input isn't cut off, or the command doesn't meet the end
 not_cut : (cut meets : Bool) → (meets ≡ true → cut ≡ false) → (cut && meets) ≡ false
-not_cut false meets h = refl
-not_cut true false h = refl
-not_cut true true h = h refl
+not_cut cut meets h = grind (arith, h)
 
 -- what follows a command, by whether the input is cut off in it
 course_by : (cut : Bool) (number : ℕ) (command : Command) (lines : List Line) (s : State) (test : Bool) → (cut && meets_end command s) ≡ test
@@ -131,19 +128,18 @@ course_by cut number command lines s test is =
 none_more : (a b : Place) (taken more : List Finding) → Follows a b taken → (b.phase ≡ Ended → more ≡ []) → a.phase ≡ Ended → taken ++ more ≡ []
 none_more a b taken more follows none ended = λ i. follows.quiet ended i ++ none (follows.stays ended) i
 
-pub Plays-command : (from : Place) (left : Option (List ℕ)) (done : List Line) (command : Command) (a b : Scene) (old mid new : Outputs) → mid.err ≡ a.err → new.err ≡ b.err → (p : Plays from left done a old mid)
-    → IsCarriedOut command from left p.standing a b mid.out new.out → Plays from left (done ++ Asks command ∷ []) b old new
-Plays-command from left done command a b old mid new mid_err new_err p (led, replied) =
+pub Plays-command : (from : Place) (left : Option (List ℕ)) (done : List Line) (command : Command) (a b : Scene) (old : Outputs) (mid new : Option (List ℕ)) → (p : Plays from left done a old (with_reports mid a))
+    → (led : IsLed command from left p.standing a b) × Appends mid new led.reply → Plays from left (done ++ Asks command ∷ []) b old (with_reports new b)
+Plays-command from left done command a b old mid new p (led, replied) =
     let s = p.standing in
     let t = led.after in
     let texts : Texts = record { out = led.reply; err = reports led.taken } in
-    let appended : Appends mid.err new.err (reports led.taken) = subst (λ e. Appends e new.err (reports led.taken)) (sym mid_err) (subst (λ e. Appends a.err e (reports led.taken)) (sym new_err) led.reported) in
     record {
       standing = t;
       stands = led.stands;
       texts = joined_texts p.texts texts;
-      written = Writes-append p.texts texts old mid new p.written (replied, appended);
-      told = led.told ∙ (λ i. p.told i || sym (is_some_text-reports led.taken) i) ∙ sym (is_some_text-append p.texts.err (reports led.taken));
+      written = Writes-append p.texts texts old (with_reports mid a) (with_reports new b) p.written (replied, led.reported);
+      told = led.told ∙ (λ i. p.told i || sym (is_some-reports led.taken) i) ∙ sym (is_some-append p.texts.err (reports led.taken));
       goes = λ cut lines more h.
           let none = λ (e : b.place.phase ≡ Ended). (h e).0 in
           let leads = led.leads more none in
@@ -162,9 +158,9 @@ Plays-command from left done command a b old mid new mid_err new_err p (led, rep
 
 -- the course of lines that were carried out, whatever is found behind
 pub course_of_done : (from : Place) (left : Option (List ℕ)) (lines : List Line) (scene : Scene) (old new : Outputs) (later : List Finding) → (p : Plays from left lines scene old new) → (scene.place.phase ≡ Ended → later ≡ [])
-    → course lines (p.standing.found ++ later) ≡ record { texts = p.texts; ended = p.standing.ended; left = later }
+    → course false lines (p.standing.found ++ later) ≡ record { texts = p.texts; ended = p.standing.ended; left = later }
 course_of_done from left lines scene old new later p none =
-    ap (λ l. course l (p.standing.found ++ later)) (sym (append-nil lines)) ∙ p.goes false [] later (λ e. (none e, refl))
+    ap (λ l. course false l (p.standing.found ++ later)) (sym (append-nil lines)) ∙ p.goes false [] later (λ e. (none e, refl))
     ∙ (λ i. record { texts = record { out = append-nil p.texts.out i; err = append-nil p.texts.err i }; ended = or-false p.standing.ended i; left = later })
 
 -- the texts of lines that were carried out were written, and fronts of what one more line adds
@@ -195,51 +191,46 @@ texts_more number (Asks command ∷ begun) lines s =
     texts_behind (record { out = (meaning command s).reply; err = faults_taken command s }) _ _ (texts_more (number + 1) begun lines (meaning command s).after)
 
 -- fronts of what a last line adds are fronts of what any lines write that begin so
-pub fronts_past : (done begun behind : List Line) (line : Line) (found : List Finding) (old new : Outputs) → begun ≡ done ++ line ∷ [] → WritesPast (play_texts done found) (play_texts (done ++ line ∷ []) found) old new
-    → WritesFronts (play_texts (begun ++ behind) found) old new
-fronts_past done begun behind line found old new is past =
+pub fronts_past : (done behind : List Line) (line : Line) (found : List Finding) (old new : Outputs) → WritesPast (play_texts done found) (play_texts (done ++ line ∷ []) found) old new
+    → WritesFronts (play_texts ((done ++ line ∷ []) ++ behind) found) old new
+fronts_past done behind line found old new past =
     let first = play_texts done found in
-    let more = texts_more 1 begun behind (start found) in
-    subst (λ t. WritesFronts t old new) (sym (more.1 ∙ ap (λ t. joined_texts t more.0) (ap (λ l. play_texts l found) is ∙ past.whole)))
+    let more = texts_more 1 (done ++ line ∷ []) behind (start found) in
+    subst (λ t. WritesFronts t old new) (sym (more.1 ∙ ap (λ t. joined_texts t more.0) past.whole))
     (WritesFronts-longer (joined_texts first past.more) more.0 old new (WritesFronts-behind first past.more old past.mid new past.written past.fronts))
 
 -- by its source
-pub PlaysCutOff-command : (from : Place) (left : Option (List ℕ)) (done : List Line) (command : Command) (a b : Scene) (old mid new : Outputs) (fault : SourceFault) → mid.err ≡ a.err → new.err ≡ b.err → (p : Plays from left done a old mid)
-    → IsCutOff command from left p.standing a b mid.out new.out fault → PlaysCutOff from left (done ++ Asks command ∷ []) b old new fault
-PlaysCutOff-command from left done command a b old mid new fault mid_err new_err p stop =
+pub PlaysCutOff-command : (from : Place) (left : Option (List ℕ)) (done : List Line) (command : Command) (a b : Scene) (old : Outputs) (mid new : Option (List ℕ)) (fault : SourceFault) → (p : Plays from left done a old (with_reports mid a))
+    → IsCutOff command from left p.standing a b mid new fault → PlaysCutOff from left done (Asks command) b old (with_reports new b) fault
+PlaysCutOff-command from left done command a b old mid new fault p stop =
     let s = p.standing in
     let taken = stop.taken in
-    let out : Appends mid.out new.out [] = stop.quiet in
-    let err : Appends mid.err new.err (reports taken) = subst (λ e. Appends e new.err (reports taken)) (sym mid_err) (subst (λ e. Appends a.err e (reports taken)) (sym new_err) stop.stops.reported) in
     let met : meets_end command (state_of s taken) ≡ true =
     grind (arith, nat_tests, subst (λ l. length taken < (meaning command (state_of s l)).wanted) (append-nil taken) (stop.wants [])) in
-    let course_is : (lines : List Line) → cut_course ((done ++ Asks command ∷ []) ++ lines) (s.found ++ taken) ≡ course_behind p.texts s.ended (record { texts = record { out = []; err = reports taken }; ended = true; left = [] }) =
-    λ lines. after_line true done lines (Asks command) (start (s.found ++ taken)) ∙ p.goes true (Asks command ∷ lines) taken (λ e. absurd (stop.stops.reads e))
+    let course_is : (lines : List Line) → course true ((done ++ Asks command ∷ []) ++ lines) (s.found ++ taken) ≡ course_behind p.texts s.ended (record { texts = record { out = []; err = reports taken }; ended = true; left = [] }) =
+    λ lines. after_line true done lines (Asks command) (start (s.found ++ taken)) ∙ p.goes true (Asks command ∷ lines) taken (λ e. absurd (stop.reads e))
     ∙ ap (course_behind p.texts s.ended) (course_by true (length done + 1) command lines (state_of s taken) true met) in
     record {
       found = s.found ++ taken;
-      faulty = stop.stops.faulty;
+      faulty = stop.faulty;
       wants = λ lines. ap (λ c. c.ended) (course_is lines) ∙ or-true s.ended;
       exact = λ lines.
-          subst (λ c. Writes c.texts old new) (sym (course_is lines))
-          (Writes-append p.texts (record { out = []; err = reports taken }) old mid new p.written (out, err));
-      done = done;
-      line = Asks command;
-      begun_is = refl;
+          subst (λ c. Writes c.texts old (with_reports new b)) (sym (course_is lines))
+          (Writes-append p.texts (record { out = []; err = reports taken }) old (with_reports mid a) (with_reports new b) p.written (stop.quiet, stop.reported));
       past = λ more.
           let st = state_of s (taken ++ more) in
           let rest = take_over taken more (meaning command st).wanted (omega (arith, stop.wants more)) in
-          past_line from left done (Asks command) a old mid new (s.found ++ taken) taken more p refl (λ e. absurd (stop.stops.reads e))
-          (WritesFronts-longer (record { out = (meaning command st).reply; err = faults_taken command st }) (record { out = []; err = [] }) mid new (
+          past_line from left done (Asks command) a old (with_reports mid a) (with_reports new b) (s.found ++ taken) taken more p refl (λ e. absurd (stop.reads e))
+          (WritesFronts-longer (record { out = (meaning command st).reply; err = faults_taken command st }) (record { out = []; err = [] }) (with_reports mid a) (with_reports new b) (
             record { front = []; back = (meaning command st).reply; whole = refl; appended = stop.quiet },
-            subst (AppendsFront mid.err new.err) (sym (ap reports rest.1 ∙ reports-append taken rest.0)) (AppendsFront-longer mid.err new.err (reports taken) (reports rest.0) (AppendsFront-whole mid.err new.err (reports taken) err)),
+            subst (AppendsFront a.err b.err) (sym (ap reports rest.1 ∙ reports-append taken rest.0)) (AppendsFront-longer a.err b.err (reports taken) (reports rest.0) (AppendsFront-whole a.err b.err (reports taken) stop.reported)),
           ));
     }
 
 -- by memory or an output
-pub PlaysBrokenOff-command : (from : Place) (left : Option (List ℕ)) (done : List Line) (command : Command) (a b : Scene) (old mid new : Outputs) → mid.err ≡ a.err → new.err ≡ b.err → (p : Plays from left done a old mid)
-    → IsBrokenOff command from left p.standing a b mid.out new.out → PlaysBrokenOff from left (done ++ Asks command ∷ []) b old new
-PlaysBrokenOff-command from left done command a b old mid new mid_err new_err p stop =
+pub PlaysBrokenOff-command : (from : Place) (left : Option (List ℕ)) (done : List Line) (command : Command) (a b : Scene) (old : Outputs) (mid new : Option (List ℕ)) → (p : Plays from left done a old (with_reports mid a))
+    → IsBrokenOff command from left p.standing a b mid new → PlaysBrokenOff from left done (Asks command) b old (with_reports new b)
+PlaysBrokenOff-command from left done command a b old mid new p stop =
     let s = p.standing in
     let taken = stop.taken in
     record {
@@ -250,22 +241,15 @@ PlaysBrokenOff-command from left done command a b old mid new mid_err new_err p 
           ap (λ c. c.ended) (after_line false done lines (Asks command) (start (s.found ++ taken)) ∙ p.goes false (Asks command ∷ lines) taken (λ x. (stop.follows.quiet x, refl)))
           ∙ sym (or_assoc s.ended (meets_end command (state_of s taken)) (course_from false (length done + 1 + 1) lines (meaning command (state_of s taken)).after).ended)
           ∙ ap (λ x. x || (course_from false (length done + 1 + 1) lines (meaning command (state_of s taken)).after).ended) (stop.met e);
-      done = done;
-      line = Asks command;
-      begun_is = refl;
       past = λ more none.
           let st = state_of s (taken ++ more) in
-          let fronts = stop.fronts more none in
-          past_line from left done (Asks command) a old mid new (s.found ++ taken) taken more p refl (none_more a.place b.place taken more stop.follows none)
-          (WritesFronts-longer (record { out = (meaning command st).reply; err = faults_taken command st }) (record { out = []; err = [] }) mid new (
-            fronts.0,
-            subst (λ e. AppendsFront e new.err (faults_taken command st)) (sym mid_err) (subst (λ e. AppendsFront a.err e (faults_taken command st)) (sym new_err) fronts.1),
-          ));
+          past_line from left done (Asks command) a old (with_reports mid a) (with_reports new b) (s.found ++ taken) taken more p refl (none_more a.place b.place taken more stop.follows none)
+          (WritesFronts-longer (record { out = (meaning command st).reply; err = faults_taken command st }) (record { out = []; err = [] }) (with_reports mid a) (with_reports new b) (stop.fronts more none));
     }
 
 -- at a line that is no command
-pub PlaysBrokenOff-report : (from : Place) (left : Option (List ℕ)) (done : List Line) (number : ℕ) (a b : Scene) (old mid new : Outputs) → (p : Plays from left done a old mid) → number ≡ length done + 1
-    → b ≡ record a { reported = true; err = b.err } → new.out ≡ mid.out → AppendsFront mid.err new.err (line_report number) → PlaysBrokenOff from left (done ++ NoCommand ∷ []) b old new
+pub PlaysBrokenOff-report : (from : Place) (left : Option (List ℕ)) (done : List Line) (number : ℕ) (a b : Scene) (old : Outputs) (mid new : Option (List ℕ)) → (p : Plays from left done a old (with_reports mid a)) → number ≡ length done + 1
+    → b ≡ record a { reported = true; err = b.err } → new ≡ mid → AppendsFront a.err b.err (line_report number) → PlaysBrokenOff from left done NoCommand b old (with_reports new b)
 PlaysBrokenOff-report from left done number a b old mid new p is same quiet front =
     let s = p.standing in
     record {
@@ -273,35 +257,32 @@ PlaysBrokenOff-report from left done number a b old mid new p is same quiet fron
       ended = s.ended;
       taking = subst (λ x. Taking from left x.place x.left s.found s.ended) (sym same) p.stands.taking;
       met = λ e lines.
-          ap (λ l. (course ((done ++ NoCommand ∷ []) ++ lines) l).ended) (sym (append-nil s.found))
+          ap (λ l. (course false ((done ++ NoCommand ∷ []) ++ lines) l).ended) (sym (append-nil s.found))
           ∙ ap (λ c. c.ended) (after_line false done lines NoCommand (start (s.found ++ [])) ∙ p.goes false (NoCommand ∷ lines) [] (λ x. (refl, refl)))
           ∙ ap (λ x. x || (course_from false (length done + 1 + 1) lines (state_of s [])).ended) e;
-      done = done;
-      line = NoCommand;
-      begun_is = refl;
       past = λ more none.
-          past_line from left done NoCommand a old mid new s.found [] more p (sym (append-nil s.found)) (λ x. none (ap (λ y. y.place.phase) same ∙ x))
-          (WritesFronts-longer (record { out = []; err = line_report (length done + 1) }) (record { out = []; err = [] }) mid new
-          (subst (λ o. AppendsFront mid.out o []) (sym quiet) (AppendsFront-none mid.out []), subst (λ n. AppendsFront mid.err new.err (line_report n)) is front));
+          past_line from left done NoCommand a old (with_reports mid a) (with_reports new b) s.found [] more p (sym (append-nil s.found)) (λ x. none (ap (λ y. y.place.phase) same ∙ x))
+          (WritesFronts-longer (record { out = []; err = line_report (length done + 1) }) (record { out = []; err = [] }) (with_reports mid a) (with_reports new b)
+          (subst (λ o. AppendsFront mid o []) (sym quiet) (AppendsFront-none mid []), subst (λ n. AppendsFront a.err b.err (line_report n)) is front));
     }
 
 -- ---- a line, whatever it asks for
 
-pub PlayDoes-line : (line : Line) (from : Place) (left : Option (List ℕ)) (done : List Line) (number : ℕ) (a b : Scene) (old mid new : Outputs) (result : Result (Unit {0}) Outcome) → mid.err ≡ a.err → new.err ≡ b.err → (p : Plays from left done a old mid) → number ≡ length done + 1
-    → LineDoes line number from left p.standing a b mid.out new.out result → PlayDoes from left (done ++ line ∷ []) b old new result
-PlayDoes-line Empty from left done number a b old mid new (Ok done') mid_err new_err p is (ok, same, quiet) =
-    let outputs : mid ≡ new = λ i. record { out = sym quiet i; err = (mid_err ∙ ap (λ x. x.err) (sym same) ∙ sym new_err) i } in
-    subst (λ o. Plays from left (done ++ Empty ∷ []) b old o) outputs (subst (λ x. Plays from left (done ++ Empty ∷ []) x old mid) (sym same) (Plays-empty from left done a old mid p))
-PlayDoes-line Empty from left done number a b old mid new (Err outcome) mid_err new_err p is (ok, same, quiet) = cc
-PlayDoes-line (Asks command) from left done number a b old mid new (Ok done') mid_err new_err p is does = Plays-command from left done command a b old mid new mid_err new_err p does
-PlayDoes-line (Asks command) from left done number a b old mid new (Err outcome) mid_err new_err p is (inl (fault, e, stop)) =
-    inl (fault, e, PlaysCutOff-command from left done command a b old mid new fault mid_err new_err p stop)
-PlayDoes-line (Asks command) from left done number a b old mid new (Err outcome) mid_err new_err p is (inr (fault, e, stop)) =
-    inr (fault, e, PlaysBrokenOff-command from left done command a b old mid new mid_err new_err p stop)
-PlayDoes-line NoCommand from left done number a b old mid new (Ok done') mid_err new_err p is (same, quiet, reported) =
-    Plays-report from left done number a b old mid new p is same quiet (subst (λ e. Appends e new.err (line_report number)) (sym mid_err) (subst (λ e. Appends a.err e (line_report number)) (sym new_err) reported))
-PlayDoes-line NoCommand from left done number a b old mid new (Err outcome) mid_err new_err p is (same, quiet, (fault, e, front)) =
-    inr (fault, e, PlaysBrokenOff-report from left done number a b old mid new p is same quiet (subst (λ e. AppendsFront e new.err (line_report number)) (sym mid_err) (subst (λ e. AppendsFront a.err e (line_report number)) (sym new_err) front)))
+pub PlayDoes-line : (line : Line) (from : Place) (left : Option (List ℕ)) (done : List Line) (number : ℕ) (a b : Scene) (old : Outputs) (mid new : Option (List ℕ)) (result : Result (Unit {0}) Outcome) → (p : Plays from left done a old (with_reports mid a)) → number ≡ length done + 1
+    → LineDoes line number from left p.standing a b mid new result → PlayDoes from left done line b old (with_reports new b) result
+PlayDoes-line Empty from left done number a b old mid new (Ok done') p is (ok, same, quiet) =
+    subst (λ x. Plays from left (done ++ Empty ∷ []) x old (with_reports new x)) (sym same)
+    (subst (λ o. Plays from left (done ++ Empty ∷ []) a old (with_reports o a)) (sym quiet) (Plays-empty from left done a old (with_reports mid a) p))
+PlayDoes-line Empty from left done number a b old mid new (Err outcome) p is (ok, same, quiet) = cc
+PlayDoes-line (Asks command) from left done number a b old mid new (Ok done') p is does = Plays-command from left done command a b old mid new p does
+PlayDoes-line (Asks command) from left done number a b old mid new (Err outcome) p is (inl (fault, e, stop)) =
+    inl (fault, e, PlaysCutOff-command from left done command a b old mid new fault p stop)
+PlayDoes-line (Asks command) from left done number a b old mid new (Err outcome) p is (inr (fault, e, stop)) =
+    inr (fault, e, PlaysBrokenOff-command from left done command a b old mid new p stop)
+PlayDoes-line NoCommand from left done number a b old mid new (Ok done') p is (same, quiet, reported) =
+    Plays-report from left done number a b old mid new p is same quiet reported
+PlayDoes-line NoCommand from left done number a b old mid new (Err outcome) p is (same, quiet, (fault, e, front)) =
+    inr (fault, e, PlaysBrokenOff-report from left done number a b old mid new p is same quiet front)
 
 -- ---- the lines of a script
 
@@ -335,41 +316,40 @@ LinesDone-start left script scene outputs player place reported same = record {
   few = omega arith;
 }
 
-pub LinesDone-line : (from : Place) (left : Option (List ℕ)) (script rest one behind : List ℕ) (number : ℕ) (a b : Scene) (old mid new : Outputs) → mid.err ≡ a.err → new.err ≡ b.err → LinesDone from left script rest number a old mid
-    → script_lines rest ≡ one ∷ script_lines behind → length behind < length rest → CarriesLine one number a b mid.out new.out (Ok tt)
-    → ((lost : ℕ) → HasRoom a.player a.place lost → HasRoom b.player b.place (lost + 1)) → LinesDone from left script behind (number + 1) b old new
-LinesDone-line from left script rest one behind number a b old mid new mid_err new_err d split shorter (line, is, does) room = record {
+pub LinesDone-line : (from : Place) (left : Option (List ℕ)) (script rest one behind : List ℕ) (number : ℕ) (a b : Scene) (old : Outputs) (mid new : Option (List ℕ)) → LinesDone from left script rest number a old (with_reports mid a)
+    → script_lines rest ≡ one ∷ script_lines behind → length behind < length rest → CarriesLine one number a b mid new (Ok tt)
+    → ((lost : ℕ) → HasRoom a.player a.place lost → HasRoom b.player b.place (lost + 1)) → LinesDone from left script behind (number + 1) b old (with_reports new b)
+LinesDone-line from left script rest one behind number a b old mid new d split shorter (line, is, does) room = record {
   done = d.done ++ line ∷ [];
   octets = d.octets ++ one ∷ [];
   whole = d.whole ∙ ap (λ l. d.octets ++ l) split ∙ sym (append_assoc d.octets (one ∷ []) (script_lines behind));
   are = AreLines-more d.done d.octets line one d.are is;
   count = omega (arith, d.count, length-append d.done (line ∷ []));
-  plays = PlayDoes-line line from left d.done number a b old mid new (Ok tt) mid_err new_err d.plays d.count (does from left d.plays.standing d.plays.stands);
+  plays = PlayDoes-line line from left d.done number a b old mid new (Ok tt) d.plays d.count (does from left d.plays.standing d.plays.stands);
   room = subst (HasRoom b.player b.place) (sym (length-append d.done (line ∷ []))) (room (length d.done) d.room);
   few = omega (arith, d.few, shorter);
 }
 
 -- the line that a fault stopped
-pub PlaysScript-stopped : (from : Place) (left : Option (List ℕ)) (script rest one : List ℕ) (more : List (List ℕ)) (number : ℕ) (a b : Scene) (old mid new : Outputs) (outcome : Outcome) → mid.err ≡ a.err → new.err ≡ b.err
-    → LinesDone from left script rest number a old mid → script_lines rest ≡ one ∷ more → CarriesLine one number a b mid.out new.out (Err outcome) → PlaysScript from left script b old new (Err outcome)
-PlaysScript-stopped from left script rest one more number a b old mid new outcome mid_err new_err d split (line, is, does) = (
-  d.done ++ line ∷ [],
-  (
-    d.octets ++ one ∷ [],
-    more,
-    d.whole ∙ ap (λ l. d.octets ++ l) split ∙ sym (append_assoc d.octets (one ∷ []) more),
-    AreLines-more d.done d.octets line one d.are is,
-  ),
-  PlayDoes-line line from left d.done number a b old mid new (Err outcome) mid_err new_err d.plays d.count (does from left d.plays.standing d.plays.stands),
+pub PlaysScript-stopped : (from : Place) (left : Option (List ℕ)) (script rest one : List ℕ) (more : List (List ℕ)) (number : ℕ) (a b : Scene) (old : Outputs) (mid new : Option (List ℕ)) (outcome : Outcome)
+    → LinesDone from left script rest number a old (with_reports mid a) → script_lines rest ≡ one ∷ more → CarriesLine one number a b mid new (Err outcome) → PlaysScript from left script b old (with_reports new b) (Err outcome)
+PlaysScript-stopped from left script rest one more number a b old mid new outcome d split (line, is, does) = (
+  d.done,
+  line,
+  d.octets ++ one ∷ [],
+  more,
+  d.whole ∙ ap (λ l. d.octets ++ l) split ∙ sym (append_assoc d.octets (one ∷ []) more),
+  AreLines-more d.done d.octets line one d.are is,
+  PlayDoes-line line from left d.done number a b old mid new (Err outcome) d.plays d.count (does from left d.plays.standing d.plays.stands),
 )
 
 -- the last line
-pub PlaysScript-last : (from : Place) (left : Option (List ℕ)) (script rest : List ℕ) (number : ℕ) (a b : Scene) (old mid new : Outputs) (result : Result (Unit {0}) Outcome) → mid.err ≡ a.err → new.err ≡ b.err
-    → LinesDone from left script rest number a old mid → script_lines rest ≡ rest ∷ [] → CarriesLine rest number a b mid.out new.out result → PlaysScript from left script b old new result
-PlaysScript-last from left script rest number a b old mid new (Ok done) mid_err new_err d split (line, is, does) = (
+pub PlaysScript-last : (from : Place) (left : Option (List ℕ)) (script rest : List ℕ) (number : ℕ) (a b : Scene) (old : Outputs) (mid new : Option (List ℕ)) (result : Result (Unit {0}) Outcome)
+    → LinesDone from left script rest number a old (with_reports mid a) → script_lines rest ≡ rest ∷ [] → CarriesLine rest number a b mid new result → PlaysScript from left script b old (with_reports new b) result
+PlaysScript-last from left script rest number a b old mid new (Ok done) d split (line, is, does) = (
   d.done ++ line ∷ [],
   subst (AreLines (d.done ++ line ∷ [])) (sym (d.whole ∙ ap (λ l. d.octets ++ l) split)) (AreLines-more d.done d.octets line rest d.are is),
-  PlayDoes-line line from left d.done number a b old mid new (Ok done) mid_err new_err d.plays d.count (does from left d.plays.standing d.plays.stands),
+  PlayDoes-line line from left d.done number a b old mid new (Ok done) d.plays d.count (does from left d.plays.standing d.plays.stands),
 )
-PlaysScript-last from left script rest number a b old mid new (Err outcome) mid_err new_err d split carries =
-    PlaysScript-stopped from left script rest rest [] number a b old mid new outcome mid_err new_err d split carries
+PlaysScript-last from left script rest number a b old mid new (Err outcome) d split carries =
+    PlaysScript-stopped from left script rest rest [] number a b old mid new outcome d split carries

@@ -1,9 +1,7 @@
 -- A run that goes on by one step.
-use Rattle.std.proofs.Common.{◌≡◌, inl, inr, ℕ, ◌+◌, ◌<◌, ◌≤◌, ◌||◌, Bool, true, false, Result, Ok, Err, List, [], ◌∷◌, ◌++◌, length, take, nat_lt, Option, refl, sym, ap, subst, ◌∙◌, arith, append-nil}
+use Rattle.std.proofs.Common.{◌≡◌, inl, inr, ℕ, ◌+◌, ◌<◌, ◌≤◌, ◌||◌, Bool, true, false, Result, Ok, Err, List, [], ◌∷◌, ◌++◌, length, take, Option, refl, sym, ap, subst, ◌∙◌, arith, append-nil, take_all, is_ok, OnOk}
 use Rattle.std.proofs.lemmas.Bool.Decides.{nat_tests}
-use Rattle.std.proofs.lemmas.List.{take_all}
 use Rattle.std.proofs.Math.Bool.{or-false, or-true}
-use Rattle.std.specs.Result.{is_ok, OnOk}
 use Rattle.std.specs.Io.KnownBytes.{Consumes, Appends, Keeps}
 use Rattle.std.proofs.KnownBytes.{Appends-kept, Appends-nil, Appends-trans}
 use Rattle.mrt_events.specs.declared.event.Event.{Event}
@@ -12,8 +10,7 @@ use Rattle.mrt_wire.specs.declared.SourceFault.{SourceFault}
 use Rattle.mrt_wire.specs.declared.next.Next.{Next}
 use Rattle.mrt_wire.specs.declared.next.Next.TheVariants as next
 use Rattle.mrt_wire.specs.declared.next.Phase.TheVariants.{Reading, Ended}
-use Rattle.mrt_wire.specs.Results.{Finding, Found, Bad}
-use Rattle.mrt_wire.specs.Place.{Place}
+use Rattle.mrt_wire.specs.Results.{Finding, Found, Bad, Place}
 use Rattle.mrt_wire.specs.Answered.{answer_findings, Nexts}
 use Rattle.mrt_wire.specs.SoFar.{is_nothing}
 use Rattle.mrt_wire.proofs.SoFarLaws.{Promises, SoFar-answer, SoFar-told, ends_with_none, told_by}
@@ -23,14 +20,11 @@ use Rattle.rib_player.proofs.TimelineLaws.{StandsFor-after_play, StandsFor-after
 use Rattle.bgpdump_lines.specs.declared.fault.WriteFault.{WriteFault}
 use Rattle.bgpdump_lines.specs.declared.fault.WriteFault.TheVariants as write
 use Rattle.bgpdump_lines.specs.declared.outcome.Outcome.TheVariants as outcome
-use Rattle.bgpdump_lines.specs.Device.{AppendsFront}
+use Rattle.bgpdump_lines.specs.Run.{AppendsFront}
 use Rattle.bgpdump_lines.specs.Ending.{source_outcome, write_outcome}
-use Rattle.bgpdump_lines.specs.Going.{IsFaulty}
 use Rattle.bgpdump_lines.specs.Reports.{fault_report, reports}
 use Rattle.bgpdump_lines.specs.Writing.{Puts}
-use Rattle.bgpdump_tool.specs.Standing.{Standing, Scene, Taking, Stands, Follows}
-use Rattle.bgpdump_tool.specs.Moves.{GoesOn, StepDoes}
-use Rattle.bgpdump_lines.specs.declared.outcome.Outcome.{Outcome}
+use Rattle.bgpdump_tool.specs.Carrying.{Standing, Scene, Taking, Stands, Follows, GoesOn, StepDoes}
 use Rattle.bgpdump_lines.proofs.RunLaws.{IsFaulty-behind}
 use Rattle.bgpdump_lines.proofs.WritingLaws.{AppendsFront-none}
 use Rattle.bgpdump_tool.proofs.WalkLaws.{PutsPart-put}
@@ -39,14 +33,10 @@ use Rattle.bgpdump_tool.proofs.WalkLaws.{PutsPart-put}
 
 -- a redo where a step is ahead, and where none is
 redo_on : (t : Timeline) → t.cursor < end_of t → after_redo t ≡ record t { cursor = t.cursor + 1 }
-redo_on t h =
-    let on : nat_lt t.cursor (end_of t) ≡ true = grind (arith, nat_tests) in
-    rw on refl
+redo_on t h = grind (arith, nat_tests)
 
 pub redo_off : (t : Timeline) → ¬ (t.cursor < end_of t) → after_redo t ≡ t
-redo_off t h =
-    let off : nat_lt t.cursor (end_of t) ≡ false = grind (arith, nat_tests) in
-    rw off refl
+redo_off t h = grind (arith, nat_tests)
 
 -- what holds of a call's answers holds where it has one
 pub after_ok : {A E P : Type 0} (r : Result A E) → is_ok r ≡ true → OnOk r P → P
@@ -95,49 +85,68 @@ Follows-answer q q' left left' answer promised = record {
   stays = λ e. ap (λ x. x.phase) (promised.1 e).1 ∙ e;
 }
 
+-- ---- outputs that passed on what they held
+
+-- what is appended then
+pub kept-Appends : (a b c : Option (List ℕ)) (text : List ℕ) → Keeps a b → Appends b c text → Appends a c text
+kept-Appends a b c text kept more = Appends-trans a b c [] text (Appends-kept a a b [] (Appends-nil a) kept) more
+
+pub kept-AppendsFront : (a b c : Option (List ℕ)) (text : List ℕ) → Keeps a b → AppendsFront b c text → AppendsFront a c text
+kept-AppendsFront a b c text kept fronts = record { front = fronts.front; back = fronts.back; whole = fronts.whole; appended = kept-Appends a b c fronts.front kept fronts.appended }
+
 -- ---- one step
 
 -- over the step ahead
 pub step_over : (from : Place) (left : Option (List ℕ)) (old : Scene) (s : Standing) (t : Timeline) → Stands from left old s → t ≡ after_redo old.player → old.player.cursor < end_of old.player
-    → GoesOn from left s old (record old { player = t }) 1 [] false
+    → StepDoes from left s old (record old { player = t }) (Ok false)
 step_over from left old s t stands e on =
     let same : t ≡ record (old.player) { cursor = old.player.cursor + 1 } = e ∙ redo_on old.player on in
-    let end = StandsFor-end old.player s.history stands.history in
-    record {
-      onward = record { few = omega (arith, end, stands.cursor); all = λ none. absurd (omega (arith, none)) };
-      stands = record {
-        history = subst (StandsFor t) (sym (append-nil s.history)) (subst (λ x. StandsFor x s.history) (sym e) (StandsFor-after_redo old.player s.history stands.history));
-        cursor = ap (λ x. x.cursor) same ∙ omega (arith, stands.cursor);
-        floor = ap (λ x. x.floor) same ∙ stands.floor;
-        taking = subst (λ b. Taking from left old.place old.left (s.found ++ []) b) (sym (or-false s.ended)) (subst (λ f. Taking from left old.place old.left f s.ended) (sym (append-nil s.found)) stands.taking);
-      };
-      follows = record { quiet = λ _. refl; stays = λ ended. ended };
-      met = λ ended. cc;
-      reported = Appends-nil old.err;
-      told = sym (or-false old.reported);
-    }
+    let end = StandsFor-end old.player s.history stands.history in (
+      1,
+      [],
+      refl,
+      record {
+        few = omega (arith, end, stands.cursor);
+        all = λ none. absurd (omega (arith, none));
+        stands = record {
+          history = subst (StandsFor t) (sym (append-nil s.history)) (subst (λ x. StandsFor x s.history) (sym e) (StandsFor-after_redo old.player s.history stands.history));
+          cursor = ap (λ x. x.cursor) same ∙ omega (arith, stands.cursor);
+          floor = ap (λ x. x.floor) same ∙ stands.floor;
+          taking = subst (λ b. Taking from left old.place old.left (s.found ++ []) b) (sym (or-false s.ended)) (subst (λ f. Taking from left old.place old.left f s.ended) (sym (append-nil s.found)) stands.taking);
+        };
+        follows = record { quiet = λ _. refl; stays = λ ended. ended };
+        met = λ ended. cc;
+        reported = Appends-nil old.err;
+        told = sym (or-false old.reported);
+      },
+    )
 
 -- over an event that is played
-pub step_found : (from : Place) (left : Option (List ℕ)) (old : Scene) (s : Standing) (t u : Timeline) (q : Place) (left' : Option (List ℕ)) (event : Event) → Stands from left old s → t ≡ after_redo old.player
+pub step_found : (from : Place) (left : Option (List ℕ)) (old : Scene) (s : Standing) (t u : Timeline) (q : Place) (left' err : Option (List ℕ)) (event : Event) → Stands from left old s → Keeps old.err err → t ≡ after_redo old.player
     → ¬ (old.player.cursor < end_of old.player) → u ≡ after_play t event → Promises old.place q old.left left' (next.Event event) → q.offset ≤ q.limit
-    → GoesOn from left s old (record { player = u; place = q; left = left'; err = old.err; reported = old.reported }) 0 (Found event ∷ []) false
-step_found from left old s t u q left' event stands e off plays promised within =
+    → StepDoes from left s old (record { player = u; place = q; left = left'; err = err; reported = old.reported }) (Ok false)
+step_found from left old s t u q left' err event stands kept e off plays promised within =
     let now : u ≡ after_play old.player event = plays ∙ ap (λ x. after_play x event) (e ∙ redo_off old.player off) in
     let end = cursor_at_end from left old s stands off in
-    let all : take old.player.cursor s.history ≡ s.history = take_all old.player.cursor s.history (omega (arith, end, stands.cursor)) in
-    record {
-      onward = record { few = omega arith; all = λ one. omega (arith, end) };
-      stands = record {
-        history = subst (λ l. StandsFor u (l ++ event ∷ [])) all (subst (λ x. StandsFor x (take old.player.cursor s.history ++ event ∷ [])) (sym now) (StandsFor-after_play old.player s.history event stands.history));
-        cursor = ap (λ x. x.cursor) now ∙ omega (arith, stands.cursor);
-        floor = ap (λ x. x.floor) now ∙ stands.floor;
-        taking = subst (λ b. Taking from left q left' (s.found ++ Found event ∷ []) b) (sym (or-false s.ended)) (Taking-told from old.place q left old.left left' s.found s.ended (next.Event event) stands.taking promised refl within);
-      };
-      follows = Follows-answer old.place q old.left left' (next.Event event) promised;
-      met = λ ended. cc;
-      reported = Appends-nil old.err;
-      told = sym (or-false old.reported);
-    }
+    let all : take old.player.cursor s.history ≡ s.history = take_all old.player.cursor s.history (omega (arith, end, stands.cursor)) in (
+      0,
+      Found event ∷ [],
+      refl,
+      record {
+        few = omega arith;
+        all = λ one. omega (arith, end);
+        stands = record {
+          history = subst (λ l. StandsFor u (l ++ event ∷ [])) all (subst (λ x. StandsFor x (take old.player.cursor s.history ++ event ∷ [])) (sym now) (StandsFor-after_play old.player s.history event stands.history));
+          cursor = ap (λ x. x.cursor) now ∙ omega (arith, stands.cursor);
+          floor = ap (λ x. x.floor) now ∙ stands.floor;
+          taking = subst (λ b. Taking from left q left' (s.found ++ Found event ∷ []) b) (sym (or-false s.ended)) (Taking-told from old.place q left old.left left' s.found s.ended (next.Event event) stands.taking promised refl within);
+        };
+        follows = Follows-answer old.place q old.left left' (next.Event event) promised;
+        met = λ ended. cc;
+        reported = Appends-kept old.err old.err err [] (Appends-nil old.err) kept;
+        told = sym (or-false old.reported);
+      },
+    )
 
 -- a player that can't go on stays
 Stands-stays : (from : Place) (left : Option (List ℕ)) (old : Scene) (s : Standing) (t : Timeline) (q : Place) (left' err : Option (List ℕ)) (reported : Bool) (new : List Finding) (ended : Bool) → Stands from left old s → t ≡ after_redo old.player
@@ -153,57 +162,60 @@ Stands-stays from left old s t q left' err reported new ended stands e off takin
     }
 
 -- over a fault that is reported
-pub step_bad : (from : Place) (left : Option (List ℕ)) (old : Scene) (s : Standing) (t : Timeline) (q : Place) (left' err : Option (List ℕ)) (fault : RecordFault) → Stands from left old s → t ≡ after_redo old.player
-    → ¬ (old.player.cursor < end_of old.player) → Promises old.place q old.left left' (next.Bad fault) → q.offset ≤ q.limit → Appends old.err err (fault_report fault)
-    → GoesOn from left s old (record { player = t; place = q; left = left'; err = err; reported = true }) 0 (Bad fault ∷ []) false
-step_bad from left old s t q left' err fault stands e off promised within appended =
-    let end = cursor_at_end from left old s stands off in
-    record {
-      onward = record { few = omega arith; all = λ one. omega (arith, end) };
-      stands = Stands-stays from left old s t q left' err true (Bad fault ∷ []) false stands e off
-          (subst (λ b. Taking from left q left' (s.found ++ Bad fault ∷ []) b) (sym (or-false s.ended)) (Taking-told from old.place q left old.left left' s.found s.ended (next.Bad fault) stands.taking promised refl within));
-      follows = Follows-answer old.place q old.left left' (next.Bad fault) promised;
-      met = λ ended. cc;
-      reported = subst (Appends old.err err) (sym (append-nil (fault_report fault))) appended;
-      told = sym (or-true old.reported);
-    }
+pub step_bad : (from : Place) (left : Option (List ℕ)) (old : Scene) (s : Standing) (t : Timeline) (q : Place) (left' mid err : Option (List ℕ)) (fault : RecordFault) → Stands from left old s → Keeps old.err mid → t ≡ after_redo old.player
+    → ¬ (old.player.cursor < end_of old.player) → Promises old.place q old.left left' (next.Bad fault) → q.offset ≤ q.limit → Appends mid err (fault_report fault)
+    → StepDoes from left s old (record { player = t; place = q; left = left'; err = err; reported = true }) (Ok false)
+step_bad from left old s t q left' mid err fault stands kept e off promised within appended =
+    let end = cursor_at_end from left old s stands off in (
+      0,
+      Bad fault ∷ [],
+      refl,
+      record {
+        few = omega arith;
+        all = λ one. omega (arith, end);
+        stands = Stands-stays from left old s t q left' err true (Bad fault ∷ []) false stands e off
+            (subst (λ b. Taking from left q left' (s.found ++ Bad fault ∷ []) b) (sym (or-false s.ended)) (Taking-told from old.place q left old.left left' s.found s.ended (next.Bad fault) stands.taking promised refl within));
+        follows = Follows-answer old.place q old.left left' (next.Bad fault) promised;
+        met = λ ended. cc;
+        reported = subst (Appends old.err err) (sym (append-nil (fault_report fault))) (kept-Appends old.err mid err (fault_report fault) kept appended);
+        told = sym (or-true old.reported);
+      },
+    )
 
 -- to the end
-pub step_end : (from : Place) (left : Option (List ℕ)) (old : Scene) (s : Standing) (t : Timeline) (q : Place) (left' : Option (List ℕ)) → Stands from left old s → t ≡ after_redo old.player
+pub step_end : (from : Place) (left : Option (List ℕ)) (old : Scene) (s : Standing) (t : Timeline) (q : Place) (left' err : Option (List ℕ)) → Stands from left old s → Keeps old.err err → t ≡ after_redo old.player
     → ¬ (old.player.cursor < end_of old.player) → Promises old.place q old.left left' next.End → q.offset ≤ q.limit
-    → GoesOn from left s old (record { player = t; place = q; left = left'; err = old.err; reported = old.reported }) 0 [] true
-step_end from left old s t q left' stands e off promised within =
+    → GoesOn from left s old (record { player = t; place = q; left = left'; err = err; reported = old.reported }) 0 [] true
+step_end from left old s t q left' err stands kept e off promised within =
     let end = cursor_at_end from left old s stands off in
     record {
-      onward = record { few = omega arith; all = λ one. absurd (omega (arith, one)) };
-      stands = Stands-stays from left old s t q left' old.err old.reported [] true stands e off (Taking-end from old.place q left old.left left' s.found s.ended stands.taking promised within);
+      few = omega arith;
+      all = λ one. absurd (omega (arith, one));
+      stands = Stands-stays from left old s t q left' err old.reported [] true stands e off (Taking-end from old.place q left old.left left' s.found s.ended stands.taking promised within);
       follows = Follows-answer old.place q old.left left' next.End promised;
       met = λ _. (omega (arith, end), ends_with_none from old.place q left old.left left' s.found next.End stands.taking.so_far promised refl);
-      reported = Appends-nil old.err;
+      reported = Appends-kept old.err old.err err [] (Appends-nil old.err) kept;
       told = sym (or-false old.reported);
     }
 
 -- ---- a step that a fault stops
 
-pub step_stops_reading : (from : Place) (left : Option (List ℕ)) (old : Scene) (s : Standing) (t : Timeline) (q : Place) (left' : Option (List ℕ)) (reported : Bool) (fault : SourceFault) → Stands from left old s
+pub step_stops_reading : (from : Place) (left : Option (List ℕ)) (old : Scene) (s : Standing) (t : Timeline) (q : Place) (left' err : Option (List ℕ)) (reported : Bool) (fault : SourceFault) → Stands from left old s → Keeps old.err err
     → ¬ (old.player.cursor < end_of old.player) → (old.place.phase ≡ Reading → (octets : List ℕ) × Consumes old.left left' octets × Nexts old.place q left' octets (Err fault))
     → (old.place.phase ≡ Ended → ◌≡◌ {A = Result Next SourceFault} (Err fault) (Ok next.End)) → q.offset ≤ q.limit
-    → StepDoes from left s old (record { player = t; place = q; left = left'; err = old.err; reported = reported }) (Err (source_outcome fault))
-step_stops_reading from left old s t q left' reported fault stands off promised ended within =
-    let faulty = IsFaulty-behind from old.place q left old.left left' s.found fault stands.taking.so_far promised ended within in (
-      cursor_at_end from left old s stands off,
-      inl (
-        fault,
-        refl,
-        [],
-        refl,
-        record {
-          reads = λ e. let other : ◌≡◌ {A = Result Next SourceFault} (Err fault) (Ok next.End) = ended e in cc;
-          faulty = subst (λ f. IsFaulty from left left' f fault) (sym (append-nil s.found)) faulty;
-          reported = Appends-nil old.err;
-        },
-      ),
-    )
+    → StepDoes from left s old (record { player = t; place = q; left = left'; err = err; reported = reported }) (Err (source_outcome fault))
+step_stops_reading from left old s t q left' err reported fault stands kept off promised ended within = (
+  cursor_at_end from left old s stands off,
+  inl (
+    fault,
+    refl,
+    record {
+      reads = λ e. let other : ◌≡◌ {A = Result Next SourceFault} (Err fault) (Ok next.End) = ended e in cc;
+      faulty = IsFaulty-behind from old.place q left old.left left' s.found fault stands.taking.so_far promised ended within;
+      kept = kept;
+    },
+  ),
+)
 
 -- behind an answer that tells something
 stops_told : (from : Place) (left : Option (List ℕ)) (old : Scene) (s : Standing) (u : Timeline) (q : Place) (left' err : Option (List ℕ)) (reported : Bool) (answer : Next) (fault : WriteFault) → Stands from left old s
@@ -224,57 +236,20 @@ stops_told from left old s u q left' err reported answer fault stands off promis
   ),
 )
 
-pub step_stops_playing : (from : Place) (left : Option (List ℕ)) (old : Scene) (s : Standing) (u : Timeline) (q : Place) (left' : Option (List ℕ)) (event : Event) → Stands from left old s
+pub step_stops_playing : (from : Place) (left : Option (List ℕ)) (old : Scene) (s : Standing) (u : Timeline) (q : Place) (left' err : Option (List ℕ)) (event : Event) → Stands from left old s → Keeps old.err err
     → ¬ (old.player.cursor < end_of old.player) → Promises old.place q old.left left' (next.Event event) → q.offset ≤ q.limit
-    → StepDoes from left s old (record { player = u; place = q; left = left'; err = old.err; reported = old.reported }) (Err outcome.Memory)
-step_stops_playing from left old s u q left' event stands off promised within =
-    stops_told from left old s u q left' old.err old.reported (next.Event event) write.Memory stands off promised refl refl within (AppendsFront-none old.err [])
+    → StepDoes from left s old (record { player = u; place = q; left = left'; err = err; reported = old.reported }) (Err outcome.Memory)
+step_stops_playing from left old s u q left' err event stands kept off promised within =
+    stops_told from left old s u q left' err old.reported (next.Event event) write.Memory stands off promised refl refl within (kept-AppendsFront old.err err err [] kept (AppendsFront-none err []))
 
-pub step_stops_reporting : (from : Place) (left : Option (List ℕ)) (old : Scene) (s : Standing) (u : Timeline) (q : Place) (left' err : Option (List ℕ)) (bad : RecordFault) (fault : WriteFault) → Stands from left old s
-    → ¬ (old.player.cursor < end_of old.player) → Promises old.place q old.left left' (next.Bad bad) → q.offset ≤ q.limit → Puts {A = Unit {0}} old.err err (fault_report bad) (Err fault)
+pub step_stops_reporting : (from : Place) (left : Option (List ℕ)) (old : Scene) (s : Standing) (u : Timeline) (q : Place) (left' mid err : Option (List ℕ)) (bad : RecordFault) (fault : WriteFault) → Stands from left old s → Keeps old.err mid
+    → ¬ (old.player.cursor < end_of old.player) → Promises old.place q old.left left' (next.Bad bad) → q.offset ≤ q.limit → Puts {A = Unit {0}} mid err (fault_report bad) (Err fault)
     → StepDoes from left s old (record { player = u; place = q; left = left'; err = err; reported = true }) (Err (write_outcome fault))
-step_stops_reporting from left old s u q left' err bad fault stands off promised within put =
+step_stops_reporting from left old s u q left' mid err bad fault stands kept off promised within put =
     stops_told from left old s u q left' err true (next.Bad bad) fault stands off promised refl refl within
-    (subst (AppendsFront old.err err) (sym (append-nil (fault_report bad))) (PutsPart-put {A = Unit {0}} old.err err (fault_report bad) (Err fault) put))
+    (subst (AppendsFront old.err err) (sym (append-nil (fault_report bad))) (kept-AppendsFront old.err mid err (fault_report bad) kept (PutsPart-put {A = Unit {0}} mid err (fault_report bad) (Err fault) put)))
 
--- ---- outputs that passed on what they held
-
--- what is appended then
-pub kept-Appends : (a b c : Option (List ℕ)) (text : List ℕ) → Keeps a b → Appends b c text → Appends a c text
-kept-Appends a b c text kept more = Appends-trans a b c [] text (Appends-kept a a b [] (Appends-nil a) kept) more
-
-pub kept-AppendsFront : (a b c : Option (List ℕ)) (text : List ℕ) → Keeps a b → AppendsFront b c text → AppendsFront a c text
-kept-AppendsFront a b c text kept fronts = record { front = fronts.front; back = fronts.back; whole = fronts.whole; appended = kept-Appends a b c fronts.front kept fronts.appended }
-
--- a run goes on as it did
-GoesOn-kept : (from : Place) (left : Option (List ℕ)) (s : Standing) (old new : Scene) (err : Option (List ℕ)) (over : ℕ) (found : List Finding) (ended : Bool) → Keeps old.err err
-    → GoesOn from left s (record old { err = err }) new over found ended → GoesOn from left s old new over found ended
-GoesOn-kept from left s old new err over found ended kept goes = record {
-  onward = goes.onward;
-  stands = goes.stands;
-  follows = goes.follows;
-  met = goes.met;
-  reported = kept-Appends old.err err new.err (reports found) kept goes.reported;
-  told = goes.told;
-}
-
--- and a step does what it did
-StepDoes-kept : (from : Place) (left : Option (List ℕ)) (s : Standing) (old new : Scene) (err : Option (List ℕ)) (r : Result Bool Outcome) → Keeps old.err err
-    → StepDoes from left s (record old { err = err }) new r → StepDoes from left s old new r
-StepDoes-kept from left s old new err (Ok false) kept (over, found, one, goes) = (over, found, one, GoesOn-kept from left s old new err over found false kept goes)
-StepDoes-kept from left s old new err (Ok true) kept goes = GoesOn-kept from left s old new err 0 [] true kept goes
-StepDoes-kept from left s old new err (Err outcome) kept (end, inl (fault, is, found, none, stop)) =
-    (end, inl (fault, is, found, none, record { reads = stop.reads; faulty = stop.faulty; reported = kept-Appends old.err err new.err (reports found) kept stop.reported }))
-StepDoes-kept from left s old new err (Err outcome) kept (end, inr (fault, is, found, few, stop)) =
-    (end, inr (fault, is, found, few, record { taking = stop.taking; follows = stop.follows; fronts = kept-AppendsFront old.err err new.err (reports found) kept stop.fronts }))
-
--- where it stands as it stood
-pub step_passed : (from : Place) (left : Option (List ℕ)) (s : Standing) (old new : Scene) (err : Option (List ℕ)) (r : Result Bool Outcome) → Stands from left old s → Keeps old.err err
-    → (Stands from left (record old { err = err }) s → StepDoes from left s (record old { err = err }) new r) → StepDoes from left s old new r
-step_passed from left s old new err r stands kept does =
-    StepDoes-kept from left s old new err r kept (does (record { history = stands.history; cursor = stands.cursor; floor = stands.floor; taking = stands.taking }))
-
--- or a fault of passing on stops it
+-- a fault of passing on stops it
 pub step_stops_waiting : (from : Place) (left : Option (List ℕ)) (old : Scene) (s : Standing) (t : Timeline) (err : Option (List ℕ)) → Stands from left old s → ¬ (old.player.cursor < end_of old.player) → Keeps old.err err
     → StepDoes from left s old (record old { player = t; err = err }) (Err outcome.WriteFault)
 step_stops_waiting from left old s t err stands off kept = (

@@ -1,16 +1,11 @@
 -- The lines of a list's items, written one after the other.
-use Rattle.std.proofs.Common.{◌≡◌, ℕ, true, List, [], ◌∷◌, ◌++◌, length, Bor, Option, Some, None, Result, Ok, Err, is_some, slice_get, refl, sym, ap, subst, ◌∙◌}
-use Rattle.std.specs.List.{flat_map}
-use Rattle.std.specs.Option.{option_map}
+use Rattle.std.proofs.Common.{codes, ◌≡◌, ℕ, true, List, [], ◌∷◌, ◌++◌, length, Bor, Option, Some, None, Result, Ok, Err, is_some, slice_get, refl, sym, ap, subst, ◌∙◌, flat_map, option_map, append_assoc, append-nil, Global}
 use Rattle.std.specs.Io.KnownBytes.{Appends}
 use Rattle.std.proofs.KnownBytes.{Appends-nil, Appends-trans}
-use Rattle.std.proofs.lemmas.List.{append_assoc, append-nil}
-use Rattle.std.specs.declared.alloc.Global.{Global}
 use Rattle.std.specs.declared.rc.Rc.{Rc}
 use Rattle.ip_prefix.specs.Network.{Network}
 use Rattle.mrt_events.specs.declared.event.Route.{Route}
 use Rattle.rib_player.specs.Lookups.{pointed_routes}
-use Rattle.std.proofs.lemmas.Option.{same_Some}
 use Rattle.std.proofs.lemmas.Grind.{flat_map-append}
 use Rattle.mrt_events.specs.declared.peer.Peer.{Peer}
 use Rattle.rib_player.specs.Tables.{Routes}
@@ -20,9 +15,9 @@ use Rattle.std.specs.FinMap as finite
 use Rattle.std.specs.FinMap.{len-entries}
 use Rattle.bgpdump_lines.specs.declared.fault.WriteFault.{WriteFault}
 use Rattle.bgpdump_lines.specs.declared.fault.WriteFault.TheVariants.{Write, Memory}
-use Rattle.bgpdump_lines.specs.Device.{AppendsFront}
+use Rattle.bgpdump_lines.specs.Run.{AppendsFront}
 use Rattle.bgpdump_lines.specs.Lines.{rib_line}
-use Rattle.bgpdump_tool.specs.Replies.{peer_line, peer_lines, routes_line, table_text}
+use Rattle.bgpdump_tool.specs.Replies.{peer_line, peer_lines, counts_line, table_text}
 use Rattle.bgpdump_lines.specs.Writing.{Puts, PutsPart}
 use Rattle.bgpdump_lines.proofs.WritingLaws.{AppendsFront-none, AppendsFront-behind, AppendsFront-longer}
 
@@ -90,21 +85,19 @@ lines-pointed peer (f ∷ found) = ap (λ l. rib_line peer (f.0, f.1.now.value) 
 
 -- a table's lines were written, and then how many they are
 pub table_told : (routes : Routes) (peer : Peer) (ahead : List (Network × Route)) (old mid new : Option (List ℕ)) (count : ℕ) (result : Result (Unit {0}) WriteFault) → ahead ≡ [] → (walked : Walked (rib_line peer) (finite.entries (peer_routes routes peer)) ahead old mid)
-    → count ≡ counted (length walked.done) → Puts mid new (routes_line count) result → PutsPart old new (table_text routes peer) result
+    → count ≡ counted (length walked.done) → Puts mid new (counts_line ((codes "routes ", count) ∷ [])) result → PutsPart old new (table_text routes peer) result
 table_told routes peer ahead old mid new count result none walked is put =
     let entries = finite.entries (peer_routes routes peer) in
     let end = Walked-end (rib_line peer) entries ahead old mid none walked in
-    PutsPart-behind old mid new (flat_map (rib_line peer) entries) (routes_line (counted (finite.len (peer_routes routes peer)))) result end.1
-    (subst (λ n. Puts mid new (routes_line n) result) (is ∙ ap counted (ap length (sym end.0) ∙ sym (len-entries (peer_routes routes peer)))) put)
+    PutsPart-behind old mid new (flat_map (rib_line peer) entries) (counts_line ((codes "routes ", counted (finite.len (peer_routes routes peer))) ∷ [])) result end.1
+    (subst (λ n. Puts mid new (counts_line ((codes "routes ", n) ∷ [])) result) (is ∙ ap counted (ap length (sym end.0) ∙ sym (len-entries (peer_routes routes peer)))) put)
 
 -- ---- peers
 
 -- what was found, and what belongs to it
 pub found_with : {A B : Type 0} (f : A → B) (found : Option A) (one : A × B) → option_map {U = A × B} (λ a. (a, f a)) found ≡ Some one → (found ≡ Some one.0) × (one.1 ≡ f one.0)
 found_with f None one is = cc
-found_with {A} {B} f (Some a) one is =
-    let same : (a, f a) ≡ one = same_Some (a, f a) one is in
-    (ap (λ (p : A × B). Some p.0) same, ap (λ (p : A × B). p.1) (sym same) ∙ ap (λ (p : A × B). f p.0) same)
+found_with f (Some a) one is = (cc, cc)
 
 -- one more item makes a list that has a first
 pub some_first : {A : Type 0} (done : List A) (item : A) (ahead : List A) → is_some (slice_get (done ++ item ∷ ahead) 0) ≡ true

@@ -1,21 +1,132 @@
 -- Private.
--- What carrying out a command does.
-use Rattle.std.specs.Prelude.{◌≡◌, ◌⊎◌, ℕ, ◌<◌, Bool, true, ◌||◌, List, [], ◌++◌, length, take, Option, Result, Ok, Err}
-use Rattle.std.specs.Io.KnownBytes.{Appends}
-use Rattle.mrt_wire.specs.declared.SourceFault.{SourceFault}
+-- Where a run of a script stands, by what it has found so far; what its steps and commands do, and how a fault stops them.
+use Rattle.std.specs.Prelude.{◌≡◌, ℕ, ◌+◌, ◌≤◌, Bool, true, ◌||◌, List, [], ◌++◌, length, Option, ◌⊎◌, ◌-◌, ◌<◌, false, take, Result, Ok, Err}
+use Rattle.mrt_events.specs.declared.event.Event.{Event}
 use Rattle.mrt_wire.specs.declared.next.Phase.TheVariants.{Ended}
-use Rattle.mrt_wire.specs.Results.{Finding}
-use Rattle.mrt_wire.specs.Place.{Place}
-use Rattle.bgpdump_tool.specs.declared.command.Command.{Command}
+use Rattle.mrt_wire.specs.Results.{Finding, Place}
+use Rattle.mrt_wire.specs.SoFar.{SoFar}
+use Rattle.rib_player.specs.Timeline.{Timeline, end_of}
+use Rattle.rib_player.specs.Calls.{StandsFor}
+use Rattle.bgpdump_lines.specs.declared.dump.TheConstants.{LIMIT}
+use Rattle.bgpdump_tool.specs.declared.session.Session.{Session}
+use Rattle.bgpdump_tool.specs.Meaning.{State, events, meaning, meets_end, faults_taken}
+use Rattle.std.specs.Io.KnownBytes.{Appends, Keeps}
+use Rattle.mrt_wire.specs.declared.SourceFault.{SourceFault}
 use Rattle.bgpdump_lines.specs.declared.fault.WriteFault.{WriteFault}
 use Rattle.bgpdump_lines.specs.declared.outcome.Outcome.{Outcome}
-use Rattle.bgpdump_lines.specs.Device.{AppendsFront}
+use Rattle.bgpdump_lines.specs.Run.{AppendsFront}
 use Rattle.bgpdump_lines.specs.Ending.{source_outcome, write_outcome}
+use Rattle.bgpdump_lines.specs.Going.{IsFaulty}
 use Rattle.bgpdump_lines.specs.Reports.{reports}
 use Rattle.bgpdump_lines.specs.Writing.{is_any_bad}
-use Rattle.bgpdump_tool.specs.Meaning.{meaning, meets_end, faults_taken}
-use Rattle.bgpdump_tool.specs.Standing.{Standing, Scene, Taking, Stands, Follows, state_of}
-use Rattle.bgpdump_tool.specs.Moves.{StopsReading}
+use Rattle.bgpdump_tool.specs.declared.command.Command.{Command}
+
+-- the events played, the cursor, the floor, what was found in the input so far, and whether a command met its end
+pub record Standing : Type 0 where
+  pub history : List Event
+  pub cursor : ℕ
+  pub floor : ℕ
+  pub found : List Finding
+  pub ended : Bool
+
+-- a player, the source of what it plays next, whether something was reported, what is left of the input, and what was written of reports
+pub record Scene : Type 0 where
+  pub player : Timeline
+  pub place : Place
+  pub reported : Bool
+  pub left : Option (List ℕ)
+  pub err : Option (List ℕ)
+
+-- the same of a session, an input and an output, by what is known of each kind
+abbrev pub scene_of : {S I E : Type 0} → (I → Option (List ℕ)) → (E → Option (List ℕ)) → Session S → I → E → Scene
+scene_of left written session input err =
+    record { player = session.player; place = session.source; reported = session.reported; left = left input; err = written err }
+
+-- this is so of a call on a session, an input, the output of replies and that of reports, by what is known of each kind: of the scenes as it
+-- begins and at its end, of what the output of replies has got by then, and of what it answers
+abbrev pub OverScenes : {S I O E A : Type 0} → (I → Option (List ℕ)) → (O → Option (List ℕ)) → (E → Option (List ℕ)) → (Scene → Scene → Option (List ℕ) → Option (List ℕ) → A → Type 0) → Session S × I × O × E → Session S × I × O × E → A → Type 0
+OverScenes left written written' IsSo (session, input, out, err) (session', input', out', err') answer =
+    IsSo (scene_of left written' session input err) (scene_of left written' session' input' err') (written out) (written out') answer
+
+-- where the script stands, if these are the results that no command has taken yet
+abbrev pub state_of : Standing → List Finding → State
+state_of s unread = record { history = s.history; cursor = s.cursor; floor = s.floor; unread = unread }
+
+-- this was found from a place on, and the end was met, or not: it was if the source saw it behind whole records
+pub record Taking (from : Place) (left : Option (List ℕ)) (q : Place) (left' : Option (List ℕ)) (found : List Finding) (ended : Bool) : Type 0 where
+  pub so_far : SoFar from q left left' found
+  pub seen : q.phase ≡ Ended → so_far.rest ≡ [] → ended ≡ true
+  pub ends : ended ≡ true → q.phase ≡ Ended
+  pub within : q.offset ≤ from.limit
+
+-- a player with its cursor elsewhere
+abbrev pub at_cursor : ℕ → Timeline → Timeline
+at_cursor cursor t = record t { cursor = cursor }
+
+-- a player whose steps come from octets that were read, but for so many
+pub record HasRoom (t : Timeline) (q : Place) (lost : ℕ) : Type 0 where
+  pub floor : t.floor ≤ t.cursor
+  pub cursor : t.cursor ≤ end_of t
+  pub steps : end_of t ≤ q.offset + lost
+  pub within : q.offset ≤ q.limit
+  pub limit : q.limit ≡ LIMIT
+
+-- the run stands so since its source stood at a place
+pub record Stands (from : Place) (left : Option (List ℕ)) (scene : Scene) (s : Standing) : Type 0 where
+  pub history : StandsFor scene.player s.history
+  pub cursor : scene.player.cursor ≡ s.cursor
+  pub floor : scene.player.floor ≡ s.floor
+  pub taking : Taking from left scene.place scene.left s.found s.ended
+
+-- nothing is found behind the end
+pub record Follows (q q' : Place) (new : List Finding) : Type 0 where
+  pub quiet : q.phase ≡ Ended → new ≡ []
+  pub stays : q.phase ≡ Ended → q'.phase ≡ Ended
+
+-- the cursor goes over so many events ahead, and over those of what is found then, and the end is met or not
+abbrev pub standing_on : ℕ → List Finding → Bool → Standing → Standing
+standing_on over new ended s = record {
+  history = s.history ++ events new;
+  cursor = s.cursor + over + length (events new);
+  floor = s.floor;
+  found = s.found ++ new;
+  ended = s.ended || ended;
+}
+
+-- a run went on: over so many events ahead, over all of them first where it found something, and then over what it found, whose faults it reported
+pub record GoesOn (from : Place) (left : Option (List ℕ)) (s : Standing) (old new : Scene) (over : ℕ) (found : List Finding) (ended : Bool) : Type 0 where
+  pub few : over ≤ length s.history - s.cursor
+  pub all : 1 ≤ length found → over ≡ length s.history - s.cursor
+  pub stands : Stands from left new (standing_on over found ended s)
+  pub follows : Follows old.place new.place found
+  pub met : ended ≡ true → (over ≡ length s.history - s.cursor) × (new.place.phase ≡ Ended)
+  pub reported : Appends old.err new.err (reports found)
+  pub told : new.reported ≡ (old.reported || is_any_bad found)
+
+-- the source stopped it, behind all events ahead and what was found before
+pub record StopsReading (from : Place) (left : Option (List ℕ)) (s : Standing) (old new : Scene) (fault : SourceFault) : Type 0 where
+  pub reads : old.place.phase ≡ Ended → ⊥
+  pub faulty : IsFaulty from left new.left s.found fault
+  pub kept : Keeps old.err new.err
+
+-- memory or an output stopped it, behind what was found, of whose reports a front was written
+pub record StopsWriting (from : Place) (left : Option (List ℕ)) (s : Standing) (old new : Scene) (found : List Finding) : Type 0 where
+  pub taking : Taking from left new.place new.left (s.found ++ found) s.ended
+  pub follows : Follows old.place new.place found
+  pub fronts : AppendsFront old.err new.err (reports found)
+
+-- one step on: over one event ahead, or one result, or none at the end
+abbrev pub StepDoes : Place → Option (List ℕ) → Standing → Scene → Scene → Result Bool Outcome → Type 0
+StepDoes from left s old new (Ok false) = (over : ℕ) × (found : List Finding) × (over + length found ≡ 1) × GoesOn from left s old new over found false
+StepDoes from left s old new (Ok true) = GoesOn from left s old new 0 [] true
+StepDoes from left s old new (Err outcome) = (s.cursor ≡ length s.history) × (
+    ((fault : SourceFault) × (outcome ≡ source_outcome fault) × StopsReading from left s old new fault)
+    ⊎ ((fault : WriteFault) × (outcome ≡ write_outcome fault) × (found : List Finding) × (length found ≤ 1) × StopsWriting from left s old new found)
+    )
+
+-- what a step does, however the run stands before it
+abbrev pub Steps : Scene → Scene → Result Bool Outcome → Type 0
+Steps old new result = (from : Place) (left : Option (List ℕ)) (s : Standing) → Stands from left old s → StepDoes from left s old new result
 
 -- a command leads from one standing to another, takes these results and replies so, if these follow them
 pub record Leads (command : Command) (s t : Standing) (taken : List Finding) (reply : List ℕ) (more : List Finding) : Type 0 where
@@ -36,15 +147,13 @@ pub record IsLed (command : Command) (from : Place) (left : Option (List ℕ)) (
   pub reported : Appends old.err new.err (reports taken)
   pub told : new.reported ≡ (old.reported || is_any_bad taken)
 
--- a command was carried out
-abbrev pub IsCarriedOut : Command → Place → Option (List ℕ) → Standing → Scene → Scene → Option (List ℕ) → Option (List ℕ) → Type 0
-IsCarriedOut command from left s old new out out' = (led : IsLed command from left s old new) × Appends out out' led.reply
-
 -- the source stopped it, behind results of which it has to take more: it gave no reply
 pub record IsCutOff (command : Command) (from : Place) (left : Option (List ℕ)) (s : Standing) (old new : Scene) (out out' : Option (List ℕ)) (fault : SourceFault) : Type 0 where
   pub taken : List Finding
   pub wants : (more : List Finding) → length taken < (meaning command (state_of s (taken ++ more))).wanted
-  pub stops : StopsReading from left s old new taken fault
+  pub reads : old.place.phase ≡ Ended → ⊥
+  pub faulty : IsFaulty from left new.left (s.found ++ taken) fault
+  pub reported : Appends old.err new.err (reports taken)
   pub quiet : Appends out out' []
 
 -- memory or an output stopped it: fronts of its reply and of its reports were written
@@ -58,7 +167,7 @@ pub record IsBrokenOff (command : Command) (from : Place) (left : Option (List �
 
 -- what the carrying out of a command does that answers so, by how the run stands before it
 abbrev pub CarryingDoes : {A : Type 0} → Command → Place → Option (List ℕ) → Standing → Scene → Scene → Option (List ℕ) → Option (List ℕ) → Result A Outcome → Type 0
-CarryingDoes command from left s old new out out' (Ok done) = IsCarriedOut command from left s old new out out'
+CarryingDoes command from left s old new out out' (Ok done) = (led : IsLed command from left s old new) × Appends out out' led.reply
 CarryingDoes command from left s old new out out' (Err outcome) =
     ((fault : SourceFault) × (outcome ≡ source_outcome fault) × IsCutOff command from left s old new out out' fault)
     ⊎ ((fault : WriteFault) × (outcome ≡ write_outcome fault) × IsBrokenOff command from left s old new out out')

@@ -13,10 +13,6 @@ use Rattle.bgpdump_lines.specs.Lines.{space}
 abbrev pub pieces : ℕ → List ℕ → List (List ℕ)
 pieces mark text = slice_split (λ octet. octet == mark) text
 
--- the words of a line
-abbrev pub words : List ℕ → List (List ℕ)
-words line = pieces space line
-
 -- the decimal of a number of 32 bits, without leading zeros
 abbrev pub SpellsDecimal : ℕ → List ℕ → Type 0
 SpellsDecimal n word = (n < 2 ^ 32) × (word ≡ decimal n)
@@ -73,6 +69,6 @@ abbrev pub SpellsWords : Command → List (List ℕ) → Type 0
 SpellsWords command words =
     (more : List (List ℕ)) × SpellsArguments (spelling command).1 more × (words ≡ (spelling command).0 ∷ more)
 
--- the line spells the command
+-- the line spells the command: its words stand before, between and behind its spaces
 abbrev pub SpellsCommand : Command → List ℕ → Type 0
-SpellsCommand command line = SpellsWords command (words line)
+SpellsCommand command line = SpellsWords command (pieces space line)

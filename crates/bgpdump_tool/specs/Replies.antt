@@ -1,7 +1,5 @@
 -- The replies to commands.
-use Rattle.std.specs.Prelude.{ℕ, Bool, List, [], ◌∷◌, ◌++◌, length, nat_lt, if◌then◌else◌, Option, Some, None, decimal, codes}
-use Rattle.std.specs.List.{flat_map, filter}
-use Rattle.std.specs.Option.{option_map}
+use Rattle.std.specs.Prelude.{ℕ, Bool, List, [], ◌∷◌, ◌++◌, length, nat_lt, if◌then◌else◌, Option, Some, None, decimal, codes, flat_map, filter, option_map}
 use Rattle.std.specs.FinMap as finite
 use Rattle.ip_prefix.specs.Address.{Address}
 use Rattle.ip_prefix.specs.Network.{Network, contains}
@@ -14,18 +12,18 @@ use Rattle.rib_player.specs.Tables.{Routes}
 use Rattle.rib_player.specs.Store.{peer_routes, routed_peers}
 use Rattle.bgpdump_lines.specs.Lines.{line_feed, line_of, rib_line}
 
+-- words, a number behind each, and how the text ends
+abbrev pub numbers_text : List (List ℕ × ℕ) → List ℕ → List ℕ
+numbers_text [] ending = ending
+numbers_text ((word, number) ∷ numbers) ending = word ++ (decimal number ++ numbers_text numbers ending)
+
+-- a line of them
+abbrev pub counts_line : List (List ℕ × ℕ) → List ℕ
+counts_line numbers = numbers_text numbers (line_feed ∷ [])
+
 -- `at`, the position, and whether the end was met
 abbrev pub at_text : ℕ → Bool → List ℕ
-at_text position ended = codes "at " ++ (decimal position ++ ((if ended then codes " end" else []) ++ line_feed ∷ []))
-
--- `at`, the position, a word and a number
-abbrev pub counted_text : ℕ → List ℕ → ℕ → List ℕ
-counted_text position word number = codes "at " ++ (decimal position ++ (word ++ (decimal number ++ line_feed ∷ [])))
-
--- `at`, the position, `floor`, the floor, `forgot`, and how many steps were forgotten
-abbrev pub forgot_text : ℕ → ℕ → ℕ → List ℕ
-forgot_text position floor number =
-    codes "at " ++ (decimal position ++ (codes " floor " ++ (decimal floor ++ (codes " forgot " ++ (decimal number ++ line_feed ∷ [])))))
+at_text position ended = numbers_text ((codes "at ", position) ∷ []) ((if ended then codes " end" else []) ++ line_feed ∷ [])
 
 abbrev pub none_text : List ℕ
 none_text = codes "none" ++ line_feed ∷ []
@@ -53,17 +51,10 @@ longest (entry ∷ entries) = longer entry (longest entries)
 abbrev pub best : Routes → Peer → Address → Option (Network × Route)
 best routes peer address = longest (filter (λ entry. contains entry.0 address) (finite.entries (peer_routes routes peer)))
 
-abbrev pub best_text : Routes → Peer → Address → List ℕ
-best_text routes peer address = found_text peer (best routes peer address)
-
--- how many routes there are
-abbrev pub routes_line : ℕ → List ℕ
-routes_line number = codes "routes " ++ (decimal number ++ line_feed ∷ [])
-
 -- all routes of the peer in order, and how many they are
 abbrev pub table_text : Routes → Peer → List ℕ
 table_text routes peer =
-    flat_map (rib_line peer) (finite.entries (peer_routes routes peer)) ++ routes_line (counted (finite.len (peer_routes routes peer)))
+    flat_map (rib_line peer) (finite.entries (peer_routes routes peer)) ++ counts_line ((codes "routes ", counted (finite.len (peer_routes routes peer))) ∷ [])
 
 -- a peer, and a number of routes
 abbrev pub peer_line_of : Peer → ℕ → List ℕ

@@ -1,22 +1,15 @@
 //! The commands of a script, carried out.
 
-mod back;
-mod goto;
-mod lookup;
-mod lose;
-mod next;
-mod peers;
-mod route;
-mod table;
+mod moves;
+mod questions;
 
 ghost use Rattle.std.specs.Prelude.{◌≡◌, ◌+◌, ◌||◌, ℕ};
-ghost use Rattle.bgpdump_tool.specs.declared.script.TheConstants.{LONGEST_SCRIPT};
+ghost use Rattle.bgpdump_tool.specs.declared.play.TheConstants.{LONGEST_SCRIPT};
 ghost use Rattle.bgpdump_lines.specs.Ending.{is_read_fault, is_write_fault};
-ghost use Rattle.bgpdump_tool.specs.Standing.{HasRoom, OverScenes};
-ghost use Rattle.bgpdump_tool.specs.Carrying.{CarriesOut};
+ghost use Rattle.bgpdump_tool.specs.Carrying.{HasRoom, OverScenes, CarriesOut};
 
 use crate::command::Command;
-use crate::replies::{replied, write_counted, write_forgotten};
+use crate::replies::{replied, write_numbers};
 use crate::session::Session;
 use bgpdump_lines::{Outcome, Output};
 use mrt_wire::{Input, Route};
@@ -44,28 +37,39 @@ pub(crate) fn carry_out<S: PrefixStore<Rc<Route>>, I: Input, O: Output, E: Outpu
     let text = &mut session.text;
     let table = session.player.table();
     match command {
-        Command::Next(count) => next::next(session, input, out, err, count),
+        Command::Next(count) => moves::next(session, input, out, err, count),
         Command::Back(count) => {
-            replied(back::back(&mut session.player, u64::from(count), out, text))
+            replied(moves::back(&mut session.player, u64::from(count), out, text))
         }
-        Command::Goto(position) => goto::goto(session, input, out, err, position),
+        Command::Goto(position) => moves::goto(session, input, out, err, position),
         Command::Position => {
             let player = &session.player;
-            replied(write_counted(player.at(), b" ahead ", player.ahead(), out, text))
+            let numbers: [(&[u8], u64); 2] = [(b"at ", player.at()), (b" ahead ", player.ahead())];
+            replied(write_numbers(&numbers, b"\n", out, text))
         }
-        Command::Peers => replied(peers::peers(table, out, text)),
-        Command::Table(peer) => replied(table::table(table, session.alloc, &peer, out, text)),
-        Command::Route(peer, prefix) => replied(route::route(table, &peer, &prefix, out, text)),
-        Command::Lookup(peer, addr) => replied(lookup::lookup(table, &peer, &addr, out, text)),
+        Command::Peers => replied(questions::peers(table, out, text)),
+        Command::Table(peer) => replied(questions::table(table, session.alloc, &peer, out, text)),
+        Command::Route(peer, prefix) => {
+            replied(questions::route(table, &peer, &prefix, out, text))
+        }
+        Command::Lookup(peer, addr) => {
+            replied(questions::lookup(table, &peer, &addr, out, text))
+        }
         Command::Lose(peer) => {
             let player = &mut session.player;
-            let dropped = lose::play_loss(player, session.alloc, peer)?;
-            replied(write_counted(player.at(), b" dropped ", dropped, out, text))
+            let dropped = moves::play_loss(player, session.alloc, peer)?;
+            let numbers: [(&[u8], u64); 2] = [(b"at ", player.at()), (b" dropped ", dropped)];
+            replied(write_numbers(&numbers, b"\n", out, text))
         }
         Command::Forget(keep) => {
             let player = &mut session.player;
             let forgotten = player.forget(u64::from(keep));
-            replied(write_forgotten(player.at(), player.floor(), forgotten, out, text))
+            let numbers: [(&[u8], u64); 3] = [
+                (b"at ", player.at()),
+                (b" floor ", player.floor()),
+                (b" forgot ", forgotten),
+            ];
+            replied(write_numbers(&numbers, b"\n", out, text))
         }
     }
 }

@@ -4,8 +4,8 @@ ghost use Rattle.std.specs.Prelude.{◌∷◌, []};
 ghost use Rattle.bgp_wire.specs.Readers.{Finds};
 ghost use Rattle.bgpdump_tool.specs.Command.{SpellsCommand, SpellsWords, SpellsPeer, SpellsTimes};
 
-use crate::words::{is, read_number, split_word};
-use ip_prefix::{Addr, Prefix};
+use crate::words::{is, read_number, split_first};
+use ip_prefix::{Addr, Prefix, SPACE};
 use mrt_wire::Peer;
 
 /// A line of a script, read.
@@ -37,16 +37,16 @@ pub enum Command {
 pub fn read_command(line: &[u8]) -> Option<Command>
     ensures { Finds SpellsCommand line.now result }
 {
-    let Some((name, rest)) = split_word(line) else {
+    let Some((name, rest)) = split_first(line, SPACE) else {
         return alone(line);
     };
-    let Some((first, rest)) = split_word(rest) else {
+    let Some((first, rest)) = split_first(rest, SPACE) else {
         return with_one(name, rest);
     };
-    let Some((second, rest)) = split_word(rest) else {
+    let Some((second, rest)) = split_first(rest, SPACE) else {
         return with_two(name, first, rest);
     };
-    match split_word(rest) {
+    match split_first(rest, SPACE) {
         None => with_three(name, first, second, rest),
         Some(_) => None,
     }
@@ -74,17 +74,13 @@ fn with_one(name: &[u8], word: &[u8]) -> Option<Command>
     ensures { Finds SpellsWords (name.now ∷ word.now ∷ []) result }
 {
     if is(name, b"goto") {
-        let position = read_number(word)?;
-        Some(Command::Goto(position))
+        Some(Command::Goto(read_number(word)?))
     } else if is(name, b"next") {
-        let times = read_times(word)?;
-        Some(Command::Next(times))
+        Some(Command::Next(read_times(word)?))
     } else if is(name, b"back") {
-        let times = read_times(word)?;
-        Some(Command::Back(times))
+        Some(Command::Back(read_times(word)?))
     } else if is(name, b"forget") {
-        let keep = read_number(word)?;
-        Some(Command::Forget(keep))
+        Some(Command::Forget(read_number(word)?))
     } else {
         None
     }
@@ -121,11 +117,9 @@ fn with_three(name: &[u8], address: &[u8], number: &[u8], sought: &[u8]) -> Opti
 {
     let peer = read_peer(address, number)?;
     if is(name, b"route") {
-        let prefix = Prefix::parse(sought)?;
-        Some(Command::Route(peer, prefix))
+        Some(Command::Route(peer, Prefix::parse(sought)?))
     } else if is(name, b"lookup") {
-        let addr = Addr::parse(sought)?;
-        Some(Command::Lookup(peer, addr))
+        Some(Command::Lookup(peer, Addr::parse(sought)?))
     } else {
         None
     }
@@ -135,7 +129,8 @@ fn with_three(name: &[u8], address: &[u8], number: &[u8], sought: &[u8]) -> Opti
 fn read_peer(address: &[u8], number: &[u8]) -> Option<Peer>
     ensures { Finds (SpellsPeer address.now) number.now result }
 {
-    let addr = Addr::parse(address)?;
-    let asn = read_number(number)?;
-    Some(Peer { addr, asn })
+    Some(Peer {
+        addr: Addr::parse(address)?,
+        asn: read_number(number)?,
+    })
 }

@@ -1,9 +1,9 @@
 //! What the definitions name, and that no line spells two commands.
 
 ghost use Rattle.std.specs.Prelude.{◌≡◌, ℕ, ◌^◌, List, [], ◌∷◌};
-ghost use Rattle.bgpdump_tool.specs.declared.script.TheConstants.{LONGEST_SCRIPT};
+ghost use Rattle.bgpdump_tool.specs.declared.play.TheConstants.{LONGEST_SCRIPT};
 ghost use Rattle.mrt_events.specs.declared.event.TheConstants.{ESTABLISHED};
-ghost use Rattle.bgpdump_tool.specs.declared.carrying.lose.TheConstants.{IDLE};
+ghost use Rattle.bgpdump_tool.specs.declared.carrying.moves.TheConstants.{IDLE};
 ghost use Rattle.bgpdump_tool.specs.declared.command.Command.{Command};
 ghost use Rattle.bgpdump_tool.specs.Command.{SpellsCommand};
 ghost use Rattle.ip_prefix.specs.Address.{Address};

@@ -7,7 +7,6 @@ mod command;
 mod laws;
 mod play;
 mod replies;
-mod script;
 mod session;
 mod words;
 
@@ -17,5 +16,4 @@ pub use bgpdump_lines::{
 };
 pub use command::{Command, read_command};
 pub use laws::{best_match, one_command, one_script, run_numbers};
-pub use play::run_play;
-pub use script::LONGEST_SCRIPT;
+pub use play::{LONGEST_SCRIPT, run_play};

@@ -2,25 +2,28 @@
 
 ghost use Rattle.std.specs.Prelude.{◌≡◌, ◌↔◌, ◌<◌, ◌≤◌, ◌+◌, ◌||◌, ℕ, List, false, IsTrue, length};
 ghost use Rattle.std.specs.Io.KnownBytes.{Consumes};
-ghost use Rattle.mrt_wire.specs.Place.{start_place};
-ghost use Rattle.mrt_wire.specs.Next.{Took};
+ghost use Rattle.mrt_wire.specs.Results.{start_place, Took};
 ghost use Rattle.rib_player.specs.Calls.{fresh};
 ghost use Rattle.bgpdump_lines.specs.declared.dump.TheConstants.{LIMIT};
 ghost use Rattle.bgpdump_lines.specs.Ending.{is_read_fault, is_write_fault};
 ghost use Rattle.bgpdump_lines.specs.Run.{IsTaken, OverDevices};
-ghost use Rattle.bgpdump_tool.specs.Whole.{PlaysOverAll, BeganLines, WritesCut, TakesOnlyWanted};
-ghost use Rattle.bgpdump_tool.specs.Standing.{HasRoom, OverScenes};
+ghost use Rattle.bgpdump_tool.specs.Course.{PlaysOverAll, BeganLines, WritesCut, TakesOnlyWanted};
+ghost use Rattle.bgpdump_tool.specs.Carrying.{HasRoom, OverScenes};
 ghost use Rattle.bgpdump_tool.specs.Playing.{CarriesLine, PlaysLines};
 
 use crate::carrying::carry_out;
 use crate::command::read_command;
-use crate::script::{LONGEST_SCRIPT, split_line, write_line_report};
+use crate::replies::write_numbers;
 use crate::session::Session;
+use crate::words::split_first;
 use bgpdump_lines::{Outcome, Output, finish_outputs};
 use mrt_wire::{Input, Route, Stamp};
 use prefix_store::PrefixStore;
 use std::alloc::Global;
 use std::rc::Rc;
+
+/// How many octets a script has at most.
+pub const LONGEST_SCRIPT: usize = 1 << 20;
 
 /// Carries out a script over an input of MRT records (RFC 6396), with a new player over the store
 /// that the caller names. The replies go to `out`; the reports of faulty records that commands
@@ -118,7 +121,7 @@ fn play_lines<S: PrefixStore<Rc<Route>>, I: Input, O: Output, E: Output>(
 {
     let mut rest = script;
     let mut number: u64 = 1;
-    'lines: while let Some(found) = split_line(rest) {
+    'lines: while let Some(found) = split_first(rest, b'\n') {
         carry_line(session, input, found.0, number, out, err)?;
         number += 1;
         rest = found.1;
@@ -152,7 +155,8 @@ fn carry_line<S: PrefixStore<Rc<Route>>, I: Input, O: Output, E: Output>(
         Some(command) => carry_out(session, input, out, err, command),
         None => {
             session.reported = true;
-            write_line_report(err, &mut session.text, number)?;
+            let numbers: [(&[u8], u64); 1] = [(b"bgpdump: script line ", number)];
+            write_numbers(&numbers, b": bad command\n", err, &mut session.text)?;
             Ok(())
         }
     }

@@ -1,12 +1,33 @@
-//! The texts of replies.
+//! The texts of replies, and of reports of lines that are no commands.
 
-ghost use Rattle.std.specs.Prelude.{◌≡◌, ◌||◌};
+ghost use Rattle.std.specs.Prelude.{◌≡◌, ◌||◌, map};
 ghost use Rattle.bgpdump_lines.specs.Ending.{outcome_result};
 ghost use Rattle.bgpdump_lines.specs.Writing.{Puts, is_write};
-ghost use Rattle.bgpdump_tool.specs.Replies.{at_text, counted_text, forgot_text, none_text};
+ghost use Rattle.bgpdump_tool.specs.Replies.{at_text, none_text, numbers_text};
 
 use bgpdump_lines::{Outcome, Output, WriteFault, put_all};
 use ip_prefix::Text;
+
+/// Writes words, each with a number behind it, and then an ending. The text is scratch.
+pub(crate) fn write_numbers<O: Output>(
+    numbers: &[(&[u8], u64)],
+    ending: &[u8],
+    out: &mut O,
+    text: &mut Text,
+) -> Result<(), WriteFault>
+    ensures text { Puts (O.written out.old) (O.written out.new)
+        (numbers_text (map (λ part. (part.0.now, part.1)) numbers.now) ending.now) result }
+    ensures failed { O.failed out.new ≡ (O.failed out.old || is_write result) }
+{
+    text.clear();
+    'numbers: for (word, number) in numbers {
+        text.extend_from_slice(word)?;
+        text.put_long_decimal(*number)?;
+    }
+    text.extend_from_slice(ending)?;
+    put_all(out, text.as_slice())?;
+    Ok(())
+}
 
 /// Writes where the player stands, and whether the end was met. The text is scratch.
 pub(crate) fn write_position<O: Output>(
@@ -18,62 +39,10 @@ pub(crate) fn write_position<O: Output>(
     ensures text { Puts (O.written out.old) (O.written out.new) (at_text position ended) result }
     ensures failed { O.failed out.new ≡ (O.failed out.old || is_write result) }
 {
-    text.clear();
-    text.extend_from_slice(b"at ")?;
-    text.put_long_decimal(position)?;
     if ended {
-        text.extend_from_slice(b" end")?;
+        return write_numbers(&[(b"at ", position)], b" end\n", out, text);
     }
-    text.push(b'\n')?;
-    put_all(out, text.as_slice())?;
-    Ok(())
-}
-
-/// Writes where the player stands, a word, and a number. The text is scratch.
-pub(crate) fn write_counted<O: Output>(
-    position: u64,
-    word: &[u8],
-    number: u64,
-    out: &mut O,
-    text: &mut Text,
-) -> Result<(), WriteFault>
-    ensures text { Puts (O.written out.old) (O.written out.new)
-        (counted_text position word.now number) result }
-    ensures failed { O.failed out.new ≡ (O.failed out.old || is_write result) }
-{
-    text.clear();
-    text.extend_from_slice(b"at ")?;
-    text.put_long_decimal(position)?;
-    text.extend_from_slice(word)?;
-    text.put_long_decimal(number)?;
-    text.push(b'\n')?;
-    put_all(out, text.as_slice())?;
-    Ok(())
-}
-
-/// Writes where the player stands, how far it can go back, and how many steps were forgotten. The
-/// text is scratch.
-pub(crate) fn write_forgotten<O: Output>(
-    position: u64,
-    floor: u64,
-    number: u64,
-    out: &mut O,
-    text: &mut Text,
-) -> Result<(), WriteFault>
-    ensures text { Puts (O.written out.old) (O.written out.new) (forgot_text position floor number)
-        result }
-    ensures failed { O.failed out.new ≡ (O.failed out.old || is_write result) }
-{
-    text.clear();
-    text.extend_from_slice(b"at ")?;
-    text.put_long_decimal(position)?;
-    text.extend_from_slice(b" floor ")?;
-    text.put_long_decimal(floor)?;
-    text.extend_from_slice(b" forgot ")?;
-    text.put_long_decimal(number)?;
-    text.push(b'\n')?;
-    put_all(out, text.as_slice())?;
-    Ok(())
+    write_numbers(&[(b"at ", position)], b"\n", out, text)
 }
 
 /// Writes that there is nothing.

@@ -4,12 +4,11 @@ ghost use Rattle.std.specs.Prelude.{◌≡◌, ◌<◌, ◌+◌, ◌||◌, ℕ, 
 ghost use Rattle.std.specs.Io.KnownBytes.{Keeps};
 ghost use Rattle.rib_player.specs.Timeline.{ahead_of};
 ghost use Rattle.rib_player.specs.Calls.{fresh};
-ghost use Rattle.mrt_wire.specs.Place.{start_place};
+ghost use Rattle.mrt_wire.specs.Results.{start_place};
 ghost use Rattle.bgpdump_lines.specs.declared.dump.TheConstants.{LIMIT};
 ghost use Rattle.bgpdump_lines.specs.Ending.{is_read_fault, is_write_fault};
-ghost use Rattle.bgpdump_tool.specs.declared.script.TheConstants.{LONGEST_SCRIPT};
-ghost use Rattle.bgpdump_tool.specs.Standing.{HasRoom, scene_of};
-ghost use Rattle.bgpdump_tool.specs.Moves.{Moves, StepDoes};
+ghost use Rattle.bgpdump_tool.specs.declared.play.TheConstants.{LONGEST_SCRIPT};
+ghost use Rattle.bgpdump_tool.specs.Carrying.{HasRoom, scene_of, Steps};
 
 use bgpdump_lines::{LIMIT, OutFault, Outcome, Output, pass_on_before_waiting, write_report};
 use ip_prefix::Text;
@@ -86,7 +85,7 @@ impl<S: PrefixStore<Rc<Route>>> Session<S> {
         err: &mut E,
     ) -> Result<bool, Outcome>
         requires room { HasRoom self.old.player self.old.source LONGEST_SCRIPT }
-        ensures moves { Moves StepDoes
+        ensures steps { Steps
             (scene_of I.left E.written self.old input.old err.old)
             (scene_of I.left E.written self.new input.new err.new) result }
         ensures room { (lost : ℕ) → HasRoom self.old.player self.old.source lost →

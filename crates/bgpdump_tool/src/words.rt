@@ -2,9 +2,7 @@
 
 ghost use Rattle.std.specs.Prelude.{◌≡◌, ◌≢◌, [], ◌∷◌, ◌<◌, length, IsTrue, IsFalse, IfSome, MatchOption};
 ghost use Rattle.bgp_wire.specs.Readers.{Finds};
-ghost use Rattle.bgpdump_tool.specs.Command.{pieces, words, SpellsDecimal};
-
-use ip_prefix::SPACE;
+ghost use Rattle.bgpdump_tool.specs.Command.{pieces, SpellsDecimal};
 
 /// The least digit that others may follow: neither a sign nor a zero stands in front.
 const LEAST_IN_FRONT: u8 = b'1';
@@ -17,15 +15,6 @@ pub(crate) fn split_first(text: &[u8], mark: u8) -> Option<(&[u8], &[u8])>
 {
     let at = text.iter().position(|octet| *octet == mark)?;
     Some((&text[..at], &text[at + 1..]))
-}
-
-/// The first word of the line and what stands behind the space that ends it; none where the line
-/// is one word.
-pub(crate) fn split_word(line: &[u8]) -> Option<(&[u8], &[u8])>
-    ensures { MatchOption result (words line.now ≡ line.now ∷ [])
-        (λ found. words line.now ≡ found.0.now ∷ words found.1.now) }
-{
-    split_first(line, SPACE)
 }
 
 /// Whether the word is this name.

@@ -1,6 +1,6 @@
 use Rattle.std.proofs.Common.{◌≡◌, ◌⊎◌, ◌∙◌, [], subst, sym}
 use Rattle.std.specs.Io.KnownBytes.{Consumes}
-use Rattle.mrt_wire.specs.Next.{Took}
+use Rattle.mrt_wire.specs.Results.{Took}
 use Rattle.bgpdump_tool.specs.Reports.{dump_texts}
 use Rattle.bgpdump_tool.specs.Run.{EndedByInput, all_results}
 use Rattle.bgpdump_tool.specs.declared.Outcome.TheVariants.{ReadFault, WriteFault, Memory}

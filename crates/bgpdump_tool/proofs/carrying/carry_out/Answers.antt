@@ -2,7 +2,7 @@ use Rattle.std.proofs.Common.{◌≡◌, ◌+◌, rules, refl, sym, ap, ◌∙�
 use Rattle.std.proofs.lemmas.Result.{err_from_is_err_and}
 use Rattle.bgpdump_lines.specs.declared.fault.WriteFault.TheVariants.{Memory}
 use Rattle.bgpdump_tool.specs.declared.command.Command.TheVariants.{Back, Peers, Table, Route, Lookup, Forget}
-use Rattle.bgpdump_tool.specs.Replies.{peers_text, table_text, route_text, best_text}
+use Rattle.bgpdump_tool.specs.Replies.{peers_text, table_text, found_text, route_text, best}
 use Rattle.bgpdump_tool.proofs.WalkLaws.{PutsPart-put}
 use Rattle.bgpdump_tool.proofs.CarryLaws.{HasRoom-up, HasRoom-forget, Carrying-back, Carrying-position, Carrying-question, Carrying-lose, Carrying-forget, Carrying-refused}
 use Rattle.bgpdump_tool.proofs.carrying.carry_out.Goals as goal
@@ -19,7 +19,7 @@ returns-in-Back-clause-carries_out g c = λ from left s stands.
 
 pub returns-in-Position-clause-carries_out : goal.returns-in-Position-clause-carries_out
 returns-in-Position-clause-carries_out g c = λ from left s stands.
-    rw (c.in-Position.is, c.replied-in-Position.ensures) (Carrying-position from left s _ _ _ c.at.result c.ahead.result c.write_counted.result stands c.at.ensures.cursor c.ahead.ensures c.write_counted.ensures.text)
+    rw (c.in-Position.is, c.replied-in-Position.ensures) (Carrying-position from left s _ _ _ c.at.result c.ahead.result c.write_numbers.result stands c.at.ensures.cursor c.ahead.ensures c.write_numbers.ensures.text)
 
 pub returns-in-Peers-clause-carries_out : goal.returns-in-Peers-clause-carries_out
 returns-in-Peers-clause-carries_out g c = λ from left s stands.
@@ -40,7 +40,7 @@ pub returns-in-Lookup-clause-carries_out : goal.returns-in-Lookup-clause-carries
 returns-in-Lookup-clause-carries_out g c = λ from left s stands.
     let peer = c.in-Lookup.peer in
     let addr = c.in-Lookup.addr in
-    rw (c.in-Lookup.is, c.replied-in-Lookup.ensures) (Carrying-question (Lookup peer addr) from left s _ _ _ c.table-table.result.now.routes (λ routes. best_text routes peer addr) c.lookup.result stands (λ more. refl) c.table-table.ensures.routes (PutsPart-put _ _ _ c.lookup.result c.lookup.ensures.text))
+    rw (c.in-Lookup.is, c.replied-in-Lookup.ensures) (Carrying-question (Lookup peer addr) from left s _ _ _ c.table-table.result.now.routes (λ routes. found_text peer (best routes peer addr)) c.lookup.result stands (λ more. refl) c.table-table.ensures.routes (PutsPart-put _ _ _ c.lookup.result c.lookup.ensures.text))
 
 pub returns-in_err-dropped-in-Lose-clause-carries_out :
     goal.returns-in_err-dropped-in-Lose-clause-carries_out
@@ -52,13 +52,13 @@ returns-in_err-dropped-in-Lose-clause-carries_out g c = λ from left s stands.
 pub returns-in_ok-dropped-in-Lose-clause-carries_out :
     goal.returns-in_ok-dropped-in-Lose-clause-carries_out
 returns-in_ok-dropped-in-Lose-clause-carries_out g c = λ from left s stands.
-    rw (c.in-Lose.is, c.replied-in-Lose.ensures) (Carrying-lose c.in-Lose.peer from left s _ c.play_loss.new.player _ _ c.at-in-Lose.result c.in_ok-dropped-in-Lose.dropped c.write_counted-in-Lose.result stands c.in_ok-dropped-in-Lose.ensures.played.0
-    c.at-in-Lose.ensures.cursor c.in_ok-dropped-in-Lose.ensures.played.1 c.write_counted-in-Lose.ensures.text)
+    rw (c.in-Lose.is, c.replied-in-Lose.ensures) (Carrying-lose c.in-Lose.peer from left s _ c.play_loss.new.player _ _ c.at-in-Lose.result c.in_ok-dropped-in-Lose.dropped c.write_numbers-in-Lose.result stands c.in_ok-dropped-in-Lose.ensures.played.0
+    c.at-in-Lose.ensures.cursor c.in_ok-dropped-in-Lose.ensures.played.1 c.write_numbers-in-Lose.ensures.text)
 
 pub returns-in-Forget-clause-carries_out : goal.returns-in-Forget-clause-carries_out
 returns-in-Forget-clause-carries_out g c = λ from left s stands.
-    rw (c.in-Forget.is ∙ ap Forget (sym c.from-in-Forget.ensures), c.replied-in-Forget.ensures) (Carrying-forget c.from-in-Forget.result from left s _ c.forget-forgotten.new.self _ _ c.at-in-Forget.result c.floor.result c.forget-forgotten.result c.write_forgotten.result stands
-    c.forget-forgotten.ensures.after_forget c.at-in-Forget.ensures.cursor c.floor.ensures c.forget-forgotten.ensures.forgotten c.write_forgotten.ensures.text)
+    rw (c.in-Forget.is ∙ ap Forget (sym c.from-in-Forget.ensures), c.replied-in-Forget.ensures) (Carrying-forget c.from-in-Forget.result from left s _ c.forget-forgotten.new.self _ _ c.at-in-Forget.result c.floor.result c.forget-forgotten.result c.write_numbers-in-Forget.result stands
+    c.forget-forgotten.ensures.after_forget c.at-in-Forget.ensures.cursor c.floor.ensures c.forget-forgotten.ensures.forgotten c.write_numbers-in-Forget.ensures.text)
 
 pub returns-in-Forget-clause-room : goal.returns-in-Forget-clause-room
 returns-in-Forget-clause-room g c = λ lost room.

@@ -1,4 +1,4 @@
-use Rattle.bgpdump_tool.proofs.DecimalLaws.{zero_no_times}
+use Rattle.bgpdump_tool.proofs.WordLaws.{zero_no_times}
 use Rattle.bgpdump_tool.proofs.command.read_times.Goals as goal
 
 pub returns-then-number-eq0 : goal.returns-then-number-eq0

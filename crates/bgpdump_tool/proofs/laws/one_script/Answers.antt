@@ -1,5 +1,5 @@
 use Rattle.bgpdump_tool.specs.Script.{script_lines}
-use Rattle.bgpdump_tool.proofs.ScriptLaws.{one_reading, lines_read}
+use Rattle.bgpdump_tool.proofs.CommandLaws.{one_reading, lines_read}
 use Rattle.bgpdump_tool.proofs.laws.one_script.Goals as goal
 
 pub returns : goal.returns

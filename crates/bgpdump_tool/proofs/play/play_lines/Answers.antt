@@ -1,6 +1,6 @@
 use Rattle.std.proofs.Common.{rules, arith, refl}
 use Rattle.std.proofs.lemmas.Result.{err_from_is_err_and}
-use Rattle.bgpdump_tool.specs.declared.script.TheConstants.{LONGEST_SCRIPT}
+use Rattle.bgpdump_tool.specs.declared.play.TheConstants.{LONGEST_SCRIPT}
 use Rattle.bgpdump_tool.specs.Script.{script_lines}
 use Rattle.bgpdump_tool.proofs.CarryLaws.{HasRoom-up}
 use Rattle.bgpdump_tool.proofs.PlayLaws.{LinesDone-start, LinesDone-line, PlaysScript-stopped, PlaysScript-last}
@@ -21,11 +21,11 @@ carry_line-requires g c = record {
 pub returns-in_err-carry_line-clause-plays : goal.returns-in_err-carry_line-clause-plays
 returns-in_err-carry_line-clause-plays g c =
     let p = err_from_is_err_and c.from_residual.result c.from_residual.ensures.1 in
-    rw (p.1, p.2) (PlaysScript-stopped _ _ c.args.script.now c.lines.rest.now c.in-Some.found.0.now (script_lines c.in-Some.found.1.now) c.lines.number _ _ _ _ _ c.in_err-carry_line.field-0.0 refl refl c.lines.invariant.lines c.in-Some.ensures.lines c.in_err-carry_line.ensures.carries_line)
+    rw (p.1, p.2) (PlaysScript-stopped _ _ c.args.script.now c.lines.rest.now c.in-Some.found.0.now (script_lines c.in-Some.found.1.now) c.lines.number _ _ _ _ _ c.in_err-carry_line.field-0.0 c.lines.invariant.lines c.in-Some.ensures.pieces c.in_err-carry_line.ensures.carries_line)
 
 pub lines-preserved : goal.lines-preserved
 lines-preserved g c = record {
-  lines = LinesDone-line _ _ c.args.script.now c.lines.rest.now c.in-Some.found.0.now c.in-Some.found.1.now c.lines.number _ _ _ _ _ refl refl c.lines.invariant.lines c.in-Some.ensures.lines c.in-Some.ensures.shorter c.in_ok-carry_line.ensures.carries_line c.carry_line.ensures.room;
+  lines = LinesDone-line _ _ c.args.script.now c.lines.rest.now c.in-Some.found.0.now c.in-Some.found.1.now c.lines.number _ _ _ _ _ c.lines.invariant.lines c.in-Some.ensures.pieces c.in-Some.ensures.shorter c.in_ok-carry_line.ensures.carries_line c.carry_line.ensures.room;
   read = search rules;
   wrote = search rules;
 }
@@ -37,4 +37,4 @@ carry_line-requires-2 g c = record {
 
 pub returns-clause-plays : goal.returns-clause-plays
 returns-clause-plays g c =
-    PlaysScript-last _ _ c.args.script.now c.lines.rest.now c.lines.number _ _ _ _ _ c.carry_line-2.result refl refl c.lines.invariant.lines c.in_default.ensures.lines c.carry_line-2.ensures.carries_line
+    PlaysScript-last _ _ c.args.script.now c.lines.rest.now c.lines.number _ _ _ _ _ c.carry_line-2.result c.lines.invariant.lines c.in_default.ensures.pieces c.carry_line-2.ensures.carries_line

@@ -1,7 +1,7 @@
 -- The lines so far were carried out.
 use Rattle.std.proofs.Common.{◌≡◌, ◌||◌, length}
 use Rattle.bgpdump_lines.specs.Run.{outputs_of}
-use Rattle.bgpdump_tool.specs.Standing.{scene_of}
+use Rattle.bgpdump_tool.specs.Carrying.{scene_of}
 use Rattle.bgpdump_tool.proofs.PlayLaws.{LinesDone}
 use Rattle.bgpdump_tool.proofs.play.play_lines.Given as goal
 

@@ -1,0 +1,139 @@
+//! The commands that move the player.
+
+ghost use Rattle.std.specs.Prelude.{◌≡◌, ◌-◌, ◌<◌, ◌||◌, ℕ, min, false, IfOk, OnErr, Ok, Err};
+ghost use Rattle.prefix_store.specs.declared.store.TheConstants.{GREATEST_COUNT};
+ghost use Rattle.rib_player.specs.Timeline.{after_play, ahead_of, behind};
+ghost use Rattle.bgpdump_lines.specs.Ending.{is_read_fault, is_write_fault};
+ghost use Rattle.bgpdump_lines.specs.Writing.{Puts, is_write};
+ghost use Rattle.bgpdump_tool.specs.declared.command.Command.TheVariants.{Goto, Next};
+ghost use Rattle.bgpdump_tool.specs.declared.play.TheConstants.{LONGEST_SCRIPT};
+ghost use Rattle.bgpdump_tool.specs.Carrying.{HasRoom, OverScenes, at_cursor, CarriesOut};
+ghost use Rattle.bgpdump_tool.specs.Replies.{at_text};
+ghost use Rattle.bgpdump_tool.specs.Meaning.{loss};
+
+use crate::replies::{replied, write_position};
+use crate::session::Session;
+use bgpdump_lines::{Outcome, Output, WriteFault};
+use ip_prefix::Text;
+use mrt_wire::{ESTABLISHED, Event, Input, Item, Items, Peer, Route, Tag, Time};
+use prefix_store::PrefixStore;
+use rib_player::Player;
+use std::alloc::Global;
+use std::rc::Rc;
+
+/// The state of a session that is idle (RFC 6396, section 4.4.1).
+const IDLE: u16 = 1;
+
+/// Carries out `next`. What is found faulty is reported, and counts as a step here.
+pub(crate) fn next<S: PrefixStore<Rc<Route>>, I: Input, O: Output, E: Output>(
+    session: &mut Session<S>,
+    input: &mut I,
+    out: &mut O,
+    err: &mut E,
+    count: u32,
+) -> Result<(), Outcome>
+    requires room { HasRoom session.old.player session.old.source LONGEST_SCRIPT }
+    ensures carries_out { OverScenes I.left O.written E.written (CarriesOut (Next count))
+        (session.old, input.old, out.old, err.old)
+        (session.new, input.new, out.new, err.new) result }
+    ensures room { (lost : ℕ) → HasRoom session.old.player session.old.source lost →
+        HasRoom session.new.player session.new.source lost }
+    ensures read { I.failed input.new ≡ (I.failed input.old || is_read_fault result) }
+    ensures wrote { (O.failed out.new || E.failed err.new)
+        ≡ (O.failed out.old || E.failed err.old || is_write_fault result) }
+{
+    'steps: for _ in 0..count {
+        let ended = session.step(input, out, err)?;
+        if ended {
+            return replied(write_position(session.player.at(), ended, out, &mut session.text));
+        }
+    }
+    replied(write_position(session.player.at(), false, out, &mut session.text))
+}
+
+/// Carries out `goto`. What is found faulty on the way is reported, and is no step.
+pub(crate) fn goto<S: PrefixStore<Rc<Route>>, I: Input, O: Output, E: Output>(
+    session: &mut Session<S>,
+    input: &mut I,
+    out: &mut O,
+    err: &mut E,
+    position: u32,
+) -> Result<(), Outcome>
+    requires room { HasRoom session.old.player session.old.source LONGEST_SCRIPT }
+    ensures carries_out { OverScenes I.left O.written E.written (CarriesOut (Goto position))
+        (session.old, input.old, out.old, err.old)
+        (session.new, input.new, out.new, err.new) result }
+    ensures room { (lost : ℕ) → HasRoom session.old.player session.old.source lost →
+        HasRoom session.new.player session.new.source lost }
+    ensures read { I.failed input.new ≡ (I.failed input.old || is_read_fault result) }
+    ensures wrote { (O.failed out.new || E.failed err.new)
+        ≡ (O.failed out.old || E.failed err.old || is_write_fault result) }
+{
+    let at = session.player.at();
+    if u64::from(position) < at {
+        let count = at - u64::from(position);
+        return replied(back(&mut session.player, count, out, &mut session.text));
+    }
+    'steps: while session.player.at() < u64::from(position) {
+        if session.step(input, out, err)? {
+            return replied(write_position(session.player.at(), true, out, &mut session.text));
+        }
+    }
+    replied(write_position(session.player.at(), false, out, &mut session.text))
+}
+
+/// So many steps back, or as many as there are.
+fn back_over<S: PrefixStore<Rc<Route>>>(player: &mut Player<S>, count: u64)
+    ensures { player.new ≡
+        at_cursor (player.old.cursor - min count (behind player.old)) player.old }
+{
+    'steps: for _ in 0..count {
+        if player.undo().is_err() {
+            return;
+        }
+    }
+}
+
+/// Goes back over so many steps, or as many as there are, and writes where the player stands then.
+/// The text is scratch.
+pub(crate) fn back<S: PrefixStore<Rc<Route>>, O: Output>(
+    player: &mut Player<S>,
+    count: u64,
+    out: &mut O,
+    text: &mut Text,
+) -> Result<(), WriteFault>
+    ensures player { player.new ≡
+        at_cursor (player.old.cursor - min count (behind player.old)) player.old }
+    ensures text { Puts (O.written out.old) (O.written out.new) (at_text player.new.cursor false)
+        result }
+    ensures failed { O.failed out.new ≡ (O.failed out.old || is_write result) }
+{
+    back_over(player, count);
+    write_position(player.at(), false, out, text)
+}
+
+/// Plays the loss of the session with the peer in place of the steps ahead, and answers how many
+/// that dropped.
+pub(crate) fn play_loss<S: PrefixStore<Rc<Route>>>(
+    player: &mut Player<S>,
+    alloc: Global,
+    peer: Peer,
+) -> Result<u64, WriteFault>
+    requires { player.old.cursor < GREATEST_COUNT }
+    ensures played { IfOk result (λ dropped. (player.new ≡ after_play player.old (loss peer))
+        × (dropped ≡ ahead_of player.old)) }
+    ensures refused { OnErr result ((player.new ≡ player.old) × (result ≡ Err WriteFault.Memory)) }
+{
+    let mut items = Vec::with_capacity(alloc, 1)?;
+    let lost = Item::State(peer, ESTABLISHED, IDLE);
+    items.push(lost).map_err(|_| WriteFault::Memory)?;
+    let event = Event {
+        time: Time {
+            seconds: 0,
+            micros: None,
+        },
+        tag: Tag::Bgp4mp,
+        items: Items::from_vec(items),
+    };
+    player.play(&event).map_err(|_| WriteFault::Memory)
+}

@@ -1,0 +1,149 @@
+//! The commands that ask the player's table.
+
+ghost use Rattle.std.specs.Prelude.{◌≡◌, ◌||◌};
+ghost use Rattle.bgpdump_lines.specs.Writing.{Puts, PutsPart, is_write};
+ghost use Rattle.bgpdump_tool.specs.Replies.{best, found_text, peer_line_of, peers_text, route_text};
+ghost use Rattle.bgpdump_tool.specs.Replies.{table_text};
+
+use crate::replies::{write_none, write_numbers};
+use bgpdump_lines::{
+    Output, WriteFault, put_all, put_number, put_peer, write_rib_line, write_rib_lines,
+};
+use ip_prefix::{Addr, Prefix, Text};
+use mrt_wire::{Peer, Route};
+use prefix_store::PrefixStore;
+use rib_player::Table;
+use std::alloc::Global;
+use std::rc::Rc;
+
+/// How many routes are asked for at once, where there is memory for them.
+const MANY: usize = 64;
+
+/// Writes the peers that have a route, each on a line, as they come. The text is scratch.
+pub(crate) fn peers<S: PrefixStore<Rc<Route>>, O: Output>(
+    table: &Table<S>,
+    out: &mut O,
+    text: &mut Text,
+) -> Result<(), WriteFault>
+    ensures text { PutsPart (O.written out.old) (O.written out.new) (peers_text table.now.routes)
+        result }
+    ensures failed { O.failed out.new ≡ (O.failed out.old || is_write result) }
+{
+    let mut last = None;
+    'peers: while let Some(found) = table.peer_after(last.as_ref()) {
+        write_peer(&found.0, found.1, out, text)?;
+        last = Some(found.0);
+    }
+    if last.is_none() {
+        write_none(out)?;
+    }
+    Ok(())
+}
+
+/// Writes a peer, and how many routes it has. The text is scratch.
+fn write_peer<O: Output>(
+    peer: &Peer,
+    routes: u64,
+    out: &mut O,
+    text: &mut Text,
+) -> Result<(), WriteFault>
+    ensures text { Puts (O.written out.old) (O.written out.new) (peer_line_of peer.now routes)
+        result }
+    ensures failed { O.failed out.new ≡ (O.failed out.old || is_write result) }
+{
+    text.clear();
+    text.extend_from_slice(b"PEER")?;
+    put_peer(peer, text)?;
+    put_number(routes, text)?;
+    text.push(b'\n')?;
+    put_all(out, text.as_slice())?;
+    Ok(())
+}
+
+/// Writes all routes of the peer, each on a line, as they come, and then how many they are: many at
+/// a time, where there is room for many. The text is scratch.
+pub(crate) fn table<S: PrefixStore<Rc<Route>>, O: Output>(
+    table: &Table<S>,
+    alloc: Global,
+    peer: &Peer,
+    out: &mut O,
+    text: &mut Text,
+) -> Result<(), WriteFault>
+    ensures text { PutsPart (O.written out.old) (O.written out.new)
+        (table_text table.now.routes peer.now) result }
+    ensures failed { O.failed out.new ≡ (O.failed out.old || is_write result) }
+{
+    let Ok(mut found) = Vec::with_capacity(alloc, MANY) else {
+        return one_by_one(table, peer, out, text);
+    };
+    let mut passed = None;
+    let mut count: u64 = 0;
+    'routes: loop {
+        table.next_routes(peer, passed.as_ref(), &mut found);
+        let Some(end) = found.last() else {
+            break;
+        };
+        passed = Some(end.0);
+        write_rib_lines(out, peer, &found, text)?;
+        count = count.saturating_add(found.len() as u64);
+    }
+    write_numbers(&[(b"routes ", count)], b"\n", out, text)
+}
+
+/// The same one by one, without room for more.
+fn one_by_one<S: PrefixStore<Rc<Route>>, O: Output>(
+    table: &Table<S>,
+    peer: &Peer,
+    out: &mut O,
+    text: &mut Text,
+) -> Result<(), WriteFault>
+    ensures text { PutsPart (O.written out.old) (O.written out.new)
+        (table_text table.now.routes peer.now) result }
+    ensures failed { O.failed out.new ≡ (O.failed out.old || is_write result) }
+{
+    let mut low = None;
+    let mut written: u64 = 0;
+    'routes: while let Some(found) = table.after(peer, low.as_ref()) {
+        write_rib_line(out, peer, &found.0, found.1, text)?;
+        written = written.saturating_add(1);
+        low = Some(found.0);
+    }
+    write_numbers(&[(b"routes ", written)], b"\n", out, text)
+}
+
+/// Writes the route that the peer has to the prefix. The text is scratch.
+pub(crate) fn route<S: PrefixStore<Rc<Route>>, O: Output>(
+    table: &Table<S>,
+    peer: &Peer,
+    prefix: &Prefix,
+    out: &mut O,
+    text: &mut Text,
+) -> Result<(), WriteFault>
+    ensures text { Puts (O.written out.old) (O.written out.new)
+        (route_text table.now.routes peer.now prefix.now) result }
+    ensures failed { O.failed out.new ≡ (O.failed out.old || is_write result) }
+{
+    match table.get(peer, prefix) {
+        Some(route) => write_rib_line(out, peer, prefix, route, text),
+        None => write_none(out),
+    }
+}
+
+/// Writes the route to the longest prefix that the peer has a route to and that contains the
+/// address. The text is scratch.
+pub(crate) fn lookup<S: PrefixStore<Rc<Route>>, O: Output>(
+    table: &Table<S>,
+    peer: &Peer,
+    addr: &Addr,
+    out: &mut O,
+    text: &mut Text,
+) -> Result<(), WriteFault>
+    ensures text { Puts (O.written out.old) (O.written out.new)
+        (found_text peer.now (best table.now.routes peer.now addr.now)) result }
+    ensures failed { O.failed out.new ≡ (O.failed out.old || is_write result) }
+{
+    match table.longest(peer, addr) {
+        Some(found) => write_rib_line(out, peer, &found.0, found.1, text),
+        None => write_none(out),
+    }
+}
