@@ -94,6 +94,22 @@ fn let_go(routes: &mut Vec<Rc<Route>>, alloc: Global, place: usize) -> Result<()
     Ok(())
 }
 
+/// Makes the attributes the others, which get the memory of these. It is done part by part, since
+/// only paths and communities have memory: to exchange the whole takes a hundred instructions more.
+#[inline(always)]
+fn exchange_attrs(attrs: &mut Attrs, others: &mut Attrs)
+    ensures { attrs.new ≡ others.old }
+{
+    mem::swap(&mut attrs.path, &mut others.path);
+    mem::swap(&mut attrs.communities, &mut others.communities);
+    attrs.next_hop = others.next_hop;
+    attrs.aggregator = others.aggregator;
+    attrs.med = others.med;
+    attrs.local_pref = others.local_pref;
+    attrs.origin = others.origin;
+    attrs.atomic = others.atomic;
+}
+
 impl RoutePool {
     /// No routes. They take no memory.
     pub(crate) fn none(alloc: Global) -> RoutePool {
@@ -242,7 +258,7 @@ impl RoutePool {
         if is_kept {
             replace_attrs(alloc, &mut route.attrs, attrs)?;
         } else {
-            mem::swap(&mut route.attrs, attrs);
+            exchange_attrs(&mut route.attrs, attrs);
         }
         self.routes[place].clone()
     }
