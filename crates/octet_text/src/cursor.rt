@@ -104,8 +104,8 @@ pub fn write_short(number: u32, text: &mut [u8], at: usize) -> usize
     ensures written { IsWritten text.old at (decimal number) text.new result }
     ensures short { result ≤ at + 3 }
 {
-    let row = short_row(number);
-    put_octets(&row, text, at);
+    let row = &SHORTS[number as usize];
+    put_octets(row, text, at);
     at + usize::from(row[3]) - ZERO
 }
 
@@ -115,26 +115,8 @@ fn write_three(number: u32, text: &mut [u8], at: usize) -> usize
     requires { (number < THOUSAND) × (at + ROW ≤ length text.old) }
     ensures { IsWritten text.old at (three_digits number) text.new result }
 {
-    put_octets(&three_row(number), text, at);
+    put_octets(&THREES[number as usize], text, at);
     at + 3
-}
-
-// The decimal of a number below a thousand, filled with spaces, and how many digits it has.
-#[inline(always)]
-fn short_row(number: u32) -> [u8; ROW]
-    requires { number < THOUSAND }
-    ensures { result ≡ filled (decimal number) }
-{
-    SHORTS[number as usize]
-}
-
-// A number below a thousand in three digits, and a space.
-#[inline(always)]
-fn three_row(number: u32) -> [u8; ROW]
-    requires { number < THOUSAND }
-    ensures { result ≡ three_digits number ++ SPACE ∷ [] }
-{
-    THREES[number as usize]
 }
 
 /// Writes a number below 256 in two hexadecimal digits, and answers the place behind them.
