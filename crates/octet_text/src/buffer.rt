@@ -3,10 +3,8 @@
 ghost use Rattle.std.specs.Prelude.{◌≡◌, ◌+◌, ◌-◌, ◌≤◌, ◌++◌, ◌∷◌, [], OnOk, OnErr, length, map, take, drop, slice_range, decimal};
 ghost use Rattle.octet_text.specs.Written.{ended_words};
 
-use crate::cursor::{
-    DECIMAL_ROOM, ENDED_ROOM, put_octets, write_decimal, write_ended_decimal, write_ended_decimals,
-};
-use crate::in_place::{InPlace, WORD_ROOM, Word, write_ended_words};
+use crate::cursor::{DECIMAL_ROOM, ENDED_ROOM, put_octets, write_decimal, write_ended_decimal};
+use crate::in_place::{InPlace, WORD_ROOM, Word};
 use itoa::Buffer;
 use std::alloc::{AllocError, Global};
 use std::marker::Model;
@@ -172,7 +170,12 @@ impl Text {
     {
         let room = numbers.len().checked_mul(ENDED_ROOM).ok_or(AllocError)?;
         make_room(&mut self.buffer, self.len, room)?;
-        self.len = write_ended_decimals(numbers, end, self.buffer.as_mut_slice(), self.len);
+        let text = self.buffer.as_mut_slice();
+        let mut place = self.len;
+        for number in numbers {
+            place = write_ended_decimal(*number, end, text, place);
+        }
+        self.len = place;
         Ok(())
     }
 
@@ -185,7 +188,12 @@ impl Text {
     {
         let room = numbers.len().checked_mul(WORD_ROOM).ok_or(AllocError)?;
         make_room(&mut self.buffer, self.len, room)?;
-        self.len = write_ended_words::<W>(numbers, end, self.buffer.as_mut_slice(), self.len);
+        let text = self.buffer.as_mut_slice();
+        let mut place = self.len;
+        for number in numbers {
+            place = W::write_ended(*number, end, text, place);
+        }
+        self.len = place;
         Ok(())
     }
 

@@ -1,8 +1,8 @@
 //! Texts written forwards at a place of a slice. What stands behind a text, within the room that it
 //! asks for, may be anything then.
 
-ghost use Rattle.std.specs.Prelude.{◌≡◌, ◌+◌, ◌*◌, ◌<◌, ◌≤◌, ◌++◌, ◌∷◌, [], length, map, take, drop, decimal};
-ghost use Rattle.octet_text.specs.Written.{IsWritten, ended_words, three_digits, filled, two_hex_digits};
+ghost use Rattle.std.specs.Prelude.{◌≡◌, ◌+◌, ◌<◌, ◌≤◌, ◌++◌, ◌∷◌, [], length, take, drop, decimal};
+ghost use Rattle.octet_text.specs.Written.{IsWritten, three_digits, two_hex_digits};
 
 use crate::digits::{HEX_PAIRS, SHORTS, THREES};
 
@@ -56,18 +56,6 @@ pub fn write_ended_decimal(number: u32, end: u8, text: &mut [u8], at: usize) -> 
     let behind = write_decimal(number, text, at);
     text[behind] = end;
     behind + 1
-}
-
-/// Writes the numbers in decimal, an octet behind each, and answers the place behind them.
-pub(crate) fn write_ended_decimals(numbers: &[u32], end: u8, text: &mut [u8], at: usize) -> usize
-    requires { at + length numbers.now * ENDED_ROOM ≤ length text.old }
-    ensures { IsWritten text.old at (ended_words end (map decimal numbers.now)) text.new result }
-{
-    let mut place = at;
-    for number in numbers {
-        place = write_ended_decimal(*number, end, text, place);
-    }
-    place
 }
 
 // Writes a number of seven digits or more. It stands out of line, since few numbers have so many.

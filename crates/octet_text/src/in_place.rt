@@ -1,7 +1,7 @@
 //! What is written as a text, or as a word, forwards at a place of a slice.
 
-ghost use Rattle.std.specs.Prelude.{◌≡◌, ℕ, List, ◌+◌, ◌*◌, ◌≤◌, ◌++◌, ◌∷◌, [], length, map};
-ghost use Rattle.octet_text.specs.Written.{IsWritten, ended_words};
+ghost use Rattle.std.specs.Prelude.{◌≡◌, ℕ, List, ◌+◌, ◌≤◌, ◌++◌, ◌∷◌, [], length};
+ghost use Rattle.octet_text.specs.Written.{IsWritten};
 
 use crate::cursor::ENDED_ROOM;
 
@@ -35,22 +35,4 @@ pub trait Word {
         requires { at + WORD_ROOM ≤ length text.old }
         ensures written { IsWritten text.old at (word number ++ end ∷ []) text.new result }
         ensures short { result ≤ at + WORD_ROOM };
-}
-
-/// Writes the words of numbers, an octet behind each, and answers the place behind them.
-#[inline]
-pub(crate) fn write_ended_words<W: Word>(
-    numbers: &[u32],
-    end: u8,
-    text: &mut [u8],
-    at: usize,
-) -> usize
-    requires { at + length numbers.now * WORD_ROOM ≤ length text.old }
-    ensures { IsWritten text.old at (ended_words end (map W.word numbers.now)) text.new result }
-{
-    let mut place = at;
-    for number in numbers {
-        place = W::write_ended(*number, end, text, place);
-    }
-    place
 }

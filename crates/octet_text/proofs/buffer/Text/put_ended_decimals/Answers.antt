@@ -1,7 +1,7 @@
 -- What the prover finds, named so that it refuses a wrong body sooner.
 use Rattle.std.proofs.Common.{arith}
 use Rattle.std.proofs.lemmas.Grind.{common_steps}
-use Rattle.octet_text.proofs.cursor.write_ended_decimals.Goals as goal
+use Rattle.octet_text.proofs.buffer.Text.put_ended_decimals.Goals as goal
 
 pub returns : goal.returns
 returns c = grind (arith, common_steps)

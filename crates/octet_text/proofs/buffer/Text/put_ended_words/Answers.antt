@@ -1,7 +1,7 @@
 -- What the prover finds, named so that it refuses a wrong body sooner.
 use Rattle.std.proofs.Common.{arith}
 use Rattle.std.proofs.lemmas.Grind.{common_steps}
-use Rattle.octet_text.proofs.in_place.write_ended_words.Goals as goal
+use Rattle.octet_text.proofs.buffer.Text.put_ended_words.Goals as goal
 
 pub loop-number-preserved : goal.loop-number-preserved
 loop-number-preserved g c = grind (arith, common_steps)
