@@ -4,6 +4,7 @@
 
 mod fault;
 mod laws;
+mod list_of;
 mod merge;
 mod numbers;
 mod path;
@@ -14,6 +15,7 @@ mod text;
 
 pub use fault::WireFault;
 pub use laws::{merge_keeps_the_weight, one_merge, one_path, path_numbers, text_marks};
+pub use list_of::ListOf;
 pub use merge::merge_paths;
 pub use numbers::{AsWidth, fill_numbers};
 pub use path::{AsPath, Segments};

@@ -7,60 +7,21 @@ ghost use Rattle.bgp_paths.specs.Path.{SpellsSegment, SpellsPath};
 ghost use Rattle.bgp_paths.specs.Readers.{Refuses};
 
 use crate::fault::WireFault;
+use crate::list_of::ListOf;
 use crate::numbers::AsWidth;
 use crate::path_reader::{fill_segments, fit};
 use crate::segment::Segment;
 use std::alloc::{AllocError, Global};
-use std::marker::Model;
 
 /// The segments of a path.
-#[derive(Debug, Drop)]
-pub struct Segments {
-    segments: Vec<Segment>,
-}
+pub type Segments = ListOf<Segment>;
 
-impl Model for Segments {
-    ghost use Rattle.std.specs.Prelude.{List};
-    ghost use Rattle.bgp_paths.specs.declared.segment.Segment.{Segment};
-
-    ghost Value = { List Segment };
-
-    ghost view = { λ a. a.segments.items };
-}
-
-impl Clone for Segments {
+impl Clone for ListOf<Segment> {
     ghost is_clone = { λ segments copy. copy ≡ segments };
 
     fn clone(&self) -> Result<Segments, AllocError> {
-        let segments = self.segments.clone()?;
+        let segments = self.items.clone()?;
         Ok(Segments::from_vec(segments))
-    }
-}
-
-impl Segments {
-    /// These segments.
-    #[inline]
-    pub fn from_vec(segments: Vec<Segment>) -> Segments
-        ensures { result ≡ segments.items }
-    {
-        Segments { segments }
-    }
-
-    /// The segments as a vector.
-    #[inline]
-    pub fn into_vec(self) -> Vec<Segment>
-        ensures { result.items ≡ self }
-    {
-        let Segments { segments: kept } = self;
-        kept
-    }
-
-    /// The segments in order.
-    #[inline]
-    pub fn as_slice(&self) -> &[Segment]
-        ensures { result.now ≡ self.now }
-    {
-        self.segments.as_slice()
     }
 }
 
@@ -78,7 +39,7 @@ impl AsPath {
         ensures { result ≡ no_path }
     {
         AsPath {
-            segments: Segments::from_vec(Vec::new(alloc)),
+            segments: Segments::none(alloc),
         }
     }
 
@@ -87,7 +48,7 @@ impl AsPath {
     pub fn clear(&mut self)
         ensures { self.new ≡ no_path }
     {
-        let segments = &mut self.segments.segments;
+        let segments = &mut self.segments.items;
         segments.clear();
         fit(segments);
     }
@@ -99,7 +60,7 @@ impl AsPath {
         ensures filled { OnOk result (SpellsPath width self.new octets.now) }
         ensures refused { IfErr result (Refuses (SpellsPath width) octets.now) }
     {
-        let segments = &mut self.segments.segments;
+        let segments = &mut self.segments.items;
         match width {
             AsWidth::Two => fill_segments(alloc, segments, AsWidth::Two, octets),
             AsWidth::Four => fill_segments(alloc, segments, AsWidth::Four, octets),

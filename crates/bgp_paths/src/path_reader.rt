@@ -93,7 +93,7 @@ pub(crate) fn push_empty(alloc: Global, segments: &mut Vec<Segment>) -> Result<(
         segments.reserve_exact(1)?;
     }
     segments.push(Segment {
-        numbers: AsNumbers::from_vec(Vec::new(alloc)),
+        numbers: AsNumbers::none(alloc),
         kind: SegmentKind::AsSequence,
     })?;
     Ok(())
@@ -123,7 +123,7 @@ pub(crate) fn fill_segments(
         let segment = &mut segments[count];
         segment.kind = framed.kind;
         fill_numbers(
-            &mut segment.numbers.numbers,
+            &mut segment.numbers.items,
             width,
             framed.body,
             segment::MOST_SPARE,

@@ -33,8 +33,8 @@ pub fn copy_path(alloc: Global, old: AsPath, path: &AsPath) -> Result<AsPath, Al
             push_empty(alloc, &mut segments)?;
         }
         let copy = &mut segments[count];
-        let old = mem::replace(&mut copy.numbers.numbers, Vec::new(alloc));
-        copy.numbers.numbers = copy_numbers(old, segment.numbers.as_slice(), MOST_SPARE)?;
+        let old = mem::replace(&mut copy.numbers.items, Vec::new(alloc));
+        copy.numbers.items = copy_numbers(old, segment.numbers.as_slice(), MOST_SPARE)?;
         copy.kind = segment.kind;
         count += 1;
     }

@@ -1,9 +1,6 @@
 //! Segments of AS paths.
 
-ghost use Rattle.std.specs.Prelude.{◌≡◌};
-
-use std::alloc::AllocError;
-use std::marker::Model;
+use crate::list_of::ListOf;
 
 /// For how many numbers more than it has a segment has room at most.
 pub(crate) const MOST_SPARE: u8 = 8;
@@ -22,54 +19,7 @@ pub enum SegmentKind {
 }
 
 /// The AS numbers of a segment.
-#[derive(Debug, Drop)]
-pub struct AsNumbers {
-    pub(crate) numbers: Vec<u32>,
-}
-
-impl Model for AsNumbers {
-    ghost use Rattle.std.specs.Prelude.{ℕ, List};
-
-    ghost Value = { List ℕ };
-
-    ghost view = { λ a. a.numbers.items };
-}
-
-impl Clone for AsNumbers {
-    ghost is_clone = { λ numbers copy. copy ≡ numbers };
-
-    fn clone(&self) -> Result<AsNumbers, AllocError> {
-        let numbers = Vec::from_slice(*self.numbers.allocator(), self.as_slice())?;
-        Ok(AsNumbers::from_vec(numbers))
-    }
-}
-
-impl AsNumbers {
-    /// These numbers.
-    #[inline]
-    pub fn from_vec(numbers: Vec<u32>) -> AsNumbers
-        ensures { result ≡ numbers.items }
-    {
-        AsNumbers { numbers }
-    }
-
-    /// The numbers as a vector.
-    #[inline]
-    pub fn into_vec(self) -> Vec<u32>
-        ensures { result.items ≡ self }
-    {
-        let AsNumbers { numbers: kept } = self;
-        kept
-    }
-
-    /// The numbers in order.
-    #[inline]
-    pub fn as_slice(&self) -> &[u32]
-        ensures { result.now ≡ self.now }
-    {
-        self.numbers.as_slice()
-    }
-}
+pub type AsNumbers = ListOf<u32>;
 
 /// A segment of a path.
 #[derive(Clone, Debug, Drop)]
