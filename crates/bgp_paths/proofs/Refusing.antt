@@ -12,7 +12,7 @@ use Rattle.bgp_paths.specs.declared.segment.Segment.{Segment}
 use Rattle.bgp_paths.specs.Number.{octets_at, SpellsAsn}
 use Rattle.bgp_paths.specs.Path.{kind_code, SpellsSegment}
 use Rattle.bgp_paths.specs.Segments.{IsFramed}
-use Rattle.bgp_paths.specs.Readers.{Finds, Reads, Refuses, RefusesFront}
+use Rattle.bgp_paths.specs.Readers.{Finds, Refuses, RefusesFront}
 use Rattle.bgp_paths.proofs.OneFront.{segment_begun, length-numbers}
 
 -- what is found by a part is found by the whole, where the two spell the same values
@@ -37,12 +37,6 @@ refused_on Whole Part octets part fault (Err y) e has none = refused_part Whole 
 pub refused_always : {A C : Type 0} (Spells : A → C → Type 0) (octets : C) (fault : WireFault) → ((value : A) → Spells value octets → ⊥) → Refuses Spells octets fault
 refused_always Spells octets Malformed none = none
 refused_always Spells octets Memory none = tt
-
--- what is read of a part is read of the whole, where one is spelled exactly where the other is
-pub reads_whole : {A C D : Type 0} (Part : A → D → Type 0) (Whole : A → C → Type 0) (part : D) (octets : C) (answer : Result A WireFault)
-    → ((a : A) → Part a part → Whole a octets) → ((a : A) → Whole a octets → (b : A) × Part b part) → Reads Part part answer → Reads Whole octets answer
-reads_whole Part Whole part octets (Ok a) up down h = up a h
-reads_whole Part Whole part octets (Err fault) up down h = refused_part Whole Part octets part fault down h
 
 -- where no value stands in front of what is left of a list, no list is spelled
 pub refused_rest : {A : Type 0} (Spells : A → List ℕ → Type 0) → IsCode Spells → (values : List A) (rest octets : List ℕ) (fault : WireFault) → (rest ≡ [] → ⊥) → Begins (SpellsAll Spells) values rest octets

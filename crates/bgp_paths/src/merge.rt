@@ -3,7 +3,7 @@
 
 ghost use Rattle.std.specs.Prelude.{◌≡◌, ℕ, ◌≤◌, List, ◌++◌, IfOk, OnOk, sum_by};
 ghost use Rattle.bgp_paths.specs.Merge.{IsMerge, IsLongest, path_weight, segment_weight};
-ghost use Rattle.bgp_paths.specs.Merge.{Hop, hops_from, segments_of, plain_segments};
+ghost use Rattle.bgp_paths.specs.Merge.{Hop, hops_from, segments_of};
 ghost use Rattle.bgp_paths.specs.Segments.{piece};
 ghost use Rattle.bgp_paths.specs.declared.path.AsPath.{AsPath};
 
@@ -26,7 +26,12 @@ pub fn merge_paths(alloc: Global, first: &AsPath, second: &AsPath) -> Result<AsP
     let back = second.segments.as_slice();
     let mut segments = Vec::with_capacity(alloc, front.len().saturating_add(back.len()))?;
     push_front(alloc, front, total - replaced, &mut segments)?;
-    push_plain(back, &mut segments)?;
+    for segment in back {
+        match segment.kind {
+            SegmentKind::AsSequence | SegmentKind::AsSet => segments.push(segment.clone()?)?,
+            SegmentKind::ConfedSequence | SegmentKind::ConfedSet => {}
+        }
+    }
     fit(&mut segments);
     Ok(AsPath {
         segments: Segments::from_vec(segments),
@@ -100,18 +105,5 @@ fn push_segment(
     }
     let numbers = AsNumbers::from_vec(Vec::from_slice(alloc, numbers)?);
     path.push(Segment { numbers, kind })?;
-    Ok(())
-}
-
-/// Appends the segments but those of a confederation.
-fn push_plain(segments: &[Segment], path: &mut Vec<Segment>) -> Result<(), AllocError>
-    ensures { OnOk result (path.new.items ≡ path.old.items ++ plain_segments segments.now) }
-{
-    for segment in segments {
-        match segment.kind {
-            SegmentKind::AsSequence | SegmentKind::AsSet => path.push(segment.clone()?)?,
-            SegmentKind::ConfedSequence | SegmentKind::ConfedSet => {}
-        }
-    }
     Ok(())
 }

@@ -4,9 +4,9 @@ ghost use Rattle.std.specs.Prelude.{◌≡◌, ℕ, [], ◌∷◌, ◌++◌, OnO
 ghost use Rattle.ip_prefix.specs.Sequences.{SpellsAll};
 ghost use Rattle.ip_prefix.specs.Fronts.{BeginsWithNone};
 ghost use Rattle.bgp_paths.specs.Number.{SpellsAsn};
-ghost use Rattle.bgp_paths.specs.Path.{kind_code, SpellsSegment};
+ghost use Rattle.bgp_paths.specs.Path.{SpellsSegment};
 ghost use Rattle.bgp_paths.specs.Segments.{IsFramed};
-ghost use Rattle.bgp_paths.specs.Readers.{Finds, Refuses};
+ghost use Rattle.bgp_paths.specs.Readers.{Refuses};
 
 use crate::fault::WireFault;
 use crate::numbers::{AsWidth, fill_numbers};
@@ -25,43 +25,29 @@ const AS_CONFED_SET: u8 = 4;
 /// For how many segments more than it has a path has room at most.
 const MOST_SPARE: usize = 4;
 
-/// A segment in front of octets: its kind, the octets of its numbers, and what follows it.
-#[derive(Clone, Copy)]
-struct FramedSegment<'a> {
-    body: &'a [u8],
-    rest: &'a [u8],
-    kind: SegmentKind,
-}
-
-/// The kind of segment that a number stands for (RFC 4271, section 4.3; RFC 5065, section 3).
-fn segment_kind(code: u8) -> Option<SegmentKind>
-    ensures { Finds (λ kind code. code ≡ kind_code kind) code result }
-{
-    match code {
-        AS_SET => Some(SegmentKind::AsSet),
-        AS_SEQUENCE => Some(SegmentKind::AsSequence),
-        AS_CONFED_SEQUENCE => Some(SegmentKind::ConfedSequence),
-        AS_CONFED_SET => Some(SegmentKind::ConfedSet),
-        _ => None,
-    }
-}
-
-/// The segment in front of the octets.
+/// The segment in front of the octets: its kind (RFC 4271, section 4.3; RFC 5065, section 3), the
+/// octets of its numbers, and what follows it.
 #[inline(always)]
-fn frame_segment(width: AsWidth, octets: &[u8]) -> Option<FramedSegment<'_>>
+fn frame_segment(width: AsWidth, octets: &[u8]) -> Option<(SegmentKind, &[u8], &[u8])>
     ensures some { IfSome result (λ f. (count : ℕ)
-        × IsFramed width f.kind count f.body.now f.rest.now octets.now) }
+        × IsFramed width f.0 count f.1.now f.2.now octets.now) }
     ensures none { IfNone result (BeginsWithNone (SpellsSegment width) octets.now) }
 {
     let (&code, after_code) = octets.split_first()?;
     let (&count, numbers) = after_code.split_first()?;
-    let kind = segment_kind(code)?;
+    let kind = match code {
+        AS_SET => SegmentKind::AsSet,
+        AS_SEQUENCE => SegmentKind::AsSequence,
+        AS_CONFED_SEQUENCE => SegmentKind::ConfedSequence,
+        AS_CONFED_SET => SegmentKind::ConfedSet,
+        _ => return None,
+    };
     if count == 0 {
         return None;
     }
     let size = usize::from(count) * width.octets();
     let (body, rest) = numbers.split_at_checked(size)?;
-    Some(FramedSegment { body, rest, kind })
+    Some((kind, body, rest))
 }
 
 /// Lets go of room for more segments than there are, unless memory is refused for fewer. It stands out
@@ -114,22 +100,17 @@ pub(crate) fn fill_segments(
     let mut count = 0;
     let mut rest = octets;
     while !rest.is_empty() {
-        let Some(framed) = frame_segment(width, rest) else {
+        let Some((kind, body, more)) = frame_segment(width, rest) else {
             return Err(WireFault::Malformed);
         };
         if count == segments.len() {
             push_empty(alloc, segments)?;
         }
         let segment = &mut segments[count];
-        segment.kind = framed.kind;
-        fill_numbers(
-            &mut segment.numbers.items,
-            width,
-            framed.body,
-            segment::MOST_SPARE,
-        )?;
+        segment.kind = kind;
+        fill_numbers(&mut segment.numbers.items, width, body, segment::MOST_SPARE)?;
         count += 1;
-        rest = framed.rest;
+        rest = more;
     }
     segments.truncate(count);
     fit(segments);

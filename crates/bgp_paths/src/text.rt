@@ -2,7 +2,7 @@
 
 ghost use Rattle.std.specs.Prelude.{◌≡◌, ◌+◌, ◌<◌, ◌≤◌, [], ◌∷◌, ◌++◌, OnOk, OnErr, length, map, decimal, flat_map};
 ghost use Rattle.bgp_paths.specs.Text.{bracketed_numbers, segment_words, path_text};
-ghost use Rattle.bgp_paths.specs.Text.{halves_text, community_text, communities_text};
+ghost use Rattle.bgp_paths.specs.Text.{halves_text, communities_text};
 ghost use Rattle.ip_prefix.specs.Written.{IsWritten, ended_words};
 ghost use Rattle.octet_text.specs.declared.cursor.TheConstants.{SPACE};
 ghost use Rattle.bgp_paths.specs.Printed.{StillBegins, WordsJoined};
@@ -118,24 +118,15 @@ fn put_segments(segments: &[Segment], text: &mut Text) -> Result<(), AllocError>
     ensures kept { OnErr result (StillBegins text.old text.new) }
 {
     for segment in segments {
-        put_segment(segment, text)?;
+        let numbers = segment.numbers.as_slice();
+        match segment.kind {
+            SegmentKind::AsSequence => text.put_ended_decimals(numbers, SPACE)?,
+            SegmentKind::AsSet => put_bracketed(numbers, AS_SET_MARKS, text)?,
+            SegmentKind::ConfedSequence => put_bracketed(numbers, CONFED_SEQUENCE_MARKS, text)?,
+            SegmentKind::ConfedSet => put_bracketed(numbers, CONFED_SET_MARKS, text)?,
+        }
     }
     Ok(())
-}
-
-/// Appends the words of a segment, each with a space behind it.
-fn put_segment(segment: &Segment, text: &mut Text) -> Result<(), AllocError>
-    ensures appended { OnOk result
-        (text.new ≡ text.old ++ ended_words SPACE (segment_words segment.now)) }
-    ensures kept { OnErr result (StillBegins text.old text.new) }
-{
-    let numbers = segment.numbers.as_slice();
-    match segment.kind {
-        SegmentKind::AsSequence => text.put_ended_decimals(numbers, SPACE),
-        SegmentKind::AsSet => put_bracketed(numbers, AS_SET_MARKS, text),
-        SegmentKind::ConfedSequence => put_bracketed(numbers, CONFED_SEQUENCE_MARKS, text),
-        SegmentKind::ConfedSet => put_bracketed(numbers, CONFED_SET_MARKS, text),
-    }
 }
 
 /// Appends the numbers in brackets, and a space behind them.
@@ -162,10 +153,12 @@ impl Word for CommunityWord {
     #[inline]
     #[tactic(auto, unfolding(crate::specs::Text::community_text))]
     fn write_ended(community: u32, end: u8, text: &mut [u8], at: usize) -> usize {
-        if community < NO_EXPORT {
-            return write_halves(community, end, text, at);
+        match community {
+            NO_EXPORT => write_name(b"no-export", end, text, at),
+            NO_ADVERTISE => write_name(b"no-advertise", end, text, at),
+            NO_EXPORT_SUBCONFED => write_name(b"local-AS", end, text, at),
+            _ => write_halves(community, end, text, at),
         }
-        write_named(community, end, text, at)
     }
 }
 
@@ -179,21 +172,6 @@ fn write_halves(number: u32, end: u8, text: &mut [u8], at: usize) -> usize
 {
     let behind = write_ended_decimal(number / 0x1_0000, COLON, text, at);
     write_ended_decimal(number % 0x1_0000, end, text, behind)
-}
-
-/// Writes a community, which may be a well-known one, and an octet behind it.
-#[tactic(auto, unfolding(crate::specs::Text::community_text))]
-fn write_named(community: u32, end: u8, text: &mut [u8], at: usize) -> usize
-    requires { at + WORD_ROOM ≤ length text.old }
-    ensures written { IsWritten text.old at (community_text community ++ end ∷ []) text.new result }
-    ensures short { result ≤ at + WORD_ROOM }
-{
-    match community {
-        NO_EXPORT => write_name(b"no-export", end, text, at),
-        NO_ADVERTISE => write_name(b"no-advertise", end, text, at),
-        NO_EXPORT_SUBCONFED => write_name(b"local-AS", end, text, at),
-        _ => write_halves(community, end, text, at),
-    }
 }
 
 /// Writes a name, and an octet behind it.

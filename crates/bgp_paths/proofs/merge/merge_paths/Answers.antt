@@ -1,4 +1,5 @@
 use Rattle.std.proofs.Common.{◌≡◌, ◌-◌, ◌<◌, ◌≤◌, ◌++◌, ap, ap₂, sym, subst, ◌∙◌, arith}
+use Rattle.std.proofs.lemmas.List.{take_all}
 use Rattle.std.proofs.lemmas.Result.{MatchResult-weaker}
 use Rattle.bgp_paths.specs.Merge.{IsMerge, IsLongest, hops_from, path_weight, segments_of, plain_segments}
 use Rattle.bgp_paths.proofs.Merging.{first_alone, front_joined}
@@ -23,7 +24,8 @@ returns c =
     let longest = subst (λ segments. IsLongest (path_weight first - path_weight second) (hops_from 0 segments) hops) c.as_slice-front.ensures
     (subst (λ n. IsLongest n (hops_from 0 c.as_slice-front.result.now) hops) lacking pushed.1) in
     let made : c.from_vec.result ≡ segments_of hops ++ plain_segments second.segments =
-    c.from_vec.ensures ∙ c.fit.ensures ∙ c.in_ok-push_plain.ensures
+    c.from_vec.ensures ∙ c.fit.ensures ∙ c.loop-segment.invariant
+    ∙ ap (λ l. c.push_front.new.path.items ++ plain_segments l) (take_all c.loop-segment.segment-index c.as_slice-back.result.now (omega (arith, c.loop-segment-test.false)))
     ∙ ap (λ l. l ++ plain_segments c.as_slice-back.result.now) (pushed.2 ∙ ap (λ l. l ++ segments_of hops) c.in_ok-segments.ensures.items)
     ∙ ap (λ segments. segments_of hops ++ plain_segments segments) c.as_slice-back.ensures in
     subst (λ segments. IsMerge first second (record { segments = segments })) (sym made) (front_joined first second hops longer longest)

@@ -43,6 +43,7 @@ pub returns-clause-some : goal.returns-clause-some
 returns-clause-some c =
     let count = c.in_ok-count.field-0-0.now in
     let numbers = c.in_ok-count.numbers.now in
+    let code : c.in_ok-code.field-0-0.now ≡ kind_code c.match-code.kind = grind (arith, c.match-code.branch) in
     let cut = c.in_ok-body.ensures.cases in
     let parts : numbers ≡ c.in_ok-body.body.now ++ c.in_ok-body.rest.now = sym (ap₂ (λ front back. front ++ back) cut.1 cut.2 ∙ take-append-drop (c.from.result * c.octets.result) numbers) in
     let front : c.args.octets.now ≡ c.in_ok-code.field-0-0.now ∷ count ∷ c.in_ok-count.numbers.now
@@ -52,6 +53,6 @@ returns-clause-some c =
         some = omega (arith, c.if-count-eq0.false);
         fits = omega (arith, c.type_inv.octets 1, ap (λ l. get_or l 1 0) front);
         size = cut.3 ∙ (λ i. c.from.ensures i * c.octets.ensures i) ∙ mul_comm count (octets_at c.args.width);
-        whole = front ∙ (λ i. c.in_ok-kind.ensures i ∷ count ∷ parts i);
+        whole = front ∙ (λ i. code i ∷ count ∷ parts i);
       },
     )
