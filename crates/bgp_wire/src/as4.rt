@@ -1,11 +1,9 @@
 //! AS4_PATH and AS4_AGGREGATOR beside AS numbers of two octets (RFC 6793, section 4.2.3).
 
-ghost use Rattle.std.specs.Prelude.{◌≡◌, List, IfOk, OnOk};
+ghost use Rattle.std.specs.Prelude.{◌≡◌, List, OnOk};
 ghost use Rattle.bgp_paths.specs.declared.numbers.AsWidth.TheVariants.{Two};
-ghost use Rattle.bgp_wire.specs.As4.{ignores_as4, joined_aggregator, IsJoined};
 ghost use Rattle.bgp_wire.specs.Attribute.{Attribute};
 ghost use Rattle.bgp_wire.specs.Content.{firsts_of, Says};
-ghost use Rattle.bgp_wire.specs.PlainValues.{octets_of};
 ghost use Rattle.bgp_wire.specs.PlainValues.{SaysPlainly, AreLater};
 
 use crate::attribute_list::LaterValues;
@@ -13,7 +11,6 @@ use crate::attrs::{Aggregator, Attrs};
 use crate::values::read_as4_aggregator;
 use bgp_paths::{AsPath, AsWidth, WireFault, merge_paths};
 use std::alloc::{AllocError, Global};
-use std::mem;
 
 /// The AS number that stands for one that takes four octets (RFC 6793, section 9).
 const AS_TRANS: u32 = 23456;
@@ -57,31 +54,20 @@ fn join_as4(alloc: Global, attrs: &mut Attrs, later: &LaterValues) -> Result<(),
     if attrs.aggregator.is_some() && as4.is_some() && !ignored {
         attrs.aggregator = as4;
     }
-    let own = mem::replace(&mut attrs.path, AsPath::none(alloc));
-    attrs.path = join_path(alloc, own, ignored, later.as4_path)?;
-    Ok(())
-}
-
-/// AS_PATH joined with the value of AS4_PATH, if that isn't to be ignored. It is discarded where it
-/// isn't of its form.
-fn join_path(
-    alloc: Global,
-    own: AsPath,
-    ignored: bool,
-    as4: Option<&[u8]>,
-) -> Result<AsPath, AllocError>
-    ensures { IfOk result (IsJoined ignored own (octets_of as4.entry)) }
-{
     if ignored {
-        return Ok(own);
+        return Ok(());
     }
-    let Some(octets) = as4 else {
-        return Ok(own);
+    let Some(octets) = later.as4_path else {
+        return Ok(());
     };
-    let mut as4 = AsPath::none(alloc);
-    match as4.fill(alloc, AsWidth::Four, octets) {
-        Ok(()) => merge_paths(alloc, &own, &as4),
-        Err(WireFault::Malformed) => Ok(own),
+    // AS4_PATH is discarded where it isn't of its form.
+    let mut path = AsPath::none(alloc);
+    match path.fill(alloc, AsWidth::Four, octets) {
+        Ok(()) => {
+            attrs.path = merge_paths(alloc, &attrs.path, &path)?;
+            Ok(())
+        }
+        Err(WireFault::Malformed) => Ok(()),
         Err(WireFault::Memory) => Err(AllocError),
     }
 }

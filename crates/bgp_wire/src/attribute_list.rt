@@ -9,14 +9,14 @@ ghost use Rattle.bgp_wire.specs.PlainValues.{SaysPlainly, SpellsPlainly, ReadsLi
 ghost use Rattle.bgp_paths.specs.Readers.{Refuses};
 ghost use Rattle.bgp_wire.specs.SeenTypes.{Tells};
 
-use crate::attrs::Attrs;
+use crate::attrs::{Attrs, Communities, MOST_SPARE};
 use crate::framing::{
     AGGREGATOR, AS_PATH, AS4_AGGREGATOR, AS4_PATH, ATOMIC_AGGREGATE, COMMUNITIES, FramedAttribute,
     LOCAL_PREF, MP_REACH_NLRI, MP_UNREACH_NLRI, MULTI_EXIT_DISC, NEXT_HOP, ORIGIN, split_attribute,
 };
 use crate::seen_types::SeenTypes;
 use crate::values::{fill_presence, put_found, read_aggregator, read_ipv4, read_origin, read_word};
-use bgp_paths::{AsWidth, WireFault};
+use bgp_paths::{AsWidth, WireFault, fill_numbers};
 use std::alloc::Global;
 
 /// A list of attributes as it was sent: its octets, and the width of the AS numbers in AS_PATH.
@@ -53,36 +53,30 @@ fn read_first<'a>(
 {
     let value = framed.value;
     match framed.kind {
-        ORIGIN => put_found(&mut attrs.origin, read_origin(value)),
-        AS_PATH => attrs.path.fill(alloc, width, value),
-        NEXT_HOP => put_found(&mut attrs.next_hop, read_ipv4(value)),
-        MULTI_EXIT_DISC => put_found(&mut attrs.med, read_word(value)),
-        LOCAL_PREF => put_found(&mut attrs.local_pref, read_word(value)),
-        ATOMIC_AGGREGATE => fill_presence(&mut attrs.atomic, value),
-        AGGREGATOR => put_found(&mut attrs.aggregator, read_aggregator(value)),
-        COMMUNITIES => attrs.communities.fill(value),
-        _ => {
-            keep_later(framed.kind, value, later);
-            Ok(())
-        }
-    }
-}
-
-/// Keeps the value of the first attribute of its type, if it is one of those that are read later.
-#[inline(always)]
-fn keep_later<'a>(kind: u8, value: &'a [u8], later: &mut LaterValues<'a>)
-    ensures { HoldsWithValue kind value.now (AreLater later.old) (AreLater later.new) }
-{
-    match kind {
+        ORIGIN => put_found(&mut attrs.origin, read_origin(value))?,
+        AS_PATH => attrs.path.fill(alloc, width, value)?,
+        NEXT_HOP => put_found(&mut attrs.next_hop, read_ipv4(value))?,
+        MULTI_EXIT_DISC => put_found(&mut attrs.med, read_word(value))?,
+        LOCAL_PREF => put_found(&mut attrs.local_pref, read_word(value))?,
+        ATOMIC_AGGREGATE => fill_presence(&mut attrs.atomic, value)?,
+        AGGREGATOR => put_found(&mut attrs.aggregator, read_aggregator(value))?,
+        COMMUNITIES => fill_numbers(
+            &mut attrs.communities.items,
+            AsWidth::Four,
+            value,
+            MOST_SPARE,
+        )?,
         MP_REACH_NLRI => later.reach = Some(value),
         MP_UNREACH_NLRI => later.unreach = Some(value),
         AS4_PATH => later.as4_path = Some(value),
         AS4_AGGREGATOR => later.as4_aggregator = Some(value),
         _ => {}
     }
+    Ok(())
 }
 
-/// Takes the path and the communities away that were there before, where the list has none.
+/// Takes the path and the communities away that were there before, where the list has none. The room
+/// of many communities is let go of.
 #[inline]
 fn clear_unseen(attrs: &mut Attrs, types: &SeenTypes)
     ensures { AreCleared types.now attrs.old attrs.new }
@@ -91,8 +85,19 @@ fn clear_unseen(attrs: &mut Attrs, types: &SeenTypes)
         attrs.path.clear();
     }
     if !types.has(COMMUNITIES) {
-        attrs.communities.clear();
+        attrs.communities.items.clear();
+        if attrs.communities.items.capacity() > usize::from(MOST_SPARE) {
+            let_go(&mut attrs.communities);
+        }
     }
+}
+
+/// Lets go of the room. It stands out of line, since few lists have much.
+#[inline(never)]
+fn let_go(communities: &mut Communities)
+    ensures { communities.new ≡ [] }
+{
+    communities.items = Vec::new(*communities.items.allocator());
 }
 
 /// Makes the attributes what the octets say of the values that are read each by itself, in the
@@ -113,7 +118,12 @@ pub(crate) fn read_list<'a>(
     ensures refused { IfErr result (Refuses (SpellsPlainly sent.entry.width)
         sent.entry.octets.now) }
 {
-    attrs.clear_short();
+    attrs.next_hop = None;
+    attrs.aggregator = None;
+    attrs.med = None;
+    attrs.local_pref = None;
+    attrs.origin = None;
+    attrs.atomic = false;
     let mut rest = sent.octets;
     while !rest.is_empty() {
         let Some(framed) = split_attribute(rest) else {

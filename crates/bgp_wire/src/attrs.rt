@@ -1,20 +1,16 @@
 //! The path attributes of a route.
 
-ghost use Rattle.std.specs.Prelude.{◌≡◌, [], IfErr, OnOk, OnErr};
-ghost use Rattle.ip_prefix.specs.Sequences.{SpellsAll};
+ghost use Rattle.std.specs.Prelude.{◌≡◌, [], OnOk, OnErr};
 ghost use Rattle.bgp_wire.specs.Absent.{no_attrs, without_lists};
 ghost use Rattle.bgp_paths.specs.Segments.{no_path};
-ghost use Rattle.bgp_paths.specs.Number.{SpellsWord};
-ghost use Rattle.bgp_paths.specs.Readers.{Refuses};
 
-use bgp_paths::{AsPath, AsWidth, WireFault, copy_numbers, copy_path, fill_numbers};
+use bgp_paths::{AsPath, ListOf, copy_numbers, copy_path};
 use ip_prefix::Addr;
 use std::alloc::{AllocError, Global};
-use std::marker::Model;
 use std::mem;
 
 /// For how many communities more there is room at most behind a longer list.
-const MOST_SPARE: u8 = 32;
+pub(crate) const MOST_SPARE: u8 = 32;
 
 /// How a route came into BGP (RFC 4271, section 5.1.1).
 #[derive(Clone, Copy, Debug, PartialEq, Eq)]
@@ -37,82 +33,7 @@ pub struct Aggregator {
 }
 
 /// The communities of a route (RFC 1997), each a number of 32 bits.
-#[derive(Debug, Drop)]
-pub struct Communities {
-    communities: Vec<u32>,
-}
-
-impl Model for Communities {
-    ghost use Rattle.std.specs.Prelude.{ℕ, List};
-
-    ghost Value = { List ℕ };
-
-    ghost view = { λ a. a.communities.items };
-}
-
-impl Communities {
-    /// These communities.
-    #[inline]
-    pub fn from_vec(communities: Vec<u32>) -> Communities
-        ensures { result ≡ communities.items }
-    {
-        Communities { communities }
-    }
-
-    /// The communities as a vector.
-    #[inline]
-    pub fn into_vec(self) -> Vec<u32>
-        ensures { result.items ≡ self }
-    {
-        let Communities { communities: kept } = self;
-        kept
-    }
-
-    /// The communities in order.
-    #[inline]
-    pub fn as_slice(&self) -> &[u32]
-        ensures { result.now ≡ self.now }
-    {
-        self.communities.as_slice()
-    }
-
-    /// Takes all communities away. The room of many is let go of.
-    #[inline]
-    pub(crate) fn clear(&mut self)
-        ensures { self.new ≡ [] }
-    {
-        self.communities.clear();
-        if self.communities.capacity() > usize::from(MOST_SPARE) {
-            self.let_go();
-        }
-    }
-
-    /// Lets go of the room. It stands out of line, since few lists have much.
-    #[inline(never)]
-    fn let_go(&mut self)
-        ensures { self.new ≡ [] }
-    {
-        self.communities = Vec::new(*self.communities.allocator());
-    }
-
-    /// Makes them those that the octets are. Refused, nothing is said of them.
-    #[inline]
-    pub(crate) fn fill(&mut self, octets: &[u8]) -> Result<(), WireFault>
-        ensures filled { OnOk result (SpellsAll SpellsWord self.new octets.now) }
-        ensures refused { IfErr result (Refuses (SpellsAll SpellsWord) octets.now) }
-    {
-        fill_numbers(&mut self.communities, AsWidth::Four, octets, MOST_SPARE)
-    }
-}
-
-impl Clone for Communities {
-    ghost is_clone = { λ communities copy. copy ≡ communities };
-
-    fn clone(&self) -> Result<Communities, AllocError> {
-        let communities = Vec::from_slice(*self.communities.allocator(), self.as_slice())?;
-        Ok(Communities::from_vec(communities))
-    }
-}
+pub type Communities = ListOf<u32>;
 
 /// The path attributes of a route. Those that are absent are `None`, false or empty.
 #[derive(Debug, Drop)]
@@ -144,26 +65,12 @@ impl Attrs {
             next_hop: None,
             aggregator: None,
             path: AsPath::none(alloc),
-            communities: Communities::from_vec(Vec::new(alloc)),
+            communities: Communities::none(alloc),
             med: None,
             local_pref: None,
             origin: None,
             atomic: false,
         }
-    }
-
-    /// Takes all away but the path and the communities.
-    #[inline]
-    pub(crate) fn clear_short(&mut self)
-        ensures { self.new ≡
-            record no_attrs { path = self.old.path; communities = self.old.communities } }
-    {
-        self.next_hop = None;
-        self.aggregator = None;
-        self.med = None;
-        self.local_pref = None;
-        self.origin = None;
-        self.atomic = false;
     }
 }
 
@@ -173,7 +80,7 @@ pub fn replace_attrs(alloc: Global, attrs: &mut Attrs, other: &Attrs) -> Result<
     ensures replaced { OnOk result (attrs.new ≡ other.now) }
     ensures left { OnErr result (attrs.new ≡ without_lists attrs.old) }
 {
-    let none = Communities::from_vec(Vec::new(alloc));
+    let none = Communities::none(alloc);
     let path = mem::replace(&mut attrs.path, AsPath::none(alloc));
     let communities = mem::replace(&mut attrs.communities, none).into_vec();
     let path = copy_path(alloc, path, &other.path)?;

@@ -3,10 +3,10 @@
 ghost use Rattle.std.specs.Prelude.{◌≡◌, ℕ, List, Option, IfSome, IfNone, IfErr, OnOk};
 ghost use Rattle.ip_prefix.specs.Address.{Address};
 ghost use Rattle.bgp_wire.specs.PlainValues.{octets_of};
-ghost use Rattle.bgp_wire.specs.Reach.{unicast_octets, HopStands};
+ghost use Rattle.bgp_wire.specs.Reach.{HopStands};
 ghost use Rattle.bgp_wire.specs.Multiprotocol.{BeginsIn};
 ghost use Rattle.bgp_wire.specs.Reach.{Reach, SaysReach, SaysUnreach, reach_hop, reach_prefixes};
-ghost use Rattle.bgp_paths.specs.Readers.{Finds, Refuses};
+ghost use Rattle.bgp_paths.specs.Readers.{Refuses};
 
 use crate::next_hop::{FAMILY_SIZE, read_next_hop};
 use crate::prefixes::{Prefixes, fill_prefixes};
@@ -29,25 +29,15 @@ enum Scope<'a> {
     Another,
 }
 
-/// The family whose unicast these three octets stand for.
-fn unicast_family(octets: &[u8]) -> Option<Family>
-    ensures { Finds (λ family octets. octets ≡ unicast_octets family) octets.now result }
-{
-    match octets {
-        [0, AFI_IPV4, SAFI_UNICAST] => Some(Family::V4),
-        [0, AFI_IPV6, SAFI_UNICAST] => Some(Family::V6),
-        _ => None,
-    }
-}
-
 /// How the octets begin: with an address family of two octets and a subsequent one of one.
 fn read_scope(octets: &[u8]) -> Option<Scope<'_>>
     ensures { BeginsIn octets.now result }
 {
     let (front, rest) = octets.split_at_checked(FAMILY_SIZE)?;
-    match unicast_family(front) {
-        Some(family) => Some(Scope::Unicast(family, rest)),
-        None => Some(Scope::Another),
+    match front {
+        [0, AFI_IPV4, SAFI_UNICAST] => Some(Scope::Unicast(Family::V4, rest)),
+        [0, AFI_IPV6, SAFI_UNICAST] => Some(Scope::Unicast(Family::V6, rest)),
+        _ => Some(Scope::Another),
     }
 }
 
@@ -87,7 +77,7 @@ pub(crate) fn fill_reach(
     ensures refused { IfErr result (Refuses SaysReach (octets_of value.entry)) }
 {
     *next_hop = None;
-    prefixes.clear();
+    prefixes.items.clear();
     let Some(octets) = value else {
         return Ok(());
     };
@@ -110,7 +100,7 @@ pub(crate) fn fill_unreach(prefixes: &mut Prefixes, value: Option<&[u8]>) -> Res
     ensures filled { OnOk result (SaysUnreach prefixes.new (octets_of value.entry)) }
     ensures refused { IfErr result (Refuses SaysUnreach (octets_of value.entry)) }
 {
-    prefixes.clear();
+    prefixes.items.clear();
     let Some(octets) = value else {
         return Ok(());
     };

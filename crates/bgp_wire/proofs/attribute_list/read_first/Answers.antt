@@ -1,22 +1,38 @@
-use Rattle.std.proofs.Common.{◌≡◌, Some, Result, Ok, Err, IfErr, ap, sym, ◌∙◌}
+use Rattle.std.proofs.Common.{◌≡◌, ℕ, List, Some, Result, Ok, Err, IsErrAnd, IfErr, ap, sym, subst, ◌∙◌}
+use Rattle.ip_prefix.specs.Sequences.{SpellsAll}
 use Rattle.bgp_paths.specs.declared.fault.WireFault.{WireFault}
+use Rattle.bgp_paths.specs.declared.numbers.AsWidth.{AsWidth}
+use Rattle.bgp_paths.specs.Number.{SpellsWord}
+use Rattle.bgp_wire.specs.declared.attrs.Attrs.{Attrs}
 use Rattle.bgp_wire.specs.declared.framing.TheConstants.{AGGREGATOR}
 use Rattle.bgp_wire.specs.PlainValues.{SaysPlainly}
 use Rattle.bgp_wire.specs.Content.{FirstOf}
-use Rattle.bgp_paths.specs.Readers.{Refuses}
-use Rattle.bgp_wire.specs.Value.{SpellsAggregator}
-use Rattle.bgp_paths.proofs.Refusing.{refused_part, refused_found}
+use Rattle.bgp_paths.specs.Readers.{Finds, Refuses}
+use Rattle.bgp_wire.specs.Value.{octets_or_none, SpellsAggregator}
+use Rattle.bgp_paths.proofs.Refusing.{refused_part, refused_always}
 use Rattle.bgp_wire.proofs.There.{spelled_there}
 use Rattle.bgp_wire.proofs.attribute_list.read_first.Goals as goal
 
-pub returns-in-7-clause-refused : goal.returns-in-7-clause-refused
-returns-in-7-clause-refused c =
+-- where the value of a type is refused, so are all lists that have it first
+refused_value : {A R : Type 0} (Spells : A → List ℕ → Type 0) (width : AsWidth) (kind : ℕ) (value : List ℕ) (fault : WireFault) (answer : Result R WireFault) → IsErrAnd answer (λ y. y ≡ fault)
+    → ((first : FirstOf) → first kind ≡ Some value → (attrs : Attrs) → SaysPlainly width attrs first → (a : A) × Spells a value) → Refuses Spells value fault
+    → IfErr answer (λ fault. (first : FirstOf) → first kind ≡ Some value → Refuses (SaysPlainly width) first fault)
+refused_value Spells width kind value fault (Ok done) p has none = tt
+refused_value Spells width kind value fault (Err y) p has none = λ first e. refused_part (SaysPlainly width) Spells first value y (has first e) (subst (Refuses Spells value) (sym p) none)
+
+pub returns-in_err-put_found-in-7-clause-refused : goal.returns-in_err-put_found-in-7-clause-refused
+returns-in_err-put_found-in-7-clause-refused c =
     let value = c.args.framed.value.now in
-    whole c.put_found-in-7.result (refused_found SpellsAggregator value c.read_aggregator.result c.put_found-in-7.result c.read_aggregator.ensures c.put_found-in-7.ensures.none)
-  where
-    whole : (answer : Result (Unit {0}) WireFault) → IfErr answer (Refuses SpellsAggregator c.args.framed.value.now)
-        → IfErr answer (λ fault. (first : FirstOf) → first c.args.framed.kind ≡ Some c.args.framed.value.now → Refuses (SaysPlainly c.args.width) first fault)
-    whole (Ok done) r = tt
-    whole (Err fault) r = λ first e.
-        refused_part (SaysPlainly c.args.width) SpellsAggregator first c.args.framed.value.now fault
-        (λ attrs s. spelled_there SpellsAggregator attrs.aggregator (first AGGREGATOR) c.args.framed.value.now s.aggregator (ap first (sym c.in-7.is) ∙ e)) r
+    let fault = c.in_err-put_found-in-7.field-0.0 in
+    let passed = c.from_residual-in_err-put_found-in-7 in
+    refused_value SpellsAggregator c.args.width c.args.framed.kind value fault passed.result passed.ensures.1
+    (λ first e attrs s. spelled_there SpellsAggregator attrs.aggregator (first AGGREGATOR) value s.aggregator (ap first (sym c.in-7.is) ∙ e))
+    (refused_always SpellsAggregator value fault (subst (Finds SpellsAggregator value) c.in_err-put_found-in-7.ensures.none c.read_aggregator.ensures))
+
+pub returns-in_err-fill_numbers-in-8-clause-refused : goal.returns-in_err-fill_numbers-in-8-clause-refused
+returns-in_err-fill_numbers-in-8-clause-refused c =
+    let value = c.args.framed.value.now in
+    let passed = c.from_residual-in_err-fill_numbers-in-8 in
+    refused_value (SpellsAll SpellsWord) c.args.width c.args.framed.kind value c.in_err-fill_numbers-in-8.field-0.0 passed.result passed.ensures.1
+    (λ first e attrs s. (attrs.communities, subst (λ octets. SpellsAll SpellsWord attrs.communities (octets_or_none octets)) (ap first (sym c.in-8.is) ∙ e) s.communities))
+    c.in_err-fill_numbers-in-8.ensures.refused
