@@ -51,7 +51,12 @@ impl Addr {
         ensures short { result ≤ at + ADDRESS_ROOM }
     {
         match self.family() {
-            Family::V4 => write_dotted(self, text, at),
+            Family::V4 => {
+                let second = write_octet(self.octet(0), text, at);
+                let third = write_octet(self.octet(1), text, second);
+                let fourth = write_octet(self.octet(2), text, third);
+                write_short(u32::from(self.octet(3)), text, fourth)
+            }
             Family::V6 => write_colons(self, text, at),
         }
     }
@@ -120,19 +125,6 @@ impl InPlace for Prefix {
     }
 }
 
-// Writes the four octets of an IPv4 address, joined by dots.
-#[inline]
-fn write_dotted(address: &Addr, text: &mut [u8], at: usize) -> usize
-    requires { (address.now.family ≡ V4) × (at + V4_OCTETS * ROW ≤ length text.old) }
-    ensures written { IsWritten text.old at (v4_text address.now) text.new result }
-    ensures short { result ≤ at + V4_OCTETS * ROW }
-{
-    let second = write_octet(address.octet(0), text, at);
-    let third = write_octet(address.octet(1), text, second);
-    let fourth = write_octet(address.octet(2), text, third);
-    write_short(u32::from(address.octet(3)), text, fourth)
-}
-
 // Writes an octet and a dot.
 #[inline]
 fn write_octet(octet: u8, text: &mut [u8], at: usize) -> usize
@@ -152,7 +144,16 @@ fn write_colons(address: &Addr, text: &mut [u8], at: usize) -> usize
     ensures written { IsWritten text.old at (v6_text address.now) text.new result }
     ensures short { result ≤ at + ADDRESS_ROOM }
 {
-    let groups = groups_of(address);
+    let groups = [
+        address.group(0),
+        address.group(1),
+        address.group(2),
+        address.group(3),
+        address.group(4),
+        address.group(5),
+        address.group(6),
+        address.group(7),
+    ];
     let (first, len) = longest_zero_run(&groups);
     if len < LEAST_RUN {
         return write_groups(&groups, text, at);
@@ -162,24 +163,6 @@ fn write_colons(address: &Addr, text: &mut [u8], at: usize) -> usize
     write_groups(&groups[first + len..], text, gap + 2)
 }
 
-// The groups of an IPv6 address.
-#[inline]
-fn groups_of(address: &Addr) -> [u16; GROUP_COUNT]
-    requires { address.now.family ≡ V6 }
-    ensures { result ≡ groups_of address.now }
-{
-    [
-        address.group(0),
-        address.group(1),
-        address.group(2),
-        address.group(3),
-        address.group(4),
-        address.group(5),
-        address.group(6),
-        address.group(7),
-    ]
-}
-
 // The start and the length of the longest run of groups that are 0, and of two such runs the
 // first.
 #[inline(always)]
@@ -187,24 +170,17 @@ fn longest_zero_run(groups: &[u16; GROUP_COUNT]) -> (usize, usize)
     ensures value { result ≡ Hex.longest_zero_run groups.now }
     ensures within { result.0 + result.1 ≤ length groups.now }
 {
-    let row = ZERO_RUNS[zero_mask(groups)];
-    (usize::from(row[0]), usize::from(row[1]))
-}
-
-// Which groups are 0, the first in the lowest bit.
-#[inline(always)]
-fn zero_mask(groups: &[u16; GROUP_COUNT]) -> usize
-    ensures value { result ≡ zero_mask groups.now }
-    ensures within { result < 2 ^ GROUP_COUNT }
-{
-    usize::from(groups[0] == 0)
+    // Which groups are 0, the first in the lowest bit.
+    let mask = usize::from(groups[0] == 0)
         + 2 * usize::from(groups[1] == 0)
         + 4 * usize::from(groups[2] == 0)
         + 8 * usize::from(groups[3] == 0)
         + 16 * usize::from(groups[4] == 0)
         + 32 * usize::from(groups[5] == 0)
         + 64 * usize::from(groups[6] == 0)
-        + 128 * usize::from(groups[7] == 0)
+        + 128 * usize::from(groups[7] == 0);
+    let row = ZERO_RUNS[mask];
+    (usize::from(row[0]), usize::from(row[1]))
 }
 
 // Writes the groups, joined by colons.
@@ -216,19 +192,8 @@ fn write_groups(groups: &[u16], text: &mut [u8], at: usize) -> usize
     let Some((first, rest)) = groups.split_first() else {
         return at;
     };
-    let behind = write_group(*first, text, at);
-    write_led_groups(rest, text, behind)
-}
-
-// Writes the groups, a colon before each.
-#[inline]
-fn write_led_groups(groups: &[u16], text: &mut [u8], at: usize) -> usize
-    requires { at + GROUP_ROOM * length groups.now ≤ length text.old }
-    ensures written { IsWritten text.old at (led_groups groups.now) text.new result }
-    ensures short { result ≤ at + GROUP_ROOM * length groups.now }
-{
-    let mut place = at;
-    for group in groups {
+    let mut place = write_group(*first, text, at);
+    for group in rest {
         text[place] = COLON;
         place = write_group(*group, text, place + 1);
     }

@@ -91,15 +91,7 @@ impl Prefix {
         requires { self.now.family ≡ other.now.family }
         ensures { result ≡ common self.now other.now }
     {
-        let shared = shared_bits(self.number(), other.number());
+        let shared = (self.number() ^ other.number()).leading_zeros() as u8;
         self.front(shared.min(self.len()).min(other.len()))
     }
-}
-
-// How many bits two numbers share, counted from the highest.
-#[inline]
-fn shared_bits(one: u128, other: u128) -> u8
-    ensures { result ≡ length (shared (bits_of NUMBER_BITS one) (bits_of NUMBER_BITS other)) }
-{
-    (one ^ other).leading_zeros() as u8
 }

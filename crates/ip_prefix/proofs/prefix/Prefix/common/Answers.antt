@@ -2,14 +2,14 @@
 use Rattle.std.proofs.Common.{◌≡◌, ◌+◌, ◌-◌, length, take, ap, ◌∙◌, arith}
 use Rattle.ip_prefix.specs.Turns.{shared}
 use Rattle.ip_prefix.specs.Masked.{bit_count_le}
-use Rattle.ip_prefix.proofs.Shared.{filled, length-shared, shared-front}
+use Rattle.ip_prefix.proofs.Shared.{leading-shared, length-shared, shared-front}
 use Rattle.ip_prefix.proofs.prefix.Prefix.common.Goals as goal
 
 pub returns : goal.returns
 returns c =
     let m = c.args.self.now in
     let n = c.args.other.now in
-    let count : c.shared_bits-shared.result ≡ length (shared (filled m.bits) (filled n.bits)) = c.shared_bits-shared.ensures ∙ (λ i. length (shared (c.number.ensures i) (c.number-2.ensures i))) in
+    let count = leading-shared 128 c.number.result c.number-2.result c.number.type_inv c.number-2.type_inv ∙ (λ i. length (shared (c.number.ensures i) (c.number-2.ensures i))) in
     let fits : length m.bits + (128 - length m.bits) ≡ length n.bits + (128 - length n.bits) = omega (arith, c.len.ensures.fits, c.len-2.ensures.fits, bit_count_le m.family, bit_count_le n.family) in
     let all = length-shared m.bits n.bits (128 - length m.bits) (128 - length n.bits) fits in
     let len : c.min-2.result ≡ length (shared m.bits n.bits) = omega (arith, c.min-2.ensures, c.min.ensures, c.len.ensures.value, c.len-2.ensures.value, all, count) in
