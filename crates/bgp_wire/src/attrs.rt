@@ -1,6 +1,6 @@
 //! The path attributes of a route.
 
-ghost use Rattle.std.specs.Prelude.{◌≡◌, [], OnOk, OnErr};
+ghost use Rattle.std.specs.Prelude.{◌≡◌, OnOk, OnErr};
 ghost use Rattle.bgp_wire.specs.Absent.{no_attrs, without_lists};
 ghost use Rattle.bgp_paths.specs.Segments.{no_path};
 

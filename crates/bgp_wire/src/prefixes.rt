@@ -1,6 +1,6 @@
 //! Lists of prefixes.
 
-ghost use Rattle.std.specs.Prelude.{◌≡◌, [], OnOk, IfErr};
+ghost use Rattle.std.specs.Prelude.{OnOk, IfErr};
 ghost use Rattle.ip_prefix.specs.Sequences.{SpellsAll};
 ghost use Rattle.ip_prefix.specs.Wire.{SpellsNetwork};
 ghost use Rattle.bgp_paths.specs.Readers.{Refuses};

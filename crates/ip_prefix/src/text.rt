@@ -1,13 +1,10 @@
 //! The printed texts of addresses and prefixes.
 
-ghost use Rattle.std.specs.Prelude.{◌≡◌, ◌+◌, ◌*◌, ◌^◌, ◌<◌, ◌≤◌, [], ◌∷◌, ◌++◌, OnOk, OnErr, length, take, drop, replicate, decimal};
+ghost use Rattle.std.specs.Prelude.{◌≡◌, ◌+◌, ◌*◌, ◌<◌, ◌≤◌, [], ◌∷◌, ◌++◌, OnOk, OnErr, length, take, drop, replicate, decimal};
 ghost use Rattle.std.specs.Net.Text as Hex;
-ghost use Rattle.ip_prefix.specs.declared.addr.Family.TheVariants.{V4, V6};
+ghost use Rattle.ip_prefix.specs.declared.addr.Family.TheVariants.{V6};
 ghost use Rattle.ip_prefix.specs.declared.text.TheConstants.{ADDRESS_ROOM, PREFIX_ROOM};
-ghost use Rattle.ip_prefix.specs.Address.{groups_of};
-ghost use Rattle.ip_prefix.specs.Text.{address_text, network_text, v4_text, v6_text};
-ghost use Rattle.ip_prefix.specs.Marks.{led_groups};
-ghost use Rattle.ip_prefix.specs.ZeroRun.{zero_mask};
+ghost use Rattle.ip_prefix.specs.Text.{address_text, network_text, v6_text};
 ghost use Rattle.octet_text.specs.Written.{IsWritten};
 
 use crate::addr::{Addr, Family, GROUP_COUNT, V4_OCTETS};

@@ -3,12 +3,11 @@
 ghost use Rattle.std.specs.Prelude.{◌≡◌, ◌≢◌, ℕ, ◌+◌, ◌≤◌, ◌++◌, Bool, true, false, List, length, replicate, take};
 ghost use Rattle.ip_prefix.specs.declared.addr.Family.{Family};
 ghost use Rattle.ip_prefix.specs.declared.addr.TheConstants.{V4_BITS};
-ghost use Rattle.ip_prefix.specs.declared.number.TheConstants.{NUMBER_BITS};
-ghost use Rattle.ip_prefix.specs.Bits.{bits_of, bits_of_octets};
+ghost use Rattle.ip_prefix.specs.Bits.{bits_of_octets};
 ghost use Rattle.ip_prefix.specs.Network.{Network, network_of};
 ghost use Rattle.ip_prefix.specs.Covering.{covers};
 ghost use Rattle.ip_prefix.specs.declared.turn.Turn.TheVariants.{Outside};
-ghost use Rattle.ip_prefix.specs.Turns.{way, turn_of, shared, common};
+ghost use Rattle.ip_prefix.specs.Turns.{way, turn_of, common};
 
 use crate::addr::{Family, V4_BITS, V4_OCTETS};
 use crate::prefix::Prefix;
