@@ -5,7 +5,6 @@ ghost use Rattle.ip_prefix.specs.declared.addr.Family.{Family};
 ghost use Rattle.ip_prefix.specs.declared.addr.TheConstants.{V4_BITS};
 ghost use Rattle.ip_prefix.specs.Bits.{bits_of_octets};
 ghost use Rattle.ip_prefix.specs.Network.{Network, network_of};
-ghost use Rattle.ip_prefix.specs.Covering.{covers};
 ghost use Rattle.ip_prefix.specs.declared.turn.Turn.TheVariants.{Outside};
 ghost use Rattle.ip_prefix.specs.Turns.{way, turn_of, common};
 
@@ -44,28 +43,15 @@ impl Prefix {
         ensures { result ≡ turn_of (way (network_of
             (record { family = Family.V4; bits = bits_of_octets octets }) len)) (way self.now) }
     {
-        if self.is_covered_by_v4(octets, len) {
+        let below = V4_BITS - len;
+        if self.family() == Family::V4
+            && self.len() >= len
+            && u64::from(self.v4_number()) >> below
+                == u64::from(u32::from_be_bytes(octets)) >> below
+        {
             return self.turn_under(len);
         }
         Turn::Outside
-    }
-
-    // Whether it is of IPv4 and begins with the first bits of an address, as many as are named.
-    #[inline]
-    fn is_covered_by_v4(&self, octets: [u8; V4_OCTETS], len: u8) -> bool
-        requires { len ≤ V4_BITS }
-        ensures { result ≡ covers (network_of
-            (record { family = Family.V4; bits = bits_of_octets octets }) len) self.now }
-    {
-        match self.family() {
-            Family::V4 => {
-                let below = V4_BITS - len;
-                self.len() >= len
-                    && u64::from(self.v4_number()) >> below
-                        == u64::from(u32::from_be_bytes(octets)) >> below
-            }
-            Family::V6 => false,
-        }
     }
 
     /// Where the prefix lies, seen from one that has so many bits and covers it. It looks at one bit.
