@@ -8,7 +8,7 @@ ghost use Rattle.rib_store.specs.Shape.{shape_of, is_routed, IsLeaf, IsFork, IsA
 ghost use Rattle.rib_store.specs.Tree.{at, root, AreOf, IsShaped, IsPlaced, IsPlacedAt};
 ghost use Rattle.rib_store.specs.Slots.{route_found};
 
-use crate::tree::nodes::{hang, leaf_with, lone, lone_fork, put_fork, put_root, slot_in};
+use crate::tree::nodes::{leaf_with, lone, lone_fork, put_fork, put_root, slot_in};
 use crate::tree::routes::exchange_leaf;
 use crate::tree::{Node, Tree};
 use ip_prefix::{Prefix, Turn};
@@ -289,9 +289,9 @@ fn put_at_leaf<K: Packed, R: Drop>(
             Ok(false)
         }
         Turn::Left | Turn::Right => {
-            let node = lone(alloc)?;
-            let leaf = leaf_with(K::of(key), route);
-            hang(tree, prefix, node, leaf, side);
+            let mut node = lone(alloc)?;
+            node.slot = slot_in(mem::replace(tree, Tree::Empty));
+            put_root(tree, prefix, node, leaf_with(K::of(key), route), side);
             Ok(true)
         }
     }
