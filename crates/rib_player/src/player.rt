@@ -203,7 +203,7 @@ impl<S: PrefixStore<Rc<Route>>> Player<S> {
         ensures dropped { IfOk result (λ dropped. dropped ≡ ahead_of self.old) }
         ensures refused { OnErr result (self.new ≡ self.old) }
     {
-        let mut new = step_for(
+        let (mut entries, lost) = step_for(
             self.alloc,
             event,
             &self.table,
@@ -217,8 +217,8 @@ impl<S: PrefixStore<Rc<Route>>> Player<S> {
             self.alloc,
             &mut self.table,
             &mut self.claims,
-            new.lost.as_ref(),
-            new.entries.as_mut_slice(),
+            lost.as_ref(),
+            entries.as_mut_slice(),
         )?;
         drop_ahead(
             &mut self.journal.steps,
@@ -227,9 +227,7 @@ impl<S: PrefixStore<Rc<Route>>> Player<S> {
             &mut self.claims,
             &mut self.known,
         );
-        self.journal.steps.push_back_reserved(Step {
-            entries: new.entries,
-        });
+        self.journal.steps.push_back_reserved(Step { entries });
         self.journal.cursor += 1;
         Ok(dropped as u64)
     }
