@@ -94,7 +94,10 @@ impl<S: PrefixStore<Rc<Route>>> Player<S> {
             claims: Claims::new(alloc),
             known: KnownRoutes::new(alloc),
             marks: Marks::new(alloc),
-            reached: Reached::nowhere(),
+            reached: Reached {
+                last: usize::MAX,
+                before: usize::MAX,
+            },
         }
     }
 
