@@ -55,18 +55,6 @@ pub(crate) fn lone<K: Packed, R: Drop>(alloc: Global) -> Result<Box<Node<K, R>>,
     Ok(node)
 }
 
-/// A branch with nothing below it yet, which has no room for a key's route.
-pub(crate) fn lone_fork<K: Packed, R: Drop>(alloc: Global) -> Result<Box<Fork<K, R>>, AllocError> {
-    let fork = Box::new(
-        alloc,
-        Fork {
-            left: Tree::Empty,
-            right: Tree::Empty,
-        },
-    )?;
-    Ok(fork)
-}
-
 /// Puts a branch above the root, which lies on this side of it then, and a leaf on the other side.
 pub(crate) fn put_fork<K: Packed, R: Drop>(
     tree: &mut Tree<K, R>,
