@@ -8,7 +8,7 @@ use Rattle.rib_player.specs.declared.entry.End.TheVariants.{Last}
 use Rattle.rib_player.specs.Timeline.{after_play}
 use Rattle.rib_player.specs.Claims.{one_if, claims_beyond, held_claims}
 use Rattle.rib_player.specs.Journal.{sides_of, steps_of, timeline_of}
-use Rattle.rib_player.specs.Sides.{AreDistinct, IsStepFor}
+use Rattle.rib_player.specs.Sides.{IsStepFor}
 use Rattle.rib_player.specs.Marks.{marks_of, marks_by_step, step_marks, gives_up_by}
 use Rattle.rib_player.specs.Played.{IsPlayed, AreClaimed, CanDrop}
 use Rattle.rib_player.proofs.PlayedLaws.{tables-played, played-among, step-named, can-play, after_play-on, played-on}
@@ -21,11 +21,8 @@ use Rattle.rib_player.proofs.player.Player.play_step.Goals.{After-as_mut_slice, 
 step : (g : Over) (c : After-as_mut_slice g) → IsStepFor c.self.inside.table.routes c.args.event.now (sides_of c.as_mut_slice.result.now)
 step g c = subst (λ es. IsStepFor c.self.inside.table.routes c.args.event.now (sides_of es)) (sym c.as_mut_slice.ensures.value) c.in_ok-entries.ensures.step
 
-distinct : (g : Over) (c : After-as_mut_slice g) → AreDistinct (sides_of c.as_mut_slice.result.now)
-distinct g c = (step g c).distinct
-
 pub put_entries-requires-clause-distinct : goal.put_entries-requires-clause-distinct
-put_entries-requires-clause-distinct g c = distinct g (goal.at.put_entries-requires-clause-distinct g c).After-as_mut_slice
+put_entries-requires-clause-distinct g c = (step g (goal.at.put_entries-requires-clause-distinct g c).After-as_mut_slice).distinct
 
 pub put_entries-requires-clause-among : goal.put_entries-requires-clause-among
 put_entries-requires-clause-among g c = played-among c.self.invariant.played
