@@ -64,35 +64,9 @@ impl Places {
         })
     }
 
-    /// Puts a route at the index, where none stands, as the tag tells: the place isn't read, since few
-    /// places are in the cache.
-    #[inline]
-    fn fill_at(&mut self, index: usize, hash: u32, route: Rc<Route>)
-        requires within { index < vec_len self.old.tags }
-        requires free { slice_index_or self.old.tags.items index FREE ≡ FREE }
-        ensures places { vec_len self.new.places ≡ vec_len self.old.places }
-        ensures taken { self.old.taken ≤ self.new.taken }
-    {
-        let place = mem::replace(&mut self.places[index], Place::Taken(hash, route));
-        mem::forget(place);
-        self.tags[index] = tag_of(hash);
-        self.taken += 1;
-    }
-
-    /// Puts a route at the index over the one that stands there, whose octets go.
-    fn put_over(&mut self, index: usize, hash: u32, route: Rc<Route>)
-        requires within { index < vec_len self.old.tags }
-        requires taken { is_tagged (slice_index_or self.old.tags.items index FREE) ≡ true }
-        ensures places { vec_len self.new.places ≡ vec_len self.old.places }
-        ensures taken { self.old.taken ≤ self.new.taken }
-    {
-        self.held = self.held.saturating_sub(octets_at(&self.places[index]));
-        self.places[index] = Place::Taken(hash, route);
-        self.tags[index] = tag_of(hash);
-    }
-
     /// Puts a route at a free place of its rows, or else over the first route of the first, if there
-    /// is such a place, and answers which. Its octets aren't added.
+    /// is such a place, and answers which. Its octets aren't added. A free place isn't read, as its tag
+    /// tells that it is one, since few places are in the cache.
     pub(crate) fn put(&mut self, hash: u32, route: Rc<Route>) -> usize
         ensures places { vec_len self.new.places ≡ vec_len self.old.places }
         ensures taken { self.old.taken ≤ self.new.taken }
@@ -102,10 +76,15 @@ impl Places {
             return index;
         }
         if self.tags[index] == FREE {
-            self.fill_at(index, hash, route);
-        } else {
-            self.put_over(index, hash, route);
+            let place = mem::replace(&mut self.places[index], Place::Taken(hash, route));
+            mem::forget(place);
+            self.tags[index] = tag_of(hash);
+            self.taken += 1;
+            return index;
         }
+        self.held = self.held.saturating_sub(octets_at(&self.places[index]));
+        self.places[index] = Place::Taken(hash, route);
+        self.tags[index] = tag_of(hash);
         index
     }
 

@@ -22,9 +22,6 @@ abbrev either_found : Option (Option Route) → Option (Option Route) → Option
 either_found None second = second
 either_found (Some kept) second = Some kept
 
-before-none : (first : Option (Option Route)) → either_found first None ≡ first
-before-none first = grind arith
-
 -- an effect behind Keep stays
 later-keep : (second : Effect) → later Keep second ≡ second
 later-keep second = grind arith
@@ -47,10 +44,6 @@ noted_effect-first sides peers side q held =
 pub noted_effect-lost : (sides : List Side) (peers : List Peer) (pair : Pair) (first : Effect) (q : Pair) → is_lost peers pair ≡ true
     → effect_of (found sides q) (is_lost peers q) ≡ later (where_true (eq_by_cmp pair_cmp q pair) first) (effect_of (found sides q) (is_lost peers q))
 noted_effect-lost sides peers pair first q lost = let one = same_pair q pair in grind arith
-
--- pairs that lose their route, and then more of them
-or_absent-more : (kept : Option (Option Route)) (some more : Bool) → or_absent (or_absent kept some) more ≡ or_absent kept (some || more)
-or_absent-more kept some more = grind arith
 
 -- what is found stays where the pair is not among those
 pub or_absent-false : (kept : Option (Option Route)) → kept ≡ or_absent kept false

@@ -1,6 +1,6 @@
 -- The entries of a lost session alone are those of its step.
 use Rattle.std.proofs.lemmas.Bool.{and_parts}
-use Rattle.std.proofs.Common.{◌≡◌, Bool, true, false, cond, ◌&&◌, List, [], ◌∷◌, map, drop, Option, Some, None, is_some, refl, sym, ap, ap₂, subst, ◌∙◌, arith, Less, Global}
+use Rattle.std.proofs.Common.{◌≡◌, Bool, true, false, cond, ◌&&◌, List, [], ◌∷◌, map, drop, length, slice_get, Option, Some, None, IfSome, option_copied, Bor, is_some, refl, sym, ap, ap₂, subst, ◌∙◌, arith, Less, Global}
 use Rattle.std.specs.List.{AllByRecursion, list_any}
 use Rattle.std.proofs.Math.Bool.{or-false}
 use Rattle.std.specs.List.Sorted.{IsStrictlySortedBy}
@@ -97,6 +97,14 @@ module _ (routes : Routes) (event : Event) (peer : Peer) (alone : (q : Pair) →
         contains-from_list pair_cmp_total (pairs_in sides) q ∙ lost-named routes peer sides cleared q ∙ named-then (same_peer q.peer peer) (finite.get routes q)
         ∙ ap (is_named (finite.get routes q)) (sym (alone q)) ∙ sym (contains-named_pairs routes event q));
   }
+
+-- the first of a set is all of it, where it has one
+pub only-first : (keys : List Peer) (first : Option (Bor Peer)) (peer : Peer) → length keys ≡ 1 → IfSome first (λ k. slice_get keys 0 ≡ Some k.now) → Some peer ≡ option_copied first
+    → keys ≡ peer ∷ []
+only-first [] first peer one is told = grind (arith, one)
+only-first (key ∷ []) None peer one is told = grind (arith, told)
+only-first (key ∷ []) (Some k) peer one is told = grind (arith, is, told)
+only-first (key ∷ other ∷ keys) first peer one is told = grind (arith, one)
 
 -- an event of which nothing but a loss is noted does just that
 pub lost-alone : (event : Event) (changes : Changes) (peer : Peer) → ((q : Pair) → noted_effect changes q ≡ effect q event) → changes.entries.items ≡ [] → changes.lost.keys ≡ peer ∷ []

@@ -8,9 +8,10 @@ use Rattle.rib_player.specs.declared.entry.Step.{Step}
 use Rattle.rib_player.specs.Tables.{Routes}
 use Rattle.rib_player.specs.Store.{Contents}
 use Rattle.rib_player.specs.Claims.{claims_along, held_claims, AreHeld}
-use Rattle.rib_player.specs.Journal.{tables_over, routes_across, steps_of}
+use Rattle.rib_player.specs.Entries.{Entry}
+use Rattle.rib_player.specs.Journal.{tables_over, routes_across, sides_of, steps_of}
 use Rattle.rib_player.specs.Sides.{sides_at, sides_across, AreDistinct}
-use Rattle.rib_player.specs.Marks.{Mark, marks_by_step, AreMarked}
+use Rattle.rib_player.specs.Marks.{Mark, marks_of, marks_by_step, marks_across, AreMarked}
 
 -- the cursor is within the steps, each names a pair once and marks it right; and of each pair as many claims are held as the player makes
 pub record IsPlayed (table : Contents) (beyond : Pair → ℕ) (cursor : ℕ) (steps : List Step) : Type 0 where
@@ -26,6 +27,12 @@ pub record IsCrossed (old new : Contents) (steps steps' : List Step) (index : �
   pub routes : new.routes ≡ routes_across (sides_at (steps_of steps) index) old.routes
   pub sides : steps_of steps' ≡ set (steps_of steps) index (sides_across old.routes (sides_at (steps_of steps) index))
   pub marks : marks_by_step steps' ≡ marks_by_step steps
+
+-- entries of a new step and the table changed places, and each says on which sides of it its pair has a route
+pub record IsPut (old new : Contents) (entries entries' : List Entry) : Type 0 where
+  pub routes : new.routes ≡ routes_across (sides_of entries) old.routes
+  pub sides : sides_of entries' ≡ sides_across old.routes (sides_of entries)
+  pub marks : marks_of entries' ≡ marks_across old.routes (sides_of entries)
 
 -- steps between these tables, and the claims that they make with one step more, which makes these
 pub record AreClaimed (steps : List (List Mark)) (held : Pair → ℕ) (tables : List Routes) (new : Pair → ℕ) : Type 0 where

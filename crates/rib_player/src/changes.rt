@@ -56,49 +56,6 @@ impl Changes {
         Ok(())
     }
 
-    /// The peer whose lost session is all that is noted, where it is that.
-    pub(crate) fn only_loss(&self) -> Option<Peer>
-        ensures some { IfSome result (λ peer.
-            (self.now.entries.items ≡ []) × (self.now.lost.keys ≡ peer ∷ [])) }
-        ensures none { IfNone result ((peer : Peer) →
-            self.now.entries.items ≡ [] → self.now.lost.keys ≢ peer ∷ []) }
-    {
-        if !self.entries.is_empty() || self.lost.len() > 1 {
-            return None;
-        }
-        self.lost.first().copied()
-    }
-
-    /// Notes what the item does, which stands before all that are noted. A shared route is its own.
-    fn note<S: PrefixStore<Rc<Route>>>(
-        &mut self,
-        table: &Table<S>,
-        item: &Item,
-        known: &mut KnownRoutes,
-        shared: Option<&Rc<Route>>,
-    ) -> Result<(), AllocError>
-        requires { IfSome shared (λ route. HasRoute route.now.value (saying item.now)) }
-        ensures { OnOk result ((q : Pair) → noted_effect self.new q
-            ≡ later (item_effect q (saying item.now)) (noted_effect self.old q)) }
-    {
-        match item {
-            Item::Announce(peer, prefix, route) => {
-                if let Some(route) = shared {
-                    return self.note_route(table, peer, prefix, Some(route.clone()?));
-                }
-                let known = known.known_if_short(peer, route)?;
-                self.note_route(table, peer, prefix, Some(known))
-            }
-            Item::Withdraw(peer, prefix) => self.note_route(table, peer, prefix, None),
-            Item::State(peer, old, new) => {
-                if *old == ESTABLISHED && *new != ESTABLISHED {
-                    self.lost.insert(*peer)?;
-                }
-                Ok(())
-            }
-        }
-    }
-
     /// Notes what the items do, which stand before all that are noted. A shared route is that of each.
     fn note_each<S: PrefixStore<Rc<Route>>>(
         &mut self,
@@ -115,7 +72,21 @@ impl Changes {
         let mut rest = items.len();
         'items: while rest > 0 {
             rest -= 1;
-            self.note(table, &items[rest], known, shared)?;
+            match &items[rest] {
+                Item::Announce(peer, prefix, route) => {
+                    let own = match shared {
+                        Some(shared) => shared.clone()?,
+                        None => known.known_if_short(peer, route)?,
+                    };
+                    self.note_route(table, peer, prefix, Some(own))?;
+                }
+                Item::Withdraw(peer, prefix) => self.note_route(table, peer, prefix, None)?,
+                Item::State(peer, old, new) => {
+                    if *old == ESTABLISHED && *new != ESTABLISHED {
+                        self.lost.insert(*peer)?;
+                    }
+                }
+            }
         }
         Ok(())
     }
@@ -131,26 +102,11 @@ impl Changes {
         ensures { OnOk result ((q : Pair) → noted_effect self.new q
             ≡ later (items_effect q items.now) (noted_effect self.old q)) }
     {
-        if items.is_empty() {
-            return Ok(());
-        }
-        let Some((peer, route)) = first_route(items) else {
+        let Some(Item::Announce(peer, _, route)) = items.first() else {
             return self.note_each(table, items, known, None);
         };
         let route = known.known(peer, route)?;
         self.note_each(table, items, known, Some(&route))
-    }
-}
-
-/// The peer of the first item and the route that it announces, if it announces one.
-fn first_route(items: &[Item]) -> Option<(&Peer, &Rc<Route>)>
-    ensures { IfSome result (λ told. IfSome (slice_get items.now 0) (λ item.
-        HasRoute told.1.now.value (saying item))) }
-{
-    match items.first()? {
-        Item::Announce(peer, _, route) => Some((peer, route)),
-        Item::Withdraw(_, _) => None,
-        Item::State(_, _, _) => None,
     }
 }
 

@@ -2,7 +2,7 @@
 //! of them that brings it: before which it has no route and behind which it has one. A pair is a key
 //! exactly where it is claimed. The key is the first claim; those beyond it are counted here.
 
-ghost use Rattle.std.specs.Prelude.{◌≡◌, ◌+◌, ◌≤◌, ◌||◌, ◌&&◌, true, false, is_some, length, nat_lt, None, OnOk, OnErr};
+ghost use Rattle.std.specs.Prelude.{◌≡◌, ◌+◌, ◌≤◌, ◌||◌, ◌&&◌, true, false, is_some, length, nat_lt, [], ◌∷◌, None, OnOk, OnErr};
 ghost use Rattle.std.specs.FinMap as finite;
 ghost use Rattle.std.specs.FinSet as set;
 ghost use Rattle.std.specs.Ordering.{eq_by_cmp};
@@ -11,7 +11,6 @@ ghost use Rattle.ip_prefix.specs.Order.{network_cmp};
 ghost use Rattle.ip_prefix.specs.declared.addr.Family.TheVariants.{V4};
 ghost use Rattle.ip_prefix.specs.declared.addr.TheConstants.{V4_BITS};
 ghost use Rattle.prefix_store.specs.Contents.{AreAmong};
-ghost use Rattle.prefix_store.specs.Stored.{put};
 ghost use Rattle.rib_player.specs.declared.pair.Pair.{Pair};
 ghost use Rattle.rib_player.specs.declared.entry.End.TheVariants.{Last};
 ghost use Rattle.rib_player.specs.History.{pair_cmp};
@@ -19,6 +18,7 @@ ghost use Rattle.rib_player.specs.Store.{route_in};
 ghost use Rattle.rib_player.specs.Journal.{sides_of};
 ghost use Rattle.rib_player.specs.Sides.{AreDistinct};
 ghost use Rattle.rib_player.specs.Marks.{mark_of, marks_of, gives_up_at, gives_up_by};
+ghost use Rattle.rib_player.specs.Played.{IsPut};
 ghost use Rattle.rib_player.specs.Claims.{one_if, count_at, count_of, v4_key, claims_beyond, claims_in, AreHeld};
 
 use crate::entry::{End, Entry};
@@ -100,14 +100,7 @@ pub(crate) fn put_entry<S: PrefixStore<Rc<Route>>>(
     ensures claimed { OnOk result ((q : Pair) →
         claims_in table.new claims.new q ≡ claims_in table.old claims.old q
         + one_if (gives_up_at Last (mark_of entry.new) q)) }
-    ensures before { OnOk result
-        (entry.new.before ≡ is_some (finite.get table.old.routes entry.old.pair)) }
-    ensures behind { OnOk result (entry.new.behind ≡ is_some (route_in entry.old.other)) }
-    ensures routes { OnOk result (table.new.routes ≡
-        put table.old.routes entry.old.pair (route_in entry.old.other)) }
-    ensures given { OnOk result
-        (route_in entry.new.other ≡ finite.get table.old.routes entry.old.pair) }
-    ensures pair { OnOk result (entry.new.pair ≡ entry.old.pair) }
+    ensures put { OnOk result (IsPut table.old table.new (entry.old ∷ []) (entry.new ∷ [])) }
     ensures refused { OnErr result ((q : Pair) →
         claims_in table.new claims.new q ≡ claims_in table.old claims.old q) }
     ensures kept { OnErr result (table.new.routes ≡ table.old.routes) }

@@ -11,8 +11,8 @@ ghost use Rattle.rib_player.specs.declared.entry.End.TheVariants.{Last};
 ghost use Rattle.rib_player.specs.Claims.{one_if, claims_beyond, claims_in, AreHeld};
 ghost use Rattle.rib_player.specs.Journal.{sides_of, steps_of, routes_across};
 ghost use Rattle.rib_player.specs.Sides.{sides_at, sides_across, ClearAllOf, IsKept, AreDistinct};
-ghost use Rattle.rib_player.specs.Marks.{marks_of, marks_by_step, marks_across, gives_up_by, entry_count};
-ghost use Rattle.rib_player.specs.Played.{IsCrossed, CanDrop, StayClaimed};
+ghost use Rattle.rib_player.specs.Marks.{marks_of, marks_by_step, gives_up_by, entry_count};
+ghost use Rattle.rib_player.specs.Played.{IsCrossed, IsPut, CanDrop, StayClaimed};
 
 use crate::claims::{Claims, give_up_claims, put_entry};
 use crate::entry::{End, Entry, Step};
@@ -83,12 +83,7 @@ pub(crate) fn take_peer_routes<S: PrefixStore<Rc<Route>>>(
 ) -> Result<(), AllocError>
     requires { ClearAllOf table.old.routes peer.now (sides_of entries.old) }
     ensures keys { table.new.keys ≡ table.old.keys }
-    ensures routes { OnOk result
-        (table.new.routes ≡ routes_across (sides_of entries.old) table.old.routes) }
-    ensures sides { OnOk result
-        (sides_of entries.new ≡ sides_across table.old.routes (sides_of entries.old)) }
-    ensures marks { OnOk result
-        (marks_of entries.new ≡ marks_across table.old.routes (sides_of entries.old)) }
+    ensures put { OnOk result (IsPut table.old table.new entries.old entries.new) }
     ensures unbrought { OnOk result ((q : Pair) →
         gives_up_by Last (marks_of entries.new) q ≡ false) }
     ensures kept { OnErr result (table.new.routes ≡ table.old.routes) }
@@ -124,12 +119,7 @@ pub(crate) fn put_entries<S: PrefixStore<Rc<Route>>>(
     ensures claimed { OnOk result ((q : Pair) →
         claims_in table.new claims.new q ≡ claims_in table.old claims.old q
         + one_if (gives_up_by Last (marks_of entries.new) q)) }
-    ensures marks { OnOk result
-        (marks_of entries.new ≡ marks_across table.old.routes (sides_of entries.old)) }
-    ensures routes { OnOk result
-        (table.new.routes ≡ routes_across (sides_of entries.old) table.old.routes) }
-    ensures sides { OnOk result
-        (sides_of entries.new ≡ sides_across table.old.routes (sides_of entries.old)) }
+    ensures put { OnOk result (IsPut table.old table.new entries.old entries.new) }
     ensures refused { OnErr result ((q : Pair) →
         claims_in table.new claims.new q ≡ claims_in table.old claims.old q) }
     ensures kept { OnErr result (table.new.routes ≡ table.old.routes) }

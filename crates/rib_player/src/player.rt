@@ -94,7 +94,10 @@ impl<S: PrefixStore<Rc<Route>>> Player<S> {
             claims: Claims::new(alloc),
             known: KnownRoutes::new(alloc),
             marks: Marks::new(alloc),
-            reached: Reached::nowhere(),
+            reached: Reached {
+                last: usize::MAX,
+                before: usize::MAX,
+            },
         }
     }
 
@@ -203,7 +206,7 @@ impl<S: PrefixStore<Rc<Route>>> Player<S> {
         ensures dropped { IfOk result (λ dropped. dropped ≡ ahead_of self.old) }
         ensures refused { OnErr result (self.new ≡ self.old) }
     {
-        let mut new = step_for(
+        let (mut entries, lost) = step_for(
             self.alloc,
             event,
             &self.table,
@@ -217,8 +220,8 @@ impl<S: PrefixStore<Rc<Route>>> Player<S> {
             self.alloc,
             &mut self.table,
             &mut self.claims,
-            new.lost.as_ref(),
-            new.entries.as_mut_slice(),
+            lost.as_ref(),
+            entries.as_mut_slice(),
         )?;
         drop_ahead(
             &mut self.journal.steps,
@@ -227,9 +230,7 @@ impl<S: PrefixStore<Rc<Route>>> Player<S> {
             &mut self.claims,
             &mut self.known,
         );
-        self.journal.steps.push_back_reserved(Step {
-            entries: new.entries,
-        });
+        self.journal.steps.push_back_reserved(Step { entries });
         self.journal.cursor += 1;
         Ok(dropped as u64)
     }

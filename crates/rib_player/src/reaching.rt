@@ -87,18 +87,8 @@ pub(crate) fn reach_entries<S: PrefixStore<Rc<Route>>>(
 /// over a place doesn't reach them each time.
 #[derive(Clone, Copy)]
 pub(crate) struct Reached {
-    last: usize,
-    before: usize,
-}
-
-impl Reached {
-    /// Nowhere yet.
-    pub(crate) fn nowhere() -> Self {
-        Reached {
-            last: usize::MAX,
-            before: usize::MAX,
-        }
-    }
+    pub(crate) last: usize,
+    pub(crate) before: usize,
 }
 
 /// Reaches the steps that are reached together with the next one, where that is crossed first of them,

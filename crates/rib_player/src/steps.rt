@@ -41,7 +41,7 @@ fn add_cleared(
 }
 
 /// The entries of all pairs of a peer that have a route, and none then: many at a time.
-pub(crate) fn lost_entries<S: PrefixStore<Rc<Route>>>(
+fn lost_entries<S: PrefixStore<Rc<Route>>>(
     alloc: Global,
     peer: &Peer,
     table: &Table<S>,
@@ -81,9 +81,6 @@ fn entries_then<S: PrefixStore<Rc<Route>>>(
         mut entries,
         lost,
     } = changes;
-    if lost.is_empty() {
-        return Ok(entries);
-    }
     'peers: for peer in lost {
         let mut absent = lost_entries(alloc, &peer, table)?;
         entries.append(&mut absent)?;
@@ -162,35 +159,27 @@ fn each_once<S: PrefixStore<Rc<Route>>>(
     Ok(ordered)
 }
 
-/// A step that wasn't put yet.
-#[derive(Drop)]
-pub(crate) struct NewStep {
-    pub(crate) entries: Vec<Entry>,
-    /// The peer whose routes it clears, where that is all that it does.
-    pub(crate) lost: Option<Peer>,
-}
-
-/// The event's step over a table, which names pairs that have a route before or then. The entries of
-/// a lost session alone, which may be many, are walked from its store, and stand nowhere else.
+/// The event's step over a table, which names pairs that have a route before or then, and the peer
+/// whose routes it clears, where that is all that it does. The entries of such a step, which may be
+/// many, are walked from the peer's store, and stand nowhere else.
 pub(crate) fn step_for<S: PrefixStore<Rc<Route>>>(
     alloc: Global,
     event: &Event,
     table: &Table<S>,
     known: &mut KnownRoutes,
     marks: &mut Marks,
-) -> Result<NewStep, AllocError>
+) -> Result<(Vec<Entry>, Option<Peer>), AllocError>
     ensures step { IfOk result (λ new.
-        IsStepFor table.now.routes event.now (sides_of new.entries.items)) }
-    ensures cleared { IfOk result (λ new. IfSome new.lost (λ peer.
-        ClearAllOf table.now.routes peer (sides_of new.entries.items))) }
+        IsStepFor table.now.routes event.now (sides_of new.0.items)) }
+    ensures cleared { IfOk result (λ new. IfSome new.1 (λ peer.
+        ClearAllOf table.now.routes peer (sides_of new.0.items))) }
 {
     let changes = changes_of(alloc, event, table, known)?;
-    if let Some(peer) = changes.only_loss() {
-        let entries = lost_entries(alloc, &peer, table)?;
-        return Ok(NewStep {
-            entries,
-            lost: Some(peer),
-        });
+    if changes.entries.is_empty() && changes.lost.len() == 1 {
+        if let Some(peer) = changes.lost.first().copied() {
+            let entries = lost_entries(alloc, &peer, table)?;
+            return Ok((entries, Some(peer)));
+        }
     }
     let then = entries_then(changes, table)?;
     let noted = then.len();
@@ -202,8 +191,5 @@ pub(crate) fn step_for<S: PrefixStore<Rc<Route>>>(
         entry.route().is_some() || table.get(entry.peer(), &entry.prefix()).is_some()
     });
     routed.shrink_to_fit();
-    Ok(NewStep {
-        entries: routed,
-        lost: None,
-    })
+    Ok((routed, None))
 }

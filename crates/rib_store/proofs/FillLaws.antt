@@ -1,7 +1,6 @@
 -- Lists filled as far as there is room, and the routes that walks down a tree append to them.
 use Rattle.prefix_store.proofs.AboveLaws.{take-nil}
 use Rattle.std.proofs.Common.{◌≡◌, ℕ, zero, suc, ◌+◌, ◌-◌, Bool, true, false, cond, List, [], ◌∷◌, ◌++◌, take, length, Option, Some, None, slice_get, Vec, Global, vec_capacity, Bor, refl, sym, ap, ap₂, ◌∙◌, arith, append_assoc, length-append, append-nil, length-take, option_to_list, is_lt}
-use Rattle.std.proofs.Math.Seq.{take-append_seam}
 use Rattle.ip_prefix.specs.Network.{Network}
 use Rattle.prefix_store.specs.Lookups.{is_above, above, pointed}
 use Rattle.ip_prefix.specs.declared.turn.Turn.{Turn}
@@ -65,10 +64,6 @@ filled-then room later old mid new xs ys same first then = then ∙ ap₂ (λ r 
 -- into an empty one
 pub filled-front : {A : Type 0} (room : ℕ) (new : List A) → filled room [] new ≡ take room new
 filled-front room new = ap (λ n. take n new) (omega arith)
-
--- a front is what is taken, where it is as long
-pub take-front : {A : Type 0} (n : ℕ) (xs ys all : List A) → xs ++ ys ≡ all → length xs ≡ n → xs ≡ take n all
-take-front n xs ys all e same = sym (take-append_seam xs ys) ∙ ap₂ (λ k s. take k s) same e
 
 routed-own : {R : Type 0} (prefix : Network) (slot : Option (Option R)) (below : Slots R) → routed (own prefix slot below) ≡ option_to_list (routed_at prefix slot) ++ routed below
 unfolding routed

@@ -81,9 +81,6 @@ visits_path {R} (Rooted prefix slot l r) key = turns (turn_of (way prefix) key) 
     turns Right e (inl f) = inl (omega arith)
     turns Right e (inr f) = inr (omega arith)
 
-and_none : (a b : Bool) → b ≡ false → false ≡ (a && b)
-and_none a b e = grind arith
-
 -- the nodes on the way, at the way of a query
 abbrev on_path : {R : Type 0} → Shape R → List Bool → List Bool → Bool
 on_path t key q = node_at t q && begin_with q key

@@ -65,10 +65,6 @@ slot_at-own q prefix slot below = grind arith
 
 -- ---- each key is found by its way
 
-pub either_none : {A : Type 0} (x : Option A) → either_of x None ≡ x
-either_none None = refl
-either_none (Some x) = refl
-
 by_turn : {A : Type 0} (t : Turn) (slot x y : Option A) → either_of (cond (chosen t false true false false) slot None) (either_of (chosen t None None x None) (chosen t None None None y)) ≡ chosen t None slot x y
 by_turn t slot x y = grind arith
 

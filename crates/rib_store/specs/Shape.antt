@@ -47,14 +47,6 @@ IsFork key (tree.Leaf other route) = ⊥
 IsFork key (tree.Forked' routed other p left right) = other ≡ key
 IsFork key (tree.Rooted' routed other p slot left right) = ⊥
 
--- it has room for a route, and may have others below it
-abbrev pub IsNode : {K R : Type 0} → Tree K R → Type 0
-IsNode tree.Empty = ⊥
-IsNode (tree.Bare key) = ⊥
-IsNode (tree.Leaf key route) = ⊥
-IsNode (tree.Forked' routed key p left right) = ⊥
-IsNode (tree.Rooted' routed key p slot left right) = Unit {0}
-
 -- what turns so isn't below
 abbrev pub IsNotBelow : Turn → Type 0
 IsNotBelow Outside = Unit {0}

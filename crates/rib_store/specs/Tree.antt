@@ -126,11 +126,6 @@ pub record IsPlaced {R : Type 0} (key : List Bool) (slot : Option (Option R)) (o
   pub slots : IsPut (at old) key slot (at new)
   pub roots : root new ≡ Some (joined (root old) key)
 
--- whatever key a leaf has on this side of a root, it is there with the leaf's route
-abbrev pub IsHung : {R : Type 0} → List Bool → Turn → Shape R → Shape R → Shape R → Type 0
-IsHung {R} prefix side leaf old new =
-    (key : Network) (route : Option R) → IsRooted key (Some route) Empty Empty leaf → turn_of prefix (way key) ≡ side → IsPlaced (way key) (Some route) old new
-
 -- the key that lies at the prefix is there and has this slot
 abbrev pub IsPlacedAt : {R : Type 0} → Network → Option (Option R) → Shape R → Shape R → Type 0
 IsPlacedAt prefix slot old new = (key : Network) → turn_of (way prefix) (way key) ≡ Here → IsPlaced (way key) slot old new

@@ -11,7 +11,7 @@ ghost use Rattle.rib_store.specs.Slots.{route_found};
 ghost use Rattle.rib_store.specs.Store.{trees_of, contents_of, IsPlanted};
 ghost use Rattle.rib_store.specs.Nodes.{AreNodes, AreNodesTo, IsOrOneMore};
 
-use crate::tree::{Descent, Descents, Tree};
+use crate::tree::{Descent, Descents, Root, Tree};
 use ip_prefix::{Addr, Family, Prefix};
 use prefix_store::{GREATEST_COUNT, Place, Places, PrefixStore, V4Prefix};
 use std::alloc::{AllocError, Global};
@@ -135,7 +135,12 @@ impl<R: Drop> PrefixStore<R> for RadixStore<R> {
             Family::V4 => self.v4.discard(prefix),
             Family::V6 => self.v6.discard(prefix),
         }
-        self.key_count = keys_less_one(self.key_count, &self.v4, &self.v6);
+        // A count that had stopped at the greatest number is made anew.
+        self.key_count = if self.key_count == GREATEST_COUNT {
+            self.v4.key_count().saturating_add(self.v6.key_count())
+        } else {
+            self.key_count - 1
+        };
     }
 
     fn has_key(&self, prefix: &Prefix) -> bool {
@@ -216,10 +221,11 @@ fn descent_to<'a, R: Drop>(place: &Place<'a, RadixStore<R>>) -> Descent<'a, R> {
         return Descent::ended();
     };
     let store: &'a RadixStore<R> = *store;
-    match prefix.family() {
-        Family::V4 => Descent::in_v4(&store.v4, prefix),
-        Family::V6 => Descent::in_v6(&store.v6, prefix),
-    }
+    let root = match prefix.family() {
+        Family::V4 => Root::V4(&store.v4),
+        Family::V6 => Root::V6(&store.v6),
+    };
+    Descent::at(root, prefix)
 }
 
 /// The count of the routes once one was brought and one given back, where they were. A count that
@@ -245,18 +251,6 @@ fn routes_after<R: Drop>(
     }
     if count == GREATEST_COUNT {
         return v4.route_count().saturating_add(v6.route_count());
-    }
-    count - 1
-}
-
-/// The count of the keys once one is gone.
-fn keys_less_one<R: Drop>(count: u64, v4: &Tree<V4Prefix, R>, v6: &Tree<Prefix, R>) -> u64
-    requires planted { IsPlanted (trees_of v4.now v6.now) }
-    requires count { count ≡ counted (set.len (contents_of (trees_of v4.now v6.now)).keys + 1) }
-    ensures { result ≡ counted (set.len (contents_of (trees_of v4.now v6.now)).keys) }
-{
-    if count == GREATEST_COUNT {
-        return v4.key_count().saturating_add(v6.key_count());
     }
     count - 1
 }

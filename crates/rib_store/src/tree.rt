@@ -15,7 +15,7 @@ mod nodes;
 mod puts;
 mod routes;
 
-pub(crate) use descents::{Descent, Descents};
+pub(crate) use descents::{Descent, Descents, Root};
 use ip_prefix::{Prefix, Turn};
 use prefix_store::V4Prefix;
 use std::mem::size_of;

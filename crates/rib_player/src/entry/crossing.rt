@@ -1,10 +1,11 @@
 //! An entry and the table exchange their routes.
 
-ghost use Rattle.std.specs.Prelude.{◌≡◌, true, not, is_some, IfOk, OnOk, OnErr};
+ghost use Rattle.std.specs.Prelude.{◌≡◌, [], ◌∷◌, true, not, IfOk, OnOk, OnErr};
 ghost use Rattle.std.specs.FinMap as finite;
 ghost use Rattle.std.specs.FinSet as set;
 ghost use Rattle.prefix_store.specs.Stored.{put};
 ghost use Rattle.rib_player.specs.Kept.{cleared_entry};
+ghost use Rattle.rib_player.specs.Played.{IsPut};
 ghost use Rattle.rib_player.specs.Store.{route_in};
 
 use crate::entry::{Entry, Kept, Marks};
@@ -59,13 +60,7 @@ impl Entry {
         ensures keys { OnOk result (table.new.keys ≡ set.insert table.old.keys self.old.pair) }
         ensures made { IfOk result (λ made.
             made ≡ not (set.contains table.old.keys self.old.pair)) }
-        ensures before { OnOk result
-            (self.new.before ≡ is_some (finite.get table.old.routes self.old.pair)) }
-        ensures behind { OnOk result (self.new.behind ≡ is_some self.old.other) }
-        ensures routes { OnOk result (table.new.routes ≡
-            put table.old.routes self.old.pair (route_in self.old.other)) }
-        ensures given { OnOk result
-            (route_in self.new.other ≡ finite.get table.old.routes self.old.pair) }
+        ensures put { OnOk result (IsPut table.old table.new (self.old ∷ []) (self.new ∷ [])) }
         ensures pair { self.new.pair ≡ self.old.pair }
         ensures refused { OnErr result (table.new.keys ≡ table.old.keys) }
         ensures held { OnErr result (table.new.routes ≡ table.old.routes) }

@@ -13,16 +13,16 @@ const MOST_BITS: u8 = 64;
 /// there.
 #[derive(Drop)]
 pub(crate) struct Descent<'a, R> {
-    place: Place<'a, R>,
+    root: Root<'a, R>,
     /// The first bits of the prefix.
     bits: u64,
     /// How many of them it has.
     depth: u8,
 }
 
-/// Where a descent is.
+/// The root of the tree that a descent has before it, if any.
 #[derive(Drop)]
-enum Place<'a, R> {
+pub(crate) enum Root<'a, R> {
     Ended,
     V4(&'a Tree<V4Prefix, R>),
     V6(&'a Tree<Prefix, R>),
@@ -32,25 +32,16 @@ impl<'a, R> Descent<'a, R> {
     /// A descent that is at its end.
     pub(crate) fn ended() -> Self {
         Descent {
-            place: Place::Ended,
+            root: Root::Ended,
             bits: 0,
             depth: 0,
         }
     }
 
-    /// A descent from the root of a tree of IPv4.
-    pub(crate) fn in_v4(tree: &'a Tree<V4Prefix, R>, prefix: &Prefix) -> Self {
+    /// A descent from there.
+    pub(crate) fn at(root: Root<'a, R>, prefix: &Prefix) -> Self {
         Descent {
-            place: Place::V4(tree),
-            bits: prefix.high_half(),
-            depth: prefix.len(),
-        }
-    }
-
-    /// A descent from the root of a tree of IPv6.
-    pub(crate) fn in_v6(tree: &'a Tree<Prefix, R>, prefix: &Prefix) -> Self {
-        Descent {
-            place: Place::V6(tree),
+            root,
             bits: prefix.high_half(),
             depth: prefix.len().min(MOST_BITS),
         }
@@ -59,18 +50,18 @@ impl<'a, R> Descent<'a, R> {
     /// Passes a node, and answers whether there was one.
     #[inline]
     fn pass_node(&mut self) -> bool {
-        let next = match &self.place {
-            Place::Ended => return false,
-            Place::V4(tree) => match below(tree, self.bits, self.depth) {
-                Some(next) => Place::V4(next),
+        let next = match &self.root {
+            Root::Ended => return false,
+            Root::V4(tree) => match below(tree, self.bits, self.depth) {
+                Some(next) => Root::V4(next),
                 None => return false,
             },
-            Place::V6(tree) => match below(tree, self.bits, self.depth) {
-                Some(next) => Place::V6(next),
+            Root::V6(tree) => match below(tree, self.bits, self.depth) {
+                Some(next) => Root::V6(next),
                 None => return false,
             },
         };
-        self.place = next;
+        self.root = next;
         true
     }
 }

@@ -2,7 +2,7 @@
 
 ghost use Rattle.std.specs.Prelude.{◌≡◌, None, List, Bool};
 ghost use Rattle.ip_prefix.specs.Turns.{way};
-ghost use Rattle.rib_store.specs.Shape.{shape_of, IsLeaf, IsFork, IsNode, IsMarked};
+ghost use Rattle.rib_store.specs.Shape.{shape_of, IsLeaf, IsMarked};
 ghost use Rattle.rib_store.specs.Tree.{at, IsOn, IsShaped, IsNearlyShaped, IsPut};
 
 use crate::tree::{Slot, Tree};
@@ -53,7 +53,7 @@ impl<K: Packed, R: Drop> Tree<K, R> {
                     _ => return,
                 }
                 *routed = fork.is_routed();
-                join_fork(self);
+                join(self);
             }
         }
     }
@@ -74,11 +74,10 @@ fn discard_leaf<K: Packed, R: Drop>(tree: &mut Tree<K, R>, prefix: K, key: &Pref
     }
 }
 
-/// Takes the root away where it is neither a key nor a branch.
+/// Takes the root away where it is neither a key nor a branch, since nothing lies on one side of it.
 fn join<K: Packed, R: Drop>(tree: &mut Tree<K, R>)
     requires shaped { IsNearlyShaped (shape_of K.network tree.old) }
     requires marked { IsMarked tree.old }
-    requires node { IsNode tree.old }
     ensures shaped { IsShaped (shape_of K.network tree.new) }
     ensures marked { IsMarked tree.new }
     ensures slots { (q : List Bool) → at (shape_of K.network tree.new) q
@@ -86,39 +85,28 @@ fn join<K: Packed, R: Drop>(tree: &mut Tree<K, R>)
     ensures sides { (from : List Bool) (bit : Bool) → IsOn from bit (shape_of K.network tree.old)
         → IsOn from bit (shape_of K.network tree.new) }
 {
-    if let Tree::Rooted(_, _, node) = tree {
-        if let Slot::Branch = node.slot {
-            if let Tree::Empty = node.left {
-                let child = mem::replace(&mut node.right, Tree::Empty);
+    match tree {
+        Tree::Rooted(_, _, node) => {
+            if let Slot::Branch = node.slot {
+                if let Tree::Empty = node.left {
+                    let child = mem::replace(&mut node.right, Tree::Empty);
+                    *tree = child;
+                } else if let Tree::Empty = node.right {
+                    let child = mem::replace(&mut node.left, Tree::Empty);
+                    *tree = child;
+                }
+            }
+        }
+        Tree::Forked(_, _, fork) => {
+            if let Tree::Empty = fork.left {
+                let child = mem::replace(&mut fork.right, Tree::Empty);
                 *tree = child;
-            } else if let Tree::Empty = node.right {
-                let child = mem::replace(&mut node.left, Tree::Empty);
+            } else if let Tree::Empty = fork.right {
+                let child = mem::replace(&mut fork.left, Tree::Empty);
                 *tree = child;
             }
         }
-    }
-}
-
-/// Takes the root away where it is no branch any more, since nothing lies on one side of it.
-fn join_fork<K: Packed, R: Drop>(tree: &mut Tree<K, R>)
-    requires shaped { IsNearlyShaped (shape_of K.network tree.old) }
-    requires marked { IsMarked tree.old }
-    requires fork { (key : K) × IsFork key tree.old }
-    ensures shaped { IsShaped (shape_of K.network tree.new) }
-    ensures marked { IsMarked tree.new }
-    ensures slots { (q : List Bool) → at (shape_of K.network tree.new) q
-        ≡ at (shape_of K.network tree.old) q }
-    ensures sides { (from : List Bool) (bit : Bool) → IsOn from bit (shape_of K.network tree.old)
-        → IsOn from bit (shape_of K.network tree.new) }
-{
-    if let Tree::Forked(_, _, fork) = tree {
-        if let Tree::Empty = fork.left {
-            let child = mem::replace(&mut fork.right, Tree::Empty);
-            *tree = child;
-        } else if let Tree::Empty = fork.right {
-            let child = mem::replace(&mut fork.left, Tree::Empty);
-            *tree = child;
-        }
+        _ => {}
     }
 }
 

@@ -6,35 +6,13 @@ ghost use Rattle.ip_prefix.specs.Turns.{way};
 ghost use Rattle.rib_store.specs.declared.tree.Slot.TheVariants.{Branch};
 ghost use Rattle.ip_prefix.specs.declared.turn.Turn.TheVariants.{Left, Right};
 ghost use Rattle.rib_store.specs.Shape.{Empty, shape_of, leaf_slot, is_filled, is_routed, any_routed, IsLeaf, IsMarked};
-ghost use Rattle.rib_store.specs.Tree.{slot_of, IsHung, IsRootedOver};
+ghost use Rattle.rib_store.specs.Tree.{slot_of, IsRootedOver};
 
 use crate::tree::{Fork, Node, Slot, Tree};
 use ip_prefix::Turn;
 use prefix_store::Packed;
 use std::alloc::{AllocError, Global};
 use std::mem;
-
-/// Puts a leaf below one that had none, on this side.
-pub(crate) fn hang<K: Packed, R: Drop>(
-    tree: &mut Tree<K, R>,
-    prefix: K,
-    node: Box<Node<K, R>>,
-    leaf: Tree<K, R>,
-    side: Turn,
-)
-    requires leaf { IsLeaf prefix tree.old }
-    requires side { (side ≡ Left) ⊎ (side ≡ Right) }
-    requires marked { IsMarked leaf }
-    ensures placed { IsHung (way (K.network prefix)) side (shape_of K.network leaf)
-        (shape_of K.network tree.old) (shape_of K.network tree.new) }
-    ensures marked { IsMarked tree.new }
-    ensures routed { is_routed tree.new ≡
-        (is_some (leaf_slot tree.old) || is_routed leaf) }
-{
-    let mut node = node;
-    node.slot = slot_in(mem::replace(tree, Tree::Empty));
-    put_root(tree, prefix, node, leaf, side);
-}
 
 /// A key without others below it, with the route, which is taken.
 pub(crate) fn leaf_with<K: Packed, R: Drop>(prefix: K, route: &mut Option<R>) -> Tree<K, R>
@@ -75,18 +53,6 @@ pub(crate) fn lone<K: Packed, R: Drop>(alloc: Global) -> Result<Box<Node<K, R>>,
         },
     )?;
     Ok(node)
-}
-
-/// A branch with nothing below it yet, which has no room for a key's route.
-pub(crate) fn lone_fork<K: Packed, R: Drop>(alloc: Global) -> Result<Box<Fork<K, R>>, AllocError> {
-    let fork = Box::new(
-        alloc,
-        Fork {
-            left: Tree::Empty,
-            right: Tree::Empty,
-        },
-    )?;
-    Ok(fork)
 }
 
 /// Puts a branch above the root, which lies on this side of it then, and a leaf on the other side.

@@ -8,9 +8,9 @@ ghost use Rattle.rib_store.specs.Shape.{shape_of, is_routed, IsLeaf, IsFork, IsA
 ghost use Rattle.rib_store.specs.Tree.{at, root, AreOf, IsShaped, IsPlaced, IsPlacedAt};
 ghost use Rattle.rib_store.specs.Slots.{route_found};
 
-use crate::tree::nodes::{hang, leaf_with, lone, lone_fork, put_fork, put_root, slot_in};
+use crate::tree::nodes::{leaf_with, lone, put_fork, put_root, slot_in};
 use crate::tree::routes::exchange_leaf;
-use crate::tree::{Node, Tree};
+use crate::tree::{Fork, Node, Tree};
 use ip_prefix::{Prefix, Turn};
 use prefix_store::Packed;
 use std::alloc::{AllocError, Global};
@@ -216,7 +216,13 @@ fn put_beside<K: Packed, R: Drop>(
         put_root(tree, K::of(&common), node, below, side);
         return Ok(true);
     }
-    let fork = lone_fork(alloc)?;
+    let fork = Box::new(
+        alloc,
+        Fork {
+            left: Tree::Empty,
+            right: Tree::Empty,
+        },
+    )?;
     let leaf = leaf_with(K::of(key), route);
     put_fork(tree, K::of(&common), fork, leaf, side);
     Ok(true)
@@ -289,9 +295,9 @@ fn put_at_leaf<K: Packed, R: Drop>(
             Ok(false)
         }
         Turn::Left | Turn::Right => {
-            let node = lone(alloc)?;
-            let leaf = leaf_with(K::of(key), route);
-            hang(tree, prefix, node, leaf, side);
+            let mut node = lone(alloc)?;
+            node.slot = slot_in(mem::replace(tree, Tree::Empty));
+            put_root(tree, prefix, node, leaf_with(K::of(key), route), side);
             Ok(true)
         }
     }

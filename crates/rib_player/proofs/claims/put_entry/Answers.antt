@@ -1,11 +1,12 @@
-use Rattle.std.proofs.Common.{◌≡◌, ℕ, ◌+◌, ◌||◌, ◌&&◌, [], ◌∷◌, Bool, true, false, not, is_some, refl, sym, ap, ap₂, ◌∙◌, arith}
+use Rattle.std.proofs.Common.{◌≡◌, ℕ, ◌+◌, ◌||◌, ◌&&◌, [], ◌∷◌, Bool, true, false, not, is_some, get_or, refl, sym, ap, ap₂, ◌∙◌, arith}
 use Rattle.std.specs.FinMap as finite
 use Rattle.std.specs.FinSet as set
 use Rattle.rib_player.specs.declared.pair.Pair.{Pair}
 use Rattle.rib_player.specs.Claims.{one_if, claims_beyond, held_claims}
 use Rattle.rib_player.specs.Store.{route_in}
+use Rattle.rib_player.specs.Journal.{side_of}
+use Rattle.rib_player.specs.Marks.{Mark, mark_of}
 use Rattle.prefix_store.specs.Stored.{put}
-use Rattle.octet_forms.proofs.Options.{is_some-option_map}
 use Rattle.rib_player.proofs.JournalLaws.{routes_across-sides_across}
 use Rattle.rib_player.proofs.MarkLaws.{tied}
 use Rattle.rib_player.proofs.HeldLaws.{made-claimed, insert-held, there-same, beyond-held, same-held}
@@ -36,14 +37,15 @@ returns-then-made-clause-claimed g c = λ q.
     let keys = c.args.table.now.keys in
     let beyond = claims_beyond c.args.claims.now in
     let marks = not c.put.new.self.before && c.put.new.self.behind in
+    let mark = ap (λ l. get_or l 0 (mark_of c.put.new.self)) c.in_ok-made.ensures.put.marks in
     elim c.then-made.branch [
       | then-made-via-then-made w ↦
           let out : set.contains keys p ≡ false = unknown c.in_ok-made.made (set.contains keys p) c.in_ok-made.ensures.made w.if-made.true in
           let none : is_some (finite.get c.args.table.now.routes p) ≡ false = ap is_some (c.requires.among p out) in
           let brings : marks ≡ true =
           brought c.put.new.self.before c.put.new.self.behind
-          (ap₂ (λ a b. a || b) c.in_ok-made.ensures.before (c.in_ok-made.ensures.behind ∙ sym (is_some-option_map _ c.args.entry.now.other)) ∙ c.requires.named)
-          (c.in_ok-made.ensures.before ∙ none) in
+          (ap (λ (m : Mark). m.before || m.behind) mark ∙ c.requires.named)
+          (ap (λ (m : Mark). m.before) mark ∙ none) in
           made-claimed keys c.put.new.table.keys beyond beyond p q c.in_ok-made.ensures.keys refl out
           ∙ ap (λ b. held_claims keys beyond q + one_if (b && tied q p)) (sym brings)
       | then-made-via-else-made+then-not-gives_up w ↦
@@ -85,8 +87,8 @@ returns-in-Err-clause-kept g c =
     let routes = c.args.table.now.routes in
     let p = c.args.entry.now.pair in
     c.exchange.ensures.routes
-    ∙ ap₂ (λ r q. put r q (route_in c.put.new.self.other)) c.in_ok-made.ensures.routes c.in_ok-made.ensures.pair
-    ∙ ap (put (put routes p (route_in c.args.entry.now.other)) p) c.in_ok-made.ensures.given
+    ∙ ap₂ (λ r q. put r q (route_in c.put.new.self.other)) c.in_ok-made.ensures.put.routes c.in_ok-made.ensures.pair
+    ∙ ap (λ l. put (put routes p (route_in c.args.entry.now.other)) p (get_or l 0 (side_of c.put.new.self)).1) c.in_ok-made.ensures.put.sides
     ∙ routes_across-sides_across ((p, route_in c.args.entry.now.other) ∷ []) routes
 
 pub returns-clause-held : goal.returns-clause-held

@@ -126,6 +126,8 @@ entries-preserved g c =
     let old : Entry = here g b in
     let new = c.put_entry.new.entry in
     let said = c.in_default-put_entry.ensures in
+    let side_is : side_of new ≡ (old.pair, finite.get c.entries.table.routes old.pair) = ap (λ l. get_or l 0 (side_of new)) said.put.sides in
+    let pair = ap (λ (s : Side). s.0) side_is in
     let sides : List Side = sides_of (take made first) in
     let marks : List Mark = marks_of (take made entries) in
     let sides_more : sides_of (take (made + 1) first) ≡ sides ++ side_of old ∷ [] = ap sides_of (take-through made first old (drop (made + 1) first) (rest g b)) ∙ map-append side_of (take made first) (old ∷ []) in
@@ -134,7 +136,7 @@ entries-preserved g c =
     let unnamed = gives_up_by-named Last marks old.pair (ap (list_any (tied old.pair)) pairs_before ∙ apart g b) in
     let mark : Side → Mark = λ side. record { pair = side.0; before = is_some (finite.get routes side.0); behind = is_some side.1 } in
     let mark_is : mark_of new ≡ mark (side_of old) =
-    λ k. record { pair = said.pair k; before = (said.before ∙ ap is_some (same_route g b)) k; behind = said.behind k } in
+    ap (λ l. get_or l 0 (mark_of new)) said.put.marks ∙ (λ k. record { pair = old.pair; before = is_some (same_route g b k); behind = is_some (route_in old.other) }) in
     record {
       within = omega (arith, length-set entries made new);
       unchanged = drop-set-lt (made + 1) entries made new (omega arith) ∙ sym (drop-drop 1 made entries) ∙ ap (drop 1) known.unchanged ∙ drop-drop 1 made first;
@@ -144,17 +146,17 @@ entries-preserved g c =
           (all-then (λ p. names.contains c.entries.table.keys p ≡ true) (λ p. names.contains c.put_entry.new.table.keys p ≡ true) (pairs_in sides)
           (λ q. still-inserted c.entries.table.keys c.put_entry.new.table.keys old.pair q said.keys) known.keys)
           (inserted c.entries.table.keys c.put_entry.new.table.keys old.pair said.keys)));
-      among = put-among c.entries.table.keys c.put_entry.new.table.keys c.entries.table.routes c.put_entry.new.table.routes old.pair (route_in old.other) said.keys said.routes known.among;
+      among = put-among c.entries.table.keys c.put_entry.new.table.keys c.entries.table.routes c.put_entry.new.table.routes old.pair (route_in old.other) said.keys said.put.routes known.among;
       held = said.held;
       claimed = λ q.
           let one = ap (λ ms. one_if (gives_up_by Last ms q)) marks_more ∙ ap one_if (gives_up_by-push Last marks (mark_of new) q)
-          ∙ one-or (gives_up_by Last marks q) (gives_up Last (mark_of new) && tied q new.pair) (λ t. ap (gives_up_by Last marks) (same_pair q old.pair (ap (tied q) (sym said.pair) ∙ (and_parts (gives_up Last (mark_of new)) (tied q new.pair) t).1)) ∙ unnamed) in
+          ∙ one-or (gives_up_by Last marks q) (gives_up Last (mark_of new) && tied q new.pair) (λ t. ap (gives_up_by Last marks) (same_pair q old.pair (ap (tied q) (sym pair) ∙ (and_parts (gives_up Last (mark_of new)) (tied q new.pair) t).1)) ∙ unnamed) in
           omega (arith, one, said.claimed q, known.claimed q);
       marks = marks_more ∙ ap₂ (λ (ms : List Mark) (m : Mark). ms ++ m ∷ []) known.marks mark_is
           ∙ sym (map-append mark sides (side_of old ∷ [])) ∙ sym (ap (marks_across routes) sides_more);
-      routes = said.routes ∙ ap (λ r. put r old.pair (route_in old.other)) known.routes ∙ sym (routes_across-push sides (side_of old) routes)
+      routes = said.put.routes ∙ ap (λ r. put r old.pair (route_in old.other)) known.routes ∙ sym (routes_across-push sides (side_of old) routes)
           ∙ sym (ap (λ s. routes_across s routes) sides_more);
       crossed = ap sides_of (take_more_set entries made new within) ∙ map-append side_of (take made entries) (new ∷ [])
-          ∙ ap₂ (λ (s : List Side) (t : Side). s ++ t ∷ []) known.crossed (λ k. (said.pair k, (said.given ∙ same_route g b) k))
+          ∙ ap₂ (λ (s : List Side) (t : Side). s ++ t ∷ []) known.crossed (side_is ∙ ap (λ r. (old.pair, r)) (same_route g b))
           ∙ sym (sides_across-push sides (side_of old) routes) ∙ sym (ap (sides_across routes) sides_more);
     }

@@ -57,14 +57,14 @@ then g c =
     subst (AreTaken c.args.table.now.routes c.args.entries.now) (sym (cleared g c))
     (taken-peer c.args.table.now.routes c.args.peer.now c.args.entries.now c.take_routes.new.taken.items c.requires c.take_routes.ensures.taken)
 
-pub returns-clause-routes : goal.returns-clause-routes
-returns-clause-routes g c = routes-cleared c.args.table.now.routes c.take_routes.new.self.routes c.args.peer.now _ c.requires c.take_routes.ensures.routes
-
-pub returns-clause-sides : goal.returns-clause-sides
-returns-clause-sides g c = (then g (goal.at.returns-clause-sides g c).In-None).sides
-
-pub returns-clause-marks : goal.returns-clause-marks
-returns-clause-marks g c = (then g (goal.at.returns-clause-marks g c).In-None).marks
+pub returns-clause-put : goal.returns-clause-put
+returns-clause-put g c =
+    let taken = then g (goal.at.returns-clause-put g c).In-None in
+    record {
+      routes = routes-cleared c.args.table.now.routes c.take_routes.new.self.routes c.args.peer.now _ c.requires c.take_routes.ensures.routes;
+      sides = taken.sides;
+      marks = taken.marks;
+    }
 
 pub returns-clause-unbrought : goal.returns-clause-unbrought
 returns-clause-unbrought g c = (then g (goal.at.returns-clause-unbrought g c).In-None).unbrought

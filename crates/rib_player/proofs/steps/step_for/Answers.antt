@@ -1,9 +1,10 @@
-use Rattle.std.proofs.Common.{rules, ap, ◌∙◌}
+use Rattle.std.proofs.Common.{rules, ◌≡◌, [], ◌∷◌, true, nat_eq, vec_len, sym, ap, ◌∙◌, arith}
+use Rattle.std.proofs.lemmas.List.{nil_from_length}
 use Rattle.std.specs.FinMap.{get}
 use Rattle.std.proofs.lemmas.Fn.{filter_same}
 use Rattle.rib_player.specs.Journal.{side_of, sides_of}
 use Rattle.rib_player.proofs.EntryLaws.{IsStepFor-made, has_route, sides-filter}
-use Rattle.rib_player.proofs.LostLaws.{IsStepFor-lost, lost-alone}
+use Rattle.rib_player.proofs.LostLaws.{IsStepFor-lost, lost-alone, only-first}
 use Rattle.rib_player.proofs.steps.step_for.Goals as goal
 
 pub returns-clause-step : goal.returns-clause-step
@@ -17,6 +18,11 @@ returns-clause-step g c =
 -- what the changes do is the loss alone
 pub returns-in-Some-clause-step : goal.returns-in-Some-clause-step
 returns-in-Some-clause-step g c =
+    let changes = c.in_ok-changes.changes in
+    let empty : nat_eq (vec_len changes.entries) 0 ≡ true = sym c.is_empty.ensures ∙ c.if-is_empty.true in
+    let zero : vec_len changes.entries ≡ 0 = grind (arith, empty) in
+    let none : changes.entries.items ≡ [] = nil_from_length _ (omega (arith, zero, changes.entries.ok)) in
+    let one : changes.lost.keys ≡ c.in-Some.peer ∷ [] = only-first changes.lost.keys c.first.result c.in-Some.peer (omega (arith, c.len.ensures.len, c.if-len-eq1.true)) c.first.ensures.first c.in-Some.ensures in
     IsStepFor-lost c.args.table.now.routes c.args.event.now c.in-Some.peer
-    (lost-alone c.args.event.now c.in_ok-changes.changes c.in-Some.peer c.in_ok-changes.ensures c.in-Some.ensures.some.0 c.in-Some.ensures.some.1)
+    (lost-alone c.args.event.now changes c.in-Some.peer c.in_ok-changes.ensures none one)
     (sides_of c.in_ok-entries.entries.items) c.in_ok-entries.ensures

@@ -8,7 +8,7 @@ use Rattle.rib_player.specs.declared.entry.End.TheVariants.{Last}
 use Rattle.rib_player.specs.Timeline.{after_play}
 use Rattle.rib_player.specs.Claims.{one_if, claims_beyond, held_claims}
 use Rattle.rib_player.specs.Journal.{sides_of, steps_of, timeline_of}
-use Rattle.rib_player.specs.Sides.{AreDistinct, IsStepFor}
+use Rattle.rib_player.specs.Sides.{IsStepFor}
 use Rattle.rib_player.specs.Marks.{marks_of, marks_by_step, step_marks, gives_up_by}
 use Rattle.rib_player.specs.Played.{IsPlayed, AreClaimed, CanDrop}
 use Rattle.rib_player.proofs.PlayedLaws.{tables-played, played-among, step-named, can-play, after_play-on, played-on}
@@ -19,13 +19,10 @@ use Rattle.rib_player.proofs.player.Player.play_step.Goals.{After-as_mut_slice, 
 -- ---- before the entries are put
 
 step : (g : Over) (c : After-as_mut_slice g) → IsStepFor c.self.inside.table.routes c.args.event.now (sides_of c.as_mut_slice.result.now)
-step g c = subst (λ es. IsStepFor c.self.inside.table.routes c.args.event.now (sides_of es)) (sym c.as_mut_slice.ensures.value) c.in_ok-new.ensures.step
-
-distinct : (g : Over) (c : After-as_mut_slice g) → AreDistinct (sides_of c.as_mut_slice.result.now)
-distinct g c = (step g c).distinct
+step g c = subst (λ es. IsStepFor c.self.inside.table.routes c.args.event.now (sides_of es)) (sym c.as_mut_slice.ensures.value) c.in_ok-entries.ensures.step
 
 pub put_entries-requires-clause-distinct : goal.put_entries-requires-clause-distinct
-put_entries-requires-clause-distinct g c = distinct g (goal.at.put_entries-requires-clause-distinct g c).After-as_mut_slice
+put_entries-requires-clause-distinct g c = (step g (goal.at.put_entries-requires-clause-distinct g c).After-as_mut_slice).distinct
 
 pub put_entries-requires-clause-among : goal.put_entries-requires-clause-among
 put_entries-requires-clause-among g c = played-among c.self.invariant.played
@@ -37,12 +34,12 @@ put_entries-requires-clause-named g c =
 -- ---- once they are put
 
 stepped : (g : Over) (c : In_ok-put_entries g) → IsStepFor c.self.inside.table.routes c.args.event.now (sides_of c.as_mut_slice.result.now)
-stepped g c = subst (λ es. IsStepFor c.self.inside.table.routes c.args.event.now (sides_of es)) (sym c.as_mut_slice.ensures.value) c.in_ok-new.ensures.step
+stepped g c = subst (λ es. IsStepFor c.self.inside.table.routes c.args.event.now (sides_of es)) (sym c.as_mut_slice.ensures.value) c.in_ok-entries.ensures.step
 
 can : (g : Over) (c : In_ok-put_entries g) → CanDrop (marks_by_step c.self.inside.journal.steps.items) c.self.inside.journal.cursor (held_claims c.put_entries.new.table.keys (claims_beyond c.put_entries.new.claims)) c.put_entries.new.table.routes
 can g c =
     can-play c.self.invariant.played (stepped g c) c.put_entries.new.table (claims_beyond c.put_entries.new.claims) (marks_of c.put_entries.new.entries)
-    c.in_ok-put_entries.ensures.routes c.in_ok-put_entries.ensures.marks c.in_ok-put_entries.ensures.claimed
+    c.in_ok-put_entries.ensures.put.routes c.in_ok-put_entries.ensures.put.marks c.in_ok-put_entries.ensures.claimed
 
 pub drop_ahead-requires-clause-claimed : goal.drop_ahead-requires-clause-claimed
 drop_ahead-requires-clause-claimed g c =
@@ -54,17 +51,17 @@ drop_ahead-requires-clause-claimed g c =
 
 -- the event's step
 abbrev new : (g : Over) (c : After-push_back_reserved g) → Step
-new g c = record { entries = with_items c.in_ok-new.new.entries c.put_entries.new.entries }
+new g c = record { entries = with_items c.in_ok-entries.entries c.put_entries.new.entries }
 
 entries_then : (g : Over) (c : After-push_back_reserved g) → (new g c).entries.items ≡ c.put_entries.new.entries
-entries_then g c = with_items_is c.in_ok-new.new.entries c.put_entries.new.entries (c.put_entries.auto.entries ∙ c.as_mut_slice.ensures.len)
+entries_then g c = with_items_is c.in_ok-entries.entries c.put_entries.new.entries (c.put_entries.auto.entries ∙ c.as_mut_slice.ensures.len)
 
 -- the steps before the cursor are left
 left : (g : Over) (c : After-push_back_reserved g) → c.drop_ahead.new.steps.items ≡ take c.self.inside.journal.cursor c.self.inside.journal.steps.items
 left g c = c.drop_ahead.ensures.steps ∙ ap (take c.self.inside.journal.cursor) c.in_ok-make_room.ensures.steps
 
 step_then : (g : Over) (c : After-push_back_reserved g) → IsStepFor c.self.inside.table.routes c.args.event.now (sides_of c.as_mut_slice.result.now)
-step_then g c = subst (λ es. IsStepFor c.self.inside.table.routes c.args.event.now (sides_of es)) (sym c.as_mut_slice.ensures.value) c.in_ok-new.ensures.step
+step_then g c = subst (λ es. IsStepFor c.self.inside.table.routes c.args.event.now (sides_of es)) (sym c.as_mut_slice.ensures.value) c.in_ok-entries.ensures.step
 
 -- with the claims that they and the event's step make
 claimed_then : (g : Over) (c : After-push_back_reserved g)
@@ -93,7 +90,7 @@ then : (g : Over) (c : After-push_back_reserved g) (floor : ℕ)
 then g c floor =
     ap (λ items. timeline_of floor (c.self.inside.journal.cursor + 1) (steps_of items) c.drop_ahead.new.table.routes) c.push_back_reserved.ensures.items
     ∙ after_play-on c.self.invariant.played (step_then g c) c.drop_ahead.new.table (claims_beyond c.drop_ahead.new.claims) c.drop_ahead.new.steps.items (new g c) (left g c)
-    (c.drop_ahead.ensures.routes ∙ c.in_ok-put_entries.ensures.routes) (ap sides_of (entries_then g c) ∙ c.in_ok-put_entries.ensures.sides) floor
+    (c.drop_ahead.ensures.routes ∙ c.in_ok-put_entries.ensures.put.routes) (ap sides_of (entries_then g c) ∙ c.in_ok-put_entries.ensures.put.sides) floor
 
 pub invariant_of-self-2 : goal.invariant_of-self-2
 invariant_of-self-2 g c =
@@ -101,8 +98,8 @@ invariant_of-self-2 g c =
     record {
       played = subst (IsPlayed c.drop_ahead.new.table (claims_beyond c.drop_ahead.new.claims) (c.self.inside.journal.cursor + 1)) (sym c.push_back_reserved.ensures.items)
           (played-on c.self.invariant.played (step_then g b) c.drop_ahead.new.table (claims_beyond c.drop_ahead.new.claims) c.drop_ahead.new.steps.items (new g b) (left g b)
-          (c.drop_ahead.ensures.routes ∙ c.in_ok-put_entries.ensures.routes) (ap sides_of (entries_then g b) ∙ c.in_ok-put_entries.ensures.sides)
-          (ap marks_of (entries_then g b) ∙ c.in_ok-put_entries.ensures.marks) c.drop_ahead.ensures.held (claimed_then g b));
+          (c.drop_ahead.ensures.routes ∙ c.in_ok-put_entries.ensures.put.routes) (ap sides_of (entries_then g b) ∙ c.in_ok-put_entries.ensures.put.sides)
+          (ap marks_of (entries_then g b) ∙ c.in_ok-put_entries.ensures.put.marks) c.drop_ahead.ensures.held (claimed_then g b));
       counted = omega (
         arith,
         c.requires,

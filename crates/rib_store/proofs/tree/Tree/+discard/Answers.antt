@@ -68,7 +68,7 @@ returns-after-turn-2-clause-slots g t c = λ q.
     let old = shape_of net c.args.self.now in
     let new = Rooted prefix Branch (shape_of net m.left) (shape_of net m.right) in
     let was : IsRooted prefix None (shape_of net n.left) (shape_of net n.right) old = rw c.in-Forked.is (cc, cc, cc, refl) in
-    c.join_fork.ensures.slots q ∙ elim c.match-turn-2.branch [
+    c.join-in-Forked.ensures.slots q ∙ elim c.match-turn-2.branch [
       | in-Left-turn w ↦
           let turn : turn_of (way prefix) key ≡ Left = cc in
           let is : IsRooted prefix None (shape_of net w.discard-in-Left-turn.new.self) (shape_of net n.right) new = rw w.fork-is (refl, refl, refl, refl) in

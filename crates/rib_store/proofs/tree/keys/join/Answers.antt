@@ -1,4 +1,4 @@
-use Rattle.std.proofs.Common.{◌≡◌, true, false, sym, ap, subst, ◌∙◌}
+use Rattle.std.proofs.Common.{◌≡◌, true, false, None, refl, sym, ap, subst, ◌∙◌}
 use Rattle.ip_prefix.specs.Turns.{way}
 use Rattle.rib_store.specs.declared.tree.Slot.TheVariants.{Branch}
 use Rattle.rib_store.specs.declared.tree.Tree.TheVariants as tree
@@ -61,4 +61,42 @@ returns-in_default-right g c =
       marked = subst IsMarked c.in-Rooted.is c.requires.marked;
       slots = λ q. sym (ap (λ x. at (shape_of net x) q) c.in-Rooted.is);
       sides = λ from bit on. subst (λ t. IsOn from bit (shape_of net t)) c.in-Rooted.is on;
+    }
+
+-- ---- the same of a branch
+
+pub returns-in-Empty-left-clause-slots : goal.returns-in-Empty-left-clause-slots
+returns-in-Empty-left-clause-slots g c = λ q.
+    let net = g.K.Packed.network in
+    let n = c.in-Forked.fork.value in
+    let prefix = net c.in-Forked.field-1 in
+    let shaped : IsNearlyShaped (Rooted prefix Branch (shape_of net n.left) (shape_of net n.right)) = subst (λ t. IsNearlyShaped (shape_of net t)) c.in-Forked.is c.requires.shaped in
+    let left : n.left ≡ tree.Empty = cc in
+    let child : c.replace-child-in-Empty-left.result ≡ n.right = cc in
+    join_right prefix (shape_of net n.left) (shape_of net n.right) (shape_of net c.replace-child-in-Empty-left.result) None refl (ap (shape_of net) left) (ap (shape_of net) child) shaped.0.right q
+    ∙ sym (ap (λ x. at (shape_of net x) q) c.in-Forked.is)
+
+pub returns-in-Empty-left-clause-sides : goal.returns-in-Empty-left-clause-sides
+returns-in-Empty-left-clause-sides g c = λ from bit on.
+    let net = g.K.Packed.network in
+    let n = c.in-Forked.fork.value in
+    let prefix = net c.in-Forked.field-1 in
+    let shaped : IsNearlyShaped (Rooted prefix Branch (shape_of net n.left) (shape_of net n.right)) = subst (λ t. IsNearlyShaped (shape_of net t)) c.in-Forked.is c.requires.shaped in
+    let child : c.replace-child-in-Empty-left.result ≡ n.right = cc in
+    on_below (shape_of net c.replace-child-in-Empty-left.result) from (way prefix) bit true (subst (λ t. IsOn from bit (shape_of net t)) c.in-Forked.is on) (subst (λ t. IsOn (way prefix) true (shape_of net t)) (sym child) shaped.0.right)
+
+pub returns-in-Empty-right-2 : goal.returns-in-Empty-right-2
+returns-in-Empty-right-2 g c =
+    let net = g.K.Packed.network in
+    let n = c.in-Forked.fork.value in
+    let prefix = net c.in-Forked.field-1 in
+    let shaped : IsNearlyShaped (Rooted prefix Branch (shape_of net n.left) (shape_of net n.right)) = subst (λ t. IsNearlyShaped (shape_of net t)) c.in-Forked.is c.requires.shaped in
+    let right : n.right ≡ tree.Empty = cc in
+    let child : c.replace-child-in-Empty-right-2.result ≡ n.left = cc in
+    record {
+      shaped = subst (λ t. IsShaped (shape_of net t)) (sym child) shaped.1;
+      marked = subst IsMarked (sym child) (subst IsMarked c.in-Forked.is c.requires.marked).1;
+      slots = λ q. join_left prefix (shape_of net n.left) (shape_of net n.right) (shape_of net c.replace-child-in-Empty-right-2.result) None refl (ap (shape_of net) right) (ap (shape_of net) child) shaped.0.left q
+          ∙ sym (ap (λ x. at (shape_of net x) q) c.in-Forked.is);
+      sides = λ from bit on. on_below (shape_of net c.replace-child-in-Empty-right-2.result) from (way prefix) bit false (subst (λ t. IsOn from bit (shape_of net t)) c.in-Forked.is on) (subst (λ t. IsOn (way prefix) false (shape_of net t)) (sym child) shaped.0.left);
     }

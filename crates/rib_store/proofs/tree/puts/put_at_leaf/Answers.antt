@@ -1,10 +1,10 @@
-use Rattle.std.proofs.Common.{◌≡◌, ◌||◌, Some, is_some, sym, ap, subst, ◌∙◌}
+use Rattle.std.proofs.Common.{rules, ◌≡◌, ◌||◌, Some, is_some, sym, ap, ap₂, subst, ◌∙◌}
 use Rattle.ip_prefix.specs.declared.turn.Turn.TheVariants.{Here}
 use Rattle.ip_prefix.specs.Turns.{way, turn_of}
 use Rattle.rib_store.specs.Shape.{Empty, shape_of, leaf_slot}
 use Rattle.rib_store.specs.Tree.{IsRooted}
 use Rattle.rib_store.proofs.GrowthLaws.{placed_here}
-use Rattle.rib_store.proofs.ShapeLaws.{rooted_leaf, shaped_leaf, routed_leaf}
+use Rattle.rib_store.proofs.ShapeLaws.{rooted_leaf, shaped_leaf, routed_leaf, hung}
 use Rattle.rib_store.proofs.tree.puts.put_at_leaf.Goals as goal
 
 pub returns-in-Here-clause-placed : goal.returns-in-Here-clause-placed
@@ -21,14 +21,15 @@ returns-in-Here-clause-placed g c =
 pub returns-in_ok-node-in-Left-clause-placed : goal.returns-in_ok-node-in-Left-clause-placed
 returns-in_ok-node-in-Left-clause-placed g c =
     let net = g.K.Packed.network in
-    let leaf = c.leaf_with-leaf.result in
-    c.hang.ensures.placed c.args.key.now c.args.route.now
-    (subst (λ r. IsRooted c.args.key.now (Some r) Empty Empty (shape_of net leaf)) c.leaf_with-leaf.ensures.slot
-    (subst (λ n. IsRooted n (Some (leaf_slot leaf)) Empty Empty (shape_of net leaf)) c.of.ensures (rooted_leaf net leaf c.of.result c.leaf_with-leaf.ensures.leaf)))
-    (sym c.turn-side.ensures)
+    let leaf = c.leaf_with.result in
+    hung net c.args.tree.now (shape_of net c.put_root.new.tree) c.args.prefix c.args.key.now c.args.route.now _ (shape_of net leaf) c.turn-side.result c.requires.leaf (search rules) (sym c.turn-side.ensures)
+    (c.slot_in.ensures.slot ∙ ap (λ t. Some (leaf_slot t)) c.replace.ensures.value)
+    (subst (λ r. IsRooted c.args.key.now (Some r) Empty Empty (shape_of net leaf)) c.leaf_with.ensures.slot
+    (subst (λ n. IsRooted n (Some (leaf_slot leaf)) Empty Empty (shape_of net leaf)) c.of.ensures (rooted_leaf net leaf c.of.result c.leaf_with.ensures.leaf)))
+    c.put_root.ensures.rooted
 
 pub returns-in_ok-node-in-Left-clause-quiet : goal.returns-in_ok-node-in-Left-clause-quiet
 returns-in_ok-node-in-Left-clause-quiet g c = λ none turn.
-    c.hang.ensures.routed
-    ∙ ap (λ r. is_some (leaf_slot c.args.tree.now) || r) (c.leaf_with-leaf.ensures.routed ∙ ap is_some none)
+    c.put_root.ensures.routed
+    ∙ ap₂ (λ filled r. filled || r) (c.slot_in.ensures.filled ∙ ap (λ t. is_some (leaf_slot t)) c.replace.ensures.value) (c.leaf_with.ensures.routed ∙ ap is_some none)
     ∙ routed_leaf c.args.tree.now c.args.prefix c.requires.leaf
