@@ -52,15 +52,12 @@ fn split_family(octets: &[u8]) -> Option<Field<'_, Family>>
     ensures { FindsField SpellsFamily octets.now result }
 {
     let (front, rest) = octets.split_at_checked(2)?;
-    let family = match front {
+    let value = match front {
         [0, 1] => Family::V4,
         [0, 2] => Family::V6,
         _ => return None,
     };
-    Some(Field {
-        value: family,
-        rest,
-    })
+    Some(Field { value, rest })
 }
 
 /// Makes the peer that of the session in front, and answers what follows it. Where none stands
