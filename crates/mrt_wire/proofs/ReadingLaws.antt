@@ -1,6 +1,6 @@
 -- What is read, or refused, behind other values.
 use Rattle.std.proofs.Common.{◌≡◌, ℕ, ◌<◌, ◌++◌, Result, Ok, Err, List, length, refl, ap, ◌∙◌}
-use Rattle.std.specs.Prelude.{IfErr}
+use Rattle.std.specs.Prelude.{IfErr, IsErrAnd}
 use Rattle.std.specs.Int.{to_be_bytes, w16}
 use Rattle.ip_prefix.specs.Sequences.{Begins, SpellsAll}
 use Rattle.ip_prefix.specs.Fronts.{BeginsWithNone, OneFront, IsCode}
@@ -11,6 +11,7 @@ use Rattle.octet_forms.proofs.Counts as counts
 use Rattle.bgp_wire.specs.declared.WireFault.{WireFault}
 use Rattle.bgp_wire.specs.declared.WireFault.TheVariants.{Malformed, Memory}
 use Rattle.bgp_wire.specs.Readers.{Reads, Refuses, RefusesFront}
+use Rattle.bgp_paths.proofs.Refusing.{refused_always}
 use Rattle.mrt_wire.specs.Fields.{SpellsShort}
 
 -- what is refused behind the first is refused of both
@@ -35,6 +36,19 @@ reads_behind First Second one a more octets (Err fault) p none = refused_unkept 
 pub refused_so : {A : Type 0} (answer : Result A WireFault) (P Q : WireFault → Type 0) → ((fault : WireFault) → P fault → Q fault) → IfErr answer P → IfErr answer Q
 refused_so (Ok value) P Q follows p = p
 refused_so (Err fault) P Q follows p = follows fault p
+
+-- what no value is spelled by is refused, by any fault
+pub refused_none : {A R : Type 0} (Spells : A → List ℕ → Type 0) (octets : List ℕ) (answer : Result R WireFault) → ((value : A) → Spells value octets → ⊥) → IfErr answer (Refuses Spells octets)
+refused_none Spells octets (Ok value) none = tt
+refused_none Spells octets (Err fault) none = refused_always Spells octets fault none
+
+pub refused_front : {A : Type 0} (Spells : A → List ℕ → Type 0) (octets : List ℕ) (fault : WireFault) → BeginsWithNone Spells octets → RefusesFront Spells octets fault
+refused_front Spells octets Malformed none = none
+refused_front Spells octets Memory none = tt
+
+pub reads_none : {A : Type 0} (Q : WireFault → Type 0) (Spells : A → List ℕ → Type 0) (octets : List ℕ) (answer : Result A WireFault) → IsErrAnd answer Q → ((value : A) → Spells value octets → ⊥) → Reads Spells octets answer
+reads_none Q Spells octets (Ok value) e none = absurd e
+reads_none Q Spells octets (Err fault) e none = refused_always Spells octets fault none
 
 -- octets that begin with a number are its own and the rest
 short_whole : (count : ℕ) (body octets : List ℕ) → Begins SpellsShort count body octets → octets ≡ to_be_bytes w16 count ++ body

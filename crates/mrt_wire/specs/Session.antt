@@ -13,8 +13,13 @@ use Rattle.mrt_wire.specs.declared.profile.SessionKind.{SessionKind}
 use Rattle.mrt_wire.specs.declared.profile.SessionKind.TheVariants as kind
 use Rattle.mrt_wire.specs.declared.profile.SessionForm.{SessionForm}
 use Rattle.mrt_wire.specs.declared.session.TheConstants.{INTERFACE_SIZE, MICROS_PER_SECOND}
-use Rattle.mrt_wire.specs.declared.session.StateChange.{StateChange}
 use Rattle.mrt_wire.specs.Fields.{SpellsShort, AreOctets, SpellsAddressOf}
+
+-- a peer's old and new state (RFC 4271, section 8.2.2)
+pub record StateChange : Type 0 where
+  pub peer : Peer
+  pub old : ℕ
+  pub new : ℕ
 
 -- a message that a peer has sent
 pub record PeerMessage : Type 0 where

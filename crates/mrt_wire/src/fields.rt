@@ -26,10 +26,8 @@ pub(crate) fn split_octet(octets: &[u8]) -> Option<Field<'_, u8>>
     ensures { FindsField SpellsOctet octets.now result }
 {
     let (octet, rest) = octets.split_first()?;
-    Some(Field {
-        value: *octet,
-        rest,
-    })
+    let value = *octet;
+    Some(Field { value, rest })
 }
 
 /// What follows so many octets.
@@ -52,10 +50,8 @@ pub(crate) fn split_short(octets: &[u8]) -> Option<Field<'_, u16>>
         return None;
     }
     let (front, rest) = octets.split_at(2);
-    Some(Field {
-        value: BigEndian::read_u16(front),
-        rest,
-    })
+    let value = BigEndian::read_u16(front);
+    Some(Field { value, rest })
 }
 
 /// The number of four octets in front, and what follows it.
@@ -67,10 +63,8 @@ pub(crate) fn split_word(octets: &[u8]) -> Option<Field<'_, u32>>
         return None;
     }
     let (front, rest) = octets.split_at(4);
-    Some(Field {
-        value: BigEndian::read_u32(front),
-        rest,
-    })
+    let value = BigEndian::read_u32(front);
+    Some(Field { value, rest })
 }
 
 /// The AS number of this width in front, and what follows it.

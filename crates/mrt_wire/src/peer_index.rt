@@ -64,9 +64,7 @@ fn split_peer(octets: &[u8]) -> Option<Field<'_, Peer>>
 fn read_peers(alloc: Global, octets: &[u8]) -> Result<Peers, WireFault>
     ensures { Reads (WithMore (SpellsCounted SpellsPeer)) octets.now result }
 {
-    let Some(count) = split_short(octets) else {
-        return Err(WireFault::Malformed);
-    };
+    let count = split_short(octets).ok_or(WireFault::Malformed)?;
     let most = count.rest.len() / SMALLEST_PEER;
     let mut peers = Vec::with_capacity(alloc, most.min(usize::from(count.value)))?;
     let mut rest = count.rest;
@@ -84,11 +82,7 @@ fn read_peers(alloc: Global, octets: &[u8]) -> Result<Peers, WireFault>
 pub(crate) fn read_peer_index(alloc: Global, octets: &[u8]) -> Result<Peers, WireFault>
     ensures { Reads SpellsPeerIndex octets.now result }
 {
-    let Some(after_id) = skip(ID_SIZE, octets) else {
-        return Err(WireFault::Malformed);
-    };
-    let Some(view) = split_sized(after_id) else {
-        return Err(WireFault::Malformed);
-    };
-    read_peers(alloc, view.1)
+    let after_id = skip(ID_SIZE, octets).ok_or(WireFault::Malformed)?;
+    let (_, peers) = split_sized(after_id).ok_or(WireFault::Malformed)?;
+    read_peers(alloc, peers)
 }

@@ -1,17 +1,14 @@
 //! Memory that records are read into again.
 
-ghost use Rattle.std.specs.Prelude.{◌≡◌, ◌∷◌, [], IfOk};
-ghost use Rattle.mrt_events.specs.Event.{Announced};
+ghost use Rattle.std.specs.Prelude.{◌≡◌, []};
 
 use crate::peers::PEER_PLACES;
 use crate::read_routes::{LARGEST_PLACE, ReadRoutes};
 use crate::route_pool::{FIRST_ROUTES, LARGEST_ROUTE, MOST_ROOM, MOST_ROUTES, RoutePool};
 use bgp_wire::UpdateParts;
-use ip_prefix::Prefix;
-use mrt_events::{Item, Items, Peer, Route, SharedRanges};
-use std::alloc::{AllocError, Global};
+use mrt_events::Item;
+use std::alloc::Global;
 use std::mem;
-use std::rc::Rc;
 
 /// How many octets all that is kept for routes of tables takes at most, whatever was read.
 const MOST_OCTETS: usize = 1 << 20;
@@ -71,27 +68,6 @@ impl Pool {
         let mut items = mem::replace(&mut self.items, Vec::new(alloc));
         items.clear();
         items
-    }
-
-    /// An announcement alone, of a table's record, which shares its route with no other.
-    #[inline(always)]
-    pub(crate) fn announcement_alone(
-        &mut self,
-        alloc: Global,
-        peer: Peer,
-        prefix: Prefix,
-        route: Rc<Route>,
-    ) -> Result<Items, AllocError>
-        ensures { IfOk result (λ items. items ≡ Announced peer prefix route.value ∷ []) }
-    {
-        let mut items = self.take_items(alloc);
-        items.push(Item::Announce(peer, prefix, route))?;
-        let alone = SharedRanges {
-            start: 0,
-            middle: 1,
-            end: 1,
-        };
-        Ok(Items::sharing(items, alone))
     }
 
     /// Keeps the room of items, unless there is as much already: a message that says nothing has none.

@@ -105,9 +105,7 @@ fn read_entry<'a>(
     ensures timed { IfOk result (λ found. IsTimed snapshot.entry found.0) }
     ensures refused { IfErr result (RefusesFront (SpellsEntry snapshot.entry.family) octets.now) }
 {
-    let Some(framed) = frame_entry(octets) else {
-        return Err(WireFault::Malformed);
-    };
+    let framed = frame_entry(octets).ok_or(WireFault::Malformed)?;
     let time = time_of(snapshot.stamp, snapshot.seconds, framed.time);
     let sent = SentAttrs {
         octets: framed.attributes,
@@ -168,9 +166,7 @@ fn read_entries(
     ensures told { IfOk result (λ told. EntriesTold snapshot.entry prefix told octets.now) }
     ensures refused { IfErr result (Refuses (SpellsEntries snapshot.entry.family) octets.now) }
 {
-    let Some(count) = split_short(octets) else {
-        return Err(WireFault::Malformed);
-    };
+    let count = split_short(octets).ok_or(WireFault::Malformed)?;
     let most = count.rest.len() / SMALLEST_ENTRY;
     let mut items = pool.take_items(alloc);
     items.reserve(most.min(usize::from(count.value)))?;
@@ -198,12 +194,8 @@ pub(crate) fn read_rib(
         × SpellsRib snapshot.entry.family rib octets.now × AreItemsOf snapshot.entry rib told) }
     ensures refused { IfErr result (Refuses (SpellsRib snapshot.entry.family) octets.now) }
 {
-    let Some(rest) = skip(SEQUENCE_SIZE, octets) else {
-        return Err(WireFault::Malformed);
-    };
-    let Some(prefix) = Prefix::read(snapshot.family, rest) else {
-        return Err(WireFault::Malformed);
-    };
-    let (_, entries) = rest.split_at(prefix.1);
-    read_entries(alloc, pool, snapshot, prefix.0, entries)
+    let rest = skip(SEQUENCE_SIZE, octets).ok_or(WireFault::Malformed)?;
+    let (prefix, size) = Prefix::read(snapshot.family, rest).ok_or(WireFault::Malformed)?;
+    let (_, entries) = rest.split_at(size);
+    read_entries(alloc, pool, snapshot, prefix, entries)
 }

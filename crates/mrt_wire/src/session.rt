@@ -9,14 +9,14 @@ ghost use Rattle.bgp_wire.specs.Readers.{Finds, Reads};
 ghost use Rattle.mrt_events.specs.Event.{Changed};
 ghost use Rattle.mrt_wire.specs.Items.{session_items};
 ghost use Rattle.mrt_wire.specs.Judging.{FindsField, Told, session_told};
-ghost use Rattle.mrt_wire.specs.Session.{SpellsFamily, AreSystems, AreAddresses, SpellsSessionPeer, SpellsStateChange, SpellsPeerMessage, SpellsMicros, SpellsHappening, SpellsSessionBody};
+ghost use Rattle.mrt_wire.specs.Session.{SpellsFamily, AreSystems, AreAddresses, SpellsSessionPeer, SpellsPeerMessage, SpellsMicros, SpellsHappening, SpellsSessionBody};
 
 use crate::fields::{Field, fill_address, skip, split_asn, split_short, split_word};
 use crate::peers::blank_peer;
 use crate::pool::Pool;
 use crate::profile::{SessionForm, SessionKind};
-use crate::update::items_of_message;
-use bgp_wire::{AsWidth, WireFault, replace_message};
+use crate::update::items_of_update;
+use bgp_wire::{AsWidth, MessageKind, WireFault, replace_message};
 use ip_prefix::{Addr, Family};
 use mrt_events::{Item, Items, Peer};
 use std::alloc::{AllocError, Global};
@@ -29,14 +29,6 @@ const MICROS_PER_SECOND: u32 = 1_000_000;
 
 /// How many octets a message and its peer have at most whose memory stays.
 const LONGEST_KEPT: usize = 4096;
-
-/// A peer's old and new state (RFC 4271, section 8.2.2).
-#[derive(Clone, Copy, Debug)]
-pub(crate) struct StateChange {
-    pub(crate) peer: Peer,
-    pub(crate) old: u16,
-    pub(crate) new: u16,
-}
 
 /// What is said of a session, and the microseconds, where the body has them.
 #[derive(Debug, Drop)]
@@ -60,15 +52,12 @@ fn split_family(octets: &[u8]) -> Option<Field<'_, Family>>
     ensures { FindsField SpellsFamily octets.now result }
 {
     let (front, rest) = octets.split_at_checked(2)?;
-    let family = match front {
+    let value = match front {
         [0, 1] => Family::V4,
         [0, 2] => Family::V6,
         _ => return None,
     };
-    Some(Field {
-        value: family,
-        rest,
-    })
+    Some(Field { value, rest })
 }
 
 /// Makes the peer that of the session in front, and answers what follows it. Where none stands
@@ -88,21 +77,6 @@ fn fill_session_peer<'a>(peer: &mut Peer, width: AsWidth, octets: &'a [u8]) -> O
     Some(rest)
 }
 
-/// The state change that the octets begin with.
-fn read_state_change(width: AsWidth, octets: &[u8]) -> Option<StateChange>
-    ensures { Finds (SpellsStateChange width) octets.now result }
-{
-    let mut peer = blank_peer();
-    let rest = fill_session_peer(&mut peer, width, octets)?;
-    let old = split_short(rest)?;
-    let new = split_short(old.rest)?;
-    Some(StateChange {
-        peer,
-        old: old.value,
-        new: new.value,
-    })
-}
-
 /// What the message of a session says that the octets are.
 #[inline(never)]
 fn read_peer_message(
@@ -116,12 +90,12 @@ fn read_peer_message(
         octets.now result }
 {
     let mut peer = blank_peer();
-    let Some(rest) = fill_session_peer(&mut peer, width, octets) else {
-        return Err(WireFault::Malformed);
-    };
+    let rest = fill_session_peer(&mut peer, width, octets).ok_or(WireFault::Malformed)?;
     let kind = replace_message(alloc, &mut pool.parts, width, rest)?;
-    let items = items_of_message(alloc, pool, &peer, seconds, kind)?;
-    Ok(items)
+    match kind {
+        MessageKind::Update => Ok(items_of_update(alloc, pool, &peer, seconds)?),
+        MessageKind::Other(_) => Ok(Items::from_vec(Vec::new(alloc))),
+    }
 }
 
 /// The microseconds in front, where a body has them, and what follows them.
@@ -149,10 +123,11 @@ fn read_change(alloc: Global, width: AsWidth, octets: &[u8]) -> Result<Items, Wi
     ensures { (seconds : ℕ) → Reads (Told (SpellsHappening SessionKind.StateChange width)
         (session_items seconds)) octets.now result }
 {
-    let Some(change) = read_state_change(width, octets) else {
-        return Err(WireFault::Malformed);
-    };
-    let items = vec![in alloc; Item::State(change.peer, change.old, change.new)]?;
+    let mut peer = blank_peer();
+    let rest = fill_session_peer(&mut peer, width, octets).ok_or(WireFault::Malformed)?;
+    let old = split_short(rest).ok_or(WireFault::Malformed)?;
+    let new = split_short(old.rest).ok_or(WireFault::Malformed)?;
+    let items = vec![in alloc; Item::State(peer, old.value, new.value)]?;
     Ok(Items::from_vec(items))
 }
 
@@ -191,9 +166,7 @@ pub(crate) fn read_session(
 ) -> Result<SessionItems, WireFault>
     ensures { Reads (Told (SpellsSessionBody form) (session_told seconds)) octets.now result }
 {
-    let Some(micros) = split_micros(form.timed, octets) else {
-        return Err(WireFault::Malformed);
-    };
+    let micros = split_micros(form.timed, octets).ok_or(WireFault::Malformed)?;
     let items = read_happening(alloc, pool, seconds, form, micros.rest)?;
     Ok(SessionItems {
         items,

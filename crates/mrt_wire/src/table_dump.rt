@@ -16,7 +16,7 @@ use crate::rib::time_of;
 use crate::route_pool::SentAttrs;
 use bgp_wire::{AsWidth, WireFault};
 use ip_prefix::{Addr, Family, Prefix, V4_OCTETS};
-use mrt_events::{Items, Peer, Stamp};
+use mrt_events::{Item, Items, Peer, SharedRanges, Stamp};
 use std::alloc::Global;
 
 /// How many octets the numbers of the view and of the record have.
@@ -105,8 +105,14 @@ fn read_entry_of(
     let route = pool
         .read
         .route_of(alloc, place_of(&entry.peer), sent, time)?;
-    let items = pool.announcement_alone(alloc, entry.peer, entry.prefix, route)?;
-    Ok(items)
+    let mut items = pool.take_items(alloc);
+    items.push(Item::Announce(entry.peer, entry.prefix, route))?;
+    let alone = SharedRanges {
+        start: 0,
+        middle: 1,
+        end: 1,
+    };
+    Ok(Items::sharing(items, alone))
 }
 
 /// What an entry with its peer says.

@@ -1,14 +1,14 @@
 //! What messages say of routes.
 
 ghost use Rattle.std.specs.Prelude.{◌≡◌, ◌++◌, ◌∷◌, [], true, map, OnOk, IfOk};
-ghost use Rattle.bgp_wire.specs.Parts.{message_in, update_in};
+ghost use Rattle.bgp_wire.specs.Parts.{update_in};
 ghost use Rattle.mrt_events.specs.Event.{Withdrawn, saying};
-ghost use Rattle.mrt_wire.specs.Items.{message_items, update_items};
+ghost use Rattle.mrt_wire.specs.Items.{update_items};
 ghost use Rattle.mrt_wire.specs.Judging.{Adds, announced_with};
 
 use crate::pool::Pool;
 use crate::route_pool::RoutePool;
-use bgp_wire::{Attrs, MessageKind, Prefixes, UpdateParts};
+use bgp_wire::{Attrs, Prefixes, UpdateParts};
 use ip_prefix::Addr;
 use mrt_events::{Item, Items, Peer, Route, SharedRanges};
 use std::alloc::{AllocError, Global};
@@ -85,7 +85,7 @@ fn prefix_count(parts: &UpdateParts) -> usize {
 
 /// What the UPDATE says that was read last. Its attributes are given away.
 #[inline]
-fn items_of_update(
+pub(crate) fn items_of_update(
     alloc: Global,
     pool: &mut Pool,
     peer: &Peer,
@@ -129,22 +129,4 @@ fn items_of_update(
     )?;
     let end = items.len();
     Ok(Items::sharing(items, SharedRanges { start, middle, end }))
-}
-
-/// What the message says that was read last.
-#[inline]
-pub(crate) fn items_of_message(
-    alloc: Global,
-    pool: &mut Pool,
-    peer: &Peer,
-    seconds: u32,
-    kind: MessageKind,
-) -> Result<Items, AllocError>
-    ensures { IfOk result (λ items.
-        items ≡ message_items peer.now seconds (message_in kind pool.old.parts)) }
-{
-    match kind {
-        MessageKind::Update => items_of_update(alloc, pool, peer, seconds),
-        MessageKind::Other(_) => Ok(Items::from_vec(Vec::new(alloc))),
-    }
 }

@@ -1,8 +1,8 @@
-use Rattle.std.proofs.Common.{◌∷◌, [], Err, ap, sym, subst, ◌∙◌}
+use Rattle.std.proofs.Common.{◌∷◌, [], map, Err, ap, sym, subst, ◌∙◌}
 use Rattle.std.proofs.lemmas.Result.{err_from_is_err_and}
 use Rattle.bgp_wire.specs.Readers.{Reads}
 use Rattle.bgp_paths.proofs.Refusing.{refused_part}
-use Rattle.mrt_events.specs.Event.{Announced}
+use Rattle.mrt_events.specs.Event.{Announced, saying}
 use Rattle.mrt_wire.specs.Items.{peer_entry_items, route_of}
 use Rattle.mrt_wire.specs.Judging.{Told}
 use Rattle.mrt_wire.specs.TableDump.{SpellsPeerEntry}
@@ -34,5 +34,5 @@ returns c =
     let route = c.in_ok-route.route in (
       record { prefix = entry.prefix; peer = entry.peer; attrs = route.value.attrs; time = entry.time },
       (framed.0, framed.1, entry.attributes.now, framed.2, framed.3, c.in_ok-route.ensures.read.0),
-      c.in_ok-items.ensures ∙ ap (λ time. Announced entry.peer entry.prefix (route_of route.value.attrs time) ∷ []) (c.in_ok-route.ensures.read.1 ∙ c.time_of-time.ensures),
+      c.sharing.ensures ∙ ap (map saying) (rw c.take_items-items.ensures.items at c.in_ok-push.ensures.items) ∙ ap (λ time. Announced entry.peer entry.prefix (route_of route.value.attrs time) ∷ []) (c.in_ok-route.ensures.read.1 ∙ c.time_of-time.ensures),
     )
