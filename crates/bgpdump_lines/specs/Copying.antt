@@ -1,14 +1,11 @@
 -- Private.
 -- Where the parts of a route's line stand, of which the next line may be made.
-use Rattle.std.specs.Prelude.{◌≡◌, ℕ, ◌≤◌, Option, Some, None, List, length, drop, slice_range}
-use Rattle.ip_prefix.specs.Network.{Network}
+use Rattle.std.specs.Prelude.{◌≡◌, ℕ, ◌≤◌, List, length, drop, slice_range}
 use Rattle.mrt_events.specs.declared.peer.Peer.{Peer}
 use Rattle.mrt_events.specs.declared.event.Route.{Route}
 use Rattle.bgpdump_lines.specs.declared.heading.Heading.{Heading}
 use Rattle.bgpdump_lines.specs.declared.route_line.Places.{Places}
 use Rattle.bgpdump_lines.specs.declared.route_line.LastLine.{LastLine}
-use Rattle.bgpdump_lines.specs.declared.route_line.Likeness.{Likeness}
-use Rattle.bgpdump_lines.specs.declared.route_line.Likeness.TheVariants.{SameRoute, SamePrefix, Other}
 use Rattle.bgpdump_lines.specs.Fields.{prefix_field, route_tail}
 use Rattle.bgpdump_lines.specs.Heading.{route_head, route_front}
 
@@ -54,13 +51,3 @@ pub record EndsInRoute (heading : Heading) (peer : Peer) (route : Route) (places
   pub ordered : AreOrdered places text
   pub front : front_at places text ≡ route_front heading peer route
   pub tail : tail_at places text ≡ route_tail route
-
--- what a line is alike in that is said of a line with the route of this peer to this prefix
-abbrev pub IsLike : Option LastLine → Peer → Network → Route → Likeness → Type 0
-IsLike (Some line) peer network route (SameRoute places) =
-    (line.places ≡ places) × (line.said.peer.now ≡ peer) × (line.said.route.now ≡ route)
-IsLike (Some line) peer network route (SamePrefix places) =
-    (line.places ≡ places) × (line.said.prefix.now ≡ network) × (line.said.route.now.time ≡ route.time)
-IsLike None peer network route (SameRoute places) = ⊥
-IsLike None peer network route (SamePrefix places) = ⊥
-IsLike last peer network route Other = Unit {0}

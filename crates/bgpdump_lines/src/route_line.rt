@@ -5,7 +5,7 @@ ghost use Rattle.mrt_events.specs.Event.{Announced};
 ghost use Rattle.bgpdump_lines.specs.Fields.{peer_fields, prefix_field, route_tail};
 ghost use Rattle.bgpdump_lines.specs.Heading.{headed_line};
 ghost use Rattle.bgpdump_lines.specs.Writing.{Prints};
-ghost use Rattle.bgpdump_lines.specs.Copying.{AreOrdered, HasParts, EndsIn, IsLike};
+ghost use Rattle.bgpdump_lines.specs.Copying.{AreOrdered, HasParts, EndsIn};
 ghost use Rattle.bgpdump_lines.specs.Copying.{head_at, front_at, prefix_at, tail_at};
 
 use crate::fields::{put_attributes, put_peer, put_prefix};
@@ -134,41 +134,6 @@ fn put_route_beside(
     })
 }
 
-/// What a route's line may take from the line before.
-#[derive(Clone, Copy)]
-enum Likeness {
-    /// All but the prefix.
-    SameRoute(Places),
-    /// The first three fields and the prefix.
-    SamePrefix(Places),
-    /// Nothing.
-    Other,
-}
-
-/// What the line of a route may take from the last one.
-#[inline(always)]
-fn likeness_to_last(last: Option<LastLine<'_>>, said: Announcement<'_>) -> Likeness
-    ensures { IsLike last.entry said.entry.peer.now said.entry.prefix.now
-        said.entry.route.now result }
-{
-    let Some(line) = last else {
-        return Likeness::Other;
-    };
-    let Announcement {
-        peer,
-        prefix,
-        route,
-    } = said;
-    let before = line.said;
-    if same_prefix(before.prefix, prefix) && before.route.time == route.time {
-        return Likeness::SamePrefix(line.places);
-    }
-    if same_peer(before.peer, peer) && same_route(before.route, route) {
-        return Likeness::SameRoute(line.places);
-    }
-    Likeness::Other
-}
-
 /// Appends the line of a route. What the last line says too is copied from there.
 #[inline(always)]
 pub(crate) fn put_route<'a>(
@@ -182,10 +147,17 @@ pub(crate) fn put_route<'a>(
         (Announced said.entry.peer.now said.entry.prefix.now said.entry.route.now)) result }
     ensures last { IfOk result (λ line. EndsIn heading.now line text.new) }
 {
-    let places = match likeness_to_last(last, said) {
-        Likeness::SameRoute(places) => put_route_again(places, said.prefix, text)?,
-        Likeness::SamePrefix(places) => put_route_beside(places, said.peer, said.route, text)?,
-        Likeness::Other => put_route_anew(heading, said, text)?,
+    let places = match last {
+        Some(line)
+            if same_prefix(line.said.prefix, said.prefix)
+                && line.said.route.time == said.route.time => {
+            put_route_beside(line.places, said.peer, said.route, text)?
+        }
+        Some(line)
+            if same_peer(line.said.peer, said.peer) && same_route(line.said.route, said.route) => {
+            put_route_again(line.places, said.prefix, text)?
+        }
+        _ => put_route_anew(heading, said, text)?,
     };
     Ok(LastLine { said, places })
 }
