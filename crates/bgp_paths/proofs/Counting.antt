@@ -2,7 +2,7 @@
 use Rattle.std.proofs.Common.{◌≡◌, ℕ, ◌+◌, ◌*◌, ◌/◌, ◌%◌, List, length, ap, ◌∙◌, arith}
 use Rattle.ip_prefix.specs.Sequences.{SpellsAll}
 use Rattle.bgp_paths.specs.declared.numbers.AsWidth.{AsWidth}
-use Rattle.bgp_paths.specs.Number.{octets_at, SpellsAsn}
+use Rattle.bgp_paths.specs.Path.{octets_at, SpellsAsn}
 use Rattle.bgp_paths.proofs.OneFront.{length-numbers}
 
 -- with one less it is still whole

@@ -7,7 +7,7 @@ use Rattle.bgp_paths.specs.declared.segment.SegmentKind.{SegmentKind}
 use Rattle.bgp_paths.specs.declared.segment.SegmentKind.TheVariants.{AsSequence}
 use Rattle.bgp_paths.specs.declared.segment.Segment.{Segment}
 use Rattle.bgp_paths.specs.Merge.{Hop, hops_by, hops_from, hop_weight, joined_hops, gathered_hops, segments_of, weight_by, segment_weight}
-use Rattle.bgp_paths.specs.Segments.{piece}
+use Rattle.bgp_paths.specs.Readers.{piece}
 use Rattle.bgp_paths.proofs.Weights.{cut_fits, total, weight-hops_by}
 use Rattle.bgp_paths.proofs.Fronts.{hops_before, front, front-append, front_cut}
 

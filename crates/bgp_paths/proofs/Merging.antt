@@ -7,7 +7,7 @@ use Rattle.bgp_paths.specs.declared.segment.SegmentKind.TheVariants.{AsSequence}
 use Rattle.bgp_paths.specs.declared.segment.Segment.{Segment}
 use Rattle.bgp_paths.specs.declared.path.AsPath.{AsPath}
 use Rattle.bgp_paths.specs.Merge.{Hop, hops_from, segment_weight, path_weight, plain_path, plain_segments, segments_of, IsLongest, IsMerge}
-use Rattle.bgp_paths.specs.Segments.{piece}
+use Rattle.bgp_paths.specs.Readers.{piece}
 use Rattle.bgp_paths.proofs.Weights.{total, weight-hops_from, total-plain}
 use Rattle.bgp_paths.proofs.Fronts.{front, front_longest, one_front}
 use Rattle.bgp_paths.proofs.Gathering.{kept_segments, kept_whole, kept_cut, total-kept_segments}

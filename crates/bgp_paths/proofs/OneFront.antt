@@ -10,9 +10,8 @@ use Rattle.bgp_paths.specs.declared.numbers.AsWidth.{AsWidth}
 use Rattle.bgp_paths.specs.declared.numbers.AsWidth.TheVariants.{Two, Four}
 use Rattle.bgp_paths.specs.declared.segment.SegmentKind.{SegmentKind}
 use Rattle.bgp_paths.specs.declared.segment.Segment.{Segment}
-use Rattle.bgp_paths.specs.Number.{bits_at, octets_at, limit_at, SpellsAsn}
+use Rattle.bgp_paths.specs.Path.{bits_at, octets_at, limit_at, SpellsAsn, kind_code, SpellsPath, SpellsSegment}
 use Rattle.bgp_paths.specs.declared.path.AsPath.{AsPath}
-use Rattle.bgp_paths.specs.Path.{kind_code, SpellsPath, SpellsSegment}
 
 -- ---- numbers
 

@@ -9,10 +9,8 @@ use Rattle.bgp_paths.specs.declared.fault.WireFault.TheVariants.{Malformed, Memo
 use Rattle.bgp_paths.specs.declared.numbers.AsWidth.{AsWidth}
 use Rattle.bgp_paths.specs.declared.segment.SegmentKind.{SegmentKind}
 use Rattle.bgp_paths.specs.declared.segment.Segment.{Segment}
-use Rattle.bgp_paths.specs.Number.{octets_at, SpellsAsn}
-use Rattle.bgp_paths.specs.Path.{kind_code, SpellsSegment}
-use Rattle.bgp_paths.specs.Segments.{IsFramed}
-use Rattle.bgp_paths.specs.Readers.{Finds, Refuses, RefusesFront}
+use Rattle.bgp_paths.specs.Path.{octets_at, SpellsAsn, kind_code, SpellsSegment}
+use Rattle.bgp_paths.specs.Readers.{IsFramed, Finds, Refuses, RefusesFront}
 use Rattle.bgp_paths.proofs.OneFront.{segment_begun, length-numbers}
 
 -- what is found by a part is found by the whole, where the two spell the same values

@@ -1,9 +1,5 @@
-pub mod Number
 pub mod Path
-pub mod Segments
-pub mod Reading
-pub mod Readers
 pub mod Text
-pub mod Printed
+pub mod Readers
 pub mod Merge
 pub mod Codes

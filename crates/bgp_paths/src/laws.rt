@@ -10,7 +10,7 @@ ghost use Rattle.bgp_paths.specs.declared.numbers.AsWidth.{AsWidth};
 ghost use Rattle.bgp_paths.specs.declared.path.AsPath.{AsPath};
 ghost use Rattle.bgp_paths.specs.Merge.{IsMerge, path_weight};
 ghost use Rattle.bgp_paths.specs.Path.{SpellsPath};
-ghost use Rattle.bgp_paths.specs.Printed.{all_marks};
+ghost use Rattle.bgp_paths.specs.Readers.{all_marks};
 
 /// No octets spell two paths with AS numbers of one width.
 pub fn one_path()

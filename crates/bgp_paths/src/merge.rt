@@ -2,9 +2,8 @@
 //! 4.2.3).
 
 ghost use Rattle.std.specs.Prelude.{◌≡◌, ℕ, ◌≤◌, List, ◌++◌, IfOk, OnOk, sum_by};
-ghost use Rattle.bgp_paths.specs.Merge.{IsMerge, IsLongest, path_weight, segment_weight};
-ghost use Rattle.bgp_paths.specs.Merge.{Hop, hops_from, segments_of};
-ghost use Rattle.bgp_paths.specs.Segments.{piece};
+ghost use Rattle.bgp_paths.specs.Merge.{IsMerge, IsLongest, path_weight, segment_weight, Hop, hops_from, segments_of};
+ghost use Rattle.bgp_paths.specs.Readers.{piece};
 ghost use Rattle.bgp_paths.specs.declared.path.AsPath.{AsPath};
 
 use crate::path::{AsPath, Segments};

@@ -3,7 +3,7 @@
 ghost use Rattle.std.specs.Prelude.{◌≡◌, ◌≤◌, ◌<◌, ◌+◌, ◌/◌, ◌%◌, ◌^◌, [], length, OnOk, IfErr, vec_capacity};
 ghost use Rattle.std.specs.Int.{to_be_bytes, w16};
 ghost use Rattle.ip_prefix.specs.Sequences.{SpellsAll};
-ghost use Rattle.bgp_paths.specs.Number.{SpellsAsn, octets_at};
+ghost use Rattle.bgp_paths.specs.Path.{SpellsAsn, octets_at};
 ghost use Rattle.bgp_paths.specs.Readers.{Refuses};
 
 use crate::fault::WireFault;

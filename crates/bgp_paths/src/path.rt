@@ -2,9 +2,8 @@
 
 ghost use Rattle.std.specs.Prelude.{◌≡◌, [], OnOk, IfErr};
 ghost use Rattle.ip_prefix.specs.Sequences.{SpellsAll};
-ghost use Rattle.bgp_paths.specs.Segments.{no_path};
+ghost use Rattle.bgp_paths.specs.Readers.{no_path, Refuses};
 ghost use Rattle.bgp_paths.specs.Path.{SpellsSegment, SpellsPath};
-ghost use Rattle.bgp_paths.specs.Readers.{Refuses};
 
 use crate::fault::WireFault;
 use crate::list_of::ListOf;

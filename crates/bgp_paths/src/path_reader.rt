@@ -3,10 +3,8 @@
 ghost use Rattle.std.specs.Prelude.{◌≡◌, ℕ, [], ◌∷◌, ◌++◌, OnOk, IfErr, IfSome, IfNone};
 ghost use Rattle.ip_prefix.specs.Sequences.{SpellsAll};
 ghost use Rattle.ip_prefix.specs.Fronts.{BeginsWithNone};
-ghost use Rattle.bgp_paths.specs.Number.{SpellsAsn};
-ghost use Rattle.bgp_paths.specs.Path.{SpellsSegment};
-ghost use Rattle.bgp_paths.specs.Segments.{IsFramed};
-ghost use Rattle.bgp_paths.specs.Readers.{Refuses};
+ghost use Rattle.bgp_paths.specs.Path.{SpellsAsn, SpellsSegment};
+ghost use Rattle.bgp_paths.specs.Readers.{IsFramed, Refuses};
 
 use crate::fault::WireFault;
 use crate::numbers::{AsWidth, fill_numbers};

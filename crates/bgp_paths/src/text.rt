@@ -1,11 +1,10 @@
 //! The printed texts of paths and communities.
 
 ghost use Rattle.std.specs.Prelude.{◌≡◌, ◌+◌, ◌<◌, ◌≤◌, [], ◌∷◌, ◌++◌, OnOk, OnErr, length, map, decimal, flat_map};
-ghost use Rattle.bgp_paths.specs.Text.{bracketed_numbers, segment_words, path_text};
-ghost use Rattle.bgp_paths.specs.Text.{halves_text, communities_text};
+ghost use Rattle.bgp_paths.specs.Text.{bracketed_numbers, segment_words, path_text, halves_text, communities_text};
 ghost use Rattle.ip_prefix.specs.Written.{IsWritten, ended_words};
 ghost use Rattle.octet_text.specs.declared.cursor.TheConstants.{SPACE};
-ghost use Rattle.bgp_paths.specs.Printed.{StillBegins, WordsJoined};
+ghost use Rattle.bgp_paths.specs.Readers.{StillBegins, WordsJoined};
 
 use crate::path::AsPath;
 use crate::segment::{Segment, SegmentKind};

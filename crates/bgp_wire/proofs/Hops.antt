@@ -3,11 +3,11 @@ use Rattle.std.proofs.Common.{◌≡◌, ◌⊎◌, inl, inr, ℕ, ◌<◌, ◌�
 use Rattle.std.proofs.lemmas.List.{length-append, length-take-le, take-append-drop, nil_from_length}
 use Rattle.ip_prefix.specs.declared.addr.Family.{Family}
 use Rattle.ip_prefix.specs.declared.addr.Family.TheVariants.{V6}
-use Rattle.ip_prefix.specs.Address.{Address, octet_count}
+use Rattle.ip_prefix.specs.Network.{Address, octet_count}
 use Rattle.ip_prefix.specs.Bits.{bits_of_octets}
 use Rattle.octet_forms.proofs.Lists.{append_parts}
 use Rattle.bgp_wire.specs.declared.next_hop.TheConstants.{FAMILY_SIZE, IPV6_SIZE, BOTH_SIZE}
-use Rattle.bgp_wire.specs.NextHop.{IsLinkLocal, SpellsNextHop, SpellsHopAlone, SpellsRibHop}
+use Rattle.bgp_wire.specs.Reach.{IsLinkLocal, SpellsNextHop, SpellsHopAlone, SpellsRibHop}
 
 -- the octets behind the first sixteen are none, or a link-local address
 link_local_size : (octets : List ℕ) → ((length octets ≡ IPV6_SIZE) ⊎ (length octets ≡ BOTH_SIZE)) → IsLinkLocal V6 (drop IPV6_SIZE octets)

@@ -4,9 +4,8 @@ use Rattle.std.proofs.lemmas.Grind.{common_steps}
 use Rattle.std.proofs.lemmas.Bool.Decides.{eqb_tells}
 use Rattle.bgp_wire.specs.declared.framing.TheConstants.{KINDS}
 use Rattle.bgp_wire.specs.Attribute.{Attribute, first_value, repeats}
-use Rattle.bgp_wire.specs.PlainValues.{value_or, value_at, with_value}
+use Rattle.bgp_wire.specs.PlainValues.{value_or, value_at, with_value, Types, Tells}
 use Rattle.bgp_wire.specs.Content.{FirstOf, firsts_of}
-use Rattle.bgp_wire.specs.SeenTypes.{Types, Tells}
 
 -- ---- the first value of a type, with one attribute more
 

@@ -2,9 +2,8 @@
 use Rattle.std.proofs.Common.{◌≡◌, inl, inr, ℕ, Bool, true, false, List, Option, Some, None, ap, sym, subst, ◌∙◌}
 use Rattle.ip_prefix.specs.declared.addr.Family.{Family}
 use Rattle.ip_prefix.specs.declared.addr.Family.TheVariants.{V4}
-use Rattle.ip_prefix.specs.Address.{Address}
+use Rattle.ip_prefix.specs.Network.{Address, SpellsNetwork}
 use Rattle.ip_prefix.specs.Sequences.{SpellsAll}
-use Rattle.ip_prefix.specs.Wire.{SpellsNetwork}
 use Rattle.octet_forms.proofs.Sequences.{one_list}
 use Rattle.ip_prefix.proofs.Wires.{network_code}
 use Rattle.bgp_wire.specs.declared.framing.TheConstants.{ORIGIN, AS_PATH, NEXT_HOP, MULTI_EXIT_DISC, LOCAL_PREF, ATOMIC_AGGREGATE, AGGREGATOR, COMMUNITIES, MP_REACH_NLRI, MP_UNREACH_NLRI, AS4_PATH, AS4_AGGREGATOR}
@@ -17,14 +16,11 @@ use Rattle.bgp_wire.specs.declared.message.TheConstants.{UPDATE}
 use Rattle.bgp_wire.specs.declared.parts.Update.{Update}
 use Rattle.bgp_wire.specs.declared.message.Message.{Message}
 use Rattle.bgp_wire.specs.declared.message.Message.TheVariants as messages
-use Rattle.bgp_wire.specs.Attribute.{Attribute, SpellsAttribute, first_value}
-use Rattle.bgp_wire.specs.Value.{octets_or_none, SpellsOrigin, SpellsIPv4, SpellsAggregatorAt, SpellsAggregator}
-use Rattle.bgp_paths.specs.Number.{SpellsWord}
-use Rattle.bgp_wire.specs.NextHop.{SpellsRibHop, rib_hop}
-use Rattle.bgp_wire.specs.As4.{ignores_as4, joined_aggregator, IsJoined, SaysPassed}
+use Rattle.bgp_wire.specs.Attribute.{Attribute, SpellsAttribute, first_value, octets_or_none, SpellsOrigin, SpellsIPv4, SpellsAggregatorAt, SpellsAggregator}
+use Rattle.bgp_paths.specs.Path.{SpellsWord}
+use Rattle.bgp_wire.specs.Reach.{SpellsRibHop, rib_hop, reach_prefixes, reach_attrs}
+use Rattle.bgp_wire.specs.Content.{ignores_as4, joined_aggregator, IsJoined, SaysPassed, Says, SaysRibHop, SpellsRibAttrs}
 use Rattle.bgp_paths.specs.Merge.{IsMerge}
-use Rattle.bgp_wire.specs.Content.{Says, SaysRibHop, SpellsRibAttrs}
-use Rattle.bgp_wire.specs.Reach.{reach_prefixes, reach_attrs}
 use Rattle.bgp_wire.specs.Update.{SaysInUpdate, SpellsUpdate, SpellsMessage}
 use Rattle.bgp_wire.proofs.OneAttribute.{attribute_code}
 use Rattle.bgp_paths.proofs.Merging.{one_merged}

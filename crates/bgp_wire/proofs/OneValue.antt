@@ -2,9 +2,8 @@
 use Rattle.std.proofs.Common.{◌≡◌, ◌⊎◌, inl, inr, ℕ, ◌+◌, List, ◌++◌, length, drop, get_or, Some, None, refl, ap, sym, subst, ◌∙◌, arith, length-append}
 use Rattle.ip_prefix.specs.declared.addr.Family.{Family}
 use Rattle.ip_prefix.specs.declared.addr.Family.TheVariants.{V6}
-use Rattle.ip_prefix.specs.Address.{octet_count}
+use Rattle.ip_prefix.specs.Network.{octet_count, SpellsNetwork}
 use Rattle.ip_prefix.specs.Sequences.{SpellsAll}
-use Rattle.ip_prefix.specs.Wire.{SpellsNetwork}
 use Rattle.octet_forms.proofs.Lists.{append_parts}
 use Rattle.octet_forms.proofs.Sequences.{one_list}
 use Rattle.ip_prefix.proofs.Wires.{network_code}
@@ -13,11 +12,10 @@ use Rattle.bgp_paths.specs.declared.numbers.AsWidth.TheVariants.{Two, Four}
 use Rattle.bgp_wire.specs.declared.attrs.Origin.{Origin}
 use Rattle.bgp_wire.specs.declared.attrs.Aggregator.{Aggregator}
 use Rattle.bgp_wire.specs.declared.values.TheConstants.{IPV4_SIZE}
-use Rattle.bgp_paths.specs.Number.{octets_at, SpellsAsn, SpellsWord}
-use Rattle.bgp_wire.specs.Value.{SpellsOptional, SpellsPresence, origin_code, SpellsOrigin, SpellsAddressOctets, SpellsIPv4, SpellsAggregatorAt, SpellsAggregator}
-use Rattle.bgp_wire.specs.NextHop.{IsLinkLocal, SpellsNextHop, SpellsHopAlone, SpellsRibHop}
-use Rattle.bgp_wire.specs.As4.{SpellsWhereFormed}
-use Rattle.bgp_wire.specs.Reach.{HopStands, IsUnicast, SpellsUnicast, SaysReach, SaysUnreach}
+use Rattle.bgp_paths.specs.Path.{octets_at, SpellsAsn, SpellsWord}
+use Rattle.bgp_wire.specs.Attribute.{SpellsOptional, SpellsPresence, origin_code, SpellsOrigin, SpellsAddressOctets, SpellsIPv4, SpellsAggregatorAt, SpellsAggregator}
+use Rattle.bgp_wire.specs.Reach.{IsLinkLocal, SpellsNextHop, SpellsHopAlone, SpellsRibHop, HopStands, IsUnicast, SpellsUnicast, SaysReach, SaysUnreach}
+use Rattle.bgp_wire.specs.Content.{SpellsWhereFormed}
 use Rattle.bgp_paths.proofs.OneFront.{number_code, length-number}
 use Rattle.bgp_wire.proofs.Hops.{length-hop}
 use Rattle.bgp_wire.proofs.Reaching.{same_family, same_unicast, same_stand, not_another}

@@ -1,21 +1,19 @@
 -- What attributes say is said plainly first.
 use Rattle.std.proofs.Common.{ℕ, List, Option}
 use Rattle.ip_prefix.specs.declared.addr.Family.{Family}
-use Rattle.ip_prefix.specs.Address.{Address}
+use Rattle.ip_prefix.specs.Network.{Address}
 use Rattle.bgp_paths.specs.declared.path.AsPath.{AsPath}
 use Rattle.bgp_paths.specs.Path.{SpellsPath}
 use Rattle.bgp_wire.specs.declared.attrs.Aggregator.{Aggregator}
 use Rattle.bgp_wire.specs.declared.attrs.Attrs.{Attrs}
-use Rattle.bgp_wire.specs.As4.{SaysPassed}
+use Rattle.bgp_wire.specs.Content.{SaysPassed, Says, SpellsRibAttrs, firsts_of}
 use Rattle.bgp_wire.specs.declared.framing.TheConstants.{AS_PATH, NEXT_HOP, AGGREGATOR}
 use Rattle.bgp_wire.specs.declared.parts.UpdateParts.{UpdateParts}
 use Rattle.bgp_paths.specs.declared.numbers.AsWidth.{AsWidth}
 use Rattle.bgp_paths.specs.declared.numbers.AsWidth.TheVariants.{Two, Four}
-use Rattle.bgp_wire.specs.Attribute.{Attribute, first_value}
-use Rattle.bgp_wire.specs.Content.{Says, SpellsRibAttrs, firsts_of}
+use Rattle.bgp_wire.specs.Attribute.{Attribute, first_value, SpellsOptional, SpellsIPv4, SpellsAggregator, octets_or_none}
 use Rattle.bgp_wire.specs.Parts.{SpellsParts}
 use Rattle.bgp_wire.specs.PlainValues.{SaysPlainly, SpellsPlainly}
-use Rattle.bgp_wire.specs.Value.{SpellsOptional, SpellsIPv4, SpellsAggregator, octets_or_none}
 
 -- the path and the aggregator as they were before they were joined
 passed_plainly : (width : AsWidth) (path : AsPath) (aggregator : Option Aggregator) (list : List Attribute) → SaysPassed width path aggregator list

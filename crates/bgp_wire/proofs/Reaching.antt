@@ -4,13 +4,12 @@ use Rattle.std.specs.Int.{w16, to_be_bytes}
 use Rattle.std.proofs.Math.Seq.{get_or-append_seam}
 use Rattle.ip_prefix.specs.declared.addr.Family.{Family}
 use Rattle.ip_prefix.specs.declared.addr.Family.TheVariants.{V4, V6}
-use Rattle.ip_prefix.specs.Address.{Address}
+use Rattle.ip_prefix.specs.Network.{Address}
 use Rattle.octet_forms.proofs.Numbers.{same_w16}
 use Rattle.octet_forms.proofs.Lists.{append_parts}
 use Rattle.bgp_wire.specs.declared.message.TheConstants.{MARKER_SIZE}
 use Rattle.bgp_wire.specs.declared.lengths.TheConstants.{LENGTH_SIZE}
-use Rattle.bgp_wire.specs.NextHop.{SpellsNextHop}
-use Rattle.bgp_wire.specs.Reach.{Reach, family_code, unicast_octets, IsOfAnother, HopStands, SpellsUnicast, SaysReach}
+use Rattle.bgp_wire.specs.Reach.{SpellsNextHop, Reach, family_code, unicast_octets, IsOfAnother, HopStands, SpellsUnicast, SaysReach}
 use Rattle.bgp_wire.specs.Update.{sized_octets, IsUpdate, IsMessage}
 
 -- a next hop whose length stands in front is spelled by as many octets, and another stands behind them

@@ -1,7 +1,18 @@
--- How path attributes are sent, one behind the other (RFC 4271, section 4.3).
+-- Path attributes and their values (RFC 4271, section 4.3; RFC 1997; RFC 6793).
 use Rattle.std.specs.Prelude.{◌≡◌, ◌==◌, ℕ, ◌<◌, ◌^◌, Bool, true, false, not, if◌then◌else◌, List, [], ◌∷◌, ◌++◌, length, Option, Some, None, bit_and, is_some}
 use Rattle.std.specs.Int.{to_be_bytes, w16}
 use Rattle.bgp_wire.specs.declared.framing.TheConstants.{EXTENDED_LENGTH}
+use Rattle.ip_prefix.specs.declared.addr.Family.TheVariants.{V4}
+use Rattle.ip_prefix.specs.Network.{Address, octet_count}
+use Rattle.ip_prefix.specs.Bits.{bits_of_octets}
+use Rattle.bgp_paths.specs.declared.numbers.AsWidth.{AsWidth}
+use Rattle.bgp_wire.specs.declared.attrs.Origin.{Origin}
+use Rattle.bgp_wire.specs.declared.attrs.Origin.TheVariants.{Igp, Egp, Incomplete}
+use Rattle.bgp_wire.specs.declared.attrs.Aggregator.{Aggregator}
+use Rattle.bgp_wire.specs.declared.values.TheConstants.{ORIGIN_IGP, ORIGIN_EGP, ORIGIN_INCOMPLETE}
+use Rattle.bgp_paths.specs.Path.{SpellsAsn}
+
+-- ---- how path attributes are sent, one behind the other (RFC 4271, section 4.3)
 
 -- an attribute: its flags, the number of its type, and the octets of its value
 pub record Attribute : Type 0 where
@@ -39,3 +50,56 @@ first_value kind (a ∷ list) = if a.kind == kind then Some a.value else first_v
 abbrev pub repeats : ℕ → List Attribute → Bool
 repeats kind [] = false
 repeats kind (a ∷ list) = if a.kind == kind then is_some (first_value kind list) else repeats kind list
+
+-- ---- how the values of path attributes are sent (RFC 4271, section 4.3; RFC 1997; RFC 6793, section 3)
+
+-- the value spells the content, and where one is absent so is the other
+abbrev pub SpellsOptional : {A : Type 0} → (A → List ℕ → Type 0) → Option A → Option (List ℕ) → Type 0
+SpellsOptional Spells None None = Unit {0}
+SpellsOptional Spells (Some content) (Some octets) = Spells content octets
+SpellsOptional Spells None (Some octets) = ⊥
+SpellsOptional Spells (Some content) None = ⊥
+
+-- the value's octets, and none where it is absent
+abbrev pub octets_or_none : Option (List ℕ) → List ℕ
+octets_or_none None = []
+octets_or_none (Some octets) = octets
+
+-- the value is there, without octets, exactly where it is said to be
+abbrev pub SpellsPresence : Bool → Option (List ℕ) → Type 0
+SpellsPresence false None = Unit {0}
+SpellsPresence true (Some octets) = octets ≡ []
+SpellsPresence false (Some octets) = ⊥
+SpellsPresence true None = ⊥
+
+-- the number of an origin
+abbrev pub origin_code : Origin → ℕ
+origin_code Igp = ORIGIN_IGP
+origin_code Egp = ORIGIN_EGP
+origin_code Incomplete = ORIGIN_INCOMPLETE
+
+-- the octets of an origin
+abbrev pub SpellsOrigin : Origin → List ℕ → Type 0
+SpellsOrigin value octets = octets ≡ origin_code value ∷ []
+
+-- the octets of an address
+pub record SpellsAddressOctets (address : Address) (octets : List ℕ) : Type 0 where
+  pub size : length octets ≡ octet_count address.family
+  pub bits : address.bits ≡ bits_of_octets octets
+
+-- the octets of an IPv4 address
+pub record SpellsIPv4 (address : Address) (octets : List ℕ) : Type 0 where
+  pub of_family : address.family ≡ V4
+  pub spelled : SpellsAddressOctets address octets
+
+-- the octets of an aggregator with an AS number of this width, and an IPv4 address
+pub record SpellsAggregatorAt (width : AsWidth) (value : Aggregator) (octets : List ℕ) : Type 0 where
+  pub number : List ℕ
+  pub spelled : SpellsAsn width value.asn number
+  pub address : List ℕ
+  pub addressed : SpellsIPv4 value.addr address
+  pub whole : octets ≡ number ++ address
+
+-- the octets of an aggregator with an AS number of either width
+abbrev pub SpellsAggregator : Aggregator → List ℕ → Type 0
+SpellsAggregator value octets = (width : AsWidth) × SpellsAggregatorAt width value octets

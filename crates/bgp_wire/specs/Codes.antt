@@ -2,7 +2,7 @@
 -- Paths and attributes as plain data, which the values of types that hold them are made of.
 use Rattle.std.specs.Prelude.{◌≡◌, ℕ, ◌==◌, if◌then◌else◌, Bool, List, Option, refl}
 use Rattle.std.specs.Coded.{Coded, code_by, coded×, coded_ℕ, coded_bool, coded_list, coded_option}
-use Rattle.ip_prefix.specs.Address.{Address}
+use Rattle.ip_prefix.specs.Network.{Address}
 use Rattle.ip_prefix.specs.Codes.{coded_address}
 use Rattle.bgp_paths.specs.Codes.{coded_as_path}
 use Rattle.bgp_paths.specs.declared.path.AsPath.{AsPath}
@@ -11,7 +11,7 @@ use Rattle.bgp_wire.specs.declared.attrs.Origin.TheVariants.{Igp, Egp, Incomplet
 use Rattle.bgp_wire.specs.declared.attrs.Aggregator.{Aggregator}
 use Rattle.bgp_wire.specs.declared.attrs.Attrs.{Attrs}
 use Rattle.bgp_wire.specs.declared.values.TheConstants.{ORIGIN_IGP, ORIGIN_EGP}
-use Rattle.bgp_wire.specs.Value.{origin_code}
+use Rattle.bgp_wire.specs.Attribute.{origin_code}
 
 abbrev origin_of : ℕ → Origin
 origin_of n = if n == ORIGIN_IGP then Igp else if n == ORIGIN_EGP then Egp else Incomplete

@@ -1,18 +1,43 @@
 -- Private.
--- An UPDATE in parts.
-use Rattle.std.specs.Prelude.{◌≡◌, ℕ, List, [], Option, None}
+-- An UPDATE in parts, absent attributes, and the front of MP_REACH_NLRI.
+use Rattle.std.specs.Prelude.{false, [], None, ◌≡◌, ℕ, List, Option, ◌<◌, ◌++◌, length, Some}
+use Rattle.bgp_wire.specs.declared.attrs.Attrs.{Attrs}
+use Rattle.bgp_paths.specs.Readers.{no_path}
 use Rattle.bgp_paths.specs.declared.numbers.AsWidth.{AsWidth}
 use Rattle.bgp_wire.specs.declared.message.Message.{Message}
-use Rattle.bgp_wire.specs.declared.message.Message.TheVariants as messages
 use Rattle.bgp_wire.specs.declared.parts.Update.{Update}
 use Rattle.bgp_wire.specs.declared.parts.UpdateParts.{UpdateParts}
 use Rattle.bgp_wire.specs.declared.parts.MessageKind.{MessageKind}
-use Rattle.bgp_wire.specs.declared.parts.MessageKind.TheVariants as kinds
-use Rattle.bgp_wire.specs.Absent.{no_attrs}
 use Rattle.ip_prefix.specs.Sequences.{SpellsAll}
 use Rattle.bgp_wire.specs.Attribute.{Attribute, SpellsAttribute}
-use Rattle.bgp_wire.specs.Reach.{Reach, reach_hop, reach_prefixes, attrs_with}
+use Rattle.bgp_wire.specs.Reach.{Reach, reach_hop, reach_prefixes, attrs_with, unicast_octets, IsOfAnother}
 use Rattle.bgp_wire.specs.Update.{SaysTogether}
+use Rattle.bgp_wire.specs.declared.next_hop.TheConstants.{FAMILY_SIZE}
+use Rattle.bgp_wire.specs.declared.reach.Scope.{Scope}
+use Rattle.bgp_wire.specs.declared.reach.Scope.TheVariants.{Unicast, Another}
+use Rattle.bgp_wire.specs.declared.message.Message.TheVariants as messages
+use Rattle.bgp_wire.specs.declared.parts.MessageKind.TheVariants as kinds
+
+-- ---- attributes that aren't there
+
+-- attributes of which none is there
+abbrev pub no_attrs : Attrs
+no_attrs = record {
+  next_hop = None;
+  aggregator = None;
+  path = no_path;
+  communities = [];
+  med = None;
+  local_pref = None;
+  origin = None;
+  atomic = false;
+}
+
+-- the same attributes without path and communities
+abbrev pub without_lists : Attrs → Attrs
+without_lists attrs = record attrs { path = no_path; communities = [] }
+
+-- ---- an UPDATE in parts
 
 -- those of an UPDATE that says nothing
 abbrev pub no_parts : UpdateParts
@@ -53,3 +78,11 @@ pub record SpellsParts (width : AsWidth) (parts : UpdateParts) (octets : List �
   pub list : List Attribute
   pub spelled : SpellsAll SpellsAttribute list octets
   pub said : SaysParts width parts list
+
+-- ---- how octets begin with an address family and its use, and attributes with a next hop of their own
+
+-- how the octets begin, as far as that is told by a family and its use; too few begin with neither
+abbrev pub BeginsIn : List ℕ → Option Scope → Type 0
+BeginsIn octets None = length octets < FAMILY_SIZE
+BeginsIn octets (Some Another) = IsOfAnother octets
+BeginsIn octets (Some (Unicast family rest)) = octets ≡ unicast_octets family ++ rest.now

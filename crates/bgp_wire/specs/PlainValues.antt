@@ -1,18 +1,29 @@
 -- Private.
--- The values of attributes, each read by itself.
-use Rattle.std.specs.Prelude.{◌≡◌, ℕ, ◌<◌, if◌then◌else◌, ◌==◌, List, Option, Some, None}
+-- The values of attributes, each read by itself, and the types that a list has.
+use Rattle.std.specs.Prelude.{◌≡◌, ℕ, ◌<◌, Bool, false, List, slice_index_or, is_some, if◌then◌else◌, ◌==◌, Option, Some, None}
+use Rattle.bgp_wire.specs.declared.framing.TheConstants.{KINDS, AS_PATH, NEXT_HOP, AGGREGATOR, COMMUNITIES, MP_REACH_NLRI, MP_UNREACH_NLRI, AS4_PATH, AS4_AGGREGATOR}
+use Rattle.bgp_wire.specs.Attribute.{Attribute, first_value, repeats, SpellsAttribute, SpellsOptional, octets_or_none, SpellsIPv4, SpellsAggregator}
 use Rattle.std.specs.Borrow.{Bor}
 use Rattle.ip_prefix.specs.Sequences.{SpellsAll}
-use Rattle.bgp_wire.specs.declared.framing.TheConstants.{KINDS, AS_PATH, NEXT_HOP, AGGREGATOR, COMMUNITIES, MP_REACH_NLRI, MP_UNREACH_NLRI, AS4_PATH, AS4_AGGREGATOR}
 use Rattle.bgp_paths.specs.declared.numbers.AsWidth.{AsWidth}
 use Rattle.bgp_wire.specs.declared.attrs.Attrs.{Attrs}
 use Rattle.bgp_wire.specs.declared.attribute_list.LaterValues.{LaterValues}
-use Rattle.bgp_wire.specs.Attribute.{Attribute, SpellsAttribute}
 use Rattle.bgp_wire.specs.Content.{FirstOf, firsts_of, SaysShort}
-use Rattle.bgp_paths.specs.Number.{SpellsWord}
-use Rattle.bgp_paths.specs.Path.{SpellsPath}
-use Rattle.bgp_wire.specs.SeenTypes.{Types, Tells}
-use Rattle.bgp_wire.specs.Value.{SpellsOptional, octets_or_none, SpellsIPv4, SpellsAggregator}
+use Rattle.bgp_paths.specs.Path.{SpellsWord, SpellsPath}
+
+-- ---- which types of attributes a list has, as it is kept
+
+-- by type, whether an attribute was seen, and whether more than one was
+pub record Types : Type 0 where
+  pub seen : List Bool
+  pub again : List Bool
+
+-- these are the types of the list's attributes, and those that repeat in it, as far as types are read
+pub record Tells (types : Types) (list : List Attribute) : Type 0 where
+  pub each : (kind : ℕ) → kind < KINDS → slice_index_or types.seen kind false ≡ is_some (first_value kind list)
+  pub repeated : (kind : ℕ) → kind < KINDS → slice_index_or types.again kind false ≡ repeats kind list
+
+-- ---- the values of attributes, each read by itself
 
 -- the octets that are lent, where there are any
 abbrev pub octets_of : Option (Bor (List ℕ)) → Option (List ℕ)

@@ -2,9 +2,8 @@
 use Rattle.std.specs.Prelude.{◌≡◌, ℕ, ◌<◌, ◌^◌, false, List, ◌∷◌, ◌++◌, length, Option}
 use Rattle.std.specs.Int.{to_be_bytes, w16}
 use Rattle.ip_prefix.specs.declared.addr.Family.TheVariants.{V4}
-use Rattle.ip_prefix.specs.Network.{Network}
+use Rattle.ip_prefix.specs.Network.{Network, SpellsNetwork}
 use Rattle.ip_prefix.specs.Sequences.{SpellsAll}
-use Rattle.ip_prefix.specs.Wire.{SpellsNetwork}
 use Rattle.bgp_paths.specs.declared.numbers.AsWidth.{AsWidth}
 use Rattle.bgp_wire.specs.declared.attrs.Attrs.{Attrs}
 use Rattle.bgp_wire.specs.declared.framing.TheConstants.{NEXT_HOP, MP_REACH_NLRI, MP_UNREACH_NLRI}
@@ -12,8 +11,7 @@ use Rattle.bgp_wire.specs.declared.message.TheConstants.{MARKER_SIZE, UPDATE}
 use Rattle.bgp_wire.specs.declared.parts.Update.{Update}
 use Rattle.bgp_wire.specs.declared.message.Message.{Message}
 use Rattle.bgp_wire.specs.declared.message.Message.TheVariants as messages
-use Rattle.bgp_wire.specs.Attribute.{Attribute, SpellsAttribute, first_value, repeats}
-use Rattle.bgp_wire.specs.Value.{SpellsOptional, SpellsIPv4}
+use Rattle.bgp_wire.specs.Attribute.{Attribute, SpellsAttribute, first_value, repeats, SpellsOptional, SpellsIPv4}
 use Rattle.bgp_wire.specs.Content.{Says}
 use Rattle.bgp_wire.specs.Reach.{Reach, SaysReach, SaysUnreach, reach_prefixes, reach_attrs}
 

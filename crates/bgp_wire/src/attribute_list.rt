@@ -2,12 +2,9 @@
 
 ghost use Rattle.std.specs.Prelude.{◌≡◌, ◌<◌, [], Some, OnOk, OnErr, IfErr};
 ghost use Rattle.bgp_wire.specs.declared.framing.TheConstants.{KINDS};
-ghost use Rattle.bgp_wire.specs.PlainValues.{HoldsWithValue};
-ghost use Rattle.bgp_wire.specs.PlainValues.{AreCleared, AreLater, ReadSoFar};
+ghost use Rattle.bgp_wire.specs.PlainValues.{HoldsWithValue, AreCleared, AreLater, ReadSoFar, SaysPlainly, SpellsPlainly, ReadsList, Tells};
 ghost use Rattle.bgp_wire.specs.Content.{FirstOf, firsts_of};
-ghost use Rattle.bgp_wire.specs.PlainValues.{SaysPlainly, SpellsPlainly, ReadsList};
 ghost use Rattle.bgp_paths.specs.Readers.{Refuses};
-ghost use Rattle.bgp_wire.specs.SeenTypes.{Tells};
 
 use crate::attrs::{Attrs, Communities, MOST_SPARE};
 use crate::framing::{

@@ -1,8 +1,8 @@
 //! The path attributes of a route.
 
 ghost use Rattle.std.specs.Prelude.{◌≡◌, OnOk, OnErr};
-ghost use Rattle.bgp_wire.specs.Absent.{no_attrs, without_lists};
-ghost use Rattle.bgp_paths.specs.Segments.{no_path};
+ghost use Rattle.bgp_wire.specs.Parts.{no_attrs, without_lists};
+ghost use Rattle.bgp_paths.specs.Readers.{no_path};
 
 use bgp_paths::{AsPath, ListOf, copy_numbers, copy_path};
 use ip_prefix::Addr;

@@ -3,8 +3,7 @@
 ghost use Rattle.std.specs.Prelude.{◌≡◌, ℕ, ◌<◌, List, ◌++◌, IfSome, IfNone};
 ghost use Rattle.ip_prefix.specs.Sequences.{Begins};
 ghost use Rattle.ip_prefix.specs.Fronts.{BeginsWithNone};
-ghost use Rattle.bgp_wire.specs.Attribute.{SpellsAttribute};
-ghost use Rattle.bgp_wire.specs.Attribute.{is_extended, length_octets, length_limit};
+ghost use Rattle.bgp_wire.specs.Attribute.{SpellsAttribute, is_extended, length_octets, length_limit};
 
 use crate::lengths::{LENGTH_SIZE, read_length};
 

@@ -1,10 +1,10 @@
 //! Reading next hops (RFC 4760, section 3; RFC 2545, section 3).
 
 ghost use Rattle.std.specs.Prelude.{◌≡◌, if◌then◌else◌, Option, Some, length, OnOk, OnErr, IfErr};
-ghost use Rattle.ip_prefix.specs.Address.{Address};
+ghost use Rattle.ip_prefix.specs.Network.{Address};
 ghost use Rattle.bgp_wire.specs.PlainValues.{octets_of};
-ghost use Rattle.bgp_wire.specs.Value.{SpellsOptional};
-ghost use Rattle.bgp_wire.specs.NextHop.{SpellsNextHop, SpellsHopAlone, SpellsRibHop, rib_hop};
+ghost use Rattle.bgp_wire.specs.Attribute.{SpellsOptional};
+ghost use Rattle.bgp_wire.specs.Reach.{SpellsNextHop, SpellsHopAlone, SpellsRibHop, rib_hop};
 ghost use Rattle.bgp_paths.specs.Readers.{Finds, Refuses};
 
 use crate::values::{IPV4_SIZE, ipv4};

@@ -2,7 +2,7 @@
 
 ghost use Rattle.std.specs.Prelude.{OnOk, IfErr};
 ghost use Rattle.ip_prefix.specs.Sequences.{SpellsAll};
-ghost use Rattle.ip_prefix.specs.Wire.{SpellsNetwork};
+ghost use Rattle.ip_prefix.specs.Network.{SpellsNetwork};
 ghost use Rattle.bgp_paths.specs.Readers.{Refuses};
 
 use bgp_paths::{ListOf, WireFault};

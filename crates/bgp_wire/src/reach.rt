@@ -1,11 +1,10 @@
 //! Reading what MP_REACH_NLRI and MP_UNREACH_NLRI of an UPDATE say (RFC 4760, sections 3 and 4).
 
 ghost use Rattle.std.specs.Prelude.{◌≡◌, ℕ, List, Option, IfSome, IfNone, IfErr, OnOk};
-ghost use Rattle.ip_prefix.specs.Address.{Address};
+ghost use Rattle.ip_prefix.specs.Network.{Address};
 ghost use Rattle.bgp_wire.specs.PlainValues.{octets_of};
-ghost use Rattle.bgp_wire.specs.Reach.{HopStands};
-ghost use Rattle.bgp_wire.specs.Multiprotocol.{BeginsIn};
-ghost use Rattle.bgp_wire.specs.Reach.{Reach, SaysReach, SaysUnreach, reach_hop, reach_prefixes};
+ghost use Rattle.bgp_wire.specs.Reach.{HopStands, Reach, SaysReach, SaysUnreach, reach_hop, reach_prefixes};
+ghost use Rattle.bgp_wire.specs.Parts.{BeginsIn};
 ghost use Rattle.bgp_paths.specs.Readers.{Refuses};
 
 use crate::next_hop::{FAMILY_SIZE, read_next_hop};

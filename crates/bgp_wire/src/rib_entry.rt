@@ -2,7 +2,7 @@
 
 ghost use Rattle.std.specs.Prelude.{◌≡◌, OnOk, OnErr, IfErr};
 ghost use Rattle.bgp_wire.specs.Content.{SpellsRibAttrs};
-ghost use Rattle.bgp_wire.specs.Absent.{no_attrs};
+ghost use Rattle.bgp_wire.specs.Parts.{no_attrs};
 ghost use Rattle.bgp_paths.specs.Readers.{Reads, Refuses};
 
 use crate::as4::join_passed;

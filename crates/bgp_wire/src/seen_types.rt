@@ -2,7 +2,7 @@
 
 ghost use Rattle.std.specs.Prelude.{◌≡◌, ◌<◌, List, [], ◌∷◌, ◌++◌, true, false, None, is_some};
 ghost use Rattle.bgp_wire.specs.Attribute.{Attribute, first_value, repeats};
-ghost use Rattle.bgp_wire.specs.SeenTypes.{Tells};
+ghost use Rattle.bgp_wire.specs.PlainValues.{Tells};
 
 use crate::framing::KINDS;
 use std::marker::Model;
@@ -17,7 +17,7 @@ pub(crate) struct SeenTypes {
 impl Model for SeenTypes {
     ghost use Rattle.std.specs.Prelude.{◌≡◌, length};
     ghost use Rattle.bgp_wire.specs.declared.framing.TheConstants.{KINDS};
-    ghost use Rattle.bgp_wire.specs.SeenTypes.{Types};
+    ghost use Rattle.bgp_wire.specs.PlainValues.{Types};
 
     ghost Value = { Types };
 

@@ -3,10 +3,9 @@
 ghost use Rattle.std.specs.Prelude.{◌≡◌, ◌+◌, length, Some, None, IsSome, IfErr, OnOk, OnErr, IsOkUnless};
 ghost use Rattle.bgp_paths.specs.declared.fault.WireFault.TheVariants.{Malformed};
 ghost use Rattle.bgp_wire.specs.PlainValues.{octets_of};
-ghost use Rattle.bgp_wire.specs.As4.{SpellsWhereFormed};
-ghost use Rattle.bgp_paths.specs.Number.{SpellsWord, octets_at};
-ghost use Rattle.bgp_wire.specs.Value.{SpellsPresence, SpellsOrigin, SpellsIPv4};
-ghost use Rattle.bgp_wire.specs.Value.{SpellsAggregatorAt, SpellsAggregator};
+ghost use Rattle.bgp_wire.specs.Content.{SpellsWhereFormed};
+ghost use Rattle.bgp_paths.specs.Path.{SpellsWord, octets_at};
+ghost use Rattle.bgp_wire.specs.Attribute.{SpellsPresence, SpellsOrigin, SpellsIPv4, SpellsAggregatorAt, SpellsAggregator};
 ghost use Rattle.bgp_paths.specs.Readers.{Finds, Refuses};
 
 use crate::attrs::{Aggregator, Origin};

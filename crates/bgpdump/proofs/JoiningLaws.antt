@@ -2,14 +2,12 @@
 use Rattle.std.proofs.Common.{◌≡◌, ◌∙◌, ◌⊎◌, ap, sym, refl, subst, inl, inr, IsNone, List, ◌++◌, ℕ, Option, Some, None, IfSome}
 use Rattle.std.specs.Io.KnownBytes.{Appends, Consumes, Keeps}
 use Rattle.std.proofs.KnownBytes.{Appends-kept}
-use Rattle.mrt_wire.specs.Results.{Took}
-use Rattle.mrt_wire.specs.Verdict.{Frame}
+use Rattle.mrt_wire.specs.Results.{Took, Frame}
 use Rattle.mrt_wire.specs.declared.Stamp.{Stamp}
 use Rattle.bgpdump_tool.specs.Run.{AppendsFront, EndedByInput, EndsSo, MayHold, Outputs, Texts, Writes, WritesFronts, outputs_of}
 use Rattle.bgpdump_tool.specs.declared.Outcome.{Outcome}
 use Rattle.bgpdump_tool.specs.declared.Outcome.TheVariants.{Done, Reported, ReadFault, WriteFault, InputTooLong, ScriptTooLong, Memory}
-use Rattle.bgpdump.specs.Endings.{lost_outcome}
-use Rattle.bgpdump.specs.Joining.{KeepsBoth, OverWriters}
+use Rattle.bgpdump.specs.Endings.{lost_outcome, KeepsBoth, OverWriters}
 
 -- ---- what stays behind a text
 

@@ -44,10 +44,7 @@ fn main(rt: HostRuntime) -> ExitCode {
 /// What the words of the command line ask for. Words that aren't text can't be read.
 fn read_settings<'a>(rt: &HostRuntime) -> Result<Settings, Ending<'a>> {
     let words = read_words(rt).map_err(|error| read_outcome(&error))?;
-    match settings(rt.alloc(), words) {
-        Ok(settings) => Ok(settings),
-        Err(fault) => Err(Ending::Usage(fault)),
-    }
+    settings(rt.alloc(), words).map_err(|fault| Ending::Usage(fault))
 }
 
 /// The words that the program was given, its own name first.

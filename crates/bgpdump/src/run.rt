@@ -1,15 +1,12 @@
 //! Runs over readers and writers, through buffers.
 
-ghost use Rattle.std.specs.Prelude.{◌≡◌, ◌≤◌, ◌<◌, ◌⊎◌, ℕ, List, false, length};
-ghost use Rattle.std.specs.Prelude.{Some, None, IfSome, IsNone};
+ghost use Rattle.std.specs.Prelude.{◌≡◌, ◌≤◌, ◌<◌, ◌⊎◌, ℕ, List, false, length, Some, None, IfSome, IsNone};
 ghost use Rattle.std.specs.Io.Buffered.{writer_contents};
 ghost use Rattle.std.specs.Io.KnownBytes.{Consumes, Keeps};
 ghost use Rattle.bgpdump_tool.specs.Course.{cut_texts, play_texts};
-ghost use Rattle.bgpdump_tool.specs.Reports.{dump_texts};
-ghost use Rattle.bgpdump_tool.specs.Run.{outputs_of};
-ghost use Rattle.bgpdump.specs.Endings.{lost_outcome};
-ghost use Rattle.bgpdump.specs.Joining.{HasTaken, Leaves, LeavesSo, LeavesWhole, TookMost};
-ghost use Rattle.bgpdump.specs.Joining.{KeepsBoth, OverLines, OverWriters, buffered_outputs, has_failed};
+ghost use Rattle.bgpdump_tool.specs.Run.{dump_texts, outputs_of};
+ghost use Rattle.bgpdump.specs.Endings.{lost_outcome, HasTaken, Leaves, LeavesSo, LeavesWhole, TookMost};
+ghost use Rattle.bgpdump.specs.Endings.{KeepsBoth, OverLines, OverWriters, buffered_outputs, has_failed};
 
 use bgpdump_tool::{LONGEST_SCRIPT, Outcome, Output, WriteOutput, run_dump, run_play};
 use mrt_wire::{BufferedInput, Input, Route, Stamp};

@@ -4,8 +4,7 @@ ghost use Rattle.std.specs.Prelude.{◌≡◌, IfOk};
 ghost use Rattle.clap.specs.Built.{TakesValue};
 ghost use Rattle.clap.specs.Words.{app_of, rule_of};
 ghost use Rattle.bgpdump_command_line.specs.Arguments.{IsCommandLine, IsTimesRule, StandsAlone, TakesInput};
-ghost use Rattle.bgpdump_command_line.specs.CommandLine.{input_rule, lines_rule, output_rule};
-ghost use Rattle.bgpdump_command_line.specs.CommandLine.{script_rule};
+ghost use Rattle.bgpdump_command_line.specs.CommandLine.{input_rule, lines_rule, output_rule, script_rule};
 
 use clap::{Arg, ArgAction, Command};
 use std::alloc::{AllocError, Global};

@@ -2,9 +2,8 @@
 
 ghost use Rattle.std.specs.Prelude.{◌≡◌, true, is_some, map, option_map, string_bytes, IfOk};
 ghost use Rattle.clap.specs.Words.{first_of, found_of, kind_of, rows_of};
-ghost use Rattle.bgpdump_command_line.specs.CommandLine.{Answers, Gives, asks_lines};
+ghost use Rattle.bgpdump_command_line.specs.CommandLine.{Answers, Gives, asks_lines, has_two_inputs, input_of, is_text, stamp_of};
 ghost use Rattle.bgpdump_command_line.specs.Arguments.{GivesMode, IsFaultOf};
-ghost use Rattle.bgpdump_command_line.specs.CommandLine.{has_two_inputs, input_of, is_text, stamp_of};
 
 use crate::arguments::{CHANGE, INPUT, LINES, OUTPUT, SCRIPT, TIMES, command};
 use crate::usage::{Mode, STANDARD_INPUT, Settings, UsageFault};

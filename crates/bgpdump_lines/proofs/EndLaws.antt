@@ -6,20 +6,16 @@ use Rattle.mrt_wire.specs.declared.SourceFault.TheVariants as source
 use Rattle.mrt_wire.specs.declared.RecordKind.TheVariants.{CutRecord}
 use Rattle.mrt_events.specs.declared.stamp.Stamp.{Stamp}
 use Rattle.mrt_wire.specs.declared.next.Phase.TheVariants.{Ended}
-use Rattle.mrt_wire.specs.Verdict.{Frame}
-use Rattle.mrt_wire.specs.Results.{Splits, Finding, Found, Bad, Place, start_place, Took}
-use Rattle.mrt_wire.specs.Rest.{rest_kind}
-use Rattle.mrt_wire.specs.SoFar.{SoFar}
+use Rattle.mrt_wire.specs.Results.{Frame, Splits, Finding, Found, Bad, Place, start_place, Took}
+use Rattle.mrt_wire.specs.Record.{rest_kind}
+use Rattle.mrt_wire.specs.Answered.{SoFar}
 use Rattle.bgpdump_lines.specs.declared.fault.WriteFault.{WriteFault}
 use Rattle.bgpdump_lines.specs.declared.fault.WriteFault.TheVariants as write
 use Rattle.bgpdump_lines.specs.declared.outcome.Outcome.{Outcome}
 use Rattle.bgpdump_lines.specs.declared.outcome.Outcome.TheVariants as outcome
-use Rattle.bgpdump_lines.specs.Reports.{reports, dump_texts}
+use Rattle.bgpdump_lines.specs.Run.{reports, dump_texts, Texts, Outputs, MayHold, SawEnd, Writes, WritesFronts, EndsSo, EndedByInput, IsTaken, all_results}
 use Rattle.bgpdump_lines.specs.declared.dump.TheConstants.{LIMIT}
-use Rattle.bgpdump_lines.specs.Run.{Texts, Outputs, MayHold, SawEnd, Writes, WritesFronts, EndsSo, EndedByInput, IsTaken, all_results}
-use Rattle.bgpdump_lines.specs.Ending.{outcome_of, source_outcome, write_outcome}
-use Rattle.bgpdump_lines.specs.Writing.{is_any_bad}
-use Rattle.bgpdump_lines.specs.Going.{StopsAtWriting, Ends}
+use Rattle.bgpdump_lines.specs.Going.{outcome_of, source_outcome, write_outcome, is_any_bad, StopsAtWriting, Ends}
 use Rattle.bgpdump_lines.proofs.WritingLaws.{dump_texts-append, WritesFronts-longer, WritesFronts-whole, Writes-kept}
 use Rattle.bgpdump_lines.proofs.HeldLaws.{rest_so_far, first_held, front_held, untold_held, IsTaken-told, IsTaken-untold, IsTaken-faulty, whole_found, length-faulty}
 

@@ -8,13 +8,10 @@ use Rattle.mrt_wire.specs.declared.RecordKind.TheVariants.{CutRecord}
 use Rattle.mrt_events.specs.declared.stamp.Stamp.{Stamp}
 use Rattle.mrt_wire.specs.declared.next.Phase.{Phase}
 use Rattle.mrt_wire.specs.declared.next.Phase.TheVariants.{Reading, Ended, Spent}
-use Rattle.mrt_wire.specs.Verdict.{Frame}
-use Rattle.mrt_wire.specs.Results.{Splits, spellings, Finding, Place, start_place, results, Took}
-use Rattle.mrt_wire.specs.Rest.{rest_kind}
-use Rattle.mrt_wire.specs.Taking.{IsRest, IsBegun}
-use Rattle.mrt_wire.specs.Answered.{IsLeft}
-use Rattle.mrt_wire.specs.Device.{Stops}
-use Rattle.mrt_wire.specs.SoFar.{SoFar, RestSoFar}
+use Rattle.mrt_wire.specs.Results.{Frame, Splits, spellings, Finding, Place, start_place, results, Took}
+use Rattle.mrt_wire.specs.Record.{rest_kind, IsRest, IsBegun}
+use Rattle.mrt_wire.specs.Answered.{IsLeft, SoFar, RestSoFar}
+use Rattle.mrt_wire.specs.Taken.{Stops}
 use Rattle.mrt_wire.proofs.FirstLaws.{same_taken}
 use Rattle.mrt_frames.proofs.RecordLaws.{BeginsWithNoRecord-short}
 use Rattle.mrt_wire.proofs.SplitLaws.{frames_all}
@@ -23,8 +20,7 @@ use Rattle.bgpdump_lines.specs.declared.dump.TheConstants.{LIMIT}
 use Rattle.bgpdump_lines.specs.declared.outcome.Outcome.{Outcome}
 use Rattle.bgpdump_lines.specs.declared.outcome.Outcome.TheVariants as outcome
 use Rattle.bgpdump_lines.specs.Run.{MayHold, EndedByInput, IsTaken, IsLast, all_results}
-use Rattle.bgpdump_lines.specs.Ending.{source_outcome}
-use Rattle.bgpdump_lines.specs.Going.{Untold, IsFaulty}
+use Rattle.bgpdump_lines.specs.Going.{source_outcome, Untold, IsFaulty}
 
 -- what a source has left behind the frames is a rest
 pub rest_so_far : (p q : Place) (left left' : Option (List ℕ)) (found : List Finding) → (s : SoFar p q left left' found) → IsRest s.rest

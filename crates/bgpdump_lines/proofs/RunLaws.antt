@@ -7,19 +7,16 @@ use Rattle.mrt_wire.specs.declared.SourceFault.{SourceFault}
 use Rattle.mrt_wire.specs.declared.next.Next.TheVariants as next
 use Rattle.mrt_wire.specs.declared.next.Phase.{Phase}
 use Rattle.mrt_wire.specs.declared.next.Phase.TheVariants.{Reading, Ended, Spent}
-use Rattle.mrt_wire.specs.Device.{Stops}
+use Rattle.mrt_wire.specs.Taken.{Stops}
 use Rattle.mrt_wire.specs.declared.RecordKind.{RecordKind}
 use Rattle.mrt_wire.specs.declared.RecordFault.{RecordFault}
 use Rattle.mrt_wire.specs.Results.{Finding, Found, Bad, fault_findings, Place}
-use Rattle.mrt_wire.specs.Answered.{answer_findings, Nexts}
-use Rattle.mrt_wire.specs.SoFar.{SoFar, RestSoFar, is_nothing}
+use Rattle.mrt_wire.specs.Answered.{answer_findings, Nexts, SoFar, RestSoFar, is_nothing}
 use Rattle.mrt_wire.proofs.SoFarLaws.{no_rest, SoFar-start, SoFar-answer, ends_with_none, Promises}
 use Rattle.bgpdump_lines.specs.declared.fault.WriteFault.{WriteFault}
 use Rattle.bgpdump_lines.specs.declared.fault.WriteFault.TheVariants.{Write, Memory}
-use Rattle.bgpdump_lines.specs.Reports.{dump_texts}
-use Rattle.bgpdump_lines.specs.Run.{Outputs, Writes, WritesFronts}
-use Rattle.bgpdump_lines.specs.Writing.{PutsFound, is_any_bad}
-use Rattle.bgpdump_lines.specs.Going.{Going, Untold, IsFaulty, StopsAtSource, StopsAtFronts, StopsAtWriting}
+use Rattle.bgpdump_lines.specs.Run.{dump_texts, Outputs, Writes, WritesFronts}
+use Rattle.bgpdump_lines.specs.Going.{PutsFound, is_any_bad, Going, Untold, IsFaulty, StopsAtSource, StopsAtFronts, StopsAtWriting}
 use Rattle.bgpdump_lines.proofs.WritingLaws.{dump_texts-append, Writes-append, Writes-kept, WritesFronts-behind, WritesFronts-whole}
 
 pub is_any_bad-append : (found more : List Finding) → is_any_bad (found ++ more) ≡ (is_any_bad found || is_any_bad more)

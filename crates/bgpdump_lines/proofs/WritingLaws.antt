@@ -9,10 +9,9 @@ use Rattle.mrt_wire.specs.declared.RecordFault.{RecordFault}
 use Rattle.mrt_wire.specs.Results.{Finding, Found, Bad}
 use Rattle.bgpdump_lines.specs.declared.fault.WriteFault.{WriteFault}
 use Rattle.bgpdump_lines.specs.declared.fault.WriteFault.TheVariants.{Write, Memory}
-use Rattle.bgpdump_lines.specs.Run.{AppendsFront, Texts, joined_texts, Outputs, Writes, WritesFronts}
+use Rattle.bgpdump_lines.specs.Run.{AppendsFront, Texts, joined_texts, Outputs, Writes, WritesFronts, fault_report, finding_lines, finding_report, dump_texts}
 use Rattle.bgpdump_lines.specs.Lines.{event_lines}
-use Rattle.bgpdump_lines.specs.Reports.{fault_report, finding_lines, finding_report, dump_texts}
-use Rattle.bgpdump_lines.specs.Writing.{Puts, PutsFound, PutsPart, Passes}
+use Rattle.bgpdump_lines.specs.Going.{Puts, PutsFound, PutsPart, Passes}
 
 -- an output that was left alone has a front of any text
 pub AppendsFront-none : (known : Option (List ℕ)) (text : List ℕ) → AppendsFront known known text

@@ -1,21 +1,111 @@
 -- Private.
--- What a run has taken and written so far, and where it stopped.
-use Rattle.std.specs.Prelude.{◌≡◌, [], ℕ, Bool, List, ◌⊎◌, ◌+◌, ◌≤◌, length, Option, Result, Ok, Err}
-use Rattle.std.specs.Io.KnownBytes.{Consumes}
-use Rattle.mrt_wire.specs.declared.SourceFault.{SourceFault}
-use Rattle.mrt_wire.specs.declared.next.Phase.TheVariants.{Reading, Ended}
-use Rattle.mrt_wire.specs.Device.{Stops}
-use Rattle.mrt_wire.specs.Results.{Finding, Place}
-use Rattle.mrt_wire.specs.Answered.{IsLeft}
-use Rattle.mrt_wire.specs.SoFar.{SoFar}
+-- What a run has taken and written so far, where it stopped, and how it ends.
+use Rattle.std.specs.Prelude.{◌≡◌, ℕ, List, ◌++◌, Result, OnOk, OnErr, ◌⊎◌, Bool, true, false, [], ◌∷◌, Option, Ok, Err, ◌+◌, ◌≤◌, length}
+use Rattle.bgp_wire.specs.Readers.{StillBegins}
+use Rattle.std.specs.Io.KnownBytes.{Appends, Consumes}
+use Rattle.mrt_events.specs.declared.event.Event.{Event}
+use Rattle.mrt_wire.specs.Results.{Finding, Found, Bad, Place}
 use Rattle.bgpdump_lines.specs.declared.fault.WriteFault.{WriteFault}
 use Rattle.bgpdump_lines.specs.declared.fault.WriteFault.TheVariants.{Write, Memory}
+use Rattle.bgpdump_lines.specs.Run.{AppendsFront, Outputs, Writes, WritesFronts, IsLast, dump_texts}
 use Rattle.bgpdump_lines.specs.declared.outcome.Outcome.{Outcome}
+use Rattle.bgpdump_lines.specs.declared.outcome.Outcome.TheVariants.{Done, Reported}
+use Rattle.mrt_wire.specs.declared.SourceFault.{SourceFault}
+use Rattle.mrt_wire.specs.declared.next.Phase.TheVariants.{Reading, Ended}
+use Rattle.mrt_wire.specs.Taken.{Stops}
+use Rattle.mrt_wire.specs.Answered.{IsLeft, SoFar}
+use Rattle.mrt_wire.specs.declared.SourceFault.TheVariants as source
+use Rattle.bgpdump_lines.specs.declared.fault.WriteFault.TheVariants as write
 use Rattle.bgpdump_lines.specs.declared.outcome.Outcome.TheVariants as outcome
-use Rattle.bgpdump_lines.specs.Ending.{source_outcome, write_outcome}
-use Rattle.bgpdump_lines.specs.Reports.{dump_texts}
-use Rattle.bgpdump_lines.specs.Run.{Outputs, Writes, WritesFronts, IsLast}
-use Rattle.bgpdump_lines.specs.Writing.{is_any_bad}
+
+-- ---- what printing does to a text, what was written of it or of what was found, and whether a fault is among it
+
+-- this came behind it; refused, it still stands in front
+abbrev pub Prints : {A E : Type 0} → List ℕ → List ℕ → List ℕ → Result A E → Type 0
+Prints old new text result = OnOk result (new ≡ old ++ text) × OnErr result (StillBegins old new)
+
+-- a text was written; or a front of it, where the output failed; or none of it, for want of memory
+abbrev pub Puts : {A : Type 0} → Option (List ℕ) → Option (List ℕ) → List ℕ → Result A WriteFault → Type 0
+Puts old new text (Ok done) = Appends old new text
+Puts old new text (Err Write) = AppendsFront old new text
+Puts old new text (Err Memory) = new ≡ old
+
+-- a text was written; or a front of it, where a fault came
+abbrev pub PutsPart : {A : Type 0} → Option (List ℕ) → Option (List ℕ) → List ℕ → Result A WriteFault → Type 0
+PutsPart old new text (Ok done) = Appends old new text
+PutsPart old new text (Err fault) = AppendsFront old new text
+
+-- more came behind a text; a front of both was written, and the text is what follows it now
+pub record Passes (old new : Option (List ℕ)) (before after more : List ℕ) : Type 0 where
+  pub front : List ℕ
+  pub appended : Appends old new front
+  pub whole : front ++ after ≡ before ++ more
+
+-- the same; or a front of both was written, where a fault came
+abbrev pub PassesPart : {A : Type 0} → Option (List ℕ) → Option (List ℕ) → List ℕ → List ℕ → List ℕ → Result A WriteFault → Type 0
+PassesPart old new before after more (Ok done) = Passes old new before after more
+PassesPart old new before after more (Err fault) = AppendsFront old new (before ++ more)
+
+-- what was found was written; or a front of each of its texts, where an output failed; or for want of memory none of them, or a front of an event's lines
+abbrev pub PutsFound : {A : Type 0} → List Finding → Outputs → Outputs → Result A WriteFault → Type 0
+PutsFound found old new (Ok done) = Writes (dump_texts found) old new
+PutsFound found old new (Err Write) = WritesFronts (dump_texts found) old new
+PutsFound found old new (Err Memory) = (new ≡ old) ⊎ ((event : Event) × (found ≡ Found event ∷ []) × WritesFronts (dump_texts found) old new)
+
+-- the writing ended by a fault of the output
+abbrev pub is_write : {A : Type 0} → Result A WriteFault → Bool
+is_write (Err Write) = true
+is_write other = false
+
+-- whether a fault is among what was found
+abbrev pub is_any_bad : List Finding → Bool
+is_any_bad [] = false
+is_any_bad (Found event ∷ found) = is_any_bad found
+is_any_bad (Bad fault ∷ found) = true
+
+-- ---- how a run ends at a fault, and its exit status
+
+-- 0 where all went well, 1 where something was reported, 3 where a device or a limit stopped the run, 4 for want of memory
+abbrev pub status_of : Outcome → ℕ
+status_of Done = 0
+status_of Reported = 1
+status_of outcome.Memory = 4
+status_of other = 3
+
+-- by a fault of the source
+abbrev pub source_outcome : SourceFault → Outcome
+source_outcome source.Read = outcome.ReadFault
+source_outcome source.InputTooLong = outcome.InputTooLong
+source_outcome source.Memory = outcome.Memory
+source_outcome source.Spent = outcome.Memory
+
+-- by one of the writing
+abbrev pub write_outcome : WriteFault → Outcome
+write_outcome write.Write = outcome.WriteFault
+write_outcome write.Memory = outcome.Memory
+
+-- the same for what was answered
+abbrev pub outcome_result : {A : Type 0} → Result A WriteFault → Result A Outcome
+outcome_result (Ok done) = Ok done
+outcome_result (Err fault) = Err (write_outcome fault)
+
+-- how a run ends that came to its end, by whether an output failed at last and whether something was reported
+abbrev pub outcome_of : Bool → Bool → Outcome
+outcome_of true reported = outcome.WriteFault
+outcome_of false true = outcome.Reported
+outcome_of false false = outcome.Done
+
+-- the run ended by a read fault
+abbrev pub is_read_fault : {A : Type 0} → Result A Outcome → Bool
+is_read_fault (Err outcome.ReadFault) = true
+is_read_fault other = false
+
+-- the run ended by a write fault
+abbrev pub is_write_fault : {A : Type 0} → Result A Outcome → Bool
+is_write_fault (Err outcome.WriteFault) = true
+is_write_fault other = false
+
+-- ---- what a run has taken and written so far, and where it stopped
 
 -- all that was found was written
 pub record Going (p q : Place) (left left' : Option (List ℕ)) (old new : Outputs) (reported : Bool) : Type 0 where

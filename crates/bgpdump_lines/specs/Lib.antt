@@ -1,9 +1,4 @@
 pub mod Lines
-pub mod Fields
 pub mod Heading
-pub mod Copying
-pub mod Reports
 pub mod Run
-pub mod Ending
-pub mod Writing
 pub mod Going

@@ -1,7 +1,6 @@
 -- The lines of events, one for each item.
 use Rattle.std.specs.Prelude.{ℕ, ◌-◌, if◌then◌else◌, Bool, Option, Some, None, List, [], ◌∷◌, ◌++◌, length, replicate, decimal, codes, unwrap_or, flat_map}
-use Rattle.ip_prefix.specs.Address.{Address}
-use Rattle.ip_prefix.specs.Network.{Network}
+use Rattle.ip_prefix.specs.Network.{Address, Network}
 use Rattle.ip_prefix.specs.Text.{address_text, network_text}
 use Rattle.bgp_wire.specs.declared.attrs.Origin.{Origin}
 use Rattle.bgp_wire.specs.declared.attrs.Origin.TheVariants.{Igp, Egp, Incomplete}

@@ -1,16 +1,18 @@
--- What a whole run takes from its input and writes to its outputs, where these tell their octets.
-use Rattle.std.specs.Prelude.{◌≡◌, ℕ, List, ◌++◌, Option, ◌≢◌, ◌⊎◌, [], None, ◌≤◌, length}
+-- The reports of a run, and what it takes from its input and writes to its outputs, where these tell their octets.
+use Rattle.std.specs.Prelude.{◌≡◌, ℕ, List, ◌++◌, Option, ◌≢◌, ◌⊎◌, [], None, ◌≤◌, length, ◌∷◌, decimal, codes, flat_map}
 use Rattle.std.specs.Io.KnownBytes.{Appends}
 use Rattle.mrt_events.specs.declared.stamp.Stamp.{Stamp}
-use Rattle.mrt_wire.specs.Record.{Record, spelling, IsRecord}
-use Rattle.mrt_wire.specs.Verdict.{Frame}
-use Rattle.mrt_wire.specs.Results.{AreFrames, Splits, spellings, Finding, start_place, results, Took}
-use Rattle.mrt_wire.specs.declared.RecordKind.TheVariants.{CutRecord}
-use Rattle.mrt_wire.specs.Rest.{rest_kind}
-use Rattle.mrt_wire.specs.Taking.{IsRest, IsBegun}
+use Rattle.mrt_wire.specs.Record.{Record, spelling, IsRecord, rest_kind, IsRest, IsBegun}
+use Rattle.mrt_wire.specs.Results.{Frame, AreFrames, Splits, spellings, Finding, start_place, results, Took, Found, Bad}
+use Rattle.mrt_wire.specs.declared.RecordKind.TheVariants.{CutRecord, TooLong, Unsupported, Malformed, NoIndex, PeerIndex}
 use Rattle.bgpdump_lines.specs.declared.dump.TheConstants.{LIMIT}
 use Rattle.bgpdump_lines.specs.declared.outcome.Outcome.{Outcome}
 use Rattle.bgpdump_lines.specs.declared.outcome.Outcome.TheVariants.{Done, Reported, ReadFault, WriteFault, InputTooLong, ScriptTooLong, Memory}
+use Rattle.mrt_wire.specs.declared.RecordKind.{RecordKind}
+use Rattle.mrt_wire.specs.declared.RecordFault.{RecordFault}
+use Rattle.bgpdump_lines.specs.Lines.{line_feed, event_lines}
+
+-- ---- what a whole run takes from its input and writes to its outputs, where these tell their octets
 
 -- the known octets grow by a front of the text
 pub record AppendsFront (old new : Option (List ℕ)) (text : List ℕ) : Type 0 where
@@ -120,3 +122,37 @@ pub record IsTaken (stamp : Stamp) (outcome : Outcome) (taken : List ℕ) : Type
   pub are_frames : AreFrames stamp None frames
   pub last : IsLast outcome rest
   pub few : length taken ≤ LIMIT
+
+-- ---- the reports of faulty records, and the texts of all that is found
+
+-- what is wrong with a record
+abbrev pub kind_text : RecordKind → List ℕ
+kind_text CutRecord = codes "cut record"
+kind_text (TooLong size) = codes "length " ++ (decimal size ++ codes " too long")
+kind_text (Unsupported kind subtype) = codes "unsupported type " ++ (decimal kind ++ (codes " subtype " ++ decimal subtype))
+kind_text Malformed = codes "malformed"
+kind_text NoIndex = codes "no peer index"
+kind_text (PeerIndex number) = codes "peer index " ++ decimal number
+
+-- the report of a fault
+abbrev pub fault_report : RecordFault → List ℕ
+fault_report fault =
+    codes "bgpdump: record " ++ (decimal fault.number ++ (codes ", byte " ++ (decimal fault.offset
+    ++ (codes ": " ++ (kind_text fault.kind ++ line_feed ∷ [])))))
+
+-- the lines and the report of what was found
+abbrev pub finding_lines : Finding → List ℕ
+finding_lines (Found event) = event_lines event
+finding_lines (Bad fault) = []
+
+abbrev pub finding_report : Finding → List ℕ
+finding_report (Found event) = []
+finding_report (Bad fault) = fault_report fault
+
+-- the reports of all faults
+abbrev pub reports : List Finding → List ℕ
+reports found = flat_map finding_report found
+
+-- the lines of all events, and these: what a run of `-m` writes
+abbrev pub dump_texts : List Finding → Texts
+dump_texts found = record { out = flat_map finding_lines found; err = reports found }

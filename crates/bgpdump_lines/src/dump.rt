@@ -3,12 +3,9 @@
 ghost use Rattle.std.specs.Prelude.{◌≡◌, ◌≢◌, ◌↔◌, ◌||◌, ℕ, List, false, IsTrue, length};
 ghost use Rattle.std.specs.Io.KnownBytes.{Consumes};
 ghost use Rattle.mrt_wire.specs.Results.{start_place, Took};
-ghost use Rattle.mrt_wire.specs.Answered.{answer_findings};
-ghost use Rattle.mrt_wire.specs.SoFar.{is_nothing};
-ghost use Rattle.bgpdump_lines.specs.Reports.{dump_texts};
-ghost use Rattle.bgpdump_lines.specs.Run.{IsTaken, SawEnd, OverDevices, EndsOverAll, WritesWhole};
-ghost use Rattle.bgpdump_lines.specs.Ending.{is_read_fault, is_write_fault};
-ghost use Rattle.bgpdump_lines.specs.Going.{Ends};
+ghost use Rattle.mrt_wire.specs.Answered.{answer_findings, is_nothing};
+ghost use Rattle.bgpdump_lines.specs.Run.{dump_texts, IsTaken, SawEnd, OverDevices, EndsOverAll, WritesWhole};
+ghost use Rattle.bgpdump_lines.specs.Going.{is_read_fault, is_write_fault, Ends};
 
 use crate::outcome::Outcome;
 use crate::output::{Output, finish_outputs, pass_on_before_waiting};

@@ -4,9 +4,8 @@ ghost use Rattle.std.specs.Prelude.{◌≡◌, ◌++◌, map, All, OnOk, OnErr, 
 ghost use Rattle.mrt_events.specs.Event.{saying};
 ghost use Rattle.mrt_events.specs.SharedRoute.{Announces, AreOfOneRoute};
 ghost use Rattle.bgpdump_lines.specs.Lines.{event_lines};
-ghost use Rattle.bgpdump_lines.specs.Heading.{headed_line, headed_lines};
-ghost use Rattle.bgpdump_lines.specs.Writing.{Prints};
-ghost use Rattle.bgpdump_lines.specs.Copying.{EndsIn, EndsInRoute};
+ghost use Rattle.bgpdump_lines.specs.Heading.{headed_line, headed_lines, EndsIn, EndsInRoute};
+ghost use Rattle.bgpdump_lines.specs.Going.{Prints};
 
 use crate::fields::{put_field, put_peer, put_prefix};
 use crate::heading::{Heading, put_head};

@@ -2,7 +2,7 @@
 
 ghost use Rattle.std.specs.Prelude.{◌≡◌};
 ghost use Rattle.bgpdump_lines.specs.declared.fault.WriteFault.TheVariants.{Write, Memory};
-ghost use Rattle.bgpdump_lines.specs.Ending.{source_outcome, write_outcome};
+ghost use Rattle.bgpdump_lines.specs.Going.{source_outcome, write_outcome};
 
 use crate::outcome::Outcome;
 use crate::output::OutFault;

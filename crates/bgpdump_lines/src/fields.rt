@@ -3,10 +3,8 @@
 ghost use Rattle.std.specs.Prelude.{◌∷◌, ◌++◌, decimal};
 ghost use Rattle.ip_prefix.specs.Text.{address_text, network_text};
 ghost use Rattle.bgp_wire.specs.Text.{communities_text};
-ghost use Rattle.bgpdump_lines.specs.Writing.{Prints};
-ghost use Rattle.bgpdump_lines.specs.Lines.{bar, line_of, origin_text, next_hop_text};
-ghost use Rattle.bgpdump_lines.specs.Lines.{number_or_zero, aggregate_word, aggregator_text};
-ghost use Rattle.bgpdump_lines.specs.Lines.{attribute_fields};
+ghost use Rattle.bgpdump_lines.specs.Going.{Prints};
+ghost use Rattle.bgpdump_lines.specs.Lines.{bar, line_of, origin_text, next_hop_text, number_or_zero, aggregate_word, aggregator_text, attribute_fields};
 
 use bgp_wire::{Aggregator, Attrs, Communities, Origin, append_communities};
 use ip_prefix::{Addr, Prefix, SPACE, Text};

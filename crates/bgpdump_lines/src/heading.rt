@@ -1,7 +1,7 @@
 //! What the lines of an event, or of a table, begin with.
 
 ghost use Rattle.std.specs.Prelude.{◌≡◌, ◌∷◌, ◌++◌};
-ghost use Rattle.bgpdump_lines.specs.Writing.{Prints};
+ghost use Rattle.bgpdump_lines.specs.Going.{Prints};
 ghost use Rattle.bgpdump_lines.specs.Lines.{bar, micros_text, time_text, item_line, rib_line};
 ghost use Rattle.bgpdump_lines.specs.Heading.{first_field, route_head, headed_line};
 ghost use Rattle.ip_prefix.specs.Network.{Network};

@@ -1,7 +1,7 @@
 //! How a run ended.
 
 ghost use Rattle.std.specs.Prelude.{◌≡◌};
-ghost use Rattle.bgpdump_lines.specs.Ending.{status_of};
+ghost use Rattle.bgpdump_lines.specs.Going.{status_of};
 
 /// How a run ended.
 #[derive(Clone, Copy, Debug, PartialEq, Eq)]

@@ -3,7 +3,7 @@
 ghost use Rattle.std.specs.Prelude.{◌≡◌, ◌≤◌, ◌<◌, ◌||◌, ℕ, List, Bool, false, Option, length, IfOk, OnOk, is_err};
 ghost use Rattle.std.specs.Io.KnownBytes.{WriteAppends, Appends, Keeps};
 ghost use Rattle.bgpdump_lines.specs.Run.{AppendsFront};
-ghost use Rattle.bgpdump_lines.specs.Ending.{outcome_of};
+ghost use Rattle.bgpdump_lines.specs.Going.{outcome_of};
 
 use crate::outcome::Outcome;
 use mrt_wire::Input;

@@ -1,7 +1,7 @@
 //! The reports of faulty records.
 
 ghost use Rattle.std.specs.Prelude.{◌≡◌, ◌++◌, OnOk, decimal};
-ghost use Rattle.bgpdump_lines.specs.Reports.{kind_text, fault_report};
+ghost use Rattle.bgpdump_lines.specs.Run.{kind_text, fault_report};
 
 use ip_prefix::Text;
 use mrt_wire::{RecordFault, RecordKind};

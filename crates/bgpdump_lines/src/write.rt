@@ -4,13 +4,11 @@ ghost use Rattle.std.specs.Prelude.{◌≡◌, ◌||◌, [], map, IfOk, IfSome, 
 ghost use Rattle.mrt_events.specs.Event.{saying};
 ghost use Rattle.mrt_events.specs.SharedRoute.{AreOfOneRoute};
 ghost use Rattle.mrt_wire.specs.Answered.{answer_findings};
-ghost use Rattle.bgpdump_lines.specs.Copying.{EndsIn};
+ghost use Rattle.bgpdump_lines.specs.Heading.{EndsIn, headed_lines};
 ghost use Rattle.bgpdump_lines.specs.declared.heading.Heading.{Heading};
-ghost use Rattle.bgpdump_lines.specs.Heading.{headed_lines};
 ghost use Rattle.bgpdump_lines.specs.Lines.{event_lines, rib_line};
-ghost use Rattle.bgpdump_lines.specs.Reports.{fault_report};
-ghost use Rattle.bgpdump_lines.specs.Run.{outputs_of};
-ghost use Rattle.bgpdump_lines.specs.Writing.{PassesPart, Puts, PutsFound, PutsPart, is_write, is_any_bad};
+ghost use Rattle.bgpdump_lines.specs.Run.{fault_report, outputs_of};
+ghost use Rattle.bgpdump_lines.specs.Going.{PassesPart, Puts, PutsFound, PutsPart, is_write, is_any_bad};
 
 use crate::event_lines::{append_lines, put_item, put_shared};
 use crate::fault::WriteFault;

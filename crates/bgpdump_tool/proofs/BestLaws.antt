@@ -6,17 +6,14 @@ use Rattle.std.specs.Cmp.{tied_itself}
 use Rattle.std.specs.FinMap as finite
 use Rattle.std.specs.FinMap.{get-entries}
 use Rattle.std.proofs.lemmas.Bool.{cases_Bool, cond_both, ltb-true, ltb-false}
-use Rattle.ip_prefix.specs.Address.{Address}
-use Rattle.ip_prefix.specs.Network.{Network, contains}
-use Rattle.ip_prefix.specs.Order.{network_cmp}
+use Rattle.ip_prefix.specs.Network.{Address, Network, contains, network_cmp}
 use Rattle.ip_prefix.specs.OrderLaws.{network_cmp_total}
 use Rattle.mrt_events.specs.declared.peer.Peer.{Peer}
 use Rattle.mrt_events.specs.declared.event.Route.{Route}
-use Rattle.prefix_store.specs.Lookups.{IsLongestOf}
+use Rattle.prefix_store.specs.Contents.{IsLongestOf}
 use Rattle.prefix_store.proofs.LongestLaws.{longest-one}
 use Rattle.prefix_store.proofs.StoredLaws.{same_prefix}
-use Rattle.rib_player.specs.Tables.{Routes}
-use Rattle.rib_player.specs.Store.{peer_routes}
+use Rattle.rib_player.specs.Tables.{Routes, peer_routes}
 use Rattle.rib_player.specs.Lookups.{IsBest}
 use Rattle.rib_player.proofs.PeerLaws.{get-peer_routes}
 use Rattle.bgpdump_tool.specs.Replies.{longer, longest, best}

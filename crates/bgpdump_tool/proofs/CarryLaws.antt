@@ -16,15 +16,11 @@ use Rattle.bgpdump_tool.specs.declared.command.Command.{Command}
 use Rattle.bgpdump_tool.specs.declared.command.Command.TheVariants.{Next, Back, Goto, Position, Lose, Forget}
 use Rattle.bgpdump_lines.specs.declared.fault.WriteFault.{WriteFault}
 use Rattle.bgpdump_lines.specs.declared.outcome.Outcome.{Outcome}
-use Rattle.bgpdump_lines.specs.Run.{AppendsFront}
-use Rattle.bgpdump_lines.specs.Ending.{write_outcome, outcome_result}
-use Rattle.bgpdump_lines.specs.Reports.{reports}
+use Rattle.bgpdump_lines.specs.Run.{AppendsFront, reports}
+use Rattle.bgpdump_lines.specs.Going.{write_outcome, outcome_result, Puts, PutsPart}
 use Rattle.bgpdump_tool.specs.Replies.{at_text, counts_line}
-use Rattle.bgpdump_tool.specs.Meaning.{events, needed, loss}
-use Rattle.bgpdump_tool.specs.Meaning.{answer, retreat, advance, meaning, meets_end, faults_taken}
-use Rattle.bgpdump_tool.specs.Carrying.{Standing, Scene, Taking, Stands, state_of, at_cursor, standing_on, HasRoom, GoesOn, StepDoes, Steps}
-use Rattle.bgpdump_tool.specs.Carrying.{IsLed, CarryingDoes}
-use Rattle.bgpdump_lines.specs.Writing.{Puts, PutsPart}
+use Rattle.bgpdump_tool.specs.Meaning.{events, needed, loss, answer, retreat, advance, meaning, meets_end, faults_taken}
+use Rattle.bgpdump_tool.specs.Carrying.{Standing, Scene, Taking, Stands, state_of, at_cursor, standing_on, HasRoom, GoesOn, StepDoes, Steps, IsLed, CarryingDoes}
 use Rattle.bgpdump_tool.proofs.WalkLaws.{PutsPart-put, PutsPart-behind}
 use Rattle.bgpdump_tool.proofs.StepLaws.{kept-Appends, kept-AppendsFront}
 use Rattle.bgpdump_tool.proofs.MoveLaws.{Stands-inside, Follows-twice, GoesOn-twice, Forth, Reaches, all_over, reports-append, needed_beyond, events_few}

@@ -2,16 +2,15 @@
 use Rattle.std.proofs.Common.{◌≡◌, ℕ, ◌+◌, ◌*◌, ◌≤◌, ◌<◌, inl, inr, Option, List, [], ◌∷◌, length, refl, sym, ap, subst, ◌∙◌, arith, rules, ◌++◌, ap₂}
 use Rattle.std.proofs.lemmas.Fmt.{decimal_injective}
 use Rattle.std.specs.Prelude.{codes}
-use Rattle.ip_prefix.specs.Spelling.{SpellsAddress, SpellsPrefix}
+use Rattle.ip_prefix.specs.Text.{SpellsAddress, SpellsPrefix}
 use Rattle.ip_prefix.proofs.Spelled.{one_address, one_prefix}
 use Rattle.mrt_events.specs.declared.peer.Peer.{Peer}
-use Rattle.bgp_wire.specs.Reading.{IsNoSpelling}
+use Rattle.bgp_wire.specs.Path.{IsNoSpelling}
 use Rattle.bgp_wire.specs.Readers.{Finds}
 use Rattle.bgpdump_lines.specs.Lines.{space}
 use Rattle.bgpdump_tool.specs.declared.command.Command.{Command}
 use Rattle.bgpdump_tool.specs.declared.command.Command.TheVariants.{Next, Route}
-use Rattle.bgpdump_tool.specs.Command.{Arguments, Alone, Times, Number, OfPeer, SoughtPrefix, SoughtAddress, spelling, pieces, SpellsArguments, SpellsCommand, SpellsDecimal, SpellsPeer, SpellsSought, SpellsWords}
-use Rattle.bgpdump_tool.specs.Script.{Line, Empty, Asks, NoCommand, IsLine, AreLines}
+use Rattle.bgpdump_tool.specs.Script.{Arguments, Alone, Times, Number, OfPeer, SoughtPrefix, SoughtAddress, spelling, pieces, SpellsArguments, SpellsCommand, SpellsDecimal, SpellsPeer, SpellsSought, SpellsWords, Line, Empty, Asks, NoCommand, IsLine, AreLines}
 
 -- ---- what stands behind a name
 

@@ -6,10 +6,10 @@ use Rattle.std.specs.Io.KnownBytes.{Appends}
 use Rattle.std.proofs.KnownBytes.{Appends-nil, Appends-trans}
 use Rattle.mrt_events.specs.declared.event.Event.{Event}
 use Rattle.mrt_wire.specs.Results.{Finding, Found, Bad, Place}
-use Rattle.bgpdump_lines.specs.Reports.{finding_report, reports}
+use Rattle.bgpdump_lines.specs.Run.{finding_report, reports}
 use Rattle.bgpdump_tool.specs.Meaning.{event_of, events, needed}
 use Rattle.bgpdump_tool.specs.Carrying.{Standing, Scene, Stands, Follows, standing_on, at_cursor, GoesOn, Steps}
-use Rattle.bgpdump_lines.specs.Writing.{is_any_bad}
+use Rattle.bgpdump_lines.specs.Going.{is_any_bad}
 use Rattle.bgpdump_lines.proofs.RunLaws.{is_any_bad-append}
 use Rattle.std.proofs.lemmas.Bool.Decides.{nat_tests}
 use Rattle.rib_player.specs.Timeline.{Timeline, behind}

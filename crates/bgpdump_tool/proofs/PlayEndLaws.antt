@@ -7,24 +7,22 @@ use Rattle.mrt_wire.specs.declared.SourceFault.{SourceFault}
 use Rattle.mrt_wire.specs.declared.SourceFault.TheVariants as source
 use Rattle.mrt_wire.specs.declared.RecordKind.TheVariants.{CutRecord}
 use Rattle.mrt_wire.specs.declared.next.Phase.TheVariants.{Ended}
-use Rattle.mrt_wire.specs.Verdict.{Frame}
-use Rattle.mrt_wire.specs.Results.{Splits, spellings, Finding, Place, start_place, results, Took}
-use Rattle.mrt_wire.specs.SoFar.{SoFar}
+use Rattle.mrt_wire.specs.Results.{Frame, Splits, spellings, Finding, Place, start_place, results, Took}
+use Rattle.mrt_wire.specs.Answered.{SoFar}
 use Rattle.mrt_wire.proofs.FirstLaws.{same_taken}
 use Rattle.mrt_wire.proofs.SplitLaws.{frames_all}
-use Rattle.mrt_wire.specs.Rest.{rest_kind}
+use Rattle.mrt_wire.specs.Record.{rest_kind}
 use Rattle.mrt_wire.proofs.SoFarLaws.{FirstSoFar}
 use Rattle.bgpdump_lines.specs.declared.dump.TheConstants.{LIMIT}
 use Rattle.bgpdump_lines.specs.declared.fault.WriteFault.{WriteFault}
 use Rattle.bgpdump_lines.specs.declared.fault.WriteFault.TheVariants as write
 use Rattle.bgpdump_lines.specs.declared.outcome.Outcome.{Outcome}
 use Rattle.bgpdump_lines.specs.declared.outcome.Outcome.TheVariants as outcome
-use Rattle.bgpdump_lines.specs.Ending.{outcome_of, source_outcome, write_outcome}
+use Rattle.bgpdump_lines.specs.Going.{outcome_of, source_outcome, write_outcome}
 use Rattle.bgpdump_lines.specs.Run.{Texts, Outputs, MayHold, Writes, EndsSo, EndedByInput, IsTaken, IsLast, OverAll, all_results}
 use Rattle.bgpdump_tool.specs.Script.{Line, AreLines, IsScript, script_lines}
 use Rattle.bgpdump_tool.specs.Course.{course, play_texts, cut_texts, TakesWanted, IsEndSeen, PlaySawEnd, WritesPast, Began}
-use Rattle.bgpdump_tool.specs.Carrying.{Scene, Taking}
-use Rattle.bgpdump_tool.specs.Playing.{Plays, PlaysBrokenOff, PlaysScript}
+use Rattle.bgpdump_tool.specs.Carrying.{Scene, Taking, Plays, PlaysBrokenOff, PlaysScript}
 use Rattle.bgpdump_lines.proofs.WritingLaws.{AppendsFront-none, WritesFronts-whole, Writes-kept}
 use Rattle.bgpdump_lines.proofs.HeldLaws.{rest_so_far, first_held, front_held, untold_held, whole_found, IsTaken-told, IsTaken-faulty, length-faulty}
 use Rattle.bgpdump_lines.proofs.EndLaws.{cases_none, written_all, EndsSo-source}

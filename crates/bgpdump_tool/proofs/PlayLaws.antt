@@ -14,15 +14,12 @@ use Rattle.rib_player.proofs.TimelineLaws.{StandsFor-fresh}
 use Rattle.bgpdump_tool.specs.declared.command.Command.{Command}
 use Rattle.bgpdump_lines.specs.declared.dump.TheConstants.{LIMIT}
 use Rattle.bgpdump_lines.specs.declared.outcome.Outcome.{Outcome}
-use Rattle.bgpdump_lines.specs.Run.{AppendsFront, Texts, joined_texts, Outputs, Writes, WritesFronts}
-use Rattle.bgpdump_lines.specs.Reports.{reports}
-use Rattle.bgpdump_lines.specs.Writing.{is_any_bad}
+use Rattle.bgpdump_lines.specs.Run.{AppendsFront, Texts, joined_texts, Outputs, Writes, WritesFronts, reports}
+use Rattle.bgpdump_lines.specs.Going.{is_any_bad}
 use Rattle.bgpdump_tool.specs.Script.{Line, Empty, Asks, NoCommand, IsLine, AreLines, script_lines, line_report}
-use Rattle.bgpdump_tool.specs.Meaning.{State, start}
-use Rattle.bgpdump_tool.specs.Meaning.{meaning, meets_end, faults_taken}
+use Rattle.bgpdump_tool.specs.Meaning.{State, start, meaning, meets_end, faults_taken}
 use Rattle.bgpdump_tool.specs.Course.{Course, course_behind, course_from, course, play_texts, WritesPast}
-use Rattle.bgpdump_tool.specs.Carrying.{Scene, Taking, Stands, Follows, HasRoom, state_of, IsLed, IsCutOff, IsBrokenOff}
-use Rattle.bgpdump_tool.specs.Playing.{LineDoes, CarriesLine, Plays, PlaysCutOff, PlaysBrokenOff, PlayDoes, PlaysScript}
+use Rattle.bgpdump_tool.specs.Carrying.{Scene, Taking, Stands, Follows, HasRoom, state_of, IsLed, IsCutOff, IsBrokenOff, LineDoes, CarriesLine, Plays, PlaysCutOff, PlaysBrokenOff, PlayDoes, PlaysScript}
 use Rattle.bgpdump_lines.proofs.WritingLaws.{AppendsFront-none, Writes-append, WritesFronts-behind, WritesFronts-longer, AppendsFront-longer}
 use Rattle.bgpdump_tool.proofs.CarryLaws.{AppendsFront-whole, take_over}
 use Rattle.bgpdump_tool.proofs.MoveLaws.{reports-append}

@@ -11,8 +11,7 @@ use Rattle.mrt_wire.specs.declared.next.Next.{Next}
 use Rattle.mrt_wire.specs.declared.next.Next.TheVariants as next
 use Rattle.mrt_wire.specs.declared.next.Phase.TheVariants.{Reading, Ended}
 use Rattle.mrt_wire.specs.Results.{Finding, Found, Bad, Place}
-use Rattle.mrt_wire.specs.Answered.{answer_findings, Nexts}
-use Rattle.mrt_wire.specs.SoFar.{is_nothing}
+use Rattle.mrt_wire.specs.Answered.{answer_findings, Nexts, is_nothing}
 use Rattle.mrt_wire.proofs.SoFarLaws.{Promises, SoFar-answer, SoFar-told, ends_with_none, told_by}
 use Rattle.rib_player.specs.Timeline.{Timeline, end_of, after_play}
 use Rattle.rib_player.specs.Calls.{StandsFor, after_redo}
@@ -20,10 +19,8 @@ use Rattle.rib_player.proofs.TimelineLaws.{StandsFor-after_play, StandsFor-after
 use Rattle.bgpdump_lines.specs.declared.fault.WriteFault.{WriteFault}
 use Rattle.bgpdump_lines.specs.declared.fault.WriteFault.TheVariants as write
 use Rattle.bgpdump_lines.specs.declared.outcome.Outcome.TheVariants as outcome
-use Rattle.bgpdump_lines.specs.Run.{AppendsFront}
-use Rattle.bgpdump_lines.specs.Ending.{source_outcome, write_outcome}
-use Rattle.bgpdump_lines.specs.Reports.{fault_report, reports}
-use Rattle.bgpdump_lines.specs.Writing.{Puts}
+use Rattle.bgpdump_lines.specs.Run.{AppendsFront, fault_report, reports}
+use Rattle.bgpdump_lines.specs.Going.{source_outcome, write_outcome, Puts}
 use Rattle.bgpdump_tool.specs.Carrying.{Standing, Scene, Taking, Stands, Follows, GoesOn, StepDoes}
 use Rattle.bgpdump_lines.proofs.RunLaws.{IsFaulty-behind}
 use Rattle.bgpdump_lines.proofs.WritingLaws.{AppendsFront-none}

@@ -8,8 +8,7 @@ use Rattle.mrt_events.specs.declared.event.Route.{Route}
 use Rattle.rib_player.specs.Lookups.{pointed_routes}
 use Rattle.std.proofs.lemmas.Grind.{flat_map-append}
 use Rattle.mrt_events.specs.declared.peer.Peer.{Peer}
-use Rattle.rib_player.specs.Tables.{Routes}
-use Rattle.rib_player.specs.Store.{peer_routes}
+use Rattle.rib_player.specs.Tables.{Routes, peer_routes}
 use Rattle.prefix_store.specs.Stored.{counted}
 use Rattle.std.specs.FinMap as finite
 use Rattle.std.specs.FinMap.{len-entries}
@@ -18,7 +17,7 @@ use Rattle.bgpdump_lines.specs.declared.fault.WriteFault.TheVariants.{Write, Mem
 use Rattle.bgpdump_lines.specs.Run.{AppendsFront}
 use Rattle.bgpdump_lines.specs.Lines.{rib_line}
 use Rattle.bgpdump_tool.specs.Replies.{peer_line, peer_lines, counts_line, table_text}
-use Rattle.bgpdump_lines.specs.Writing.{Puts, PutsPart}
+use Rattle.bgpdump_lines.specs.Going.{Puts, PutsPart}
 use Rattle.bgpdump_lines.proofs.WritingLaws.{AppendsFront-none, AppendsFront-behind, AppendsFront-longer}
 
 -- of all items the lines of those done were written; the others are ahead

@@ -5,14 +5,14 @@ use Rattle.std.proofs.lemmas.List.Splits.{slice_split_none, slice_split_first, l
 use Rattle.std.proofs.lemmas.List.Sums.{position_or_len_is}
 use Rattle.std.specs.List.{AllWithin, HoldsAt, position_or_len}
 use Rattle.bgpdump_lines.specs.Lines.{space}
-use Rattle.bgpdump_tool.specs.Command.{pieces, SpellsDecimal, SpellsTimes}
+use Rattle.bgpdump_tool.specs.Script.{pieces, SpellsDecimal, SpellsTimes}
 use Rattle.std.proofs.lemmas.Bool.{cases_eq}
 use Rattle.std.proofs.lemmas.Fmt.{IsAscii-decimal, decimal_digit, first_decimal, parse-decimal, decimal-digits_value, decimal_injective}
 use Rattle.std.proofs.lemmas.Str.{IsUtf8-from_ascii}
 use Rattle.std.proofs.lemmas.Str.Parse.{IsNumeralModel, numerals_by_value, tells_digits, parse_plain, parse_plus}
 use Rattle.std.specs.Result.{result_ok}
 use Rattle.std.specs.Str.Parse.{AllDigits, digits_value, ParsesUnsigned}
-use Rattle.bgp_wire.specs.Reading.{IsNoSpelling}
+use Rattle.bgp_wire.specs.Path.{IsNoSpelling}
 use Rattle.bgp_wire.specs.Readers.{Finds}
 
 abbrev pub IsMark : ℕ → ℕ → Type 0

@@ -2,13 +2,11 @@
 use Rattle.std.specs.Prelude.{◌≡◌, ◌≢◌, ◌⊎◌, ℕ, ◌+◌, ◌≤◌, Bool, true, false, ◌&&◌, ◌||◌, List, [], ◌∷◌, ◌++◌, length, Option, if◌then◌else◌}
 use Rattle.mrt_events.specs.declared.stamp.Stamp.{Stamp}
 use Rattle.mrt_wire.specs.declared.RecordKind.TheVariants.{CutRecord}
-use Rattle.mrt_wire.specs.Verdict.{Frame}
-use Rattle.mrt_wire.specs.Rest.{rest_kind}
-use Rattle.mrt_wire.specs.Results.{Finding}
+use Rattle.mrt_wire.specs.Results.{Frame, Finding}
+use Rattle.mrt_wire.specs.Record.{rest_kind}
 use Rattle.bgpdump_lines.specs.declared.outcome.Outcome.{Outcome}
 use Rattle.bgpdump_lines.specs.declared.outcome.Outcome.TheVariants.{Done, Reported, ReadFault, WriteFault, InputTooLong, ScriptTooLong, Memory}
-use Rattle.bgpdump_lines.specs.Reports.{reports}
-use Rattle.bgpdump_lines.specs.Run.{Texts, joined_texts, Outputs, Writes, WritesFronts, EndedByInput, all_results, OverAll, OverTaken, EndsOverAll}
+use Rattle.bgpdump_lines.specs.Run.{reports, Texts, joined_texts, Outputs, Writes, WritesFronts, EndedByInput, all_results, OverAll, OverTaken, EndsOverAll}
 use Rattle.bgpdump_tool.specs.declared.play.TheConstants.{LONGEST_SCRIPT}
 use Rattle.bgpdump_tool.specs.Script.{Line, Empty, Asks, NoCommand, IsScript, line_report}
 use Rattle.bgpdump_tool.specs.Meaning.{State, start, meaning, meets_end, faults_taken}

@@ -1,14 +1,9 @@
 pub use Rattle.bgpdump_lines.specs.Lines
-pub use Rattle.bgpdump_lines.specs.Reports
 pub use Rattle.bgpdump_lines.specs.Run
-pub use Rattle.bgpdump_lines.specs.Ending
-pub use Rattle.bgpdump_lines.specs.Writing
 pub use Rattle.bgpdump_lines.specs.Going
-pub mod Command
 pub use Rattle.bgpdump_command_line.specs.CommandLine
 pub mod Script
 pub mod Replies
 pub mod Meaning
 pub mod Course
 pub mod Carrying
-pub mod Playing

@@ -7,7 +7,7 @@ use Rattle.mrt_events.specs.declared.event.TheConstants.{ESTABLISHED}
 use Rattle.mrt_events.specs.Event.{Changed}
 use Rattle.mrt_wire.specs.Results.{Finding, Found, Bad}
 use Rattle.rib_player.specs.Tables.{Routes, table}
-use Rattle.bgpdump_lines.specs.Reports.{reports}
+use Rattle.bgpdump_lines.specs.Run.{reports}
 use Rattle.bgpdump_tool.specs.declared.carrying.moves.TheConstants.{IDLE}
 use Rattle.bgpdump_tool.specs.declared.command.Command.{Command}
 use Rattle.bgpdump_tool.specs.declared.command.Command.TheVariants.{Next, Back, Goto, Position, Peers, Table, Route, Lookup, Lose, Forget}

@@ -1,15 +1,13 @@
 -- The replies to commands.
 use Rattle.std.specs.Prelude.{ℕ, Bool, List, [], ◌∷◌, ◌++◌, length, nat_lt, if◌then◌else◌, Option, Some, None, decimal, codes, flat_map, filter, option_map}
 use Rattle.std.specs.FinMap as finite
-use Rattle.ip_prefix.specs.Address.{Address}
-use Rattle.ip_prefix.specs.Network.{Network, contains}
+use Rattle.ip_prefix.specs.Network.{Address, Network, contains}
 use Rattle.ip_prefix.specs.Text.{address_text}
 use Rattle.mrt_events.specs.declared.peer.Peer.{Peer}
 use Rattle.mrt_events.specs.declared.event.Route.{Route}
 use Rattle.prefix_store.specs.Stored.{counted}
 use Rattle.rib_player.specs.History.{pair_of}
-use Rattle.rib_player.specs.Tables.{Routes}
-use Rattle.rib_player.specs.Store.{peer_routes, routed_peers}
+use Rattle.rib_player.specs.Tables.{Routes, peer_routes, routed_peers}
 use Rattle.bgpdump_lines.specs.Lines.{line_feed, line_of, rib_line}
 
 -- words, a number behind each, and how the text ends

@@ -5,7 +5,7 @@ mod questions;
 
 ghost use Rattle.std.specs.Prelude.{◌≡◌, ◌+◌, ◌||◌, ℕ};
 ghost use Rattle.bgpdump_tool.specs.declared.play.TheConstants.{LONGEST_SCRIPT};
-ghost use Rattle.bgpdump_lines.specs.Ending.{is_read_fault, is_write_fault};
+ghost use Rattle.bgpdump_lines.specs.Going.{is_read_fault, is_write_fault};
 ghost use Rattle.bgpdump_tool.specs.Carrying.{HasRoom, OverScenes, CarriesOut};
 
 use crate::command::Command;

@@ -2,7 +2,7 @@
 
 ghost use Rattle.std.specs.Prelude.{◌∷◌, []};
 ghost use Rattle.bgp_wire.specs.Readers.{Finds};
-ghost use Rattle.bgpdump_tool.specs.Command.{SpellsCommand, SpellsWords, SpellsPeer, SpellsTimes};
+ghost use Rattle.bgpdump_tool.specs.Script.{SpellsCommand, SpellsWords, SpellsPeer, SpellsTimes};
 
 use crate::words::{is, read_number, split_first};
 use ip_prefix::{Addr, Prefix, SPACE};

@@ -5,13 +5,12 @@ ghost use Rattle.bgpdump_tool.specs.declared.play.TheConstants.{LONGEST_SCRIPT};
 ghost use Rattle.mrt_events.specs.declared.event.TheConstants.{ESTABLISHED};
 ghost use Rattle.bgpdump_tool.specs.declared.carrying.moves.TheConstants.{IDLE};
 ghost use Rattle.bgpdump_tool.specs.declared.command.Command.{Command};
-ghost use Rattle.bgpdump_tool.specs.Command.{SpellsCommand};
-ghost use Rattle.ip_prefix.specs.Address.{Address};
+ghost use Rattle.bgpdump_tool.specs.Script.{SpellsCommand, Line, IsScript};
+ghost use Rattle.ip_prefix.specs.Network.{Address};
 ghost use Rattle.mrt_events.specs.declared.peer.Peer.{Peer};
 ghost use Rattle.rib_player.specs.Tables.{Routes};
 ghost use Rattle.rib_player.specs.Lookups.{IsBest};
 ghost use Rattle.bgpdump_tool.specs.Replies.{best};
-ghost use Rattle.bgpdump_tool.specs.Script.{Line, IsScript};
 
 /// The numbers that the definitions name: how many octets a script has at most, and the states of a
 /// lost session (RFC 6396, section 4.4.1).

@@ -5,11 +5,10 @@ ghost use Rattle.std.specs.Io.KnownBytes.{Consumes};
 ghost use Rattle.mrt_wire.specs.Results.{start_place, Took};
 ghost use Rattle.rib_player.specs.Calls.{fresh};
 ghost use Rattle.bgpdump_lines.specs.declared.dump.TheConstants.{LIMIT};
-ghost use Rattle.bgpdump_lines.specs.Ending.{is_read_fault, is_write_fault};
+ghost use Rattle.bgpdump_lines.specs.Going.{is_read_fault, is_write_fault};
 ghost use Rattle.bgpdump_lines.specs.Run.{IsTaken, OverDevices};
 ghost use Rattle.bgpdump_tool.specs.Course.{PlaysOverAll, BeganLines, WritesCut, TakesOnlyWanted};
-ghost use Rattle.bgpdump_tool.specs.Carrying.{HasRoom, OverScenes};
-ghost use Rattle.bgpdump_tool.specs.Playing.{CarriesLine, PlaysLines};
+ghost use Rattle.bgpdump_tool.specs.Carrying.{HasRoom, OverScenes, CarriesLine, PlaysLines};
 
 use crate::carrying::carry_out;
 use crate::command::read_command;

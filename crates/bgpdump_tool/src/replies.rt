@@ -1,8 +1,7 @@
 //! The texts of replies, and of reports of lines that are no commands.
 
 ghost use Rattle.std.specs.Prelude.{◌≡◌, ◌||◌, map};
-ghost use Rattle.bgpdump_lines.specs.Ending.{outcome_result};
-ghost use Rattle.bgpdump_lines.specs.Writing.{Puts, is_write};
+ghost use Rattle.bgpdump_lines.specs.Going.{outcome_result, Puts, is_write};
 ghost use Rattle.bgpdump_tool.specs.Replies.{at_text, none_text, numbers_text};
 
 use bgpdump_lines::{Outcome, Output, WriteFault, put_all};

@@ -6,7 +6,7 @@ ghost use Rattle.rib_player.specs.Timeline.{ahead_of};
 ghost use Rattle.rib_player.specs.Calls.{fresh};
 ghost use Rattle.mrt_wire.specs.Results.{start_place};
 ghost use Rattle.bgpdump_lines.specs.declared.dump.TheConstants.{LIMIT};
-ghost use Rattle.bgpdump_lines.specs.Ending.{is_read_fault, is_write_fault};
+ghost use Rattle.bgpdump_lines.specs.Going.{is_read_fault, is_write_fault};
 ghost use Rattle.bgpdump_tool.specs.declared.play.TheConstants.{LONGEST_SCRIPT};
 ghost use Rattle.bgpdump_tool.specs.Carrying.{HasRoom, scene_of, Steps};
 

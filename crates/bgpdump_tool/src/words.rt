@@ -2,7 +2,7 @@
 
 ghost use Rattle.std.specs.Prelude.{◌≡◌, ◌≢◌, [], ◌∷◌, ◌<◌, length, IsTrue, IsFalse, IfSome, MatchOption};
 ghost use Rattle.bgp_wire.specs.Readers.{Finds};
-ghost use Rattle.bgpdump_tool.specs.Command.{pieces, SpellsDecimal};
+ghost use Rattle.bgpdump_tool.specs.Script.{pieces, SpellsDecimal};
 
 /// The least digit that others may follow: neither a sign nor a zero stands in front.
 const LEAST_IN_FRONT: u8 = b'1';

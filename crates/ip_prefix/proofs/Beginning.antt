@@ -3,11 +3,10 @@ use Rattle.std.proofs.Common.{◌≡◌, ℕ, ◌+◌, ◌-◌, ◌*◌, ◌^◌
 use denote.Enum.Bare.{sameb}
 use Rattle.ip_prefix.specs.declared.addr.Family.{Family}
 use Rattle.ip_prefix.specs.contracts.addr.Family.{the_type}
-use Rattle.ip_prefix.specs.Address.{Address}
+use Rattle.ip_prefix.specs.Network.{Address, Network, IsFront, begin_with, contains}
 use Rattle.ip_prefix.specs.Bits.{bits_of, number_of}
-use Rattle.ip_prefix.specs.BitLemmas.{length-bits_of, number-highest}
-use Rattle.ip_prefix.specs.Network.{Network, IsFront, begin_with, contains}
-use Rattle.ip_prefix.specs.Covering.{covers}
+use Rattle.ip_prefix.specs.Kept.{length-bits_of, number-highest}
+use Rattle.ip_prefix.specs.Turns.{covers}
 use Rattle.octet_forms.proofs.Booleans.{same_tests}
 use Rattle.ip_prefix.proofs.Masks.{first_bits, highest_none}
 

@@ -7,9 +7,9 @@ use Rattle.std.proofs.NetLemmas.Arrays.{four_items, eight_items}
 use Rattle.std.proofs.NetLemmas.Texts.{AllSegments}
 use Rattle.ip_prefix.specs.declared.addr.Family.TheVariants.{V4, V6}
 use Rattle.ip_prefix.specs.Bits.{number_of, bits_of, bits_of_octets}
-use Rattle.ip_prefix.specs.BitLemmas.{length-bits_of, number_of-bits_of}
-use Rattle.ip_prefix.specs.Address.{Address, octet_at, group_at, groups_of}
-use Rattle.ip_prefix.specs.Spelling.{octets_of_v4}
+use Rattle.ip_prefix.specs.Kept.{length-bits_of, number_of-bits_of}
+use Rattle.ip_prefix.specs.Network.{Address, octet_at, group_at, groups_of}
+use Rattle.ip_prefix.specs.Text.{octets_of_v4}
 use Rattle.ip_prefix.proofs.BitLists.{bits_of-append}
 use Rattle.ip_prefix.proofs.Octets.{length-bits_of_octets}
 

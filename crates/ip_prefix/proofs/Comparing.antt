@@ -10,16 +10,14 @@ use Rattle.std.proofs.lemmas.Nat.{mod-pow-add, pow_pos}
 use Rattle.std.proofs.lemmas.Nat.Bits.{bit_at-lt, bit_at-zero}
 use Rattle.std.proofs.lemmas.List.{length-append, length-replicate}
 use Rattle.ip_prefix.specs.Bits.{bits_of}
-use Rattle.ip_prefix.specs.BitLemmas.{length-bits_of}
+use Rattle.ip_prefix.specs.Kept.{length-bits_of, IsAligned, bit_count_le}
 use Rattle.ip_prefix.specs.declared.addr.Addr.TheInside.{Inside}
 use Rattle.ip_prefix.specs.declared.addr.Family.{Family}
 use Rattle.ip_prefix.specs.declared.addr.Family.TheVariants.{V4, V6}
 use Rattle.ip_prefix.specs.contracts.addr.Addr.{the_view, the_invariant}
 use Rattle.ip_prefix.specs.declared.prefix.Prefix.TheInside as prefix
 use Rattle.ip_prefix.specs.contracts.prefix.Prefix as prefixes
-use Rattle.ip_prefix.specs.Address.{bit_count}
-use Rattle.ip_prefix.specs.Masked.{IsAligned, bit_count_le}
-use Rattle.ip_prefix.specs.Order.{family_cmp, bits_cmp, address_cmp, network_cmp}
+use Rattle.ip_prefix.specs.Network.{bit_count, family_cmp, bits_cmp, address_cmp, network_cmp}
 use Rattle.ip_prefix.proofs.BitLists.{bits_of-append}
 
 -- ---- numbers by their highest digit

@@ -4,9 +4,8 @@ use Rattle.std.proofs.Math.Seq.{take-append-add}
 use Rattle.std.proofs.lemmas.Bool.{cases_lt, and_parts}
 use Rattle.std.proofs.lemmas.List.{append_cancel_left, length-replicate, length-take, take-append-le, take-take, take_all}
 use Rattle.ip_prefix.specs.declared.addr.Family.{Family}
-use Rattle.ip_prefix.specs.Address.{Address, IsAddress, bit_count}
-use Rattle.ip_prefix.specs.Network.{Network, IsNetwork, IsFront, contains, same_family}
-use Rattle.ip_prefix.specs.Covering.{ContainsAllOf, covers}
+use Rattle.ip_prefix.specs.Network.{Address, IsAddress, bit_count, Network, IsNetwork, IsFront, contains, same_family}
+use Rattle.ip_prefix.specs.Turns.{ContainsAllOf, covers}
 use Rattle.ip_prefix.proofs.Beginning.{front_of, begin_from, contains_same}
 
 -- ---- the first bits

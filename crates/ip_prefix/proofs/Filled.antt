@@ -2,10 +2,8 @@
 use Rattle.std.proofs.Common.{◌≡◌, ◌-◌, ◌≤◌, Bool, List, length, refl, arith}
 use Rattle.ip_prefix.specs.declared.addr.Family.{Family}
 use Rattle.ip_prefix.specs.declared.addr.Family.TheVariants.{V4, V6}
-use Rattle.ip_prefix.specs.Address.{bit_count}
-use Rattle.ip_prefix.specs.Network.{Network, IsNetwork}
-use Rattle.ip_prefix.specs.Order.{network_cmp}
-use Rattle.ip_prefix.specs.Filled.{filled_cmp}
+use Rattle.ip_prefix.specs.Network.{bit_count, Network, IsNetwork, network_cmp}
+use Rattle.ip_prefix.specs.Kept.{filled_cmp}
 use Rattle.ip_prefix.proofs.Comparing.{bits_cmp-filled}
 
 -- the order of prefixes is that of their bits filled with zeros, and then of their lengths

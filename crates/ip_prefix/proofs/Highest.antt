@@ -4,9 +4,9 @@ use Rattle.std.specs.Prelude.{slice_get}
 use Rattle.std.proofs.lemmas.Nat.{shr-shr, and_mask}
 use Rattle.std.proofs.lemmas.Nat.Bits.{shr_and_one}
 use Rattle.ip_prefix.specs.declared.addr.Family.{Family}
-use Rattle.ip_prefix.specs.Address.{bit_count, octet_count}
+use Rattle.ip_prefix.specs.Network.{bit_count, octet_count}
 use Rattle.ip_prefix.specs.Bits.{number_of, bits_of, bits_of_octets}
-use Rattle.ip_prefix.specs.BitLemmas.{number_of-bits_of}
+use Rattle.ip_prefix.specs.Kept.{number_of-bits_of}
 use Rattle.ip_prefix.proofs.BitLists.{drop-bits_of, take-bits_of, slice_get-bits_of, bits_of-append}
 
 -- the octets of an address are all of its bits

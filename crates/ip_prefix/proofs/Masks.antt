@@ -2,10 +2,9 @@
 use Rattle.std.proofs.Common.{◌≡◌, ℕ, ◌+◌, ◌-◌, ◌*◌, ◌^◌, ◌/◌, ◌%◌, ◌<◌, ◌≤◌, false, ◌++◌, length, replicate, take, sym, ap, ◌∙◌, arith, mul-div_cancel}
 use Rattle.std.proofs.lemmas.Nat.{mod-pow-add, field_of, mod_low, pow_pos, shr_le, shr_split, shr-shr}
 use Rattle.ip_prefix.specs.declared.addr.Family.{Family}
-use Rattle.ip_prefix.specs.Address.{bit_count}
-use Rattle.ip_prefix.specs.Masked.{IsAligned, IsMasked, bit_count_le}
+use Rattle.ip_prefix.specs.Network.{bit_count}
+use Rattle.ip_prefix.specs.Kept.{IsAligned, IsMasked, bit_count_le, length-bits_of}
 use Rattle.ip_prefix.specs.Bits.{bits_of}
-use Rattle.ip_prefix.specs.BitLemmas.{length-bits_of}
 use Rattle.ip_prefix.proofs.BitLists.{take-bits_of}
 use Rattle.ip_prefix.proofs.Comparing.{bits_of-filled}
 

@@ -4,7 +4,7 @@ use Rattle.std.specs.Int.{w128, from_be_bytes}
 use Rattle.std.specs.List.{AllByRecursion}
 use Rattle.std.proofs.lemmas.Nat.{mul-add-lt}
 use Rattle.ip_prefix.specs.Bits.{bits_of, bits_of_octets}
-use Rattle.ip_prefix.specs.BitLemmas.{length-bits_of}
+use Rattle.ip_prefix.specs.Kept.{length-bits_of}
 use Rattle.ip_prefix.proofs.BitLists.{bits_of-append}
 use Rattle.octet_forms.proofs.Lists.{AllByRecursion-from_get_or}
 

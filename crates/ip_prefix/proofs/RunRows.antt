@@ -4,7 +4,7 @@ use Rattle.std.specs.Prelude.{nat_le, if◌then◌else◌}
 use mir.Val.{bool_byte}
 use Rattle.std.specs.Net.Text.{zero_run, longest_zero_run}
 use Rattle.ip_prefix.specs.declared.zero_runs.TheConstants.{ZERO_RUNS}
-use Rattle.ip_prefix.specs.ZeroRun.{zero_mask}
+use Rattle.ip_prefix.specs.Marks.{zero_mask}
 use Rattle.octet_text.proofs.DigitRows.{row_at}
 
 -- so many groups, 0 where a mask's bit is set and 1 elsewhere

@@ -15,10 +15,8 @@ use Rattle.std.proofs.NetLemmas.Alphabet.{IsHexOrColon, All-hex_groups_text}
 use Rattle.ip_prefix.specs.declared.addr.Family.{Family}
 use Rattle.ip_prefix.specs.declared.addr.Family.TheVariants.{V4, V6}
 use Rattle.ip_prefix.specs.Bits.{bits_of_octets}
-use Rattle.ip_prefix.specs.Address.{Address, IsAddress, bit_count, octet_at, group_at, groups_of}
-use Rattle.ip_prefix.specs.Network.{Network, IsNetwork, network_of, least_address}
-use Rattle.ip_prefix.specs.Text.{v4_text, v6_text, address_text, network_text}
-use Rattle.ip_prefix.specs.Spelling.{octets_of_v4, HasNoDot, SpellsAddress, SpellsPrefix}
+use Rattle.ip_prefix.specs.Network.{Address, IsAddress, bit_count, octet_at, group_at, groups_of, Network, IsNetwork, network_of, least_address}
+use Rattle.ip_prefix.specs.Text.{v4_text, v6_text, address_text, network_text, octets_of_v4, HasNoDot, SpellsAddress, SpellsPrefix}
 use Rattle.ip_prefix.specs.Marks.{HasNoSlash, IsLastSlash}
 use Rattle.ip_prefix.proofs.Chunks.{octets_back, groups_back, four_octets, eight_groups, octet_fits, group_fits, bits_from_octets, bits_from_groups}
 use Rattle.ip_prefix.proofs.Lengths.{IsNoLength, split_at_slash, slash_inside, digits_behind}

@@ -2,10 +2,9 @@
 use Rattle.std.proofs.Common.{◌≡◌, ◌≢◌, ◌≤◌, ◌↔◌, Some, length, arith, Bool, true, false, List, [], ◌∷◌, ◌++◌, refl, ap, sym, ◌∙◌}
 use Rattle.std.specs.Prelude.{slice_get}
 use Rattle.ip_prefix.specs.Network.{Network, begin_with}
-use Rattle.ip_prefix.specs.Covering.{covers}
+use Rattle.ip_prefix.specs.Turns.{covers, way, turn_of, side, shared, half, common, family_bit}
 use Rattle.ip_prefix.specs.declared.addr.Family.{Family}
 use Rattle.ip_prefix.specs.declared.turn.Turn.TheVariants.{Outside, Here}
-use Rattle.ip_prefix.specs.Turns.{way, turn_of, side, shared, half, common, family_bit}
 use Rattle.ip_prefix.proofs.Beginning.{covers_same}
 use Rattle.ip_prefix.proofs.Containing.{covers_parts, covers_from}
 use Rattle.ip_prefix.proofs.Shared.{shared-front}

@@ -2,12 +2,10 @@
 use Rattle.std.proofs.Common.{◌≡◌, ℕ, ◌+◌, ◌-◌, ◌*◌, ◌^◌, ◌/◌, ◌<◌, ◌≤◌, Bool, List, [], ◌∷◌, ◌++◌, length, take, drop, refl, ap, sym, ◌∙◌, arith, length-drop, take_at, length-append, length-take-le, take-append-drop}
 use Rattle.std.specs.Int.{w128, from_be_bytes}
 use Rattle.ip_prefix.specs.declared.addr.Family.{Family}
-use Rattle.ip_prefix.specs.Address.{bit_count}
+use Rattle.ip_prefix.specs.Network.{bit_count, Network, SpellsNetwork}
 use Rattle.ip_prefix.specs.Bits.{bits_of, bits_of_octets}
-use Rattle.ip_prefix.specs.Network.{Network}
 use Rattle.octet_forms.specs.Sequences.{Begins}
 use Rattle.octet_forms.specs.Fronts.{IsCode}
-use Rattle.ip_prefix.specs.Wire.{SpellsNetwork}
 use Rattle.ip_prefix.proofs.BitLists.{take-bits_of}
 use Rattle.octet_forms.proofs.Lists.{append_parts}
 use Rattle.ip_prefix.proofs.Masks.{first_bits}

@@ -4,7 +4,7 @@ use Rattle.std.specs.Net.Text.{longest_zero_run}
 use Rattle.std.proofs.NetLemmas.Texts.{IsZeroRun-longest_zero_run, longest_zero_run_first}
 use Rattle.std.proofs.lemmas.Bool.{cases_lt}
 use Rattle.std.proofs.lemmas.List.{length-replicate, length-take}
-use Rattle.ip_prefix.specs.ZeroRun.{IsZeroRun, IsFirstLongestRun}
+use Rattle.ip_prefix.specs.Marks.{IsZeroRun, IsFirstLongestRun}
 
 -- no run is longer, and none as long starts before it; one that doesn't lie within the groups has none
 none_before : (groups : List ℕ) (start size : ℕ) → IsZeroRun groups start size

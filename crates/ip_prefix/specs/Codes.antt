@@ -4,8 +4,7 @@ use Rattle.std.specs.Prelude.{◌≡◌, Bool, true, false, List, refl}
 use Rattle.std.specs.Coded.{Coded, code_by, coded×, coded_bool, coded_list}
 use Rattle.ip_prefix.specs.declared.addr.Family.{Family}
 use Rattle.ip_prefix.specs.declared.addr.Family.TheVariants.{V4, V6}
-use Rattle.ip_prefix.specs.Address.{Address}
-use Rattle.ip_prefix.specs.Network.{Network}
+use Rattle.ip_prefix.specs.Network.{Address, Network}
 use Rattle.ip_prefix.specs.Turns.{family_bit}
 
 -- the family of a bit

@@ -1,8 +1,51 @@
--- A prefix is a family and a list of bits, at most as many as an address of the family has (RFC 4632, section 3.1).
-use Rattle.std.specs.Prelude.{◌≡◌, ℕ, ◌-◌, ◌≤◌, Bool, true, false, ◌&&◌, not, List, [], ◌∷◌, ◌++◌, length, take, replicate}
+-- Addresses and prefixes. An address is a family and a list of bits (RFC 791, RFC 4291), a prefix a family and at most as many (RFC 4632, section 3.1).
+use Rattle.std.specs.Prelude.{◌≡◌, ℕ, ◌*◌, Bool, List, [], ◌∷◌, length, take, drop, ◌-◌, ◌≤◌, true, false, ◌&&◌, not, ◌++◌, replicate, ◌<◌}
 use Rattle.ip_prefix.specs.declared.addr.Family.{Family}
 use Rattle.ip_prefix.specs.declared.addr.Family.TheVariants.{V4, V6}
-use Rattle.ip_prefix.specs.Address.{Address, bit_count}
+use Rattle.ip_prefix.specs.declared.addr.TheConstants.{V4_BITS, V6_BITS, V4_OCTETS, V6_OCTETS, OCTET_BITS, GROUP_BITS}
+use Rattle.ip_prefix.specs.Bits.{number_of, bits_of_octets}
+use Rattle.std.specs.declared.cmp.Ordering.{Ordering}
+use Rattle.std.specs.declared.cmp.Ordering.TheVariants.{Less, Equal, Greater}
+use Rattle.std.specs.Ordering.{bool_cmp, on, then_cmp}
+use Rattle.std.specs.Cmp.Lexicographic.{slice_cmp}
+use Rattle.std.specs.List.{AllByRecursion}
+
+-- ---- an address is a family and a list of bits (RFC 791, RFC 4291)
+
+-- an address as contracts see it
+pub record Address : Type 0 where
+  pub family : Family
+  pub bits : List Bool
+
+-- how many octets an address of the family has
+abbrev pub octet_count : Family → ℕ
+octet_count V4 = V4_OCTETS
+octet_count V6 = V6_OCTETS
+
+-- how many bits an address of the family has
+abbrev pub bit_count : Family → ℕ
+bit_count V4 = V4_BITS
+bit_count V6 = V6_BITS
+
+-- the octet at a place, from 0
+unfoldable pub octet_at : Address → ℕ → ℕ
+octet_at address i = number_of (take OCTET_BITS (drop (OCTET_BITS * i) address.bits))
+
+-- an address has as many bits as its family says
+abbrev pub IsAddress : Address → Type 0
+IsAddress address = length address.bits ≡ bit_count address.family
+
+-- the group of bits at a place, from 0 (RFC 4291, section 2.2)
+unfoldable pub group_at : Address → ℕ → ℕ
+group_at address i = number_of (take GROUP_BITS (drop (GROUP_BITS * i) address.bits))
+
+-- the eight groups of an IPv6 address
+abbrev pub groups_of : Address → List ℕ
+groups_of a =
+    group_at a 0 ∷ group_at a 1 ∷ group_at a 2 ∷ group_at a 3
+    ∷ group_at a 4 ∷ group_at a 5 ∷ group_at a 6 ∷ group_at a 7 ∷ []
+
+-- ---- a prefix is a family and a list of bits, at most as many as an address of the family has (RFC 4632, section 3.1)
 
 -- a prefix as contracts see it
 pub record Network : Type 0 where
@@ -46,3 +89,37 @@ begin_with (first ∷ more) (bit ∷ bits) = same_bit first bit && begin_with mo
 -- whether the address is of the prefix's family and begins with its bits
 abbrev pub contains : Network → Address → Bool
 contains n a = same_family n.family a.family && begin_with n.bits a.bits
+
+-- ---- the order of addresses and prefixes: IPv4 first, then the bits one by one. A prefix stands before those that begin with its bits
+
+-- IPv4 before IPv6
+abbrev pub family_cmp : Family → Family → Ordering
+family_cmp V4 V4 = Equal
+family_cmp V4 V6 = Less
+family_cmp V6 V4 = Greater
+family_cmp V6 V6 = Equal
+
+-- the first bits that differ decide, a 0 before a 1, and else the lengths do
+abbrev pub bits_cmp : List Bool → List Bool → Ordering
+bits_cmp = slice_cmp bool_cmp
+
+-- the order of addresses
+abbrev pub address_cmp : Address → Address → Ordering
+address_cmp = then_cmp (on (λ a. a.family) family_cmp) (on (λ a. a.bits) bits_cmp)
+
+-- the order of prefixes
+abbrev pub network_cmp : Network → Network → Ordering
+network_cmp = then_cmp (on (λ n. n.family) family_cmp) (on (λ n. n.bits) bits_cmp)
+
+-- ---- how prefixes are sent (RFC 4271, section 4.3)
+
+-- the octets are the length of a prefix of this family, and the least number of octets that hold its bits; the bits behind them may be any
+pub record SpellsNetwork (kind : Family) (n : Network) (octets : List ℕ) : Type 0 where
+  pub of_family : n.family ≡ kind
+  pub fits : IsNetwork n
+  pub body : List ℕ
+  pub spare : List Bool
+  pub each : AllByRecursion (λ octet. octet < 256) body
+  pub held : bits_of_octets body ≡ n.bits ++ spare
+  pub least : length spare < OCTET_BITS
+  pub whole : octets ≡ length n.bits ∷ body

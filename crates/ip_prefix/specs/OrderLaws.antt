@@ -7,7 +7,7 @@ use Rattle.std.specs.Cmp.{IsTotalOrder, bool_cmp_total, on_total, then_total}
 use Rattle.std.specs.Cmp.Lexicographic.{lists_total}
 use Rattle.std.specs.FinMap.{IsAntisymmetric, slice_cmp-IsAntisymmetric}
 use Rattle.ip_prefix.specs.declared.addr.Family.{Family}
-use Rattle.ip_prefix.specs.Order.{family_cmp, bits_cmp, address_cmp, network_cmp}
+use Rattle.ip_prefix.specs.Network.{family_cmp, bits_cmp, address_cmp, network_cmp}
 
 -- the order of families is total
 family_cmp_total : IsTotalOrder family_cmp

@@ -1,11 +1,14 @@
--- The printed texts of addresses and prefixes.
-use Rattle.std.specs.Prelude.{ℕ, List, ◌∷◌, ◌++◌, length, decimal}
+-- Texts of addresses and prefixes, and what is read as one.
+use Rattle.std.specs.Prelude.{ℕ, List, ◌∷◌, ◌++◌, length, decimal, ◌≡◌, ◌==◌, false, []}
 use Rattle.std.specs.Net.Text.{hex_groups_text}
 use Rattle.ip_prefix.specs.declared.addr.Family.{Family}
 use Rattle.ip_prefix.specs.declared.addr.Family.TheVariants.{V4, V6}
 use Rattle.ip_prefix.specs.declared.text.TheConstants.{DOT, SLASH}
-use Rattle.ip_prefix.specs.Address.{Address, octet_at, groups_of}
-use Rattle.ip_prefix.specs.Network.{Network, least_address}
+use Rattle.ip_prefix.specs.Network.{Address, octet_at, groups_of, IsAddress, Network, least_address, IsNetwork, IsFront}
+use Rattle.std.specs.List.{list_any}
+use Rattle.std.specs.Net.Grammar.{IsDotted, IsColonHex}
+
+-- ---- the printed texts of addresses and prefixes
 
 -- the text of an IPv4 address: its octets in decimal, joined by dots
 unfoldable pub v4_text : Address → List ℕ
@@ -31,3 +34,32 @@ address_text address = text_by address.family address
 -- the text of a prefix: its least address, a slash and its length
 unfoldable pub network_text : Network → List ℕ
 network_text n = address_text (least_address n) ++ SLASH ∷ decimal (length n.bits)
+
+-- ---- the texts that a person may write for addresses and prefixes
+
+-- the four octets of an IPv4 address
+abbrev pub octets_of_v4 : Address → List ℕ
+octets_of_v4 a = octet_at a 0 ∷ octet_at a 1 ∷ octet_at a 2 ∷ octet_at a 3 ∷ []
+
+-- no dot stands in the text
+abbrev pub HasNoDot : List ℕ → Type 0
+HasNoDot text = list_any (λ octet. octet == DOT) text ≡ false
+
+-- groups of one to four hexadecimal digits of either case, joined by colons: eight, or fewer and `::` for those that are 0; never a dotted end
+abbrev SpellsBy : Family → Address → List ℕ → Type 0
+SpellsBy V4 address text = IsDotted text (octets_of_v4 address)
+SpellsBy V6 address text = IsColonHex text (groups_of address) × HasNoDot text
+
+-- the text is a spelling of the address: of IPv4, four decimals without leading zeros, joined by dots
+abbrev pub SpellsAddress : Address → List ℕ → Type 0
+SpellsAddress address text = IsAddress address × SpellsBy address.family address text
+
+-- the text is a spelling of the prefix: one of an address that begins with its bits, a slash, and its length
+pub record SpellsPrefix (n : Network) (text : List ℕ) : Type 0 where
+  pub fits : IsNetwork n
+  pub address : Address
+  pub address_text : List ℕ
+  pub spelled : SpellsAddress address address_text
+  pub of_family : address.family ≡ n.family
+  pub begins : IsFront n.bits address.bits
+  pub whole : text ≡ address_text ++ SLASH ∷ decimal (length n.bits)

@@ -1,11 +1,23 @@
 -- Private.
--- Prefixes as ways from a root, where one lies, seen from another, and what two share.
-use Rattle.std.specs.Prelude.{Bool, true, false, cond, List, [], ◌∷◌, ◌++◌}
+-- Prefixes that contain what others contain, and prefixes as ways from a root.
+use Rattle.std.specs.Prelude.{Bool, ◌&&◌, IsTrue, true, false, cond, List, [], ◌∷◌, ◌++◌}
+use Rattle.ip_prefix.specs.Network.{Address, IsAddress, Network, same_family, begin_with, contains, same_bit}
 use Rattle.ip_prefix.specs.declared.addr.Family.{Family}
 use Rattle.ip_prefix.specs.declared.addr.Family.TheVariants.{V4, V6}
 use Rattle.ip_prefix.specs.declared.turn.Turn.{Turn}
 use Rattle.ip_prefix.specs.declared.turn.Turn.TheVariants.{Outside, Here, Left, Right}
-use Rattle.ip_prefix.specs.Network.{Network, same_bit}
+
+-- ---- prefixes that contain what others contain
+
+-- whether the other prefix is of the same family and begins with the bits of this one
+abbrev pub covers : Network → Network → Bool
+covers n other = same_family n.family other.family && begin_with n.bits other.bits
+
+-- each address that the other prefix contains is contained in the first too
+abbrev pub ContainsAllOf : Network → Network → Type 0
+ContainsAllOf n other = (a : Address) → IsAddress a → IsTrue (contains other a) → IsTrue (contains n a)
+
+-- ---- prefixes as ways from a root, where one lies, seen from another, and what two share
 
 -- the family as a bit
 abbrev pub family_bit : Family → Bool

@@ -1,12 +1,11 @@
 //! Addresses of both families.
 
 ghost use Rattle.std.specs.Prelude.{◌≡◌, ◌*◌, ◌+◌, ◌<◌, ◌≤◌, Some, slice_get, refl};
-ghost use Rattle.ip_prefix.specs.Address.{IsAddress, octet_at, group_at, octet_count, bit_count};
-ghost use Rattle.ip_prefix.specs.Masked.{IsAligned};
+ghost use Rattle.ip_prefix.specs.Network.{IsAddress, octet_at, group_at, octet_count, bit_count, family_cmp, address_cmp};
+ghost use Rattle.ip_prefix.specs.Kept.{IsAligned};
 ghost use Rattle.ip_prefix.specs.Bits.{bits_of_octets, highest_bits};
 ghost use Rattle.std.specs.Ordering.{eq_by_cmp, as_partial_cmp};
 ghost use Rattle.std.specs.Cmp.{partial_equiv_from_equiv, eq_by_cmp_equiv, partial_order_from_total};
-ghost use Rattle.ip_prefix.specs.Order.{family_cmp, address_cmp};
 ghost use Rattle.ip_prefix.specs.OrderLaws.{address_cmp_total};
 
 use crate::number::{NUMBER_BITS, Number};
@@ -65,10 +64,9 @@ pub struct Addr {
 }
 
 impl Model for Addr {
-    ghost use Rattle.ip_prefix.specs.Address.{Address, bit_count};
+    ghost use Rattle.ip_prefix.specs.Network.{Address, bit_count};
     ghost use Rattle.ip_prefix.specs.Bits.{highest_bits};
-    ghost use Rattle.ip_prefix.specs.Filled.{number_from};
-    ghost use Rattle.ip_prefix.specs.Masked.{IsAligned, number-again};
+    ghost use Rattle.ip_prefix.specs.Kept.{number_from, IsAligned, number-again};
 
     ghost Value = { Address };
 

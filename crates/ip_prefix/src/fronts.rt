@@ -2,7 +2,7 @@
 
 ghost use Rattle.std.specs.Prelude.{◌≡◌, ◌*◌, ◌^◌, ◌<◌, ◌≤◌, length, take};
 ghost use Rattle.ip_prefix.specs.Bits.{bits_of_octets, highest_bits};
-ghost use Rattle.ip_prefix.specs.Filled.{highest_part};
+ghost use Rattle.ip_prefix.specs.Kept.{highest_part};
 
 use crate::addr::{OCTET_BITS, V6_OCTETS};
 use crate::number::{HALF_BITS, NUMBER_BITS};

@@ -23,7 +23,7 @@ pub(crate) struct Number {
 impl Model for Number {
     ghost use Rattle.std.specs.Prelude.{ℕ, ◌^◌, ◌/◌, ◌%◌, ◌<◌};
     ghost use Rattle.ip_prefix.specs.declared.number.TheConstants.{HALF_BITS};
-    ghost use Rattle.ip_prefix.specs.Halves.{whole, high-again, low-again};
+    ghost use Rattle.ip_prefix.specs.Kept.{whole, high-again, low-again};
 
     ghost Value = { ℕ };
 

@@ -1,9 +1,8 @@
 //! The addresses and prefixes that texts spell.
 
 ghost use Rattle.std.specs.Prelude.{◌≡◌, ◌≢◌, ℕ, ◌<◌, MatchOption, decimal};
-ghost use Rattle.ip_prefix.specs.Address.{Address};
-ghost use Rattle.ip_prefix.specs.Network.{Network};
-ghost use Rattle.ip_prefix.specs.Spelling.{SpellsAddress, SpellsPrefix};
+ghost use Rattle.ip_prefix.specs.Network.{Address, Network};
+ghost use Rattle.ip_prefix.specs.Text.{SpellsAddress, SpellsPrefix};
 ghost use Rattle.ip_prefix.specs.Marks.{HasNoSlash, IsLastSlash};
 
 use crate::addr::Addr;

@@ -2,16 +2,13 @@
 
 ghost use Rattle.std.specs.Prelude.{◌≡◌, ◌-◌, ◌<◌, ◌≤◌, ◌++◌, false, Some, MatchOption, IfSome, IfNone, length, replicate, take, slice_get, refl};
 ghost use Rattle.ip_prefix.specs.declared.addr.Family.{Family};
-ghost use Rattle.ip_prefix.specs.Address.{IsAddress, bit_count};
+ghost use Rattle.ip_prefix.specs.Network.{IsAddress, bit_count, IsNetwork, network_of, least_address, contains, network_cmp, SpellsNetwork};
 ghost use Rattle.ip_prefix.specs.Bits.{bits_of, highest_bits};
-ghost use Rattle.ip_prefix.specs.Network.{IsNetwork, network_of, least_address, contains};
-ghost use Rattle.ip_prefix.specs.Covering.{covers};
+ghost use Rattle.ip_prefix.specs.Turns.{covers};
 ghost use Rattle.std.specs.Ordering.{eq_by_cmp, as_partial_cmp};
 ghost use Rattle.std.specs.Cmp.{partial_equiv_from_equiv, eq_by_cmp_equiv, partial_order_from_total};
-ghost use Rattle.ip_prefix.specs.Order.{network_cmp};
 ghost use Rattle.ip_prefix.specs.OrderLaws.{network_cmp_total};
 ghost use Rattle.octet_forms.specs.Fronts.{BeginsWithNone};
-ghost use Rattle.ip_prefix.specs.Wire.{SpellsNetwork};
 
 use crate::addr::{Addr, Family, OCTET_BITS, V4_BITS};
 use crate::fronts::{highest, number_in_front};
@@ -32,8 +29,7 @@ impl Model for Prefix {
     ghost use Rattle.std.specs.Prelude.{length};
     ghost use Rattle.ip_prefix.specs.Network.{Network};
     ghost use Rattle.ip_prefix.specs.Bits.{highest_bits};
-    ghost use Rattle.ip_prefix.specs.Filled.{number_from};
-    ghost use Rattle.ip_prefix.specs.Masked.{IsMasked, number-masked, length-masked};
+    ghost use Rattle.ip_prefix.specs.Kept.{number_from, IsMasked, number-masked, length-masked};
 
     ghost Value = { Network };
 

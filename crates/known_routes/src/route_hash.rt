@@ -1,7 +1,7 @@
 //! Numbers that equal routes share, or equal peers, and others mostly don't.
 
 ghost use Rattle.std.specs.Prelude.{◌+◌, ◌≤◌};
-ghost use Rattle.ip_prefix.specs.Address.{octet_count};
+ghost use Rattle.ip_prefix.specs.Network.{octet_count};
 
 use ip_prefix::{Addr, Family};
 use mrt_events::{Peer, Route};

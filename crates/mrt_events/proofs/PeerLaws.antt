@@ -3,11 +3,10 @@ use Rattle.std.proofs.Common.{◌≡◌, Bool, ◌&&◌, ◌==◌, refl, sym, ap
 use Rattle.std.specs.Ordering.{nat_cmp, eq_by_cmp}
 use Rattle.std.specs.Cmp.{IsTotalOrder, Equal-is, eq_by_cmp_equiv, nat_cmp_total, on_total, then_total, both_tied, unsigned_ties}
 use Rattle.std.specs.FinMap.{IsAntisymmetric, nat_cmp-IsAntisymmetric}
-use Rattle.ip_prefix.specs.Address.{Address}
-use Rattle.ip_prefix.specs.Order.{address_cmp}
+use Rattle.ip_prefix.specs.Network.{Address, address_cmp}
 use Rattle.ip_prefix.specs.OrderLaws.{both_tie, address_cmp_total, address_cmp-IsAntisymmetric}
 use Rattle.mrt_events.specs.declared.peer.Peer.{Peer}
-use Rattle.mrt_events.specs.Peer.{peer_cmp}
+use Rattle.mrt_events.specs.Event.{peer_cmp}
 
 -- the order of peers is total
 pub peer_cmp_total : IsTotalOrder peer_cmp

@@ -2,7 +2,7 @@
 -- Peers and routes as plain data, for values with finite maps in them.
 use Rattle.std.specs.Prelude.{ℕ, refl}
 use Rattle.std.specs.Coded.{Coded, code_by, coded×, coded_ℕ}
-use Rattle.ip_prefix.specs.Address.{Address}
+use Rattle.ip_prefix.specs.Network.{Address}
 use Rattle.ip_prefix.specs.Codes.{coded_address}
 use Rattle.bgp_wire.specs.declared.attrs.Attrs.{Attrs}
 use Rattle.bgp_wire.specs.Codes.{coded_attrs}

@@ -1,4 +1,3 @@
-pub mod Event
 pub mod SharedRoute
-pub mod Peer
+pub mod Event
 pub mod Codes

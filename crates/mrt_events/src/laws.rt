@@ -5,7 +5,7 @@ ghost use Rattle.std.specs.Ordering.{eq_by_cmp};
 ghost use Rattle.std.specs.Cmp.{IsTotalOrder};
 ghost use Rattle.std.specs.FinMap.{IsAntisymmetric};
 ghost use Rattle.mrt_events.specs.declared.peer.Peer.{Peer};
-ghost use Rattle.mrt_events.specs.Peer.{peer_cmp};
+ghost use Rattle.mrt_events.specs.Event.{peer_cmp};
 
 use crate::peer::Peer;
 

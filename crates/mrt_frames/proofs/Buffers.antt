@@ -6,7 +6,7 @@ use Rattle.std.proofs.Math.Seq.{take-append-add}
 use borrow.Rule.Slice.PartMut.{put_mid, post_of}
 use lib.Seq.{take-add, take-append-le}
 use Rattle.mrt_frames.specs.declared.fault.SourceFault.{SourceFault}
-use Rattle.mrt_frames.specs.Device.{Takes, FillsWithin}
+use Rattle.mrt_frames.specs.Taken.{Takes, FillsWithin}
 
 -- the front that was filled, and then the front of what was written behind it
 pub take-put_mid : (at room n : ℕ) (buffer part : List ℕ) → at ≤ length buffer → n ≤ length part → take (at + n) (put_mid at room buffer part) ≡ take at buffer ++ take n part

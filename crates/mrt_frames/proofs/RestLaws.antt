@@ -6,11 +6,8 @@ use Rattle.std.specs.Io.KnownBytes.{IsAtEnd}
 use Rattle.mrt_frames.specs.declared.fault.RecordKind.TheVariants.{CutRecord, TooLong}
 use Rattle.mrt_frames.specs.declared.header.Header.{Header}
 use Rattle.mrt_frames.specs.declared.header.TheConstants.{LONGEST_BODY}
-use Rattle.mrt_frames.specs.Record.{IsHeader, IsRecord, header_octets, spelling}
-use Rattle.mrt_frames.specs.Parts.{record_under}
-use Rattle.mrt_frames.specs.Rest.{rest_kind, rest_fault}
-use Rattle.mrt_frames.specs.Taking.{IsBegun}
-use Rattle.mrt_frames.specs.Taken.{EndsAt}
+use Rattle.mrt_frames.specs.Record.{IsHeader, IsRecord, header_octets, spelling, rest_kind, rest_fault, IsBegun}
+use Rattle.mrt_frames.specs.Taken.{record_under, EndsAt}
 use Rattle.mrt_frames.proofs.RecordLaws.{BeginsWithNoRecord-cut}
 
 -- behind a header its length decides

@@ -1,16 +1,56 @@
 -- Private.
 -- What the reader of records takes from its input, by what it answers.
-use Rattle.std.specs.Prelude.{◌≡◌, ℕ, ◌<◌, Bool, true, false, List, length, take, Option, Result, Ok, Err}
-use Rattle.std.specs.Io.KnownBytes.{IsAtEnd}
+use Rattle.std.specs.Prelude.{ℕ, ◌<◌, List, slice_index, take, ◌≡◌, ◌+◌, ◌≤◌, Bool, true, false, length, Option, Result, Ok, Err}
+use Rattle.mrt_frames.specs.declared.header.Header.{Header}
+use Rattle.mrt_frames.specs.Record.{Record, IsHeader, header_octets, spelling, IsRecord, rest_kind, rest_fault, IsRest, IsBegun}
+use Rattle.std.specs.Io.KnownBytes.{Consumes, IsAtEnd}
 use Rattle.mrt_frames.specs.declared.fault.SourceFault.{SourceFault}
+use Rattle.mrt_frames.specs.declared.fault.SourceFault.TheVariants.{Read, InputTooLong, Spent}
 use Rattle.mrt_frames.specs.declared.fault.RecordKind.TheVariants.{CutRecord}
 use Rattle.mrt_frames.specs.declared.frames.Front.{Front}
 use Rattle.mrt_frames.specs.declared.frames.Front.TheVariants as front
-use Rattle.mrt_frames.specs.Device.{Takes, Stops}
-use Rattle.mrt_frames.specs.Record.{IsHeader, header_octets, spelling, IsRecord}
-use Rattle.mrt_frames.specs.Parts.{record_under, record_in}
-use Rattle.mrt_frames.specs.Rest.{rest_kind, rest_fault}
-use Rattle.mrt_frames.specs.Taking.{IsRest, IsBegun}
+
+-- ---- records made of their parts, and lists of octets
+
+-- each element is an octet
+abbrev pub IsOctets : List ℕ → Type 0
+IsOctets octets = (i : ℕ) → slice_index octets i < 256
+
+-- the record of a header's fields and a body
+abbrev pub record_of : ℕ → ℕ → ℕ → List ℕ → Record
+record_of seconds kind subtype body = record { seconds = seconds; kind = kind; subtype = subtype; body = body }
+
+-- the record of a header and a body
+abbrev pub record_under : Header → List ℕ → Record
+record_under header body = record_of header.seconds header.kind header.subtype body
+
+-- the record of a header whose body is at the front of the buffer
+abbrev pub record_in : Header → List ℕ → Record
+record_in header buffer = record_under header (take header.size buffer)
+
+-- ---- what calls do to the octets that an input has left, where these are known
+
+-- octets were taken, and the count of those taken went on by theirs
+abbrev pub Takes : Option (List ℕ) → Option (List ℕ) → ℕ → ℕ → List ℕ → Type 0
+Takes old new before after octets = Consumes old new octets × (after ≡ before + length octets)
+
+-- a fault may come where so many octets were taken in all, of the most that may be
+abbrev pub Stops : SourceFault → ℕ → ℕ → Type 0
+Stops InputTooLong taken limit = taken ≡ limit
+Stops Spent taken limit = ⊥
+Stops other taken limit = taken ≤ limit
+
+-- so many octets of a buffer were filled, where at most limit octets were to be taken in all and the buffer may have wanted memory
+abbrev pub FillsWithin : Option (List ℕ) → Option (List ℕ) → ℕ → ℕ → List ℕ → ℕ → ℕ → Result ℕ SourceFault → Type 0
+FillsWithin old new before after buffer size limit (Ok count) = (count ≤ size) × (after ≤ limit) × Takes old new before after (take count buffer) × (count < size → IsAtEnd new)
+FillsWithin old new before after buffer size limit (Err fault) = (front : List ℕ) × (length front < size) × Stops fault after limit × Takes old new before after front
+
+-- the call ended by a read fault
+abbrev pub is_read : {A : Type 0} → Result A SourceFault → Bool
+is_read (Err Read) = true
+is_read other = false
+
+-- ---- what the reader of records takes from its input, by what it answers
 
 -- the octets are the rest; but for a length that is too long, the input ends there
 pub record EndsAt (left : Option (List ℕ)) (octets : List ℕ) : Type 0 where

@@ -1,7 +1,7 @@
 //! Filling buffers from an input.
 
 ghost use Rattle.std.specs.Prelude.{◌≡◌, ◌≤◌, ◌<◌, ◌+◌, ◌-◌, ◌*◌, ◌||◌, IfOk, length, max, take, drop, vec_len};
-ghost use Rattle.mrt_frames.specs.Device.{FillsWithin, is_read};
+ghost use Rattle.mrt_frames.specs.Taken.{FillsWithin, is_read};
 
 use crate::fault::SourceFault;
 use crate::header::LONGEST_BODY;

@@ -1,8 +1,7 @@
 //! The records of an input, one behind the other.
 
 ghost use Rattle.std.specs.Prelude.{◌≡◌, ◌+◌, ◌≤◌, ◌||◌, ℕ, Bool, IfOk, IsTrue, take, length, vec_len};
-ghost use Rattle.mrt_frames.specs.Device.{is_read};
-ghost use Rattle.mrt_frames.specs.Taken.{TakesOctets, TakesHeader, TakesBody, TakesRecord};
+ghost use Rattle.mrt_frames.specs.Taken.{is_read, TakesOctets, TakesHeader, TakesBody, TakesRecord};
 
 use crate::buffer::{fill_body, fill_part, fill_within};
 use crate::fault::{RecordKind, SourceFault};

@@ -8,13 +8,12 @@ use Rattle.mrt_frames.specs.declared.fault.RecordKind.TheVariants.{Unsupported, 
 use Rattle.mrt_events.specs.declared.stamp.Stamp.{Stamp}
 use Rattle.mrt_frames.specs.declared.header.TheConstants.{LONGEST_BODY}
 use Rattle.mrt_frames.specs.Record.{Record, IsHeader, header_octets, spelling, IsRecord, BeginsWithNoRecord}
-use Rattle.mrt_frames.specs.Parts.{record_of, IsOctets}
+use Rattle.mrt_frames.specs.Taken.{record_of, IsOctets}
 use Rattle.mrt_frames.specs.declared.fault.RecordKind.{RecordKind}
 use Rattle.mrt_wire.specs.declared.profile.Form.{Form}
 use Rattle.mrt_wire.specs.Profile.{form_of}
 use Rattle.mrt_wire.specs.Content.{Content, IsBody}
-use Rattle.mrt_wire.specs.Verdict.{Verdict, Accepted, Refused, Frame, Index, index_after, content_fault, event_of, ReadsAs}
-use Rattle.mrt_wire.specs.Results.{Splits, spellings}
+use Rattle.mrt_wire.specs.Results.{Verdict, Accepted, Refused, Frame, Index, index_after, content_fault, event_of, ReadsAs, Splits, spellings}
 use Rattle.mrt_frames.proofs.RecordLaws.{BeginsWithNoRecord-short, BeginsWithNoRecord-cut, BeginsWithNoRecord-too_long}
 use Rattle.octet_forms.proofs.Lists.{drop_in_parts}
 

@@ -2,7 +2,7 @@
 use Rattle.std.proofs.Common.{◌≡◌, ℕ, List, [], ◌∷◌, ◌++◌, length, take, drop, refl, ap, ap₂, sym, ◌∙◌, append_assoc, take-append-drop}
 use Rattle.std.specs.Int.{to_be_bytes, w16}
 use Rattle.ip_prefix.specs.declared.addr.Family.{Family}
-use Rattle.ip_prefix.specs.Address.{octet_count}
+use Rattle.ip_prefix.specs.Network.{octet_count}
 use Rattle.ip_prefix.specs.Bits.{bits_of_octets}
 use Rattle.ip_prefix.specs.Sequences.{Begins}
 use Rattle.ip_prefix.specs.Fronts.{BeginsWithNone, OneFront}
@@ -10,7 +10,7 @@ use Rattle.octet_forms.proofs.Fields.{then_front}
 use Rattle.octet_forms.proofs.Lists.{append_parts}
 use Rattle.bgp_wire.specs.declared.AsWidth.{AsWidth}
 use Rattle.bgp_wire.specs.declared.AsWidth.TheVariants.{Two, Four}
-use Rattle.bgp_wire.specs.Number.{SpellsAsn, SpellsWord}
+use Rattle.bgp_wire.specs.Path.{SpellsAsn, SpellsWord}
 use Rattle.bgp_paths.proofs.OneFront.{number_code}
 use Rattle.bgp_wire.proofs.Reaching.{same_sized}
 use Rattle.mrt_wire.specs.Fields.{SpellsOctet, SpellsShort, AreOctets, AreSized, SpellsAddressOf, SpellsPeerOf}

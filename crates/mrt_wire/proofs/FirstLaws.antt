@@ -12,11 +12,8 @@ use Rattle.mrt_frames.specs.declared.fault.SourceFault.{SourceFault}
 use Rattle.mrt_wire.specs.declared.next.Next.{Next}
 use Rattle.mrt_wire.specs.declared.next.Next.TheVariants as next
 use Rattle.mrt_frames.specs.declared.header.TheConstants.{LONGEST_BODY}
-use Rattle.mrt_frames.specs.Record.{Record, spelling, IsRecord, BeginsWithNoRecord}
-use Rattle.mrt_wire.specs.Verdict.{Frame}
-use Rattle.mrt_wire.specs.Results.{Splits, spellings, Finding, Found, Bad, fault_findings, Place, results, Took}
-use Rattle.mrt_frames.specs.Rest.{stated_size, rest_kind, rest_fault}
-use Rattle.mrt_frames.specs.Taking.{IsRest}
+use Rattle.mrt_frames.specs.Record.{Record, spelling, IsRecord, BeginsWithNoRecord, stated_size, rest_kind, rest_fault, IsRest}
+use Rattle.mrt_wire.specs.Results.{Frame, Splits, spellings, Finding, Found, Bad, fault_findings, Place, results, Took}
 use Rattle.mrt_wire.specs.Answered.{Nexts, answer_findings, MayFollow, IsFrameAt, IsRestAt}
 use Rattle.mrt_wire.proofs.SplitLaws.{frames_first, frames_all}
 use lib.Seq.{take-append-le}

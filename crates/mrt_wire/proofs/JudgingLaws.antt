@@ -10,7 +10,7 @@ use Rattle.mrt_wire.specs.declared.profile.Form.{Form}
 use Rattle.mrt_frames.specs.Record.{Record}
 use Rattle.mrt_wire.specs.Profile.{HasForm}
 use Rattle.mrt_wire.specs.Content.{Content, SpellsContent}
-use Rattle.mrt_wire.specs.Verdict.{Index}
+use Rattle.mrt_wire.specs.Results.{Index}
 use Rattle.mrt_wire.specs.Judging.{Judges, body_refusal}
 use Rattle.mrt_wire.proofs.ContentLaws.{same_form}
 

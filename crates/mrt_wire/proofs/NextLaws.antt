@@ -11,13 +11,10 @@ use Rattle.mrt_frames.specs.declared.fault.RecordKind.TheVariants.{Unsupported}
 use Rattle.mrt_wire.specs.declared.next.Next.{Next}
 use Rattle.mrt_wire.specs.declared.next.Next.TheVariants as next
 use Rattle.mrt_frames.specs.Record.{Record, spelling, IsRecord}
-use Rattle.mrt_frames.specs.Parts.{record_under, record_in}
-use Rattle.mrt_wire.specs.Verdict.{Index, Verdict, Accepted, Refused, ReadsAs, index_after}
+use Rattle.mrt_frames.specs.Taken.{record_under, record_in, Takes, TakesOctets, TakesRecord}
+use Rattle.mrt_wire.specs.Results.{Index, Verdict, Accepted, Refused, ReadsAs, index_after, finding, Place}
 use Rattle.mrt_wire.specs.Profile.{form_of, IsSupported}
-use Rattle.mrt_frames.specs.Device.{Takes}
-use Rattle.mrt_wire.specs.Results.{finding, Place}
 use Rattle.mrt_wire.specs.Judging.{Judges, judged_answer}
-use Rattle.mrt_frames.specs.Taken.{TakesOctets, TakesRecord}
 use Rattle.mrt_wire.specs.Answered.{Nexts, answer_findings}
 
 -- a record was taken, and this was answered of what became of it

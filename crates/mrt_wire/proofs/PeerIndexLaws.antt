@@ -6,7 +6,7 @@ use Rattle.octet_forms.proofs.Fields.{then_front, more_one, behind_one}
 use Rattle.octet_forms.proofs.Counts.{counted_code}
 use Rattle.mrt_events.specs.declared.peer.Peer.{Peer}
 use Rattle.mrt_wire.specs.declared.peer_index.TheConstants.{ID_SIZE}
-use Rattle.mrt_wire.specs.PeerIndex.{peer_family, peer_width, SpellsPeerFields, SpellsPeer, SpellsView, SpellsPeerIndex}
+use Rattle.mrt_wire.specs.Rib.{peer_family, peer_width, SpellsPeerFields, SpellsPeer, SpellsView, SpellsPeerIndex}
 use Rattle.mrt_wire.proofs.FieldFronts.{octet_front, octets_front, peer_of_front, sized_front, nothing_octet}
 
 -- the fields of a peer

@@ -3,7 +3,7 @@ use Rattle.std.proofs.Common.{◌≡◌, ℕ, List, [], refl, subst}
 use Rattle.ip_prefix.specs.declared.addr.Family.{Family}
 use Rattle.ip_prefix.specs.Sequences.{Begins}
 use Rattle.ip_prefix.specs.Fronts.{OneFront, IsCode, IsOne}
-use Rattle.ip_prefix.specs.Wire.{SpellsNetwork}
+use Rattle.ip_prefix.specs.Network.{SpellsNetwork}
 use Rattle.octet_forms.proofs.Fields.{then_front, then_one, more_one, behind_one}
 use Rattle.octet_forms.proofs.Counts.{counted_code}
 use Rattle.octet_forms.proofs.Sequences.{never_begins}
@@ -12,7 +12,7 @@ use Rattle.bgp_wire.specs.declared.WireFault.{WireFault}
 use Rattle.bgp_wire.specs.declared.WireFault.TheVariants.{Malformed, Memory}
 use Rattle.bgp_wire.specs.declared.AsWidth.TheVariants.{Two, Four}
 use Rattle.bgp_wire.specs.Content.{SpellsRibAttrs}
-use Rattle.bgp_wire.specs.Number.{SpellsAsn}
+use Rattle.bgp_wire.specs.Path.{SpellsAsn}
 use Rattle.bgp_wire.specs.Readers.{Refuses, RefusesFront}
 use Rattle.bgp_wire.proofs.OneContent.{one_rib_attrs}
 use Rattle.bgp_paths.proofs.OneFront.{number_code}

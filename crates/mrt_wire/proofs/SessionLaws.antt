@@ -1,13 +1,13 @@
 -- What happened in a session, and what didn't.
 use Rattle.std.proofs.Common.{arith, ◌≡◌, ℕ, Bool, true, false, Some, List, ◌∷◌, ◌++◌, ap, sym, ◌∙◌}
 use Rattle.ip_prefix.specs.declared.addr.Family.{Family}
-use Rattle.ip_prefix.specs.Address.{Address, octet_count}
+use Rattle.ip_prefix.specs.Network.{Address, octet_count}
 use Rattle.ip_prefix.specs.Sequences.{Begins}
 use Rattle.ip_prefix.specs.Fronts.{BeginsWithNone, OneFront, IsOne}
 use Rattle.ip_prefix.specs.Fields.{Then}
 use Rattle.octet_forms.proofs.Fields.{both_front, then_front, then_one, more_one, none_first, none_second}
 use Rattle.bgp_wire.specs.declared.AsWidth.{AsWidth}
-use Rattle.bgp_wire.specs.Number.{octets_at}
+use Rattle.bgp_wire.specs.Path.{octets_at}
 use Rattle.bgp_wire.specs.Reach.{family_code}
 use Rattle.bgp_wire.proofs.OneContent.{one_message_of}
 use Rattle.bgp_wire.proofs.Reaching.{same_family}

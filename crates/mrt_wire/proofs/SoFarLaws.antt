@@ -8,13 +8,10 @@ use Rattle.mrt_frames.specs.declared.fault.SourceFault.{SourceFault}
 use Rattle.mrt_wire.specs.declared.next.Next.{Next}
 use Rattle.mrt_wire.specs.declared.next.Phase.{Phase}
 use Rattle.mrt_wire.specs.declared.next.Phase.TheVariants.{Reading, Ended, Spent}
-use Rattle.mrt_frames.specs.Record.{header_octets, spelling, IsRecord, BeginsWithNoRecord}
+use Rattle.mrt_frames.specs.Record.{header_octets, spelling, IsRecord, BeginsWithNoRecord, rest_kind, rest_fault}
 use Rattle.mrt_frames.specs.Taken.{EndsAt}
-use Rattle.mrt_wire.specs.Verdict.{Frame, ReadsAs, index_after}
-use Rattle.mrt_wire.specs.Results.{AreFrames, Splits, spellings, Finding, finding, fault_findings, Place, place_behind, results}
-use Rattle.mrt_frames.specs.Rest.{rest_kind, rest_fault}
-use Rattle.mrt_wire.specs.Answered.{Nexts, answer_findings, IsFrameAt, IsRestAt}
-use Rattle.mrt_wire.specs.SoFar.{SoFar, RestSoFar, is_nothing, place_behind_all}
+use Rattle.mrt_wire.specs.Results.{Frame, ReadsAs, index_after, AreFrames, Splits, spellings, Finding, finding, fault_findings, Place, place_behind, results}
+use Rattle.mrt_wire.specs.Answered.{Nexts, answer_findings, IsFrameAt, IsRestAt, SoFar, RestSoFar, is_nothing, place_behind_all}
 use Rattle.mrt_wire.proofs.SplitLaws.{frames_first, frames_all}
 use Rattle.mrt_wire.proofs.FirstLaws.{RestStays-rest}
 

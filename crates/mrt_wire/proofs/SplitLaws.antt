@@ -5,8 +5,7 @@ use Rattle.mrt_events.specs.declared.event.Event.{Event}
 use Rattle.mrt_events.specs.declared.stamp.Stamp.{Stamp}
 use Rattle.mrt_frames.specs.Record.{Record, spelling, BeginsWithNoRecord}
 use Rattle.mrt_wire.specs.Content.{Content, IsBody}
-use Rattle.mrt_wire.specs.Verdict.{content_fault, HasFault, MakesEvent, Verdict, Accepted, Refused, Frame, Index, ReadsAs, index_after, event_of}
-use Rattle.mrt_wire.specs.Results.{AreFrames, Splits, spellings}
+use Rattle.mrt_wire.specs.Results.{content_fault, HasFault, MakesEvent, Verdict, Accepted, Refused, Frame, Index, ReadsAs, index_after, event_of, AreFrames, Splits, spellings}
 use Rattle.mrt_wire.proofs.ContentLaws.{same_content}
 use Rattle.mrt_frames.proofs.RecordLaws.{same_front}
 

@@ -1,8 +1,7 @@
 -- What is an entry with its peer, and what isn't.
 use Rattle.std.proofs.Common.{◌≡◌, ℕ, ◌<◌, ◌≤◌, List, sym, subst, ◌∙◌, arith}
 use Rattle.ip_prefix.specs.declared.addr.Family.{Family}
-use Rattle.ip_prefix.specs.Address.{Address, bit_count}
-use Rattle.ip_prefix.specs.Network.{Network, network_of}
+use Rattle.ip_prefix.specs.Network.{Address, bit_count, Network, network_of}
 use Rattle.ip_prefix.specs.Sequences.{Begins}
 use Rattle.ip_prefix.specs.Fronts.{BeginsWithNone, OneFront, IsOne}
 use Rattle.ip_prefix.specs.Fields.{Then}
@@ -16,7 +15,7 @@ use Rattle.bgp_wire.proofs.OneContent.{one_rib_attrs}
 use Rattle.mrt_events.specs.declared.peer.Peer.{Peer}
 use Rattle.mrt_wire.specs.declared.table_dump.TheConstants.{NUMBERS_SIZE, STATUS_SIZE}
 use Rattle.mrt_wire.specs.Fields.{SpellsOctet, SpellsAddressOf}
-use Rattle.mrt_wire.specs.TableDump.{SpellsPrefix, ArePeerEntryFields, SpellsPeerEntry}
+use Rattle.mrt_wire.specs.Rib.{SpellsPrefix, ArePeerEntryFields, SpellsPeerEntry}
 use Rattle.mrt_wire.proofs.FieldFronts.{octet_front, octets_front, word_front, address_front, peer_of_front, sized_front}
 
 -- ---- the prefix

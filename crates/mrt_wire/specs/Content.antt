@@ -3,9 +3,7 @@ use Rattle.std.specs.Prelude.{◌≡◌, ℕ, List}
 use Rattle.mrt_events.specs.declared.peer.Peer.{Peer}
 use Rattle.mrt_wire.specs.declared.profile.Form.{Form}
 use Rattle.mrt_wire.specs.declared.profile.Form.TheVariants as form
-use Rattle.mrt_wire.specs.PeerIndex.{SpellsPeerIndex}
-use Rattle.mrt_wire.specs.Rib.{PrefixEntries, SpellsRib}
-use Rattle.mrt_wire.specs.TableDump.{PeerEntry, SpellsPeerEntry}
+use Rattle.mrt_wire.specs.Rib.{SpellsPeerIndex, PrefixEntries, SpellsRib, PeerEntry, SpellsPeerEntry}
 use Rattle.mrt_wire.specs.Session.{SessionBody, SpellsSessionBody}
 use Rattle.mrt_wire.specs.Profile.{HasForm}
 

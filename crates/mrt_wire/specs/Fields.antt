@@ -2,12 +2,12 @@
 use Rattle.std.specs.Prelude.{◌≡◌, ℕ, ◌<◌, ◌^◌, List, [], ◌∷◌, length}
 use Rattle.std.specs.Int.{w16}
 use Rattle.ip_prefix.specs.declared.addr.Family.{Family}
-use Rattle.ip_prefix.specs.Address.{Address}
+use Rattle.ip_prefix.specs.Network.{Address}
 use Rattle.ip_prefix.specs.Fields.{Then}
 use Rattle.bgp_wire.specs.declared.AsWidth.{AsWidth}
-use Rattle.bgp_wire.specs.Number.{SpellsAsn, SpellsNumber}
+use Rattle.bgp_wire.specs.Path.{SpellsAsn, SpellsNumber}
 use Rattle.bgp_wire.specs.Update.{sized_octets}
-use Rattle.bgp_wire.specs.Value.{SpellsAddressOctets}
+use Rattle.bgp_wire.specs.Attribute.{SpellsAddressOctets}
 use Rattle.mrt_events.specs.declared.peer.Peer.{Peer}
 
 -- one octet

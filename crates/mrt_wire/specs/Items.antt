@@ -10,8 +10,7 @@ use Rattle.mrt_events.specs.declared.event.Route.{Route}
 use Rattle.mrt_events.specs.declared.stamp.Stamp.{Stamp}
 use Rattle.mrt_events.specs.declared.stamp.Stamp.TheVariants.{Dump, Change}
 use Rattle.mrt_events.specs.Event.{Saying, Announced, Withdrawn, Changed}
-use Rattle.mrt_wire.specs.Rib.{RibEntry, PrefixEntries}
-use Rattle.mrt_wire.specs.TableDump.{PeerEntry}
+use Rattle.mrt_wire.specs.Rib.{RibEntry, PrefixEntries, PeerEntry}
 use Rattle.mrt_wire.specs.Session.{SessionContent, Change, Receipt}
 
 -- ---- tables

@@ -30,13 +30,12 @@ use Rattle.mrt_wire.specs.declared.update.Announcement.{Announcement}
 use Rattle.bgp_wire.specs.declared.attrs.Attrs.{Attrs}
 use Rattle.mrt_wire.specs.declared.table_dump.FramedEntry.{FramedEntry}
 use Rattle.mrt_frames.specs.Record.{Record}
-use Rattle.mrt_wire.specs.Rib.{RibEntry, PrefixEntries, SpellsEntries}
-use Rattle.mrt_wire.specs.TableDump.{ArePeerEntryFields}
+use Rattle.mrt_wire.specs.Rib.{RibEntry, PrefixEntries, SpellsEntries, ArePeerEntryFields}
 use Rattle.mrt_wire.specs.Items.{announcements, route_of, entry_items, entry_time, entries_items, first_unknown, session_items}
 use Rattle.mrt_events.specs.Event.{Saying, saying}
 use Rattle.mrt_wire.specs.Session.{SessionBody}
 use Rattle.mrt_wire.specs.Content.{Content}
-use Rattle.mrt_wire.specs.Verdict.{Index, Accepted, Refused, ReadsAs, index_after}
+use Rattle.mrt_wire.specs.Results.{Index, Accepted, Refused, ReadsAs, index_after}
 
 -- the answer is a value that the octets begin with and what follows it, or that they begin with none
 abbrev pub FindsField : {A : Type 0} → (A → List ℕ → Type 0) → List ℕ → Option (Field A) → Type 0

@@ -1,11 +1,11 @@
 -- How state changes and messages are sent (RFC 6396, section 4.4), behind microseconds or not (section 3).
 use Rattle.std.specs.Prelude.{◌≡◌, ℕ, ◌<◌, Bool, true, false, List, [], ◌∷◌, Option, Some, None}
 use Rattle.ip_prefix.specs.declared.addr.Family.{Family}
-use Rattle.ip_prefix.specs.Address.{Address, octet_count}
+use Rattle.ip_prefix.specs.Network.{Address, octet_count}
 use Rattle.ip_prefix.specs.Fields.{Then, WithMore}
 use Rattle.bgp_wire.specs.declared.AsWidth.{AsWidth}
 use Rattle.bgp_wire.specs.declared.message.Message.{Message}
-use Rattle.bgp_wire.specs.Number.{SpellsAsn, SpellsWord, octets_at}
+use Rattle.bgp_wire.specs.Path.{SpellsAsn, SpellsWord, octets_at}
 use Rattle.bgp_wire.specs.Reach.{family_code}
 use Rattle.bgp_wire.specs.Update.{SpellsMessage}
 use Rattle.mrt_events.specs.declared.peer.Peer.{Peer}

@@ -3,7 +3,7 @@
 ghost use Rattle.std.specs.Prelude.{◌≡◌, ℕ, List, length, IfSome, IfNone};
 ghost use Rattle.ip_prefix.specs.Sequences.{Begins};
 ghost use Rattle.ip_prefix.specs.Fronts.{BeginsWithNone};
-ghost use Rattle.bgp_wire.specs.Number.{SpellsAsn, SpellsWord};
+ghost use Rattle.bgp_wire.specs.Path.{SpellsAsn, SpellsWord};
 ghost use Rattle.mrt_wire.specs.Judging.{FindsField};
 ghost use Rattle.mrt_wire.specs.Fields.{AreOctets, AreSized, SpellsAddressOf, SpellsOctet, SpellsPeerOf, SpellsShort};
 

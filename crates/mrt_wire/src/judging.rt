@@ -2,8 +2,8 @@
 
 ghost use Rattle.std.specs.Prelude.{◌≡◌};
 ghost use Rattle.mrt_wire.specs.declared.judging.Refusal.TheVariants.{Memory};
-ghost use Rattle.mrt_frames.specs.Parts.{record_under};
-ghost use Rattle.mrt_wire.specs.Verdict.{peers_in, entries_fault, session_tag};
+ghost use Rattle.mrt_frames.specs.Taken.{record_under};
+ghost use Rattle.mrt_wire.specs.Results.{peers_in, entries_fault, session_tag};
 ghost use Rattle.mrt_wire.specs.Judging.{Judges, body_refusal};
 
 use crate::peer_index::read_peer_index;

@@ -9,9 +9,8 @@ ghost use Rattle.mrt_wire.specs.declared.rib.TheConstants.{SEQUENCE_SIZE};
 ghost use Rattle.mrt_wire.specs.declared.session.TheConstants.{INTERFACE_SIZE, MICROS_PER_SECOND};
 ghost use Rattle.mrt_wire.specs.declared.table_dump.TheConstants.{NUMBERS_SIZE, STATUS_SIZE};
 ghost use Rattle.mrt_wire.specs.Content.{Content, IsBody};
-ghost use Rattle.mrt_wire.specs.Verdict.{Frame, Index};
-ghost use Rattle.mrt_frames.specs.Parts.{IsOctets};
-ghost use Rattle.mrt_wire.specs.Results.{Splits};
+ghost use Rattle.mrt_wire.specs.Results.{Frame, Index, Splits};
+ghost use Rattle.mrt_frames.specs.Taken.{IsOctets};
 ghost use Rattle.mrt_wire.specs.Answered.{SplitsOneWay};
 
 /// No body of one type and subtype holds two contents.

@@ -7,7 +7,7 @@ ghost use Rattle.ip_prefix.specs.Fields.{WithMore};
 ghost use Rattle.ip_prefix.specs.Counted.{SpellsCounted};
 ghost use Rattle.bgp_wire.specs.Readers.{Reads};
 ghost use Rattle.mrt_wire.specs.Judging.{FindsField};
-ghost use Rattle.mrt_wire.specs.PeerIndex.{peer_family, peer_width, SpellsPeer, SpellsView, SpellsPeerIndex};
+ghost use Rattle.mrt_wire.specs.Rib.{peer_family, peer_width, SpellsPeer, SpellsView, SpellsPeerIndex};
 
 use crate::fields::{Field, skip, split_octet, split_peer_of, split_short, split_sized};
 use crate::peers::Peers;

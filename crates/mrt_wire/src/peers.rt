@@ -1,11 +1,11 @@
 //! The peers of a table, by their numbers, and the places of routes that peers sent.
 
-ghost use Rattle.std.specs.Prelude.{◌≡◌, ◌<◌};
+ghost use Rattle.std.specs.Prelude.{◌<◌};
 ghost use Rattle.mrt_wire.specs.declared.peers.TheConstants.{PEER_PLACES};
 
+use bgp_paths::ListOf;
 use ip_prefix::{Addr, Family, V4_OCTETS};
 use mrt_events::Peer;
-use std::marker::Model;
 
 /// Among how many places peers are spread.
 pub(crate) const PEER_PLACES: usize = 256;
@@ -55,34 +55,4 @@ pub(crate) fn place_of(peer: &Peer) -> usize
 }
 
 /// The peers of a table, by their numbers.
-#[derive(Debug, Drop)]
-pub(crate) struct Peers {
-    peers: Vec<Peer>,
-}
-
-impl Model for Peers {
-    ghost use Rattle.std.specs.Prelude.{List};
-    ghost use Rattle.mrt_events.specs.declared.peer.Peer.{Peer};
-
-    ghost Value = { List Peer };
-
-    ghost view = { λ a. a.peers.items };
-}
-
-impl Peers {
-    /// These peers.
-    #[inline]
-    pub(crate) fn from_vec(peers: Vec<Peer>) -> Peers
-        ensures { result ≡ peers.items }
-    {
-        Peers { peers }
-    }
-
-    /// The peers in order.
-    #[inline]
-    pub(crate) fn as_slice(&self) -> &[Peer]
-        ensures { result.now ≡ self.now }
-    {
-        self.peers.as_slice()
-    }
-}
+pub(crate) type Peers = ListOf<Peer>;

@@ -5,8 +5,7 @@ ghost use Rattle.std.specs.Option.{option_or};
 ghost use Rattle.ip_prefix.specs.Sequences.{Begins};
 ghost use Rattle.ip_prefix.specs.Fronts.{BeginsWithNone};
 ghost use Rattle.bgp_wire.specs.Readers.{Refuses, RefusesFront};
-ghost use Rattle.mrt_wire.specs.Rib.{PrefixEntries, AreEntryFields, SpellsEntry, SpellsEntries};
-ghost use Rattle.mrt_wire.specs.Rib.{SpellsRib};
+ghost use Rattle.mrt_wire.specs.Rib.{PrefixEntries, AreEntryFields, SpellsEntry, SpellsEntries, SpellsRib};
 ghost use Rattle.mrt_wire.specs.Items.{entry_time, first_unknown};
 ghost use Rattle.mrt_wire.specs.Judging.{Adds, AreItemsOf, EntriesTold, IsTimed, entry_read, snapshot_items};
 

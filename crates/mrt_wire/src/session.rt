@@ -1,10 +1,10 @@
 //! Reading what happened in a session with a peer (RFC 6396, section 4.4).
 
 ghost use Rattle.std.specs.Prelude.{◌≡◌, ◌∷◌, [], ℕ, List, IfOk, IfSome, IfNone};
-ghost use Rattle.ip_prefix.specs.Address.{octet_count};
+ghost use Rattle.ip_prefix.specs.Network.{octet_count};
 ghost use Rattle.ip_prefix.specs.Sequences.{Begins};
 ghost use Rattle.ip_prefix.specs.Fronts.{BeginsWithNone};
-ghost use Rattle.bgp_wire.specs.Number.{octets_at};
+ghost use Rattle.bgp_wire.specs.Path.{octets_at};
 ghost use Rattle.bgp_wire.specs.Readers.{Finds, Reads};
 ghost use Rattle.mrt_events.specs.Event.{Changed};
 ghost use Rattle.mrt_wire.specs.Items.{session_items};

@@ -2,7 +2,7 @@
 
 ghost use Rattle.std.specs.Prelude.{◌≡◌, ◌≤◌, ◌+◌, ◌||◌, ◌↔◌, Ok, Err, IsTrue};
 ghost use Rattle.mrt_wire.specs.declared.next.Next.{Next};
-ghost use Rattle.mrt_frames.specs.Device.{is_read};
+ghost use Rattle.mrt_frames.specs.Taken.{is_read};
 ghost use Rattle.mrt_wire.specs.Results.{start_place};
 ghost use Rattle.mrt_wire.specs.Judging.{judged_answer};
 ghost use Rattle.mrt_wire.specs.Answered.{IsStep, IsFirstResult, spent_place};

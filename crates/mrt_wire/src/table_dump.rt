@@ -5,7 +5,7 @@ ghost use Rattle.ip_prefix.specs.Fronts.{BeginsWithNone};
 ghost use Rattle.bgp_wire.specs.Readers.{Reads};
 ghost use Rattle.mrt_wire.specs.Items.{peer_entry_items};
 ghost use Rattle.mrt_wire.specs.Judging.{FindsField, IsFramed, Told};
-ghost use Rattle.mrt_wire.specs.TableDump.{ArePeerEntryFields, SpellsPeerEntry, SpellsPrefix};
+ghost use Rattle.mrt_wire.specs.Rib.{ArePeerEntryFields, SpellsPeerEntry, SpellsPrefix};
 
 use crate::fields::{
     Field, fill_address, skip, split_octet, split_peer_of, split_sized, split_word,

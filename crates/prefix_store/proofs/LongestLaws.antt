@@ -3,12 +3,11 @@ use Rattle.std.proofs.Common.{◌≡◌, ℕ, ◌+◌, ◌≤◌, true, length, 
 use Rattle.std.proofs.lemmas.Bool.{cases_lt}
 use Rattle.std.proofs.lemmas.Bool.Decides.{nat_tests}
 use Rattle.std.proofs.lemmas.Option.{none-some, same_Some}
-use Rattle.ip_prefix.specs.Address.{Address}
-use Rattle.ip_prefix.specs.Network.{Network, contains, network_of}
+use Rattle.ip_prefix.specs.Network.{Address, Network, contains, network_of}
 use Rattle.ip_prefix.proofs.Containing.{contains_parts, contains_from, front_length, one_of_length}
 use Rattle.std.specs.FinMap.{get}
 use Rattle.prefix_store.specs.Stored.{Routes}
-use Rattle.prefix_store.specs.Lookups.{IsLongest}
+use Rattle.prefix_store.specs.Contents.{IsLongest}
 
 -- a prefix that contains an address is no longer than it
 pub contains-length : (n : Network) (a : Address) → contains n a ≡ true → length n.bits ≤ length a.bits

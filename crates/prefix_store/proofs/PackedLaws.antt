@@ -1,11 +1,11 @@
 -- The octets of an address hold its bits.
 use Rattle.std.proofs.Common.{◌≡◌, ℕ, ◌+◌, ◌≤◌, Bool, List, [], ◌++◌, length, take, drop, sym, ap, ◌∙◌, arith, length-drop, length-take-le}
 use Rattle.std.proofs.lemmas.List.{drop_all}
-use Rattle.ip_prefix.specs.Address.{Address, octet_at}
+use Rattle.ip_prefix.specs.Network.{Address, octet_at}
 use Rattle.ip_prefix.specs.Bits.{number_of, bits_of, bits_of_octets}
 use Rattle.ip_prefix.proofs.Octets.{length-bits_of_octets}
 use Rattle.prefix_store.specs.declared.packed.V4Prefix.{V4Prefix}
-use Rattle.prefix_store.specs.Packed.{v4_network}
+use Rattle.prefix_store.specs.Contents.{v4_network}
 use Rattle.ip_prefix.proofs.Chunks.{bits_of-number_of}
 use Rattle.octet_forms.proofs.Lists.{drop_in_parts}
 

@@ -6,8 +6,7 @@ use Rattle.std.specs.FinMap as finite
 use Rattle.std.specs.FinMap.{same_map}
 use Rattle.std.specs.FinSet as set
 use Rattle.std.specs.FinSet.{same_set}
-use Rattle.ip_prefix.specs.Network.{Network}
-use Rattle.ip_prefix.specs.Order.{network_cmp}
+use Rattle.ip_prefix.specs.Network.{Network, network_cmp}
 use Rattle.ip_prefix.specs.OrderLaws.{network_cmp_total, network_cmp-IsAntisymmetric}
 use Rattle.prefix_store.specs.Stored.{Keys, Routes, put}
 use Rattle.prefix_store.proofs.PutLaws.{get-put as get-put-by}

@@ -1,4 +1,2 @@
-pub mod Packed
 pub mod Stored
-pub mod Lookups
 pub mod Contents

@@ -3,7 +3,7 @@ use Rattle.std.specs.Prelude.{ℕ, min, Option, Some, None}
 use Rattle.std.specs.declared.cmp.Ordering.{Ordering}
 use Rattle.std.specs.FinMap.{FinMap, insert, remove}
 use Rattle.std.specs.FinSet.{FinSet}
-use Rattle.ip_prefix.specs.Order.{network_cmp}
+use Rattle.ip_prefix.specs.Network.{network_cmp}
 use Rattle.prefix_store.specs.declared.store.TheConstants.{GREATEST_COUNT}
 
 -- the prefixes that have room for a route

@@ -56,7 +56,7 @@ pub struct V4Prefix {
 }
 
 impl Packed for V4Prefix {
-    ghost use Rattle.prefix_store.specs.Packed.{v4_network};
+    ghost use Rattle.prefix_store.specs.Contents.{v4_network};
 
     ghost network = { v4_network };
 
@@ -94,7 +94,7 @@ impl Packed for V4Prefix {
 }
 
 impl Packed for Prefix {
-    ghost use Rattle.prefix_store.specs.Packed.{v6_network};
+    ghost use Rattle.prefix_store.specs.Contents.{v6_network};
 
     ghost network = { v6_network };
 

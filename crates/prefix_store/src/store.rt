@@ -4,8 +4,7 @@ ghost use Rattle.std.specs.Prelude.{◌≡◌, ◌≤◌, true, false, not, Opti
 ghost use Rattle.std.specs.FinMap as finite;
 ghost use Rattle.std.specs.FinSet as set;
 ghost use Rattle.prefix_store.specs.Stored.{Keys, Routes, put, counted};
-ghost use Rattle.prefix_store.specs.Lookups.{IsLongest, above, pointed};
-ghost use Rattle.prefix_store.specs.Contents.{AreAmong};
+ghost use Rattle.prefix_store.specs.Contents.{IsLongest, above, pointed, AreAmong};
 
 use crate::places::Places;
 use ip_prefix::{Addr, Prefix};

@@ -9,11 +9,9 @@ use Rattle.rib_player.specs.declared.pair.Pair.{Pair}
 use Rattle.rib_player.specs.declared.entry.Step.{Step}
 use Rattle.rib_player.specs.History.{pair_cmp}
 use Rattle.rib_player.specs.Journal.{pairs_in, steps_of, step_sides}
-use Rattle.rib_player.specs.Sides.{AreDistinct}
-use Rattle.rib_player.specs.Marks.{entry_count}
+use Rattle.rib_player.specs.Marks.{AreDistinct, entry_count}
 use Rattle.rib_player.proofs.PairLaws.{pair_cmp_total}
-use Rattle.rib_player.proofs.MarkLaws.{tied, none-any}
-use Rattle.rib_player.proofs.MarkLaws.{length-pairs}
+use Rattle.rib_player.proofs.MarkLaws.{tied, none-any, length-pairs}
 
 -- a list without a key twice has as many keys as elements
 pub len-from_list : (pairs : List Pair) → IsDistinct tied pairs → set.len (set.from_list {R = pair_cmp} pairs) ≡ length pairs

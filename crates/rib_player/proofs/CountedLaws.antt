@@ -13,8 +13,7 @@ use Rattle.ip_prefix.specs.declared.addr.Family.{Family}
 use Rattle.ip_prefix.specs.declared.addr.Family.TheVariants.{V4, V6}
 use Rattle.ip_prefix.specs.declared.addr.TheConstants.{V4_BITS, V6_BITS}
 use Rattle.ip_prefix.specs.Bits.{bits_of, number_of}
-use Rattle.ip_prefix.specs.Network.{Network}
-use Rattle.ip_prefix.specs.Order.{network_cmp}
+use Rattle.ip_prefix.specs.Network.{Network, network_cmp}
 use Rattle.ip_prefix.specs.OrderLaws.{network_cmp_total, network_cmp-IsAntisymmetric}
 use Rattle.ip_prefix.proofs.Chunks.{bits_of-number_of, number_of-lt}
 use Rattle.mrt_events.specs.declared.peer.Peer.{Peer}
@@ -22,7 +21,7 @@ use Rattle.rib_player.specs.declared.pair.Pair.{Pair}
 use Rattle.rib_player.specs.declared.claims.Counts.{Counts}
 use Rattle.rib_player.specs.declared.claims.TheConstants.{ADDRESSES}
 use Rattle.rib_player.specs.Claims.{count_at, count_of, v4_key, by_family, count_of_peer}
-use Rattle.rib_player.specs.Holding.{IsWritten}
+use Rattle.rib_player.specs.Kept.{IsWritten}
 use Rattle.rib_player.proofs.MarkLaws.{tied}
 use Rattle.rib_player.proofs.StoreLaws.{same_peer, same_network, one_peer, peer_symm, tied_parts}
 

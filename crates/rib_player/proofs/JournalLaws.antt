@@ -15,10 +15,9 @@ use Rattle.mrt_events.specs.declared.event.Event.{Event}
 use Rattle.rib_player.specs.Entries.{Entry}
 use Rattle.rib_player.specs.History.{pair_cmp, Effect, effect, route_after}
 use Rattle.prefix_store.specs.Stored.{put}
-use Rattle.rib_player.specs.Tables.{Routes, Pairs, table_after, is_named}
-use Rattle.rib_player.specs.Store.{route_in}
+use Rattle.rib_player.specs.Tables.{Routes, Pairs, table_after, is_named, route_in}
 use Rattle.rib_player.specs.Journal.{Side, side_of, sides_of, pairs_in, routes_across}
-use Rattle.rib_player.specs.Sides.{sides_across, IsKept, IsStepFor}
+use Rattle.rib_player.specs.Marks.{sides_across, IsKept, IsStepFor}
 use Rattle.rib_player.proofs.PairLaws.{pair_cmp_total, same_pair}
 use Rattle.rib_player.proofs.TableLaws.{same_routes, get-table_after, contains-named_pairs}
 use Rattle.octet_forms.proofs.Booleans.{cond-cond, cond_untested}

@@ -8,25 +8,21 @@ use Rattle.std.specs.Ordering.{eq_by_cmp, ordering_then}
 use Rattle.std.specs.Cmp.{Equal-is, eq_by_cmp_equiv}
 use Rattle.std.specs.FinMap as finite
 use Rattle.std.specs.FinSet.{from_list, contains-from_list}
-use Rattle.ip_prefix.specs.Network.{Network}
-use Rattle.ip_prefix.specs.Order.{network_cmp}
+use Rattle.ip_prefix.specs.Network.{Network, network_cmp}
 use Rattle.mrt_events.specs.declared.peer.Peer.{Peer}
 use Rattle.mrt_events.specs.declared.event.Event.{Event}
-use Rattle.mrt_events.specs.Peer.{peer_cmp}
+use Rattle.mrt_events.specs.Event.{peer_cmp}
 use Rattle.mrt_events.proofs.PeerLaws.{peer_cmp_total}
 use Rattle.std.proofs.lemmas.Map.Keys.{IsDistinct-from_sorted}
 use Rattle.rib_player.specs.declared.pair.Pair.{Pair}
 use Rattle.rib_player.specs.Entries.{Entry}
-use Rattle.rib_player.specs.Kept.{cleared_entries}
+use Rattle.rib_player.specs.Kept.{cleared_entries, value_of}
 use Rattle.rib_player.specs.declared.changes.Changes.{Changes}
 use Rattle.rib_player.specs.Changes.{found, is_lost, effect_of, noted_effect}
 use Rattle.rib_player.specs.History.{pair_cmp, pair_of, effect, where_true, Clear, route_after}
-use Rattle.rib_player.specs.Tables.{Routes, table_after, is_named, named_pairs}
+use Rattle.rib_player.specs.Tables.{Routes, table_after, is_named, named_pairs, peer_routes}
 use Rattle.rib_player.specs.Journal.{Side, side_of, sides_of, pairs_in, routes_across}
-use Rattle.rib_player.specs.Sides.{cleared_side, sides_across, ClearAllOf, AreDistinct, IsStepFor}
-use Rattle.rib_player.specs.Marks.{marks_of, marks_across, gives_up_by}
-use Rattle.rib_player.specs.Store.{peer_routes}
-use Rattle.rib_player.specs.Holding.{value_of}
+use Rattle.rib_player.specs.Marks.{cleared_side, sides_across, ClearAllOf, AreDistinct, IsStepFor, marks_of, marks_across, gives_up_by}
 use Rattle.rib_player.specs.declared.entry.End.TheVariants.{Last}
 use Rattle.mrt_events.specs.declared.event.Route.{Route}
 use Rattle.std.specs.declared.rc.Rc.{Rc}

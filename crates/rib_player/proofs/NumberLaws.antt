@@ -9,11 +9,11 @@ use Rattle.std.proofs.lemmas.Bool.{cases_eq}
 use Rattle.std.proofs.lemmas.List.{length-set, length_push}
 use Rattle.std.proofs.lemmas.Option.{slice_get_within, slice_get-get_or}
 use Rattle.mrt_events.specs.declared.peer.Peer.{Peer}
-use Rattle.mrt_events.specs.Peer.{peer_cmp}
+use Rattle.mrt_events.specs.Event.{peer_cmp}
 use Rattle.mrt_events.proofs.PeerLaws.{peer_cmp_total}
-use Rattle.rib_player.specs.Store.{store_at}
+use Rattle.rib_player.specs.Tables.{store_at}
 use Rattle.rib_player.specs.StoresByPeer.{stores_of}
-use Rattle.rib_player.specs.Holding.{IsWritten}
+use Rattle.rib_player.specs.Kept.{IsWritten}
 use Rattle.rib_player.specs.Numbered.{AreNumbered}
 use Rattle.rib_player.proofs.StoreLaws.{same_peer, one_peer, one_of}
 use Rattle.rib_player.proofs.ListLaws.{get-set_same, get-set_other, get-push_last, get-push_other, get-within, get-past, IsSwapped}

@@ -9,7 +9,7 @@ use Rattle.mrt_events.specs.declared.event.Route.{Route}
 use Rattle.rib_player.specs.declared.pair.Pair.{Pair}
 use Rattle.rib_player.specs.Entries.{Entry}
 use Rattle.rib_player.specs.History.{pair_cmp}
-use Rattle.rib_player.specs.Store.{route_in}
+use Rattle.rib_player.specs.Tables.{route_in}
 use Rattle.rib_player.specs.Journal.{sides_of, pairs_in}
 use Rattle.rib_player.specs.Changes.{found}
 use Rattle.rib_player.proofs.PairLaws.{pair_cmp_total, same_pair}

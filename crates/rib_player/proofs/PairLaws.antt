@@ -3,10 +3,10 @@ use Rattle.std.proofs.Common.{◌≡◌, true}
 use Rattle.std.specs.Ordering.{eq_by_cmp}
 use Rattle.std.specs.Cmp.{IsTotalOrder, on_total, then_total, Equal-is, eq_by_cmp_equiv}
 use Rattle.std.specs.FinMap.{IsAntisymmetric}
-use Rattle.ip_prefix.specs.Order.{network_cmp}
+use Rattle.ip_prefix.specs.Network.{network_cmp}
 use Rattle.ip_prefix.specs.OrderLaws.{both_tie, network_cmp_total, network_cmp-IsAntisymmetric}
 use Rattle.rib_player.specs.declared.pair.Pair.{Pair}
-use Rattle.mrt_events.specs.Peer.{peer_cmp}
+use Rattle.mrt_events.specs.Event.{peer_cmp}
 use Rattle.mrt_events.proofs.PeerLaws.{peer_cmp_total, peer_cmp-IsAntisymmetric}
 use Rattle.rib_player.specs.History.{pair_cmp}
 

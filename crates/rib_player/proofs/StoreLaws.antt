@@ -12,8 +12,7 @@ use Rattle.std.specs.FinSet.{contains-from_list, contains-insert, contains-remov
 use Rattle.std.specs.declared.rc.Rc.{Rc}
 use Rattle.std.proofs.lemmas.List.Folds.{list_any-append}
 use Rattle.std.proofs.lemmas.Map.Views.{any-filter_same}
-use Rattle.ip_prefix.specs.Network.{Network}
-use Rattle.ip_prefix.specs.Order.{network_cmp}
+use Rattle.ip_prefix.specs.Network.{Network, network_cmp}
 use Rattle.ip_prefix.specs.OrderLaws.{network_cmp_total}
 use Rattle.prefix_store.specs.Stored as stored
 use Rattle.prefix_store.specs.Contents as contents
@@ -21,12 +20,11 @@ use Rattle.prefix_store.proofs.PutLaws.{get-put}
 use Rattle.mrt_events.specs.declared.peer.Peer.{Peer}
 use Rattle.rib_player.specs.declared.pair.Pair.{Pair}
 use Rattle.mrt_events.specs.declared.event.Route.{Route}
-use Rattle.mrt_events.specs.Peer.{peer_cmp}
+use Rattle.mrt_events.specs.Event.{peer_cmp}
 use Rattle.rib_player.specs.History.{pair_cmp, pair_of}
 use Rattle.prefix_store.specs.Stored.{put}
-use Rattle.rib_player.specs.Tables.{Routes, Pairs}
-use Rattle.rib_player.specs.Store.{Stores, store_at, has_key, stored_route, route_in, keys_in, routes_in}
-use Rattle.rib_player.specs.Holding.{value_of, IsHeld, IsWritten}
+use Rattle.rib_player.specs.Tables.{Routes, Pairs, Stores, store_at, has_key, stored_route, route_in, keys_in, routes_in}
+use Rattle.rib_player.specs.Kept.{value_of, IsHeld, IsWritten}
 use Rattle.octet_forms.proofs.Booleans.{cond_untested}
 use Rattle.mrt_events.proofs.PeerLaws.{peer_cmp_total, peer_cmp-IsAntisymmetric}
 use Rattle.rib_player.proofs.PairLaws.{pair_cmp_total, pair_cmp-IsAntisymmetric, same_pair}

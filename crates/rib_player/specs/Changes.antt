@@ -9,9 +9,8 @@ use Rattle.mrt_events.specs.declared.peer.Peer.{Peer}
 use Rattle.rib_player.specs.declared.pair.Pair.{Pair}
 use Rattle.mrt_events.specs.declared.event.Route.{Route}
 use Rattle.rib_player.specs.declared.changes.Changes.{Changes}
-use Rattle.mrt_events.specs.Peer.{peer_cmp}
+use Rattle.mrt_events.specs.Event.{peer_cmp, Saying, Announced, saying}
 use Rattle.mrt_events.specs.declared.event.Item.{Item}
-use Rattle.mrt_events.specs.Event.{Saying, Announced, saying}
 use Rattle.rib_player.specs.History.{pair_cmp, Effect, Clear, Set, where_true, item_effect, last_effect}
 use Rattle.rib_player.specs.Journal.{Side, sides_of}
 use Rattle.rib_player.specs.Tables.{Routes}

@@ -1,27 +1,48 @@
 -- Private.
--- How often a player's timeline claims a pair: the pair is wanted exactly where it is claimed.
-use Rattle.std.specs.Prelude.{◌≡◌, ℕ, ◌+◌, ◌-◌, ◌*◌, Bool, true, false, ◌&&◌, not, List, [], ◌∷◌, ◌++◌, Option, is_some, unwrap_or, length, take, replicate}
-use Rattle.std.specs.BTreeMap as tree
+-- The pairs that a player wants, and how often its timeline claims each.
+use Rattle.std.specs.Prelude.{◌≡◌, ℕ, ◌+◌, ◌≤◌, List, ◌++◌, length, refl, flat_map, ◌-◌, ◌*◌, Bool, true, false, ◌&&◌, not, [], ◌∷◌, Option, is_some, unwrap_or, take, replicate}
+use Rattle.std.specs.Coded.{Coded, code_by, coded×, coded_ℕ, coded_list}
+use Rattle.mrt_events.specs.Codes.{coded_route}
+use Rattle.rib_player.specs.Kept.{coded_pair}
+use Rattle.rib_player.specs.Tables.{Routes, Pairs, table_after, Contents}
+use Rattle.rib_player.specs.Timeline.{Timeline, end_of, current, table_at}
 use Rattle.std.specs.Option.{option_map_or}
 use Rattle.std.specs.declared.cmp.Ordering.{Ordering}
 use Rattle.std.specs.Ordering.{nat_cmp}
-use Rattle.std.specs.FinMap as finite
-use Rattle.std.specs.FinSet as set
 use Rattle.ip_prefix.specs.declared.addr.Family.{Family}
 use Rattle.ip_prefix.specs.declared.addr.Family.TheVariants.{V4, V6}
 use Rattle.ip_prefix.specs.declared.addr.TheConstants.{V4_BITS, V6_BITS}
 use Rattle.ip_prefix.specs.Bits.{number_of}
-use Rattle.ip_prefix.specs.Network.{Network}
-use Rattle.ip_prefix.specs.Order.{network_cmp}
+use Rattle.ip_prefix.specs.Network.{Network, network_cmp}
 use Rattle.mrt_events.specs.declared.event.Event.{Event}
-use Rattle.mrt_events.specs.Peer.{peer_cmp}
+use Rattle.mrt_events.specs.Event.{peer_cmp}
 use Rattle.rib_player.specs.declared.claims.Claims.{Claims}
 use Rattle.rib_player.specs.declared.claims.Counts.{Counts}
 use Rattle.rib_player.specs.declared.claims.TheConstants.{ADDRESSES}
 use Rattle.rib_player.specs.declared.pair.Pair.{Pair}
-use Rattle.rib_player.specs.Store.{Contents}
-use Rattle.rib_player.specs.Tables.{Routes, Pairs, table_after}
-use Rattle.rib_player.specs.Timeline.{Timeline, table_at, current, end_of}
+use Rattle.std.specs.FinMap as finite
+use Rattle.std.specs.FinSet as set
+use Rattle.std.specs.BTreeMap as tree
+
+-- ---- the pairs that a player wants, and what else is told of it
+
+abbrev pub coded_timeline : Coded Timeline
+coded_timeline =
+    code_by (ℕ × (ℕ × (List Routes × List Pairs)))
+    (coded× coded_ℕ (coded× coded_ℕ (coded× (coded_list (finite.code coded_pair coded_route)) (coded_list (set.code coded_pair)))))
+    (λ t. (t.floor, (t.cursor, (t.tables, t.steps)))) (λ p. record { floor = p.0; cursor = p.1.0; tables = p.1.1.0; steps = p.1.1.1 }) (λ _. refl)
+
+-- the pairs that have a route at the cursor or are named by a kept step, before it or after it
+unfoldable pub wanted : Timeline → Pairs
+wanted t = set.from_list (finite.keys (current t) ++ flat_map set.items t.steps)
+
+-- the cursor stands between the floor and the end, and a table at each position from the floor to the end
+pub record IsWellFormed (t : Timeline) : Type 0 where
+  pub floor : t.floor ≤ t.cursor
+  pub cursor : t.cursor ≤ end_of t
+  pub tables : length t.tables ≡ length t.steps + 1
+
+-- ---- how often a player's timeline claims a pair: the pair is wanted exactly where it is claimed
 
 abbrev pub one_if : Bool → ℕ
 one_if true = 1

@@ -2,14 +2,12 @@
 use Rattle.std.specs.Prelude.{ℕ, Bool, true, false, ◌&&◌, not, ◌==◌, List, [], ◌∷◌, map, Option, Some, None}
 use Rattle.std.specs.declared.cmp.Ordering.{Ordering}
 use Rattle.std.specs.Ordering.{on, then_cmp, eq_by_cmp}
-use Rattle.ip_prefix.specs.Network.{Network}
-use Rattle.ip_prefix.specs.Order.{network_cmp}
+use Rattle.ip_prefix.specs.Network.{Network, network_cmp}
 use Rattle.mrt_events.specs.declared.peer.Peer.{Peer}
 use Rattle.mrt_events.specs.declared.event.TheConstants.{ESTABLISHED}
 use Rattle.rib_player.specs.declared.pair.Pair.{Pair}
 use Rattle.mrt_events.specs.declared.event.Route.{Route}
-use Rattle.mrt_events.specs.Peer.{peer_cmp}
-use Rattle.mrt_events.specs.Event.{Saying, Announced, Withdrawn, Changed}
+use Rattle.mrt_events.specs.Event.{peer_cmp, Saying, Announced, Withdrawn, Changed}
 use Rattle.mrt_events.specs.declared.event.Event.{Event}
 
 -- pairs by peer and then by prefix

@@ -6,8 +6,7 @@ use Rattle.mrt_events.specs.declared.event.Route.{Route}
 use Rattle.rib_player.specs.Entries.{Entry}
 use Rattle.rib_player.specs.declared.entry.Step.{Step}
 use Rattle.prefix_store.specs.Stored.{put}
-use Rattle.rib_player.specs.Tables.{Routes}
-use Rattle.rib_player.specs.Store.{route_in}
+use Rattle.rib_player.specs.Tables.{Routes, route_in}
 use Rattle.rib_player.specs.Timeline.{Timeline}
 
 -- a pair, and the route that it has on the other side of a step

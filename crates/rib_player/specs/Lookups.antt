@@ -5,16 +5,14 @@ use Rattle.std.specs.Borrow.{Bor}
 use Rattle.std.specs.declared.rc.Rc.{Rc}
 use Rattle.std.specs.FinMap as finite
 use Rattle.std.specs.declared.alloc.Global.{Global}
-use Rattle.ip_prefix.specs.Address.{Address}
-use Rattle.ip_prefix.specs.Network.{Network}
+use Rattle.ip_prefix.specs.Network.{Address, Network}
 use Rattle.mrt_events.specs.declared.peer.Peer.{Peer}
 use Rattle.mrt_events.specs.declared.event.Route.{Route}
-use Rattle.mrt_events.specs.Peer.{peer_cmp}
+use Rattle.mrt_events.specs.Event.{peer_cmp}
 use Rattle.prefix_store.specs.Stored as stored
-use Rattle.prefix_store.specs.Lookups as lookups
+use Rattle.prefix_store.specs.Contents as lookups
 use Rattle.rib_player.specs.History.{pair_of}
-use Rattle.rib_player.specs.Tables.{Routes}
-use Rattle.rib_player.specs.Store.{Stores, peer_routes, routed_peers}
+use Rattle.rib_player.specs.Tables.{Routes, Stores, peer_routes, routed_peers}
 
 -- of the prefixes that the peer has a route to and that contain the address the longest, and its route
 abbrev pub IsBest : Routes → Peer → Address → Option (Network × Route) → Type 0

@@ -1,7 +1,7 @@
 -- The stores of peers, which stand at numbers, as a list.
 use Rattle.std.specs.Prelude.{ℕ, List, filter_map, slice_get, option_map}
 use Rattle.mrt_events.specs.declared.peer.Peer.{Peer}
-use Rattle.rib_player.specs.Store.{Stores}
+use Rattle.rib_player.specs.Tables.{Stores}
 use Rattle.rib_player.specs.declared.stores.Stores as numbered
 
 -- the stores that stand at the numbers of peers

@@ -3,13 +3,12 @@
 ghost use Rattle.std.specs.Prelude.{◌≡◌, [], ◌∷◌, ◌≢◌, IfOk, IfSome, IfNone, OnOk, map, slice_get};
 ghost use Rattle.std.specs.List.{AllByRecursion};
 ghost use Rattle.std.specs.Ordering.{eq_by_cmp};
-ghost use Rattle.mrt_events.specs.Event.{saying};
+ghost use Rattle.mrt_events.specs.Event.{saying, peer_cmp};
 ghost use Rattle.mrt_events.specs.SharedRoute.{AreOfOneRoute};
 ghost use Rattle.rib_player.specs.declared.pair.Pair.{Pair};
 ghost use Rattle.mrt_events.specs.declared.peer.Peer.{Peer};
-ghost use Rattle.mrt_events.specs.Peer.{peer_cmp};
 ghost use Rattle.rib_player.specs.History.{pair_of, Clear, where_true, item_effect, later, effect};
-ghost use Rattle.rib_player.specs.Store.{route_in};
+ghost use Rattle.rib_player.specs.Tables.{route_in};
 ghost use Rattle.rib_player.specs.Changes.{noted_effect, effect_at, items_effect, HasRoute};
 
 use crate::entry::Entry;

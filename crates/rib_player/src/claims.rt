@@ -6,19 +6,17 @@ ghost use Rattle.std.specs.Prelude.{◌≡◌, ◌+◌, ◌≤◌, ◌||◌, ◌
 ghost use Rattle.std.specs.FinMap as finite;
 ghost use Rattle.std.specs.FinSet as set;
 ghost use Rattle.std.specs.Ordering.{eq_by_cmp};
-ghost use Rattle.ip_prefix.specs.Network.{Network};
-ghost use Rattle.ip_prefix.specs.Order.{network_cmp};
+ghost use Rattle.ip_prefix.specs.Network.{Network, network_cmp};
 ghost use Rattle.ip_prefix.specs.declared.addr.Family.TheVariants.{V4};
 ghost use Rattle.ip_prefix.specs.declared.addr.TheConstants.{V4_BITS};
 ghost use Rattle.prefix_store.specs.Contents.{AreAmong};
 ghost use Rattle.rib_player.specs.declared.pair.Pair.{Pair};
 ghost use Rattle.rib_player.specs.declared.entry.End.TheVariants.{Last};
 ghost use Rattle.rib_player.specs.History.{pair_cmp};
-ghost use Rattle.rib_player.specs.Store.{route_in};
+ghost use Rattle.rib_player.specs.Tables.{route_in};
 ghost use Rattle.rib_player.specs.Journal.{sides_of};
-ghost use Rattle.rib_player.specs.Sides.{AreDistinct};
-ghost use Rattle.rib_player.specs.Marks.{mark_of, marks_of, gives_up_at, gives_up_by};
-ghost use Rattle.rib_player.specs.Played.{IsPut};
+ghost use Rattle.rib_player.specs.Marks.{AreDistinct, mark_of, marks_of, gives_up_at, gives_up_by};
+ghost use Rattle.rib_player.specs.Calls.{IsPut};
 ghost use Rattle.rib_player.specs.Claims.{one_if, count_at, count_of, v4_key, claims_beyond, claims_in, AreHeld};
 
 use crate::entry::{End, Entry};

@@ -10,9 +10,8 @@ ghost use Rattle.rib_player.specs.declared.pair.Pair.{Pair};
 ghost use Rattle.rib_player.specs.declared.entry.End.TheVariants.{Last};
 ghost use Rattle.rib_player.specs.Claims.{one_if, claims_beyond, claims_in, AreHeld};
 ghost use Rattle.rib_player.specs.Journal.{sides_of, steps_of, routes_across};
-ghost use Rattle.rib_player.specs.Sides.{sides_at, sides_across, ClearAllOf, IsKept, AreDistinct};
-ghost use Rattle.rib_player.specs.Marks.{marks_of, marks_by_step, gives_up_by, entry_count};
-ghost use Rattle.rib_player.specs.Played.{IsCrossed, IsPut, CanDrop, StayClaimed};
+ghost use Rattle.rib_player.specs.Marks.{sides_at, sides_across, ClearAllOf, IsKept, AreDistinct, marks_of, marks_by_step, gives_up_by, entry_count};
+ghost use Rattle.rib_player.specs.Calls.{IsCrossed, IsPut, CanDrop, StayClaimed};
 
 use crate::claims::{Claims, give_up_claims, put_entry};
 use crate::entry::{End, Entry, Step};

@@ -6,7 +6,7 @@ ghost use Rattle.prefix_store.specs.Stored.{counted};
 ghost use Rattle.prefix_store.specs.declared.store.TheConstants.{GREATEST_COUNT};
 ghost use Rattle.rib_player.specs.Timeline.{ahead_of, end_of, current, after_play};
 ghost use Rattle.rib_player.specs.Calls.{fresh, after_undo, after_redo, without_first, forgettable, after_forget};
-ghost use Rattle.rib_player.specs.Wanted.{wanted, IsWellFormed};
+ghost use Rattle.rib_player.specs.Claims.{wanted, IsWellFormed};
 
 use crate::claims::{Claims, give_up_claims};
 use crate::entry::{End, Step};
@@ -57,7 +57,7 @@ pub struct Player<S: PrefixStore<Rc<Route>>> {
 
 impl<S: PrefixStore<Rc<Route>>> Model for Player<S> {
     ghost use Rattle.rib_player.specs.Timeline.{Timeline};
-    ghost use Rattle.rib_player.specs.Wanted.{coded_timeline};
+    ghost use Rattle.rib_player.specs.Claims.{coded_timeline, claims_beyond};
 
     ghost Value = { Timeline };
 
@@ -65,9 +65,8 @@ impl<S: PrefixStore<Rc<Route>>> Model for Player<S> {
 
     ghost use Rattle.std.specs.Prelude.{◌+◌, ◌≤◌, length};
     ghost use Rattle.prefix_store.specs.declared.store.TheConstants.{GREATEST_COUNT};
-    ghost use Rattle.rib_player.specs.Claims.{claims_beyond};
     ghost use Rattle.rib_player.specs.Journal.{timeline_of, steps_of};
-    ghost use Rattle.rib_player.specs.Played.{IsPlayed};
+    ghost use Rattle.rib_player.specs.Calls.{IsPlayed};
 
     ghost view = { λ a. timeline_of a.journal.floor a.journal.cursor
         (steps_of a.journal.steps.items) a.table.routes };

@@ -7,7 +7,7 @@ ghost use Rattle.rib_player.specs.declared.pair.Pair.{Pair};
 ghost use Rattle.rib_player.specs.History.{pair_cmp};
 ghost use Rattle.rib_player.specs.Changes.{found, found_then};
 ghost use Rattle.rib_player.specs.Journal.{sides_of};
-ghost use Rattle.rib_player.specs.Sides.{cleared_side, ClearAllOf, AreDistinct, IsStepFor};
+ghost use Rattle.rib_player.specs.Marks.{cleared_side, ClearAllOf, AreDistinct, IsStepFor};
 
 use crate::changes::{Changes, changes_of, shared_peer};
 use crate::entry::Entry;

@@ -5,13 +5,13 @@ ghost use Rattle.std.specs.Option.{option_copied, option_copied_mut};
 ghost use Rattle.std.specs.Borrow.{sem};
 ghost use Rattle.std.specs.Map.{lookup};
 ghost use Rattle.std.specs.Ordering.{eq_by_cmp};
-ghost use Rattle.mrt_events.specs.Peer.{peer_cmp};
+ghost use Rattle.mrt_events.specs.Event.{peer_cmp};
 ghost use Rattle.rib_player.specs.declared.stores.TheConstants.{PLACES};
-ghost use Rattle.rib_player.specs.Store.{store_at};
-ghost use Rattle.rib_player.specs.Holding.{IsWritten};
+ghost use Rattle.rib_player.specs.Tables.{store_at};
+ghost use Rattle.rib_player.specs.Kept.{IsWritten};
 ghost use Rattle.rib_player.specs.Numbered.{peers_in, AreNumbered, is_marked};
 ghost use Rattle.rib_player.specs.Journal.{sides_of};
-ghost use Rattle.rib_player.specs.Sides.{AreDistinct};
+ghost use Rattle.rib_player.specs.Marks.{AreDistinct};
 ghost use Rattle.std.proofs.Props.{props};
 
 use crate::entry::Entry;

@@ -7,13 +7,13 @@ ghost use Rattle.std.specs.FinSet as set;
 ghost use Rattle.ip_prefix.specs.Network.{Network};
 ghost use Rattle.rib_player.specs.declared.pair.Pair.{Pair};
 ghost use Rattle.mrt_events.specs.declared.peer.Peer.{Peer};
-ghost use Rattle.mrt_events.specs.Peer.{peer_cmp};
+ghost use Rattle.mrt_events.specs.Event.{peer_cmp};
 ghost use Rattle.rib_player.specs.History.{pair_of};
 ghost use Rattle.prefix_store.specs.Stored.{put, counted};
-ghost use Rattle.rib_player.specs.Store.{route_in, peer_routes};
+ghost use Rattle.rib_player.specs.Tables.{route_in, peer_routes};
 ghost use Rattle.rib_player.specs.StoresByPeer.{stores_of};
 ghost use Rattle.rib_player.specs.Lookups.{IsBest, pointed_routes, routes_above, routed_above, routed_stores, peer_count};
-ghost use Rattle.rib_player.specs.Holding.{value_of};
+ghost use Rattle.rib_player.specs.Kept.{value_of};
 
 use crate::numbered_peer::NO_NUMBER;
 use crate::pair::Pair;
@@ -38,9 +38,9 @@ pub struct Table<S: PrefixStore<Rc<Route>>> {
 }
 
 impl<S: PrefixStore<Rc<Route>>> Model for Table<S> {
-    ghost use Rattle.rib_player.specs.Store.{Contents, keys_in, routes_in};
+    ghost use Rattle.rib_player.specs.Tables.{Contents, keys_in, routes_in};
     ghost use Rattle.rib_player.specs.StoresByPeer.{stores_in};
-    ghost use Rattle.rib_player.specs.Holding.{coded_contents, IsHeld};
+    ghost use Rattle.rib_player.specs.Kept.{coded_contents, IsHeld};
 
     ghost Value = { Contents };
 

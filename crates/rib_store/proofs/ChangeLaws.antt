@@ -4,10 +4,8 @@ use Rattle.ip_prefix.specs.declared.turn.Turn.TheVariants.{Outside, Here, Left, 
 use Rattle.ip_prefix.specs.Network.{Network}
 use Rattle.ip_prefix.specs.Turns.{way, turn_of}
 use Rattle.ip_prefix.proofs.Turns.{here_only}
-use Rattle.rib_store.specs.Shape.{Shape}
-use Rattle.rib_store.specs.Shape.{Empty, Rooted}
+use Rattle.rib_store.specs.Tree.{Shape, Empty, Rooted, at, chosen, root, same_way, slot_of, IsOn, IsRooted, IsPut, IsShaped, Stands}
 use Rattle.rib_store.specs.declared.tree.Slot.{Slot}
-use Rattle.rib_store.specs.Tree.{at, chosen, root, same_way, slot_of, IsOn, IsRooted, IsPut, IsShaped, Stands}
 use Rattle.rib_store.proofs.WayLaws.{same_is}
 use Rattle.rib_store.proofs.TreeLaws.{at_left, at_right, at_rooted, on_same}
 

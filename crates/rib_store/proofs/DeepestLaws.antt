@@ -3,16 +3,13 @@ use Rattle.std.proofs.Common.{◌≡◌, ◌≤◌, Bool, true, false, Option, S
 use Rattle.std.specs.FinMap as finite
 use Rattle.ip_prefix.specs.declared.turn.Turn.{Turn}
 use Rattle.ip_prefix.specs.declared.turn.Turn.TheVariants.{Outside, Here, Left, Right}
-use Rattle.ip_prefix.specs.Address.{Address}
-use Rattle.ip_prefix.specs.Network.{Network, begin_with, contains}
+use Rattle.ip_prefix.specs.Network.{Address, Network, begin_with, contains}
 use Rattle.ip_prefix.specs.Turns.{way, turn_of, side}
 use Rattle.ip_prefix.proofs.Containing.{contains_parts}
 use Rattle.ip_prefix.proofs.Turns.{covers-way, here_only, here_from}
-use Rattle.rib_store.specs.Shape.{Shape}
-use Rattle.rib_store.specs.Shape.{Empty, Rooted}
-use Rattle.prefix_store.specs.Lookups.{IsLongest, IsLongestOf}
+use Rattle.rib_store.specs.Tree.{Shape, Empty, Rooted, at, slot_of, chosen, IsOn, IsShaped}
+use Rattle.prefix_store.specs.Contents.{IsLongest, IsLongestOf}
 use Rattle.rib_store.specs.Slots.{route_found, routes_in}
-use Rattle.rib_store.specs.Tree.{at, slot_of, chosen, IsOn, IsShaped}
 use Rattle.rib_store.specs.Walks.{either_of, routed_at, deepest}
 use Rattle.rib_store.specs.Store.{Trees, slots_in, tree_of, IsPlanted}
 use Rattle.rib_store.proofs.WayLaws.{beyond, begin_outside, begin_side, begin_in, turn_longer, length-way}

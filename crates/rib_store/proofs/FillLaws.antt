@@ -1,20 +1,15 @@
 -- Lists filled as far as there is room, and the routes that walks down a tree append to them.
-use Rattle.prefix_store.proofs.AboveLaws.{take-nil}
+use Rattle.prefix_store.proofs.AboveLaws.{take-nil, none-above, above-none}
 use Rattle.std.proofs.Common.{◌≡◌, ℕ, zero, suc, ◌+◌, ◌-◌, Bool, true, false, cond, List, [], ◌∷◌, ◌++◌, take, length, Option, Some, None, slice_get, Vec, Global, vec_capacity, Bor, refl, sym, ap, ap₂, ◌∙◌, arith, append_assoc, length-append, append-nil, length-take, option_to_list, is_lt}
-use Rattle.ip_prefix.specs.Network.{Network}
-use Rattle.prefix_store.specs.Lookups.{is_above, above, pointed}
+use Rattle.ip_prefix.specs.Network.{Network, network_cmp}
+use Rattle.prefix_store.specs.Contents.{is_above, above, pointed}
 use Rattle.ip_prefix.specs.declared.turn.Turn.{Turn}
-use Rattle.ip_prefix.specs.Order.{network_cmp}
-use Rattle.ip_prefix.specs.Turns.{way, turn_of}
+use Rattle.ip_prefix.specs.Turns.{way, turn_of, side}
 use Rattle.rib_store.specs.declared.tree.Slot.{Slot}
 use Rattle.rib_store.specs.declared.tree.Tree.{Tree}
-use Rattle.rib_store.specs.Shape.{shape_of, is_routed, IsMarked}
-use Rattle.rib_store.specs.Shape.{Shape}
-use Rattle.rib_store.specs.Shape.{Empty, Rooted}
-use Rattle.rib_store.specs.Tree.{chosen, own, slots_of, slot_of, IsOn, IsShaped}
+use Rattle.rib_store.specs.Tree.{shape_of, is_routed, IsMarked, Shape, Empty, Rooted, chosen, own, slots_of, slot_of, IsOn, IsShaped}
 use Rattle.rib_store.specs.Slots.{Slots, routed}
 use Rattle.rib_store.specs.Walks.{either_of, routed_at, first, behind, all_routes, all_behind, filled}
-use Rattle.prefix_store.proofs.AboveLaws.{none-above, above-none}
 use Rattle.rib_store.proofs.MarkLaws.{unmarked_first}
 use Rattle.rib_store.proofs.WayLaws.{below, left_first, node_first, not_itself, as_node}
 use Rattle.rib_store.proofs.WalkLaws.{first-append, routed-append, above-all, above-no, above-ways, not_out, all-on, AllKeys-own, AllKeys-append}
@@ -23,7 +18,6 @@ use Rattle.rib_store.proofs.StoreLaws.{first_side, entries_in, routed-entries}
 use Rattle.ip_prefix.proofs.Turns.{here_only}
 use Rattle.ip_prefix.specs.declared.turn.Turn.TheVariants.{Outside, Here, Left, Right}
 use Rattle.ip_prefix.specs.declared.addr.Family.TheVariants.{V4, V6}
-use Rattle.ip_prefix.specs.Turns.{side}
 use Rattle.std.specs.List.{AllByRecursion}
 use Rattle.std.specs.Map.{keys_of}
 use Rattle.std.proofs.lemmas.List.Elements.{filter-append}

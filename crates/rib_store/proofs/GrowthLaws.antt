@@ -4,9 +4,7 @@ use Rattle.ip_prefix.specs.declared.turn.Turn.{Turn}
 use Rattle.ip_prefix.specs.declared.turn.Turn.TheVariants.{Outside, Here, Left, Right}
 use Rattle.ip_prefix.specs.Network.{Network}
 use Rattle.ip_prefix.specs.Turns.{way, turn_of, shared, side}
-use Rattle.rib_store.specs.Shape.{Shape}
-use Rattle.rib_store.specs.Shape.{Empty, Rooted}
-use Rattle.rib_store.specs.Tree.{at, slot_of, chosen, root, joined, IsOn, IsRooted, IsShaped, IsPut, IsPlaced, Stands}
+use Rattle.rib_store.specs.Tree.{Shape, Empty, Rooted, at, slot_of, chosen, root, joined, IsOn, IsRooted, IsShaped, IsPut, IsPlaced, Stands}
 use Rattle.rib_store.proofs.WayLaws.{turn_shared, shared_inside, parts}
 use Rattle.std.specs.Prelude.{IsSome}
 use Rattle.rib_store.specs.declared.tree.Slot.TheVariants.{Branch}

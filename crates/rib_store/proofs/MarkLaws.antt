@@ -6,8 +6,7 @@ use Rattle.rib_store.specs.declared.tree.Slot.{Slot}
 use Rattle.rib_store.specs.declared.tree.Slot.TheVariants.{Branch}
 use Rattle.rib_store.specs.declared.tree.Tree.{Tree}
 use Rattle.rib_store.specs.declared.tree.Tree.TheVariants as tree
-use Rattle.rib_store.specs.Shape.{shape_of, is_filled, is_routed, any_routed, routed_beside, IsMarked}
-use Rattle.rib_store.specs.Tree.{slot_of}
+use Rattle.rib_store.specs.Tree.{shape_of, is_filled, is_routed, any_routed, routed_beside, IsMarked, slot_of}
 use Rattle.rib_store.specs.Walks.{routed_at, either_of, first}
 
 none_of : {R : Type 0} (prefix : Network) (slot : Slot R) (l r : Bool) (x y : Option (Network × R)) → (is_filled slot || (l || r)) ≡ false

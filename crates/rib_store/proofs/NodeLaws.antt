@@ -8,9 +8,7 @@ use Rattle.ip_prefix.specs.Turns.{way, turn_of, side}
 use Rattle.ip_prefix.proofs.Turns.{here_only, here_from}
 use Rattle.rib_store.specs.declared.tree.Slot.{Slot}
 use Rattle.rib_store.specs.declared.tree.Slot.TheVariants.{Branch, Vacant, Filled}
-use Rattle.rib_store.specs.Shape.{Shape}
-use Rattle.rib_store.specs.Shape.{Empty, Rooted}
-use Rattle.rib_store.specs.Tree.{slot_of, chosen, root, IsOn, IsShaped, Stands}
+use Rattle.rib_store.specs.Tree.{Shape, Empty, Rooted, slot_of, chosen, root, IsOn, IsShaped, Stands}
 use Rattle.rib_store.proofs.WayLaws.{turn_through, outside_across, outside_above, outside_below}
 use Rattle.rib_store.proofs.TreeLaws.{on_below}
 

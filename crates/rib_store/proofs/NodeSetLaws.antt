@@ -13,20 +13,16 @@ use Rattle.std.proofs.lemmas.List.Folds.{list_any-append}
 use Rattle.std.proofs.lemmas.Map.Keys.{IsDistinct-from_sorted}
 use Rattle.ip_prefix.specs.declared.turn.Turn.{Turn}
 use Rattle.ip_prefix.specs.declared.turn.Turn.TheVariants.{Outside}
-use Rattle.ip_prefix.specs.Network.{Network, begin_with}
-use Rattle.ip_prefix.specs.Covering.{covers}
-use Rattle.ip_prefix.specs.Order.{network_cmp}
+use Rattle.ip_prefix.specs.Network.{Network, begin_with, network_cmp}
+use Rattle.ip_prefix.specs.Turns.{covers, family_bit, half, way, turn_of, side}
 use Rattle.ip_prefix.specs.OrderLaws.{network_cmp_total}
-use Rattle.ip_prefix.specs.Turns.{family_bit, half, way, turn_of, side}
 use Rattle.octet_forms.proofs.Booleans.{same_tests}
 use Rattle.octet_forms.proofs.Lists.{AllByRecursion-append}
 use Rattle.ip_prefix.proofs.Turns.{covers-way}
 use Rattle.rib_store.specs.declared.tree.Slot.TheVariants.{Branch, Vacant, Filled}
-use Rattle.rib_store.specs.Shape.{Shape}
-use Rattle.rib_store.specs.Shape.{Empty, Rooted}
+use Rattle.rib_store.specs.Tree.{Shape, Empty, Rooted, own, slots_of, slot_of, chosen, same_way, root, AreSides, IsOn, IsShaped}
 use Rattle.prefix_store.specs.Stored.{Keys}
 use Rattle.rib_store.specs.Slots.{Slots, keys_in}
-use Rattle.rib_store.specs.Tree.{own, slots_of, slot_of, chosen, same_way, root, AreSides, IsOn, IsShaped}
 use Rattle.rib_store.specs.Walks.{node_count}
 use Rattle.rib_store.specs.Store.{Trees, slots_in, IsPlanted}
 use Rattle.rib_store.specs.Nodes.{is_node, AreNodes}

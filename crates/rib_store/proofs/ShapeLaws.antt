@@ -7,8 +7,7 @@ use Rattle.ip_prefix.specs.Network.{Network}
 use Rattle.ip_prefix.specs.Turns.{way, turn_of}
 use Rattle.rib_store.specs.declared.tree.Tree.{Tree}
 use Rattle.rib_store.specs.declared.tree.Tree.TheVariants as tree
-use Rattle.rib_store.specs.Shape.{Shape, Empty, shape_of, leaf_slot, IsLeaf, IsNotBelow, IsMarked, is_routed}
-use Rattle.rib_store.specs.Tree.{at, root, chosen, IsPut, IsRooted, IsShaped, IsPlaced}
+use Rattle.rib_store.specs.Tree.{Shape, Empty, shape_of, leaf_slot, IsLeaf, IsNotBelow, IsMarked, is_routed, at, root, chosen, IsPut, IsRooted, IsShaped, IsPlaced}
 use Rattle.rib_store.proofs.TreeLaws.{at_rooted, shaped_rooted, root_rooted}
 use Rattle.rib_store.proofs.GrowthLaws.{placed_left, placed_right, leaf_shaped, leaf_slots}
 use Rattle.rib_store.proofs.ChangeLaws.{put_here, put_none, put_from}

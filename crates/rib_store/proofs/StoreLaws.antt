@@ -10,14 +10,12 @@ use Rattle.std.specs.Cmp.{eq_by_cmp_equiv}
 use Rattle.ip_prefix.specs.declared.addr.Family.{Family}
 use Rattle.ip_prefix.specs.declared.addr.Family.TheVariants.{V4, V6}
 use Rattle.ip_prefix.specs.declared.turn.Turn.{Turn}
-use Rattle.ip_prefix.specs.Network.{Network}
-use Rattle.ip_prefix.specs.Order.{network_cmp}
+use Rattle.ip_prefix.specs.Network.{Network, network_cmp}
 use Rattle.ip_prefix.specs.OrderLaws.{network_cmp_total}
 use Rattle.ip_prefix.specs.Turns.{family_bit, way, turn_of, side}
-use Rattle.rib_store.specs.Shape.{Shape}
+use Rattle.rib_store.specs.Tree.{Shape, at, chosen, same_way, AreOf, IsOf, IsPut, IsPlaced, IsShaped}
 use Rattle.prefix_store.specs.Stored.{put}
 use Rattle.rib_store.specs.Slots.{slot_at, keys_in, routes_in, route_found, routed}
-use Rattle.rib_store.specs.Tree.{at, chosen, same_way, AreOf, IsOf, IsPut, IsPlaced, IsShaped}
 use Rattle.rib_store.specs.Walks.{either_of}
 use Rattle.rib_store.specs.Store.{Trees, slots_in, tree_of, with_tree, IsPlanted, ChangesAt}
 use Rattle.rib_store.proofs.WayLaws.{first_turn}

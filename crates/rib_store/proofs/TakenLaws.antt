@@ -5,18 +5,15 @@ use Rattle.std.proofs.lemmas.Bool.{or_parts}
 use Rattle.std.specs.FinSet as set
 use Rattle.std.specs.FinMap as finite
 use Rattle.std.specs.FinMap.{get-empty, len-entries}
-use Rattle.ip_prefix.specs.Network.{Network}
-use Rattle.ip_prefix.specs.Order.{network_cmp}
+use Rattle.ip_prefix.specs.Network.{Network, network_cmp}
 use Rattle.ip_prefix.specs.Turns.{way}
 use Rattle.rib_store.specs.declared.tree.Slot.{Slot}
 use Rattle.rib_store.specs.declared.tree.Slot.TheVariants.{Branch, Vacant, Filled}
 use Rattle.rib_store.specs.declared.tree.Tree.{Tree}
 use Rattle.rib_store.specs.declared.tree.Tree.TheVariants as tree
-use Rattle.rib_store.specs.Shape.{Shape, shape_of, is_filled, is_routed, IsMarked}
-use Rattle.rib_store.specs.Shape.{Empty, Rooted}
+use Rattle.rib_store.specs.Tree.{Shape, shape_of, is_filled, is_routed, IsMarked, Empty, Rooted, own, root, slot_of, slots_of, vacated, emptied, IsOn, IsShaped, Stands}
 use Rattle.rib_store.specs.Slots.{Slots, slot_at, keys_in, routes_in, route_found}
 use Rattle.rib_store.specs.Store.{Trees, slots_in, IsPlanted}
-use Rattle.rib_store.specs.Tree.{own, root, slot_of, slots_of, vacated, emptied, IsOn, IsShaped, Stands}
 use Rattle.rib_store.specs.Walks.{all_routes}
 use Rattle.prefix_store.proofs.AboveLaws.{above-none}
 use Rattle.rib_store.proofs.FillLaws.{all-trees}

@@ -6,9 +6,7 @@ use Rattle.ip_prefix.specs.declared.turn.Turn.TheVariants.{Outside}
 use Rattle.ip_prefix.specs.declared.addr.Family.{Family}
 use Rattle.ip_prefix.specs.Network.{Network}
 use Rattle.ip_prefix.specs.Turns.{way, turn_of, family_bit, side}
-use Rattle.rib_store.specs.Shape.{Shape}
-use Rattle.rib_store.specs.Shape.{Empty, Rooted}
-use Rattle.rib_store.specs.Tree.{at, slot_of, chosen, root, AreSides, AreOf, IsOf, IsOn, IsRooted, IsShaped, Stands}
+use Rattle.rib_store.specs.Tree.{Shape, Empty, Rooted, at, slot_of, chosen, root, AreSides, AreOf, IsOf, IsOn, IsRooted, IsShaped, Stands}
 use Rattle.rib_store.proofs.WayLaws.{beyond, turn_through, family_of}
 
 pub chosen_same : {A : Type 0} (t : Turn) (x : A) → x ≡ chosen t x x x x

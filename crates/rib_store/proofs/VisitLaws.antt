@@ -11,18 +11,14 @@ use Rattle.ip_prefix.specs.declared.addr.Family.{Family}
 use Rattle.ip_prefix.specs.declared.addr.Family.TheVariants.{V4, V6}
 use Rattle.ip_prefix.specs.declared.turn.Turn.{Turn}
 use Rattle.ip_prefix.specs.declared.turn.Turn.TheVariants.{Outside, Here, Left, Right}
-use Rattle.ip_prefix.specs.Address.{Address}
-use Rattle.ip_prefix.specs.Network.{Network, begin_with, contains}
-use Rattle.ip_prefix.specs.Order.{network_cmp}
+use Rattle.ip_prefix.specs.Network.{Address, Network, begin_with, contains, network_cmp}
 use Rattle.ip_prefix.specs.OrderLaws.{network_cmp_total}
 use Rattle.ip_prefix.specs.Turns.{way, turn_of, side}
 use Rattle.ip_prefix.proofs.Containing.{contains_parts}
 use Rattle.ip_prefix.proofs.Turns.{here_only}
-use Rattle.rib_store.specs.Shape.{Shape}
-use Rattle.rib_store.specs.Shape.{Empty, Rooted}
+use Rattle.rib_store.specs.Tree.{Shape, Empty, Rooted, chosen, root, IsOn, IsShaped}
 use Rattle.prefix_store.specs.Stored.{Keys}
 use Rattle.rib_store.specs.Slots.{keys_in}
-use Rattle.rib_store.specs.Tree.{chosen, root, IsOn, IsShaped}
 use Rattle.rib_store.specs.Walks.{visits}
 use Rattle.rib_store.specs.Store.{Trees, slots_in, tree_of, IsPlanted}
 use Rattle.rib_store.specs.Nodes.{is_node, AreNodesTo, IsOrOneMore}

@@ -7,15 +7,12 @@ use Rattle.std.specs.Map.{keys_of}
 use Rattle.std.specs.Ordering.{eq_by_cmp, is_eq, is_lt}
 use Rattle.ip_prefix.specs.declared.turn.Turn.{Turn}
 use Rattle.ip_prefix.specs.declared.turn.Turn.TheVariants.{Outside}
-use Rattle.ip_prefix.specs.Network.{Network}
-use Rattle.ip_prefix.specs.Order.{bits_cmp, network_cmp}
+use Rattle.ip_prefix.specs.Network.{Network, bits_cmp, network_cmp}
 use Rattle.ip_prefix.specs.Turns.{way, turn_of, side}
 use Rattle.octet_forms.proofs.Lists.{AllByRecursion-append}
-use Rattle.rib_store.specs.Shape.{Shape}
-use Rattle.rib_store.specs.Shape.{Empty, Rooted}
-use Rattle.prefix_store.specs.Lookups.{is_above, above}
+use Rattle.rib_store.specs.Tree.{Shape, Empty, Rooted, at, own, slots_of, slot_of, chosen, same_way, AreSides, IsOn, IsShaped}
+use Rattle.prefix_store.specs.Contents.{is_above, above}
 use Rattle.rib_store.specs.Slots.{Slots, slot_at, routed}
-use Rattle.rib_store.specs.Tree.{at, own, slots_of, slot_of, chosen, same_way, AreSides, IsOn, IsShaped}
 use Rattle.rib_store.specs.Walks.{either_of, first}
 use Rattle.prefix_store.proofs.AboveLaws.{is_less}
 use Rattle.rib_store.proofs.WayLaws.{turn_through, below, node_first, left_first}

@@ -2,8 +2,7 @@
 use Rattle.std.proofs.Common.{◌≡◌, ◌+◌, ◌<◌, Bool, true, false, not, List, [], ◌∷◌, ◌++◌, length, length-append, subst, ◌⊎◌, inl, inr, refl, sym, arith, is_lt}
 use Rattle.ip_prefix.specs.declared.turn.Turn.TheVariants.{Outside, Here, Left, Right}
 use Rattle.ip_prefix.specs.declared.addr.Family.{Family}
-use Rattle.ip_prefix.specs.Network.{Network, begin_with}
-use Rattle.ip_prefix.specs.Order.{bits_cmp}
+use Rattle.ip_prefix.specs.Network.{Network, begin_with, bits_cmp}
 use Rattle.ip_prefix.specs.Turns.{family_bit, way, turn_of, shared, side}
 use Rattle.ip_prefix.proofs.Turns.{here_from, here_only}
 use Rattle.rib_store.specs.Tree.{same_way}

@@ -3,10 +3,8 @@
 use Rattle.std.specs.Prelude.{◌≡◌, ℕ, ◌+◌, ◌⊎◌, Bool, true, false, not, ◌&&◌, ◌||◌}
 use Rattle.std.specs.List.{list_any}
 use Rattle.std.specs.FinSet as set
-use Rattle.ip_prefix.specs.Address.{Address}
-use Rattle.ip_prefix.specs.Network.{Network, contains}
-use Rattle.ip_prefix.specs.Covering.{covers}
-use Rattle.ip_prefix.specs.Turns.{half}
+use Rattle.ip_prefix.specs.Network.{Address, Network, contains}
+use Rattle.ip_prefix.specs.Turns.{covers, half}
 use Rattle.prefix_store.specs.Stored.{Keys}
 
 -- whether the prefix covers some key

@@ -6,16 +6,13 @@ use Rattle.std.specs.FinSet as set
 use Rattle.std.specs.Ordering.{eq_by_cmp}
 use Rattle.ip_prefix.specs.declared.addr.Family.{Family}
 use Rattle.ip_prefix.specs.declared.addr.Family.TheVariants.{V4, V6}
-use Rattle.ip_prefix.specs.Network.{Network}
-use Rattle.ip_prefix.specs.Order.{network_cmp}
+use Rattle.ip_prefix.specs.Network.{Network, network_cmp}
 use Rattle.prefix_store.specs.declared.packed.V4Prefix.{V4Prefix}
-use Rattle.prefix_store.specs.Packed.{v4_network, v6_network}
+use Rattle.prefix_store.specs.Contents.{v4_network, v6_network, Contents}
 use Rattle.prefix_store.specs.Stored.{counted}
-use Rattle.prefix_store.specs.Contents.{Contents}
 use Rattle.rib_store.specs.declared.tree.Tree.{Tree}
-use Rattle.rib_store.specs.Shape.{Shape, shape_of, IsMarked}
+use Rattle.rib_store.specs.Tree.{Shape, shape_of, IsMarked, slots_of, AreSides, IsShaped}
 use Rattle.rib_store.specs.Slots.{Slots, slot_at, keys_in, routes_in}
-use Rattle.rib_store.specs.Tree.{slots_of, AreSides, IsShaped}
 
 -- the shapes of both trees
 pub record Trees (R : Type 0) : Type 0 where

@@ -2,12 +2,9 @@
 -- What walks down a tree find, and how many nodes they meet.
 use Rattle.std.specs.Prelude.{ℕ, ◌+◌, ◌-◌, Option, Some, None, cond, List, [], ◌++◌, take, length, Bool, option_to_list}
 use Rattle.std.specs.Ordering.{is_lt}
-use Rattle.ip_prefix.specs.Network.{Network}
-use Rattle.ip_prefix.specs.Order.{network_cmp}
+use Rattle.ip_prefix.specs.Network.{Network, network_cmp}
 use Rattle.ip_prefix.specs.Turns.{way, turn_of}
-use Rattle.rib_store.specs.Shape.{Shape}
-use Rattle.rib_store.specs.Shape.{Empty, Rooted}
-use Rattle.rib_store.specs.Tree.{chosen, slot_of}
+use Rattle.rib_store.specs.Tree.{Shape, Empty, Rooted, chosen, slot_of}
 
 -- the prefix and its route, where it has one
 abbrev pub routed_at : {R : Type 0} → Network → Option (Option R) → Option (Network × R)

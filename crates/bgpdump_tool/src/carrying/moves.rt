@@ -3,8 +3,7 @@
 ghost use Rattle.std.specs.Prelude.{◌≡◌, ◌-◌, ◌<◌, ◌||◌, ℕ, min, false, IfOk, OnErr, Ok, Err};
 ghost use Rattle.prefix_store.specs.declared.store.TheConstants.{GREATEST_COUNT};
 ghost use Rattle.rib_player.specs.Timeline.{after_play, ahead_of, behind};
-ghost use Rattle.bgpdump_lines.specs.Ending.{is_read_fault, is_write_fault};
-ghost use Rattle.bgpdump_lines.specs.Writing.{Puts, is_write};
+ghost use Rattle.bgpdump_lines.specs.Going.{is_read_fault, is_write_fault, Puts, is_write};
 ghost use Rattle.bgpdump_tool.specs.declared.command.Command.TheVariants.{Goto, Next};
 ghost use Rattle.bgpdump_tool.specs.declared.play.TheConstants.{LONGEST_SCRIPT};
 ghost use Rattle.bgpdump_tool.specs.Carrying.{HasRoom, OverScenes, at_cursor, CarriesOut};

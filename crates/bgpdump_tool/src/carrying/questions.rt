@@ -1,9 +1,8 @@
 //! The commands that ask the player's table.
 
 ghost use Rattle.std.specs.Prelude.{◌≡◌, ◌||◌};
-ghost use Rattle.bgpdump_lines.specs.Writing.{Puts, PutsPart, is_write};
-ghost use Rattle.bgpdump_tool.specs.Replies.{best, found_text, peer_line_of, peers_text, route_text};
-ghost use Rattle.bgpdump_tool.specs.Replies.{table_text};
+ghost use Rattle.bgpdump_lines.specs.Going.{Puts, PutsPart, is_write};
+ghost use Rattle.bgpdump_tool.specs.Replies.{best, found_text, peer_line_of, peers_text, route_text, table_text};
 
 use crate::replies::{write_none, write_numbers};
 use bgpdump_lines::{

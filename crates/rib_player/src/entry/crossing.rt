@@ -5,8 +5,8 @@ ghost use Rattle.std.specs.FinMap as finite;
 ghost use Rattle.std.specs.FinSet as set;
 ghost use Rattle.prefix_store.specs.Stored.{put};
 ghost use Rattle.rib_player.specs.Kept.{cleared_entry};
-ghost use Rattle.rib_player.specs.Played.{IsPut};
-ghost use Rattle.rib_player.specs.Store.{route_in};
+ghost use Rattle.rib_player.specs.Calls.{IsPut};
+ghost use Rattle.rib_player.specs.Tables.{route_in};
 
 use crate::entry::{Entry, Kept, Marks};
 use crate::table::Table;

@@ -1,9 +1,8 @@
 //! How many nodes, keys and routes a tree has.
 
 ghost use Rattle.std.specs.Prelude.{◌≡◌, length};
-ghost use Rattle.rib_store.specs.Shape.{shape_of};
+ghost use Rattle.rib_store.specs.Tree.{shape_of, slots_of};
 ghost use Rattle.prefix_store.specs.Stored.{counted};
-ghost use Rattle.rib_store.specs.Tree.{slots_of};
 ghost use Rattle.rib_store.specs.Walks.{all_routes, node_count};
 
 use crate::tree::{Slot, Tree};

@@ -2,8 +2,7 @@
 
 ghost use Rattle.std.specs.Prelude.{◌≡◌, None, List, Bool};
 ghost use Rattle.ip_prefix.specs.Turns.{way};
-ghost use Rattle.rib_store.specs.Shape.{shape_of, IsLeaf, IsMarked};
-ghost use Rattle.rib_store.specs.Tree.{at, IsOn, IsShaped, IsNearlyShaped, IsPut};
+ghost use Rattle.rib_store.specs.Tree.{shape_of, IsLeaf, IsMarked, at, IsOn, IsShaped, IsNearlyShaped, IsPut};
 
 use crate::tree::{Slot, Tree};
 use ip_prefix::{Prefix, Turn};

@@ -1,12 +1,10 @@
 //! Nodes, as they are made.
 
-ghost use Rattle.std.specs.Prelude.{◌≡◌, ◌⊎◌, ◌||◌, Some, None, false, is_some};
-ghost use Rattle.std.specs.Prelude.{IfOk};
+ghost use Rattle.std.specs.Prelude.{◌≡◌, ◌⊎◌, ◌||◌, Some, None, false, is_some, IfOk};
 ghost use Rattle.ip_prefix.specs.Turns.{way};
 ghost use Rattle.rib_store.specs.declared.tree.Slot.TheVariants.{Branch};
 ghost use Rattle.ip_prefix.specs.declared.turn.Turn.TheVariants.{Left, Right};
-ghost use Rattle.rib_store.specs.Shape.{Empty, shape_of, leaf_slot, is_filled, is_routed, any_routed, IsLeaf, IsMarked};
-ghost use Rattle.rib_store.specs.Tree.{slot_of, IsRootedOver};
+ghost use Rattle.rib_store.specs.Tree.{Empty, shape_of, leaf_slot, is_filled, is_routed, any_routed, IsLeaf, IsMarked, slot_of, IsRootedOver};
 
 use crate::tree::{Fork, Node, Slot, Tree};
 use ip_prefix::Turn;

@@ -1,11 +1,9 @@
 //! Routes put at keys, which are made where they were none.
 
-ghost use Rattle.std.specs.Prelude.{◌≡◌, ◌≢◌, ◌||◌, Some, None, true, is_some, not};
-ghost use Rattle.std.specs.Prelude.{OnOk, OnErr, IfOk};
+ghost use Rattle.std.specs.Prelude.{◌≡◌, ◌≢◌, ◌||◌, Some, None, true, is_some, not, OnOk, OnErr, IfOk};
 ghost use Rattle.ip_prefix.specs.Turns.{way, turn_of};
 ghost use Rattle.ip_prefix.specs.declared.turn.Turn.TheVariants.{Outside, Here};
-ghost use Rattle.rib_store.specs.Shape.{shape_of, is_routed, IsLeaf, IsFork, IsAtRoot, IsMarked};
-ghost use Rattle.rib_store.specs.Tree.{at, root, AreOf, IsShaped, IsPlaced, IsPlacedAt};
+ghost use Rattle.rib_store.specs.Tree.{shape_of, is_routed, IsLeaf, IsFork, IsAtRoot, IsMarked, at, root, AreOf, IsShaped, IsPlaced, IsPlacedAt};
 ghost use Rattle.rib_store.specs.Slots.{route_found};
 
 use crate::tree::nodes::{leaf_with, lone, put_fork, put_root, slot_in};

@@ -1,10 +1,8 @@
 //! Routes come and go in the room of keys.
 
-ghost use Rattle.std.specs.Prelude.{◌≡◌, ◌+◌, ◌<◌, ◌≤◌, ◌⊎◌, ◌++◌, Some, None, true, false, is_some, not, option_to_list};
-ghost use Rattle.std.specs.Prelude.{IsSome, length, map, vec_capacity};
+ghost use Rattle.std.specs.Prelude.{◌≡◌, ◌+◌, ◌<◌, ◌≤◌, ◌⊎◌, ◌++◌, Some, None, true, false, is_some, not, option_to_list, IsSome, length, map, vec_capacity};
 ghost use Rattle.ip_prefix.specs.Turns.{way};
-ghost use Rattle.rib_store.specs.Shape.{shape_of, leaf_slot, is_filled, is_routed, IsLeaf, IsMarked};
-ghost use Rattle.rib_store.specs.Tree.{at, root, slot_of, vacated, emptied, IsShaped, IsPut};
+ghost use Rattle.rib_store.specs.Tree.{shape_of, leaf_slot, is_filled, is_routed, IsLeaf, IsMarked, at, root, slot_of, vacated, emptied, IsShaped, IsPut};
 ghost use Rattle.rib_store.specs.Slots.{route_found};
 ghost use Rattle.rib_store.specs.Walks.{all_routes};
 

@@ -1,7 +1,7 @@
 use Rattle.std.proofs.Common.{◌+◌, ◌-◌, ◌++◌, length, take, drop, ap, sym, ◌∙◌, arith, length-take-le}
 use Rattle.std.proofs.lemmas.Result.{on_ok_weaker}
 use Rattle.bgp_paths.specs.Merge.{hops_from, segment_weight}
-use Rattle.bgp_paths.specs.Segments.{piece}
+use Rattle.bgp_paths.specs.Readers.{piece}
 use Rattle.bgp_paths.specs.declared.segment.SegmentKind.TheVariants.{AsSequence}
 use Rattle.bgp_paths.proofs.Weights.{cut_fits}
 use Rattle.bgp_paths.proofs.Fronts.{front}

@@ -1,7 +1,7 @@
 use Rattle.std.proofs.Common.{◌+◌, length, ap, sym, subst, ◌∙◌, arith}
 use Rattle.ip_prefix.specs.Sequences.{Begins, SpellsAll}
 use Rattle.octet_forms.proofs.Sequences.{one_more}
-use Rattle.bgp_paths.specs.Number.{SpellsAsn}
+use Rattle.bgp_paths.specs.Path.{SpellsAsn}
 use Rattle.bgp_paths.proofs.Counting.{less_one, number_less}
 use Rattle.bgp_paths.proofs.numbers.push_numbers.Goals as goal
 

@@ -1,6 +1,6 @@
 use Rattle.std.proofs.Common.{◌≡◌, ◌+◌, ◌/◌, ◌%◌, ◌≤◌, length, vec_capacity}
 use Rattle.ip_prefix.specs.Sequences.{Begins, SpellsAll}
-use Rattle.bgp_paths.specs.Number.{SpellsAsn, octets_at}
+use Rattle.bgp_paths.specs.Path.{SpellsAsn, octets_at}
 use Rattle.bgp_paths.proofs.numbers.push_numbers.Given as goal
 
 -- the numbers so far are spelled by the octets before the rest, which are a whole number of numbers, and for these there is room, which stays

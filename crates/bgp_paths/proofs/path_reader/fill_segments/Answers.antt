@@ -6,8 +6,7 @@ use Rattle.octet_forms.proofs.Lists.{nonempty}
 use Rattle.octet_forms.proofs.Sequences.{one_more, none_at_all}
 use Rattle.bgp_paths.specs.declared.segment.Segment.{Segment}
 use Rattle.bgp_paths.specs.Path.{SpellsSegment}
-use Rattle.bgp_paths.specs.Segments.{IsFramed}
-use Rattle.bgp_paths.specs.Readers.{Refuses}
+use Rattle.bgp_paths.specs.Readers.{IsFramed, Refuses}
 use Rattle.bgp_paths.proofs.OneFront.{segment_code}
 use Rattle.bgp_paths.proofs.Refusing.{refused_rest, refused_numbers, segment_framed}
 use Rattle.bgp_paths.proofs.path_reader.fill_segments.Goals as goal

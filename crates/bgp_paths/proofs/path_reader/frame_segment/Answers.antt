@@ -2,8 +2,7 @@ use Rattle.std.proofs.Common.{◌≡◌, ℕ, ◌*◌, ◌<◌, ◌≤◌, List,
 use Rattle.ip_prefix.specs.Sequences.{Begins}
 use Rattle.bgp_paths.specs.declared.numbers.AsWidth.{AsWidth}
 use Rattle.bgp_paths.specs.declared.segment.Segment.{Segment}
-use Rattle.bgp_paths.specs.Number.{octets_at}
-use Rattle.bgp_paths.specs.Path.{kind_code, SpellsSegment}
+use Rattle.bgp_paths.specs.Path.{octets_at, kind_code, SpellsSegment}
 use Rattle.bgp_paths.proofs.OneFront.{segment_begun, length-numbers}
 use Rattle.bgp_paths.proofs.path_reader.frame_segment.Goals as goal
 

@@ -2,13 +2,13 @@ use Rattle.std.proofs.Common.{◌≡◌, ℕ, List, Some, Result, Ok, Err, IsErr
 use Rattle.ip_prefix.specs.Sequences.{SpellsAll}
 use Rattle.bgp_paths.specs.declared.fault.WireFault.{WireFault}
 use Rattle.bgp_paths.specs.declared.numbers.AsWidth.{AsWidth}
-use Rattle.bgp_paths.specs.Number.{SpellsWord}
+use Rattle.bgp_paths.specs.Path.{SpellsWord}
 use Rattle.bgp_wire.specs.declared.attrs.Attrs.{Attrs}
 use Rattle.bgp_wire.specs.declared.framing.TheConstants.{AGGREGATOR}
 use Rattle.bgp_wire.specs.PlainValues.{SaysPlainly}
 use Rattle.bgp_wire.specs.Content.{FirstOf}
 use Rattle.bgp_paths.specs.Readers.{Finds, Refuses}
-use Rattle.bgp_wire.specs.Value.{octets_or_none, SpellsAggregator}
+use Rattle.bgp_wire.specs.Attribute.{octets_or_none, SpellsAggregator}
 use Rattle.bgp_paths.proofs.Refusing.{refused_part, refused_always}
 use Rattle.bgp_wire.proofs.There.{spelled_there}
 use Rattle.bgp_wire.proofs.attribute_list.read_first.Goals as goal

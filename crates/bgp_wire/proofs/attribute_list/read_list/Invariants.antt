@@ -1,9 +1,8 @@
 use Rattle.std.proofs.Common.{List, length}
 use Rattle.ip_prefix.specs.Sequences.{Begins, SpellsAll}
 use Rattle.bgp_wire.specs.Attribute.{Attribute, SpellsAttribute}
-use Rattle.bgp_wire.specs.PlainValues.{ReadSoFar}
+use Rattle.bgp_wire.specs.PlainValues.{ReadSoFar, Tells}
 use Rattle.bgp_wire.specs.Content.{firsts_of}
-use Rattle.bgp_wire.specs.SeenTypes.{Tells}
 use Rattle.bgp_wire.proofs.attribute_list.read_list.Given as goal
 
 -- the attributes before the rest were read

@@ -1,5 +1,5 @@
 use Rattle.std.proofs.Common.{◌≡◌, take, ap, sym, subst, ◌∙◌, arith}
-use Rattle.bgp_wire.specs.NextHop.{SpellsNextHop, SpellsHopAlone}
+use Rattle.bgp_wire.specs.Reach.{SpellsNextHop, SpellsHopAlone}
 use Rattle.bgp_paths.proofs.Refusing.{finds_whole}
 use Rattle.bgp_wire.proofs.Hops.{hop_in_front, hop_alone}
 use Rattle.bgp_wire.proofs.next_hop.read_hop_alone.Goals as goal

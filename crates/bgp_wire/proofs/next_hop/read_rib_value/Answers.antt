@@ -1,5 +1,5 @@
 use Rattle.std.proofs.Common.{inl, sym, subst, arith}
-use Rattle.bgp_wire.specs.NextHop.{SpellsHopAlone, SpellsRibHop}
+use Rattle.bgp_wire.specs.Reach.{SpellsHopAlone, SpellsRibHop}
 use Rattle.bgp_paths.proofs.Refusing.{finds_whole}
 use Rattle.bgp_wire.proofs.Hops.{abbreviated, in_full, full_form}
 use Rattle.bgp_wire.proofs.next_hop.read_rib_value.Goals as goal

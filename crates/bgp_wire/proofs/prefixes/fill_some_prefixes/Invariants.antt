@@ -1,6 +1,6 @@
 use Rattle.std.proofs.Common.{length}
 use Rattle.ip_prefix.specs.Sequences.{Begins, SpellsAll}
-use Rattle.ip_prefix.specs.Wire.{SpellsNetwork}
+use Rattle.ip_prefix.specs.Network.{SpellsNetwork}
 use Rattle.bgp_wire.proofs.prefixes.fill_some_prefixes.Given as goal
 
 -- the prefixes so far are spelled by the octets before the rest

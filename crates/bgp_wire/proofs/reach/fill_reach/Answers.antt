@@ -1,9 +1,9 @@
 use Rattle.std.proofs.Common.{Some, IfErr, refl, ap, sym, subst, ◌∙◌}
 use Rattle.ip_prefix.specs.Sequences.{SpellsAll}
-use Rattle.ip_prefix.specs.Wire.{SpellsNetwork}
+use Rattle.ip_prefix.specs.Network.{SpellsNetwork}
 use Rattle.bgp_wire.specs.PlainValues.{octets_of}
 use Rattle.bgp_wire.specs.Reach.{Reach, IsUnicast, SpellsUnicast, SaysReach}
-use Rattle.bgp_wire.specs.Multiprotocol.{BeginsIn}
+use Rattle.bgp_wire.specs.Parts.{BeginsIn}
 use Rattle.bgp_paths.specs.Readers.{Refuses}
 use Rattle.bgp_paths.proofs.Refusing.{refused_on}
 use Rattle.bgp_wire.proofs.Reaching.{reach_part, same_stand}

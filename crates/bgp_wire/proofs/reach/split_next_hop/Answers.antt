@@ -1,5 +1,5 @@
 use Rattle.std.proofs.Common.{◌≡◌, take, ap, sym, subst, ◌∙◌}
-use Rattle.bgp_wire.specs.NextHop.{SpellsNextHop}
+use Rattle.bgp_wire.specs.Reach.{SpellsNextHop}
 use Rattle.bgp_wire.proofs.Reaching.{hop_here}
 use Rattle.bgp_wire.proofs.reach.split_next_hop.Goals as goal
 

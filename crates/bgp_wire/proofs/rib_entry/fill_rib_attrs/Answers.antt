@@ -1,12 +1,10 @@
 use Rattle.std.proofs.Common.{◌≡◌, true, false, ap, sym, subst, ◌∙◌}
 use Rattle.octet_forms.proofs.Sequences.{one_list}
 use Rattle.bgp_wire.specs.declared.framing.TheConstants.{MP_REACH_NLRI}
-use Rattle.bgp_wire.specs.Attribute.{SpellsAttribute, first_value, repeats}
+use Rattle.bgp_wire.specs.Attribute.{SpellsAttribute, first_value, repeats, SpellsOptional}
 use Rattle.bgp_wire.specs.Content.{SpellsRibAttrs}
-use Rattle.bgp_wire.specs.PlainValues.{octets_of}
-use Rattle.bgp_wire.specs.NextHop.{SpellsRibHop}
-use Rattle.bgp_wire.specs.PlainValues.{SpellsPlainly}
-use Rattle.bgp_wire.specs.Value.{SpellsOptional}
+use Rattle.bgp_wire.specs.PlainValues.{octets_of, SpellsPlainly}
+use Rattle.bgp_wire.specs.Reach.{SpellsRibHop}
 use Rattle.bgp_wire.proofs.OneAttribute.{attribute_code}
 use Rattle.bgp_wire.proofs.Plainly.{rib_plainly}
 use Rattle.bgp_paths.proofs.Refusing.{refused_on}

@@ -2,9 +2,8 @@ use Rattle.std.proofs.Common.{◌≡◌, ℕ, true, false, List, ap, sym, subst,
 use Rattle.octet_forms.proofs.Sequences.{one_list}
 use Rattle.bgp_wire.specs.declared.framing.TheConstants.{MP_REACH_NLRI, MP_UNREACH_NLRI}
 use Rattle.bgp_wire.specs.Attribute.{Attribute, SpellsAttribute, first_value, repeats}
-use Rattle.bgp_wire.specs.PlainValues.{octets_of}
+use Rattle.bgp_wire.specs.PlainValues.{octets_of, SpellsPlainly}
 use Rattle.bgp_wire.specs.Parts.{SpellsParts}
-use Rattle.bgp_wire.specs.PlainValues.{SpellsPlainly}
 use Rattle.bgp_wire.specs.Reach.{SaysReach, SaysUnreach}
 use Rattle.bgp_wire.proofs.OneAttribute.{attribute_code}
 use Rattle.bgp_wire.proofs.Plainly.{parts_plainly}

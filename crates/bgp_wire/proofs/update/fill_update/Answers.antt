@@ -1,7 +1,7 @@
 use Rattle.std.proofs.Common.{◌≡◌, ℕ, ◌<◌, ◌^◌, ◌++◌, List, length, refl, ap, sym, subst, ◌∙◌}
 use Rattle.ip_prefix.specs.declared.addr.Family.TheVariants.{V4}
 use Rattle.ip_prefix.specs.Sequences.{SpellsAll}
-use Rattle.ip_prefix.specs.Wire.{SpellsNetwork}
+use Rattle.ip_prefix.specs.Network.{SpellsNetwork}
 use Rattle.bgp_wire.specs.Attribute.{SpellsAttribute}
 use Rattle.bgp_wire.specs.Parts.{SpellsParts}
 use Rattle.bgp_wire.specs.Reach.{reach_hop, reach_prefixes}

@@ -1,10 +1,9 @@
 use Rattle.std.proofs.Common.{◌≡◌, ◌⊎◌, ◌∙◌, [], subst, sym}
 use Rattle.std.specs.Io.KnownBytes.{Consumes}
 use Rattle.mrt_wire.specs.Results.{Took}
-use Rattle.bgpdump_tool.specs.Reports.{dump_texts}
-use Rattle.bgpdump_tool.specs.Run.{EndedByInput, all_results}
+use Rattle.bgpdump_tool.specs.Run.{dump_texts, EndedByInput, all_results}
 use Rattle.bgpdump_tool.specs.declared.Outcome.TheVariants.{ReadFault, WriteFault, Memory}
-use Rattle.bgpdump.specs.Joining.{left_of}
+use Rattle.bgpdump.specs.Endings.{left_of}
 use Rattle.bgpdump.proofs.JoiningLaws.{holds_known, leaves_ended, leaves_written, lost_outcomes, of_input, told_by_input, told_unless_lost}
 use Rattle.bgpdump.proofs.run.dump.Goals as goal
 

@@ -2,7 +2,7 @@ use Rattle.std.proofs.Common.{◌≡◌, ◌⊎◌, ◌∙◌, [], subst, sym}
 use Rattle.std.specs.Io.Buffered.{writer_contents}
 use Rattle.std.specs.Io.KnownBytes.{Consumes}
 use Rattle.mrt_wire.specs.Results.{Took}
-use Rattle.bgpdump.specs.Joining.{left_of}
+use Rattle.bgpdump.specs.Endings.{left_of}
 use Rattle.bgpdump_tool.specs.Course.{cut_texts, play_texts}
 use Rattle.bgpdump_tool.specs.Run.{EndedByInput, all_results, outputs_of}
 use Rattle.bgpdump_tool.specs.declared.Outcome.TheVariants.{ReadFault, WriteFault, Memory}

@@ -2,9 +2,8 @@ use Rattle.std.proofs.Common.{rules, arith, ◌≡◌, false, ap, refl, inl, inr
 use Rattle.std.proofs.lemmas.Result.{err_from_is_err_and}
 use Rattle.mrt_wire.specs.declared.next.Next.{Next}
 use Rattle.mrt_wire.specs.declared.next.Next.TheVariants.{Event, Bad, End}
-use Rattle.mrt_wire.specs.Answered.{answer_findings}
+use Rattle.mrt_wire.specs.Answered.{answer_findings, is_nothing}
 use Rattle.mrt_wire.specs.Results.{start_place}
-use Rattle.mrt_wire.specs.SoFar.{is_nothing}
 use Rattle.mrt_wire.proofs.SoFarLaws.{Promises, told_by, SoFar-answer, goes_on_with_some}
 use Rattle.bgpdump_lines.specs.declared.dump.TheConstants.{LIMIT}
 use Rattle.bgpdump_lines.specs.declared.fault.WriteFault.TheVariants.{Write}

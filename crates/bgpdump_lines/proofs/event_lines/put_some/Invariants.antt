@@ -1,8 +1,7 @@
 -- The lines of the items so far, the last of which the text ends in where it is remembered.
 use Rattle.std.proofs.Common.{◌≡◌, ◌++◌, take, flat_map, IfSome}
 use Rattle.mrt_events.specs.Event.{saying}
-use Rattle.bgpdump_lines.specs.Copying.{EndsIn}
-use Rattle.bgpdump_lines.specs.Heading.{headed_line}
+use Rattle.bgpdump_lines.specs.Heading.{EndsIn, headed_line}
 use Rattle.bgpdump_lines.proofs.event_lines.put_some.Given as goal
 
 abbrev pub invariant-items : goal.invariant-items

@@ -1,6 +1,6 @@
 use Rattle.std.proofs.Common.{◌++◌, decimal, ap, ap₂, sym, ◌∙◌, codes, append_assoc}
 use Rattle.mrt_wire.specs.declared.RecordKind.TheVariants.{Unsupported}
-use Rattle.bgpdump_lines.specs.Reports.{kind_text}
+use Rattle.bgpdump_lines.specs.Run.{kind_text}
 use Rattle.bgpdump_lines.proofs.reports.put_kind.Goals as goal
 
 pub returns-in_ok-put_labelled-in-Unsupported-2 : goal.returns-in_ok-put_labelled-in-Unsupported-2

@@ -3,7 +3,7 @@ use Rattle.std.proofs.lemmas.Result.{err_from_is_err_and}
 use Rattle.mrt_events.specs.Event.{saying}
 use Rattle.bgpdump_lines.specs.Heading.{headed_line}
 use Rattle.bgpdump_lines.specs.Run.{AppendsFront}
-use Rattle.bgpdump_lines.specs.Writing.{Passes}
+use Rattle.bgpdump_lines.specs.Going.{Passes}
 use Rattle.bgpdump_lines.proofs.LineLaws.{lines_of_all, lines-sayings}
 use Rattle.bgpdump_lines.proofs.WritingLaws.{AppendsFront-passed, Passes-items, Passes-next}
 use Rattle.bgpdump_lines.proofs.write.write_items.Goals as goal

@@ -1,9 +1,8 @@
 -- Behind what was written stands the text; both hold the lines of the items so far.
 use Rattle.std.proofs.Common.{◌≡◌, take, flat_map, IfSome}
 use Rattle.mrt_events.specs.Event.{saying}
-use Rattle.bgpdump_lines.specs.Copying.{EndsIn}
-use Rattle.bgpdump_lines.specs.Heading.{headed_line}
-use Rattle.bgpdump_lines.specs.Writing.{Passes}
+use Rattle.bgpdump_lines.specs.Heading.{EndsIn, headed_line}
+use Rattle.bgpdump_lines.specs.Going.{Passes}
 use Rattle.bgpdump_lines.proofs.write.write_items.Given as goal
 
 abbrev pub invariant-items : goal.invariant-items

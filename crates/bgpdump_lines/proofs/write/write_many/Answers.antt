@@ -5,7 +5,7 @@ use Rattle.mrt_events.specs.Event.{saying}
 use Rattle.bgpdump_lines.specs.Heading.{headed_line}
 use Rattle.bgpdump_lines.specs.Lines.{event_lines}
 use Rattle.bgpdump_lines.specs.Run.{AppendsFront}
-use Rattle.bgpdump_lines.specs.Writing.{Passes}
+use Rattle.bgpdump_lines.specs.Going.{Passes}
 use Rattle.bgpdump_lines.proofs.LineLaws.{lines-three}
 use Rattle.mrt_events.proofs.SharedLaws.{said_range}
 use Rattle.bgpdump_lines.proofs.WritingLaws.{AppendsFront-first, Passes-one-stops, Passes-two-stops, Passes-three, Passes-end, Passes-end-stops}

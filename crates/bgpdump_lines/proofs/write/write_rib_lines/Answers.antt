@@ -7,7 +7,7 @@ use Rattle.mrt_events.specs.declared.peer.Peer.{Peer}
 use Rattle.bgpdump_lines.specs.Run.{AppendsFront}
 use Rattle.bgpdump_lines.specs.Lines.{rib_line}
 use Rattle.std.specs.Io.KnownBytes.{Appends}
-use Rattle.bgpdump_lines.specs.Writing.{Passes}
+use Rattle.bgpdump_lines.specs.Going.{Passes}
 use Rattle.bgpdump_lines.proofs.WritingLaws.{AppendsFront-passed, Passes-end, Passes-end-stops, Passes-items, Passes-next}
 use Rattle.bgpdump_lines.proofs.write.write_rib_lines.Goals as goal
 

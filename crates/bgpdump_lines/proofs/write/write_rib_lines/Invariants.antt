@@ -1,8 +1,8 @@
 -- Behind what was written stands the text; both hold the lines of the routes so far.
 use Rattle.std.proofs.Common.{◌≡◌, [], take, flat_map, IfSome}
-use Rattle.bgpdump_lines.specs.Copying.{EndsIn}
+use Rattle.bgpdump_lines.specs.Heading.{EndsIn}
 use Rattle.bgpdump_lines.specs.Lines.{rib_line}
-use Rattle.bgpdump_lines.specs.Writing.{Passes}
+use Rattle.bgpdump_lines.specs.Going.{Passes}
 use Rattle.bgpdump_lines.proofs.write.write_rib_lines.Given as goal
 
 abbrev pub invariant-routes : goal.invariant-routes

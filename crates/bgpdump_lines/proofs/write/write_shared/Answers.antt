@@ -2,7 +2,7 @@ use Rattle.std.proofs.Common.{[], ◌++◌, ◌∙◌, append_assoc, ap, ap₂, 
 use Rattle.std.proofs.lemmas.Result.{err_from_is_err_and}
 use Rattle.mrt_events.specs.Event.{saying}
 use Rattle.bgpdump_lines.specs.Heading.{headed_line}
-use Rattle.bgpdump_lines.specs.Writing.{Passes}
+use Rattle.bgpdump_lines.specs.Going.{Passes}
 use Rattle.bgpdump_lines.proofs.LineLaws.{lines-append, said_back, said_front}
 use Rattle.bgpdump_lines.proofs.WritingLaws.{AppendsFront-passed, Passes-stopped, Passes-text}
 use Rattle.bgpdump_lines.proofs.write.write_shared.Goals as goal

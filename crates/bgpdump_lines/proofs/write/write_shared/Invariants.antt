@@ -4,7 +4,7 @@ use Rattle.mrt_events.specs.declared.event.Item.{Item}
 use Rattle.mrt_events.specs.Event.{saying}
 use Rattle.mrt_events.specs.SharedRoute.{AreOfOneRoute}
 use Rattle.bgpdump_lines.specs.Heading.{headed_lines}
-use Rattle.bgpdump_lines.specs.Writing.{Passes}
+use Rattle.bgpdump_lines.specs.Going.{Passes}
 use Rattle.bgpdump_lines.proofs.write.write_shared.Given as goal
 
 abbrev pub invariant-pieces : goal.invariant-pieces

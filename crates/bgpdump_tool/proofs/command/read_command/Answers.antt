@@ -1,5 +1,5 @@
 use Rattle.bgpdump_lines.specs.Lines.{space}
-use Rattle.bgpdump_tool.specs.Command.{pieces}
+use Rattle.bgpdump_tool.specs.Script.{pieces}
 use Rattle.bgpdump_tool.proofs.CommandLaws.{found_in, many_words}
 use Rattle.bgpdump_tool.proofs.WordLaws.{words_some}
 use Rattle.bgpdump_tool.proofs.command.read_command.Goals as goal

@@ -1,5 +1,5 @@
 use Rattle.bgpdump_lines.specs.Lines.{space}
-use Rattle.bgpdump_tool.specs.Command.{pieces}
+use Rattle.bgpdump_tool.specs.Script.{pieces}
 use Rattle.bgpdump_tool.proofs.CommandLaws.{one_of_words}
 use Rattle.bgpdump_tool.proofs.laws.one_command.Goals as goal
 

@@ -1,7 +1,7 @@
 use Rattle.std.proofs.Common.{arith, sym, subst}
 use Rattle.std.specs.Str.Parse.{ParsesUnsigned}
 use Rattle.bgp_wire.specs.Readers.{Finds}
-use Rattle.bgpdump_tool.specs.Command.{SpellsDecimal}
+use Rattle.bgpdump_tool.specs.Script.{SpellsDecimal}
 use Rattle.bgpdump_tool.proofs.WordLaws.{BeginsPlainly, marked_no_decimal, no_text_no_decimal, parsed_decimal}
 use Rattle.bgpdump_tool.proofs.words.read_number.Goals as goal
 use Rattle.bgpdump_tool.proofs.words.read_number.Goals.{else-word-gt1-via-then-word-gt1+else-word-lt-LEAST_IN_FRONT, else-word-gt1-via-else-word-gt1}

@@ -2,7 +2,7 @@ use Rattle.std.proofs.Common.{rules, tests, ◌∷◌, ◌+◌, take, sym, ap, �
 use Rattle.std.proofs.lemmas.Iterator.{IsFirst-from_position, YieldsList-from_slice}
 use Rattle.std.proofs.lemmas.List.{take_rest}
 use Rattle.std.proofs.option.Match.{if_some, if_none}
-use Rattle.bgpdump_tool.specs.Command.{pieces}
+use Rattle.bgpdump_tool.specs.Script.{pieces}
 use Rattle.bgpdump_tool.proofs.WordLaws.{IsMark, IsNoMark, pieces_alone, pieces_split}
 use Rattle.bgpdump_tool.proofs.words.split_first.Goals as goal
 

@@ -1,6 +1,6 @@
 use Rattle.std.proofs.Common.{◌≡◌, ◌+◌, ◌*◌, get_or, ap, ◌∙◌, arith, rules}
 use Rattle.std.specs.Net.Text.{longest_zero_run}
-use Rattle.ip_prefix.specs.ZeroRun.{zero_mask}
+use Rattle.ip_prefix.specs.Marks.{zero_mask}
 use Rattle.ip_prefix.proofs.RunRows.{run_row, ZERO_RUNS_at, mask_of_eight, masked_run}
 use Rattle.std.proofs.NetLemmas.Texts.{IsZeroRun-longest_zero_run}
 use Rattle.ip_prefix.proofs.text.longest_zero_run.Goals as goal

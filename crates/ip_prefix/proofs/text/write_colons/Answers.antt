@@ -3,7 +3,7 @@ use Rattle.std.proofs.Common.{◌≡◌, ◌+◌, ◌-◌, ◌≤◌, ◌<◌, �
 use Rattle.std.proofs.lemmas.List.{take_rest, length-take-le}
 use Rattle.std.specs.Net.Text.{groups_text, longest_zero_run, hex_groups_text}
 use Rattle.octet_text.specs.Written.{IsWritten}
-use Rattle.ip_prefix.specs.Address.{groups_of}
+use Rattle.ip_prefix.specs.Network.{groups_of}
 use Rattle.ip_prefix.specs.Text.{v6_text}
 use Rattle.ip_prefix.proofs.HexText.{whole_text, shortened_text}
 use Rattle.octet_text.proofs.Writing.{written_row, written_then}

@@ -1,6 +1,6 @@
 -- What is filled was taken from the input, and each turn fills more.
 use Rattle.std.proofs.Common.{take, ◌-◌, ◌≡◌, ◌≤◌}
-use Rattle.mrt_frames.specs.Device.{Takes}
+use Rattle.mrt_frames.specs.Taken.{Takes}
 use Rattle.mrt_frames.proofs.buffer.fill_within.Given as goal
 
 abbrev pub invariant-loop-filled : goal.invariant-loop-filled

@@ -1,5 +1,5 @@
 use Rattle.std.proofs.Common.{rules, arith, length, ap, sym, ◌∙◌, length-take-le}
-use Rattle.ip_prefix.specs.Address.{Address, octet_count}
+use Rattle.ip_prefix.specs.Network.{Address, octet_count}
 use Rattle.mrt_wire.proofs.FieldFronts.{cut_whole}
 use Rattle.mrt_wire.proofs.fields.fill_address.Goals as goal
 

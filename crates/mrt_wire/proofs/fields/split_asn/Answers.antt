@@ -1,5 +1,5 @@
 use Rattle.std.proofs.Common.{None, sym, subst}
-use Rattle.bgp_wire.specs.Number.{SpellsAsn}
+use Rattle.bgp_wire.specs.Path.{SpellsAsn}
 use Rattle.mrt_wire.specs.Judging.{FindsField}
 use Rattle.mrt_wire.proofs.fields.split_asn.Goals as goal
 

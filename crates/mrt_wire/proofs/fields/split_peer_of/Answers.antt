@@ -1,4 +1,4 @@
-use Rattle.bgp_wire.specs.Number.{SpellsAsn}
+use Rattle.bgp_wire.specs.Path.{SpellsAsn}
 use Rattle.octet_forms.proofs.Fields.{both_front, none_first, none_second}
 use Rattle.mrt_wire.specs.Fields.{SpellsAddressOf}
 use Rattle.mrt_wire.proofs.FieldFronts.{address_front}

@@ -1,16 +1,14 @@
 use Rattle.std.proofs.Common.{inr, None, Some, ap, map, sym, ◌∙◌, refl}
 use Rattle.mrt_events.specs.declared.event.Tag.TheVariants.{TableDump, TableDump2}
 use Rattle.mrt_events.specs.Event.{saying}
-use Rattle.mrt_frames.specs.Parts.{record_under}
+use Rattle.mrt_frames.specs.Taken.{record_under}
 use Rattle.mrt_wire.specs.declared.profile.Form.TheVariants as form
 use Rattle.mrt_wire.specs.Content.{Entry, Peers, Entries, Session}
 use Rattle.mrt_wire.specs.Items.{first_unknown, entries_items, peer_entry_items}
 use Rattle.mrt_wire.specs.Judging.{Told, session_told}
-use Rattle.mrt_wire.specs.PeerIndex.{SpellsPeerIndex}
-use Rattle.mrt_wire.specs.Rib.{SpellsRib}
+use Rattle.mrt_wire.specs.Rib.{SpellsPeerIndex, SpellsRib, SpellsPeerEntry}
 use Rattle.mrt_wire.specs.Session.{SpellsSessionBody}
-use Rattle.mrt_wire.specs.TableDump.{SpellsPeerEntry}
-use Rattle.mrt_wire.specs.Verdict.{entries_fault, event_at, session_tag}
+use Rattle.mrt_wire.specs.Results.{entries_fault, event_at, session_tag}
 use Rattle.mrt_wire.proofs.JudgingLaws.{refused_body}
 use Rattle.mrt_wire.proofs.judging.judge.Goals as goal
 

@@ -1,6 +1,6 @@
 use Rattle.octet_forms.proofs.Fields.{both_front, none_first, none_second}
 use Rattle.mrt_wire.specs.declared.peer_index.TheConstants.{ID_SIZE}
-use Rattle.mrt_wire.specs.PeerIndex.{SpellsPeerIndex}
+use Rattle.mrt_wire.specs.Rib.{SpellsPeerIndex}
 use Rattle.mrt_wire.proofs.FieldFronts.{octets_front}
 use Rattle.mrt_wire.proofs.PeerIndexLaws.{view_front}
 use Rattle.mrt_wire.proofs.ReadingLaws.{reads_behind, reads_none}

@@ -1,7 +1,7 @@
 use Rattle.std.proofs.Common.{◌∷◌, [], ap, sym, subst, length, arith, length-append}
 use Rattle.ip_prefix.specs.Sequences.{Begins, SpellsAll}
 use Rattle.octet_forms.proofs.Sequences.{one_more}
-use Rattle.mrt_wire.specs.PeerIndex.{SpellsPeer}
+use Rattle.mrt_wire.specs.Rib.{SpellsPeer}
 use Rattle.ip_prefix.specs.Counted.{SpellsCounted}
 use Rattle.ip_prefix.specs.Fields.{WithMore}
 use Rattle.mrt_wire.proofs.ReadingLaws.{no_count, not_counted, counted, reads_none}

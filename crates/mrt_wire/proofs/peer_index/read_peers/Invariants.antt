@@ -1,6 +1,6 @@
 use Rattle.std.proofs.Common.{◌≡◌, length}
 use Rattle.ip_prefix.specs.Sequences.{Begins, SpellsAll}
-use Rattle.mrt_wire.specs.PeerIndex.{SpellsPeer}
+use Rattle.mrt_wire.specs.Rib.{SpellsPeer}
 use Rattle.mrt_wire.proofs.peer_index.read_peers.Given as goal
 
 -- as many peers as are counted so far are spelled by the octets before the rest

@@ -6,7 +6,7 @@ use Rattle.mrt_events.specs.declared.peer.Peer.{Peer}
 use Rattle.mrt_wire.specs.declared.fields.Field.{Field}
 use Rattle.mrt_wire.specs.Fields.{SpellsOctet, AreOctets, SpellsPeerOf}
 use Rattle.mrt_wire.specs.Judging.{FindsField}
-use Rattle.mrt_wire.specs.PeerIndex.{peer_family, peer_width, SpellsPeer, SpellsPeerFields}
+use Rattle.mrt_wire.specs.Rib.{peer_family, peer_width, SpellsPeer, SpellsPeerFields}
 use Rattle.mrt_wire.proofs.FieldFronts.{octet_front, octets_front}
 use Rattle.mrt_wire.proofs.PeerIndexLaws.{no_peer}
 use Rattle.mrt_wire.proofs.peer_index.split_peer.Goals as goal

@@ -1,7 +1,7 @@
 use Rattle.std.proofs.Common.{sym, subst}
 use Rattle.ip_prefix.specs.Fields.{Then}
 use Rattle.ip_prefix.specs.Sequences.{Begins}
-use Rattle.ip_prefix.specs.Wire.{SpellsNetwork}
+use Rattle.ip_prefix.specs.Network.{SpellsNetwork}
 use Rattle.bgp_wire.specs.declared.WireFault.TheVariants.{Malformed}
 use Rattle.bgp_wire.specs.Readers.{Refuses}
 use Rattle.bgp_paths.proofs.Refusing.{refused_part}

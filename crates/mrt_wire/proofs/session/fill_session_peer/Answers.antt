@@ -2,7 +2,7 @@ use Rattle.std.proofs.Common.{ℕ, List, subst}
 use Rattle.ip_prefix.specs.Fronts.{BeginsWithNone}
 use Rattle.ip_prefix.specs.Sequences.{Begins}
 use Rattle.octet_forms.proofs.Fields.{both_front, none_first, none_second}
-use Rattle.bgp_wire.specs.Number.{octets_at}
+use Rattle.bgp_wire.specs.Path.{octets_at}
 use Rattle.mrt_wire.specs.Fields.{AreOctets}
 use Rattle.mrt_wire.specs.Session.{AreSystems}
 use Rattle.mrt_wire.proofs.FieldFronts.{address_front, asn_front, octets_front}

@@ -5,7 +5,7 @@ use Rattle.bgp_paths.proofs.Refusing.{refused_part}
 use Rattle.mrt_events.specs.Event.{Announced, saying}
 use Rattle.mrt_wire.specs.Items.{peer_entry_items, route_of}
 use Rattle.mrt_wire.specs.Judging.{Told}
-use Rattle.mrt_wire.specs.TableDump.{SpellsPeerEntry}
+use Rattle.mrt_wire.specs.Rib.{SpellsPeerEntry}
 use Rattle.mrt_wire.proofs.TableDumpLaws.{refused_attrs}
 use Rattle.mrt_wire.proofs.table_dump.read_entry_of.Goals as goal
 

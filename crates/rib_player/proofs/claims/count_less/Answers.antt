@@ -1,7 +1,6 @@
 use Rattle.std.proofs.lemmas.Bool.Decides.{nat_tests}
 use Rattle.std.proofs.Common.{◌≡◌, ℕ, ◌≤◌, ◌+◌, ◌-◌, ◌&&◌, Some, None, is_some, Bool, true, false, cond, sym, ap, ◌∙◌, arith}
-use Rattle.std.specs.Prelude.{unwrap_or}
-use Rattle.std.specs.Prelude.{nat_lt}
+use Rattle.std.specs.Prelude.{unwrap_or, nat_lt}
 use Rattle.std.specs.BTreeMap as tree
 use Rattle.std.specs.Option.{option_copied_mut}
 use Rattle.std.specs.Ordering.{eq_by_cmp}

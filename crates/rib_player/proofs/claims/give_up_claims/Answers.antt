@@ -4,7 +4,7 @@ use Rattle.std.specs.FinSet as set
 use Rattle.rib_player.specs.declared.pair.Pair.{Pair}
 use Rattle.rib_player.specs.Claims.{one_if, claims_beyond, held_claims, AreHeld}
 use Rattle.rib_player.specs.declared.claims.Claims.{Claims}
-use Rattle.rib_player.specs.Store.{Contents}
+use Rattle.rib_player.specs.Tables.{Contents}
 use Rattle.std.proofs.Math.Bool.{or-false}
 use Rattle.rib_player.specs.Marks.{mark_of, marks_of, gives_up, gives_up_by}
 use Rattle.rib_player.proofs.PairLaws.{same_pair}

@@ -3,7 +3,7 @@ use Rattle.std.specs.FinMap as finite
 use Rattle.std.specs.FinSet as set
 use Rattle.rib_player.specs.declared.pair.Pair.{Pair}
 use Rattle.rib_player.specs.Claims.{one_if, claims_beyond, held_claims}
-use Rattle.rib_player.specs.Store.{route_in}
+use Rattle.rib_player.specs.Tables.{route_in}
 use Rattle.rib_player.specs.Journal.{side_of}
 use Rattle.rib_player.specs.Marks.{Mark, mark_of}
 use Rattle.prefix_store.specs.Stored.{put}

@@ -1,6 +1,6 @@
 use Rattle.std.proofs.Common.{◌≡◌, ◌-◌, ◌/◌, ◌^◌, ◌++◌, false, length, take, replicate, sym, ap, ◌∙◌, arith, take-take}
 use Rattle.ip_prefix.specs.Bits.{number_of}
-use Rattle.ip_prefix.specs.BitLemmas.{number_of-bits_of}
+use Rattle.ip_prefix.specs.Kept.{number_of-bits_of}
 use Rattle.ip_prefix.proofs.BitLists.{take-bits_of}
 use Rattle.rib_player.proofs.claims.v4_key.Goals as goal
 

@@ -1,7 +1,6 @@
 use Rattle.std.proofs.Common.{◌++◌, drop, take, ◌+◌, ◌<◌, length, get_or, arith, ap, sym, subst, ◌∙◌, drop-drop, drop-set-lt}
 use Rattle.rib_player.specs.Journal.{sides_of, routes_across}
-use Rattle.rib_player.specs.Sides.{sides_across, IsKept}
-use Rattle.rib_player.specs.Marks.{marks_of, mark_of}
+use Rattle.rib_player.specs.Marks.{sides_across, IsKept, marks_of, mark_of}
 use Rattle.rib_player.proofs.JournalLaws.{rest_of_entries, kept-tail, entries-more}
 use Rattle.rib_player.proofs.MarkLaws.{turn-more}
 use Rattle.std.proofs.lemmas.Grind.{common_steps}

@@ -1,7 +1,6 @@
 use Rattle.std.proofs.Common.{◌≡◌, ◌++◌, take, drop}
 use Rattle.rib_player.specs.Journal.{sides_of, routes_across}
-use Rattle.rib_player.specs.Sides.{sides_across, IsKept}
-use Rattle.rib_player.specs.Marks.{marks_of}
+use Rattle.rib_player.specs.Marks.{sides_across, IsKept, marks_of}
 use Rattle.rib_player.proofs.journal.cross.Given as goal
 
 -- the entries that are left are as they were; crossing them too gives what crossing all gives

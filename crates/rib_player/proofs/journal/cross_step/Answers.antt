@@ -1,9 +1,8 @@
 use Rattle.std.proofs.Common.{◌≡◌, [], ap, ap₂, sym, subst, ◌∙◌, set}
 use Rattle.std.proofs.lemmas.List.{get_or-map, map-set, with_items_is, set-get_or}
 use Rattle.rib_player.specs.Journal.{sides_of, steps_of, step_sides, routes_across}
-use Rattle.rib_player.specs.Sides.{sides_at, sides_across, IsKept}
-use Rattle.rib_player.specs.Store.{Contents}
-use Rattle.rib_player.specs.Marks.{marks_of, step_marks, marks_by_step}
+use Rattle.rib_player.specs.Marks.{sides_at, sides_across, IsKept, marks_of, step_marks, marks_by_step}
+use Rattle.rib_player.specs.Tables.{Contents}
 use Rattle.rib_player.proofs.journal.cross_step.Goals as goal
 use Rattle.rib_player.proofs.journal.cross_step.Given.{Over}
 use Rattle.rib_player.proofs.journal.cross_step.Goals.{After-as_mut_slice}

@@ -3,9 +3,8 @@ use Rattle.std.specs.List.{AllByRecursion, IsDistinct}
 use Rattle.std.proofs.lemmas.List.{take-append-le, take_all, take-take, length_push, length-map, map-append}
 use Rattle.rib_player.specs.Claims.{claims_beyond, held_claims}
 use Rattle.rib_player.specs.Journal.{Side, sides_of, pairs_in, steps_of, step_sides}
-use Rattle.rib_player.specs.Sides.{AreDistinct}
-use Rattle.rib_player.specs.Marks.{marks_of, marks_by_step, step_marks}
-use Rattle.rib_player.specs.Played.{AreClaimed, CanDrop}
+use Rattle.rib_player.specs.Marks.{AreDistinct, marks_of, marks_by_step, step_marks}
+use Rattle.rib_player.specs.Calls.{AreClaimed, CanDrop}
 use Rattle.rib_player.proofs.MarkLaws.{tied, all-front, all-last, marked-length}
 use Rattle.rib_player.proofs.PlayedLaws.{dropped-keys, dropped-free, can-dropped, claimed-dropped}
 use Rattle.rib_player.proofs.journal.drop_ahead.Given.{Over}

@@ -9,10 +9,9 @@ use Rattle.rib_player.specs.declared.entry.End.TheVariants.{Last}
 use Rattle.prefix_store.specs.Stored.{put}
 use Rattle.rib_player.specs.Claims.{one_if, claims_beyond}
 use Rattle.rib_player.specs.Entries.{Entry}
-use Rattle.rib_player.specs.Store.{route_in}
+use Rattle.rib_player.specs.Tables.{route_in}
 use Rattle.rib_player.specs.Journal.{Side, side_of, sides_of, pairs_in, routes_across}
-use Rattle.rib_player.specs.Sides.{sides_across}
-use Rattle.rib_player.specs.Marks.{Mark, mark_of, marks_of, marks_across, gives_up, gives_up_by}
+use Rattle.rib_player.specs.Marks.{sides_across, Mark, mark_of, marks_of, marks_across, gives_up, gives_up_by}
 use Rattle.rib_player.proofs.PairLaws.{same_pair}
 use Rattle.rib_player.proofs.JournalLaws.{rest_of_entries, take-through, routes_across-push, sides_across-push, pairs_in-sides_across, get-restored_elsewhere, routes_across-sides_across}
 use Rattle.rib_player.proofs.MarkLaws.{tied, pairs_marked, pairs-same, pairs_in-take, distinct-take, distinct-before, marks-more, gives_up_by-push, gives_up_by-named, gives-none}

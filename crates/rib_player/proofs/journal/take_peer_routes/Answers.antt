@@ -3,8 +3,8 @@ use Rattle.std.proofs.lemmas.List.{nil_from_length, length-map, length-set, drop
 use Rattle.std.specs.FinMap as finite
 use Rattle.std.specs.FinMap.{len-entries}
 use Rattle.rib_player.specs.Journal.{side_of}
-use Rattle.rib_player.specs.Sides.{cleared_side}
-use Rattle.rib_player.specs.Store.{peer_routes}
+use Rattle.rib_player.specs.Marks.{cleared_side}
+use Rattle.rib_player.specs.Tables.{peer_routes}
 use Rattle.rib_player.specs.Entries.{Entry}
 use Rattle.rib_player.specs.Kept.{cleared_entries}
 use Rattle.rib_player.proofs.LostLaws.{cleared-nil, AreTaken, taken-peer, routes-cleared}

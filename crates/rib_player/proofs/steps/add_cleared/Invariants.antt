@@ -1,6 +1,6 @@
 use Rattle.std.proofs.Common.{◌≡◌, ◌++◌, map, take}
 use Rattle.rib_player.specs.Journal.{sides_of}
-use Rattle.rib_player.specs.Sides.{cleared_side}
+use Rattle.rib_player.specs.Marks.{cleared_side}
 use Rattle.rib_player.proofs.steps.add_cleared.Given as goal
 
 -- the entries of the pairs so far stand behind those from before

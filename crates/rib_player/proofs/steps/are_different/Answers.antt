@@ -1,6 +1,6 @@
 use Rattle.std.proofs.Common.{take, sym, subst}
 use Rattle.rib_player.specs.Journal.{side_of, sides_of}
-use Rattle.rib_player.specs.Sides.{AreDistinct}
+use Rattle.rib_player.specs.Marks.{AreDistinct}
 use Rattle.rib_player.proofs.RowLaws.{distinct-none, distinct-apart, sides-more}
 use Rattle.rib_player.proofs.steps.are_different.Goals as goal
 

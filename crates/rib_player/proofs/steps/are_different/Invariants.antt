@@ -1,6 +1,6 @@
 use Rattle.std.proofs.Common.{take}
 use Rattle.rib_player.specs.Journal.{sides_of}
-use Rattle.rib_player.specs.Sides.{AreDistinct}
+use Rattle.rib_player.specs.Marks.{AreDistinct}
 use Rattle.rib_player.proofs.steps.are_different.Given as goal
 
 -- no two of the entries so far are of one pair

@@ -1,13 +1,12 @@
 -- Each entry is below the last one, and so below all before it.
 use Rattle.std.proofs.Common.{◌≡◌, ◌+◌, ◌<◌, suc, false, ◌∷◌, List, length, take, get_or, sym, ap, subst, ◌∙◌, arith, is_ge, Ordering, Less}
 use Rattle.std.proofs.lemmas.List.{nil_from_length}
-use Rattle.ip_prefix.specs.Network.{Network}
-use Rattle.ip_prefix.specs.Order.{network_cmp}
+use Rattle.ip_prefix.specs.Network.{Network, network_cmp}
 use Rattle.mrt_events.specs.declared.peer.Peer.{Peer}
 use Rattle.rib_player.specs.Entries.{Entry}
 use Rattle.rib_player.specs.History.{pair_cmp, pair_of}
 use Rattle.rib_player.specs.Journal.{Side, side_of, sides_of}
-use Rattle.rib_player.specs.Sides.{AreDistinct}
+use Rattle.rib_player.specs.Marks.{AreDistinct}
 use Rattle.rib_player.proofs.RowLaws.{AreNotBelow, distinct-none, falling-one, falling-more, sides-more}
 use Rattle.rib_player.proofs.LostLaws.{of_one_peer}
 use Rattle.rib_player.proofs.steps.are_falling.Goals as goal

@@ -1,6 +1,6 @@
 use Rattle.std.proofs.Common.{◌+◌, take}
 use Rattle.rib_player.specs.Journal.{sides_of}
-use Rattle.rib_player.specs.Sides.{AreDistinct}
+use Rattle.rib_player.specs.Marks.{AreDistinct}
 use Rattle.rib_player.proofs.RowLaws.{AreNotBelow}
 use Rattle.rib_player.proofs.steps.are_falling.Given as goal
 

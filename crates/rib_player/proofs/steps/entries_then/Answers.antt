@@ -2,7 +2,7 @@ use Rattle.std.proofs.Common.{◌≡◌, ◌++◌, ◌&&◌, List, is_some, sym,
 use Rattle.std.specs.Ordering.{eq_by_cmp}
 use Rattle.std.specs.FinMap as finite
 use Rattle.std.proofs.lemmas.List.{map-append}
-use Rattle.mrt_events.specs.Peer.{peer_cmp}
+use Rattle.mrt_events.specs.Event.{peer_cmp}
 use Rattle.rib_player.specs.Journal.{Side, side_of, sides_of}
 use Rattle.rib_player.specs.Changes.{found, is_lost, or_absent}
 use Rattle.rib_player.proofs.LostLaws.{lost-absent, lost-named}

@@ -1,8 +1,8 @@
 use Rattle.std.proofs.Common.{◌≡◌, ◌<◌, ◌++◌, map, length, vec_capacity}
 use Rattle.std.specs.FinMap as finite
-use Rattle.prefix_store.specs.Lookups.{above}
+use Rattle.prefix_store.specs.Contents.{above}
 use Rattle.rib_player.specs.Journal.{sides_of}
-use Rattle.rib_player.specs.Sides.{cleared_side}
+use Rattle.rib_player.specs.Marks.{cleared_side}
 use Rattle.rib_player.proofs.steps.lost_entries.Given as goal
 
 -- the sides so far and those of what stands above the last of them are all

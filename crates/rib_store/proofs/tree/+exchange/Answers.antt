@@ -1,7 +1,6 @@
 use Rattle.std.proofs.Common.{Some, None, false, is_some, refl, sym, subst, ◌∙◌}
 use Rattle.ip_prefix.specs.Turns.{way}
-use Rattle.rib_store.specs.Shape.{Rooted, shape_of, is_filled, is_routed, IsLeaf, IsMarked}
-use Rattle.rib_store.specs.Tree.{at, slot_of, IsShaped}
+use Rattle.rib_store.specs.Tree.{Rooted, shape_of, is_filled, is_routed, IsLeaf, IsMarked, at, slot_of, IsShaped}
 use Rattle.rib_store.proofs.ChangeLaws.{put_left, put_right, put_here, shaped_left, shaped_right}
 use Rattle.rib_store.proofs.MarkLaws.{marked_right}
 use Rattle.rib_store.proofs.ShapeLaws.{put_leaf}

@@ -3,10 +3,9 @@ use Rattle.std.proofs.lemmas.Result.{on_ok_weaker}
 use Rattle.ip_prefix.specs.declared.turn.Turn.TheVariants.{Left, Right}
 use Rattle.ip_prefix.specs.Turns.{way, turn_of}
 use Rattle.rib_store.specs.declared.tree.Slot.TheVariants.{Branch}
-use Rattle.rib_store.specs.Shape.{Shape, Rooted, shape_of, is_filled, is_routed, IsMarked}
+use Rattle.rib_store.specs.Tree.{Shape, Rooted, shape_of, is_filled, is_routed, IsMarked, slot_of, IsRooted, IsShaped, IsPlaced}
 use Rattle.ip_prefix.specs.Network.{Network}
 use Rattle.rib_store.specs.declared.tree.Slot.{Slot}
-use Rattle.rib_store.specs.Tree.{slot_of, IsRooted, IsShaped, IsPlaced}
 use Rattle.rib_store.proofs.GrowthLaws.{placed_left, placed_right}
 use Rattle.rib_store.proofs.MarkLaws.{marked_right, alone_right}
 use Rattle.rib_store.proofs.tree.+put.Goals as goal

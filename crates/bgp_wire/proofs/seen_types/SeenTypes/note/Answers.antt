@@ -1,6 +1,6 @@
 use Rattle.std.proofs.Common.{◌≡◌, ℕ, ◌<◌, Bool, true, false, List, [], ◌∷◌, ◌++◌, ◌||◌, length, get_or, set, ap, sym, subst, ◌∙◌, refl, arith, ◌==◌}
 use Rattle.bgp_wire.specs.Attribute.{Attribute}
-use Rattle.bgp_wire.specs.SeenTypes.{Types, Tells}
+use Rattle.bgp_wire.specs.PlainValues.{Types, Tells}
 use Rattle.bgp_wire.proofs.Noting.{noted, other_seen, other_again, marked, marked_before, not_again}
 use Rattle.bgp_wire.proofs.seen_types.SeenTypes.note.Goals as goal
 use Rattle.std.proofs.Math.Bool.{and-true}

@@ -3,7 +3,7 @@ use Rattle.ip_prefix.specs.Network.{Network}
 use Rattle.mrt_events.specs.declared.event.Route.{Route}
 use Rattle.bgpdump_lines.specs.Lines.{rib_line}
 use Rattle.bgpdump_tool.specs.Replies.{found_text, best}
-use Rattle.bgpdump_lines.specs.Writing.{Puts}
+use Rattle.bgpdump_lines.specs.Going.{Puts}
 use Rattle.bgpdump_tool.proofs.BestLaws.{one_best}
 use Rattle.bgpdump_tool.proofs.carrying.questions.lookup.Goals as goal
 

@@ -6,12 +6,12 @@ use Rattle.octet_forms.proofs.Options.{is_some-option_map, None_from_is_some}
 use Rattle.mrt_events.specs.declared.peer.Peer.{Peer}
 use Rattle.prefix_store.proofs.AboveLaws.{none-above}
 use Rattle.prefix_store.specs.Stored.{counted}
-use Rattle.rib_player.specs.Store.{peer_routes, routed_peers}
+use Rattle.rib_player.specs.Tables.{peer_routes, routed_peers}
 use Rattle.rib_player.specs.Lookups.{peers_above}
 use Rattle.rib_player.proofs.PeerLaws.{all-peers, peers-next, peers-in_order}
 use Rattle.bgpdump_lines.specs.Run.{AppendsFront}
 use Rattle.bgpdump_tool.specs.Replies.{peer_line, peer_line_of}
-use Rattle.bgpdump_lines.specs.Writing.{Puts}
+use Rattle.bgpdump_lines.specs.Going.{Puts}
 use Rattle.bgpdump_tool.proofs.WalkLaws.{Walked-start, Walked-next, Walked-end, Walked-stops, found_with, some_first, lines_of_some}
 use Rattle.bgpdump_tool.proofs.carrying.questions.peers.Given.{Over}
 use Rattle.bgpdump_tool.proofs.carrying.questions.peers.Goals as goal

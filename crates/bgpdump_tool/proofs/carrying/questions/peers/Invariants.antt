@@ -1,6 +1,6 @@
 -- The lines of the peers up to the last were written.
 use Rattle.std.proofs.Common.{◌≡◌, length, is_some, slice_get}
-use Rattle.rib_player.specs.Store.{routed_peers}
+use Rattle.rib_player.specs.Tables.{routed_peers}
 use Rattle.rib_player.specs.Lookups.{peers_above}
 use Rattle.bgpdump_tool.specs.Replies.{peer_line}
 use Rattle.bgpdump_tool.proofs.WalkLaws.{Walked}

@@ -1,5 +1,5 @@
 -- The bit is one of the highest of the number.
-use Rattle.ip_prefix.specs.Masked.{bit_count_le}
+use Rattle.ip_prefix.specs.Kept.{bit_count_le}
 use Rattle.ip_prefix.proofs.Highest.{bit_of_highest}
 use Rattle.ip_prefix.proofs.addr.Addr.bit.Goals as goal
 

@@ -1,6 +1,6 @@
 use Rattle.std.proofs.Common.{◌-◌, ◌/◌, ◌^◌, subst}
-use Rattle.ip_prefix.specs.Address.{IsAddress, bit_count}
-use Rattle.ip_prefix.specs.BitLemmas.{length-bits_of}
+use Rattle.ip_prefix.specs.Network.{IsAddress, bit_count}
+use Rattle.ip_prefix.specs.Kept.{length-bits_of}
 use Rattle.ip_prefix.proofs.addr.Addr.family.Goals as goal
 
 pub returns-clause-whole : goal.returns-clause-whole

@@ -1,7 +1,7 @@
 -- The group is one of the highest of the number.
 use Rattle.std.proofs.Common.{◌∙◌, sym}
-use Rattle.ip_prefix.specs.Address.{group_at}
-use Rattle.ip_prefix.specs.Masked.{bit_count_le}
+use Rattle.ip_prefix.specs.Network.{group_at}
+use Rattle.ip_prefix.specs.Kept.{bit_count_le}
 use Rattle.ip_prefix.proofs.Highest.{group_of_highest, low_group}
 use Rattle.ip_prefix.proofs.addr.Addr.group.Goals as goal
 

@@ -1,7 +1,7 @@
 -- The octet is one of the highest of the number.
 use Rattle.std.proofs.Common.{◌≤◌, ◌+◌, ◌*◌, ◌∙◌, sym, arith}
-use Rattle.ip_prefix.specs.Address.{bit_count, octet_at}
-use Rattle.ip_prefix.specs.Masked.{bit_count_le}
+use Rattle.ip_prefix.specs.Network.{bit_count, octet_at}
+use Rattle.ip_prefix.specs.Kept.{bit_count_le}
 use Rattle.ip_prefix.proofs.Highest.{octets_fill, octet_of_highest, low_octet}
 use Rattle.ip_prefix.proofs.addr.Addr.octet.Goals as goal
 

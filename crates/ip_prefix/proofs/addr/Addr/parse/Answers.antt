@@ -3,7 +3,7 @@ use Rattle.std.proofs.Common.{◌∙◌, rules, sym, subst, true≢false, ℕ, g
 use Rattle.std.specs.Net.Addr.{ipv4_octets, ipv6_segments}
 use Rattle.ip_prefix.specs.declared.addr.Family.TheVariants.{V4, V6}
 use Rattle.ip_prefix.specs.Bits.{bits_of_octets}
-use Rattle.ip_prefix.specs.Spelling.{SpellsAddress}
+use Rattle.ip_prefix.specs.Text.{SpellsAddress}
 use Rattle.ip_prefix.proofs.Spelled.{spells_octets, spells_groups, none_spells_none}
 use Rattle.ip_prefix.proofs.addr.Addr.parse.Goals as goal
 

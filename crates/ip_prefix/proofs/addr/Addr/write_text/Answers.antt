@@ -1,6 +1,6 @@
 use Rattle.std.proofs.Common.{◌≡◌, ◌++◌, ◌∷◌, [], decimal, sym, subst, ◌∙◌}
 use Rattle.ip_prefix.specs.declared.addr.Family.TheVariants.{V4}
-use Rattle.ip_prefix.specs.Address.{octet_at}
+use Rattle.ip_prefix.specs.Network.{octet_at}
 use Rattle.ip_prefix.specs.Text.{address_text, v4_text}
 use Rattle.octet_text.specs.Written.{IsWritten}
 use Rattle.octet_text.proofs.Writing.{written_then, four_marked}

@@ -1,6 +1,6 @@
 use Rattle.std.proofs.Common.{◌≡◌, Equal, rules, nat_cmp, ap, ◌∙◌, Ordering}
 use Rattle.std.specs.Ordering.{ordering_then}
-use Rattle.ip_prefix.specs.Order.{family_cmp, address_cmp}
+use Rattle.ip_prefix.specs.Network.{family_cmp, address_cmp}
 use Rattle.ip_prefix.proofs.Comparing.{address_cmp-kept}
 use Rattle.ip_prefix.proofs.addr.AddrOrd.cmp.Goals as goal
 

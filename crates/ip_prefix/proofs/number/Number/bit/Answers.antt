@@ -1,6 +1,6 @@
 -- The bit of the high half is one of the number.
 use Rattle.std.proofs.Common.{◌≡◌, ℕ, ◌+◌, ◌-◌, ◌/◌, ◌^◌, ◌==◌, bit_and, sym, ap, ◌∙◌, arith, shr-shr}
-use Rattle.ip_prefix.specs.Halves.{whole, high-again}
+use Rattle.ip_prefix.specs.Kept.{whole, high-again}
 use Rattle.ip_prefix.proofs.number.Number.bit.Goals as goal
 
 pub returns-then-place-lt-HALF_BITS : goal.returns-then-place-lt-HALF_BITS

@@ -1,8 +1,7 @@
 use Rattle.std.proofs.Common.{◌-◌, ◌/◌, ◌^◌, ◌∙◌, ap, sym, subst}
 use Rattle.ip_prefix.specs.Bits.{highest_bits}
-use Rattle.ip_prefix.specs.Address.{IsAddress, bit_count}
-use Rattle.ip_prefix.specs.BitLemmas.{length-bits_of}
-use Rattle.ip_prefix.specs.Network.{least_address}
+use Rattle.ip_prefix.specs.Network.{IsAddress, bit_count, least_address}
+use Rattle.ip_prefix.specs.Kept.{length-bits_of}
 use Rattle.ip_prefix.proofs.Masks.{IsAligned-masked, bits_of-least}
 use Rattle.ip_prefix.proofs.prefix.Prefix.addr.Goals as goal
 

@@ -1,7 +1,7 @@
 -- The bit is one of the highest of the number.
 use Rattle.std.proofs.Common.{◌<◌, ◌≤◌, length, Some, ap, sym, ◌∙◌, arith}
 use Rattle.std.specs.Prelude.{slice_get}
-use Rattle.ip_prefix.specs.Masked.{length-masked, bit_count_le}
+use Rattle.ip_prefix.specs.Kept.{length-masked, bit_count_le}
 use Rattle.ip_prefix.specs.Network.{Network}
 use Rattle.ip_prefix.proofs.Highest.{bit_of_highest}
 use Rattle.ip_prefix.proofs.prefix.Prefix.bit.Goals as goal

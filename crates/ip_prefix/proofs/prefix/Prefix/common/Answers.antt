@@ -1,7 +1,7 @@
 -- What both begin with is as long as what their numbers share, where neither is shorter.
 use Rattle.std.proofs.Common.{◌≡◌, ◌+◌, ◌-◌, length, take, ap, ◌∙◌, arith}
 use Rattle.ip_prefix.specs.Turns.{shared}
-use Rattle.ip_prefix.specs.Masked.{bit_count_le}
+use Rattle.ip_prefix.specs.Kept.{bit_count_le}
 use Rattle.ip_prefix.proofs.Shared.{leading-shared, length-shared, shared-front}
 use Rattle.ip_prefix.proofs.prefix.Prefix.common.Goals as goal
 

@@ -1,9 +1,8 @@
 -- The address has the prefix's bits where its number, cleared below them, is the prefix's.
 use Rattle.std.proofs.Common.{◌≡◌, ◌≤◌, ◌==◌, ◌∙◌, ap, sym, arith}
-use Rattle.ip_prefix.specs.Address.{bit_count}
-use Rattle.ip_prefix.specs.Network.{begin_with, contains}
+use Rattle.ip_prefix.specs.Network.{bit_count, begin_with, contains}
 use Rattle.ip_prefix.specs.contracts.prefix.Prefix.{the_view}
-use Rattle.ip_prefix.specs.Masked.{bit_count_le}
+use Rattle.ip_prefix.specs.Kept.{bit_count_le}
 use Rattle.ip_prefix.proofs.Beginning.{family_same, contains_same, begin_with-highest}
 use Rattle.ip_prefix.proofs.prefix.Prefix.contains.Goals as goal
 

@@ -1,8 +1,7 @@
 -- The other prefix has the bits of this one where it is as long and its number, cleared below them, is this one's.
 use Rattle.std.proofs.Common.{◌≡◌, ◌≤◌, ◌<◌, ◌==◌, ◌∙◌, length, ap, sym, arith, leb-true, leb-false}
-use Rattle.ip_prefix.specs.Filled.{highest_part}
-use Rattle.ip_prefix.specs.Masked.{length-masked, bit_count_le}
-use Rattle.ip_prefix.specs.Covering.{covers}
+use Rattle.ip_prefix.specs.Kept.{highest_part, length-masked, bit_count_le}
+use Rattle.ip_prefix.specs.Turns.{covers}
 use Rattle.ip_prefix.specs.contracts.prefix.Prefix.{the_view}
 use Rattle.ip_prefix.proofs.Beginning.{family_same, covers_same, covers_other, begin_longer, begin_with-highest}
 use Rattle.ip_prefix.proofs.prefix.Prefix.covers.Goals.{then-eq, else-eq}

@@ -1,10 +1,9 @@
 -- The first bits are those of the number with zeros below them.
 use Rattle.std.proofs.Common.{◌≡◌, ℕ, ◌-◌, ◌^◌, ◌/◌, ◌≤◌, length, take, ap, sym, subst, ◌∙◌, arith}
-use Rattle.ip_prefix.specs.Filled.{highest_part}
+use Rattle.ip_prefix.specs.Kept.{highest_part, IsMasked, length-masked, bit_count_le}
 use Rattle.ip_prefix.specs.declared.prefix.Prefix.TheInside.{Inside}
 use Rattle.ip_prefix.specs.contracts.prefix.Prefix.{the_view}
 use Rattle.ip_prefix.specs.Bits.{bits_of}
-use Rattle.ip_prefix.specs.Masked.{IsMasked, length-masked, bit_count_le}
 use Rattle.ip_prefix.specs.Network.{Network}
 use Rattle.ip_prefix.proofs.Masks.{IsMasked-highest, first_bits}
 use Rattle.ip_prefix.proofs.prefix.Prefix.front.Goals as goal

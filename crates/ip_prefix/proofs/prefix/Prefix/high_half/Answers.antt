@@ -1,7 +1,7 @@
 -- The number is the highest bits, filled with zeros, and its high half the first of these.
 use Rattle.std.proofs.Common.{◌≡◌, ◌+◌, ◌-◌, ◌≤◌, ◌++◌, false, length, replicate, take, ap, sym, ◌∙◌, arith, ◌/◌, ◌^◌}
 use Rattle.ip_prefix.specs.Bits.{bits_of, highest_bits}
-use Rattle.ip_prefix.specs.Masked.{length-masked, bit_count_le}
+use Rattle.ip_prefix.specs.Kept.{length-masked, bit_count_le}
 use Rattle.ip_prefix.specs.Network.{Network}
 use Rattle.ip_prefix.proofs.BitLists.{take-bits_of}
 use Rattle.ip_prefix.proofs.Comparing.{bits_of-filled}

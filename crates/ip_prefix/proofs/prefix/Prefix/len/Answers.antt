@@ -1,8 +1,7 @@
 use Rattle.std.proofs.Common.{◌≤◌, ◌-◌, ◌/◌, ◌^◌, ◌∙◌, ap, sym, subst, length, arith}
-use Rattle.ip_prefix.specs.Address.{bit_count}
+use Rattle.ip_prefix.specs.Network.{bit_count, IsNetwork}
 use Rattle.ip_prefix.specs.Bits.{bits_of}
-use Rattle.ip_prefix.specs.Masked.{length-masked}
-use Rattle.ip_prefix.specs.Network.{IsNetwork}
+use Rattle.ip_prefix.specs.Kept.{length-masked}
 use Rattle.ip_prefix.proofs.prefix.Prefix.len.Goals as goal
 
 pub returns-clause-value : goal.returns-clause-value

@@ -1,8 +1,8 @@
 -- The bits of the prefix are the first of the address, and the number has zeros below them.
 use Rattle.std.proofs.Common.{◌≤◌, ◌-◌, ◌^◌, ◌/◌, ◌∙◌, ap, sym, subst, take, arith}
-use Rattle.ip_prefix.specs.Address.{bit_count}
+use Rattle.ip_prefix.specs.Network.{bit_count}
 use Rattle.ip_prefix.specs.Bits.{bits_of}
-use Rattle.ip_prefix.specs.Masked.{IsMasked}
+use Rattle.ip_prefix.specs.Kept.{IsMasked}
 use Rattle.ip_prefix.proofs.Masks.{IsMasked-highest, bits_of-highest}
 use Rattle.ip_prefix.proofs.prefix.Prefix.new.Goals as goal
 

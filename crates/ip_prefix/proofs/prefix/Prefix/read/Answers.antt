@@ -1,9 +1,8 @@
 -- The highest bits of the number are those of the octets behind the length.
 use Rattle.std.proofs.Common.{◌≡◌, ℕ, List, ◌≤◌, ◌<◌, ◌+◌, ◌-◌, ◌*◌, ◌/◌, ◌^◌, ◌∷◌, ◌∙◌, length, take, get_or, ap, sym, subst, add-one, arith, length-take-le}
-use Rattle.ip_prefix.specs.Address.{bit_count}
+use Rattle.ip_prefix.specs.Network.{bit_count, SpellsNetwork}
 use Rattle.ip_prefix.specs.Bits.{bits_of}
-use Rattle.ip_prefix.specs.Masked.{IsMasked, bit_count_le}
-use Rattle.ip_prefix.specs.Wire.{SpellsNetwork}
+use Rattle.ip_prefix.specs.Kept.{IsMasked, bit_count_le}
 use Rattle.ip_prefix.proofs.Masks.{IsMasked-highest}
 use Rattle.octet_forms.proofs.Lists.{AllByRecursion-take}
 use Rattle.ip_prefix.proofs.Octets.{IsOctet, AllOctets-from}

@@ -3,8 +3,8 @@ use Rattle.std.proofs.Common.{◌≡◌, ℕ, ◌+◌, ◌-◌, ◌/◌, ◌^◌
 use Rattle.std.proofs.lemmas.Bool.{eqb-true, eq-eqb}
 use Rattle.std.proofs.lemmas.List.{take-append-le}
 use Rattle.ip_prefix.specs.Bits.{bits_of, bits_of_octets, number_of}
-use Rattle.ip_prefix.specs.BitLemmas.{number_of-bits_of}
-use Rattle.ip_prefix.specs.Covering.{covers}
+use Rattle.ip_prefix.specs.Kept.{number_of-bits_of}
+use Rattle.ip_prefix.specs.Turns.{covers}
 use Rattle.ip_prefix.specs.Network.{Network, begin_with}
 use Rattle.ip_prefix.specs.declared.addr.Family.TheVariants.{V4}
 use Rattle.octet_forms.proofs.Booleans.{same_tests}

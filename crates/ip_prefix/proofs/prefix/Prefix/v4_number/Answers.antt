@@ -1,9 +1,8 @@
 -- The highest 32 bits are those of the prefix, filled with zeros.
 use Rattle.std.proofs.Common.{◌≡◌, ◌-◌, ◌/◌, ◌^◌, ◌≤◌, ◌++◌, false, length, replicate, ap, sym, ◌∙◌, arith}
-use Rattle.ip_prefix.specs.Address.{bit_count}
+use Rattle.ip_prefix.specs.Network.{bit_count, Network}
 use Rattle.ip_prefix.specs.Bits.{bits_of, highest_bits}
-use Rattle.ip_prefix.specs.Masked.{length-masked}
-use Rattle.ip_prefix.specs.Network.{Network}
+use Rattle.ip_prefix.specs.Kept.{length-masked}
 use Rattle.ip_prefix.proofs.Masks.{filled}
 use Rattle.ip_prefix.proofs.prefix.Prefix.v4_number.Goals as goal
 

@@ -1,6 +1,6 @@
 use Rattle.std.proofs.Common.{◌≡◌, Equal, rules, nat_cmp, sym, ap, ◌∙◌, Ordering}
 use Rattle.std.specs.Ordering.{ordering_then}
-use Rattle.ip_prefix.specs.Order.{family_cmp, network_cmp}
+use Rattle.ip_prefix.specs.Network.{family_cmp, network_cmp}
 use Rattle.ip_prefix.proofs.Comparing.{network_cmp-kept}
 use Rattle.ip_prefix.proofs.prefix.PrefixOrd.cmp.Goals as goal
 use Rattle.ip_prefix.proofs.prefix.PrefixOrd.cmp.Goals.{After-compare}

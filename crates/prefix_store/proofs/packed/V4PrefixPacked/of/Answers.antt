@@ -1,6 +1,6 @@
 use Rattle.std.proofs.Common.{◌≡◌, [], ◌++◌, length, take, sym, ap, ◌∙◌}
 use Rattle.std.proofs.Math.Seq.{take-append_seam}
-use Rattle.ip_prefix.specs.Address.{bit_count}
+use Rattle.ip_prefix.specs.Network.{bit_count}
 use Rattle.ip_prefix.specs.Bits.{bits_of}
 use Rattle.prefix_store.proofs.PackedLaws.{v4_bits}
 use Rattle.prefix_store.proofs.packed.V4PrefixPacked.of.Goals as goal

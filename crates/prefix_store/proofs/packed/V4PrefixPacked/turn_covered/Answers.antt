@@ -1,6 +1,6 @@
 -- The prefix has as many bits as its length says.
 use Rattle.std.proofs.Common.{rules}
-use Rattle.prefix_store.specs.Packed.{v4_network}
+use Rattle.prefix_store.specs.Contents.{v4_network}
 use Rattle.prefix_store.proofs.PackedLaws.{v4_length}
 use Rattle.prefix_store.proofs.packed.V4PrefixPacked.turn_covered.Goals as goal
 

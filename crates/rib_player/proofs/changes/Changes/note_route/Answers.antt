@@ -3,7 +3,7 @@ use Rattle.std.proofs.lemmas.List.{map-append}
 use Rattle.rib_player.specs.Changes.{found, is_lost, effect_of}
 use Rattle.rib_player.specs.History.{pair_of}
 use Rattle.rib_player.specs.Journal.{Side, side_of, sides_of}
-use Rattle.rib_player.specs.Store.{route_in}
+use Rattle.rib_player.specs.Tables.{route_in}
 use Rattle.rib_player.proofs.ChangesLaws.{noted_effect-first, noted_effect-lost}
 use Rattle.rib_player.proofs.changes.Changes.note_route.Goals as goal
 

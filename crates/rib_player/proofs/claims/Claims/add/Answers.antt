@@ -2,9 +2,9 @@ use Rattle.std.proofs.Common.{◌≡◌, ◌+◌, Some, None, is_some, refl, sym
 use Rattle.std.specs.BTreeMap as tree
 use Rattle.std.specs.Option.{option_copied_mut}
 use Rattle.std.proofs.lemmas.Result.{on_ok_weaker, on_err_weaker}
-use Rattle.mrt_events.specs.Peer.{peer_cmp}
+use Rattle.mrt_events.specs.Event.{peer_cmp}
 use Rattle.rib_player.specs.Claims.{one_if, count_of_peer}
-use Rattle.rib_player.specs.Holding.{IsWritten}
+use Rattle.rib_player.specs.Kept.{IsWritten}
 use Rattle.rib_player.proofs.StoreLaws.{same_network}
 use Rattle.rib_player.proofs.CountedLaws.{Peers, beyond-written}
 use Rattle.rib_player.proofs.claims.Claims.add.Goals as goal

@@ -2,9 +2,9 @@ use Rattle.std.proofs.Common.{◌≡◌, ◌+◌, ◌&&◌, Some, is_some, Bool,
 use Rattle.std.specs.BTreeMap as tree
 use Rattle.std.specs.Option.{option_copied_mut}
 use Rattle.ip_prefix.specs.Network.{Network}
-use Rattle.mrt_events.specs.Peer.{peer_cmp}
+use Rattle.mrt_events.specs.Event.{peer_cmp}
 use Rattle.rib_player.specs.Claims.{count_of, one_if, count_of_peer}
-use Rattle.rib_player.specs.Holding.{IsWritten}
+use Rattle.rib_player.specs.Kept.{IsWritten}
 use Rattle.rib_player.proofs.StoreLaws.{same_network, written-twice}
 use Rattle.rib_player.proofs.CountedLaws.{beyond-written}
 use Rattle.rib_player.proofs.claims.Claims.take.Goals as goal

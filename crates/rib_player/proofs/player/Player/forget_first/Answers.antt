@@ -4,10 +4,9 @@ use Rattle.std.specs.FinSet as names
 use Rattle.rib_player.specs.declared.pair.Pair.{Pair}
 use Rattle.rib_player.specs.declared.entry.End.TheVariants.{First}
 use Rattle.rib_player.specs.Claims.{one_if, claims_beyond, held_claims}
-use Rattle.rib_player.specs.Calls.{without_first}
+use Rattle.rib_player.specs.Calls.{without_first, IsPlayed}
 use Rattle.rib_player.specs.Journal.{step_sides, steps_of, timeline_of}
 use Rattle.rib_player.specs.Marks.{marks_of, gives_up_by}
-use Rattle.rib_player.specs.Played.{IsPlayed}
 use Rattle.rib_player.proofs.ForgetLaws.{timeline-forgotten}
 use Rattle.rib_player.proofs.PlayedLaws.{forgotten-keys, forgotten-free, forgotten-played}
 use Rattle.rib_player.proofs.player.Player.forget_first.Given.{Over}

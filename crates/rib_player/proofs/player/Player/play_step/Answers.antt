@@ -8,9 +8,8 @@ use Rattle.rib_player.specs.declared.entry.End.TheVariants.{Last}
 use Rattle.rib_player.specs.Timeline.{after_play}
 use Rattle.rib_player.specs.Claims.{one_if, claims_beyond, held_claims}
 use Rattle.rib_player.specs.Journal.{sides_of, steps_of, timeline_of}
-use Rattle.rib_player.specs.Sides.{IsStepFor}
-use Rattle.rib_player.specs.Marks.{marks_of, marks_by_step, step_marks, gives_up_by}
-use Rattle.rib_player.specs.Played.{IsPlayed, AreClaimed, CanDrop}
+use Rattle.rib_player.specs.Marks.{IsStepFor, marks_of, marks_by_step, step_marks, gives_up_by}
+use Rattle.rib_player.specs.Calls.{IsPlayed, AreClaimed, CanDrop}
 use Rattle.rib_player.proofs.PlayedLaws.{tables-played, played-among, step-named, can-play, after_play-on, played-on}
 use Rattle.rib_player.proofs.player.Player.play_step.Given.{Over}
 use Rattle.rib_player.proofs.player.Player.play_step.Goals as goal

@@ -2,7 +2,7 @@ use Rattle.std.proofs.Common.{◌≡◌, Some, take, sym, ap, subst, ◌∙◌, 
 use Rattle.std.specs.List.{AllByRecursion}
 use Rattle.std.specs.Map.{lookup}
 use Rattle.rib_player.specs.Journal.{side_of, sides_of}
-use Rattle.rib_player.specs.Sides.{AreDistinct}
+use Rattle.rib_player.specs.Marks.{AreDistinct}
 use Rattle.rib_player.proofs.StoreLaws.{same_peer}
 use Rattle.rib_player.proofs.RowLaws.{IsSeen, distinct-none, distinct-more, seen-more, sides-more}
 use Rattle.rib_player.proofs.stores.Stores.are_of_different_peers.Goals as goal

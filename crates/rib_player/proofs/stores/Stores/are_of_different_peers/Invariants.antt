@@ -1,7 +1,7 @@
 use Rattle.std.proofs.Common.{take}
 use Rattle.std.specs.List.{AllByRecursion}
 use Rattle.rib_player.specs.Journal.{sides_of}
-use Rattle.rib_player.specs.Sides.{AreDistinct}
+use Rattle.rib_player.specs.Marks.{AreDistinct}
 use Rattle.rib_player.proofs.RowLaws.{IsSeen}
 use Rattle.rib_player.proofs.stores.Stores.are_of_different_peers.Given as goal
 

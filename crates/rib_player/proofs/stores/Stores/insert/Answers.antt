@@ -3,7 +3,7 @@ use Rattle.std.specs.declared.rc.Rc.{Rc}
 use Rattle.std.proofs.lemmas.List.{map-append}
 use Rattle.mrt_events.specs.declared.peer.Peer.{Peer}
 use Rattle.rib_player.specs.Numbered.{peers_in, AreNumbered}
-use Rattle.rib_player.specs.Holding.{IsWritten}
+use Rattle.rib_player.specs.Kept.{IsWritten}
 use Rattle.rib_player.specs.StoresByPeer.{stores_of, stores_in}
 use Rattle.rib_player.proofs.NumberLaws.{no-number, numbered-added}
 use Rattle.rib_player.proofs.stores.Stores.insert.Goals as goal

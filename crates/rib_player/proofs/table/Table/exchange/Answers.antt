@@ -1,6 +1,6 @@
 use Rattle.std.proofs.Common.{Some, sym, ap, ◌∙◌}
 use Rattle.std.specs.Option.{option_copied_mut}
-use Rattle.rib_player.specs.Store.{route_in}
+use Rattle.rib_player.specs.Tables.{route_in}
 use Rattle.rib_player.specs.StoresByPeer.{stores_in}
 use Rattle.prefix_store.specs.Stored.{put}
 use Rattle.rib_player.proofs.StoreLaws.{IsStored, stored-lent, key-has-store, contains-found, get-found, held-kept, keys-kept, routes-put}

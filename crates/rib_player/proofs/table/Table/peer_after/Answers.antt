@@ -6,9 +6,9 @@ use Rattle.std.specs.BTreeMap.Range.{range_contains, entries_between}
 use Rattle.std.proofs.Math.Bool.{and-true}
 use Rattle.std.proofs.lemmas.Map.Iter.{rest_all}
 use Rattle.mrt_events.specs.declared.peer.Peer.{Peer}
-use Rattle.mrt_events.specs.Peer.{peer_cmp}
+use Rattle.mrt_events.specs.Event.{peer_cmp}
 use Rattle.prefix_store.specs.Stored.{counted}
-use Rattle.rib_player.specs.Store.{Stores, peer_routes, routed_peers}
+use Rattle.rib_player.specs.Tables.{Stores, peer_routes, routed_peers}
 use Rattle.rib_player.specs.StoresByPeer.{stores_in, stores_of}
 use Rattle.rib_player.specs.Lookups.{peers_above, routed_stores, peer_count}
 use Rattle.rib_player.proofs.PeerLaws.{first_counted, routed-more, routed-none}

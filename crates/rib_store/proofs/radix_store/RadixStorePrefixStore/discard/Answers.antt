@@ -2,9 +2,9 @@ use Rattle.std.proofs.Common.{◌≡◌, ◌+◌, None, true, false, [], refl, s
 use Rattle.std.specs.FinMap as finite
 use Rattle.std.specs.FinSet as set
 use Rattle.ip_prefix.specs.declared.addr.Family.TheVariants.{V4, V6}
-use Rattle.prefix_store.specs.Packed.{v4_network, v6_network}
+use Rattle.prefix_store.specs.Contents.{v4_network, v6_network}
 use Rattle.prefix_store.specs.Stored.{counted}
-use Rattle.rib_store.specs.Shape.{shape_of, IsMarked}
+use Rattle.rib_store.specs.Tree.{shape_of, IsMarked}
 use Rattle.rib_store.specs.Slots.{keys_in, routes_in}
 use Rattle.rib_store.specs.Store.{slots_in, trees_of}
 use Rattle.rib_store.proofs.SlotLaws.{keys_in-less, routes_in-less}

@@ -3,9 +3,9 @@ use Rattle.std.proofs.Common.{◌≡◌, ◌+◌, Some, true, [], is_some, false
 use Rattle.std.specs.FinMap as finite
 use Rattle.std.specs.FinSet as set
 use Rattle.ip_prefix.specs.declared.addr.Family.TheVariants.{V4, V6}
-use Rattle.prefix_store.specs.Packed.{v4_network, v6_network}
+use Rattle.prefix_store.specs.Contents.{v4_network, v6_network}
 use Rattle.prefix_store.specs.Stored.{put}
-use Rattle.rib_store.specs.Shape.{shape_of, IsMarked}
+use Rattle.rib_store.specs.Tree.{shape_of, IsMarked}
 use Rattle.rib_store.specs.Slots.{slot_at, routes_in}
 use Rattle.rib_store.specs.Store.{slots_in, trees_of}
 use Rattle.rib_store.proofs.TreeLaws.{on_same}

@@ -2,7 +2,7 @@ use Rattle.std.proofs.Common.{[], refl, ap, ◌∙◌, arith}
 use Rattle.std.specs.FinMap as finite
 use Rattle.std.specs.FinMap.{len-empty}
 use Rattle.std.specs.FinSet as set
-use Rattle.ip_prefix.specs.Order.{network_cmp}
+use Rattle.ip_prefix.specs.Network.{network_cmp}
 use Rattle.rib_store.proofs.SlotLaws.{keys_in-none, routes_in-none}
 use Rattle.rib_store.proofs.radix_store.RadixStorePrefixStore.new.Goals as goal
 

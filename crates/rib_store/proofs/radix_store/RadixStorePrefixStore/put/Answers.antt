@@ -5,11 +5,10 @@ use Rattle.std.specs.FinMap as finite
 use Rattle.std.specs.FinSet as set
 use Rattle.ip_prefix.specs.declared.addr.Family.TheVariants.{V4, V6}
 use Rattle.ip_prefix.specs.Turns.{way}
-use Rattle.prefix_store.specs.Packed.{v4_network, v6_network}
+use Rattle.prefix_store.specs.Contents.{v4_network, v6_network}
 use Rattle.prefix_store.specs.Stored.{put}
-use Rattle.rib_store.specs.Shape.{shape_of, IsMarked}
+use Rattle.rib_store.specs.Tree.{shape_of, IsMarked, at, AreOf}
 use Rattle.rib_store.specs.Slots.{keys_in, routes_in}
-use Rattle.rib_store.specs.Tree.{at, AreOf}
 use Rattle.rib_store.specs.Store.{slots_in, trees_of, tree_of}
 use Rattle.rib_store.proofs.SlotLaws.{keys_in-more, routes_in-written}
 use Rattle.rib_store.proofs.CountLaws.{len-ensured, len-exchanged}

@@ -3,7 +3,7 @@ use Rattle.std.proofs.lemmas.List.{length-map}
 use Rattle.std.specs.FinMap as finite
 use Rattle.std.specs.FinMap.{len-empty}
 use Rattle.std.specs.FinSet as set
-use Rattle.ip_prefix.specs.Order.{network_cmp}
+use Rattle.ip_prefix.specs.Network.{network_cmp}
 use Rattle.rib_store.specs.Slots.{keys_in, routes_in}
 use Rattle.rib_store.specs.Store.{trees_of, slots_in, IsPlanted}
 use Rattle.rib_store.specs.Walks.{all_routes}

@@ -2,8 +2,7 @@ use Rattle.std.proofs.Common.{◌≡◌, None, cond, refl, sym, ap, ◌∙◌}
 use Rattle.ip_prefix.specs.declared.turn.Turn.TheVariants.{Outside, Here, Left, Right}
 use Rattle.ip_prefix.specs.Turns.{way, turn_of}
 use Rattle.rib_store.specs.declared.tree.Slot.TheVariants.{Branch}
-use Rattle.rib_store.specs.Shape.{Rooted, shape_of}
-use Rattle.rib_store.specs.Tree.{at, same_way, slot_of, IsRooted}
+use Rattle.rib_store.specs.Tree.{Rooted, shape_of, at, same_way, slot_of, IsRooted}
 use Rattle.rib_store.proofs.TreeLaws.{at_rooted}
 use Rattle.rib_store.proofs.ShapeLaws.{fork_other}
 use Rattle.rib_store.proofs.ChangeLaws.{put_outside, fork_left, fork_right, fork_here}

@@ -1,5 +1,5 @@
 use Rattle.std.proofs.Common.{◌≡◌, false, ap, ◌∙◌}
-use Rattle.rib_store.specs.Shape.{is_routed}
+use Rattle.rib_store.specs.Tree.{is_routed}
 use Rattle.rib_store.proofs.MarkLaws.{unmarked_first}
 use Rattle.rib_store.proofs.tree.Tree.+first.Goals as goal
 

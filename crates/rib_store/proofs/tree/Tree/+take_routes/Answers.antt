@@ -1,5 +1,5 @@
 use Rattle.std.proofs.Common.{◌≡◌, ◌++◌, false, map, sym, ap, ◌∙◌, append-nil}
-use Rattle.rib_store.specs.Shape.{shape_of, is_routed}
+use Rattle.rib_store.specs.Tree.{shape_of, is_routed}
 use Rattle.rib_store.proofs.FillLaws.{unmarked-all}
 use Rattle.rib_store.proofs.TakenLaws.{unmarked-emptied}
 use Rattle.rib_store.proofs.tree.Tree.+take_routes.Goals as goal

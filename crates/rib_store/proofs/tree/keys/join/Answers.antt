@@ -2,8 +2,7 @@ use Rattle.std.proofs.Common.{◌≡◌, true, false, None, refl, sym, ap, subst
 use Rattle.ip_prefix.specs.Turns.{way}
 use Rattle.rib_store.specs.declared.tree.Slot.TheVariants.{Branch}
 use Rattle.rib_store.specs.declared.tree.Tree.TheVariants as tree
-use Rattle.rib_store.specs.Shape.{Rooted, shape_of, IsMarked}
-use Rattle.rib_store.specs.Tree.{at, slot_of, IsOn, IsShaped, IsNearlyShaped, Stands}
+use Rattle.rib_store.specs.Tree.{Rooted, shape_of, IsMarked, at, slot_of, IsOn, IsShaped, IsNearlyShaped, Stands}
 use Rattle.rib_store.proofs.TreeLaws.{on_below}
 use Rattle.rib_store.proofs.ChangeLaws.{join_left, join_right}
 use Rattle.rib_store.proofs.ShapeLaws.{not_empty}

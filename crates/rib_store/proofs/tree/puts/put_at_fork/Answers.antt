@@ -1,7 +1,6 @@
 use Rattle.std.proofs.Common.{◌≡◌, ◌||◌, Some, None, is_some, refl, sym, ap, subst, ◌∙◌}
 use Rattle.ip_prefix.specs.Turns.{way}
-use Rattle.rib_store.specs.Shape.{Rooted, shape_of, is_routed, any_routed, IsFork, IsMarked}
-use Rattle.rib_store.specs.Tree.{IsRooted}
+use Rattle.rib_store.specs.Tree.{Rooted, shape_of, is_routed, any_routed, IsFork, IsMarked, IsRooted}
 use Rattle.rib_store.proofs.GrowthLaws.{placed_here}
 use Rattle.rib_store.proofs.tree.puts.put_at_fork.Given.{Over}
 use Rattle.rib_store.proofs.tree.puts.put_at_fork.Goals as goal

@@ -1,8 +1,7 @@
 use Rattle.std.proofs.Common.{rules, ◌≡◌, ◌||◌, Some, is_some, sym, ap, ap₂, subst, ◌∙◌}
 use Rattle.ip_prefix.specs.declared.turn.Turn.TheVariants.{Here}
 use Rattle.ip_prefix.specs.Turns.{way, turn_of}
-use Rattle.rib_store.specs.Shape.{Empty, shape_of, leaf_slot}
-use Rattle.rib_store.specs.Tree.{IsRooted}
+use Rattle.rib_store.specs.Tree.{Empty, shape_of, leaf_slot, IsRooted}
 use Rattle.rib_store.proofs.GrowthLaws.{placed_here}
 use Rattle.rib_store.proofs.ShapeLaws.{rooted_leaf, shaped_leaf, routed_leaf, hung}
 use Rattle.rib_store.proofs.tree.puts.put_at_leaf.Goals as goal

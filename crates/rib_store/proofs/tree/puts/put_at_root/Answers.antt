@@ -2,8 +2,7 @@ use Rattle.std.proofs.Common.{◌≡◌, ◌||◌, Some, refl, ap, ◌∙◌}
 use Rattle.std.proofs.lemmas.Result.{on_ok_weaker}
 use Rattle.ip_prefix.specs.declared.turn.Turn.TheVariants.{Here}
 use Rattle.ip_prefix.specs.Turns.{way, turn_of}
-use Rattle.rib_store.specs.Shape.{Rooted, shape_of}
-use Rattle.rib_store.specs.Tree.{slot_of, IsRooted}
+use Rattle.rib_store.specs.Tree.{Rooted, shape_of, slot_of, IsRooted}
 use Rattle.rib_store.proofs.GrowthLaws.{placed_here}
 use Rattle.rib_store.proofs.tree.puts.put_at_root.Goals as goal
 

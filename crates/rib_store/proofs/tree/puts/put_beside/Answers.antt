@@ -1,8 +1,7 @@
 use Rattle.std.proofs.Common.{◌≡◌, ◌||◌, Some, None, is_some, refl, sym, ap, ap₂, subst, ◌∙◌}
 use Rattle.ip_prefix.specs.declared.turn.Turn.TheVariants.{Outside, Here}
 use Rattle.ip_prefix.specs.Turns.{way, turn_of, shared}
-use Rattle.rib_store.specs.Shape.{Empty, shape_of, leaf_slot, is_routed}
-use Rattle.rib_store.specs.Tree.{slot_of, chosen, IsRooted}
+use Rattle.rib_store.specs.Tree.{Empty, shape_of, leaf_slot, is_routed, slot_of, chosen, IsRooted}
 use Rattle.rib_store.proofs.WayLaws.{way-shared}
 use Rattle.rib_store.proofs.ShapeLaws.{rooted_leaf}
 use Rattle.rib_store.proofs.GrowthLaws.{placed_over, is_key, is_branch, shared_covers}
