@@ -3,9 +3,8 @@
 ghost use Rattle.std.specs.Prelude.{◌≡◌, ℕ, List, [], ◌∷◌, codes};
 ghost use Rattle.ip_prefix.specs.declared.text.TheConstants.{COLON};
 ghost use Rattle.octet_text.specs.declared.cursor.TheConstants.{SPACE};
-ghost use Rattle.bgp_paths.specs.declared.text.TheConstants.{AS_SET_MARKS, CONFED_SEQUENCE_MARKS, CONFED_SET_MARKS};
+ghost use Rattle.bgp_paths.specs.declared.text.TheConstants.{AS_SET_MARKS, CONFED_SEQUENCE_MARKS, CONFED_SET_MARKS, NO_EXPORT, NO_ADVERTISE, NO_EXPORT_SUBCONFED};
 ghost use Rattle.bgp_paths.specs.declared.path_reader.TheConstants.{AS_SET, AS_SEQUENCE, AS_CONFED_SEQUENCE, AS_CONFED_SET};
-ghost use Rattle.bgp_paths.specs.declared.text.TheConstants.{NO_EXPORT, NO_ADVERTISE, NO_EXPORT_SUBCONFED};
 ghost use Rattle.bgp_paths.specs.declared.numbers.AsWidth.{AsWidth};
 ghost use Rattle.bgp_paths.specs.declared.path.AsPath.{AsPath};
 ghost use Rattle.bgp_paths.specs.Merge.{IsMerge, path_weight};

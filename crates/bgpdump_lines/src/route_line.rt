@@ -2,9 +2,8 @@
 
 ghost use Rattle.std.specs.Prelude.{◌++◌, IfOk, IfSome};
 ghost use Rattle.mrt_events.specs.Event.{Announced};
-ghost use Rattle.bgpdump_lines.specs.Heading.{peer_fields, prefix_field, route_tail, headed_line, AreOrdered, HasParts, EndsIn};
+ghost use Rattle.bgpdump_lines.specs.Heading.{peer_fields, prefix_field, route_tail, headed_line, AreOrdered, HasParts, EndsIn, head_at, front_at, prefix_at, tail_at};
 ghost use Rattle.bgpdump_lines.specs.Going.{Prints};
-ghost use Rattle.bgpdump_lines.specs.Heading.{head_at, front_at, prefix_at, tail_at};
 
 use crate::fields::{put_attributes, put_peer, put_prefix};
 use crate::heading::{Heading, put_route_head};

@@ -3,8 +3,10 @@
 ghost use Rattle.std.specs.Prelude.{◌≡◌, ◌+◌, ◌-◌, ◌≤◌, ◌++◌, ◌∷◌, [], OnOk, OnErr, length, map, take, drop, slice_range, decimal};
 ghost use Rattle.octet_text.specs.Written.{ended_words};
 
-use crate::cursor::{DECIMAL_ROOM, ENDED_ROOM, put_octets, write_decimal, write_ended_decimal};
-use crate::in_place::{InPlace, WORD_ROOM, Word};
+use crate::cursor::{
+    DECIMAL_ROOM, ENDED_ROOM, InPlace, WORD_ROOM, Word, put_octets, write_decimal,
+    write_ended_decimal,
+};
 use itoa::Buffer;
 use std::alloc::{AllocError, Global};
 use std::marker::Model;

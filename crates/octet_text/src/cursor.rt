@@ -1,8 +1,8 @@
-//! Texts written forwards at a place of a slice. What stands behind a text, within the room that it
-//! asks for, may be anything then.
+//! Texts and words written forwards at a place of a slice. What stands behind a text, within the room
+//! that it asks for, may be anything then.
 
-ghost use Rattle.std.specs.Prelude.{◌≡◌, ◌+◌, ◌<◌, ◌≤◌, ◌++◌, ◌∷◌, [], length, take, drop, decimal};
-ghost use Rattle.octet_text.specs.Written.{IsWritten, three_digits, two_hex_digits};
+ghost use Rattle.std.specs.Prelude.{◌≡◌, ℕ, List, ◌+◌, ◌<◌, ◌≤◌, ◌++◌, ◌∷◌, [], length, take, drop, decimal};
+ghost use Rattle.octet_text.specs.Written.{IsWritten, three_digits, filled, two_hex_digits};
 
 use crate::digits::{HEX_PAIRS, SHORTS, THREES};
 
@@ -92,8 +92,8 @@ pub fn write_short(number: u32, text: &mut [u8], at: usize) -> usize
     ensures written { IsWritten text.old at (decimal number) text.new result }
     ensures short { result ≤ at + 3 }
 {
-    let row = &SHORTS[number as usize];
-    put_octets(row, text, at);
+    let row = short_row(number);
+    put_octets(&row, text, at);
     at + usize::from(row[3]) - ZERO
 }
 
@@ -103,8 +103,26 @@ fn write_three(number: u32, text: &mut [u8], at: usize) -> usize
     requires { (number < THOUSAND) × (at + ROW ≤ length text.old) }
     ensures { IsWritten text.old at (three_digits number) text.new result }
 {
-    put_octets(&THREES[number as usize], text, at);
+    put_octets(&three_row(number), text, at);
     at + 3
+}
+
+// The decimal of a number below a thousand, filled with spaces, and how many digits it has.
+#[inline(always)]
+fn short_row(number: u32) -> [u8; ROW]
+    requires { number < THOUSAND }
+    ensures { result ≡ filled (decimal number) }
+{
+    SHORTS[number as usize]
+}
+
+// A number below a thousand in three digits, and a space.
+#[inline(always)]
+fn three_row(number: u32) -> [u8; ROW]
+    requires { number < THOUSAND }
+    ensures { result ≡ three_digits number ++ SPACE ∷ [] }
+{
+    THREES[number as usize]
 }
 
 /// Writes a number below 256 in two hexadecimal digits, and answers the place behind them.
@@ -134,4 +152,36 @@ pub fn put_octets(octets: &[u8], text: &mut [u8], at: usize)
     ensures { text.new ≡ take at text.old ++ octets.now ++ drop (at + length octets.now) text.old }
 {
     text[at..at + octets.len()].copy_from_slice(octets);
+}
+
+/// A value that is written as a text at a place of a slice.
+pub trait InPlace {
+    /// The text of a value.
+    ghost shown: { Self → List ℕ };
+
+    /// The room for a text.
+    ghost ROOM: { ℕ };
+
+    /// The room for a text.
+    const ROOM: usize;
+
+    /// Writes the text at the place, and answers the place behind it.
+    fn write_in_place(&self, text: &mut [u8], at: usize) -> usize
+        requires { at + ROOM ≤ length text.old }
+        ensures { IsWritten text.old at (shown self.now) text.new result };
+}
+
+/// The room for a word, and an octet behind it: that for two decimals, and an octet behind each.
+pub const WORD_ROOM: usize = 2 * ENDED_ROOM;
+
+/// How a number is written as a word.
+pub trait Word {
+    /// The word of a number.
+    ghost word: { ℕ → List ℕ };
+
+    /// Writes the word of a number, and an octet behind it, and answers the place behind both.
+    fn write_ended(number: u32, end: u8, text: &mut [u8], at: usize) -> usize
+        requires { at + WORD_ROOM ≤ length text.old }
+        ensures written { IsWritten text.old at (word number ++ end ∷ []) text.new result }
+        ensures short { result ≤ at + WORD_ROOM };
 }

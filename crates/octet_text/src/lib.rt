@@ -4,11 +4,9 @@
 mod buffer;
 mod cursor;
 mod digits;
-mod in_place;
 
 pub use buffer::{Text, put_decimal};
 pub use cursor::{
-    DECIMAL_ROOM, HEX_PAIR, ROW, SPACE, hex_pair, put_octets, write_decimal, write_ended_decimal,
-    write_hex_pair, write_short,
+    DECIMAL_ROOM, HEX_PAIR, InPlace, ROW, SPACE, WORD_ROOM, Word, hex_pair, put_octets,
+    write_decimal, write_ended_decimal, write_hex_pair, write_short,
 };
-pub use in_place::{InPlace, WORD_ROOM, Word};

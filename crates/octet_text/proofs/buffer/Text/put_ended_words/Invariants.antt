@@ -1,5 +1,5 @@
 use Rattle.std.proofs.Common.{◌+◌, ◌*◌, ◌≤◌, map, take}
-use Rattle.octet_text.specs.declared.in_place.TheConstants.{WORD_ROOM}
+use Rattle.octet_text.specs.declared.cursor.TheConstants.{WORD_ROOM}
 use Rattle.octet_text.specs.Written.{IsWritten, ended_words}
 use Rattle.octet_text.proofs.buffer.Text.put_ended_words.Given as goal
 
