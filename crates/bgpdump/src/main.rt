@@ -108,10 +108,7 @@ fn run_input<'a>(
 /// Says how to read an input that seems to be compressed. Where that can't be printed it is lost.
 fn tell_form(rt: &HostRuntime, name: &str, form: Option<Form>) {
     if let Some(form) = form {
-        let Form {
-            name: compressed,
-            printer,
-        } = form;
+        let (compressed, printer) = (form.name, form.printer);
         let _ = eprintln!(rt;
             "bgpdump: {name} looks like {compressed}; try {printer} {name} | bgpdump -m -"
         );

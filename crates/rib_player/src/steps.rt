@@ -81,6 +81,9 @@ fn entries_then<S: PrefixStore<Rc<Route>>>(
         mut entries,
         lost,
     } = changes;
+    if lost.is_empty() {
+        return Ok(entries);
+    }
     'peers: for peer in lost {
         let mut absent = lost_entries(alloc, &peer, table)?;
         entries.append(&mut absent)?;
