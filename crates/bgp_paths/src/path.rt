@@ -19,8 +19,7 @@ impl Clone for ListOf<Segment> {
     ghost is_clone = { λ segments copy. copy ≡ segments };
 
     fn clone(&self) -> Result<Segments, AllocError> {
-        let segments = self.items.clone()?;
-        Ok(Segments::from_vec(segments))
+        Ok(Segments::from_vec(self.items.clone()?))
     }
 }
 

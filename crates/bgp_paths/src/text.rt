@@ -153,6 +153,7 @@ impl Word for CommunityWord {
     #[tactic(auto, unfolding(crate::specs::Text::community_text))]
     fn write_ended(community: u32, end: u8, text: &mut [u8], at: usize) -> usize {
         match community {
+            _ if community < NO_EXPORT => write_halves(community, end, text, at),
             NO_EXPORT => write_name(b"no-export", end, text, at),
             NO_ADVERTISE => write_name(b"no-advertise", end, text, at),
             NO_EXPORT_SUBCONFED => write_name(b"local-AS", end, text, at),
