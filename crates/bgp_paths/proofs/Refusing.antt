@@ -1,5 +1,5 @@
 -- What is refused when a part of it is.
-use Rattle.std.proofs.Common.{◌≡◌, ℕ, ◌*◌, IfErr, OnErr, IsErrAnd, Option, Some, None, Result, Ok, Err, List, [], ◌∷◌, ◌++◌, length, get_or, drop, ap, sym, subst, ◌∙◌, arith}
+use Rattle.std.proofs.Common.{◌≡◌, ℕ, ◌*◌, IfErr, IsErrAnd, Option, Some, None, Result, Ok, Err, List, [], ◌∷◌, ◌++◌, length, get_or, drop, ap, sym, subst, ◌∙◌, arith}
 use Rattle.ip_prefix.specs.Sequences.{Begins, SpellsAll}
 use Rattle.ip_prefix.specs.Fronts.{IsCode}
 use Rattle.octet_forms.proofs.Lists.{append_parts}
@@ -77,9 +77,3 @@ segment_framed width kind count body rest octets ns f s =
       };
       whole = f.whole;
     }
-
--- where nothing is found that the octets spell, nothing is spelled by them
-pub refused_found : {A R : Type 0} (Spells : A → List ℕ → Type 0) (octets : List ℕ) (found : Option A) (answer : Result R WireFault) → Finds Spells octets found → OnErr answer (found ≡ None)
-    → IfErr answer (Refuses Spells octets)
-refused_found Spells octets found (Ok r) f none = tt
-refused_found {A} Spells octets found (Err fault) f none = refused_always Spells octets fault (subst (Finds Spells octets) none f)
