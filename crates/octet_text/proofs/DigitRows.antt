@@ -1,9 +1,10 @@
 -- The rules of the tables of digits.
-use Rattle.std.proofs.Common.{◌≡◌, ℕ, zero, suc, ◌+◌, ◌/◌, ◌%◌, ◌^◌, ◌<◌, ◌≤◌, Bool, true, ◌&&◌, T, List, [], ◌∷◌, ◌++◌, length, get_or, decimal, arith, append_assoc, nat_eq}
+use Rattle.std.proofs.Common.{◌≡◌, ℕ, zero, suc, ◌+◌, ◌/◌, ◌%◌, ◌^◌, ◌<◌, ◌≤◌, Bool, true, ◌&&◌, T, List, [], ◌∷◌, ◌++◌, length, get_or, take, drop, sym, decimal, arith, append_assoc, nat_eq}
 use Rattle.std.proofs.lemmas.Fmt.{decimal_step}
+use Rattle.std.proofs.lemmas.List.{get_or-take, get_or-drop}
 use Rattle.std.specs.Cmp.Lexicographic.{pointwise, same_text}
 use lib.Ieee.Fits.{and_r}
-use Rattle.octet_text.specs.declared.digits.TheConstants.{SHORTS, THREES, HEX_PAIRS}
+use Rattle.octet_text.specs.declared.digits.TheConstants.{DIGIT_ROWS, HEX_PAIRS}
 use Rattle.std.specs.Fmt.{digits}
 use Rattle.octet_text.specs.Written.{three_digits, filled, two_hex_digits}
 
@@ -23,8 +24,9 @@ row_at row start (x ∷ rows) t (suc k) n e h =
     row_at row (suc start) rows (and_r (pointwise nat_eq x (row start)) (are_rows row (suc start) rows) t) k n (omega (arith, e)) (omega (arith, h))
 
 -- a number below a thousand has its three digits
-pub THREES_at : (n : ℕ) → n < 1000 → get_or THREES n [] ≡ three_digits n ++ 32 ∷ []
-THREES_at n h = row_at (λ n. three_digits n ++ 32 ∷ []) 0 THREES tt n n (omega arith) h
+pub three_row_at : (n : ℕ) → n < 1000 → get_or DIGIT_ROWS (1000 + n) [] ≡ three_digits n ++ 32 ∷ []
+three_row_at n h =
+    rw (sym (get_or-drop 1000 DIGIT_ROWS n [])) (row_at (λ n. three_digits n ++ 32 ∷ []) 0 (drop 1000 DIGIT_ROWS) tt n n (omega arith) h)
 
 -- and one below 256 its two hexadecimal ones
 pub HEX_PAIRS_at : (n : ℕ) → n < 256 → get_or HEX_PAIRS n [] ≡ two_hex_digits n
@@ -33,9 +35,10 @@ HEX_PAIRS_at n h = row_at two_hex_digits 0 HEX_PAIRS tt n n (omega arith) h
 -- ---- decimals
 
 -- a number below a thousand has its decimal
-pub SHORTS_at : (n : ℕ) → n < 1000 → get_or SHORTS n [] ≡ filled (decimal n)
+pub short_row_at : (n : ℕ) → n < 1000 → get_or DIGIT_ROWS n [] ≡ filled (decimal n)
 unfolding digits
-SHORTS_at n h = row_at (λ n. filled (decimal n)) 0 SHORTS tt n n (omega arith) h
+short_row_at n h =
+    rw (sym (get_or-take 1000 DIGIT_ROWS n [] h)) (row_at (λ n. filled (decimal n)) 0 (take 1000 DIGIT_ROWS) tt n n (omega arith) h)
 
 -- a number of more digits ends with its last three
 pub decimal_thousands : (n : ℕ) → 1000 ≤ n → n < 2 ^ 64 → decimal n ≡ decimal (n / 1000) ++ three_digits (n % 1000)

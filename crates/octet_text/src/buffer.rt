@@ -112,9 +112,10 @@ impl Text {
         ensures appended { OnOk result (self.new ≡ self.old ++ octet ∷ []) }
         ensures unchanged { OnErr result (self.new ≡ self.old) }
     {
-        make_room(&mut self.buffer, self.len, 1)?;
-        self.buffer[self.len] = octet;
-        self.len += 1;
+        let at = self.len;
+        make_room(&mut self.buffer, at, 1)?;
+        self.buffer[at] = octet;
+        self.len = at + 1;
         Ok(())
     }
 
@@ -157,9 +158,11 @@ impl Text {
         ensures appended { OnOk result (self.new ≡ self.old ++ lead ∷ decimal number) }
         ensures unchanged { OnErr result (self.new ≡ self.old) }
     {
-        make_room(&mut self.buffer, self.len, ENDED_ROOM)?;
-        self.buffer[self.len] = lead;
-        self.len = write_decimal(number, self.buffer.as_mut_slice(), self.len + 1);
+        let at = self.len;
+        make_room(&mut self.buffer, at, ENDED_ROOM)?;
+        let text = self.buffer.as_mut_slice();
+        text[at] = lead;
+        self.len = write_decimal(number, text, at + 1);
         Ok(())
     }
 
@@ -217,9 +220,11 @@ impl Text {
         ensures unchanged { OnErr result (self.new ≡ self.old) }
     {
         let room = V::ROOM.checked_add(1).ok_or(AllocError)?;
-        make_room(&mut self.buffer, self.len, room)?;
-        self.buffer[self.len] = lead;
-        self.len = value.write_in_place(self.buffer.as_mut_slice(), self.len + 1);
+        let at = self.len;
+        make_room(&mut self.buffer, at, room)?;
+        let text = self.buffer.as_mut_slice();
+        text[at] = lead;
+        self.len = value.write_in_place(text, at + 1);
         Ok(())
     }
 
@@ -229,9 +234,10 @@ impl Text {
         ensures appended { OnOk result (self.new ≡ self.old ++ octets.now) }
         ensures unchanged { OnErr result (self.new ≡ self.old) }
     {
-        make_room(&mut self.buffer, self.len, octets.len())?;
-        put_octets(octets, self.buffer.as_mut_slice(), self.len);
-        self.len += octets.len();
+        let at = self.len;
+        make_room(&mut self.buffer, at, octets.len())?;
+        put_octets(octets, self.buffer.as_mut_slice(), at);
+        self.len = at + octets.len();
         Ok(())
     }
 
@@ -242,10 +248,10 @@ impl Text {
         ensures appended { OnOk result (self.new ≡ self.old ++ slice_range self.old start end) }
         ensures unchanged { OnErr result (self.new ≡ self.old) }
     {
-        let size = end - start;
-        make_room(&mut self.buffer, self.len, size)?;
-        copy_within(self.buffer.as_mut_slice(), start, end, self.len);
-        self.len += size;
+        let at = self.len;
+        make_room(&mut self.buffer, at, end - start)?;
+        copy_within(self.buffer.as_mut_slice(), start, end, at);
+        self.len = at + (end - start);
         Ok(())
     }
 }

@@ -4,7 +4,7 @@
 ghost use Rattle.std.specs.Prelude.{◌≡◌, ℕ, List, ◌+◌, ◌<◌, ◌≤◌, ◌++◌, ◌∷◌, [], length, take, drop, decimal};
 ghost use Rattle.octet_text.specs.Written.{IsWritten, three_digits, filled, two_hex_digits};
 
-use crate::digits::{HEX_PAIRS, SHORTS, THREES};
+use crate::digits::{DIGIT_ROWS, HEX_PAIRS};
 
 /// The room for a number of 32 bits in decimal.
 pub const DECIMAL_ROOM: usize = 12;
@@ -113,7 +113,7 @@ fn short_row(number: u32) -> [u8; ROW]
     requires { number < THOUSAND }
     ensures { result ≡ filled (decimal number) }
 {
-    SHORTS[number as usize]
+    DIGIT_ROWS[number as usize]
 }
 
 // A number below a thousand in three digits, and a space.
@@ -122,7 +122,7 @@ fn three_row(number: u32) -> [u8; ROW]
     requires { number < THOUSAND }
     ensures { result ≡ three_digits number ++ SPACE ∷ [] }
 {
-    THREES[number as usize]
+    DIGIT_ROWS[THOUSAND as usize + number as usize]
 }
 
 /// Writes a number below 256 in two hexadecimal digits, and answers the place behind them.

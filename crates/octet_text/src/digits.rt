@@ -1,8 +1,9 @@
 //! The digits of the numbers below a thousand.
 
-/// Each in decimal, without leading zeros, then spaces, and last how many digits it has.
+/// Each in decimal, without leading zeros, then spaces, and last how many digits it has. Behind these
+/// a row of each with three digits and a space.
 #[rattlefmt::skip]
-pub(crate) static SHORTS: [[u8; 4]; 1000] = [
+pub(crate) static DIGIT_ROWS: [[u8; 4]; 2000] = [
     *b"0  1", *b"1  1", *b"2  1", *b"3  1", *b"4  1", *b"5  1", *b"6  1", *b"7  1", *b"8  1", *b"9  1",
     *b"10 2", *b"11 2", *b"12 2", *b"13 2", *b"14 2", *b"15 2", *b"16 2", *b"17 2", *b"18 2", *b"19 2",
     *b"20 2", *b"21 2", *b"22 2", *b"23 2", *b"24 2", *b"25 2", *b"26 2", *b"27 2", *b"28 2", *b"29 2",
@@ -103,11 +104,6 @@ pub(crate) static SHORTS: [[u8; 4]; 1000] = [
     *b"9703", *b"9713", *b"9723", *b"9733", *b"9743", *b"9753", *b"9763", *b"9773", *b"9783", *b"9793",
     *b"9803", *b"9813", *b"9823", *b"9833", *b"9843", *b"9853", *b"9863", *b"9873", *b"9883", *b"9893",
     *b"9903", *b"9913", *b"9923", *b"9933", *b"9943", *b"9953", *b"9963", *b"9973", *b"9983", *b"9993",
-];
-
-/// Each in three digits, and a space.
-#[rattlefmt::skip]
-pub(crate) static THREES: [[u8; 4]; 1000] = [
     *b"000 ", *b"001 ", *b"002 ", *b"003 ", *b"004 ", *b"005 ", *b"006 ", *b"007 ", *b"008 ", *b"009 ",
     *b"010 ", *b"011 ", *b"012 ", *b"013 ", *b"014 ", *b"015 ", *b"016 ", *b"017 ", *b"018 ", *b"019 ",
     *b"020 ", *b"021 ", *b"022 ", *b"023 ", *b"024 ", *b"025 ", *b"026 ", *b"027 ", *b"028 ", *b"029 ",
