@@ -1,7 +1,9 @@
 -- What is filled of a buffer, in several reads.
-use Rattle.std.proofs.Common.{◌≡◌, ℕ, ◌+◌, ◌-◌, ◌≤◌, List, ◌++◌, Option, Err, length, take, drop, sym, ap, ◌∙◌, subst, arith, length-take-le, length-append, length-take, take-take}
-use Rattle.std.specs.Io.KnownBytes.{Consumes}
+use Rattle.std.proofs.Common.{◌≡◌, ℕ, ◌+◌, ◌-◌, ◌≤◌, Bool, true, false, if◌then◌else◌, List, ◌++◌, Option, None, Some, Err, length, take, drop, sym, ap, ◌∙◌, subst, arith, length-take-le, length-append, length-take, take-take}
+use Rattle.std.specs.Io.BufRead.{DropsConsumable}
+use Rattle.std.specs.Io.KnownBytes.{Consumes, prepend_known}
 use Rattle.std.proofs.KnownBytes.{Consumes-trans}
+use Rattle.std.proofs.lemmas.List.{take-append-drop}
 use Rattle.std.proofs.Math.Seq.{take-append-add}
 use borrow.Rule.Slice.PartMut.{put_mid, post_of}
 use lib.Seq.{take-add, take-append-le}
@@ -51,3 +53,12 @@ Passed-more a b c k l m n count all buffer (done, len, before) fits now sum =
 pub take-resized : (at end : ℕ) (old more grown : List ℕ) → at ≤ end → at ≤ length old → grown ≡ take end old ++ more → take at grown ≡ take at old
 take-resized at end old more grown ahead within e =
     ap (take at) e ∙ take-append-le at (take end old) more (omega (arith, length-take end old)) ∙ take-take at end old ahead
+
+-- what lies in a reader's buffer is taken in front
+pub Consumes-buffered : (empty : Bool) (buffer : List ℕ) (rest new : Option (List ℕ)) (n : ℕ) → n ≤ length buffer
+    → DropsConsumable (if empty then None else prepend_known buffer rest) new (Some (length buffer)) n
+    → Consumes (if empty then None else prepend_known buffer rest) new (take n buffer)
+Consumes-buffered true buffer rest new n fits drops = tt
+Consumes-buffered false buffer None new n fits drops = tt
+Consumes-buffered false buffer (Some more) new n fits drops =
+    rw (drops fits) (sym (ap (λ l. l ++ drop n (buffer ++ more)) (sym (take-append-le n buffer more fits)) ∙ take-append-drop n (buffer ++ more)))

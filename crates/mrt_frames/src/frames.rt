@@ -149,24 +149,20 @@ impl FrameReader {
         ensures failed { I.failed input.new ≡ (I.failed input.old || is_read result) }
         ensures limit { self.new.limit ≡ self.old.limit }
     {
-        match self.take_header(input)? {
-            Front::Record(header) => {
-                if header.size > LONGEST_BODY {
-                    return Ok(Front::Rest(Some(RecordKind::TooLong(header.size))));
-                }
-                if !profile.supports(header.kind, header.subtype) {
-                    if self.pass_body(input, header.size)? {
-                        return Ok(Front::Passed(header));
-                    }
-                    return Ok(Front::Rest(Some(RecordKind::CutRecord)));
-                }
-                if self.take_body(input, header.size)? {
-                    Ok(Front::Record(header))
-                } else {
-                    Ok(Front::Rest(Some(RecordKind::CutRecord)))
-                }
-            }
-            rest => Ok(rest),
+        let header = match self.take_header(input)? {
+            Front::Record(header) => header,
+            rest => return Ok(rest),
+        };
+        if header.size > LONGEST_BODY {
+            return Ok(Front::Rest(Some(RecordKind::TooLong(header.size))));
         }
+        if !profile.supports(header.kind, header.subtype) {
+            if self.pass_body(input, header.size)? {
+                return Ok(Front::Passed(header));
+            }
+        } else if self.take_body(input, header.size)? {
+            return Ok(Front::Record(header));
+        }
+        Ok(Front::Rest(Some(RecordKind::CutRecord)))
     }
 }
