@@ -23,12 +23,20 @@ const AS_CONFED_SET: u8 = 4;
 /// For how many segments more than it has a path has room at most.
 const MOST_SPARE: usize = 4;
 
-/// The segment in front of the octets: its kind (RFC 4271, section 4.3; RFC 5065, section 3), the
-/// octets of its numbers, and what follows it.
+/// A segment in front of octets: its kind (RFC 4271, section 4.3; RFC 5065, section 3), the octets of
+/// its numbers, and what follows it.
+#[derive(Clone, Copy)]
+struct FramedSegment<'a> {
+    kind: SegmentKind,
+    body: &'a [u8],
+    rest: &'a [u8],
+}
+
+/// The segment in front of the octets.
 #[inline(always)]
-fn frame_segment(width: AsWidth, octets: &[u8]) -> Option<(SegmentKind, &[u8], &[u8])>
+fn frame_segment(width: AsWidth, octets: &[u8]) -> Option<FramedSegment<'_>>
     ensures some { IfSome result (λ f. (count : ℕ)
-        × IsFramed width f.0 count f.1.now f.2.now octets.now) }
+        × IsFramed width f.kind count f.body.now f.rest.now octets.now) }
     ensures none { IfNone result (BeginsWithNone (SpellsSegment width) octets.now) }
 {
     let (&code, after_code) = octets.split_first()?;
@@ -45,7 +53,7 @@ fn frame_segment(width: AsWidth, octets: &[u8]) -> Option<(SegmentKind, &[u8], &
     }
     let size = usize::from(count) * width.octets();
     let (body, rest) = numbers.split_at_checked(size)?;
-    Some((kind, body, rest))
+    Some(FramedSegment { kind, body, rest })
 }
 
 /// Lets go of room for more segments than there are, unless memory is refused for fewer. It stands out
@@ -76,10 +84,8 @@ pub(crate) fn push_empty(alloc: Global, segments: &mut Vec<Segment>) -> Result<(
     if segments.capacity() == 0 {
         segments.reserve_exact(1)?;
     }
-    segments.push(Segment {
-        numbers: AsNumbers::none(alloc),
-        kind: SegmentKind::AsSequence,
-    })?;
+    let (numbers, kind) = (AsNumbers::none(alloc), SegmentKind::AsSequence);
+    segments.push(Segment { numbers, kind })?;
     Ok(())
 }
 
@@ -98,17 +104,18 @@ pub(crate) fn fill_segments(
     let mut count = 0;
     let mut rest = octets;
     while !rest.is_empty() {
-        let Some((kind, body, more)) = frame_segment(width, rest) else {
+        let Some(framed) = frame_segment(width, rest) else {
             return Err(WireFault::Malformed);
         };
         if count == segments.len() {
             push_empty(alloc, segments)?;
         }
         let segment = &mut segments[count];
-        segment.kind = kind;
+        segment.kind = framed.kind;
+        let body = framed.body;
         fill_numbers(&mut segment.numbers.items, width, body, segment::MOST_SPARE)?;
         count += 1;
-        rest = more;
+        rest = framed.rest;
     }
     segments.truncate(count);
     fit(segments);

@@ -47,15 +47,11 @@ fn join_as4(alloc: Global, attrs: &mut Attrs, later: &LaterValues) -> Result<(),
 {
     let as4 = read_as4_aggregator(later.as4_aggregator);
     // Both are ignored where the number of AGGREGATOR stands for no other.
-    let ignored = match (&attrs.aggregator, &as4) {
-        (Some(own), Some(_)) => own.asn != AS_TRANS,
-        _ => false,
-    };
-    if attrs.aggregator.is_some() && as4.is_some() && !ignored {
+    if let (Some(own), Some(_)) = (&attrs.aggregator, &as4) {
+        if own.asn != AS_TRANS {
+            return Ok(());
+        }
         attrs.aggregator = as4;
-    }
-    if ignored {
-        return Ok(());
     }
     let Some(octets) = later.as4_path else {
         return Ok(());
@@ -63,11 +59,9 @@ fn join_as4(alloc: Global, attrs: &mut Attrs, later: &LaterValues) -> Result<(),
     // AS4_PATH is discarded where it isn't of its form.
     let mut path = AsPath::none(alloc);
     match path.fill(alloc, AsWidth::Four, octets) {
-        Ok(()) => {
-            attrs.path = merge_paths(alloc, &attrs.path, &path)?;
-            Ok(())
-        }
-        Err(WireFault::Malformed) => Ok(()),
-        Err(WireFault::Memory) => Err(AllocError),
+        Ok(()) => attrs.path = merge_paths(alloc, &attrs.path, &path)?,
+        Err(WireFault::Malformed) => {}
+        Err(WireFault::Memory) => return Err(AllocError),
     }
+    Ok(())
 }

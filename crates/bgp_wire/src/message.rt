@@ -30,9 +30,16 @@ const HEADER_SIZE: usize = 19;
 /// How many octets the marker has (RFC 4271, section 4.1).
 const MARKER_SIZE: usize = 16;
 
+/// A message as it is framed: its type and its body.
+#[derive(Clone, Copy)]
+struct FramedMessage<'a> {
+    kind: u8,
+    body: &'a [u8],
+}
+
 /// The type and the body of the message that the octets are.
-fn frame_message(octets: &[u8]) -> Option<(u8, &[u8])>
-    ensures some { IfSome result (λ f. IsMessage f.0 f.1.now octets.now) }
+fn frame_message(octets: &[u8]) -> Option<FramedMessage<'_>>
+    ensures some { IfSome result (λ f. IsMessage f.kind f.body.now octets.now) }
     ensures none { IfNone result ((kind : ℕ) (body : List ℕ) →
         IsMessage kind body octets.now → ⊥) }
 {
@@ -45,7 +52,7 @@ fn frame_message(octets: &[u8]) -> Option<(u8, &[u8])>
         return None;
     }
     let (&kind, body) = rest.split_first()?;
-    Some((kind, body))
+    Some(FramedMessage { kind, body })
 }
 
 /// The message that the octets are, with AS numbers of this width in AS_PATH.
@@ -73,13 +80,13 @@ fn fill_message(
     ensures refused { IfErr result (Refuses (SpellsMessage width) octets.now) }
     ensures other { (kind : ℕ) → result ≡ Ok (MessageKind.Other kind) → parts.new ≡ parts.old }
 {
-    let Some((kind, body)) = frame_message(octets) else {
+    let Some(framed) = frame_message(octets) else {
         return Err(WireFault::Malformed);
     };
-    if kind != UPDATE {
-        return Ok(MessageKind::Other(kind));
+    if framed.kind != UPDATE {
+        return Ok(MessageKind::Other(framed.kind));
     }
-    fill_update(alloc, parts, width, body)?;
+    fill_update(alloc, parts, width, framed.body)?;
     Ok(MessageKind::Update)
 }
 

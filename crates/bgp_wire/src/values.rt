@@ -126,10 +126,8 @@ fn aggregator(width: AsWidth, octets: &[u8]) -> Aggregator
     ensures { SpellsAggregatorAt width result octets.now }
 {
     let (number, address) = octets.split_at(width.octets());
-    Aggregator {
-        addr: ipv4(address),
-        asn: width.number(number),
-    }
+    let (addr, asn) = (ipv4(address), width.number(number));
+    Aggregator { addr, asn }
 }
 
 /// The IPv4 address of four octets.

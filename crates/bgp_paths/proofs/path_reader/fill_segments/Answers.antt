@@ -23,10 +23,11 @@ returns-in_err-fill_numbers-clause-refused c =
     let width = c.args.width in
     let octets = c.args.octets.now in
     let rest = c.loop-rest.rest.now in
-    let framed : (count : ℕ) × IsFramed width c.in-Some.kind count c.in-Some.body.now c.in-Some.more.now rest = c.in-Some.ensures.some in
+    let f = c.in-Some.framed in
+    let framed : (count : ℕ) × IsFramed width f.kind count f.body.now f.rest.now rest = c.in-Some.ensures.some in
     let some : rest ≡ [] → ⊥ = λ e. nonempty rest (sym c.is_empty.ensures ∙ c.loop-rest-test.true) e in
     let fault = c.in_err-fill_numbers.field-0.0 in
-    let none = refused_numbers width c.in-Some.kind framed.0 c.in-Some.body.now c.in-Some.more.now rest fault framed.1 c.in_err-fill_numbers.ensures.refused in
+    let none = refused_numbers width f.kind framed.0 f.body.now f.rest.now rest fault framed.1 c.in_err-fill_numbers.ensures.refused in
     let p = err_from_is_err_and c.from_residual-in_err-fill_numbers.result c.from_residual-in_err-fill_numbers.ensures.1 in
     subst (λ answer. IfErr answer (Refuses (SpellsAll (SpellsSegment width)) octets)) (sym (p.1 ∙ ap Err p.2))
     (refused_rest (SpellsSegment width) (segment_code width) (take c.loop-rest.count c.loop-rest.segments.items) rest octets fault some c.loop-rest.invariant.read none)
@@ -35,13 +36,14 @@ pub loop-rest-preserved : goal.loop-rest-preserved
 loop-rest-preserved c =
     let width = c.args.width in
     let octets = c.args.octets.now in
+    let f = c.in-Some.framed in
     let count = c.loop-rest.count in
-    let framed : (count : ℕ) × IsFramed width c.in-Some.kind count c.in-Some.body.now c.in-Some.more.now c.loop-rest.rest.now = c.in-Some.ensures.some in
-    let segment : Segment = record { numbers = c.fill_numbers.new.numbers.items; kind = c.in-Some.kind } in
+    let framed : (count : ℕ) × IsFramed width f.kind count f.body.now f.rest.now c.loop-rest.rest.now = c.in-Some.ensures.some in
+    let segment : Segment = record { numbers = c.fill_numbers.new.numbers.items; kind = f.kind } in
     let put : take (count + 1) (slice_set c.if-count-len.segments.items count segment) ≡ take count c.loop-rest.segments.items ++ segment ∷ [] = grind (arith, common_steps) in
     record {
       within = grind (arith, common_steps);
-      read = subst (λ segments. Begins (SpellsAll (SpellsSegment width)) segments c.in-Some.more.now octets) (sym put)
-          (one_more (SpellsSegment width) (take count c.loop-rest.segments.items) segment c.in-Some.more.now c.loop-rest.rest.now octets c.loop-rest.invariant.read
-          (segment_framed width c.in-Some.kind framed.0 c.in-Some.body.now c.in-Some.more.now c.loop-rest.rest.now segment.numbers framed.1 c.in_ok-fill_numbers.ensures.filled));
+      read = subst (λ segments. Begins (SpellsAll (SpellsSegment width)) segments f.rest.now octets) (sym put)
+          (one_more (SpellsSegment width) (take count c.loop-rest.segments.items) segment f.rest.now c.loop-rest.rest.now octets c.loop-rest.invariant.read
+          (segment_framed width f.kind framed.0 f.body.now f.rest.now c.loop-rest.rest.now segment.numbers framed.1 c.in_ok-fill_numbers.ensures.filled));
     }

@@ -26,7 +26,7 @@ pub returns-in_err-fill_update-clause-refused : goal.returns-in_err-fill_update-
 returns-in_err-fill_update-clause-refused c =
     let octets = c.args.octets.now in
     let width = c.args.width in
-    let f = c.in-Some in
+    let f = c.in-Some.framed in
     refused_on (SpellsMessage width) (SpellsUpdate width) octets f.body.now c.in_err-fill_update.field-0.0 c.from_residual.result c.from_residual.ensures.1
-    (λ value s. update_part width f.kind f.body.now octets c.if-kind-ne-UPDATE.false c.in-Some.ensures.some value s)
+    (λ value s. update_part width f.kind f.body.now octets c.if-framed-ne-UPDATE.false c.in-Some.ensures.some value s)
     c.in_err-fill_update.ensures.refused
