@@ -118,10 +118,8 @@ fn described(rt: &HostRuntime, name: &str) -> io::Result<Option<Metadata>> {
 impl FileNumber {
     /// The number of the file that this is said of.
     fn of(metadata: &Metadata) -> FileNumber {
-        FileNumber {
-            device: metadata.dev(),
-            inode: metadata.ino(),
-        }
+        let (device, inode) = (metadata.dev(), metadata.ino());
+        FileNumber { device, inode }
     }
 }
 

@@ -90,19 +90,14 @@ fn run_input<'a>(
     };
     let front = Rc::new(rt.alloc(), Cell::new(Front::none()))?;
     let noted = front.clone().map_err(|_| Ending::Ran(Outcome::Memory))?;
-    let devices = Devices {
-        reader: NotedReader::new(noted, input),
-        out,
-        err: rt.stderr(),
-    };
+    let (reader, err) = (NotedReader::new(noted, input), rt.stderr());
+    let devices = Devices { reader, out, err };
     let outcome = match script {
         None => dump(rt.alloc(), settings.stamp, devices).outcome,
         Some(script) => play(rt.alloc(), settings.stamp, script, devices).outcome,
     };
-    Ok(Ran {
-        outcome,
-        form: front.get().form(),
-    })
+    let form = front.get().form();
+    Ok(Ran { outcome, form })
 }
 
 /// Says how to read an input that seems to be compressed. Where that can't be printed it is lost.

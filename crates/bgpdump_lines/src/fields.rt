@@ -77,9 +77,10 @@ fn put_next_hop(next_hop: Option<Addr>, text: &mut Text) -> Result<(), AllocErro
 fn put_number_or_zero(number: Option<u32>, text: &mut Text) -> Result<(), AllocError>
     ensures { Prints text.old text.new (bar ∷ number_or_zero number) result }
 {
+    let absent = [BAR, b'0'];
     match number {
         Some(number) => put_field(number, text),
-        None => text.extend_from_slice(b"|0"),
+        None => text.extend_from_slice(&absent),
     }
 }
 
@@ -130,6 +131,7 @@ pub(crate) fn put_attributes(attrs: &Attrs, text: &mut Text) -> Result<(), Alloc
     put_community_field(&attrs.communities, text)?;
     put_aggregate(attrs.atomic, text)?;
     put_aggregator(attrs.aggregator, text)?;
-    text.extend_from_slice(b"|\n")?;
+    let end = [BAR, b'\n'];
+    text.extend_from_slice(&end)?;
     Ok(())
 }

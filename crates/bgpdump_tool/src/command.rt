@@ -129,8 +129,7 @@ fn with_three(name: &[u8], address: &[u8], number: &[u8], sought: &[u8]) -> Opti
 fn read_peer(address: &[u8], number: &[u8]) -> Option<Peer>
     ensures { Finds (SpellsPeer address.now) number.now result }
 {
-    Some(Peer {
-        addr: Addr::parse(address)?,
-        asn: read_number(number)?,
-    })
+    let addr = Addr::parse(address)?;
+    let asn = read_number(number)?;
+    Some(Peer { addr, asn })
 }

@@ -75,10 +75,8 @@ pub(crate) fn split_asn(width: AsWidth, octets: &[u8]) -> Option<Field<'_, u32>>
     match width {
         AsWidth::Two => {
             let number = split_short(octets)?;
-            Some(Field {
-                value: u32::from(number.value),
-                rest: number.rest,
-            })
+            let (value, rest) = (u32::from(number.value), number.rest);
+            Some(Field { value, rest })
         }
         AsWidth::Four => split_word(octets),
     }

@@ -168,8 +168,6 @@ pub(crate) fn read_session(
 {
     let micros = split_micros(form.timed, octets).ok_or(WireFault::Malformed)?;
     let items = read_happening(alloc, pool, seconds, form, micros.rest)?;
-    Ok(SessionItems {
-        items,
-        micros: micros.value,
-    })
+    let micros = micros.value;
+    Ok(SessionItems { items, micros })
 }

@@ -107,12 +107,8 @@ fn read_entry_of(
         .route_of(alloc, place_of(&entry.peer), sent, time)?;
     let mut items = pool.take_items(alloc);
     items.push(Item::Announce(entry.peer, entry.prefix, route))?;
-    let alone = SharedRanges {
-        start: 0,
-        middle: 1,
-        end: 1,
-    };
-    Ok(Items::sharing(items, alone))
+    let (start, middle, end) = (0, 1, 1);
+    Ok(Items::sharing(items, SharedRanges { start, middle, end }))
 }
 
 /// What an entry with its peer says.
