@@ -6,8 +6,9 @@
 Each edit that must fail still applies, and is named by the file and the function that it turns, in
 which its text lies, those of inner functions too, which the gate doesn't try; `rt fmt` changes
 nothing; tests stand in a crate of their own; no two files of a crate import each other; links between
-documents lead somewhere, and the edits that docs/proved.md names are there; the texts of each example
-are there; the files of rows and their counts are named; the version is the same wherever it is named.
+documents lead somewhere, and the edits that docs/proved.md names and the files of code that documents
+name are there; the texts of each example are there; the files of rows and their counts are named; the
+version is the same wherever it is named.
 The status is 1 where something is wrong, and each fault is told on a line of its own.
 """
 import itertools
@@ -165,6 +166,18 @@ def faults_of_links():
                 yield document, f'its link to {link} names no heading'
 
 
+def faults_of_named_files():
+    """The files of code that a document names may have got another name, or be gone."""
+    there = {file.name for part in PARTS for file in TOP.glob(f'crates/*/{part}/**/*')}
+    there |= {file.name for folder in ('bench', 'checks', 'examples', 'packaging')
+              for file in (TOP / folder).iterdir()}
+    for document in sorted([*TOP.glob('*.md'), *TOP.glob('docs/*.md')]):
+        for words in re.findall(r'`([^`\n]+)`', document.read_text()):
+            for name in re.findall(r'\w+\.(?:rt|antt|py)\b', words):
+                if name not in there:
+                    yield document, f'it names {name}, which is not there'
+
+
 def faults_of_examples():
     files = {it.name for it in (TOP / 'examples').iterdir()}
     for name in sorted({it.rpartition('.')[0] for it in files if it.endswith(('.mrt', '.lines', '.reports'))}):
@@ -199,7 +212,7 @@ def main():
     found = [
         (place, fault)
         for faults in (faults_of_edits, faults_of_named_edits, faults_of_format, faults_of_crates, faults_of_imports,
-                       faults_of_links, faults_of_examples, faults_of_rows, faults_of_version)
+                       faults_of_links, faults_of_named_files, faults_of_examples, faults_of_rows, faults_of_version)
         for place, fault in faults()
     ]
     for place, fault in found:
