@@ -54,6 +54,12 @@ LeavesSo remaining contents contents' stamp texts devices ended =
     (octets : List ℕ) (frames : List Frame) (rest : List ℕ) → remaining devices.reader ≡ Some octets → Splits stamp None octets frames rest
     → Leaves contents contents' (EndsSo ended.outcome (texts (all_results stamp frames rest))) devices ended
 
+-- the writers that came back hold the texts of what is found in these octets, as far as a run has that ended so, and nothing else
+abbrev pub HoldTexts : {R O E : Type 0} → (O → Option (List ℕ)) → (E → Option (List ℕ)) → Stamp → (List Finding → Texts) → List ℕ → Ended R O E → Type 0
+HoldTexts contents contents' stamp texts octets ended =
+    (frames : List Frame) (rest : List ℕ) → Splits stamp None octets frames rest
+    → OverWriters contents contents' (EndsSo ended.outcome (texts (all_results stamp frames rest)) (record { out = Some []; err = Some [] })) ended.writers
+
 -- where the input ended the run, the writers that came back have got the texts of what the records give that were taken whole
 abbrev pub LeavesWhole : {R O E : Type 0} → (R → Option (List ℕ)) → (O → Option (List ℕ)) → (E → Option (List ℕ)) → Stamp → (List Finding → Texts) → Devices R O E → Ended R O E → Type 0
 LeavesWhole remaining contents contents' stamp texts devices ended =
