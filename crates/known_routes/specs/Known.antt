@@ -1,3 +1,4 @@
+-- Private.
 -- What is told of routes that were played.
 use Rattle.std.specs.Prelude.{ℕ}
 use Rattle.known_routes.specs.declared.routes.KnownRoutes.{KnownRoutes}
