@@ -35,6 +35,10 @@ pub same-key : (keys keys' : Pairs) (beyond beyond' : Pair → ℕ) (q : Pair) �
     → set.contains keys' q ≡ set.contains keys q
 same-key keys keys' beyond beyond' q held held' same = held-key keys' beyond' q held' ∙ ap (nat_lt 0) same ∙ sym (held-key keys beyond q held)
 
+-- and as many beyond them where as many are held
+pub same-beyond : (keys keys' : Pairs) (beyond beyond' : Pair → ℕ) (q : Pair) → AreHeld keys beyond → AreHeld keys' beyond' → held_claims keys' beyond' q ≡ held_claims keys beyond q → beyond' q ≡ beyond q
+same-beyond keys keys' beyond beyond' q held held' same = omega (arith, ap one_if (same-key keys keys' beyond beyond' q held held' same), same)
+
 -- a claim is made: a key that was none, or one beyond a key
 pub made-claimed : (keys keys' : Pairs) (beyond beyond' : Pair → ℕ) (p q : Pair) → keys' ≡ set.insert keys p → beyond' q ≡ beyond q → set.contains keys p ≡ false
     → held_claims keys' beyond' q ≡ held_claims keys beyond q + one_if (tied q p)
