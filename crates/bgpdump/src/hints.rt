@@ -116,14 +116,15 @@ pub struct NotedDevices<R, O, E> {
 }
 
 impl<R: Drop, O: Drop, E: Drop> NotedDevices<R, O, E> {
-    /// Returns the devices of a run over this reader and these writers. They are dropped where memory
+    /// Returns these devices, with a reader that notes its first octets. They are dropped where memory
     /// is refused.
-    pub fn new(alloc: Global, reader: R, out: O, err: E) -> Result<Self, AllocError>
-        ensures reader { IfOk result (λ noted. noted.devices.reader.reader ≡ reader) }
-        ensures out { IfOk result (λ noted. noted.devices.out ≡ out) }
-        ensures err { IfOk result (λ noted. noted.devices.err ≡ err) }
+    pub fn new(alloc: Global, devices: Devices<R, O, E>) -> Result<Self, AllocError>
+        ensures reader { IfOk result (λ noted. noted.devices.reader.reader ≡ devices.reader) }
+        ensures out { IfOk result (λ noted. noted.devices.out ≡ devices.out) }
+        ensures err { IfOk result (λ noted. noted.devices.err ≡ devices.err) }
     {
         let front = Rc::new(alloc, Cell::new(Front::none()))?;
+        let Devices { reader, out, err } = devices;
         let reader = NotedReader::new(front.clone()?, reader);
         let devices = Devices { reader, out, err };
         Ok(NotedDevices { front, devices })

@@ -12,7 +12,7 @@ use bgpdump_tool::{Mode, Outcome, STANDARD_INPUT, Settings, settings};
 use ending::Ending;
 use files::{create, hold_standard_streams, open, read_outcome, read_script};
 use hints::{Form, NotedDevices};
-use run::{dump, play};
+use run::{Devices, dump, play};
 use std::io::{Read, Write};
 use std::process::ExitCode;
 use std::{env, io};
@@ -87,7 +87,9 @@ fn run_input<'a>(
         Some(name) => Box::new(rt.alloc(), create(rt, settings, name.as_str())?)?,
         None => Box::new(rt.alloc(), rt.stdout())?,
     };
-    let NotedDevices { front, devices } = NotedDevices::new(rt.alloc(), input, out, rt.stderr())?;
+    let (reader, err) = (input, rt.stderr());
+    let noted = NotedDevices::new(rt.alloc(), Devices { reader, out, err })?;
+    let NotedDevices { front, devices } = noted;
     let outcome = match script {
         None => dump(rt.alloc(), settings.stamp, devices).outcome,
         Some(script) => play(rt.alloc(), settings.stamp, script, devices).outcome,

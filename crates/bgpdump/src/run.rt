@@ -166,12 +166,15 @@ fn through_buffers<R: Read + Drop, O: Write + Drop, E: Write + Drop>(
     ensures refused { IfErr result (λ outcome. outcome ≡ Outcome.Memory) }
 {
     let Devices { reader, out, err } = devices;
-    let reader = BufReader::with_capacity(alloc, BUFFER_SIZE, reader)
-        .map_err(|error| read_outcome(&error))?;
-    let out = BufWriter::with_capacity(alloc, BUFFER_SIZE, out)
-        .map_err(|error| read_outcome(&error))?;
-    let err = BufWriter::with_capacity(alloc, BUFFER_SIZE, err)
-        .map_err(|error| read_outcome(&error))?;
+    let reader = BufReader::with_capacity(alloc, BUFFER_SIZE, reader).map_err(|error| read_outcome(
+        &error,
+    ))?;
+    let out = BufWriter::with_capacity(alloc, BUFFER_SIZE, out).map_err(|error| read_outcome(
+        &error,
+    ))?;
+    let err = BufWriter::with_capacity(alloc, BUFFER_SIZE, err).map_err(|error| read_outcome(
+        &error,
+    ))?;
     Ok(Streams {
         input: BufferedInput::new(reader),
         out: WriteOutput::new(out),
