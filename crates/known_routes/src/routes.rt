@@ -131,7 +131,7 @@ impl KnownRoutes {
 
     /// Makes places for more routes, and for the last ones of peers where there are none. Refused, the
     /// places stay.
-    fn make_places(&mut self) -> Result<(), AllocError>
+    fn add_places(&mut self) -> Result<(), AllocError>
         ensures { stood_count self.new ≤ max (stood_count self.old) (route_count self.new) }
     {
         if self.lasts.is_empty() {
@@ -150,7 +150,7 @@ impl KnownRoutes {
     {
         let count = self.routes.places.len();
         if count < MOST_PLACES && self.routes.taken >= count / 4 * 3 {
-            self.make_places()?;
+            self.add_places()?;
         }
         let octets = route_size(&route);
         self.noted = self.noted.saturating_add(octets);

@@ -10,9 +10,9 @@ use Rattle.rib_player.specs.declared.pair.Pair.{Pair}
 use Rattle.mrt_events.specs.declared.event.Event.{Event}
 use Rattle.rib_player.specs.History.{Effect, effect, route_after}
 use Rattle.rib_player.specs.Tables.{Routes, Pairs, table, table_after, is_named, named_pairs}
-use Rattle.rib_player.specs.Timeline.{Timeline, end_of, behind, table_at, current, after_play}
-use Rattle.rib_player.specs.Calls.{StandsFor, tables_along, steps_along, without_first}
-use Rattle.rib_player.specs.Claims.{is_routed, brings, clears, one_if, brought_along, claims_along, claims, without_last, wanted, IsWellFormed}
+use Rattle.rib_player.specs.Timeline.{Timeline, end_of, behind, table_at, current, after_play, without_first, wanted, IsWellFormed}
+use Rattle.rib_player.specs.Calls.{StandsFor, tables_along, steps_along}
+use Rattle.rib_player.specs.Claims.{is_routed, brings, clears, one_if, brought_along, claims_along, claims, without_last}
 use Rattle.rib_player.proofs.TableLaws.{get-table_after, contains-named_pairs}
 use Rattle.rib_player.proofs.HistoryLaws.{table-append}
 use Rattle.rib_player.proofs.JournalLaws.{unnamed-same}

@@ -8,8 +8,7 @@ use Rattle.std.specs.FinSet.{contains-insert, contains-remove}
 use Rattle.std.proofs.lemmas.Bool.{lt-ltb, or_parts}
 use Rattle.rib_player.specs.declared.pair.Pair.{Pair}
 use Rattle.mrt_events.specs.declared.event.Route.{Route}
-use Rattle.prefix_store.specs.Contents.{AreAmong}
-use Rattle.prefix_store.specs.Stored.{put}
+use Rattle.prefix_store.specs.Stored.{put, AreAmong}
 use Rattle.prefix_store.proofs.PutLaws.{get-put}
 use Rattle.std.proofs.Math.Bool.{or-true}
 use Rattle.rib_player.specs.Tables.{Routes, Pairs}

@@ -15,8 +15,8 @@ use Rattle.rib_player.specs.declared.entry.Step.{Step}
 use Rattle.rib_player.specs.declared.entry.End.TheVariants.{First, Last}
 use Rattle.rib_player.specs.History.{pair_cmp}
 use Rattle.rib_player.specs.Tables.{Routes, Pairs, table_after, named_pairs, Contents}
-use Rattle.rib_player.specs.Timeline.{Timeline, after_play}
-use Rattle.rib_player.specs.Claims.{wanted, IsWellFormed, is_routed, one_if, brings, claims_along, held_claims, AreHeld}
+use Rattle.rib_player.specs.Timeline.{Timeline, after_play, wanted, IsWellFormed}
+use Rattle.rib_player.specs.Claims.{is_routed, one_if, brings, claims_along, held_claims, AreHeld}
 use Rattle.rib_player.specs.Journal.{Side, pairs_in, step_sides, steps_of, tables_over, timeline_of, routes_across}
 use Rattle.rib_player.specs.Marks.{sides_at, sides_across, IsKept, AreDistinct, IsStepFor, Mark, marks_by_step, step_marks, marks_across, gives_up_by, IsMarkOf, AreMarksOf, AreMarked}
 use Rattle.rib_player.specs.Calls.{IsPlayed, IsCrossed, AreClaimed, CanDrop}

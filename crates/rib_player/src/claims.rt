@@ -9,7 +9,7 @@ ghost use Rattle.std.specs.Ordering.{eq_by_cmp};
 ghost use Rattle.ip_prefix.specs.Network.{Network, network_cmp};
 ghost use Rattle.ip_prefix.specs.declared.addr.Family.TheVariants.{V4};
 ghost use Rattle.ip_prefix.specs.declared.addr.TheConstants.{V4_BITS};
-ghost use Rattle.prefix_store.specs.Contents.{AreAmong};
+ghost use Rattle.prefix_store.specs.Stored.{AreAmong};
 ghost use Rattle.prefix_store.specs.declared.store.TheConstants.{GREATEST_COUNT};
 ghost use Rattle.rib_player.specs.declared.pair.Pair.{Pair};
 ghost use Rattle.rib_player.specs.declared.entry.End.TheVariants.{Last};

@@ -5,7 +5,7 @@ use Rattle.std.specs.declared.rc.Rc.{Rc}
 use Rattle.std.proofs.lemmas.Result.{err_from_is_err_and}
 use Rattle.ip_prefix.specs.Network.{Network}
 use Rattle.mrt_events.specs.declared.event.Route.{Route}
-use Rattle.prefix_store.specs.Contents.{above}
+use Rattle.prefix_store.specs.Lookups.{above}
 use Rattle.prefix_store.proofs.AboveLaws.{above-none, above-front, none-left, keys-in_order, seen_last, seen_none}
 use Rattle.rib_player.specs.Tables.{peer_routes}
 use Rattle.rib_player.specs.Lookups.{pointed_routes}
