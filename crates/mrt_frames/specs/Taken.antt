@@ -6,6 +6,8 @@ use Rattle.mrt_frames.specs.Record.{Record, IsHeader, header_octets, spelling, I
 use Rattle.std.specs.Io.KnownBytes.{Consumes, IsAtEnd}
 use Rattle.mrt_frames.specs.declared.fault.SourceFault.{SourceFault}
 use Rattle.mrt_frames.specs.declared.fault.SourceFault.TheVariants.{Read, InputTooLong, Spent}
+use Rattle.mrt_frames.specs.declared.fault.TakeFault.{TakeFault}
+use Rattle.mrt_frames.specs.declared.fault.TakeFault.TheVariants.{InputFailed, PastLimit}
 use Rattle.mrt_frames.specs.declared.fault.RecordKind.TheVariants.{CutRecord}
 use Rattle.mrt_frames.specs.declared.frames.Front.{Front}
 use Rattle.mrt_frames.specs.declared.frames.Front.TheVariants as front
@@ -33,6 +35,16 @@ record_in header buffer = record_under header (take header.size buffer)
 -- octets were taken, and the count of those taken went on by theirs
 abbrev pub Takes : Option (List ℕ) → Option (List ℕ) → ℕ → ℕ → List ℕ → Type 0
 Takes old new before after octets = Consumes old new octets × (after ≡ before + length octets)
+
+-- the source's fault where octets couldn't be taken
+abbrev pub fault_of_source : TakeFault → SourceFault
+fault_of_source InputFailed = Read
+fault_of_source PastLimit = InputTooLong
+
+-- the source's answer, where octets were to be taken
+abbrev pub answer_of_source : {A : Type 0} → Result A TakeFault → Result A SourceFault
+answer_of_source (Ok answer) = Ok answer
+answer_of_source (Err fault) = Err (fault_of_source fault)
 
 -- a fault may come where so many octets were taken in all, of the most that may be
 abbrev pub Stops : SourceFault → ℕ → ℕ → Type 0

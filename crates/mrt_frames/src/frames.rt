@@ -1,10 +1,10 @@
 //! The records of an input, one behind the other.
 
 ghost use Rattle.std.specs.Prelude.{◌≡◌, ◌+◌, ◌≤◌, ◌||◌, ℕ, Bool, IfOk, IsTrue, take, length, vec_len};
-ghost use Rattle.mrt_frames.specs.Taken.{is_read, TakesOctets, TakesHeader, TakesBody, TakesRecord};
+ghost use Rattle.mrt_frames.specs.Taken.{is_read, answer_of_source, TakesOctets, TakesHeader, TakesBody, TakesRecord};
 
 use crate::buffer::{fill_body, fill_part, fill_within};
-use crate::fault::{RecordKind, SourceFault};
+use crate::fault::{RecordKind, SourceFault, TakeFault};
 use crate::header::{HEADER_SIZE, Header, LONGEST_BODY, read_header};
 use crate::input::Input;
 use std::alloc::Global;
@@ -78,10 +78,11 @@ impl FrameReader {
 
     /// Takes the next header.
     #[inline(always)]
-    fn take_header<I: Input>(&mut self, input: &mut I) -> Result<Front, SourceFault>
-        ensures octets { TakesOctets (TakesHeader self.new.limit result)
+    fn take_header<I: Input>(&mut self, input: &mut I) -> Result<Front, TakeFault>
+        ensures octets { TakesOctets (TakesHeader self.new.limit (answer_of_source result))
             (I.left input.old) (I.left input.new) self.old.taken self.new.taken }
-        ensures failed { I.failed input.new ≡ (I.failed input.old || is_read result) }
+        ensures failed { I.failed input.new
+            ≡ (I.failed input.old || is_read (answer_of_source result)) }
         ensures limit { self.new.limit ≡ self.old.limit }
     {
         let mut octets = [0; HEADER_SIZE];
@@ -114,13 +115,15 @@ impl FrameReader {
         Ok(count == size)
     }
 
-    /// Passes over a body, and answers whether it is whole. It asks for no memory.
+    /// Passes over a body, and answers whether it is whole.
     #[inline(never)]
-    fn pass_body<I: Input>(&mut self, input: &mut I, size: u32) -> Result<bool, SourceFault>
+    fn pass_body<I: Input>(&mut self, input: &mut I, size: u32) -> Result<bool, TakeFault>
         ensures octets { TakesOctets
-            (λ left taken body. TakesBody self.new.limit body size result left taken body)
+            (λ left taken body.
+            TakesBody self.new.limit body size (answer_of_source result) left taken body)
             (I.left input.old) (I.left input.new) self.old.taken self.new.taken }
-        ensures failed { I.failed input.new ≡ (I.failed input.old || is_read result) }
+        ensures failed { I.failed input.new
+            ≡ (I.failed input.old || is_read (answer_of_source result)) }
         ensures limit { self.new.limit ≡ self.old.limit }
     {
         let mut piece = [0; PIECE];
