@@ -119,10 +119,10 @@ def peers_of(count):
 
 
 def marked_peers_of(count):
-    """A record of a table with so many peers, who lose their sessions, and records with few."""
-    yield index(count)
+    """A record of a table with so many of 10,000 peers, who lose their sessions, and records with few."""
+    yield index(10_000)
     yield table(0, net(0), [entry(peer, b'') for peer in range(count)])
-    yield from map(loss, range(count))
+    yield from map(loss, range(10_000))
     yield from emptied(table(number, net(number), [entry(0, b''), entry(1, b'')]) for number in range(4))
 
 
@@ -156,8 +156,8 @@ EACH = 2_000
 CASES = (
     # MOST_KEPT of mrt_frames/src/frames.rt: 2^18 octets.
     Case('the body of a record', lambda: long_body(1_000_000), lambda: long_body(0), 256 * KIB),
-    # MOST_KEPT of octet_text/src/buffer.rt: 2^18 octets.
-    Case('the text of a line', lambda: emptied(long_line(16_000)), lambda: emptied(long_line(1)), 256 * KIB),
+    # MOST_KEPT of octet_text/src/buffer.rt: 2^18 octets, beside a body of 2^16.
+    Case('the text of a line', lambda: long_line(16_000), lambda: long_line(1), (256 + 64) * KIB),
     # LONGEST_KEPT of mrt_wire/src/session.rt: 4,096 octets of a message, of 2,048 prefixes.
     Case('the parts of an UPDATE', lambda: emptied(long_message(5_900)), lambda: emptied(long_message(1)), 48 * KIB),
     # MOST_ITEMS of mrt_wire/src/pool.rt: 4,096.
@@ -174,8 +174,8 @@ CASES = (
     # LONGEST_PLACED of mrt_wire/src/read_routes.rt: 192 octets.
     Case('attributes of places', lambda: emptied(entries_of_peers(256, lambda number: plain_of(40, number) + communities(
         *range(80)))), lambda: emptied(entries_of_peers(256, lambda _: b'')), 256 * KIB),
-    # MOST_SPARE of bgp_paths/src/path_reader.rt: 4 segments of 32 octets.
-    Case('spare segments', lambda: announced_behind(EACH, segments_of(17)), lambda: announced_behind(EACH, b''),
+    # MOST_SPARE of bgp_paths/src/path_reader.rt: 4 segments of 32 octets. So many grow to room for 16.
+    Case('spare segments', lambda: announced_behind(EACH, segments_of(14)), lambda: announced_behind(EACH, b''),
          EACH * 5 * 32, ALL_STEPS),
     # MOST_SPARE of bgp_paths/src/segment.rt: 8 numbers.
     Case('spare numbers', lambda: announced_behind(EACH, plain_of(35, 1)), lambda: announced_behind(EACH, b''),
@@ -183,10 +183,10 @@ CASES = (
     # MOST_SPARE of bgp_wire/src/attrs.rt: 32 communities.
     Case('spare communities', lambda: announced_behind(EACH, communities(*range(129))),
          lambda: announced_behind(EACH, b''), EACH * 144, ALL_STEPS),
-    # MOST_TIMES and LEAST_ROOM of rib_player/src/room.rt: room for 4 times 1,024 steps, and as many peers.
+    # MOST_TIMES and LEAST_ROOM of rib_player/src/room.rt: room for 4 times 1,024 steps, and as many peers and marks.
     Case('room for steps', lambda: steps_of(10_000), lambda: steps_of(0), 4 * 1_024 * 32, forgotten_at(10_000)),
     Case('room for peers', lambda: peers_of(10_000), lambda: peers_of(0), 4 * 1_024 * 128, forgotten_at(20_000)),
-    Case('marks of peers', lambda: marked_peers_of(10_000), lambda: marked_peers_of(1_100), 4 * 1_024 * 16,
+    Case('marks of peers', lambda: marked_peers_of(10_000), lambda: marked_peers_of(5_000), 4 * 1_024 * 8,
          forgotten_at(10_002)),
     # FIRST_PLACES and LASTS of known_routes, and PLACES of rib_player/src/stores.rt.
     Case('places at first', lambda: steps_of(0), lambda: [change()] * 4, 64 * KIB, ALL_STEPS),
