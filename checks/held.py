@@ -1,17 +1,16 @@
 """What the program holds behind a large thing, once small ones have followed it up to the end of the input.
 
-Each case makes records with something large in them, and the same without it. As the program finds the end of its input,
-refusing.c tells how many octets of memory it holds: beside a large thing at most so many more as the constant allows that
-the case names, and four times as much as that constant allows would be more. The body of a record counts as well, so one
-that is let go stands behind records with a long one.
+Each case makes records with something large in them, and the same without it. As the program finds the end of its
+input, refusing.c tells how many octets of memory it holds: beside a large thing at most so many more as the constant
+allows that stands above the case. Where that is made four times as large, more is held. The room of a body, of a line
+and of an index counts as well, so most cases let go of it behind the large thing.
 """
 import struct
 from dataclasses import dataclass
 from functools import partial
 from typing import Callable
 
-from records import attribute, communities, entry, host, index, loss, message, net, old_entry, record, route, segment
-from records import session, table
+from records import communities, entry, host, index, loss, message, net, record, route, segment, session, table
 
 KIB = 1 << 10
 
@@ -166,14 +165,16 @@ CASES = (
     Case('long attributes', lambda: emptied(entries_of_peers(4, lambda _: segments_of(650))),
          lambda: emptied(entries_of_peers(4, lambda _: segments_of(3))), 4 * 26 * KIB),
     # MOST_ROOM of mrt_wire/src/route_pool.rt: 560 KiB.
-    Case('routes of a table', lambda: emptied(entries_of_peers(1_024, lambda number: segments_of(3) + communities(
-        *range(number, number + 230)))), lambda: emptied(entries_of_peers(1_024, lambda _: b'')), 560 * KIB),
+    Case('routes of a table', lambda: emptied(entries_of_peers(1_024, lambda number: segments_of(3) +
+                                                               communities(*range(number, number + 230)))),
+         lambda: emptied(entries_of_peers(1_024, lambda _: b'')), 560 * KIB),
     # PEER_PLACES of mrt_wire/src/peers.rt: 256 places of 1,344 octets.
     Case('places for peers', lambda: emptied(entries_of_peers(1_024, partial(plain_of, 1))),
          lambda: emptied(entries_of_peers(1_024, lambda _: b'')), 256 * 1_344),
     # LONGEST_PLACED of mrt_wire/src/read_routes.rt: 192 octets.
-    Case('attributes of places', lambda: emptied(entries_of_peers(256, lambda number: plain_of(40, number) + communities(
-        *range(80)))), lambda: emptied(entries_of_peers(256, lambda _: b'')), 256 * KIB),
+    Case('attributes of places', lambda: emptied(entries_of_peers(256, lambda number: plain_of(40, number) +
+                                                                  communities(*range(80)))),
+         lambda: emptied(entries_of_peers(256, lambda _: b'')), 256 * KIB),
     # MOST_SPARE of bgp_paths/src/path_reader.rt: 4 segments of 32 octets. So many grow to room for 16.
     Case('spare segments', lambda: announced_behind(EACH, segments_of(14)), lambda: announced_behind(EACH, b''),
          EACH * 5 * 32, ALL_STEPS),
