@@ -20,7 +20,8 @@ class Ended:
     """How a call ended, how many requests, reads and writes it made, and how many of them failed.
 
     Of a program that marks its calls: how many it began, how often it went on where each request is
-    refused, and how many it made there.
+    refused, and how many it made there. Of the requests that failed how many only gave room back, and how
+    many octets of memory the program held when its input ended.
     """
     status: int
     out: bytes
@@ -30,6 +31,8 @@ class Ended:
     begun: int
     unaided: int
     asked: int
+    fewer: int
+    held: int
 
 
 def compiler():
@@ -49,13 +52,15 @@ class Calls:
         subprocess.run([compiler(), '-O1', '-shared', '-fPIC', '-o', self.library, SOURCE, '-ldl'],
                        check=True)
 
-    def run(self, words, kind='memory', first=0, last=0, error=0):
+    def run(self, words, kind='memory', first=0, last=0, error=0, given=os.devnull):
+        """A call with these words, which is given a file, or nothing, as standard input."""
         self.counts.write_bytes(bytes(mmap.PAGESIZE))
         environment = dict(os.environ, LD_PRELOAD=str(self.library), REFUSING_COUNTS=str(self.counts),
                            REFUSING_KIND=kind, REFUSING_FIRST=str(first), REFUSING_LAST=str(last),
                            REFUSING_ERROR=str(error), REFUSING_MARKED=str(int(self.marked)))
-        done = subprocess.run([self.program, *words], env=environment, stdin=subprocess.DEVNULL, capture_output=True,
-                              timeout=LONGEST_CALL, check=False)
-        *made, failed, begun, unaided, asked = struct.unpack('7q', self.counts.read_bytes()[:56])
+        with open(given, 'rb') as octets:
+            done = subprocess.run([self.program, *words], env=environment, stdin=octets, capture_output=True,
+                                  timeout=LONGEST_CALL, check=False)
+        *made, failed, begun, unaided, asked, fewer, _, held = struct.unpack('10q', self.counts.read_bytes()[:80])
         return Ended(done.returncode, done.stdout, done.stderr, dict(zip(('memory', 'read', 'write'), made)), failed,
-                     begun, unaided, asked)
+                     begun, unaided, asked, fewer, held)

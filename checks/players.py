@@ -5,8 +5,9 @@
 
 ROWS is the built program that carries out rows (crates/rows). The plain player keeps no table: it keeps what
 each event says of each pair of a peer and a prefix, and searches that for each answer. It is written from the
-manual page and docs/definitions.md. Most calls are drawn, of three mixtures; others are many: a hundred
-thousand steps, prefixes of an event, thousands of peers, of routes that are let go or are one in memory.
+manual page and docs/definitions.md. Most calls are drawn, of two mixtures; others are many: hundreds of
+thousands of steps, prefixes of an event, thousands of peers, of refused events, of routes that are let go
+or are one in memory.
 """
 import argparse
 import bisect
@@ -75,8 +76,8 @@ class Plain:
     def is_wanted(self, pair):
         """Whether a pair has a route, or a kept step names it."""
         said = self.said.get(pair, [])
-        kept = said[bisect.bisect_left(said, (self.floor,)):]
-        return self.time_of(pair) is not None or any(is_named for _, is_named, _ in kept)
+        kept = range(bisect.bisect_left(said, (self.floor,)), len(said))
+        return self.time_of(pair) is not None or any(said[number][1] for number in kept)
 
     def keys_of(self, peer):
         return sum(self.is_wanted(pair) for pair in self.said if pair[0] == peer)
@@ -329,6 +330,49 @@ def dropped_course():
     return course
 
 
+def all_kept_course(kind, rounds):
+    """A pair of each family comes and goes so often, and all steps are kept: so often it is claimed."""
+    course, pairs = Course(f'Two pairs come and go {rounds} times, and all steps are kept', kind), (TEN, 'a00::/8')
+    for number in range(rounds):
+        course.play(*[announce(PEER, prefix, number % 3) for prefix in pairs])
+        course.play(*[withdraw(PEER, prefix) for prefix in pairs])
+    cross_kept(course, pairs, 5)
+    course.play(announce(PEER, TEN, 100))
+    for keep in (rounds, 3, 1, 0):
+        course.forget(keep)
+        cross_kept(course, pairs, min(keep, 2))
+    course.play(withdraw(PEER, TEN))
+    course.forget(0)
+    course.keys(PEER)
+    return course
+
+
+def cross_kept(course, prefixes, steps):
+    """Goes so many steps back, and forth but for one, and asks for all."""
+    for is_back in [None] + [True] * steps + [False] * (steps - 1):
+        if is_back is not None:
+            course.go(is_back)
+        course.steps()
+        course.keys(PEER)
+        for prefix in prefixes:
+            course.route(PEER, prefix)
+
+
+def kept_steps_course(count):
+    """So many steps are kept, each of one of a hundred prefixes."""
+    course = Course(f'{count} steps are kept', LARGE)
+    for number in range(count):
+        prefix = numbered(number % 100)
+        course.play(withdraw(PEER, prefix) if number % 3 == 2 else announce(PEER, prefix, number % 5))
+    prefixes = [numbered(number) for number in range(100)]
+    cross_kept(course, prefixes, 3)
+    course.play(announce(PEER, numbered(7), 7))
+    for keep in (count // 2, 1_000, 3):
+        course.forget(keep)
+        cross_kept(course, prefixes, 2)
+    return course
+
+
 # Steps of many pairs.
 
 def first_numbered(count, time=None):
@@ -555,6 +599,24 @@ def dropped_routes_course():
     return course
 
 
+def refused_long_course():
+    """Events with long routes are refused, half of them behind a pair that is put, and what they had is let go."""
+    course = Course('Ten thousand events with long routes are refused', LARGE)
+    for number in range(FEW):
+        course.play(announce(PEER, numbered(number), number, LONG))
+    course.within('alive', FEW, FEW)
+    for number in range(10_000):
+        put = [announce(PEER, numbered(number % FEW), 20_000 + number, LONG)] * (number % 2)
+        course.play(*put, announce(PEER, '66.0.0.0/8', 1_000 + number, LONG))
+    # The routes of the last event aren't looked at yet.
+    course.within('alive', FEW, MOST_ALIVE + 2)
+    course.steps()
+    course.keys(PEER)
+    for number in range(FEW):
+        course.route(PEER, numbered(number))
+    return course
+
+
 def changing_course():
     """Routes become more, fewer and more again."""
     course = Course('Routes stay right while others are let go', LARGE)
@@ -708,13 +770,14 @@ def courses(seed):
             if count < least:
                 sys.exit(f'players: "{word}" is answered {count} times, wanted {least}')
         yield course
-    yield from (forgotten_course(), only_step_course(300), only_step_course(2_500), dropped_course())
+    yield from (forgotten_course(), only_step_course(300), only_step_course(2_500), dropped_course(),
+                all_kept_course('player', 300), all_kept_course(LARGE, 70_000), kept_steps_course(300_000))
     yield from map(crossed_course, (1, 2, 7, 8, 9, 15, 16, 17, 100))
     yield from (small_steps_course(), lost_peer_course(), many_prefixes_course(), many_peers_course(),
                 announced_twice_course('player', 100), announced_twice_course(LARGE, 300), few_calls_course(), few_reached_course(),
                 let_go_course('Routes of forgotten steps are let go at once', False),
                 let_go_course('Routes are let go while steps are forgotten', True),
-                dropped_routes_course(), changing_course(), equal_routes_course(),
+                dropped_routes_course(), refused_long_course(), changing_course(), equal_routes_course(),
                 plain_routes_course('Routes for the same places are told apart', metrics_of_one_place(), 0, 8),
                 plain_routes_course('Most of many equal routes are one', range(MANY), MANY // 10 * 9 + 1, MANY))
     yield from (varying_course(what, attributes) for what, attributes in VARYING.items())

@@ -90,9 +90,9 @@ def message(withdrawn, attributes, announced, width=4, peer=0):
                   session(width, peer) + b'\xff' * 16 + struct.pack('>HB', 19 + len(body), UPDATE) + body)
 
 
-def loss():
-    """The loss of the session."""
-    return record(BGP4MP, 5, session(4) + struct.pack('>HH', 6, 1))
+def loss(peer=0):
+    """The loss of the session with the peer of this number."""
+    return record(BGP4MP, 5, session(4, peer) + struct.pack('>HH', 6, 1))
 
 
 def prefix(bits, number):

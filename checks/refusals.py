@@ -14,8 +14,10 @@ ROWS is the program of crates/rows: refused_calls.py says what becomes of its ca
 """
 import argparse
 import errno
+import os
 import sys
 import tempfile
+from dataclasses import dataclass
 from pathlib import Path
 
 from calling import ALL, Calls
@@ -32,6 +34,42 @@ OUT_OF_MEMORY, READ_FAULT, WRITE_FAULT = (
     b'bgpdump: %s\n' % what for what in (b'out of memory', b'read fault', b'write fault'))
 
 
+# What is done without where it is refused, by what it is: room that is given back in its block, and what is no growth
+# of ours. The reader of words tries other spellings of a value, and says of those alone what it has memory for.
+OF_PATHS = 'room for segments of longer paths'
+SPELLINGS = 'spellings of a value that are compared with others'
+# Before all else, and once in each call.
+OF_STREAMS = 'the name of the folder that takes the numbers of closed streams'
+
+# How many of them each call does without besides OF_STREAMS, by its words. Those of the others do without none.
+WITHOUT = {
+    '-m old-table.mrt': {OF_PATHS: 2},
+    '-t none -m one': {SPELLINGS: 5},
+}
+
+
+@dataclass(frozen=True)
+class Call:
+    """Words of the program, what it is given as standard input, and the file that it writes, where it does."""
+    words: list
+    given: str = os.devnull
+    output: Path | None = None
+    has_devices: bool = True
+
+    def run(self, calls, *failing):
+        """How a run of the call ended. What it wrote to its output stands behind what it printed."""
+        if self.output:
+            self.output.unlink(missing_ok=True)
+        ended = calls.run(self.words, *failing, given=self.given)
+        if self.output and self.output.exists():
+            ended.out += self.output.read_bytes()
+        return ended
+
+    def shown(self):
+        given = '' if self.given == os.devnull else ' <' + Path(self.given).name
+        return ' '.join(Path(word).name for word in self.words) + given
+
+
 def is_whole(ended, right):
     return (ended.status, ended.out, ended.err) == (right.status, right.out, right.err)
 
@@ -45,51 +83,57 @@ def is_front(ended, right, status, message, may_be_lost=False):
     return may_be_lost and right.err.startswith(ended.err)
 
 
-def fault(words, what, ended):
+def fault(call, what, ended):
     return '%s, %s: status %d, %d octets printed, and last %r' % (
-        ' '.join(words), what, ended.status, len(ended.out), ended.err[-80:])
+        call.shown(), what, ended.status, len(ended.out), ended.err[-80:])
 
 
-def compare_stored(words, right):
+def compare_stored(call, right):
     """Compares what is printed where nothing fails with the texts that stand beside an example."""
-    example = Path(words[-1])
-    if words[0] == '-m':
+    example = Path(call.words[-1])
+    if call.words[0] == '-m' and example.suffix == '.mrt':
         for what, found in (('.lines', right.out), ('.reports', right.err)):
             if example.with_suffix(what).read_bytes() != found:
-                yield fault(words, 'its %s differ' % what[1:], right)
+                yield fault(call, 'its %s differ' % what[1:], right)
 
 
-def refuse_memory(calls, words, right):
-    """Refuses each request, alone and with all behind it. What shrinks a block can do without."""
-    refusals = 0
+def refuse_memory(calls, call, right):
+    """Refuses each request, alone and with all behind it. Those that are done without are known by what they are."""
+    refusals = fewer = others = 0
     for number in range(1, right.made['memory'] + 1):
         for last in (number, ALL):
-            ended = calls.run(words, 'memory', number, last)
-            if ended.failed == 0:
-                yield fault(words, 'request %d is never made' % number, ended)
-            elif is_front(ended, right, 4, OUT_OF_MEMORY):
-                refusals += 1
-            elif not is_whole(ended, right):
-                others = ' and all behind it' if last == ALL else ''
-                yield fault(words, 'request %d%s refused' % (number, others), ended)
+            ended = call.run(calls, 'memory', number, last)
+            is_whole_still = is_whole(ended, right)
+            if ended.failed == 0 or not is_whole_still and not is_front(ended, right, 4, OUT_OF_MEMORY):
+                behind = ' and all behind it' if last == ALL else ''
+                yield fault(call, 'request %d%s refused, %d met' % (number, behind, ended.failed), ended)
+            refusals += not is_whole_still
+            if is_whole_still and last == number:
+                fewer += ended.fewer
+                others += 1 - ended.fewer
     if refusals == 0:
-        yield '%s: no refused request was met' % ' '.join(words)
+        yield '%s: no refused request was met' % call.shown()
+    known = {OF_STREAMS: 1} | WITHOUT.get(call.shown(), {})
+    moved = sum(number for what, number in known.items() if what in (OF_STREAMS, SPELLINGS))
+    if (fewer, others) != (sum(known.values()) - moved, moved):
+        yield '%s: %d requests that give room back and %d others are done without, where %d and %d are known' % (
+            call.shown(), fewer, others, sum(known.values()) - moved, moved)
 
 
-def fail_devices(calls, words, right):
+def fail_devices(calls, call, right):
     """Lets each read and each write fail, and then all of them move one octet."""
     for kind, message in (('read', READ_FAULT), ('write', WRITE_FAULT)):
         if right.made[kind] == 0:
-            yield '%s: no %s is counted' % (' '.join(words), kind)
+            yield '%s: no %s is counted' % (call.shown(), kind)
         for number in range(1, right.made[kind] + 1):
             for error in (errno.EIO, errno.EINTR):
-                ended = calls.run(words, kind, number, number, error)
+                ended = call.run(calls, kind, number, number, error)
                 is_retried = error == errno.EINTR and is_whole(ended, right)
                 if not is_retried and not is_front(ended, right, 3, message, may_be_lost=kind == 'write'):
-                    yield fault(words, '%s %d fails with %s' % (kind, number, errno.errorcode[error]), ended)
-        ended = calls.run(words, kind, 1, ALL)
+                    yield fault(call, '%s %d fails with %s' % (kind, number, errno.errorcode[error]), ended)
+        ended = call.run(calls, kind, 1, ALL)
         if not is_whole(ended, right):
-            yield fault(words, 'each %s moves one octet' % kind, ended)
+            yield fault(call, 'each %s moves one octet' % kind, ended)
 
 
 def calls_over_examples(script):
@@ -97,7 +141,21 @@ def calls_over_examples(script):
                         (('-t', 'change', '-m'), ('table.mrt',)),
                         (('--play', script), ('incident.mrt', 'damaged.mrt'))):
         for name in names:
-            yield [*mode, str(EXAMPLES / name)]
+            yield Call([*mode, str(EXAMPLES / name)])
+
+
+def calls_of_other_words(script, out):
+    """Calls that write to a file, that read standard input, and of words that begin no run."""
+    updates, incident = str(EXAMPLES / 'updates.mrt'), str(EXAMPLES / 'session-changes.mrt')
+    yield Call(['-m', '-O', str(out), updates], output=out)
+    yield Call(['--play', script, '-O', str(out), incident], output=out)
+    yield Call(['-m', '-'], updates)
+    yield Call(['--play', script, '-'], incident)
+    yield Call(['--play', '-', incident], script)
+    yield Call(['-m', '-O', str(out), '-'], updates, out)
+    for words in (['--help'], ['-m', '-v', 'input'], ['-x'], ['-m', 'one', 'two'], ['-m'], ['-t', 'none', '-m', 'one'],
+                  ['one'], ['--play', '-', '-'], ['-m', 'no-such-file'], ['--play', 'no-such-file', '-']):
+        yield Call(words, has_devices=False)
 
 
 def faults_of_program(calls):
@@ -105,13 +163,13 @@ def faults_of_program(calls):
     script = calls.folder / 'script'
     script.write_text(SCRIPT)
     print('requests   reads   writes   call')
-    for words in calls_over_examples(str(script)):
-        right = calls.run(words)
-        shown = ' '.join(Path(word).name for word in words)
-        print('%8d   %5d   %6d   %s' % (*right.made.values(), shown), flush=True)
-        yield from compare_stored(words, right)
-        yield from refuse_memory(calls, words, right)
-        yield from fail_devices(calls, words, right)
+    for call in (*calls_over_examples(str(script)), *calls_of_other_words(str(script), calls.folder / 'out')):
+        right = call.run(calls)
+        print('%8d   %5d   %6d   %s' % (*right.made.values(), call.shown()), flush=True)
+        yield from compare_stored(call, right)
+        yield from refuse_memory(calls, call, right)
+        if call.has_devices:
+            yield from fail_devices(calls, call, right)
 
 
 def main():

@@ -122,6 +122,12 @@ def different(count, first):
     return ', '.join(announced(first + number, prefix) for number, prefix in enumerate(prefixes))
 
 
+def out_of_order(count, first):
+    """The announcement of the same prefixes out of order, each with a route of its own time, and of the first again."""
+    items = different(count, first).split(', ')
+    return ', '.join([*(items[7 * number % count] for number in range(count)), announced(9_000)])
+
+
 LOSS = f'={KNOWN} 6 1'
 
 
@@ -191,6 +197,27 @@ def over_many():
                   different(600, 5_000), before, 0, behind, 'player tree')
 
 
+def sorted_event(count):
+    """An event of so many prefixes out of order."""
+    before = Walk(Seen(1, 0, count, Peer(count, count, 100, 101)), one_peer(0, 1, count, count, 0))
+    behind = Walk(Seen(2, 0, 2 * count, Peer(count, count, 9_000, 5_001)),
+                  Seen(1, 1, 2 * count, Peer(count, count, 100, 101)))
+    return Course(f'{count} prefixes of a message out of order', played([different(count, 100)]),
+                  out_of_order(count, 5_000), before, 0, behind, 'player tree')
+
+
+def loss_among_others():
+    """The loss of a session, with items of its peer and of another one before and behind it."""
+    before = ', '.join([announced(100), announced(101, NARROW), announced(102, WIDE_IPV6), announced(103, WIDE, NEW)])
+    event = ', '.join([announced(104, NARROW, NEW), withdrawn(NARROW), announced(105, NARROW_IPV6), LOSS,
+                       announced(106), f'-{NEW} {WIDE}'])
+    known, new = Peer(3, 3, 100, 101, 102), Peer(1, 1, 103)
+    return Course('a loss among other items', played([before]), event,
+                  Walk(Seen(1, 0, 4, known, new), Seen(0, 1, 4, Peer(3), Peer(1))), 0,
+                  Walk(Seen(2, 0, 9, Peer(3, 1, 106), Peer(2, 1, None, 104)),
+                       Seen(1, 1, 9, known, replace(new, keys=2))))
+
+
 def courses():
     """Events that are refused, or played."""
     both = [(peer, prefix) for peer in (NEW, OTHER_NEW) for prefix in (WIDE, NARROW)]
@@ -207,6 +234,13 @@ def courses():
     yield Course('a route that comes again, and one more', played([announced(100), LOSS]), different(2, 102),
                  Walk(one_peer(2, 0, 2, 1, 0), one_peer(1, 1, 2, 1, 1, 100)), 0,
                  Walk(Seen(3, 0, 4, Peer(2, 2, 102, 103)), one_peer(2, 1, 4, 2, 0)))
+    ipv6 = ', '.join([announced(102, WIDE_IPV6), announced(103, NARROW_IPV6)])
+    yield Course('an IPv6 route that comes again, and one more', played([announced(100, WIDE_IPV6), LOSS]), ipv6,
+                 Walk(one_peer(2, 0, 2, 1, 0), Seen(1, 1, 2, Peer(1, 1, wide_ipv6=100))), 0,
+                 Walk(Seen(3, 0, 4, Peer(2, 2, wide_ipv6=102, narrow_ipv6=103)), one_peer(2, 1, 4, 2, 0)))
+    yield loss_among_others()
+    for count in 25, 101:
+        yield sorted_event(count)
     for steps in 1_024, 1_100:
         yield behind_steps(f'a route behind {steps:,} steps', steps)
     yield behind_steps('a route behind 5,000 steps, of which one is kept', 5_000, 4_999)
@@ -221,6 +255,33 @@ def courses():
                  Walk(one_peer(2, 0, 2_000, 1_000, 0), one_peer(1, 1, 2_000, 1_000, 1_000)), 'player tree')
     yield in_place_of_a_step('a thousand routes of a new peer', thousand(NEW), Peer(1_000, 1_000), NOTHING, 1_001,
                              'player tree')
+
+
+# Two plays, of which one is refused.
+
+def where_places_become_fewer(marked):
+    """Of 1,100 routes a hundred stay, so that there are too many places for them when the next event is played. It is
+    marked, or the one behind it."""
+    gone = ', '.join(withdrawn(numbered(number)) for number in range(100, 1_100))
+    before = [*played([different(1_100, 1_000), gone]), ('forget 0', 'forgot 2')]
+    events = [f'play {announced(1_000, WIDE, NEW)}', f'play {announced(2_000, NARROW, NEW)}']
+    known = Peer(100, 100, 1_000, 1_001)
+
+    def seen(at, ahead, named, new):
+        return Seen(at, ahead, named, known, new, floor=2)
+
+    def lines(answers, walk):
+        played_events = list(zip(events, answers))
+        played_events.insert(marked, ('mark', 'marked'))
+        return [*before, *seen(2, 0, 0, NOTHING).lines(), *played_events, ('alone', 'alone'), *walk.lines()]
+
+    first, second = Peer(1, 1, 1_000), Peer(1, 1, None, 2_000)
+    both = Walk(seen(4, 0, 2, Peer(2, 2, 1_000, 2_000)), seen(3, 1, 2, replace(first, keys=2)))
+    other = Walk(seen(3, 0, 1, first if marked else second), seen(2, 1, 1, Peer(1)))
+    answers = ['dropped 0', 'dropped 0']
+    refused = [*answers[:marked], 'refused', *answers[marked + 1:]]
+    title = 'a play behind places that became fewer' if marked else 'places of known routes that become fewer'
+    return row('player tree', title, lines(answers, both), lines(refused, other))
 
 
 # What is forgotten without memory.
@@ -314,7 +375,20 @@ def large_table():
         '> at 1', *('> ' + line % number for number in prefixes), '> routes 101', ''])
 
 
+def large_events():
+    """The lines of an event of 80 items, by a run and by a call."""
+    numbers = range(1, 41)
+    octets = ' '.join('08%02X' % number for number in numbers)
+    withdrawn_line = 'BGP4MP|100|W|192.0.2.1|64500|%d.0.0.0/8'
+    announced_line = 'BGP4MP|100|A|192.0.2.1|64500|%d.0.0.0/8|64500|IGP|192.0.2.9|0|0||NAG||'
+    for call, title in (('dump', 'an event of more than 64 items'), ('printed', 'lines of more than 64 items')):
+        yield '\n'.join([
+            f'{call}: {title}', '< 00000064 0010 0001 4{ FBF4 FBF5 0000 0001 C0000201 C0000202 bgp{ 02',
+            f'< 2{{ {octets} }} 2{{ 40010100 400204 0201 FBF4 400304 C0000209 }} {octets} }} }}',
+            *('> ' + line % number for line in (withdrawn_line, announced_line) for number in numbers), ''])
+
+
 def rows_of_steps():
     """All these rows."""
-    return [*(course.row() for course in courses()), *(forgetting.row() for forgetting in forgettings()), *goings(),
-            large_table()]
+    return [*(course.row() for course in courses()), *(where_places_become_fewer(marked) for marked in (0, 1)),
+            *(forgetting.row() for forgetting in forgettings()), *goings(), large_table(), *large_events()]

@@ -1,5 +1,5 @@
-/* Loaded before the C library: counts a program's requests for memory, its reads and its writes, and
-   lets some of them fail. checks/refusals.py sets the variables:
+/* Loaded before the C library: counts a program's requests for memory, its reads and its writes, lets
+   some of them fail, and tells what it holds when its input ends. checks/calling.py sets the variables:
 
      REFUSING_COUNTS   a file, into which the counts are mapped
      REFUSING_KIND     memory, read or write
@@ -14,6 +14,7 @@
 #include <dlfcn.h>
 #include <errno.h>
 #include <fcntl.h>
+#include <malloc.h>
 #include <stdlib.h>
 #include <string.h>
 #include <sys/mman.h>
@@ -32,6 +33,9 @@ static struct counts {
     long begun;   /* calls, by their marks */
     long unaided; /* stretches in which all requests are refused */
     long asked;   /* requests in these */
+    long fewer;   /* requests that failed, and asked for no more than their block had */
+    long live;    /* octets of all blocks */
+    long held;    /* how many there were at the last read that found the end */
 } unseen, *counts = &unseen;
 
 static enum place place = INSIDE;
@@ -40,7 +44,9 @@ static long first, last;
 static int error, marked;
 
 extern void *__libc_malloc(size_t);
+extern void *__libc_calloc(size_t, size_t);
 extern void *__libc_realloc(void *, size_t);
+extern void __libc_free(void *);
 
 __attribute__((constructor)) static void begin(void) {
     static const char *const names[] = {"memory", "read", "write"};
@@ -89,20 +95,40 @@ static int refuses(void) {
     return place == REFUSING_ALL;
 }
 
+/* Counts a block that was given. */
+static void *given(void *block) {
+    counts->live += malloc_usable_size(block);
+    return block;
+}
+
 void *malloc(size_t size) {
     if (!marks(size) && refuses()) {
         errno = ENOMEM;
         return NULL;
     }
-    return __libc_malloc(size);
+    return given(__libc_malloc(size));
+}
+
+void *calloc(size_t count, size_t size) {
+    return given(__libc_calloc(count, size));
 }
 
 void *realloc(void *block, size_t size) {
+    size_t before = malloc_usable_size(block);
     if (refuses()) {
+        counts->fewer += place == INSIDE && size <= before;
         errno = ENOMEM;
         return NULL;
     }
-    return __libc_realloc(block, size);
+    void *moved = __libc_realloc(block, size);
+    if (moved != NULL)
+        counts->live -= before;
+    return given(moved);
+}
+
+void free(void *block) {
+    counts->live -= malloc_usable_size(block);
+    __libc_free(block);
 }
 
 ssize_t read(int file, void *octets, size_t size) {
@@ -116,7 +142,10 @@ ssize_t read(int file, void *octets, size_t size) {
         }
         size = 1;
     }
-    return next(file, octets, size);
+    ssize_t count = next(file, octets, size);
+    if (size > 0 && count == 0)
+        counts->held = counts->live;
+    return count;
 }
 
 ssize_t write(int file, const void *octets, size_t size) {

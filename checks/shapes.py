@@ -7,7 +7,8 @@ Each file is made in two sizes, the second twice the first. The peak of memory o
 stands below, and the processor time of the larger is at most 2.6 times that of the smaller, each the least of three
 runs. Where it is more, which on a busy machine may be by what others leave of the caches, instructions decide, if
 valgrind is there to count them, and else three more runs, four times at most. A line tells the peaks, the times in
-milliseconds, and how often the second holds the first. It takes a C compiler, for usage.c beside this file.
+milliseconds, and how often the second holds the first. Then held.py bounds what is held behind large things. It takes
+a C compiler, for usage.c and refusing.c beside this file.
 """
 import sys
 import tempfile
@@ -16,6 +17,8 @@ from pathlib import Path
 from typing import Callable, NamedTuple
 
 import shaped
+from calling import Calls
+from held import faults_of_held
 from using import MIB, PEAK_OF_LINES, Runs
 
 RUNS = 3
@@ -156,8 +159,10 @@ def faults_of_shapes(runs):
 def main():
     if len(sys.argv) != 2:
         sys.exit(__doc__)
+    program = Path(sys.argv[1]).resolve()
     with tempfile.TemporaryDirectory() as folder:
-        faults = list(faults_of_shapes(Runs(Path(sys.argv[1]).resolve(), Path(folder))))
+        faults = list(faults_of_held(Calls(program, Path(folder))))
+        faults += faults_of_shapes(Runs(program, Path(folder)))
     for what in faults:
         print(what)
     print('shapes: %s' % ('no faults' if not faults else '%d faults' % len(faults)))

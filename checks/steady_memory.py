@@ -29,6 +29,14 @@ def old_table_entries(count):
         yield old_entry(number, number % 2, route(segment(2, 64496, number)))
 
 
+def segmented_entries(count):
+    """Records of the only peer with paths of three segments, which have no place."""
+    yield index(1)
+    for number in range(count):
+        path = segment(4, 64496) + segment(4, 64500 + number) + segment(4, number)
+        yield table(number, net(number), [entry(0, route(path))])
+
+
 def messages(count):
     """UPDATEs that announce two prefixes and withdraw one."""
     for number in range(count):
@@ -43,7 +51,8 @@ def run_over(calls, octets):
 
 def faults_of_requests(calls):
     """Runs the program over short and long files of each kind, and gives what is wrong."""
-    for make, lines in ((table_entries, 4200), (old_table_entries, 2000), (messages, 6000)):
+    for make, lines in ((table_entries, 4200), (old_table_entries, 2000), (segmented_entries, 2000),
+                        (messages, 6000)):
         short, long = (run_over(calls, b''.join(make(count))) for count in (SHORT, LONG))
         if (short.status, long.status, long.out.count(b'\n')) != (0, 0, lines):
             yield '%s: statuses %d and %d, %d lines' % (

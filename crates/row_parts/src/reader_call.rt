@@ -6,7 +6,7 @@ use crate::devices::{Devices, put_calls, put_calls_by};
 use crate::dumped::{dump, dump_by};
 use crate::events::put_events;
 use crate::printed::put_printed;
-use crate::routes::{Keeping, put_routes, put_shared};
+use crate::routes::{Keeping, put_routes, put_shared, put_shared_of_all};
 use crate::row::Row;
 use crate::settings::put_settings;
 use bgp_wire::AsWidth;
@@ -33,6 +33,8 @@ pub enum ReaderCall {
     Routes(Keeping),
     /// Which items of events share a route.
     Shared,
+    /// The same of all events together, while all are held.
+    SharedOfAll,
     /// What the attributes of a table's entry say.
     Entry(Family, AsWidth),
     /// What the attributes of a message say.
@@ -90,6 +92,7 @@ const READER_CALLS: &[(&str, &[ReaderCall])] = &[
         ],
     ),
     ("shared", &[ReaderCall::Shared]),
+    ("shared whole", &[ReaderCall::SharedOfAll]),
     ("entry v4 two", &[ReaderCall::Entry(V4, TWO)]),
     ("entry v4 four", &[ReaderCall::Entry(V4, FOUR)]),
     ("entry v6 four", &[ReaderCall::Entry(V6, FOUR)]),
@@ -182,6 +185,7 @@ impl ReaderCall {
             ReaderCall::Calls => put_calls(alloc, octets, text),
             ReaderCall::Routes(keeping) => put_routes(alloc, keeping, octets, text),
             ReaderCall::Shared => put_shared(alloc, octets, text),
+            ReaderCall::SharedOfAll => put_shared_of_all(alloc, octets, text),
             ReaderCall::Segments(width) => put_segments(alloc, width, octets, text),
             ReaderCall::Again(again) => put_again(alloc, again, octets, text),
             ReaderCall::Parts => put_parts(alloc, octets, text),

@@ -206,6 +206,50 @@ fn put_sharers_of(event: &Event, text: &mut Shown) {
     text.put(b"\n");
 }
 
+/// The same of all events together, whose routes are held: of each announcement the place of the
+/// first one of all that has its route.
+pub(crate) fn put_shared_of_all(alloc: Global, octets: &[u8], text: &mut Shown) {
+    let mut source = Source::new(alloc, Stamp::Dump, LIMIT);
+    let mut input = ReadInput::new(octets);
+    let mut routes = Vec::new(alloc);
+    for _ in 0..MOST_ANSWERS {
+        let Ok(Next::Event(event)) = source.next(&mut input) else {
+            return;
+        };
+        text.put(b"routes");
+        let held = put_places(event.items.as_slice(), &mut routes, text);
+        text.note(held);
+        text.put(b"\n");
+    }
+}
+
+/// Appends the place of the route of each announcement among these and the further ones, and holds it.
+fn put_places(
+    items: &[Item],
+    routes: &mut Vec<Rc<Route>>,
+    text: &mut Shown,
+) -> Result<(), AllocError> {
+    for item in items {
+        if let Item::Announce(_, _, route) = item {
+            routes.push(route.clone()?)?;
+            put_count(b" ", place_of(routes, route), text);
+        }
+    }
+    Ok(())
+}
+
+/// The place of the first of these routes that is this one, and not one that equals it.
+fn place_of(routes: &[Rc<Route>], route: &Rc<Route>) -> u64 {
+    let mut place = 0u64;
+    for other in routes {
+        if Rc::ptr_eq(other, route) {
+            return place;
+        }
+        place = place.saturating_add(1);
+    }
+    place
+}
+
 /// The place of the first item that has the route of this one.
 fn first_with(items: &[Item], item: &Item) -> Option<u64> {
     let mut place = 0u64;

@@ -14,12 +14,13 @@
 //! line is answered by one.
 
 use crate::appended::{Front, put_appended};
+use crate::marks;
 use crate::parts::{family_word, put_part};
 use crate::paths::{numbers_of, path_of};
 use crate::shown::Shown;
 use crate::spelled::put_digits;
 use crate::turns::put_between;
-use crate::words::{NONE, UNREAD, address_word, number_word, prefix_word, split_word};
+use crate::words::{NONE, REFUSED, UNREAD, address_word, number_word, prefix_word, split_word};
 use bgp_wire::{AsPath, WireFault, put_communities};
 use ip_prefix::{Addr, Prefix, V4_OCTETS, V6_OCTETS, put_decimal};
 use std::alloc::{AllocError, Global};
@@ -94,9 +95,18 @@ fn put_address(front: Front<'_>, address: Option<Addr>, text: &mut Shown) {
     }
 }
 
-/// A copy of the segments of a copy of the path that the words spell.
+/// A copy of a copy of the path that the words spell, by a call that is marked.
 fn copied(alloc: Global, words: &str) -> Result<AsPath, AllocError> {
-    let copy = path_of(alloc, words)?.clone()?;
+    let path = path_of(alloc, words)?;
+    marks::begin(alloc);
+    let copy = copy_of(&path);
+    marks::end(alloc);
+    copy
+}
+
+/// A copy of the segments of a copy of the path.
+fn copy_of(path: &AsPath) -> Result<AsPath, AllocError> {
+    let copy = path.clone()?;
     Ok(AsPath {
         segments: copy.segments.clone()?,
     })
@@ -106,7 +116,7 @@ fn copied(alloc: Global, words: &str) -> Result<AsPath, AllocError> {
 fn put_path(front: Front<'_>, made: Result<AsPath, AllocError>, text: &mut Shown) {
     match made {
         Ok(path) => put_appended(front, |octets| path.put_text(octets), text),
-        Err(AllocError) => text.note(Err(AllocError)),
+        Err(AllocError) => text.put(REFUSED),
     }
 }
 

@@ -8,7 +8,8 @@ use bgp_wire::{
     read_rib_attrs,
 };
 use ip_prefix::{Addr, Family};
-use std::alloc::Global;
+use mrt_events::Route;
+use std::alloc::{AllocError, Global};
 
 /// Appends what is written of octets that can't be read, or where memory is refused.
 pub(crate) fn put_unread(fault: WireFault, text: &mut Shown) {
@@ -32,19 +33,23 @@ fn entry_of(
     attrs
 }
 
-/// Appends what the octets say as attributes of a table's entry, shown of a copy.
+/// Appends what the octets say as attributes of a table's entry, shown of a copy of a route that has
+/// them.
 pub fn put_entry(alloc: Global, family: Family, width: AsWidth, octets: &[u8], text: &mut Shown) {
     match entry_of(alloc, family, width, octets) {
-        Ok(attrs) => put_copy(&attrs, text),
+        Ok(attrs) => put_copy(alloc, &Route { attrs, time: 0 }, text),
         Err(fault) => put_unread(fault, text),
     }
 }
 
-/// Appends what a copy of attributes says.
-fn put_copy(attrs: &Attrs, text: &mut Shown) {
-    match attrs.clone() {
-        Ok(copy) => put_attrs(&copy, text),
-        Err(_) => put_unread(WireFault::Memory, text),
+/// Appends what the attributes of a copy of a route say, which a call makes that is marked.
+fn put_copy(alloc: Global, route: &Route, text: &mut Shown) {
+    marks::begin(alloc);
+    let copied: Result<_, _> = route.clone();
+    marks::end(alloc);
+    match copied {
+        Ok(copy) => put_attrs(&copy.attrs, text),
+        Err(AllocError) => put_unread(WireFault::Memory, text),
     }
 }
 
