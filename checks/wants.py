@@ -15,14 +15,28 @@ CHECKS = ('row_parts', 'row_stores', 'row_values', 'rows', 'store_bench', 'test_
 
 # How many stand in each function, and what it makes them of.
 KNOWN = {
-    # Of std's refusal of an allocation, of which `?` makes them.
+    # Of std's refusal of an allocation: `?` calls these.
     ('bgp_paths/src/fault.rt', 'from'): 2,
     ('mrt_frames/src/fault.rt', 'from'): 1,
-    ('mrt_wire/src/judging.rt', 'from'): 2,  # The second of a fault of what a record's body holds.
     ('rib_player/src/player.rt', 'from'): 1,
-    ('bgpdump_lines/src/fault.rt', 'from'): 3,  # The others of the source's fault, and of that of writing.
     ('bgpdump_command_line/src/usage.rt', 'from'): 1,
-    ('bgpdump/src/ending.rt', 'from'): 2,
+    ('bgpdump/src/ending.rt', 'from'): 1,
+    # Of that, and of the fault of what a record's body holds.
+    ('mrt_wire/src/judging.rt', 'from'): 2,
+    # Of a refusal of what judging a record asked for.
+    ('mrt_wire/src/source.rt', 'record_answer'): 1,
+    # Of std's refusal, of a source's fault or one that is spent, which no run asks again, and of that of writing.
+    ('bgpdump_lines/src/fault.rt', 'from'): 3,
+    # Of the only fault that an event which is played may have.
+    ('bgpdump_tool/src/session.rt', 'step'): 1,
+    ('bgpdump_tool/src/carrying/moves.rt', 'play_loss'): 1,
+    # Of an error of `clap` that says so.
+    ('bgpdump_command_line/src/command_line.rt', 'parse_fault'): 1,
+    # Of an error of the system, or of std's readers, that says so.
+    ('bgpdump/src/files.rt', 'read_outcome'): 1,
+    ('bgpdump/src/files.rt', 'not_opened'): 1,
+    # The status of words that were refused for it.
+    ('bgpdump/src/ending.rt', 'status'): 1,
 }
 
 USE = re.compile(r'^[ ]*(?:pub(?:\([^)]*\))? )?use\b[^;]*;', re.M)

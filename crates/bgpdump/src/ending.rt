@@ -40,8 +40,8 @@ impl From<AllocError> for Ending<'_> {
 impl<T: Drop> From<AllocFailed<T>> for Ending<'_> {
     ghost from_gives = { λ _ ending. ending ≡ Ran Memory };
 
-    fn from(_: AllocFailed<T>) -> Self {
-        Ending::Ran(Outcome::Memory)
+    fn from(failed: AllocFailed<T>) -> Self {
+        Ending::from(AllocError::from(failed))
     }
 }
 

@@ -2,14 +2,13 @@
 //! program calls none of them: that they are proved shows that nothing in between loses, changes or
 //! hides an octet.
 
-ghost use Rattle.std.specs.Prelude.{◌≡◌, ◌≤◌, [], length, Some, IfOk};
-ghost use Rattle.bgpdump_tool.specs.Course.{play_texts};
+ghost use Rattle.std.specs.Prelude.{◌≡◌, [], Some, IfOk};
 ghost use Rattle.bgpdump_tool.specs.Run.{dump_texts};
-ghost use Rattle.bgpdump.specs.Endings.{HoldTexts, OverLines};
+ghost use Rattle.bgpdump.specs.Endings.{HoldTexts, HoldReplies};
 
 use crate::hints::{NotedDevices, NotedReader};
 use crate::run::{Devices, Ended, dump, play};
-use bgpdump_tool::{LONGEST_SCRIPT, Outcome};
+use bgpdump_tool::Outcome;
 use mrt_wire::Stamp;
 use std::alloc::{AllocError, Global};
 use std::collections::VecDeque;
@@ -71,9 +70,7 @@ fn play_known<R: Read + Drop, O: Write + Drop, E: Write + Drop>(
     requires reader { R.remaining devices.reader ≡ Some octets.now }
     requires out { O.contents devices.out ≡ Some [] }
     requires err { E.contents devices.err ≡ Some [] }
-    ensures { IfOk result (λ ended. length script.now ≤ LONGEST_SCRIPT →
-        OverLines script.now (λ lines.
-        HoldTexts O.contents E.contents stamp (play_texts lines) octets.now ended)) }
+    ensures { IfOk result (HoldReplies O.contents E.contents stamp script.now octets.now) }
 {
     let noted = NotedDevices::new(alloc, devices)?;
     Ok(play(alloc, stamp, script, noted.devices))

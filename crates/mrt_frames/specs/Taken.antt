@@ -87,6 +87,10 @@ TakesBody limit buffer size (Ok true) left taken octets = (octets ≡ take size 
 TakesBody limit buffer size (Ok false) left taken octets = IsAtEnd left × (length octets < size)
 TakesBody limit buffer size (Err fault) left taken octets = (length octets < size) × Stops fault taken limit
 
+-- the octets of a body that is passed over, or fewer
+abbrev pub PassesBody : ℕ → ℕ → Result Bool SourceFault → Option (List ℕ) → ℕ → List ℕ → Type 0
+PassesBody limit size result left taken octets = TakesBody limit octets size result left taken octets
+
 -- the octets of a record, whose body stands at the front of the buffer, if such records are supported, and was passed over if they aren't; or the rest
 abbrev pub TakesRecord : {F : Type 0} → (ℕ → ℕ → Option F) → ℕ → List ℕ → Result (Front F) SourceFault → Option (List ℕ) → ℕ → List ℕ → Type 0
 TakesRecord form_at limit buffer (Ok (front.Record header form)) left taken octets =

@@ -1,7 +1,7 @@
 //! The records of an input, one behind the other.
 
 ghost use Rattle.std.specs.Prelude.{◌≡◌, ◌+◌, ◌≤◌, ◌||◌, ℕ, Option, IfOk, IsTrue, take, length, vec_len};
-ghost use Rattle.mrt_frames.specs.Taken.{is_read, answer_of_source, TakesOctets, TakesHeader, TakesBody, TakesRecord};
+ghost use Rattle.mrt_frames.specs.Taken.{is_read, answer_of_source, TakesOctets, TakesHeader, TakesBody, PassesBody, TakesRecord};
 
 use crate::buffer::{fill_body, fill_part, fill_within};
 use crate::fault::{RecordKind, SourceFault, TakeFault};
@@ -129,9 +129,7 @@ impl FrameReader {
     /// Passes over a body, and answers whether it is whole.
     #[inline(never)]
     fn pass_body<I: Input>(&mut self, input: &mut I, size: u32) -> Result<bool, TakeFault>
-        ensures octets { TakesOctets
-            (λ left taken body.
-            TakesBody self.new.limit body size (answer_of_source result) left taken body)
+        ensures octets { TakesOctets (PassesBody self.new.limit size (answer_of_source result))
             (I.left input.old) (I.left input.new) self.old.taken self.new.taken }
         ensures failed { I.failed input.new
             ≡ (I.failed input.old || is_read (answer_of_source result)) }

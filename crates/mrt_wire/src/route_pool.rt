@@ -5,7 +5,8 @@ ghost use Rattle.mrt_wire.specs.declared.route_pool.TheConstants.{MOST_ROUTES, M
 ghost use Rattle.mrt_wire.specs.Items.{route_of};
 ghost use Rattle.mrt_wire.specs.Judging.{IsSentAs, RefusesSent};
 
-use bgp_wire::{AsWidth, Attrs, WireFault, replace_attrs, replace_rib_attrs};
+use crate::replacing::put_attrs;
+use bgp_wire::{AsWidth, Attrs, WireFault, replace_rib_attrs};
 use ip_prefix::Family;
 use mrt_events::{Route, route_room};
 use std::alloc::{AllocError, Global};
@@ -113,41 +114,6 @@ pub(crate) struct RoutePool {
     ghost bounded: { vec_len routes ≤ MOST_ROUTES },
     ghost below: { given < MOST_ROUTES },
     ghost fits: { room ≤ MOST_ROOM },
-}
-
-/// Makes the attributes the others, which get the memory of these. It is done part by part, since
-/// only paths and communities have memory: to exchange the whole takes a hundred instructions more.
-#[inline(always)]
-fn exchange_attrs(attrs: &mut Attrs, others: &mut Attrs)
-    ensures { attrs.new ≡ others.old }
-{
-    mem::swap(&mut attrs.path, &mut others.path);
-    mem::swap(&mut attrs.communities, &mut others.communities);
-    attrs.next_hop = others.next_hop;
-    attrs.aggregator = others.aggregator;
-    attrs.med = others.med;
-    attrs.local_pref = others.local_pref;
-    attrs.origin = others.origin;
-    attrs.atomic = others.atomic;
-}
-
-/// Puts the attributes in the place of these: a copy where they are kept, and else they are given
-/// away for these.
-#[inline(always)]
-fn put_attrs(
-    alloc: Global,
-    attrs: &mut Attrs,
-    others: &mut Attrs,
-    is_kept: bool,
-) -> Result<(), AllocError>
-    ensures put { OnOk result (attrs.new ≡ others.old) }
-    ensures kept { is_kept ≡ true → others.new ≡ others.old }
-{
-    if is_kept {
-        return replace_attrs(alloc, attrs, others);
-    }
-    exchange_attrs(attrs, others);
-    Ok(())
 }
 
 /// A new route of these attributes and this time, as `RoutePool::route`.
