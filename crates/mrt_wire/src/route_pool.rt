@@ -77,9 +77,9 @@ fn read_rib_route(alloc: Global, sent: SentAttrs<'_>, time: u32) -> Result<Rc<Ro
     ensures read { IfOk result (λ route. IsSentAs sent.entry time route.value) }
     ensures refused { IfErr result (RefusesSent sent.entry) }
 {
-    let mut route = blank_route(alloc);
-    fill_rib_route(&mut route, alloc, sent, time)?;
-    Ok(Rc::new(alloc, route)?)
+    let mut shared = new_route(alloc)?;
+    fill_rib_route(Rc::make_mut(&mut shared)?, alloc, sent, time)?;
+    Ok(shared)
 }
 
 /// The same, into the route that stands here, or, where somebody else holds it, into a new one in its
