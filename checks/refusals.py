@@ -38,10 +38,10 @@ OUT_OF_MEMORY, READ_FAULT, WRITE_FAULT = (
 # of ours. The reader of words tries other spellings of a value, and says of those alone what it has memory for.
 OF_PATHS = 'room for segments of longer paths'
 SPELLINGS = 'spellings of a value that are compared with others'
-# Before all else, and once in each call.
-OF_STREAMS = 'the name of the folder that takes the numbers of closed streams'
+# Once in each call, where the standard library collects the words: refused that, it asks for less.
+OF_WORDS = 'room for all words at once'
 
-# How many of them each call does without besides OF_STREAMS, by its words. Those of the others do without none.
+# How many of them each call does without besides OF_WORDS, by its words. Those of the others do without none.
 WITHOUT = {
     '-m old-table.mrt': {OF_PATHS: 2},
     '-t none -m one': {SPELLINGS: 5},
@@ -113,11 +113,11 @@ def refuse_memory(calls, call, right):
                 others += 1 - ended.fewer
     if refusals == 0:
         yield '%s: no refused request was met' % call.shown()
-    known = {OF_STREAMS: 1} | WITHOUT.get(call.shown(), {})
-    moved = sum(number for what, number in known.items() if what in (OF_STREAMS, SPELLINGS))
-    if (fewer, others) != (sum(known.values()) - moved, moved):
+    known = {OF_WORDS: 1} | WITHOUT.get(call.shown(), {})
+    not_ours = sum(number for what, number in known.items() if what in (OF_WORDS, SPELLINGS))
+    if (fewer, others) != (sum(known.values()) - not_ours, not_ours):
         yield '%s: %d requests that give room back and %d others are done without, where %d and %d are known' % (
-            call.shown(), fewer, others, sum(known.values()) - moved, moved)
+            call.shown(), fewer, others, sum(known.values()) - not_ours, not_ours)
 
 
 def fail_devices(calls, call, right):
