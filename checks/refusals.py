@@ -103,7 +103,7 @@ def refuse_memory(calls, call, right):
     for number in range(1, right.made['memory'] + 1):
         for last in (number, ALL):
             ended = call.run(calls, 'memory', number, last)
-            is_whole_still = is_whole(ended, right)
+            is_whole_still = is_whole(ended, right) and (last == number or ended.fewer == ended.failed)
             if ended.failed == 0 or not is_whole_still and not is_front(ended, right, 4, OUT_OF_MEMORY):
                 behind = ' and all behind it' if last == ALL else ''
                 yield fault(call, 'request %d%s refused, %d met' % (number, behind, ended.failed), ended)
