@@ -8,7 +8,7 @@ which its text lies, those of inner functions too, which the gate doesn't try; `
 nothing; tests stand in a crate of their own; no two files of a crate import each other; links between
 documents lead somewhere, and the edits that docs/proved.md names and the files of code that documents
 name are there; the texts of each example are there; the files of rows and their counts are named; the
-version is the same wherever it is named.
+version is the same wherever it is named; no code makes a want of memory that isn't known to hand one on.
 The status is 1 where something is wrong, and each fault is told on a line of its own.
 """
 import itertools
@@ -18,6 +18,8 @@ import subprocess
 import sys
 import tempfile
 from pathlib import Path
+
+from wants import faults_of_wants
 
 TOP = Path(__file__).resolve().parent.parent
 PARTS = ('src', 'specs', 'proofs')
@@ -214,7 +216,7 @@ def main():
         for faults in (faults_of_edits, faults_of_named_edits, faults_of_format, faults_of_crates, faults_of_imports,
                        faults_of_links, faults_of_named_files, faults_of_examples, faults_of_rows, faults_of_version)
         for place, fault in faults()
-    ]
+    ] + list(faults_of_wants(item_before))
     for place, fault in found:
         print(f'{place.relative_to(TOP)}: {fault}')
     print(f'quick checks: {len(found) or "no"} faults')

@@ -13,8 +13,9 @@ from pathlib import Path
 
 TOP = Path(__file__).resolve().parent.parent
 NOTED = {
-    'functions whose name begins with no verb of docs/architecture.md': 475,
-    'functions of more than five parameters': 0,
+    'functions whose name begins with no verb of docs/architecture.md': 510,
+    # A whole run of a script, and one of its lines.
+    'functions of more than five parameters': 2,
     'clauses of more than 160 characters': 0,
     'files of more than 320 lines': 0,
 }
@@ -22,7 +23,7 @@ NOTED = {
 CHECKS = ('row_parts', 'row_stores', 'row_values', 'rows', 'store_bench', 'test_devices', 'workload_inputs',
           'workloads')
 
-FUNCTION = re.compile(r'^ *(?:pub(?:\([^)]*\))? )?(?:const )?fn (\w+)(?:<[^>]*>)?\(', re.M)
+FUNCTION = re.compile(r'^ *(?:pub(?:\([^)]*\))? )?(?:(?:const|final|unsafe) )*fn (\w+)', re.M)
 CLAUSE = re.compile(r'\b(?:requires|ensures)\b[^{]*\{((?:[^{}]|\{[^{}]*\})*)\}')
 
 
@@ -38,33 +39,41 @@ def texts():
         yield file.relative_to(TOP), file.read_text()
 
 
-def parameters_behind(text, start):
-    """How many parameters stand between the bracket that was opened there and its end."""
-    depth, parts, is_begun = 0, 0, False
-    for letter in text[start:]:
+def parts_behind(text, start):
+    """The parts between the bracket that stands there and its end, and where it ends. An arrow is no
+    bracket."""
+    depth, parts, is_begun, place = 0, 0, False, start
+    for place in range(start, len(text)):
+        letter = text[place]
         if letter in '(<[{':
             depth += 1
-        elif letter in ')>]}':
+        elif letter in ')>]}' and text[place - 1] not in '-=':
             depth -= 1
-        if depth < 0:
+        if depth == 0:
             break
-        if letter == ',' and depth == 0:
+        if letter == ',' and depth == 1:
             is_begun = False
-        elif not letter.isspace() and not is_begun:
+        elif place > start and not letter.isspace() and not is_begun:
             parts, is_begun = parts + 1, True
-    return parts
+    return parts, place + 1
+
+
+def functions():
+    """Each function: its file, its name, and how many parameters it has, `self` among them."""
+    for file, text in texts():
+        for it in FUNCTION.finditer(text):
+            _, start = parts_behind(text, it.end()) if text[it.end()] == '<' else (0, it.end())
+            yield file, it[1], parts_behind(text, start)[0]
 
 
 def functions_without_a_verb():
     table = (TOP / 'docs/architecture.md').read_text().partition('## What names begin with')[2]
     verbs = tuple(re.findall(r'`(\w+_)`', table))
-    return [f'{file}: {name}' for file, text in texts() for name in FUNCTION.findall(text)
-            if not name.startswith(verbs)]
+    return [f'{file}: {name}' for file, name, _ in functions() if not name.startswith(verbs)]
 
 
 def functions_of_many_parameters():
-    return [f'{file}: {it[1]}' for file, text in texts() for it in FUNCTION.finditer(text)
-            if parameters_behind(text, it.end()) > 5]
+    return [f'{file}: {name}' for file, name, count in functions() if count > 5]
 
 
 def long_clauses():

@@ -3,11 +3,12 @@
 
     checks/trusted.py [CALL]
 
-From the clauses of a call it goes through the words that they cite, and through the words that these
-cite, to all definitions in the crates' specs/ folders, and through the values that contracts see of
-the types in between. With a CALL it prints these definitions, those first that others stand on.
-Without one it compares the lists of docs/proved.md with what it finds for each call that they name,
-tells the first line of each that differs, and looks that a file of specs/ is all on these lists, or not at all: then its first line is PRIVATE.
+From the clauses of a call, or of all public calls of a type or a trait, it goes through the words that
+they cite, and through the words that these cite, to all definitions in the crates' specs/ folders, and
+through the values that contracts see of the types in between. With a CALL it prints these definitions,
+those first that others stand on. Without one it compares the lists of docs/proved.md with what it finds
+for each that they name, tells the first line of each that differs, and looks that a file of specs/ is
+all on these lists, or not at all: then its first line is PRIVATE.
 """
 import re
 import sys
@@ -19,11 +20,14 @@ TOP = Path(__file__).resolve().parent.parent
 CRATES = TOP / 'crates'
 LISTS = TOP / 'docs/proved.md'
 
-# The calls whose lists stand in docs/proved.md, each with the file that has it.
+# The calls whose lists stand in docs/proved.md, each with the file that has it: by the name of a type or
+# a trait all that it has.
 CALLS = {
     'run_dump': 'bgpdump_lines/src/dump.rt',
     'run_play': 'bgpdump_tool/src/play.rt',
-    'Player::play': 'rib_player/src/player.rt',
+    'Player': 'rib_player/src/player.rt',
+    'Table': 'rib_player/src/table.rt',
+    'PrefixStore': 'prefix_store/src/store.rt',
     'settings': 'bgpdump_command_line/src/command_line.rt',
 }
 
@@ -204,25 +208,40 @@ class Reading:
             self.see(inner, crate_of(path))
 
 
-def contract_of(call):
-    """The head and the clauses of a call, without its body, and the file that has it."""
+def contract_of(text, call):
+    """The head and the clauses of a call, without its body."""
+    found = re.search(r'(?m)^( *)pub fn %s\b.*?\n\1\{$' % call, text, re.S)
+    return found.group(0) if found else None
+
+
+def contracts_in(text, owner):
+    """The same of the public calls of a type, and of all calls and members of a trait."""
+    for head, body in re.findall(r'(?m)^((?:impl|pub trait)\b[^\n]*)\{\n(.*?)^\}', text, re.S):
+        if re.match(r'(?:impl(?:<.*?>)? |pub trait )%s\b' % owner, head):
+            bare = re.sub(r'(?m)^    \{\n.*?^    \}\n', '    {\n', body, flags=re.S)
+            wanted = r'fn|ghost' if head.startswith('pub trait') else r'pub fn'
+            yield from re.findall(r'(?m)^    (?:%s) .*?(?:;|\{)$(?=\n\n|\n*\Z|\n        )' % wanted, bare, re.S)
+
+
+def contracts_of(call):
+    """The heads and the clauses of what is listed, and the file that has it."""
     path = CRATES / CALLS[call]
     text = path.read_text()
-    name = call.rpartition('::')[2]
-    found = re.search(r'(?m)^( *)pub fn %s\b.*?\n\1\{$' % name, text, re.S)
-    if not found:
+    found = [contract_of(text, call)] if call[0].islower() else list(contracts_in(text, call))
+    if not all(found) or not found:
         sys.exit('trusted: %s has no %s' % (CALLS[call], call))
-    return found.group(0), path
+    return found, path
 
 
 def reading_of(call):
-    contract, path = contract_of(call)
+    contracts, path = contracts_of(call)
     reading = Reading()
-    reading.follow(contract, scope_of(path))
-    head = contract.partition('ensures')[0]
-    owner = call.partition('::')[0] if '::' in call else ''
-    for name in re.findall(r'\b[A-Z]\w+', '%s %s' % (owner, head)):
-        reading.see(name, crate_of(path))
+    for contract in contracts:
+        reading.follow(contract, scope_of(path))
+    for contract in contracts:
+        head = contract.partition('ensures')[0]
+        for name in re.findall(r'\b[A-Z]\w+', '%s %s' % (call, head)):
+            reading.see(name, crate_of(path))
     return reading.order
 
 

@@ -1,7 +1,8 @@
 //! AS4_PATH and AS4_AGGREGATOR beside AS numbers of two octets (RFC 6793, section 4.2.3).
 
-ghost use Rattle.std.specs.Prelude.{◌≡◌, List, OnOk};
+ghost use Rattle.std.specs.Prelude.{◌≡◌, List, OnOk, IfErr};
 ghost use Rattle.bgp_paths.specs.declared.numbers.AsWidth.TheVariants.{Two};
+ghost use Rattle.bgp_paths.specs.declared.fault.WireFault.TheVariants.{Memory};
 ghost use Rattle.bgp_wire.specs.Attribute.{Attribute};
 ghost use Rattle.bgp_wire.specs.Content.{firsts_of, Says};
 ghost use Rattle.bgp_wire.specs.PlainValues.{SaysPlainly, AreLater};
@@ -10,7 +11,7 @@ use crate::attribute_list::LaterValues;
 use crate::attrs::{Aggregator, Attrs};
 use crate::values::read_as4_aggregator;
 use bgp_paths::{AsPath, AsWidth, WireFault, merge_paths};
-use std::alloc::{AllocError, Global};
+use std::alloc::Global;
 
 /// The AS number that stands for one that takes four octets (RFC 6793, section 9).
 const AS_TRANS: u32 = 23456;
@@ -23,10 +24,11 @@ pub(crate) fn join_passed(
     attrs: &mut Attrs,
     width: AsWidth,
     later: &LaterValues,
-) -> Result<(), AllocError>
+) -> Result<(), WireFault>
     ensures said { OnOk result ((list : List Attribute) →
         SaysPlainly width attrs.old (firsts_of list) → AreLater later.now (firsts_of list) →
         Says width attrs.new list) }
+    ensures refused { IfErr result (λ fault. fault ≡ Memory) }
     ensures kept { attrs.new.next_hop ≡ attrs.old.next_hop }
 {
     match width {
@@ -39,10 +41,11 @@ pub(crate) fn join_passed(
 
 /// Where AS4_PATH or AS4_AGGREGATOR stands beside numbers of two octets.
 #[inline(never)]
-fn join_as4(alloc: Global, attrs: &mut Attrs, later: &LaterValues) -> Result<(), AllocError>
+fn join_as4(alloc: Global, attrs: &mut Attrs, later: &LaterValues) -> Result<(), WireFault>
     ensures said { OnOk result ((list : List Attribute) →
         SaysPlainly Two attrs.old (firsts_of list) → AreLater later.now (firsts_of list) →
         Says Two attrs.new list) }
+    ensures refused { IfErr result (λ fault. fault ≡ Memory) }
     ensures kept { attrs.new.next_hop ≡ attrs.old.next_hop }
 {
     let as4 = read_as4_aggregator(later.as4_aggregator);
@@ -61,7 +64,7 @@ fn join_as4(alloc: Global, attrs: &mut Attrs, later: &LaterValues) -> Result<(),
     match path.fill(alloc, AsWidth::Four, octets) {
         Ok(()) => attrs.path = merge_paths(alloc, &attrs.path, &path)?,
         Err(WireFault::Malformed) => {}
-        Err(WireFault::Memory) => return Err(AllocError),
+        Err(memory) => return Err(memory),
     }
     Ok(())
 }

@@ -5,6 +5,7 @@ mod as4;
 mod attribute_list;
 mod attrs;
 mod framing;
+mod ill_formed;
 mod laws;
 mod lengths;
 mod message;

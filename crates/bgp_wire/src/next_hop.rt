@@ -1,14 +1,15 @@
 //! Reading next hops (RFC 4760, section 3; RFC 2545, section 3).
 
-ghost use Rattle.std.specs.Prelude.{◌≡◌, if◌then◌else◌, Option, Some, length, OnOk, OnErr, IfErr};
+ghost use Rattle.std.specs.Prelude.{◌≡◌, if◌then◌else◌, Option, Some, length, OnOk, OnErr};
 ghost use Rattle.ip_prefix.specs.Network.{Address};
 ghost use Rattle.bgp_wire.specs.PlainValues.{octets_of};
 ghost use Rattle.bgp_wire.specs.Attribute.{SpellsOptional};
 ghost use Rattle.bgp_wire.specs.Reach.{SpellsNextHop, SpellsHopAlone, SpellsRibHop, rib_hop};
-ghost use Rattle.bgp_paths.specs.Readers.{Finds, Refuses};
+ghost use Rattle.bgp_paths.specs.Path.{IsNoSpelling};
+ghost use Rattle.bgp_paths.specs.Readers.{Finds};
 
+use crate::ill_formed::IllFormed;
 use crate::values::{IPV4_SIZE, ipv4};
-use bgp_paths::WireFault;
 use ip_prefix::{Addr, Family};
 
 /// How many octets an address family and a subsequent one take (RFC 4760, section 3).
@@ -68,19 +69,19 @@ pub(crate) fn fill_rib_hop(
     family: Family,
     hop: &mut Option<Addr>,
     value: Option<&[u8]>,
-) -> Result<(), WireFault>
+) -> Result<(), IllFormed>
     ensures filled { OnOk result ((reached : Option Address)
         × SpellsOptional SpellsRibHop reached (octets_of value.entry)
         × (hop.new ≡ rib_hop family hop.old reached)) }
-    ensures refused { IfErr result
-        (Refuses (SpellsOptional SpellsRibHop) (octets_of value.entry)) }
+    ensures refused { OnErr result
+        (IsNoSpelling (SpellsOptional SpellsRibHop) (octets_of value.entry)) }
     ensures kept { OnErr result (hop.new ≡ hop.old) }
 {
     let Some(octets) = value else {
         return Ok(());
     };
     let Some(reached) = read_rib_value(octets) else {
-        return Err(WireFault::Malformed);
+        return Err(IllFormed);
     };
     if family == Family::V6 || hop.is_none() {
         *hop = Some(reached);

@@ -1,15 +1,15 @@
 //! Reading the values of path attributes, each where it is there.
 
-ghost use Rattle.std.specs.Prelude.{◌≡◌, ◌+◌, length, Some, None, IsSome, IfErr, OnOk, OnErr, IsOkUnless};
-ghost use Rattle.bgp_paths.specs.declared.fault.WireFault.TheVariants.{Malformed};
+ghost use Rattle.std.specs.Prelude.{◌≡◌, ◌+◌, length, Some, None, IsSome, OnOk, OnErr};
 ghost use Rattle.bgp_wire.specs.PlainValues.{octets_of};
 ghost use Rattle.bgp_wire.specs.Content.{SpellsWhereFormed};
-ghost use Rattle.bgp_paths.specs.Path.{SpellsWord, octets_at};
+ghost use Rattle.bgp_paths.specs.Path.{IsNoSpelling, SpellsWord, octets_at};
 ghost use Rattle.bgp_wire.specs.Attribute.{SpellsPresence, SpellsOrigin, SpellsIPv4, SpellsAggregatorAt, SpellsAggregator};
-ghost use Rattle.bgp_paths.specs.Readers.{Finds, Refuses};
+ghost use Rattle.bgp_paths.specs.Readers.{Finds};
 
 use crate::attrs::{Aggregator, Origin};
-use bgp_paths::{AsWidth, WireFault};
+use crate::ill_formed::IllFormed;
+use bgp_paths::AsWidth;
 use byteorder::{BigEndian, ByteOrder};
 use ip_prefix::Addr;
 
@@ -81,13 +81,12 @@ pub(crate) fn read_aggregator(value: &[u8]) -> Option<Aggregator>
 
 /// Puts what was found in a place, or refuses where nothing was.
 #[inline(always)]
-pub(crate) fn put_found<T: Copy>(place: &mut Option<T>, found: Option<T>) -> Result<(), WireFault>
+pub(crate) fn put_found<T: Copy>(place: &mut Option<T>, found: Option<T>) -> Result<(), IllFormed>
     ensures put { OnOk result (IsSome found × (place.new ≡ found)) }
     ensures none { OnErr result (found ≡ None) }
-    ensures fault { IsOkUnless result Malformed }
 {
     if found.is_none() {
-        return Err(WireFault::Malformed);
+        return Err(IllFormed);
     }
     *place = found;
     Ok(())
@@ -95,13 +94,12 @@ pub(crate) fn put_found<T: Copy>(place: &mut Option<T>, found: Option<T>) -> Res
 
 /// Notes that ATOMIC_AGGREGATE is there, with this value (RFC 4271, section 4.3).
 #[inline]
-pub(crate) fn fill_presence(atomic: &mut bool, value: &[u8]) -> Result<(), WireFault>
+pub(crate) fn fill_presence(atomic: &mut bool, value: &[u8]) -> Result<(), IllFormed>
     ensures filled { OnOk result (SpellsPresence atomic.new (Some value.now)) }
-    ensures refused { IfErr result (Refuses SpellsPresence (Some value.now)) }
-    ensures fault { IsOkUnless result Malformed }
+    ensures refused { OnErr result (IsNoSpelling SpellsPresence (Some value.now)) }
 {
     if !value.is_empty() {
-        return Err(WireFault::Malformed);
+        return Err(IllFormed);
     }
     *atomic = true;
     Ok(())

@@ -1,5 +1,5 @@
 -- What a run writes goes through the buffers to the writers.
-use Rattle.std.proofs.Common.{◌≡◌, ◌∙◌, ◌⊎◌, ap, sym, refl, subst, inl, inr, IsNone, List, ◌++◌, ℕ, Option, Some, None, IfSome}
+use Rattle.std.proofs.Common.{◌≡◌, ◌∙◌, ◌⊎◌, ap, sym, refl, subst, inl, inr, IsNone, List, [], ◌++◌, ℕ, Option, Some, None, IfSome}
 use Rattle.std.specs.Io.KnownBytes.{Appends, Consumes, Keeps}
 use Rattle.std.proofs.KnownBytes.{Appends-kept}
 use Rattle.mrt_wire.specs.Results.{Took, Frame}
@@ -7,7 +7,11 @@ use Rattle.mrt_wire.specs.declared.Stamp.{Stamp}
 use Rattle.bgpdump_tool.specs.Run.{AppendsFront, EndedByInput, EndsSo, MayHold, Outputs, Texts, Writes, WritesFronts, outputs_of}
 use Rattle.bgpdump_tool.specs.declared.Outcome.{Outcome}
 use Rattle.bgpdump_tool.specs.declared.Outcome.TheVariants.{Done, Reported, ReadFault, WriteFault, InputTooLong, ScriptTooLong, Memory}
-use Rattle.bgpdump.specs.Endings.{lost_outcome, KeepsBoth, OverWriters}
+use Rattle.mrt_wire.specs.Results.{Finding}
+use Rattle.bgpdump_tool.specs.Run.{all_results}
+use Rattle.bgpdump.specs.declared.run.Devices.{Devices}
+use Rattle.bgpdump.specs.declared.run.Ended.{Ended}
+use Rattle.bgpdump.specs.Endings.{lost_outcome, KeepsBoth, OverWriters, LeavesSo, HoldTexts}
 
 -- ---- what stays behind a text
 
@@ -93,3 +97,14 @@ told_by_input outcome told None same lost by = elim (lost_outcomes outcome) [
 pub told_unless_lost : {W : Type 0} (outcome told ended : Outcome) (writers : Option W) → IsTold outcome told writers → outcome ≡ ended → (told ≡ ended) ⊎ IsNone writers
 told_unless_lost outcome told ended (Some both) same is = inl (same ∙ is)
 told_unless_lost outcome told ended None same is = inr refl
+
+-- ---- what writers hold that held nothing before
+
+-- over known octets a run leaves just its texts
+pub hold_texts : {R O E : Type 0} (devices : Devices R O E) (ended : Ended R O E) (remaining : R → Option (List ℕ)) (contents : O → Option (List ℕ)) (contents' : E → Option (List ℕ)) (stamp : Stamp) (texts : List Finding → Texts) (octets : List ℕ)
+    → remaining devices.reader ≡ Some octets → contents devices.out ≡ Some [] → contents' devices.err ≡ Some [] → LeavesSo remaining contents contents' stamp texts devices ended → HoldTexts contents contents' stamp texts octets ended
+hold_texts devices ended remaining contents contents' stamp texts octets known none none' leaves frames rest splits =
+    let with_out : Option (List ℕ) → Outputs = λ out. record { out = out; err = contents' devices.err } in
+    let with_err : Option (List ℕ) → Outputs = λ err. record { out = Some []; err = err } in
+    let same : outputs_of contents contents' devices.out devices.err ≡ with_err (Some []) = ap with_out none ∙ ap with_err none' in
+    subst (λ outputs. OverWriters contents contents' (EndsSo ended.outcome (texts (all_results stamp frames rest)) outputs) ended.writers) same (leaves octets frames rest known splits)

@@ -1,6 +1,6 @@
 -- Private.
 -- What a run of the program leaves, and how it ends.
-use Rattle.std.specs.Prelude.{◌≡◌, ℕ, ◌^◌, List, [], length, Option, Some, None, IfSome, IsTrue, ◌⊎◌, codes}
+use Rattle.std.specs.Prelude.{◌≡◌, ◌≤◌, ℕ, ◌^◌, List, [], length, Option, Some, None, IfSome, IsTrue, ◌⊎◌, codes}
 use Rattle.std.specs.Io.KnownBytes.{Keeps}
 use Rattle.std.specs.Io.Buffered.{reader_remaining, writer_contents}
 use Rattle.mrt_wire.specs.declared.BufferedInput.{BufferedInput}
@@ -8,6 +8,8 @@ use Rattle.mrt_wire.specs.declared.Stamp.{Stamp}
 use Rattle.mrt_wire.specs.Results.{Took, Finding, Splits, Frame}
 use Rattle.bgpdump_tool.specs.Run.{EndedByInput, EndsSo, Outputs, OverTaken, Texts, Writes, all_results, outputs_of}
 use Rattle.bgpdump_tool.specs.Script.{IsScript, Line}
+use Rattle.bgpdump_tool.specs.Course.{play_texts}
+use Rattle.bgpdump_tool.specs.declared.play.TheConstants.{LONGEST_SCRIPT}
 use Rattle.bgpdump.specs.declared.run.Devices.{Devices}
 use Rattle.bgpdump.specs.declared.run.Ended.{Ended}
 use Rattle.bgpdump.specs.declared.run.Streams.{Streams}
@@ -54,6 +56,12 @@ LeavesSo remaining contents contents' stamp texts devices ended =
     (octets : List ℕ) (frames : List Frame) (rest : List ℕ) → remaining devices.reader ≡ Some octets → Splits stamp None octets frames rest
     → Leaves contents contents' (EndsSo ended.outcome (texts (all_results stamp frames rest))) devices ended
 
+-- the writers that came back hold the texts of what is found in these octets, as far as a run has that ended so, and nothing else
+abbrev pub HoldTexts : {R O E : Type 0} → (O → Option (List ℕ)) → (E → Option (List ℕ)) → Stamp → (List Finding → Texts) → List ℕ → Ended R O E → Type 0
+HoldTexts contents contents' stamp texts octets ended =
+    (frames : List Frame) (rest : List ℕ) → Splits stamp None octets frames rest
+    → OverWriters contents contents' (EndsSo ended.outcome (texts (all_results stamp frames rest)) (record { out = Some []; err = Some [] })) ended.writers
+
 -- where the input ended the run, the writers that came back have got the texts of what the records give that were taken whole
 abbrev pub LeavesWhole : {R O E : Type 0} → (R → Option (List ℕ)) → (O → Option (List ℕ)) → (E → Option (List ℕ)) → Stamp → (List Finding → Texts) → Devices R O E → Ended R O E → Type 0
 LeavesWhole remaining contents contents' stamp texts devices ended =
@@ -64,6 +72,11 @@ LeavesWhole remaining contents contents' stamp texts devices ended =
 -- this is so of the lines that the script asks for
 abbrev pub OverLines : List ℕ → (List Line → Type 0) → Type 0
 OverLines script IsSo = (lines : List Line) → IsScript lines script → IsSo lines
+
+-- so it is with the replies to a script that isn't too long
+abbrev pub HoldReplies : {R O E : Type 0} → (O → Option (List ℕ)) → (E → Option (List ℕ)) → Stamp → List ℕ → List ℕ → Ended R O E → Type 0
+HoldReplies contents contents' stamp script octets ended =
+    length script ≤ LONGEST_SCRIPT → OverLines script (λ lines. HoldTexts contents contents' stamp (play_texts lines) octets ended)
 
 -- as many octets were taken as a run takes at most
 abbrev pub TookMost : Option (List ℕ) → Option (List ℕ) → Type 0

@@ -7,7 +7,7 @@ ghost use Rattle.bgpdump.specs.Endings.{ending_message, ending_status};
 
 use crate::hints::option_elsewhere;
 use bgpdump_tool::{Outcome, UsageFault};
-use std::alloc::AllocFailed;
+use std::alloc::{AllocError, AllocFailed};
 use std::io;
 
 /// How the program ends.
@@ -29,11 +29,19 @@ impl From<Outcome> for Ending<'_> {
     }
 }
 
+impl From<AllocError> for Ending<'_> {
+    ghost from_gives = { λ _ ending. ending ≡ Ran Memory };
+
+    fn from(_: AllocError) -> Self {
+        Ending::Ran(Outcome::Memory)
+    }
+}
+
 impl<T: Drop> From<AllocFailed<T>> for Ending<'_> {
     ghost from_gives = { λ _ ending. ending ≡ Ran Memory };
 
-    fn from(_: AllocFailed<T>) -> Self {
-        Ending::Ran(Outcome::Memory)
+    fn from(failed: AllocFailed<T>) -> Self {
+        Ending::from(AllocError::from(failed))
     }
 }
 

@@ -9,16 +9,17 @@ use bgpdump_tool::{LONGEST_SCRIPT, Mode, Outcome, STANDARD_INPUT, Settings};
 use std::alloc::Global;
 use std::fs::{self, File, Metadata};
 use std::io::{self, ErrorKind, Read};
-use std::os::unix::fs::MetadataExt;
+use std::os::unix::fs::{FileTypeExt, MetadataExt};
 use std::os::unix::io::{AsRawFd, IntoRawFd};
 
 /// How many standard streams there are. Their numbers are those below.
 const STANDARD_STREAMS: i32 = 3;
 
-/// Where the system has standard input.
-const STANDARD_INPUT_PATH: &str = "/dev/stdin";
+/// Where the system has standard input: the first is missing where `/dev` was left empty.
+const STANDARD_INPUT_PATHS: [&str; 2] = ["/dev/stdin", "/proc/self/fd/0"];
 
-/// The number that a file has on its device, and nowhere else.
+/// What tells a file from all others: its device, and its number there. A block device is told by its
+/// own number, whatever path leads to it, and has none there.
 #[derive(Clone, Copy, PartialEq, Eq)]
 struct FileNumber {
     device: u64,
@@ -89,21 +90,36 @@ fn is_read(rt: &HostRuntime, settings: &Settings, name: &str) -> io::Result<bool
     Ok(is_script || is_same_file(rt, settings.input.as_str(), name)?)
 }
 
-/// Whether what is read by one name is the regular file of the other. Where nothing has the other
-/// name yet, it isn't.
+/// Whether what is read by one name is the regular file, or the block device, of the other. Where
+/// nothing has the other name yet, it isn't. Where the system doesn't tell what standard input is, it
+/// may be.
 fn is_same_file(rt: &HostRuntime, input: &str, output: &str) -> io::Result<bool> {
-    let path = if input == STANDARD_INPUT {
-        STANDARD_INPUT_PATH
-    } else {
-        input
-    };
     let Some(output) = described(rt, output)? else {
         return Ok(false);
     };
-    let Some(input) = described(rt, path)? else {
+    if !output.is_file() && !output.file_type().is_block_device() {
         return Ok(false);
+    }
+    let is_standard = input == STANDARD_INPUT;
+    let input = if is_standard {
+        described_standard_input(rt)?
+    } else {
+        described(rt, input)?
     };
-    Ok(output.is_file() && is_one_file(FileNumber::of(&input), FileNumber::of(&output)))
+    Ok(match input {
+        Some(input) => is_one_file(FileNumber::of(&input), FileNumber::of(&output)),
+        None => is_standard,
+    })
+}
+
+/// What the system says of standard input, or None where it has no path.
+fn described_standard_input(rt: &HostRuntime) -> io::Result<Option<Metadata>> {
+    for path in STANDARD_INPUT_PATHS {
+        if let Some(metadata) = described(rt, path)? {
+            return Ok(Some(metadata));
+        }
+    }
+    Ok(None)
 }
 
 /// What the system says of the file of this name, or None where there is none.
@@ -118,7 +134,11 @@ fn described(rt: &HostRuntime, name: &str) -> io::Result<Option<Metadata>> {
 impl FileNumber {
     /// The number of the file that this is said of.
     fn of(metadata: &Metadata) -> FileNumber {
-        let (device, inode) = (metadata.dev(), metadata.ino());
+        let (device, inode) = if metadata.file_type().is_block_device() {
+            (metadata.rdev(), 0)
+        } else {
+            (metadata.dev(), metadata.ino())
+        };
         FileNumber { device, inode }
     }
 }

@@ -1,5 +1,9 @@
 //! What the program says besides, where its input or its words look like a common slip.
 
+ghost use Rattle.std.specs.Prelude.{◌≡◌, IfOk};
+
+use crate::run::Devices;
+use std::alloc::{AllocError, Global};
 use std::cell::Cell;
 use std::io::{self, Read};
 use std::rc::Rc;
@@ -78,22 +82,51 @@ impl Front {
 #[derive(Drop)]
 pub struct NotedReader<R> {
     front: Rc<Cell<Front>>,
-    reader: R,
+    pub(crate) reader: R,
 }
 
 impl<R> NotedReader<R> {
-    /// One that notes them there.
-    pub fn new(front: Rc<Cell<Front>>, reader: R) -> Self {
+    /// Returns a reader of what `reader` reads, which notes its first octets in `front`.
+    pub fn new(front: Rc<Cell<Front>>, reader: R) -> Self
+        ensures { result.reader ≡ reader }
+    {
         NotedReader { front, reader }
     }
 }
 
 impl<R: Read> Read for NotedReader<R> {
+    ghost remaining = { λ noted. R.remaining noted.reader };
+
     fn read(&mut self, buffer: &mut [u8]) -> io::Result<usize> {
         let count = self.reader.read(buffer)?;
         let mut front = self.front.get();
         front.note(&buffer[..count]);
         self.front.set(front);
         Ok(count)
+    }
+}
+
+/// The devices of a run, and the first octets of the input as far as they were read.
+#[derive(Drop)]
+pub struct NotedDevices<R, O, E> {
+    /// Where the first octets are noted.
+    pub front: Rc<Cell<Front>>,
+    /// The devices, whose reader notes them.
+    pub devices: Devices<NotedReader<R>, O, E>,
+}
+
+impl<R: Drop, O: Drop, E: Drop> NotedDevices<R, O, E> {
+    /// Returns these devices, with a reader that notes its first octets. They are dropped where memory
+    /// is refused.
+    pub fn new(alloc: Global, devices: Devices<R, O, E>) -> Result<Self, AllocError>
+        ensures reader { IfOk result (λ noted. noted.devices.reader.reader ≡ devices.reader) }
+        ensures out { IfOk result (λ noted. noted.devices.out ≡ devices.out) }
+        ensures err { IfOk result (λ noted. noted.devices.err ≡ devices.err) }
+    {
+        let front = Rc::new(alloc, Cell::new(Front::none()))?;
+        let Devices { reader, out, err } = devices;
+        let reader = NotedReader::new(front.clone()?, reader);
+        let devices = Devices { reader, out, err };
+        Ok(NotedDevices { front, devices })
     }
 }

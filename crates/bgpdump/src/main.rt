@@ -5,17 +5,16 @@
 mod ending;
 mod files;
 mod hints;
+mod in_memory;
 mod run;
 
 use bgpdump_tool::{Mode, Outcome, STANDARD_INPUT, Settings, settings};
 use ending::Ending;
 use files::{create, hold_standard_streams, open, read_outcome, read_script};
-use hints::{Form, Front, NotedReader};
+use hints::{Form, NotedDevices};
 use run::{Devices, dump, play};
-use std::cell::Cell;
 use std::io::{Read, Write};
 use std::process::ExitCode;
-use std::rc::Rc;
 use std::{env, io};
 
 /// What came of a run.
@@ -88,10 +87,9 @@ fn run_input<'a>(
         Some(name) => Box::new(rt.alloc(), create(rt, settings, name.as_str())?)?,
         None => Box::new(rt.alloc(), rt.stdout())?,
     };
-    let front = Rc::new(rt.alloc(), Cell::new(Front::none()))?;
-    let noted = front.clone().map_err(|_| Ending::Ran(Outcome::Memory))?;
-    let (reader, err) = (NotedReader::new(noted, input), rt.stderr());
-    let devices = Devices { reader, out, err };
+    let (reader, err) = (input, rt.stderr());
+    let noted = NotedDevices::new(rt.alloc(), Devices { reader, out, err })?;
+    let NotedDevices { front, devices } = noted;
     let outcome = match script {
         None => dump(rt.alloc(), settings.stamp, devices).outcome,
         Some(script) => play(rt.alloc(), settings.stamp, script, devices).outcome,

@@ -1,12 +1,13 @@
 //! Runs over readers and writers, through buffers.
 
-ghost use Rattle.std.specs.Prelude.{◌≡◌, ◌≤◌, ◌<◌, ◌⊎◌, ℕ, List, false, length, Some, None, IfSome, IsNone};
+ghost use Rattle.std.specs.Prelude.{◌≡◌, ◌≤◌, ◌<◌, ◌⊎◌, ℕ, List, false, length, Some, None, IfSome, IfOk, IfErr, IsNone};
 ghost use Rattle.std.specs.Io.Buffered.{writer_contents};
 ghost use Rattle.std.specs.Io.KnownBytes.{Consumes, Keeps};
 ghost use Rattle.bgpdump_tool.specs.Course.{cut_texts, play_texts};
 ghost use Rattle.bgpdump_tool.specs.Run.{dump_texts, outputs_of};
 ghost use Rattle.bgpdump.specs.Endings.{lost_outcome, HasTaken, Leaves, LeavesSo, LeavesWhole, TookMost, KeepsBoth, OverLines, OverWriters, buffered_outputs, has_failed};
 
+use crate::files::read_outcome;
 use bgpdump_tool::{LONGEST_SCRIPT, Outcome, Output, WriteOutput, run_dump, run_play};
 use mrt_wire::{BufferedInput, Input, Route, Stamp};
 use rib_store::{LeftStore, RadixStore};
@@ -81,8 +82,9 @@ pub fn dump<R: Read + Drop, O: Write + Drop, E: Write + Drop>(
     ensures lost { IsNone result.writers →
         (result.outcome ≡ Outcome.WriteFault) ⊎ (result.outcome ≡ Outcome.Memory) }
 {
-    let Some(mut streams) = through_buffers(alloc, devices) else {
-        return not_begun();
+    let mut streams = match through_buffers(alloc, devices) {
+        Ok(streams) => streams,
+        Err(refusal) => return not_begun(refusal),
     };
     let outcome = run_dump(
         alloc,
@@ -131,8 +133,9 @@ pub fn play<R: Read + Drop, O: Write + Drop, E: Write + Drop>(
     ensures lost { IsNone result.writers →
         (result.outcome ≡ Outcome.WriteFault) ⊎ (result.outcome ≡ Outcome.Memory) }
 {
-    let Some(mut streams) = through_buffers(alloc, devices) else {
-        return not_begun();
+    let mut streams = match through_buffers(alloc, devices) {
+        Ok(streams) => streams,
+        Err(refusal) => return not_begun(refusal),
     };
     let outcome = run_play::<Routes, _, _, _>(
         alloc,
@@ -145,41 +148,48 @@ pub fn play<R: Read + Drop, O: Write + Drop, E: Write + Drop>(
     close(streams, outcome)
 }
 
-/// Puts a buffer before the reader and behind each writer.
+/// Puts a buffer before the reader and behind each writer. The error is want of memory.
 fn through_buffers<R: Read + Drop, O: Write + Drop, E: Write + Drop>(
     alloc: Global,
     devices: Devices<R, O, E>,
-) -> Option<Streams<R, O, E>>
-    ensures left { IfSome result (λ streams.
+) -> Result<Streams<R, O, E>, Outcome>
+    ensures left { IfOk result (λ streams.
         ⟦<BufferedInput<R> as Input>⟧.left streams.input ≡ R.remaining devices.reader) }
-    ensures written { IfSome result (λ streams. buffered_outputs O.contents E.contents streams
+    ensures written { IfOk result (λ streams. buffered_outputs O.contents E.contents streams
         ≡ outputs_of O.contents E.contents devices.out devices.err) }
-    ensures input { IfSome result (λ streams.
+    ensures input { IfOk result (λ streams.
         ⟦<BufferedInput<R> as Input>⟧.failed streams.input ≡ false) }
-    ensures out { IfSome result (λ streams.
+    ensures out { IfOk result (λ streams.
         ⟦<WriteOutput<BufWriter<O>> as Output>⟧.failed streams.out ≡ false) }
-    ensures err { IfSome result (λ streams.
+    ensures err { IfOk result (λ streams.
         ⟦<WriteOutput<BufWriter<E>> as Output>⟧.failed streams.err ≡ false) }
+    ensures refused { IfErr result (λ outcome. outcome ≡ Outcome.Memory) }
 {
     let Devices { reader, out, err } = devices;
-    let reader = BufReader::with_capacity(alloc, BUFFER_SIZE, reader).ok()?;
-    let out = BufWriter::with_capacity(alloc, BUFFER_SIZE, out).ok()?;
-    let err = BufWriter::with_capacity(alloc, BUFFER_SIZE, err).ok()?;
-    Some(Streams {
+    let reader = BufReader::with_capacity(alloc, BUFFER_SIZE, reader).map_err(|error| read_outcome(
+        &error,
+    ))?;
+    let out = BufWriter::with_capacity(alloc, BUFFER_SIZE, out).map_err(|error| read_outcome(
+        &error,
+    ))?;
+    let err = BufWriter::with_capacity(alloc, BUFFER_SIZE, err).map_err(|error| read_outcome(
+        &error,
+    ))?;
+    Ok(Streams {
         input: BufferedInput::new(reader),
         out: WriteOutput::new(out),
         err: WriteOutput::new(err),
     })
 }
 
-/// A run that was kept from beginning by want of memory.
-fn not_begun<R, O, E>() -> Ended<R, O, E>
-    ensures outcome { result.outcome ≡ Outcome.Memory }
+/// A run that was refused before it began.
+fn not_begun<R, O, E>(refusal: Outcome) -> Ended<R, O, E>
+    ensures outcome { result.outcome ≡ refusal }
     ensures input { result.input ≡ None }
     ensures writers { result.writers ≡ None }
 {
     Ended {
-        outcome: Outcome::Memory,
+        outcome: refusal,
         input: None,
         writers: None,
     }
@@ -219,7 +229,7 @@ fn lost_outcome(outcome: Outcome) -> Outcome
     ensures { result ≡ lost_outcome outcome }
 {
     match outcome {
-        Outcome::Memory => Outcome::Memory,
+        Outcome::Memory => outcome,
         _ => Outcome::WriteFault,
     }
 }

@@ -31,7 +31,7 @@ fn parse_fault(alloc: Global, error: &clap::Error) -> UsageFault
         kind => match error.to_string(alloc) {
             Ok(text) if kind == ErrorKind::DisplayHelp => UsageFault::Help(text),
             Ok(text) => UsageFault::Words(text),
-            Err(_) => UsageFault::Memory,
+            Err(refused) => UsageFault::from(refused),
         },
     }
 }

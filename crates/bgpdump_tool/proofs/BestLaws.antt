@@ -10,7 +10,7 @@ use Rattle.ip_prefix.specs.Network.{Address, Network, contains, network_cmp}
 use Rattle.ip_prefix.specs.OrderLaws.{network_cmp_total}
 use Rattle.mrt_events.specs.declared.peer.Peer.{Peer}
 use Rattle.mrt_events.specs.declared.event.Route.{Route}
-use Rattle.prefix_store.specs.Contents.{IsLongestOf}
+use Rattle.prefix_store.specs.Lookups.{IsLongestOf}
 use Rattle.prefix_store.proofs.LongestLaws.{longest-one}
 use Rattle.prefix_store.proofs.StoredLaws.{same_prefix}
 use Rattle.rib_player.specs.Tables.{Routes, peer_routes}

@@ -8,8 +8,8 @@ use Rattle.std.proofs.KnownBytes.{Appends-kept, Appends-nil}
 use Rattle.mrt_events.specs.declared.peer.Peer.{Peer}
 use Rattle.mrt_events.specs.declared.event.Event.{Event}
 use Rattle.rib_player.specs.Tables.{Routes, table}
-use Rattle.rib_player.specs.Timeline.{Timeline, behind, ahead_of, end_of, current, after_play}
-use Rattle.rib_player.specs.Calls.{StandsFor, forgettable, after_forget}
+use Rattle.rib_player.specs.Timeline.{Timeline, behind, ahead_of, end_of, current, after_play, forgettable, after_forget}
+use Rattle.rib_player.specs.Calls.{StandsFor}
 use Rattle.rib_player.proofs.TimelineLaws.{StandsFor-current, StandsFor-end, StandsFor-after_play, StandsFor-after_forget}
 use Rattle.mrt_wire.specs.Results.{Finding, Place}
 use Rattle.bgpdump_tool.specs.declared.command.Command.{Command}

@@ -12,8 +12,7 @@ use Rattle.bgpdump_tool.specs.Carrying.{Standing, Scene, Stands, Follows, standi
 use Rattle.bgpdump_lines.specs.Going.{is_any_bad}
 use Rattle.bgpdump_lines.proofs.RunLaws.{is_any_bad-append}
 use Rattle.std.proofs.lemmas.Bool.Decides.{nat_tests}
-use Rattle.rib_player.specs.Timeline.{Timeline, behind}
-use Rattle.rib_player.specs.Calls.{after_undo}
+use Rattle.rib_player.specs.Timeline.{Timeline, behind, after_undo}
 
 pub events-append : (found more : List Finding) → events (found ++ more) ≡ events found ++ events more
 events-append found more = flat_map-append event_of found more

@@ -9,7 +9,8 @@ use Rattle.mrt_wire.specs.declared.SourceFault.{SourceFault}
 use Rattle.mrt_wire.specs.declared.next.Phase.TheVariants.{Ended}
 use Rattle.mrt_wire.specs.Results.{Finding, Found, Bad, Place, start_place}
 use Rattle.mrt_wire.proofs.SoFarLaws.{SoFar-start}
-use Rattle.rib_player.specs.Calls.{fresh, StandsFor}
+use Rattle.rib_player.specs.Calls.{StandsFor}
+use Rattle.rib_player.specs.Timeline.{fresh}
 use Rattle.rib_player.proofs.TimelineLaws.{StandsFor-fresh}
 use Rattle.bgpdump_tool.specs.declared.command.Command.{Command}
 use Rattle.bgpdump_lines.specs.declared.dump.TheConstants.{LIMIT}

@@ -13,8 +13,8 @@ use Rattle.mrt_wire.specs.declared.next.Phase.TheVariants.{Reading, Ended}
 use Rattle.mrt_wire.specs.Results.{Finding, Found, Bad, Place}
 use Rattle.mrt_wire.specs.Answered.{answer_findings, Nexts, is_nothing}
 use Rattle.mrt_wire.proofs.SoFarLaws.{Promises, SoFar-answer, SoFar-told, ends_with_none, told_by}
-use Rattle.rib_player.specs.Timeline.{Timeline, end_of, after_play}
-use Rattle.rib_player.specs.Calls.{StandsFor, after_redo}
+use Rattle.rib_player.specs.Timeline.{Timeline, end_of, after_play, after_redo}
+use Rattle.rib_player.specs.Calls.{StandsFor}
 use Rattle.rib_player.proofs.TimelineLaws.{StandsFor-after_play, StandsFor-after_redo, StandsFor-end}
 use Rattle.bgpdump_lines.specs.declared.fault.WriteFault.{WriteFault}
 use Rattle.bgpdump_lines.specs.declared.fault.WriteFault.TheVariants as write

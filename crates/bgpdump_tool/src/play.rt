@@ -3,7 +3,7 @@
 ghost use Rattle.std.specs.Prelude.{◌≡◌, ◌↔◌, ◌<◌, ◌≤◌, ◌+◌, ◌||◌, ℕ, List, false, IsTrue, length};
 ghost use Rattle.std.specs.Io.KnownBytes.{Consumes};
 ghost use Rattle.mrt_wire.specs.Results.{start_place, Took};
-ghost use Rattle.rib_player.specs.Calls.{fresh};
+ghost use Rattle.rib_player.specs.Timeline.{fresh};
 ghost use Rattle.bgpdump_lines.specs.declared.dump.TheConstants.{LIMIT};
 ghost use Rattle.bgpdump_lines.specs.Going.{is_read_fault, is_write_fault};
 ghost use Rattle.bgpdump_lines.specs.Run.{IsTaken, OverDevices};

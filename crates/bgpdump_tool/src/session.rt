@@ -2,8 +2,7 @@
 
 ghost use Rattle.std.specs.Prelude.{◌≡◌, ◌<◌, ◌+◌, ◌||◌, ℕ, false, IfOk, is_err};
 ghost use Rattle.std.specs.Io.KnownBytes.{Keeps};
-ghost use Rattle.rib_player.specs.Timeline.{ahead_of};
-ghost use Rattle.rib_player.specs.Calls.{fresh};
+ghost use Rattle.rib_player.specs.Timeline.{ahead_of, fresh};
 ghost use Rattle.mrt_wire.specs.Results.{start_place};
 ghost use Rattle.bgpdump_lines.specs.declared.dump.TheConstants.{LIMIT};
 ghost use Rattle.bgpdump_lines.specs.Going.{is_read_fault, is_write_fault};

@@ -34,8 +34,7 @@ const RELEASED_ROOM: u64 = 4 << 20;
 
 /// Routes that were played. They are here only to be found again: of an equal route that comes
 /// later the one that is here stands for it, so that it takes no memory of its own. Nothing is owed
-/// of which routes are here. So one may be let go at any time, and want of memory leaves them as
-/// they are.
+/// of which routes are here. So one may be let go at any time.
 #[derive(Drop)]
 pub struct KnownRoutes {
     alloc: Global,
@@ -55,8 +54,13 @@ pub struct KnownRoutes {
 }
 
 impl KnownRoutes {
+    ghost use Rattle.std.specs.Prelude.{max};
+    ghost use Rattle.known_routes.specs.Known.{route_count, stood_count};
+
     /// No routes. They take no memory.
-    pub fn new(alloc: Global) -> Self {
+    pub fn new(alloc: Global) -> Self
+        ensures { stood_count result ≡ 0 }
+    {
         KnownRoutes {
             alloc,
             routes: Places::none(alloc),
@@ -69,7 +73,8 @@ impl KnownRoutes {
 
     /// The route of a peer, or one that is here and equal. The peer's last one is looked at first.
     pub fn known(&mut self, peer: &Peer, route: &Rc<Route>) -> Result<Rc<Route>, AllocError>
-        ensures { IfOk result (λ known. known.value ≡ route.now.value) }
+        ensures value { IfOk result (λ known. known.value ≡ route.now.value) }
+        ensures stood { stood_count self.new ≤ max (stood_count self.old) (route_count self.new) }
     {
         let last = (peer_hash(peer) >> LOWEST_BITS) as usize;
         if let Some(known) = self.last(last, route) {
@@ -82,7 +87,7 @@ impl KnownRoutes {
             self.note_last(last, index);
             return Ok(known);
         }
-        let index = self.note(hash, route.clone()?);
+        let index = self.note(hash, route.clone()?)?;
         self.note_last(last, index);
         route.clone()
     }
@@ -93,7 +98,8 @@ impl KnownRoutes {
         peer: &Peer,
         route: &Rc<Route>,
     ) -> Result<Rc<Route>, AllocError>
-        ensures { IfOk result (λ known. known.value ≡ route.now.value) }
+        ensures value { IfOk result (λ known. known.value ≡ route.now.value) }
+        ensures stood { stood_count self.new ≤ max (stood_count self.old) (route_count self.new) }
     {
         if is_short(route) {
             return self.known(peer, route);
@@ -113,36 +119,54 @@ impl KnownRoutes {
         }
     }
 
-    /// Notes where the last route of a peer stands, unless memory is refused for that.
-    fn note_last(&mut self, last: usize, index: usize) {
-        if self.lasts.is_empty() {
-            let _ = self.lasts.resize(LASTS, 0);
-        }
+    /// Notes where the last route of a peer stands.
+    fn note_last(&mut self, last: usize, index: usize)
+        ensures routes { route_count self.new ≡ route_count self.old }
+        ensures stood { stood_count self.new ≡ stood_count self.old }
+    {
         if let Some(place) = self.lasts.get_mut(last) {
             *place = u32::try_from(index).unwrap_or(u32::MAX);
         }
     }
 
-    /// Notes a route that isn't here, and answers where it stands then, if it does.
-    fn note(&mut self, hash: u32, route: Rc<Route>) -> usize {
+    /// Makes places for more routes, and for the last ones of peers where there are none. Refused, the
+    /// places stay.
+    fn add_places(&mut self) -> Result<(), AllocError>
+        ensures { stood_count self.new ≤ max (stood_count self.old) (route_count self.new) }
+    {
+        if self.lasts.is_empty() {
+            self.lasts.resize(LASTS, 0)?;
+        }
+        let routes = &mut self.routes;
+        routes.resize(self.alloc)?;
+        self.stood = routes.taken;
+        Ok(())
+    }
+
+    /// Notes a route that isn't here, and answers where it stands then, if it does. Refused, none is
+    /// noted.
+    fn note(&mut self, hash: u32, route: Rc<Route>) -> Result<usize, AllocError>
+        ensures { stood_count self.new ≤ max (stood_count self.old) (route_count self.new) }
+    {
         let count = self.routes.places.len();
-        let are_few = count < MOST_PLACES && self.routes.taken >= count / 4 * 3;
-        if are_few && self.routes.resize(self.alloc).is_ok() {
-            self.stood = self.routes.taken;
+        if count < MOST_PLACES && self.routes.taken >= count / 4 * 3 {
+            self.add_places()?;
         }
         let octets = route_size(&route);
         self.noted = self.noted.saturating_add(octets);
         if self.routes.places.is_empty() {
-            return 0;
+            return Ok(0);
         }
         self.routes.held = self.routes.held.saturating_add(octets);
-        self.routes.put(hash, route)
+        Ok(self.routes.put(hash, route))
     }
 
     /// An owner of the route is about to go. Where there is one other, which may be this table, it is
     /// let go of here. Where there are few, they may be this table, a source and an event alone, so
     /// that nobody may hold it soon.
-    pub fn note_gone(&mut self, route: &Rc<Route>) {
+    pub fn note_gone(&mut self, route: &Rc<Route>)
+        ensures { stood_count self.new ≡ stood_count self.old }
+    {
         let owners = Rc::strong_count(route);
         if owners == 2 {
             if let Some(index) = index_of(&self.routes.places, hash_of(route), route) {
@@ -155,7 +179,9 @@ impl KnownRoutes {
 
     /// Some item's route, or all, aren't kept: nobody else may hold those that were noted since the
     /// play began.
-    pub fn note_unused(&mut self) {
+    pub fn note_unused(&mut self)
+        ensures { stood_count self.new ≡ stood_count self.old }
+    {
         self.released = self.released.saturating_add(self.noted);
         self.noted = 0;
     }
@@ -163,7 +189,9 @@ impl KnownRoutes {
     /// Lets go of the routes that have no other owner, as soon as so much may be held by them alone
     /// that it is to go: more than a quarter of what others hold, and of a mebibyte. It takes no
     /// memory.
-    pub fn let_go(&mut self) {
+    pub fn let_go(&mut self)
+        ensures { stood_count self.new ≡ stood_count self.old }
+    {
         let most = self.routes.held.saturating_add(RELEASED_ROOM);
         if self.released.saturating_mul(RELEASED_SHARE) > most {
             self.routes.let_go();
@@ -173,9 +201,13 @@ impl KnownRoutes {
 
     /// Begins a play. What the event before held may go now, and the places become fewer where they
     /// are too many for the routes.
-    pub fn begin(&mut self) {
+    pub fn begin(&mut self)
+        ensures { stood_count self.new ≡ route_count self.new }
+    {
         self.let_go();
         self.noted = 0;
+        // Fewer places take less memory. Where the smaller block is refused, nothing grew that would
+        // have to be answered: all are given back.
         if !self.routes.are_fitting() && self.routes.resize(self.alloc).is_err() {
             self.routes = Places::none(self.alloc);
         }

@@ -115,12 +115,14 @@ impl Items {
     pub fn from_vec(items: Vec<Item>) -> Items
         ensures { result ≡ map saying items.items }
     {
-        let shared = SharedRanges {
-            start: 0,
-            middle: 0,
-            end: 0,
-        };
-        Items { items, shared }
+        Items {
+            items,
+            shared: SharedRanges {
+                start: 0,
+                middle: 0,
+                end: 0,
+            },
+        }
     }
 
     /// The items of the vector, of which those in each range are known to share a route.

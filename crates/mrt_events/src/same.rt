@@ -92,5 +92,5 @@ pub fn same_peer(one: &Peer, other: &Peer) -> bool
 pub fn same_prefix(one: &Prefix, other: &Prefix) -> bool
     ensures { IsTrue result ↔ (one.now ≡ other.now) }
 {
-    one == other
+    *one == *other
 }

@@ -1,12 +1,16 @@
 -- Private.
 -- What the reader of records takes from its input, by what it answers.
-use Rattle.std.specs.Prelude.{ℕ, ◌<◌, List, slice_index, take, ◌≡◌, ◌+◌, ◌≤◌, Bool, true, false, length, Option, Result, Ok, Err}
+use Rattle.std.specs.Prelude.{ℕ, ◌<◌, List, slice_index, take, ◌≡◌, ◌+◌, ◌≤◌, Bool, true, false, length, Option, Some, None, Result, Ok, Err}
 use Rattle.mrt_frames.specs.declared.header.Header.{Header}
 use Rattle.mrt_frames.specs.Record.{Record, IsHeader, header_octets, spelling, IsRecord, rest_kind, rest_fault, IsRest, IsBegun}
 use Rattle.std.specs.Io.KnownBytes.{Consumes, IsAtEnd}
 use Rattle.mrt_frames.specs.declared.fault.SourceFault.{SourceFault}
 use Rattle.mrt_frames.specs.declared.fault.SourceFault.TheVariants.{Read, InputTooLong, Spent}
+use Rattle.mrt_frames.specs.declared.fault.TakeFault.{TakeFault}
+use Rattle.mrt_frames.specs.declared.fault.TakeFault.TheVariants.{InputFailed, PastLimit}
 use Rattle.mrt_frames.specs.declared.fault.RecordKind.TheVariants.{CutRecord}
+use Rattle.mrt_frames.specs.declared.frames.Start.{Start}
+use Rattle.mrt_frames.specs.declared.frames.Start.TheVariants as start
 use Rattle.mrt_frames.specs.declared.frames.Front.{Front}
 use Rattle.mrt_frames.specs.declared.frames.Front.TheVariants as front
 
@@ -33,6 +37,16 @@ record_in header buffer = record_under header (take header.size buffer)
 -- octets were taken, and the count of those taken went on by theirs
 abbrev pub Takes : Option (List ℕ) → Option (List ℕ) → ℕ → ℕ → List ℕ → Type 0
 Takes old new before after octets = Consumes old new octets × (after ≡ before + length octets)
+
+-- the source's fault where octets couldn't be taken
+abbrev pub fault_of_source : TakeFault → SourceFault
+fault_of_source InputFailed = Read
+fault_of_source PastLimit = InputTooLong
+
+-- the source's answer, where octets were to be taken
+abbrev pub answer_of_source : {A : Type 0} → Result A TakeFault → Result A SourceFault
+answer_of_source (Ok answer) = Ok answer
+answer_of_source (Err fault) = Err (fault_of_source fault)
 
 -- a fault may come where so many octets were taken in all, of the most that may be
 abbrev pub Stops : SourceFault → ℕ → ℕ → Type 0
@@ -62,10 +76,9 @@ abbrev pub TakesOctets : (Option (List ℕ) → ℕ → List ℕ → Type 0) →
 TakesOctets AreSo old new before after = (octets : List ℕ) × Takes old new before after octets × AreSo new after octets
 
 -- the octets of a header, or the rest
-abbrev pub TakesHeader : ℕ → Result Front SourceFault → Option (List ℕ) → ℕ → List ℕ → Type 0
-TakesHeader limit (Ok (front.Record header)) left taken octets = IsHeader header.seconds header.kind header.subtype header.size × (octets ≡ header_octets header.seconds header.kind header.subtype header.size)
-TakesHeader limit (Ok (front.Passed header)) left taken octets = ⊥
-TakesHeader limit (Ok (front.Rest kind)) left taken octets = EndsAt left octets × (kind ≡ rest_fault octets)
+abbrev pub TakesHeader : ℕ → Result Start SourceFault → Option (List ℕ) → ℕ → List ℕ → Type 0
+TakesHeader limit (Ok (start.Header header)) left taken octets = IsHeader header.seconds header.kind header.subtype header.size × (octets ≡ header_octets header.seconds header.kind header.subtype header.size)
+TakesHeader limit (Ok (start.Rest kind)) left taken octets = EndsAt left octets × (kind ≡ rest_fault octets)
 TakesHeader limit (Err fault) left taken octets = IsBegun octets × Stops fault taken limit
 
 -- the octets of a body, which stand at the front of the buffer, or fewer
@@ -74,11 +87,15 @@ TakesBody limit buffer size (Ok true) left taken octets = (octets ≡ take size 
 TakesBody limit buffer size (Ok false) left taken octets = IsAtEnd left × (length octets < size)
 TakesBody limit buffer size (Err fault) left taken octets = (length octets < size) × Stops fault taken limit
 
+-- the octets of a body that is passed over, or fewer
+abbrev pub PassesBody : ℕ → ℕ → Result Bool SourceFault → Option (List ℕ) → ℕ → List ℕ → Type 0
+PassesBody limit size result left taken octets = TakesBody limit octets size result left taken octets
+
 -- the octets of a record, whose body stands at the front of the buffer, if such records are supported, and was passed over if they aren't; or the rest
-abbrev pub TakesRecord : (ℕ → ℕ → Bool) → ℕ → List ℕ → Result Front SourceFault → Option (List ℕ) → ℕ → List ℕ → Type 0
-TakesRecord supports limit buffer (Ok (front.Record header)) left taken octets =
-    (supports header.kind header.subtype ≡ true) × (length (take header.size buffer) ≡ header.size) × IsRecord (record_in header buffer) × (octets ≡ spelling (record_in header buffer))
-TakesRecord supports limit buffer (Ok (front.Passed header)) left taken octets =
-    (supports header.kind header.subtype ≡ false) × ((body : List ℕ) × IsRecord (record_under header body) × (octets ≡ spelling (record_under header body)))
-TakesRecord supports limit buffer (Ok (front.Rest kind)) left taken octets = EndsAt left octets × (kind ≡ rest_fault octets)
-TakesRecord supports limit buffer (Err fault) left taken octets = IsBegun octets × Stops fault taken limit
+abbrev pub TakesRecord : {F : Type 0} → (ℕ → ℕ → Option F) → ℕ → List ℕ → Result (Front F) SourceFault → Option (List ℕ) → ℕ → List ℕ → Type 0
+TakesRecord form_at limit buffer (Ok (front.Record header form)) left taken octets =
+    (form_at header.kind header.subtype ≡ Some form) × (length (take header.size buffer) ≡ header.size) × IsRecord (record_in header buffer) × (octets ≡ spelling (record_in header buffer))
+TakesRecord form_at limit buffer (Ok (front.Passed header)) left taken octets =
+    (form_at header.kind header.subtype ≡ None) × ((body : List ℕ) × IsRecord (record_under header body) × (octets ≡ spelling (record_under header body)))
+TakesRecord form_at limit buffer (Ok (front.Rest kind)) left taken octets = EndsAt left octets × (kind ≡ rest_fault octets)
+TakesRecord form_at limit buffer (Err fault) left taken octets = IsBegun octets × Stops fault taken limit

@@ -1,9 +1,9 @@
 //! Filling buffers from an input.
 
 ghost use Rattle.std.specs.Prelude.{◌≡◌, ◌≤◌, ◌<◌, ◌+◌, ◌-◌, ◌*◌, ◌||◌, IfOk, length, max, take, drop, vec_len};
-ghost use Rattle.mrt_frames.specs.Taken.{FillsWithin, is_read};
+ghost use Rattle.mrt_frames.specs.Taken.{FillsWithin, is_read, answer_of_source};
 
-use crate::fault::SourceFault;
+use crate::fault::{SourceFault, TakeFault};
 use crate::header::LONGEST_BODY;
 use crate::input::Input;
 use std::ops::Range;
@@ -20,11 +20,12 @@ pub(crate) fn fill_within<I: Input>(
     buffer: &mut [u8],
     taken: &mut u64,
     limit: u64,
-) -> Result<usize, SourceFault>
+) -> Result<usize, TakeFault>
     requires room { taken.old ≤ limit }
     ensures octets { FillsWithin (I.left input.old) (I.left input.new) taken.old taken.new
-        buffer.new (length buffer.new) limit result }
-    ensures failed { I.failed input.new ≡ (I.failed input.old || is_read result) }
+        buffer.new (length buffer.new) limit (answer_of_source result) }
+    ensures failed { I.failed input.new
+        ≡ (I.failed input.old || is_read (answer_of_source result)) }
 {
     let end = (limit - *taken).min(buffer.len() as u64) as usize;
     let mut filled = 0;
@@ -37,7 +38,7 @@ pub(crate) fn fill_within<I: Input>(
         *taken += count as u64;
     }
     if end < buffer.len() {
-        return Err(SourceFault::InputTooLong);
+        return Err(TakeFault::PastLimit);
     }
     Ok(filled)
 }
@@ -66,15 +67,16 @@ pub(crate) fn fill_part<I: Input>(
     part: Range<usize>,
     taken: &mut u64,
     limit: u64,
-) -> Result<usize, SourceFault>
+) -> Result<usize, TakeFault>
     requires ahead { part.start ≤ part.end }
     requires within { part.end ≤ vec_len buffer.old }
     requires room { taken.old ≤ limit }
     ensures kept { take part.start buffer.new.items ≡ take part.start buffer.old.items }
     ensures size { vec_len buffer.new ≡ vec_len buffer.old }
     ensures octets { FillsWithin (I.left input.old) (I.left input.new) taken.old taken.new
-        (drop part.start buffer.new.items) (part.end - part.start) limit result }
-    ensures failed { I.failed input.new ≡ (I.failed input.old || is_read result) }
+        (drop part.start buffer.new.items) (part.end - part.start) limit (answer_of_source result) }
+    ensures failed { I.failed input.new
+        ≡ (I.failed input.old || is_read (answer_of_source result)) }
 {
     fill_within(input, &mut buffer[part], taken, limit)
 }

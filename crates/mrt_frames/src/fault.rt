@@ -1,7 +1,9 @@
 //! What can be wrong with a record, and what ends a source.
 
 ghost use Rattle.std.specs.Prelude.{◌≡◌};
-ghost use Rattle.mrt_frames.specs.declared.fault.SourceFault.TheVariants.{Read, Memory};
+ghost use Rattle.mrt_frames.specs.Taken.{fault_of_source};
+ghost use Rattle.mrt_frames.specs.declared.fault.TakeFault.TheVariants.{InputFailed};
+ghost use Rattle.mrt_frames.specs.declared.fault.SourceFault.TheVariants.{Memory};
 
 use crate::input::InFault;
 use std::alloc::AllocError;
@@ -36,6 +38,23 @@ pub struct RecordFault {
     pub offset: u64,
 }
 
+/// Why octets couldn't be taken into room that is there: no memory is asked for.
+#[derive(Clone, Copy)]
+pub(crate) enum TakeFault {
+    /// The input failed.
+    InputFailed,
+    /// To go on, or to see the end, more octets than the limit would have to be taken.
+    PastLimit,
+}
+
+impl From<InFault> for TakeFault {
+    ghost from_gives = { λ _ fault. fault ≡ InputFailed };
+
+    fn from(_: InFault) -> TakeFault {
+        TakeFault::InputFailed
+    }
+}
+
 /// Why a source stopped before the end of its input.
 #[derive(Clone, Copy, Debug, PartialEq, Eq, Error)]
 pub enum SourceFault {
@@ -53,11 +72,14 @@ pub enum SourceFault {
     Spent,
 }
 
-impl From<InFault> for SourceFault {
-    ghost from_gives = { λ _ fault. fault ≡ Read };
+impl From<TakeFault> for SourceFault {
+    ghost from_gives = { λ taking fault. fault ≡ fault_of_source taking };
 
-    fn from(_: InFault) -> SourceFault {
-        SourceFault::Read
+    fn from(fault: TakeFault) -> SourceFault {
+        match fault {
+            TakeFault::InputFailed => SourceFault::Read,
+            TakeFault::PastLimit => SourceFault::InputTooLong,
+        }
     }
 }
 

@@ -1,10 +1,10 @@
 //! The records of an input, one behind the other.
 
-ghost use Rattle.std.specs.Prelude.{◌≡◌, ◌+◌, ◌≤◌, ◌||◌, ℕ, Bool, IfOk, IsTrue, take, length, vec_len};
-ghost use Rattle.mrt_frames.specs.Taken.{is_read, TakesOctets, TakesHeader, TakesBody, TakesRecord};
+ghost use Rattle.std.specs.Prelude.{◌≡◌, ◌+◌, ◌≤◌, ◌||◌, ℕ, Option, IfOk, IsTrue, take, length, vec_len};
+ghost use Rattle.mrt_frames.specs.Taken.{is_read, answer_of_source, TakesOctets, TakesHeader, TakesBody, PassesBody, TakesRecord};
 
 use crate::buffer::{fill_body, fill_part, fill_within};
-use crate::fault::{RecordKind, SourceFault};
+use crate::fault::{RecordKind, SourceFault, TakeFault};
 use crate::header::{HEADER_SIZE, Header, LONGEST_BODY, read_header};
 use crate::input::Input;
 use std::alloc::Global;
@@ -16,21 +16,32 @@ const MOST_KEPT: usize = 1 << 18;
 /// room for them.
 const PIECE: usize = 512;
 
-/// Which records are supported, by their types.
+/// Which records are supported, by their types, and how their bodies are read.
 pub trait Profile {
-    /// Whether those of a type and subtype are.
-    ghost supports: { Self → ℕ → ℕ → Bool };
+    /// How bodies are read.
+    type Form: Copy;
+
+    /// The form of the bodies of a type and subtype, where these are supported.
+    ghost form_at: { Self → ℕ → ℕ → Option Self.Form };
 
     /// Tells it.
-    fn supports(&self, kind: u16, subtype: u16) -> bool
-        ensures { result ≡ supports self.now kind subtype };
+    fn form_of(&self, kind: u16, subtype: u16) -> Option<Self::Form>
+        ensures { result ≡ form_at self.now kind subtype };
 }
 
-/// What stands at the front of the octets left: a header or a record; a record whose body was passed
-/// over, since it isn't supported; or the rest, with its fault where it isn't empty.
+/// What stands at the front of the octets left: a header, or the rest, with its fault where it isn't
+/// empty.
 #[derive(Clone, Copy)]
-pub enum Front {
-    Record(Header),
+enum Start {
+    Header(Header),
+    Rest(Option<RecordKind>),
+}
+
+/// What stands at the front of the octets left: a record, with the form of its body; a record whose
+/// body was passed over, since it isn't supported; or the rest, with its fault where it isn't empty.
+#[derive(Clone, Copy)]
+pub enum Front<F> {
+    Record(Header, F),
     Passed(Header),
     Rest(Option<RecordKind>),
 }
@@ -78,18 +89,19 @@ impl FrameReader {
 
     /// Takes the next header.
     #[inline(always)]
-    fn take_header<I: Input>(&mut self, input: &mut I) -> Result<Front, SourceFault>
-        ensures octets { TakesOctets (TakesHeader self.new.limit result)
+    fn take_header<I: Input>(&mut self, input: &mut I) -> Result<Start, TakeFault>
+        ensures octets { TakesOctets (TakesHeader self.new.limit (answer_of_source result))
             (I.left input.old) (I.left input.new) self.old.taken self.new.taken }
-        ensures failed { I.failed input.new ≡ (I.failed input.old || is_read result) }
+        ensures failed { I.failed input.new
+            ≡ (I.failed input.old || is_read (answer_of_source result)) }
         ensures limit { self.new.limit ≡ self.old.limit }
     {
         let mut octets = [0; HEADER_SIZE];
         let count = fill_within(input, &mut octets, &mut self.taken, self.limit)?;
         if count == HEADER_SIZE {
-            return Ok(Front::Record(read_header(&octets)));
+            return Ok(Start::Header(read_header(&octets)));
         }
-        Ok(Front::Rest((count > 0).then_some(RecordKind::CutRecord)))
+        Ok(Start::Rest((count > 0).then_some(RecordKind::CutRecord)))
     }
 
     /// Takes a body, and answers whether it is whole. Room for a long one is let go before a short one.
@@ -114,13 +126,13 @@ impl FrameReader {
         Ok(count == size)
     }
 
-    /// Passes over a body, and answers whether it is whole. It asks for no memory.
+    /// Passes over a body, and answers whether it is whole.
     #[inline(never)]
-    fn pass_body<I: Input>(&mut self, input: &mut I, size: u32) -> Result<bool, SourceFault>
-        ensures octets { TakesOctets
-            (λ left taken body. TakesBody self.new.limit body size result left taken body)
+    fn pass_body<I: Input>(&mut self, input: &mut I, size: u32) -> Result<bool, TakeFault>
+        ensures octets { TakesOctets (PassesBody self.new.limit size (answer_of_source result))
             (I.left input.old) (I.left input.new) self.old.taken self.new.taken }
-        ensures failed { I.failed input.new ≡ (I.failed input.old || is_read result) }
+        ensures failed { I.failed input.new
+            ≡ (I.failed input.old || is_read (answer_of_source result)) }
         ensures limit { self.new.limit ≡ self.old.limit }
     {
         let mut piece = [0; PIECE];
@@ -142,26 +154,28 @@ impl FrameReader {
         &mut self,
         profile: &P,
         input: &mut I,
-    ) -> Result<Front, SourceFault>
+    ) -> Result<Front<P::Form>, SourceFault>
         ensures octets { TakesOctets
-            (TakesRecord (P.supports profile.now) self.new.limit self.new.body.items result)
+            (TakesRecord (P.form_at profile.now) self.new.limit self.new.body.items result)
             (I.left input.old) (I.left input.new) self.old.taken self.new.taken }
         ensures failed { I.failed input.new ≡ (I.failed input.old || is_read result) }
         ensures limit { self.new.limit ≡ self.old.limit }
     {
         let header = match self.take_header(input)? {
-            Front::Record(header) => header,
-            rest => return Ok(rest),
+            Start::Header(header) => header,
+            Start::Rest(kind) => return Ok(Front::Rest(kind)),
         };
         if header.size > LONGEST_BODY {
             return Ok(Front::Rest(Some(RecordKind::TooLong(header.size))));
         }
-        if !profile.supports(header.kind, header.subtype) {
+        let Some(form) = profile.form_of(header.kind, header.subtype) else {
             if self.pass_body(input, header.size)? {
                 return Ok(Front::Passed(header));
             }
-        } else if self.take_body(input, header.size)? {
-            return Ok(Front::Record(header));
+            return Ok(Front::Rest(Some(RecordKind::CutRecord)));
+        };
+        if self.take_body(input, header.size)? {
+            return Ok(Front::Record(header, form));
         }
         Ok(Front::Rest(Some(RecordKind::CutRecord)))
     }

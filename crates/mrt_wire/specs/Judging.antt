@@ -13,6 +13,7 @@ use Rattle.mrt_events.specs.declared.stamp.Stamp.{Stamp}
 use Rattle.mrt_events.specs.declared.event.Event.{Event}
 use Rattle.mrt_events.specs.declared.event.Item.{Item}
 use Rattle.mrt_events.specs.declared.event.Route.{Route}
+use Rattle.mrt_frames.specs.declared.fault.RecordKind.{RecordKind}
 use Rattle.mrt_frames.specs.declared.fault.RecordKind.TheVariants.{Malformed}
 use Rattle.mrt_frames.specs.declared.fault.SourceFault.{SourceFault}
 use Rattle.mrt_frames.specs.declared.fault.SourceFault.TheVariants as source
@@ -70,11 +71,14 @@ Judges stamp before after r (Ok event) =
 Judges stamp before after r (Err (refusal.Fault kind)) = ReadsAs stamp before r (Refused kind) × (after ≡ before)
 Judges stamp before after r (Err refusal.Memory) = after ≡ before
 
+-- the answer for a record of this number and offset that has this fault
+abbrev pub fault_answer : ℕ → ℕ → RecordKind → Next
+fault_answer number offset kind = next.Bad (record { number = number; offset = offset; kind = kind })
+
 -- the answer for a record of this number and offset, of which this becomes
 abbrev pub judged_answer : ℕ → ℕ → Result Event Refusal → Result Next SourceFault
 judged_answer number offset (Ok event) = Ok (next.Event event)
-judged_answer number offset (Err (refusal.Fault kind)) =
-    Ok (next.Bad (record { number = number; offset = offset; kind = kind }))
+judged_answer number offset (Err (refusal.Fault kind)) = Ok (fault_answer number offset kind)
 judged_answer number offset (Err refusal.Memory) = Err source.Memory
 
 -- octets spell a value, and this is what it says

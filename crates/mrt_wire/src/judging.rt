@@ -3,13 +3,14 @@
 ghost use Rattle.std.specs.Prelude.{◌≡◌};
 ghost use Rattle.mrt_wire.specs.declared.judging.Refusal.TheVariants.{Memory};
 ghost use Rattle.mrt_frames.specs.Taken.{record_under};
+ghost use Rattle.mrt_wire.specs.Profile.{HasForm};
 ghost use Rattle.mrt_wire.specs.Results.{peers_in, entries_fault, session_tag};
 ghost use Rattle.mrt_wire.specs.Judging.{Judges, body_refusal};
 
 use crate::peer_index::read_peer_index;
 use crate::peers::Peers;
 use crate::pool::Pool;
-use crate::profile::{Form, form_of};
+use crate::profile::Form;
 use crate::rib::{Snapshot, read_rib};
 use crate::session::read_session;
 use crate::table_dump::{Dating, read_peer_entry};
@@ -44,9 +45,10 @@ impl From<WireFault> for Refusal {
     }
 }
 
-/// A record as it was taken: its header, and the octets behind it.
+/// A record as it was taken: the form of its body, its header, and the octets behind it.
 #[derive(Clone, Copy)]
 pub(crate) struct RawRecord<'a> {
+    pub(crate) form: Form,
     pub(crate) header: Header,
     pub(crate) body: &'a [u8],
 }
@@ -92,13 +94,11 @@ pub(crate) fn judge(
     index: &mut Option<Peers>,
     raw: RawRecord<'_>,
 ) -> Result<Event, Refusal>
+    requires { HasForm raw.header.kind raw.header.subtype raw.form }
     ensures { Judges stamp index.old index.new
         (record_under raw.entry.header raw.entry.body.now) result }
 {
-    let RawRecord { header, body } = raw;
-    let Some(form) = form_of(header.kind, header.subtype) else {
-        return Err(Refusal::Fault(RecordKind::Unsupported(header.kind, header.subtype)));
-    };
+    let RawRecord { form, header, body } = raw;
     let (seconds, micros) = (header.seconds, None);
     let time = Time { seconds, micros };
     match form {

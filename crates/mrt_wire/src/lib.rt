@@ -10,6 +10,7 @@ mod peers;
 mod pool;
 mod profile;
 mod read_routes;
+mod replacing;
 mod rib;
 mod route_pool;
 mod session;

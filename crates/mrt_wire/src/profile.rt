@@ -1,7 +1,7 @@
 //! The types and subtypes of records that are read, and the forms of their bodies (RFC 6396,
 //! section 4).
 
-ghost use Rattle.std.specs.Prelude.{◌≡◌, is_some};
+ghost use Rattle.std.specs.Prelude.{◌≡◌};
 ghost use Rattle.mrt_wire.specs.Profile.{form_of, session_form};
 
 use bgp_wire::AsWidth;
@@ -71,31 +71,25 @@ pub(crate) enum Form {
     Session(SessionForm),
 }
 
-/// The form of the bodies of a type and subtype, where they are read.
-pub(crate) fn form_of(kind: u16, subtype: u16) -> Option<Form>
-    ensures { result ≡ form_of kind subtype }
-{
-    match (kind, subtype) {
-        (TABLE_DUMP, AFI_IPV4) => Some(Form::Entry(Family::V4)),
-        (TABLE_DUMP, AFI_IPV6) => Some(Form::Entry(Family::V6)),
-        (TABLE_DUMP_V2, PEER_INDEX_TABLE) => Some(Form::Peers),
-        (TABLE_DUMP_V2, RIB_IPV4_UNICAST) => Some(Form::Entries(Family::V4)),
-        (TABLE_DUMP_V2, RIB_IPV6_UNICAST) => Some(Form::Entries(Family::V6)),
-        (BGP4MP, _) => session_form(false, subtype),
-        (BGP4MP_ET, _) => session_form(true, subtype),
-        _ => None,
-    }
-}
-
 /// The profile of the records that are read: those whose bodies have a form.
 pub(crate) struct Forms;
 
 impl Profile for Forms {
-    ghost supports = { λ _ kind subtype. is_some (form_of kind subtype) };
+    type Form = Form;
 
-    #[inline(always)]
-    fn supports(&self, kind: u16, subtype: u16) -> bool {
-        form_of(kind, subtype).is_some()
+    ghost form_at = { λ _ kind subtype. form_of kind subtype };
+
+    fn form_of(&self, kind: u16, subtype: u16) -> Option<Form> {
+        match (kind, subtype) {
+            (TABLE_DUMP, AFI_IPV4) => Some(Form::Entry(Family::V4)),
+            (TABLE_DUMP, AFI_IPV6) => Some(Form::Entry(Family::V6)),
+            (TABLE_DUMP_V2, PEER_INDEX_TABLE) => Some(Form::Peers),
+            (TABLE_DUMP_V2, RIB_IPV4_UNICAST) => Some(Form::Entries(Family::V4)),
+            (TABLE_DUMP_V2, RIB_IPV6_UNICAST) => Some(Form::Entries(Family::V6)),
+            (BGP4MP, _) => session_form(false, subtype),
+            (BGP4MP_ET, _) => session_form(true, subtype),
+            _ => None,
+        }
     }
 }
 

@@ -7,7 +7,7 @@ ghost use Rattle.mrt_wire.specs.declared.peers.TheConstants.{PEER_PLACES};
 ghost use Rattle.mrt_wire.specs.Judging.{IsSentAs, RefusesSent};
 
 use crate::peers::PEER_PLACES;
-use crate::route_pool::{RoutePool, SentAttrs, fill_rib_route, new_route};
+use crate::route_pool::{RoutePool, SentAttrs, new_route};
 use bgp_wire::{AS_PATH, AsWidth, EXTENDED_LENGTH, MP_REACH_NLRI, ORIGIN, WireFault};
 use ip_prefix::Family;
 use mrt_events::Route;
@@ -108,10 +108,7 @@ impl ReadRoute {
         ensures refused { IfErr result (RefusesSent sent.entry) }
     {
         self.known = false;
-        if Rc::get_mut(&mut self.route).is_none() {
-            routes.exchange(alloc, &mut self.route)?;
-        }
-        fill_rib_route(&mut self.route, alloc, sent, time)?;
+        routes.read_into(&mut self.route, alloc, sent, time)?;
         self.octets.clear();
         self.octets.extend_from_slice(sent.octets)?;
         self.family = sent.family;

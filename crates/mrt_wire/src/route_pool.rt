@@ -5,7 +5,8 @@ ghost use Rattle.mrt_wire.specs.declared.route_pool.TheConstants.{MOST_ROUTES, M
 ghost use Rattle.mrt_wire.specs.Items.{route_of};
 ghost use Rattle.mrt_wire.specs.Judging.{IsSentAs, RefusesSent};
 
-use bgp_wire::{AsWidth, Attrs, WireFault, replace_attrs, replace_rib_attrs};
+use crate::replacing::put_attrs;
+use bgp_wire::{AsWidth, Attrs, WireFault, replace_rib_attrs};
 use ip_prefix::Family;
 use mrt_events::{Route, route_room};
 use std::alloc::{AllocError, Global};
@@ -38,14 +39,53 @@ pub(crate) struct SentAttrs<'a> {
 }
 
 /// A route without attributes.
-pub(crate) fn new_route(alloc: Global) -> Result<Rc<Route>, AllocError> {
+#[inline(always)]
+fn blank_route(alloc: Global) -> Route {
     let attrs = Attrs::none(alloc);
-    Ok(Rc::new(alloc, Route { attrs, time: 0 })?)
+    Route { attrs, time: 0 }
 }
 
-/// Reads the attributes of a table's entry into a route that nobody else holds.
+/// The same, to be shared.
+pub(crate) fn new_route(alloc: Global) -> Result<Rc<Route>, AllocError> {
+    Ok(Rc::new(alloc, blank_route(alloc))?)
+}
+
+/// Reads the attributes of a table's entry, with this time, into a route.
 #[inline(always)]
-pub(crate) fn fill_rib_route(
+fn fill_rib_route(
+    route: &mut Route,
+    alloc: Global,
+    sent: SentAttrs<'_>,
+    time: u32,
+) -> Result<(), WireFault>
+    ensures read { OnOk result (IsSentAs sent.entry time route.new) }
+    ensures refused { IfErr result (RefusesSent sent.entry) }
+{
+    let SentAttrs {
+        octets,
+        family,
+        width,
+    } = sent;
+    replace_rib_attrs(alloc, &mut route.attrs, family, width, octets)?;
+    route.time = time;
+    Ok(())
+}
+
+/// The same, into a new route.
+#[inline(never)]
+fn read_rib_route(alloc: Global, sent: SentAttrs<'_>, time: u32) -> Result<Rc<Route>, WireFault>
+    ensures read { IfOk result (λ route. IsSentAs sent.entry time route.value) }
+    ensures refused { IfErr result (RefusesSent sent.entry) }
+{
+    let mut route = blank_route(alloc);
+    fill_rib_route(&mut route, alloc, sent, time)?;
+    Ok(Rc::new(alloc, route)?)
+}
+
+/// The same, into the route that stands here, or, where somebody else holds it, into a new one in its
+/// place.
+#[inline(always)]
+fn fill_shared(
     shared: &mut Rc<Route>,
     alloc: Global,
     sent: SentAttrs<'_>,
@@ -54,16 +94,10 @@ pub(crate) fn fill_rib_route(
     ensures read { OnOk result (IsSentAs sent.entry time shared.new.value) }
     ensures refused { IfErr result (RefusesSent sent.entry) }
 {
-    let SentAttrs {
-        octets,
-        family,
-        width,
-    } = sent;
-    let Some(route) = Rc::get_mut(shared) else {
-        return Err(WireFault::Memory);
-    };
-    replace_rib_attrs(alloc, &mut route.attrs, family, width, octets)?;
-    route.time = time;
+    match Rc::get_mut(shared) {
+        Some(route) => fill_rib_route(route, alloc, sent, time)?,
+        None => *shared = read_rib_route(alloc, sent, time)?,
+    }
     Ok(())
 }
 
@@ -82,32 +116,21 @@ pub(crate) struct RoutePool {
     ghost fits: { room ≤ MOST_ROOM },
 }
 
-/// Lets go of the route at the place where somebody else holds it, for one that nobody else does.
-#[inline(always)]
-fn let_go(routes: &mut Vec<Rc<Route>>, alloc: Global, place: usize) -> Result<(), AllocError>
-    requires { place < vec_len routes.old }
-    ensures { vec_len routes.new ≡ vec_len routes.old }
+/// A new route of these attributes and this time, as `RoutePool::route`.
+#[inline(never)]
+fn made_route(
+    alloc: Global,
+    attrs: &mut Attrs,
+    time: u32,
+    is_kept: bool,
+) -> Result<Rc<Route>, AllocError>
+    ensures made { IfOk result (λ route. route.value ≡ route_of attrs.old time) }
+    ensures kept { is_kept ≡ true → attrs.new ≡ attrs.old }
 {
-    if Rc::get_mut(&mut routes[place]).is_none() {
-        routes[place] = new_route(alloc)?;
-    }
-    Ok(())
-}
-
-/// Makes the attributes the others, which get the memory of these. It is done part by part, since
-/// only paths and communities have memory: to exchange the whole takes a hundred instructions more.
-#[inline(always)]
-fn exchange_attrs(attrs: &mut Attrs, others: &mut Attrs)
-    ensures { attrs.new ≡ others.old }
-{
-    mem::swap(&mut attrs.path, &mut others.path);
-    mem::swap(&mut attrs.communities, &mut others.communities);
-    attrs.next_hop = others.next_hop;
-    attrs.aggregator = others.aggregator;
-    attrs.med = others.med;
-    attrs.local_pref = others.local_pref;
-    attrs.origin = others.origin;
-    attrs.atomic = others.atomic;
+    let mut route = blank_route(alloc);
+    put_attrs(alloc, &mut route.attrs, attrs, is_kept)?;
+    route.time = time;
+    Ok(Rc::new(alloc, route)?)
 }
 
 impl RoutePool {
@@ -129,8 +152,7 @@ impl RoutePool {
         self.given = 0;
     }
 
-    /// Where the next route stands that may be filled, which nobody else holds. One that somebody
-    /// else holds is let go.
+    /// Where the next route stands that may be filled, unless somebody else holds it.
     #[inline(always)]
     fn next_place(&mut self, alloc: Global) -> Result<usize, AllocError>
         ensures next { IfOk result (λ place. place ≡ self.old.given) }
@@ -138,12 +160,9 @@ impl RoutePool {
     {
         let place = self.given;
         let given = (place + 1).min(MOST_ROUTES - 1);
-        if place < self.routes.len() {
-            let_go(&mut self.routes, alloc, place)?;
-            self.given = given;
-            return Ok(place);
+        if place >= self.routes.len() {
+            self.routes.push(new_route(alloc)?)?;
         }
-        self.routes.push(new_route(alloc)?)?;
         self.given = given;
         Ok(place)
     }
@@ -211,12 +230,10 @@ impl RoutePool {
         ensures refused { IfErr result (RefusesSent sent.entry) }
     {
         if sent.octets.len() > LONGEST_KEPT {
-            let mut route = new_route(alloc)?;
-            fill_rib_route(&mut route, alloc, sent, time)?;
-            return Ok(route);
+            return read_rib_route(alloc, sent, time);
         }
         let place = self.next_table_place(alloc)?;
-        let read = fill_rib_route(&mut self.routes[place], alloc, sent, time);
+        let read = fill_shared(&mut self.routes[place], alloc, sent, time);
         // It may not be kept.
         let route: Result<_, _> = self.routes[place].clone();
         self.keep(place);
@@ -224,17 +241,45 @@ impl RoutePool {
         Ok(route?)
     }
 
-    /// Gives a route that nobody else holds for this one.
+    /// Gives the route of a table's entry, with this time, for this one, which somebody holds.
+    /// Refused, it leaves this one.
     #[inline(never)]
-    pub(crate) fn exchange(
+    fn exchange(
         &mut self,
-        alloc: Global,
         route: &mut Rc<Route>,
-    ) -> Result<(), AllocError> {
+        alloc: Global,
+        sent: SentAttrs<'_>,
+        time: u32,
+    ) -> Result<(), WireFault>
+        ensures read { OnOk result (IsSentAs sent.entry time route.new.value) }
+        ensures refused { IfErr result (RefusesSent sent.entry) }
+    {
         let place = self.next_table_place(alloc)?;
-        mem::swap(&mut self.routes[place], route);
+        let read = fill_shared(&mut self.routes[place], alloc, sent, time);
+        if read.is_ok() {
+            mem::swap(&mut self.routes[place], route);
+        }
         self.keep(place);
-        Ok(())
+        read
+    }
+
+    /// Reads the attributes of a table's entry, with this time, into this route, or, where somebody
+    /// holds it, into another one in its place.
+    #[inline(always)]
+    pub(crate) fn read_into(
+        &mut self,
+        route: &mut Rc<Route>,
+        alloc: Global,
+        sent: SentAttrs<'_>,
+        time: u32,
+    ) -> Result<(), WireFault>
+        ensures read { OnOk result (IsSentAs sent.entry time route.new.value) }
+        ensures refused { IfErr result (RefusesSent sent.entry) }
+    {
+        match Rc::get_mut(route) {
+            Some(alone) => fill_rib_route(alone, alloc, sent, time),
+            None => self.exchange(route, alloc, sent, time),
+        }
     }
 
     /// A route of these attributes and this time. Others that aren't needed are given for them,
@@ -251,14 +296,12 @@ impl RoutePool {
         ensures kept { is_kept ≡ true → attrs.new ≡ attrs.old }
     {
         let place = self.next_place(alloc)?;
-        let Some(route) = Rc::get_mut(&mut self.routes[place]) else {
-            return Err(AllocError);
-        };
-        route.time = time;
-        if is_kept {
-            replace_attrs(alloc, &mut route.attrs, attrs)?;
-        } else {
-            exchange_attrs(&mut route.attrs, attrs);
+        match Rc::get_mut(&mut self.routes[place]) {
+            Some(route) => {
+                put_attrs(alloc, &mut route.attrs, attrs, is_kept)?;
+                route.time = time;
+            }
+            None => self.routes[place] = made_route(alloc, attrs, time, is_kept)?,
         }
         self.routes[place].clone()
     }

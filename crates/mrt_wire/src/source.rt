@@ -4,7 +4,7 @@ ghost use Rattle.std.specs.Prelude.{◌≡◌, ◌≤◌, ◌+◌, ◌||◌, ◌
 ghost use Rattle.mrt_wire.specs.declared.next.Next.{Next};
 ghost use Rattle.mrt_frames.specs.Taken.{is_read};
 ghost use Rattle.mrt_wire.specs.Results.{start_place};
-ghost use Rattle.mrt_wire.specs.Judging.{judged_answer};
+ghost use Rattle.mrt_wire.specs.Judging.{judged_answer, fault_answer};
 ghost use Rattle.mrt_wire.specs.Answered.{IsStep, IsFirstResult, spent_place};
 
 use crate::judging::{RawRecord, Refusal, judge};
@@ -135,14 +135,14 @@ impl Source {
     {
         let offset = self.frames.taken();
         match self.frames.take_record(&Forms, input)? {
-            Front::Record(header) => {
+            Front::Record(header, form) => {
                 let body = self.frames.body(header.size);
                 let judged = judge(
                     self.alloc,
                     &mut self.pool,
                     self.stamp,
                     &mut self.index,
-                    RawRecord { header, body },
+                    RawRecord { form, header, body },
                 );
                 let answer = record_answer(self.number + 1, offset, judged)?;
                 self.number += 1;
@@ -152,11 +152,7 @@ impl Source {
                 let kind = RecordKind::Unsupported(header.kind, header.subtype);
                 let number = self.number + 1;
                 self.number = number;
-                Ok(Next::Bad(RecordFault {
-                    number,
-                    offset,
-                    kind,
-                }))
+                Ok(fault_answer(number, offset, kind))
             }
             Front::Rest(kind) => {
                 self.phase = Phase::Ended;
@@ -164,14 +160,22 @@ impl Source {
                     return Ok(Next::End);
                 };
                 let number = self.number + 1;
-                Ok(Next::Bad(RecordFault {
-                    number,
-                    offset,
-                    kind,
-                }))
+                Ok(fault_answer(number, offset, kind))
             }
         }
     }
+}
+
+/// The answer for a faulty record.
+#[inline(always)]
+fn fault_answer(number: u64, offset: u64, kind: RecordKind) -> Next
+    ensures { result ≡ fault_answer number offset kind }
+{
+    Next::Bad(RecordFault {
+        number,
+        offset,
+        kind,
+    })
 }
 
 /// The answer for a record of which this became.
@@ -184,11 +188,7 @@ fn record_answer(
 {
     match judged {
         Ok(event) => Ok(Next::Event(event)),
-        Err(Refusal::Fault(kind)) => Ok(Next::Bad(RecordFault {
-            number,
-            offset,
-            kind,
-        })),
+        Err(Refusal::Fault(kind)) => Ok(fault_answer(number, offset, kind)),
         Err(Refusal::Memory) => Err(SourceFault::Memory),
     }
 }

@@ -1,6 +1,6 @@
 //! Texts that grow at their end.
 
-ghost use Rattle.std.specs.Prelude.{◌≡◌, ◌+◌, ◌-◌, ◌≤◌, ◌++◌, ◌∷◌, [], OnOk, OnErr, length, map, take, drop, slice_range, decimal};
+ghost use Rattle.std.specs.Prelude.{◌≡◌, ◌+◌, ◌-◌, ◌*◌, ◌<◌, ◌≤◌, ◌++◌, ◌∷◌, [], OnOk, OnErr, length, map, take, drop, slice_range, decimal};
 ghost use Rattle.octet_text.specs.Written.{ended_words};
 
 use crate::cursor::{
@@ -76,7 +76,7 @@ impl Text {
     pub fn len(&self) -> usize
         ensures { result ≡ length self.now }
     {
-        self.len
+        self.as_slice().len()
     }
 
     /// Its octets.
@@ -173,8 +173,7 @@ impl Text {
             (self.new ≡ self.old ++ ended_words end (map decimal numbers.now)) }
         ensures unchanged { OnErr result (self.new ≡ self.old) }
     {
-        let room = numbers.len().checked_mul(ENDED_ROOM).ok_or(AllocError)?;
-        make_room(&mut self.buffer, self.len, room)?;
+        make_rooms(&mut self.buffer, self.len, numbers.len(), ENDED_ROOM)?;
         let text = self.buffer.as_mut_slice();
         let mut place = self.len;
         for number in numbers {
@@ -191,8 +190,7 @@ impl Text {
             (self.new ≡ self.old ++ ended_words end (map W.word numbers.now)) }
         ensures unchanged { OnErr result (self.new ≡ self.old) }
     {
-        let room = numbers.len().checked_mul(WORD_ROOM).ok_or(AllocError)?;
-        make_room(&mut self.buffer, self.len, room)?;
+        make_rooms(&mut self.buffer, self.len, numbers.len(), WORD_ROOM)?;
         let text = self.buffer.as_mut_slice();
         let mut place = self.len;
         for number in numbers {
@@ -219,9 +217,8 @@ impl Text {
         ensures appended { OnOk result (self.new ≡ self.old ++ lead ∷ V.shown value.now) }
         ensures unchanged { OnErr result (self.new ≡ self.old) }
     {
-        let room = V::ROOM.checked_add(1).ok_or(AllocError)?;
         let at = self.len;
-        make_room(&mut self.buffer, at, room)?;
+        make_room(&mut self.buffer, at, V::ROOM.saturating_add(1))?;
         let text = self.buffer.as_mut_slice();
         text[at] = lead;
         self.len = value.write_in_place(text, at + 1);
@@ -279,7 +276,23 @@ fn make_room(buffer: &mut Vec<u8>, len: usize, room: usize) -> Result<(), AllocE
     Ok(())
 }
 
-// The same, where there isn't room, out of line.
+// The same, with so much room for each of so many.
+#[inline(always)]
+fn make_rooms(buffer: &mut Vec<u8>, len: usize, count: usize, each: usize) -> Result<(), AllocError>
+    requires front { len ≤ length buffer.old.items }
+    requires some { 0 < each }
+    ensures room { OnOk result (len + count * each ≤ length buffer.new.items) }
+    ensures within { len ≤ length buffer.new.items }
+    ensures kept { take len buffer.new.items ≡ take len buffer.old.items }
+{
+    if (buffer.len() - len) / each < count {
+        return grow(buffer, len, count.saturating_mul(each));
+    }
+    Ok(())
+}
+
+// The same, where there isn't room, out of line. Where the sum, or the product before, would pass
+// the greatest number, that number is asked for, which is longer than any vector: it is refused.
 #[cold]
 #[inline(never)]
 fn grow(buffer: &mut Vec<u8>, len: usize, room: usize) -> Result<(), AllocError>
@@ -288,7 +301,7 @@ fn grow(buffer: &mut Vec<u8>, len: usize, room: usize) -> Result<(), AllocError>
     ensures within { len ≤ length buffer.new.items }
     ensures kept { take len buffer.new.items ≡ take len buffer.old.items }
 {
-    let size = len.checked_add(room.max(LEAST_ROOM)).ok_or(AllocError)?;
+    let size = len.saturating_add(room.max(LEAST_ROOM));
     buffer.resize(size, 0)
 }
 

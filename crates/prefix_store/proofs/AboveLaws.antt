@@ -13,7 +13,7 @@ use Rattle.std.specs.FinMap.Entries.{is_sorted, below_all}
 use Rattle.std.proofs.lemmas.Bool.{and_parts}
 use Rattle.ip_prefix.specs.Network.{Network, network_cmp}
 use Rattle.ip_prefix.specs.OrderLaws.{network_cmp_total}
-use Rattle.prefix_store.specs.Contents.{is_higher, above, pointed}
+use Rattle.prefix_store.specs.Lookups.{is_higher, above, pointed}
 
 -- ---- those above a key, in a list in the order of its keys
 

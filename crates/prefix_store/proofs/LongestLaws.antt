@@ -7,7 +7,7 @@ use Rattle.ip_prefix.specs.Network.{Address, Network, contains, network_of}
 use Rattle.ip_prefix.proofs.Containing.{contains_parts, contains_from, front_length, one_of_length}
 use Rattle.std.specs.FinMap.{get}
 use Rattle.prefix_store.specs.Stored.{Routes}
-use Rattle.prefix_store.specs.Contents.{IsLongest}
+use Rattle.prefix_store.specs.Lookups.{IsLongest}
 
 -- a prefix that contains an address is no longer than it
 pub contains-length : (n : Network) (a : Address) → contains n a ≡ true → length n.bits ≤ length a.bits

@@ -13,8 +13,8 @@ use Rattle.std.specs.FinSet as set
 use Rattle.std.specs.FinSet.{contains-empty}
 use Rattle.ip_prefix.specs.Network.{Network, network_cmp}
 use Rattle.ip_prefix.specs.OrderLaws.{network_cmp_total, network_cmp-IsAntisymmetric}
-use Rattle.prefix_store.specs.Stored.{Keys, Routes, put}
-use Rattle.prefix_store.specs.Contents.{is_above, above, AreAmong}
+use Rattle.prefix_store.specs.Stored.{Keys, Routes, put, AreAmong}
+use Rattle.prefix_store.specs.Lookups.{is_above, above}
 use Rattle.prefix_store.proofs.AboveLaws.{higher_from, above-next, keys-in_order}
 
 -- what is left once the first is gone

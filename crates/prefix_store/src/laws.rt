@@ -6,7 +6,8 @@ ghost use Rattle.std.specs.List.Sorted.{IsStrictlySortedBy};
 ghost use Rattle.ip_prefix.specs.Network.{Address, Network, network_cmp};
 ghost use Rattle.prefix_store.specs.declared.store.TheConstants.{GREATEST_COUNT};
 ghost use Rattle.prefix_store.specs.Stored.{Routes, put};
-ghost use Rattle.prefix_store.specs.Contents.{IsLongest, first_above, routes_above};
+ghost use Rattle.prefix_store.specs.Contents.{first_above, routes_above};
+ghost use Rattle.prefix_store.specs.Lookups.{IsLongest};
 
 /// The number that the definitions name: where counts stop, `u64::MAX`.
 pub fn count_numbers()

@@ -3,8 +3,8 @@
 ghost use Rattle.std.specs.Prelude.{◌≡◌, ◌≤◌, true, false, not, Option, None, slice_get, take, vec_capacity, IfOk, OnOk, OnErr, option_map, option_copied};
 ghost use Rattle.std.specs.FinMap as finite;
 ghost use Rattle.std.specs.FinSet as set;
-ghost use Rattle.prefix_store.specs.Stored.{Keys, Routes, put, counted};
-ghost use Rattle.prefix_store.specs.Contents.{IsLongest, above, pointed, AreAmong};
+ghost use Rattle.prefix_store.specs.Stored.{Keys, Routes, put, counted, AreAmong};
+ghost use Rattle.prefix_store.specs.Lookups.{IsLongest, above, pointed};
 
 use crate::places::Places;
 use ip_prefix::{Addr, Prefix};

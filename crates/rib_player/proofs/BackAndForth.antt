@@ -3,8 +3,8 @@ use Rattle.std.proofs.Common.{◌≡◌, ℕ, zero, suc, ◌+◌, ◌-◌, ◌<�
 use Rattle.std.proofs.lemmas.Bool.{cond-true}
 use Rattle.mrt_events.specs.declared.event.Event.{Event}
 use Rattle.rib_player.specs.Tables.{table}
-use Rattle.rib_player.specs.Timeline.{Timeline, end_of, table_at, current, after_play}
-use Rattle.rib_player.specs.Calls.{StandsFor, Call, Play, Undo, Redo, after_undo, after_redo, after_call, after_calls}
+use Rattle.rib_player.specs.Timeline.{Timeline, end_of, table_at, current, after_play, after_undo, after_redo}
+use Rattle.rib_player.specs.Calls.{StandsFor, Call, Play, Undo, Redo, after_call, after_calls}
 use Rattle.rib_player.proofs.TimelineLaws.{StandsFor-table, StandsFor-current, StandsFor-end, StandsFor-after_play}
 use Rattle.octet_forms.proofs.Lists.{take_pushed}
 

@@ -1,6 +1,6 @@
 -- Claims: a pair is wanted exactly where it is claimed, and what forgotten, dropped and played steps make of claims.
 use Rattle.std.proofs.lemmas.Bool.Decides.{nat_tests}
-use Rattle.std.proofs.Common.{◌≡◌, ℕ, zero, suc, ◌+◌, ◌-◌, ◌<◌, Bool, true, false, not, ◌||◌, ◌&&◌, List, [], ◌∷◌, ◌++◌, length, length-drop, take, drop, slice_index_or, Option, None, is_some, refl, sym, ap, subst, ◌∙◌, arith, take_all}
+use Rattle.std.proofs.Common.{◌≡◌, ℕ, zero, suc, ◌+◌, ◌-◌, ◌<◌, ◌≤◌, Bool, true, false, not, ◌||◌, ◌&&◌, List, [], ◌∷◌, ◌++◌, length, length-drop, take, drop, slice_index_or, Option, None, is_some, refl, sym, ap, subst, ◌∙◌, arith, take_all}
 use Rattle.std.specs.List.{list_any}
 use Rattle.std.specs.Prelude.{nat_lt}
 use Rattle.std.specs.FinMap as finite
@@ -10,9 +10,9 @@ use Rattle.rib_player.specs.declared.pair.Pair.{Pair}
 use Rattle.mrt_events.specs.declared.event.Event.{Event}
 use Rattle.rib_player.specs.History.{Effect, effect, route_after}
 use Rattle.rib_player.specs.Tables.{Routes, Pairs, table, table_after, is_named, named_pairs}
-use Rattle.rib_player.specs.Timeline.{Timeline, end_of, behind, table_at, current, after_play}
-use Rattle.rib_player.specs.Calls.{StandsFor, tables_along, steps_along, without_first}
-use Rattle.rib_player.specs.Claims.{is_routed, brings, clears, one_if, brought_along, claims_along, claims, without_last, wanted, IsWellFormed}
+use Rattle.rib_player.specs.Timeline.{Timeline, end_of, behind, table_at, current, after_play, without_first, wanted, IsWellFormed}
+use Rattle.rib_player.specs.Calls.{StandsFor, tables_along, steps_along}
+use Rattle.rib_player.specs.Claims.{is_routed, brings, clears, one_if, brought_along, claims_along, claims, without_last}
 use Rattle.rib_player.proofs.TableLaws.{get-table_after, contains-named_pairs}
 use Rattle.rib_player.proofs.HistoryLaws.{table-append}
 use Rattle.rib_player.proofs.JournalLaws.{unnamed-same}
@@ -43,6 +43,19 @@ unclaimed pair tables i h none =
 -- and the other way round
 pub unclaimed-none : (pair : Pair) (tables : List Routes) → list_any (is_routed pair) tables ≡ false → claims_along pair tables ≡ 0
 unclaimed-none pair tables none = let claimed = claimed-somewhere pair tables in grind (arith, nat_tests)
+
+-- a pair is claimed at most once for each position
+one-most : (b : Bool) → one_if b ≤ 1
+one-most true = omega arith
+one-most false = omega arith
+
+few-brought : (pair : Pair) (before : Routes) (tables : List Routes) → brought_along pair before tables ≤ length tables
+few-brought pair before [] = omega arith
+few-brought pair before (after ∷ tables) = omega (arith, one-most (brings pair before after), few-brought pair after tables)
+
+pub few-claims : (pair : Pair) (tables : List Routes) → claims_along pair tables ≤ length tables
+few-claims pair [] = omega arith
+few-claims pair (first ∷ tables) = omega (arith, one-most (is_routed pair first), few-brought pair first tables)
 
 -- ---- it has one at some position exactly where it has one at a given position or a step names it
 

@@ -5,8 +5,7 @@ use Rattle.std.specs.FinSet as names
 use Rattle.std.proofs.lemmas.List.{take-set, drop-set, take_more, take_more_set, drop_more, drop-set-lt, reverse-append, length-reverse, length-take-le, length_push, get_or_at, map-set, set-get_or, get_or-map, take_at, drop_all, length-map, take_all, take-map, map-append}
 use Rattle.mrt_events.specs.declared.event.Event.{Event}
 use Rattle.rib_player.specs.Tables.{Routes, Pairs, table_after, named_pairs}
-use Rattle.rib_player.specs.Timeline.{current, after_play}
-use Rattle.rib_player.specs.Calls.{after_undo, after_redo}
+use Rattle.rib_player.specs.Timeline.{current, after_play, after_undo, after_redo}
 use Rattle.rib_player.specs.Journal.{Side, pairs_in, routes_across, tables_before, tables_after, tables_over, timeline_of}
 use Rattle.rib_player.specs.Marks.{sides_at, sides_across, IsStepFor}
 use Rattle.rib_player.proofs.BackAndForth.{after_undo-at, after_redo-at}

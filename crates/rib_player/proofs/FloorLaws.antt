@@ -1,8 +1,7 @@
 -- What forgetting steps makes of a player's timeline.
 use Rattle.std.proofs.Common.{◌≡◌, ℕ, ◌+◌, ◌-◌, ◌≤◌, min, slice_index_or, ap, ◌∙◌, arith, get_or-drop, drop-drop}
 use Rattle.std.specs.FinMap as finite
-use Rattle.rib_player.specs.Timeline.{Timeline, table_at, current}
-use Rattle.rib_player.specs.Calls.{without_first, forgettable, after_forget}
+use Rattle.rib_player.specs.Timeline.{Timeline, table_at, current, without_first, forgettable, after_forget}
 
 -- the table at a position that is left stays
 pub table_at-without_first : (t : Timeline) (count i : ℕ) → t.floor + count ≤ i → table_at (without_first count t) i ≡ table_at t i

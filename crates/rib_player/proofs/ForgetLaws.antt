@@ -2,7 +2,7 @@
 use Rattle.std.proofs.Common.{◌≡◌, ℕ, suc, ◌+◌, List, [], ◌∷◌, ◌++◌, take, drop, reverse, refl, sym, ap, ◌∙◌, append_assoc, arith}
 use Rattle.std.proofs.lemmas.List.{reverse-append}
 use Rattle.rib_player.specs.Tables.{Routes}
-use Rattle.rib_player.specs.Calls.{without_first}
+use Rattle.rib_player.specs.Timeline.{without_first}
 use Rattle.rib_player.specs.Journal.{Side, routes_across, tables_before, tables_after, tables_over, timeline_of}
 
 -- the tables but for the first are those of the other steps

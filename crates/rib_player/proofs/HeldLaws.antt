@@ -8,8 +8,7 @@ use Rattle.std.specs.FinSet.{contains-insert, contains-remove}
 use Rattle.std.proofs.lemmas.Bool.{lt-ltb, or_parts}
 use Rattle.rib_player.specs.declared.pair.Pair.{Pair}
 use Rattle.mrt_events.specs.declared.event.Route.{Route}
-use Rattle.prefix_store.specs.Contents.{AreAmong}
-use Rattle.prefix_store.specs.Stored.{put}
+use Rattle.prefix_store.specs.Stored.{put, AreAmong}
 use Rattle.prefix_store.proofs.PutLaws.{get-put}
 use Rattle.std.proofs.Math.Bool.{or-true}
 use Rattle.rib_player.specs.Tables.{Routes, Pairs}
@@ -34,6 +33,10 @@ some-key keys beyond q held some = held-key keys beyond q held ∙ lt-ltb 0 (hel
 pub same-key : (keys keys' : Pairs) (beyond beyond' : Pair → ℕ) (q : Pair) → AreHeld keys beyond → AreHeld keys' beyond' → held_claims keys' beyond' q ≡ held_claims keys beyond q
     → set.contains keys' q ≡ set.contains keys q
 same-key keys keys' beyond beyond' q held held' same = held-key keys' beyond' q held' ∙ ap (nat_lt 0) same ∙ sym (held-key keys beyond q held)
+
+-- and as many beyond them where as many are held
+pub same-beyond : (keys keys' : Pairs) (beyond beyond' : Pair → ℕ) (q : Pair) → AreHeld keys beyond → AreHeld keys' beyond' → held_claims keys' beyond' q ≡ held_claims keys beyond q → beyond' q ≡ beyond q
+same-beyond keys keys' beyond beyond' q held held' same = omega (arith, ap one_if (same-key keys keys' beyond beyond' q held held' same), same)
 
 -- a claim is made: a key that was none, or one beyond a key
 pub made-claimed : (keys keys' : Pairs) (beyond beyond' : Pair → ℕ) (p q : Pair) → keys' ≡ set.insert keys p → beyond' q ≡ beyond q → set.contains keys p ≡ false

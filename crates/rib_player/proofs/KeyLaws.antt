@@ -10,8 +10,7 @@ use Rattle.std.proofs.lemmas.List.Folds.{list_any-append}
 use Rattle.std.proofs.Math.Bool.{or-true}
 use Rattle.rib_player.specs.declared.pair.Pair.{Pair}
 use Rattle.rib_player.specs.Tables.{Pairs}
-use Rattle.rib_player.specs.Timeline.{Timeline, current}
-use Rattle.rib_player.specs.Claims.{wanted}
+use Rattle.rib_player.specs.Timeline.{Timeline, current, wanted}
 use Rattle.rib_player.specs.Journal.{Side, pairs_in}
 use Rattle.rib_player.specs.Marks.{IsKept, AreDistinct}
 use Rattle.rib_player.proofs.PairLaws.{pair_cmp_total}

@@ -16,7 +16,8 @@ use Rattle.mrt_events.proofs.PeerLaws.{peer_cmp_total}
 use Rattle.std.proofs.lemmas.Map.Keys.{IsDistinct-from_sorted}
 use Rattle.rib_player.specs.declared.pair.Pair.{Pair}
 use Rattle.rib_player.specs.Entries.{Entry}
-use Rattle.rib_player.specs.Kept.{cleared_entries, value_of}
+use Rattle.rib_player.specs.Kept.{cleared_entries}
+use Rattle.rib_player.specs.Lookups.{value_of}
 use Rattle.rib_player.specs.declared.changes.Changes.{Changes}
 use Rattle.rib_player.specs.Changes.{found, is_lost, effect_of, noted_effect}
 use Rattle.rib_player.specs.History.{pair_cmp, pair_of, effect, where_true, Clear, route_after}

@@ -21,7 +21,7 @@ use Rattle.ip_prefix.specs.Network.{Address, Network, network_cmp}
 use Rattle.ip_prefix.specs.OrderLaws.{network_cmp_total, network_cmp-IsAntisymmetric}
 use Rattle.prefix_store.specs.Stored as stored
 use Rattle.prefix_store.specs.Stored.{counted}
-use Rattle.prefix_store.specs.Contents.{above, pointed, IsLongest, is_higher}
+use Rattle.prefix_store.specs.Lookups.{above, pointed, IsLongest, is_higher}
 use Rattle.prefix_store.proofs.AboveLaws.{take-nil, is_less, is_true, keys-in_order, higher-next}
 use Rattle.mrt_events.specs.declared.peer.Peer.{Peer}
 use Rattle.mrt_events.specs.declared.event.Route.{Route}
@@ -30,8 +30,8 @@ use Rattle.mrt_events.proofs.PeerLaws.{peer_cmp_total, peer_cmp-IsAntisymmetric}
 use Rattle.rib_player.specs.declared.pair.Pair.{Pair}
 use Rattle.rib_player.specs.History.{pair_cmp, pair_of}
 use Rattle.rib_player.specs.Tables.{Routes, Stores, store_at, routes_in, peer_routes, routed_peers}
-use Rattle.rib_player.specs.Lookups.{IsBest, pointed_routes, peers_above, routed_stores, peer_count}
-use Rattle.rib_player.specs.Kept.{value_of, IsWritten}
+use Rattle.rib_player.specs.Lookups.{IsBest, pointed_routes, peers_above, value_of}
+use Rattle.rib_player.specs.Kept.{IsWritten, routed_stores, peer_count}
 use Rattle.rib_player.proofs.ListLaws.{all-then}
 use Rattle.rib_player.proofs.StoreLaws.{same_peer, one_peer, peer_symm, tied_parts, any-pairs, get-found, routes_in-other}
 

@@ -15,8 +15,8 @@ use Rattle.rib_player.specs.declared.entry.Step.{Step}
 use Rattle.rib_player.specs.declared.entry.End.TheVariants.{First, Last}
 use Rattle.rib_player.specs.History.{pair_cmp}
 use Rattle.rib_player.specs.Tables.{Routes, Pairs, table_after, named_pairs, Contents}
-use Rattle.rib_player.specs.Timeline.{Timeline, after_play}
-use Rattle.rib_player.specs.Claims.{wanted, IsWellFormed, is_routed, one_if, brings, claims_along, held_claims, AreHeld}
+use Rattle.rib_player.specs.Timeline.{Timeline, after_play, wanted, IsWellFormed}
+use Rattle.rib_player.specs.Claims.{is_routed, one_if, brings, claims_along, held_claims, AreHeld}
 use Rattle.rib_player.specs.Journal.{Side, pairs_in, step_sides, steps_of, tables_over, timeline_of, routes_across}
 use Rattle.rib_player.specs.Marks.{sides_at, sides_across, IsKept, AreDistinct, IsStepFor, Mark, marks_by_step, step_marks, marks_across, gives_up_by, IsMarkOf, AreMarksOf, AreMarked}
 use Rattle.rib_player.specs.Calls.{IsPlayed, IsCrossed, AreClaimed, CanDrop}
@@ -29,7 +29,7 @@ use Rattle.rib_player.proofs.ForgetLaws.{tables-forgotten}
 use Rattle.rib_player.proofs.KeyLaws.{any-take, none_from, wanted-kept}
 use Rattle.rib_player.proofs.MarkLaws.{tied, tied_itself, pairs_marked, gives-between, named-routed, marked-length, marked-take, marked-last, marked-push, marked-first, step-names}
 use Rattle.rib_player.proofs.HeldLaws.{held-key, some-key, one_true}
-use Rattle.rib_player.proofs.ClaimLaws.{NameFor, wanted-claimed, claimed-somewhere, first-forgotten, last-claims, last-played, unclaimed, unclaimed-none, table-names}
+use Rattle.rib_player.proofs.ClaimLaws.{NameFor, wanted-claimed, claimed-somewhere, few-claims, first-forgotten, last-claims, last-played, unclaimed, unclaimed-none, table-names}
 
 -- ---- the keys are the wanted pairs
 
@@ -65,6 +65,10 @@ module _ {table : Contents} {beyond : Pair → ℕ} {cursor : ℕ} {steps : List
       same_pairs table.keys (wanted t) (λ q.
       held-key table.keys beyond q played.held ∙ ap (nat_lt 0) (played.claimed q)
       ∙ sym (wanted-claimed t q (names-marked q tables-played steps played.marked) (omega (arith, within-played, as-many-played))))
+
+  -- no more claims than positions are counted
+  pub played-few : (q : Pair) → beyond q ≤ length steps + 1
+  played-few q = omega (arith, played.claimed q, few-claims q tables-played, as-many-played, length-map steps step_sides)
 
   -- so its steps can be crossed
   pub played-kept : (index : ℕ) → index < length steps → IsKept table.keys (sides_at (steps_of steps) index)

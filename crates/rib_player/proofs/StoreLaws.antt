@@ -15,7 +15,6 @@ use Rattle.std.proofs.lemmas.Map.Views.{any-filter_same}
 use Rattle.ip_prefix.specs.Network.{Network, network_cmp}
 use Rattle.ip_prefix.specs.OrderLaws.{network_cmp_total}
 use Rattle.prefix_store.specs.Stored as stored
-use Rattle.prefix_store.specs.Contents as contents
 use Rattle.prefix_store.proofs.PutLaws.{get-put}
 use Rattle.mrt_events.specs.declared.peer.Peer.{Peer}
 use Rattle.rib_player.specs.declared.pair.Pair.{Pair}
@@ -24,7 +23,8 @@ use Rattle.mrt_events.specs.Event.{peer_cmp}
 use Rattle.rib_player.specs.History.{pair_cmp, pair_of}
 use Rattle.prefix_store.specs.Stored.{put}
 use Rattle.rib_player.specs.Tables.{Routes, Pairs, Stores, store_at, has_key, stored_route, route_in, keys_in, routes_in}
-use Rattle.rib_player.specs.Kept.{value_of, IsHeld, IsWritten}
+use Rattle.rib_player.specs.Kept.{IsHeld, IsWritten}
+use Rattle.rib_player.specs.Lookups.{value_of}
 use Rattle.octet_forms.proofs.Booleans.{cond_untested}
 use Rattle.mrt_events.proofs.PeerLaws.{peer_cmp_total, peer_cmp-IsAntisymmetric}
 use Rattle.rib_player.proofs.PairLaws.{pair_cmp_total, pair_cmp-IsAntisymmetric, same_pair}
@@ -336,7 +336,7 @@ module _ {S : Type 0} (keys : S → stored.Keys) (routes : S → stored.Routes (
   keys-gone n none e = keys_in-remove keys (written-twice there.written removed) n (λ x.
       sym (none-left (keys after) x none) ∙ ap (λ k. set.contains k x) e ∙ contains-remove network_cmp_total (keys before) n x ∙ ap (λ s. not (same_network x n) && has_key keys s x) there.found)
 
-  pub routes-gone : set.len (keys after) ≡ 0 → contents.AreAmong (keys after) (routes after) → routes after ≡ routes before → routes_in routes new ≡ routes_in routes old
+  pub routes-gone : set.len (keys after) ≡ 0 → stored.AreAmong (keys after) (routes after) → routes after ≡ routes before → routes_in routes new ≡ routes_in routes old
   routes-gone none among e = routes_in-same routes (written-twice there.written removed) (λ x.
       sym (ap (option_map value_of) (among x (none-left (keys after) x none))) ∙ ap (λ r. option_map value_of (finite.get r x)) e ∙ ap (λ s. stored_route routes s x) there.found)
 

@@ -7,8 +7,8 @@ use Rattle.rib_player.specs.declared.pair.Pair.{Pair}
 use Rattle.mrt_events.specs.declared.event.Event.{Event}
 use Rattle.rib_player.specs.History.{route}
 use Rattle.rib_player.specs.Tables.{table, table_after, named_pairs}
-use Rattle.rib_player.specs.Timeline.{Timeline, end_of, behind, table_at, current, after_play}
-use Rattle.rib_player.specs.Calls.{StandsFor, Call, Play, PlayRefused, Undo, Redo, Forget, Look, fresh, after_undo, after_redo, without_first, forgettable, after_forget, tables_along, steps_along, after_call, after_calls, history_after, history_after_calls}
+use Rattle.rib_player.specs.Timeline.{Timeline, end_of, behind, table_at, current, after_play, fresh, after_undo, after_redo, without_first, forgettable, after_forget}
+use Rattle.rib_player.specs.Calls.{StandsFor, Call, Play, PlayRefused, Undo, Redo, Forget, Look, tables_along, steps_along, after_call, after_calls, history_after, history_after_calls}
 use Rattle.rib_player.proofs.TableLaws.{get-table}
 use Rattle.rib_player.proofs.HistoryLaws.{table-append}
 use Rattle.rib_player.proofs.AlongHistory.{length-steps_along, tables_along-append, steps_along-append, take-tables_along, take-steps_along, drop-tables_along, drop-steps_along, at-tables_along, at-steps_along}

@@ -1,6 +1,6 @@
 -- Private.
 -- What calls of a player do to it, and to the history that it stands for.
-use Rattle.std.specs.Prelude.{◌≡◌, ℕ, ◌+◌, ◌≤◌, List, take, set, length, None, ◌-◌, [], ◌∷◌, ◌++◌, drop, map, replicate, slice_get, Option, nat_lt, if◌then◌else◌, option_map}
+use Rattle.std.specs.Prelude.{◌≡◌, ℕ, ◌+◌, ◌≤◌, List, take, set, length, None, [], ◌∷◌, ◌++◌, drop, map, replicate, slice_get, Option, option_map}
 use Rattle.std.specs.List.{AllByRecursion}
 use Rattle.std.specs.FinMap.{get}
 use Rattle.rib_player.specs.declared.pair.Pair.{Pair}
@@ -11,8 +11,7 @@ use Rattle.rib_player.specs.Entries.{Entry}
 use Rattle.rib_player.specs.Journal.{tables_over, routes_across, sides_of, steps_of}
 use Rattle.rib_player.specs.Marks.{sides_at, sides_across, AreDistinct, Mark, marks_of, marks_by_step, marks_across, AreMarked}
 use Rattle.mrt_events.specs.declared.event.Event.{Event}
-use Rattle.rib_player.specs.Timeline.{Timeline, end_of, behind, after_play}
-use Rattle.std.specs.FinMap as finite
+use Rattle.rib_player.specs.Timeline.{Timeline, after_play, after_undo, after_redo, after_forget}
 
 -- ---- steps that can be undone and redone, and the claims that a player holds with them
 
@@ -55,35 +54,6 @@ pub record CanDrop (steps : List (List Mark)) (cursor : ℕ) (held : Pair → �
   pub free : (q : Pair) → claims_along q (take (cursor + 1) tables) + new q ≡ 0 → get routes q ≡ None
 
 -- ---- what calls of a player do to it, and to the history that it stands for
-
--- a new player
-abbrev pub fresh : Timeline
-fresh = record { floor = 0; cursor = 0; tables = finite.empty ∷ []; steps = [] }
-
--- the cursor moves one step back, where there is one
-abbrev pub after_undo : Timeline → Timeline
-after_undo t = if nat_lt t.floor t.cursor then record t { cursor = t.cursor - 1 } else t
-
--- the cursor moves one step on, where there is one
-abbrev pub after_redo : Timeline → Timeline
-after_redo t = if nat_lt t.cursor (end_of t) then record t { cursor = t.cursor + 1 } else t
-
--- how many steps are forgotten, so that at most so many are kept behind the cursor
-abbrev pub forgettable : Timeline → ℕ → ℕ
-forgettable t keep = behind t - keep
-
--- the first steps are forgotten, as many as are named
-abbrev pub without_first : ℕ → Timeline → Timeline
-without_first count t = record {
-  floor = t.floor + count;
-  cursor = t.cursor;
-  tables = drop count t.tables;
-  steps = drop count t.steps;
-}
-
--- the oldest steps are forgotten, so that at most so many are kept behind the cursor
-abbrev pub after_forget : Timeline → ℕ → Timeline
-after_forget t keep = without_first (forgettable t keep) t
 
 -- the tables after a past and after each of the events that follow it
 abbrev pub tables_along : List Event → List Event → List Routes

@@ -1,6 +1,6 @@
 -- Private.
 -- How tables and entries are kept.
-use Rattle.std.specs.Prelude.{◌≡◌, ◌<◌, List, Option, IfSome, if◌then◌else◌, refl, true, false, [], ◌∷◌, Some, None}
+use Rattle.std.specs.Prelude.{◌≡◌, ℕ, ◌<◌, nat_lt, List, filter, Option, IfSome, if◌then◌else◌, refl, true, false, [], ◌∷◌, Some, None}
 use Rattle.std.specs.Map.{lookup}
 use Rattle.std.specs.Ordering.{eq_by_cmp}
 use Rattle.std.specs.Coded.{Coded, code_by, coded×}
@@ -35,9 +35,13 @@ coded_contents =
     code_by (Pairs × Routes) (coded× (set.code coded_pair) (finite.code coded_pair coded_route))
     (λ s. (s.keys, s.routes)) (λ p. record { keys = p.0; routes = p.1 }) (λ _. refl)
 
--- the route behind a pointer
-abbrev pub value_of : Rc Route Global → Route
-value_of shared = shared.value
+-- the stores that have a route, each with its peer
+abbrev pub routed_stores : {S : Type 0} → (S → stored.Routes (Rc Route Global)) → Stores S → Stores S
+routed_stores routes stores = filter (λ entry. nat_lt 0 (finite.len (routes entry.1))) stores
+
+-- a store's peer, and what the store's count of routes answers
+abbrev pub peer_count : {S : Type 0} → (S → stored.Routes (Rc Route Global)) → Peer × S → Peer × ℕ
+peer_count routes entry = (entry.0, stored.counted (finite.len (routes entry.1)))
 
 -- each store has a key
 abbrev pub IsHeld : {S : Type 0} → (S → stored.Keys) → Stores S → Type 0

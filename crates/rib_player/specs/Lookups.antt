@@ -1,6 +1,5 @@
--- Private.
 -- What is asked of a table: the best route, and the peers that have one.
-use Rattle.std.specs.Prelude.{ℕ, nat_lt, List, map, Option, filter}
+use Rattle.std.specs.Prelude.{List, map, Option, filter}
 use Rattle.std.specs.Borrow.{Bor}
 use Rattle.std.specs.declared.rc.Rc.{Rc}
 use Rattle.std.specs.FinMap as finite
@@ -9,14 +8,17 @@ use Rattle.ip_prefix.specs.Network.{Address, Network}
 use Rattle.mrt_events.specs.declared.peer.Peer.{Peer}
 use Rattle.mrt_events.specs.declared.event.Route.{Route}
 use Rattle.mrt_events.specs.Event.{peer_cmp}
-use Rattle.prefix_store.specs.Stored as stored
-use Rattle.prefix_store.specs.Contents as lookups
+use Rattle.prefix_store.specs.Lookups as lookups
 use Rattle.rib_player.specs.History.{pair_of}
-use Rattle.rib_player.specs.Tables.{Routes, Stores, peer_routes, routed_peers}
+use Rattle.rib_player.specs.Tables.{Routes, peer_routes, routed_peers}
 
 -- of the prefixes that the peer has a route to and that contain the address the longest, and its route
 abbrev pub IsBest : Routes → Peer → Address → Option (Network × Route) → Type 0
 IsBest routes peer = lookups.IsLongestOf (λ n. finite.get routes (pair_of peer n))
+
+-- the route behind a pointer
+abbrev pub value_of : Rc Route Global → Route
+value_of shared = shared.value
 
 -- prefixes, each with the route that is pointed to
 abbrev pub pointed_routes : List (Network × Bor (Rc Route Global)) → List (Network × Route)
@@ -33,11 +35,3 @@ routed_above routes low = peers_above low (routed_peers routes)
 -- the routes of a peer above a prefix, in order
 abbrev pub routes_above : Routes → Peer → Option Network → List (Network × Route)
 routes_above routes peer low = lookups.above low (finite.entries (peer_routes routes peer))
-
--- the stores that have a route, each with its peer
-abbrev pub routed_stores : {S : Type 0} → (S → stored.Routes (Rc Route Global)) → Stores S → Stores S
-routed_stores routes stores = filter (λ entry. nat_lt 0 (finite.len (routes entry.1))) stores
-
--- a store's peer, and what the store's count of routes answers
-abbrev pub peer_count : {S : Type 0} → (S → stored.Routes (Rc Route Global)) → Peer × S → Peer × ℕ
-peer_count routes entry = (entry.0, stored.counted (finite.len (routes entry.1)))

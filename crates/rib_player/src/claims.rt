@@ -2,14 +2,15 @@
 //! of them that brings it: before which it has no route and behind which it has one. A pair is a key
 //! exactly where it is claimed. The key is the first claim; those beyond it are counted here.
 
-ghost use Rattle.std.specs.Prelude.{◌≡◌, ◌+◌, ◌≤◌, ◌||◌, ◌&&◌, true, false, is_some, length, nat_lt, [], ◌∷◌, None, OnOk, OnErr};
+ghost use Rattle.std.specs.Prelude.{◌≡◌, ◌+◌, ◌<◌, ◌≤◌, ◌||◌, ◌&&◌, true, false, is_some, length, nat_lt, [], ◌∷◌, None, OnOk, OnErr};
 ghost use Rattle.std.specs.FinMap as finite;
 ghost use Rattle.std.specs.FinSet as set;
 ghost use Rattle.std.specs.Ordering.{eq_by_cmp};
 ghost use Rattle.ip_prefix.specs.Network.{Network, network_cmp};
 ghost use Rattle.ip_prefix.specs.declared.addr.Family.TheVariants.{V4};
 ghost use Rattle.ip_prefix.specs.declared.addr.TheConstants.{V4_BITS};
-ghost use Rattle.prefix_store.specs.Contents.{AreAmong};
+ghost use Rattle.prefix_store.specs.Stored.{AreAmong};
+ghost use Rattle.prefix_store.specs.declared.store.TheConstants.{GREATEST_COUNT};
 ghost use Rattle.rib_player.specs.declared.pair.Pair.{Pair};
 ghost use Rattle.rib_player.specs.declared.entry.End.TheVariants.{Last};
 ghost use Rattle.rib_player.specs.History.{pair_cmp};
@@ -50,6 +51,7 @@ impl Claims {
 
     /// Counts a claim more of the pair. Refused, nothing has changed.
     fn add(&mut self, pair: &Pair) -> Result<(), AllocError>
+        requires { claims_beyond self.old pair.now < GREATEST_COUNT }
         ensures counted { OnOk result ((q : Pair) → claims_beyond self.new q
             ≡ claims_beyond self.old q + one_if (eq_by_cmp pair_cmp q pair.now)) }
         ensures refused { OnErr result ((q : Pair) →
@@ -93,6 +95,7 @@ pub(crate) fn put_entry<S: PrefixStore<Rc<Route>>>(
     requires among { AreAmong table.old.keys table.old.routes }
     requires named { (is_some (finite.get table.old.routes entry.old.pair)
         || is_some (route_in entry.old.other)) ≡ true }
+    requires few { claims_beyond claims.old entry.old.pair < GREATEST_COUNT }
     ensures held { AreHeld table.new.keys (claims_beyond claims.new) }
     ensures keys { OnOk result (table.new.keys ≡ set.insert table.old.keys entry.old.pair) }
     ensures claimed { OnOk result ((q : Pair) →
@@ -153,8 +156,8 @@ const BELOW: u32 = 32;
 /// How often prefixes are claimed besides their keys, those of each family by themselves.
 #[derive(Drop)]
 pub(crate) struct Counts {
-    v4: BTreeMap<u64, u32>,
-    v6: BTreeMap<Prefix, u32>,
+    v4: BTreeMap<u64, u64>,
+    v6: BTreeMap<Prefix, u64>,
 }
 
 /// A prefix of IPv4 as a number: its least address, and above that how many bits it has.
@@ -167,24 +170,21 @@ fn v4_key(prefix: &Prefix) -> u64
     u64::from(prefix.len()) * ADDRESSES + (prefix.high_half() >> BELOW)
 }
 
-/// Counts a claim more of the key. Refused, nothing has changed; so it is where the count has reached
-/// 2^32 - 1, as want of memory.
-fn count_more<K: Ord + Copy + Drop>(counts: &mut BTreeMap<K, u32>, key: K) -> Result<(), AllocError>
+/// Counts a claim more of the key. Refused, nothing has changed.
+fn count_more<K: Ord + Copy + Drop>(counts: &mut BTreeMap<K, u64>, key: K) -> Result<(), AllocError>
+    requires { count_at K.cmp counts.old key < GREATEST_COUNT }
     ensures counted { OnOk result ((k : K) → count_at K.cmp counts.new k
         ≡ count_at K.cmp counts.old k + one_if (eq_by_cmp K.cmp k key)) }
     ensures refused { OnErr result ((k : K) →
         count_at K.cmp counts.new k ≡ count_at K.cmp counts.old k) }
 {
     let count = counts.entry(key)?.or_insert(0);
-    let Some(more) = count.checked_add(1) else {
-        return Err(AllocError);
-    };
-    *count = more;
+    *count += 1;
     Ok(())
 }
 
 /// Counts a claim less of the key, where there is one, and answers whether there is.
-fn count_less<K: Ord + Copy + Drop>(counts: &mut BTreeMap<K, u32>, key: &K) -> bool
+fn count_less<K: Ord + Copy + Drop>(counts: &mut BTreeMap<K, u64>, key: &K) -> bool
     ensures some { result ≡ nat_lt 0 (count_at K.cmp counts.old key.now) }
     ensures counted { (k : K) → count_at K.cmp counts.new k
         + one_if (result && eq_by_cmp K.cmp k key.now) ≡ count_at K.cmp counts.old k }
@@ -221,6 +221,7 @@ impl Counts {
 
     /// Counts a claim more of the prefix. Refused, nothing has changed.
     pub(crate) fn more(&mut self, prefix: &Prefix) -> Result<(), AllocError>
+        requires { count_of self.old prefix.now < GREATEST_COUNT }
         ensures counted { OnOk result ((n : Network) → count_of self.new n
             ≡ count_of self.old n + one_if (eq_by_cmp network_cmp n prefix.now)) }
         ensures refused { OnErr result ((n : Network) →

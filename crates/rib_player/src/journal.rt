@@ -4,8 +4,8 @@ ghost use Rattle.std.specs.Prelude.{◌≡◌, ◌+◌, ◌<◌, ◌≤◌, ◌|
 ghost use Rattle.std.specs.List.{AllByRecursion, sum_by};
 ghost use Rattle.std.specs.VecDeque.{deque_len, deque_capacity};
 ghost use Rattle.std.specs.FinMap as finite;
-ghost use Rattle.prefix_store.specs.Stored.{counted};
-ghost use Rattle.prefix_store.specs.Contents.{AreAmong};
+ghost use Rattle.prefix_store.specs.Stored.{counted, AreAmong};
+ghost use Rattle.prefix_store.specs.declared.store.TheConstants.{GREATEST_COUNT};
 ghost use Rattle.rib_player.specs.declared.pair.Pair.{Pair};
 ghost use Rattle.rib_player.specs.declared.entry.End.TheVariants.{Last};
 ghost use Rattle.rib_player.specs.Claims.{one_if, claims_beyond, claims_in, AreHeld};
@@ -114,6 +114,7 @@ pub(crate) fn put_entries<S: PrefixStore<Rc<Route>>>(
     requires named { AllByRecursion (λ side.
         (is_some (finite.get table.old.routes side.0) || is_some side.1) ≡ true)
         (sides_of entries.old) }
+    requires few { (q : Pair) → claims_beyond claims.old q < GREATEST_COUNT }
     ensures held { AreHeld table.new.keys (claims_beyond claims.new) }
     ensures claimed { OnOk result ((q : Pair) →
         claims_in table.new claims.new q ≡ claims_in table.old claims.old q

@@ -18,9 +18,9 @@ ghost use Rattle.mrt_events.specs.declared.event.TheConstants.{ESTABLISHED};
 ghost use Rattle.rib_player.specs.History.{pair_cmp, pair_of, effect, route_after, route};
 ghost use Rattle.rib_player.specs.Tables.{Routes, table, table_after, is_named, named_pairs, peer_routes, routed_peers};
 ghost use Rattle.rib_player.specs.Lookups.{routed_above};
-ghost use Rattle.rib_player.specs.Timeline.{Timeline, end_of, table_at, current, after_play};
-ghost use Rattle.rib_player.specs.Calls.{Call, StandsFor, names_at, undone, redone, forgettable, after_forget, fresh, after_undo, after_redo, without_first, after_call, after_calls, history_after, history_after_calls};
-ghost use Rattle.rib_player.specs.Claims.{one_if, claims, first_clears, last_brings, event_brings, without_last, wanted, IsWellFormed};
+ghost use Rattle.rib_player.specs.Timeline.{Timeline, end_of, table_at, current, after_play, forgettable, after_forget, fresh, after_undo, after_redo, without_first, wanted, IsWellFormed};
+ghost use Rattle.rib_player.specs.Calls.{Call, StandsFor, names_at, undone, redone, after_call, after_calls, history_after, history_after_calls};
+ghost use Rattle.rib_player.specs.Claims.{one_if, claims, first_clears, last_brings, event_brings, without_last};
 
 /// The number that the definitions name: the state Established (RFC 6396, section 4.4.1).
 pub fn state_numbers()

@@ -151,7 +151,7 @@ fn each_once<S: PrefixStore<Rc<Route>>>(
 {
     let is_known = match (entries.first(), entries.last()) {
         (Some(first), Some(last)) if same_peer(first.peer(), last.peer()) => are_falling(&entries),
-        _ => table.stores.are_of_different_peers(&entries, marks),
+        _ => table.stores.are_of_different_peers(&entries, marks)?,
     };
     if is_known || (entries.len() <= FEW && are_different(&entries)) {
         return Ok(entries);

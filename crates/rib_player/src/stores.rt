@@ -1,6 +1,6 @@
 //! The stores of peers. Each peer that has one has a number, by which it is found.
 
-ghost use Rattle.std.specs.Prelude.{◌≡◌, ◌≤◌, ℕ, [], Some, None, true, false, IsTrue, IsSome, IfSome, slice_get, OnOk, OnErr, vec_len};
+ghost use Rattle.std.specs.Prelude.{◌≡◌, ◌≤◌, ℕ, [], Some, None, true, false, IsTrue, IsSome, IfSome, IfOk, slice_get, OnOk, OnErr, vec_len};
 ghost use Rattle.std.specs.Option.{option_copied, option_copied_mut};
 ghost use Rattle.std.specs.Borrow.{sem};
 ghost use Rattle.std.specs.Map.{lookup};
@@ -124,20 +124,25 @@ impl<S> Stores<S> {
     }
 
     /// Whether all these entries are of peers that have stores, no two of one.
-    pub(crate) fn are_of_different_peers(&self, entries: &[Entry], marks: &mut Marks) -> bool
-        ensures { IsTrue result → AreDistinct (sides_of entries.now) }
+    pub(crate) fn are_of_different_peers(
+        &self,
+        entries: &[Entry],
+        marks: &mut Marks,
+    ) -> Result<bool, AllocError>
+        ensures { IfOk result (λ are. IsTrue are → AreDistinct (sides_of entries.now)) }
     {
         marks.begin(self.names.len());
         'entries: for entry in entries {
             let peer = entry.shared_peer();
             let Some(number) = self.number_of(peer.number(), peer.peer()) else {
-                return false;
+                return Ok(false);
             };
-            if !marks.is_new(number) {
-                return false;
+            let is_new = marks.is_new(number)?;
+            if !is_new {
+                return Ok(false);
             }
         }
-        true
+        Ok(true)
     }
 
     /// The store at the number.
@@ -178,7 +183,7 @@ impl<S> Stores<S> {
 impl<S: Drop> Stores<S> {
     ghost use Rattle.rib_player.specs.StoresByPeer.{stores_in};
 
-    /// Adds the store of a peer that has none.
+    /// Adds the store of a peer that has none. Refused, there is none.
     pub(crate) fn insert(&mut self, peer: Peer, store: S) -> Result<(), AllocError>
         requires { store_at (stores_in self.old) peer ≡ None }
         ensures added { OnOk result
@@ -187,15 +192,14 @@ impl<S: Drop> Stores<S> {
     {
         self.held.reserve(1)?;
         self.names.reserve(1)?;
+        if self.places.is_empty() {
+            self.places.resize(PLACES, 0)?;
+        }
         let number = self.held.len();
         let name = Rc::new(self.alloc, NumberedPeer::new(peer, number))?;
         self.order.insert(peer, number)?;
         self.held.push_reserved(store);
         self.names.push_reserved(name);
-        if self.places.is_empty() {
-            // There are none where memory is refused.
-            let _ = self.places.resize(PLACES, 0);
-        }
         note_place(&mut self.places, &peer, number);
         Ok(())
     }
@@ -255,22 +259,21 @@ impl Marks {
     }
 
     /// Whether the number is known to be new in this row. It is marked then.
-    fn is_new(&mut self, number: usize) -> bool
-        ensures new { IsTrue result → is_marked self.old number ≡ false }
-        ensures marked { IsTrue result → is_marked self.new number ≡ true }
-        ensures others { (n : ℕ) → IsTrue result → is_marked self.old n ≡ true →
-            is_marked self.new n ≡ true }
+    fn is_new(&mut self, number: usize) -> Result<bool, AllocError>
+        ensures new { IfOk result (λ is_new. IsTrue is_new → is_marked self.old number ≡ false) }
+        ensures marked { IfOk result (λ is_new. IsTrue is_new →
+            is_marked self.new number ≡ true) }
+        ensures others { IfOk result (λ is_new. (n : ℕ) → IsTrue is_new →
+            is_marked self.old n ≡ true → is_marked self.new n ≡ true) }
     {
         if number >= self.rows.len() {
             let Some(count) = number.checked_add(1) else {
-                return false;
+                return Ok(false);
             };
-            if self.rows.resize(count, self.row.wrapping_sub(1)).is_err() {
-                return false;
-            }
+            self.rows.resize(count, self.row.wrapping_sub(1))?;
         }
         let is_new = self.rows[number] != self.row;
         self.rows[number] = self.row;
-        is_new
+        Ok(is_new)
     }
 }

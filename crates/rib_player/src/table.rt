@@ -12,8 +12,8 @@ ghost use Rattle.rib_player.specs.History.{pair_of};
 ghost use Rattle.prefix_store.specs.Stored.{put, counted};
 ghost use Rattle.rib_player.specs.Tables.{route_in, peer_routes};
 ghost use Rattle.rib_player.specs.StoresByPeer.{stores_of};
-ghost use Rattle.rib_player.specs.Lookups.{IsBest, pointed_routes, routes_above, routed_above, routed_stores, peer_count};
-ghost use Rattle.rib_player.specs.Kept.{value_of};
+ghost use Rattle.rib_player.specs.Lookups.{IsBest, pointed_routes, routes_above, routed_above, value_of};
+ghost use Rattle.rib_player.specs.Kept.{routed_stores, peer_count};
 
 use crate::numbered_peer::NO_NUMBER;
 use crate::pair::Pair;

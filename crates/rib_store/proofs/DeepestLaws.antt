@@ -8,7 +8,7 @@ use Rattle.ip_prefix.specs.Turns.{way, turn_of, side}
 use Rattle.ip_prefix.proofs.Containing.{contains_parts}
 use Rattle.ip_prefix.proofs.Turns.{covers-way, here_only, here_from}
 use Rattle.rib_store.specs.Tree.{Shape, Empty, Rooted, at, slot_of, chosen, IsOn, IsShaped}
-use Rattle.prefix_store.specs.Contents.{IsLongest, IsLongestOf}
+use Rattle.prefix_store.specs.Lookups.{IsLongest, IsLongestOf}
 use Rattle.rib_store.specs.Slots.{route_found, routes_in}
 use Rattle.rib_store.specs.Walks.{either_of, routed_at, deepest}
 use Rattle.rib_store.specs.Store.{Trees, slots_in, tree_of, IsPlanted}

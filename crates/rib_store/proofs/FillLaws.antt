@@ -2,7 +2,7 @@
 use Rattle.prefix_store.proofs.AboveLaws.{take-nil, none-above, above-none}
 use Rattle.std.proofs.Common.{◌≡◌, ℕ, zero, suc, ◌+◌, ◌-◌, Bool, true, false, cond, List, [], ◌∷◌, ◌++◌, take, length, Option, Some, None, slice_get, Vec, Global, vec_capacity, Bor, refl, sym, ap, ap₂, ◌∙◌, arith, append_assoc, length-append, append-nil, length-take, option_to_list, is_lt}
 use Rattle.ip_prefix.specs.Network.{Network, network_cmp}
-use Rattle.prefix_store.specs.Contents.{is_above, above, pointed}
+use Rattle.prefix_store.specs.Lookups.{is_above, above, pointed}
 use Rattle.ip_prefix.specs.declared.turn.Turn.{Turn}
 use Rattle.ip_prefix.specs.Turns.{way, turn_of, side}
 use Rattle.rib_store.specs.declared.tree.Slot.{Slot}

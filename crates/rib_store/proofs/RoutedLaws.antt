@@ -13,7 +13,7 @@ use Rattle.std.specs.BTreeMap.Range.{range_contains, entries_between}
 use Rattle.std.proofs.lemmas.Map.Keys.{sorted_head, sorted_tail}
 use Rattle.ip_prefix.specs.Network.{Network, network_cmp}
 use Rattle.ip_prefix.specs.OrderLaws.{network_cmp_total}
-use Rattle.prefix_store.specs.Contents.{is_above, above}
+use Rattle.prefix_store.specs.Lookups.{is_above, above}
 use Rattle.rib_store.specs.Slots.{Slots, slot_at, routes_in, routed, route_found}
 use Rattle.prefix_store.proofs.StoredLaws.{put-none}
 use Rattle.rib_store.proofs.SlotLaws.{get-routes_in}

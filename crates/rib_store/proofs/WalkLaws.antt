@@ -11,7 +11,7 @@ use Rattle.ip_prefix.specs.Network.{Network, bits_cmp, network_cmp}
 use Rattle.ip_prefix.specs.Turns.{way, turn_of, side}
 use Rattle.octet_forms.proofs.Lists.{AllByRecursion-append}
 use Rattle.rib_store.specs.Tree.{Shape, Empty, Rooted, at, own, slots_of, slot_of, chosen, same_way, AreSides, IsOn, IsShaped}
-use Rattle.prefix_store.specs.Contents.{is_above, above}
+use Rattle.prefix_store.specs.Lookups.{is_above, above}
 use Rattle.rib_store.specs.Slots.{Slots, slot_at, routed}
 use Rattle.rib_store.specs.Walks.{either_of, first}
 use Rattle.prefix_store.proofs.AboveLaws.{is_less}

@@ -6,7 +6,7 @@ ghost use Rattle.std.specs.FinMap as finite;
 ghost use Rattle.std.specs.FinSet as set;
 ghost use Rattle.ip_prefix.specs.Network.{bit_count};
 ghost use Rattle.prefix_store.specs.Stored.{Keys, counted};
-ghost use Rattle.prefix_store.specs.Contents.{IsLongest};
+ghost use Rattle.prefix_store.specs.Lookups.{IsLongest};
 ghost use Rattle.rib_store.specs.Slots.{route_found};
 ghost use Rattle.rib_store.specs.Store.{trees_of, contents_of, IsPlanted};
 ghost use Rattle.rib_store.specs.Nodes.{AreNodes, AreNodesTo, IsOrOneMore};

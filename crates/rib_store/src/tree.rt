@@ -1,7 +1,7 @@
 //! A path-compressed radix tree of the prefixes of one family.
 
 ghost use Rattle.std.specs.Prelude.{◌≡◌, true, false, Some, None, is_some, MatchOption, [], ◌∷◌, vec_capacity, option_copied, option_map, option_to_list};
-ghost use Rattle.prefix_store.specs.Contents.{pointed};
+ghost use Rattle.prefix_store.specs.Lookups.{pointed};
 ghost use Rattle.rib_store.specs.declared.tree.Slot.TheVariants.{Branch};
 ghost use Rattle.rib_store.specs.Tree.{slot_of, is_routed, is_filled, any_routed, routed_beside};
 ghost use Rattle.rib_store.specs.Walks.{routed_at, filled};

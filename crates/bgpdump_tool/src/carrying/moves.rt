@@ -125,7 +125,7 @@ pub(crate) fn play_loss<S: PrefixStore<Rc<Route>>>(
 {
     let mut items = Vec::with_capacity(alloc, 1)?;
     let lost = Item::State(peer, ESTABLISHED, IDLE);
-    items.push(lost).map_err(|_| WriteFault::Memory)?;
+    items.push_reserved(lost);
     let event = Event {
         time: Time {
             seconds: 0,

@@ -15,7 +15,7 @@ use rib_player::Table;
 use std::alloc::Global;
 use std::rc::Rc;
 
-/// How many routes are asked for at once, where there is memory for them.
+/// How many routes are asked for at once.
 const MANY: usize = 64;
 
 /// Writes the peers that have a route, each on a line, as they come. The text is scratch.
@@ -59,8 +59,8 @@ fn write_peer<O: Output>(
     Ok(())
 }
 
-/// Writes all routes of the peer, each on a line, as they come, and then how many they are: many at
-/// a time, where there is room for many. The text is scratch.
+/// Writes all routes of the peer, each on a line, many at a time, and then how many they are. What
+/// stands in `text` is overwritten.
 pub(crate) fn table<S: PrefixStore<Rc<Route>>, O: Output>(
     table: &Table<S>,
     alloc: Global,
@@ -72,9 +72,7 @@ pub(crate) fn table<S: PrefixStore<Rc<Route>>, O: Output>(
         (table_text table.now.routes peer.now) result }
     ensures failed { O.failed out.new ≡ (O.failed out.old || is_write result) }
 {
-    let Ok(mut found) = Vec::with_capacity(alloc, MANY) else {
-        return one_by_one(table, peer, out, text);
-    };
+    let mut found = Vec::with_capacity(alloc, MANY)?;
     let mut passed = None;
     let mut count: u64 = 0;
     'routes: loop {
@@ -87,27 +85,6 @@ pub(crate) fn table<S: PrefixStore<Rc<Route>>, O: Output>(
         count = count.saturating_add(found.len() as u64);
     }
     write_numbers(&[(b"routes ", count)], b"\n", out, text)
-}
-
-/// The same one by one, without room for more.
-fn one_by_one<S: PrefixStore<Rc<Route>>, O: Output>(
-    table: &Table<S>,
-    peer: &Peer,
-    out: &mut O,
-    text: &mut Text,
-) -> Result<(), WriteFault>
-    ensures text { PutsPart (O.written out.old) (O.written out.new)
-        (table_text table.now.routes peer.now) result }
-    ensures failed { O.failed out.new ≡ (O.failed out.old || is_write result) }
-{
-    let mut low = None;
-    let mut written: u64 = 0;
-    'routes: while let Some(found) = table.after(peer, low.as_ref()) {
-        write_rib_line(out, peer, &found.0, found.1, text)?;
-        written = written.saturating_add(1);
-        low = Some(found.0);
-    }
-    write_numbers(&[(b"routes ", written)], b"\n", out, text)
 }
 
 /// Writes the route that the peer has to the prefix. The text is scratch.

@@ -3,7 +3,7 @@
 ghost use Rattle.std.specs.Prelude.{◌≡◌, ◌+◌, ◌≤◌, Some, None, MatchOption, vec_capacity, option_map, option_copied};
 ghost use Rattle.ip_prefix.specs.Turns.{way};
 ghost use Rattle.rib_store.specs.Tree.{shape_of, IsMarked, at};
-ghost use Rattle.prefix_store.specs.Contents.{pointed};
+ghost use Rattle.prefix_store.specs.Lookups.{pointed};
 ghost use Rattle.rib_store.specs.Walks.{deepest, visits, first, behind, all_routes, all_behind, filled};
 
 use crate::tree::{Tree, add_route};

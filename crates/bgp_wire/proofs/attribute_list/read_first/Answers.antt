@@ -1,6 +1,7 @@
 use Rattle.std.proofs.Common.{◌≡◌, ℕ, List, Some, Result, Ok, Err, IsErrAnd, IfErr, ap, sym, subst, ◌∙◌}
 use Rattle.ip_prefix.specs.Sequences.{SpellsAll}
 use Rattle.bgp_paths.specs.declared.fault.WireFault.{WireFault}
+use Rattle.bgp_paths.specs.declared.fault.WireFault.TheVariants.{Malformed}
 use Rattle.bgp_paths.specs.declared.numbers.AsWidth.{AsWidth}
 use Rattle.bgp_paths.specs.Path.{SpellsWord}
 use Rattle.bgp_wire.specs.declared.attrs.Attrs.{Attrs}
@@ -23,11 +24,10 @@ refused_value Spells width kind value fault (Err y) p has none = λ first e. ref
 pub returns-in_err-put_found-in-7-clause-refused : goal.returns-in_err-put_found-in-7-clause-refused
 returns-in_err-put_found-in-7-clause-refused c =
     let value = c.args.framed.value.now in
-    let fault = c.in_err-put_found-in-7.field-0.0 in
     let passed = c.from_residual-in_err-put_found-in-7 in
-    refused_value SpellsAggregator c.args.width c.args.framed.kind value fault passed.result passed.ensures.1
+    refused_value SpellsAggregator c.args.width c.args.framed.kind value Malformed passed.result passed.ensures.1
     (λ first e attrs s. spelled_there SpellsAggregator attrs.aggregator (first AGGREGATOR) value s.aggregator (ap first (sym c.in-7.is) ∙ e))
-    (refused_always SpellsAggregator value fault (subst (Finds SpellsAggregator value) c.in_err-put_found-in-7.ensures.none c.read_aggregator.ensures))
+    (refused_always SpellsAggregator value Malformed (subst (Finds SpellsAggregator value) c.in_err-put_found-in-7.ensures.none c.read_aggregator.ensures))
 
 pub returns-in_err-fill_numbers-in-8-clause-refused : goal.returns-in_err-fill_numbers-in-8-clause-refused
 returns-in_err-fill_numbers-in-8-clause-refused c =

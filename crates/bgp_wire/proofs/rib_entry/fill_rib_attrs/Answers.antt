@@ -1,5 +1,6 @@
 use Rattle.std.proofs.Common.{◌≡◌, true, false, ap, sym, subst, ◌∙◌}
 use Rattle.octet_forms.proofs.Sequences.{one_list}
+use Rattle.bgp_paths.specs.declared.fault.WireFault.TheVariants.{Malformed}
 use Rattle.bgp_wire.specs.declared.framing.TheConstants.{MP_REACH_NLRI}
 use Rattle.bgp_wire.specs.Attribute.{SpellsAttribute, first_value, repeats, SpellsOptional}
 use Rattle.bgp_wire.specs.Content.{SpellsRibAttrs}
@@ -31,7 +32,7 @@ returns-in_err-fill_rib_hop-clause-refused c =
     let Whole = SpellsRibAttrs c.args.family c.args.width in
     let read = c.in_ok-read_list.ensures.read in
     let value = octets_of c.read_list.new.later.reach in
-    refused_on Whole (SpellsOptional SpellsRibHop) octets value c.in_err-fill_rib_hop.field-0.0 c.from_residual-in_err-fill_rib_hop.result c.from_residual-in_err-fill_rib_hop.ensures.1
+    refused_on Whole (SpellsOptional SpellsRibHop) octets value Malformed c.from_residual-in_err-fill_rib_hop.result c.from_residual-in_err-fill_rib_hop.ensures.1
     (λ attrs s. (
       s.hop_said.reached,
       subst (SpellsOptional SpellsRibHop s.hop_said.reached)

@@ -10,26 +10,26 @@ use Rattle.bgpdump.proofs.run.dump.Goals as goal
 pub returns-clause-text : goal.returns-clause-text
 returns-clause-text g c octets frames rest known splits =
     leaves_ended g.O.Write.contents g.E.Write.contents _ _ _ c.run_dump-outcome.result c.close.result.outcome (dump_texts (all_results c.args.stamp frames rest)) c.close.result.writers
-    c.in-Some.ensures.written
-    (c.run_dump-outcome.ensures.text octets frames rest (holds_known c.args.stamp _ _ _ octets c.run_dump-outcome.ensures.taken.0 (c.in-Some.ensures.left ∙ known) c.run_dump-outcome.ensures.taken.1) splits)
+    c.in-Ok.ensures.written
+    (c.run_dump-outcome.ensures.text octets frames rest (holds_known c.args.stamp _ _ _ octets c.run_dump-outcome.ensures.taken.0 (c.in-Ok.ensures.left ∙ known) c.run_dump-outcome.ensures.taken.1) splits)
     c.close.ensures.told c.close.ensures.kept
 
 pub returns-clause-whole_records : goal.returns-clause-whole_records
 returns-clause-whole_records g c by = of_input _ c.close.result.input c.run_dump-outcome.new.input c.close.ensures.input (λ taken after frames rest took splits.
     leaves_written g.O.Write.contents g.E.Write.contents _ _ _ c.run_dump-outcome.result c.close.result.outcome (dump_texts (all_results c.args.stamp frames [])) c.close.result.writers
-    c.in-Some.ensures.written by
-    (λ input. c.run_dump-outcome.ensures.whole_records input taken after frames rest (subst (λ old. Took old (left_of g.R.Read.remaining c.run_dump-outcome.new.input) taken after) (sym c.in-Some.ensures.left) took) splits)
+    c.in-Ok.ensures.written by
+    (λ input. c.run_dump-outcome.ensures.whole_records input taken after frames rest (subst (λ old. Took old (left_of g.R.Read.remaining c.run_dump-outcome.new.input) taken after) (sym c.in-Ok.ensures.left) took) splits)
     c.close.ensures.told c.close.ensures.kept)
 
 pub returns-clause-taken : goal.returns-clause-taken
 returns-clause-taken g c = of_input _ c.close.result.input c.run_dump-outcome.new.input c.close.ensures.input
-    (c.run_dump-outcome.ensures.taken.0, subst (λ old. Consumes old (left_of g.R.Read.remaining c.run_dump-outcome.new.input) c.run_dump-outcome.ensures.taken.0) c.in-Some.ensures.left c.run_dump-outcome.ensures.taken.1)
+    (c.run_dump-outcome.ensures.taken.0, subst (λ old. Consumes old (left_of g.R.Read.remaining c.run_dump-outcome.new.input) c.run_dump-outcome.ensures.taken.0) c.in-Ok.ensures.left c.run_dump-outcome.ensures.taken.1)
 
 pub returns-clause-too_long : goal.returns-clause-too_long
 returns-clause-too_long g c long = of_input _ c.close.result.input c.run_dump-outcome.new.input c.close.ensures.input (λ taken after took.
     c.run_dump-outcome.ensures.too_long
     (sym (told_by_input c.run_dump-outcome.result c.close.result.outcome c.close.result.writers c.close.ensures.told c.close.ensures.lost (subst EndedByInput (sym long) tt)) ∙ long)
-    taken after (subst (λ old. Took old (left_of g.R.Read.remaining c.run_dump-outcome.new.input) taken after) (sym c.in-Some.ensures.left) took))
+    taken after (subst (λ old. Took old (left_of g.R.Read.remaining c.run_dump-outcome.new.input) taken after) (sym c.in-Ok.ensures.left) took))
 
 pub returns-clause-read_fault : goal.returns-clause-read_fault
 returns-clause-read_fault g c fault = of_input _ c.close.result.input c.run_dump-outcome.new.input c.close.ensures.input

@@ -13,26 +13,26 @@ pub returns-clause-text : goal.returns-clause-text
 returns-clause-text g c short lines reads octets frames rest known splits =
     let taken = c.run_play-outcome.ensures.taken short in
     leaves_ended g.O.Write.contents g.E.Write.contents _ _ _ c.run_play-outcome.result c.close.result.outcome (play_texts lines (all_results c.args.stamp frames rest)) c.close.result.writers
-    c.in-Some.ensures.written
-    (c.run_play-outcome.ensures.text short lines reads octets frames rest (holds_known c.args.stamp _ _ _ octets taken.0 (c.in-Some.ensures.left ∙ known) taken.1) splits)
+    c.in-Ok.ensures.written
+    (c.run_play-outcome.ensures.text short lines reads octets frames rest (holds_known c.args.stamp _ _ _ octets taken.0 (c.in-Ok.ensures.left ∙ known) taken.1) splits)
     c.close.ensures.told c.close.ensures.kept
 
 pub returns-clause-whole_records : goal.returns-clause-whole_records
 returns-clause-whole_records g c lines reads by = of_input _ c.close.result.input c.run_play-outcome.new.input c.close.ensures.input (λ taken after frames rest took splits.
     leaves_written g.O.Write.contents g.E.Write.contents _ _ _ c.run_play-outcome.result c.close.result.outcome (cut_texts lines (all_results c.args.stamp frames [])) c.close.result.writers
-    c.in-Some.ensures.written by
-    (λ input. c.run_play-outcome.ensures.whole_records input lines reads taken after frames rest (subst (λ old. Took old (left_of g.R.Read.remaining c.run_play-outcome.new.input) taken after) (sym c.in-Some.ensures.left) took) splits)
+    c.in-Ok.ensures.written by
+    (λ input. c.run_play-outcome.ensures.whole_records input lines reads taken after frames rest (subst (λ old. Took old (left_of g.R.Read.remaining c.run_play-outcome.new.input) taken after) (sym c.in-Ok.ensures.left) took) splits)
     c.close.ensures.told c.close.ensures.kept)
 
 pub returns-clause-taken : goal.returns-clause-taken
 returns-clause-taken g c short = of_input _ c.close.result.input c.run_play-outcome.new.input c.close.ensures.input
-    ((c.run_play-outcome.ensures.taken short).0, subst (λ old. Consumes old (left_of g.R.Read.remaining c.run_play-outcome.new.input) (c.run_play-outcome.ensures.taken short).0) c.in-Some.ensures.left (c.run_play-outcome.ensures.taken short).1)
+    ((c.run_play-outcome.ensures.taken short).0, subst (λ old. Consumes old (left_of g.R.Read.remaining c.run_play-outcome.new.input) (c.run_play-outcome.ensures.taken short).0) c.in-Ok.ensures.left (c.run_play-outcome.ensures.taken short).1)
 
 pub returns-clause-too_long : goal.returns-clause-too_long
 returns-clause-too_long g c long = of_input _ c.close.result.input c.run_play-outcome.new.input c.close.ensures.input (λ taken after took.
     c.run_play-outcome.ensures.too_long
     (sym (told_by_input c.run_play-outcome.result c.close.result.outcome c.close.result.writers c.close.ensures.told c.close.ensures.lost (subst EndedByInput (sym long) tt)) ∙ long)
-    taken after (subst (λ old. Took old (left_of g.R.Read.remaining c.run_play-outcome.new.input) taken after) (sym c.in-Some.ensures.left) took))
+    taken after (subst (λ old. Took old (left_of g.R.Read.remaining c.run_play-outcome.new.input) taken after) (sym c.in-Ok.ensures.left) took))
 
 pub returns-clause-read_fault : goal.returns-clause-read_fault
 returns-clause-read_fault g c fault = of_input _ c.close.result.input c.run_play-outcome.new.input c.close.ensures.input
@@ -47,7 +47,7 @@ pub returns-clause-untouched : goal.returns-clause-untouched
 returns-clause-untouched g c long =
     let untouched = c.run_play-outcome.ensures.untouched (c.run_play-outcome.ensures.script_too_long.1 long) in
     leaves_untouched g.O.Write.contents g.E.Write.contents _ _ _ c.close.result.writers
-    c.in-Some.ensures.written (λ i. outputs_of (λ output. writer_contents g.O.Write.contents output.writer) (λ output. writer_contents g.E.Write.contents output.writer) (untouched.1 i) (untouched.2 i)) c.close.ensures.kept
+    c.in-Ok.ensures.written (λ i. outputs_of (λ output. writer_contents g.O.Write.contents output.writer) (λ output. writer_contents g.E.Write.contents output.writer) (untouched.1 i) (untouched.2 i)) c.close.ensures.kept
 
 pub returns-clause-failed : goal.returns-clause-failed
 returns-clause-failed g c = of_input _ c.close.result.input c.run_play-outcome.new.input c.close.ensures.input (λ failed.

@@ -18,20 +18,20 @@ returns-in_err-items-in-Entry c =
     let says = peer_entry_items c.args.stamp c.args.raw.header.seconds in
     refused_body c.args.stamp c.args.index.now (record_under c.args.raw.header c.args.raw.body.now) (form.Entry family) (Told (SpellsPeerEntry family) says)
     c.in_err-items-in-Entry.field-0.0 c.from_residual.result c.from_residual.ensures.1
-    (sym c.form_of.ensures ∙ c.in-Some.is ∙ ap Some c.in-Entry.is) (λ content s. (says s.0, (s.0, s.2, refl))) c.in_err-items-in-Entry.ensures
+    (c.requires ∙ ap Some c.in-Entry.is) (λ content s. (says s.0, (s.0, s.2, refl))) c.in_err-items-in-Entry.ensures
 
 pub returns-in_err-read_peer_index-in-Peers : goal.returns-in_err-read_peer_index-in-Peers
 returns-in_err-read_peer_index-in-Peers c =
     refused_body c.args.stamp c.args.index.now (record_under c.args.raw.header c.args.raw.body.now) form.Peers SpellsPeerIndex
     c.in_err-read_peer_index-in-Peers.field-0.0 c.from_residual-in_err-read_peer_index-in-Peers.result c.from_residual-in_err-read_peer_index-in-Peers.ensures.1
-    (sym c.form_of.ensures ∙ c.in-Some.is ∙ ap Some c.in-Peers.is) (λ content s. (s.0, s.2)) c.in_err-read_peer_index-in-Peers.ensures
+    (c.requires ∙ ap Some c.in-Peers.is) (λ content s. (s.0, s.2)) c.in_err-read_peer_index-in-Peers.ensures
 
 pub returns-in_err-told-in-Entries : goal.returns-in_err-told-in-Entries
 returns-in_err-told-in-Entries c =
     let family = c.in-Entries.family in
     refused_body c.args.stamp c.args.index.now (record_under c.args.raw.header c.args.raw.body.now) (form.Entries family) (SpellsRib family)
     c.in_err-told-in-Entries.field-0.0 c.from_residual-in_err-told-in-Entries.result c.from_residual-in_err-told-in-Entries.ensures.1
-    (sym c.form_of.ensures ∙ c.in-Some.is ∙ ap Some c.in-Entries.is) (λ content s. (s.0, s.2)) c.in_err-told-in-Entries.ensures.refused
+    (c.requires ∙ ap Some c.in-Entries.is) (λ content s. (s.0, s.2)) c.in_err-told-in-Entries.ensures.refused
 
 pub returns-in_err-session-in-Session : goal.returns-in_err-session-in-Session
 returns-in_err-session-in-Session c =
@@ -39,25 +39,25 @@ returns-in_err-session-in-Session c =
     let says = session_told c.args.raw.header.seconds in
     refused_body c.args.stamp c.args.index.now (record_under c.args.raw.header c.args.raw.body.now) (form.Session session) (Told (SpellsSessionBody session) says)
     c.in_err-session-in-Session.field-0.0 c.from_residual-in_err-session-in-Session.result c.from_residual-in_err-session-in-Session.ensures.1
-    (sym c.form_of.ensures ∙ c.in-Some.is ∙ ap Some c.in-Session.is) (λ content s. (says s.0, (s.0, s.2, refl))) c.in_err-session-in-Session.ensures
+    (c.requires ∙ ap Some c.in-Session.is) (λ content s. (says s.0, (s.0, s.2, refl))) c.in_err-session-in-Session.ensures
 
-pub returns-in-Some-entries_fault : goal.returns-in-Some-entries_fault
-returns-in-Some-entries_fault c =
-    let has = sym c.form_of.ensures ∙ c.in-Some.is ∙ ap Some c.in-Entries.is in
+pub returns-in-Some : goal.returns-in-Some
+returns-in-Some c =
+    let has = c.requires ∙ ap Some c.in-Entries.is in
     let (rib, spelled, tells) = c.in_ok-told-in-Entries.ensures.told in
     let unknown = tells.unknown ∙ ap (λ peers. first_unknown peers rib.entries) c.peers_in.ensures in
-    let is = ap (entries_fault c.args.index.now) (sym unknown) ∙ sym c.entries_fault.ensures ∙ c.in-Some-entries_fault.is in
+    let is = ap (entries_fault c.args.index.now) (sym unknown) ∙ sym c.entries_fault.ensures ∙ c.in-Some.is in
     (inr (inr (Entries rib, (form.Entries c.in-Entries.family, has, (rib, refl, spelled)), is)), refl)
 
 pub returns-in_ok-items-in-Entry : goal.returns-in_ok-items-in-Entry
 returns-in_ok-items-in-Entry c =
-    let has = sym c.form_of.ensures ∙ c.in-Some.is ∙ ap Some c.in-Entry.is in
+    let has = c.requires ∙ ap Some c.in-Entry.is in
     let (entry, spelled, told) = c.in_ok-items-in-Entry.ensures in
     (Entry entry, record { is_body = (form.Entry c.in-Entry.family, has, (entry, refl, spelled)); sound = refl; made = ap (event_at c.args.raw.header.seconds None TableDump) told }, refl)
 
 pub returns-in_ok-read_peer_index-in-Peers : goal.returns-in_ok-read_peer_index-in-Peers
 returns-in_ok-read_peer_index-in-Peers c =
-    let has = sym c.form_of.ensures ∙ c.in-Some.is ∙ ap Some c.in-Peers.is in
+    let has = c.requires ∙ ap Some c.in-Peers.is in
     let peers = c.in_ok-read_peer_index-in-Peers.field-0 in (
       Peers peers,
       record {
@@ -68,17 +68,17 @@ returns-in_ok-read_peer_index-in-Peers c =
       refl,
     )
 
-pub returns-in_default-entries_fault : goal.returns-in_default-entries_fault
-returns-in_default-entries_fault c =
+pub returns-in_default : goal.returns-in_default
+returns-in_default c =
     let seconds = c.args.raw.header.seconds in
-    let has = sym c.form_of.ensures ∙ c.in-Some.is ∙ ap Some c.in-Entries.is in
+    let has = c.requires ∙ ap Some c.in-Entries.is in
     let (rib, spelled, tells) = c.in_ok-told-in-Entries.ensures.told in
     let unknown = tells.unknown ∙ ap (λ peers. first_unknown peers rib.entries) c.peers_in.ensures in
     let items = c.from_vec-items-in-Entries.ensures ∙ tells.items ∙ ap (λ peers. entries_items peers c.args.stamp seconds rib) c.peers_in.ensures in (
       Entries rib,
       record {
         is_body = (form.Entries c.in-Entries.family, has, (rib, refl, spelled));
-        sound = ap (entries_fault c.args.index.now) (sym unknown) ∙ sym c.entries_fault.ensures ∙ c.in_default-entries_fault.is;
+        sound = ap (entries_fault c.args.index.now) (sym unknown) ∙ sym c.entries_fault.ensures ∙ c.in_default.is;
         made = ap (event_at seconds None TableDump2) items;
       },
       refl,
@@ -87,7 +87,7 @@ returns-in_default-entries_fault c =
 pub returns-in_ok-session-in-Session : goal.returns-in_ok-session-in-Session
 returns-in_ok-session-in-Session c =
     let seconds = c.args.raw.header.seconds in
-    let has = sym c.form_of.ensures ∙ c.in-Some.is ∙ ap Some c.in-Session.is in
+    let has = c.requires ∙ ap Some c.in-Session.is in
     let session = c.in_ok-session-in-Session.session in
     let (body, spelled, told) = c.in_ok-session-in-Session.ensures in (
       Session body,

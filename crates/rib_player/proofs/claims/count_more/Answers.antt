@@ -1,4 +1,4 @@
-use Rattle.std.proofs.Common.{◌≡◌, ◌+◌, Some, Result, Ok, Err, OnErr, refl, ap, subst, arith, ◌∙◌}
+use Rattle.std.proofs.Common.{◌≡◌, ◌+◌, Some, Result, Ok, Err, OnErr, ap, subst, arith, ◌∙◌}
 use Rattle.std.specs.Prelude.{unwrap_or}
 use Rattle.std.specs.Map.{lookup}
 use Rattle.std.specs.BTreeMap as tree
@@ -7,22 +7,14 @@ use Rattle.rib_player.specs.Claims.{one_if, count_at}
 use Rattle.rib_player.proofs.CountedLaws.{count-written, counted}
 use Rattle.rib_player.proofs.claims.count_more.Given.{Over}
 use Rattle.rib_player.proofs.claims.count_more.Goals as goal
-use Rattle.rib_player.proofs.claims.count_more.Goals.{After-checked_add}
+use Rattle.rib_player.proofs.claims.count_more.Goals.{After-or_insert-count}
 
 -- the count that is found, or none
-found : (g : Over) (c : After-checked_add g) → c.or_insert-count.result.now ≡ count_at g.K.Ord.cmp c.args.counts.now c.args.key
+found : (g : Over) (c : After-or_insert-count g) → c.or_insert-count.result.now ≡ count_at g.K.Ord.cmp c.args.counts.now c.args.key
 found g c = c.or_insert-count.ensures.value ∙ ap (λ o. unwrap_or o 0) c.in_ok-counts.ensures.value
 
-pub returns-in_default-clause-refused : goal.returns-in_default-clause-refused
-returns-in_default-clause-refused g c = λ k.
-    let b = (goal.at.returns-in_default-clause-refused g c).After-checked_add in
-    let v = c.or_insert-count.result.now in
-    let after = map_with_value c.in_ok-counts.field-0 v in
-    grind (
-      arith,
-      counted g.met.K.Ord.total c.args.counts.now after c.args.key v (λ new old b. new ≡ old) (found g b) (λ m. refl) k
-          (count-written g.met.K.Ord.total c.args.counts.now after c.args.key k (Some v) ((c.in_ok-counts.ensures.update.0 v).0 k)),
-    )
+pub overflow_add-count : goal.overflow_add-count
+overflow_add-count g c = omega (arith, c.requires, found g (goal.at.overflow_add-count g c).After-or_insert-count)
 
 pub returns-in_err-counts-clause-refused : goal.returns-in_err-counts-clause-refused
 returns-in_err-counts-clause-refused g c =
@@ -34,11 +26,11 @@ returns-in_err-counts-clause-refused g c =
 
 pub returns-clause-counted : goal.returns-clause-counted
 returns-clause-counted g c = λ k.
-    let b = (goal.at.returns-clause-counted g c).After-checked_add in
-    let v = c.in-Some.more in
+    let b = (goal.at.returns-clause-counted g c).After-or_insert-count in
+    let v = c.or_insert-count.result.now + 1 in
     let after = map_with_value c.in_ok-counts.field-0 v in
     grind (
       arith,
-      counted g.met.K.Ord.total c.args.counts.now after c.args.key v (λ new old b. new ≡ old + one_if b) (c.in-Some.ensures.1 ∙ ap (λ n. n + 1) (found g b)) (λ m. omega arith) k
+      counted g.met.K.Ord.total c.args.counts.now after c.args.key v (λ new old b. new ≡ old + one_if b) (ap (λ n. n + 1) (found g b)) (λ m. omega arith) k
           (count-written g.met.K.Ord.total c.args.counts.now after c.args.key k (Some v) ((c.in_ok-counts.ensures.update.0 v).0 k)),
     )

@@ -1,4 +1,4 @@
-use Rattle.std.proofs.Common.{◌≡◌, ℕ, ◌+◌, ◌||◌, ◌&&◌, [], ◌∷◌, Bool, true, false, not, is_some, get_or, refl, sym, ap, ap₂, ◌∙◌, arith}
+use Rattle.std.proofs.Common.{◌≡◌, ℕ, ◌+◌, ◌<◌, ◌||◌, ◌&&◌, [], ◌∷◌, Bool, true, false, not, is_some, get_or, refl, sym, ap, ap₂, subst, ◌∙◌, arith}
 use Rattle.std.specs.FinMap as finite
 use Rattle.std.specs.FinSet as set
 use Rattle.rib_player.specs.declared.pair.Pair.{Pair}
@@ -7,6 +7,7 @@ use Rattle.rib_player.specs.Tables.{route_in}
 use Rattle.rib_player.specs.Journal.{side_of}
 use Rattle.rib_player.specs.Marks.{Mark, mark_of}
 use Rattle.prefix_store.specs.Stored.{put}
+use Rattle.prefix_store.specs.declared.store.TheConstants.{GREATEST_COUNT}
 use Rattle.rib_player.proofs.JournalLaws.{routes_across-sides_across}
 use Rattle.rib_player.proofs.MarkLaws.{tied}
 use Rattle.rib_player.proofs.HeldLaws.{made-claimed, insert-held, there-same, beyond-held, same-held}
@@ -65,6 +66,9 @@ there g c = known c.in_ok-made.made (set.contains c.args.table.now.keys c.args.e
 
 same : (g : Over) (c : After-pair g) (q : Pair) → set.contains c.put.new.table.keys q ≡ set.contains c.args.table.now.keys q
 same g c q = there-same c.args.table.now.keys c.put.new.table.keys c.args.entry.now.pair q c.in_ok-made.ensures.keys (there g c)
+
+pub add-requires : goal.add-requires
+add-requires g c = subst (λ q. claims_beyond c.args.claims.now q < GREATEST_COUNT) (sym (c.pair.ensures ∙ c.in_ok-made.ensures.pair)) c.requires.few
 
 pub exchange-requires : goal.exchange-requires
 exchange-requires g c =

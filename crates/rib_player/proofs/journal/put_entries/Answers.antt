@@ -7,7 +7,7 @@ use Rattle.std.proofs.lemmas.List.{length-set, length-drop, drop-drop, drop-set-
 use Rattle.octet_forms.proofs.Lists.{AllByRecursion-get_or, AllByRecursion-push}
 use Rattle.rib_player.specs.declared.entry.End.TheVariants.{Last}
 use Rattle.prefix_store.specs.Stored.{put}
-use Rattle.rib_player.specs.Claims.{one_if, claims_beyond}
+use Rattle.rib_player.specs.Claims.{one_if, claims_beyond, held_claims}
 use Rattle.rib_player.specs.Entries.{Entry}
 use Rattle.rib_player.specs.Tables.{route_in}
 use Rattle.rib_player.specs.Journal.{Side, side_of, sides_of, pairs_in, routes_across}
@@ -15,7 +15,7 @@ use Rattle.rib_player.specs.Marks.{sides_across, Mark, mark_of, marks_of, marks_
 use Rattle.rib_player.proofs.PairLaws.{same_pair}
 use Rattle.rib_player.proofs.JournalLaws.{rest_of_entries, take-through, routes_across-push, sides_across-push, pairs_in-sides_across, get-restored_elsewhere, routes_across-sides_across}
 use Rattle.rib_player.proofs.MarkLaws.{tied, pairs_marked, pairs-same, pairs_in-take, distinct-take, distinct-before, marks-more, gives_up_by-push, gives_up_by-named, gives-none}
-use Rattle.rib_player.proofs.HeldLaws.{same-key, one-or, put-among, inserted, still-inserted}
+use Rattle.rib_player.proofs.HeldLaws.{same-key, same-beyond, one-or, put-among, inserted, still-inserted}
 use Rattle.rib_player.proofs.ListLaws.{all-then}
 use Rattle.rib_player.proofs.journal.put_entries.Given.{Over}
 use Rattle.rib_player.proofs.journal.put_entries.Goals as goal
@@ -47,6 +47,24 @@ same_route : (g : Over) (c : After-index-entries-made g) → finite.get c.entrie
 same_route g c =
     ap (λ r. finite.get r (here g c).pair) c.entries.invariant.routes
     ∙ get-restored_elsewhere (sides_of (take c.entries.made c.args.entries.now)) c.args.table.now.routes (here g c).pair (apart g c)
+
+-- so the entries so far make no claim of it
+unnamed : (g : Over) (c : After-index-entries-made g) → gives_up_by Last (marks_of (take c.entries.made c.entries.entries)) (here g c).pair ≡ false
+unnamed g c =
+    let marks : List Mark = marks_of (take c.entries.made c.entries.entries) in
+    let sides : List Side = sides_of (take c.entries.made c.args.entries.now) in
+    let pairs : pairs_marked marks ≡ pairs_in sides = pairs-same (take c.entries.made c.entries.entries) ∙ ap pairs_in c.entries.invariant.crossed ∙ pairs_in-sides_across c.args.table.now.routes sides in
+    gives_up_by-named Last marks (here g c).pair (ap (list_any (tied (here g c).pair)) pairs ∙ apart g c)
+
+-- and as many are counted as at first
+pub put_entry-requires-clause-few : goal.put_entry-requires-clause-few
+put_entry-requires-clause-few g c =
+    let b = (goal.at.put_entry-requires-clause-few g c).After-index-entries-made in
+    let q = (here g b).pair in
+    let keys = c.args.table.now.keys in
+    let beyond = claims_beyond c.args.claims.now in
+    let held : held_claims c.entries.table.keys (claims_beyond c.entries.claims) q ≡ held_claims keys beyond q = omega (arith, c.entries.invariant.claimed q, ap one_if (unnamed g b)) in
+    omega (arith, same-beyond keys c.entries.table.keys beyond (claims_beyond c.entries.claims) q c.requires.held c.entries.invariant.held held, c.requires.few q)
 
 pub put_entry-requires-clause-named : goal.put_entry-requires-clause-named
 put_entry-requires-clause-named g c =
@@ -131,8 +149,6 @@ entries-preserved g c =
     let marks : List Mark = marks_of (take made entries) in
     let sides_more : sides_of (take (made + 1) first) ≡ sides ++ side_of old ∷ [] = ap sides_of (take-through made first old (drop (made + 1) first) (rest g b)) ∙ map-append side_of (take made first) (old ∷ []) in
     let marks_more : marks_of (take (made + 1) (set entries made new)) ≡ marks ++ mark_of new ∷ [] = marks-more entries made new within in
-    let pairs_before : pairs_marked marks ≡ pairs_in sides = pairs-same (take made entries) ∙ ap pairs_in known.crossed ∙ pairs_in-sides_across routes sides in
-    let unnamed = gives_up_by-named Last marks old.pair (ap (list_any (tied old.pair)) pairs_before ∙ apart g b) in
     let mark : Side → Mark = λ side. record { pair = side.0; before = is_some (finite.get routes side.0); behind = is_some side.1 } in
     let mark_is : mark_of new ≡ mark (side_of old) =
     ap (λ l. get_or l 0 (mark_of new)) said.put.marks ∙ (λ k. record { pair = old.pair; before = is_some (same_route g b k); behind = is_some (route_in old.other) }) in
@@ -149,7 +165,7 @@ entries-preserved g c =
       held = said.held;
       claimed = λ q.
           let one = ap (λ ms. one_if (gives_up_by Last ms q)) marks_more ∙ ap one_if (gives_up_by-push Last marks (mark_of new) q)
-          ∙ one-or (gives_up_by Last marks q) (gives_up Last (mark_of new) && tied q new.pair) (λ t. ap (gives_up_by Last marks) (same_pair q old.pair (ap (tied q) (sym pair) ∙ (and_parts (gives_up Last (mark_of new)) (tied q new.pair) t).1)) ∙ unnamed) in
+          ∙ one-or (gives_up_by Last marks q) (gives_up Last (mark_of new) && tied q new.pair) (λ t. ap (gives_up_by Last marks) (same_pair q old.pair (ap (tied q) (sym pair) ∙ (and_parts (gives_up Last (mark_of new)) (tied q new.pair) t).1)) ∙ unnamed g b) in
           omega (arith, one, said.claimed q, known.claimed q);
       marks = marks_more ∙ ap₂ (λ (ms : List Mark) (m : Mark). ms ++ m ∷ []) known.marks mark_is
           ∙ sym (map-append mark sides (side_of old ∷ [])) ∙ sym (ap (marks_across routes) sides_more);

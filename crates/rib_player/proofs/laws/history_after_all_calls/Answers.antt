@@ -1,5 +1,5 @@
 use Rattle.std.specs.Prelude.{[]}
-use Rattle.rib_player.specs.Calls.{fresh}
+use Rattle.rib_player.specs.Timeline.{fresh}
 use Rattle.rib_player.proofs.TimelineLaws.{StandsFor-fresh, StandsFor-after_calls}
 use Rattle.rib_player.proofs.laws.history_after_all_calls.Goals as goal
 

@@ -5,7 +5,7 @@ use Rattle.std.proofs.lemmas.List.{append-nil, map-append}
 use Rattle.ip_prefix.specs.Network.{Network}
 use Rattle.mrt_events.specs.declared.event.Route.{Route}
 use Rattle.mrt_events.specs.declared.peer.Peer.{Peer}
-use Rattle.prefix_store.specs.Contents.{above, pointed}
+use Rattle.prefix_store.specs.Lookups.{above, pointed}
 use Rattle.prefix_store.proofs.AboveLaws.{above-none, above-front, none-left, keys-in_order, seen_last, seen_none}
 use Rattle.rib_player.specs.Journal.{Side, sides_of}
 use Rattle.rib_player.specs.Marks.{cleared_side}

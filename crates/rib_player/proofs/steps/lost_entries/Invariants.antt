@@ -1,6 +1,6 @@
 use Rattle.std.proofs.Common.{◌≡◌, ◌<◌, ◌++◌, map, length, vec_capacity}
 use Rattle.std.specs.FinMap as finite
-use Rattle.prefix_store.specs.Contents.{above}
+use Rattle.prefix_store.specs.Lookups.{above}
 use Rattle.rib_player.specs.Journal.{sides_of}
 use Rattle.rib_player.specs.Marks.{cleared_side}
 use Rattle.rib_player.proofs.steps.lost_entries.Given as goal

@@ -5,7 +5,7 @@ use Rattle.std.specs.declared.rc.Rc.{Rc}
 use Rattle.std.proofs.lemmas.Result.{err_from_is_err_and}
 use Rattle.ip_prefix.specs.Network.{Network}
 use Rattle.mrt_events.specs.declared.event.Route.{Route}
-use Rattle.prefix_store.specs.Contents.{above}
+use Rattle.prefix_store.specs.Lookups.{above}
 use Rattle.prefix_store.proofs.AboveLaws.{above-none, above-front, none-left, keys-in_order, seen_last, seen_none}
 use Rattle.rib_player.specs.Tables.{peer_routes}
 use Rattle.rib_player.specs.Lookups.{pointed_routes}
@@ -14,7 +14,7 @@ use Rattle.bgpdump_lines.proofs.WritingLaws.{AppendsFront-longer}
 use Rattle.bgpdump_tool.proofs.WalkLaws.{Walked-start, Walked-many, Walked-breaks, table_told, lines-pointed}
 use Rattle.bgpdump_tool.proofs.carrying.questions.table.Given.{Over}
 use Rattle.bgpdump_tool.proofs.carrying.questions.table.Goals as goal
-use Rattle.bgpdump_tool.proofs.carrying.questions.table.Goals.{In-Some, In_default-last}
+use Rattle.bgpdump_tool.proofs.carrying.questions.table.Goals.{In-Some, In_default}
 
 -- a route that is pointed to
 abbrev entry : Network × Bor (Rc Route Global) → Network × Route
@@ -50,7 +50,7 @@ returns-in_err-write_rib_lines-clause-text g c =
     let line = rib_line c.args.peer.now in
     let entries = finite.entries (peer_routes c.args.table.now.routes c.args.peer.now) in
     let found = pointed_routes c.next_routes.new.found.items in
-    let p = err_from_is_err_and c.from_residual.result c.from_residual.ensures.1 in
+    let p = err_from_is_err_and c.from_residual-in_err-write_rib_lines.result c.from_residual-in_err-write_rib_lines.ensures.1 in
     let put = rw (c.deref-in-routes.ensures.value, lines-pointed c.args.peer.now c.next_routes.new.found.items) at c.in_err-write_rib_lines.ensures.text in
     rw p.1 (AppendsFront-longer _ _ (flat_map line entries) _
     (Walked-breaks line entries found _ _ _ _ _ (next g b) c.routes.invariant.walked put))
@@ -83,15 +83,15 @@ routes-preserved g c =
     }
 
 -- no route is left
-over : (g : Over) (c : In_default-last g) → above c.routes.passed (finite.entries (peer_routes c.args.table.now.routes c.args.peer.now)) ≡ []
+over : (g : Over) (c : In_default g) → above c.routes.passed (finite.entries (peer_routes c.args.table.now.routes c.args.peer.now)) ≡ []
 over g c =
     let entries = finite.entries (peer_routes c.args.table.now.routes c.args.peer.now) in
     none-left (vec_capacity c.routes.found) (above c.routes.passed entries) c.routes.invariant.room
     (seen_none entry c.next_routes.new.found.items c.last.result
-    (c.last.ensures.value ∙ ap (λ items. slice_get items (length items - 1)) c.deref.ensures.value) c.in_default-last.is
+    (c.last.ensures.value ∙ ap (λ items. slice_get items (length items - 1)) c.deref.ensures.value) c.in_default.is
     ∙ c.next_routes.ensures.found ∙ ap (λ low. take (vec_capacity c.routes.found) (above low entries)) c.as_ref.ensures.value)
 
 pub returns-clause-text : goal.returns-clause-text
 returns-clause-text g c =
     table_told c.args.table.now.routes c.args.peer.now _ (g.O.Output.written c.args.out.now) (g.O.Output.written c.routes.out) (g.O.Output.written c.write_numbers.new.out) c.routes.count c.write_numbers.result
-    (over g (goal.at.returns-clause-text g c).In_default-last) c.routes.invariant.walked c.routes.invariant.count c.write_numbers.ensures.text
+    (over g (goal.at.returns-clause-text g c).In_default) c.routes.invariant.walked c.routes.invariant.count c.write_numbers.ensures.text

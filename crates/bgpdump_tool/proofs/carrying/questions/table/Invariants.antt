@@ -2,7 +2,7 @@
 use Rattle.std.proofs.Common.{◌≡◌, ◌<◌, length, vec_capacity}
 use Rattle.std.specs.FinMap as finite
 use Rattle.prefix_store.specs.Stored.{counted}
-use Rattle.prefix_store.specs.Contents.{above}
+use Rattle.prefix_store.specs.Lookups.{above}
 use Rattle.rib_player.specs.Tables.{peer_routes}
 use Rattle.bgpdump_lines.specs.Lines.{rib_line}
 use Rattle.bgpdump_tool.proofs.WalkLaws.{Walked}

@@ -3,8 +3,5 @@ use Rattle.std.proofs.Common.{arith}
 use Rattle.std.proofs.lemmas.Grind.{common_steps}
 use Rattle.mrt_wire.proofs.route_pool.RoutePool.next_place.Goals as goal
 
-pub invariant_of-self-then-place-len : goal.invariant_of-self-then-place-len
-invariant_of-self-then-place-len c = grind (arith, common_steps)
-
 pub invariant_of-self-2 : goal.invariant_of-self-2
 invariant_of-self-2 c = grind (arith, common_steps)

@@ -1,7 +1,7 @@
 -- What was found and what stands above the last of it is all.
 use Rattle.std.proofs.Common.{◌≡◌, ◌-◌, ◌++◌, vec_len, vec_capacity, option_copied}
 use Rattle.std.specs.FinMap as finite
-use Rattle.prefix_store.specs.Contents.{above, pointed}
+use Rattle.prefix_store.specs.Lookups.{above, pointed}
 use Rattle.prefix_store.proofs.store.PrefixStore.next_routes.Given as goal
 
 abbrev pub invariant-routes : goal.invariant-routes

@@ -1,7 +1,8 @@
 -- What was taken and what is left is all, and what is left stands above the last of what was taken.
 use Rattle.std.proofs.Common.{◌≡◌, ◌++◌, vec_capacity}
 use Rattle.std.specs.FinMap as finite
-use Rattle.prefix_store.specs.Contents.{AreAmong, above}
+use Rattle.prefix_store.specs.Stored.{AreAmong}
+use Rattle.prefix_store.specs.Lookups.{above}
 use Rattle.prefix_store.proofs.store.PrefixStore.take_routes.Given as goal
 
 abbrev pub invariant-routes : goal.invariant-routes

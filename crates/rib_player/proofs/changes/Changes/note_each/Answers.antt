@@ -33,7 +33,7 @@ items-preserved-in-Continue-branch-3 g c =
           let has = subst (λ x. HasRoute w.in-Some.shared.now.value (saying x)) c.in-Announce.is
           (subst (λ s. IfSome s (λ r. HasRoute r.now.value (saying item))) w.in-Some.is shared) in
           ap (λ o. o.value) w.own-is ∙ w.in_ok-own-in-Some.ensures.cases ∙ sym has
-      | in-None+in_ok-own-in-None w ↦ ap (λ o. o.value) w.own-is ∙ w.in_ok-own-in-None.ensures
+      | in-None+in_ok-own-in-None w ↦ ap (λ o. o.value) w.own-is ∙ w.in_ok-own-in-None.ensures.value
     ] in
     record {
       within = omega arith;

@@ -1,8 +1,9 @@
-use Rattle.std.proofs.Common.{◌≡◌, ◌+◌, Some, None, is_some, refl, sym, ap, subst, ◌∙◌, arith}
+use Rattle.std.proofs.Common.{◌≡◌, ◌+◌, ◌<◌, Some, None, is_some, refl, sym, ap, subst, ◌∙◌, arith}
 use Rattle.std.specs.BTreeMap as tree
 use Rattle.std.specs.Option.{option_copied_mut}
 use Rattle.std.proofs.lemmas.Result.{on_ok_weaker, on_err_weaker}
 use Rattle.mrt_events.specs.Event.{peer_cmp}
+use Rattle.prefix_store.specs.declared.store.TheConstants.{GREATEST_COUNT}
 use Rattle.rib_player.specs.Claims.{one_if, count_of_peer}
 use Rattle.rib_player.specs.Kept.{IsWritten}
 use Rattle.rib_player.proofs.StoreLaws.{same_network}
@@ -16,6 +17,12 @@ found c = sym (ap option_copied_mut c.in-Some.is) ∙ c.get_mut.ensures.value
 -- other counts stand for the peer
 written : (c : After-more) → IsWritten c.args.self.now.peers.entries (c.get_mut.follows.lender c.more.new.self).entries c.args.pair.now.peer (Some c.more.new.self)
 written c = record { each = ((c.get_mut.follows.holds c.more.new.self).3 (ap is_some (sym (found c)))).0 }
+
+pub more-requires : goal.more-requires
+more-requires c = subst (λ w. count_of_peer w c.args.pair.now.prefix < GREATEST_COUNT) (sym (sym (ap option_copied_mut c.in-Some.is) ∙ c.get_mut.ensures.value)) c.requires
+
+pub more-requires-2 : goal.more-requires-2
+more-requires-2 c = omega (arith, c.new-counts.ensures c.args.pair.now.prefix)
 
 pub returns-in-Some-clause-counted : goal.returns-in-Some-clause-counted
 returns-in-Some-clause-counted c =

@@ -1,9 +1,20 @@
-use Rattle.std.proofs.Common.{◌≡◌, ◌+◌, ℕ, sym, refl, subst, ◌∙◌, arith}
+use Rattle.std.proofs.Common.{◌≡◌, ◌+◌, ◌<◌, ℕ, sym, refl, subst, ◌∙◌, arith}
 use Rattle.std.proofs.lemmas.Result.{on_ok_weaker, on_err_weaker}
 use Rattle.std.specs.Ordering.{eq_by_cmp, nat_cmp}
-use Rattle.rib_player.specs.Claims.{one_if, count_at}
+use Rattle.ip_prefix.specs.Network.{network_cmp}
+use Rattle.prefix_store.specs.declared.store.TheConstants.{GREATEST_COUNT}
+use Rattle.rib_player.specs.Claims.{one_if, count_at, v4_key, by_family}
 use Rattle.rib_player.proofs.CountedLaws.{v4-counted}
 use Rattle.rib_player.proofs.claims.Counts.more.Goals as goal
+
+pub count_more-requires : goal.count_more-requires
+count_more-requires c =
+    subst (λ key. count_at nat_cmp c.args.self.now.v4 key < GREATEST_COUNT) (sym c.v4_key.ensures.key)
+    (subst (λ f. by_family f (count_at nat_cmp c.args.self.now.v4 (v4_key c.args.prefix.now)) (count_at network_cmp c.args.self.now.v6 c.args.prefix.now) < GREATEST_COUNT) (sym c.family.ensures ∙ c.in-V4.is) c.requires)
+
+pub count_more-requires-in-V6 : goal.count_more-requires-in-V6
+count_more-requires-in-V6 c =
+    subst (λ f. by_family f (count_at nat_cmp c.args.self.now.v4 (v4_key c.args.prefix.now)) (count_at network_cmp c.args.self.now.v6 c.args.prefix.now) < GREATEST_COUNT) (sym c.family.ensures ∙ c.in-V6.is) c.requires
 
 pub returns-in-V4-clause-counted : goal.returns-in-V4-clause-counted
 returns-in-V4-clause-counted c =

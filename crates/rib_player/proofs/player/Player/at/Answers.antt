@@ -1,6 +1,6 @@
 use Rattle.std.proofs.Common.{subst, arith}
 use Rattle.std.proofs.lemmas.Grind.{common_steps}
-use Rattle.rib_player.specs.Claims.{IsWellFormed}
+use Rattle.rib_player.specs.Timeline.{IsWellFormed}
 use Rattle.rib_player.proofs.PlayedLaws.{well_formed-played}
 use Rattle.rib_player.proofs.player.Player.at.Goals as goal
 

@@ -1,6 +1,5 @@
 use Rattle.std.proofs.Common.{◌≡◌, ap, ◌∙◌, arith}
-use Rattle.rib_player.specs.Timeline.{Timeline}
-use Rattle.rib_player.specs.Calls.{without_first, forgettable}
+use Rattle.rib_player.specs.Timeline.{Timeline, without_first, forgettable}
 use Rattle.rib_player.proofs.FloorLaws.{without_first-more}
 use Rattle.rib_player.proofs.player.Player.forget.Given.{Over}
 use Rattle.rib_player.proofs.player.Player.forget.Goals as goal

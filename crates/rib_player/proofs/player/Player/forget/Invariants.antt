@@ -1,5 +1,5 @@
 use Rattle.std.proofs.Common.{◌≡◌}
-use Rattle.rib_player.specs.Calls.{without_first}
+use Rattle.rib_player.specs.Timeline.{without_first}
 use Rattle.rib_player.proofs.player.Player.forget.Given as goal
 
 -- as many steps as are counted so far are forgotten

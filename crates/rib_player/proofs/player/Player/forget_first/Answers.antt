@@ -4,7 +4,8 @@ use Rattle.std.specs.FinSet as names
 use Rattle.rib_player.specs.declared.pair.Pair.{Pair}
 use Rattle.rib_player.specs.declared.entry.End.TheVariants.{First}
 use Rattle.rib_player.specs.Claims.{one_if, claims_beyond, held_claims}
-use Rattle.rib_player.specs.Calls.{without_first, IsPlayed}
+use Rattle.rib_player.specs.Calls.{IsPlayed}
+use Rattle.rib_player.specs.Timeline.{without_first}
 use Rattle.rib_player.specs.Journal.{step_sides, steps_of, timeline_of}
 use Rattle.rib_player.specs.Marks.{marks_of, gives_up_by}
 use Rattle.rib_player.proofs.ForgetLaws.{timeline-forgotten}

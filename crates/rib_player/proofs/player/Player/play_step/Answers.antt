@@ -10,7 +10,7 @@ use Rattle.rib_player.specs.Claims.{one_if, claims_beyond, held_claims}
 use Rattle.rib_player.specs.Journal.{sides_of, steps_of, timeline_of}
 use Rattle.rib_player.specs.Marks.{IsStepFor, marks_of, marks_by_step, step_marks, gives_up_by}
 use Rattle.rib_player.specs.Calls.{IsPlayed, AreClaimed, CanDrop}
-use Rattle.rib_player.proofs.PlayedLaws.{tables-played, played-among, step-named, can-play, after_play-on, played-on}
+use Rattle.rib_player.proofs.PlayedLaws.{tables-played, played-few, played-among, step-named, can-play, after_play-on, played-on}
 use Rattle.rib_player.proofs.player.Player.play_step.Given.{Over}
 use Rattle.rib_player.proofs.player.Player.play_step.Goals as goal
 use Rattle.rib_player.proofs.player.Player.play_step.Goals.{After-as_mut_slice, In_ok-put_entries, After-push_back_reserved}
@@ -25,6 +25,12 @@ put_entries-requires-clause-distinct g c = (step g (goal.at.put_entries-requires
 
 pub put_entries-requires-clause-among : goal.put_entries-requires-clause-among
 put_entries-requires-clause-among g c = played-among c.self.invariant.played
+
+-- there is a claim for each position at most, and of those fewer than a count has room for
+pub put_entries-requires-clause-few : goal.put_entries-requires-clause-few
+put_entries-requires-clause-few g c = λ q.
+    let steps = c.self.inside.journal.steps in
+    omega (arith, played-few c.self.invariant.played q, steps.ok.0, steps.small)
 
 pub put_entries-requires-clause-named : goal.put_entries-requires-clause-named
 put_entries-requires-clause-named g c =

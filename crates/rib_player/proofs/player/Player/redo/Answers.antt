@@ -1,6 +1,6 @@
 use Rattle.std.proofs.Common.{◌+◌, refl, ap, ap₂, ◌∙◌, arith}
 use Rattle.std.proofs.lemmas.List.{length-map}
-use Rattle.rib_player.specs.Calls.{after_redo}
+use Rattle.rib_player.specs.Timeline.{after_redo}
 use Rattle.rib_player.specs.Journal.{step_sides, steps_of, timeline_of}
 use Rattle.rib_player.proofs.PlayedLaws.{played-kept, redone-played, length-crossed}
 use Rattle.rib_player.proofs.CursorLaws.{timeline-after_redo}

@@ -1,5 +1,5 @@
 use Rattle.std.proofs.Common.{◌-◌, ap, ap₂, ◌∙◌, arith}
-use Rattle.rib_player.specs.Calls.{after_undo}
+use Rattle.rib_player.specs.Timeline.{after_undo}
 use Rattle.rib_player.specs.Journal.{steps_of, timeline_of}
 use Rattle.rib_player.proofs.PlayedLaws.{within-played, played-kept, undone-played, length-crossed}
 use Rattle.rib_player.proofs.CursorLaws.{timeline-after_undo}

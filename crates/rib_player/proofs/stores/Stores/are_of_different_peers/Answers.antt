@@ -26,9 +26,9 @@ entries-preserved g c =
     let more = sides-more entries c.entries.entry-index entry c.entry-item.is c.entries-test.true in
     record {
       seen = subst (AllByRecursion (IsSeen order c.is_new.new.self)) (sym more)
-          (seen-more order c.entries.marks c.is_new.new.self (side_of entry) number is (c.is_new.ensures.marked c.if-not-is_new.false)
-          (λ n was. c.is_new.ensures.others n c.if-not-is_new.false was) so_far c.entries.invariant.seen);
+          (seen-more order c.entries.marks c.is_new.new.self (side_of entry) number is (c.in_ok-is_new.ensures.marked c.if-not-is_new.false)
+          (λ n was. c.in_ok-is_new.ensures.others n c.if-not-is_new.false was) so_far c.entries.invariant.seen);
       distinct = subst AreDistinct (sym more)
-          (distinct-more order c.entries.marks c.is_new.new.self (side_of entry) number is (c.is_new.ensures.new c.if-not-is_new.false)
+          (distinct-more order c.entries.marks c.is_new.new.self (side_of entry) number is (c.in_ok-is_new.ensures.new c.if-not-is_new.false)
           so_far c.entries.invariant.seen c.entries.invariant.distinct);
     }

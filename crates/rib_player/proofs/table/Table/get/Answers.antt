@@ -1,5 +1,5 @@
 use Rattle.std.proofs.Common.{ap, sym, ◌∙◌, option_map}
-use Rattle.rib_player.specs.Kept.{value_of}
+use Rattle.rib_player.specs.Lookups.{value_of}
 use Rattle.rib_player.proofs.StoreLaws.{route-copied}
 use Rattle.rib_player.proofs.table.Table.get.Goals as goal
 

@@ -10,7 +10,8 @@ use Rattle.mrt_events.specs.Event.{peer_cmp}
 use Rattle.prefix_store.specs.Stored.{counted}
 use Rattle.rib_player.specs.Tables.{Stores, peer_routes, routed_peers}
 use Rattle.rib_player.specs.StoresByPeer.{stores_in, stores_of}
-use Rattle.rib_player.specs.Lookups.{peers_above, routed_stores, peer_count}
+use Rattle.rib_player.specs.Lookups.{peers_above}
+use Rattle.rib_player.specs.Kept.{routed_stores, peer_count}
 use Rattle.rib_player.proofs.PeerLaws.{first_counted, routed-more, routed-none}
 use Rattle.rib_player.proofs.NumberLaws.{sorted-stores_of, stores_of-filter, stores_of-some, stores_of-none}
 use Rattle.rib_player.proofs.table.Table.peer_after.Given.{Over}

@@ -1,7 +1,8 @@
 use Rattle.std.proofs.Common.{◌≡◌, slice_get, option_map, option_copied}
 use Rattle.std.specs.FinMap as finite
 use Rattle.prefix_store.specs.Stored.{counted}
-use Rattle.rib_player.specs.Lookups.{routed_stores, routed_above, peer_count}
+use Rattle.rib_player.specs.Lookups.{routed_above}
+use Rattle.rib_player.specs.Kept.{routed_stores, peer_count}
 use Rattle.rib_player.specs.Tables.{peer_routes}
 use Rattle.rib_player.specs.StoresByPeer.{stores_of}
 use Rattle.rib_player.proofs.table.Table.peer_after.Given as goal

@@ -5,7 +5,7 @@ use Rattle.ip_prefix.specs.Network.{Network}
 use Rattle.rib_player.specs.History.{pair_of}
 use Rattle.rib_player.specs.Tables.{routes_in}
 use Rattle.rib_player.specs.StoresByPeer.{stores_in}
-use Rattle.rib_player.specs.Kept.{value_of}
+use Rattle.rib_player.specs.Lookups.{value_of}
 use Rattle.rib_player.proofs.PeerLaws.{len-of_peer, values-of_peer, no_values, routes-taken, no_routes-taken}
 use Rattle.rib_player.proofs.StoreLaws.{same_peer, IsStored, stored-lent, get-found, held-kept, keys-kept}
 use Rattle.rib_player.proofs.table.Table.take_routes.Given.{Over}

@@ -4,7 +4,8 @@ use Rattle.ip_prefix.specs.declared.addr.Family.{Family}
 use Rattle.ip_prefix.specs.declared.addr.Family.TheVariants.{V4, V6}
 use Rattle.ip_prefix.specs.Network.{Address, Network, contains}
 use Rattle.ip_prefix.specs.Turns.{way}
-use Rattle.prefix_store.specs.Contents.{Contents, IsLongest}
+use Rattle.prefix_store.specs.Contents.{Contents}
+use Rattle.prefix_store.specs.Lookups.{IsLongest}
 use Rattle.prefix_store.specs.Stored.{Keys}
 use Rattle.rib_store.specs.Nodes.{is_node, AreNodesTo, IsOrOneMore}
 use Rattle.rib_store.specs.Store.{Trees, trees_of, tree_of, contents_of, IsPlanted}

@@ -3,7 +3,8 @@ use Rattle.std.specs.Prelude.{MatchOption}
 use Rattle.std.specs.FinMap as finite
 use Rattle.ip_prefix.specs.declared.addr.Family.TheVariants.{V4}
 use Rattle.ip_prefix.specs.Network.{Network}
-use Rattle.prefix_store.specs.Contents.{Contents, above}
+use Rattle.prefix_store.specs.Contents.{Contents}
+use Rattle.prefix_store.specs.Lookups.{above}
 use Rattle.rib_store.specs.Store.{Trees, trees_of, contents_of, IsPlanted}
 use Rattle.rib_store.specs.Walks.{either_of, first, behind}
 use Rattle.rib_store.proofs.WalkLaws.{found_is}

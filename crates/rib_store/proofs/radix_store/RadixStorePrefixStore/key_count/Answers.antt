@@ -1,5 +1,5 @@
 use Rattle.std.proofs.Common.{subst}
-use Rattle.prefix_store.specs.Contents.{AreAmong}
+use Rattle.prefix_store.specs.Stored.{AreAmong}
 use Rattle.rib_store.specs.Store.{slots_in, trees_of}
 use Rattle.rib_store.proofs.SlotLaws.{among-slots}
 use Rattle.rib_store.proofs.radix_store.RadixStorePrefixStore.key_count.Goals as goal

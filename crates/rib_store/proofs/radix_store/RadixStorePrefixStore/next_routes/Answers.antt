@@ -1,6 +1,6 @@
 use Rattle.std.proofs.Common.{take, vec_capacity, sym, ap, ap₂, ◌∙◌, option_copied}
 use Rattle.std.specs.FinMap as finite
-use Rattle.prefix_store.specs.Contents.{above, pointed}
+use Rattle.prefix_store.specs.Lookups.{above, pointed}
 use Rattle.rib_store.specs.Store.{trees_of}
 use Rattle.rib_store.proofs.FillLaws.{all-trees, above-v4, above-v6, filled_anew, filled_twice}
 use Rattle.rib_store.proofs.radix_store.RadixStorePrefixStore.next_routes.Goals as goal

@@ -2,7 +2,7 @@ use Rattle.std.proofs.Common.{◌++◌, vec_capacity, sym, ap, ◌∙◌}
 use Rattle.ip_prefix.specs.declared.turn.Turn.TheVariants.{Here, Left}
 use Rattle.rib_store.specs.declared.tree.Slot.TheVariants.{Branch}
 use Rattle.rib_store.specs.Tree.{shape_of}
-use Rattle.prefix_store.specs.Contents.{pointed}
+use Rattle.prefix_store.specs.Lookups.{pointed}
 use Rattle.rib_store.specs.Walks.{all_routes, all_behind, filled}
 use Rattle.rib_store.proofs.FillLaws.{filled-then, behind-turn}
 use Rattle.rib_store.proofs.tree.Tree.+add_above.Goals as goal

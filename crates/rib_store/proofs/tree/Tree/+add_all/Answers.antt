@@ -1,6 +1,6 @@
 use Rattle.std.proofs.Common.{◌≡◌, false, length, vec_capacity, sym, ap, ◌∙◌, arith, ◌++◌, option_to_list}
 use Rattle.rib_store.specs.Tree.{slot_of, shape_of, is_routed}
-use Rattle.prefix_store.specs.Contents.{pointed}
+use Rattle.prefix_store.specs.Lookups.{pointed}
 use Rattle.rib_store.specs.Walks.{all_routes, routed_at, filled}
 use Rattle.prefix_store.proofs.AboveLaws.{length-pointed}
 use Rattle.rib_store.proofs.FillLaws.{filled-nil, filled-full, filled-then, unmarked-all}
