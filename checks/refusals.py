@@ -38,10 +38,10 @@ OUT_OF_MEMORY, READ_FAULT, WRITE_FAULT = (
 # of ours. The reader of words tries other spellings of a value, and says of those alone what it has memory for.
 OF_PATHS = 'room for segments of longer paths'
 SPELLINGS = 'spellings of a value that are compared with others'
-# Before all else, and once in each call.
-OF_STREAMS = 'the name of the folder that takes the numbers of closed streams'
+# Once in each call, where the standard library collects the words: refused that, it asks for less.
+OF_WORDS = 'room for all words at once'
 
-# How many of them each call does without besides OF_STREAMS, by its words. Those of the others do without none.
+# How many of them each call does without besides OF_WORDS, by its words. Those of the others do without none.
 WITHOUT = {
     '-m old-table.mrt': {OF_PATHS: 2},
     '-t none -m one': {SPELLINGS: 5},
@@ -103,7 +103,7 @@ def refuse_memory(calls, call, right):
     for number in range(1, right.made['memory'] + 1):
         for last in (number, ALL):
             ended = call.run(calls, 'memory', number, last)
-            is_whole_still = is_whole(ended, right)
+            is_whole_still = is_whole(ended, right) and (last == number or ended.fewer == ended.failed)
             if ended.failed == 0 or not is_whole_still and not is_front(ended, right, 4, OUT_OF_MEMORY):
                 behind = ' and all behind it' if last == ALL else ''
                 yield fault(call, 'request %d%s refused, %d met' % (number, behind, ended.failed), ended)
@@ -113,11 +113,11 @@ def refuse_memory(calls, call, right):
                 others += 1 - ended.fewer
     if refusals == 0:
         yield '%s: no refused request was met' % call.shown()
-    known = {OF_STREAMS: 1} | WITHOUT.get(call.shown(), {})
-    moved = sum(number for what, number in known.items() if what in (OF_STREAMS, SPELLINGS))
-    if (fewer, others) != (sum(known.values()) - moved, moved):
+    known = {OF_WORDS: 1} | WITHOUT.get(call.shown(), {})
+    not_ours = sum(number for what, number in known.items() if what in (OF_WORDS, SPELLINGS))
+    if (fewer, others) != (sum(known.values()) - not_ours, not_ours):
         yield '%s: %d requests that give room back and %d others are done without, where %d and %d are known' % (
-            call.shown(), fewer, others, sum(known.values()) - moved, moved)
+            call.shown(), fewer, others, sum(known.values()) - not_ours, not_ours)
 
 
 def fail_devices(calls, call, right):

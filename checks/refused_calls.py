@@ -196,7 +196,9 @@ def refuse(calls, row):
     for number in count(1):
         for last in (number, ALL):
             ended = calls.run(row.words, 'memory', number, last)
-            wanted = (row.right, row.refused) if ended.failed else (row.right,)
+            # What is done without where all behind it is refused too only gives room back.
+            may_be_right = last == number or ended.fewer == ended.failed
+            wanted = (row.right,) * may_be_right + (row.refused,) * (ended.failed > 0)
             if not row.is_answered(ended, *wanted):
                 others = ' and all behind it' if last == ALL else ''
                 faults.append(fault(row, 'request %d%s refused' % (number, others), ended))
