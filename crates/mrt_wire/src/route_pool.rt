@@ -72,7 +72,7 @@ fn fill_rib_route(
 }
 
 /// The same, into a new route.
-#[inline(never)]
+#[inline(always)]
 fn read_rib_route(alloc: Global, sent: SentAttrs<'_>, time: u32) -> Result<Rc<Route>, WireFault>
     ensures read { IfOk result (λ route. IsSentAs sent.entry time route.value) }
     ensures refused { IfErr result (RefusesSent sent.entry) }
