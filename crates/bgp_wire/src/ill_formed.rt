@@ -1,4 +1,4 @@
-//! What ends the reading of octets where no memory is asked for.
+//! The fault of octets that are read without a request for memory.
 
 ghost use Rattle.std.specs.Prelude.{◌≡◌};
 ghost use Rattle.bgp_paths.specs.declared.fault.WireFault.TheVariants.{Malformed};

@@ -24,13 +24,13 @@ pub trait Profile {
     /// The form of the bodies of a type and subtype, where these are supported.
     ghost form_at: { Self → ℕ → ℕ → Option Self.Form };
 
-    /// Tells it.
+    /// Returns the form of the bodies of a type and subtype, or `None` where these aren't supported.
     fn form_of(&self, kind: u16, subtype: u16) -> Option<Self::Form>
         ensures { result ≡ form_at self.now kind subtype };
 }
 
-/// What stands at the front of the octets left: a header, or the rest, with its fault where it isn't
-/// empty.
+/// What the octets that are left begin with: a header; or none, with the fault of what is left unless
+/// that is empty.
 #[derive(Clone, Copy)]
 enum Start {
     Header(Header),

@@ -6,8 +6,8 @@ use bgp_wire::{Attrs, replace_attrs};
 use std::alloc::{AllocError, Global};
 use std::mem;
 
-/// Makes the attributes the others, which get the memory of these. It is done part by part, since
-/// only paths and communities have memory: to exchange the whole takes a hundred instructions more.
+/// Sets `attrs` to `others`, which gets its memory. It is done part by part, since only paths and
+/// communities have memory: to exchange the whole takes a hundred instructions more.
 #[inline(always)]
 fn exchange_attrs(attrs: &mut Attrs, others: &mut Attrs)
     ensures { attrs.new ≡ others.old }
@@ -22,8 +22,8 @@ fn exchange_attrs(attrs: &mut Attrs, others: &mut Attrs)
     attrs.atomic = others.atomic;
 }
 
-/// Puts the attributes in the place of these: a copy where they are kept, and else they are given
-/// away for these.
+/// Sets `attrs` to `others`: a copy of them if they are kept, and else they are exchanged. On error,
+/// `attrs` is unspecified.
 #[inline(always)]
 pub(crate) fn put_attrs(
     alloc: Global,

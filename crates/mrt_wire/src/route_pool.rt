@@ -38,19 +38,20 @@ pub(crate) struct SentAttrs<'a> {
     pub(crate) width: AsWidth,
 }
 
-/// A route without attributes.
+/// Returns a route without attributes, of time 0.
 #[inline(always)]
 fn blank_route(alloc: Global) -> Route {
     let attrs = Attrs::none(alloc);
     Route { attrs, time: 0 }
 }
 
-/// The same, to be shared.
+/// Returns a route without attributes that has one owner.
 pub(crate) fn new_route(alloc: Global) -> Result<Rc<Route>, AllocError> {
     Ok(Rc::new(alloc, blank_route(alloc))?)
 }
 
-/// Reads the attributes of a table's entry, with this time, into a route.
+/// Reads the attributes of a table's entry into a route, and gives it this time. On error, the route
+/// is unspecified.
 #[inline(always)]
 fn fill_rib_route(
     route: &mut Route,
@@ -71,7 +72,7 @@ fn fill_rib_route(
     Ok(())
 }
 
-/// The same, into a new route.
+/// Reads the attributes of a table's entry into a new route of this time.
 #[inline(always)]
 fn read_rib_route(alloc: Global, sent: SentAttrs<'_>, time: u32) -> Result<Rc<Route>, WireFault>
     ensures read { IfOk result (λ route. IsSentAs sent.entry time route.value) }
@@ -82,8 +83,8 @@ fn read_rib_route(alloc: Global, sent: SentAttrs<'_>, time: u32) -> Result<Rc<Ro
     Ok(shared)
 }
 
-/// The same, into the route that stands here, or, where somebody else holds it, into a new one in its
-/// place.
+/// Reads the attributes of a table's entry into `shared`, with this time. Where the route has another
+/// owner, a new one takes its place. On error, a route that has no other owner is unspecified.
 #[inline(always)]
 fn fill_shared(
     shared: &mut Rc<Route>,
@@ -116,7 +117,8 @@ pub(crate) struct RoutePool {
     ghost fits: { room ≤ MOST_ROOM },
 }
 
-/// A new route of these attributes and this time, as `RoutePool::route`.
+/// Returns a new route of these attributes and this time. If they aren't kept, `attrs` is left with
+/// others.
 #[inline(never)]
 fn made_route(
     alloc: Global,
@@ -152,7 +154,7 @@ impl RoutePool {
         self.given = 0;
     }
 
-    /// Where the next route stands that may be filled, unless somebody else holds it.
+    /// Returns the index of the next route that may be filled, which may have other owners.
     #[inline(always)]
     fn next_place(&mut self, alloc: Global) -> Result<usize, AllocError>
         ensures next { IfOk result (λ place. place ≡ self.old.given) }
@@ -241,8 +243,8 @@ impl RoutePool {
         Ok(route?)
     }
 
-    /// Gives the route of a table's entry, with this time, for this one, which somebody holds.
-    /// Refused, it leaves this one.
+    /// Reads the attributes of a table's entry into a route of the pool, with this time, and exchanges
+    /// it for `route`, which has another owner. On error, `route` stays.
     #[inline(never)]
     fn exchange(
         &mut self,
@@ -263,8 +265,8 @@ impl RoutePool {
         read
     }
 
-    /// Reads the attributes of a table's entry, with this time, into this route, or, where somebody
-    /// holds it, into another one in its place.
+    /// Reads the attributes of a table's entry into `route`, with this time. Where it has another
+    /// owner, it is exchanged for a route of the pool. On error, `route` is unspecified.
     #[inline(always)]
     pub(crate) fn read_into(
         &mut self,

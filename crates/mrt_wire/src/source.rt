@@ -166,7 +166,7 @@ impl Source {
     }
 }
 
-/// The answer for a faulty record.
+/// Returns the answer for a record of this number and offset that has this fault.
 #[inline(always)]
 fn fault_answer(number: u64, offset: u64, kind: RecordKind) -> Next
     ensures { result ≡ fault_answer number offset kind }
