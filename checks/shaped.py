@@ -2,8 +2,12 @@
 
 Each maker gives the octets of one record after another. shapes.py says what they may cost.
 """
-from records import communities, entry, host, index, loss, message, net, old_entry, prefix, reach, route, segment
-from records import table, unreach
+import struct
+from functools import cache
+
+from reading import COMMUNITIES
+from records import SECONDS, attribute, communities, entry, host, index, loss, message, net, old_entry, prefix, reach
+from records import route, segment, table, unreach
 
 # The octets of what an entry has beside the segments of its path.
 BESIDE = len(route(bytes(256))) - 256
@@ -44,6 +48,44 @@ def many_segments(records, peers):
         yield table(number, net(number), [entry(peer, apart if number % 2 else kept) for peer in range(peers)])
 
 
+def records_of_paths(records, peers, segments):
+    """Records of an entry of each peer, all with a path of these segments."""
+    yield index(peers)
+    attributes = route(b''.join(segments))
+    for number in range(records):
+        yield table(number, net(number), [entry(peer, attributes) for peer in range(peers)])
+
+
+# Two paths of 990 octets.
+MANY_SEGMENTS = [segment(4, 1 + number) for number in range(165)]
+ONE_SEGMENT = [segment(4, *range(1, 248))]
+
+
+def short_among_garbage(records, entries):
+    """Records of so many entries of one peer, each with a path of 40 segments: of each record one route stays."""
+    yield index(1)
+    for number in range(records):
+        first = number * entries
+        yield table(number, net(number), [entry(0, route(segment(4, first + other) * 40)) for other in range(entries)])
+
+
+def long_lines(records, entries):
+    """Records of so many entries with 16,000 communities, whose lines have 210,000 octets each."""
+    yield index(entries)
+    long = communities(*range(49536, 65536))
+    found = [entry(peer, route(segment(4, 1 + peer), long)) for peer in range(entries)]
+    for number in range(records):
+        yield table(number, net(number), found)
+
+
+def equal_long_routes(records, peers, count):
+    """Records of an entry of each peer, all with the same route of so many communities."""
+    yield index(peers)
+    attributes = route(segment(4, 64496), communities(*range(count)))
+    for number in range(records):
+        yield table(number, net(number), [entry(peer, attributes) for peer in range(peers)])
+
+
 # Messages and entries.
 
 def message_of(size):
@@ -78,6 +120,60 @@ def many_peers_table(records, peers):
         yield table(number, net(number), found)
 
 
+# Routes of one hash: how known_routes mixes a number into one, and what the highest 32 bits are then.
+
+MULTIPLIER, TURN, WORD, ABSENT = 0x9E3779B97F4A7C15, 5, 2 ** 64 - 1, 2 ** 32
+
+
+def mixed(hashed, number):
+    turned = (hashed << TURN | hashed >> 64 - TURN) & WORD
+    return ((turned ^ number) * MULTIPLIER) & WORD
+
+
+def before_communities(numbers, count):
+    """The hash of the attributes of `route` in a table of IPv4 before so many communities are mixed in."""
+    hashed = mixed(0, SECONDS)
+    # The next hop, no preference, metric and aggregator, not aggregated, one segment of that kind.
+    for number in (0xC0000201, ABSENT, ABSENT, ABSENT, 0, 1, 1, len(numbers), *numbers, count):
+        hashed = mixed(hashed, number)
+    return hashed
+
+
+@cache
+def pairs_of_one_hash(numbers, count):
+    """So many pairs of communities with which routes of a path of these numbers have one hash."""
+    before, wanted = before_communities(numbers, 2), 0x12345678
+    by_product = {}
+    for number in range(2 ** 20):
+        by_product.setdefault((number * MULTIPLIER & WORD) >> 32, number)
+    found, first = [], 0
+    while len(found) < count:
+        turned = mixed(before, first)
+        turned = (turned << TURN | turned >> 64 - TURN) & WORD
+        high, low = turned >> 32, turned & 0xFFFFFFFF
+        # With the high half fixed, what the low half has to add to the highest bits.
+        second = by_product.get((wanted - high * (MULTIPLIER & 0xFFFFFFFF)) & 0xFFFFFFFF)
+        if second is not None and mixed(mixed(before, first), second ^ low) >> 32 == wanted:
+            found.append((first, second ^ low))
+        first += 1
+    return found
+
+
+def turning_routes(records, peers, count, alike):
+    """Records of an entry of each peer, each with one of so many routes, of one hash or not."""
+    numbers = (64496,) * 40
+    pairs = pairs_of_one_hash(numbers, count) if alike else [(number, number * number) for number in range(count)]
+    found = [route(segment(4, *numbers), attribute(COMMUNITIES, struct.pack('>II', *pair))) for pair in pairs]
+    yield index(peers)
+    turn = 1
+    for number in range(records):
+        entries = []
+        for peer in range(peers):
+            turn = (turn * 1103515245 + 12345) & 0x7FFFFFFF
+            entries.append(entry(peer, found[(turn >> 8) % count]))
+        yield table(number, net(number), entries)
+
+
 # What is played.
 
 def announcement(number, *found):
@@ -95,6 +191,20 @@ def short_behind_long_attributes(count):
     """Each behind an UPDATE that announces nothing, and has 900 communities."""
     long = message(b'', route(segment(4, 64496), communities(*range(900))), b'')
     for announced in short_attributes(count):
+        yield long
+        yield announced
+
+
+def short_routes(count):
+    """Announcements of a path of one number, each of its own."""
+    for number in range(count):
+        yield message(b'', route(segment(4, 1 + number)), host(number))
+
+
+def short_behind_room(count):
+    """Each behind an UPDATE that announces nothing, and has 4 segments of 9 numbers and 32 communities."""
+    long = message(b'', route(segment(4, *range(9)) * 4, communities(*range(32))), b'')
+    for announced in short_routes(count):
         yield long
         yield announced
 
@@ -159,6 +269,30 @@ def many_peers_gone(count, addresses):
     for peer in range(count):
         yield message(host(0), b'', b'', peer=peer)
     yield from short_attributes(addresses)
+
+
+def of_both_families(peer, number):
+    """The announcement of 0.0.0.0/0 and ::/0 by a peer, with a path of this number."""
+    return message(b'', route(segment(4, number), reach(wide(0))), prefix(0, 0), peer=peer)
+
+
+def announced_thrice(peers):
+    """Each peer announces a prefix of each family, three times."""
+    for number in range(3):
+        yield from (of_both_families(peer, 1 + number) for peer in range(peers))
+
+
+def claimed_twice(peers):
+    """Each peer announces a prefix of each family, withdraws both, and announces both."""
+    yield from (of_both_families(peer, 1) for peer in range(peers))
+    yield from (message(prefix(0, 0), unreach(wide(0)), b'', peer=peer) for peer in range(peers))
+    yield from (of_both_families(peer, 2) for peer in range(peers))
+
+
+def emptied_peers(peers):
+    """Each peer announces a prefix, and then each withdraws it."""
+    yield from many_peers(peers)
+    yield from (message(host(0), b'', b'', peer=peer) for peer in range(peers))
 
 
 def alike(count):

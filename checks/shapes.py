@@ -32,7 +32,8 @@ class Shape(NamedTuple):
     """A kind of file, and the peak that it may take.
 
     `make` gives the records of a size, and `script` what is played over them, or there is none where they are
-    listed. Where `beside` makes other records, the peak is at most 1.3 times theirs, and 1 MiB.
+    listed. Where `beside` makes other records, the peak is at most `times` that of theirs, and 1 MiB, and the time, or
+    where this is more the instructions, at most `dearer` times theirs, if that is told.
     """
     name: str
     size: int
@@ -40,6 +41,8 @@ class Shape(NamedTuple):
     script: Callable | None = None
     most: int = PEAK_OF_LINES
     beside: Callable | None = None
+    times: float = 1.3
+    dearer: float | None = None
 
 
 def all_steps(_):
@@ -48,6 +51,11 @@ def all_steps(_):
 
 def all_forgotten(_):
     return 'next 4294967295\nforget 0\n'
+
+
+def all_steps_and_peers(size):
+    """All steps, and then a question for a quarter as many times."""
+    return all_steps(size) + 'peers\n' * (size // 4)
 
 
 def one_by_one(kept, steps, ahead=0):
@@ -90,6 +98,21 @@ SHAPES = (
     Shape('peers go, and addresses of one come', 50_000, lambda size: shaped.many_peers_gone(size, size),
           lambda size: 'next %d\nforget 0\nnext 4294967295\n' % (2 * size), 48 * MIB),
     Shape('prefixes of all lengths, played', 2_000, partial(shaped.all_lengths, times=160), all_steps),
+    Shape('paths of many segments', 10, partial(shaped.records_of_paths, peers=200, segments=shaped.MANY_SEGMENTS),
+          beside=partial(shaped.records_of_paths, peers=200, segments=shaped.ONE_SEGMENT), times=2.0, dearer=3.0),
+    # The attributes and routes of a record take 10 MiB; its lines took as much again.
+    Shape('lines of 210,000 octets', 1, partial(shaped.long_lines, entries=64), most=12 * MIB),
+    Shape('routes of one hash, played', 500, partial(shaped.turning_routes, peers=32, count=64, alike=True), all_steps,
+          beside=partial(shaped.turning_routes, peers=32, count=64, alike=False)),
+    Shape('long routes that are equal, played', 500, partial(shaped.equal_long_routes, peers=4, count=1_023), all_steps,
+          most=5 * MIB),
+    Shape('short routes behind room, played', 10_000, shaped.short_behind_room, all_steps,
+          beside=shaped.short_routes),
+    # What a record of these takes once.
+    Shape('garbage of long records, played', 2, partial(shaped.short_among_garbage, entries=20_000), all_steps,
+          most=80 * MIB),
+    Shape('peers announce again, played', 10_000, shaped.claimed_twice, all_steps, beside=shaped.announced_thrice),
+    Shape('peers without routes, asked for', 8_000, shaped.emptied_peers, all_steps_and_peers, 16 * MIB),
 )
 
 def used_by(runs, make, script, size, times=1):
@@ -129,7 +152,22 @@ def most_of(runs, shape, size):
     """The peak that the shape may take at this size."""
     if shape.beside is None:
         return shape.most
-    return int(1.3 * used_by(runs, shape.beside, shape.script, size).peak) + MIB
+    return int(shape.times * used_by(runs, shape.beside, shape.script, size).peak) + MIB
+
+
+def faults_of_cost(runs, shape, size, used):
+    """Whether it takes too much more time than the records beside it, and where it does, instructions."""
+    if shape.dearer is None:
+        return
+    beside = used_by(runs, shape.beside, shape.script, size, RUNS)
+    if used.time <= shape.dearer * beside.time:
+        return
+    more, fewer = [runs.instructions_over(make(size), shape.script and shape.script(size))
+                   for make in (shape.make, shape.beside)]
+    if fewer is None:
+        yield '%s: %.1f ms, and %.1f beside it' % (shape.name, used.time, beside.time)
+    elif more > shape.dearer * fewer:
+        yield '%s: %d instructions, and %d beside it' % (shape.name, more, fewer)
 
 
 def faults_of_peak(runs, shape, size, used):
@@ -147,6 +185,7 @@ def faults_of_shape(runs, shape):
         small.peak, large.peak, small.time, large.time, large.time / small.time, shape.name), flush=True)
     yield from faults_of_peak(runs, shape, shape.size, small)
     yield from faults_of_peak(runs, shape, 2 * shape.size, large)
+    yield from faults_of_cost(runs, shape, 2 * shape.size, large)
     yield from faults_of_rise(runs, shape, small, large)
 
 

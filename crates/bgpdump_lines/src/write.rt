@@ -1,6 +1,6 @@
 //! Writing what was found, and the routes of tables.
 
-ghost use Rattle.std.specs.Prelude.{◌≡◌, ◌||◌, [], map, IfOk, IfSome, flat_map};
+ghost use Rattle.std.specs.Prelude.{◌≡◌, ◌||◌, ◌<◌, [], map, IfOk, IfSome, flat_map};
 ghost use Rattle.mrt_events.specs.Event.{saying};
 ghost use Rattle.mrt_events.specs.SharedRoute.{AreOfOneRoute};
 ghost use Rattle.mrt_wire.specs.Answered.{answer_findings};
@@ -10,23 +10,23 @@ ghost use Rattle.bgpdump_lines.specs.Lines.{event_lines, rib_line};
 ghost use Rattle.bgpdump_lines.specs.Run.{fault_report, outputs_of};
 ghost use Rattle.bgpdump_lines.specs.Going.{PassesPart, Puts, PutsFound, PutsPart, is_write, is_any_bad};
 
-use crate::event_lines::{append_lines, put_item, put_shared};
+use crate::event_lines::{put_item, put_shared};
 use crate::fault::WriteFault;
 use crate::heading::Heading;
 use crate::output::{Output, put_all};
 use crate::reports::put_report;
 use crate::route_line::{Announcement, LastLine, put_route};
 use ip_prefix::{Prefix, Text};
+use mrt_events::route_size;
 use mrt_wire::{Event, Item, Next, Peer, RecordFault, Route};
 use std::rc::Rc;
 
-/// Of how many items an event has at most whose lines are written at once.
-const FEW: usize = 64;
-
-/// How long a text of lines is at most that another line is appended to, where an event has more.
+/// How long a text of lines is at most that another line is appended to. Where it is longer, it is
+/// written first, so that scratch memory holds this much and one line, whatever the lines.
 const ENOUGH: usize = 1 << 16;
 
 /// Writes the text and clears it, where it is long. Returned is the line that it ends in then.
+#[inline(always)]
 fn write_long<'a, O: Output>(
     out: &mut O,
     last: Option<LastLine<'a>>,
@@ -46,7 +46,8 @@ fn write_long<'a, O: Output>(
 }
 
 /// Appends the lines of items, each once those in front of it are written where they are long.
-fn write_items<O: Output>(
+#[inline(never)]
+fn write_some<O: Output>(
     out: &mut O,
     heading: &Heading,
     items: &[Item],
@@ -64,7 +65,46 @@ fn write_items<O: Output>(
     Ok(())
 }
 
-/// The same of announcements that share a peer and a route, a few at a time.
+/// Appends the lines of items, as [`write_some`] does. Of most events all items share a route, or
+/// none do, so that there are often none of these.
+#[inline(always)]
+fn write_items<O: Output>(
+    out: &mut O,
+    heading: &Heading,
+    items: &[Item],
+    text: &mut Text,
+) -> Result<(), WriteFault>
+    ensures text { PassesPart (O.written out.old) (O.written out.new) text.old text.new
+        (headed_lines heading.now (map saying items.now)) result }
+    ensures failed { O.failed out.new ≡ (O.failed out.old || is_write result) }
+{
+    if items.is_empty() {
+        return Ok(());
+    }
+    write_some(out, heading, items, text)
+}
+
+/// How many octets a line has at most for each that its route takes: a number of a path or a community
+/// takes four, and twelve in a line with what divides it from the next.
+const LONGEST_TIMES: u64 = 3;
+
+/// Returns how many lines of the first announcement's route have [`ENOUGH`] octets together, at least
+/// one. Where there is no other announcement, it is one.
+#[inline(always)]
+fn lines_at_once(items: &[Item]) -> usize
+    ensures { 0 < result }
+{
+    let [Item::Announce(_, _, route), _, ..] = items else {
+        return 1;
+    };
+    let longest = route_size(route).saturating_mul(LONGEST_TIMES);
+    let count = ENOUGH as u64 / longest.max(1);
+    usize::try_from(count).unwrap_or(1).max(1)
+}
+
+/// Appends the lines of announcements that share a peer and a route, as many at a time as have
+/// [`ENOUGH`] octets, each time once those in front of them are written where they are long.
+#[inline(always)]
 fn write_shared<O: Output>(
     out: &mut O,
     heading: &Heading,
@@ -76,20 +116,21 @@ fn write_shared<O: Output>(
         (headed_lines heading.now (map saying items.now)) result }
     ensures failed { O.failed out.new ≡ (O.failed out.old || is_write result) }
 {
+    let count = lines_at_once(items);
     let mut rest = items;
     'pieces: while !rest.is_empty() {
         write_long(out, None, text)?;
-        let (piece, more) = rest.split_at(rest.len().min(FEW));
+        let (piece, more) = rest.split_at(rest.len().min(count));
         put_shared(heading, piece, text)?;
         rest = more;
     }
     Ok(())
 }
 
-/// Writes the lines of an event as they are made: each item's once those in front of it are written
-/// where they are long. The text is scratch.
-#[inline(never)]
-fn write_many<O: Output>(out: &mut O, text: &mut Text, event: &Event) -> Result<(), WriteFault>
+/// Writes the lines of an event, as soon as they are long and behind the last. What stands in `text`
+/// is overwritten.
+#[inline(always)]
+fn write_lines<O: Output>(out: &mut O, text: &mut Text, event: &Event) -> Result<(), WriteFault>
     ensures text { PutsPart (O.written out.old) (O.written out.new) (event_lines event.now) result }
     ensures failed { O.failed out.new ≡ (O.failed out.old || is_write result) }
 {
@@ -100,21 +141,6 @@ fn write_many<O: Output>(out: &mut O, text: &mut Text, event: &Event) -> Result<
     write_items(out, &heading, &items[..shared.start], text)?;
     write_shared(out, &heading, &items[shared.start..shared.end], text)?;
     write_items(out, &heading, &items[shared.end..], text)?;
-    put_all(out, text.as_slice())?;
-    Ok(())
-}
-
-/// Writes the lines of an event. The text is scratch.
-#[inline(always)]
-fn write_lines<O: Output>(out: &mut O, text: &mut Text, event: &Event) -> Result<(), WriteFault>
-    ensures text { PutsPart (O.written out.old) (O.written out.new) (event_lines event.now) result }
-    ensures failed { O.failed out.new ≡ (O.failed out.old || is_write result) }
-{
-    if event.items.as_slice().len() > FEW {
-        return write_many(out, text, event);
-    }
-    text.clear();
-    append_lines(event, text)?;
     put_all(out, text.as_slice())?;
     Ok(())
 }

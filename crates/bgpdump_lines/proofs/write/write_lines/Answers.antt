@@ -9,9 +9,9 @@ use Rattle.bgpdump_lines.specs.Going.{Passes}
 use Rattle.bgpdump_lines.proofs.LineLaws.{lines-three}
 use Rattle.mrt_events.proofs.SharedLaws.{said_range}
 use Rattle.bgpdump_lines.proofs.WritingLaws.{AppendsFront-first, Passes-one-stops, Passes-two-stops, Passes-three, Passes-end, Passes-end-stops}
-use Rattle.bgpdump_lines.proofs.write.write_many.Given.{Over}
-use Rattle.bgpdump_lines.proofs.write.write_many.Goals as goal
-use Rattle.bgpdump_lines.proofs.write.write_many.Goals.{In_ok-write_items-2}
+use Rattle.bgpdump_lines.proofs.write.write_lines.Given.{Over}
+use Rattle.bgpdump_lines.proofs.write.write_lines.Goals as goal
+use Rattle.bgpdump_lines.proofs.write.write_lines.Goals.{In_ok-write_items-2}
 
 pub write_shared-requires : goal.write_shared-requires
 write_shared-requires g c =

@@ -6,7 +6,7 @@ use Rattle.bgpdump_lines.specs.Run.{AppendsFront}
 use Rattle.bgpdump_lines.specs.Going.{Passes}
 use Rattle.bgpdump_lines.proofs.LineLaws.{lines_of_all, lines-sayings}
 use Rattle.bgpdump_lines.proofs.WritingLaws.{AppendsFront-passed, Passes-items, Passes-next}
-use Rattle.bgpdump_lines.proofs.write.write_items.Goals as goal
+use Rattle.bgpdump_lines.proofs.write.write_some.Goals as goal
 
 pub returns-in_err-line-clause-text : goal.returns-in_err-line-clause-text
 returns-in_err-line-clause-text g c =

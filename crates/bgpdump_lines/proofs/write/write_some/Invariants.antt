@@ -3,7 +3,7 @@ use Rattle.std.proofs.Common.{◌≡◌, take, flat_map, IfSome}
 use Rattle.mrt_events.specs.Event.{saying}
 use Rattle.bgpdump_lines.specs.Heading.{EndsIn, headed_line}
 use Rattle.bgpdump_lines.specs.Going.{Passes}
-use Rattle.bgpdump_lines.proofs.write.write_items.Given as goal
+use Rattle.bgpdump_lines.proofs.write.write_some.Given as goal
 
 abbrev pub invariant-items : goal.invariant-items
 invariant-items g l = record {
