@@ -39,6 +39,7 @@ pub(crate) struct OrderedRoutes {
 
 impl HashedRoute {
     /// Compares it with a route of this hash.
+    #[inline]
     fn compare_to(&self, hash: u32, route: &Route) -> Ordering {
         match self.hash.cmp(&hash) {
             Ordering::Equal => compare_routes(&self.route, route),
@@ -60,7 +61,8 @@ fn find_index(run: &[HashedRoute], hash: u32, route: &Route) -> usize
 }
 
 /// Returns whether the run begins behind a route of this hash.
-fn is_behind(run: &Vec<HashedRoute>, hash: u32, route: &Route) -> bool {
+#[inline]
+fn is_behind(run: &[HashedRoute], hash: u32, route: &Route) -> bool {
     match run.first() {
         Some(first) => first.compare_to(hash, route) == Ordering::Greater,
         None => false,
@@ -139,15 +141,25 @@ impl OrderedRoutes {
         None
     }
 
-    /// Makes two runs of the one at the index where that is full. Refused, it stays.
-    fn split_full_run(&mut self, index: usize) -> Result<(), AllocError> {
-        if index >= self.runs.len() || self.runs[index].len() < LONGEST_RUN {
-            return Ok(());
-        }
+    /// Makes two runs of the one at the index. Refused, it stays.
+    fn split_run(&mut self, index: usize) -> Result<(), AllocError>
+        requires { index < vec_len self.old.runs }
+    {
         self.runs.reserve(1)?;
         let half = split_half(*self.runs.allocator(), &mut self.runs[index])?;
         self.runs.insert(index + 1, half)?;
         Ok(())
+    }
+
+    /// Returns the index of the run where a route of this hash belongs, which isn't full: a full one
+    /// becomes two first. Refused, it stays.
+    fn find_room(&mut self, hash: u32, route: &Route) -> Result<usize, AllocError> {
+        let index = self.find_run(hash, route);
+        if index >= self.runs.len() || self.runs[index].len() < LONGEST_RUN {
+            return Ok(index);
+        }
+        self.split_run(index)?;
+        Ok(self.find_run(hash, route))
     }
 
     /// Puts a route of this hash where it belongs. Refused, it isn't put.
@@ -156,8 +168,7 @@ impl OrderedRoutes {
             let first = Vec::new(*self.runs.allocator());
             self.runs.push(first)?;
         }
-        self.split_full_run(self.find_run(hash, &route))?;
-        let index = self.find_run(hash, &route);
+        let index = self.find_room(hash, &route)?;
         if let Some(run) = self.runs.get_mut(index) {
             let place = find_index(run, hash, &route);
             run.insert(place, HashedRoute { hash, route })?;
