@@ -668,6 +668,22 @@ def metrics_of_one_place(time=7, count=24):
             return alike
 
 
+def communities_of_one_hash(count=64):
+    """Pairs of communities of plain routes of time 7 whose hashes are one."""
+    start = mixed(NO_ORIGIN, 7, ABSENT, ABSENT, ABSENT, ABSENT, 0, 0, 2)
+    by_hash = {mixed(0, number) >> 32: number for number in range(1 << 18)}
+    found, wanted = [], 0x1234_5678
+    for first in itertools.count():
+        before = mixed(start, first)
+        turned = (before << TURN | before >> 64 - TURN) & (1 << 64) - 1
+        high, low = turned >> 32, turned & (1 << 32) - 1
+        number = by_hash.get(wanted - high * MULTIPLIER & (1 << 32) - 1)
+        if number is not None and mixed(before, number ^ low) >> 32 == wanted:
+            found.append((first, number ^ low))
+            if len(found) == count:
+                return found
+
+
 FULL = {'origin': ('40010100', 'IGP'), 'hop': ('400304 C0000209', '192.0.2.9'),
         'path': ('4002 1{ 0202 0000FBF4 0000FBF5 0102 0000FBF6 0000FBF7 }', '64500 64501 {64502,64503}'),
         'metric': ('800404 0000000A', '10'), 'preference': ('400504 00000064', '100'), 'atomic': ('400600', 'AG'),
@@ -726,8 +742,17 @@ def plain_routes_course(title, metrics, least, most):
     return course
 
 
+def one_hash_course():
+    """Routes of one hash are known again."""
+    pairs = communities_of_one_hash()
+    course = Course('Routes of one hash are known again', LARGE)
+    play_copies(course, [(7, 'C00808 %08X %08X' % pair) for pair in pairs])
+    course.within(f'shared {PEER} {SIBLING}', len(pairs), len(pairs))
+    return course
+
+
 # Attributes that differ in one number, by which routes are to be told apart before they are compared: a hash that
-# leaves it out has them all at eight places.
+# leaves it out has them all at eight places and beyond, and an order that leaves it out loses most of them there.
 VARYING = {
     'the next hop': '400304 {0:08X}', 'the metric': '800404 {0:08X}', 'the preference': '400504 {0:08X}',
     'the aggregator': 'C00708 {0:08X} C0000207', "the aggregator's address": 'C00708 0000FBF4 {0:08X}',
@@ -778,7 +803,8 @@ def courses(seed):
                 let_go_course('Routes of forgotten steps are let go at once', False),
                 let_go_course('Routes are let go while steps are forgotten', True),
                 dropped_routes_course(), refused_long_course(), changing_course(), equal_routes_course(),
-                plain_routes_course('Routes for the same places are told apart', metrics_of_one_place(), 0, 8),
+                one_hash_course(),
+                plain_routes_course('Routes for the same places are known again', metrics_of_one_place(), 24, 24),
                 plain_routes_course('Most of many equal routes are one', range(MANY), MANY // 10 * 9 + 1, MANY))
     yield from (varying_course(what, attributes) for what, attributes in VARYING.items())
     yield from (one_place_course(what, *values) for what, values in KINDS_OF_VALUES.items())

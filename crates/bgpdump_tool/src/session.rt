@@ -105,6 +105,7 @@ impl<S: PrefixStore<Rc<Route>>> Session<S> {
             Next::Event(event) => {
                 self.player.play(&event).map_err(|_| Outcome::Memory)?;
                 self.source.take_back(Next::Event(event));
+                self.player.give_back_routes();
                 Ok(false)
             }
             Next::Bad(fault) => {

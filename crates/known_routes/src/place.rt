@@ -6,21 +6,22 @@ ghost use Rattle.known_routes.specs.Places.{is_taken, is_tagged};
 use mrt_events::{Route, route_size, same_route};
 use std::rc::Rc;
 
-/// How many places a row has. A route may stand in two of them, so at eight places.
+/// How many places a row has. A route may stand in two of them, so at eight places. With one more a
+/// row begins in one line of the cache and ends in the next.
 const ROW: usize = 4;
 
 /// How many places stand before the first row. A large block begins 16 octets behind the start of a
-/// page, one place, so with these each row lies in one line of the cache.
+/// page, one place, so with these each row lies in one line of the cache. With one more none does.
 const BEFORE_ROWS: usize = 3;
 
 /// By which a hash is multiplied for the second row: the odd number next to 2^32 divided by the
-/// golden ratio.
+/// golden ratio. By the even number above it the highest bit of a hash would be lost.
 const SECOND_ROW: u32 = 0x9e37_79b1;
 
-/// How many bits a hash has.
+/// How many bits a hash has. With one more rows would be taken of the first half alone.
 const HASH_BITS: u32 = 32;
 
-/// The tag of a place where no route stands.
+/// The tag of a place where no route stands. Those above it are tags of places that are taken.
 pub(crate) const FREE: u8 = 0;
 
 /// Where a route may stand.
@@ -53,8 +54,8 @@ pub(crate) fn octets_at(place: &Place) -> u64 {
     }
 }
 
-/// The tag of a place where a route of this hash stands: of its bits the lowest, which say least of the
-/// row. Tags lie together, so that a look-up mostly reads them alone.
+/// The tag of a place where a route of this hash stands: of its bits the lowest, which say least of
+/// the row. Tags lie together, so that a look-up mostly reads them alone.
 #[inline]
 pub(crate) fn tag_of(hash: u32) -> u8
     ensures { is_tagged result ≡ true }
@@ -78,7 +79,7 @@ fn row_of(hash: u32, count: usize) -> usize {
 
 /// Where the two rows begin in which a route of this hash may stand, of so many places.
 #[inline]
-fn rows_of(hash: u32, count: usize) -> [usize; 2] {
+pub(crate) fn rows_of(hash: u32, count: usize) -> [usize; 2] {
     [
         row_of(hash, count),
         row_of(hash.wrapping_mul(SECOND_ROW), count),
@@ -87,7 +88,7 @@ fn rows_of(hash: u32, count: usize) -> [usize; 2] {
 
 /// A route of this hash that equals this one, in the row that begins there, and where it stands.
 #[inline]
-fn find_in_row<'a>(
+pub(crate) fn find_in_row<'a>(
     tags: &[u8],
     places: &'a [Place],
     start: usize,
@@ -109,25 +110,10 @@ fn find_in_row<'a>(
     None
 }
 
-/// A route of this hash that equals this one, and where it stands. The second row is looked at where
-/// the first may be full, since it is filled from the front.
+/// Whether the last place of the row that begins there is free.
 #[inline]
-pub(crate) fn find<'a>(
-    tags: &[u8],
-    places: &'a [Place],
-    hash: u32,
-    route: &Route,
-) -> Option<(usize, &'a Rc<Route>)>
-    ensures { IfSome result (λ found. found.1.now.value ≡ route.now) }
-{
-    let [first, second] = rows_of(hash, places.len());
-    if let Some(found) = find_in_row(tags, places, first, hash, route) {
-        return Some(found);
-    }
-    if has_tag(tags, first.saturating_add(ROW - 1), FREE) {
-        return None;
-    }
-    find_in_row(tags, places, second, hash, route)
+pub(crate) fn has_free_end(tags: &[u8], start: usize) -> bool {
+    has_tag(tags, start.saturating_add(ROW - 1), FREE)
 }
 
 /// The first free place of the row that begins there.

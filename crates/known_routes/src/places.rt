@@ -1,24 +1,40 @@
 //! Places for routes, which are found there by a hash.
 
-ghost use Rattle.std.specs.Prelude.{◌≡◌, ◌<◌, ◌≤◌, ◌+◌, ◌*◌, true, IfOk, OnOk, OnErr, IsTrue, slice_index_or, vec_len, count_by};
+ghost use Rattle.std.specs.Prelude.{◌≡◌, ◌<◌, ◌≤◌, ◌+◌, ◌*◌, true, IfOk, IfSome, OnOk, OnErr, IsTrue, slice_index_or, vec_len, count_by};
 ghost use Rattle.known_routes.specs.Places.{is_taken, is_tagged, AreTagged};
 ghost use Rattle.known_routes.specs.declared.place.TheConstants.{FREE};
 ghost use Rattle.known_routes.specs.declared.places.TheConstants.{FIRST_PLACES, MOST_PLACES, MOST_TIMES};
 
-use crate::place::{FREE, Place, is_last_owner, is_taken, octets_at, place_for, tag_of};
-use mrt_events::Route;
+use crate::ordered_routes::{HashedRoute, OrderedRoutes};
+use crate::place::{
+    FREE, Place, find_in_row, has_free_end, index_of, is_last_owner, is_taken, octets_at,
+    place_for, rows_of, tag_of,
+};
+use mrt_events::{Route, route_size};
 use std::alloc::{AllocError, Global};
 use std::mem;
 use std::rc::Rc;
 
-/// How many places there are at first.
+/// How many places there are at first, and at least from then on. They become more where three
+/// quarters of them are taken and a route more comes.
 const FIRST_PLACES: usize = 1024;
 
-/// How many places there are at most.
+/// How many places there are at most. Where three quarters of so many are taken they don't become
+/// more, and a route that finds its rows full goes beyond, where a search takes longer.
 pub(crate) const MOST_PLACES: usize = 1 << 24;
 
-/// How many places there are at most for each route, besides the first.
+/// How many places there are at most for each route, besides the first. Where a play begins with
+/// one more than these, the routes move to fewer places.
 const MOST_TIMES: usize = 3;
+
+/// Of how many routes at places one is beyond at most while few are: of so many one. Those that
+/// come at random are few, two or three of a hundred. Few may be kept twice, since one isn't looked
+/// for there behind a place of its rows that went free. With one route more beyond, all are looked
+/// for there.
+const CROWDED_SHARE: usize = 16;
+
+/// Where a route beyond stands: at no place. No number is above it.
+const NOWHERE: usize = usize::MAX;
 
 /// Places, and how many of them are taken.
 #[derive(Drop)]
@@ -27,7 +43,9 @@ pub(crate) struct Places {
     /// The tag of each place.
     pub(crate) tags: Vec<u8>,
     pub(crate) taken: usize,
-    /// How many octets the routes that stand there take.
+    /// The routes that found both of their rows full.
+    beyond: OrderedRoutes,
+    /// How many octets all these routes take.
     pub(crate) held: u64,
     ghost counted: { taken ≡ count_by is_taken places.items },
     ghost tagged: { AreTagged places.items tags.items },
@@ -42,6 +60,7 @@ impl Places {
             places: Vec::new(alloc),
             tags: Vec::new(alloc),
             taken: 0,
+            beyond: OrderedRoutes::none(alloc),
             held: 0,
         }
     }
@@ -60,32 +79,72 @@ impl Places {
             places,
             tags,
             taken: 0,
+            beyond: OrderedRoutes::none(alloc),
             held: 0,
         })
     }
 
-    /// Puts a route at a free place of its rows, or else over the first route of the first, if there
-    /// is such a place, and answers which. Its octets aren't added. A free place isn't read, as its tag
-    /// tells that it is one, since few places are in the cache.
-    pub(crate) fn put(&mut self, hash: u32, route: Rc<Route>) -> usize
+    /// Whether so many routes are beyond that rows with a free place are looked beyond too.
+    #[inline]
+    fn is_crowded(&self) -> bool {
+        self.beyond.count > self.taken / CROWDED_SHARE
+    }
+
+    /// Whether no route is looked for behind this row: its last place is free, and few are beyond.
+    /// Rows are filled from the front.
+    #[inline]
+    fn is_last_row(&self, row: usize) -> bool {
+        has_free_end(&self.tags, row) && !self.is_crowded()
+    }
+
+    /// A route of this hash that equals this one, and where it stands, or `NOWHERE` for one beyond.
+    #[inline]
+    pub(crate) fn find_route(&self, hash: u32, route: &Route) -> Option<(usize, &Rc<Route>)>
+        ensures { IfSome result (λ found. found.1.now.value ≡ route.now) }
+    {
+        let [first, second] = rows_of(hash, self.places.len());
+        if let Some(found) = find_in_row(&self.tags, &self.places, first, hash, route) {
+            return Some(found);
+        }
+        if self.is_last_row(first) {
+            return None;
+        }
+        if let Some(found) = find_in_row(&self.tags, &self.places, second, hash, route) {
+            return Some(found);
+        }
+        if self.is_last_row(second) {
+            return None;
+        }
+        Some((NOWHERE, self.beyond.find_route(hash, route)?))
+    }
+
+    /// Puts a route at a free place of its rows, or beyond where these are full, and answers where
+    /// it stands then. Where as many are beyond as may be, it is put over the first route of its
+    /// first row. Refused, it isn't put. Its octets aren't added. A free place isn't read, as its
+    /// tag tells that it is one, since few places are in the cache.
+    pub(crate) fn put(&mut self, hash: u32, route: Rc<Route>) -> Result<usize, AllocError>
         ensures places { vec_len self.new.places ≡ vec_len self.old.places }
         ensures taken { self.old.taken ≤ self.new.taken }
     {
         let index = place_for(&self.tags, hash);
         if index >= self.tags.len() {
-            return index;
+            return Ok(NOWHERE);
         }
         if self.tags[index] == FREE {
             let place = mem::replace(&mut self.places[index], Place::Taken(hash, route));
             mem::forget(place);
             self.tags[index] = tag_of(hash);
             self.taken += 1;
-            return index;
+            return Ok(index);
+        }
+        if !self.beyond.are_most() {
+            self.beyond.put_route(hash, route)?;
+            return Ok(NOWHERE);
         }
         self.held = self.held.saturating_sub(octets_at(&self.places[index]));
         self.places[index] = Place::Taken(hash, route);
         self.tags[index] = tag_of(hash);
-        index
+        Ok(index)
     }
 
     /// Frees the place at the index, if a route stands there.
@@ -100,17 +159,68 @@ impl Places {
         }
     }
 
-    /// Puts the routes of other places here too.
-    pub(crate) fn take_over(&mut self, others: Places)
+    /// Lets go of this very route, if it stands here.
+    pub(crate) fn take_route(&mut self, hash: u32, route: &Rc<Route>)
         ensures { vec_len self.new.places ≡ vec_len self.old.places }
     {
-        let Places { places, held, .. } = others;
+        if let Some(index) = index_of(&self.places, hash, route) {
+            self.free_at(index);
+        } else if self.beyond.take_route(hash, route) {
+            self.held = self.held.saturating_sub(route_size(route));
+        }
+    }
+
+    /// Puts the routes of a run here too. Refused, some of them aren't put.
+    fn put_run(&mut self, run: Vec<HashedRoute>) -> Result<(), AllocError>
+        ensures { vec_len self.new.places ≡ vec_len self.old.places }
+    {
+        'routes: for hashed in run {
+            self.put(hashed.hash, hashed.route)?;
+        }
+        Ok(())
+    }
+
+    /// Puts the routes here too that were beyond other places. Refused, some of them aren't put.
+    fn put_runs(&mut self, beyond: OrderedRoutes) -> Result<(), AllocError>
+        ensures { vec_len self.new.places ≡ vec_len self.old.places }
+    {
+        'runs: for run in beyond.runs {
+            self.put_run(run)?;
+        }
+        Ok(())
+    }
+
+    /// Puts the routes of other places here, where none stands yet. Those beyond stay so where they
+    /// are many, since they would take longer than those at places. Refused, some routes aren't
+    /// put.
+    fn take_over(&mut self, mut others: Places) -> Result<(), AllocError>
+        ensures { vec_len self.new.places ≡ vec_len self.old.places }
+    {
+        if others.is_crowded() {
+            mem::swap(&mut self.beyond, &mut others.beyond);
+        }
+        let Places {
+            places,
+            beyond,
+            held,
+            ..
+        } = others;
         self.held = self.held.saturating_add(held);
         'places: for place in places {
             if let Place::Taken(hash, route) = place {
-                self.put(hash, route);
+                self.put(hash, route)?;
             }
         }
+        self.put_runs(beyond)
+    }
+
+    /// The fewest places that there are, with the same routes.
+    fn put_at_fewest(self, alloc: Global) -> Result<Places, AllocError>
+        ensures { IfOk result (λ fewest. vec_len fewest.places ≡ FIRST_PLACES) }
+    {
+        let mut fewest = Places::free(alloc, FIRST_PLACES)?;
+        fewest.take_over(self)?;
+        Ok(fewest)
     }
 
     /// Lets go of the routes that have no other owner. It takes no memory.
@@ -122,6 +232,8 @@ impl Places {
                 self.free_at(index);
             }
         }
+        let octets = self.beyond.take_unowned();
+        self.held = self.held.saturating_sub(octets);
     }
 
     /// Whether there aren't too many places for the routes.
@@ -136,20 +248,21 @@ impl Places {
         self.places.len() <= most
     }
 
-    /// As many places as the routes get, with the same routes, or none where these are too many for
-    /// them. Where memory is refused the places stay.
+    /// As many places as the routes get, with the same routes. Where memory is refused the places
+    /// stay, or, where routes moved already, there are none.
     pub(crate) fn resize(&mut self, alloc: Global) -> Result<(), AllocError>
         ensures most { OnOk result (vec_len self.new.places ≤ MOST_PLACES) }
         ensures fitting { OnOk result
             (vec_len self.new.places ≤ MOST_TIMES * self.new.taken + FIRST_PLACES) }
-        ensures refused { OnErr result (vec_len self.new.places ≡ vec_len self.old.places) }
+        ensures refused { OnErr result (vec_len self.new.places ≤ vec_len self.old.places) }
     {
         let count = (self.taken.saturating_mul(7) / 3).clamp(FIRST_PLACES, MOST_PLACES);
         let mut others = Places::free(alloc, count)?;
-        others.take_over(mem::replace(self, Places::none(alloc)));
-        if others.are_fitting() {
-            *self = others;
+        others.take_over(mem::replace(self, Places::none(alloc)))?;
+        if !others.are_fitting() {
+            others = others.put_at_fewest(alloc)?;
         }
+        *self = others;
         Ok(())
     }
 }

@@ -7,19 +7,24 @@ use ip_prefix::{Addr, Family};
 use mrt_events::{Peer, Route};
 
 /// By which a number is multiplied so that the highest bits of the product hang on all of it: the
-/// odd number next to 2^64 divided by the golden ratio.
+/// odd number next to 2^64 divided by the golden ratio. By the even number above it the highest bit
+/// would be lost.
 const MULTIPLIER: u64 = 0x9e37_79b9_7f4a_7c15;
 
-/// How far a hash is turned before another number is mixed in.
+/// How far a hash is turned before another number is mixed in. Turned by a bit more, it is another
+/// hash and as good.
 const TURN: u32 = 5;
 
-/// What is mixed in for a number of 32 bits that is absent.
+/// What is mixed in for a number of 32 bits that is absent: the first that no such number is. One
+/// above it would do as well.
 const ABSENT: u64 = 1 << 32;
 
-/// What stands for an absent origin: others go by their codes.
+/// What stands for an absent origin: others go by their codes, below it. One above it would do as
+/// well.
 const NO_ORIGIN: u64 = 3;
 
-/// How many bits of a hash are left out: the lowest, which hang on the least.
+/// How many bits of a hash are left out: the lowest, which hang on the least. With one more left
+/// out half of all places would never be taken.
 const LOWEST_BITS: u32 = 32;
 
 /// The hash with another number in it.

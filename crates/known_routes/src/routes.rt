@@ -4,32 +4,42 @@ ghost use Rattle.std.specs.Prelude.{◌≡◌, ◌≤◌, ◌+◌, ◌*◌, IfOk
 ghost use Rattle.known_routes.specs.declared.routes.TheConstants.{LASTS};
 ghost use Rattle.known_routes.specs.declared.places.TheConstants.{FIRST_PLACES, MOST_PLACES, MOST_TIMES};
 
-use crate::place::{Place, find, index_of};
+use crate::place::Place;
 use crate::places::{MOST_PLACES, Places};
 use crate::route_hash::{hash_of, peer_hash};
+use crate::spare_room::copy_roomy;
 use mrt_events::{Peer, Route, route_size, same_route};
 use std::alloc::{AllocError, Global};
 use std::rc::Rc;
 
-/// How many numbers a path and communities have at most that are asked for once an item.
+/// How many numbers and segments the path and the communities of a route have at most that is
+/// looked for once an item, however many owners it has. With one more it is looked for only while
+/// it has few.
 const MOST_NUMBERS: usize = 1024;
 
-/// For how many hashes of peers it is noted where their last routes stand.
+/// How many owners a longer route has at most that is looked for once an item, one of which is the
+/// item. So it is at few items, and looking for it at each takes a few times as long as it took to
+/// make it. With one owner more it may be at many items, and is kept as it came.
+const LOOKED_FOR_OWNERS: usize = 4;
+
+/// For how many hashes of peers it is noted where their last routes stand. Of more peers some share
+/// what is noted, so that the last route of one takes the place of another's.
 const LASTS: usize = 4096;
 
-/// How many bits of a peer's hash are left out then.
+/// How many bits of a peer's hash are left out then. With one more only half of what may be noted
+/// is.
 const LOWEST_BITS: u32 = 52;
 
 /// How many owners a route has at most that may soon have none but this table: one that goes, this
-/// table, a source, and an item of an event.
+/// table, a source, and an item of an event. With one more some other owner is left.
 const FEW_OWNERS: usize = 4;
 
-/// Of the octets of all routes here which part may be held by nothing else, one in so many, before
-/// such routes are let go: a quarter of those that others hold.
+/// Of the octets of all routes here which part may be held by nothing else, one in so many: a
+/// quarter of those that others hold. With one octet more these routes are let go of.
 const RELEASED_SHARE: u64 = 5;
 
 /// How many octets are added to those of the routes here before that part is taken, so that little
-/// isn't gone over often.
+/// isn't gone over often: a mebibyte may be held besides. It grows by an octet with four of these.
 const RELEASED_ROOM: u64 = 4 << 20;
 
 /// Routes that were played. They are here only to be found again: of an equal route that comes
@@ -41,8 +51,8 @@ pub struct KnownRoutes {
     routes: Places,
     /// How many stood here when a play began, or when the places became more since.
     stood: usize,
-    /// How many octets the routes take that may have lost their last other owner since all were gone
-    /// over.
+    /// How many octets the routes take that may have lost their last other owner since all were
+    /// gone over.
     released: u64,
     /// How many octets the routes take that were noted since a play began.
     noted: u64,
@@ -71,7 +81,8 @@ impl KnownRoutes {
         }
     }
 
-    /// The route of a peer, or one that is here and equal. The peer's last one is looked at first.
+    /// Returns the route of a peer, or one that is here and equal. The peer's last one is looked at
+    /// first. One that is new here is copied where it has much room for more than it has.
     pub fn known(&mut self, peer: &Peer, route: &Rc<Route>) -> Result<Rc<Route>, AllocError>
         ensures value { IfOk result (λ known. known.value ≡ route.now.value) }
         ensures stood { stood_count self.new ≤ max (stood_count self.old) (route_count self.new) }
@@ -81,18 +92,21 @@ impl KnownRoutes {
             return known.clone();
         }
         let hash = hash_of(route);
-        let Places { places, tags, .. } = &self.routes;
-        if let Some((index, found)) = find(tags, places, hash, route) {
+        if let Some((index, found)) = self.routes.find_route(hash, route) {
             let known = found.clone()?;
             self.note_last(last, index);
             return Ok(known);
         }
-        let index = self.note(hash, route.clone()?)?;
+        let kept = copy_roomy(self.alloc, route)?;
+        let index = self.note(hash, kept.clone()?)?;
         self.note_last(last, index);
-        route.clone()
+        Ok(kept)
     }
 
-    /// The same, unless the route is long, so that the cost has a bound: then it is the route.
+    /// Returns the route of a peer, or one that is here and equal, but the route itself where it is
+    /// long and has many owners. So all items of an event together cost a bound each, and a few
+    /// times what it took to make their routes: of a long route with few owners there are only few
+    /// items.
     pub fn known_if_short(
         &mut self,
         peer: &Peer,
@@ -101,7 +115,7 @@ impl KnownRoutes {
         ensures value { IfOk result (λ known. known.value ≡ route.now.value) }
         ensures stood { stood_count self.new ≤ max (stood_count self.old) (route_count self.new) }
     {
-        if is_short(route) {
+        if Rc::strong_count(route) <= LOOKED_FOR_OWNERS || is_short(route) {
             return self.known(peer, route);
         }
         route.clone()
@@ -129,8 +143,8 @@ impl KnownRoutes {
         }
     }
 
-    /// Makes places for more routes, and for the last ones of peers where there are none. Refused, the
-    /// places stay.
+    /// Makes places for more routes, and for the last ones of peers where there are none. Refused,
+    /// the places stay.
     fn add_places(&mut self) -> Result<(), AllocError>
         ensures { stood_count self.new ≤ max (stood_count self.old) (route_count self.new) }
     {
@@ -143,8 +157,8 @@ impl KnownRoutes {
         Ok(())
     }
 
-    /// Notes a route that isn't here, and answers where it stands then, if it does. Refused, none is
-    /// noted.
+    /// Notes a route that isn't here, and answers where it stands then, if it does. Refused, none
+    /// is noted.
     fn note(&mut self, hash: u32, route: Rc<Route>) -> Result<usize, AllocError>
         ensures { stood_count self.new ≤ max (stood_count self.old) (route_count self.new) }
     {
@@ -153,25 +167,21 @@ impl KnownRoutes {
             self.add_places()?;
         }
         let octets = route_size(&route);
+        let index = self.routes.put(hash, route)?;
         self.noted = self.noted.saturating_add(octets);
-        if self.routes.places.is_empty() {
-            return Ok(0);
-        }
         self.routes.held = self.routes.held.saturating_add(octets);
-        Ok(self.routes.put(hash, route))
+        Ok(index)
     }
 
-    /// An owner of the route is about to go. Where there is one other, which may be this table, it is
-    /// let go of here. Where there are few, they may be this table, a source and an event alone, so
-    /// that nobody may hold it soon.
+    /// An owner of the route is about to go. Where there is one other, which may be this table, it
+    /// is let go of here. Where there are few, they may be this table, a source and an event alone,
+    /// so that nobody may hold it soon.
     pub fn note_gone(&mut self, route: &Rc<Route>)
         ensures { stood_count self.new ≡ stood_count self.old }
     {
         let owners = Rc::strong_count(route);
         if owners == 2 {
-            if let Some(index) = index_of(&self.routes.places, hash_of(route), route) {
-                self.routes.free_at(index);
-            }
+            self.routes.take_route(hash_of(route), route);
         } else if owners <= FEW_OWNERS {
             self.released = self.released.saturating_add(route_size(route));
         }

@@ -245,6 +245,14 @@ impl<S: PrefixStore<Rc<Route>>> Player<S> {
         }
     }
 
+    /// Gives back the routes that nobody else holds any more, once they take much: behind a play, when
+    /// its event is gone, so that they don't stay until the next one is played. It takes no memory.
+    pub fn give_back_routes(&mut self)
+        ensures { self.new ≡ self.old }
+    {
+        self.known.let_go();
+    }
+
     /// Forgets the oldest steps, so that at most so many are kept before the cursor, and answers
     /// how many it forgot. It takes no memory, and the steps ahead stay.
     pub fn forget(&mut self, keep: u64) -> u64

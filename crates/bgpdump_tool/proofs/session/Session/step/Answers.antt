@@ -43,7 +43,7 @@ returns-in_ok-map_err-in-Event-clause-steps g c = λ from left s stands.
     let off : ¬ (c.args.self.now.player.cursor < end_of c.args.self.now.player) = search rules in
     let told = promised g.I.Input.left _ c.next.new.self c.args.input.now c.next.new.input _ _ c.in-Event.is c.in_ok-event.ensures.next c.in_ok-event.ensures.ended in
     let played : is_ok c.play.result ≡ true = search rules in
-    rw c.take_back.ensures (step_found from left _ s c.redo.new.self c.play.new.self c.next.new.self (g.I.Input.left c.next.new.input) (g.E.Output.written c.pass_on.new.err) c.in-Event.event stands c.pass_on.ensures.err c.redo.ensures.after_redo off (after_ok c.play.result played c.play.ensures.after_play) told c.next.ensures.within)
+    rw (c.take_back.ensures, c.give_back_routes.ensures) (step_found from left _ s c.redo.new.self c.play.new.self c.next.new.self (g.I.Input.left c.next.new.input) (g.E.Output.written c.pass_on.new.err) c.in-Event.event stands c.pass_on.ensures.err c.redo.ensures.after_redo off (after_ok c.play.result played c.play.ensures.after_play) told c.next.ensures.within)
 
 pub returns-in_ok-write_report-in-Bad-clause-steps :
     goal.returns-in_ok-write_report-in-Bad-clause-steps

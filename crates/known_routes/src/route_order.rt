@@ -1,0 +1,92 @@
+//! An order of routes by all that they are.
+
+use bgp_wire::{Aggregator, Attrs, Origin, Segment};
+use mrt_events::Route;
+use std::cmp::Ordering;
+
+/// What stands for an absent origin: others go by their codes, below it. One above it would do as
+/// well.
+const NO_ORIGIN: u64 = 3;
+
+/// Compares two lists of numbers, number by number.
+#[inline]
+fn compare_numbers(one: &[u32], other: &[u32]) -> Ordering {
+    one.cmp(&other)
+}
+
+/// Compares two segments: their kinds, then their numbers.
+fn compare_segments(one: &Segment, other: &Segment) -> Ordering {
+    match (one.kind as u64).cmp(&(other.kind as u64)) {
+        Ordering::Equal => { compare_numbers(one.numbers.as_slice(), other.numbers.as_slice()) }
+        unequal => unequal,
+    }
+}
+
+/// Compares two paths: how many segments they have, then segment by segment.
+fn compare_paths(ones: &[Segment], others: &[Segment]) -> Ordering {
+    let counts = ones.len().cmp(&others.len());
+    if counts != Ordering::Equal {
+        return counts;
+    }
+    'segments: for place in 0..ones.len().min(others.len()) {
+        let compared = compare_segments(&ones[place], &others[place]);
+        if compared != Ordering::Equal {
+            return compared;
+        }
+    }
+    Ordering::Equal
+}
+
+/// Compares two aggregators: their addresses, then their numbers.
+fn compare_aggregators(one: &Aggregator, other: &Aggregator) -> Ordering {
+    match one.addr.cmp(&other.addr) {
+        Ordering::Equal => one.asn.cmp(&other.asn),
+        unequal => unequal,
+    }
+}
+
+/// Compares two aggregators or their absence, which comes first.
+fn compare_optional_aggregators(one: &Option<Aggregator>, other: &Option<Aggregator>) -> Ordering {
+    match (one, other) {
+        (Some(one), Some(other)) => compare_aggregators(one, other),
+        _ => one.is_some().cmp(&other.is_some()),
+    }
+}
+
+/// Compares two origins or their absence, which comes last.
+fn compare_origins(one: Option<Origin>, other: Option<Origin>) -> Ordering {
+    let one = one.map_or(NO_ORIGIN, |origin| origin as u64);
+    let other = other.map_or(NO_ORIGIN, |origin| origin as u64);
+    one.cmp(&other)
+}
+
+/// Compares the attributes of two routes but for path and communities.
+fn compare_short_attributes(one: &Attrs, other: &Attrs) -> Ordering {
+    one.next_hop
+        .cmp(&other.next_hop)
+        .then(one.med.cmp(&other.med))
+        .then(one.local_pref.cmp(&other.local_pref))
+        .then(compare_origins(one.origin, other.origin))
+        .then(one.atomic.cmp(&other.atomic))
+        .then(compare_optional_aggregators(&one.aggregator, &other.aggregator))
+}
+
+/// Compares two routes by all that they are: those that differ in anything are never equal in it.
+pub(crate) fn compare_routes(one: &Route, other: &Route) -> Ordering {
+    let (ones, others) = (&one.attrs, &other.attrs);
+    let short = one
+        .time
+        .cmp(&other.time)
+        .then(compare_short_attributes(ones, others));
+    if short != Ordering::Equal {
+        return short;
+    }
+    let communities = compare_numbers(ones.communities.as_slice(), others.communities.as_slice());
+    if communities != Ordering::Equal {
+        return communities;
+    }
+    compare_paths(
+        ones.path.segments.as_slice(),
+        others.path.segments.as_slice(),
+    )
+}
