@@ -11,20 +11,20 @@ use std::alloc::Global;
 use std::mem;
 
 /// How many octets all that is kept for routes of tables takes at most, where no record needs more
-/// than `MOST_ROOM`.
+/// than `MOST_ROOM`. With constants that make it one more the check fails.
 const MOST_OCTETS: usize = 1 << 20;
 
 /// How many the places take at most.
 const PLACES_OCTETS: usize = PEER_PLACES * LARGEST_PLACE;
 
-/// How many the routes beside them take at most. Where those behind the first ones have their places
-/// is counted with them.
+/// How many the routes beside them take at most. Of counted ones their places are counted.
 const ROUTES_OCTETS: usize = FIRST_ROUTES * (LARGEST_FIRST + PLACE_OCTETS as usize)
     + MOST_ROOM as usize;
 
 const _: () = prove!(PLACES_OCTETS + ROUTES_OCTETS <= MOST_OCTETS);
 
-/// How many items a vector that is kept has room for at most.
+/// How many items a vector that is kept has room for at most. One with room for one more is let go,
+/// and the next record asks for its own.
 const MOST_ITEMS: usize = 4096;
 
 /// What records are read into.

@@ -1,7 +1,7 @@
 //! Routes that were given out, to be filled again where nobody else holds them any more.
 
 ghost use Rattle.std.specs.Prelude.{◌≡◌, ◌≤◌, ◌<◌, ◌+◌, ◌-◌, ◌*◌, min, max, true, IfOk, IfErr, OnOk, vec_len};
-ghost use Rattle.mrt_wire.specs.declared.route_pool.TheConstants.{FIRST_ROUTES, LET_GO, MOST_ROOM, MOST_ROUTES};
+ghost use Rattle.mrt_wire.specs.declared.route_pool.TheConstants.{LET_GO, MOST_ROOM, MOST_ROUTES};
 ghost use Rattle.mrt_wire.specs.Items.{route_of};
 ghost use Rattle.mrt_wire.specs.Judging.{IsSentAs, RefusesSent};
 
@@ -13,31 +13,33 @@ use std::alloc::{AllocError, Global};
 use std::mem;
 use std::rc::Rc;
 
-/// How many of the routes that are kept are kept whatever they take. Each one above is counted.
+/// How many of the routes that a record gives are kept whatever they take, if they are short. Each one
+/// above is counted.
 pub(crate) const FIRST_ROUTES: usize = 4;
 
-/// How many octets the attributes of a table's route among the first ones have at most. A route of
-/// one more is read behind them, where it is counted.
+/// How many octets the attributes of such a route have at most. A route of one more is counted.
 const LONGEST_FIRST: usize = 1024;
 
-/// How many octets a route of so many octets of attributes takes at most, with all that it has room
-/// for: most where each segment of its path has one number of two octets. The check sums it up.
+/// How many octets such a route takes at most, with all that it has room for: most where each segment
+/// of its path has one number of two octets. It bounds nothing at run time: the check sums it up.
 pub(crate) const LARGEST_FIRST: usize = 26 * 1024;
 
-/// How many routes are kept at most. A record has at most 65,535 entries, and some of the first ones
-/// may be left out, so none gives one more; such a route would take the last place in turn.
-pub(crate) const MOST_ROUTES: usize = (1 << 16) + FIRST_ROUTES;
+/// How many routes are kept at most. A record has 65,535 entries at most, so none gives as many; one
+/// above would take the last place in turn.
+pub(crate) const MOST_ROUTES: usize = 1 << 16;
 
-/// How many octets the counted routes take at most together, with all that they have room for, where
-/// no record needs more. What one needs above that may be kept for those that follow it.
+/// How many octets the counted routes that are kept take at most together, with all that they have
+/// room for, where no record needs more. Where one needs more, that may be kept instead until enough
+/// octets were read behind it (`LET_GO`). Above what may be kept, the last routes are let go.
 pub(crate) const MOST_ROOM: u64 = 560 * 1024;
 
 /// How many octets the place of a route takes at most: a pointer and a number, and as much again that
 /// the list of them has room for.
 pub(crate) const PLACE_OCTETS: u64 = 32;
 
-/// How many octets less may be kept for each octet of a record, where the record before didn't need
-/// them. To read into new memory what was let go takes as long as to read some of these octets.
+/// How many octets less may be kept for each octet of a record, down to what the record before needed.
+/// So what is let go was not asked for while a quarter as many octets were read, and to ask for it
+/// again takes about as long as to read these.
 const LET_GO: u64 = 4;
 
 /// The attributes of a table's entry as they were sent: the octets, the family of the prefix that
@@ -208,7 +210,9 @@ impl RoutePool {
     {
         let lowered = self.most.saturating_sub(octets.saturating_mul(LET_GO));
         let most = lowered.max(self.needed).max(MOST_ROOM);
-        self.let_go(most);
+        if self.room > most {
+            self.let_go(most);
+        }
         self.most = most;
     }
 
@@ -221,8 +225,7 @@ impl RoutePool {
         ensures room { self.new.room ≤ most }
         ensures most { self.new.most ≡ self.old.most }
     {
-        let first = self.given.max(FIRST_ROUTES);
-        'routes: while self.room > most && self.routes.len() > first {
+        'routes: while self.room > most && self.routes.len() > self.given {
             if let Some(route) = self.routes.pop() {
                 self.room = self.room.saturating_sub(route.room);
             }
@@ -247,36 +250,6 @@ impl RoutePool {
         Ok(place)
     }
 
-    /// Passes by the first places, which are filled with routes without attributes where they aren't
-    /// there.
-    fn pass_first(&mut self, alloc: Global) -> Result<(), AllocError> {
-        'first: while self.routes.len() < FIRST_ROUTES {
-            self.routes.push(GivenRoute::blank(alloc)?)?;
-        }
-        self.given = self.given.max(FIRST_ROUTES);
-        Ok(())
-    }
-
-    /// Returns the index of the next place behind the first ones.
-    #[inline(never)]
-    fn next_counted(&mut self, alloc: Global) -> Result<usize, AllocError>
-        ensures within { IfOk result (λ place. place < vec_len self.new.routes) }
-    {
-        self.pass_first(alloc)?;
-        self.next_place(alloc)
-    }
-
-    /// Returns the index of the next place for a table's route of so many octets of attributes.
-    #[inline(always)]
-    fn next_table_place(&mut self, alloc: Global, octets: usize) -> Result<usize, AllocError>
-        ensures within { IfOk result (λ place. place < vec_len self.new.routes) }
-    {
-        if self.given < FIRST_ROUTES && octets <= LONGEST_FIRST {
-            return self.next_place(alloc);
-        }
-        self.next_counted(alloc)
-    }
-
     /// Counts the room of the route at this place, which may be kept: where all would take too much,
     /// others go.
     #[inline(never)]
@@ -297,12 +270,13 @@ impl RoutePool {
         self.most = most;
     }
 
-    /// Keeps the route at this place, and counts it unless it is one of the first ones.
+    /// Keeps the route at this place, which was read from so many octets, and counts it unless it is a
+    /// short one among the first ones.
     #[inline(always)]
-    fn keep(&mut self, place: usize)
+    fn keep(&mut self, place: usize, octets: usize)
         requires { place < vec_len self.old.routes }
     {
-        if place >= FIRST_ROUTES {
+        if place >= FIRST_ROUTES || octets > LONGEST_FIRST || self.routes[place].room > 0 {
             self.count(place);
         }
     }
@@ -318,10 +292,10 @@ impl RoutePool {
         ensures read { IfOk result (λ route. IsSentAs sent.entry time route.value) }
         ensures refused { IfErr result (RefusesSent sent.entry) }
     {
-        let place = self.next_table_place(alloc, sent.octets.len())?;
+        let place = self.next_place(alloc)?;
         let read = fill_shared(&mut self.routes[place].route, alloc, sent, time);
         let route: Result<_, _> = self.routes[place].route.clone();
-        self.keep(place);
+        self.keep(place, sent.octets.len());
         read?;
         Ok(route?)
     }
@@ -339,12 +313,12 @@ impl RoutePool {
         ensures read { OnOk result (IsSentAs sent.entry time route.new.value) }
         ensures refused { IfErr result (RefusesSent sent.entry) }
     {
-        let place = self.next_table_place(alloc, sent.octets.len())?;
+        let place = self.next_place(alloc)?;
         let read = fill_shared(&mut self.routes[place].route, alloc, sent, time);
         if read.is_ok() {
             mem::swap(&mut self.routes[place].route, route);
         }
-        self.keep(place);
+        self.keep(place, sent.octets.len());
         read
     }
 
