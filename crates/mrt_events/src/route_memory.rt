@@ -1,6 +1,7 @@
 //! How much memory a route takes.
 
 use crate::event::Route;
+use bgp_wire::Segment;
 
 /// How many octets a route takes at least: its fixed attributes, and what its three blocks of memory
 /// take besides what lies in them.
@@ -26,17 +27,26 @@ fn octets_of(count: usize, octets: u64) -> u64 {
     (count as u64).saturating_mul(octets)
 }
 
+/// How many numbers the segments have together. They stand in memory, so that the sum never wraps.
+#[inline]
+fn number_count(segments: &[Segment]) -> usize {
+    let mut count: usize = 0;
+    'segments: for segment in segments {
+        count = count.wrapping_add(segment.numbers.as_slice().len());
+    }
+    count
+}
+
 /// How many octets a route takes, by what it has, whatever room it was given.
 pub fn route_size(route: &Route) -> u64 {
     let attrs = &route.attrs;
+    let segments = attrs.path.segments.as_slice();
+    let numbers = octets_of(number_count(segments), NUMBER_OCTETS);
     let communities = octets_of(attrs.communities.as_slice().len(), NUMBER_OCTETS);
-    let mut octets = ROUTE_OCTETS.saturating_add(communities);
-    'segments: for segment in attrs.path.segments.as_slice() {
-        octets = octets
-            .saturating_add(SEGMENT_OCTETS)
-            .saturating_add(octets_of(segment.numbers.as_slice().len(), NUMBER_OCTETS));
-    }
-    octets
+    ROUTE_OCTETS
+        .saturating_add(octets_of(segments.len(), SEGMENT_OCTETS))
+        .saturating_add(numbers)
+        .saturating_add(communities)
 }
 
 /// How many octets a route that was read from octets takes at most, with all that it has room for.

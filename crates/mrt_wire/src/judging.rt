@@ -99,6 +99,7 @@ pub(crate) fn judge(
         (record_under raw.entry.header raw.entry.body.now) result }
 {
     let RawRecord { form, header, body } = raw;
+    pool.begin(body.len());
     let (seconds, micros) = (header.seconds, None);
     let time = Time { seconds, micros };
     match form {

@@ -7,7 +7,8 @@ use bgp_paths::ListOf;
 use ip_prefix::{Addr, Family, V4_OCTETS};
 use mrt_events::Peer;
 
-/// Among how many places peers are spread.
+/// Among how many places peers are spread. Of one peer more two have a place in common, where each
+/// takes the place of the other's route.
 pub(crate) const PEER_PLACES: usize = 256;
 
 /// What a peer's number is multiplied by: the odd number next to 2^32 divided by the golden ratio.

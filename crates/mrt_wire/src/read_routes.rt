@@ -18,14 +18,16 @@ use std::rc::Rc;
 /// How many octets ORIGIN has (RFC 4271, section 4.3).
 const ORIGIN_SIZE: u8 = 1;
 
-/// How many octets the attributes of a route that has a place have at most.
+/// How many octets the attributes of a route that has a place have at most. Those of one more are
+/// read each time, into a route of the pool.
 const LONGEST_PLACED: usize = 192;
 
-/// How many segments its path has at most.
+/// How many segments its path has at most. A place whose route gets one more is left empty, so that
+/// the next entry there is read into new memory.
 const MOST_SEGMENTS: usize = 2;
 
 /// How many octets a place takes at most, with all that its route has room for: most where its path
-/// has numbers of two octets.
+/// has numbers of two octets. It bounds nothing at run time: the check sums it up.
 pub(crate) const LARGEST_PLACE: usize = 1344;
 
 /// A route, and what its attributes were read from. Contracts see the route.

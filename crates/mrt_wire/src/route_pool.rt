@@ -1,7 +1,7 @@
 //! Routes that were given out, to be filled again where nobody else holds them any more.
 
-ghost use Rattle.std.specs.Prelude.{◌≡◌, ◌≤◌, ◌<◌, ◌+◌, ◌-◌, min, true, IfOk, IfErr, OnOk, vec_len};
-ghost use Rattle.mrt_wire.specs.declared.route_pool.TheConstants.{MOST_ROUTES, MOST_ROOM};
+ghost use Rattle.std.specs.Prelude.{◌≡◌, ◌≤◌, ◌<◌, ◌+◌, ◌-◌, ◌*◌, min, max, true, IfOk, IfErr, OnOk, vec_len};
+ghost use Rattle.mrt_wire.specs.declared.route_pool.TheConstants.{LET_GO, MOST_ROOM, MOST_ROUTES};
 ghost use Rattle.mrt_wire.specs.Items.{route_of};
 ghost use Rattle.mrt_wire.specs.Judging.{IsSentAs, RefusesSent};
 
@@ -13,21 +13,34 @@ use std::alloc::{AllocError, Global};
 use std::mem;
 use std::rc::Rc;
 
-/// How many routes are kept at most.
-pub(crate) const MOST_ROUTES: usize = 1024;
-
-/// How many of them are kept whatever they take.
+/// How many of the routes that a record gives are kept whatever they take, if they are short. Each one
+/// above is counted.
 pub(crate) const FIRST_ROUTES: usize = 4;
 
-/// How many octets the others take at most together, with all that they have room for.
-pub(crate) const MOST_ROOM: u64 = 560 * 1024;
-
-/// How many octets the attributes of a table's route that is kept have at most.
-const LONGEST_KEPT: usize = 1024;
+/// How many octets the attributes of such a route have at most. A route of one more is counted.
+const LONGEST_FIRST: usize = 1024;
 
 /// How many octets such a route takes at most, with all that it has room for: most where each segment
-/// of its path has one number of two octets.
-pub(crate) const LARGEST_ROUTE: usize = 26 * 1024;
+/// of its path has one number of two octets. It bounds nothing at run time: the check sums it up.
+pub(crate) const LARGEST_FIRST: usize = 26 * 1024;
+
+/// How many routes are kept at most. A record has 65,535 entries at most, so none gives as many; one
+/// above would take the last place in turn.
+pub(crate) const MOST_ROUTES: usize = 1 << 16;
+
+/// How many octets the counted routes that are kept take at most together, with all that they have
+/// room for, where no record needs more. Where one needs more, that may be kept instead until enough
+/// octets were read behind it (`LET_GO`). Above what may be kept, the last routes are let go.
+pub(crate) const MOST_ROOM: u64 = 560 * 1024;
+
+/// How many octets the place of a route takes at most: a pointer and a number, and as much again that
+/// the list of them has room for.
+pub(crate) const PLACE_OCTETS: u64 = 32;
+
+/// How many octets less may be kept for each octet of a record, down to what the record before needed.
+/// So what is let go was not asked for while a quarter as many octets were read, and to ask for it
+/// again takes about as long as to read these.
+const LET_GO: u64 = 4;
 
 /// The attributes of a table's entry as they were sent: the octets, the family of the prefix that
 /// they are for, and the width of their AS numbers.
@@ -102,19 +115,44 @@ fn fill_shared(
     Ok(())
 }
 
+/// How many octets a counted route takes at most, with its place.
+#[inline]
+fn counted_room(route: &Route) -> u64 {
+    route_room(route).saturating_add(PLACE_OCTETS)
+}
+
+/// A route that was given out, and how many octets are counted for it.
+#[derive(Drop)]
+struct GivenRoute {
+    route: Rc<Route>,
+    room: u64,
+}
+
+impl GivenRoute {
+    /// Returns one without attributes, for which nothing is counted.
+    fn blank(alloc: Global) -> Result<GivenRoute, AllocError> {
+        let route = new_route(alloc)?;
+        Ok(GivenRoute { route, room: 0 })
+    }
+}
+
 /// The routes that were given out, to be filled again where nobody else holds them any more.
 #[derive(Drop)]
 pub(crate) struct RoutePool {
-    routes: Vec<Rc<Route>>,
+    routes: Vec<GivenRoute>,
     /// How many of them were given out for the record that is read. The last that is kept isn't
     /// counted, so that it is given out again and again.
     given: usize,
-    /// How many octets those behind the first ones take at most, where they are of tables.
+    /// How many octets are counted for all of them.
     room: u64,
+    /// How many octets were counted for those that were given out for the record that is read.
+    needed: u64,
+    /// How many octets `room` may be.
+    most: u64,
     ghost counted: { given ≤ vec_len routes },
     ghost bounded: { vec_len routes ≤ MOST_ROUTES },
     ghost below: { given < MOST_ROUTES },
-    ghost fits: { room ≤ MOST_ROOM },
+    ghost fits: { room ≤ most },
 }
 
 /// Returns a new route of these attributes and this time. If they aren't kept, `attrs` is left with
@@ -142,16 +180,59 @@ impl RoutePool {
             routes: Vec::new(alloc),
             given: 0,
             room: 0,
+            needed: 0,
+            most: MOST_ROOM,
         }
     }
 
-    /// Another record is read.
+    /// Begins with a record of so many octets. Routes that were given out may be filled again.
     #[inline(always)]
-    pub(crate) fn restart(&mut self)
+    pub(crate) fn restart(&mut self, octets: usize)
         ensures given { self.new.given ≡ 0 }
-        ensures routes { self.new.routes ≡ self.old.routes }
+        ensures needed { self.new.needed ≡ 0 }
+        ensures most { self.new.most ≤ max MOST_ROOM
+            (max self.old.needed (self.old.most - LET_GO * octets)) }
     {
         self.given = 0;
+        if self.most > MOST_ROOM {
+            self.lower(octets as u64);
+        }
+        self.needed = 0;
+    }
+
+    /// Lowers how much may be kept, as far as the record before didn't need it, before one of so many
+    /// octets is read.
+    #[inline(never)]
+    fn lower(&mut self, octets: u64)
+        ensures given { self.new.given ≡ self.old.given }
+        ensures most { self.new.most ≡ max MOST_ROOM
+            (max self.old.needed (self.old.most - LET_GO * octets)) }
+    {
+        let lowered = self.most.saturating_sub(octets.saturating_mul(LET_GO));
+        let most = lowered.max(self.needed).max(MOST_ROOM);
+        if self.room > most {
+            self.let_go(most);
+        }
+        self.most = most;
+    }
+
+    /// Lets go of routes that weren't given out for the record that is read, from the last on, until
+    /// those that are left take so many octets at most.
+    #[inline(never)]
+    fn let_go(&mut self, most: u64)
+        ensures given { self.new.given ≡ self.old.given }
+        ensures needed { self.new.needed ≡ self.old.needed }
+        ensures room { self.new.room ≤ most }
+        ensures most { self.new.most ≡ self.old.most }
+    {
+        'routes: while self.room > most && self.routes.len() > self.given {
+            if let Some(route) = self.routes.pop() {
+                self.room = self.room.saturating_sub(route.room);
+            }
+        }
+        // Where all others went, the record's own are left, which there is room for.
+        self.room = self.room.min(most);
+        self.routes.shrink_to_fit();
     }
 
     /// Returns the index of the next route that may be filled, which may have other owners.
@@ -163,59 +244,39 @@ impl RoutePool {
         let place = self.given;
         let given = (place + 1).min(MOST_ROUTES - 1);
         if place >= self.routes.len() {
-            self.routes.push(new_route(alloc)?)?;
+            self.routes.push(GivenRoute::blank(alloc)?)?;
         }
         self.given = given;
         Ok(place)
     }
 
-    /// The next place, behind the first ones, without the room that was counted for the route there.
-    #[inline(never)]
-    fn next_discounted(&mut self, alloc: Global) -> Result<usize, AllocError>
-        ensures next { IfOk result (λ place. place ≡ self.old.given) }
-        ensures within { IfOk result (λ place. place < vec_len self.new.routes) }
-    {
-        let room = self
-            .routes
-            .get(self.given)
-            .map_or(0, |route| route_room(route));
-        let place = self.next_place(alloc)?;
-        self.room = self.room.saturating_sub(room);
-        Ok(place)
-    }
-
-    /// The next place for a table's route, for which no room is counted.
-    #[inline(always)]
-    fn next_table_place(&mut self, alloc: Global) -> Result<usize, AllocError>
-        ensures next { IfOk result (λ place. place ≡ self.old.given) }
-        ensures within { IfOk result (λ place. place < vec_len self.new.routes) }
-    {
-        if self.given < FIRST_ROUTES {
-            return self.next_place(alloc);
-        }
-        self.next_discounted(alloc)
-    }
-
-    /// Counts the room of the route at this place, or lets go of it where all would take too much.
+    /// Counts the room of the route at this place, which may be kept: where all would take too much,
+    /// others go.
     #[inline(never)]
     fn count(&mut self, place: usize)
         requires { place < vec_len self.old.routes }
+        ensures most { self.new.most ≡ max self.old.most self.new.needed }
     {
-        let room = self.room.saturating_add(route_room(&self.routes[place]));
-        if room > MOST_ROOM {
-            self.routes.swap_remove(place);
-            self.given = place;
-            return;
+        let room = counted_room(&self.routes[place].route);
+        let before = mem::replace(&mut self.routes[place].room, room);
+        let needed = self.needed.saturating_add(room);
+        let most = self.most.max(needed);
+        self.room = self.room.saturating_sub(before);
+        if self.room.saturating_add(room) > most {
+            self.let_go(most.saturating_sub(room));
         }
-        self.room = room;
+        self.room = self.room.saturating_add(room).min(most);
+        self.needed = needed;
+        self.most = most;
     }
 
-    /// Keeps the route at this place, where there is room for it.
+    /// Keeps the route at this place, which was read from so many octets, and counts it unless it is a
+    /// short one among the first ones.
     #[inline(always)]
-    fn keep(&mut self, place: usize)
+    fn keep(&mut self, place: usize, octets: usize)
         requires { place < vec_len self.old.routes }
     {
-        if place >= FIRST_ROUTES {
+        if place >= FIRST_ROUTES || octets > LONGEST_FIRST || self.routes[place].room > 0 {
             self.count(place);
         }
     }
@@ -231,14 +292,10 @@ impl RoutePool {
         ensures read { IfOk result (λ route. IsSentAs sent.entry time route.value) }
         ensures refused { IfErr result (RefusesSent sent.entry) }
     {
-        if sent.octets.len() > LONGEST_KEPT {
-            return read_rib_route(alloc, sent, time);
-        }
-        let place = self.next_table_place(alloc)?;
-        let read = fill_shared(&mut self.routes[place], alloc, sent, time);
-        // It may not be kept.
-        let route: Result<_, _> = self.routes[place].clone();
-        self.keep(place);
+        let place = self.next_place(alloc)?;
+        let read = fill_shared(&mut self.routes[place].route, alloc, sent, time);
+        let route: Result<_, _> = self.routes[place].route.clone();
+        self.keep(place, sent.octets.len());
         read?;
         Ok(route?)
     }
@@ -256,12 +313,12 @@ impl RoutePool {
         ensures read { OnOk result (IsSentAs sent.entry time route.new.value) }
         ensures refused { IfErr result (RefusesSent sent.entry) }
     {
-        let place = self.next_table_place(alloc)?;
-        let read = fill_shared(&mut self.routes[place], alloc, sent, time);
+        let place = self.next_place(alloc)?;
+        let read = fill_shared(&mut self.routes[place].route, alloc, sent, time);
         if read.is_ok() {
-            mem::swap(&mut self.routes[place], route);
+            mem::swap(&mut self.routes[place].route, route);
         }
-        self.keep(place);
+        self.keep(place, sent.octets.len());
         read
     }
 
@@ -298,13 +355,13 @@ impl RoutePool {
         ensures kept { is_kept ≡ true → attrs.new ≡ attrs.old }
     {
         let place = self.next_place(alloc)?;
-        match Rc::get_mut(&mut self.routes[place]) {
+        match Rc::get_mut(&mut self.routes[place].route) {
             Some(route) => {
                 put_attrs(alloc, &mut route.attrs, attrs, is_kept)?;
                 route.time = time;
             }
-            None => self.routes[place] = made_route(alloc, attrs, time, is_kept)?,
+            None => self.routes[place].route = made_route(alloc, attrs, time, is_kept)?,
         }
-        self.routes[place].clone()
+        self.routes[place].route.clone()
     }
 }

@@ -27,7 +27,8 @@ const INTERFACE_SIZE: usize = 2;
 /// How many microseconds make a second.
 const MICROS_PER_SECOND: u32 = 1_000_000;
 
-/// How many octets a message and its peer have at most whose memory stays.
+/// How many octets a message and its peer have at most whose memory stays. Behind one more it is let
+/// go, and the next message asks for its own.
 const LONGEST_KEPT: usize = 4096;
 
 /// What is said of a session, and the microseconds, where the body has them.
