@@ -1,11 +1,11 @@
 -- What is known of numbers and their places.
-use Rattle.std.proofs.Common.{◌≡◌, ◌≢◌, ℕ, zero, suc, ◌+◌, ◌-◌, ◌<◌, ◌≤◌, Bool, true, false, not, cond, if◌then◌else◌, ◌==◌, nat_lt, List, [], ◌∷◌, ◌++◌, map, set, take, length, get_or, Option, Some, None, is_some, slice_get, refl, sym, ap, subst, ◌∙◌, inl, inr, arith, option_map}
-use Rattle.std.proofs.lemmas.Bool.{cases_eq, lt-ltb, le-ltb, ltb-true, ltb-false}
+use Rattle.std.proofs.Common.{◌≡◌, ◌≢◌, ℕ, zero, suc, ◌+◌, ◌<◌, ◌≤◌, Bool, true, false, nat_lt, List, [], ◌∷◌, ◌++◌, map, set, take, length, Option, Some, None, slice_get, refl, sym, ap, ◌∙◌, inl, inr, arith, option_map}
+use Rattle.std.proofs.lemmas.Bool.{cases_eq, lt-ltb, le-ltb, ltb-true}
 use Rattle.std.proofs.lemmas.Bool.Decides.{nat_tests}
 use Rattle.std.proofs.lemmas.List.{length-set, length-map, length_push, length-take, map-append}
-use Rattle.std.proofs.lemmas.Option.{slice_get_within, slice_get-get_or, slice_get-map, slice_get_past, get_or_from_slice_get, same_Some}
+use Rattle.std.proofs.lemmas.Option.{slice_get_within, slice_get-map, slice_get_past, get_or_from_slice_get, same_Some}
 use Rattle.rib_player.specs.Places.{Tells, AreInverse, IsReplaced, IsSwapped, ListsAll, changed_place}
-use Rattle.rib_player.proofs.ListLaws.{get-set_same, get-set_other, get-push_last, get-push_other, get-within, get-past}
+use Rattle.rib_player.proofs.ListLaws.{get-set_same, get-set_other, get-push_last, get-push_other, get-past}
 
 -- ---- what changes places
 

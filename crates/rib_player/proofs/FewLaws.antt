@@ -1,16 +1,14 @@
 -- The list of the peers that have a route, by the numbers that are chosen.
-use Rattle.std.proofs.Common.{◌≡◌, ℕ, zero, suc, ◌+◌, ◌<◌, ◌≤◌, Bool, true, false, cond, T, ◌&&◌, nat_lt, List, [], ◌∷◌, ◌++◌, map, take, length, get_or, Option, Some, None, IfSome, slice_get, refl, sym, ap, subst, ◌∙◌, arith, option_map, Less, Global}
+use Rattle.std.proofs.Common.{◌≡◌, ℕ, zero, suc, ◌<◌, ◌≤◌, true, false, cond, T, ◌&&◌, nat_lt, List, [], ◌∷◌, ◌++◌, map, length, get_or, Option, Some, None, IfSome, refl, sym, ap, subst, ◌∙◌, arith, Less, Global}
 use Rattle.std.specs.List.{AllByRecursion, Contains}
 use Rattle.std.specs.List.Sorted.{IsStrictlySortedBy}
 use Rattle.std.specs.Map.{lookup, keys_of}
-use Rattle.std.specs.Ordering.{eq_by_cmp, is_eq, is_lt}
+use Rattle.std.specs.Ordering.{is_lt}
 use Rattle.std.specs.FinMap as finite
 use Rattle.std.specs.FinMap.Entries.{find, is_sorted, below_all, same_entries}
 use Rattle.std.specs.declared.rc.Rc.{Rc}
 use Rattle.std.proofs.lemmas.Map.Keys.{sorted_head, sorted_tail}
 use Rattle.std.proofs.lemmas.Bool.{lt-ltb, le-ltb}
-use Rattle.std.proofs.lemmas.List.{take_more}
-use Rattle.std.proofs.lemmas.Option.{slice_get-get_or}
 use Rattle.mrt_events.specs.declared.peer.Peer.{Peer}
 use Rattle.mrt_events.specs.declared.event.Route.{Route}
 use Rattle.mrt_events.specs.Event.{peer_cmp}
@@ -26,7 +24,7 @@ use Rattle.rib_player.specs.Chosen.{choices}
 use Rattle.rib_player.specs.StoresByPeer.{stores_in, routed_in}
 use Rattle.rib_player.specs.declared.stores.Stores as numbered
 use Rattle.rib_player.proofs.ListLaws.{all-then}
-use Rattle.rib_player.proofs.StoreLaws.{same_peer, one_peer, one_of, get-found, AreNoted}
+use Rattle.rib_player.proofs.StoreLaws.{same_peer, one_peer, get-found, AreNoted}
 use Rattle.rib_player.proofs.NumberLaws.{stored as standing, same_itself, at-stores_of, numbered-along}
 use Rattle.rib_player.proofs.PeerLaws.{has_peer, has-routed_peers, peers-in_order, len-of_peer, some-routes_in}
 

@@ -1,6 +1,6 @@
 -- Private.
 -- Which numbers are chosen.
-use Rattle.std.specs.Prelude.{ℕ, ◌<◌, Bool, nat_lt, List, map, vec_len, vec_capacity}
+use Rattle.std.specs.Prelude.{◌<◌, Bool, nat_lt, List, map, vec_len, vec_capacity}
 use Rattle.rib_player.specs.declared.chosen.Chosen.{Chosen}
 
 -- whether each number is chosen

@@ -1,4 +1,4 @@
-use Rattle.std.proofs.Common.{◌≡◌, ◌∷◌, ◌++◌, [], length, ap, ap₂, sym, subst, ◌∙◌, arith}
+use Rattle.std.proofs.Common.{◌∷◌, ◌++◌, [], sym, subst, arith}
 use Rattle.rib_player.specs.Places.{AreInverse}
 use Rattle.rib_player.proofs.ChosenLaws.{inverse-more, front-added}
 use Rattle.rib_player.proofs.chosen.Chosen.add.Goals as goal

@@ -1,4 +1,4 @@
-use Rattle.std.proofs.Common.{ap, subst, sym, ◌∙◌, arith, take, length}
+use Rattle.std.proofs.Common.{subst, sym, take}
 use Rattle.rib_player.specs.Places.{ListsAll}
 use Rattle.rib_player.specs.Chosen.{choices}
 use Rattle.rib_player.proofs.ChosenLaws.{front-listed}

@@ -1,7 +1,6 @@
-use Rattle.std.proofs.Common.{◌≡◌, ◌<◌, ◌≤◌, ◌+◌, ◌-◌, Some, slice_get, not, true, false, nat_lt, sym, ap, subst, ◌∙◌, arith, vec_len}
+use Rattle.std.proofs.Common.{◌≡◌, ◌<◌, ◌+◌, ◌-◌, Some, slice_get, not, true, false, nat_lt, sym, ap, subst, ◌∙◌, arith, vec_len}
 use Rattle.std.proofs.lemmas.Bool.{ltb-true, ltb-false}
-use Rattle.std.proofs.lemmas.List.{length-map}
-use Rattle.std.proofs.lemmas.Option.{slice_get-get_or, slice_get_within}
+use Rattle.std.proofs.lemmas.Option.{slice_get-get_or}
 use Rattle.rib_player.specs.Places.{IsReplaced}
 use Rattle.rib_player.proofs.ChosenLaws.{told-within, turned, told-choice, told-place, in_front, replaced, front-more, front-less, first-more, last-less}
 use Rattle.rib_player.proofs.chosen.Chosen.turn.Goals as goal

@@ -1,4 +1,4 @@
-use Rattle.std.proofs.Common.{◌≡◌, ◌+◌, BTreeMap, ℕ, Some, None, List, ◌∷◌, ◌++◌, [], take, length, get_or, sym, ap, subst, ◌∙◌, arith, option_map, take_all}
+use Rattle.std.proofs.Common.{◌≡◌, ◌+◌, BTreeMap, ℕ, Some, None, ◌∷◌, ◌++◌, [], take, get_or, sym, ap, subst, ◌∙◌, option_map, take_all}
 use Rattle.std.specs.Map.{lookup, keys_of}
 use Rattle.std.specs.List.Sorted.{IsStrictlySortedBy}
 use Rattle.mrt_events.specs.Event.{peer_cmp}
