@@ -2,9 +2,11 @@ pub mod PairLaws
 pub mod TableLaws
 pub mod StoreLaws
 pub mod ListLaws
+pub mod ChosenLaws
 pub mod NumberLaws
 pub mod RowLaws
 pub mod PeerLaws
+pub mod FewLaws
 pub mod HistoryLaws
 pub mod AlongHistory
 pub mod TimelineLaws

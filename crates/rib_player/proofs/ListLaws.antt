@@ -1,4 +1,5 @@
 -- What stands in a list of which an element was written, added or taken out.
+pub use Rattle.rib_player.specs.Places.{IsSwapped}
 use Rattle.std.proofs.Common.{◌≡◌, ◌≢◌, ℕ, zero, suc, ◌+◌, ◌-◌, ◌<◌, ◌≤◌, true, List, [], ◌∷◌, ◌++◌, map, set, length, get_or, Option, Some, None, is_some, slice_get, refl, sym, ap, ◌∙◌, arith, Bor, option_map, option_copied}
 use Rattle.std.specs.List.{AllByRecursion}
 use Rattle.std.specs.Slice.{IsItemAt}
@@ -45,12 +46,6 @@ module _ {X : Type 0} where
   get-push_other [] x i within = absurd (omega (arith, within))
   get-push_other (y ∷ xs) x zero within = refl
   get-push_other (y ∷ xs) x (suc i) within = get-push_other xs x i (omega (arith, within))
-
-  -- an element was taken out, and the last one stands in its place
-  pub record IsSwapped (old new : List X) (i : ℕ) : Type 0 where
-    pub len : length new + 1 ≡ length old
-    pub last : i < length new → slice_get new i ≡ slice_get old (length new)
-    pub others : (j : ℕ) → j ≢ i → j < length new → slice_get new j ≡ slice_get old j
 
   -- the same, where the lists are told to have so many
   pub swapped : (old new : List X) (n n' i : ℕ) (d : X) → n ≡ length old → n' ≡ length new → n' + 1 ≡ n → ((d : X) → i + 1 < n → get_or new i d ≡ get_or old (n - 1) d)

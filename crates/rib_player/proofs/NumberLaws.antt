@@ -15,10 +15,11 @@ use Rattle.rib_player.specs.Tables.{store_at}
 use Rattle.rib_player.specs.StoresByPeer.{stores_of}
 use Rattle.rib_player.specs.Kept.{IsWritten}
 use Rattle.rib_player.specs.Numbered.{AreNumbered}
+use Rattle.rib_player.specs.Places.{IsReplaced}
 use Rattle.rib_player.proofs.StoreLaws.{same_peer, one_peer, one_of}
 use Rattle.rib_player.proofs.ListLaws.{get-set_same, get-set_other, get-push_last, get-push_other, get-within, get-past, IsSwapped}
 
-same_itself : (peer : Peer) → same_peer peer peer ≡ true
+pub same_itself : (peer : Peer) → same_peer peer peer ≡ true
 same_itself = (eq_by_cmp_equiv peer_cmp_total).refl
 
 module _ {A : Type 0} where
@@ -121,6 +122,10 @@ module _ {S : Type 0} where
     pub numbered-write : (number : ℕ) (w : S) → AreNumbered (set held number w) names order
     numbered-write number w = record { there = are.there; back = are.back; even = omega (arith, are.even, length-set held number w) }
 
+    -- as many other things stand at the numbers
+    pub numbered-along : {X : Type 0} {others : List X} → length held ≡ length others → AreNumbered others names order
+    numbered-along many = record { there = are.there; back = are.back; even = are.even ∙ many }
+
     -- where one was taken out, the peer that stands there then stood last
     moved-last : {names' : List Peer} {number : ℕ} → IsSwapped names names' number → (other : Peer) → slice_get names' number ≡ Some other → lookup (same_peer other) order ≡ Some (length names')
     moved-last {names' = names'} {number = number} peers other is = are.back other (length names') (sym (peers.last (slice_get_within names' number other is)) ∙ is)
@@ -135,6 +140,20 @@ module _ {S : Type 0} where
             let here = get-set_same held number w (held-there are peer number found) in
             let other = λ (n : ℕ) (is : lookup (same_peer p) order ≡ Some n) (same : same_peer peer p ≡ false). get-set_other held number n w (numbers-differ are peer p number n found is same) in
             grind arith
+
+  -- what stands at a peer's number is another
+  pub stores-replaced : {held held' : List S} {names : List Peer} {order : List (Peer × ℕ)} → AreNumbered held names order → {number : ℕ} {w : S} → IsReplaced held held' number w
+      → (peer : Peer) → lookup (same_peer peer) order ≡ Some number → IsWritten (stores_of held order) (stores_of held' order) peer (Some w)
+  stores-replaced {held = held} {held' = held'} {order = order} are {number = number} {w = w} new peer found =
+      let are' = numbered-along are (sym new.len) in
+      record { each = λ p. at-stores_of are' p ∙ at p ∙ ap (cond (same_peer peer p) (Some w)) (sym (at-stores_of are p)) }
+    where
+      at : (p : Peer) → stored held' (lookup (same_peer p) order) ≡ cond (same_peer peer p) (Some w) (stored held (lookup (same_peer p) order))
+      at p =
+          let one = one_peer peer p in
+          let here = new.here in
+          let other = λ (n : ℕ) (is : lookup (same_peer p) order ≡ Some n) (same : same_peer peer p ≡ false). new.others n (numbers-differ are peer p number n found is same) in
+          grind arith
 
   -- a store is added, of a peer that has none, behind all others
   module _ {held : List S} {names : List Peer} {order order' : List (Peer × ℕ)} (are : AreNumbered held names order) {peer : Peer} (store : S) (none : lookup (same_peer peer) order ≡ None)

@@ -218,7 +218,7 @@ no_routes-taken all peer none q = let one = one_peer q.peer peer in let no = non
 -- ---- the peers that have a route
 
 -- a peer is among these
-abbrev has_peer : Peer → List Peer → Bool
+abbrev pub has_peer : Peer → List Peer → Bool
 has_peer p peers = list_any (same_peer p) peers
 
 -- each peer as an entry
@@ -331,7 +331,7 @@ module _ {S : Type 0} (routes : S → stored.Routes (Rc Route Global)) where
       let none = absent_peer e.0 (routed_stores routes stores) (below-filter has_route e.0 stores (sorted_head peer_cmp e.0 (keys_of stores) sorted)) in
       grind arith
 
-  some-routes_in : (stores : Stores S) (all : Routes) (p : Peer) (store : Option S) → store ≡ store_at stores p → routes_in routes stores ≡ all → nat_lt 0 (finite.len (peer_routes all p)) ≡ store_has_route store
+  pub some-routes_in : (stores : Stores S) (all : Routes) (p : Peer) (store : Option S) → store ≡ store_at stores p → routes_in routes stores ≡ all → nat_lt 0 (finite.len (peer_routes all p)) ≡ store_has_route store
   some-routes_in stores all p None found e = ap (λ n. nat_lt 0 n) (len-entries (peer_routes all p) ∙ ap length (no_entries all p (λ n. sym (get-found routes stores all (pair_of p n) None found e))))
   some-routes_in stores all p (Some store) found e = ap (λ n. nat_lt 0 n) (len-of_peer (routes store) all p (λ n. get-found routes stores all (pair_of p n) (Some store) found e))
 

@@ -1,9 +1,11 @@
 -- What the stores of all peers hold together, pair by pair.
 pub use Rattle.std.proofs.lemmas.Option.{same_Some as one_of}
-use Rattle.std.proofs.Common.{◌≡◌, ℕ, zero, suc, ◌+◌, ◌<◌, Bool, true, false, cond, not, ◌||◌, ◌&&◌, List, [], ◌∷◌, map, Option, Some, None, IfSome, IfNone, Result, Ok, Err, OnOk, OnErr, OnSome, Bor, MutBor, refl, sym, ap, subst, ◌∙◌, arith, Global}
+use Rattle.std.proofs.Common.{◌≡◌, ℕ, zero, suc, ◌+◌, ◌<◌, Bool, true, false, cond, not, nat_lt, ◌||◌, ◌&&◌, List, [], ◌∷◌, map, Option, Some, None, IfSome, IfNone, Result, Ok, Err, OnOk, OnErr, OnSome, Bor, MutBor, refl, sym, ap, subst, ◌∙◌, arith, Global}
 use Rattle.std.specs.List.{list_any, flat_map, filter}
 use Rattle.std.specs.Option.{option_map, option_copied, option_copied_mut}
+use Rattle.std.specs.Map.{lookup}
 use Rattle.std.specs.Ordering.{eq_by_cmp}
+use Rattle.std.proofs.lemmas.Bool.{lt-ltb}
 use Rattle.std.specs.Cmp.{eq_by_cmp_equiv, Equal-is, both_tied}
 use Rattle.std.specs.FinMap as finite
 use Rattle.std.specs.FinMap.{contains_key-keys}
@@ -23,7 +25,10 @@ use Rattle.mrt_events.specs.Event.{peer_cmp}
 use Rattle.rib_player.specs.History.{pair_cmp, pair_of}
 use Rattle.prefix_store.specs.Stored.{put}
 use Rattle.rib_player.specs.Tables.{Routes, Pairs, Stores, store_at, has_key, stored_route, route_in, keys_in, routes_in}
-use Rattle.rib_player.specs.Kept.{IsHeld, IsWritten}
+use Rattle.rib_player.specs.Kept.{IsHeld, IsWritten, have_route}
+use Rattle.rib_player.specs.Lent.{IsLent}
+use Rattle.rib_player.specs.StoresByPeer.{stores_in, routed_in}
+use Rattle.rib_player.specs.declared.stores.Stores as numbered
 use Rattle.rib_player.specs.Lookups.{value_of}
 use Rattle.octet_forms.proofs.Booleans.{cond_untested}
 use Rattle.mrt_events.proofs.PeerLaws.{peer_cmp_total, peer_cmp-IsAntisymmetric}
@@ -39,6 +44,16 @@ same_network = eq_by_cmp network_cmp
 -- what holds where an option is some
 pub when_some : {A P : Type 0} (o : Option A) (x : A) → o ≡ Some x → OnSome o P → P
 when_some {P = P} o x is on = subst (λ o. OnSome o P) is on
+
+pub if_some : {A P : Type 0} (o : Option A) (x : A) → o ≡ Some x → IfSome o (λ _. P) → P
+if_some {P = P} o x is on = subst (λ o. IfSome o (λ _. P)) is on
+
+pub if_ever : {A P : Type 0} (o : Option A) → P → IfSome o (λ _. P)
+if_ever None p = tt
+if_ever (Some x) p = p
+
+pub if_none : {A : Type 0} (P : Type 0) (o : Option A) → o ≡ None → IfSome o (λ _. P)
+if_none P o is = subst (λ o. IfSome o (λ _. P)) (sym is) tt
 
 pub always : {A P : Type 0} (o : Option A) → P → OnSome o P
 always None p = tt
@@ -294,9 +309,54 @@ pub record IsStored {S : Type 0} (old new : Stores S) (peer : Peer) (before afte
   pub written : IsWritten old new peer (Some after)
 
 -- the store that is lent where a peer is looked for
-pub stored-lent : {S : Type 0} {old new : Stores S} {peer : Peer} {after : S} (lent : Option (MutBor S)) (x : MutBor S) → lent ≡ Some x → option_copied_mut lent ≡ store_at old peer
-    → OnSome lent (IsWritten old new peer (Some after)) → IsStored old new peer x.now after
-stored-lent lent x is value written = record { found = sym (ap option_copied_mut is) ∙ value; written = when_some lent x is written }
+pub stored-lent : {S : Type 0} (old new : numbered.Stores S) {peer : Peer} {after : S} (lent : Option (MutBor S)) (x : MutBor S) → lent ≡ Some x → option_copied_mut lent ≡ store_at (stores_in old) peer
+    → OnSome lent (IsLent old new peer after) → IsStored (stores_in old) (stores_in new) peer x.now after
+stored-lent old new lent x is value on = record { found = sym (ap option_copied_mut is) ∙ value; written = (when_some lent x is on).written }
+
+-- and what was noted
+abbrev pub AreNoted : {S : Type 0} → (S → stored.Routes (Rc Route Global)) → Stores S → List (Peer × Bool) → Type 0
+AreNoted routes stores routed = (p : Peer) → lookup (same_peer p) routed ≡ have_route routes (store_at stores p)
+
+-- a count that is more than none
+counted-some : (n : ℕ) → nat_lt 0 (stored.counted n) ≡ nat_lt 0 n
+counted-some zero = refl
+counted-some (suc n) = lt-ltb 0 (stored.counted (suc n)) (omega arith) ∙ sym (lt-ltb 0 (suc n) (omega arith))
+
+module _ {S : Type 0} (routes : S → stored.Routes (Rc Route Global)) where
+  pub noted-other : {old new : Stores S} {routed routed' : List (Peer × Bool)} {peer : Peer} {w : Option S} {is : Option Bool} → IsWritten old new peer w → IsWritten routed routed' peer is
+      → is ≡ have_route routes w → AreNoted routes old routed → AreNoted routes new routed'
+  noted-other {old = old} {routed = routed} {peer = peer} {w = w} {is = is} written noted same all p =
+      noted.each p ∙ at (same_peer peer p) ∙ ap (have_route routes) (sym (written.each p))
+    where
+      at : (b : Bool) → cond b is (lookup (same_peer p) routed) ≡ have_route routes (cond b w (store_at old p))
+      at true = same
+      at false = all p
+
+  -- a store without routes
+  pub none-noted : (store : S) → routes store ≡ finite.empty → Some false ≡ have_route routes (Some store)
+  none-noted store none = ap (λ n. Some (nat_lt 0 n)) (sym (ap finite.len none ∙ finite.len-empty network_cmp (Rc Route Global)))
+
+  pub count-noted : (store : S) (n : ℕ) → n ≡ stored.counted (finite.len (routes store)) → Some (nat_lt 0 n) ≡ have_route routes (Some store)
+  count-noted store n is = ap (λ n. Some (nat_lt 0 n)) is ∙ ap Some (counted-some (finite.len (routes store)))
+
+  module _ (old between new : numbered.Stores S) {peer : Peer} {after : S} (lent : IsLent old between peer after) where
+    -- what was noted of the store that was written
+    pub noted-after : (number : ℕ) (has : Bool) → lookup (same_peer peer) old.order.entries ≡ Some number → stores_in new ≡ stores_in between
+        → ((p : Peer) → lookup (same_peer p) between.order.entries ≡ Some number → IsWritten (routed_in between) (routed_in new) p (Some has)) → Some has ≡ have_route routes (Some after)
+        → AreNoted routes (stores_in old) (routed_in old) → AreNoted routes (stores_in new) (routed_in new)
+    noted-after number has found same noted is all =
+        subst (λ stores. AreNoted routes stores (routed_in new)) (sym same)
+        (noted-other lent.written (subst (λ routed. IsWritten routed (routed_in new) peer (Some has)) lent.routed (noted peer (ap (lookup (same_peer peer)) lent.order ∙ found))) is all)
+
+  -- it was written, and has the routes that it had
+  pub noted-kept : (old new : numbered.Stores S) {peer : Peer} {before after : S} → IsLent old new peer after → Some before ≡ store_at (stores_in old) peer → routes after ≡ routes before
+      → AreNoted routes (stores_in old) (routed_in old) → AreNoted routes (stores_in new) (routed_in new)
+  noted-kept old new {peer = peer} {before = before} {after = after} lent found same all p =
+      ap (lookup (same_peer p)) lent.routed ∙ all p ∙ at (same_peer peer p) refl ∙ ap (have_route routes) (sym (lent.written.each p))
+    where
+      at : (b : Bool) → same_peer peer p ≡ b → have_route routes (store_at (stores_in old) p) ≡ have_route routes (cond b (Some after) (store_at (stores_in old) p))
+      at true tied = ap (have_route routes) (ap (store_at (stores_in old)) (sym (one_peer peer p tied)) ∙ sym found) ∙ ap (λ r. Some (nat_lt 0 (finite.len r))) (sym same)
+      at false tied = refl
 
 module _ {S : Type 0} (keys : S → stored.Keys) {old new : Stores S} {peer : Peer} {before after : S} (there : IsStored old new peer before after) where
   pub keys-kept : keys after ≡ keys before → keys_in keys new ≡ keys_in keys old

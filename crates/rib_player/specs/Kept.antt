@@ -1,6 +1,6 @@
 -- Private.
 -- How tables and entries are kept.
-use Rattle.std.specs.Prelude.{◌≡◌, ℕ, ◌<◌, nat_lt, List, filter, Option, IfSome, if◌then◌else◌, refl, true, false, [], ◌∷◌, Some, None}
+use Rattle.std.specs.Prelude.{◌≡◌, ℕ, Bool, ◌<◌, nat_lt, List, option_map, filter, Option, IfSome, if◌then◌else◌, refl, true, false, [], ◌∷◌, Some, None}
 use Rattle.std.specs.Map.{lookup}
 use Rattle.std.specs.Ordering.{eq_by_cmp}
 use Rattle.std.specs.Coded.{Coded, code_by, coded×}
@@ -46,6 +46,15 @@ peer_count routes entry = (entry.0, stored.counted (finite.len (routes entry.1))
 -- each store has a key
 abbrev pub IsHeld : {S : Type 0} → (S → stored.Keys) → Stores S → Type 0
 IsHeld keys stores = (p : Peer) → IfSome (store_at stores p) (λ store. 0 < set.len (keys store))
+
+-- whether a store, if there is one, has a route
+abbrev pub have_route : {S : Type 0} → (S → stored.Routes (Rc Route Global)) → Option S → Option Bool
+have_route routes store = option_map (λ s. nat_lt 0 (finite.len (routes s))) store
+
+-- and it is noted of each whether it has a route
+pub record IsHeldWhole {S : Type 0} (keys : S → stored.Keys) (routes : S → stored.Routes (Rc Route Global)) (stores : Stores S) (routed : List (Peer × Bool)) : Type 0 where
+  pub held : IsHeld keys stores
+  pub noted : (p : Peer) → lookup (eq_by_cmp peer_cmp p) routed ≡ have_route routes (store_at stores p)
 
 -- this stands for a peer, or nothing, and for all others what stood for them
 pub record IsWritten {A : Type 0} (old new : List (Peer × A)) (peer : Peer) (value : Option A) : Type 0 where

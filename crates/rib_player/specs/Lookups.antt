@@ -1,5 +1,5 @@
 -- What is asked of a table: the best route, and the peers that have one.
-use Rattle.std.specs.Prelude.{List, map, Option, filter}
+use Rattle.std.specs.Prelude.{ℕ, List, map, Option, filter}
 use Rattle.std.specs.Borrow.{Bor}
 use Rattle.std.specs.declared.rc.Rc.{Rc}
 use Rattle.std.specs.FinMap as finite
@@ -9,6 +9,7 @@ use Rattle.mrt_events.specs.declared.peer.Peer.{Peer}
 use Rattle.mrt_events.specs.declared.event.Route.{Route}
 use Rattle.mrt_events.specs.Event.{peer_cmp}
 use Rattle.prefix_store.specs.Lookups as lookups
+use Rattle.prefix_store.specs.Stored.{counted}
 use Rattle.rib_player.specs.History.{pair_of}
 use Rattle.rib_player.specs.Tables.{Routes, peer_routes, routed_peers}
 
@@ -31,6 +32,10 @@ peers_above low peers = filter (lookups.is_higher peer_cmp low) peers
 -- the peers above a peer that have a route, in order
 abbrev pub routed_above : Routes → Option Peer → List Peer
 routed_above routes low = peers_above low (routed_peers routes)
+
+-- the peers that have a route, in order, each with the count of its routes
+abbrev pub counted_peers : Routes → List (Peer × ℕ)
+counted_peers routes = map (λ peer. (peer, counted (finite.len (peer_routes routes peer)))) (routed_peers routes)
 
 -- the routes of a peer above a prefix, in order
 abbrev pub routes_above : Routes → Peer → Option Network → List (Network × Route)

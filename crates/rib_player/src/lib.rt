@@ -2,6 +2,7 @@
 #![tactic(auto)]
 
 mod changes;
+mod chosen;
 mod claims;
 mod entry;
 mod journal;

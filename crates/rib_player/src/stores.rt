@@ -1,7 +1,7 @@
 //! The stores of peers. Each peer that has one has a number, by which it is found.
 
-ghost use Rattle.std.specs.Prelude.{◌≡◌, ◌≤◌, ℕ, [], Some, None, true, false, IsTrue, IsSome, IfSome, IfOk, slice_get, OnOk, OnErr, vec_len};
-ghost use Rattle.std.specs.Option.{option_copied, option_copied_mut};
+ghost use Rattle.std.specs.Prelude.{◌≡◌, ◌≤◌, ℕ, [], Some, None, true, false, IsTrue, IsSome, IfSome, IfOk, slice_get, length, ◌<◌, OnOk, OnErr, vec_len};
+ghost use Rattle.std.specs.Option.{option_copied, option_copied_mut, option_map};
 ghost use Rattle.std.specs.Borrow.{sem};
 ghost use Rattle.std.specs.Map.{lookup};
 ghost use Rattle.std.specs.Ordering.{eq_by_cmp};
@@ -11,9 +11,11 @@ ghost use Rattle.rib_player.specs.Tables.{store_at};
 ghost use Rattle.rib_player.specs.Kept.{IsWritten};
 ghost use Rattle.rib_player.specs.Numbered.{peers_in, AreNumbered, is_marked};
 ghost use Rattle.rib_player.specs.Journal.{sides_of};
+ghost use Rattle.rib_player.specs.Chosen.{choices};
 ghost use Rattle.rib_player.specs.Marks.{AreDistinct};
 ghost use Rattle.std.proofs.Props.{props};
 
+use crate::chosen::Chosen;
 use crate::entry::Entry;
 use crate::numbered_peer::NumberedPeer;
 use crate::room::give_back_room;
@@ -48,12 +50,15 @@ pub(crate) struct Stores<S> {
     pub(crate) held: Vec<S>,
     /// Their peers, by number.
     pub(crate) names: Vec<Rc<NumberedPeer>>,
+    /// Which numbers are of stores that have a route, as it was noted.
+    pub(crate) routed: Chosen,
     /// The number that a peer of each hash may have, if it has one. Of several peers one is found so,
     /// the others by their order.
     places: Vec<u32>,
     // What stands behind `by` shows that it has at most one proof, as a ghost field must.
     ghost numbered: { AreNumbered held.items (peers_in names.items) order.entries } by { Prim.hlevel props },
     ghost few: { vec_len places ≤ PLACES },
+    ghost each: { length (choices routed) ≡ length held.items },
 }
 
 /// The place of a peer's number.
@@ -63,18 +68,20 @@ fn place_of(peer: &Peer) -> usize {
 }
 
 impl<S> Stores<S> {
-    ghost use Rattle.rib_player.specs.StoresByPeer.{stores_in};
+    ghost use Rattle.rib_player.specs.StoresByPeer.{stores_in, routed_in};
     ghost use Rattle.rib_player.specs.Lent.{lends_store};
 
     /// None.
     pub(crate) fn new(alloc: Global) -> Self
-        ensures { stores_in result ≡ [] }
+        ensures stores { stores_in result ≡ [] }
+        ensures routed { routed_in result ≡ [] }
     {
         Stores {
             alloc,
             order: BTreeMap::new(alloc),
             held: Vec::new(alloc),
             names: Vec::new(alloc),
+            routed: Chosen::new(alloc),
             places: Vec::new(alloc),
         }
     }
@@ -153,6 +160,19 @@ impl<S> Stores<S> {
         self.held.get(number)
     }
 
+    /// The peer that has the number, and its store.
+    pub(crate) fn named_at(&self, number: usize) -> Option<(&Peer, &S)>
+        ensures store { IfSome result (λ found.
+            store_at (stores_in self.now) found.0.now ≡ Some found.1.now) }
+        ensures peer { (peer : Peer) →
+            lookup (eq_by_cmp peer_cmp peer) self.now.order.entries ≡ Some number →
+            option_map (λ found. found.0.now) result ≡ Some peer }
+    {
+        let name = self.names.get(number)?;
+        let store = self.held.get(number)?;
+        Some((name.peer(), store))
+    }
+
     /// The store of the peer. This number is tried first.
     #[inline]
     pub(crate) fn get(&self, number: usize, peer: &Peer) -> Option<&S>
@@ -161,37 +181,59 @@ impl<S> Stores<S> {
         self.at(self.number_of(number, peer)?)
     }
 
-    /// The same, to be written.
+    /// The store of the peer, to be written. This number is tried first, and becomes the peer's.
     #[inline]
-    pub(crate) fn get_mut(&mut self, number: usize, peer: &Peer) -> Option<&mut S>
+    pub(crate) fn get_mut(&mut self, number: &mut usize, peer: &Peer) -> Option<&mut S>
         ensures* writes_back { sem 𝓛 (lends_store S.row self.entry peer.now result) }
         ensures value { option_copied_mut result ≡ store_at (stores_in self.old) peer.now }
+        ensures number { IfSome result (λ _.
+            lookup (eq_by_cmp peer_cmp peer.now) self.old.order.entries ≡ Some number.new) }
     {
-        let number = self.number_of(number, peer)?;
-        self.held.get_mut(number)
+        let found = self.number_of(*number, peer)?;
+        *number = found;
+        self.held.get_mut(found)
+    }
+
+    /// Notes whether the peer's store that has the number has a route. It takes no memory.
+    #[inline]
+    pub(crate) fn note_routes(&mut self, number: usize, has: bool)
+        requires { number < length self.old.held.items }
+        ensures stores { stores_in self.new ≡ stores_in self.old }
+        ensures noted { (peer : Peer) →
+            lookup (eq_by_cmp peer_cmp peer) self.old.order.entries ≡ Some number →
+            IsWritten (routed_in self.old) (routed_in self.new) peer (Some has) }
+    {
+        self.routed.choose(number, has);
     }
 
     /// Gives back room that is too much for the stores that there are.
     pub(crate) fn give_back_room(&mut self)
-        ensures { stores_in self.new ≡ stores_in self.old }
+        ensures stores { stores_in self.new ≡ stores_in self.old }
+        ensures routed { routed_in self.new ≡ routed_in self.old }
     {
         give_back_room(&mut self.held);
         give_back_room(&mut self.names);
+        self.routed.give_back_room();
     }
 }
 
 impl<S: Drop> Stores<S> {
-    ghost use Rattle.rib_player.specs.StoresByPeer.{stores_in};
+    ghost use Rattle.rib_player.specs.StoresByPeer.{stores_in, routed_in};
 
-    /// Adds the store of a peer that has none. Refused, there is none.
+    /// Adds the store of a peer that has none. It is noted that it has no route. Refused, there is
+    /// none.
     pub(crate) fn insert(&mut self, peer: Peer, store: S) -> Result<(), AllocError>
         requires { store_at (stores_in self.old) peer ≡ None }
         ensures added { OnOk result
             (IsWritten (stores_in self.old) (stores_in self.new) peer (Some store)) }
+        ensures noted { OnOk result
+            (IsWritten (routed_in self.old) (routed_in self.new) peer (Some false)) }
         ensures refused { OnErr result (stores_in self.new ≡ stores_in self.old) }
+        ensures kept { OnErr result (routed_in self.new ≡ routed_in self.old) }
     {
         self.held.reserve(1)?;
         self.names.reserve(1)?;
+        self.routed.reserve()?;
         if self.places.is_empty() {
             self.places.resize(PLACES, 0)?;
         }
@@ -200,6 +242,7 @@ impl<S: Drop> Stores<S> {
         self.order.insert(peer, number)?;
         self.held.push_reserved(store);
         self.names.push_reserved(name);
+        self.routed.add();
         note_place(&mut self.places, &peer, number);
         Ok(())
     }
@@ -207,13 +250,15 @@ impl<S: Drop> Stores<S> {
     /// Drops the store of a peer, if it has one. The store that stood last gets its number. It takes
     /// no memory.
     pub(crate) fn remove(&mut self, peer: &Peer)
-        ensures { IsWritten (stores_in self.old) (stores_in self.new) peer.now None }
+        ensures stores { IsWritten (stores_in self.old) (stores_in self.new) peer.now None }
+        ensures routed { IsWritten (routed_in self.old) (routed_in self.new) peer.now None }
     {
         let Some(number) = self.order.remove(peer) else {
             return;
         };
         self.held.swap_remove(number);
         self.names.swap_remove(number);
+        self.routed.remove(number);
         if let Some(name) = self.names.get(number) {
             let moved = *name.peer();
             renumber(&mut self.order, &moved, number);

@@ -12,7 +12,7 @@ ghost use Rattle.rib_player.specs.History.{pair_of};
 ghost use Rattle.prefix_store.specs.Stored.{put, counted};
 ghost use Rattle.rib_player.specs.Tables.{route_in, peer_routes};
 ghost use Rattle.rib_player.specs.StoresByPeer.{stores_of};
-ghost use Rattle.rib_player.specs.Lookups.{IsBest, pointed_routes, routes_above, routed_above, value_of};
+ghost use Rattle.rib_player.specs.Lookups.{IsBest, counted_peers, pointed_routes, routes_above, routed_above, value_of};
 ghost use Rattle.rib_player.specs.Kept.{routed_stores, peer_count};
 
 use crate::numbered_peer::NO_NUMBER;
@@ -22,9 +22,18 @@ use ip_prefix::{Addr, Prefix};
 use mrt_events::{Peer, Route};
 use prefix_store::PrefixStore;
 use std::alloc::{AllocError, Global};
+use std::collections::BTreeMap;
 use std::marker::Model;
 use std::ops::Bound;
 use std::rc::Rc;
+
+/// How many peers have a key, at least, where those that have a route are listed. With one peer
+/// less they are walked.
+const LEAST_PEERS: usize = 64;
+
+/// Of how many peers that have a key one may have a route, where those are listed. Where one more
+/// has, all that have a key are walked.
+const FEW_OF: usize = 4;
 
 /// The routes of all peers: at most one for each peer and prefix. Each peer that has a key has a
 /// store of its own.
@@ -39,8 +48,8 @@ pub struct Table<S: PrefixStore<Rc<Route>>> {
 
 impl<S: PrefixStore<Rc<Route>>> Model for Table<S> {
     ghost use Rattle.rib_player.specs.Tables.{Contents, keys_in, routes_in};
-    ghost use Rattle.rib_player.specs.StoresByPeer.{stores_in};
-    ghost use Rattle.rib_player.specs.Kept.{coded_contents, IsHeld};
+    ghost use Rattle.rib_player.specs.StoresByPeer.{stores_in, routed_in};
+    ghost use Rattle.rib_player.specs.Kept.{coded_contents, IsHeldWhole};
 
     ghost Value = { Contents };
 
@@ -51,7 +60,7 @@ impl<S: PrefixStore<Rc<Route>>> Model for Table<S> {
       routes = routes_in S.routes (stores_in a.stores);
     } };
 
-    ghost invariant = { λ a. IsHeld S.keys (stores_in a.stores) };
+    ghost invariant = { λ a. IsHeldWhole S.keys S.routes (stores_in a.stores) (routed_in a.stores) };
 }
 
 impl<S: PrefixStore<Rc<Route>>> Table<S> {
@@ -88,10 +97,13 @@ impl<S: PrefixStore<Rc<Route>>> Table<S> {
         ensures routes { self.new.routes ≡ put self.old.routes pair.now (route_in route.old) }
         ensures given { route_in route.new ≡ finite.get self.old.routes pair.now }
     {
-        let Some(store) = self.stores.get_mut(number, &pair.peer) else {
+        let mut number = number;
+        let Some(store) = self.stores.get_mut(&mut number, &pair.peer) else {
             unreachable!();
         };
         store.exchange(&pair.prefix, route);
+        let count = store.route_count();
+        self.stores.note_routes(number, count > 0);
     }
 
     /// Puts the route at the pair, which is made a key where it was none: what was there and the
@@ -112,8 +124,12 @@ impl<S: PrefixStore<Rc<Route>>> Table<S> {
         ensures held { OnErr result (self.new.routes ≡ self.old.routes) }
         ensures kept { OnErr result (route.new ≡ route.old) }
     {
-        if let Some(store) = self.stores.get_mut(number, &pair.peer) {
-            return store.put(&pair.prefix, route);
+        let mut number = number;
+        if let Some(store) = self.stores.get_mut(&mut number, &pair.peer) {
+            let made = store.put(&pair.prefix, route);
+            let count = store.route_count();
+            self.stores.note_routes(number, count > 0);
+            return made;
         }
         let mut store = S::new(self.alloc);
         store.ensure(pair.prefix)?;
@@ -129,7 +145,8 @@ impl<S: PrefixStore<Rc<Route>>> Table<S> {
         ensures keys { self.new.keys ≡ set.remove self.old.keys pair.now }
         ensures routes { self.new.routes ≡ self.old.routes }
     {
-        let Some(store) = self.stores.get_mut(NO_NUMBER, &pair.peer) else {
+        let mut number = NO_NUMBER;
+        let Some(store) = self.stores.get_mut(&mut number, &pair.peer) else {
             unreachable!();
         };
         store.discard(&pair.prefix);
@@ -148,11 +165,13 @@ impl<S: PrefixStore<Rc<Route>>> Table<S> {
         ensures taken { map value_of taken.new.items
             ≡ finite.values (peer_routes self.old.routes peer.now) }
     {
-        let Some(store) = self.stores.get_mut(NO_NUMBER, peer) else {
+        let mut number = NO_NUMBER;
+        let Some(store) = self.stores.get_mut(&mut number, peer) else {
             taken.clear();
             return;
         };
         store.take_routes(taken);
+        self.stores.note_routes(number, false);
     }
 
     /// The route that the peer has to the prefix.
@@ -222,6 +241,31 @@ impl<S: PrefixStore<Rc<Route>>> Table<S> {
             }
         }
         None
+    }
+
+    /// Returns the peers that have a route, in order, and how many each has (`u64::MAX` where
+    /// more), where they are few of those that have a key: at most a quarter of 64 and more.
+    /// `Ok(None)` means that they aren't; `peer_after` steps over few others then. An `Err` means
+    /// want of memory for the list.
+    pub fn few_peers(&self) -> Result<Option<BTreeMap<Peer, u64>>, AllocError>
+        ensures { IfOk result (λ few. IfSome few (λ peers.
+            peers.entries ≡ counted_peers self.now.routes)) }
+    {
+        let numbers = self.stores.routed.numbers();
+        let all = self.stores.held.len();
+        if all < LEAST_PEERS || numbers.len() > all / FEW_OF {
+            return Ok(None);
+        }
+        let mut found = BTreeMap::new(self.alloc);
+        'numbers: for number in numbers {
+            if let Some(named) = self.stores.named_at(*number) {
+                let count = named.1.route_count();
+                if count > 0 {
+                    found.insert(*named.0, count)?;
+                }
+            }
+        }
+        Ok(Some(found))
     }
 
     /// The peer's store, where it has a key.

@@ -7,13 +7,18 @@ use Rattle.rib_player.specs.Numbered.{peers_in}
 use Rattle.rib_player.proofs.ListLaws.{IsSwapped, swapped, swapped-map}
 use Rattle.rib_player.proofs.RowLaws.{name-there, no-name}
 use Rattle.rib_player.proofs.StoreLaws.{same_peer}
-use Rattle.rib_player.proofs.NumberLaws.{held-there, named-there, moved-found, renumbered-moved, renumbered-gone, stores-remove, stores-absent}
+use Rattle.rib_player.proofs.NumberLaws.{held-there, named-there, numbered-along, moved-found, renumbered-moved, renumbered-gone, stores-remove, stores-absent}
 use Rattle.rib_player.proofs.stores.Stores.remove.Given.{Over}
 use Rattle.rib_player.proofs.stores.Stores.remove.Goals as goal
 use Rattle.rib_player.proofs.stores.Stores.remove.Goals.{In-Some, After-swap_remove-2, After-peer, In_default-get}
 
 pub returns-in_default : goal.returns-in_default
-returns-in_default g c = stores-absent c.args.self.now.numbered (sym c.remove.ensures.value ∙ c.in_default.is) c.in_default.ensures.unchanged
+returns-in_default g c =
+    let none = sym c.remove.ensures.value ∙ c.in_default.is in
+    record {
+      stores = stores-absent c.args.self.now.numbered none c.in_default.ensures.unchanged;
+      routed = stores-absent (numbered-along c.args.self.now.numbered (sym c.args.self.now.each)) none c.in_default.ensures.unchanged;
+    }
 
 -- the peer has this number
 found : (g : Over) (c : In-Some g) → lookup (same_peer c.args.peer.now) c.args.self.now.order.entries ≡ Some c.in-Some.number
@@ -28,6 +33,11 @@ pub swap_remove-requires-2 : goal.swap_remove-requires-2
 swap_remove-requires-2 g c =
     let s = c.args.self.now in
     omega (arith, named-there s.numbered c.args.peer.now c.in-Some.number (found g (goal.at.swap_remove-requires-2 g c).In-Some), length-map s.names.items (λ (shared : Rc Peer Global). shared.value), s.names.ok)
+
+pub remove-requires-2 : goal.remove-requires-2
+remove-requires-2 g c =
+    let s = c.args.self.now in
+    omega (arith, held-there s.numbered c.args.peer.now c.in-Some.number (found g (goal.at.remove-requires-2 g c).In-Some), s.each)
 
 -- the last store and the last peer have its places
 stores : (g : Over) (c : After-swap_remove-2 g) → IsSwapped c.args.self.now.held.items c.swap_remove.new.self.items c.in-Some.number
@@ -79,13 +89,23 @@ invariant_of-self-in_default-get-clause-numbered g c =
 pub returns-in-Some-get : goal.returns-in-Some-get
 returns-in-Some-get g c =
     let a = goal.at.returns-in-Some-get g c in
+    let s = c.args.self.now in
     let is = found g a.In-Some in
     let last = peers g a.After-swap_remove-2 in
-    (stores-remove c.args.self.now.numbered is (stores g a.After-swap_remove-2) last (renumbered-moved c.args.self.now.numbered is last (record { each = c.remove.ensures.updates.0 }) c.peer.result.now (moved g a.After-peer) c.renumber.ensures)).1
+    let new = renumbered-moved s.numbered is last (record { each = c.remove.ensures.updates.0 }) c.peer.result.now (moved g a.After-peer) c.renumber.ensures in
+    record {
+      stores = (stores-remove s.numbered is (stores g a.After-swap_remove-2) last new).1;
+      routed = (stores-remove (numbered-along s.numbered (sym s.each)) is c.remove-2.ensures last new).1;
+    }
 
 pub returns-in_default-get : goal.returns-in_default-get
 returns-in_default-get g c =
     let a = goal.at.returns-in_default-get g c in
+    let s = c.args.self.now in
     let is = found g a.In-Some in
     let last = peers g a.After-swap_remove-2 in
-    (stores-remove c.args.self.now.numbered is (stores g a.After-swap_remove-2) last (renumbered-gone c.args.self.now.numbered is last (record { each = c.remove.ensures.updates.0 }) (none g a.In_default-get))).1
+    let new = renumbered-gone s.numbered is last (record { each = c.remove.ensures.updates.0 }) (none g a.In_default-get) in
+    record {
+      stores = (stores-remove s.numbered is (stores g a.After-swap_remove-2) last new).1;
+      routed = (stores-remove (numbered-along s.numbered (sym s.each)) is c.remove-2.ensures last new).1;
+    }

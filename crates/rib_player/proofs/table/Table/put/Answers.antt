@@ -1,59 +1,82 @@
-use Rattle.std.proofs.Common.{◌≡◌, Some, None, not, sym, ap, subst, ◌∙◌}
+use Rattle.std.proofs.Common.{◌≡◌, false, nat_lt, Some, None, not, sym, ap, subst, ◌∙◌}
+use Rattle.std.specs.Map.{lookup}
 use Rattle.std.specs.Option.{option_copied_mut}
 use Rattle.std.specs.FinMap as finite
 use Rattle.std.specs.FinSet as set
 use Rattle.rib_player.specs.Tables.{route_in, keys_in, routes_in}
-use Rattle.rib_player.specs.StoresByPeer.{stores_in}
+use Rattle.rib_player.specs.StoresByPeer.{stores_in, routed_in}
 use Rattle.rib_player.specs.Kept.{IsWritten}
 use Rattle.prefix_store.specs.Stored.{put}
 use Rattle.std.proofs.lemmas.Result.{on_ok_weaker, on_err_weaker, IfOk-weaker}
+use Rattle.rib_player.specs.Lent.{IsLent}
+use Rattle.rib_player.proofs.NumberLaws.{held-there}
 use Rattle.rib_player.proofs.HeldLaws.{inserted}
-use Rattle.rib_player.proofs.StoreLaws.{IsStored, stored-lent, contains-found, get-found, held-other, held-kept, held-more, keys-kept, keys-more, routes-kept, routes-put, keys-added, routes-added, some-insert, either}
+use Rattle.rib_player.proofs.StoreLaws.{same_peer, IsStored, stored-lent, when_some, if_some, noted-after, noted-other, none-noted, count-noted, contains-found, get-found, held-other, held-kept, held-more, keys-kept, keys-more, routes-kept, routes-put, keys-added, routes-added, some-insert, either}
 use Rattle.rib_player.proofs.table.Table.put.Given.{Over}
 use Rattle.rib_player.proofs.table.Table.put.Goals as goal
-use Rattle.rib_player.proofs.table.Table.put.Goals.{After-put, In_ok-insert}
+use Rattle.rib_player.proofs.table.Table.put.Goals.{After-put-made, After-note_routes, In_ok-insert}
 
 -- the peer's store was written
-there : (g : Over) (c : After-put g) → IsStored (stores_in c.self.inside.stores) (stores_in (c.get_mut.follows.lender c.put.new.self)) c.args.pair.now.peer c.in-Some.store.now c.put.new.self
-there g c = stored-lent c.get_mut.result c.in-Some.store c.in-Some.is c.get_mut.ensures.value (c.get_mut.follows.holds c.put.new.self)
+lent : (g : Over) (c : After-put-made g) → IsLent c.self.inside.stores (c.get_mut.follows.lender c.put-made.new.self) c.args.pair.now.peer c.put-made.new.self
+lent g c = when_some c.get_mut.result c.in-Some.store c.in-Some.is (c.get_mut.follows.holds c.put-made.new.self)
+
+there : (g : Over) (c : After-note_routes g) → IsStored (stores_in c.self.inside.stores) (stores_in c.note_routes.new.self) c.args.pair.now.peer c.in-Some.store.now c.put-made.new.self
+there g c =
+    subst (λ stores. IsStored (stores_in c.self.inside.stores) stores c.args.pair.now.peer c.in-Some.store.now c.put-made.new.self) (sym c.note_routes.ensures.stores)
+    (stored-lent c.self.inside.stores (c.get_mut.follows.lender c.put-made.new.self) c.get_mut.result c.in-Some.store c.in-Some.is c.get_mut.ensures.value (c.get_mut.follows.holds c.put-made.new.self))
+
+-- the peer has this number
+numbered : (g : Over) (c : After-put-made g) → lookup (same_peer c.args.pair.now.peer) c.self.inside.stores.order.entries ≡ Some c.get_mut.new.number
+numbered g c = if_some c.get_mut.result c.in-Some.store c.in-Some.is c.get_mut.ensures.number
+
+pub note_routes-requires : goal.note_routes-requires
+note_routes-requires g c =
+    let a = (goal.at.note_routes-requires g c).After-put-made in
+    held-there (c.get_mut.follows.lender c.put-made.new.self).numbered c.args.pair.now.peer c.get_mut.new.number (ap (lookup (same_peer c.args.pair.now.peer)) (lent g a).order ∙ numbered g a)
 
 pub invariant_of-self : goal.invariant_of-self
 invariant_of-self g c =
-    let there = there g (goal.at.invariant_of-self g c).After-put in
-    either c.put.result
-    (on_ok_weaker c.put.result (λ e. held-more g.S.PrefixStore.keys there c.args.pair.now.prefix e c.self.invariant) c.put.ensures.keys)
-    (on_err_weaker c.put.result (λ e. held-kept g.S.PrefixStore.keys there e c.self.invariant) c.put.ensures.refused)
+    let a = goal.at.invariant_of-self g c in
+    let there = there g a.After-note_routes in
+    record {
+      held = either c.put-made.result
+          (on_ok_weaker c.put-made.result (λ e. held-more g.S.PrefixStore.keys there c.args.pair.now.prefix e c.self.invariant.held) c.put-made.ensures.keys)
+          (on_err_weaker c.put-made.result (λ e. held-kept g.S.PrefixStore.keys there e c.self.invariant.held) c.put-made.ensures.refused);
+      noted = noted-after g.S.PrefixStore.routes c.self.inside.stores (c.get_mut.follows.lender c.put-made.new.self) c.note_routes.new.self (lent g a.After-put-made) c.get_mut.new.number
+          (nat_lt 0 c.route_count-count.result) (numbered g a.After-put-made) c.note_routes.ensures.stores c.note_routes.ensures.noted
+          (count-noted g.S.PrefixStore.routes c.put-made.new.self c.route_count-count.result c.route_count-count.ensures) c.self.invariant.noted;
+    }
 
 pub returns-in-Some-clause-keys : goal.returns-in-Some-clause-keys
 returns-in-Some-clause-keys g c =
-    on_ok_weaker c.put.result (λ e. keys-more g.S.PrefixStore.keys (there g (goal.at.returns-in-Some-clause-keys g c).After-put) c.args.pair.now.prefix e ∙ ap (λ s. set.insert s.keys c.args.pair.now) c.self.view_is) c.put.ensures.keys
+    on_ok_weaker c.put-made.result (λ e. keys-more g.S.PrefixStore.keys (there g (goal.at.returns-in-Some-clause-keys g c).After-note_routes) c.args.pair.now.prefix e ∙ ap (λ s. set.insert s.keys c.args.pair.now) c.self.view_is) c.put-made.ensures.keys
 
 pub returns-in-Some-clause-made : goal.returns-in-Some-clause-made
 returns-in-Some-clause-made g c =
-    IfOk-weaker c.put.result _ _ (λ made e.
-    e ∙ ap not (contains-found g.S.PrefixStore.keys (stores_in c.self.inside.stores) c.args.self.now.keys c.args.pair.now (Some c.in-Some.store.now) (there g (goal.at.returns-in-Some-clause-made g c).After-put).found (ap (λ s. s.keys) c.self.view_is))) c.put.ensures.made
+    IfOk-weaker c.put-made.result _ _ (λ made e.
+    e ∙ ap not (contains-found g.S.PrefixStore.keys (stores_in c.self.inside.stores) c.args.self.now.keys c.args.pair.now (Some c.in-Some.store.now) (there g (goal.at.returns-in-Some-clause-made g c).After-note_routes).found (ap (λ s. s.keys) c.self.view_is))) c.put-made.ensures.made
 
 pub returns-in-Some-clause-routes : goal.returns-in-Some-clause-routes
 returns-in-Some-clause-routes g c =
-    on_ok_weaker c.put.result (λ e.
-    routes-put g.S.PrefixStore.routes (there g (goal.at.returns-in-Some-clause-routes g c).After-put) c.args.pair.now.prefix c.args.route.now e ∙ ap (λ s. put s.routes c.args.pair.now (route_in c.args.route.now)) c.self.view_is) c.put.ensures.routes
+    on_ok_weaker c.put-made.result (λ e.
+    routes-put g.S.PrefixStore.routes (there g (goal.at.returns-in-Some-clause-routes g c).After-note_routes) c.args.pair.now.prefix c.args.route.now e ∙ ap (λ s. put s.routes c.args.pair.now (route_in c.args.route.now)) c.self.view_is) c.put-made.ensures.routes
 
 pub returns-in-Some-clause-given : goal.returns-in-Some-clause-given
 returns-in-Some-clause-given g c =
-    on_ok_weaker c.put.result (λ e.
-    ap route_in e ∙ get-found g.S.PrefixStore.routes (stores_in c.self.inside.stores) c.args.self.now.routes c.args.pair.now (Some c.in-Some.store.now) (there g (goal.at.returns-in-Some-clause-given g c).After-put).found (ap (λ s. s.routes) c.self.view_is)) c.put.ensures.given
+    on_ok_weaker c.put-made.result (λ e.
+    ap route_in e ∙ get-found g.S.PrefixStore.routes (stores_in c.self.inside.stores) c.args.self.now.routes c.args.pair.now (Some c.in-Some.store.now) (there g (goal.at.returns-in-Some-clause-given g c).After-note_routes).found (ap (λ s. s.routes) c.self.view_is)) c.put-made.ensures.given
 
 pub returns-in-Some-clause-refused : goal.returns-in-Some-clause-refused
 returns-in-Some-clause-refused g c =
-    on_err_weaker c.put.result (λ e. keys-kept g.S.PrefixStore.keys (there g (goal.at.returns-in-Some-clause-refused g c).After-put) e ∙ ap (λ s. s.keys) c.self.view_is) c.put.ensures.refused
+    on_err_weaker c.put-made.result (λ e. keys-kept g.S.PrefixStore.keys (there g (goal.at.returns-in-Some-clause-refused g c).After-note_routes) e ∙ ap (λ s. s.keys) c.self.view_is) c.put-made.ensures.refused
 
 pub returns-in-Some-clause-held : goal.returns-in-Some-clause-held
 returns-in-Some-clause-held g c =
-    on_err_weaker c.put.result (λ e. routes-kept g.S.PrefixStore.routes (there g (goal.at.returns-in-Some-clause-held g c).After-put) e ∙ ap (λ s. s.routes) c.self.view_is) c.put.ensures.held
+    on_err_weaker c.put-made.result (λ e. routes-kept g.S.PrefixStore.routes (there g (goal.at.returns-in-Some-clause-held g c).After-note_routes) e ∙ ap (λ s. s.routes) c.self.view_is) c.put-made.ensures.held
 
 -- the peer had no store, and has one with this key
 added : (g : Over) (c : In_ok-insert g) → IsWritten (stores_in c.self.inside.stores) (stores_in c.insert.new.self) c.args.pair.now.peer (Some c.ensure.new.self)
-added g c = subst (λ stores. IsWritten stores (stores_in c.insert.new.self) c.args.pair.now.peer (Some c.ensure.new.self)) c.get_mut.follows.holds-at-none c.in_ok-insert.ensures.added
+added g c = subst (λ stores. IsWritten stores (stores_in c.insert.new.self) c.args.pair.now.peer (Some c.ensure.new.self)) c.get_mut.follows.holds-at-none.stores c.in_ok-insert.ensures.added
 
 one_key : (g : Over) (c : In_ok-insert g) → g.S.PrefixStore.keys c.ensure.new.self ≡ set.insert set.empty c.args.pair.now.prefix
 one_key g c = c.in_ok-ensure.ensures.keys ∙ ap (λ keys. set.insert keys c.args.pair.now.prefix) c.new-store.ensures.keys
@@ -66,7 +89,13 @@ routes_then g c = routes-added (sym (ap option_copied_mut c.in_default.is) ∙ c
 
 pub invariant_of-self-2 : goal.invariant_of-self-2
 invariant_of-self-2 g c =
-    held-other g.S.PrefixStore.keys (added g (goal.at.invariant_of-self-2 g c).In_ok-insert) c.self.invariant (some-insert set.empty (g.S.PrefixStore.keys c.ensure.new.self) c.args.pair.now.prefix (one_key g (goal.at.invariant_of-self-2 g c).In_ok-insert))
+    let a = (goal.at.invariant_of-self-2 g c).In_ok-insert in
+    record {
+      held = held-other g.S.PrefixStore.keys (added g a) c.self.invariant.held (some-insert set.empty (g.S.PrefixStore.keys c.ensure.new.self) c.args.pair.now.prefix (one_key g a));
+      noted = noted-other g.S.PrefixStore.routes (added g a)
+          (subst (λ routed. IsWritten routed (routed_in c.insert.new.self) c.args.pair.now.peer (Some false)) c.get_mut.follows.holds-at-none.routed c.in_ok-insert.ensures.noted)
+          (none-noted g.S.PrefixStore.routes c.ensure.new.self (c.ensure.ensures.routes ∙ c.new-store.ensures.routes)) c.self.invariant.noted;
+    }
 
 pub exchange-requires : goal.exchange-requires
 exchange-requires g c =

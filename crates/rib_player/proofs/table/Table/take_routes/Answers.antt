@@ -1,4 +1,5 @@
-use Rattle.std.proofs.Common.{◌≡◌, Some, None, map, cond, sym, ap, ◌∙◌, arith}
+use Rattle.std.proofs.Common.{◌≡◌, false, subst, Some, None, map, cond, sym, ap, ◌∙◌, arith}
+use Rattle.std.specs.Map.{lookup}
 use Rattle.std.specs.Option.{option_map, option_copied_mut}
 use Rattle.std.specs.FinMap as finite
 use Rattle.ip_prefix.specs.Network.{Network}
@@ -6,11 +7,13 @@ use Rattle.rib_player.specs.History.{pair_of}
 use Rattle.rib_player.specs.Tables.{routes_in}
 use Rattle.rib_player.specs.StoresByPeer.{stores_in}
 use Rattle.rib_player.specs.Lookups.{value_of}
+use Rattle.rib_player.specs.Lent.{IsLent}
+use Rattle.rib_player.proofs.NumberLaws.{held-there}
 use Rattle.rib_player.proofs.PeerLaws.{len-of_peer, values-of_peer, no_values, routes-taken, no_routes-taken}
-use Rattle.rib_player.proofs.StoreLaws.{same_peer, IsStored, stored-lent, get-found, held-kept, keys-kept}
+use Rattle.rib_player.proofs.StoreLaws.{same_peer, IsStored, stored-lent, when_some, if_some, noted-after, none-noted, get-found, held-kept, keys-kept}
 use Rattle.rib_player.proofs.table.Table.take_routes.Given.{Over}
 use Rattle.rib_player.proofs.table.Table.take_routes.Goals as goal
-use Rattle.rib_player.proofs.table.Table.take_routes.Goals.{In-Some, In_default, After-take_routes}
+use Rattle.rib_player.proofs.table.Table.take_routes.Goals.{In-Some, In_default, After-take_routes, After-note_routes}
 
 -- the peer has the routes of its store
 own : (g : Over) (c : In-Some g) (n : Network) → option_map value_of (finite.get (g.S.PrefixStore.routes c.in-Some.store.now) n) ≡ finite.get c.args.self.now.routes (pair_of c.args.peer.now n)
@@ -21,20 +24,40 @@ take_routes-requires g c =
     omega (arith, c.requires, len-of_peer (g.S.PrefixStore.routes c.in-Some.store.now) c.args.self.now.routes c.args.peer.now (own g (goal.at.take_routes-requires g c).In-Some))
 
 -- the peer's store was written
-there : (g : Over) (c : After-take_routes g) → IsStored (stores_in c.self.inside.stores) (stores_in (c.get_mut.follows.lender c.take_routes.new.self)) c.args.peer.now c.in-Some.store.now c.take_routes.new.self
-there g c = stored-lent c.get_mut.result c.in-Some.store c.in-Some.is c.get_mut.ensures.value (c.get_mut.follows.holds c.take_routes.new.self)
+lent : (g : Over) (c : After-take_routes g) → IsLent c.self.inside.stores (c.get_mut.follows.lender c.take_routes.new.self) c.args.peer.now c.take_routes.new.self
+lent g c = when_some c.get_mut.result c.in-Some.store c.in-Some.is (c.get_mut.follows.holds c.take_routes.new.self)
+
+there : (g : Over) (c : After-note_routes g) → IsStored (stores_in c.self.inside.stores) (stores_in c.note_routes.new.self) c.args.peer.now c.in-Some.store.now c.take_routes.new.self
+there g c =
+    subst (λ stores. IsStored (stores_in c.self.inside.stores) stores c.args.peer.now c.in-Some.store.now c.take_routes.new.self) (sym c.note_routes.ensures.stores)
+    (stored-lent c.self.inside.stores (c.get_mut.follows.lender c.take_routes.new.self) c.get_mut.result c.in-Some.store c.in-Some.is c.get_mut.ensures.value (c.get_mut.follows.holds c.take_routes.new.self))
+
+-- the peer has this number
+numbered : (g : Over) (c : After-take_routes g) → lookup (same_peer c.args.peer.now) c.self.inside.stores.order.entries ≡ Some c.get_mut.new.number
+numbered g c = if_some c.get_mut.result c.in-Some.store c.in-Some.is c.get_mut.ensures.number
+
+pub note_routes-requires : goal.note_routes-requires
+note_routes-requires g c =
+    let a = (goal.at.note_routes-requires g c).After-take_routes in
+    held-there (c.get_mut.follows.lender c.take_routes.new.self).numbered c.args.peer.now c.get_mut.new.number (ap (lookup (same_peer c.args.peer.now)) (lent g a).order ∙ numbered g a)
 
 pub invariant_of-self-2 : goal.invariant_of-self-2
 invariant_of-self-2 g c =
-    held-kept g.S.PrefixStore.keys (there g (goal.at.invariant_of-self-2 g c).After-take_routes) c.take_routes.ensures.keys c.self.invariant
+    let a = goal.at.invariant_of-self-2 g c in
+    record {
+      held = held-kept g.S.PrefixStore.keys (there g a.After-note_routes) c.take_routes.ensures.keys c.self.invariant.held;
+      noted = noted-after g.S.PrefixStore.routes c.self.inside.stores (c.get_mut.follows.lender c.take_routes.new.self) c.note_routes.new.self (lent g a.After-take_routes) c.get_mut.new.number
+          false (numbered g a.After-take_routes) c.note_routes.ensures.stores c.note_routes.ensures.noted
+          (none-noted g.S.PrefixStore.routes c.take_routes.new.self c.take_routes.ensures.routes) c.self.invariant.noted;
+    }
 
 pub returns-clause-keys : goal.returns-clause-keys
 returns-clause-keys g c =
-    keys-kept g.S.PrefixStore.keys (there g (goal.at.returns-clause-keys g c).After-take_routes) c.take_routes.ensures.keys ∙ ap (λ s. s.keys) c.self.view_is
+    keys-kept g.S.PrefixStore.keys (there g (goal.at.returns-clause-keys g c).After-note_routes) c.take_routes.ensures.keys ∙ ap (λ s. s.keys) c.self.view_is
 
 pub returns-clause-routes : goal.returns-clause-routes
 returns-clause-routes g c q =
-    routes-taken g.S.PrefixStore.routes (there g (goal.at.returns-clause-routes g c).After-take_routes).written c.take_routes.ensures.routes q ∙ ap (λ s. cond (same_peer q.peer c.args.peer.now) None (finite.get s.routes q)) c.self.view_is
+    routes-taken g.S.PrefixStore.routes (there g (goal.at.returns-clause-routes g c).After-note_routes).written c.take_routes.ensures.routes q ∙ ap (λ s. cond (same_peer q.peer c.args.peer.now) None (finite.get s.routes q)) c.self.view_is
 
 pub returns-clause-taken : goal.returns-clause-taken
 returns-clause-taken g c =
@@ -46,7 +69,7 @@ none g c n = sym (get-found g.S.PrefixStore.routes (stores_in c.self.inside.stor
 
 pub returns-in_default-clause-routes : goal.returns-in_default-clause-routes
 returns-in_default-clause-routes g c q =
-    ap (λ s. finite.get (routes_in g.S.PrefixStore.routes s) q) c.get_mut.follows.holds-at-none ∙ ap (λ s. finite.get s.routes q) c.self.view_is
+    ap (λ s. finite.get (routes_in g.S.PrefixStore.routes s) q) c.get_mut.follows.holds-at-none.stores ∙ ap (λ s. finite.get s.routes q) c.self.view_is
     ∙ no_routes-taken c.args.self.now.routes c.args.peer.now (none g (goal.at.returns-in_default-clause-routes g c).In_default) q
 
 pub returns-in_default-clause-taken : goal.returns-in_default-clause-taken
