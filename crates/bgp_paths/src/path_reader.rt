@@ -20,7 +20,8 @@ const AS_CONFED_SEQUENCE: u8 = 3;
 /// The type of a set of a confederation's members (RFC 5065, section 3).
 const AS_CONFED_SET: u8 = 4;
 
-/// For how many segments more than it has a path has room at most.
+/// For how many segments more than it has a path has room at most. With room for one more it moves to
+/// a block that has none to spare.
 const MOST_SPARE: usize = 4;
 
 /// A segment in front of octets: its kind (RFC 4271, section 4.3; RFC 5065, section 3), the octets of

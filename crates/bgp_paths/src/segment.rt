@@ -2,7 +2,8 @@
 
 use crate::list_of::ListOf;
 
-/// For how many numbers more than it has a segment has room at most.
+/// For how many numbers more than it has a segment has room at most. With room for one more they move
+/// to a block that has none to spare.
 pub(crate) const MOST_SPARE: u8 = 8;
 
 /// The kinds of segments of a path (RFC 4271, section 4.3; RFC 5065, section 3).

@@ -12,10 +12,12 @@ use std::alloc::{AllocError, Global};
 use std::marker::Model;
 use std::mem;
 
-/// How much room is made at least, where there isn't enough.
+/// How much room is made at least, where there isn't enough. Where an octet more is needed, as much is
+/// made as that.
 const LEAST_ROOM: usize = 512;
 
-/// For how many octets a text that is cleared keeps room at most.
+/// For how many octets a text that is cleared keeps room at most. One that has room for more gives it
+/// all back, and the next long text asks for its own.
 const MOST_KEPT: usize = 1 << 18;
 
 /// A text of octets. It is kept in a buffer that has room behind it, so that what is appended is

@@ -3,7 +3,7 @@
 use ip_prefix::Prefix;
 use std::mem;
 
-/// How many places are reached at once.
+/// How many places are reached at once. One more is reached behind these.
 pub const PLACES_AT_ONCE: u8 = 8;
 
 /// A prefix of a store, or nowhere.

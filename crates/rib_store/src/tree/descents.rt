@@ -5,7 +5,8 @@ use crate::tree::Tree;
 use ip_prefix::Prefix;
 use prefix_store::{Packed, V4Prefix};
 
-/// How many bits of a prefix a descent goes by at most, so how many nodes it passes.
+/// How many bits of a prefix a descent goes by at most, so how many nodes it passes. A node that lies
+/// one below isn't fetched, and the call behind the descent waits for it.
 const MOST_BITS: u8 = 64;
 
 /// A descent to where a prefix stands, or would stand, and no further. It looks at one bit for each
