@@ -1,14 +1,14 @@
 -- The lines of a list's items, written one after the other.
-use Rattle.std.proofs.Common.{codes, ◌≡◌, ℕ, true, List, [], ◌∷◌, ◌++◌, length, Bor, Option, Some, None, Result, Ok, Err, is_some, slice_get, refl, sym, ap, subst, ◌∙◌, flat_map, option_map, append_assoc, append-nil, Global}
+use Rattle.std.proofs.Common.{codes, ◌≡◌, ℕ, true, List, [], ◌∷◌, ◌++◌, length, Bor, Option, Some, None, Result, Ok, Err, is_some, slice_get, refl, sym, ap, subst, ◌∙◌, flat_map, map, option_map, append_assoc, append-nil, Global}
 use Rattle.std.specs.Io.KnownBytes.{Appends}
 use Rattle.std.proofs.KnownBytes.{Appends-nil, Appends-trans}
 use Rattle.std.specs.declared.rc.Rc.{Rc}
 use Rattle.ip_prefix.specs.Network.{Network}
 use Rattle.mrt_events.specs.declared.event.Route.{Route}
-use Rattle.rib_player.specs.Lookups.{pointed_routes}
+use Rattle.rib_player.specs.Lookups.{pointed_routes, counted_peers}
 use Rattle.std.proofs.lemmas.Grind.{flat_map-append}
 use Rattle.mrt_events.specs.declared.peer.Peer.{Peer}
-use Rattle.rib_player.specs.Tables.{Routes, peer_routes}
+use Rattle.rib_player.specs.Tables.{Routes, peer_routes, routed_peers}
 use Rattle.prefix_store.specs.Stored.{counted}
 use Rattle.std.specs.FinMap as finite
 use Rattle.std.specs.FinMap.{len-entries}
@@ -16,7 +16,8 @@ use Rattle.bgpdump_lines.specs.declared.fault.WriteFault.{WriteFault}
 use Rattle.bgpdump_lines.specs.declared.fault.WriteFault.TheVariants.{Write, Memory}
 use Rattle.bgpdump_lines.specs.Run.{AppendsFront}
 use Rattle.bgpdump_lines.specs.Lines.{rib_line}
-use Rattle.bgpdump_tool.specs.Replies.{peer_line, peer_lines, counts_line, table_text}
+use Rattle.bgpdump_tool.specs.Counts.{count_line, counts_text}
+use Rattle.bgpdump_tool.specs.Replies.{peer_line, peer_lines, peers_text, counts_line, table_text}
 use Rattle.bgpdump_lines.specs.Going.{Puts, PutsPart}
 use Rattle.bgpdump_lines.proofs.WritingLaws.{AppendsFront-none, AppendsFront-behind, AppendsFront-longer}
 
@@ -107,3 +108,21 @@ some_first (first ∷ done) item ahead = refl
 pub lines_of_some : (routes : Routes) (peers : List Peer) → is_some (slice_get peers 0) ≡ true → flat_map (peer_line routes) peers ≡ peer_lines routes peers
 lines_of_some routes [] some = cc
 lines_of_some routes (peer ∷ peers) some = refl
+
+-- peers with their counts have the lines that they have without
+paired-lines : (routes : Routes) (peers : List Peer)
+    → flat_map count_line (map (λ (p : Peer). (p, counted (finite.len (peer_routes routes p)))) peers) ≡ flat_map (peer_line routes) peers
+paired-lines routes [] = refl
+paired-lines routes (peer ∷ peers) = ap (λ l. peer_line routes peer ++ l) (paired-lines routes peers)
+
+pub counts-told : (routes : Routes) → counts_text (counted_peers routes) ≡ peers_text routes
+counts-told routes = at (routed_peers routes)
+  where
+    at : (peers : List Peer) → counts_text (map (λ (p : Peer). (p, counted (finite.len (peer_routes routes p)))) peers) ≡ peer_lines routes peers
+    at [] = refl
+    at (peer ∷ peers) = paired-lines routes (peer ∷ peers)
+
+-- a text of entries, where there are some
+pub counts_of_some : (entries : List (Peer × ℕ)) → is_some (slice_get entries 0) ≡ true → flat_map count_line entries ≡ counts_text entries
+counts_of_some [] some = cc
+counts_of_some (e ∷ es) some = refl

@@ -4,6 +4,7 @@ pub use Rattle.bgpdump_lines.specs.Going
 pub use Rattle.bgpdump_command_line.specs.CommandLine
 pub mod Script
 pub mod Replies
+pub mod Counts
 pub mod Meaning
 pub mod Course
 pub mod Carrying

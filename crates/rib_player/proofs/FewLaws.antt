@@ -21,7 +21,8 @@ use Rattle.rib_player.specs.Lookups.{counted_peers}
 use Rattle.rib_player.specs.Kept.{IsWritten, have_route}
 use Rattle.rib_player.specs.Places.{ListsAll}
 use Rattle.rib_player.specs.Chosen.{choices}
-use Rattle.rib_player.specs.StoresByPeer.{stores_in, routed_in}
+use Rattle.rib_player.specs.StoresByPeer.{stores_in}
+use Rattle.rib_player.specs.Noted.{routed_in}
 use Rattle.rib_player.specs.declared.stores.Stores as numbered
 use Rattle.rib_player.proofs.ListLaws.{all-then}
 use Rattle.rib_player.proofs.StoreLaws.{same_peer, one_peer, get-found, AreNoted}

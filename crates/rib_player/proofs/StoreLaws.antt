@@ -27,7 +27,8 @@ use Rattle.prefix_store.specs.Stored.{put}
 use Rattle.rib_player.specs.Tables.{Routes, Pairs, Stores, store_at, has_key, stored_route, route_in, keys_in, routes_in}
 use Rattle.rib_player.specs.Kept.{IsHeld, IsWritten, have_route}
 use Rattle.rib_player.specs.Lent.{IsLent}
-use Rattle.rib_player.specs.StoresByPeer.{stores_in, routed_in}
+use Rattle.rib_player.specs.StoresByPeer.{stores_in}
+use Rattle.rib_player.specs.Noted.{routed_in}
 use Rattle.rib_player.specs.declared.stores.Stores as numbered
 use Rattle.rib_player.specs.Lookups.{value_of}
 use Rattle.octet_forms.proofs.Booleans.{cond_untested}

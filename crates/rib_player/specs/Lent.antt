@@ -4,7 +4,8 @@ use Rattle.std.specs.Prelude.{◌≡◌, Option, Some, OnSome}
 use Rattle.std.specs.Borrow.{LendsSo, Fml, MutBor, RattleType}
 use Rattle.mrt_events.specs.declared.peer.Peer.{Peer}
 use Rattle.rib_player.specs.Kept.{IsWritten}
-use Rattle.rib_player.specs.StoresByPeer.{stores_in, routed_in}
+use Rattle.rib_player.specs.StoresByPeer.{stores_in}
+use Rattle.rib_player.specs.Noted.{routed_in}
 use Rattle.rib_player.specs.declared.stores.Stores as numbered
 use Rattle.rib_player.specs.contracts.stores.Stores.{the_row}
 

@@ -1,7 +1,6 @@
 -- The stores of peers, which stand at numbers, as a list.
-use Rattle.std.specs.Prelude.{ℕ, Bool, List, filter_map, slice_get, option_map}
+use Rattle.std.specs.Prelude.{ℕ, List, filter_map, slice_get, option_map}
 use Rattle.mrt_events.specs.declared.peer.Peer.{Peer}
-use Rattle.rib_player.specs.Chosen.{choices}
 use Rattle.rib_player.specs.Tables.{Stores}
 use Rattle.rib_player.specs.declared.stores.Stores as numbered
 
@@ -12,7 +11,3 @@ stores_of held order = filter_map (λ e. option_map (λ store. (e.0, store)) (sl
 -- stores by peers, in order
 abbrev pub stores_in : {S : Type 0} → numbered.Stores S → Stores S
 stores_in s = stores_of s.held.items s.order.entries
-
--- which of the peers are noted to have a route
-abbrev pub routed_in : {S : Type 0} → numbered.Stores S → List (Peer × Bool)
-routed_in s = stores_of (choices s.routed) s.order.entries

@@ -147,7 +147,8 @@ pub(crate) fn give_up_claims<S: PrefixStore<Rc<Route>>>(
     }
 }
 
-/// How many addresses IPv4 has.
+/// How many addresses IPv4 has: the number of each is below it. One that were above it would be
+/// counted as one of the prefixes that are longer.
 const ADDRESSES: u64 = 1 << 32;
 
 /// How many bits lie below an address of IPv4 in the half of a prefix that begins with it.

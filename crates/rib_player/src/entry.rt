@@ -64,7 +64,8 @@ struct V6Pair {
     peer: Rc<NumberedPeer>,
 }
 
-/// How many octets an entry takes at most, besides an IPv6 prefix.
+/// How many octets an entry takes at most, besides an IPv6 prefix. An entry of one octet more is
+/// refused when the crate is checked.
 const ENTRY_OCTETS: usize = 24;
 
 const _: () = prove!(size_of::<Entry>() <= ENTRY_OCTETS);

@@ -5,7 +5,7 @@ ghost use Rattle.std.specs.Prelude.{◌≡◌};
 use mrt_events::Peer;
 use std::marker::Model;
 
-/// No store has this number.
+/// No store has this number, above which there is none.
 pub(crate) const NO_NUMBER: usize = usize::MAX;
 
 /// A peer, and the number that its store had when this was made. The store may have gone since, or

@@ -14,13 +14,14 @@ use prefix_store::{PLACES_AT_ONCE, Places, PrefixStore};
 use std::collections::VecDeque;
 use std::rc::Rc;
 
-/// How many entries are reached at once.
+/// How many entries are reached at once. One more is reached with those behind it.
 const ENTRIES_AT_ONCE: usize = PLACES_AT_ONCE as usize;
 
-/// How many steps of fewer entries are reached together.
+/// How many steps of fewer entries are reached together. One more is reached with those behind it.
 pub(crate) const STEPS_TOGETHER: usize = 8;
 
-/// How many keys a store has at least whose nodes are reached.
+/// How many keys a store has at least whose nodes are reached: with these and more they are, with
+/// one key less they aren't.
 const LEAST_KEYS: u64 = 4096;
 
 /// Reaches the places that were added since. Answers how much was passed.

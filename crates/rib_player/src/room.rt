@@ -2,10 +2,12 @@
 
 ghost use Rattle.std.specs.Prelude.{◌≡◌};
 
-/// How many times as much as stands there, there may be room for.
+/// How many times as much as stands there, there may be room for. Where there is room for as many
+/// times one element more, the list is made shorter.
 pub(crate) const MOST_TIMES: usize = 4;
 
-/// For how much there may be room, however little stands there.
+/// For how many times this there may be room, however little stands there. A list of one element
+/// more may have room for as many times of its own.
 pub(crate) const LEAST_ROOM: usize = 1024;
 
 /// Gives back what is too much room for a list, unless memory is refused for the smaller one.

@@ -21,7 +21,8 @@ use prefix_store::PrefixStore;
 use std::alloc::{AllocError, Global};
 use std::rc::Rc;
 
-/// How many routes of a lost session are asked for at once.
+/// How many routes of a lost session are asked for at once. One more is asked for with the next
+/// ones.
 const MANY: usize = 64;
 
 /// Appends the entries of the pairs of a peer that have these routes, and none then.
@@ -91,7 +92,7 @@ fn entries_then<S: PrefixStore<Rc<Route>>>(
     Ok(entries)
 }
 
-/// How many entries are compared with each other at most.
+/// How many entries are compared with each other at most. With one more they are sorted.
 const FEW: usize = 8;
 
 /// Whether one of these is of the entry's pair.

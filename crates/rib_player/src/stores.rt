@@ -25,7 +25,8 @@ use std::alloc::{AllocError, Global};
 use std::collections::BTreeMap;
 use std::rc::Rc;
 
-/// How many places there are for numbers.
+/// How many places there are for numbers. No hash names one above them; of more peers some are found
+/// by their order alone.
 const PLACES: usize = 4096;
 
 /// How many bits of a hash are left out, so that it names a place.
@@ -68,7 +69,8 @@ fn place_of(peer: &Peer) -> usize {
 }
 
 impl<S> Stores<S> {
-    ghost use Rattle.rib_player.specs.StoresByPeer.{stores_in, routed_in};
+    ghost use Rattle.rib_player.specs.StoresByPeer.{stores_in};
+    ghost use Rattle.rib_player.specs.Noted.{routed_in};
     ghost use Rattle.rib_player.specs.Lent.{lends_store};
 
     /// None.
@@ -218,7 +220,8 @@ impl<S> Stores<S> {
 }
 
 impl<S: Drop> Stores<S> {
-    ghost use Rattle.rib_player.specs.StoresByPeer.{stores_in, routed_in};
+    ghost use Rattle.rib_player.specs.StoresByPeer.{stores_in};
+    ghost use Rattle.rib_player.specs.Noted.{routed_in};
 
     /// Adds the store of a peer that has none. It is noted that it has no route. Refused, there is
     /// none.

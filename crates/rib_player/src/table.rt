@@ -48,7 +48,8 @@ pub struct Table<S: PrefixStore<Rc<Route>>> {
 
 impl<S: PrefixStore<Rc<Route>>> Model for Table<S> {
     ghost use Rattle.rib_player.specs.Tables.{Contents, keys_in, routes_in};
-    ghost use Rattle.rib_player.specs.StoresByPeer.{stores_in, routed_in};
+    ghost use Rattle.rib_player.specs.StoresByPeer.{stores_in};
+    ghost use Rattle.rib_player.specs.Noted.{routed_in};
     ghost use Rattle.rib_player.specs.Kept.{coded_contents, IsHeldWhole};
 
     ghost Value = { Contents };

@@ -2,6 +2,7 @@
 
 ghost use Rattle.std.specs.Prelude.{◌≡◌, ◌||◌};
 ghost use Rattle.bgpdump_lines.specs.Going.{Puts, PutsPart, is_write};
+ghost use Rattle.bgpdump_tool.specs.Counts.{counts_text};
 ghost use Rattle.bgpdump_tool.specs.Replies.{best, found_text, peer_line_of, peers_text, route_text, table_text};
 
 use crate::replies::{write_none, write_numbers};
@@ -13,13 +14,50 @@ use mrt_wire::{Peer, Route};
 use prefix_store::PrefixStore;
 use rib_player::Table;
 use std::alloc::Global;
+use std::collections::BTreeMap;
 use std::rc::Rc;
 
 /// How many routes are asked for at once.
 const MANY: usize = 64;
 
-/// Writes the peers that have a route, each on a line, as they come. The text is scratch.
+/// Writes the peers that have a route, each on a line. The text is scratch.
 pub(crate) fn peers<S: PrefixStore<Rc<Route>>, O: Output>(
+    table: &Table<S>,
+    out: &mut O,
+    text: &mut Text,
+) -> Result<(), WriteFault>
+    ensures text { PutsPart (O.written out.old) (O.written out.new) (peers_text table.now.routes)
+        result }
+    ensures failed { O.failed out.new ≡ (O.failed out.old || is_write result) }
+{
+    match table.few_peers()? {
+        Some(few) => few_peers(&few, out, text),
+        None => each_peer(table, out, text),
+    }
+}
+
+/// Writes these peers, each on a line with the number of its routes. The text is scratch.
+fn few_peers<O: Output>(
+    few: &BTreeMap<Peer, u64>,
+    out: &mut O,
+    text: &mut Text,
+) -> Result<(), WriteFault>
+    ensures text { PutsPart (O.written out.old) (O.written out.new) (counts_text few.now.entries)
+        result }
+    ensures failed { O.failed out.new ≡ (O.failed out.old || is_write result) }
+{
+    if few.is_empty() {
+        return write_none(out);
+    }
+    'peers: for (peer, routes) in few.iter() {
+        write_peer(peer, *routes, out, text)?;
+    }
+    Ok(())
+}
+
+/// Writes the peers that have a route, each on a line, as they are found one after another. The text
+/// is scratch.
+fn each_peer<S: PrefixStore<Rc<Route>>, O: Output>(
     table: &Table<S>,
     out: &mut O,
     text: &mut Text,

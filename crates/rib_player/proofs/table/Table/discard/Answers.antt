@@ -1,7 +1,8 @@
 use Rattle.std.proofs.Common.{refl, Some, sym, ap, ◌∙◌, arith}
 use Rattle.std.specs.Option.{option_copied_mut}
 use Rattle.std.specs.FinSet as set
-use Rattle.rib_player.specs.StoresByPeer.{stores_in, routed_in}
+use Rattle.rib_player.specs.StoresByPeer.{stores_in}
+use Rattle.rib_player.specs.Noted.{routed_in}
 use Rattle.rib_player.specs.Lent.{IsLent}
 use Rattle.rib_player.proofs.StoreLaws.{IsStored, AreNoted, stored-lent, when_some, noted-other, noted-kept, key-has-store, contains-found, get-found, no_value, held-other, held-gone, keys-less, keys-gone, routes-kept, routes-gone}
 use Rattle.rib_player.proofs.table.Table.discard.Given.{Over}

@@ -4,7 +4,8 @@ use Rattle.std.specs.Option.{option_copied_mut}
 use Rattle.std.specs.FinMap as finite
 use Rattle.std.specs.FinSet as set
 use Rattle.rib_player.specs.Tables.{route_in, keys_in, routes_in}
-use Rattle.rib_player.specs.StoresByPeer.{stores_in, routed_in}
+use Rattle.rib_player.specs.StoresByPeer.{stores_in}
+use Rattle.rib_player.specs.Noted.{routed_in}
 use Rattle.rib_player.specs.Kept.{IsWritten}
 use Rattle.prefix_store.specs.Stored.{put}
 use Rattle.std.proofs.lemmas.Result.{on_ok_weaker, on_err_weaker, IfOk-weaker}

@@ -4,7 +4,7 @@ use Rattle.rib_player.specs.Tables.{routed_peers}
 use Rattle.rib_player.specs.Lookups.{peers_above}
 use Rattle.bgpdump_tool.specs.Replies.{peer_line}
 use Rattle.bgpdump_tool.proofs.WalkLaws.{Walked}
-use Rattle.bgpdump_tool.proofs.carrying.questions.peers.Given as goal
+use Rattle.bgpdump_tool.proofs.carrying.questions.each_peer.Given as goal
 
 abbrev pub invariant-peers : goal.invariant-peers
 invariant-peers g l = record {
