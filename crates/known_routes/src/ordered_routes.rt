@@ -198,8 +198,8 @@ impl OrderedRoutes {
         true
     }
 
-    /// Lets go of the routes that nothing else holds, and returns how many octets they take. It
-    /// takes no memory.
+    /// Lets go of the routes that nothing else holds, and returns how many octets they take. It asks
+    /// for smaller blocks at most, and does without those that are refused.
     pub(crate) fn take_unowned(&mut self) -> u64 {
         let mut octets = 0u64;
         let mut count = 0usize;

@@ -46,7 +46,7 @@ pub(crate) struct Places {
     /// The tag of each place.
     pub(crate) tags: Vec<u8>,
     pub(crate) taken: usize,
-    /// The routes that found both of their rows full.
+    /// Other routes that found both of their rows full.
     beyond: OrderedRoutes,
     /// How many routes were put over others.
     overwritten: usize,
@@ -127,7 +127,7 @@ impl Places {
 
     /// Returns whether a route whose rows are full is put over another: few were yet, or as many
     /// are beyond as may be.
-    fn may_overwrite(&self) -> bool {
+    fn is_overwriting(&self) -> bool {
         self.overwritten < self.taken / OVERWRITTEN_SHARE || self.beyond.are_most()
     }
 
@@ -161,7 +161,7 @@ impl Places {
             self.taken += 1;
             return Ok(index);
         }
-        if !self.may_overwrite() {
+        if !self.is_overwriting() {
             return self.put_beyond(hash, route);
         }
         self.overwritten = self.overwritten.saturating_add(1);
