@@ -671,7 +671,7 @@ def metrics_of_one_place(time=7, count=24):
 def communities_of_one_hash(count=64):
     """Pairs of communities of plain routes of time 7 whose hashes are one."""
     start = mixed(NO_ORIGIN, 7, ABSENT, ABSENT, ABSENT, ABSENT, 0, 0, 2)
-    by_hash = {mixed(0, number) >> 32: number for number in range(1 << 18)}
+    by_hash = {mixed(0, number) >> 32: number for number in range(1 << 20)}
     found, wanted = [], 0x1234_5678
     for first in itertools.count():
         before = mixed(start, first)

@@ -9,7 +9,7 @@ use std::cmp::Ordering;
 use std::rc::Rc;
 
 /// How many routes a run has at most. A run of so many becomes two runs before it takes one more.
-const LONGEST_RUN: usize = 256;
+const LONGEST_RUN: usize = 64;
 
 /// How many routes are here at most. One more is put at a place, over the route that stands there,
 /// which isn't found any more.
@@ -41,10 +41,10 @@ impl HashedRoute {
     /// Compares it with a route of this hash.
     #[inline]
     fn compare_to(&self, hash: u32, route: &Route) -> Ordering {
-        match self.hash.cmp(&hash) {
-            Ordering::Equal => compare_routes(&self.route, route),
-            unequal => unequal,
+        if self.hash != hash {
+            return self.hash.cmp(&hash);
         }
+        compare_routes(&self.route, route)
     }
 
     /// Returns whether nothing else holds the route.
@@ -151,8 +151,8 @@ impl OrderedRoutes {
         Ok(())
     }
 
-    /// Returns the index of the run where a route of this hash belongs, which isn't full: a full one
-    /// becomes two first. Refused, it stays.
+    /// Returns the index of the run where a route of this hash belongs, which isn't full: a full
+    /// one becomes two first. Refused, it stays.
     fn find_room(&mut self, hash: u32, route: &Route) -> Result<usize, AllocError> {
         let index = self.find_run(hash, route);
         if index >= self.runs.len() || self.runs[index].len() < LONGEST_RUN {
@@ -198,8 +198,8 @@ impl OrderedRoutes {
         true
     }
 
-    /// Lets go of the routes that nothing else holds, and returns how many octets they take. It
-    /// takes no memory.
+    /// Lets go of the routes that nothing else holds, and returns how many octets they take. It asks
+    /// for smaller blocks at most, and does without those that are refused.
     pub(crate) fn take_unowned(&mut self) -> u64 {
         let mut octets = 0u64;
         let mut count = 0usize;

@@ -27,11 +27,14 @@ pub(crate) const MOST_PLACES: usize = 1 << 24;
 /// one more than these, the routes move to fewer places.
 const MOST_TIMES: usize = 3;
 
-/// Of how many routes at places one is beyond at most while few are: of so many one. Those that
-/// come at random are few, two or three of a hundred. Few may be kept twice, since one isn't looked
-/// for there behind a place of its rows that went free. With one route more beyond, all are looked
-/// for there.
+/// Of how many routes at places one is beyond at most before all are looked for there too behind
+/// rows that have a free place: of so many one. With one route more beyond they are.
 const CROWDED_SHARE: usize = 16;
+
+/// Of how many routes at places one is put over another at most, where both of its rows are full:
+/// of so many one. Of routes that come at random fewer are. One more goes beyond, where a search
+/// takes longer.
+const OVERWRITTEN_SHARE: usize = 12;
 
 /// Where a route beyond stands: at no place. No number is above it.
 const NOWHERE: usize = usize::MAX;
@@ -43,9 +46,11 @@ pub(crate) struct Places {
     /// The tag of each place.
     pub(crate) tags: Vec<u8>,
     pub(crate) taken: usize,
-    /// The routes that found both of their rows full.
+    /// Other routes that found both of their rows full.
     beyond: OrderedRoutes,
-    /// How many octets all these routes take.
+    /// How many routes were put over others.
+    overwritten: usize,
+    /// How many octets all routes here take.
     pub(crate) held: u64,
     ghost counted: { taken ≡ count_by is_taken places.items },
     ghost tagged: { AreTagged places.items tags.items },
@@ -61,6 +66,7 @@ impl Places {
             tags: Vec::new(alloc),
             taken: 0,
             beyond: OrderedRoutes::none(alloc),
+            overwritten: 0,
             held: 0,
         }
     }
@@ -80,6 +86,7 @@ impl Places {
             tags,
             taken: 0,
             beyond: OrderedRoutes::none(alloc),
+            overwritten: 0,
             held: 0,
         })
     }
@@ -118,10 +125,27 @@ impl Places {
         Some((NOWHERE, self.beyond.find_route(hash, route)?))
     }
 
-    /// Puts a route at a free place of its rows, or beyond where these are full, and answers where
-    /// it stands then. Where as many are beyond as may be, it is put over the first route of its
-    /// first row. Refused, it isn't put. Its octets aren't added. A free place isn't read, as its
-    /// tag tells that it is one, since few places are in the cache.
+    /// Returns whether a route whose rows are full is put over another: few were yet, or as many
+    /// are beyond as may be.
+    fn is_overwriting(&self) -> bool {
+        self.overwritten < self.taken / OVERWRITTEN_SHARE || self.beyond.are_most()
+    }
+
+    /// Puts a route beyond, and returns where it stands then. Refused, it isn't put. It stands out
+    /// of line, since few routes go there.
+    #[inline(never)]
+    fn put_beyond(&mut self, hash: u32, route: Rc<Route>) -> Result<usize, AllocError>
+        ensures places { vec_len self.new.places ≡ vec_len self.old.places }
+        ensures taken { self.new.taken ≡ self.old.taken }
+    {
+        self.beyond.put_route(hash, route)?;
+        Ok(NOWHERE)
+    }
+
+    /// Puts a route at a free place of its rows, and returns where it stands then. Where these are
+    /// full it is put over the first route of the first row, while few are, or else beyond.
+    /// Refused, it isn't put. Its octets aren't added. A free place isn't read, as its tag tells
+    /// that it is one, since few places are in the cache.
     pub(crate) fn put(&mut self, hash: u32, route: Rc<Route>) -> Result<usize, AllocError>
         ensures places { vec_len self.new.places ≡ vec_len self.old.places }
         ensures taken { self.old.taken ≤ self.new.taken }
@@ -137,10 +161,10 @@ impl Places {
             self.taken += 1;
             return Ok(index);
         }
-        if !self.beyond.are_most() {
-            self.beyond.put_route(hash, route)?;
-            return Ok(NOWHERE);
+        if !self.is_overwriting() {
+            return self.put_beyond(hash, route);
         }
+        self.overwritten = self.overwritten.saturating_add(1);
         self.held = self.held.saturating_sub(octets_at(&self.places[index]));
         self.places[index] = Place::Taken(hash, route);
         self.tags[index] = tag_of(hash);
@@ -202,9 +226,11 @@ impl Places {
         let Places {
             places,
             beyond,
+            overwritten,
             held,
             ..
         } = others;
+        self.overwritten = overwritten;
         self.held = self.held.saturating_add(held);
         'places: for place in places {
             if let Place::Taken(hash, route) = place {

@@ -71,7 +71,9 @@ fn compare_short_attributes(one: &Attrs, other: &Attrs) -> Ordering {
         .then(compare_optional_aggregators(&one.aggregator, &other.aggregator))
 }
 
-/// Compares two routes by all that they are: those that differ in anything are never equal in it.
+/// Compares two routes by all that they are, so that those that differ in anything are never equal
+/// in it. It stands out of line, since few routes share a hash.
+#[inline(never)]
 pub(crate) fn compare_routes(one: &Route, other: &Route) -> Ordering {
     let (ones, others) = (&one.attrs, &other.attrs);
     let short = one

@@ -24,8 +24,8 @@ const SEGMENT_OCTETS: usize = size_of::<Segment>();
 /// Adds how many octets of room a list has for more items than it has, of so many octets each.
 #[inline]
 fn add_spare<T>(octets: u64, list: &Vec<T>, size: usize) -> u64 {
-    let spare = list.capacity().saturating_sub(list.len());
-    octets.saturating_add((spare as u64).saturating_mul(size as u64))
+    let spare = list.capacity().wrapping_sub(list.len());
+    octets.wrapping_add((spare as u64).wrapping_mul(size as u64))
 }
 
 /// Returns whether the route has much room for more than it has.
