@@ -269,7 +269,7 @@ impl RoutePool {
         if self.room.saturating_add(room) > most {
             self.let_go(most.saturating_sub(room));
         }
-        self.room = self.room.saturating_add(room).min(most);
+        self.room = self.room.saturating_add(room);
         self.needed = needed;
         self.most = most;
     }
