@@ -9,7 +9,8 @@ use ip_prefix::Addr;
 use std::alloc::{AllocError, Global};
 use std::mem;
 
-/// For how many communities more there is room at most behind a longer list.
+/// For how many communities more than it has a list has room at most, behind a longer one. Room for
+/// one more is let go, for just as much as is needed.
 pub(crate) const MOST_SPARE: u8 = 32;
 
 /// How a route came into BGP (RFC 4271, section 5.1.1).

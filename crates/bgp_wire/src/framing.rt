@@ -10,7 +10,8 @@ use crate::lengths::{LENGTH_SIZE, read_length};
 /// The flag of an attribute whose length has two octets (RFC 4271, section 4.3).
 pub const EXTENDED_LENGTH: u8 = 0x10;
 
-/// The types of attributes are below this, as far as they are read.
+/// The types of attributes are below this, as far as they are read. Of an attribute of this type or one
+/// above, only the frame is read, and it may be there more than once.
 pub(crate) const KINDS: usize = 19;
 
 /// The type of ORIGIN (RFC 4271, section 4.3).

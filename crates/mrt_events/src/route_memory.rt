@@ -15,10 +15,11 @@ const NUMBER_OCTETS: u64 = 4;
 
 /// How many octets of room a route has at most for more than it has, where it was read from octets:
 /// for 4 segments (`fit` of `bgp_paths`), for 32 communities (`Communities` of `bgp_wire`), and what
-/// the allocator rounds up.
+/// the allocator rounds up. Where more is left to it, it takes more than is counted.
 const SPARE_OCTETS: u64 = 288;
 
-/// How many octets of room such a route's segment has at most for 8 numbers more (`AsNumbers`).
+/// How many octets of room such a route's segment has at most, for 8 numbers more (`AsNumbers`). Where
+/// more is left to it, it takes more than is counted.
 const SEGMENT_SPARE: u64 = 32;
 
 /// So many times so many octets.

@@ -8,7 +8,8 @@ use crate::header::LONGEST_BODY;
 use crate::input::Input;
 use std::ops::Range;
 
-/// By how much an empty buffer grows at first. Later it grows by as much as was filled.
+/// By how many octets a buffer grows while no more than these were filled. Where more were, it grows
+/// by as many as were filled.
 const FIRST_GROWTH: usize = 4096;
 
 /// Fills the buffer as far as the input goes, and answers how far that is. What is taken is counted:

@@ -9,11 +9,12 @@ use crate::header::{HEADER_SIZE, Header, LONGEST_BODY, read_header};
 use crate::input::Input;
 use std::alloc::Global;
 
-/// For how many octets of a body room is kept at most behind a shorter one.
+/// How many octets of room the buffer of bodies has at most when a body of no more is read. Room for
+/// one more is let go then, and the buffer grows anew.
 const MOST_KEPT: usize = 1 << 18;
 
 /// How many octets are passed over at once. They are few, since each record that is passed over makes
-/// room for them.
+/// room for them. A body of one more takes one more read of the input.
 const PIECE: usize = 512;
 
 /// Which records are supported, by their types, and how their bodies are read.

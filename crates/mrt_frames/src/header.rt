@@ -9,7 +9,7 @@ use byteorder::{BigEndian, ByteOrder};
 /// How many octets a header has.
 pub const HEADER_SIZE: usize = 12;
 
-/// The greatest length that a header may state.
+/// The greatest length that a header may state. One more ends what is read of the input.
 pub const LONGEST_BODY: u32 = 16_777_216;
 
 /// The fields of a header.

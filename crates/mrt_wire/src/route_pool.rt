@@ -37,9 +37,9 @@ pub(crate) const MOST_ROOM: u64 = 560 * 1024;
 /// the list of them has room for.
 pub(crate) const PLACE_OCTETS: u64 = 32;
 
-/// How many octets less may be kept for each octet of a record, down to what the record before needed.
-/// So what is let go was not asked for while a quarter as many octets were read, and to ask for it
-/// again takes about as long as to read these.
+/// How many octets less may be kept for each octet of a record, down to what that record needed. So
+/// what is let go wasn't needed while a quarter as many octets were read, and to ask for it again
+/// takes about as long as to read these.
 const LET_GO: u64 = 4;
 
 /// The attributes of a table's entry as they were sent: the octets, the family of the prefix that
@@ -149,6 +149,8 @@ pub(crate) struct RoutePool {
     needed: u64,
     /// How many octets `room` may be.
     most: u64,
+    /// How many octets the record that is read has.
+    octets: u64,
     ghost counted: { given ≤ vec_len routes },
     ghost bounded: { vec_len routes ≤ MOST_ROUTES },
     ghost below: { given < MOST_ROUTES },
@@ -182,6 +184,7 @@ impl RoutePool {
             room: 0,
             needed: 0,
             most: MOST_ROOM,
+            octets: 0,
         }
     }
 
@@ -190,25 +193,26 @@ impl RoutePool {
     pub(crate) fn restart(&mut self, octets: usize)
         ensures given { self.new.given ≡ 0 }
         ensures needed { self.new.needed ≡ 0 }
+        ensures octets { self.new.octets ≡ octets }
         ensures most { self.new.most ≤ max MOST_ROOM
-            (max self.old.needed (self.old.most - LET_GO * octets)) }
+            (max self.old.needed (self.old.most - LET_GO * self.old.octets)) }
     {
         self.given = 0;
         if self.most > MOST_ROOM {
-            self.lower(octets as u64);
+            self.lower();
         }
         self.needed = 0;
+        self.octets = octets as u64;
     }
 
-    /// Lowers how much may be kept, as far as the record before didn't need it, before one of so many
-    /// octets is read.
+    /// Lowers how much may be kept by the octets that were read, as far as their record didn't need it.
     #[inline(never)]
-    fn lower(&mut self, octets: u64)
+    fn lower(&mut self)
         ensures given { self.new.given ≡ self.old.given }
         ensures most { self.new.most ≡ max MOST_ROOM
-            (max self.old.needed (self.old.most - LET_GO * octets)) }
+            (max self.old.needed (self.old.most - LET_GO * self.old.octets)) }
     {
-        let lowered = self.most.saturating_sub(octets.saturating_mul(LET_GO));
+        let lowered = self.most.saturating_sub(self.octets.saturating_mul(LET_GO));
         let most = lowered.max(self.needed).max(MOST_ROOM);
         if self.room > most {
             self.let_go(most);
@@ -265,7 +269,7 @@ impl RoutePool {
         if self.room.saturating_add(room) > most {
             self.let_go(most.saturating_sub(room));
         }
-        self.room = self.room.saturating_add(room).min(most);
+        self.room = self.room.saturating_add(room);
         self.needed = needed;
         self.most = most;
     }
