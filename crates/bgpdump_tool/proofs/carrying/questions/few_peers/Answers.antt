@@ -1,4 +1,4 @@
-use Rattle.std.proofs.Common.{◌≡◌, ℕ, ◌∷◌, ◌++◌, Err, is_some, slice_get, rules, refl, ap, subst, ◌∙◌}
+use Rattle.std.proofs.Common.{◌++◌, is_some, slice_get, rules, refl, ap, subst, ◌∙◌}
 use Rattle.std.proofs.lemmas.Result.{err_from_is_err_and}
 use Rattle.bgpdump_lines.specs.Run.{AppendsFront}
 use Rattle.bgpdump_tool.specs.Counts.{count_line}
