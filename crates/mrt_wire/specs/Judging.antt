@@ -25,7 +25,7 @@ use Rattle.mrt_wire.specs.declared.next.Next.TheVariants as next
 use Rattle.mrt_wire.specs.declared.rib.Snapshot.{Snapshot}
 use Rattle.mrt_wire.specs.declared.rib.EntryItems.{EntryItems}
 use Rattle.mrt_wire.specs.declared.rib.ReadEntry.{ReadEntry}
-use Rattle.mrt_wire.specs.declared.route_pool.SentAttrs.{SentAttrs}
+use Rattle.mrt_wire.specs.declared.rib_route.SentAttrs.{SentAttrs}
 use Rattle.mrt_wire.specs.declared.session.SessionItems.{SessionItems}
 use Rattle.mrt_wire.specs.declared.update.Announcement.{Announcement}
 use Rattle.bgp_wire.specs.declared.attrs.Attrs.{Attrs}

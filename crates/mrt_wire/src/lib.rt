@@ -12,6 +12,7 @@ mod profile;
 mod read_routes;
 mod replacing;
 mod rib;
+mod rib_route;
 mod route_pool;
 mod session;
 mod source;

@@ -7,7 +7,8 @@ ghost use Rattle.mrt_wire.specs.declared.peers.TheConstants.{PEER_PLACES};
 ghost use Rattle.mrt_wire.specs.Judging.{IsSentAs, RefusesSent};
 
 use crate::peers::PEER_PLACES;
-use crate::route_pool::{RoutePool, SentAttrs, new_route};
+use crate::rib_route::{SentAttrs, new_route};
+use crate::route_pool::RoutePool;
 use bgp_wire::{AS_PATH, AsWidth, EXTENDED_LENGTH, MP_REACH_NLRI, ORIGIN, WireFault};
 use ip_prefix::Family;
 use mrt_events::Route;

@@ -11,7 +11,7 @@ ghost use Rattle.mrt_wire.specs.Judging.{Adds, AreItemsOf, EntriesTold, IsTimed,
 
 use crate::fields::{skip, split_short, split_sized, split_word};
 use crate::pool::Pool;
-use crate::route_pool::SentAttrs;
+use crate::rib_route::SentAttrs;
 use bgp_wire::{AsWidth, WireFault};
 use ip_prefix::{Family, Prefix};
 use mrt_events::{Item, Peer, Route, Stamp};

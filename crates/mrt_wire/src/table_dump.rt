@@ -13,7 +13,7 @@ use crate::fields::{
 use crate::peers::place_of;
 use crate::pool::Pool;
 use crate::rib::time_of;
-use crate::route_pool::SentAttrs;
+use crate::rib_route::SentAttrs;
 use bgp_wire::{AsWidth, WireFault};
 use ip_prefix::{Addr, Family, Prefix, V4_OCTETS};
 use mrt_events::{Item, Items, Peer, SharedRanges, Stamp};

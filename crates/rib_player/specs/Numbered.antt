@@ -8,7 +8,7 @@ use Rattle.std.specs.declared.alloc.Global.{Global}
 use Rattle.std.specs.declared.rc.Rc.{Rc}
 use Rattle.mrt_events.specs.declared.peer.Peer.{Peer}
 use Rattle.mrt_events.specs.Event.{peer_cmp}
-use Rattle.rib_player.specs.declared.stores.Marks.{Marks}
+use Rattle.rib_player.specs.declared.row_marks.Marks.{Marks}
 
 -- the peers that are pointed to
 abbrev pub peers_in : List (Rc Peer Global) → List Peer

@@ -12,6 +12,7 @@ mod pair;
 mod player;
 mod reaching;
 mod room;
+mod row_marks;
 mod steps;
 mod stores;
 mod table;

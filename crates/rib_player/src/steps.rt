@@ -12,7 +12,7 @@ ghost use Rattle.rib_player.specs.Marks.{cleared_side, ClearAllOf, AreDistinct, 
 use crate::changes::{Changes, changes_of, shared_peer};
 use crate::entry::Entry;
 use crate::numbered_peer::NumberedPeer;
-use crate::stores::Marks;
+use crate::row_marks::Marks;
 use crate::table::Table;
 use ip_prefix::Prefix;
 use known_routes::KnownRoutes;

@@ -1,6 +1,6 @@
 //! The stores of peers. Each peer that has one has a number, by which it is found.
 
-ghost use Rattle.std.specs.Prelude.{◌≡◌, ◌≤◌, ℕ, [], Some, None, true, false, IsTrue, IsSome, IfSome, IfOk, slice_get, length, ◌<◌, OnOk, OnErr, vec_len};
+ghost use Rattle.std.specs.Prelude.{◌≡◌, ◌≤◌, [], Some, None, true, false, IsTrue, IsSome, IfSome, IfOk, slice_get, length, ◌<◌, OnOk, OnErr, vec_len};
 ghost use Rattle.std.specs.Option.{option_copied, option_copied_mut, option_map};
 ghost use Rattle.std.specs.Borrow.{sem};
 ghost use Rattle.std.specs.Map.{lookup};
@@ -9,7 +9,7 @@ ghost use Rattle.mrt_events.specs.Event.{peer_cmp};
 ghost use Rattle.rib_player.specs.declared.stores.TheConstants.{PLACES};
 ghost use Rattle.rib_player.specs.Tables.{store_at};
 ghost use Rattle.rib_player.specs.Kept.{IsWritten};
-ghost use Rattle.rib_player.specs.Numbered.{peers_in, AreNumbered, is_marked};
+ghost use Rattle.rib_player.specs.Numbered.{peers_in, AreNumbered};
 ghost use Rattle.rib_player.specs.Journal.{sides_of};
 ghost use Rattle.rib_player.specs.Chosen.{choices};
 ghost use Rattle.rib_player.specs.Marks.{AreDistinct};
@@ -19,6 +19,7 @@ use crate::chosen::Chosen;
 use crate::entry::Entry;
 use crate::numbered_peer::NumberedPeer;
 use crate::room::give_back_room;
+use crate::row_marks::Marks;
 use known_routes::peer_hash;
 use mrt_events::{Peer, same_peer};
 use std::alloc::{AllocError, Global};
@@ -31,15 +32,6 @@ const PLACES: usize = 4096;
 
 /// How many bits of a hash are left out, so that it names a place.
 const LOWEST_BITS: u32 = 52;
-
-/// Which numbers were seen in a row of peers.
-#[derive(Drop)]
-pub(crate) struct Marks {
-    /// The row in which each number was seen last.
-    pub(crate) rows: Vec<u64>,
-    /// The row that is looked at.
-    pub(crate) row: u64,
-}
 
 /// Stores, at most one for each peer.
 #[derive(Drop)]
@@ -287,41 +279,5 @@ fn note_place(places: &mut Vec<u32>, peer: &Peer, number: usize)
 {
     if let Some(place) = places.get_mut(place_of(peer)) {
         *place = u32::try_from(number).unwrap_or(u32::MAX);
-    }
-}
-
-impl Marks {
-    /// None.
-    pub(crate) fn new(alloc: Global) -> Marks {
-        Marks {
-            rows: Vec::new(alloc),
-            row: 0,
-        }
-    }
-
-    /// Begins another row, where so many peers have numbers.
-    fn begin(&mut self, count: usize) {
-        self.row = self.row.wrapping_add(1);
-        self.rows.truncate(count);
-        give_back_room(&mut self.rows);
-    }
-
-    /// Whether the number is known to be new in this row. It is marked then.
-    fn is_new(&mut self, number: usize) -> Result<bool, AllocError>
-        ensures new { IfOk result (λ is_new. IsTrue is_new → is_marked self.old number ≡ false) }
-        ensures marked { IfOk result (λ is_new. IsTrue is_new →
-            is_marked self.new number ≡ true) }
-        ensures others { IfOk result (λ is_new. (n : ℕ) → IsTrue is_new →
-            is_marked self.old n ≡ true → is_marked self.new n ≡ true) }
-    {
-        if number >= self.rows.len() {
-            let Some(count) = number.checked_add(1) else {
-                return Ok(false);
-            };
-            self.rows.resize(count, self.row.wrapping_sub(1))?;
-        }
-        let is_new = self.rows[number] != self.row;
-        self.rows[number] = self.row;
-        Ok(is_new)
     }
 }
