@@ -85,6 +85,11 @@ def segments_of(count):
     return route(segment(4, 64496) * count)
 
 
+def long_at_first(number):
+    """Attributes of 650 segments for the first four numbers, and of 3 and 230 communities for others."""
+    return segments_of(650) if number < 4 else segments_of(3) + communities(*range(number, number + 230))
+
+
 def plain_of(numbers, number):
     """Attributes with a path of one segment of so many numbers."""
     return route(segment(4, number + 1, *range(1, numbers)))
@@ -161,12 +166,9 @@ CASES = (
     Case('the parts of an UPDATE', lambda: emptied(long_message(5_900)), lambda: emptied(long_message(1)), 48 * KIB),
     # MOST_ITEMS of mrt_wire/src/pool.rt: 4,096.
     Case('items', lambda: emptied(many_entries(10_000, b'')), lambda: emptied(many_entries(4_000, b'')), 64 * KIB),
-    # LONGEST_KEPT of mrt_wire/src/route_pool.rt: 1,024 octets, of which FIRST_ROUTES routes take 26 KiB each.
-    Case('long attributes', lambda: emptied(entries_of_peers(4, lambda _: segments_of(650))),
-         lambda: emptied(entries_of_peers(4, lambda _: segments_of(3))), 4 * 26 * KIB),
-    # MOST_ROOM of mrt_wire/src/route_pool.rt: 560 KiB.
-    Case('routes of a table', lambda: emptied(entries_of_peers(1_024, lambda number: segments_of(3) +
-                                                               communities(*range(number, number + 230)))),
+    # MOST_ROOM of mrt_wire/src/route_pool.rt: 560 KiB. Of LONGEST_FIRST there: 1,024 octets, so those of the first
+    # peers are among them.
+    Case('routes of a table', lambda: emptied(entries_of_peers(1_024, long_at_first)),
          lambda: emptied(entries_of_peers(1_024, lambda _: b'')), 560 * KIB),
     # PEER_PLACES of mrt_wire/src/peers.rt: 256 places of 1,344 octets.
     Case('places for peers', lambda: emptied(entries_of_peers(1_024, partial(plain_of, 1))),
