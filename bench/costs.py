@@ -86,7 +86,7 @@ def main():
 
         def peak(command, records):
             file.write_bytes(b''.join(records))
-            return 1024 * peak_memory(command)
+            return float(peak_memory(command)) * 2 ** 20
 
         empty = peak(dumped, [])
         file.write_bytes(many_long_lines())

@@ -39,12 +39,12 @@ def small_messages(count=4):
 
 
 def emptied(records):
-    """The records, one that takes the place of their index, one whose line has a text that is let go, one with a body
-    that is, and small ones."""
+    """The records, one that takes the place of their index, one whose line has a text that is let go, ones with bodies
+    that are, of so many octets that no routes of a table stay because the records needed them, and small ones."""
     yield from records
     yield index(1)
     yield table(0, net(0), [entry(0, communities(*range(11_000)))])
-    yield change(300_000)
+    yield from [change(300_000)] * 8
     yield from [change()] * 4
 
 

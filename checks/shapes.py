@@ -108,10 +108,12 @@ SHAPES = (
           most=5 * MIB),
     Shape('short routes behind room, played', 10_000, shaped.short_behind_room, all_steps,
           beside=shaped.short_routes),
-    # What a record of these takes once.
+    # Twice what a record of these takes: the reader keeps its routes, and so does the player.
     Shape('garbage of long records, played', 2, partial(shaped.short_among_garbage, entries=20_000), all_steps,
-          most=80 * MIB),
-    Shape('peers announce again, played', 10_000, shaped.claimed_twice, all_steps, beside=shaped.announced_thrice),
+          most=130 * MIB),
+    # Their claims take 800 octets a peer.
+    Shape('peers announce again, played', 10_000, shaped.claimed_twice, all_steps, beside=shaped.announced_thrice,
+          times=2.3),
     Shape('peers without routes, asked for', 8_000, shaped.emptied_peers, all_steps_and_peers, 16 * MIB),
 )
 
