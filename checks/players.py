@@ -523,7 +523,8 @@ def cross_small_steps(course, is_back):
         course.ask('count', 'counted')
         course.go(is_back)
         course.within(f'reached {PEER}', 0, MOST_REACHED)
-        course.within(f'calls {PEER}', 0, 20)
+        # An exchange for each pair, a count behind it, and what reaches them.
+        course.within(f'calls {PEER}', 0, 3 * SMALL + 3)
     for _ in range(SMALL_STEPS):
         course.go(not is_back)
     course.ask('count', 'counted')
