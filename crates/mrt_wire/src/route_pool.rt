@@ -61,6 +61,11 @@ impl GivenRoute {
         let route = new_route(alloc)?;
         Ok(GivenRoute { route, room: 0 })
     }
+
+    /// Whether somebody else holds the route.
+    fn has_other_owner(&self) -> bool {
+        Rc::strong_count(&self.route) > 1
+    }
 }
 
 /// The routes that were given out, to be filled again where nobody else holds them any more.
@@ -163,6 +168,37 @@ impl RoutePool {
         }
         // Where all others went, the record's own are left, which there is room for.
         self.room = self.room.min(most);
+        self.routes.shrink_to_fit();
+    }
+
+    /// Lets go of the routes that somebody else holds, if the record that was read needed more than
+    /// is kept otherwise. So they go as soon as their other owner lets go of them. For the next
+    /// record there would be new ones in their places anyway.
+    #[inline(always)]
+    pub(crate) fn let_go_of_held(&mut self)
+        ensures most { self.new.most ≡ self.old.most }
+    {
+        if self.needed > MOST_ROOM {
+            self.remove_held();
+        }
+    }
+
+    /// Removes the routes that somebody else holds. None counts as given out any more.
+    #[inline(never)]
+    fn remove_held(&mut self)
+        ensures given { self.new.given ≡ 0 }
+        ensures most { self.new.most ≡ self.old.most }
+    {
+        self.given = 0;
+        let mut place = 0;
+        'routes: while place < self.routes.len() {
+            if self.routes[place].has_other_owner() {
+                let held = self.routes.swap_remove(place);
+                self.room = self.room.saturating_sub(held.room);
+            } else {
+                place += 1;
+            }
+        }
         self.routes.shrink_to_fit();
     }
 

@@ -89,6 +89,7 @@ impl Source {
     {
         if let Next::Event(event) = answer {
             self.pool.keep_items(event.items.into_vec());
+            self.pool.read.routes.let_go_of_held();
         }
     }
 

@@ -5,9 +5,13 @@ use crate::tree::Tree;
 use ip_prefix::Prefix;
 use prefix_store::{Packed, V4Prefix};
 
-/// How many bits of a prefix a descent goes by at most, so how many nodes it passes. A node that lies
-/// one below isn't fetched, and the call behind the descent waits for it.
+/// How many bits of a prefix a descent goes by at most. Nodes whose prefixes have as many bits and
+/// more aren't passed.
 const MOST_BITS: u8 = 64;
+
+/// How many nodes a descent passes at most: more than lie above the prefixes of the Internet's tables.
+/// A node that lies one below isn't fetched, and the call behind the descent waits for it.
+const MOST_NODES: u8 = 32;
 
 /// A descent to where a prefix stands, or would stand, and no further. It looks at one bit for each
 /// node, of the first 64 that the prefix has, and compares nothing, so it says nothing of what stands
@@ -98,12 +102,12 @@ pub(crate) struct Descents<'a, R> {
 impl<'a, R> Descents<'a, R> {
     /// Takes them down, and answers how many nodes the longest passed.
     pub(crate) fn finish(&mut self) -> u64 {
-        'nodes: for passed in 0..MOST_BITS {
+        'nodes: for passed in 0..MOST_NODES {
             if !self.pass_nodes() {
                 return u64::from(passed);
             }
         }
-        u64::from(MOST_BITS)
+        u64::from(MOST_NODES)
     }
 
     /// Each passes a node; it answers whether there was one.

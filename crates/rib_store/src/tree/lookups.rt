@@ -2,7 +2,7 @@
 
 ghost use Rattle.std.specs.Prelude.{◌≡◌, ◌+◌, ◌≤◌, Some, None, MatchOption, vec_capacity, option_map, option_copied};
 ghost use Rattle.ip_prefix.specs.Turns.{way};
-ghost use Rattle.rib_store.specs.Tree.{shape_of, IsMarked, at};
+ghost use Rattle.rib_store.specs.Tree.{shape_of, IsMarked, IsShaped, at};
 ghost use Rattle.prefix_store.specs.Lookups.{pointed};
 ghost use Rattle.rib_store.specs.Walks.{deepest, visits, first, behind, all_routes, all_behind, filled};
 
@@ -11,8 +11,11 @@ use ip_prefix::{Prefix, Turn};
 use prefix_store::Packed;
 
 impl<K: Packed, R> Tree<K, R> {
-    /// The key's room, where it is a key, and the route in it.
+    /// Returns the key's room, where it is a key, and the route in it. On the way down it looks at one
+    /// bit for each node, and at the whole prefix only where it ends.
+    #[tactic(auto, using(crate::proofs::TreeLaws::at_left_under, crate::proofs::TreeLaws::at_right_under))]
     pub(crate) fn slot(&self, key: &Prefix) -> Option<Option<&R>>
+        requires { IsShaped (shape_of K.network self.now) }
         ensures { option_map (λ slot. option_copied slot) result
             ≡ at (shape_of K.network self.now) (way key.now) }
     {
@@ -26,13 +29,15 @@ impl<K: Packed, R> Tree<K, R> {
                 Turn::Here => Some(Some(route)),
                 _ => None,
             },
-            Tree::Rooted(_, prefix, node) => match prefix.turn(key) {
-                Turn::Outside => None,
-                Turn::Here => node.slot.kept(),
+            Tree::Rooted(_, prefix, node) => match key.turn_under(prefix.len()) {
                 Turn::Left => node.left.slot(key),
                 Turn::Right => node.right.slot(key),
+                _ => match prefix.turn(key) {
+                    Turn::Here => node.slot.kept(),
+                    _ => None,
+                },
             },
-            Tree::Forked(_, prefix, fork) => match prefix.turn(key) {
+            Tree::Forked(_, prefix, fork) => match key.turn_under(prefix.len()) {
                 Turn::Left => fork.left.slot(key),
                 Turn::Right => fork.right.slot(key),
                 _ => None,
