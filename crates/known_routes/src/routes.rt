@@ -97,8 +97,9 @@ impl KnownRoutes {
             self.note_last(last, index);
             return Ok(known);
         }
-        let kept = copy_roomy(self.alloc, route)?;
-        let index = self.note(hash, kept.clone()?)?;
+        let octets = route_size(route);
+        let kept = copy_roomy(self.alloc, route, octets)?;
+        let index = self.note(hash, kept.clone()?, octets)?;
         self.note_last(last, index);
         Ok(kept)
     }
@@ -157,16 +158,15 @@ impl KnownRoutes {
         Ok(())
     }
 
-    /// Notes a route that isn't here, and answers where it stands then, if it does. Refused, none
-    /// is noted.
-    fn note(&mut self, hash: u32, route: Rc<Route>) -> Result<usize, AllocError>
+    /// Notes a route that isn't here and takes so many octets, and answers where it stands then, if it
+    /// does. Refused, none is noted.
+    fn note(&mut self, hash: u32, route: Rc<Route>, octets: u64) -> Result<usize, AllocError>
         ensures { stood_count self.new ≤ max (stood_count self.old) (route_count self.new) }
     {
         let count = self.routes.places.len();
         if count < MOST_PLACES && self.routes.taken >= count / 4 * 3 {
             self.add_places()?;
         }
-        let octets = route_size(&route);
         let index = self.routes.put(hash, route)?;
         self.noted = self.noted.saturating_add(octets);
         self.routes.held = self.routes.held.saturating_add(octets);

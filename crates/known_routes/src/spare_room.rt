@@ -3,7 +3,7 @@
 ghost use Rattle.std.specs.Prelude.{◌≡◌, IfOk};
 
 use bgp_wire::Segment;
-use mrt_events::{Route, route_size};
+use mrt_events::Route;
 use std::alloc::{AllocError, Global};
 use std::mem::size_of;
 use std::rc::Rc;
@@ -28,9 +28,9 @@ fn add_spare<T>(octets: u64, list: &Vec<T>, size: usize) -> u64 {
     octets.wrapping_add((spare as u64).wrapping_mul(size as u64))
 }
 
-/// Returns whether the route has much room for more than it has.
+/// Returns whether the route, which takes so many octets, has much room for more than it has.
 #[inline]
-fn has_much_room(route: &Route) -> bool {
+fn has_much_room(route: &Route, octets: u64) -> bool {
     let attrs = &route.attrs;
     let segments = &attrs.path.segments.items;
     let mut spare = add_spare(0, &attrs.communities.items, NUMBER_OCTETS);
@@ -38,7 +38,7 @@ fn has_much_room(route: &Route) -> bool {
     'segments: for segment in segments.iter() {
         spare = add_spare(spare, &segment.numbers.items, NUMBER_OCTETS);
     }
-    spare > MOST_SPARE && spare - MOST_SPARE > route_size(route) / SPARE_SHARE
+    spare > MOST_SPARE && spare - MOST_SPARE > octets / SPARE_SHARE
 }
 
 /// Returns a copy of the route, whose blocks have no room for more.
@@ -50,12 +50,16 @@ fn copy_route(alloc: Global, route: &Route) -> Result<Rc<Route>, AllocError>
     Ok(Rc::new(alloc, copy)?)
 }
 
-/// Returns the route, or a copy without room for more where it has much.
+/// Returns the route, which takes so many octets, or a copy without room for more where it has much.
 #[inline]
-pub(crate) fn copy_roomy(alloc: Global, route: &Rc<Route>) -> Result<Rc<Route>, AllocError>
+pub(crate) fn copy_roomy(
+    alloc: Global,
+    route: &Rc<Route>,
+    octets: u64,
+) -> Result<Rc<Route>, AllocError>
     ensures { IfOk result (λ copy. copy.value ≡ route.now.value) }
 {
-    if has_much_room(route) {
+    if has_much_room(route, octets) {
         return copy_route(alloc, route);
     }
     route.clone()
