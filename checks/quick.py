@@ -8,7 +8,8 @@ which its text lies, those of inner functions too, which the gate doesn't try; `
 nothing; tests stand in a crate of their own; no two files of a crate import each other; links between
 documents lead somewhere, and the edits that docs/proved.md names and the files of code that documents
 name are there; the texts of each example are there; the files of rows and their counts are named; the
-version is the same wherever it is named; no code makes a want of memory that isn't known to hand one on.
+version is the same wherever it is named; no code makes a want of memory that isn't known to hand one on;
+each bound that an input may be chosen to meet has a shape that does (bounds.py).
 The status is 1 where something is wrong, and each fault is told on a line of its own.
 """
 import itertools
@@ -19,6 +20,7 @@ import sys
 import tempfile
 from pathlib import Path
 
+from bounds import faults_of_bounds
 from wants import faults_of_wants
 
 TOP = Path(__file__).resolve().parent.parent
@@ -219,8 +221,12 @@ def main():
     ] + list(faults_of_wants(item_before))
     for place, fault in found:
         print(f'{place.relative_to(TOP)}: {fault}')
-    print(f'quick checks: {len(found) or "no"} faults')
-    sys.exit(bool(found))
+    without_shape = list(faults_of_bounds())
+    for fault in without_shape:
+        print(fault)
+    count = len(found) + len(without_shape)
+    print(f'quick checks: {count or "no"} faults')
+    sys.exit(bool(count))
 
 
 main()

@@ -257,6 +257,20 @@ def coming_and_going(rounds, prefixes):
         yield message(found, b'', b'')
 
 
+def hosts_below_keys(rounds, keys):
+    """So often 11,400 hosts of IPv6 are announced and withdrawn, a third of them in a message, below so many keys, each
+    of a bit more than the one above it, that have no routes."""
+    chain = b''.join(wide(bits) for bits in range(keys))
+    found = [b''.join(wide(128, bytes(14) + number.to_bytes(2, 'big')) for number in range(start, start + 3_800))
+             for start in range(0, 11_400, 3_800)]
+    up = [message(b'', route(segment(4, 64496), reach(it)), b'') for it in (chain, *found)]
+    down = [message(b'', unreach(it), b'') for it in (chain, *found)]
+    if keys:
+        yield from (up[0], down[0])
+    for _ in range(rounds):
+        yield from (*up[1:], *down[1:])
+
+
 def many_peers(count):
     """The announcement of an address by each of so many peers."""
     for peer in range(count):

@@ -58,6 +58,11 @@ def all_steps_and_peers(size):
     return all_steps(size) + 'peers\n' * (size // 4)
 
 
+def back_and_forth(_):
+    """All steps, back to the first, and all steps again."""
+    return 'next 4294967295\ngoto 0\ngoto 4294967295\n'
+
+
 def one_by_one(kept, steps, ahead=0):
     """Each of the steps behind the first ones, and how many are kept then."""
     return ('next %d\n' % ahead if ahead else '') + ('next 1\nforget %d\n' % kept) * steps
@@ -92,6 +97,11 @@ SHAPES = (
           lambda size: one_by_one(size, 2 * size + 1), 24 * MIB),
     Shape('messages are withdrawn', 200, partial(shaped.withdrawn, each=500), lambda size: one_by_one(1, 2 * size)),
     Shape('prefixes of 80 bits share 48', 10_000, shaped.alike, lambda size: one_by_one(size, 2 * size), 9 * MIB),
+    Shape('prefixes of 80 bits share 48, back and forth', 10_000, shaped.alike, back_and_forth, 12 * MIB),
+    Shape('hosts below keys of each length, played', 2, partial(shaped.hosts_below_keys, keys=113), all_steps,
+          beside=partial(shaped.hosts_below_keys, keys=0), dearer=5.0),
+    Shape('hosts below keys of each length, back and forth', 2, partial(shaped.hosts_below_keys, keys=113),
+          back_and_forth, beside=partial(shaped.hosts_below_keys, keys=0), dearer=6.0),
     Shape('prefixes come and go', 100, partial(shaped.coming_and_going, prefixes=500),
           lambda size: one_by_one(size, 2 * size), 6 * MIB),
     Shape('peers of an address each, played', 50_000, shaped.many_peers, all_forgotten, 40 * MIB),
