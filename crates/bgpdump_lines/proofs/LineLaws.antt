@@ -1,15 +1,11 @@
 -- What items say, in order.
-use Rattle.std.proofs.Common.{◌≡◌, ℕ, zero, suc, All, ◌+◌, ◌-◌, ◌≤◌, List, [], ◌∷◌, ◌++◌, map, length, take, drop, refl, ap, sym, subst, ◌∙◌, arith, append_assoc, flat_map}
-use Rattle.std.proofs.lemmas.List.{map-append, drop-drop, take-append-drop, take_all, drop-map, take-map}
+use Rattle.std.proofs.Common.{◌≡◌, ℕ, ◌+◌, ◌-◌, ◌≤◌, List, [], ◌∷◌, ◌++◌, map, length, take, drop, refl, ap, sym, ◌∙◌, arith, append_assoc, flat_map}
+use Rattle.std.proofs.lemmas.List.{map-append, drop-drop, take-append-drop, take_all}
 use Rattle.std.proofs.lemmas.Grind.{flat_map-append}
 use Rattle.mrt_events.specs.declared.event.Item.{Item}
-use Rattle.std.proofs.lemmas.List.Elements.{All-head, All-tail, All-drop, All-take}
-use Rattle.mrt_events.specs.declared.peer.Peer.{Peer}
-use Rattle.mrt_events.specs.declared.event.Route.{Route}
 use Rattle.mrt_events.specs.declared.event.Event.{Event}
-use Rattle.mrt_events.specs.Event.{Saying, Announced, Withdrawn, Changed, saying}
+use Rattle.mrt_events.specs.Event.{Saying, saying}
 use Rattle.bgpdump_lines.specs.Lines.{item_line, event_lines}
-use Rattle.mrt_events.specs.SharedRoute.{Announces, AreOfOneRoute}
 
 -- the lines of what items say are those of the items
 pub lines-sayings : (line : Saying → List ℕ) (items : List Item) → flat_map (λ item. line (saying item)) items ≡ flat_map line (map saying items)
@@ -54,36 +50,8 @@ lines-three event line items a b is le said =
     let C = drop b items in
     (λ i. flat_map (sym is i) (sym said i)) ∙ sym (lines-parts line items a b [] (f A) (f A ++ f B) ((f A ++ f B) ++ f C) le refl refl refl) ∙ append_assoc (f A) (f B) (f C)
 
--- ---- fewer announcements of one route
-
-all_of_one : (peer : Peer) (route : Route) (said : List Saying) → All (Announces peer route) said → AreOfOneRoute said
-all_of_one peer route [] all = tt
-all_of_one peer route (first ∷ rest) all = by first (All-head (Announces peer route) first rest all)
-  where
-    by : (s : Saying) → Announces peer route s → AreOfOneRoute (s ∷ rest)
-    by (Announced other network same) is =
-        subst (λ p. All (Announces p same) rest) (sym is.0) (subst (λ r. All (Announces peer r) rest) (sym is.1) (All-tail (Announces peer route) first rest all))
-    by (Withdrawn other network) is = absurd is
-    by (Changed other old new) is = absurd is
-
-one_route-drop : (n : ℕ) (said : List Saying) → AreOfOneRoute said → AreOfOneRoute (drop n said)
-one_route-drop zero said one = one
-one_route-drop (suc n) [] one = tt
-one_route-drop (suc n) (Announced peer network route ∷ said) one = all_of_one peer route (drop n said) (All-drop (Announces peer route) n said one)
-one_route-drop (suc n) (Withdrawn peer network ∷ said) one = absurd one
-one_route-drop (suc n) (Changed peer old new ∷ said) one = absurd one
-
-one_route-take : (n : ℕ) (said : List Saying) → AreOfOneRoute said → AreOfOneRoute (take n said)
-one_route-take zero said one = tt
-one_route-take (suc n) [] one = tt
-one_route-take (suc n) (Announced peer network route ∷ said) one = All-take (Announces peer route) n said one
-one_route-take (suc n) (Withdrawn peer network ∷ said) one = absurd one
-one_route-take (suc n) (Changed peer old new ∷ said) one = absurd one
-
--- of items that announce with one route, the first
-pub said_front : (items front : List Item) (n : ℕ) → front ≡ take n items → AreOfOneRoute (map saying items) → AreOfOneRoute (map saying front)
-said_front items front n is one = subst AreOfOneRoute (take-map saying n items ∙ sym (ap (map saying) is)) (one_route-take n (map saying items) one)
-
--- and those behind them
-pub said_back : (items back : List Item) (n : ℕ) → back ≡ drop n items → AreOfOneRoute (map saying items) → AreOfOneRoute (map saying back)
-said_back items back n is one = subst AreOfOneRoute (drop-map saying n items ∙ sym (ap (map saying) is)) (one_route-drop n (map saying items) one)
+-- the lines of all items are those of the first ones, and then those of the others
+pub lines_at : (line : Saying → List ℕ) (items : List Item) (i : ℕ) → flat_map line (map saying items) ≡ flat_map (λ item. line (saying item)) (take i items) ++ flat_map line (map saying (drop i items))
+lines_at line items i =
+    ap (λ l. flat_map line (map saying l)) (sym (take-append-drop i items)) ∙ lines-append line (take i items) (drop i items)
+    ∙ ap (λ l. l ++ flat_map line (map saying (drop i items))) (sym (lines-sayings line (take i items)))

@@ -1,5 +1,5 @@
 -- What lines and reports do to two outputs.
-use Rattle.std.proofs.Common.{◌≡◌, inl, inr, ℕ, Bool, ◌+◌, ◌<◌, List, [], ◌∷◌, ◌++◌, length, take, drop, get_or, Option, Err, sym, ap, ◌∙◌, refl, subst, append-nil, flat_map}
+use Rattle.std.proofs.Common.{◌≡◌, inl, inr, ℕ, Bool, ◌+◌, ◌<◌, List, [], ◌∷◌, ◌++◌, length, take, drop, get_or, Option, Result, Ok, Err, sym, ap, ◌∙◌, refl, subst, append-nil, flat_map}
 use Rattle.std.proofs.lemmas.List.{append_assoc, take_more, take-append-drop}
 use Rattle.std.proofs.lemmas.Grind.{flat_map-append}
 use Rattle.std.specs.Io.KnownBytes.{Appends, Keeps}
@@ -11,7 +11,7 @@ use Rattle.bgpdump_lines.specs.declared.fault.WriteFault.{WriteFault}
 use Rattle.bgpdump_lines.specs.declared.fault.WriteFault.TheVariants.{Write, Memory}
 use Rattle.bgpdump_lines.specs.Run.{AppendsFront, Texts, joined_texts, Outputs, Writes, WritesFronts, fault_report, finding_lines, finding_report, dump_texts}
 use Rattle.bgpdump_lines.specs.Lines.{event_lines}
-use Rattle.bgpdump_lines.specs.Going.{Puts, PutsFound, PutsPart, Passes}
+use Rattle.bgpdump_lines.specs.Going.{Puts, PutsFound, PutsPart, Passes, PassesPart}
 
 -- an output that was left alone has a front of any text
 pub AppendsFront-none : (known : Option (List ℕ)) (text : List ℕ) → AppendsFront known known text
@@ -158,3 +158,16 @@ pub Passes-next : {A : Type 0} (line : A → List ℕ) (items : List A) (i : ℕ
     → Passes b c mid after [] → new ≡ after ++ line (get_or items i d) → Passes a c before new (flat_map line (take (i + 1) items))
 Passes-next line items i d a b c before mid after new lt p q e =
     subst (Passes a c before new) (sym (lines_next line items i d lt)) (Passes-text a b c before mid after new (flat_map line (take i items)) (line (get_or items i d)) p q e)
+
+-- a text with more behind it, of which nothing was written
+pub Passes-printed : (a b : Option (List ℕ)) (before text more : List ℕ) → b ≡ a → text ≡ before ++ more → Passes a b before text more
+Passes-printed a b before text more same e = record { front = []; appended = subst (λ known. Appends a known []) (sym same) (Appends-nil a); whole = e }
+
+-- two texts that were written whole
+pub Passes-whole : (a b c : Option (List ℕ)) (text more : List ℕ) → Appends a b text → Appends b c more → Passes a c text [] more
+Passes-whole a b c text more p q = record { front = text ++ more; appended = Appends-trans a b c text more p q; whole = append-nil (text ++ more) }
+
+-- more behind what was passed, or a fault
+pub PassesPart-then : {A : Type 0} (a b c : Option (List ℕ)) (before mid after more then : List ℕ) (result : Result A WriteFault) → Passes a b before mid more → PassesPart b c mid after then result → PassesPart a c before after (more ++ then) result
+PassesPart-then a b c before mid after more then (Ok done) p q = Passes-trans a b c before mid after more then p q
+PassesPart-then a b c before mid after more then (Err fault) p q = Passes-stops a b c before mid more then p q

@@ -1,7 +1,7 @@
 //! The lines of events, one for each item.
 
-ghost use Rattle.std.specs.Prelude.{◌≡◌, ◌++◌, map, All, OnOk, OnErr, IfOk, IfSome};
-ghost use Rattle.mrt_events.specs.Event.{saying};
+ghost use Rattle.std.specs.Prelude.{◌≡◌, ◌++◌, ◌∷◌, [], map, All, OnOk, OnErr, IfOk, IfSome, IfNone};
+ghost use Rattle.mrt_events.specs.Event.{Announced, saying};
 ghost use Rattle.mrt_events.specs.SharedRoute.{Announces, AreOfOneRoute};
 ghost use Rattle.bgpdump_lines.specs.Lines.{event_lines};
 ghost use Rattle.bgpdump_lines.specs.Heading.{headed_line, headed_lines, EndsIn, EndsInRoute};
@@ -83,7 +83,7 @@ fn put_some(heading: &Heading, items: &[Item], text: &mut Text) -> Result<(), Al
 /// Appends the line of one more announcement of the route whose line the text ends in. Returned is
 /// where its parts stand.
 #[inline(always)]
-fn put_other(
+pub(crate) fn put_other(
     heading: &Heading,
     first: Announcement<'_>,
     last: Places,
@@ -123,23 +123,33 @@ fn put_others(
     Ok(())
 }
 
-/// Appends the lines of announcements that share a peer and a route.
+/// Returns the first of announcements that share a peer and a route, and the others, if there are any.
 #[inline(always)]
-pub(crate) fn put_shared(
-    heading: &Heading,
-    items: &[Item],
-    text: &mut Text,
-) -> Result<(), AllocError>
+pub(crate) fn split_shared(items: &[Item]) -> Option<(Announcement<'_>, &[Item])>
     requires { AreOfOneRoute (map saying items.now) }
-    ensures { Prints text.old text.new (headed_lines heading.now (map saying items.now)) result }
+    ensures first { IfSome result (λ found. map saying items.now ≡
+        Announced found.0.peer.now found.0.prefix.now found.0.route.now ∷ map saying found.1.now) }
+    ensures none { IfNone result (items.now ≡ []) }
 {
     let [Item::Announce(peer, prefix, route), rest @ ..] = items else {
-        return Ok(());
+        return None;
     };
     let first = Announcement {
         peer,
         prefix,
         route,
+    };
+    Some((first, rest))
+}
+
+/// Appends the lines of announcements that share a peer and a route.
+#[inline(always)]
+fn put_shared(heading: &Heading, items: &[Item], text: &mut Text) -> Result<(), AllocError>
+    requires { AreOfOneRoute (map saying items.now) }
+    ensures { Prints text.old text.new (headed_lines heading.now (map saying items.now)) result }
+{
+    let Some((first, rest)) = split_shared(items) else {
+        return Ok(());
     };
     let places = put_route_anew(heading, first, text)?;
     put_others(heading, first, places, rest, text)

@@ -1,51 +1,47 @@
 //! Writing what was found, and the routes of tables.
 
-ghost use Rattle.std.specs.Prelude.{◌≡◌, ◌||◌, ◌<◌, [], map, IfOk, IfSome, flat_map};
+ghost use Rattle.std.specs.Prelude.{◌≡◌, ◌||◌, ◌≤◌, [], false, All, map, take, drop, length, IfOk, OnOk, flat_map};
+ghost use Rattle.mrt_events.specs.declared.event.Route.{Route};
+ghost use Rattle.mrt_events.specs.declared.peer.Peer.{Peer};
 ghost use Rattle.mrt_events.specs.Event.{saying};
-ghost use Rattle.mrt_events.specs.SharedRoute.{AreOfOneRoute};
+ghost use Rattle.mrt_events.specs.SharedRoute.{Announces, AreOfOneRoute};
 ghost use Rattle.mrt_wire.specs.Answered.{answer_findings};
-ghost use Rattle.bgpdump_lines.specs.Heading.{EndsIn, headed_lines};
+ghost use Rattle.bgpdump_lines.specs.Heading.{EndsInRoute, headed_lines};
 ghost use Rattle.bgpdump_lines.specs.declared.heading.Heading.{Heading};
 ghost use Rattle.bgpdump_lines.specs.Lines.{event_lines, rib_line};
 ghost use Rattle.bgpdump_lines.specs.Run.{fault_report, outputs_of};
 ghost use Rattle.bgpdump_lines.specs.Going.{PassesPart, Puts, PutsFound, PutsPart, is_write, is_any_bad};
 
-use crate::event_lines::{put_item, put_shared};
+use crate::event_lines::{put_item, put_other, split_shared};
 use crate::fault::WriteFault;
 use crate::heading::Heading;
 use crate::output::{Output, put_all};
 use crate::reports::put_report;
-use crate::route_line::{Announcement, LastLine, put_route};
+use crate::route_line::{Announcement, Places, put_route, put_route_anew};
 use ip_prefix::{Prefix, Text};
-use mrt_events::route_size;
 use mrt_wire::{Event, Item, Next, Peer, RecordFault, Route};
 use std::rc::Rc;
 
 /// How long a text of lines is at most that another line is appended to. Where it is longer, it is
-/// written first, so that scratch memory holds this much and one line, whatever the lines.
+/// written first, so that scratch memory holds this much and one line, or two lines, whatever there is.
 const ENOUGH: usize = 1 << 16;
 
-/// Writes the text and clears it, where it is long. Returned is the line that it ends in then.
+/// Writes the text and clears it, where it is long. Returned is whether it was.
 #[inline(always)]
-fn write_long<'a, O: Output>(
-    out: &mut O,
-    last: Option<LastLine<'a>>,
-    text: &mut Text,
-) -> Result<Option<LastLine<'a>>, WriteFault>
+fn write_long<O: Output>(out: &mut O, text: &mut Text) -> Result<bool, WriteFault>
     ensures text { PassesPart (O.written out.old) (O.written out.new) text.old text.new [] result }
-    ensures last { (heading : Heading) → IfSome last.entry (λ line. EndsIn heading line text.old) →
-        IfOk result (λ last. IfSome last (λ line. EndsIn heading line text.new)) }
+    ensures short { IfOk result (λ was_long. was_long ≡ false → text.new ≡ text.old) }
     ensures failed { O.failed out.new ≡ (O.failed out.old || is_write result) }
 {
     if text.len() <= ENOUGH {
-        return Ok(last);
+        return Ok(false);
     }
     put_all(out, text.as_slice())?;
     text.clear();
-    Ok(None)
+    Ok(true)
 }
 
-/// Appends the lines of items, each once those in front of it are written where they are long.
+/// Appends the lines of items. Wherever the text is long, it is written before the next line.
 #[inline(never)]
 fn write_some<O: Output>(
     out: &mut O,
@@ -59,13 +55,15 @@ fn write_some<O: Output>(
 {
     let mut last = None;
     'items: for item in items {
-        let line = write_long(out, last, text)?;
-        last = put_item(heading, item, line, text)?;
+        if write_long(out, text)? {
+            last = None;
+        }
+        last = put_item(heading, item, last, text)?;
     }
     Ok(())
 }
 
-/// Appends the lines of items, as [`write_some`] does. Of most events all items share a route, or
+/// Appends the lines of items, as [`write_some`] does. Of most events either all items share a route or
 /// none do, so that there are often none of these.
 #[inline(always)]
 fn write_items<O: Output>(
@@ -84,26 +82,94 @@ fn write_items<O: Output>(
     write_some(out, heading, items, text)
 }
 
-/// How many octets a line has at most for each that its route takes: a number of a path or a community
-/// takes four, and twelve in a line with what divides it from the next.
-const LONGEST_TIMES: u64 = 3;
-
-/// Returns how many lines of the first announcement's route have [`ENOUGH`] octets together, at least
-/// one. Where there is no other announcement, it is one.
-#[inline(always)]
-fn lines_at_once(items: &[Item]) -> usize
-    ensures { 0 < result }
+/// Writes what stands behind the line that ends at `end`, where the text is long, and takes it away.
+/// Returned is where the parts of the line that the text ends in stand then.
+fn write_behind<O: Output>(
+    out: &mut O,
+    kept: Places,
+    end: usize,
+    last: Places,
+    text: &mut Text,
+) -> Result<Places, WriteFault>
+    requires { end ≤ length text.old }
+    ensures text { PassesPart (O.written out.old) (O.written out.new)
+        (drop end text.old) (drop end text.new) [] result }
+    ensures kept { OnOk result (take end text.new ≡ take end text.old) }
+    ensures within { OnOk result (end ≤ length text.new) }
+    ensures last { (heading : Heading) (peer : Peer) (route : Route) →
+        EndsInRoute heading peer route kept (take end text.old) →
+        EndsInRoute heading peer route last text.old →
+        IfOk result (λ places. EndsInRoute heading peer route places text.new) }
+    ensures failed { O.failed out.new ≡ (O.failed out.old || is_write result) }
 {
-    let [Item::Announce(_, _, route), _, ..] = items else {
-        return 1;
-    };
-    let longest = route_size(route).saturating_mul(LONGEST_TIMES);
-    let count = ENOUGH as u64 / longest.max(1);
-    usize::try_from(count).unwrap_or(1).max(1)
+    if text.len() <= end.max(ENOUGH) {
+        return Ok(last);
+    }
+    put_all(out, &text.as_slice()[end..])?;
+    text.truncate(end);
+    Ok(kept)
 }
 
-/// Appends the lines of announcements that share a peer and a route, as many at a time as have
-/// [`ENOUGH`] octets, each time once those in front of them are written where they are long.
+/// Writes the lines of further announcements of the first one's route, behind the text, of which
+/// nothing is left then. The first one's line, which is in the text already, is printed once more and
+/// kept in front, so that the next line has one to be copied from whenever lines were written.
+#[cold]
+#[inline(never)]
+fn write_long_others<O: Output>(
+    out: &mut O,
+    heading: &Heading,
+    first: Announcement<'_>,
+    items: &[Item],
+    text: &mut Text,
+) -> Result<(), WriteFault>
+    requires { All (Announces first.peer.now first.route.now) (map saying items.now) }
+    ensures text { PassesPart (O.written out.old) (O.written out.new) text.old text.new
+        (headed_lines heading.now (map saying items.now)) result }
+    ensures failed { O.failed out.new ≡ (O.failed out.old || is_write result) }
+{
+    put_all(out, text.as_slice())?;
+    text.clear();
+    let kept = put_route_anew(heading, first, text)?;
+    let end = text.len();
+    let mut last = kept;
+    'items: for item in items {
+        let places = write_behind(out, kept, end, last, text)?;
+        last = put_other(heading, first, places, item, text)?;
+    }
+    put_all(out, &text.as_slice()[end..])?;
+    text.clear();
+    Ok(())
+}
+
+/// Appends the lines of further announcements of the route whose line the text ends in. Where the text
+/// gets long, it is written with all that follow.
+#[inline(always)]
+fn write_others<O: Output>(
+    out: &mut O,
+    heading: &Heading,
+    first: Announcement<'_>,
+    places: Places,
+    items: &[Item],
+    text: &mut Text,
+) -> Result<(), WriteFault>
+    requires last { EndsInRoute heading.now first.peer.now first.route.now places text.old }
+    requires alike { All (Announces first.peer.now first.route.now) (map saying items.now) }
+    ensures text { PassesPart (O.written out.old) (O.written out.new) text.old text.new
+        (headed_lines heading.now (map saying items.now)) result }
+    ensures failed { O.failed out.new ≡ (O.failed out.old || is_write result) }
+{
+    let mut places = places;
+    'items: for place in 0..items.len() {
+        if text.len() > ENOUGH {
+            return write_long_others(out, heading, first, &items[place..], text);
+        }
+        places = put_other(heading, first, places, &items[place], text)?;
+    }
+    Ok(())
+}
+
+/// Appends the lines of announcements that share a peer and a route. Wherever the text is long, it is
+/// written before the next line.
 #[inline(always)]
 fn write_shared<O: Output>(
     out: &mut O,
@@ -116,19 +182,16 @@ fn write_shared<O: Output>(
         (headed_lines heading.now (map saying items.now)) result }
     ensures failed { O.failed out.new ≡ (O.failed out.old || is_write result) }
 {
-    let count = lines_at_once(items);
-    let mut rest = items;
-    'pieces: while !rest.is_empty() {
-        write_long(out, None, text)?;
-        let (piece, more) = rest.split_at(rest.len().min(count));
-        put_shared(heading, piece, text)?;
-        rest = more;
-    }
-    Ok(())
+    let Some((first, rest)) = split_shared(items) else {
+        return Ok(());
+    };
+    write_long(out, text)?;
+    let places = put_route_anew(heading, first, text)?;
+    write_others(out, heading, first, places, rest, text)
 }
 
-/// Writes the lines of an event, as soon as they are long and behind the last. What stands in `text`
-/// is overwritten.
+/// Writes the lines of an event: those so far wherever they are long, and the rest behind the last one.
+/// The text is scratch.
 #[inline(always)]
 fn write_lines<O: Output>(out: &mut O, text: &mut Text, event: &Event) -> Result<(), WriteFault>
     ensures text { PutsPart (O.written out.old) (O.written out.new) (event_lines event.now) result }
@@ -166,8 +229,10 @@ pub fn write_rib_lines<O: Output>(
             prefix: &entry.0,
             route: entry.1,
         };
-        let before = write_long(out, last, text)?;
-        last = Some(put_route(&heading, said, before, text)?);
+        if write_long(out, text)? {
+            last = None;
+        }
+        last = Some(put_route(&heading, said, last, text)?);
     }
     put_all(out, text.as_slice())?;
     Ok(())

@@ -15,16 +15,16 @@ use Rattle.bgpdump_lines.proofs.write.write_rib_lines.Goals as goal
 abbrev pointed_line : Peer → Network × Bor (Rc Route Global) → List ℕ
 pointed_line peer entry = rib_line peer (entry.0, entry.1.now.value)
 
-pub returns-in_err-before-clause-text : goal.returns-in_err-before-clause-text
-returns-in_err-before-clause-text g c =
+pub returns-in_err-write_long-clause-text : goal.returns-in_err-write_long-clause-text
+returns-in_err-write_long-clause-text g c =
     let p = err_from_is_err_and c.from_residual.result c.from_residual.ensures.1 in
-    rw p.1 (Passes-items (pointed_line c.args.peer.now) c.args.routes.now c.routes.entry-index _ _ _ [] c.routes.text c.routes.invariant.passed c.in_err-before.ensures.text)
+    rw p.1 (Passes-items (pointed_line c.args.peer.now) c.args.routes.now c.routes.entry-index _ _ _ [] c.routes.text c.routes.invariant.passed c.in_err-write_long.ensures.text)
 
 pub returns-in_err-put_route-clause-text : goal.returns-in_err-put_route-clause-text
 returns-in_err-put_route-clause-text g c =
     let p = err_from_is_err_and c.from_residual-in_err-put_route.result c.from_residual-in_err-put_route.ensures.1 in
     rw p.1 (Passes-items (pointed_line c.args.peer.now) c.args.routes.now c.routes.entry-index _ _ _ [] c.routes.text c.routes.invariant.passed
-    (AppendsFront-passed _ _ c.routes.text c.write_long.new.text [] c.in_ok-before.ensures.text))
+    (AppendsFront-passed _ _ c.routes.text c.write_long.new.text [] c.in_ok-write_long.ensures.text))
 
 pub routes-preserved : goal.routes-preserved
 routes-preserved g c =
@@ -34,7 +34,7 @@ routes-preserved g c =
     let own = c.of_table-heading.ensures peer item.0 c.deref.result.now ∙ ap (λ route. rib_line peer (item.0, route)) c.deref.ensures ∙ ap (pointed_line peer) c.entry-item.is in
     record {
       passed = Passes-next (pointed_line peer) c.args.routes.now c.routes.entry-index item _ _ _ [] c.routes.text after _ c.routes-test.true
-          c.routes.invariant.passed c.in_ok-before.ensures.text (c.in_ok-put_route.ensures.printed.0 ∙ ap (λ l. after ++ l) own);
+          c.routes.invariant.passed c.in_ok-write_long.ensures.text (c.in_ok-put_route.ensures.printed.0 ∙ ap (λ l. after ++ l) own);
       last = c.in_ok-put_route.ensures.last;
       failed = search rules;
     }
