@@ -1,11 +1,11 @@
--- Claims that are counted, key by key, prefix by prefix and pair by pair.
-use Rattle.std.proofs.Common.{◌≡◌, ℕ, ◌-◌, ◌^◌, ◌<◌, ◌≤◌, ◌++◌, Bool, true, false, cond, ◌&&◌, List, length, take, replicate, Option, refl, sym, ap, ap₂, subst, ◌∙◌, arith, Ordering}
-use Rattle.std.specs.Prelude.{unwrap_or}
+-- Claims that are counted, prefix by prefix and pair by pair.
+use Rattle.std.proofs.Common.{◌≡◌, ℕ, ◌-◌, ◌^◌, ◌<◌, ◌≤◌, ◌++◌, Bool, true, false, cond, ◌&&◌, List, length, take, replicate, Option, refl, sym, ap, ap₂, subst, ◌∙◌, arith}
 use Rattle.std.specs.BTreeMap as tree
+use Rattle.std.specs.declared.boxed.Box.{Box}
+use Rattle.std.specs.declared.alloc.Global.{Global}
 use Rattle.std.specs.Map.{lookup}
-use Rattle.std.specs.HashMap.Eq.{lookup_congr}
 use Rattle.std.specs.Ordering.{eq_by_cmp, nat_cmp}
-use Rattle.std.specs.Cmp.{IsTotalOrder, eq_by_cmp_equiv, Equal-is}
+use Rattle.std.specs.Cmp.{eq_by_cmp_equiv, Equal-is}
 use Rattle.std.specs.FinMap.{nat_cmp-IsAntisymmetric}
 use Rattle.std.proofs.lemmas.Cmp.{nat_cmp_total}
 use Rattle.std.proofs.lemmas.List.{length-append, length-take-le, length-replicate, take-take, take_at}
@@ -20,32 +20,11 @@ use Rattle.mrt_events.specs.declared.peer.Peer.{Peer}
 use Rattle.rib_player.specs.declared.pair.Pair.{Pair}
 use Rattle.rib_player.specs.declared.claims.Counts.{Counts}
 use Rattle.rib_player.specs.declared.claims.TheConstants.{ADDRESSES}
-use Rattle.rib_player.specs.Claims.{count_at, count_of, v4_key, by_family, count_of_peer}
+use Rattle.rib_player.specs.FewCounts.{count_at}
+use Rattle.rib_player.specs.Claims.{count_of, v4_key, by_family, count_of_peer}
 use Rattle.rib_player.specs.Kept.{IsWritten}
 use Rattle.rib_player.proofs.MarkLaws.{tied}
 use Rattle.rib_player.proofs.StoreLaws.{same_peer, same_network, one_peer, peer_symm, tied_parts}
-
--- ---- key by key
-
-module _ {K : Type 0} {cmp : K → K → Ordering} (total : IsTotalOrder cmp) where
-  -- what stands for a key is another
-  pub count-written : (counts counts' : tree.BTreeMap K ℕ) (key k : K) (w : Option ℕ) → tree.get cmp counts' k ≡ cond (eq_by_cmp cmp key k) w (tree.get cmp counts k)
-      → count_at cmp counts' k ≡ cond (eq_by_cmp cmp k key) (unwrap_or w 0) (count_at cmp counts k)
-  count-written counts counts' key k w written = let turned = (eq_by_cmp_equiv total).symm key k in grind arith
-
-  -- keys that tie have one count
-  same-count : (counts : tree.BTreeMap K ℕ) (k key : K) → eq_by_cmp cmp k key ≡ true → count_at cmp counts k ≡ count_at cmp counts key
-  same-count counts k key e = ap (λ o. unwrap_or o 0) (lookup_congr (eq_by_cmp cmp) (eq_by_cmp_equiv total).congr counts.entries k key e)
-
-  -- where another count stands for the key, what holds of it there and of the others elsewhere holds of each
-  pub counted : (counts counts' : tree.BTreeMap K ℕ) (key : K) (v : ℕ) (R : ℕ → ℕ → Bool → Type 0) → R v (count_at cmp counts key) true → ((m : ℕ) → R m m false)
-      → (k : K) → count_at cmp counts' k ≡ cond (eq_by_cmp cmp k key) v (count_at cmp counts k) → R (count_at cmp counts' k) (count_at cmp counts k) (eq_by_cmp cmp k key)
-  counted counts counts' key v R here elsewhere k is =
-      subst (λ c. R c (count_at cmp counts k) (eq_by_cmp cmp k key)) (sym is)
-      (elim (eq_by_cmp cmp k key) as (λ b. eq_by_cmp cmp k key ≡ b → R (cond b v (count_at cmp counts k)) (count_at cmp counts k) b) [
-        | true ↦ λ e. subst (λ c. R v c true) (sym (same-count counts k key e)) here
-        | false ↦ λ e. elsewhere (count_at cmp counts k)
-      ] refl)
 
 -- ---- prefix by prefix
 
@@ -113,10 +92,10 @@ v4-counted old new p R f within same keys other n = at n.family refl
 -- ---- pair by pair
 
 abbrev pub Peers : Type 0
-Peers = tree.BTreeMap Peer Counts
+Peers = tree.BTreeMap Peer (Box Counts Global)
 
 -- where other counts stand for a peer, what holds there of each prefix, and elsewhere, holds of each pair
-pub beyond-written : {peers peers' : List (Peer × Counts)} {w : Option Counts} (pair : Pair) → IsWritten peers peers' pair.peer w → (R : ℕ → ℕ → Bool → Type 0)
+pub beyond-written : {peers peers' : List (Peer × Box Counts Global)} {w : Option (Box Counts Global)} (pair : Pair) → IsWritten peers peers' pair.peer w → (R : ℕ → ℕ → Bool → Type 0)
     → ((n : Network) → R (count_of_peer w n) (count_of_peer (lookup (same_peer pair.peer) peers) n) (same_network n pair.prefix)) → ((m : ℕ) → R m m false)
     → (q : Pair) → R (count_of_peer (lookup (same_peer q.peer) peers') q.prefix) (count_of_peer (lookup (same_peer q.peer) peers) q.prefix) (tied q pair)
 beyond-written {peers = peers} {w = w} pair written R here elsewhere q =

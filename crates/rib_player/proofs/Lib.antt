@@ -19,6 +19,7 @@ pub mod EntryLaws
 pub mod LostLaws
 pub mod MarkLaws
 pub mod HeldLaws
+pub mod FewCountLaws
 pub mod CountedLaws
 pub mod CountLaws
 pub mod KeyLaws

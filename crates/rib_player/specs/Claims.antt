@@ -1,13 +1,14 @@
 -- Private.
 -- How often a player's timeline claims each pair.
-use Rattle.std.specs.Prelude.{◌≡◌, ℕ, ◌+◌, List, ◌++◌, length, refl, ◌-◌, ◌*◌, Bool, true, false, ◌&&◌, not, [], ◌∷◌, Option, is_some, unwrap_or, take, replicate}
+use Rattle.std.specs.Prelude.{◌≡◌, ℕ, ◌+◌, List, ◌++◌, length, refl, ◌-◌, ◌*◌, Bool, true, false, ◌&&◌, not, [], ◌∷◌, Option, is_some, take, replicate}
 use Rattle.std.specs.Coded.{Coded, code_by, coded×, coded_ℕ, coded_list}
 use Rattle.mrt_events.specs.Codes.{coded_route}
 use Rattle.rib_player.specs.Kept.{coded_pair}
 use Rattle.rib_player.specs.Tables.{Routes, Pairs, table_after, Contents}
 use Rattle.rib_player.specs.Timeline.{Timeline, end_of, current, table_at}
 use Rattle.std.specs.Option.{option_map_or}
-use Rattle.std.specs.declared.cmp.Ordering.{Ordering}
+use Rattle.std.specs.declared.boxed.Box.{Box}
+use Rattle.std.specs.declared.alloc.Global.{Global}
 use Rattle.std.specs.Ordering.{nat_cmp}
 use Rattle.ip_prefix.specs.declared.addr.Family.{Family}
 use Rattle.ip_prefix.specs.declared.addr.Family.TheVariants.{V4, V6}
@@ -19,6 +20,7 @@ use Rattle.mrt_events.specs.Event.{peer_cmp}
 use Rattle.rib_player.specs.declared.claims.Claims.{Claims}
 use Rattle.rib_player.specs.declared.claims.Counts.{Counts}
 use Rattle.rib_player.specs.declared.claims.TheConstants.{ADDRESSES}
+use Rattle.rib_player.specs.FewCounts.{count_at}
 use Rattle.rib_player.specs.declared.pair.Pair.{Pair}
 use Rattle.std.specs.FinMap as finite
 use Rattle.std.specs.FinSet as set
@@ -82,10 +84,6 @@ without_last t = record t {
   steps = take (length t.steps - 1) t.steps;
 }
 
--- the count that is kept for a key, or none
-abbrev pub count_at : {K : Type 0} → (K → K → Ordering) → tree.BTreeMap K ℕ → K → ℕ
-count_at cmp counts key = unwrap_or (tree.get cmp counts key) 0
-
 -- a prefix of IPv4 as a number: its bits, filled with zeros, and above them how many they are
 abbrev pub v4_key : Network → ℕ
 v4_key n = length n.bits * ADDRESSES + number_of (take V4_BITS (n.bits ++ replicate (V6_BITS - length n.bits) false))
@@ -98,8 +96,8 @@ by_family V6 a b = b
 abbrev pub count_of : Counts → Network → ℕ
 count_of counts n = by_family n.family (count_at nat_cmp counts.v4 (v4_key n)) (count_at network_cmp counts.v6 n)
 
-abbrev pub count_of_peer : Option Counts → Network → ℕ
-count_of_peer counts prefix = option_map_or (λ counts. count_of counts prefix) counts 0
+abbrev pub count_of_peer : Option (Box Counts Global) → Network → ℕ
+count_of_peer counts prefix = option_map_or (λ counts. count_of counts.value prefix) counts 0
 
 -- how many claims of a pair are kept besides its key
 abbrev pub claims_beyond : Claims → Pair → ℕ

@@ -18,9 +18,10 @@ ghost use Rattle.rib_player.specs.Tables.{route_in};
 ghost use Rattle.rib_player.specs.Journal.{sides_of};
 ghost use Rattle.rib_player.specs.Marks.{AreDistinct, mark_of, marks_of, gives_up_at, gives_up_by};
 ghost use Rattle.rib_player.specs.Calls.{IsPut};
-ghost use Rattle.rib_player.specs.Claims.{one_if, count_at, count_of, v4_key, claims_beyond, claims_in, AreHeld};
+ghost use Rattle.rib_player.specs.Claims.{one_if, count_of, v4_key, claims_beyond, claims_in, AreHeld};
 
 use crate::entry::{End, Entry};
+use crate::few_counts::FewCounts;
 use crate::pair::Pair;
 use crate::table::Table;
 use ip_prefix::{Family, Prefix};
@@ -28,14 +29,16 @@ use mrt_events::{Peer, Route};
 use prefix_store::PrefixStore;
 use std::alloc::{AllocError, Global};
 use std::collections::BTreeMap;
+use std::mem::size_of;
 use std::rc::Rc;
 
 /// How often pairs are claimed besides their keys. Only those stand here that were withdrawn and
-/// announced again among the kept steps.
+/// announced again among the kept steps. The counts of a peer lie in memory of their own, so that
+/// places for peers take little where they are free.
 #[derive(Drop)]
 pub(crate) struct Claims {
     alloc: Global,
-    pub(crate) peers: BTreeMap<Peer, Counts>,
+    pub(crate) peers: BTreeMap<Peer, Box<Counts>>,
 }
 
 impl Claims {
@@ -58,10 +61,11 @@ impl Claims {
             claims_beyond self.new q ≡ claims_beyond self.old q) }
     {
         if let Some(counts) = self.peers.get_mut(&pair.peer) {
-            return counts.more(&pair.prefix);
+            return counts.more(self.alloc, &pair.prefix);
         }
-        let mut counts = Counts::new(self.alloc);
-        counts.more(&pair.prefix)?;
+        let mut counts = Counts::new();
+        counts.more(self.alloc, &pair.prefix)?;
+        let counts = Box::new(self.alloc, counts)?;
         self.peers.insert(pair.peer, counts)?;
         Ok(())
     }
@@ -157,9 +161,16 @@ const BELOW: u32 = 32;
 /// How often prefixes are claimed besides their keys, those of each family by themselves.
 #[derive(Drop)]
 pub(crate) struct Counts {
-    v4: BTreeMap<u64, u64>,
-    v6: BTreeMap<Prefix, u64>,
+    v4: FewCounts<u64>,
+    v6: FewCounts<Prefix>,
 }
+
+/// How many octets the counts of a peer take at most, besides lists and trees, which a family has
+/// only where two of its prefixes are counted. Counts of one octet more are refused when the crate
+/// is checked.
+const COUNTS_OCTETS: usize = 72;
+
+const _: () = prove!(size_of::<Counts>() <= COUNTS_OCTETS);
 
 /// A prefix of IPv4 as a number: its least address, and above that how many bits it has.
 #[inline]
@@ -171,57 +182,26 @@ fn v4_key(prefix: &Prefix) -> u64
     u64::from(prefix.len()) * ADDRESSES + (prefix.high_half() >> BELOW)
 }
 
-/// Counts a claim more of the key. Refused, nothing has changed.
-fn count_more<K: Ord + Copy + Drop>(counts: &mut BTreeMap<K, u64>, key: K) -> Result<(), AllocError>
-    requires { count_at K.cmp counts.old key < GREATEST_COUNT }
-    ensures counted { OnOk result ((k : K) → count_at K.cmp counts.new k
-        ≡ count_at K.cmp counts.old k + one_if (eq_by_cmp K.cmp k key)) }
-    ensures refused { OnErr result ((k : K) →
-        count_at K.cmp counts.new k ≡ count_at K.cmp counts.old k) }
-{
-    let count = counts.entry(key)?.or_insert(0);
-    *count += 1;
-    Ok(())
-}
-
-/// Counts a claim less of the key, where there is one, and answers whether there is.
-fn count_less<K: Ord + Copy + Drop>(counts: &mut BTreeMap<K, u64>, key: &K) -> bool
-    ensures some { result ≡ nat_lt 0 (count_at K.cmp counts.old key.now) }
-    ensures counted { (k : K) → count_at K.cmp counts.new k
-        + one_if (result && eq_by_cmp K.cmp k key.now) ≡ count_at K.cmp counts.old k }
-{
-    let Some(count) = counts.get_mut(key) else {
-        return false;
-    };
-    if *count > 1 {
-        *count -= 1;
-        return true;
-    }
-    let some = *count > 0;
-    counts.remove(key);
-    some
-}
-
 impl Counts {
     /// None.
-    pub(crate) fn new(alloc: Global) -> Counts
+    fn new() -> Counts
         ensures { (n : Network) → count_of result n ≡ 0 }
     {
         Counts {
-            v4: BTreeMap::new(alloc),
-            v6: BTreeMap::new(alloc),
+            v4: FewCounts::None,
+            v6: FewCounts::None,
         }
     }
 
     /// Whether none is counted.
-    pub(crate) fn is_empty(&self) -> bool
+    fn is_empty(&self) -> bool
         ensures { result ≡ true → (n : Network) → count_of self.now n ≡ 0 }
     {
         self.v4.is_empty() && self.v6.is_empty()
     }
 
     /// Counts a claim more of the prefix. Refused, nothing has changed.
-    pub(crate) fn more(&mut self, prefix: &Prefix) -> Result<(), AllocError>
+    fn more(&mut self, alloc: Global, prefix: &Prefix) -> Result<(), AllocError>
         requires { count_of self.old prefix.now < GREATEST_COUNT }
         ensures counted { OnOk result ((n : Network) → count_of self.new n
             ≡ count_of self.old n + one_if (eq_by_cmp network_cmp n prefix.now)) }
@@ -229,20 +209,20 @@ impl Counts {
             count_of self.new n ≡ count_of self.old n) }
     {
         match prefix.family() {
-            Family::V4 => count_more(&mut self.v4, v4_key(prefix)),
-            Family::V6 => count_more(&mut self.v6, *prefix),
+            Family::V4 => self.v4.more(alloc, v4_key(prefix)),
+            Family::V6 => self.v6.more(alloc, *prefix),
         }
     }
 
     /// Counts a claim less of the prefix, where there is one, and answers whether there is.
-    pub(crate) fn less(&mut self, prefix: &Prefix) -> bool
+    fn less(&mut self, prefix: &Prefix) -> bool
         ensures some { result ≡ nat_lt 0 (count_of self.old prefix.now) }
         ensures counted { (n : Network) → count_of self.new n
             + one_if (result && eq_by_cmp network_cmp n prefix.now) ≡ count_of self.old n }
     {
         match prefix.family() {
-            Family::V4 => count_less(&mut self.v4, &v4_key(prefix)),
-            Family::V6 => count_less(&mut self.v6, prefix),
+            Family::V4 => self.v4.less(&v4_key(prefix)),
+            Family::V6 => self.v6.less(prefix),
         }
     }
 }

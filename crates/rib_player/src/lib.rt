@@ -5,6 +5,7 @@ mod changes;
 mod chosen;
 mod claims;
 mod entry;
+mod few_counts;
 mod journal;
 mod laws;
 mod numbered_peer;

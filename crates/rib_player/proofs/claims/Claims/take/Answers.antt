@@ -1,5 +1,6 @@
 use Rattle.std.proofs.Common.{◌≡◌, ◌+◌, ◌&&◌, Some, is_some, Bool, true, false, ℕ, sym, ap, ◌∙◌, arith}
 use Rattle.std.specs.BTreeMap as tree
+use Rattle.std.specs.Box.{with_value}
 use Rattle.std.specs.Option.{option_copied_mut}
 use Rattle.ip_prefix.specs.Network.{Network}
 use Rattle.mrt_events.specs.Event.{peer_cmp}
@@ -14,11 +15,11 @@ found : (c : After-less-taken) → Some c.in-Some.counts.now ≡ tree.get peer_c
 found c = sym (ap option_copied_mut c.in-Some.is) ∙ c.get_mut.ensures.value
 
 -- other counts stand for the peer
-written : (c : After-less-taken) → IsWritten c.args.self.now.peers.entries (c.get_mut.follows.lender c.less-taken.new.self).entries c.args.pair.now.peer (Some c.less-taken.new.self)
-written c = record { each = ((c.get_mut.follows.holds c.less-taken.new.self).3 (ap is_some (sym (found c)))).0 }
+written : (c : After-less-taken) → IsWritten c.args.self.now.peers.entries (c.get_mut.follows.lender (with_value c.in-Some.counts.now c.less-taken.new.self)).entries c.args.pair.now.peer (Some (with_value c.in-Some.counts.now c.less-taken.new.self))
+written c = record { each = ((c.get_mut.follows.holds (with_value c.in-Some.counts.now c.less-taken.new.self)).3 (ap is_some (sym (found c)))).0 }
 
 less : (c : After-less-taken) (n : Network) → count_of c.less-taken.new.self n + one_if (c.less-taken.result && same_network n c.args.pair.now.prefix) ≡ count_of_peer (tree.get peer_cmp c.args.self.now.peers c.args.pair.now.peer) n
-less c n = c.less-taken.ensures.counted n ∙ ap (λ w. count_of_peer w n) (found c)
+less c n = c.less-taken.ensures.counted n ∙ ap (λ k. count_of k n) c.deref_mut.ensures.value ∙ ap (λ w. count_of_peer w n) (found c)
 
 none : (b : Bool) (m : ℕ) → m + one_if (b && false) ≡ m
 none true m = omega arith
@@ -34,4 +35,4 @@ pub returns-then-is_empty-clause-counted : goal.returns-then-is_empty-clause-cou
 returns-then-is_empty-clause-counted c =
     let b = (goal.at.returns-then-is_empty-clause-counted c).After-less-taken in
     beyond-written c.args.pair.now (written-twice (written b) (record { each = c.remove.ensures.updates.0 })) (λ new old t. new + one_if (c.less-taken.result && t) ≡ old)
-    (λ n. ap (λ k. k + one_if (c.less-taken.result && same_network n c.args.pair.now.prefix)) (sym (c.is_empty.ensures c.if-is_empty.true n)) ∙ less b n) (none c.less-taken.result)
+    (λ n. ap (λ k. k + one_if (c.less-taken.result && same_network n c.args.pair.now.prefix)) (sym (c.is_empty.ensures c.if-is_empty.true n) ∙ ap (λ k. count_of k n) c.deref.ensures) ∙ less b n) (none c.less-taken.result)

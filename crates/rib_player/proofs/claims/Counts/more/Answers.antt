@@ -3,28 +3,29 @@ use Rattle.std.proofs.lemmas.Result.{on_ok_weaker, on_err_weaker}
 use Rattle.std.specs.Ordering.{eq_by_cmp, nat_cmp}
 use Rattle.ip_prefix.specs.Network.{network_cmp}
 use Rattle.prefix_store.specs.declared.store.TheConstants.{GREATEST_COUNT}
-use Rattle.rib_player.specs.Claims.{one_if, count_at, v4_key, by_family}
+use Rattle.rib_player.specs.FewCounts.{count_at}
+use Rattle.rib_player.specs.Claims.{one_if, v4_key, by_family}
 use Rattle.rib_player.proofs.CountedLaws.{v4-counted}
 use Rattle.rib_player.proofs.claims.Counts.more.Goals as goal
 
-pub count_more-requires : goal.count_more-requires
-count_more-requires c =
+pub more-requires : goal.more-requires
+more-requires c =
     subst (λ key. count_at nat_cmp c.args.self.now.v4 key < GREATEST_COUNT) (sym c.v4_key.ensures.key)
     (subst (λ f. by_family f (count_at nat_cmp c.args.self.now.v4 (v4_key c.args.prefix.now)) (count_at network_cmp c.args.self.now.v6 c.args.prefix.now) < GREATEST_COUNT) (sym c.family.ensures ∙ c.in-V4.is) c.requires)
 
-pub count_more-requires-in-V6 : goal.count_more-requires-in-V6
-count_more-requires-in-V6 c =
+pub more-requires-in-V6 : goal.more-requires-in-V6
+more-requires-in-V6 c =
     subst (λ f. by_family f (count_at nat_cmp c.args.self.now.v4 (v4_key c.args.prefix.now)) (count_at network_cmp c.args.self.now.v6 c.args.prefix.now) < GREATEST_COUNT) (sym c.family.ensures ∙ c.in-V6.is) c.requires
 
 pub returns-in-V4-clause-counted : goal.returns-in-V4-clause-counted
 returns-in-V4-clause-counted c =
-    on_ok_weaker c.count_more.result (λ more.
-    v4-counted c.args.self.now (record { v4 = c.count_more.new.counts; v6 = c.args.self.now.v6 }) c.args.prefix.now (λ new old b. new ≡ old + one_if b) (sym c.family.ensures ∙ c.in-V4.is) c.v4_key.ensures.within refl
-    (subst (λ key. (k : ℕ) → count_at nat_cmp c.count_more.new.counts k ≡ count_at nat_cmp c.args.self.now.v4 k + one_if (eq_by_cmp nat_cmp k key)) c.v4_key.ensures.key more)
-    (λ m. omega arith)) c.count_more.ensures.counted
+    on_ok_weaker c.more.result (λ more.
+    v4-counted c.args.self.now (record { v4 = c.more.new.self; v6 = c.args.self.now.v6 }) c.args.prefix.now (λ new old b. new ≡ old + one_if b) (sym c.family.ensures ∙ c.in-V4.is) c.v4_key.ensures.within refl
+    (subst (λ key. (k : ℕ) → count_at nat_cmp c.more.new.self k ≡ count_at nat_cmp c.args.self.now.v4 k + one_if (eq_by_cmp nat_cmp k key)) c.v4_key.ensures.key more)
+    (λ m. omega arith)) c.more.ensures.counted
 
 pub returns-in-V4-clause-refused : goal.returns-in-V4-clause-refused
 returns-in-V4-clause-refused c =
-    on_err_weaker c.count_more.result (λ same.
-    v4-counted c.args.self.now (record { v4 = c.count_more.new.counts; v6 = c.args.self.now.v6 }) c.args.prefix.now (λ new old b. new ≡ old) (sym c.family.ensures ∙ c.in-V4.is) c.v4_key.ensures.within refl
-    same (λ m. refl)) c.count_more.ensures.refused
+    on_err_weaker c.more.result (λ same.
+    v4-counted c.args.self.now (record { v4 = c.more.new.self; v6 = c.args.self.now.v6 }) c.args.prefix.now (λ new old b. new ≡ old) (sym c.family.ensures ∙ c.in-V4.is) c.v4_key.ensures.within refl
+    same (λ m. refl)) c.more.ensures.refused

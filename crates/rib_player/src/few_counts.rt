@@ -1,0 +1,262 @@
+//! How often keys are counted, in little memory where few are.
+
+ghost use Rattle.std.specs.Prelude.{◌≡◌, [], ◌∷◌, ◌+◌, ◌<◌, ◌&&◌, true, nat_lt, length, take, drop, Some, None, IfOk, IfSome, IfNone, OnOk, OnErr};
+ghost use Rattle.std.specs.Map.{lookup};
+ghost use Rattle.std.specs.BTreeMap as tree;
+ghost use Rattle.std.specs.Ordering.{eq_by_cmp};
+ghost use Rattle.prefix_store.specs.declared.store.TheConstants.{GREATEST_COUNT};
+ghost use Rattle.rib_player.specs.Claims.{one_if};
+ghost use Rattle.rib_player.specs.FewCounts.{count_at, count_in, IsFirst};
+
+use std::alloc::{AllocError, Global};
+use std::collections::BTreeMap;
+
+/// How many keys a list holds at most. What is counted where there are as many, be it of another key
+/// or of one of these, moves all to a tree. Its first node has room for fifteen: 248 octets for
+/// numbers, where the list has 128, and 488 for prefixes, where it has 256.
+const FEW: usize = 8;
+
+/// How often keys are counted. One key takes no memory besides this, which has 32 octets for numbers
+/// and 40 for prefixes. In a list a key takes 16 octets, or 32; in a tree 16 to 36, or 32 to 70.
+#[derive(Drop)]
+pub(crate) enum FewCounts<K: Ord> {
+    /// No key.
+    None,
+    /// One key.
+    One(K, u64),
+    /// A few keys, with room for as many as there were at most.
+    Few(Vec<(K, u64)>),
+    /// More keys, or those that are left of more.
+    Many(BTreeMap<K, u64>),
+}
+
+/// Returns the first place of the key in the list. `None` means that it has none.
+fn place_of<K: Ord + Copy>(counts: &[(K, u64)], key: &K) -> Option<usize>
+    ensures some { IfSome result (λ place. IsFirst K.cmp key.now counts.now place) }
+    ensures none { IfNone result (lookup (tree.is_at (K.cmp key.now)) counts.now ≡ None) }
+{
+    'counts: for place in 0..counts.len() {
+        if key.cmp(&counts[place].0).is_eq() {
+            return Some(place);
+        }
+    }
+    None
+}
+
+/// Counts one more of the key in the list. An `Err` means want of memory: nothing has changed.
+fn list_more<K: Ord + Copy>(counts: &mut Vec<(K, u64)>, key: K) -> Result<(), AllocError>
+    requires { count_in K.cmp counts.old.items key < GREATEST_COUNT }
+    ensures counted { OnOk result ((k : K) → count_in K.cmp counts.new.items k
+        ≡ count_in K.cmp counts.old.items k + one_if (eq_by_cmp K.cmp k key)) }
+    ensures refused { OnErr result (counts.new.items ≡ counts.old.items) }
+{
+    if let Some(place) = place_of(counts, &key) {
+        counts[place].1 += 1;
+        return Ok(());
+    }
+    counts.reserve_exact(1)?;
+    counts.push_reserved((key, 1));
+    Ok(())
+}
+
+/// Counts one less of the key in the list, where it is counted, and answers whether it is. The room
+/// of a key that is counted no longer stays with the list.
+fn list_less<K: Ord + Copy + Drop>(counts: &mut Vec<(K, u64)>, key: &K) -> bool
+    ensures some { result ≡ nat_lt 0 (count_in K.cmp counts.old.items key.now) }
+    ensures counted { (k : K) → count_in K.cmp counts.new.items k
+        + one_if (result && eq_by_cmp K.cmp k key.now) ≡ count_in K.cmp counts.old.items k }
+{
+    let Some(place) = place_of(counts, key) else {
+        return false;
+    };
+    let count = counts[place].1;
+    if count > 1 {
+        counts[place].1 = count - 1;
+        return true;
+    }
+    counts.retain(|entry| !key.cmp(&entry.0).is_eq());
+    count > 0
+}
+
+/// Returns a tree with the counts of the list. An `Err` means want of memory for it.
+fn tree_of<K: Ord + Copy + Drop>(
+    alloc: Global,
+    counts: &[(K, u64)],
+) -> Result<BTreeMap<K, u64>, AllocError>
+    ensures { IfOk result (λ made. (k : K) → tree.get K.cmp made k
+        ≡ lookup (tree.is_at (K.cmp k)) counts.now) }
+{
+    let mut made = BTreeMap::new(alloc);
+    let mut rest = counts.len();
+    'counts: while rest > 0 {
+        rest -= 1;
+        let entry = counts[rest];
+        made.insert(entry.0, entry.1)?;
+    }
+    Ok(made)
+}
+
+/// Counts one more of the key in the tree. An `Err` means want of memory: nothing has changed.
+fn tree_more<K: Ord + Copy + Drop>(counts: &mut BTreeMap<K, u64>, key: K) -> Result<(), AllocError>
+    requires { count_in K.cmp counts.old.entries key < GREATEST_COUNT }
+    ensures counted { OnOk result ((k : K) → count_in K.cmp counts.new.entries k
+        ≡ count_in K.cmp counts.old.entries k + one_if (eq_by_cmp K.cmp k key)) }
+    ensures refused { OnErr result ((k : K) →
+        count_in K.cmp counts.new.entries k ≡ count_in K.cmp counts.old.entries k) }
+{
+    let count = counts.entry(key)?.or_insert(0);
+    *count += 1;
+    Ok(())
+}
+
+/// Counts one less of the key in the tree, where it is counted, and answers whether it is.
+fn tree_less<K: Ord + Copy + Drop>(counts: &mut BTreeMap<K, u64>, key: &K) -> bool
+    ensures some { result ≡ nat_lt 0 (count_in K.cmp counts.old.entries key.now) }
+    ensures counted { (k : K) → count_in K.cmp counts.new.entries k
+        + one_if (result && eq_by_cmp K.cmp k key.now) ≡ count_in K.cmp counts.old.entries k }
+{
+    let Some(count) = counts.get_mut(key) else {
+        return false;
+    };
+    if *count > 1 {
+        *count -= 1;
+        return true;
+    }
+    let some = *count > 0;
+    counts.remove(key);
+    some
+}
+
+/// Returns a tree with the counts of the list, and one more of the key. An `Err` means want of
+/// memory for it.
+fn tree_with<K: Ord + Copy + Drop>(
+    alloc: Global,
+    counts: &[(K, u64)],
+    key: K,
+) -> Result<BTreeMap<K, u64>, AllocError>
+    requires { count_in K.cmp counts.now key < GREATEST_COUNT }
+    ensures { IfOk result (λ made. (k : K) → count_in K.cmp made.entries k
+        ≡ count_in K.cmp counts.now k + one_if (eq_by_cmp K.cmp k key)) }
+{
+    let mut made = tree_of(alloc, counts)?;
+    tree_more(&mut made, key)?;
+    Ok(made)
+}
+
+/// Counts one more of the key in the list, or returns a tree with what is counted then, and leaves
+/// the list. An `Err` means want of memory: nothing has changed.
+fn few_more<K: Ord + Copy + Drop>(
+    alloc: Global,
+    counts: &mut Vec<(K, u64)>,
+    key: K,
+) -> Result<Option<BTreeMap<K, u64>>, AllocError>
+    requires { count_in K.cmp counts.old.items key < GREATEST_COUNT }
+    ensures counted { IfOk result (λ many. IfNone many ((k : K) → count_in K.cmp counts.new.items k
+        ≡ count_in K.cmp counts.old.items k + one_if (eq_by_cmp K.cmp k key))) }
+    ensures moved { IfOk result (λ many. IfSome many (λ made. (k : K) →
+        count_in K.cmp made.entries k
+        ≡ count_in K.cmp counts.old.items k + one_if (eq_by_cmp K.cmp k key))) }
+    ensures refused { OnErr result (counts.new.items ≡ counts.old.items) }
+{
+    if counts.len() < FEW {
+        list_more(counts, key)?;
+        return Ok(None);
+    }
+    Ok(Some(tree_with(alloc, counts, key)?))
+}
+
+/// Returns the count of the only key, and one more of the key, which may be the same. An `Err` means
+/// want of memory for a list of both.
+fn one_more<K: Ord + Copy + Drop>(
+    alloc: Global,
+    only: K,
+    count: u64,
+    key: K,
+) -> Result<FewCounts<K>, AllocError>
+    requires { count_in K.cmp ((only, count) ∷ []) key < GREATEST_COUNT }
+    ensures { IfOk result (λ new. (k : K) → count_at K.cmp new k
+        ≡ count_in K.cmp ((only, count) ∷ []) k + one_if (eq_by_cmp K.cmp k key)) }
+{
+    if key.cmp(&only).is_eq() {
+        return Ok(FewCounts::One(only, count + 1));
+    }
+    let mut both = Vec::with_capacity(alloc, 2)?;
+    both.push_reserved((only, count));
+    both.push_reserved((key, 1));
+    Ok(FewCounts::Few(both))
+}
+
+/// Returns the count of the only key, or one less if it is this key, and whether it is.
+fn one_less<K: Ord + Copy + Drop>(only: K, count: u64, key: &K) -> (FewCounts<K>, bool)
+    ensures some { result.1 ≡ nat_lt 0 (count_in K.cmp ((only, count) ∷ []) key.now) }
+    ensures counted { (k : K) → count_at K.cmp result.0 k
+        + one_if (result.1 && eq_by_cmp K.cmp k key.now) ≡ count_in K.cmp ((only, count) ∷ []) k }
+{
+    if !key.cmp(&only).is_eq() {
+        return (FewCounts::One(only, count), false);
+    }
+    if count > 1 {
+        return (FewCounts::One(only, count - 1), true);
+    }
+    (FewCounts::None, count > 0)
+}
+
+impl<K: Ord + Copy + Drop> FewCounts<K> {
+    /// Whether no key is counted.
+    pub(crate) fn is_empty(&self) -> bool
+        ensures { result ≡ true → (k : K) → count_at K.cmp self.now k ≡ 0 }
+    {
+        matches!(self, FewCounts::None)
+    }
+
+    /// Counts one more of the key. An `Err` means want of memory: nothing has changed.
+    pub(crate) fn more(&mut self, alloc: Global, key: K) -> Result<(), AllocError>
+        requires { count_at K.cmp self.old key < GREATEST_COUNT }
+        ensures counted { OnOk result ((k : K) → count_at K.cmp self.new k
+            ≡ count_at K.cmp self.old k + one_if (eq_by_cmp K.cmp k key)) }
+        ensures refused { OnErr result ((k : K) →
+            count_at K.cmp self.new k ≡ count_at K.cmp self.old k) }
+    {
+        match self {
+            FewCounts::None => *self = FewCounts::One(key, 1),
+            FewCounts::One(only, count) => *self = one_more(alloc, *only, *count, key)?,
+            FewCounts::Few(counts) => {
+                if let Some(many) = few_more(alloc, counts, key)? {
+                    *self = FewCounts::Many(many);
+                }
+            }
+            FewCounts::Many(counts) => return tree_more(counts, key),
+        }
+        Ok(())
+    }
+
+    /// Counts one less of the key, where it is counted, and answers whether it is.
+    pub(crate) fn less(&mut self, key: &K) -> bool
+        ensures some { result ≡ nat_lt 0 (count_at K.cmp self.old key.now) }
+        ensures counted { (k : K) → count_at K.cmp self.new k
+            + one_if (result && eq_by_cmp K.cmp k key.now) ≡ count_at K.cmp self.old k }
+    {
+        match self {
+            FewCounts::None => false,
+            FewCounts::One(only, count) => {
+                let (new, taken) = one_less(*only, *count, key);
+                *self = new;
+                taken
+            }
+            FewCounts::Few(counts) => {
+                let taken = list_less(counts, key);
+                if counts.is_empty() {
+                    *self = FewCounts::None;
+                }
+                taken
+            }
+            FewCounts::Many(counts) => {
+                let taken = tree_less(counts, key);
+                if counts.is_empty() {
+                    *self = FewCounts::None;
+                }
+                taken
+            }
+        }
+    }
+}
