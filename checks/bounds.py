@@ -58,6 +58,7 @@ MET = {
     'mrt_wire/src/session.rt': {'LONGEST_KEPT': ['the parts of an UPDATE', 'long messages and entries by turns']},
     'octet_text/src/buffer.rt': {'MOST_KEPT': ['the text of a line']},
     'prefix_store/src/places.rt': {'PLACES_AT_ONCE': ['hosts below keys of each length, back and forth']},
+    'rib_player/src/few_counts.rt': {'FEW': ['peers announce nine prefixes again, played']},
     'rib_player/src/reaching.rt': {
         'ENTRIES_AT_ONCE': ['hosts below keys of each length, back and forth'],
         'STEPS_TOGETHER': ['prefixes of 80 bits share 48, back and forth'],
@@ -109,7 +110,9 @@ NOT_MET = {
     'mrt_wire/src/pool.rt': {'MOST_OCTETS': 'the check sums it up'},
     'mrt_wire/src/route_pool.rt': {'MOST_ROUTES': 'no record has so many entries'},
     'octet_text/src/buffer.rt': {'LEAST_ROOM': 'the text grows as it is filled'},
-    'rib_player/src/claims.rt': {'ADDRESSES': 'no address has a number above it'},
+    'rib_player/src/claims.rt': {
+        'ADDRESSES': 'no address has a number above it', 'COUNTS_OCTETS': 'the check compares it',
+    },
     'rib_player/src/entry.rt': {'ENTRY_OCTETS': 'the check compares it'},
     'rib_player/src/numbered_peer.rt': {'NO_NUMBER': 'no number is above it'},
 }

@@ -285,22 +285,28 @@ def many_peers_gone(count, addresses):
     yield from short_attributes(addresses)
 
 
-def of_both_families(peer, number):
-    """The announcement of 0.0.0.0/0 and ::/0 by a peer, with a path of this number."""
-    return message(b'', route(segment(4, number), reach(wide(0))), prefix(0, 0), peer=peer)
+def of_both_families(peer, count, number):
+    """The announcement of so many prefixes of each family by a peer, with a path of this number."""
+    return message(b'', route(segment(4, number), reach(b''.join(map(wide, range(count))))), zeros_of(count), peer=peer)
 
 
-def announced_thrice(peers):
-    """Each peer announces a prefix of each family, three times."""
+def zeros_of(count):
+    """So many prefixes of IPv4 whose bits are 0, each of a bit more than the one before."""
+    return b''.join(prefix(bits, 0) for bits in range(count))
+
+
+def announced_thrice(peers, count):
+    """Each peer announces so many prefixes of each family, three times."""
     for number in range(3):
-        yield from (of_both_families(peer, 1 + number) for peer in range(peers))
+        yield from (of_both_families(peer, count, 1 + number) for peer in range(peers))
 
 
-def claimed_twice(peers):
-    """Each peer announces a prefix of each family, withdraws both, and announces both."""
-    yield from (of_both_families(peer, 1) for peer in range(peers))
-    yield from (message(prefix(0, 0), unreach(wide(0)), b'', peer=peer) for peer in range(peers))
-    yield from (of_both_families(peer, 2) for peer in range(peers))
+def claimed_twice(peers, count):
+    """Each peer announces so many prefixes of each family, withdraws them, and announces them again."""
+    yield from (of_both_families(peer, count, 1) for peer in range(peers))
+    for peer in range(peers):
+        yield message(zeros_of(count), unreach(b''.join(map(wide, range(count)))), b'', peer=peer)
+    yield from (of_both_families(peer, count, 2) for peer in range(peers))
 
 
 def emptied_peers(peers):

@@ -121,9 +121,11 @@ SHAPES = (
     # Twice what a record of these takes: the reader keeps its routes, and so does the player.
     Shape('garbage of long records, played', 2, partial(shaped.short_among_garbage, entries=20_000), all_steps,
           most=130 * MIB),
-    # Their claims take 800 octets a peer.
-    Shape('peers announce again, played', 10_000, shaped.claimed_twice, all_steps, beside=shaped.announced_thrice,
-          times=2.3),
+    # A claim beyond the key in each family takes some 140 octets a peer, and nine in each some 1,000.
+    Shape('peers announce again, played', 10_000, partial(shaped.claimed_twice, count=1), all_steps,
+          beside=partial(shaped.announced_thrice, count=1), times=1.3),
+    Shape('peers announce nine prefixes again, played', 2_000, partial(shaped.claimed_twice, count=9), all_steps,
+          beside=partial(shaped.announced_thrice, count=9), times=1.5),
     Shape('peers without routes, asked for', 8_000, shaped.emptied_peers, all_steps_and_peers, 16 * MIB),
 )
 
