@@ -3,3 +3,4 @@ pub mod HeldLaws
 pub mod EndLaws
 pub mod RunLaws
 pub mod WritingLaws
+pub mod TableLaws

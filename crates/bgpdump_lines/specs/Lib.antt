@@ -1,4 +1,5 @@
 pub mod Lines
 pub mod Heading
+pub mod Kept
 pub mod Run
 pub mod Going

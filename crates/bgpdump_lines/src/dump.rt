@@ -7,6 +7,7 @@ ghost use Rattle.mrt_wire.specs.Answered.{answer_findings, is_nothing};
 ghost use Rattle.bgpdump_lines.specs.Run.{dump_texts, IsTaken, SawEnd, OverDevices, EndsOverAll, WritesWhole};
 ghost use Rattle.bgpdump_lines.specs.Going.{is_read_fault, is_write_fault, Ends};
 
+use crate::kept_lines::KeptLines;
 use crate::outcome::Outcome;
 use crate::output::{Output, finish_outputs, pass_on_before_waiting};
 use crate::write::write_next;
@@ -80,6 +81,7 @@ fn dump_all<I: Input, O: Output, E: Output>(
 {
     let mut source = Source::new(alloc, stamp, LIMIT);
     let mut text = Text::new(alloc);
+    let mut kept = KeptLines::new(alloc);
     let mut reported = false;
     'steps: loop {
         pass_on_before_waiting(input, out, err)?;
@@ -87,7 +89,7 @@ fn dump_all<I: Input, O: Output, E: Output>(
         if let Next::End = next {
             return Ok(reported);
         }
-        reported |= write_next(out, err, &mut text, &next)?;
+        reported |= write_next(out, err, &mut text, &mut kept, &next)?;
         source.take_back(next);
     }
 }

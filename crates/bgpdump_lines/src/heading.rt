@@ -4,10 +4,12 @@ ghost use Rattle.std.specs.Prelude.{◌≡◌, ◌∷◌, ◌++◌};
 ghost use Rattle.bgpdump_lines.specs.Going.{Prints};
 ghost use Rattle.bgpdump_lines.specs.Lines.{bar, micros_text, time_text, item_line, rib_line};
 ghost use Rattle.bgpdump_lines.specs.Heading.{first_field, route_head, headed_line};
+ghost use Rattle.bgpdump_lines.specs.Kept.{IsOfTables};
 ghost use Rattle.ip_prefix.specs.Network.{Network};
 ghost use Rattle.mrt_events.specs.declared.event.Route.{Route};
 ghost use Rattle.mrt_events.specs.declared.peer.Peer.{Peer};
 ghost use Rattle.mrt_events.specs.Event.{Announced};
+ghost use Rattle.mrt_events.specs.declared.event.Tag.TheVariants.{TableDump2};
 
 use crate::fields::put_field;
 use ip_prefix::Text;
@@ -41,7 +43,8 @@ impl Heading {
     /// That of an event.
     #[inline(always)]
     pub(crate) fn of(event: &Event) -> Heading
-        ensures { headed_line result ≡ item_line event.now.time event.now.tag }
+        ensures line { headed_line result ≡ item_line event.now.time event.now.tag }
+        ensures tables { event.now.tag ≡ TableDump2 → IsOfTables result }
     {
         Heading {
             first: First::Record,

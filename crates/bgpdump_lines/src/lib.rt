@@ -7,11 +7,13 @@ mod event_lines;
 mod fault;
 mod fields;
 mod heading;
+mod kept_lines;
 mod laws;
 mod outcome;
 mod output;
 mod reports;
 mod route_line;
+mod table_lines;
 mod write;
 
 pub use dump::{LIMIT, run_dump};

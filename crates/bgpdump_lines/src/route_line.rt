@@ -1,8 +1,9 @@
 //! The lines of routes, parts of which are copied from the line before.
 
-ghost use Rattle.std.specs.Prelude.{◌++◌, IfOk, IfSome};
+ghost use Rattle.std.specs.Prelude.{◌≡◌, ◌≤◌, ◌++◌, take, length, IfOk, IfSome};
 ghost use Rattle.mrt_events.specs.Event.{Announced};
 ghost use Rattle.bgpdump_lines.specs.Heading.{peer_fields, prefix_field, route_tail, headed_line, AreOrdered, HasParts, EndsIn, head_at, front_at, prefix_at, tail_at};
+ghost use Rattle.bgpdump_lines.specs.Kept.{HasPrefix};
 ghost use Rattle.bgpdump_lines.specs.Going.{Prints};
 
 use crate::fields::{put_attributes, put_peer, put_prefix};
@@ -36,9 +37,9 @@ pub(crate) struct Places {
 #[derive(Clone, Copy)]
 pub(crate) struct LastLine<'a> {
     /// What it says.
-    said: Announcement<'a>,
+    pub(crate) said: Announcement<'a>,
     /// Where its parts stand.
-    places: Places,
+    pub(crate) places: Places,
 }
 
 /// Appends the line of a route with each part printed. Returned is where they stand.
@@ -131,6 +132,81 @@ fn put_route_beside(
     })
 }
 
+/// What stands in a route's line in front of the prefix, and what behind it.
+#[derive(Clone, Copy)]
+pub(crate) struct LineEnds<'a> {
+    pub(crate) front: &'a [u8],
+    /// Where in front of the prefix the first three fields end.
+    pub(crate) head: usize,
+    pub(crate) tail: &'a [u8],
+}
+
+/// Returns what the line that the text ends in has in front of the prefix and behind it.
+#[inline(always)]
+pub(crate) fn ends_in(text: &Text, last: Places) -> LineEnds<'_>
+    requires { AreOrdered last text.now }
+    ensures within { result.head ≤ length result.front.now }
+    ensures head { take result.head result.front.now ≡ head_at last text.now }
+    ensures front { result.front.now ≡ front_at last text.now }
+    ensures tail { result.tail.now ≡ tail_at last text.now }
+{
+    let octets = text.as_slice();
+    LineEnds {
+        front: &octets[last.start..last.front],
+        head: last.head - last.start,
+        tail: &octets[last.tail..],
+    }
+}
+
+/// Appends a bar and the prefix, which is copied where the last line has it too.
+#[inline(always)]
+fn put_prefix_again(
+    prefix: &Prefix,
+    last: Option<LastLine<'_>>,
+    text: &mut Text,
+) -> Result<(), AllocError>
+    requires { IfSome last (λ line. HasPrefix line text.old) }
+    ensures { Prints text.old text.new (prefix_field prefix.now) result }
+{
+    match last {
+        Some(line) if same_prefix(line.said.prefix, prefix) => {
+            text.extend_from_within(line.places.front, line.places.tail)
+        }
+        _ => put_prefix(prefix, text),
+    }
+}
+
+/// Appends a line that has these ends. Returned is where its parts stand.
+#[inline(always)]
+pub(crate) fn put_between(
+    ends: LineEnds<'_>,
+    prefix: &Prefix,
+    last: Option<LastLine<'_>>,
+    text: &mut Text,
+) -> Result<Places, AllocError>
+    requires within { ends.head ≤ length ends.front.now }
+    requires last { IfSome last (λ line. HasPrefix line text.old) }
+    ensures printed { Prints text.old text.new
+        (ends.entry.front.now ++ (prefix_field prefix.now ++ ends.entry.tail.now)) result }
+    ensures parts { IfOk result (HasParts text.new
+        (take ends.entry.head ends.entry.front.now) ends.entry.front.now
+        (prefix_field prefix.now) ends.entry.tail.now) }
+{
+    let start = text.len();
+    text.extend_from_slice(ends.front)?;
+    let front = text.len();
+    put_prefix_again(prefix, last, text)?;
+    let tail = text.len();
+    text.extend_from_slice(ends.tail)?;
+    let head = start + ends.head;
+    Ok(Places {
+        start,
+        head,
+        front,
+        tail,
+    })
+}
+
 /// Appends the line of a route. What the last line says too is copied from there.
 #[inline(always)]
 pub(crate) fn put_route<'a>(
@@ -142,6 +218,7 @@ pub(crate) fn put_route<'a>(
     requires { IfSome last (λ line. EndsIn heading.now line text.old) }
     ensures printed { Prints text.old text.new (headed_line heading.now
         (Announced said.entry.peer.now said.entry.prefix.now said.entry.route.now)) result }
+    ensures said { IfOk result (λ line. line.said ≡ said.entry) }
     ensures last { IfOk result (λ line. EndsIn heading.now line text.new) }
 {
     let places = match last {

@@ -3,11 +3,13 @@
 ghost use Rattle.std.specs.Prelude.{◌≡◌, ◌||◌, ◌≤◌, [], false, All, map, take, drop, length, IfOk, OnOk, flat_map};
 ghost use Rattle.mrt_events.specs.declared.event.Route.{Route};
 ghost use Rattle.mrt_events.specs.declared.peer.Peer.{Peer};
+ghost use Rattle.mrt_events.specs.declared.event.Tag.TheVariants.{TableDump2};
 ghost use Rattle.mrt_events.specs.Event.{saying};
 ghost use Rattle.mrt_events.specs.SharedRoute.{Announces, AreOfOneRoute};
 ghost use Rattle.mrt_wire.specs.Answered.{answer_findings};
 ghost use Rattle.bgpdump_lines.specs.Heading.{EndsInRoute, headed_lines};
 ghost use Rattle.bgpdump_lines.specs.declared.heading.Heading.{Heading};
+ghost use Rattle.bgpdump_lines.specs.Kept.{IsOfTables};
 ghost use Rattle.bgpdump_lines.specs.Lines.{event_lines, rib_line};
 ghost use Rattle.bgpdump_lines.specs.Run.{fault_report, outputs_of};
 ghost use Rattle.bgpdump_lines.specs.Going.{PassesPart, Puts, PutsFound, PutsPart, is_write, is_any_bad};
@@ -15,9 +17,11 @@ ghost use Rattle.bgpdump_lines.specs.Going.{PassesPart, Puts, PutsFound, PutsPar
 use crate::event_lines::{put_item, put_other, split_shared};
 use crate::fault::WriteFault;
 use crate::heading::Heading;
+use crate::kept_lines::KeptLines;
 use crate::output::{Output, put_all};
 use crate::reports::put_report;
 use crate::route_line::{Announcement, Places, put_route, put_route_anew};
+use crate::table_lines::put_table_item;
 use ip_prefix::{Prefix, Text};
 use mrt_wire::{Event, Item, Next, Peer, RecordFault, Route};
 use std::rc::Rc;
@@ -208,6 +212,71 @@ fn write_lines<O: Output>(out: &mut O, text: &mut Text, event: &Event) -> Result
     Ok(())
 }
 
+/// Appends the lines of items of tables' records. Wherever the text is long, it is written before the
+/// next line.
+#[inline(never)]
+fn write_entries<O: Output>(
+    out: &mut O,
+    heading: &Heading,
+    items: &[Item],
+    kept: &mut KeptLines,
+    text: &mut Text,
+) -> Result<(), WriteFault>
+    requires { IsOfTables heading.now }
+    ensures text { PassesPart (O.written out.old) (O.written out.new) text.old text.new
+        (headed_lines heading.now (map saying items.now)) result }
+    ensures failed { O.failed out.new ≡ (O.failed out.old || is_write result) }
+{
+    let mut last = None;
+    'items: for item in items {
+        if write_long(out, text)? {
+            last = None;
+        }
+        last = put_table_item(heading, item, last, kept, text)?;
+    }
+    Ok(())
+}
+
+/// Writes the lines of a table's record, as [`write_lines`] does. Those of the record before are copied
+/// where they say the same, and these are kept for the next one.
+#[inline(always)]
+fn write_table<O: Output>(
+    out: &mut O,
+    text: &mut Text,
+    kept: &mut KeptLines,
+    event: &Event,
+) -> Result<(), WriteFault>
+    requires { event.now.tag ≡ TableDump2 }
+    ensures text { PutsPart (O.written out.old) (O.written out.new) (event_lines event.now) result }
+    ensures failed { O.failed out.new ≡ (O.failed out.old || is_write result) }
+{
+    text.clear();
+    let heading = Heading::of(event);
+    let items = event.items.as_slice();
+    write_entries(out, &heading, items, kept, text)?;
+    kept.end(items.len());
+    put_all(out, text.as_slice())?;
+    Ok(())
+}
+
+/// Writes the lines of an event. Those of tables that are kept are copied where they say the same.
+#[inline(always)]
+fn write_event<O: Output>(
+    out: &mut O,
+    text: &mut Text,
+    kept: &mut KeptLines,
+    event: &Event,
+) -> Result<(), WriteFault>
+    ensures text { PutsPart (O.written out.old) (O.written out.new) (event_lines event.now) result }
+    ensures failed { O.failed out.new ≡ (O.failed out.old || is_write result) }
+{
+    if kept.serve(event) {
+        write_table(out, text, kept, event)
+    } else {
+        write_lines(out, text, event)
+    }
+}
+
 /// Writes the lines of routes in the table of a peer, each of which takes what it can from the one
 /// before. The text is scratch.
 pub fn write_rib_lines<O: Output>(
@@ -282,6 +351,7 @@ pub(crate) fn write_next<O: Output, E: Output>(
     out: &mut O,
     err: &mut E,
     text: &mut Text,
+    kept: &mut KeptLines,
     next: &Next,
 ) -> Result<bool, WriteFault>
     ensures found { PutsFound (answer_findings next.now)
@@ -293,7 +363,7 @@ pub(crate) fn write_next<O: Output, E: Output>(
 {
     match next {
         Next::Event(event) => {
-            write_lines(out, text, event)?;
+            write_event(out, text, kept, event)?;
             Ok(false)
         }
         Next::Bad(fault) => {

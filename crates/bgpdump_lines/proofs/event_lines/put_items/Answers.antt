@@ -15,6 +15,6 @@ returns c = (
       lines-parts line c.as_slice-items.result.now c.shared-shared.result.start c.shared-shared.result.end _ _ _ _
       c.shared-shared.ensures.ordered c.in_ok-put_each.ensures.0 c.in_ok-put_shared.ensures.0
       (c.in_ok-put_each-2.ensures.0 ∙ ap (λ l. c.put_shared.new.text ++ flat_map line (map saying l)) (take_all _ (drop c.shared-shared.result.end c.as_slice-items.result.now) (omega (arith, length-drop c.shared-shared.result.end c.as_slice-items.result.now))))
-      ∙ (λ i. c.args.text.now ++ flat_map (c.of-heading.ensures i) (c.as_slice-items.ensures i)),
+      ∙ (λ i. c.args.text.now ++ flat_map (c.of-heading.ensures.line i) (c.as_slice-items.ensures i)),
   tt,
 )

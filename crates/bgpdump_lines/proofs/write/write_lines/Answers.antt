@@ -21,7 +21,7 @@ pub returns-in_err-write_items-clause-text : goal.returns-in_err-write_items-cla
 returns-in_err-write_items-clause-text g c =
     let line = headed_line c.of-heading.result in
     let items = c.as_slice-items.result.now in
-    let three = lines-three c.args.event.now line items c.shared-shared.result.start c.shared-shared.result.end c.of-heading.ensures c.shared-shared.ensures.ordered c.as_slice-items.ensures in
+    let three = lines-three c.args.event.now line items c.shared-shared.result.start c.shared-shared.result.end c.of-heading.ensures.line c.shared-shared.ensures.ordered c.as_slice-items.ensures in
     let fresh = subst (λ t. AppendsFront (g.O.Output.written c.args.out.now) (g.O.Output.written c.write_items.new.out) (t ++ event_lines c.args.event.now)) c.clear.ensures in
     let p = err_from_is_err_and c.from_residual.result c.from_residual.ensures.1 in
     rw p.1 (fresh (AppendsFront-first _ _ c.clear.new.self _ _ _ three c.in_err-write_items.ensures.text))
@@ -30,7 +30,7 @@ pub returns-in_err-write_shared-clause-text : goal.returns-in_err-write_shared-c
 returns-in_err-write_shared-clause-text g c =
     let line = headed_line c.of-heading.result in
     let items = c.as_slice-items.result.now in
-    let three = lines-three c.args.event.now line items c.shared-shared.result.start c.shared-shared.result.end c.of-heading.ensures c.shared-shared.ensures.ordered c.as_slice-items.ensures in
+    let three = lines-three c.args.event.now line items c.shared-shared.result.start c.shared-shared.result.end c.of-heading.ensures.line c.shared-shared.ensures.ordered c.as_slice-items.ensures in
     let fresh = subst (λ t. AppendsFront (g.O.Output.written c.args.out.now) (g.O.Output.written c.write_shared.new.out) (t ++ event_lines c.args.event.now)) c.clear.ensures in
     let p = err_from_is_err_and c.from_residual-in_err-write_shared.result c.from_residual-in_err-write_shared.ensures.1 in
     rw p.1 (fresh (Passes-one-stops _ _ _ c.clear.new.self c.write_items.new.text _ _ _ _ three c.in_ok-write_items.ensures.text c.in_err-write_shared.ensures.text))
@@ -43,7 +43,7 @@ returns-in_err-write_items-2-clause-text g c =
     let m = g.O.Output.written c.write_shared.new.out in
     let d = g.O.Output.written c.write_items-2.new.out in
     let y = c.write_shared.new.text in
-    let three = lines-three c.args.event.now line items c.shared-shared.result.start end c.of-heading.ensures c.shared-shared.ensures.ordered c.as_slice-items.ensures in
+    let three = lines-three c.args.event.now line items c.shared-shared.result.start end c.of-heading.ensures.line c.shared-shared.ensures.ordered c.as_slice-items.ensures in
     let all = take_all _ (drop end items) (omega (arith, length-drop end items)) in
     let put = subst (λ l. AppendsFront m d (y ++ flat_map line (map saying l))) all c.in_err-write_items-2.ensures.text in
     let fresh = subst (λ t. AppendsFront (g.O.Output.written c.args.out.now) (g.O.Output.written c.write_items-2.new.out) (t ++ event_lines c.args.event.now)) c.clear.ensures in
@@ -59,7 +59,7 @@ passed g c =
     let m = g.O.Output.written c.write_shared.new.out in
     let d = g.O.Output.written c.write_items-2.new.out in
     let y = c.write_shared.new.text in
-    let three = lines-three c.args.event.now line items c.shared-shared.result.start end c.of-heading.ensures c.shared-shared.ensures.ordered c.as_slice-items.ensures in
+    let three = lines-three c.args.event.now line items c.shared-shared.result.start end c.of-heading.ensures.line c.shared-shared.ensures.ordered c.as_slice-items.ensures in
     let all = take_all _ (drop end items) (omega (arith, length-drop end items)) in
     let put = subst (λ l. Passes m d y c.write_items-2.new.text (flat_map line (map saying l))) all c.in_ok-write_items-2.ensures.text in
     subst (λ t. Passes (g.O.Output.written c.args.out.now) d t c.write_items-2.new.text (event_lines c.args.event.now)) c.clear.ensures
