@@ -4,6 +4,7 @@ pub mod StoreLaws
 pub mod ListLaws
 pub mod ChosenLaws
 pub mod NumberLaws
+pub mod NotedLaws
 pub mod RowLaws
 pub mod PeerLaws
 pub mod FewLaws

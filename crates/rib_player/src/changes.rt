@@ -1,7 +1,7 @@
 //! What an event does, pair by pair.
 
 ghost use Rattle.std.specs.Prelude.{◌≡◌, [], ◌∷◌, ◌≢◌, IfOk, IfSome, IfNone, OnOk, map, slice_get};
-ghost use Rattle.std.specs.List.{AllByRecursion};
+ghost use Rattle.std.specs.List.{AllByRecursion, list_any};
 ghost use Rattle.std.specs.Ordering.{eq_by_cmp};
 ghost use Rattle.mrt_events.specs.Event.{saying, peer_cmp};
 ghost use Rattle.mrt_events.specs.SharedRoute.{AreOfOneRoute};
@@ -35,6 +35,14 @@ pub(crate) struct Changes {
 }
 
 impl Changes {
+    /// Whether the peer's session is lost, before all that is noted of the peer.
+    #[inline]
+    fn has_lost(&self, peer: &Peer) -> bool
+        ensures { result ≡ list_any (eq_by_cmp peer_cmp peer.now) self.now.lost.keys }
+    {
+        !self.lost.is_empty() && self.lost.contains(peer)
+    }
+
     /// Notes the route that the peer has to the prefix then, or its absence.
     fn note_route<S: PrefixStore<Rc<Route>>>(
         &mut self,
@@ -47,11 +55,12 @@ impl Changes {
             ≡ later (effect_at (pair_of peer.now prefix.now) (route_in route) q)
             (noted_effect self.old q)) }
     {
-        if !self.lost.contains(peer) {
-            let shared = shared_peer(self.alloc, table, self.entries.last(), peer)?;
-            let entry = Entry::new(self.alloc, shared, prefix, route)?;
-            self.entries.push(entry)?;
+        if self.has_lost(peer) {
+            return Ok(());
         }
+        let shared = shared_peer(self.alloc, table, self.entries.last(), peer)?;
+        let entry = Entry::new(self.alloc, shared, prefix, route)?;
+        self.entries.push(entry)?;
         Ok(())
     }
 

@@ -191,9 +191,7 @@ pub(crate) fn step_for<S: PrefixStore<Rc<Route>>>(
     if routed.len() < noted {
         known.note_unused();
     }
-    routed.retain(|entry| {
-        entry.route().is_some() || table.get(entry.peer(), &entry.prefix()).is_some()
-    });
+    routed.retain(|entry| entry.route().is_some() || entry.is_routed(table));
     routed.shrink_to_fit();
     Ok((routed, None))
 }

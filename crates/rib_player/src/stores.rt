@@ -1,6 +1,6 @@
 //! The stores of peers. Each peer that has one has a number, by which it is found.
 
-ghost use Rattle.std.specs.Prelude.{◌≡◌, ◌≤◌, [], Some, None, true, false, IsTrue, IsSome, IfSome, IfOk, slice_get, length, ◌<◌, OnOk, OnErr, vec_len};
+ghost use Rattle.std.specs.Prelude.{◌≡◌, ◌≤◌, [], Some, None, true, false, IsTrue, IsSome, IfSome, IfOk, slice_get, length, ◌<◌, nat_lt, OnOk, OnErr, vec_len};
 ghost use Rattle.std.specs.Option.{option_copied, option_copied_mut, option_map};
 ghost use Rattle.std.specs.Borrow.{sem};
 ghost use Rattle.std.specs.Map.{lookup};
@@ -198,6 +198,23 @@ impl<S> Stores<S> {
             IsWritten (routed_in self.old) (routed_in self.new) peer (Some has) }
     {
         self.routed.choose(number, has);
+    }
+
+    /// Notes whether the peer's store that has the number has a route, where it has so many now, and
+    /// had one less at the least. It takes no memory.
+    #[inline]
+    pub(crate) fn note_count(&mut self, number: usize, count: u64)
+        requires within { number < length self.old.held.items }
+        requires noted { 1 < count → slice_get (choices self.old.routed) number ≡ Some true }
+        ensures stores { stores_in self.new ≡ stores_in self.old }
+        ensures noted { (peer : Peer) →
+            lookup (eq_by_cmp peer_cmp peer) self.old.order.entries ≡ Some number →
+            IsWritten (routed_in self.old) (routed_in self.new) peer (Some (nat_lt 0 count)) }
+    {
+        if count > 1 {
+            return;
+        }
+        self.note_routes(number, count > 0);
     }
 
     /// Gives back room that is too much for the stores that there are.

@@ -104,7 +104,7 @@ impl<S: PrefixStore<Rc<Route>>> Table<S> {
         };
         store.exchange(&pair.prefix, route);
         let count = store.route_count();
-        self.stores.note_routes(number, count > 0);
+        self.stores.note_count(number, count);
     }
 
     /// Puts the route at the pair, which is made a key where it was none: what was there and the
@@ -129,7 +129,7 @@ impl<S: PrefixStore<Rc<Route>>> Table<S> {
         if let Some(store) = self.stores.get_mut(&mut number, &pair.peer) {
             let made = store.put(&pair.prefix, route);
             let count = store.route_count();
-            self.stores.note_routes(number, count > 0);
+            self.stores.note_count(number, count);
             return made;
         }
         let mut store = S::new(self.alloc);
@@ -180,7 +180,21 @@ impl<S: PrefixStore<Rc<Route>>> Table<S> {
         ensures { option_map (λ route. route.now.value) result ≡
             finite.get self.now.routes (pair_of peer.now prefix.now) }
     {
-        self.store(peer)?.get(prefix)
+        self.numbered_get(NO_NUMBER, peer, prefix)
+    }
+
+    /// The route that the peer has to the prefix. This number of the peer is tried first.
+    #[inline]
+    pub(crate) fn numbered_get(
+        &self,
+        number: usize,
+        peer: &Peer,
+        prefix: &Prefix,
+    ) -> Option<&Rc<Route>>
+        ensures { option_map (λ route. route.now.value) result ≡
+            finite.get self.now.routes (pair_of peer.now prefix.now) }
+    {
+        self.numbered_store(number, peer)?.get(prefix)
     }
 
     /// The longest prefix that the peer has a route to and that contains the address, and its
@@ -283,6 +297,23 @@ impl<S: PrefixStore<Rc<Route>>> Table<S> {
         ensures absent { IfNone result ((n : Network) →
             finite.get self.now.routes (pair_of peer.now n) ≡ None) }
     {
-        self.stores.get(NO_NUMBER, peer)
+        self.numbered_store(NO_NUMBER, peer)
+    }
+
+    /// The peer's store, where it has a key. This number of the peer is tried first.
+    #[inline]
+    fn numbered_store(&self, number: usize, peer: &Peer) -> Option<&S>
+        ensures keys { IfSome result (λ store. (n : Network) →
+            set.contains (S.keys store.now) n ≡ set.contains self.now.keys (pair_of peer.now n)) }
+        ensures routes { IfSome result (λ store. (n : Network) →
+            option_map value_of (finite.get (S.routes store.now) n)
+            ≡ finite.get self.now.routes (pair_of peer.now n)) }
+        ensures some { IfSome result (λ store. 0 < set.len (S.keys store.now)) }
+        ensures none { IfNone result ((n : Network) →
+            set.contains self.now.keys (pair_of peer.now n) ≡ false) }
+        ensures absent { IfNone result ((n : Network) →
+            finite.get self.now.routes (pair_of peer.now n) ≡ None) }
+    {
+        self.stores.get(number, peer)
     }
 }

@@ -1,6 +1,6 @@
 //! An entry and the table exchange their routes.
 
-ghost use Rattle.std.specs.Prelude.{◌≡◌, [], ◌∷◌, true, not, IfOk, OnOk, OnErr};
+ghost use Rattle.std.specs.Prelude.{◌≡◌, [], ◌∷◌, true, not, is_some, IfOk, OnOk, OnErr};
 ghost use Rattle.std.specs.FinMap as finite;
 ghost use Rattle.std.specs.FinSet as set;
 ghost use Rattle.prefix_store.specs.Stored.{put};
@@ -17,6 +17,17 @@ use std::mem::replace;
 use std::rc::Rc;
 
 impl Entry {
+    /// Whether its pair has a route in the table.
+    #[inline]
+    pub(crate) fn is_routed<S: PrefixStore<Rc<Route>>>(&self, table: &Table<S>) -> bool
+        ensures { result ≡ is_some (finite.get table.now.routes self.now.pair) }
+    {
+        let (peer, prefix) = self.parts();
+        table
+            .numbered_get(peer.number(), peer.peer(), &prefix)
+            .is_some()
+    }
+
     /// Its route and the table's change places.
     #[inline(always)]
     pub(crate) fn exchange<S: PrefixStore<Rc<Route>>>(&mut self, table: &mut Table<S>)

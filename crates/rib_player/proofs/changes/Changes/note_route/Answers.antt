@@ -7,8 +7,8 @@ use Rattle.rib_player.specs.Tables.{route_in}
 use Rattle.rib_player.proofs.ChangesLaws.{noted_effect-first, noted_effect-lost}
 use Rattle.rib_player.proofs.changes.Changes.note_route.Goals as goal
 
-pub returns-in_ok-push : goal.returns-in_ok-push
-returns-in_ok-push g c = λ q.
+pub returns : goal.returns
+returns g c = λ q.
     let old = c.args.self.now in
     let pair = pair_of c.args.peer.now c.args.prefix.now in
     let sides = sides_of old.entries.items in
@@ -17,9 +17,9 @@ returns-in_ok-push g c = λ q.
     let pushed : sides_of c.push.new.self.items ≡ sides ++ (pair, route_in c.args.route) ∷ [] =
     ap sides_of c.in_ok-push.ensures.items ∙ map-append side_of old.entries.items (c.in_ok-entry.entry ∷ []) ∙ ap (λ (s : Side). sides ++ s ∷ []) side in
     ap (λ ss. effect_of (found ss q) (is_lost old.lost.keys q)) pushed
-    ∙ noted_effect-first sides old.lost.keys (pair, route_in c.args.route) q (sym c.contains.ensures ∙ c.if-not-contains.true)
+    ∙ noted_effect-first sides old.lost.keys (pair, route_in c.args.route) q (sym c.has_lost.ensures ∙ c.if-has_lost.false)
 
-pub returns-else-not-contains : goal.returns-else-not-contains
-returns-else-not-contains g c =
+pub returns-then-has_lost : goal.returns-then-has_lost
+returns-then-has_lost g c =
     let old = c.args.self.now in
-    λ q. noted_effect-lost (sides_of old.entries.items) old.lost.keys (pair_of c.args.peer.now c.args.prefix.now) (effect_of (Some (route_in c.args.route)) false) q (sym c.contains.ensures ∙ c.if-not-contains.false)
+    λ q. noted_effect-lost (sides_of old.entries.items) old.lost.keys (pair_of c.args.peer.now c.args.prefix.now) (effect_of (Some (route_in c.args.route)) false) q (sym c.has_lost.ensures ∙ c.if-has_lost.true)
