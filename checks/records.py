@@ -43,6 +43,11 @@ def reach(prefixes):
     return attribute(MP_REACH_NLRI, struct.pack('>HBB', 2, 1, len(hop)) + hop + b'\0' + prefixes)
 
 
+def table_hop(number):
+    """The next hop of a table's entry of IPv6, which stands alone (RFC 6396, section 4.3.4)."""
+    return attribute(MP_REACH_NLRI, bytes([16]) + bytes.fromhex('20010DB8') + number.to_bytes(12, 'big'))
+
+
 def unreach(prefixes):
     """The withdrawal of IPv6 prefixes."""
     return attribute(MP_UNREACH_NLRI, struct.pack('>HB', 2, 1) + prefixes)
@@ -60,10 +65,14 @@ def entry(peer, attributes):
     return struct.pack('>HIH', peer, SECONDS, len(attributes)) + attributes
 
 
-def table(number, prefix, entries):
-    """A record of a table of IPv4."""
-    return record(TABLE_DUMP_V2, 2, struct.pack('>I', number) + prefix + struct.pack('>H', len(entries)) +
+def table(number, prefix, entries, subtype=2):
+    """A record of a table of IPv4, or of IPv6."""
+    return record(TABLE_DUMP_V2, subtype, struct.pack('>I', number) + prefix + struct.pack('>H', len(entries)) +
                   b''.join(entries))
+
+
+def wide_table(number, prefix, entries):
+    return table(number, prefix, entries, subtype=4)
 
 
 def old_entry(number, peer, attributes):

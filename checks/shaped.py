@@ -7,7 +7,7 @@ from functools import cache
 
 from reading import COMMUNITIES
 from records import SECONDS, attribute, communities, entry, host, index, loss, message, net, old_entry, prefix, reach
-from records import route, segment, table, unreach
+from records import route, segment, table, table_hop, unreach, wide_table
 
 # The octets of what an entry has beside the segments of its path.
 BESIDE = len(route(bytes(256))) - 256
@@ -54,6 +54,96 @@ def records_of_paths(records, peers, segments):
     attributes = route(b''.join(segments))
     for number in range(records):
         yield table(number, net(number), [entry(peer, attributes) for peer in range(peers)])
+
+
+# Tables whose lines are partly those of the record before.
+
+def long_route(number):
+    """The attributes of a usual route, of which number is that of its path's last system."""
+    return route(segment(4, 64496, 64497, 64498, number)) + communities(*range(12))
+
+
+def many_and_one(turns):
+    """A record with an entry of each of 1,000 peers, and one with an entry of one peer, so often."""
+    yield index(1_000)
+    for number in range(0, 2 * turns, 2):
+        yield table(number, net(number), [entry(peer, long_route(peer)) for peer in range(1_000)])
+        yield table(number + 1, net(number + 1), [entry(number % 1_000, long_route(number))])
+
+
+def table_of_peers(records):
+    """Records with an entry of each of 1,000 peers, whose routes stay."""
+    yield index(1_000)
+    for number in range(records):
+        yield table(number, net(number), [entry(peer, long_route(peer)) for peer in range(1_000)])
+
+
+def indexed_tables(records):
+    """The same with an index in front of each."""
+    for number in range(records):
+        yield index(1_000)
+        yield table(number, net(number), [entry(peer, long_route(peer)) for peer in range(1_000)])
+
+
+def entries_in_order(records):
+    """Records with an entry of each of 256 peers, whose routes stay."""
+    yield index(256)
+    for number in range(records):
+        yield table(number, net(number), [entry(peer, long_route(peer)) for peer in range(256)])
+
+
+def turned_entries(records):
+    """The same, in another order in each record."""
+    yield index(256)
+    for number in range(records):
+        order = [(peer * 77 + number) % 256 for peer in range(256)]
+        yield table(number, net(number), [entry(peer, long_route(peer)) for peer in order])
+
+
+def doubled_entries(records):
+    """Records with two entries of each of eight peers, whose routes differ."""
+    yield index(8)
+    for number in range(records):
+        yield table(number, net(number), [entry(peer, long_route(at)) for peer in range(8) for at in range(2)])
+
+
+def doubled_alike(records):
+    """The same with equal routes."""
+    yield index(8)
+    for number in range(records):
+        yield table(number, net(number), [entry(peer, long_route(peer)) for peer in range(8) for _ in range(2)])
+
+
+def last_communities_differ(records):
+    """Records with an entry of each of 256 peers, whose last community is another in each record."""
+    yield index(256)
+    for number in range(records):
+        attributes = route(segment(4, 64496, 64497, 64498)) + communities(*range(12), number)
+        yield table(number, net(number), [entry(peer, attributes) for peer in range(256)])
+
+
+def first_numbers_differ(records):
+    """The same where the first number of the path is."""
+    yield index(256)
+    for number in range(records):
+        attributes = route(segment(4, 1 + number, 64497, 64498)) + communities(*range(13))
+        yield table(number, net(number), [entry(peer, attributes) for peer in range(256)])
+
+
+def both_families(turns):
+    """A record of IPv4 and one of IPv6, by turns, with an entry of each of 256 peers, whose routes stay."""
+    yield index(256)
+    for number in range(turns):
+        yield table(number, net(number), [entry(peer, long_route(peer)) for peer in range(256)])
+        yield wide_table(number, wide(48, bytes.fromhex('2001') + number.to_bytes(4, 'big')),
+                         [entry(peer, long_route(peer) + table_hop(peer)) for peer in range(256)])
+
+
+def old_table_of_peers(records):
+    """Old tables: for each prefix an entry of each of 1,000 peers, whose routes stay."""
+    for number in range(records):
+        for peer in range(1_000):
+            yield old_entry(number, peer, route(segment(2, 64496, 64497, peer)) + communities(*range(12)))
 
 
 # Two paths of 990 octets.

@@ -32,8 +32,8 @@ class Shape(NamedTuple):
     """A kind of file, and the peak that it may take.
 
     `make` gives the records of a size, and `script` what is played over them, or there is none where they are
-    listed. Where `beside` makes other records, the peak is at most `times` that of theirs, and 1 MiB, and the time, or
-    where this is more the instructions, at most `dearer` times theirs, if that is told.
+    listed, with the options. Where `beside` makes other records, the peak is at most `times` that of theirs, and 1 MiB,
+    and the time, or where this is more the instructions, at most `dearer` times theirs, if that is told.
     """
     name: str
     size: int
@@ -43,6 +43,7 @@ class Shape(NamedTuple):
     beside: Callable | None = None
     times: float = 1.3
     dearer: float | None = None
+    options: tuple = ()
 
 
 def all_steps(_):
@@ -87,6 +88,17 @@ SHAPES = (
     Shape('long messages and entries by turns', 750, shaped.turns),
     Shape('records of one peer', 400, partial(shaped.one_peer_table, entries=1000)),
     Shape('records of many peers', 500, partial(shaped.many_peers_table, peers=1000)),
+    # Lines of tables, of which those of each peer's last record are kept.
+    Shape('records of 1,000 entries and of one by turns', 100, shaped.many_and_one),
+    Shape('records of 1,000 peers, each with an index', 60, shaped.indexed_tables, beside=shaped.table_of_peers,
+          dearer=2.0),
+    Shape('peers in another order each record', 200, shaped.turned_entries, beside=shaped.entries_in_order, dearer=1.1),
+    Shape('a peer twice in a record', 4_000, shaped.doubled_entries, beside=shaped.doubled_alike, dearer=2.0),
+    Shape('entries that differ in the last community', 200, shaped.last_communities_differ,
+          beside=shaped.first_numbers_differ, dearer=1.1),
+    Shape('tables with other times', 200, shaped.entries_in_order, options=('-t', 'change')),
+    Shape('tables of both families by turns', 100, shaped.both_families),
+    Shape('old tables of 1,000 peers', 60, shaped.old_table_of_peers),
     Shape('records of one peer, played', 150, partial(shaped.one_peer_table, entries=1000), all_steps),
     Shape('records of many peers, played', 120, partial(shaped.many_peers_table, peers=1000), all_steps, 32 * MIB),
     Shape('short attributes behind long ones, played', 10_000, shaped.short_behind_long_attributes, all_forgotten,
@@ -129,19 +141,23 @@ SHAPES = (
     Shape('peers without routes, asked for', 8_000, shaped.emptied_peers, all_steps_and_peers, 16 * MIB),
 )
 
-def used_by(runs, make, script, size, times=1):
-    return runs.over(make(size), script and script(size), times)
+def used_by(runs, shape, make, size, times=1):
+    """What the records of this size use, played or listed as the shape is."""
+    return runs.over(make(size), shape.script and shape.script(size), times, shape.options)
 
 
 def used_by_both(runs, shape):
     """What a size and its double use, each in the least of three runs."""
-    return [used_by(runs, shape.make, shape.script, size, RUNS) for size in (shape.size, 2 * shape.size)]
+    return [used_by(runs, shape, shape.make, size, RUNS) for size in (shape.size, 2 * shape.size)]
+
+
+def instructions_of(runs, shape, make, size):
+    """How many instructions the records of this size take; None where they can't be counted."""
+    return runs.instructions_over(make(size), shape.script and shape.script(size), shape.options)
 
 
 def instructions_of_both(runs, shape):
-    """How many instructions a size and its double take; None where they can't be counted."""
-    return [runs.instructions_over(shape.make(size), shape.script and shape.script(size))
-            for size in (shape.size, 2 * shape.size)]
+    return [instructions_of(runs, shape, shape.make, size) for size in (shape.size, 2 * shape.size)]
 
 
 def faults_of_rise(runs, shape, small, large):
@@ -166,18 +182,17 @@ def most_of(runs, shape, size):
     """The peak that the shape may take at this size."""
     if shape.beside is None:
         return shape.most
-    return int(shape.times * used_by(runs, shape.beside, shape.script, size).peak) + MIB
+    return int(shape.times * used_by(runs, shape, shape.beside, size).peak) + MIB
 
 
 def faults_of_cost(runs, shape, size, used):
     """Whether it takes too much more time than the records beside it, and where it does, instructions."""
     if shape.dearer is None:
         return
-    beside = used_by(runs, shape.beside, shape.script, size, RUNS)
+    beside = used_by(runs, shape, shape.beside, size, RUNS)
     if used.time <= shape.dearer * beside.time:
         return
-    more, fewer = [runs.instructions_over(make(size), shape.script and shape.script(size))
-                   for make in (shape.make, shape.beside)]
+    more, fewer = [instructions_of(runs, shape, make, size) for make in (shape.make, shape.beside)]
     if fewer is None:
         yield '%s: %.1f ms, and %.1f beside it' % (shape.name, used.time, beside.time)
     elif more > shape.dearer * fewer:

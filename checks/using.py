@@ -39,9 +39,9 @@ class Runs:
         status, peak, microseconds = map(int, self.told.read_text().split())
         return Used(status, peak, microseconds / 1000)
 
-    def words_over(self, records, script=None):
-        """The words of a run over the records, listed or played."""
-        file, words = self.folder / 'made.mrt', ['-m']
+    def words_over(self, records, script=None, options=()):
+        """The words of a run over the records, listed with these options or played."""
+        file, words = self.folder / 'made.mrt', ['-m', *options]
         with file.open('wb') as out:
             out.writelines(records)
         if script:
@@ -49,16 +49,16 @@ class Runs:
             words = ['--play', str(self.folder / 'script')]
         return [*words, str(file)]
 
-    def over(self, records, script=None, runs=1):
+    def over(self, records, script=None, runs=1, options=()):
         """What runs over the records used: the largest peak and the least time."""
-        words = self.words_over(records, script)
+        words = self.words_over(records, script, options)
         return reduce(Used.joined, [self.used(words) for _ in range(runs)])
 
-    def instructions_over(self, records, script=None):
+    def instructions_over(self, records, script=None, options=()):
         """How many instructions a run over the records takes; None where valgrind isn't there."""
         if not shutil.which('valgrind'):
             return None
         done = subprocess.run(['valgrind', '--tool=callgrind', '--callgrind-out-file=/dev/null', self.program,
-                               *self.words_over(records, script)], stdin=subprocess.DEVNULL,
+                               *self.words_over(records, script, options)], stdin=subprocess.DEVNULL,
                               stdout=subprocess.DEVNULL, stderr=subprocess.PIPE, text=True, check=True)
         return int(re.search(r'Collected : (\d+)', done.stderr)[1])
