@@ -37,10 +37,10 @@ const MULTIPLIER: u32 = 0x9E37_79B9;
 const NO_LINE: u16 = u16::MAX;
 
 /// How many lines are printed before it is judged whether keeping them pays.
-const TRIAL: usize = 1 << 10;
+const TRIAL: usize = 1 << 9;
 
 /// How many times as many are printed without, where it didn't.
-const PAUSE_TIMES: usize = 32;
+const PAUSE_TIMES: usize = 64;
 
 /// What stands in the line of a peer's route in a table, but for the prefix.
 #[derive(Drop)]
@@ -125,22 +125,12 @@ impl KeptLine {
     }
 }
 
-/// Returns the last four octets of an address, as a number.
+/// Returns the last two octets of an address, as a number.
 #[inline(always)]
 fn last_octets(addr: &Addr) -> u32 {
     match addr.family() {
-        Family::V4 => u32::from_be_bytes([
-            addr.octet(0),
-            addr.octet(1),
-            addr.octet(2),
-            addr.octet(3),
-        ]),
-        Family::V6 => u32::from_be_bytes([
-            addr.octet(12),
-            addr.octet(13),
-            addr.octet(14),
-            addr.octet(15),
-        ]),
+        Family::V4 => u32::from(addr.octet(2)) << 8 | u32::from(addr.octet(3)),
+        Family::V6 => u32::from(addr.octet(14)) << 8 | u32::from(addr.octet(15)),
     }
 }
 
@@ -170,7 +160,7 @@ pub(crate) struct KeptLines {
     numbers: Vec<u16>,
     /// How many lines were printed since it was judged last.
     printed: usize,
-    /// How many of them weren't kept.
+    /// How many of them weren't the line that was kept of their peer, or may not be kept.
     missed: usize,
     /// How many lines more are printed before lines are kept again.
     pause: usize,
@@ -213,8 +203,8 @@ impl KeptLines {
         false
     }
 
-    /// Ends a record of so many lines. Where more than half of the last ones weren't kept, all lines are
-    /// let go, and a pause begins.
+    /// Ends a record of so many lines. Where more than half of the last ones missed, all lines are let go,
+    /// and a pause begins.
     #[inline(always)]
     pub(crate) fn end(&mut self, lines: usize) {
         self.printed = self.printed.saturating_add(lines);
@@ -257,10 +247,10 @@ impl KeptLines {
     ) -> Result<(), AllocError>
         requires { AreEnds ends.front.now ends.head ends.tail.now peer.now route.now.value }
     {
-        self.missed = self.missed.saturating_add(1);
         if ends.front.len().saturating_add(ends.tail.len()) > LONGEST_LINE
             || !may_be_kept(route, time)
         {
+            self.missed = self.missed.saturating_add(1);
             return Ok(());
         }
         if self.numbers.is_empty() {
@@ -269,14 +259,17 @@ impl KeptLines {
         let Some(number) = self.numbers.get_mut(place_of(peer)) else {
             return Ok(());
         };
-        if let Some(line) = self.lines.get_mut(usize::from(*number)) {
-            return line.replace(peer, route, ends);
-        }
-        if self.lines.len() < MOST_LINES {
+        let count = self.lines.len();
+        if usize::from(*number) >= count && count < MOST_LINES {
             let line = KeptLine::of(self.alloc, peer, route, ends)?;
-            *number = u16::try_from(self.lines.len()).unwrap_or(NO_LINE);
+            *number = u16::try_from(count).unwrap_or(NO_LINE);
             self.lines.push(line)?;
+            return Ok(());
         }
-        Ok(())
+        self.missed = self.missed.saturating_add(1);
+        match self.lines.get_mut(usize::from(*number)) {
+            Some(line) => line.replace(peer, route, ends),
+            None => Ok(()),
+        }
     }
 }
