@@ -11,13 +11,14 @@ ghost use Rattle.rib_player.specs.FewCounts.{count_at, count_in, IsFirst};
 use std::alloc::{AllocError, Global};
 use std::collections::BTreeMap;
 
-/// How many keys a list holds at most. What is counted where there are as many, be it of another key
-/// or of one of these, moves all to a tree. Its first node has room for fifteen: 248 octets for
+/// How many keys a list holds at most. What is counted where there are as many, be it of another
+/// key or of one of these, moves all to a tree. Its first node has room for fifteen: 248 octets for
 /// numbers, where the list has 128, and 488 for prefixes, where it has 256.
 const FEW: usize = 8;
 
-/// How often keys are counted. One key takes no memory besides this, which has 32 octets for numbers
-/// and 40 for prefixes. In a list a key takes 16 octets, or 32; in a tree 16 to 36, or 32 to 70.
+/// How often keys are counted. One key takes no memory besides this, which has 32 octets for
+/// numbers and 40 for prefixes. In a list there are 16 octets, or 32, for as many keys as there
+/// were at most; in a tree of several nodes at most 39, or 74, for each key.
 #[derive(Drop)]
 pub(crate) enum FewCounts<K: Ord> {
     /// No key.
@@ -165,8 +166,8 @@ fn few_more<K: Ord + Copy + Drop>(
     Ok(Some(tree_with(alloc, counts, key)?))
 }
 
-/// Returns the count of the only key, and one more of the key, which may be the same. An `Err` means
-/// want of memory for a list of both.
+/// Returns the count of the only key, and one more of the key, which may be the same. An `Err`
+/// means want of memory for a list of both.
 fn one_more<K: Ord + Copy + Drop>(
     alloc: Global,
     only: K,

@@ -200,8 +200,8 @@ impl<S> Stores<S> {
         self.routed.choose(number, has);
     }
 
-    /// Notes whether the peer's store that has the number has a route, where it has so many now, and
-    /// had one less at the least. It takes no memory.
+    /// Notes whether the peer's store that has the number has a route, where it has so many now and
+    /// had one less at the least: with two and more it is noted already. It takes no memory.
     #[inline]
     pub(crate) fn note_count(&mut self, number: usize, count: u64)
         requires within { number < length self.old.held.items }
