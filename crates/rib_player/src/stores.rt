@@ -207,9 +207,9 @@ impl<S> Stores<S> {
         requires within { number < length self.old.held.items }
         requires noted { 1 < count → slice_get (choices self.old.routed) number ≡ Some true }
         ensures stores { stores_in self.new ≡ stores_in self.old }
-        ensures noted { (peer : Peer) →
-            lookup (eq_by_cmp peer_cmp peer) self.old.order.entries ≡ Some number →
-            IsWritten (routed_in self.old) (routed_in self.new) peer (Some (nat_lt 0 count)) }
+        ensures noted { (p : Peer) →
+            lookup (eq_by_cmp peer_cmp p) self.old.order.entries ≡ Some number →
+            IsWritten (routed_in self.old) (routed_in self.new) p (Some (nat_lt 0 count)) }
     {
         if count > 1 {
             return;
