@@ -11,13 +11,14 @@ ghost use Rattle.rib_player.specs.FewCounts.{count_at, count_in, IsFirst};
 use std::alloc::{AllocError, Global};
 use std::collections::BTreeMap;
 
-/// How many keys a list holds at most. What is counted where there are as many, be it of another key
-/// or of one of these, moves all to a tree. Its first node has room for fifteen: 248 octets for
+/// How many keys a list holds at most. What is counted where there are as many, be it of another
+/// key or of one of these, moves all to a tree. Its first node has room for fifteen: 248 octets for
 /// numbers, where the list has 128, and 488 for prefixes, where it has 256.
 const FEW: usize = 8;
 
-/// How often keys are counted. One key takes no memory besides this, which has 32 octets for numbers
-/// and 40 for prefixes. In a list a key takes 16 octets, or 32; in a tree 16 to 36, or 32 to 70.
+/// How often keys are counted. One key takes no memory besides this, which has 32 octets for
+/// numbers and 40 for prefixes. In a list there are 16 octets, or 32, for as many keys as there
+/// were at most; in a tree of several nodes at most 39, or 74, for each key.
 #[derive(Drop)]
 pub(crate) enum FewCounts<K: Ord> {
     /// No key.
@@ -31,7 +32,7 @@ pub(crate) enum FewCounts<K: Ord> {
 }
 
 /// Returns the first place of the key in the list. `None` means that it has none.
-fn place_of<K: Ord + Copy>(counts: &[(K, u64)], key: &K) -> Option<usize>
+fn find_place<K: Ord + Copy>(counts: &[(K, u64)], key: &K) -> Option<usize>
     ensures some { IfSome result (λ place. IsFirst K.cmp key.now counts.now place) }
     ensures none { IfNone result (lookup (tree.is_at (K.cmp key.now)) counts.now ≡ None) }
 {
@@ -44,13 +45,13 @@ fn place_of<K: Ord + Copy>(counts: &[(K, u64)], key: &K) -> Option<usize>
 }
 
 /// Counts one more of the key in the list. An `Err` means want of memory: nothing has changed.
-fn list_more<K: Ord + Copy>(counts: &mut Vec<(K, u64)>, key: K) -> Result<(), AllocError>
+fn add_to_list<K: Ord + Copy>(counts: &mut Vec<(K, u64)>, key: K) -> Result<(), AllocError>
     requires { count_in K.cmp counts.old.items key < GREATEST_COUNT }
     ensures counted { OnOk result ((k : K) → count_in K.cmp counts.new.items k
         ≡ count_in K.cmp counts.old.items k + one_if (eq_by_cmp K.cmp k key)) }
     ensures refused { OnErr result (counts.new.items ≡ counts.old.items) }
 {
-    if let Some(place) = place_of(counts, &key) {
+    if let Some(place) = find_place(counts, &key) {
         counts[place].1 += 1;
         return Ok(());
     }
@@ -61,12 +62,12 @@ fn list_more<K: Ord + Copy>(counts: &mut Vec<(K, u64)>, key: K) -> Result<(), Al
 
 /// Counts one less of the key in the list, where it is counted, and answers whether it is. The room
 /// of a key that is counted no longer stays with the list.
-fn list_less<K: Ord + Copy + Drop>(counts: &mut Vec<(K, u64)>, key: &K) -> bool
+fn take_from_list<K: Ord + Copy + Drop>(counts: &mut Vec<(K, u64)>, key: &K) -> bool
     ensures some { result ≡ nat_lt 0 (count_in K.cmp counts.old.items key.now) }
     ensures counted { (k : K) → count_in K.cmp counts.new.items k
         + one_if (result && eq_by_cmp K.cmp k key.now) ≡ count_in K.cmp counts.old.items k }
 {
-    let Some(place) = place_of(counts, key) else {
+    let Some(place) = find_place(counts, key) else {
         return false;
     };
     let count = counts[place].1;
@@ -79,7 +80,7 @@ fn list_less<K: Ord + Copy + Drop>(counts: &mut Vec<(K, u64)>, key: &K) -> bool
 }
 
 /// Returns a tree with the counts of the list. An `Err` means want of memory for it.
-fn tree_of<K: Ord + Copy + Drop>(
+fn copy_to_tree<K: Ord + Copy + Drop>(
     alloc: Global,
     counts: &[(K, u64)],
 ) -> Result<BTreeMap<K, u64>, AllocError>
@@ -97,7 +98,10 @@ fn tree_of<K: Ord + Copy + Drop>(
 }
 
 /// Counts one more of the key in the tree. An `Err` means want of memory: nothing has changed.
-fn tree_more<K: Ord + Copy + Drop>(counts: &mut BTreeMap<K, u64>, key: K) -> Result<(), AllocError>
+fn add_to_tree<K: Ord + Copy + Drop>(
+    counts: &mut BTreeMap<K, u64>,
+    key: K,
+) -> Result<(), AllocError>
     requires { count_in K.cmp counts.old.entries key < GREATEST_COUNT }
     ensures counted { OnOk result ((k : K) → count_in K.cmp counts.new.entries k
         ≡ count_in K.cmp counts.old.entries k + one_if (eq_by_cmp K.cmp k key)) }
@@ -110,7 +114,7 @@ fn tree_more<K: Ord + Copy + Drop>(counts: &mut BTreeMap<K, u64>, key: K) -> Res
 }
 
 /// Counts one less of the key in the tree, where it is counted, and answers whether it is.
-fn tree_less<K: Ord + Copy + Drop>(counts: &mut BTreeMap<K, u64>, key: &K) -> bool
+fn take_from_tree<K: Ord + Copy + Drop>(counts: &mut BTreeMap<K, u64>, key: &K) -> bool
     ensures some { result ≡ nat_lt 0 (count_in K.cmp counts.old.entries key.now) }
     ensures counted { (k : K) → count_in K.cmp counts.new.entries k
         + one_if (result && eq_by_cmp K.cmp k key.now) ≡ count_in K.cmp counts.old.entries k }
@@ -129,7 +133,7 @@ fn tree_less<K: Ord + Copy + Drop>(counts: &mut BTreeMap<K, u64>, key: &K) -> bo
 
 /// Returns a tree with the counts of the list, and one more of the key. An `Err` means want of
 /// memory for it.
-fn tree_with<K: Ord + Copy + Drop>(
+fn copy_and_add<K: Ord + Copy + Drop>(
     alloc: Global,
     counts: &[(K, u64)],
     key: K,
@@ -138,14 +142,14 @@ fn tree_with<K: Ord + Copy + Drop>(
     ensures { IfOk result (λ made. (k : K) → count_in K.cmp made.entries k
         ≡ count_in K.cmp counts.now k + one_if (eq_by_cmp K.cmp k key)) }
 {
-    let mut made = tree_of(alloc, counts)?;
-    tree_more(&mut made, key)?;
+    let mut made = copy_to_tree(alloc, counts)?;
+    add_to_tree(&mut made, key)?;
     Ok(made)
 }
 
 /// Counts one more of the key in the list, or returns a tree with what is counted then, and leaves
 /// the list. An `Err` means want of memory: nothing has changed.
-fn few_more<K: Ord + Copy + Drop>(
+fn add_to_few<K: Ord + Copy + Drop>(
     alloc: Global,
     counts: &mut Vec<(K, u64)>,
     key: K,
@@ -159,15 +163,15 @@ fn few_more<K: Ord + Copy + Drop>(
     ensures refused { OnErr result (counts.new.items ≡ counts.old.items) }
 {
     if counts.len() < FEW {
-        list_more(counts, key)?;
+        add_to_list(counts, key)?;
         return Ok(None);
     }
-    Ok(Some(tree_with(alloc, counts, key)?))
+    Ok(Some(copy_and_add(alloc, counts, key)?))
 }
 
-/// Returns the count of the only key, and one more of the key, which may be the same. An `Err` means
-/// want of memory for a list of both.
-fn one_more<K: Ord + Copy + Drop>(
+/// Returns the count of the only key, and one more of the key, which may be the same. An `Err`
+/// means want of memory for a list of both.
+fn add_to_one<K: Ord + Copy + Drop>(
     alloc: Global,
     only: K,
     count: u64,
@@ -187,7 +191,7 @@ fn one_more<K: Ord + Copy + Drop>(
 }
 
 /// Returns the count of the only key, or one less if it is this key, and whether it is.
-fn one_less<K: Ord + Copy + Drop>(only: K, count: u64, key: &K) -> (FewCounts<K>, bool)
+fn take_from_one<K: Ord + Copy + Drop>(only: K, count: u64, key: &K) -> (FewCounts<K>, bool)
     ensures some { result.1 ≡ nat_lt 0 (count_in K.cmp ((only, count) ∷ []) key.now) }
     ensures counted { (k : K) → count_at K.cmp result.0 k
         + one_if (result.1 && eq_by_cmp K.cmp k key.now) ≡ count_in K.cmp ((only, count) ∷ []) k }
@@ -219,13 +223,13 @@ impl<K: Ord + Copy + Drop> FewCounts<K> {
     {
         match self {
             FewCounts::None => *self = FewCounts::One(key, 1),
-            FewCounts::One(only, count) => *self = one_more(alloc, *only, *count, key)?,
+            FewCounts::One(only, count) => *self = add_to_one(alloc, *only, *count, key)?,
             FewCounts::Few(counts) => {
-                if let Some(many) = few_more(alloc, counts, key)? {
+                if let Some(many) = add_to_few(alloc, counts, key)? {
                     *self = FewCounts::Many(many);
                 }
             }
-            FewCounts::Many(counts) => return tree_more(counts, key),
+            FewCounts::Many(counts) => return add_to_tree(counts, key),
         }
         Ok(())
     }
@@ -239,19 +243,19 @@ impl<K: Ord + Copy + Drop> FewCounts<K> {
         match self {
             FewCounts::None => false,
             FewCounts::One(only, count) => {
-                let (new, taken) = one_less(*only, *count, key);
+                let (new, taken) = take_from_one(*only, *count, key);
                 *self = new;
                 taken
             }
             FewCounts::Few(counts) => {
-                let taken = list_less(counts, key);
+                let taken = take_from_list(counts, key);
                 if counts.is_empty() {
                     *self = FewCounts::None;
                 }
                 taken
             }
             FewCounts::Many(counts) => {
-                let taken = tree_less(counts, key);
+                let taken = take_from_tree(counts, key);
                 if counts.is_empty() {
                     *self = FewCounts::None;
                 }

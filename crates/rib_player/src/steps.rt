@@ -151,7 +151,9 @@ fn each_once<S: PrefixStore<Rc<Route>>>(
         found (sides_of once.items) q ≡ found (sides_of entries.items) q) }
 {
     let is_known = match (entries.first(), entries.last()) {
-        (Some(first), Some(last)) if same_peer(first.peer(), last.peer()) => are_falling(&entries),
+        (Some(first), Some(last)) if entries.len() == 1 || same_peer(first.peer(), last.peer()) => {
+            are_falling(&entries)
+        }
         _ => table.stores.are_of_different_peers(&entries, marks)?,
     };
     if is_known || (entries.len() <= FEW && are_different(&entries)) {

@@ -200,16 +200,16 @@ impl<S> Stores<S> {
         self.routed.choose(number, has);
     }
 
-    /// Notes whether the peer's store that has the number has a route, where it has so many now, and
-    /// had one less at the least. It takes no memory.
+    /// Notes whether the peer's store that has the number has a route, where it has so many now and
+    /// had one less at the least: with two and more it is noted already. It takes no memory.
     #[inline]
     pub(crate) fn note_count(&mut self, number: usize, count: u64)
         requires within { number < length self.old.held.items }
         requires noted { 1 < count → slice_get (choices self.old.routed) number ≡ Some true }
         ensures stores { stores_in self.new ≡ stores_in self.old }
-        ensures noted { (peer : Peer) →
-            lookup (eq_by_cmp peer_cmp peer) self.old.order.entries ≡ Some number →
-            IsWritten (routed_in self.old) (routed_in self.new) peer (Some (nat_lt 0 count)) }
+        ensures noted { (p : Peer) →
+            lookup (eq_by_cmp peer_cmp p) self.old.order.entries ≡ Some number →
+            IsWritten (routed_in self.old) (routed_in self.new) p (Some (nat_lt 0 count)) }
     {
         if count > 1 {
             return;

@@ -180,12 +180,12 @@ impl<S: PrefixStore<Rc<Route>>> Table<S> {
         ensures { option_map (λ route. route.now.value) result ≡
             finite.get self.now.routes (pair_of peer.now prefix.now) }
     {
-        self.numbered_get(NO_NUMBER, peer, prefix)
+        self.find_route(NO_NUMBER, peer, prefix)
     }
 
     /// The route that the peer has to the prefix. This number of the peer is tried first.
     #[inline]
-    pub(crate) fn numbered_get(
+    pub(crate) fn find_route(
         &self,
         number: usize,
         peer: &Peer,
@@ -194,7 +194,7 @@ impl<S: PrefixStore<Rc<Route>>> Table<S> {
         ensures { option_map (λ route. route.now.value) result ≡
             finite.get self.now.routes (pair_of peer.now prefix.now) }
     {
-        self.numbered_store(number, peer)?.get(prefix)
+        self.find_store(number, peer)?.get(prefix)
     }
 
     /// The longest prefix that the peer has a route to and that contains the address, and its
@@ -297,12 +297,12 @@ impl<S: PrefixStore<Rc<Route>>> Table<S> {
         ensures absent { IfNone result ((n : Network) →
             finite.get self.now.routes (pair_of peer.now n) ≡ None) }
     {
-        self.numbered_store(NO_NUMBER, peer)
+        self.find_store(NO_NUMBER, peer)
     }
 
     /// The peer's store, where it has a key. This number of the peer is tried first.
     #[inline]
-    fn numbered_store(&self, number: usize, peer: &Peer) -> Option<&S>
+    fn find_store(&self, number: usize, peer: &Peer) -> Option<&S>
         ensures keys { IfSome result (λ store. (n : Network) →
             set.contains (S.keys store.now) n ≡ set.contains self.now.keys (pair_of peer.now n)) }
         ensures routes { IfSome result (λ store. (n : Network) →

@@ -24,7 +24,7 @@ impl Entry {
     {
         let (peer, prefix) = self.parts();
         table
-            .numbered_get(peer.number(), peer.peer(), &prefix)
+            .find_route(peer.number(), peer.peer(), &prefix)
             .is_some()
     }
 

@@ -6,9 +6,9 @@ use Rattle.std.specs.BTreeMap as tree
 use Rattle.rib_player.specs.Claims.{one_if}
 use Rattle.rib_player.specs.FewCounts.{count_in, IsFirst}
 use Rattle.rib_player.proofs.FewCountLaws.{found-count, found-written, left-out, counted}
-use Rattle.rib_player.proofs.few_counts.list_less.Given.{Over}
-use Rattle.rib_player.proofs.few_counts.list_less.Goals as goal
-use Rattle.rib_player.proofs.few_counts.list_less.Goals.{After-index}
+use Rattle.rib_player.proofs.few_counts.take_from_list.Given.{Over}
+use Rattle.rib_player.proofs.few_counts.take_from_list.Goals as goal
+use Rattle.rib_player.proofs.few_counts.take_from_list.Goals.{After-index}
 
 first : (g : Over) (c : After-index g) → IsFirst g.K.Ord.cmp c.args.key.now c.args.counts.now.items c.in-Some.place
 first g c = subst (λ s. IsFirst g.K.Ord.cmp c.args.key.now s c.in-Some.place) c.deref.ensures.value c.in-Some.ensures.some

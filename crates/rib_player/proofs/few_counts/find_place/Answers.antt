@@ -1,7 +1,7 @@
 use Rattle.std.proofs.Common.{ap, sym, ◌∙◌, is_eq, arith}
 use Rattle.std.specs.BTreeMap as tree
 use Rattle.rib_player.proofs.FewCountLaws.{none-further}
-use Rattle.rib_player.proofs.few_counts.place_of.Goals as goal
+use Rattle.rib_player.proofs.few_counts.find_place.Goals as goal
 
 pub counts-preserved : goal.counts-preserved
 counts-preserved g c =

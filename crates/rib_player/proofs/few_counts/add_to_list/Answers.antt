@@ -5,9 +5,9 @@ use Rattle.std.specs.Prelude.{unwrap_or}
 use Rattle.rib_player.specs.Claims.{one_if}
 use Rattle.rib_player.specs.FewCounts.{count_in, IsFirst}
 use Rattle.rib_player.proofs.FewCountLaws.{found-count, found-written, appended, count-written, counted}
-use Rattle.rib_player.proofs.few_counts.list_more.Given.{Over}
-use Rattle.rib_player.proofs.few_counts.list_more.Goals as goal
-use Rattle.rib_player.proofs.few_counts.list_more.Goals.{After-index_mut}
+use Rattle.rib_player.proofs.few_counts.add_to_list.Given.{Over}
+use Rattle.rib_player.proofs.few_counts.add_to_list.Goals as goal
+use Rattle.rib_player.proofs.few_counts.add_to_list.Goals.{After-index_mut}
 
 first : (g : Over) (c : After-index_mut g) → IsFirst g.K.Ord.cmp c.args.key c.args.counts.now.items c.in-Some.place
 first g c = subst (λ s. IsFirst g.K.Ord.cmp c.args.key s c.in-Some.place) c.deref.ensures.value c.in-Some.ensures.some

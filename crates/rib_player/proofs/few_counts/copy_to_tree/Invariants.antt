@@ -1,8 +1,8 @@
 use Rattle.std.proofs.Common.{◌≡◌, ◌≤◌, drop, length}
 use Rattle.std.specs.Map.{lookup}
 use Rattle.std.specs.BTreeMap as tree
-use Rattle.rib_player.specs.contracts.few_counts.tree_of.{K-type}
-use Rattle.rib_player.proofs.few_counts.tree_of.Given as goal
+use Rattle.rib_player.specs.contracts.few_counts.copy_to_tree.{K-type}
+use Rattle.rib_player.proofs.few_counts.copy_to_tree.Given as goal
 
 abbrev pub invariant-counts : goal.invariant-counts
 invariant-counts g l = record {

@@ -4,9 +4,9 @@ use Rattle.std.specs.BTreeMap.Entry.{map_with_value}
 use Rattle.rib_player.specs.Claims.{one_if}
 use Rattle.rib_player.specs.FewCounts.{count_in}
 use Rattle.rib_player.proofs.FewCountLaws.{count-written, counted}
-use Rattle.rib_player.proofs.few_counts.tree_more.Given.{Over}
-use Rattle.rib_player.proofs.few_counts.tree_more.Goals as goal
-use Rattle.rib_player.proofs.few_counts.tree_more.Goals.{After-or_insert-count}
+use Rattle.rib_player.proofs.few_counts.add_to_tree.Given.{Over}
+use Rattle.rib_player.proofs.few_counts.add_to_tree.Goals as goal
+use Rattle.rib_player.proofs.few_counts.add_to_tree.Goals.{After-or_insert-count}
 use Rattle.std.proofs.Common.{◌∙◌}
 
 -- the count that is found, or none
