@@ -71,7 +71,7 @@ def step_at(times, moment, word):
     step = next((step for step in range(len(times), 0, -1) if times[step - 1] <= moment), 0)
     later = sum(time > moment for time in times[:step])
     if later:
-        print('%d steps before step %d are later than %s' % (later, step, word), file=sys.stderr)
+        print('steps before %d that are later than %s: %d' % (step, word, later), file=sys.stderr)
     return step
 
 
