@@ -111,7 +111,7 @@ def main():
         with open(0 if wanted.input == '-' else wanted.input, 'rb') as file:
             times = step_times(file)
     except OSError as fault:
-        sys.exit('%s: %s' % (fault.filename, fault.strerror))
+        sys.exit('%s: %s' % (fault.filename or 'bgpdump', fault.strerror))
     for word, moment in zip(wanted.words, moments):
         print(step_at(times, moment, word) if wanted.question == 'at' else step_of(wanted.input, times, moment, word))
 
