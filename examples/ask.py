@@ -15,8 +15,8 @@ LINES are files, or - for standard input, which is read where no file is named. 
 other. NAME=FILE is of the collector NAME, which has peers of its own; the name stands last in what is printed.
 Several collectors are read in order of time, if each is in that order.
 
-Times are of UTC, as 2026-06-01T12:30, or seconds since 1970. A session that leaves state 6 takes all routes of
-its peer with it. A path that ends in a set has no single origin.
+Times are of UTC, as 2026-06-01T12:30, or seconds since 1970; a table at a time has the lines of that time too. A
+session that leaves state 6 takes all routes of its peer with it. A path that ends in a set has no single origin.
 """
 import argparse
 import heapq

@@ -43,7 +43,7 @@ lines() {
 # Writes the files of a folder, under names of this run until they are whole.
 write() {
     mkdir -p -- "$2" && rm -f -- "$2/lines" || return
-    lines "$(unpacker "$1")" <"$1" >"$2/part.$$" 2>"$2/reports.$$"
+    lines "$(unpacker "$1")" 2>"$2/reports.$$" >"$2/part.$$" <"$1"
     local status=$?
     mv -- "$2/reports.$$" "$2/reports"
     if [ $status = 0 ]; then
