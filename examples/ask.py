@@ -5,18 +5,21 @@
     examples/ask.py changes FROM UNTIL [LINES ..]
     examples/ask.py parts [LINES ..]
 
-who      each gain and loss of the prefix: time, gained or lost, peer, AS number, how many peers have it now,
-         and the path, or what took it: withdrawn or session
-changes  what differs between two times: gained, lost, path or origin; peer, AS number, prefix, old path, new path
-parts    each prefix and origin, once, where the longest prefix around it has other origins, which are those in
-         tables, or the first: time, peer, AS number, prefix, origin, the prefix around it and its origins
+who      each gain and loss of the prefix: time, gained or lost, peer, AS number, how many peers
+         have it now, and the path, or what took it: withdrawn or session
+changes  what differs between two times: gained, lost, path or origin; peer, AS number, prefix,
+         old path, new path
+parts    each prefix and origin, once, where the longest prefix around it has other origins, which
+         are those in tables, or the first: time, peer, AS number, prefix, origin, the prefix around
+         it and its origins
 
-LINES are files, or - for standard input, which is read where no file is named. They are read one behind the
-other. NAME=FILE is of the collector NAME, which has peers of its own; the name stands last in what is printed.
-Several collectors are read in order of time, if each is in that order.
+LINES are files, or - for standard input, which is read where no file is named. They are read one
+behind the other. NAME=FILE is of the collector NAME, which has peers of its own; the name stands
+last in what is printed. Several collectors are read in order of time, if each is in that order.
 
-Times are of UTC, as 2026-06-01T12:30, or seconds since 1970; a table at a time has the lines of that time too. A
-session that leaves state 6 takes all routes of its peer with it. A path that ends in a set has no single origin.
+Times are of UTC, as 2026-06-01T12:30, or seconds since 1970; a table at a time has the lines of
+that time too. A session that leaves state 6 takes all routes of its peer with it. A path that ends
+in a set has no single origin.
 """
 import argparse
 import heapq
@@ -221,7 +224,8 @@ def parts(lines, wanted):
 
 def main():
     wanted = settings()
-    signal.signal(signal.SIGPIPE, signal.SIG_DFL)
+    for ending in (signal.SIGINT, signal.SIGPIPE):
+        signal.signal(ending, signal.SIG_DFL)
     sys.stdout.reconfigure(line_buffering=wanted.question != 'changes')
     try:
         {'who': who, 'changes': changes, 'parts': parts}[wanted.question](all_lines(wanted.lines), wanted)

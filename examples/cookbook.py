@@ -32,7 +32,8 @@ BLOCKS = re.compile(r'^```sh\n(.*?)^```\n(?:\n```text\n(.*?)^```\n)?', re.DOTALL
 
 
 # What is installed only where somebody wants it, by what a block names.
-TOOLS = {'bzip2': 'bzip2', 'out/cookbook/lines': 'bzip2', 'parallel -j': 'parallel', 'sqlite': 'sqlite3', 'mawk': 'mawk'}
+TOOLS = {'bzip2': 'bzip2', 'out/cookbook/lines': 'bzip2', 'parallel -j': 'parallel', 'sqlite': 'sqlite3',
+         'mawk': 'mawk'}
 
 
 def blocks(text):

@@ -4,18 +4,20 @@ set -u
 
 help() {
     cat <<'TEXT'
-Writes the lines of MRT files (`bgpdump -m`), compressed by gzip, bzip2, xz or zstd or not, as their first octets tell.
+Writes the lines of MRT files (`bgpdump -m`), plain or compressed by gzip, bzip2, xz or zstd, as
+their first octets tell.
 
     examples/lines_of.sh [--on HOST] OUT FILE ..
 
-What FILE gives stands below OUT in a folder of its whole name from / on, which no other file has: its lines in `lines`,
-and what was reported in `reports`. HOST is a machine that `ssh` reaches without a password, and that has bgpdump: it
-gets the file as it is, unpacks it and sends the lines.
+What FILE gives stands below OUT in a folder of its whole name from / on, which no other file has:
+its lines in `lines`, and what was reported in `reports`. HOST is a machine that `ssh` reaches
+without a password, and that has bgpdump: it gets the file as it is, unpacks it and sends the lines.
 
-A file is passed over if its `lines` are there and newer than it. They are there once all of it was read, even if records
-were reported. After a fault they aren't, and the next run tries the file again: it can't be read or unpacked, the disk is
-full, memory ran out, HOST can't be reached, or the run was ended. The status is then 1. A run that was killed may leave
-`part.` and `reports.` with a number.
+A file is passed over if its `lines` are there and newer than it. They are there once all of it was
+read, even if records were reported. After a fault they aren't, and the next run tries the file
+again: it can't be read or unpacked, the disk is full, memory ran out, HOST can't be reached, or the
+run was ended. The status is then 1. A run that was killed may leave `part.` and `reports.` with a
+number.
 TEXT
 }
 
@@ -29,10 +31,12 @@ unpacker() {
     esac
 }
 
-# Runs an unpacker and bgpdump over standard input, on the host if there is one. It is no fault of bgpdump that records are
-# reported (1), and none of the unpacker that bgpdump ends before it, at a record that is too long (141, SIGPIPE).
+# Runs an unpacker and bgpdump over standard input, on the host if there is one. That records are
+# reported (1) is no fault, and neither is that the unpacker is ended by a pipe (141, SIGPIPE), since
+# bgpdump doesn't read on behind a record that is too long.
 lines() {
-    local run="$1 | bgpdump -m -; of=(\${PIPESTATUS[@]}); ((of[1] > 1)) && exit \${of[1]}; ((of[0] == 141)) || exit \${of[0]}"
+    local run="$1 | bgpdump -m -; of=(\${PIPESTATUS[@]}); "
+    run+='((of[1] > 1)) && exit ${of[1]}; ((of[0] == 141)) || exit ${of[0]}'
     if [ -n "$host" ]; then
         ssh -o BatchMode=yes "$host" bash -c "$(printf %q "$run")"
     else

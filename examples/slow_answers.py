@@ -3,9 +3,10 @@
 
     examples/slow_answers.py
 
-The lines are of two collectors, of peers and prefixes of both families, of paths that end in sets, and of sessions that
-are lost and come back; the same each time. A peer has a route where the last line that concerns it, up to a time, is one
-that announces it. Where sqlite3 isn't installed its answers are passed over.
+The lines, always the same, are of two collectors, of peers and prefixes of both families, of paths
+that end in sets, and of sessions that are lost and come back. A peer has a route where the last line
+that concerns it, up to a time, is one that announces it. Where sqlite3 isn't installed its answers
+are passed over.
 """
 import ipaddress
 import random
@@ -13,6 +14,7 @@ import shutil
 import subprocess
 import sys
 import tempfile
+from collections import Counter
 from datetime import datetime, timezone
 from pathlib import Path
 
@@ -32,7 +34,8 @@ def made_lines(seed, count, fraction):
     for number in range(count):
         time += dice.choice([0, 0, 1]) if number > count // 5 else 0
         peer, prefix = '|'.join(dice.choice(PEERS)), dice.choice(PREFIXES)
-        path = ' '.join([peer.split('|')[1], *dice.sample(['3000', '(3001)', '3002'], dice.randrange(3)), dice.choice(ORIGINS)])
+        between = dice.sample(['3000', '(3001)', '3002'], dice.randrange(3))
+        path = ' '.join([peer.split('|')[1], *between, dice.choice(ORIGINS)])
         announced = f'{peer}|{prefix}|{path}|IGP|192.0.2.9|0|0||NAG||'
         if number <= count // 5:
             yield f'TABLE_DUMP2|{time}|B|{announced}'
@@ -87,7 +90,8 @@ def slow_who(events, prefix):
         if have != before:
             fields, is_more = event[2], have > before
             cause = fields[6] if is_more else {'W': 'withdrawn', 'STATE': 'session'}[fields[2]]
-            yield '|'.join([clock(fields[1]), 'gained' if is_more else 'lost', *fields[3:5], str(len(have)), cause, event[1]])
+            what = 'gained' if is_more else 'lost'
+            yield '|'.join([clock(fields[1]), what, *fields[3:5], str(len(have)), cause, event[1]])
         before = have
 
 
@@ -129,7 +133,8 @@ def slow_parts(events):
         known.add((fields[5], origin))
         part = ipaddress.ip_network(fields[5])
         around = [it for it in map(ipaddress.ip_network, PREFIXES)
-                  if it.version == part.version and it != part and part.subnet_of(it) and owners_of(events[:number], str(it))]
+                  if it.version == part.version and it != part and part.subnet_of(it)
+                  and owners_of(events[:number], str(it))]
         whole = max(around, key=lambda it: it.prefixlen, default=None)
         owners = owners_of(events[:number], str(whole))
         if whole and origin not in owners:
@@ -141,10 +146,26 @@ def slow_table(events, time):
         yield '|'.join([collector, address, number, prefix, path])
 
 
+def slow_losses(events):
+    """How many routes each peer lost by withdrawals, and with sessions."""
+    losses = Counter()
+    for prefix in PREFIXES:
+        for line in slow_who(events, prefix):
+            _, what, address, number, _, cause, collector = line.split('|')
+            losses[collector, address, number, cause] += what == 'lost'
+    return ['%s|%s|%s|%s|%d' % (*peer, count) for peer, count in losses.items() if count]
+
+
 # Answers of the programs.
 
 def answers(*words):
     return subprocess.run(list(map(str, words)), stdout=subprocess.PIPE, text=True, check=True).stdout.splitlines()
+
+
+LOSSES = """
+select collector, peer, peer_as, iif(ended_by = 'W', 'withdrawn', 'session') as cause, count(*)
+from held where ended_by in ('W', 'STATE') group by collector, peer, peer_as, cause
+"""
 
 
 def differing(folder, seed):
@@ -170,6 +191,8 @@ def differing(folder, seed):
                                                 f'where since <= {time} and ifnull(until, 9e9) > {time}')
             if sorted(held) != sorted(slow_table(events, time)):
                 yield f'the view held at {time} over lines {seed}'
+        if sorted(answers('sqlite3', database, LOSSES)) != sorted(slow_losses(events)):
+            yield f'losses in the view held over lines {seed}'
 
 
 def main():

@@ -4,11 +4,12 @@
     examples/step.py at TIME .. INPUT
     examples/step.py of LINE .. INPUT
 
-at  prints the last step at or before each time. INPUT is an MRT file, or - for standard input. Times are of UTC, as
-    2026-06-01T12:30, or seconds since 1970. Where steps before that one are later, since the file isn't in order
-    of time, a note on standard error tells how many.
-of  prints the step of each line of `bgpdump -m`: the first in its second after which the peer's route to the
-    prefix has its time and path, or, for a withdrawal, after which there is no route. INPUT is an MRT file.
+at  prints the last step at or before each time. INPUT is an MRT file, or - for standard input. Times
+    are of UTC, as 2026-06-01T12:30, or seconds since 1970. Where steps before that one are later,
+    since the file isn't in order of time, a note on standard error tells how many.
+of  prints the step of each line of `bgpdump -m`: the first in its second after which the peer's
+    route to the prefix has its time and path, or, for a withdrawal, after which there is no route.
+    INPUT is an MRT file.
 
 Each record is a step, but those that `bgpdump` reports. It is looked for on the PATH.
 """

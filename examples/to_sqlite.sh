@@ -4,21 +4,24 @@ set -eu
 
 help() {
     cat <<'TEXT'
-Loads lines of `bgpdump -m` into a database of SQLite (package sqlite3), which is made if it isn't there.
+Loads lines of `bgpdump -m` into a database of SQLite (package sqlite3), made if it isn't there.
 
     examples/to_sqlite.sh DATABASE COLLECTOR [LINES ..]
 
-LINES are files in order of time, or - for standard input, which is read where no file is named. After a fault none of
-their lines are there; those that are loaded twice are there twice. There are two tables and a view:
+LINES are files in order of time, or - for standard input, which is read where no file is named.
+After a fault none of their lines are there; those that are loaded twice are there twice. There are
+two tables and a view:
 
-routes  line, collector, kind, time, type (A, B or W), peer, peer_as, prefix, path, origin, next_hop, local_pref, med,
-        communities, atomic, aggregator, and origin_as: the last number of the path, or empty where that is a set
+routes  line, collector, kind, time, type (A, B or W), peer, peer_as, prefix, path, origin,
+        next_hop, local_pref, med, communities, atomic, aggregator, and origin_as: the last number
+        of the path, or empty where that is a set
 states  line, collector, kind, time, peer, peer_as, old, new
-held    each A and B of routes with until, the time at which it ended, and ended_by: W, STATE (a lost session), A or B
+held    each A and B of routes as line, collector, peer, peer_as, prefix, path, origin_as and since,
+        with until, the time at which it ended, and ended_by: W, STATE (a lost session), A or B
         (another route); both are NULL where it lasts
 
-A time is in seconds since 1970, of which datetime(time, 'unixepoch') makes text. `line` numbers all lines in the order
-in which they were loaded.
+A time is in seconds since 1970, of which datetime(time, 'unixepoch') makes text. `line` numbers all
+lines in the order in which they were loaded.
 TEXT
 }
 
@@ -33,13 +36,15 @@ room=$(mktemp -d)
 trap 'rm -rf "$room"' EXIT
 
 sqlite3 -bail -list "$database" >"$room/last" <<'SQL'
-create table if not exists routes (line integer primary key, collector, kind, time numeric, type, peer, peer_as integer,
-    prefix, path, origin, next_hop, local_pref integer, med integer, communities, atomic, aggregator, origin_as integer);
-create table if not exists states (line integer primary key, collector, kind, time numeric, peer, peer_as integer,
-    old integer, new integer);
+create table if not exists routes (line integer primary key, collector, kind, time numeric, type,
+    peer, peer_as integer, prefix, path, origin, next_hop, local_pref integer, med integer,
+    communities, atomic, aggregator, origin_as integer);
+create table if not exists states (line integer primary key, collector, kind, time numeric,
+    peer, peer_as integer, old integer, new integer);
 create view if not exists held as
 with routes_and_next as (
-    select *, lead(line) over later as next_line, lead(time) over later as next_time, lead(type) over later as next_type
+    select *, lead(line) over later as next_line, lead(time) over later as next_time,
+           lead(type) over later as next_type
     from routes window later as (partition by prefix, collector, peer, peer_as order by line))
 select held.line, held.collector, held.peer, held.peer_as, prefix, path, origin_as, held.time as since,
        iif(lost.line < ifnull(next_line, lost.line + 1), lost.time, next_time) as until,
