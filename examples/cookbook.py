@@ -3,18 +3,24 @@
 
     examples/cookbook.py PROGRAM
 
+Blocks whose tools aren't installed are passed over, and named. What stands for `ssh` runs the command here.
+
 It also fails where examples/incident.py makes another file than examples/incident.mrt, or
 examples/routes_svg.py another picture than docs/incident.svg, or answers a missing file by more than a
-sentence, and where the recipes in Python don't find what they should in a table of 10,000 prefixes, and in
-a file of 100,000 steps.
+sentence; where examples/slow_answers.py finds other answers over made-up lines; and where the recipes don't
+find what they should in a table of 10,000 prefixes, in a file of 100,000 steps, in paths that end in sets,
+and in a stream that goes on.
 """
 import difflib
 import os
 import re
+import shutil
+import signal
 import struct
 import subprocess
 import sys
 import tempfile
+import time
 from pathlib import Path
 
 ROOT = Path(__file__).resolve().parent.parent
@@ -23,6 +29,11 @@ COOKBOOK = ROOT / 'docs' / 'cookbook.md'
 
 # A block of commands, and behind it, where they print something, a block of that.
 BLOCKS = re.compile(r'^```sh\n(.*?)^```\n(?:\n```text\n(.*?)^```\n)?', re.DOTALL | re.MULTILINE)
+
+
+# What is installed only where somebody wants it, by what a block names.
+TOOLS = {'bzip2': 'bzip2', 'out/cookbook/lines': 'bzip2', 'parallel -j': 'parallel', 'sqlite': 'sqlite3',
+         'mawk': 'mawk'}
 
 
 def blocks(text):
@@ -36,9 +47,17 @@ def run(commands, settings):
                           stdout=subprocess.PIPE, stderr=subprocess.STDOUT).stdout
 
 
+def missing_tool(commands):
+    return next((tool for word, tool in TOOLS.items() if word in commands and not shutil.which(tool)), None)
+
+
 def differing_blocks(text, settings):
     """The blocks that print something else, each with the difference."""
+    shutil.rmtree(ROOT / 'out' / 'cookbook', ignore_errors=True)
     for commands, written in blocks(text):
+        if tool := missing_tool(commands):
+            print('passed over, since %s is not installed: %s ..' % (tool, commands.splitlines()[0]))
+            continue
         printed = run(commands, settings).decode()
         if printed != written:
             difference = difflib.unified_diff(written.splitlines(), printed.splitlines(), 'written', 'printed',
@@ -77,31 +96,72 @@ def many_steps():
         yield message(1, session + b'\xFF' * 16 + struct.pack('>HB', 19 + len(body), 2) + body)
 
 
-def recipe_for(text, word, words):
-    """The commands in which this stands, over another file and with other words."""
-    commands = next(commands for commands, _ in blocks(text) if word in commands)
-    first, rest = commands.split('\n', 1)
-    return 'timeout 30 python3 - %s <<\'END\'\n%s' % (words, rest)
+def announcement(segments):
+    """An announcement of 10.0.0.0/8 by a path of these segments, of a type (1 set, 2 sequence) and AS numbers."""
+    path = b''.join(struct.pack('>BB%dH' % len(numbers), kind, len(numbers), *numbers) for kind, *numbers in segments)
+    attributes = bytes.fromhex('40010100 4002%02x' % len(path)) + path + bytes.fromhex('400304C0000209')
+    body = struct.pack('>HH', 0, len(attributes)) + attributes + bytes([8, 10])
+    session = bytes.fromhex('FBF4 FBF5 0000 0001 C0000201 C0000202')
+    return message(1, session + b'\xFF' * 16 + struct.pack('>HB', 19 + len(body), 2) + body)
 
 
-def wanting_steps(text, folder, settings):
-    """The recipe for the step of a line over 100,000 steps, if it finds another one, or takes long."""
+def wanting_origins(text, folder, settings):
+    """The recipe for another origin, if it takes sets for origins, or tells an origin twice."""
+    paths = [[(2, 64500, 64501)], [(2, 64500), (1, 65001, 65002)], [(2, 64500, 64502)], [(2, 64500, 64501)],
+             [(2, 64500), (1, 65002, 65003)], [(2, 64500, 64502)]]
+    (folder / 'sets.mrt').write_bytes(b''.join(map(announcement, paths)))
+    recipe = next(commands for commands, _ in blocks(text) if 'now from' in commands)
+    printed = run(recipe.replace('examples/incident.mrt', str(folder / 'sets.mrt')), settings).decode()
+    if printed != '100 192.0.2.1 10.0.0.0/8 of 64501 now from 64502\n':
+        yield 'the recipe for another origin over paths that end in sets:\n' + printed
+
+
+def wanting_steps(folder, settings):
+    """The step of a line among 100,000, if it is another one, or takes long."""
     steps = folder / 'steps.mrt'
     steps.write_bytes(b''.join(many_steps()))
     line = 'BGP4MP|100|A|192.0.2.1|64500|10.1.56.127/32|64500|IGP|192.0.2.9|0|0||NAG||'
-    printed = run(recipe_for(text, 'seconds.append', "'%s' '%s'" % (steps, line)), settings).decode()
-    if printed != 'at 80000\n':
-        yield 'the recipe for the step of a line in 100,000 steps:\n' + printed
+    printed = run("timeout 30 examples/step.py of '%s' %s" % (line, steps), settings).decode()
+    if printed != '80000\n':
+        yield 'examples/step.py in 100,000 steps:\n' + printed
 
 
-def wanting_recipes(text, folder, settings):
-    """The recipe in Python over a large table, if it finds another number of prefixes, or takes long."""
-    recipe = next(commands for commands, _ in blocks(text) if 'import ipaddress' in commands)
+def wanting_parts(folder, settings):
+    """The parts of prefixes in a large table, if they are others, or take long."""
     table = folder / 'large.mrt'
     table.write_bytes(b''.join(large_table()))
-    printed = run('timeout 30 ' + recipe.replace('examples/incident.mrt', str(table), 1), settings).decode()
-    if len(printed.splitlines()) != 100 or 'from 64502 in 10.0.0.0/24 of 64501\n' not in printed:
-        yield 'the recipe in Python on a table of 10,000 prefixes:\n' + printed
+    printed = run('bgpdump -m %s | timeout 30 examples/ask.py parts' % table, settings).decode()
+    if len(printed.splitlines()) != 100 or '|64502|10.0.0.0/24|64501\n' not in printed:
+        yield 'examples/ask.py on a table of 10,000 prefixes:\n' + printed
+
+
+def wanting_stream(text, settings):
+    """The recipe for lines of a stream, if it waits for the end of one of thirty seconds."""
+    recipe = next(commands for commands, _ in blocks(text) if '-W interactive' in commands)
+    if missing_tool(recipe):
+        return
+    begin = time.monotonic()
+    with subprocess.Popen(['bash', '-c', recipe.replace('timeout 3', 'timeout 30')], cwd=ROOT, env=settings,
+                          stdout=subprocess.PIPE, start_new_session=True) as program:
+        line = program.stdout.readline()
+        os.killpg(program.pid, signal.SIGTERM)
+    if time.monotonic() - begin > 25 or not line:
+        yield 'the recipe for lines of a stream waits for its end'
+
+
+def wanting_answers(settings):
+    """What slow_answers.py says, if answers differ."""
+    checked = subprocess.run([ROOT / 'examples' / 'slow_answers.py'], env=settings, capture_output=True, text=True)
+    if checked.returncode:
+        yield checked.stdout + checked.stderr
+
+
+def stand_ins(folder, program):
+    """bgpdump, and an ssh that runs the command here, as a far shell would."""
+    (folder / 'bgpdump').symlink_to(Path(program).resolve())
+    ssh = folder / 'ssh'
+    ssh.write_text('#!/bin/sh\n# ssh -o BatchMode=yes HOST COMMAND ..\nshift 3\nexec sh -c "$*"\n')
+    ssh.chmod(0o755)
 
 
 def differing_files(folder, settings):
@@ -121,10 +181,12 @@ def main():
     text = COOKBOOK.read_text()
     with tempfile.TemporaryDirectory() as name:
         folder = Path(name)
-        (folder / 'bgpdump').symlink_to(Path(sys.argv[1]).resolve())
-        settings = {**os.environ, 'PATH': name + os.pathsep + os.environ['PATH'], 'LC_ALL': 'C'}
+        (folder / 'bin').mkdir()
+        stand_ins(folder / 'bin', sys.argv[1])
+        settings = {**os.environ, 'PATH': str(folder / 'bin') + os.pathsep + os.environ['PATH'], 'LC_ALL': 'C'}
         faults = [*differing_blocks(text, settings), *differing_files(folder, settings),
-                  *wanting_recipes(text, folder, settings), *wanting_steps(text, folder, settings)]
+                  *wanting_parts(folder, settings), *wanting_steps(folder, settings),
+                  *wanting_origins(text, folder, settings), *wanting_stream(text, settings), *wanting_answers(settings)]
     if faults:
         sys.exit('\n\n'.join(faults))
     print('the %d blocks of commands of docs/cookbook.md print what it says' % len(blocks(text)))
