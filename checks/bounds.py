@@ -21,6 +21,11 @@ MET = {
     'bgp_paths/src/path_reader.rt': {'MOST_SPARE': ['spare segments']},
     'bgp_paths/src/segment.rt': {'MOST_SPARE': ['spare numbers']},
     'bgp_wire/src/attrs.rt': {'MOST_SPARE': ['spare communities']},
+    'bgpdump_lines/src/kept_lines.rt': {
+        'MOST_LINES': ['records of 1,000 entries and of one by turns'],
+        'LONGEST_LINE': ['records of one route of many communities'],
+        'MOST_SEGMENTS': ['records of paths of three segments'],
+    },
     'bgpdump_lines/src/write.rt': {'ENOUGH': ['lines of 210,000 octets']},
     'known_routes/src/ordered_routes.rt': {'LONGEST_RUN': ['routes of one hash, played']},
     'known_routes/src/place.rt': {'ROW': ['routes of one hash, played']},

@@ -92,6 +92,18 @@ def entries_in_order(records):
         yield table(number, net(number), [entry(peer, long_route(peer)) for peer in range(256)])
 
 
+# Attributes whose lines aren't kept.
+LONG_LINE = route(segment(4, 64496)) + communities(*range(60))
+THREE_SEGMENTS = route(segment(4, 64496) + segment(4, 64497) + segment(4, 64498))
+
+
+def entries_of(records, attributes):
+    """Records with an entry of each of 256 peers, all with these attributes."""
+    yield index(256)
+    for number in range(records):
+        yield table(number, net(number), [entry(peer, attributes) for peer in range(256)])
+
+
 def turned_entries(records):
     """The same, in another order in each record."""
     yield index(256)

@@ -96,6 +96,8 @@ SHAPES = (
     Shape('a peer twice in a record', 4_000, shaped.doubled_entries, beside=shaped.doubled_alike, dearer=2.0),
     Shape('entries that differ in the last community', 200, shaped.last_communities_differ,
           beside=shaped.first_numbers_differ, dearer=1.1),
+    Shape('records of one route of many communities', 200, partial(shaped.entries_of, attributes=shaped.LONG_LINE)),
+    Shape('records of paths of three segments', 400, partial(shaped.entries_of, attributes=shaped.THREE_SEGMENTS)),
     Shape('tables with other times', 200, shaped.entries_in_order, options=('-t', 'change')),
     Shape('tables of both families by turns', 100, shaped.both_families),
     Shape('old tables of 1,000 peers', 60, shaped.old_table_of_peers),

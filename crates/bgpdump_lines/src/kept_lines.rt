@@ -13,14 +13,15 @@ use mrt_wire::{Event, Peer, Route, Tag, same_peer, same_route};
 use std::alloc::{AllocError, Global};
 use std::rc::Rc;
 
-/// How many lines are kept at most. Those of further peers are printed anew.
+/// How many lines are kept at most. With one more peer, its lines are printed anew each time.
 const MOST_LINES: usize = 512;
 
-/// How many octets a line that is kept has at most, without its prefix.
+/// How many octets a line that is kept has at most, without its prefix. One with an octet more is
+/// printed anew each time.
 const LONGEST_LINE: usize = 512;
 
 /// How many segments the path of its route has at most, so that the route takes little more than the
-/// line.
+/// line. With one more the line is printed anew each time.
 const MOST_SEGMENTS: usize = 2;
 
 /// Among how many places peers are spread. Of two peers that have one in common each takes the other's
