@@ -56,8 +56,8 @@ struct KeptLine {
     front: usize,
     /// Whether this is of that peer's route.
     known: bool,
-    // What stands behind `by` shows that it has at most one proof, as a ghost field must.
     ghost short: { vec_len octets ≤ LONGEST_LINE },
+    // What stands behind `by` shows that it has at most one proof, as a ghost field must.
     ghost within: { known ≡ true → front ≤ length octets.items } by { Prim.hlevel props },
     ghost ends: { known ≡ true → AreEnds (take front octets.items) head (drop front octets.items)
         peer route.value } by { Prim.hlevel props },

@@ -27,7 +27,7 @@ use mrt_wire::{Event, Item, Next, Peer, RecordFault, Route};
 use std::rc::Rc;
 
 /// How long a text of lines is at most that another line is appended to. Where it is longer, it is
-/// written first, so that scratch memory holds this much and one line, or two lines, whatever there is.
+/// written first, so that scratch memory holds this much and two lines at most, whatever the lines.
 const ENOUGH: usize = 1 << 16;
 
 /// Writes the text and clears it, where it is long. Returned is whether it was.
@@ -86,7 +86,7 @@ fn write_items<O: Output>(
     write_some(out, heading, items, text)
 }
 
-/// Writes what stands behind the line that ends at `end`, where the text is long, and takes it away.
+/// Writes what stands behind the line that ends at `end`, where that is long, and takes it away.
 /// Returned is where the parts of the line that the text ends in stand then.
 fn write_behind<O: Output>(
     out: &mut O,
@@ -106,7 +106,7 @@ fn write_behind<O: Output>(
         IfOk result (λ places. EndsInRoute heading peer route places text.new) }
     ensures failed { O.failed out.new ≡ (O.failed out.old || is_write result) }
 {
-    if text.len() <= end.max(ENOUGH) {
+    if text.len() - end <= ENOUGH {
         return Ok(last);
     }
     put_all(out, &text.as_slice()[end..])?;
