@@ -117,13 +117,16 @@ def wanting_origins(text, folder, settings):
 
 
 def wanting_steps(folder, settings):
-    """The step of a line among 100,000, if it is another one, or takes long."""
+    """Steps among 100,000, at a time or of a line, if they are others, or take long."""
     steps = folder / 'steps.mrt'
     steps.write_bytes(b''.join(many_steps()))
     line = 'BGP4MP|100|A|192.0.2.1|64500|10.1.56.127/32|64500|IGP|192.0.2.9|0|0||NAG||'
     printed = run("timeout 30 examples/step.py of '%s' %s" % (line, steps), settings).decode()
     if printed != '80000\n':
         yield 'examples/step.py in 100,000 steps:\n' + printed
+    printed = run('timeout 30 examples/step.py at 99 100 - <%s' % steps, settings).decode()
+    if printed != '0\n100000\n':
+        yield 'examples/step.py over a stream of 100,000 steps:\n' + printed
 
 
 def wanting_parts(folder, settings):
@@ -189,7 +192,8 @@ def main():
                   *wanting_origins(text, folder, settings), *wanting_stream(text, settings), *wanting_answers(settings)]
     if faults:
         sys.exit('\n\n'.join(faults))
-    print('the %d blocks of commands of docs/cookbook.md print what it says' % len(blocks(text)))
+    count = sum(not missing_tool(commands) for commands, _ in blocks(text))
+    print('%d blocks of commands of docs/cookbook.md print what it says' % count)
 
 
 main()

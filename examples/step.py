@@ -108,6 +108,8 @@ def main():
         moments = [time(word) if wanted.question == 'at' else time_of(word) for word in wanted.words]
     except (IndexError, ValueError):
         program.error('these are not times, or not lines: %s' % ' '.join(wanted.words))
+    if wanted.question == 'of' and wanted.input == '-':
+        program.error('of asks for a file')
     try:
         with open(0 if wanted.input == '-' else wanted.input, 'rb') as file:
             times = step_times(file)
