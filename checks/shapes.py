@@ -93,7 +93,7 @@ SHAPES = (
     Shape('records of 1,000 peers, each with an index', 60, shaped.indexed_tables, beside=shaped.table_of_peers,
           dearer=2.0),
     Shape('peers in another order each record', 200, shaped.turned_entries, beside=shaped.entries_in_order, dearer=1.1),
-    Shape('a peer twice in a record', 4_000, shaped.doubled_entries, beside=shaped.doubled_alike, dearer=2.0),
+    Shape('a peer twice in a record', 4_000, shaped.doubled_entries, beside=shaped.doubled_alike, dearer=3.2),
     Shape('entries that differ in the last community', 200, shaped.last_communities_differ,
           beside=shaped.first_numbers_differ, dearer=1.1),
     Shape('records of one route of many communities', 200, partial(shaped.entries_of, attributes=shaped.LONG_LINE)),
@@ -113,7 +113,7 @@ SHAPES = (
     Shape('prefixes of 80 bits share 48', 10_000, shaped.alike, lambda size: one_by_one(size, 2 * size), 9 * MIB),
     Shape('prefixes of 80 bits share 48, back and forth', 10_000, shaped.alike, back_and_forth, 12 * MIB),
     Shape('hosts below keys of each length, played', 2, partial(shaped.hosts_below_keys, keys=113), all_steps,
-          beside=partial(shaped.hosts_below_keys, keys=0), dearer=5.0),
+          beside=partial(shaped.hosts_below_keys, keys=0), dearer=5.4),
     Shape('hosts below keys of each length, back and forth', 2, partial(shaped.hosts_below_keys, keys=113),
           back_and_forth, beside=partial(shaped.hosts_below_keys, keys=0), dearer=6.0),
     Shape('prefixes come and go', 100, partial(shaped.coming_and_going, prefixes=500),
@@ -132,9 +132,9 @@ SHAPES = (
           most=5 * MIB),
     Shape('short routes behind room, played', 10_000, shaped.short_behind_room, all_steps,
           beside=shaped.short_routes),
-    # Twice what a record of these takes: the reader keeps its routes, and so does the player.
+    # What a record of these takes.
     Shape('garbage of long records, played', 2, partial(shaped.short_among_garbage, entries=20_000), all_steps,
-          most=130 * MIB),
+          most=70 * MIB),
     # A claim beyond the key in each family takes some 140 octets a peer, and nine in each some 1,000.
     Shape('peers announce again, played', 10_000, partial(shaped.claimed_twice, count=1), all_steps,
           beside=partial(shaped.announced_thrice, count=1), times=1.3),
