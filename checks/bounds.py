@@ -53,6 +53,7 @@ MET = {
     'mrt_wire/src/read_routes.rt': {
         'LONGEST_PLACED': ['attributes of places', 'paths of 256 peers climb, 250 octets'],
         'MOST_SEGMENTS': ['paths of many segments'],
+        'MOST_SPARES': ['entries that differ in the last community'],
     },
     'mrt_wire/src/route_pool.rt': {
         'FIRST_ROUTES': ['routes of a table'],
@@ -112,8 +113,17 @@ NOT_MET = {
     'mrt_frames/src/buffer.rt': {'FIRST_GROWTH': 'the buffer grows as it is filled'},
     'mrt_frames/src/frames.rt': {'PIECE': 'what is passed over is read in pieces, whatever it is'},
     'mrt_frames/src/header.rt': {'LONGEST_BODY': 'the input ends there'},
-    'mrt_wire/src/pool.rt': {'MOST_OCTETS': 'the check sums it up'},
-    'mrt_wire/src/route_pool.rt': {'MOST_ROUTES': 'no record has so many entries'},
+    'bgpdump_lines/src/dump.rt': {'LIMIT': 'no file of a check has 2^40 octets'},
+    'mrt_wire/src/pool.rt': {
+        'MOST_OCTETS': 'the build compares it', 'PLACES_OCTETS': 'the build sums it up',
+        'SPARES_OCTETS': 'the build sums it up', 'ROUTES_OCTETS': 'the build sums it up',
+    },
+    'mrt_wire/src/read_routes.rt': {'LARGEST_PLACE': 'the build sums it up'},
+    'mrt_wire/src/route_pool.rt': {
+        'MOST_ROUTES': 'no record has so many entries', 'LARGEST_FIRST': 'the build sums it up',
+        'PLACE_OCTETS': 'the build sums it up',
+    },
+    'prefix_store/src/store.rt': {'GREATEST_COUNT': 'no memory has so many keys'},
     'octet_text/src/buffer.rt': {'LEAST_ROOM': 'the text grows as it is filled'},
     'rib_player/src/claims.rt': {
         'ADDRESSES': 'no address has a number above it', 'COUNTS_OCTETS': 'the check compares it',
@@ -121,6 +131,11 @@ NOT_MET = {
     'rib_player/src/entry.rt': {'ENTRY_OCTETS': 'the check compares it'},
     'rib_player/src/numbered_peer.rt': {'NO_NUMBER': 'no number is above it'},
 }
+
+
+# What the comment of a bound says.
+BOUND = re.compile(r'\b(one|octet|bit) (more|above|less)\b|\bof more\b|\babove it\b|'
+                   r'\b(largest|further|longer|larger)\b', re.IGNORECASE)
 
 
 def documented_constants(text):
@@ -150,7 +165,7 @@ def faults_of_bounds():
     for name, constants in found.items():
         for constant, comment in constants.items():
             known = constant in MET.get(name, ()) or constant in NOT_MET.get(name, ())
-            if re.search(r'\b(one|octet|bit) (more|above|less)\b|\bof more\b|One more|above it', comment) and not known:
+            if BOUND.search(comment) and not known:
                 yield '%s: %s is a bound that checks/bounds.py has no shape for' % (name, constant)
     for name, constants in (*MET.items(), *NOT_MET.items()):
         for constant in constants:

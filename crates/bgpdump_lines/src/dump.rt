@@ -1,4 +1,4 @@
-//! A whole run: the lines of all events, and the reports of all faulty records.
+//! The run of `bgpdump -m`: reads records until the input ends, and writes their lines and reports.
 
 ghost use Rattle.std.specs.Prelude.{◌≡◌, ◌≢◌, ◌↔◌, ◌||◌, ℕ, List, false, IsTrue, length};
 ghost use Rattle.std.specs.Io.KnownBytes.{Consumes};
@@ -15,13 +15,13 @@ use ip_prefix::Text;
 use mrt_wire::{Input, Next, Source, Stamp};
 use std::alloc::Global;
 
-/// How many octets a run reads at most.
+/// The largest number of octets that a run reads.
 pub const LIMIT: u64 = 1 << 40;
 
-/// Reads an input of MRT records (RFC 6396) to its end, or to a header that states too much. The
-/// lines of all events go to `out`, and the reports of all faulty records to `err`. What a record
-/// gives is written before the next one is read. Where the run ends without a fault, both outputs
-/// are finished, `out` first.
+/// Reads an input of MRT records (RFC 6396) to its end, or to a record whose header states a length
+/// above the limit. The lines of all events go to `out`, and the reports of all faulty records to `err`.
+/// The text of a record is written before the next one is read. If nothing fails, both outputs are
+/// flushed at the end, `out` first.
 pub fn run_dump<I: Input, O: Output, E: Output>(
     alloc: Global,
     input: &mut I,
@@ -63,7 +63,7 @@ pub fn run_dump<I: Input, O: Output, E: Output>(
     }
 }
 
-/// Reads and writes up to the end of the input or a fault, and answers whether something was
+/// Reads records and writes their text to the end of the input, and returns whether a record was
 /// reported.
 fn dump_all<I: Input, O: Output, E: Output>(
     alloc: Global,

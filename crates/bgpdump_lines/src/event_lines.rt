@@ -1,4 +1,5 @@
-//! The lines of events, one for each item.
+//! Appends the lines of events to a text, one for each item. [`put_lines`] is for users of the library; runs
+//! use the parts of it, to write long texts in between.
 
 ghost use Rattle.std.specs.Prelude.{◌≡◌, ◌++◌, ◌∷◌, [], map, All, OnOk, OnErr, IfOk, IfSome, IfNone};
 ghost use Rattle.mrt_events.specs.Event.{Announced, saying};
@@ -16,7 +17,8 @@ use ip_prefix::Text;
 use mrt_wire::{Event, Item};
 use std::alloc::AllocError;
 
-/// Appends the line of an item. Returned is the line, if it is of a route.
+/// Appends the line of an item, and returns it if the item is an announcement. `last` is the line that the
+/// text ends in, if that is of a route: what both lines have is copied.
 #[inline(always)]
 pub(crate) fn put_item<'a>(
     heading: &Heading,
@@ -57,7 +59,7 @@ pub(crate) fn put_item<'a>(
     }
 }
 
-/// Appends the lines of items, each of which takes what it can from the one before.
+/// Appends the lines of items. What a line has in common with the one before is copied.
 #[inline(always)]
 fn put_each(heading: &Heading, items: &[Item], text: &mut Text) -> Result<(), AllocError>
     ensures { Prints text.old text.new (headed_lines heading.now (map saying items.now)) result }
@@ -68,11 +70,12 @@ fn put_each(heading: &Heading, items: &[Item], text: &mut Text) -> Result<(), Al
     put_some(heading, items, text)
 }
 
-/// The same, out of line: of most events all items share a route, or none do.
+/// Appends the lines of at least one item, for [`put_each`].
 #[inline(never)]
 fn put_some(heading: &Heading, items: &[Item], text: &mut Text) -> Result<(), AllocError>
     ensures { Prints text.old text.new (headed_lines heading.now (map saying items.now)) result }
 {
+    // It is out of line, since of most events all items share a route, or none do.
     let mut last = None;
     'items: for item in items {
         last = put_item(heading, item, last, text)?;
@@ -80,8 +83,8 @@ fn put_some(heading: &Heading, items: &[Item], text: &mut Text) -> Result<(), Al
     Ok(())
 }
 
-/// Appends the line of one more announcement of the route whose line the text ends in. Returned is
-/// where its parts stand.
+/// Appends the line of one more announcement of the route `first`, whose line the text ends in, at the
+/// offsets `last`. Returns the offsets of the new line.
 #[inline(always)]
 pub(crate) fn put_other(
     heading: &Heading,
@@ -103,7 +106,8 @@ pub(crate) fn put_other(
     }
 }
 
-/// Appends the lines of further announcements of the route whose line the text ends in.
+/// Appends the lines of further announcements of the route `first`, whose line the text ends in, at the
+/// offsets `places`.
 #[inline(always)]
 fn put_others(
     heading: &Heading,
@@ -123,7 +127,7 @@ fn put_others(
     Ok(())
 }
 
-/// Returns the first of announcements that share a peer and a route, and the others, if there are any.
+/// Returns the first of several announcements, and the items after it. `None` means that there are none.
 #[inline(always)]
 pub(crate) fn split_shared(items: &[Item]) -> Option<(Announcement<'_>, &[Item])>
     requires { AreOfOneRoute (map saying items.now) }
@@ -142,7 +146,7 @@ pub(crate) fn split_shared(items: &[Item]) -> Option<(Announcement<'_>, &[Item])
     Some((first, rest))
 }
 
-/// Appends the lines of announcements that share a peer and a route.
+/// Appends the lines of announcements that all have the same peer and route.
 #[inline(always)]
 fn put_shared(heading: &Heading, items: &[Item], text: &mut Text) -> Result<(), AllocError>
     requires { AreOfOneRoute (map saying items.now) }
@@ -155,7 +159,7 @@ fn put_shared(heading: &Heading, items: &[Item], text: &mut Text) -> Result<(), 
     put_others(heading, first, places, rest, text)
 }
 
-/// Appends the lines of an event's items.
+/// Appends the lines of an event. On error, a part may have been appended.
 #[inline(always)]
 fn put_items(event: &Event, text: &mut Text) -> Result<(), AllocError>
     ensures { Prints text.old text.new (event_lines event.now) result }
@@ -169,8 +173,7 @@ fn put_items(event: &Event, text: &mut Text) -> Result<(), AllocError>
     Ok(())
 }
 
-/// Appends the lines of an event, one for each item. Refused for want of memory, it leaves the text
-/// as it was.
+/// Appends the lines of an event, one for each item. On error, `text` is unchanged.
 #[inline(always)]
 pub(crate) fn append_lines(event: &Event, text: &mut Text) -> Result<(), AllocError>
     ensures appended { OnOk result (text.new ≡ text.old ++ event_lines event.now) }
@@ -184,7 +187,8 @@ pub(crate) fn append_lines(event: &Event, text: &mut Text) -> Result<(), AllocEr
     result
 }
 
-/// The same, to the octets of a vector.
+/// Appends the lines of an event to the octets of a vector, one for each item. On error, `text` is
+/// unchanged.
 pub fn put_lines(event: &Event, text: &mut Vec<u8>) -> Result<(), AllocError>
     ensures appended { OnOk result (text.new.items ≡ text.old.items ++ event_lines event.now) }
     ensures unchanged { OnErr result (text.new.items ≡ text.old.items) }

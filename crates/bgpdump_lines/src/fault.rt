@@ -1,4 +1,4 @@
-//! What ends a run.
+//! Errors of writing a text, and the [`Outcome`] of a run that an error ends.
 
 ghost use Rattle.std.specs.Prelude.{◌≡◌};
 ghost use Rattle.bgpdump_lines.specs.declared.fault.WriteFault.TheVariants.{Write, Memory};
@@ -9,12 +9,12 @@ use crate::output::OutFault;
 use mrt_wire::SourceFault;
 use std::alloc::AllocError;
 
-/// Why a text couldn't be written.
+/// An error of writing a text.
 #[derive(Clone, Copy, Debug, PartialEq, Eq)]
 pub enum WriteFault {
     /// The output failed.
     Write,
-    /// Memory was refused.
+    /// Memory allocation failed.
     Memory,
 }
 

@@ -1,4 +1,5 @@
-//! The fields of lines behind the first ones, each with a bar in front of it.
+//! Appends the fields of a line, each with the bar that separates it from the field before. The first
+//! fields of a line are in `heading`.
 
 ghost use Rattle.std.specs.Prelude.{◌∷◌, ◌++◌, decimal};
 ghost use Rattle.ip_prefix.specs.Text.{address_text, network_text};
@@ -11,10 +12,10 @@ use ip_prefix::{Addr, Prefix, SPACE, Text};
 use mrt_wire::Peer;
 use std::alloc::AllocError;
 
-/// What stands in front of each field but the first.
+/// The separator of fields.
 pub(crate) const BAR: u8 = b'|';
 
-/// Appends a bar and a number.
+/// Appends a bar and a decimal number.
 pub fn put_number(number: u64, text: &mut Text) -> Result<(), AllocError>
     ensures { Prints text.old text.new (bar ∷ decimal number) result }
 {
@@ -22,7 +23,7 @@ pub fn put_number(number: u64, text: &mut Text) -> Result<(), AllocError>
     text.put_long_decimal(number)
 }
 
-/// The same, for a number of 32 bits.
+/// Appends a bar and a decimal number of 32 bits.
 #[inline(always)]
 pub(crate) fn put_field(number: u32, text: &mut Text) -> Result<(), AllocError>
     ensures { Prints text.old text.new (bar ∷ decimal number) result }
@@ -30,7 +31,7 @@ pub(crate) fn put_field(number: u32, text: &mut Text) -> Result<(), AllocError>
     text.put_led_decimal(BAR, number)
 }
 
-/// Appends a bar, the peer's address, a bar, and its AS number.
+/// Appends the fields of a peer: a bar, its address, a bar, and its AS number.
 #[inline(always)]
 pub fn put_peer(peer: &Peer, text: &mut Text) -> Result<(), AllocError>
     ensures { Prints text.old text.new
@@ -48,7 +49,7 @@ pub(crate) fn put_prefix(prefix: &Prefix, text: &mut Text) -> Result<(), AllocEr
     text.put_led(BAR, prefix)
 }
 
-/// Appends a bar and how a route came into BGP.
+/// Appends a bar and the value of ORIGIN (RFC 4271, section 5.1.1), or an empty field.
 #[inline(always)]
 fn put_origin(origin: Option<Origin>, text: &mut Text) -> Result<(), AllocError>
     ensures { Prints text.old text.new (bar ∷ origin_text origin) result }
@@ -61,7 +62,7 @@ fn put_origin(origin: Option<Origin>, text: &mut Text) -> Result<(), AllocError>
     }
 }
 
-/// Appends a bar and the address of the next hop.
+/// Appends a bar and the address of the next hop, or an empty field.
 #[inline(always)]
 fn put_next_hop(next_hop: Option<Addr>, text: &mut Text) -> Result<(), AllocError>
     ensures { Prints text.old text.new (bar ∷ next_hop_text next_hop) result }
@@ -72,7 +73,7 @@ fn put_next_hop(next_hop: Option<Addr>, text: &mut Text) -> Result<(), AllocErro
     }
 }
 
-/// Appends a bar and a preference or a metric, an absent one as 0.
+/// Appends a bar and the value of LOCAL_PREF or MULTI_EXIT_DISC, or 0 for `None`.
 #[inline(always)]
 fn put_number_or_zero(number: Option<u32>, text: &mut Text) -> Result<(), AllocError>
     ensures { Prints text.old text.new (bar ∷ number_or_zero number) result }
@@ -84,7 +85,7 @@ fn put_number_or_zero(number: Option<u32>, text: &mut Text) -> Result<(), AllocE
     }
 }
 
-/// Appends a bar and communities.
+/// Appends a bar and the communities (RFC 1997), separated by spaces.
 fn put_community_field(communities: &Communities, text: &mut Text) -> Result<(), AllocError>
     ensures { Prints text.old text.new (bar ∷ communities_text communities.now) result }
 {
@@ -92,7 +93,7 @@ fn put_community_field(communities: &Communities, text: &mut Text) -> Result<(),
     append_communities(communities.as_slice(), text)
 }
 
-/// Appends a bar and whether ATOMIC_AGGREGATE is there.
+/// Appends a bar and `AG` for a route with ATOMIC_AGGREGATE, or else `NAG`.
 #[inline(always)]
 fn put_aggregate(atomic: bool, text: &mut Text) -> Result<(), AllocError>
     ensures { Prints text.old text.new (bar ∷ aggregate_word atomic) result }
@@ -104,7 +105,8 @@ fn put_aggregate(atomic: bool, text: &mut Text) -> Result<(), AllocError>
     }
 }
 
-/// Appends a bar and who has formed an aggregate.
+/// Appends a bar, and the AS number and the address in AGGREGATOR, separated by a space, or an empty
+/// field.
 #[inline(always)]
 fn put_aggregator(aggregator: Option<Aggregator>, text: &mut Text) -> Result<(), AllocError>
     ensures { Prints text.old text.new (bar ∷ aggregator_text aggregator) result }
@@ -118,7 +120,7 @@ fn put_aggregator(aggregator: Option<Aggregator>, text: &mut Text) -> Result<(),
     }
 }
 
-/// Appends what stands behind the prefix in the line of a route with these attributes.
+/// Appends the fields of a route's attributes, which follow the prefix, and the end of the line.
 pub(crate) fn put_attributes(attrs: &Attrs, text: &mut Text) -> Result<(), AllocError>
     ensures { Prints text.old text.new (bar ∷ line_of (attribute_fields attrs.now)) result }
 {

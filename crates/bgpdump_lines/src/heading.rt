@@ -1,4 +1,4 @@
-//! What the lines of an event, or of a table, begin with.
+//! Appends the first fields of a line: the kind of record, the time and the letter of what it says.
 
 ghost use Rattle.std.specs.Prelude.{◌≡◌, ◌∷◌, ◌++◌};
 ghost use Rattle.bgpdump_lines.specs.Going.{Prints};
@@ -16,31 +16,31 @@ use ip_prefix::Text;
 use mrt_wire::{Event, Route, Tag, Time};
 use std::alloc::AllocError;
 
-/// How many digits the microseconds of a line have at least.
+/// The number of digits of microseconds, with leading zeros.
 const MICROS_DIGITS: usize = 6;
 
-/// What the first field of a line tells.
+/// What the first field of a line is.
 #[derive(Clone, Copy)]
 pub(crate) enum First {
-    /// The kind of record that the line is from.
+    /// The kind of the record that the line is from.
     Record,
-    /// That the line is of the table of a peer.
+    /// `RIB`, for a route in the table of a peer.
     Rib,
 }
 
-/// What the lines of an event, or of a table, have in common.
+/// What all lines of an event, or of a peer's table, have in common.
 #[derive(Clone, Copy)]
 pub(crate) struct Heading {
-    /// What they begin with.
+    /// What the first field is.
     pub(crate) first: First,
-    /// When the record was written.
+    /// The time of the record.
     pub(crate) time: Time,
-    /// What kind of record it is.
+    /// The kind of the record.
     pub(crate) tag: Tag,
 }
 
 impl Heading {
-    /// That of an event.
+    /// Returns the heading of an event's lines.
     #[inline(always)]
     pub(crate) fn of(event: &Event) -> Heading
         ensures line { headed_line result ≡ item_line event.now.time event.now.tag }
@@ -53,8 +53,8 @@ impl Heading {
         }
     }
 
-    /// That of the table of a peer: its lines are those of an entry of a table, but for what they begin
-    /// with.
+    /// Returns the heading of the lines of a peer's table: but for the first field, they are those of
+    /// entries of a TABLE_DUMP_V2 record.
     #[inline(always)]
     pub(crate) fn of_table() -> Heading
         ensures { (peer : Peer) (prefix : Network) (route : Route) →
@@ -71,7 +71,7 @@ impl Heading {
     }
 }
 
-/// Appends the first field of a line.
+/// Appends the first field of a line, the kind of record.
 #[inline(always)]
 fn put_word(heading: &Heading, text: &mut Text) -> Result<(), AllocError>
     ensures { Prints text.old text.new (first_field heading.now) result }
@@ -85,11 +85,11 @@ fn put_word(heading: &Heading, text: &mut Text) -> Result<(), AllocError>
     }
 }
 
-/// Appends microseconds, behind zeros where they have fewer digits than are printed. They are
-/// printed once more, to see how many digits they have.
+/// Appends microseconds in six digits, with leading zeros.
 fn put_micros(micros: u32, text: &mut Text) -> Result<(), AllocError>
     ensures { Prints text.old text.new (micros_text micros) result }
 {
+    // They are printed twice, to see how many digits they have.
     let front = text.len();
     text.put_decimal(micros)?;
     let missing = MICROS_DIGITS.saturating_sub(text.len() - front);
@@ -99,7 +99,7 @@ fn put_micros(micros: u32, text: &mut Text) -> Result<(), AllocError>
     Ok(())
 }
 
-/// Appends a bar and the time of a line.
+/// Appends a bar and the time of a record, in seconds since 1970, and for BGP4MP_ET with microseconds.
 #[inline(always)]
 fn put_time(heading: &Heading, text: &mut Text) -> Result<(), AllocError>
     ensures { Prints text.old text.new (bar ∷ time_text heading.now.tag heading.now.time) result }
@@ -112,7 +112,7 @@ fn put_time(heading: &Heading, text: &mut Text) -> Result<(), AllocError>
     Ok(())
 }
 
-/// Appends the first two fields of a line: what kind of record it is from, and its time.
+/// Appends the first two fields of a line: the kind of record, and its time.
 #[inline(always)]
 pub(crate) fn put_head(heading: &Heading, text: &mut Text) -> Result<(), AllocError>
     ensures { Prints text.old text.new
@@ -122,8 +122,8 @@ pub(crate) fn put_head(heading: &Heading, text: &mut Text) -> Result<(), AllocEr
     put_time(heading, text)
 }
 
-/// Appends the first three fields of a route's line: an entry of a table, which has the time of the
-/// route, or an announcement.
+/// Appends the first three fields of a route's line: the kind of record, the time, and `B` or `A`. An
+/// entry of a table has the time of `route`, an announcement that of its record.
 #[inline(always)]
 pub(crate) fn put_route_head(
     heading: &Heading,

@@ -1,5 +1,5 @@
-//! Lines of tables that are kept for later records. A peer mostly has a route with the same attributes to
-//! the next prefix, so that all of its line but the prefix was printed before.
+//! Lines of TABLE_DUMP_V2 records that are kept for later records, one for each peer. Mostly a peer has a
+//! route with the same attributes in the next record, so that all of its line but the prefix is copied.
 
 ghost use Rattle.std.specs.Prelude.{◌≡◌, ◌≤◌, ◌+◌, true, take, drop, length, IfSome, IsTrue, vec_len};
 ghost use Rattle.std.proofs.Props.{props};
@@ -13,48 +13,48 @@ use mrt_wire::{Event, Peer, Route, Tag, same_peer, same_route};
 use std::alloc::{AllocError, Global};
 use std::rc::Rc;
 
-/// How many lines are kept at most. With one more peer, its lines are printed anew each time.
+/// The largest number of lines that are kept. Those of further peers are printed each time.
 const MOST_LINES: usize = 512;
 
-/// How many octets a line that is kept has at most, without its prefix. One with an octet more is
-/// printed anew each time.
+/// The largest number of octets of a line that is kept, without its prefix. A longer one is printed each
+/// time.
 const LONGEST_LINE: usize = 512;
 
-/// How many segments the path of its route has at most, so that the route takes little more than the
-/// line. With one more the line is printed anew each time.
+/// The largest number of segments of the path of a line that is kept, so that its route takes little more
+/// memory than the line. A line with more is printed each time.
 const MOST_SEGMENTS: usize = 2;
 
-/// Among how many places peers are spread. Of two peers that have one in common each takes the other's
-/// line away.
+/// The number of hashes of peers. Two peers of one hash replace each other's line.
 const PLACES: usize = 1 << 12;
 
-/// How many bits of a product are left out, so that it names a place.
+/// The number of low bits of the product that a hash leaves out.
 const LOWEST_BITS: u32 = 20;
 
-/// What a peer's number is multiplied by: the odd number next to 2^32 divided by the golden ratio.
+/// The factor of a hash: the odd number next to 2^32 divided by the golden ratio.
 const MULTIPLIER: u32 = 0x9E37_79B9;
 
-/// What stands at a place without a line: the number of no line.
+/// The index of no line, for hashes without one.
 const NO_LINE: u16 = u16::MAX;
 
-/// How many lines are printed before it is judged whether keeping them pays.
-const TRIAL: usize = 1 << 9;
+/// The number of lines after which it is judged whether keeping them has paid. Of tables as routers send
+/// them, of which three of five lines are copied, 512 lines in a row may be mostly new ones; 4,096 aren't.
+const TRIAL: usize = 1 << 12;
 
-/// How many times as many are printed without, where it didn't.
-const PAUSE_TIMES: usize = 64;
+/// How many times as many lines are printed without keeping them, after a trial that didn't pay.
+const PAUSE_TIMES: usize = 32;
 
-/// What stands in the line of a peer's route in a table, but for the prefix.
+/// The line of a peer's route in a table, without its prefix.
 #[derive(Drop)]
 struct KeptLine {
     peer: Peer,
     route: Rc<Route>,
-    /// What stands in front of the prefix, and then what stands behind it.
+    /// The fields before the prefix, followed by those after it.
     octets: Vec<u8>,
-    /// Where the first three fields end.
+    /// The end of the first three fields in `octets`.
     head: usize,
-    /// Where what stands in front of the prefix ends.
+    /// The end of the fields before the prefix in `octets`.
     front: usize,
-    /// Whether this is of that peer's route.
+    /// Whether `octets` are of that route. It is false after an error.
     known: bool,
     ghost short: { vec_len octets ≤ LONGEST_LINE },
     // What stands behind `by` shows that it has at most one proof, as a ghost field must.
@@ -64,7 +64,7 @@ struct KeptLine {
 }
 
 impl KeptLine {
-    /// Returns the line of a peer's route whose parts these are.
+    /// Returns a line of these fields, which are of this peer's route.
     fn of(
         alloc: Global,
         peer: &Peer,
@@ -86,7 +86,8 @@ impl KeptLine {
         Ok(line)
     }
 
-    /// Becomes the line of a peer's route whose parts these are. Refused, it is of none.
+    /// Replaces the line by one of these fields, which are of this peer's route. On error, it is of no
+    /// route.
     fn replace(
         &mut self,
         peer: &Peer,
@@ -108,7 +109,7 @@ impl KeptLine {
         Ok(())
     }
 
-    /// Returns its parts, if it is of this peer's route.
+    /// Returns the fields, if they are of this peer's route with the same attributes and time.
     #[inline(always)]
     fn ends_of(&self, said: Announcement<'_>) -> Option<LineEnds<'_>>
         ensures { IfSome result (λ ends. AreEnds ends.front.now ends.head ends.tail.now
@@ -126,7 +127,7 @@ impl KeptLine {
     }
 }
 
-/// Returns the last two octets of an address, as a number.
+/// Returns the last two octets of an address as a number in network byte order.
 #[inline(always)]
 fn last_octets(addr: &Addr) -> u32 {
     match addr.family() {
@@ -135,42 +136,43 @@ fn last_octets(addr: &Addr) -> u32 {
     }
 }
 
-/// Returns a place that peers with another address or another AS number mostly don't have. Nothing is
-/// said of which it is.
+/// Returns a hash of the peer, below [`PLACES`].
 #[inline(always)]
 fn place_of(peer: &Peer) -> usize {
     let first = last_octets(&peer.addr).wrapping_add(peer.asn);
     (first.wrapping_mul(MULTIPLIER) >> LOWEST_BITS) as usize
 }
 
-/// Returns whether a route may be kept: its path is short, and its time is that of its record. Where
-/// it is another, the next record mostly has the same attributes with one more, which the reader gives
-/// to a route that nobody holds.
+/// Returns whether the line of a route may be kept: its path is short, and its time is `time`, that of its
+/// record.
 #[inline]
 fn may_be_kept(route: &Route, time: u32) -> bool {
+    // With a time of its own, a route is kept in vain: in the next record it mostly has another time. And
+    // the reader can give the same attributes another time only in a route that nobody else holds.
     route.time == time && route.attrs.path.segments.as_slice().len() <= MOST_SEGMENTS
 }
 
-/// Lines of tables, at most one for each peer. They take memory for [`MOST_LINES`] of
-/// [`LONGEST_LINE`] octets and their routes at most.
+/// Lines of tables, at most one for each peer. They take memory for at most [`MOST_LINES`] lines of
+/// [`LONGEST_LINE`] octets, and for their routes.
 #[derive(Drop)]
 pub(crate) struct KeptLines {
     alloc: Global,
     lines: Vec<KeptLine>,
-    /// The number of the line at each place.
+    /// The index of a line in `lines`, by the hash of its peer.
     numbers: Vec<u16>,
-    /// How many lines were printed since it was judged last.
+    /// The number of lines since the last judgement.
     printed: usize,
-    /// How many of them weren't the line that was kept of their peer, or may not be kept.
+    /// The number of these that weren't copied, although a line of their peer was kept, or that may not
+    /// be kept.
     missed: usize,
-    /// How many lines more are printed before lines are kept again.
+    /// The number of lines that are still printed before lines are kept again.
     pause: usize,
     ghost few: { vec_len lines ≤ MOST_LINES },
     ghost spread: { vec_len numbers ≤ PLACES },
 }
 
 impl KeptLines {
-    /// Returns none. They take no memory.
+    /// Returns an empty set of lines, without allocating memory.
     pub(crate) fn new(alloc: Global) -> KeptLines {
         KeptLines {
             alloc,
@@ -182,8 +184,8 @@ impl KeptLines {
         }
     }
 
-    /// Returns whether lines of the event are asked for and kept: it is of a table (RFC 6396, section
-    /// 4.3), and there is no pause.
+    /// Returns whether the lines of the event are to be copied and kept: it is of a TABLE_DUMP_V2 record
+    /// (RFC 6396, section 4.3), and there is no pause.
     #[inline(always)]
     pub(crate) fn serve(&mut self, event: &Event) -> bool
         ensures { IsTrue result → event.now.tag ≡ TableDump2 }
@@ -194,7 +196,7 @@ impl KeptLines {
         }
     }
 
-    /// Begins with a record of so many lines, and returns whether there is no pause.
+    /// Counts the lines of a record towards the end of a pause, and returns whether there is none.
     #[inline(always)]
     fn begin(&mut self, lines: usize) -> bool {
         if self.pause == 0 {
@@ -204,8 +206,8 @@ impl KeptLines {
         false
     }
 
-    /// Ends a record of so many lines. Where more than half of the last ones missed, all lines are let go,
-    /// and a pause begins.
+    /// Counts the lines of a record that were copied or kept, and judges whether that has paid after each
+    /// [`TRIAL`] lines: if more than half of them missed, all lines are dropped, and a pause begins.
     #[inline(always)]
     pub(crate) fn end(&mut self, lines: usize) {
         self.printed = self.printed.saturating_add(lines);
@@ -214,7 +216,7 @@ impl KeptLines {
         }
     }
 
-    /// Judges whether keeping lines has paid.
+    /// Drops all lines and begins a pause, if more than half of the last lines missed.
     #[inline(never)]
     fn judge(&mut self) {
         if self.missed > self.printed / 2 {
@@ -226,7 +228,7 @@ impl KeptLines {
         self.missed = 0;
     }
 
-    /// Returns the parts of the line of this peer's route, if it is kept.
+    /// Returns the fields of the line of this peer's route, if it is kept.
     #[inline(always)]
     pub(crate) fn ends_of(&self, said: Announcement<'_>) -> Option<LineEnds<'_>>
         ensures { IfSome result (λ ends. AreEnds ends.front.now ends.head ends.tail.now
@@ -236,7 +238,7 @@ impl KeptLines {
         self.lines.get(usize::from(*number))?.ends_of(said)
     }
 
-    /// Keeps the line of a peer's route whose parts these are, if it may be kept and there is room.
+    /// Keeps a line of these fields, which are of this peer's route, if it may be kept and there is room.
     /// `time` is that of the record.
     #[inline(never)]
     pub(crate) fn keep(

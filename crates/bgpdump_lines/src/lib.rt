@@ -1,5 +1,6 @@
-//! The lines of the events of routing-table dumps (MRT, RFC 6396), the reports of what is faulty,
-//! and the outputs that both are written to.
+//! Prints MRT files (RFC 6396) as lines of text: one line for each route and state change, and one
+//! report for each faulty record. [`run_dump`] is the whole run; the other functions write parts of it
+//! for programs that read records themselves.
 #![tactic(auto)]
 
 mod dump;

@@ -1,29 +1,29 @@
-//! How a run ended.
+//! The outcome of a run, and its exit status.
 
 ghost use Rattle.std.specs.Prelude.{◌≡◌};
 ghost use Rattle.bgpdump_lines.specs.Going.{status_of};
 
-/// How a run ended.
+/// The outcome of a run.
 #[derive(Clone, Copy, Debug, PartialEq, Eq)]
 pub enum Outcome {
-    /// The run came to its end without a fault, and nothing had to be reported.
+    /// All of the input was read, and nothing was reported.
     Done,
-    /// The run came to its end without a fault, and something was reported.
+    /// All of the input was read, and at least one record or command was reported.
     Reported,
-    /// The input failed.
+    /// Reading the input failed.
     ReadFault,
-    /// An output failed.
+    /// Writing to an output failed.
     WriteFault,
-    /// To go on, or to see the end, more than 2^40 octets would have to be read.
+    /// The next record, or the end of the input, lies beyond the first 2^40 octets.
     InputTooLong,
     /// The script has more than 1,048,576 octets.
     ScriptTooLong,
-    /// Memory was refused.
+    /// Memory allocation failed.
     Memory,
 }
 
 impl Outcome {
-    /// The exit status that tells it.
+    /// Returns the exit status of a program that ends so.
     pub fn status(self) -> u8
         ensures { result ≡ status_of self }
     {

@@ -1,4 +1,5 @@
-//! Where text is written to.
+//! Outputs of text: the trait [`Output`], and [`WriteOutput`], which implements it over a writer of
+//! std. Runs write to two of them, one for lines and one for reports.
 
 ghost use Rattle.std.specs.Prelude.{◌≡◌, ◌≤◌, ◌<◌, ◌||◌, ℕ, List, Bool, false, Option, length, IfOk, OnOk, is_err};
 ghost use Rattle.std.specs.Io.KnownBytes.{WriteAppends, Appends, Keeps};
@@ -9,27 +10,28 @@ use crate::outcome::Outcome;
 use mrt_wire::Input;
 use std::io::Write;
 
-/// A write failed. It appended nothing.
+/// The error of an output. The call that failed wrote nothing.
 #[derive(Clone, Copy, Debug, PartialEq, Eq)]
 pub struct OutFault;
 
-/// What text is written to.
+/// An output of octets.
 pub trait Output {
-    /// The octets written, where the output tells them.
+    /// The octets that were written, or `None` where an output can't tell.
     ghost written: { Self → Option (List ℕ) };
 
-    /// True from the first fault on.
+    /// Whether a call has failed.
     ghost failed: { Self → Bool };
 
-    /// Writes a front of the octets, at least one where there is one, and answers how many.
+    /// Writes some of the octets, from the first on, and returns how many: at least one, unless
+    /// `octets` is empty.
     fn put(&mut self, octets: &[u8]) -> Result<usize, OutFault>
         ensures bound { IfOk result (λ count. count ≤ length octets.now) }
         ensures some { IfOk result (λ count. 0 < length octets.now → 0 < count) }
         ensures octets { WriteAppends (written self.old) (written self.new) result octets.now }
         ensures failed { failed self.new ≡ (failed self.old || is_err result) };
 
-    /// Passes on what a buffer below still holds, where more may be long in coming. An output without
-    /// such a buffer has nothing to do.
+    /// Flushes the buffer below, before a wait for input that may be long. By default it does nothing,
+    /// for an output without a buffer.
     fn pass_on(&mut self) -> Result<(), OutFault>
         ensures octets { Keeps (written self.old) (written self.new) }
         ensures failed { failed self.new ≡ (failed self.old || is_err result) }
@@ -37,14 +39,14 @@ pub trait Output {
         Ok(())
     }
 
-    /// Passes on what a buffer below still holds.
+    /// Flushes the buffer below, at the end of a run.
     fn finish(&mut self) -> Result<(), OutFault>
         ensures octets { Keeps (written self.old) (written self.new) }
         ensures failed { failed self.new ≡ (failed self.old || is_err result) };
 }
 
-/// An output over a writer. Each of the writer's errors is a fault, and so is a write that takes
-/// none of at least one octet.
+/// An output over a writer of std. Each of the writer's errors is an [`OutFault`], and so is a write
+/// that takes no octet of several.
 #[derive(Drop)]
 pub struct WriteOutput<W> {
     writer: W,
@@ -52,7 +54,7 @@ pub struct WriteOutput<W> {
 }
 
 impl<W: Write> WriteOutput<W> {
-    /// An output that has what the writer has.
+    /// Returns an output to `writer`.
     pub fn new(writer: W) -> Self
         ensures written { ⟦<WriteOutput<W> as Output>⟧.written result ≡ W.contents writer }
         ensures failed { ⟦<WriteOutput<W> as Output>⟧.failed result ≡ false }
@@ -63,7 +65,7 @@ impl<W: Write> WriteOutput<W> {
         }
     }
 
-    /// The writer, which has what was written to the output.
+    /// Returns the writer.
     pub fn into_inner(self) -> W
         ensures { W.contents result ≡ ⟦<WriteOutput<W> as Output>⟧.written self }
     {
@@ -101,7 +103,8 @@ impl<W: Write> Output for WriteOutput<W> {
     }
 }
 
-/// Writes all the octets, in as many calls of `put` as that takes.
+/// Writes all of the octets, by as many calls of [`Output::put`] as that takes. On error, some of them
+/// may have been written.
 pub fn put_all<W: Output>(output: &mut W, octets: &[u8]) -> Result<(), OutFault>
     ensures all { OnOk result (Appends (W.written output.old) (W.written output.new) octets.now) }
     ensures front { AppendsFront (W.written output.old) (W.written output.new) octets.now }
@@ -115,7 +118,7 @@ pub fn put_all<W: Output>(output: &mut W, octets: &[u8]) -> Result<(), OutFault>
     Ok(())
 }
 
-/// Passes on what two outputs hold, unless the input has its next record at hand.
+/// Flushes both outputs, unless the input has its next record buffered, so that reading it won't wait.
 pub fn pass_on_before_waiting<I: Input, O: Output, E: Output>(
     input: &I,
     out: &mut O,
@@ -133,7 +136,8 @@ pub fn pass_on_before_waiting<I: Input, O: Output, E: Output>(
     err.pass_on()
 }
 
-/// Finishes both outputs, and tells how the run ended.
+/// Flushes both outputs at the end of a run, and returns its outcome. `reported` tells whether a record
+/// was reported.
 pub fn finish_outputs<O: Output, E: Output>(out: &mut O, err: &mut E, reported: bool) -> Outcome
     requires sound { (O.failed out.old || E.failed err.old) ≡ false }
     ensures outcome { result ≡ outcome_of (O.failed out.new || E.failed err.new) reported }

@@ -1,4 +1,4 @@
-//! The reports of faulty records.
+//! Prints the report of a faulty record, a line of text for standard error.
 
 ghost use Rattle.std.specs.Prelude.{◌≡◌, ◌++◌, OnOk, decimal};
 ghost use Rattle.bgpdump_lines.specs.Run.{kind_text, fault_report};
@@ -7,7 +7,7 @@ use ip_prefix::Text;
 use mrt_wire::{RecordFault, RecordKind};
 use std::alloc::AllocError;
 
-/// Appends a word and a number behind it.
+/// Appends a word and a decimal number. On error, a part may have been appended.
 fn put_labelled(word: &[u8], number: u64, text: &mut Text) -> Result<(), AllocError>
     ensures { OnOk result (text.new ≡ text.old ++ (word.now ++ decimal number)) }
 {
@@ -16,7 +16,7 @@ fn put_labelled(word: &[u8], number: u64, text: &mut Text) -> Result<(), AllocEr
     Ok(())
 }
 
-/// Appends what is wrong with a record. Refused, it may have appended a part.
+/// Appends what is wrong with a record. On error, a part may have been appended.
 fn put_kind(kind: RecordKind, text: &mut Text) -> Result<(), AllocError>
     ensures { OnOk result (text.new ≡ text.old ++ kind_text kind) }
 {
@@ -37,7 +37,7 @@ fn put_kind(kind: RecordKind, text: &mut Text) -> Result<(), AllocError>
     Ok(())
 }
 
-/// Appends the report of a fault. Refused, it may have appended a part.
+/// Appends the report of a faulty record, with a line feed. On error, a part may have been appended.
 pub(crate) fn put_report(fault: RecordFault, text: &mut Text) -> Result<(), AllocError>
     ensures { OnOk result (text.new ≡ text.old ++ fault_report fault) }
 {

@@ -1,4 +1,5 @@
-//! The lines of routes, parts of which are copied from the line before.
+//! Appends the lines of routes to a text. What a line has in common with the last one, or with one that
+//! was kept, is copied instead of printed.
 
 ghost use Rattle.std.specs.Prelude.{◌≡◌, ◌≤◌, ◌++◌, take, length, IfOk, IfSome};
 ghost use Rattle.mrt_events.specs.Event.{Announced};
@@ -12,7 +13,7 @@ use ip_prefix::{Prefix, Text};
 use mrt_wire::{Peer, Route, same_peer, same_prefix, same_route};
 use std::alloc::AllocError;
 
-/// A peer's route to a prefix.
+/// A peer's route to a prefix, as a line prints it.
 #[derive(Clone, Copy)]
 pub(crate) struct Announcement<'a> {
     pub(crate) peer: &'a Peer,
@@ -20,29 +21,29 @@ pub(crate) struct Announcement<'a> {
     pub(crate) route: &'a Route,
 }
 
-/// Where the parts of a route's line stand.
+/// The offsets of the parts of a route's line, in octets from the start of the text.
 #[derive(Clone, Copy)]
 pub(crate) struct Places {
-    /// Where it begins.
+    /// The start of the line.
     start: usize,
-    /// Where its first three fields end.
+    /// The end of its first three fields, where those of the peer begin.
     head: usize,
-    /// Where what stands in front of the prefix ends.
+    /// The end of the peer's fields, where the prefix begins.
     front: usize,
-    /// Where what stands behind the prefix begins.
+    /// The end of the prefix, where the attributes begin.
     tail: usize,
 }
 
-/// The line that a text ends in, of a route.
+/// The last line of a text, which is of a route.
 #[derive(Clone, Copy)]
 pub(crate) struct LastLine<'a> {
-    /// What it says.
+    /// The route that it prints.
     pub(crate) said: Announcement<'a>,
-    /// Where its parts stand.
+    /// The offsets of its parts.
     pub(crate) places: Places,
 }
 
-/// Appends the line of a route with each part printed. Returned is where they stand.
+/// Appends the line of a route, of which each part is printed. Returns the offsets of its parts.
 #[inline(always)]
 pub(crate) fn put_route_anew(
     heading: &Heading,
@@ -70,8 +71,7 @@ pub(crate) fn put_route_anew(
     })
 }
 
-/// Appends the line that the text ends in once more, with another prefix. Returned is where its
-/// parts stand.
+/// Appends the last line of the text once more, with another prefix. Returns the offsets of its parts.
 #[inline(always)]
 pub(crate) fn put_route_again(
     last: Places,
@@ -100,8 +100,8 @@ pub(crate) fn put_route_again(
     })
 }
 
-/// Appends the line that the text ends in once more, with another peer and other attributes.
-/// Returned is where its parts stand.
+/// Appends the last line of the text once more, with another peer and other attributes. Returns the
+/// offsets of its parts.
 #[inline(always)]
 fn put_route_beside(
     last: Places,
@@ -132,16 +132,16 @@ fn put_route_beside(
     })
 }
 
-/// What stands in a route's line in front of the prefix, and what behind it.
+/// A route's line without its prefix: the fields before it and the fields after it.
 #[derive(Clone, Copy)]
 pub(crate) struct LineEnds<'a> {
     pub(crate) front: &'a [u8],
-    /// Where in front of the prefix the first three fields end.
+    /// The end of the first three fields in `front`.
     pub(crate) head: usize,
     pub(crate) tail: &'a [u8],
 }
 
-/// Returns what the line that the text ends in has in front of the prefix and behind it.
+/// Returns the fields of the last line of the text, without its prefix.
 #[inline(always)]
 pub(crate) fn ends_in(text: &Text, last: Places) -> LineEnds<'_>
     requires { AreOrdered last text.now }
@@ -158,7 +158,7 @@ pub(crate) fn ends_in(text: &Text, last: Places) -> LineEnds<'_>
     }
 }
 
-/// Appends a bar and the prefix, which is copied where the last line has it too.
+/// Appends a bar and the prefix, which is copied from the last line if that has it too.
 #[inline(always)]
 fn put_prefix_again(
     prefix: &Prefix,
@@ -176,7 +176,7 @@ fn put_prefix_again(
     }
 }
 
-/// Appends a line that has these ends. Returned is where its parts stand.
+/// Appends a line of these fields and this prefix. Returns the offsets of its parts.
 #[inline(always)]
 pub(crate) fn put_between(
     ends: LineEnds<'_>,
@@ -207,7 +207,7 @@ pub(crate) fn put_between(
     })
 }
 
-/// Appends the line of a route. What the last line says too is copied from there.
+/// Appends the line of a route. What it has in common with `last`, the last line of the text, is copied.
 #[inline(always)]
 pub(crate) fn put_route<'a>(
     heading: &Heading,

@@ -1,4 +1,5 @@
-//! The lines of the records of tables (RFC 6396, section 4.3).
+//! Appends the lines of TABLE_DUMP_V2 records (RFC 6396, section 4.3), which are mostly copied from lines
+//! that [`KeptLines`] keeps.
 
 ghost use Rattle.std.specs.Prelude.{◌≡◌, IfOk, IfSome};
 ghost use Rattle.mrt_events.specs.Event.{Announced, saying};
@@ -42,8 +43,8 @@ fn put_and_keep<'a>(
     Ok(line)
 }
 
-/// Appends the line of a route. All of it but the prefix is copied from the line of the peer that is
-/// kept, if that has the same route.
+/// Appends the line of a route. If the line kept of its peer has the same route, all but the prefix is
+/// copied from it.
 #[inline(always)]
 fn put_entry<'a>(
     heading: &Heading,
@@ -67,7 +68,7 @@ fn put_entry<'a>(
     put_and_keep(heading, said, route, last, kept, text)
 }
 
-/// Appends the line of an item of a table's record. Returned is the line, if it is of a route.
+/// Appends the line of an item of a table's record, and returns it if the item is an announcement.
 #[inline(always)]
 pub(crate) fn put_table_item<'a>(
     heading: &Heading,

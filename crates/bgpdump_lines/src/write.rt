@@ -1,4 +1,5 @@
-//! Writing what was found, and the routes of tables.
+//! Writes the lines and reports of records, and the lines of peers' tables, to outputs. Each function
+//! has a text as scratch memory, which is written and cleared when it gets long.
 
 ghost use Rattle.std.specs.Prelude.{◌≡◌, ◌||◌, ◌≤◌, [], false, All, map, take, drop, length, IfOk, OnOk, flat_map};
 ghost use Rattle.mrt_events.specs.declared.event.Route.{Route};
@@ -26,11 +27,11 @@ use ip_prefix::{Prefix, Text};
 use mrt_wire::{Event, Item, Next, Peer, RecordFault, Route};
 use std::rc::Rc;
 
-/// How long a text of lines is at most that another line is appended to. Where it is longer, it is
-/// written first, so that scratch memory holds this much and two lines at most, whatever the lines.
+/// The number of octets of a text up to which another line is appended to it. A longer text is written
+/// first, so that it has this many octets and two lines at most.
 const ENOUGH: usize = 1 << 16;
 
-/// Writes the text and clears it, where it is long. Returned is whether it was.
+/// Writes the text and clears it if it is long, and returns whether it was.
 #[inline(always)]
 fn write_long<O: Output>(out: &mut O, text: &mut Text) -> Result<bool, WriteFault>
     ensures text { PassesPart (O.written out.old) (O.written out.new) text.old text.new [] result }
@@ -45,7 +46,7 @@ fn write_long<O: Output>(out: &mut O, text: &mut Text) -> Result<bool, WriteFaul
     Ok(true)
 }
 
-/// Appends the lines of items. Wherever the text is long, it is written before the next line.
+/// Appends the lines of items. Whenever the text is long, it is written before the next line.
 #[inline(never)]
 fn write_some<O: Output>(
     out: &mut O,
@@ -67,8 +68,7 @@ fn write_some<O: Output>(
     Ok(())
 }
 
-/// Appends the lines of items, as [`write_some`] does. Of most events either all items share a route or
-/// none do, so that there are often none of these.
+/// Appends the lines of items, or does nothing without any, before it calls [`write_some`].
 #[inline(always)]
 fn write_items<O: Output>(
     out: &mut O,
@@ -80,14 +80,16 @@ fn write_items<O: Output>(
         (headed_lines heading.now (map saying items.now)) result }
     ensures failed { O.failed out.new ≡ (O.failed out.old || is_write result) }
 {
+    // Of most events either all items share a route or none do, so that there are often none of these.
     if items.is_empty() {
         return Ok(());
     }
     write_some(out, heading, items, text)
 }
 
-/// Writes what stands behind the line that ends at `end`, where that is long, and takes it away.
-/// Returned is where the parts of the line that the text ends in stand then.
+/// Writes what follows the first `end` octets of the text and truncates it to these, if what follows is
+/// long. The first `end` octets are a line at the offsets `kept`, and `last` are the offsets of the last
+/// line. Returns the offsets of the line that is the last one then.
 fn write_behind<O: Output>(
     out: &mut O,
     kept: Places,
@@ -114,9 +116,7 @@ fn write_behind<O: Output>(
     Ok(kept)
 }
 
-/// Writes the lines of further announcements of the first one's route, behind the text, of which
-/// nothing is left then. The first one's line, which is in the text already, is printed once more and
-/// kept in front, so that the next line has one to be copied from whenever lines were written.
+/// Writes the text and the lines of further announcements of the first one's route, and clears the text.
 #[cold]
 #[inline(never)]
 fn write_long_others<O: Output>(
@@ -133,6 +133,8 @@ fn write_long_others<O: Output>(
 {
     put_all(out, text.as_slice())?;
     text.clear();
+    // The line of the first one is kept at the start of the text, so that after each write the next line
+    // has one to be copied from.
     let kept = put_route_anew(heading, first, text)?;
     let end = text.len();
     let mut last = kept;
@@ -145,8 +147,8 @@ fn write_long_others<O: Output>(
     Ok(())
 }
 
-/// Appends the lines of further announcements of the route whose line the text ends in. Where the text
-/// gets long, it is written with all that follow.
+/// Appends the lines of further announcements of the route `first`, whose line the text ends in, at the
+/// offsets `places`. If the text gets long, it is written, with all lines that follow.
 #[inline(always)]
 fn write_others<O: Output>(
     out: &mut O,
@@ -172,8 +174,8 @@ fn write_others<O: Output>(
     Ok(())
 }
 
-/// Appends the lines of announcements that share a peer and a route. Wherever the text is long, it is
-/// written before the next line.
+/// Appends the lines of announcements that all have the same peer and route. Whenever the text is long,
+/// it is written before the next line.
 #[inline(always)]
 fn write_shared<O: Output>(
     out: &mut O,
@@ -194,8 +196,7 @@ fn write_shared<O: Output>(
     write_others(out, heading, first, places, rest, text)
 }
 
-/// Writes the lines of an event: those so far wherever they are long, and the rest behind the last one.
-/// The text is scratch.
+/// Writes the lines of an event. `text` is scratch memory.
 #[inline(always)]
 fn write_lines<O: Output>(out: &mut O, text: &mut Text, event: &Event) -> Result<(), WriteFault>
     ensures text { PutsPart (O.written out.old) (O.written out.new) (event_lines event.now) result }
@@ -212,8 +213,8 @@ fn write_lines<O: Output>(out: &mut O, text: &mut Text, event: &Event) -> Result
     Ok(())
 }
 
-/// Appends the lines of items of tables' records. Wherever the text is long, it is written before the
-/// next line.
+/// Appends the lines of the items of a table's record. Whenever the text is long, it is written before
+/// the next line.
 #[inline(never)]
 fn write_entries<O: Output>(
     out: &mut O,
@@ -237,8 +238,8 @@ fn write_entries<O: Output>(
     Ok(())
 }
 
-/// Writes the lines of a table's record, as [`write_lines`] does. Those of the record before are copied
-/// where they say the same, and these are kept for the next one.
+/// Writes the lines of a table's record. Lines that are kept of earlier records are copied where they
+/// have the same route, and new ones are kept. `text` is scratch memory.
 #[inline(always)]
 fn write_table<O: Output>(
     out: &mut O,
@@ -259,7 +260,7 @@ fn write_table<O: Output>(
     Ok(())
 }
 
-/// Writes the lines of an event. Those of tables that are kept are copied where they say the same.
+/// Writes the lines of an event, by [`write_table`] unless keeping lines is paused or doesn't apply.
 #[inline(always)]
 fn write_event<O: Output>(
     out: &mut O,
@@ -277,8 +278,7 @@ fn write_event<O: Output>(
     }
 }
 
-/// Writes the lines of routes in the table of a peer, each of which takes what it can from the one
-/// before. The text is scratch.
+/// Writes the lines of routes in the table of a peer, which begin with `RIB`. `text` is scratch memory.
 pub fn write_rib_lines<O: Output>(
     out: &mut O,
     peer: &Peer,
@@ -307,7 +307,7 @@ pub fn write_rib_lines<O: Output>(
     Ok(())
 }
 
-/// Writes the line of a route in the table of a peer. The text is scratch.
+/// Writes the line of a route in the table of a peer, which begins with `RIB`. `text` is scratch memory.
 pub fn write_rib_line<O: Output>(
     out: &mut O,
     peer: &Peer,
@@ -330,7 +330,7 @@ pub fn write_rib_line<O: Output>(
     Ok(())
 }
 
-/// Writes the report of a fault. The text is scratch.
+/// Writes the report of a faulty record. `text` is scratch memory.
 pub fn write_report<E: Output>(
     err: &mut E,
     text: &mut Text,
@@ -345,7 +345,8 @@ pub fn write_report<E: Output>(
     Ok(())
 }
 
-/// Writes what a source told, and answers whether that is a fault. The text is scratch.
+/// Writes the lines of an event to `out`, or the report of a faulty record to `err`, and returns whether
+/// it was a report. `text` is scratch memory.
 #[inline(always)]
 pub(crate) fn write_next<O: Output, E: Output>(
     out: &mut O,

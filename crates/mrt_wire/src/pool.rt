@@ -1,47 +1,50 @@
-//! Memory that records are read into again.
+//! Memory that records are read into, one after the other, so that reading mostly allocates nothing.
 
 ghost use Rattle.std.specs.Prelude.{◌≡◌, []};
 
 use crate::peers::PEER_PLACES;
-use crate::read_routes::{LARGEST_PLACE, ReadRoutes};
+use crate::read_routes::{LARGEST_PLACE, MOST_SPARES, ReadRoutes};
 use crate::route_pool::{FIRST_ROUTES, LARGEST_FIRST, MOST_ROOM, PLACE_OCTETS, RoutePool};
 use bgp_wire::UpdateParts;
 use mrt_events::Item;
 use std::alloc::Global;
 use std::mem;
 
-/// How many octets all that is kept for routes of tables takes at most, where no record needs more
-/// than `MOST_ROOM`. With constants that make it one more the check fails.
-const MOST_OCTETS: usize = 1 << 20;
+/// The largest number of octets that are kept for routes of tables, if no record needs more than
+/// `MOST_ROOM`. The crate isn't built with constants that exceed it.
+const MOST_OCTETS: usize = 1100 * 1024;
 
-/// How many the places take at most.
+/// The largest number of octets of the slots for routes.
 const PLACES_OCTETS: usize = PEER_PLACES * LARGEST_PLACE;
 
-/// How many the routes beside them take at most. Of counted ones their places are counted.
+/// The largest number of octets of spare routes.
+const SPARES_OCTETS: usize = MOST_SPARES * (LARGEST_PLACE + PLACE_OCTETS as usize);
+
+/// The largest number of octets of the pool beside them.
 const ROUTES_OCTETS: usize = FIRST_ROUTES * (LARGEST_FIRST + PLACE_OCTETS as usize)
     + MOST_ROOM as usize;
 
-const _: () = prove!(PLACES_OCTETS + ROUTES_OCTETS <= MOST_OCTETS);
+const _: () = prove!(PLACES_OCTETS + SPARES_OCTETS + ROUTES_OCTETS <= MOST_OCTETS);
 
-/// How many items a vector that is kept has room for at most. One with room for one more is let go,
-/// and the next record asks for its own.
+/// The largest capacity of a vector of items that is kept. A larger one is dropped, and the next record
+/// allocates its own.
 const MOST_ITEMS: usize = 4096;
 
-/// What records are read into.
+/// The memory that records are read into.
 #[derive(Drop)]
 pub(crate) struct Pool {
     /// Routes of messages.
     pub(crate) routes: RoutePool,
     /// Routes of tables.
     pub(crate) read: ReadRoutes,
-    /// Where messages are read.
+    /// The parts of a message.
     pub(crate) parts: UpdateParts,
-    /// Room for items.
+    /// An empty vector for items.
     items: Vec<Item>,
 }
 
 impl Pool {
-    /// Without any memory.
+    /// Returns an empty pool, without allocating memory.
     pub(crate) fn new(alloc: Global) -> Pool {
         Pool {
             routes: RoutePool::none(alloc),
@@ -51,15 +54,14 @@ impl Pool {
         }
     }
 
-    /// Lets go of what messages were read into.
+    /// Drops all that is kept for messages.
     pub(crate) fn let_go(&mut self, alloc: Global) {
         self.routes = RoutePool::none(alloc);
         self.parts = UpdateParts::none(alloc);
         self.items = Vec::new(alloc);
     }
 
-    /// Begins with a record of so many octets. Routes that were given out for the one before may be
-    /// filled again.
+    /// Begins a record of so many octets. Routes of the record before may be read into again.
     #[inline(always)]
     pub(crate) fn begin(&mut self, octets: usize)
         ensures given { (self.new.routes.given ≡ 0) × (self.new.read.routes.given ≡ 0) }
@@ -68,7 +70,7 @@ impl Pool {
         self.read.routes.restart(octets);
     }
 
-    /// An empty vector of items, with the room that is kept.
+    /// Takes the vector for items, which is empty.
     #[inline(always)]
     pub(crate) fn take_items(&mut self, alloc: Global) -> Vec<Item>
         ensures items { result.items ≡ [] }
@@ -79,7 +81,8 @@ impl Pool {
         items
     }
 
-    /// Keeps the room of items, unless there is as much already: a message that says nothing has none.
+    /// Keeps the memory of a vector of items for the next record, unless the pool has a vector of at least
+    /// this capacity.
     #[inline(always)]
     pub(crate) fn keep_items(&mut self, items: Vec<Item>) {
         let most = items.capacity();

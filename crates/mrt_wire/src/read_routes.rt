@@ -1,5 +1,5 @@
-//! Routes of tables, with the octets that they were read from. A peer announces prefixes in a row
-//! with the same attributes, which are read once.
+//! Routes of tables, each with the octets that its attributes were read from. A peer mostly has the same
+//! attributes in record after record, which are read once.
 
 ghost use Rattle.std.specs.Prelude.{◌≡◌, ◌≤◌, ◌<◌, IsTrue, IfOk, IfErr, IfSome, OnOk, vec_len};
 ghost use Rattle.bgp_wire.specs.Content.{SpellsRibAttrs};
@@ -7,38 +7,86 @@ ghost use Rattle.mrt_wire.specs.declared.peers.TheConstants.{PEER_PLACES};
 ghost use Rattle.mrt_wire.specs.Judging.{IsSentAs, RefusesSent};
 
 use crate::peers::PEER_PLACES;
-use crate::rib_route::{SentAttrs, new_route};
+use crate::rib_route::{SentAttrs, fill_shared, new_route};
 use crate::route_pool::RoutePool;
 use bgp_wire::{AS_PATH, AsWidth, EXTENDED_LENGTH, MP_REACH_NLRI, ORIGIN, WireFault};
 use ip_prefix::Family;
 use mrt_events::Route;
 use std::alloc::{AllocError, Global};
 use std::marker::Model;
+use std::mem;
 use std::rc::Rc;
 
-/// How many octets ORIGIN has (RFC 4271, section 4.3).
+/// The number of octets of the value of ORIGIN (RFC 4271, section 4.3).
 const ORIGIN_SIZE: u8 = 1;
 
-/// How many octets the attributes of a route that has a place have at most. Those of one more are
-/// read each time, into a route of the pool.
+/// The largest number of octets of attributes that are kept with their route. Longer ones are read each
+/// time, into a route of the pool.
 const LONGEST_PLACED: usize = 192;
 
-/// How many segments its path has at most. A place whose route gets one more is left empty, so that
-/// the next entry there is read into new memory.
+/// The largest number of segments of the path of a route that is kept. A slot whose route gets more is
+/// emptied, so that the next entry there is read into new memory.
 const MOST_SEGMENTS: usize = 2;
 
-/// How many octets a place takes at most, with all that its route has room for: most where its path
-/// has numbers of two octets. It bounds nothing at run time: the check sums it up.
+/// The largest number of octets that a slot takes in memory, with all capacity of its route: most where
+/// its path has numbers of two octets. Nothing compares it at run time; `MOST_OCTETS` is checked with it.
 pub(crate) const LARGEST_PLACE: usize = 1344;
 
-/// A route, and what its attributes were read from. Contracts see the route.
+/// The largest number of spare routes. A record with more entries whose routes have other owners allocates
+/// memory for the rest.
+pub(crate) const MOST_SPARES: usize = 64;
+
+/// A ring of routes, which are swapped for routes that have other owners. Mostly those have none any more
+/// when their turn comes again.
+#[derive(Drop)]
+struct SpareRoutes {
+    routes: Vec<Rc<Route>>,
+    /// The index of the next one.
+    next: usize,
+    ghost few: { vec_len routes ≤ MOST_SPARES },
+    ghost within: { next < MOST_SPARES },
+}
+
+impl SpareRoutes {
+    /// Returns an empty ring, without allocating memory.
+    fn new(alloc: Global) -> SpareRoutes {
+        SpareRoutes {
+            routes: Vec::new(alloc),
+            next: 0,
+        }
+    }
+
+    /// Swaps `route` for the next route of the ring, which may have other owners too.
+    #[inline(always)]
+    fn exchange(&mut self, alloc: Global, route: &mut Rc<Route>) -> Result<(), AllocError> {
+        match self.routes.get_mut(self.next) {
+            Some(spare) => mem::swap(spare, route),
+            None => self.add(alloc, route)?,
+        }
+        self.next = (self.next + 1) % MOST_SPARES;
+        Ok(())
+    }
+
+    /// Adds `route` to the ring, and replaces it by one without attributes.
+    #[inline(never)]
+    fn add(&mut self, alloc: Global, route: &mut Rc<Route>) -> Result<(), AllocError>
+        requires { vec_len self.old.routes < MOST_SPARES }
+        ensures { self.new.next ≡ self.old.next }
+    {
+        let blank = new_route(alloc)?;
+        self.routes.push(mem::replace(route, blank))?;
+        Ok(())
+    }
+}
+
+/// A route, and the octets that its attributes were read from. In contracts it is the route.
 #[derive(Drop)]
 struct ReadRoute {
     route: Rc<Route>,
     octets: Vec<u8>,
     family: Family,
     width: AsWidth,
-    /// Whether the route was read from these.
+    /// Whether the route was read from `octets`. It is false after an error.
     known: bool,
 }
 
@@ -56,7 +104,7 @@ impl Model for ReadRoute {
 }
 
 impl ReadRoute {
-    /// One that was read from nothing.
+    /// Returns a route without attributes, which was read from no octets.
     fn none(alloc: Global) -> Result<ReadRoute, AllocError> {
         let route = new_route(alloc)?;
         Ok(ReadRoute {
@@ -68,7 +116,7 @@ impl ReadRoute {
         })
     }
 
-    /// Whether it was read from these.
+    /// Returns whether its attributes were read from these octets, for the same family and width.
     #[inline(always)]
     fn is_of(&self, sent: SentAttrs<'_>) -> bool
         ensures { IsTrue result → SpellsRibAttrs sent.entry.family sent.entry.width
@@ -80,7 +128,7 @@ impl ReadRoute {
             && self.octets.as_slice() == sent.octets
     }
 
-    /// Gives it this time, unless somebody holds it with another, and answers whether it has it.
+    /// Sets its time, unless it has other owners and another time, and returns whether it has `time`.
     #[inline(always)]
     fn date(&mut self, time: u32) -> bool
         ensures time { IsTrue result → self.new.time ≡ time }
@@ -98,12 +146,13 @@ impl ReadRoute {
         }
     }
 
-    /// Reads it anew, with this time, where somebody holds it as another route.
+    /// Reads attributes into the route, or, if it has other owners, into a spare route or a new one that
+    /// takes its place. Returns the route, whose time is `time`.
     #[inline(always)]
     fn read(
         &mut self,
         alloc: Global,
-        routes: &mut RoutePool,
+        spares: &mut SpareRoutes,
         sent: SentAttrs<'_>,
         time: u32,
     ) -> Result<Rc<Route>, WireFault>
@@ -111,7 +160,10 @@ impl ReadRoute {
         ensures refused { IfErr result (RefusesSent sent.entry) }
     {
         self.known = false;
-        routes.read_into(&mut self.route, alloc, sent, time)?;
+        if Rc::strong_count(&self.route) > 1 {
+            spares.exchange(alloc, &mut self.route)?;
+        }
+        fill_shared(&mut self.route, alloc, sent, time)?;
         self.octets.clear();
         self.octets.extend_from_slice(sent.octets)?;
         self.family = sent.family;
@@ -121,8 +173,8 @@ impl ReadRoute {
     }
 }
 
-/// Whether attributes begin as routers send them, in the order of their types (RFC 4271, section 5):
-/// with ORIGIN, and behind it a path of one segment. Nothing is owed of others.
+/// Returns whether attributes begin as routers send them, in the order of their types (RFC 4271, section
+/// 5): with ORIGIN, followed by a path of one segment.
 #[inline(always)]
 fn begin_plainly(octets: &[u8], width: AsWidth) -> bool {
     let (size, count) = match octets {
@@ -144,7 +196,8 @@ fn begin_plainly(octets: &[u8], width: AsWidth) -> bool {
     usize::from(size) == usize::from(count) * width.octets() + 2
 }
 
-/// Whether they begin so behind MP_REACH_NLRI, where that stands in front (RFC 7606, section 5.1).
+/// Returns whether attributes begin with MP_REACH_NLRI (RFC 7606, section 5.1), followed by ORIGIN and a
+/// path of one segment.
 #[inline(never)]
 fn begin_plainly_behind_reach(octets: &[u8], width: AsWidth) -> bool {
     match octets {
@@ -155,26 +208,28 @@ fn begin_plainly_behind_reach(octets: &[u8], width: AsWidth) -> bool {
     }
 }
 
-/// Places for routes of tables. A peer has one, which others may have too: which routes stand here
-/// changes time and memory alone.
+/// The routes of tables that were read last, one for each slot. A peer has one slot, which it may share
+/// with others: which routes are kept changes time and memory alone.
 #[derive(Drop)]
 pub(crate) struct ReadRoutes {
     places: Vec<Option<ReadRoute>>,
-    /// Other routes, for entries without a place, and for places whose routes somebody holds.
+    spares: SpareRoutes,
+    /// The routes of entries that aren't kept in a slot.
     pub(crate) routes: RoutePool,
     ghost bounded: { vec_len places ≤ PEER_PLACES },
 }
 
 impl ReadRoutes {
-    /// No places. They take no memory.
+    /// Returns no slots, without allocating memory.
     pub(crate) fn new(alloc: Global) -> ReadRoutes {
         ReadRoutes {
             places: Vec::new(alloc),
+            spares: SpareRoutes::new(alloc),
             routes: RoutePool::none(alloc),
         }
     }
 
-    /// Makes room up to this place.
+    /// Adds empty slots up to this index.
     fn make_place(&mut self, place: usize) -> Result<(), AllocError>
         requires { place < PEER_PLACES }
         ensures { OnOk result (place < vec_len self.new.places) }
@@ -185,7 +240,7 @@ impl ReadRoutes {
         Ok(())
     }
 
-    /// Lets go of the route of this place.
+    /// Empties the slot, so that its memory is freed unless the route has other owners.
     #[inline(never)]
     fn clear(&mut self, place: usize)
         requires { place < vec_len self.old.places }
@@ -193,7 +248,7 @@ impl ReadRoutes {
         self.places[place] = None;
     }
 
-    /// The route that was sent so, with this time, read at this place.
+    /// Reads attributes into the slot, and returns the route, whose time is `time`.
     #[inline(always)]
     fn read(
         &mut self,
@@ -208,17 +263,17 @@ impl ReadRoutes {
         ensures places { vec_len self.new.places ≡ vec_len self.old.places }
     {
         if let Some(read) = &mut self.places[place] {
-            return read.read(alloc, &mut self.routes, sent, time);
+            return read.read(alloc, &mut self.spares, sent, time);
         }
         let mut read = ReadRoute::none(alloc)?;
-        let route = read.read(alloc, &mut self.routes, sent, time)?;
+        let route = read.read(alloc, &mut self.spares, sent, time)?;
         self.places[place] = Some(read);
         Ok(route)
     }
 
-    /// The route that was sent so, with this time. Entries of one number have a place in common:
-    /// where the attributes are those that were read there last, they aren't read again. Where the
-    /// route may take more than a place has, it is read into one of the others.
+    /// Returns a route of these attributes, whose time is `time`. `number` is that of its peer in the peer
+    /// index, or a hash of the peer: if the slot's route was read from the same octets, they aren't read
+    /// again. A route that may take more memory than a slot may is read into the pool.
     #[inline(always)]
     pub(crate) fn route_of(
         &mut self,

@@ -1,54 +1,56 @@
-//! Routes that were given out, to be filled again where nobody else holds them any more.
+//! A pool of routes: the next record is read into those of earlier records that have no other owner any
+//! more, so that reading mostly allocates nothing.
 
-ghost use Rattle.std.specs.Prelude.{◌≡◌, ◌≤◌, ◌<◌, ◌+◌, ◌-◌, ◌*◌, min, max, true, IfOk, IfErr, OnOk, vec_len};
+ghost use Rattle.std.specs.Prelude.{◌≡◌, ◌≤◌, ◌<◌, ◌+◌, ◌-◌, ◌*◌, min, max, true, IfOk, IfErr, vec_len};
 ghost use Rattle.mrt_wire.specs.declared.route_pool.TheConstants.{LET_GO, MOST_ROOM, MOST_ROUTES};
 ghost use Rattle.mrt_wire.specs.Items.{route_of};
 ghost use Rattle.mrt_wire.specs.Judging.{IsSentAs, RefusesSent};
 
 use crate::replacing::put_attrs;
-use crate::rib_route::{SentAttrs, blank_route, fill_rib_route, fill_shared, new_route};
+use crate::rib_route::{SentAttrs, blank_route, fill_shared, new_route};
 use bgp_wire::{Attrs, WireFault};
 use mrt_events::{Route, route_room};
 use std::alloc::{AllocError, Global};
 use std::mem;
 use std::rc::Rc;
 
-/// How many of the routes that a record gives are kept whatever they take, if they are short. Each one
-/// above is counted.
+/// The number of routes of a record that are kept without being counted, if they are short. Each further
+/// one is counted.
 pub(crate) const FIRST_ROUTES: usize = 4;
 
-/// How many octets the attributes of such a route have at most. A route of one more is counted.
+/// The largest number of octets of the attributes of such a route. One with longer attributes is counted.
 const LONGEST_FIRST: usize = 1024;
 
-/// How many octets such a route takes at most, with all that it has room for: most where each segment
-/// of its path has one number of two octets. It bounds nothing at run time: the check sums it up.
+/// The largest number of octets that such a route takes in memory, with all its capacity: most where each
+/// segment of its path has one number of two octets. Nothing compares it at run time; `MOST_OCTETS` is
+/// checked with it.
 pub(crate) const LARGEST_FIRST: usize = 26 * 1024;
 
-/// How many routes are kept at most. A record has 65,535 entries at most, so none gives as many; one
-/// above would take the last place in turn.
+/// The largest number of routes that are kept. A record has at most 65,535 entries, so none needs more;
+/// further ones would be read into the last route in turn.
 pub(crate) const MOST_ROUTES: usize = 1 << 16;
 
-/// How many octets the counted routes that are kept take at most together, with all that they have
-/// room for, where no record needs more. Where one needs more, that may be kept instead until enough
-/// octets were read behind it (`LET_GO`). Above what may be kept, the last routes are let go.
+/// The number of octets that the counted routes may take in memory together, with all their capacity. A
+/// record that needs more may keep what it needs until enough octets were read after it (`LET_GO`). Above
+/// what may be kept, the last routes are dropped.
 pub(crate) const MOST_ROOM: u64 = 560 * 1024;
 
-/// How many octets the place of a route takes at most: a pointer and a number, and as much again that
-/// the list of them has room for.
+/// The largest number of octets that a route takes in the list of routes: a pointer and a number, and as
+/// much again of the list's spare capacity.
 pub(crate) const PLACE_OCTETS: u64 = 32;
 
-/// How many octets less may be kept for each octet of a record, down to what that record needed. So
-/// what is let go wasn't needed while a quarter as many octets were read, and to ask for it again
-/// takes about as long as to read these.
+/// How many octets less may be kept for each octet of a record, down to what that record needed. So what
+/// is dropped wasn't needed while a quarter as many octets were read, and allocating it again takes about
+/// as long as reading these.
 const LET_GO: u64 = 4;
 
-/// How many octets a counted route takes at most, with its place.
+/// Returns the largest number of octets that a counted route takes, with its entry in the list.
 #[inline]
 fn counted_room(route: &Route) -> u64 {
     route_room(route).saturating_add(PLACE_OCTETS)
 }
 
-/// A route that was given out, and how many octets are counted for it.
+/// A route of the pool, and the number of octets that are counted for it.
 #[derive(Drop)]
 struct GivenRoute {
     route: Rc<Route>,
@@ -56,32 +58,32 @@ struct GivenRoute {
 }
 
 impl GivenRoute {
-    /// Returns one without attributes, for which nothing is counted.
+    /// Returns a route without attributes, for which no octets are counted.
     fn blank(alloc: Global) -> Result<GivenRoute, AllocError> {
         let route = new_route(alloc)?;
         Ok(GivenRoute { route, room: 0 })
     }
 
-    /// Whether somebody else holds the route.
+    /// Returns whether the route has another owner besides the pool.
     fn has_other_owner(&self) -> bool {
         Rc::strong_count(&self.route) > 1
     }
 }
 
-/// The routes that were given out, to be filled again where nobody else holds them any more.
+/// A pool of routes, in the order in which a record uses them.
 #[derive(Drop)]
 pub(crate) struct RoutePool {
     routes: Vec<GivenRoute>,
-    /// How many of them were given out for the record that is read. The last that is kept isn't
-    /// counted, so that it is given out again and again.
+    /// The number of routes that the current record has used, without the last of [`MOST_ROUTES`], which
+    /// is used again and again.
     given: usize,
-    /// How many octets are counted for all of them.
+    /// The number of octets counted for all routes.
     room: u64,
-    /// How many octets were counted for those that were given out for the record that is read.
+    /// The number of octets counted for the routes of the current record.
     needed: u64,
-    /// How many octets `room` may be.
+    /// The upper bound of `room`.
     most: u64,
-    /// How many octets the record that is read has.
+    /// The number of octets of the current record.
     octets: u64,
     ghost counted: { given ≤ vec_len routes },
     ghost bounded: { vec_len routes ≤ MOST_ROUTES },
@@ -89,8 +91,8 @@ pub(crate) struct RoutePool {
     ghost fits: { room ≤ most },
 }
 
-/// Returns a new route of these attributes and this time. If they aren't kept, `attrs` is left with
-/// others.
+/// Returns a new route of these attributes and this time. If `is_kept` is false, `attrs` is left without
+/// them.
 #[inline(never)]
 fn made_route(
     alloc: Global,
@@ -108,7 +110,7 @@ fn made_route(
 }
 
 impl RoutePool {
-    /// No routes. They take no memory.
+    /// Returns an empty pool, without allocating memory.
     pub(crate) fn none(alloc: Global) -> RoutePool {
         RoutePool {
             routes: Vec::new(alloc),
@@ -120,7 +122,7 @@ impl RoutePool {
         }
     }
 
-    /// Begins with a record of so many octets. Routes that were given out may be filled again.
+    /// Begins a record of so many octets, which may use all routes again.
     #[inline(always)]
     pub(crate) fn restart(&mut self, octets: usize)
         ensures given { self.new.given ≡ 0 }
@@ -137,7 +139,7 @@ impl RoutePool {
         self.octets = octets as u64;
     }
 
-    /// Lowers how much may be kept by the octets that were read, as far as their record didn't need it.
+    /// Lowers the bound of the pool by what the last record allows, and drops routes above it.
     #[inline(never)]
     fn lower(&mut self)
         ensures given { self.new.given ≡ self.old.given }
@@ -152,8 +154,8 @@ impl RoutePool {
         self.most = most;
     }
 
-    /// Lets go of routes that weren't given out for the record that is read, from the last on, until
-    /// those that are left take so many octets at most.
+    /// Drops routes that the current record hasn't used, from the last on, until the others take at most
+    /// so many octets.
     #[inline(never)]
     fn let_go(&mut self, most: u64)
         ensures given { self.new.given ≡ self.old.given }
@@ -171,9 +173,9 @@ impl RoutePool {
         self.routes.shrink_to_fit();
     }
 
-    /// Lets go of the routes that somebody else holds, if the record that was read needed more than
-    /// is kept otherwise. So they go as soon as their other owner lets go of them. For the next
-    /// record there would be new ones in their places anyway.
+    /// Removes the routes that have other owners, if the last record needed more than [`MOST_ROOM`]. So
+    /// their memory is freed as soon as their other owners drop them; the next record couldn't use them
+    /// anyway.
     #[inline(always)]
     pub(crate) fn let_go_of_held(&mut self)
         ensures most { self.new.most ≡ self.old.most }
@@ -183,7 +185,7 @@ impl RoutePool {
         }
     }
 
-    /// Removes the routes that somebody else holds. None counts as given out any more.
+    /// Removes the routes that have other owners. The others may be used again.
     #[inline(never)]
     fn remove_held(&mut self)
         ensures given { self.new.given ≡ 0 }
@@ -202,7 +204,7 @@ impl RoutePool {
         self.routes.shrink_to_fit();
     }
 
-    /// Returns the index of the next route that may be filled, which may have other owners.
+    /// Returns the index of the next route of the record. The route may have other owners.
     #[inline(always)]
     fn next_place(&mut self, alloc: Global) -> Result<usize, AllocError>
         ensures next { IfOk result (λ place. place ≡ self.old.given) }
@@ -217,8 +219,7 @@ impl RoutePool {
         Ok(place)
     }
 
-    /// Counts the room of the route at this place, which may be kept: where all would take too much,
-    /// others go.
+    /// Counts the octets of the route at this index, and drops others if all would take too much.
     #[inline(never)]
     fn count(&mut self, place: usize)
         requires { place < vec_len self.old.routes }
@@ -237,8 +238,8 @@ impl RoutePool {
         self.most = most;
     }
 
-    /// Keeps the route at this place, which was read from so many octets, and counts it unless it is a
-    /// short one among the first ones.
+    /// Counts the octets of the route at this index, unless it is one of the first and short. `octets` is
+    /// the length of the attributes that it was read from.
     #[inline(always)]
     fn keep(&mut self, place: usize, octets: usize)
         requires { place < vec_len self.old.routes }
@@ -248,7 +249,7 @@ impl RoutePool {
         }
     }
 
-    /// The route of a table's entry, with this time.
+    /// Reads the attributes of a table's entry into the next route, and returns it, with this time.
     #[inline(never)]
     pub(crate) fn rib_route(
         &mut self,
@@ -267,49 +268,8 @@ impl RoutePool {
         Ok(route?)
     }
 
-    /// Reads the attributes of a table's entry into a route of the pool, with this time, and exchanges
-    /// it for `route`, which has another owner. On error, `route` stays.
-    #[inline(never)]
-    fn exchange(
-        &mut self,
-        route: &mut Rc<Route>,
-        alloc: Global,
-        sent: SentAttrs<'_>,
-        time: u32,
-    ) -> Result<(), WireFault>
-        ensures read { OnOk result (IsSentAs sent.entry time route.new.value) }
-        ensures refused { IfErr result (RefusesSent sent.entry) }
-    {
-        let place = self.next_place(alloc)?;
-        let read = fill_shared(&mut self.routes[place].route, alloc, sent, time);
-        if read.is_ok() {
-            mem::swap(&mut self.routes[place].route, route);
-        }
-        self.keep(place, sent.octets.len());
-        read
-    }
-
-    /// Reads the attributes of a table's entry into `route`, with this time. Where it has another
-    /// owner, it is exchanged for a route of the pool. On error, `route` is unspecified.
-    #[inline(always)]
-    pub(crate) fn read_into(
-        &mut self,
-        route: &mut Rc<Route>,
-        alloc: Global,
-        sent: SentAttrs<'_>,
-        time: u32,
-    ) -> Result<(), WireFault>
-        ensures read { OnOk result (IsSentAs sent.entry time route.new.value) }
-        ensures refused { IfErr result (RefusesSent sent.entry) }
-    {
-        match Rc::get_mut(route) {
-            Some(alone) => fill_rib_route(alone, alloc, sent, time),
-            None => self.exchange(route, alloc, sent, time),
-        }
-    }
-
-    /// A route of these attributes and this time. Others that aren't needed are given for them,
-    /// unless they are kept.
+    /// Returns a route of these attributes and this time, which takes the place of the next one. If
+    /// `is_kept` is false, `attrs` is left without them.
     #[inline(always)]
     pub(crate) fn route(
         &mut self,
