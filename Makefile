@@ -39,8 +39,8 @@ edits:
 	checks/inner_edits.py $(CRATE)
 
 # Its texts and statuses, over examples/, inputs of their own and damaged files, rows that are made, the
-# package for Debian, the commands of the cookbook, and the form of the manual page, where mandoc is
-# there.
+# package for Debian and what is installed, the completion for bash, the commands of the cookbook, and the
+# form of the manual page, where mandoc is there.
 checks: $(PROGRAM) $(ROWS)
 	examples/demo.sh $(PROGRAM) >/dev/null
 	checks/program.py $(PROGRAM)
@@ -54,6 +54,7 @@ checks: $(PROGRAM) $(ROWS)
 	checks/shapes.py $(PROGRAM)
 	checks/slow_input.py $(PROGRAM)
 	checks/package.py $(PROGRAM)
+	checks/completion.py $(PROGRAM)
 	examples/cookbook.py $(PROGRAM)
 	if command -v mandoc >/dev/null; then mandoc -T lint -W warning man/bgpdump.1; fi
 
@@ -73,11 +74,18 @@ bin/rows: $(SOURCES)
 	mkdir -p bin
 	cp crates/rows/out/rows $@
 
-# NAME=.. installs the program and its manual page by another name, beside Debian's.
-install: bin/bgpdump
-	mkdir -p "$(DESTDIR)$(PREFIX)/bin" "$(DESTDIR)$(PREFIX)/share/man/man1"
-	cp bin/bgpdump "$(DESTDIR)$(PREFIX)/bin/$(NAME)"
-	cp man/bgpdump.1 "$(DESTDIR)$(PREFIX)/share/man/man1/$(NAME).1"
+# NAME=.. installs the program, its manual page and its completion by another name, beside Debian's.
+install: SHARE = $(DESTDIR)$(PREFIX)/share
+install: COMPLETIONS = $(SHARE)/bash-completion/completions
+install: DOCUMENTS = $(SHARE)/doc/rumpleja
+install: $(PROGRAM)
+	mkdir -p "$(DESTDIR)$(PREFIX)/bin" "$(SHARE)/man/man1" "$(COMPLETIONS)" "$(DOCUMENTS)/docs" "$(DOCUMENTS)/examples"
+	cp $(PROGRAM) "$(DESTDIR)$(PREFIX)/bin/$(NAME)"
+	cp man/bgpdump.1 "$(SHARE)/man/man1/$(NAME).1"
+	sed '/^complete /s/bgpdump$$/$(NAME)/' packaging/bgpdump.bash >"$(COMPLETIONS)/$(NAME)"
+	cp README.md "$(DOCUMENTS)"
+	cp docs/*.* "$(DOCUMENTS)/docs"
+	cp examples/*.* "$(DOCUMENTS)/examples"
 
 # A package for Debian, in bin/, that takes the place of Debian's bgpdump.
 deb: bin/bgpdump

@@ -1,11 +1,12 @@
 #!/usr/bin/env python3
-"""Makes the package for Debian and tries it.
+"""Makes the package for Debian and tries it, and what `make install` copies.
 
     checks/package.py PROGRAM
 
 Its files are unpacked into a folder and run there over the examples that it brings; what is loaded of
 its program is that of PROGRAM. What dpkg-deb says of it is compared with what is typed here; where
-lintian is there, it tells no errors. Where dpkg-deb is not there, nothing is tried.
+lintian is there, it finds no errors. Where dpkg-deb is not there, no package is made. `make install`
+copies the program into a folder, by another name, with the files that the package has.
 """
 import hashlib
 import re
@@ -16,7 +17,11 @@ import sys
 import tempfile
 from pathlib import Path
 
+from completion import offered
+
 TOP = Path(__file__).resolve().parent.parent
+COMPLETIONS = 'share/bash-completion/completions'
+DOCUMENTS = ('README.md', 'docs/cookbook.md', 'docs/DIFFERENCES.md', 'docs/incident.svg', 'examples/step.py')
 FIELDS = {
     'Package': r'rumpleja',
     'Version': r'1\.0\.0',
@@ -76,6 +81,27 @@ def faults_of_list(package):
             yield f'it has another mode: {line}'
 
 
+def faults_of_completion(file, folder):
+    """Bash completes the words of the program that has the file's name."""
+    found = offered(['-t', ''], folder, file, file.name)
+    if found != ['change', 'dump']:
+        yield f'its completion for {file.name} offers {found}'
+
+
+def faults_of_install(program, room):
+    made = run('make', '-s', '-C', TOP, 'install', f'PROGRAM={program}', f'DESTDIR={room}', 'NAME=rumpleja')
+    if made.returncode:
+        yield f'make install: {made.stderr}'
+        return
+    below = room / 'usr/local'
+    if (below / 'bin/rumpleja').read_bytes() != program.read_bytes():
+        yield 'make install copies another program'
+    for name in ('share/man/man1/rumpleja.1', *(f'share/doc/rumpleja/{it}' for it in DOCUMENTS)):
+        if not (below / name).is_file():
+            yield f'make install copies no {name}'
+    yield from faults_of_completion(below / COMPLETIONS / 'rumpleja', room)
+
+
 def faults_of_files(package, program, room):
     """What it brings is what it says, and runs where it was unpacked."""
     run('dpkg-deb', '-x', package, room / 'files', check=True)
@@ -92,11 +118,12 @@ def faults_of_files(package, program, room):
     shown = run(documents / 'examples/demo.sh', installed)
     if shown.returncode:
         yield f'over its examples: {shown.stderr}'
-    for name in ('README.md', 'docs/cookbook.md', 'docs/DIFFERENCES.md', 'copyright', 'changelog.gz'):
+    for name in (*DOCUMENTS, 'copyright', 'changelog.gz'):
         if not (documents / name).is_file():
             yield f'it has no {name}'
     if not (room / 'files/usr/share/man/man1/bgpdump.1.gz').is_file():
         yield 'it has no manual page'
+    yield from faults_of_completion(room / 'files/usr' / COMPLETIONS / 'bgpdump', room)
 
 
 def faults_of_lint(package):
@@ -104,19 +131,28 @@ def faults_of_lint(package):
         yield from re.findall(r'^E: .*', run('lintian', '--allow-root', package).stdout, re.M)
 
 
+def faults_of_package(program, room):
+    if not shutil.which('dpkg-deb'):
+        print('package: dpkg-deb is not here, no package tried')
+        return
+    again = room / 'again'
+    again.mkdir()
+    package, remade = (package_in(it, program) for it in (room, again))
+    yield from faults_of_fields(package)
+    yield from faults_of_library(package, program)
+    yield from faults_of_list(package)
+    yield from faults_of_files(package, program, room)
+    yield from faults_of_lint(package)
+    if package.read_bytes() != remade.read_bytes():
+        yield 'made again, it is another one'
+
+
 def main():
     program = Path(sys.argv[1]).resolve()
-    if not shutil.which('dpkg-deb'):
-        print('package: dpkg-deb is not here, nothing tried')
-        return
     with tempfile.TemporaryDirectory() as folder:
-        room, again = Path(folder), Path(folder, 'again')
-        again.mkdir()
-        package, remade = (package_in(it, program) for it in (room, again))
-        faults = [*faults_of_fields(package), *faults_of_library(package, program), *faults_of_list(package),
-                  *faults_of_files(package, program, room), *faults_of_lint(package)]
-        if package.read_bytes() != remade.read_bytes():
-            faults.append('made again, it is another one')
+        room, installed = Path(folder, 'package'), Path(folder, 'installed')
+        room.mkdir()
+        faults = [*faults_of_package(program, room), *faults_of_install(program, installed)]
     for fault in faults:
         print(f'package: {fault}')
     print(f'package: {len(faults) or "no"} faults')

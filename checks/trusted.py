@@ -7,8 +7,9 @@ From the clauses of a call, or of all public calls of a type or a trait, it goes
 they cite, and through the words that these cite, to all definitions in the crates' specs/ folders, and
 through the values that contracts see of the types in between. With a CALL it prints these definitions,
 those first that others stand on. Without one it compares the lists of docs/proved.md with what it finds
-for each that they name, tells the first line of each that differs, and looks that a file of specs/ is
-all on these lists, or not at all: then its first line is PRIVATE.
+for each that they name, prints the first line of each that differs, and looks that a file of specs/ is
+all on these lists, or not at all: then its first line is PRIVATE. A list has the definitions that those
+above it don't have.
 """
 import re
 import sys
@@ -245,18 +246,30 @@ def reading_of(call):
     return reading.order
 
 
-def list_of(call):
-    """A list of docs/proved.md: the files in the order of their first words, each with its words."""
-    order = reading_of(call)
+def list_of(call, order, above):
+    """A list of docs/proved.md: the files in the order of their first words, each with its words that the
+    lists above it don't have."""
     by_file = {}
     for definition in order:
-        by_file.setdefault(definition.file, []).append(definition)
+        if definition not in above:
+            by_file.setdefault(definition.file, []).append(definition)
     lines = sum(definition.size for definition in order)
-    rows = ['**`%s`**: %d definitions, %d lines with their comments.' % (call, len(order), lines), '']
+    shared = len(above.intersection(order))
+    rows = ['**`%s`**: %d definitions, %d lines with their comments%s.' % (
+        call, len(order), lines, '; %d are on the lists above' % shared if shared else ''), '']
     for file, words in by_file.items():
         names = ', '.join('`%s`' % word.name for word in words)
         rows.append('- `%s`: %s' % (file.relative_to(CRATES), names))
-    return '\n'.join(rows)
+    return rows
+
+
+def lists():
+    """Each call, and the lines of its list."""
+    above = set()
+    for call in CALLS:
+        order = reading_of(call)
+        yield call, list_of(call, order, above)
+        above.update(order)
 
 
 def mixed_files():
@@ -269,9 +282,9 @@ def mixed_files():
             yield file
 
 
-def difference(call, text):
+def difference(call, wanted, text):
     """The first line of a list that differs: its number, what stands there, and what should; None where none does."""
-    wanted, lines = list_of(call).split('\n'), text.split('\n')
+    lines = text.split('\n')
     start = next((place for place, line in enumerate(lines) if line.startswith('**`%s`**' % call)), len(lines))
     for place, line in enumerate([*wanted, ''], start):
         if place >= len(lines) or lines[place] != line:
@@ -285,8 +298,8 @@ def main():
             print('# %s, line %d\n%s\n' % (definition.file.relative_to(TOP), definition.first, definition.text))
         return
     text, faults = LISTS.read_text(), 0
-    for call in CALLS:
-        found = difference(call, text)
+    for call, wanted in lists():
+        found = difference(call, wanted, text)
         if found:
             print('%s:%d: in the list of `%s` stands\n%s\nand should stand\n%s\n' % (
                 LISTS.relative_to(TOP), found[0], call, *found[1:]))

@@ -1,9 +1,10 @@
 #!/usr/bin/env python3
-"""Makes a package for Debian of the built program, its manual page, the examples and the documents.
+"""Makes a package for Debian of the built program, its manual page, its completion for bash, the examples
+and the documents.
 
     packaging/deb.py PROGRAM FOLDER
 
-The package stands in the folder as rumpleja_VERSION_amd64.deb. The version is that of the first line
+The package is written to the folder as rumpleja_VERSION_amd64.deb. The version is that of the first line
 of the program's help, the C library's the newest that the program names. Of the program the names of
 its functions are left out, where `strip` is there; what is loaded stays as it is. The same program, in
 the same tree, makes the same package: all files are as old as the manual page says.
@@ -96,6 +97,7 @@ def fill(root, program, version):
     if shutil.which('strip'):
         subprocess.run(['strip', root / 'usr/bin/bgpdump'], check=True)
     put(root, 'usr/share/man/man1/bgpdump.1.gz', packed((TOP / 'man/bgpdump.1').read_bytes()))
+    put(root, 'usr/share/bash-completion/completions/bgpdump', (TOP / 'packaging/bgpdump.bash').read_bytes())
     for file in [TOP / 'README.md', *TOP.glob('docs/*'), *TOP.glob('examples/*')]:
         if file.is_file():
             mode = 0o755 if os.access(file, os.X_OK) else 0o644
